@@ -6,7 +6,7 @@ use Rattle.rings.specs.Each.{Each}
 use Rattle.rings.proofs.Each.{each-left, each-right}
 use Rattle.numbers.specs.Fraction.{Fraction}
 use Rattle.polynomials.specs.Terms.{Terms}
-use Rattle.machines.specs.Elimination.{kept}
+use Rattle.machines.specs.Elimination.{free_part}
 use Rattle.loops.specs.Program.{Expr, Program}
 use Rattle.loops.specs.Certificate.{IsValid}
 use Rattle.rounds.specs.Start.{start_list}
@@ -92,16 +92,16 @@ module _ {At : Type 0} (program : Program (Expr At)) (c : FullCertificate)
 
     every : Each T (map in_list (below (length s.list)) ++ (map in_gens (below (length hs))
         ++ (map in_pairs (below (length (pairs_of (length s.list)))) ++ map in_links
-        (below (length (kept k s.list))))))
+        (below (length (free_part k s.list))))))
     every = unmap (places k hs s) holds
 
     after_list : Each T (map in_gens (below (length hs))
         ++ (map in_pairs (below (length (pairs_of (length s.list)))) ++ map in_links
-        (below (length (kept k s.list)))))
+        (below (length (free_part k s.list)))))
     after_list = each-right T (map in_list (below (length s.list))) _ every
 
     after_gens : Each T (map in_pairs (below (length (pairs_of (length s.list)))) ++ map in_links
-        (below (length (kept k s.list))))
+        (below (length (free_part k s.list))))
     after_gens = each-right T (map in_gens (below (length hs))) _ after_list
 
     pub all_hold : StageHolds (front_of c b kind) (starting program c r b kind)
@@ -114,9 +114,9 @@ module _ {At : Type 0} (program : Program (Expr At)) (c : FullCertificate)
       pairs = λ i l. each_mapped T in_pairs (below (length (pairs_of (length s.list)))) i
           (each-left T (map in_pairs (below (length (pairs_of (length s.list))))) _ after_gens)
           (among (length (pairs_of (length s.list))) i l);
-      links = λ i l. each_mapped T in_links (below (length (kept k s.list))) i
+      links = λ i l. each_mapped T in_links (below (length (free_part k s.list))) i
           (each-right T (map in_pairs (below (length (pairs_of (length s.list))))) _ after_gens)
-          (among (length (kept k s.list)) i l);
+          (among (length (free_part k s.list)) i l);
     }
 
   orbit_part : (r b : ℕ) → Each Q (branch_parts program c r b)

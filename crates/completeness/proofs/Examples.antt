@@ -16,11 +16,11 @@ use Rattle.polynomials.specs.Order.{compare, grevlex, blocks}
 use Rattle.polynomials.specs.Polynomial.{Falls}
 use Rattle.polynomials.specs.Terms.{Terms, Same, AllSame, constant, variables, combination, evaluate, monomial_at, retold}
 use Rattle.polynomials.proofs.SameDecided.{agree_at, test_same, same_from_test}
-use Rattle.exponentials.specs.Keys.{left}
+use Rattle.exponentials.specs.Keys.{excess}
 use Rattle.machines.specs.Collect.{collect, insert, place}
 use Rattle.machines.specs.Completion.{s_polynomial}
 use Rattle.machines.specs.Cut.{lead_of, lead_number}
-use Rattle.machines.specs.Elimination.{all_free, kept}
+use Rattle.machines.specs.Elimination.{all_free, free_part}
 use Rattle.loops.specs.Program.{Expr, variable, power as raised, Program}
 use Rattle.loops.specs.Effect.{init_statement, store, value_of, after_statement, after_branch, start_from}
 use Rattle.loops.specs.Map.{branch_map, start_map}
@@ -58,7 +58,7 @@ square_certificate = record {
   rounds = [];
 }
 
-tested : (p q : Terms Fraction) → test_same ℚ fraction_eq p q ≡ true → Same ℚ p q
+pub tested : (p q : Terms Fraction) → test_same ℚ fraction_eq p q ≡ true → Same ℚ p q
 tested p q h = same_from_test ℚ_ring fraction_eq fraction_eq_refl fraction_eq_true p q h
 
 pub square_is_valid : AllHold square square_certificate
@@ -66,8 +66,9 @@ unfolding parts branch_parts before so_far pairs_of Each Falls AllSame combinati
     start_polynomial in_order start_map branch_map start_from init_statement after_branch
     after_statement store value_of variables unit_exponents constant evaluate sum_over monomial_at
     power Algebra.times Algebra.shift Algebra.negate Algebra.coefficient plus same lcm collect
-    insert place compare grevlex blocks relation relations_to kept all_free retold lead_of
-    lead_number s_polynomial less AreBelow left test_same agree_at fraction_eq fraction Fraction.sum
+    insert place compare grevlex blocks relation relations_to free_part all_free retold lead_of
+    lead_number s_polynomial less AreBelow excess test_same agree_at fraction_eq fraction
+    Fraction.sum
     Fraction.product Fraction.opposite Fraction.inverse is_lowest reduce gcd
 square_is_valid = record {
   each = (

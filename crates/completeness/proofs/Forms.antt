@@ -9,10 +9,10 @@ use Rattle.polynomials.specs.Polynomial.{AllArity}
 use Rattle.polynomials.proofs.Arity.{arity-compose}
 use Rattle.polynomials.proofs.ValueAt.{value_at_same, value_at-compose, value_at-variables}
 use Rattle.turns.specs.Turns.{point, width, values_at, turns, IsClosedForm}
-use Rattle.turns.specs.Expo.{normalized, next_images, zero_images}
+use Rattle.turns.specs.Expo.{with_normal_keys, next_images, zero_images}
 use Rattle.turns.proofs.Operations.{zero-value, next-value, normal-value}
 use Rattle.rounds.specs.Form.{Form}
-use Rattle.completeness.specs.FormIdentities.{PassesForm}
+use Rattle.completeness.specs.FormIdentities.{IsRightForm}
 
 same_values : (ps qs : List (Terms Fraction)) (s : List Fraction) → AllSame ℚ ps qs
     → values_at ps s ≡ values_at qs s
@@ -24,7 +24,7 @@ same_values (p ∷ ps) (q ∷ qs) s h =
     ap₂ ◌∷◌ (value_at_same ℚ_ring p q s h.0) (same_values ps qs s h.1)
 
 module _ (images : List (Terms Fraction)) (m : ℕ) (size : length images ≡ m) (f : Form)
-    (arity : AllArity (width (length f.base) m) f.polys) (passes : PassesForm images m f) where
+    (arity : AllArity (width (length f.base) m) f.polys) (passes : IsRightForm images m f) where
   abbrev r : ℕ
   r = length f.base
 
@@ -45,7 +45,7 @@ module _ (images : List (Terms Fraction)) (m : ℕ) (size : length images ≡ m)
 
   -- the map of the form at n
   at_map : (qs : List (Terms Fraction)) (n : ℕ) (s : List Fraction)
-      → values_at (map (λ q. normalized r (compose ℚ w q f.polys)) qs) (point f.base n s)
+      → values_at (map (λ q. with_normal_keys r (compose ℚ w q f.polys)) qs) (point f.base n s)
       ≡ values_at qs (values_at f.polys (point f.base n s))
   at_map [] n s = refl
   at_map (q ∷ qs) n s =

@@ -20,7 +20,7 @@ use Rattle.ideals.proofs.FractionMembers.{member_same, member_members}
 use Rattle.machines.specs.Basis.{AtPlaces, IsBasisOf}
 use Rattle.machines.specs.Collect.{collect}
 use Rattle.machines.specs.Cut.{lead_number}
-use Rattle.machines.specs.Elimination.{kept, in_front}
+use Rattle.machines.specs.Elimination.{free_part, in_front}
 use Rattle.machines.proofs.Collecting.{collect-polynomial, collect-same}
 use Rattle.machines.proofs.Eliminating.{kept_members}
 use Rattle.machines.proofs.Padding.{arity-pad, in_front_at}
@@ -95,7 +95,8 @@ module _ (k m : ℕ) (hs : List (Terms Fraction)) (s : Stage)
     is = all.gens i l;
   }
 
-  to_out : (i : ℕ) → i < length (kept k s.list) → IsMember ℚ m s.out (get_or (kept k s.list) i [])
+  to_out : (i : ℕ) → i < length (free_part k s.list)
+      → IsMember ℚ m s.out (get_or (free_part k s.list) i [])
   to_out i l = record {
     cofactors = get_or s.links i [];
     arity = each_place (AllArity m) s.links [] (no_rows m) over.links i;
@@ -112,8 +113,8 @@ module _ (k m : ℕ) (hs : List (Terms Fraction)) (s : Stage)
       member_same (k + m) s.list (in_front k p) (in_front k q) (in_front_collected k m p a)
       (member_members (k + m) hs s.list (in_front k p) list_arity (arity-pad k m p a)
       from_start i) in
-      let in_kept : IsMember ℚ m (kept k s.list) q =
+      let in_kept : IsMember ℚ m (free_part k s.list) q =
       (kept_members ℚ_field k m grevlex grevlex grevlex_order grevlex_order s.list s.list
       list_places basis q hq).1 in_list in
       member_same m s.out q p (Same-sym ℚ (collect-same ℚ_field grevlex grevlex_order p))
-      (member_members m (kept k s.list) s.out q out_arity hq.arity to_out in_kept)
+      (member_members m (free_part k s.list) s.out q out_arity hq.arity to_out in_kept)

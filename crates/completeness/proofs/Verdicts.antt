@@ -18,7 +18,7 @@ use Rattle.polynomials.proofs.Lead.{lead_along, lead_unique, lead_of_first}
 use Rattle.polynomials.proofs.Orders.{grevlex_order, blocks_order}
 use Rattle.polynomials.proofs.Same.{Same-sym}
 use Rattle.polynomials.proofs.SameDecided.{decide_same}
-use Rattle.exponentials.specs.Base.{Coprime, Ascending, Disjoint, Fits}
+use Rattle.exponentials.specs.Base.{Coprime, Ascending, Disjoint, SameLength}
 use Rattle.exponentials.specs.Keys.{Key, IsNormalKey, key_of}
 use Rattle.turns.specs.Turns.{IsNormal}
 use Rattle.machines.specs.Collect.{collect}
@@ -29,7 +29,7 @@ use Rattle.loops.specs.Program.{Expr, Program}
 use Rattle.rounds.specs.Form.{Form}
 use Rattle.completeness.specs.Representation.{IsLeadBelow, AreBelow}
 use Rattle.completeness.specs.Stage.{Stage, Place, in_list, in_gens, in_pairs, in_links, block_order, pair_at, HoldsAt, IsStageOver}
-use Rattle.completeness.specs.FormIdentities.{IsRightAtZero, GoesOn, PassesForm}
+use Rattle.completeness.specs.FormIdentities.{IsRightAtZero, GoesOn, IsRightForm}
 use Rattle.completeness.specs.Full.{FullCertificate, stage_of, front_of, starting, IsFullOver}
 use Rattle.completeness.specs.Parts.{Part, in_basis, in_steps, in_forms, in_start, in_round, at_end, Holds, parts, Verdict, complete, fails, IsVerdict}
 use Rattle.completeness.proofs.Lists.{each_place}
@@ -138,7 +138,7 @@ ascending_or_not : (bs : List ℕ) → Decided (Ascending bs)
 ascending_or_not [] = inl tt
 ascending_or_not (b ∷ bs) = both (decide_each (λ c. b < c) (less_or_not b) bs) (ascending_or_not bs)
 
-fits_or_not : (bs e : List ℕ) → Decided (Fits bs e)
+fits_or_not : (bs e : List ℕ) → Decided (SameLength bs e)
 fits_or_not [] [] = inl tt
 fits_or_not [] (n ∷ e) = inr (λ x. x)
 fits_or_not (b ∷ bs) [] = inr (λ x. x)
@@ -163,7 +163,7 @@ normal_or_not bs x = four (less_or_not x.0 2) (fits_or_not bs x.1) (fits_or_not 
     (disjoint_or_not x.1 x.2)
 
 -- ---- parts
-form_or_not : (images : List (Terms Fraction)) (m : ℕ) (f : Form) → Decided (PassesForm images m f)
+form_or_not : (images : List (Terms Fraction)) (m : ℕ) (f : Form) → Decided (IsRightForm images m f)
 form_or_not images m f = go (ascending_or_not f.base) (coprime_or_not f.base)
     (decide_each (IsNormal f.base) (λ p. decide_each
     (λ t. IsNormalKey f.base (key_of (length f.base) t.0)) (λ t. normal_or_not f.base
@@ -173,7 +173,7 @@ form_or_not images m f = go (ascending_or_not f.base) (coprime_or_not f.base)
     go : Decided (Ascending f.base) → Decided (Coprime f.base)
         → Decided (Each (IsNormal f.base) f.polys)
         → Decided (IsRightAtZero images m f) → Decided (GoesOn images m f)
-        → Decided (PassesForm images m f)
+        → Decided (IsRightForm images m f)
     go (inl a) (inl c) (inl n) (inl x) (inl y) = inl (record {
       ascending = a;
       coprime = c;

@@ -7,7 +7,7 @@
 use Rattle.std.specs.Prelude.{◌≡◌, ℕ, ◌<◌, List, [], All, get_or, length, None, is_some, true}
 use Rattle.numbers.specs.Fraction.{Fraction}
 use Rattle.polynomials.specs.Terms.{Terms}
-use Rattle.machines.specs.Elimination.{kept}
+use Rattle.machines.specs.Elimination.{free_part}
 use Rattle.loops.specs.Program.{Expr, Program}
 use Rattle.completeness.specs.Representation.{pairs_of}
 use Rattle.completeness.specs.Stage.{Stage, no_stage}
@@ -18,7 +18,7 @@ pub record IsStageCounted (k n : ℕ) (s : Stage) : Type 0 where
   pub gens_widths : All (λ row. length row ≡ length s.list) s.gens
   pub pairs : length s.pairs ≡ length (pairs_of (length s.list))
   pub pairs_widths : All (λ row. length row ≡ length s.list) s.pairs
-  pub links : length s.links ≡ length (kept k s.list)
+  pub links : length s.links ≡ length (free_part k s.list)
   pub links_widths : All (λ row. length row ≡ length s.out) s.links
 
 pub record IsSquare (n : ℕ) (rows : List (List (Terms Fraction))) : Type 0 where

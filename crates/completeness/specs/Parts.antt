@@ -14,7 +14,7 @@ use Rattle.loops.specs.Map.{branch_map}
 use Rattle.loops.specs.Certificate.{PassesStart, PassesStep}
 use Rattle.rounds.specs.Start.{start_list}
 use Rattle.completeness.specs.Stage.{Place, HoldsAt, below, places}
-use Rattle.completeness.specs.FormIdentities.{PassesForm}
+use Rattle.completeness.specs.FormIdentities.{IsRightForm}
 use Rattle.completeness.specs.Full.{FullCertificate, Kind, orbit, meet, certificate, form_of, stage_of, front_of, before, starting}
 
 pub data Part : Type 0 where
@@ -30,7 +30,7 @@ module _ {At : Type 0} (program : Program (Expr At)) (c : FullCertificate) where
   Holds (in_basis e) = PassesStart program (certificate c) e
   Holds (in_steps b e) = PassesStep program (certificate c) b e
   Holds (in_forms b) =
-      PassesForm (branch_map program (get_or program.branches b [])) (length program.names)
+      IsRightForm (branch_map program (get_or program.branches b [])) (length program.names)
       (form_of c b)
   Holds (in_start i) = Same ℚ (get_or (start_list program) i [])
       (combination ℚ (get_or c.start_links i []) c.start_out)

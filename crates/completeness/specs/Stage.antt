@@ -18,7 +18,7 @@ use Rattle.polynomials.specs.Order.{Rank, grevlex, blocks}
 use Rattle.polynomials.specs.Polynomial.{AllArity, IsPolynomial}
 use Rattle.exponentials.specs.Table.{numbers}
 use Rattle.machines.specs.Cut.{lead_number}
-use Rattle.machines.specs.Elimination.{kept}
+use Rattle.machines.specs.Elimination.{free_part}
 use Rattle.completeness.specs.Representation.{pairs_of, IsLcmRepresentation}
 
 pub record Stage : Type 0 where
@@ -47,7 +47,7 @@ abbrev pub places : ℕ → List (Terms Fraction) → Stage → List Place
 places k hs s =
     map in_list (below (length s.list)) ++ (map in_gens (below (length hs))
     ++ (map in_pairs (below (length (pairs_of (length s.list))))
-    ++ map in_links (below (length (kept k s.list)))))
+    ++ map in_links (below (length (free_part k s.list)))))
 
 module _ (k : ℕ) (hs : List (Terms Fraction)) (s : Stage) where
   -- an element is monic; a polynomial that the stage begins with is made of the list, and so is the
@@ -58,13 +58,13 @@ module _ (k : ℕ) (hs : List (Terms Fraction)) (s : Stage) where
   HoldsAt (in_pairs i) =
       IsLcmRepresentation rationals (block_order k) s.list (pair_at s i) (get_or s.pairs i [])
   HoldsAt (in_links i) =
-      Same ℚ (get_or (kept k s.list) i []) (combination ℚ (get_or s.links i []) s.out)
+      Same ℚ (get_or (free_part k s.list) i []) (combination ℚ (get_or s.links i []) s.out)
 
   pub record StageHolds : Type 0 where
     pub list : (i : ℕ) → i < length s.list → HoldsAt (in_list i)
     pub gens : (i : ℕ) → i < length hs → HoldsAt (in_gens i)
     pub pairs : (i : ℕ) → i < length (pairs_of (length s.list)) → HoldsAt (in_pairs i)
-    pub links : (i : ℕ) → i < length (kept k s.list) → HoldsAt (in_links i)
+    pub links : (i : ℕ) → i < length (free_part k s.list) → HoldsAt (in_links i)
 
 pub record IsStageOver (k m : ℕ) (s : Stage) : Type 0 where
   pub list : Each (IsPolynomial ℚ (block_order k) (k + m)) s.list

@@ -22,7 +22,7 @@ ghost use Rattle.rounds.specs.Word.{AtMost, Stays, IsZeroAtStarts};
 ghost use Rattle.completeness.specs.Cover.{Covers};
 ghost use Rattle.completeness.specs.Representation.{IsLcmRepresentation};
 ghost use Rattle.completeness.specs.Stage.{Stage, StageHolds, IsStageOver};
-ghost use Rattle.completeness.specs.FormIdentities.{PassesForm};
+ghost use Rattle.completeness.specs.FormIdentities.{IsRightForm};
 ghost use Rattle.completeness.specs.Full.{FullCertificate, before, IsFullOver};
 ghost use Rattle.completeness.specs.Parts.{AllHold, Verdict, IsVerdict};
 
@@ -80,8 +80,8 @@ pub fn rounds_cover_levels<At>()
 
 /// A form over a coprime base that is the variables at 0, and at n + 1 the map of what it is at n,
 /// is a closed form.
-pub fn forms_that_pass_are_closed()
+pub fn right_forms_are_closed()
     ensures { (images : List (Terms Fraction)) (m : ℕ) → length images ≡ m → (f : Form)
-        → AllArity (width (length f.base) m) f.polys → PassesForm images m f
+        → AllArity (width (length f.base) m) f.polys → IsRightForm images m f
         → IsClosedForm f.base images f.polys }
 {}

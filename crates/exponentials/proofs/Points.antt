@@ -7,12 +7,12 @@ use Rattle.rings.proofs.RingLaws as L
 use Rattle.rings.proofs.RingSolver.{ring_rules, ring}
 use Rattle.rings.proofs.Basics.{one_is_zero}
 use Rattle.polynomials.proofs.Value.{monomial-nil}
-use Rattle.exponentials.specs.Keys.{left, rest, top}
+use Rattle.exponentials.specs.Keys.{excess, rest, top}
 use Rattle.polynomials.specs.Terms.{monomial_at}
 use Rattle.exponentials.proofs.Unique.{monomial-append}
 
-pub left-disjoint : (d e : List ℕ) → Disjoint (left d e) (left e d)
-unfolding left
+pub left-disjoint : (d e : List ℕ) → Disjoint (excess d e) (excess e d)
+unfolding excess
 left-disjoint [] e = tt
 left-disjoint (m ∷ d) [] = tt
 left-disjoint (m ∷ d) (n ∷ e) = (one_is_zero m n, left-disjoint d e)

@@ -5,20 +5,20 @@ use Rattle.rings.specs.In.{In}
 use Rattle.rings.proofs.Basics.{one_is_zero}
 use Rattle.exponentials.proofs.Coprimes.{power_none, power_apart}
 use Rattle.numbers.proofs.Coprime.{coprime-mul}
-use Rattle.exponentials.specs.Base.{Coprime, Fits, IsProductOf, product}
+use Rattle.exponentials.specs.Base.{Coprime, SameLength, IsProductOf, product}
 use native.Mathlib.Nat as N
 use Rattle.numbers.specs.Gcd.{gcd}
 use Rattle.polynomials.specs.Exponent.{plus}
 use Rattle.exponentials.proofs.Powers.{product-plus, plus-fits}
 use Rattle.exponentials.proofs.Coprimes as C
-use Rattle.exponentials.specs.Keys.{left}
+use Rattle.exponentials.specs.Keys.{excess}
 
 -- no exponents but 0
 zeros : List ℕ → List ℕ
 zeros [] = []
 zeros (b ∷ bs) = 0 ∷ zeros bs
 
-zeros-fits : (bs : List ℕ) → Fits bs (zeros bs)
+zeros-fits : (bs : List ℕ) → SameLength bs (zeros bs)
 unfolding zeros
 zeros-fits [] = tt
 zeros-fits (b ∷ bs) = zeros-fits bs
@@ -88,7 +88,7 @@ lower [] e = []
 lower (m ∷ d) [] = []
 lower (m ∷ d) (n ∷ e) = min m n ∷ lower d e
 
-pub lower-fits : (bs d e : List ℕ) → Fits bs d → Fits bs e → Fits bs (lower d e)
+pub lower-fits : (bs d e : List ℕ) → SameLength bs d → SameLength bs e → SameLength bs (lower d e)
 unfolding lower
 lower-fits [] [] e f g = tt
 lower-fits [] (m ∷ d) e f g = absurd f
@@ -96,8 +96,8 @@ lower-fits (b ∷ bs) [] e f g = absurd f
 lower-fits (b ∷ bs) (m ∷ d) [] f g = absurd g
 lower-fits (b ∷ bs) (m ∷ d) (n ∷ e) f g = lower-fits bs d e f g
 
-pub left-fits : (bs d e : List ℕ) → Fits bs d → Fits bs e → Fits bs (left d e)
-unfolding left
+pub left-fits : (bs d e : List ℕ) → SameLength bs d → SameLength bs e → SameLength bs (excess d e)
+unfolding excess
 left-fits [] [] e f g = tt
 left-fits [] (m ∷ d) e f g = absurd f
 left-fits (b ∷ bs) [] e f g = absurd f
@@ -111,8 +111,9 @@ lower_comm [] (n ∷ e) = refl
 lower_comm (m ∷ d) [] = refl
 lower_comm (m ∷ d) (n ∷ e) = ap₂ ◌∷◌ (omega arith) (lower_comm d e)
 
-pub lower-left : (bs d e : List ℕ) → Fits bs d → Fits bs e → plus (lower d e) (left d e) ≡ d
-unfolding lower left plus
+pub lower-left : (bs d e : List ℕ) → SameLength bs d → SameLength bs e
+    → plus (lower d e) (excess d e) ≡ d
+unfolding lower excess plus
 lower-left [] [] e f g = refl
 lower-left [] (m ∷ d) e f g = absurd f
 lower-left (b ∷ bs) [] e f g = absurd f
@@ -128,29 +129,30 @@ coprime_product b (c ∷ bs) [] p = C.coprime_one b
 coprime_product b (c ∷ bs) (n ∷ e) p = coprime-mul b (c ^ n) (product bs e)
     (C.coprime_power b c n p.0) (coprime_product b bs e p.1)
 
-left-coprime : (bs d e : List ℕ) → Coprime bs → gcd (product bs (left d e)) (product bs (left e d))
+left-coprime : (bs d e : List ℕ) → Coprime bs
+    → gcd (product bs (excess d e)) (product bs (excess e d))
     ≡ 1
-unfolding left
+unfolding excess
 left-coprime [] d e c = C.coprime_one 1
-left-coprime (b ∷ bs) [] e c = C.coprime_sym (product (b ∷ bs) (left e [])) 1
-    (C.coprime_one (product (b ∷ bs) (left e [])))
+left-coprime (b ∷ bs) [] e c = C.coprime_sym (product (b ∷ bs) (excess e [])) 1
+    (C.coprime_one (product (b ∷ bs) (excess e [])))
 left-coprime (b ∷ bs) (m ∷ d) [] c = C.coprime_one 1
 left-coprime (b ∷ bs) (m ∷ d) (n ∷ e) c = go (one_is_zero m n) (left-coprime bs d e c.2)
   where
-    go : (m - n ≡ 0) ⊎ (n - m ≡ 0) → gcd (product bs (left d e)) (product bs (left e d)) ≡ 1
-        → gcd (b ^ (m - n) * product bs (left d e)) (b ^ (n - m) * product bs (left e d)) ≡ 1
+    go : (m - n ≡ 0) ⊎ (n - m ≡ 0) → gcd (product bs (excess d e)) (product bs (excess e d)) ≡ 1
+        → gcd (b ^ (m - n) * product bs (excess d e)) (b ^ (n - m) * product bs (excess e d)) ≡ 1
     go (inl z) r =
-        subst (λ x. gcd x (b ^ (n - m) * product bs (left e d)) ≡ 1)
-        (power_none b (m - n) z (product bs (left d e)))
-        (power_apart b (product bs (left d e)) (n - m) (product bs (left e d))
-        (coprime_product b bs (left d e) c.1) r)
+        subst (λ x. gcd x (b ^ (n - m) * product bs (excess e d)) ≡ 1)
+        (power_none b (m - n) z (product bs (excess d e)))
+        (power_apart b (product bs (excess d e)) (n - m) (product bs (excess e d))
+        (coprime_product b bs (excess d e) c.1) r)
     go (inr z) r =
-        subst (λ x. gcd (b ^ (m - n) * product bs (left d e)) x ≡ 1)
-        (power_none b (n - m) z (product bs (left e d)))
-        (C.coprime_sym (product bs (left e d)) (b ^ (m - n) * product bs (left d e))
-        (power_apart b (product bs (left e d)) (m - n) (product bs (left d e))
-        (coprime_product b bs (left e d) c.1) (C.coprime_sym (product bs (left d e))
-        (product bs (left e d)) r)))
+        subst (λ x. gcd (b ^ (m - n) * product bs (excess d e)) x ≡ 1)
+        (power_none b (n - m) z (product bs (excess e d)))
+        (C.coprime_sym (product bs (excess e d)) (b ^ (m - n) * product bs (excess d e))
+        (power_apart b (product bs (excess e d)) (m - n) (product bs (excess d e))
+        (coprime_product b bs (excess e d) c.1) (C.coprime_sym (product bs (excess d e))
+        (product bs (excess e d)) r)))
 
 -- with numbers x and y also g, x / g and y / g
 pub record Split (P : ℕ → Type 0) : Type 0 where
@@ -173,13 +175,13 @@ parts bs x y c p q =
     let d = p.exponents in
     let e = q.exponents in
     let k = product bs (lower d e) in
-    let a = product bs (left d e) in
-    let b = product bs (left e d) in
+    let a = product bs (excess d e) in
+    let b = product bs (excess e d) in
     let x_is : x ≡ k * a = sym p.is ∙ ap (product bs) (sym (lower-left bs d e p.fits q.fits))
-    ∙ product-plus bs (lower d e) (left d e) in
+    ∙ product-plus bs (lower d e) (excess d e) in
     let y_is : y ≡ k * b = sym q.is ∙ ap (product bs) (sym (lower-left bs e d q.fits p.fits)
-    ∙ ap (λ l. plus l (left e d)) (lower_comm e d))
-    ∙ product-plus bs (lower d e) (left e d) in
+    ∙ ap (λ l. plus l (excess e d)) (lower_comm e d))
+    ∙ product-plus bs (lower d e) (excess e d) in
     record {
       common = k;
       own = a;
@@ -188,7 +190,12 @@ parts bs x y c p q =
         fits = lower-fits bs d e p.fits q.fits;
         is = refl;
       };
-      own_made = record { exponents = left d e; fits = left-fits bs d e p.fits q.fits; is = refl };
+      own_made = record {
+        exponents = excess d e;
+        fits = left-fits bs d e p.fits q.fits;
+        is =
+            refl;
+      };
       whole = x_is;
       is_gcd = ap₂ gcd x_is y_is ∙ C.gcd-times k a b (left-coprime bs d e c);
     }

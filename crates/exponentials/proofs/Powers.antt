@@ -2,7 +2,7 @@
 use Rattle.std.proofs.Common.{◌≡◌, ◌⊎◌, ℕ, zero, suc, ◌+◌, ◌*◌, ◌^◌, ◌<◌, List, [], ◌∷◌, refl, sym, ap, ap₂, subst, ◌∙◌, arith}
 use Rattle.std.proofs.lemmas.Nat.{pow-add}
 use Rattle.rings.specs.Each.{Each}
-use Rattle.exponentials.specs.Base.{Coprime, Disjoint, Fits, product}
+use Rattle.exponentials.specs.Base.{Coprime, Disjoint, SameLength, product}
 use Prim.Native.Nat.{◌∣◌}
 use native.Mathlib.Nat as N
 use Rattle.numbers.specs.Gcd.{gcd}
@@ -32,7 +32,7 @@ dvd_product_out b (c ∷ bs) (n ∷ e) p d =
     dvd_product_out b bs e p.1 (dvd_power_out b c n (product bs e) (G.gcd_comm c b ∙ p.0) d)
 
 -- different lists of exponents give different numbers
-pub exponents_same : (bs : List ℕ) → Coprime bs → (d e : List ℕ) → Fits bs d → Fits bs e
+pub exponents_same : (bs : List ℕ) → Coprime bs → (d e : List ℕ) → SameLength bs d → SameLength bs e
     → product bs d ≡ product bs e → d ≡ e
 exponents_same [] c [] [] f g h = refl
 exponents_same [] c [] (n ∷ e) f g h = absurd g
@@ -81,7 +81,7 @@ product-plus (b ∷ bs) (m ∷ d) [] = sym (N.mul-one (product (b ∷ bs) (m ∷
 product-plus (b ∷ bs) (m ∷ d) (n ∷ e) = ap₂ ◌*◌ (pow-add b m n) (product-plus bs d e)
     ∙ N.mul-mul-mul_comm (b ^ m) (b ^ n) (product bs d) (product bs e)
 
-pub plus-fits : (bs d e : List ℕ) → Fits bs d → Fits bs e → Fits bs (plus d e)
+pub plus-fits : (bs d e : List ℕ) → SameLength bs d → SameLength bs e → SameLength bs (plus d e)
 unfolding plus
 plus-fits [] [] [] f g = tt
 plus-fits [] [] (n ∷ e) f g = absurd g
@@ -101,7 +101,8 @@ place : (m n m' n' : ℕ) → (m ≡ 0) ⊎ (n ≡ 0) → (m' ≡ 0) ⊎ (n' ≡
 place m n m' n' p q e = grind arith
 
 -- whole exponents u - v are given by u and v
-pub disjoint_same : (bs u v u' v' : List ℕ) → Fits bs u → Fits bs v → Fits bs u' → Fits bs v'
+pub disjoint_same : (bs u v u' v' : List ℕ) → SameLength bs u → SameLength bs v → SameLength bs u'
+    → SameLength bs v'
     → Disjoint u v → Disjoint u' v' → plus u v' ≡ plus u' v → (u ≡ u') × (v ≡ v')
 unfolding plus
 disjoint_same [] [] [] [] [] f g f' g' p q e = (refl, refl)

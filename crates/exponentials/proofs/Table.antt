@@ -55,7 +55,7 @@ module _ {A : Type 0} (R : CommRing A) where
   value = T.value R
 
   abbrev weighed : (ℕ → A) → ℕ → ℕ → A
-  weighed = T.weighed R
+  weighed = T.binomial_term R
 
   abbrev above : ℕ → (ℕ → A) → ℕ → A
   above = T.above R
@@ -349,6 +349,6 @@ module _ {K : Type 0} (F : Field K) (char : IsChar0 F) where
     start = equal-zero R l a q h.first;
     next = equal-next R l (F.inverse l) (F.mul-inverse l ne) a q
         (λ i k. undivide (of_nat R (suc i)) (q (suc i)) (F.add (F.mul (T.delta R i a) (F.inverse l))
-        (F.neg (T.sum_numbers R (T.weighed R q i) (suc (suc i)) (a - i)))) (char.whole i)
+        (F.neg (T.sum_numbers R (T.binomial_term R q i) (suc (suc i)) (a - i)))) (char.whole i)
         (h.next i k));
   }

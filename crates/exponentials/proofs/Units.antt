@@ -8,14 +8,14 @@
 use Rattle.std.proofs.lemmas.List.{length-map}
 use Rattle.std.proofs.Common.{◌≡◌, ℕ, zero, suc, ◌+◌, ◌<◌, ◌≤◌, List, [], ◌∷◌, ◌++◌, map, length, take, drop, refl, sym, ap, ap₂, ◌∙◌, arith}
 use Rattle.rings.specs.Each.{Each}
-use Rattle.exponentials.specs.Base.{Coprime, Fits}
+use Rattle.exponentials.specs.Base.{Coprime, SameLength}
 use Rattle.rings.specs.Ring.{Hom, CommRing, Field, operations, of_nat}
 use Rattle.rings.specs.Sum.{sum_over}
 use Rattle.rings.proofs.RingLaws as L
 use Rattle.rings.specs.Arithmetic.{power}
 use Rattle.exponentials.proofs.Lists.{sum_same, each_map}
 use Rattle.polynomials.specs.Exponent.{plus}
-use Rattle.exponentials.specs.Keys.{IsNormalKey, Key, left, normal_key, parity, rest, top}
+use Rattle.exponentials.specs.Keys.{IsNormalKey, Key, excess, normal_key, parity, rest, top}
 use Rattle.exponentials.proofs.PowerProducts.{lower, lower_comm, lower-left, left-fits}
 use Rattle.polynomials.specs.Terms.{monomial_at}
 use Rattle.exponentials.proofs.Monomial.{power-mul, power-one, power_inverse}
@@ -40,12 +40,12 @@ vs_of r t = take r (drop r (rest (rest t.0)))
 
 -- there are exponents of s, of each u and of each v
 abbrev pub Room : {K : Type 0} → List ℕ → Term K → Type 0
-Room bs t = Fits bs (us_of (length bs) t) × Fits bs (vs_of (length bs) t)
+Room bs t = SameLength bs (us_of (length bs) t) × SameLength bs (vs_of (length bs) t)
 
 abbrev pub HasRoom : {K : Type 0} → List ℕ → List (Term K) → Type 0
 HasRoom bs ts = Each (Room bs) ts
 
-fits_long : (bs e : List ℕ) → length bs ≤ length e → Fits bs (take (length bs) e)
+fits_long : (bs e : List ℕ) → length bs ≤ length e → SameLength bs (take (length bs) e)
 fits_long [] e h = tt
 fits_long (b ∷ bs) [] h = absurd (omega arith)
 fits_long (b ∷ bs) (n ∷ e) h = fits_long bs e (omega arith)
@@ -114,25 +114,25 @@ module _ {A : Type 0} (R : CommRing A) (bs : List ℕ) (xs : List A) where
 
   -- what u and v have in common may be left out
   without_common : (f g : ℕ → A) → Each (λ b. mul (f b) (g b) ≡ 𝟙) bs → (us vs : List ℕ)
-      → Fits bs us → Fits bs vs
+      → SameLength bs us → SameLength bs vs
       → mul (monomial_at (operations R) (map f bs) us) (monomial_at (operations R) (map g bs) vs)
-      ≡ mul (monomial_at (operations R) (map f bs) (left us vs))
-      (monomial_at (operations R) (map g bs) (left vs us))
+      ≡ mul (monomial_at (operations R) (map f bs) (excess us vs))
+      (monomial_at (operations R) (map g bs) (excess vs us))
   without_common f g h us vs p q =
       let k = lower us vs in
       ap₂ mul (ap (monomial_at (operations R) (map f bs)) (sym (lower-left bs us vs p q))
-      ∙ monomial-plus R (map f bs) k (left us vs))
+      ∙ monomial-plus R (map f bs) k (excess us vs))
       (ap (monomial_at (operations R) (map g bs)) (sym (lower-left bs vs us q p)
-      ∙ ap (λ z. plus z (left vs us)) (lower_comm vs us))
-      ∙ monomial-plus R (map g bs) k (left vs us))
+      ∙ ap (λ z. plus z (excess vs us)) (lower_comm vs us))
+      ∙ monomial-plus R (map g bs) k (excess vs us))
       ∙ L.mul_swap R (monomial_at (operations R) (map f bs) k)
-      (monomial_at (operations R) (map f bs) (left us vs))
+      (monomial_at (operations R) (map f bs) (excess us vs))
       (monomial_at (operations R) (map g bs) k) (monomial_at (operations R) (map g bs)
-      (left vs us))
-      ∙ ap (λ z. mul z (mul (monomial_at (operations R) (map f bs) (left us vs))
-      (monomial_at (operations R) (map g bs) (left vs us)))) (both-one f g bs k h)
-      ∙ L.one-mul R (mul (monomial_at (operations R) (map f bs) (left us vs))
-      (monomial_at (operations R) (map g bs) (left vs us)))
+      (excess vs us))
+      ∙ ap (λ z. mul z (mul (monomial_at (operations R) (map f bs) (excess us vs))
+      (monomial_at (operations R) (map g bs) (excess vs us)))) (both-one f g bs k h)
+      ∙ L.one-mul R (mul (monomial_at (operations R) (map f bs) (excess us vs))
+      (monomial_at (operations R) (map g bs) (excess vs us)))
 
   -- the value of a monomial in n, s, u and v
   abbrev pub place_at : A → A → (ℕ → A) → (ℕ → A) → Place → A

@@ -1,7 +1,7 @@
 -- Bases: pairwise coprime numbers above 1, of whose powers other numbers are products.
 --   product bs e           the product of the powers; a missing exponent is 0
 --   Coprime bs             above 1 and pairwise coprime
---   Fits bs e              as many exponents as numbers
+--   SameLength bs e              as many exponents as numbers
 --   Disjoint u v           no place of both lists has a number above zero in both
 --   IsProductOf bs x       x is a product of powers of bs
 --   IsBase list bs         bs is coprime, and each of the list is made of it
@@ -24,11 +24,11 @@ abbrev pub Coprime : List ℕ → Type 0
 Coprime [] = Unit {0}
 Coprime (b ∷ bs) = (1 < b) × Each (λ c. gcd b c ≡ 1) bs × Coprime bs
 
-abbrev pub Fits : List ℕ → List ℕ → Type 0
-Fits [] [] = Unit {0}
-Fits [] (n ∷ e) = ⊥
-Fits (b ∷ bs) [] = ⊥
-Fits (b ∷ bs) (n ∷ e) = Fits bs e
+abbrev pub SameLength : List ℕ → List ℕ → Type 0
+SameLength [] [] = Unit {0}
+SameLength [] (n ∷ e) = ⊥
+SameLength (b ∷ bs) [] = ⊥
+SameLength (b ∷ bs) (n ∷ e) = SameLength bs e
 
 abbrev pub Disjoint : List ℕ → List ℕ → Type 0
 Disjoint [] v = Unit {0}
@@ -37,7 +37,7 @@ Disjoint (m ∷ u) (n ∷ v) = ((m ≡ 0) ⊎ (n ≡ 0)) × Disjoint u v
 
 pub record IsProductOf (bs : List ℕ) (x : ℕ) : Type 0 where
   pub exponents : List ℕ
-  pub fits : Fits bs exponents
+  pub fits : SameLength bs exponents
   pub is : product bs exponents ≡ x
 
 pub record IsBase (list bs : List ℕ) : Type 0 where

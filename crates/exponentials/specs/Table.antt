@@ -3,7 +3,7 @@
 --   numbers lo n             so many numbers from lo on; sum_numbers R f lo n: the sum of f over them
 --   delta i a                one where i is a, and else zero
 --   value d q x              q 0 + q 1 x + .. + q d x^d
---   weighed q i j            the binomial coefficient of j and i, times q j; above a q i: their sum over the j above i, up to a
+--   binomial_term q i j            the binomial coefficient of j and i, times q j; above a q i: their sum over the j above i, up to a
 --   IsOther σ l a q          the numbers of the table where σ is not l; other_form: the solution
 --   IsEqual l a q            those where σ is l; equal_form: the solution
 --   Solves σ l a y           what is asked of y
@@ -38,11 +38,11 @@ module _ {A : Type 0} (R : CommRing A) where
   abbrev pub value : ℕ → (ℕ → A) → A → A
   value d q x = sum_numbers (λ i. R.mul (q i) (power (operations R) x i)) 0 (suc d)
 
-  abbrev pub weighed : (ℕ → A) → ℕ → ℕ → A
-  weighed q i j = R.mul (of_nat R (choose j i)) (q j)
+  abbrev pub binomial_term : (ℕ → A) → ℕ → ℕ → A
+  binomial_term q i j = R.mul (of_nat R (choose j i)) (q j)
 
   abbrev pub above : ℕ → (ℕ → A) → ℕ → A
-  above d q i = sum_numbers (weighed q i) (suc i) (d - i)
+  above d q i = sum_numbers (binomial_term q i) (suc i) (d - i)
 
   abbrev pub other_form : A → A → ℕ → (ℕ → A) → ℕ → A
   other_form σ l a q n =
@@ -64,7 +64,7 @@ module _ {K : Type 0} (F : Field K) where
     pub next : (i : ℕ) → i ≤ a
         → q (suc i) ≡ F.mul
         (F.add (F.mul (delta F.ring i a) (F.inverse l))
-        (F.neg (sum_numbers F.ring (weighed F.ring q i) (suc (suc i)) (a - i))))
+        (F.neg (sum_numbers F.ring (binomial_term F.ring q i) (suc (suc i)) (a - i))))
         (F.inverse (of_nat F.ring (suc i)))
 
   pub record Solves (σ l : K) (a : ℕ) (y : ℕ → K) : Type 0 where

@@ -2,7 +2,7 @@
 
 ghost use Rattle.std.specs.Prelude.{◌≡◌, ◌<◌, ℕ, List};
 ghost use Rattle.rings.specs.Each.{Each};
-ghost use Rattle.exponentials.specs.Base.{Coprime, Fits, IsTheBase, product};
+ghost use Rattle.exponentials.specs.Base.{Coprime, SameLength, IsTheBase, product};
 
 /// Each list of numbers above zero has just one base, and over it a number has just one list of exponents.
 pub fn numbers_have_one_base()
@@ -10,6 +10,6 @@ pub fn numbers_have_one_base()
         → ((base : List ℕ) × IsTheBase list base) }
     ensures one { (list base other : List ℕ) → Each (λ x. 0 < x) list → IsTheBase list base
         → IsTheBase list other → base ≡ other }
-    ensures exponents { (base d e : List ℕ) → Coprime base → Fits base d → Fits base e
+    ensures exponents { (base d e : List ℕ) → Coprime base → SameLength base d → SameLength base e
         → product base d ≡ product base e → d ≡ e }
 {}

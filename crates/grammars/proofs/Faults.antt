@@ -12,7 +12,7 @@ use Rattle.grammars.specs.Derivation.{Mark, Derives, derives_nothing, derives_to
 use Rattle.grammars.specs.First.{may_be_empty, first, first_then, first_of}
 use Rattle.grammars.specs.Checked.{is_fit, are_fit, IsChecked, ends_by_token}
 use Rattle.rings.proofs.Basics.{same_head, same_tail}
-use Rattle.grammars.specs.Reader.{Move, takes, leaves, refuses, move, Answer, reads, refused, unended, by_move, read, ended, read_whole}
+use Rattle.grammars.specs.Reader.{Move, takes, leaves, refuses, move, ReadResult, reads, refused, unended, by_move, read, at_text_end, read_whole}
 use Rattle.grammars.specs.FirstFault.{symbols_in, sound, sounds, Begins, IsCause}
 use Rattle.grammars.specs.Spelled.{IsRead}
 use Rattle.grammars.proofs.Reading.{AreDerived, move_derived}
@@ -95,7 +95,7 @@ module _ {N K Y C V R : Type 0} (L : Language N K Y C V R) where
       pub rest : List (Mark (Placed Y) R)
       pub marked : text.marks ≡ sounds ts ++ next ∷ rest
 
-    abbrev pub Says : Answer Y C V R → Type 0
+    abbrev pub Says : ReadResult Y C V R → Type 0
     Says (reads t []) = Unit {0}
     Says (reads t (x ∷ after)) = Part t x after
     Says (refused x why) = IsFirstRefused x why
@@ -192,7 +192,7 @@ module _ {N K Y C V R : Type 0} (L : Language N K Y C V R) where
     says_more : (gs hs : List (Grammar N K Y C V R)) (s u : State C V) (y : Placed Y)
         (ys : List (Placed Y)) → are_fit L gs [] ≡ true → move L gs s y ≡ takes None u hs
         → AreDerived L gs s y (takes None u hs)
-        → (a : Answer Y C V R) → Says hs u ys a → Says gs s (y ∷ ys) a
+        → (a : ReadResult Y C V R) → Says hs u ys a → Says gs s (y ∷ ys) a
     says_more gs hs s u y ys fit m is (reads t []) p = tt
     says_more gs hs s u y ys fit m is (reads t (x ∷ after)) p =
         record {
@@ -271,10 +271,11 @@ module _ {N K Y C V R : Type 0} (L : Language N K Y C V R) where
         }
 
     whole_says : (ts : List (Placed Y)) (gs : List (Grammar N K Y C V R)) (s : State C V)
-        → are_fit L gs [] ≡ true → (a : Answer Y C V R) → read_whole L gs s ts ≡ a → Says gs s ts a
+        → are_fit L gs [] ≡ true → (a : ReadResult Y C V R) → read_whole L gs s ts ≡ a
+        → Says gs s ts a
     whole_says ts gs s fit a e = subst (Says gs s ts) e (go (read L gs s ts) (says ts gs s fit))
       where
-        go : (a : Answer Y C V R) → Says gs s ts a → Says gs s ts (ended L a)
+        go : (a : ReadResult Y C V R) → Says gs s ts a → Says gs s ts (at_text_end L a)
         go (reads t (x ∷ after)) p = record {
           before = p.before;
           after = after;
@@ -290,11 +291,11 @@ module _ {N K Y C V R : Type 0} (L : Language N K Y C V R) where
 
     -- ---- and back
     -- the answer refuses x, or stops before it
-    abbrev pub HaltsAt : Placed Y → List (Placed Y) → Option R → Answer Y C V R → Type 0
+    abbrev pub HaltsAt : Placed Y → List (Placed Y) → Option R → ReadResult Y C V R → Type 0
     HaltsAt x after why a = (a ≡ refused x why) ⊎ ((t : State C V) × (why ≡ None)
         × (a ≡ reads t (x ∷ after)))
 
-    abbrev pub read_step : Placed Y → List (Placed Y) → Move N K Y C V R → Answer Y C V R
+    abbrev pub read_step : Placed Y → List (Placed Y) → Move N K Y C V R → ReadResult Y C V R
     read_step x xs d = by_move L d x xs (λ t hs. read L hs t xs)
 
     pub first_halts : (before : List (Placed Y)) (gs : List (Grammar N K Y C V R)) (s : State C V)
@@ -357,7 +358,7 @@ module _ {N K Y C V R : Type 0} (L : Language N K Y C V R) where
       (λ e. whole_says ts gs s fit (refused x why) e),
       (λ f. ap (read_whole L gs s) f.tokens
           ∙ elim (first_halts f.before gs s x f.after why fit f.cause) [
-            | inl e ↦ ap (ended L) e
-            | inr (t, none, e) ↦ ap (ended L) e ∙ ap (refused x) (sym none)
+            | inl e ↦ ap (at_text_end L) e
+            | inr (t, none, e) ↦ ap (at_text_end L) e ∙ ap (refused x) (sym none)
           ]),
     )

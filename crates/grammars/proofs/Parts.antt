@@ -10,7 +10,7 @@ use Rattle.grammars.specs.Grammar.{Placed, State, Grammar, token, change, sequen
 use Rattle.grammars.specs.Derivation.{Mark, Derives, derives_nothing, derives_token, derives_change, derives_sequence, derives_left, derives_right, derives_none, derives_more, derives_rule}
 use Rattle.grammars.specs.First.{may_be_empty, first, first_then, first_of}
 use Rattle.grammars.specs.Checked.{is_fit, are_fit, begins_closed, IsChecked}
-use Rattle.grammars.specs.Reader.{leaves, move, Answer, reads, refused, read, ended}
+use Rattle.grammars.specs.Reader.{leaves, move, ReadResult, reads, refused, read, at_text_end}
 use Rattle.grammars.specs.FirstFault.{symbols_in, sound, sounds, Begins, IsCause}
 use Rattle.grammars.specs.Spelled.{IsRead, AreSpelled}
 use Rattle.grammars.specs.Parts.{BeginsExactly, IsReadBefore, IsPartFault}
@@ -227,7 +227,7 @@ module _ {N K Y C V R : Type 0} (L : Language N K Y C V R) (checked : IsChecked 
         → IsPartFault L gs s tokens ts x why
     fault_of why e =
         let f = (first_faults L gs s tokens spelled ts x why).0
-        ((whole_refused L checked gs fit s ts x why).0 (ap (ended L) e)) in
+        ((whole_refused L checked gs fit s ts x why).0 (ap (at_text_end L) e)) in
         record {
           first = f;
           no_text = λ none t w.
@@ -235,7 +235,8 @@ module _ {N K Y C V R : Type 0} (L : Language N K Y C V R) (checked : IsChecked 
               (cause_in L gs s tokens spelled f.before x why f.cause) in
               let r = ap (read L gs s) f.tokens ∙ part_is_read exact x f.before gs s t f.after fit w
               c.none in
-              let both : ◌≡◌ {A = Answer Y C V R} (reads t (x ∷ f.after)) (refused x why) = sym r
+              let both : ◌≡◌ {A = ReadResult Y C V R} (reads t (x ∷ f.after)) (refused x why) =
+              sym r
               ∙ e in
               absurd (cc);
         }

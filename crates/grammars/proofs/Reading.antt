@@ -10,7 +10,7 @@ use Rattle.grammars.specs.Kinds.{has}
 use Rattle.grammars.specs.Grammar.{Placed, State, Grammar, token, change, sequence, either, many, rule, Language, after_token}
 use Rattle.grammars.specs.Derivation.{Mark, Derives, derives_nothing, derives_token, derives_change, derives_sequence, derives_left, derives_right, derives_none, derives_more, derives_rule}
 use Rattle.grammars.specs.First.{first}
-use Rattle.grammars.specs.Reader.{Move, takes, leaves, refuses, Opening, on, closed, opened, move, Answer, reads, by_move, read, ended, read_whole}
+use Rattle.grammars.specs.Reader.{Move, takes, leaves, refuses, Opening, on, closed, opened, move, ReadResult, reads, by_move, read, at_text_end, read_whole}
 use Rattle.grammars.specs.Checked.{ends_by_token, are_fit, IsChecked, IsWhole}
 use Rattle.grammars.specs.FirstFault.{sound, sounds}
 use Rattle.grammars.specs.Spelled.{IsRead}
@@ -94,7 +94,7 @@ module _ {N K Y C V R : Type 0} (L : Language N K Y C V R) where
     pub derivation : IsRead L gs s front t
 
   stops : (gs : List (Grammar N K Y C V R)) (s t u : State C V) (ts rest : List (Placed Y))
-      → IsRead L gs s [] u → ◌≡◌ {A = Answer Y C V R} (reads u ts) (reads t rest)
+      → IsRead L gs s [] u → ◌≡◌ {A = ReadResult Y C V R} (reads u ts) (reads t rest)
       → ReadUpTo gs s ts t rest
   stops gs s t u ts rest w e =
       let same : u ≡ t = cc in
@@ -129,7 +129,7 @@ module _ {N K Y C V R : Type 0} (L : Language N K Y C V R) where
       let p = read_is_derived ts gs s t [] (go (read L gs s ts) e) in
       subst (λ ts. IsRead L gs s ts t) (sym (p.tokens ∙ append-nil p.front)) p.derivation
     where
-      go : (a : Answer Y C V R) → ended L a ≡ reads t [] → a ≡ reads t []
+      go : (a : ReadResult Y C V R) → at_text_end L a ≡ reads t [] → a ≡ reads t []
       go (reads u (x ∷ xs)) e = absurd (cc)
       go a e = e
 
@@ -150,7 +150,7 @@ module _ {N K Y C V R : Type 0} (L : Language N K Y C V R) where
     derived_is_read [] gs s t fit ends w = nothing_left gs s t ends w
     derived_is_read (x ∷ xs) gs s t fit ends w =
         let n = taken L checked w (sound x) (sounds xs) refl [] fit in
-        ap (λ d. ended L (by_move L d x xs (λ u hs. read L hs u xs))) n.is
+        ap (λ d. at_text_end L (by_move L d x xs (λ u hs. read L hs u xs))) n.is
         ∙ derived_is_read xs n.left n.state t
         (descended L (λ gs. are_fit L gs [] ≡ true) (fit_descends L checked []) gs n.left s n.state
         x None fit n.is)

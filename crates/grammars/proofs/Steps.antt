@@ -5,18 +5,18 @@ use Rattle.std.proofs.Common.{◌≡◌, List, [], ◌∷◌, ◌++◌, refl, ap
 use Rattle.grammars.specs.Kinds.{has}
 use Rattle.grammars.specs.Grammar.{Placed, State, Grammar, token, change, sequence, either, many, rule, Language, after_token, after_change}
 use Rattle.grammars.specs.First.{may_be_empty, first}
-use Rattle.grammars.specs.Reader.{Move, takes, leaves, refuses, Opening, on, closed, opened, move, Answer, reads, refused, unended, by_move, read, parsed}
+use Rattle.grammars.specs.Reader.{Move, takes, leaves, refuses, Opening, on, closed, opened, move, ReadResult, reads, refused, unended, by_move, read, parsed}
 use Rattle.grammars.specs.Checked.{IsChecked}
 use Rattle.grammars.proofs.Steady.{full_steady, move_rule}
 
 module _ {N K Y C V R : Type 0} (L : Language N K Y C V R) where
-  abbrev pub and_then : Answer Y C V R → (State C V → List (Placed Y) → Answer Y C V R)
-      → Answer Y C V R
+  abbrev pub and_then : ReadResult Y C V R → (State C V → List (Placed Y) → ReadResult Y C V R)
+      → ReadResult Y C V R
   and_then (reads t rest) next = next t rest
   and_then (refused x why) next = refused x why
   and_then unended next = unended
 
-  abbrev pub judged : Option R → Placed Y → Answer Y C V R → Answer Y C V R
+  abbrev pub judged : Option R → Placed Y → ReadResult Y C V R → ReadResult Y C V R
   judged None x a = a
   judged (Some why) x a = refused x (Some why)
 

@@ -7,7 +7,7 @@
 use Rattle.std.specs.Prelude.{◌≡◌, List}
 use Rattle.grammars.specs.Kinds.{has}
 use Rattle.grammars.specs.Grammar.{State, Grammar, token, change, sequence, either, many, rule, Language}
-use Rattle.grammars.specs.Reader.{Answer, reads, refused, unended}
+use Rattle.grammars.specs.Reader.{ReadResult, reads, refused, unended}
 
 pub record Embedding (M N C D V W : Type 0) : Type 0 where
   pub rule_of : M → N
@@ -55,7 +55,7 @@ module _ {M N K Y C D V W R : Type 0} (E : Embedding M N C D V W) (S : Language 
     pub empty : (n : M) → L.empty (E.rule_of n) ≡ S.empty n
 
 module _ {M N Y C D V W R : Type 0} (E : Embedding M N C D V W) where
-  abbrev pub answer_in : Answer Y D W R → State C V → Answer Y C V R
+  abbrev pub answer_in : ReadResult Y D W R → State C V → ReadResult Y C V R
   answer_in (reads t rest) s = reads (with_part E t s) rest
   answer_in (refused x why) s = refused x why
   answer_in unended s = unended

@@ -12,7 +12,7 @@
 --   after_token, after_change    the state behind a token and behind a change
 --   Language             the test whether kinds are the same, the kinds of lexemes, and what the rules say; of each rule the kinds that may begin it, whether it may be empty, and the
 --                        kinds that may follow it; and a lexeme of each kind
---   optional, some, joined, plain    g or nothing; g once or more; the same with something between two; a token that is never at fault and changes nothing
+--   optional, some, separated, plain    g or nothing; g once or more; the same with something between two; a token that is never at fault and changes nothing
 use Rattle.std.specs.Prelude.{ℕ, Bool, List, Option, None}
 
 pub record Placed (Y : Type 0) : Type 0 where
@@ -57,8 +57,8 @@ module _ {N K Y C V R : Type 0} where
   abbrev pub some : Grammar N K Y C V R → Grammar N K Y C V R
   some g = sequence g (many g)
 
-  abbrev pub joined : Grammar N K Y C V R → Grammar N K Y C V R → Grammar N K Y C V R
-  joined comma g = sequence g (many (sequence comma g))
+  abbrev pub separated : Grammar N K Y C V R → Grammar N K Y C V R → Grammar N K Y C V R
+  separated comma g = sequence g (many (sequence comma g))
 
   abbrev pub plain : List K → Grammar N K Y C V R
   plain ks = token ks (λ c y. None) (λ c y. c) (λ c x v. v)

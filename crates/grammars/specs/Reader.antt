@@ -3,7 +3,7 @@
 --                    before it; or it can't stand there
 --   on inner g gs s x skip     what the token x does in the state s where g is due and gs behind it, and `skip` where g is left out; `inner` opens rules
 --   move gs s x      what x does where gs are due
---   Answer           the state at the end with the tokens behind; or a token that is at fault for a reason, or, with none, can't stand there; or no token is left
+--   ReadResult           the state at the end with the tokens behind; or a token that is at fault for a reason, or, with none, can't stand there; or no token is left
 --   read gs s ts     the answer for the tokens ts; read_whole gs s ts: where all of them are to be read; parsed g s ts: of one grammar
 use Rattle.std.specs.Prelude.{List, [], ◌∷◌, Option, Some, None, if◌then◌else◌}
 use Rattle.grammars.specs.Kinds.{has}
@@ -15,10 +15,10 @@ pub data Move (N K Y C V R : Type 0) : Type 0 where
   leaves : State C V → Move N K Y C V R
   refuses : Move N K Y C V R
 
-pub data Answer (Y C V R : Type 0) : Type 0 where
-  reads : State C V → List (Placed Y) → Answer Y C V R
-  refused : Placed Y → Option R → Answer Y C V R
-  unended : Answer Y C V R
+pub data ReadResult (Y C V R : Type 0) : Type 0 where
+  reads : State C V → List (Placed Y) → ReadResult Y C V R
+  refused : Placed Y → Option R → ReadResult Y C V R
+  unended : ReadResult Y C V R
 
 module _ {N K Y C V R : Type 0} (L : Language N K Y C V R) where
   abbrev pub Opening : Type 0
@@ -51,28 +51,30 @@ module _ {N K Y C V R : Type 0} (L : Language N K Y C V R) where
   move (g ∷ gs) s x = on opened g gs s x (λ t. move gs t x)
 
   abbrev pub by_move : Move N K Y C V R → Placed Y → List (Placed Y)
-      → (State C V → List (Grammar N K Y C V R) → Answer Y C V R) → Answer Y C V R
+      → (State C V → List (Grammar N K Y C V R) → ReadResult Y C V R) → ReadResult Y C V R
   by_move (takes None s gs) x xs later = later s gs
   by_move (takes (Some why) s gs) x xs later = refused x (Some why)
   by_move (leaves s) x xs later = reads s (x ∷ xs)
   by_move refuses x xs later = refused x None
 
-  abbrev pub at_end : List (Grammar N K Y C V R) → State C V → Answer Y C V R
+  abbrev pub at_end : List (Grammar N K Y C V R) → State C V → ReadResult Y C V R
   at_end [] s = reads s []
   at_end (g ∷ gs) s = unended
 
-  unfoldable pub read : List (Grammar N K Y C V R) → State C V → List (Placed Y) → Answer Y C V R
+  unfoldable pub read : List (Grammar N K Y C V R) → State C V → List (Placed Y)
+      → ReadResult Y C V R
   read gs s [] = at_end gs s
   read gs s (x ∷ xs) = by_move (move gs s x) x xs (λ t hs. read hs t xs)
 
-  abbrev pub ended : Answer Y C V R → Answer Y C V R
-  ended (reads t []) = reads t []
-  ended (reads t (x ∷ xs)) = refused x None
-  ended (refused x why) = refused x why
-  ended unended = unended
+  abbrev pub at_text_end : ReadResult Y C V R → ReadResult Y C V R
+  at_text_end (reads t []) = reads t []
+  at_text_end (reads t (x ∷ xs)) = refused x None
+  at_text_end (refused x why) = refused x why
+  at_text_end unended = unended
 
-  abbrev pub read_whole : List (Grammar N K Y C V R) → State C V → List (Placed Y) → Answer Y C V R
-  read_whole gs s ts = ended (read gs s ts)
+  abbrev pub read_whole : List (Grammar N K Y C V R) → State C V → List (Placed Y)
+      → ReadResult Y C V R
+  read_whole gs s ts = at_text_end (read gs s ts)
 
-  abbrev pub parsed : Grammar N K Y C V R → State C V → List (Placed Y) → Answer Y C V R
+  abbrev pub parsed : Grammar N K Y C V R → State C V → List (Placed Y) → ReadResult Y C V R
   parsed g s ts = read (g ∷ []) s ts

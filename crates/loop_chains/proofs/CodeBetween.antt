@@ -27,7 +27,7 @@ use Rattle.loops.proofs.Maps.{length-variables, arity-branch_map, length-branch_
 use Rattle.machines.proofs.Padding.{at}
 use Rattle.rounds.specs.Generate.{Generates}
 use Rattle.rounds.specs.Orbit.{IsEliminated}
-use Rattle.loop_chains.specs.CodeBetween.{variable_of, listed, is_assigned, assigned_from, assigned, copy_of, copies, was_at, was, code_list, LeadsOn}
+use Rattle.loop_chains.specs.CodeBetween.{variable_of, list_from, is_assigned, assigned_from, assigned_variables, copy_of, copies, was_at, was, code_list, LeadsOn}
 use Rattle.loop_chains.proofs.Graph.{IsGraph, graph_gives}
 
 -- ---- what code doesn't assign stays
@@ -81,13 +81,14 @@ module _ {E : Type 0} (code : List (Statement E)) where
       go false h = h
 
   module _ (m i : ℕ) (l : i < m) (is : is_assigned code i ≡ true) where
-    assigned_at : (r : ℕ) → m ≡ i + suc r → assigned m code ≡ assigned i code ++ i ∷ assigned_from
+    assigned_at : (r : ℕ) → m ≡ i + suc r → assigned_variables m code ≡ assigned_variables i code
+        ++ i ∷ assigned_from
         code (suc i) r
     assigned_at r e =
         assigned-split 0 i (suc r) m e
-        ∙ ap (λ j. assigned i code ++ assigned_from code j (suc r)) (let q : 0 + i ≡ i =
+        ∙ ap (λ j. assigned_variables i code ++ assigned_from code j (suc r)) (let q : 0 + i ≡ i =
         omega arith in q)
-        ∙ ap (λ (b : Bool). assigned i code ++ cond b (i ∷ assigned_from code (suc i) r)
+        ∙ ap (λ (b : Bool). assigned_variables i code ++ cond b (i ∷ assigned_from code (suc i) r)
         (assigned_from code (suc i) r)) is
 
     rest : ℕ
@@ -98,17 +99,18 @@ module _ {E : Type 0} (code : List (Statement E)) where
     split = omega (arith, l)
 
     -- its copy is its place among them
-    pub copy_is : (d : ℕ) → get_or (assigned m code) (copy_of code i) d ≡ i
+    pub copy_is : (d : ℕ) → get_or (assigned_variables m code) (copy_of code i) d ≡ i
     copy_is d =
         ap (λ l. get_or l (copy_of code i) d) (assigned_at rest split)
-        ∙ ap (λ k. get_or (assigned i code ++ i ∷ assigned_from code (suc i) rest) k d)
-        (let e : length (assigned i code) ≡ length (assigned i code) + 0 = omega arith in e)
-        ∙ get_or-append-add (assigned i code) (i ∷ assigned_from code (suc i) rest) 0 d
+        ∙ ap (λ k. get_or (assigned_variables i code ++ i ∷ assigned_from code (suc i) rest) k d)
+        (let e : length (assigned_variables i code) ≡ length (assigned_variables i code) + 0 =
+        omega arith in e)
+        ∙ get_or-append-add (assigned_variables i code) (i ∷ assigned_from code (suc i) rest) 0 d
 
     pub copy_within : copy_of code i < copies m code
     copy_within =
         let e = ap length (assigned_at rest split)
-        ∙ length-append (assigned i code) (i ∷ assigned_from code (suc i) rest) in
+        ∙ length-append (assigned_variables i code) (i ∷ assigned_from code (suc i) rest) in
         omega (arith, e)
 
   -- each of them is a variable that is assigned
@@ -134,29 +136,30 @@ module _ {E : Type 0} (code : List (Statement E)) where
 
 -- one variable more
 pub assigned_next : {E : Type 0} (code : List (Statement E)) (i : ℕ)
-    → assigned (suc i) code ≡ assigned i code ++ cond (is_assigned code i) (i ∷ []) []
+    → assigned_variables (suc i) code ≡ assigned_variables i code ++ cond (is_assigned code i)
+    (i ∷ []) []
 assigned_next code i =
     assigned-split code 0 i 1 (suc i) (omega arith)
-    ∙ ap (λ j. assigned i code ++ assigned_from code j 1)
+    ∙ ap (λ j. assigned_variables i code ++ assigned_from code j 1)
     (let q : 0 + i ≡ i = omega arith in q)
 
 -- ---- lists by their places
 listed_same : {A B : Type 0} (h : A → B) (f : ℕ → A) (g : ℕ → B) (i n : ℕ)
-    → ((k : ℕ) → i ≤ k → k < i + n → h (f k) ≡ g k) → map h (listed i n f) ≡ listed i n g
+    → ((k : ℕ) → i ≤ k → k < i + n → h (f k) ≡ g k) → map h (list_from i n f) ≡ list_from i n g
 listed_same h f g i zero e = refl
 listed_same h f g i (suc n) e = ap₂ ◌∷◌ (e i (omega arith) (omega arith))
     (listed_same h f g (suc i) n (λ k a b. e k (omega (arith, a)) (omega (arith, b))))
 
 pub listed_next : {A : Type 0} (f : ℕ → A) (i n : ℕ)
-    → listed i (suc n) f ≡ listed i n f ++ f (i + n) ∷ []
+    → list_from i (suc n) f ≡ list_from i n f ++ f (i + n) ∷ []
 listed_next f i zero = ap (λ k. f k ∷ []) (let q : i ≡ i + 0 = omega arith in q)
 listed_next f i (suc n) =
     ap (λ l. f i ∷ l) (listed_next f (suc i) n)
-    ∙ ap (λ k. f i ∷ listed (suc i) n f ++ f k ∷ [])
+    ∙ ap (λ k. f i ∷ list_from (suc i) n f ++ f k ∷ [])
     (let q : suc i + n ≡ i + suc n = omega arith in q)
 
 listed_of : {A : Type 0} (d : A) (s : List A) (i : ℕ)
-    → listed i (length s) (λ k. get_or s (k - i) d) ≡ s
+    → list_from i (length s) (λ k. get_or s (k - i) d) ≡ s
 listed_of d [] i = refl
 listed_of d (x ∷ s) i =
     ap₂ ◌∷◌ (ap (λ k. get_or (x ∷ s) k d) (let e : i - i ≡ 0 = omega arith in e))
@@ -183,19 +186,19 @@ variable_arity w i = arity_at w (variables ℚ w) (arity-variables w ℚ) i
 minus_itself : {A : Type 0} (R : CommRing A) (u : A) → R.add u (R.neg u) ≡ R.zero
 minus_itself R u = ring R (u ∷ []) (search ring_rules depth 40) refl
 
-listed_at : {A : Type 0} (i n k : ℕ) (f : ℕ → A) (d : A) → k < n → get_or (listed i n f) k d
+listed_at : {A : Type 0} (i n k : ℕ) (f : ℕ → A) (d : A) → k < n → get_or (list_from i n f) k d
     ≡ f (i + k)
 listed_at i zero k f d l = absurd (omega (arith, l))
 listed_at i (suc n) zero f d l = ap f (let e : i ≡ i + 0 = omega arith in e)
 listed_at i (suc n) (suc k) f d l = listed_at (suc i) n k f d (omega (arith, l))
     ∙ ap f (let e : suc i + k ≡ i + suc k = omega arith in e)
 
-length-listed : {A : Type 0} (i n : ℕ) (f : ℕ → A) → length (listed i n f) ≡ n
+length-listed : {A : Type 0} (i n : ℕ) (f : ℕ → A) → length (list_from i n f) ≡ n
 length-listed i zero f = refl
 length-listed i (suc n) f = ap suc (length-listed (suc i) n f)
 
 listed_arity : (w i n : ℕ) (f : ℕ → Terms Fraction) → ((k : ℕ) → Arity w (f k))
-    → AllArity w (listed i n f)
+    → AllArity w (list_from i n f)
 unfolding Each
 listed_arity w i zero f h = tt
 listed_arity w i (suc n) f h = (h i, listed_arity w (suc i) n f h)
@@ -226,7 +229,7 @@ module _ {At : Type 0} (program : Program (Expr At)) (code : List (Statement (Ex
   fs = branch_map program code
 
   abbrev ys : List ℕ
-  ys = assigned m code
+  ys = assigned_variables m code
 
   abbrev z : Fraction
   z = ℚ.zero
@@ -307,7 +310,7 @@ module _ {At : Type 0} (program : Program (Expr At)) (code : List (Statement (Ex
         listed_same (λ b. at b (cs ++ xs)) (was_at m code) (λ k. get_or s (k - 0) z) 0 m (λ k a l.
         was_value k (omega (arith, l)) ∙ ap (λ j. get_or s j z) (let e : k ≡ k - 0 =
         omega arith in e))
-        ∙ ap (λ k. listed 0 k (λ k. get_or s (k - 0) z)) (sym st) ∙ listed_of z s 0
+        ∙ ap (λ k. list_from 0 k (λ k. get_or s (k - 0) z)) (sym st) ∙ listed_of z s 0
 
     less_gone : (y : ℕ) → y < m → at (less y) (cs ++ xs) ≡ z
     less_gone y l =

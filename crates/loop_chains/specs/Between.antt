@@ -18,21 +18,21 @@ use Rattle.polynomials.specs.Terms.{Terms}
 use Rattle.polynomials.specs.Weight.{IsPastComposition, IsPastSum}
 use Rattle.machines.specs.Collect.{collect}
 use Rattle.machines.specs.Elimination as elimination
-use Rattle.machines.specs.Elimination.{kept}
+use Rattle.machines.specs.Elimination.{free_part}
 use Rattle.machines.specs.Journal.{Entry}
 use Rattle.machines.specs.Machine.{Machine}
 use Rattle.machines.specs.Machines as machines
-use Rattle.machines.specs.Work.{Worked, Finished, IsSpent, PastAfter}
+use Rattle.machines.specs.Work.{WorkFrom, WorkToEnd, IsSpent, PastAfter}
 use Rattle.loops.specs.Map.{branch_map}
 use Rattle.loops.specs.Program.{Expr, Program, Statement}
-use Rattle.loop_chains.specs.CodeBetween.{variable_of, assigned, copies, was, of_what_was, code_list}
+use Rattle.loop_chains.specs.CodeBetween.{variable_of, assigned_variables, copies, was, of_what_was, code_list}
 
 module _ {E : Type 0} (m : ℕ) (code : List (Statement E)) where
   abbrev pub code_order : Rank
   code_order = blocks (copies m code) grevlex grevlex
 
   abbrev pub list_of : elimination.State Fraction → List (Terms Fraction)
-  list_of s = elimination.list_of grevlex (kept (copies m code)) s
+  list_of s = elimination.list_of grevlex (free_part (copies m code)) s
 
 module _ {At : Type 0} (program : Program (Expr At)) (code : List (Statement (Expr At))) where
   abbrev pub starting : List (Terms Fraction) → List (Terms Fraction)
@@ -52,12 +52,12 @@ module _ {At : Type 0} (program : Program (Expr At)) (code : List (Statement (Ex
   abbrev pub IsPastMaking : List (Terms Fraction) → Type 0
   IsPastMaking gs =
       Any (λ g. IsPastComposition fractions g (was (length program.names) code)) gs
-      ⊎ Any IsPastDifference (assigned (length program.names) code)
+      ⊎ Any IsPastDifference (assigned_variables (length program.names) code)
 
   abbrev pub code_elimination : List (Terms Fraction) → Machine (elimination.State Fraction)
   code_elimination gs =
       machines.elimination fractions (code_order (length program.names) code) grevlex
-      (kept (copies (length program.names) code)) (starting gs)
+      (free_part (copies (length program.names) code)) (starting gs)
 
   abbrev pub between : List (Terms Fraction) → Machine (elimination.State Fraction)
   between gs = record {
@@ -70,7 +70,7 @@ module _ {At : Type 0} (program : Program (Expr At)) (code : List (Statement (Ex
   pub record Leads (gs : List (Terms Fraction)) (es : List Entry)
       (ks : List (Terms Fraction)) : Type 0 where
     pub last : elimination.State Fraction
-    pub finished : Finished (between gs).next (between gs).start [] es last
+    pub finished : WorkToEnd (between gs).next (between gs).start [] es last
     pub list : ks ≡ list_of (length program.names) code last
 
 module _ {At : Type 0} (program : Program (Expr At)) where
@@ -95,4 +95,4 @@ module _ {At : Type 0} (program : Program (Expr At)) where
   abbrev pub HasLed : List (Statement (Expr At)) → List (Terms Fraction) → List Entry → Type 0
   HasLed [] gs es = ⊥
   HasLed (a ∷ code) gs es =
-      let M = between program (a ∷ code) gs in Worked M.next M.start [] es
+      let M = between program (a ∷ code) gs in WorkFrom M.next M.start [] es

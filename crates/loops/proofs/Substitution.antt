@@ -30,7 +30,7 @@ map_set f [] i x = refl
 map_set f (y ∷ s) zero x = refl
 map_set f (y ∷ s) (suc i) x = ap (λ l. f y ∷ l) (map_set f s i x)
 
-map_store : {A B : Type 0} (f : A → B) (is : List ℕ) (xs s : List A)
+pub map_store : {A B : Type 0} (f : A → B) (is : List ℕ) (xs s : List A)
     → map f (store is xs s) ≡ store is (map f xs) (map f s)
 unfolding store
 map_store f [] xs s = refl

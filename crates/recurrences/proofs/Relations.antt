@@ -7,17 +7,18 @@ use Rattle.polynomials.specs.Polynomial.{Arity}
 use Rattle.loops.specs.Program.{Expr}
 use Rattle.loops.specs.Run.{IsStart, Run, run_end}
 use Rattle.recurrences.specs.Sequences.{Sequence, order, AreFormed}
-use Rattle.recurrences.specs.Turning.{program_of, shown}
+use Rattle.recurrences.specs.Turning.{program_of, first_places}
 use Rattle.recurrences.specs.Solutions.{window, IsSolution}
-use Rattle.recurrences.specs.Relations.{picked, IsRelation, IsShown}
+use Rattle.recurrences.specs.Relations.{values_at_places, IsRelation, IsShown}
 use Rattle.recurrences.proofs.Lists.{along}
 use Rattle.recurrences.proofs.Windows.{picked_window}
 use Rattle.recurrences.proofs.Turns.{after_letters, letters}
 use Rattle.recurrences.proofs.Starts.{start_is, is_start}
 use Rattle.recurrences.proofs.Solved.{solution}
 
-pub length-shown : {E : Type 0} (i : ℕ) (qs : List (Sequence E)) → length (shown i qs) ≡ length qs
-unfolding shown
+pub length-shown : {E : Type 0} (i : ℕ) (qs : List (Sequence E)) → length (first_places i qs)
+    ≡ length qs
+unfolding first_places
 length-shown i [] = refl
 length-shown i (q ∷ qs) = ap suc (length-shown (i + order q) qs)
 
@@ -36,20 +37,22 @@ module _ {At : Type 0} (qs : List (Sequence (Expr At))) (formed : AreFormed qs) 
       ∙ ap (λ w. run_end (program_of qs) w r.start) (letters qs r.word r.start r.end r.is_end)
       ∙ ends fs m r.start r.is_start (length r.word) in cc
 
-  pub of_loop : (p : Terms Fraction) → IsRelation qs p ↔ IsShown (program_of qs) (shown 0 qs) p
+  pub of_loop : (p : Terms Fraction) → IsRelation qs p ↔ IsShown (program_of qs) (first_places 0 qs)
+      p
   of_loop p = (to, back)
     where
-      to : IsRelation qs p → IsShown (program_of qs) (shown 0 qs) p
+      to : IsRelation qs p → IsShown (program_of qs) (first_places 0 qs) p
       to h =
           let (fs, m) = solution qs in
           record {
             arity = subst (λ k. Arity k p) (sym (length-shown 0 qs)) h.arity;
-            zero = λ r. ap (λ s. value_at ℚ p (picked (shown 0 qs) s)) (run_is fs m r)
+            zero = λ r. ap (λ s. value_at ℚ p (values_at_places (first_places 0 qs) s))
+                (run_is fs m r)
                 ∙ ap (value_at ℚ p) (picked_window fs (length r.word) qs)
                 ∙ h.zero fs m (length r.word);
           }
 
-      back : IsShown (program_of qs) (shown 0 qs) p → IsRelation qs p
+      back : IsShown (program_of qs) (first_places 0 qs) p → IsRelation qs p
       back h = record {
         arity = subst (λ k. Arity k p) (length-shown 0 qs) h.arity;
         zero = λ fs m n.

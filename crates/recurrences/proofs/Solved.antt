@@ -7,8 +7,8 @@ use Rattle.numbers.specs.Fraction.{Fraction, ℚ}
 use Rattle.loops.specs.Program.{Expr}
 use Rattle.loops.specs.Effect.{value_of}
 use Rattle.loops.specs.Run.{value}
-use Rattle.recurrences.specs.Sequences.{Sequence, order, given}
-use Rattle.recurrences.specs.Turning.{all_given, variables_from, turn, shown}
+use Rattle.recurrences.specs.Sequences.{Sequence, order, given_values}
+use Rattle.recurrences.specs.Turning.{all_given, variables_from, turn, first_places}
 use Rattle.recurrences.specs.Solutions.{values, window, Meets, AreMet, IsSolution}
 use Rattle.recurrences.proofs.Lists.{along, behind_place, more_before}
 use Rattle.recurrences.proofs.Windows.{window_place}
@@ -59,7 +59,7 @@ module _ {At : Type 0} where
     turns : (n : ℕ) → st (suc n) ≡ map (λ (e : Expr At). value e (st n)) (before ++ turn a qs)
 
   abbrev found : (ℕ → List Fraction) → ℕ → List (Sequence (Expr At)) → ℕ → ℕ → Fraction
-  found st a qs j n = get_or (st n) (get_or (shown a qs) j 0) ℚ.zero
+  found st a qs j n = get_or (st n) (get_or (first_places a qs) j 0) ℚ.zero
 
   module _ (st : ℕ → List Fraction) (a : ℕ) (q : Sequence (Expr At))
       (qs : List (Sequence (Expr At))) (goes : Goes st a (q ∷ qs)) where
@@ -101,17 +101,18 @@ module _ {At : Type 0} where
     meets : Meets f st q
     unfolding f all_given
     meets =
-        let xs = closed_values (given q) in
+        let xs = closed_values (given_values q) in
         let rest = closed_values (all_given qs) in
         record {
-          starts = values_are f 0 (order q) xs (length-map (given q) (λ e. value e []))
+          starts = values_are f 0 (order q) xs (length-map (given_values q) (λ e. value e []))
               (λ i l. sym (get_or_append_left xs rest ℚ.zero i
-              (let k = length-map (given q) (λ (e : Expr At). value e []) in omega arith))
+              (let k = length-map (given_values q) (λ (e : Expr At). value e []) in omega arith))
               ∙ sym (behind_place goes.start_before (xs ++ rest) i ℚ.zero)
               ∙ ap (λ k. get_or (goes.start_before ++ (xs ++ rest)) (k + i) ℚ.zero) goes.start_size
               ∙ ap (λ s. get_or s (a + i) ℚ.zero)
               (ap (λ l. goes.start_before ++ l)
-              (sym (map-append (λ e. value e []) (given q) (all_given qs))) ∙ sym goes.starts)
+              (sym (map-append (λ e. value e []) (given_values q) (all_given qs)))
+              ∙ sym goes.starts)
               ∙ sym (later i 0 l));
           goes = λ n. along (λ j. get_or (st j) a ℚ.zero) (n + order q) (suc n + length q.later)
               (omega arith) ∙ later (length q.later) (suc n) (omega arith) ∙ last n;
@@ -121,7 +122,7 @@ module _ {At : Type 0} where
     unfolding turn all_given
     goes_on =
         let vs : List (Expr At) = variables_from (suc a) (length q.later) ++ q.next ∷ [] in
-        let xs = closed_values (given q) in
+        let xs = closed_values (given_values q) in
         record {
           before = goes.before ++ vs;
           size_before = length-append goes.before vs
@@ -130,9 +131,9 @@ module _ {At : Type 0} where
               ∙ ap (λ n. n + 1) (length-variables At (suc a) (length q.later)) ∙ omega arith);
           start_before = goes.start_before ++ xs;
           start_size = length-append goes.start_before xs
-              ∙ ap₂ ◌+◌ goes.start_size (length-map (given q) (λ e. value e []));
+              ∙ ap₂ ◌+◌ goes.start_size (length-map (given_values q) (λ e. value e []));
           starts = goes.starts ∙ ap (λ l. goes.start_before ++ l)
-              (map-append (λ e. value e []) (given q) (all_given qs))
+              (map-append (λ e. value e []) (given_values q) (all_given qs))
               ∙ sym (append_assoc goes.start_before xs (closed_values (all_given qs)));
           turns = λ n. goes.turns n
               ∙ ap (map (λ (e : Expr At). value e (st n)))
@@ -143,7 +144,7 @@ module _ {At : Type 0} where
 
   are_met : (st : ℕ → List Fraction) (a : ℕ) (qs : List (Sequence (Expr At))) → Goes st a qs
       → AreMet (found st a qs) st qs
-  unfolding AreMet shown f
+  unfolding AreMet first_places f
   are_met st a [] goes = tt
   are_met st a (q ∷ qs) goes =
       (meets st a q qs goes, are_met st (a + order q) qs (goes_on st a q qs goes))
@@ -199,7 +200,7 @@ module _ {At : Type 0} where
       where
         place : Sequence (Expr At) → fs j n ≡ gs j n
         place p =
-            let k = get_or (shown 0 qs) j 0 + 0 in
+            let k = get_or (first_places 0 qs) j 0 + 0 in
             along (fs j) n (n + 0) (omega arith) ∙ sym (window_place qs fs n j 0 p l (omega arith))
             ∙ ap (λ s. get_or s k ℚ.zero) (same_windows fs gs f g n)
             ∙ window_place qs gs n j 0 p l (omega arith) ∙ along (gs j) (n + 0) n (omega arith)

@@ -14,14 +14,14 @@ use Rattle.loops.specs.Program.{Expr, number, variable, neg, add, sub, mul, divi
 use Rattle.loops.specs.Effect.{value_of}
 use Rattle.loops.specs.Run.{value, IsStart}
 use Rattle.loops.specs.WellFormed.{Uses}
-use Rattle.recurrences.specs.Sequences.{Sequence, order, given, size, AreFormed}
-use Rattle.recurrences.specs.Turning.{indexed, names, names_of, all_given, equations, program_of}
+use Rattle.recurrences.specs.Sequences.{Sequence, order, given_values, size, AreFormed}
+use Rattle.recurrences.specs.Turning.{indexed_names, names, names_of, all_given, equations, program_of}
 use Rattle.recurrences.specs.Solutions.{window, AreMet, IsSolution}
 use Rattle.recurrences.proofs.Lists.{at_place, more_before, length-more}
 use Rattle.recurrences.proofs.Windows.{length-window}
 
-pub length-indexed : (w : List ℕ) (i r : ℕ) → length (indexed w i r) ≡ r
-unfolding indexed
+pub length-indexed : (w : List ℕ) (i r : ℕ) → length (indexed_names w i r) ≡ r
+unfolding indexed_names
 length-indexed w i zero = refl
 length-indexed w i (suc r) = ap suc (length-indexed w (suc i) r)
 
@@ -35,14 +35,15 @@ module _ {E : Type 0} where
   pub length-given : (qs : List (Sequence E)) → length (all_given qs) ≡ size qs
   unfolding all_given size
   length-given [] = refl
-  length-given (q ∷ qs) = length-append (given q) (all_given qs)
+  length-given (q ∷ qs) = length-append (given_values q) (all_given qs)
       ∙ ap (λ n. order q + n) (length-given qs)
 
-  pub each_given : (P : E → Type 0) (qs : List (Sequence E)) → Each (λ q. Each P (given q)) qs
+  pub each_given : (P : E → Type 0) (qs : List (Sequence E))
+      → Each (λ q. Each P (given_values q)) qs
       → Each P (all_given qs)
   unfolding all_given Each
   each_given P [] h = tt
-  each_given P (q ∷ qs) h = each-append P (given q) (all_given qs) h.0 (each_given P qs h.1)
+  each_given P (q ∷ qs) h = each-append P (given_values q) (all_given qs) h.0 (each_given P qs h.1)
 
 module _ {At : Type 0} where
   pub value_closed : (e : Expr At) (s t : List Fraction) → Uses (λ i. ⊥) e → value e s ≡ value e t
@@ -67,7 +68,7 @@ module _ {At : Type 0} where
   unfolding window AreMet all_given
   window_starts fs w [] m = refl
   window_starts fs w (q ∷ qs) m = ap₂ ◌++◌ m.0.starts (window_starts (λ j. fs (suc j)) w qs m.1)
-      ∙ sym (map-append (λ e. value e []) (given q) (all_given qs))
+      ∙ sym (map-append (λ e. value e []) (given_values q) (all_given qs))
 
   abbrev Holds : List Fraction → Equation (Expr At) → Type 0
   Holds s e = get_or s e.name ℚ.zero ≡ value e.value s

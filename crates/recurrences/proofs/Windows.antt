@@ -8,9 +8,9 @@ use Rattle.std.proofs.lemmas.List.{append_assoc, length-append}
 use Rattle.std.proofs.lemmas.List.{get_or_append_left}
 use Rattle.numbers.specs.Fraction.{Fraction, ℚ}
 use Rattle.recurrences.specs.Sequences.{Sequence, order, size}
-use Rattle.recurrences.specs.Turning.{shown}
+use Rattle.recurrences.specs.Turning.{first_places}
 use Rattle.recurrences.specs.Solutions.{values, window, at_index}
-use Rattle.recurrences.specs.Relations.{picked}
+use Rattle.recurrences.specs.Relations.{values_at_places}
 use Rattle.recurrences.proofs.Lists.{behind_place}
 
 pub length-values : (f : ℕ → Fraction) (n r : ℕ) → length (values f n r) ≡ r
@@ -44,28 +44,28 @@ module _ {E : Type 0} where
   -- where a window stands behind others
   picked_behind : (fs : ℕ → ℕ → Fraction) (n : ℕ) (before : List Fraction) (i : ℕ)
       → i ≡ length before → (qs : List (Sequence E))
-      → picked (shown i qs) (before ++ window fs n qs) ≡ at_index fs n qs
-  unfolding window at_index shown values
+      → values_at_places (first_places i qs) (before ++ window fs n qs) ≡ at_index fs n qs
+  unfolding window at_index first_places values
   picked_behind fs n before i e [] = refl
   picked_behind fs n before i e (q ∷ qs) =
       let w = window (λ j. fs (suc j)) n qs in
       let vs = values (fs 0) n (order q) in
       ap₂ ◌∷◌ (ap (λ k. get_or (before ++ (vs ++ w)) k ℚ.zero) (e ∙ omega arith)
       ∙ behind_place before (vs ++ w) 0 ℚ.zero)
-      (ap (picked (shown (i + order q) qs)) (sym (append_assoc before vs w))
+      (ap (values_at_places (first_places (i + order q) qs)) (sym (append_assoc before vs w))
       ∙ picked_behind (λ j. fs (suc j)) n (before ++ vs) (i + order q) (ap (λ k. k + order q) e
       ∙ ap (λ k. length before + k) (sym (length-values (fs 0) n (order q)))
       ∙ sym (length-append before vs)) qs)
 
   pub picked_window : (fs : ℕ → ℕ → Fraction) (n : ℕ) (qs : List (Sequence E))
-      → picked (shown 0 qs) (window fs n qs) ≡ at_index fs n qs
+      → values_at_places (first_places 0 qs) (window fs n qs) ≡ at_index fs n qs
   picked_window fs n qs = picked_behind fs n [] 0 refl qs
 
   place_behind : (fs : ℕ → ℕ → Fraction) (n : ℕ) (before : List Fraction) (a : ℕ)
       → a ≡ length before → (qs : List (Sequence E)) (j i : ℕ) (q : Sequence E) → j < length qs
       → i < order (get_or qs j q)
-      → get_or (before ++ window fs n qs) (get_or (shown a qs) j 0 + i) ℚ.zero ≡ fs j (n + i)
-  unfolding window shown
+      → get_or (before ++ window fs n qs) (get_or (first_places a qs) j 0 + i) ℚ.zero ≡ fs j (n + i)
+  unfolding window first_places
   place_behind fs n before a e [] j i q l h = absurd (omega arith)
   place_behind fs n before a e (p ∷ qs) zero i q l h =
       let w = window (λ j. fs (suc j)) n qs in
@@ -77,7 +77,7 @@ module _ {E : Type 0} where
   place_behind fs n before a e (p ∷ qs) (suc j) i q l h =
       let w = window (λ j. fs (suc j)) n qs in
       let vs = values (fs 0) n (order p) in
-      ap (λ s. get_or s (get_or (shown (a + order p) qs) j 0 + i) ℚ.zero)
+      ap (λ s. get_or s (get_or (first_places (a + order p) qs) j 0 + i) ℚ.zero)
       (sym (append_assoc before vs w))
       ∙ place_behind (λ j. fs (suc j)) n (before ++ vs) (a + order p) (ap (λ k. k + order p) e
       ∙ ap (λ k. length before + k) (sym (length-values (fs 0) n (order p)))
@@ -85,5 +85,5 @@ module _ {E : Type 0} where
 
   pub window_place : (qs : List (Sequence E)) (fs : ℕ → ℕ → Fraction) (n j i : ℕ) (q : Sequence E)
       → j < length qs → i < order (get_or qs j q)
-      → get_or (window fs n qs) (get_or (shown 0 qs) j 0 + i) ℚ.zero ≡ fs j (n + i)
+      → get_or (window fs n qs) (get_or (first_places 0 qs) j 0 + i) ℚ.zero ≡ fs j (n + i)
   window_place qs fs n j i q l h = place_behind fs n [] 0 refl qs j i q l h

@@ -9,7 +9,7 @@ use Rattle.std.specs.Prelude.{◌≡◌, ℕ, zero, suc, ◌+◌, List, [], ◌�
 use Rattle.numbers.specs.Fraction.{Fraction}
 use Rattle.loops.specs.Program.{Expr}
 use Rattle.loops.specs.Run.{value}
-use Rattle.recurrences.specs.Sequences.{Sequence, order, given}
+use Rattle.recurrences.specs.Sequences.{Sequence, order, given_values}
 
 unfoldable pub values : (ℕ → Fraction) → ℕ → ℕ → List Fraction
 values f n zero = []
@@ -27,7 +27,7 @@ module _ {E : Type 0} where
 module _ {At : Type 0} where
   pub record Meets (f : ℕ → Fraction) (w : ℕ → List Fraction)
       (q : Sequence (Expr At)) : Type 0 where
-    pub starts : values f 0 (order q) ≡ map (λ e. value e []) (given q)
+    pub starts : values f 0 (order q) ≡ map (λ e. value e []) (given_values q)
     pub goes : (n : ℕ) → f (n + order q) ≡ value q.next (w n)
 
   unfoldable pub AreMet : (ℕ → ℕ → Fraction) → (ℕ → List Fraction) → List (Sequence (Expr At))

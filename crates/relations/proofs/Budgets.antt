@@ -1,36 +1,22 @@
 -- Journals of relations are beginnings of one.
 --   more_units         a run that has ended has more units than a beginning behind which a unit comes next
 --   enough_budget      none runs out of a budget that an ended one keeps within
-use Rattle.std.proofs.Common.{◌≡◌, inl, inr, ℕ, ◌+◌, ◌<◌, ◌≤◌, Bool, true, false, cond, List, [], ◌∷◌, ◌++◌, map, length, arith, refl, sym, ap, subst, ◌∙◌, Option, Some, None}
+use Rattle.std.proofs.Common.{◌≡◌, inl, inr, ℕ, ◌+◌, ◌<◌, ◌≤◌, List, [], ◌∷◌, ◌++◌, map, length, arith, refl, sym, ap, subst, ◌∙◌, Option, Some, None}
 use Rattle.numbers.specs.Fraction.{Fraction}
 use Rattle.polynomials.specs.Terms.{Terms}
 use Rattle.machines.specs.Event.{Event, is_unit}
-use Rattle.machines.specs.Journal.{Entry, Did, counts, units_of}
+use Rattle.machines.specs.Journal.{Entry, Did, units_of}
 use Rattle.machines.specs.Run.{IsRun}
-use Rattle.machines.specs.Work.{Finished, IsSpent}
+use Rattle.machines.specs.Work.{WorkToEnd, IsSpent}
 use Rattle.machines.proofs.Runs.{ended_unique}
 use Rattle.loops.specs.Program.{Expr, Program}
-use Rattle.rounds.specs.Analysis.{fresh, Step, finished, moved, moves, next}
+use Rattle.rounds.specs.Analysis.{fresh, Step, finished, move_of, moves, next}
 use Rattle.rounds.specs.Journal as analysis_journal
 use Rattle.rounds.specs.Journal.{setting_of, IsFinished}
 use Rattle.rounds.proofs.Forms as forms
 use Rattle.rounds.proofs.Forms.{forms_are_one}
-use Rattle.rounds.proofs.Prefixes.{begins_ended}
+use Rattle.rounds.proofs.Prefixes.{begins_ended, units-append, units-cons}
 use Rattle.relations.specs.Journal.{elimination_from, IsBehind, IsEnded, IsOut, IsSpentBehind}
-
-units-append : (es fs : List Entry) → units_of (es ++ fs) ≡ units_of es + units_of fs
-unfolding units_of
-units-append [] fs = omega arith
-units-append (e ∷ es) fs = let h = units-append es fs in omega arith
-
-one_unit : (b : Bool) → b ≡ true → cond {A = ℕ} b 1 0 ≡ 1
-one_unit true h = refl
-one_unit false h = absurd (cc)
-
-units-cons : (f : Entry) (rest : List Entry) → counts f ≡ true
-    → units_of (f ∷ rest) ≡ 1 + units_of rest
-unfolding units_of
-units-cons f rest h = ap (λ n. n + units_of rest) (one_unit (counts f) h)
 
 map-append : (xs ys : List Event) → map Did (xs ++ ys) ≡ map Did xs ++ map Did ys
 map-append [] ys = refl
@@ -42,7 +28,7 @@ event_or e (Some x) = x.0
 
 -- a run that has ended has more units than a beginning behind which a unit comes next
 module _ {S : Type 0} (step : S → Option (Event × S)) (s : S) (before after other : List Entry)
-    (last : S) (limit : ℕ) (done : Finished step s before after last)
+    (last : S) (limit : ℕ) (done : WorkToEnd step s before after last)
     (out : IsSpent step s limit before other) where
   pub more_units : limit < units_of after
   unfolding IsRun event_or
@@ -93,7 +79,7 @@ module _ {At : Type 0} (program : Program (Expr At)) (es fs : List Entry) (j k :
       b.follows.run in
       let is = subst (λ l. next (setting_of program l None) b.state ≡ finished k hs) same b.is in
       let u = ended_unique (moves A) fresh a.state b.state es fs a.follows.run
-      (ap (moved A) a.is) run (ap (moved A) is) in
+      (ap (move_of A) a.is) run (ap (move_of A) is) in
       (u.0, ap (step_or gs) (sym a.is ∙ ap (next A) u.1 ∙ is))
 
 module _ {At : Type 0} (program : Program (Expr At)) (is : List ℕ) (es fs : List Entry)

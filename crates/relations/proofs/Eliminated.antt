@@ -13,7 +13,7 @@ use Rattle.machines.specs.Basis.{AtPlaces, IsBasisOf}
 use Rattle.machines.specs.Collect.{collect}
 use Rattle.machines.specs.Completion as completion
 use Rattle.machines.specs.Cut.{monic}
-use Rattle.machines.specs.Elimination.{kept, in_front, begun, next, list_of, State}
+use Rattle.machines.specs.Elimination.{free_part, in_front, initial_state, next, list_of, State}
 use Rattle.machines.specs.Event.{Event}
 use Rattle.machines.specs.Reduced.{IsReducedBasis}
 use Rattle.machines.specs.Run.{IsRun, HasEnded}
@@ -44,22 +44,24 @@ module _ (k m : ℕ) (hs : List (Terms Fraction)) (arities : AllArity (k + m) hs
   )
 
   pub eliminated_basis : (es : List Event) (t : State Fraction)
-      → IsRun (next rationals (blocks k grevlex grevlex) grevlex (kept k))
-      (begun rationals (blocks k grevlex grevlex)
+      → IsRun (next rationals (blocks k grevlex grevlex) grevlex (free_part k))
+      (initial_state rationals (blocks k grevlex grevlex)
       (map (collect rationals (blocks k grevlex grevlex)) hs)) es t
-      → HasEnded (next rationals (blocks k grevlex grevlex) grevlex (kept k)) t
-      → IsReducedBasis rationals grevlex m (list_of grevlex (kept k) t)
+      → HasEnded (next rationals (blocks k grevlex grevlex) grevlex (free_part k)) t
+      → IsReducedBasis rationals grevlex m (list_of grevlex (free_part k) t)
       (λ y. IsMember ℚ (k + m) hs (in_front k y))
   eliminated_basis es t r h =
-      let p : Parts rationals O grevlex (kept k) (completion.begun rationals O gens) t =
-      parts_of rationals O grevlex (kept k) (completion.begun rationals O gens) t es r h in
+      let p : Parts rationals O grevlex (free_part k) (completion.initial_state rationals O gens)
+      t =
+      parts_of rationals O grevlex (free_part k) (completion.initial_state rationals O gens) t es r
+      h in
       let polys : AtPlaces (IsPolynomial ℚ O (k + m)) gens =
       each_at (IsPolynomial ℚ O (k + m)) gens (collected hs arities) in
       let b : IsBasisOf rationals O (k + m) p.last.basis gens =
       completed ℚ_field O (blocks_order k grevlex grevlex grevlex_order grevlex_order)
       (k + m) gens polys p.last p.events p.run p.ended in
-      let e : map (monic rationals) (kept k p.last.basis) ≡ kept k p.last.basis =
-      monic_list ℚ_field grevlex grevlex_order m (kept k p.last.basis)
+      let e : map (monic rationals) (free_part k p.last.basis) ≡ free_part k p.last.basis =
+      monic_list ℚ_field grevlex grevlex_order m (free_part k p.last.basis)
       (kept_basis ℚ_field k m grevlex grevlex grevlex_order grevlex_order p.last.basis gens
       polys b).monic in
       subst (λ l. IsReducedBasis rationals grevlex m l (λ y. IsMember ℚ (k + m) hs (in_front k y)))

@@ -20,12 +20,12 @@ use Rattle.loops.specs.Program.{Expr, Program}
 use Rattle.loops.specs.WellFormed.{IsWellFormed}
 use Rattle.rounds.proofs.Theorem.{finished_generates}
 use Rattle.recurrences.specs.Sequences.{Sequence, AreFormed}
-use Rattle.recurrences.specs.Turning.{names, shown, program_of}
+use Rattle.recurrences.specs.Turning.{names, first_places, program_of}
 use Rattle.recurrences.specs.Relations.{IsRelation, IsShown}
 use Rattle.recurrences.proofs.Formed.{program_formed}
 use Rattle.recurrences.proofs.Relations.{of_loop, length-shown}
 use Rattle.recurrences.proofs.Starts.{length-names}
-use Rattle.relations.specs.Order.{hidden, visible, ordered, starting}
+use Rattle.relations.specs.Order.{hidden, visible, in_order, starting}
 use Rattle.relations.specs.Journal.{IsEnded}
 use Rattle.relations.proofs.Ordered.{ordered_arity, ordered_members}
 use Rattle.relations.proofs.Eliminated.{eliminated_basis}
@@ -44,19 +44,19 @@ module _ {At : Type 0} (program : Program (Expr At)) (is : List ℕ) (es : List 
 
   basis : IsReducedBasis rationals grevlex (length (visible (length program.names) is)) hs
       (λ y. IsMember ℚ (length (hidden (length program.names) is) + length
-      (visible (length program.names) is)) (map (ordered (length program.names) is) ended.basis)
+      (visible (length program.names) is)) (map (in_order (length program.names) is) ended.basis)
       (in_front (length (hidden (length program.names) is)) y))
   unfolding starting
   basis = subst (λ l. IsReducedBasis rationals grevlex b l
-      (λ y. IsMember ℚ (a + b) (map (ordered n is) ended.basis) (in_front a y)))
+      (λ y. IsMember ℚ (a + b) (map (in_order n is) ended.basis) (in_front a y)))
       (sym ended.behind.list)
-      (eliminated_basis a b (map (ordered n is) ended.basis)
+      (eliminated_basis a b (map (in_order n is) ended.basis)
       (ordered_arity n is ended.basis) ended.behind.finished.work.events ended.behind.last
       ended.behind.finished.work.run ended.behind.finished.ended)
 
   module _ (w : IsWellFormed program) where
     members : (p : Terms Fraction) → Arity b p
-        → IsMember ℚ (a + b) (map (ordered n is) ended.basis) (in_front a p) ↔ IsShown program
+        → IsMember ℚ (a + b) (map (in_order n is) ended.basis) (in_front a p) ↔ IsShown program
         (visible n is) p
     members p h = ordered_members program is ended.basis
         (finished_generates program w ended.analysed ended.rounds ended.basis ended.finished) p h
@@ -64,7 +64,7 @@ module _ {At : Type 0} (program : Program (Expr At)) (is : List ℕ) (es : List 
     pub ended_basis : IsReducedFor rationals grevlex (length (visible (length program.names) is)) hs
         (IsShown program (visible (length program.names) is))
     ended_basis = reduced_along ℚ_field grevlex grevlex_order b hs
-        (λ y. IsMember ℚ (a + b) (map (ordered n is) ended.basis) (in_front a y))
+        (λ y. IsMember ℚ (a + b) (map (in_order n is) ended.basis) (in_front a y))
         (IsShown program (visible n is)) (λ p h. members p h.arity) basis.reduced
 
     pub ended_generates : (p : Terms Fraction)
@@ -91,14 +91,14 @@ module _ {At : Type 0} (program : Program (Expr At)) (is : List ℕ) (es : List 
         (IsMember ℚ b hs) same ended_basis)
 
 module _ {At : Type 0} (qs : List (Sequence (Expr At))) (formed : AreFormed qs) (es : List Entry)
-    (hs : List (Terms Fraction)) (ended : IsEnded (program_of qs) (shown 0 qs) es hs) where
+    (hs : List (Terms Fraction)) (ended : IsEnded (program_of qs) (first_places 0 qs) es hs) where
   abbrev v : List ℕ
-  v = visible (length (names qs)) (shown 0 qs)
+  v = visible (length (names qs)) (first_places 0 qs)
 
-  seen : visible (length (names qs)) (shown 0 qs) ≡ shown 0 qs
-  seen = ap (λ m. visible m (shown 0 qs)) (length-names qs) ∙ visible_shown qs
+  seen : visible (length (names qs)) (first_places 0 qs) ≡ first_places 0 qs
+  seen = ap (λ m. visible m (first_places 0 qs)) (length-names qs) ∙ visible_shown qs
 
-  long : length (visible (length (names qs)) (shown 0 qs)) ≡ length qs
+  long : length (visible (length (names qs)) (first_places 0 qs)) ≡ length qs
   long = ap length seen ∙ length-shown 0 qs
 
   same : (p : Terms Fraction) → IsShown (program_of qs) v p ↔ IsRelation qs p
@@ -111,24 +111,25 @@ module _ {At : Type 0} (qs : List (Sequence (Expr At))) (formed : AreFormed qs) 
   relations_basis = reduced_along ℚ_field grevlex grevlex_order (length qs) hs
       (IsShown (program_of qs) v) (IsRelation qs) (λ p h. same p)
       (subst (λ m. IsReducedFor rationals grevlex m hs (IsShown (program_of qs) v)) long
-      (ended_basis (program_of qs) (shown 0 qs) es hs ended (program_formed qs formed)))
+      (ended_basis (program_of qs) (first_places 0 qs) es hs ended (program_formed qs formed)))
 
   pub relations_generate : (p : Terms Fraction) → IsPolynomial ℚ grevlex (length qs) p
       → IsMember ℚ (length qs) hs p ↔ IsRelation qs p
   relations_generate p h =
-      let v = visible (length (names qs)) (shown 0 qs) in
+      let v = visible (length (names qs)) (first_places 0 qs) in
       let all : (q : Terms Fraction) → IsPolynomial ℚ grevlex (length qs) q
       → IsMember ℚ (length qs) hs q ↔ IsShown (program_of qs) v q =
       subst (λ m. (q : Terms Fraction) → IsPolynomial ℚ grevlex m q
       → IsMember ℚ m hs q ↔ IsShown (program_of qs) v q) long
-      (ended_generates (program_of qs) (shown 0 qs) es hs ended (program_formed qs formed)) in
+      (ended_generates (program_of qs) (first_places 0 qs) es hs ended
+      (program_formed qs formed)) in
       let g = all p h in let s = same p in
       ((λ i. s.0 (g.0 i)), (λ i. g.1 (s.1 i)))
 
   pub one_relations_basis : (ks : List (Terms Fraction))
       → IsReducedFor rationals grevlex (length qs) ks (IsRelation qs) → ks ≡ hs
   one_relations_basis ks r =
-      one_basis (program_of qs) (shown 0 qs) es hs ended (program_formed qs formed) ks
+      one_basis (program_of qs) (first_places 0 qs) es hs ended (program_formed qs formed) ks
       (subst (λ m. IsReducedFor rationals grevlex m ks (IsShown (program_of qs) v)) (sym long)
       (reduced_along ℚ_field grevlex grevlex_order (length qs) ks (IsRelation qs)
       (IsShown (program_of qs) v) (λ p h. ((λ i. (same p).1 i), (λ i. (same p).0 i))) r))

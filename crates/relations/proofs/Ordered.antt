@@ -7,7 +7,7 @@ use Rattle.std.proofs.lemmas.List.{length-append, length-map, map-append}
 use Rattle.std.proofs.lemmas.List.Elements.{All-nil, All-cons}
 use Rattle.std.proofs.lemmas.Simd.{map-map}
 use Rattle.rings.specs.Each.{Each}
-use Rattle.rings.proofs.Each.{each-map, each_of}
+use Rattle.rings.proofs.Each.{each-map, each_of, map_same}
 use Rattle.numbers.specs.Fraction.{Fraction, ℚ}
 use Rattle.numbers.proofs.Fractions.{ℚ_ring}
 use Rattle.polynomials.specs.Terms.{Terms, variables, compose, value_at}
@@ -25,10 +25,10 @@ use Rattle.loops.specs.Inv.{Inv}
 use Rattle.loops.proofs.Invariants.{end_is_state}
 use Rattle.rounds.specs.Generate.{Generates}
 use Rattle.recurrences.specs.Turning.{places}
-use Rattle.recurrences.specs.Relations.{picked, IsShown}
+use Rattle.recurrences.specs.Relations.{values_at_places, IsShown}
 use Rattle.recurrences.proofs.Lists.{length-places}
-use Rattle.relations.specs.Order.{hidden, visible, order, place_in, images, ordered}
-use Rattle.relations.proofs.Permuted.{place_of_among, places_again, order_has_all, order_distinct, order_below, places_below, picked_all, get_placed, same_mapped}
+use Rattle.relations.specs.Order.{hidden, visible, order, place_in, images, in_order}
+use Rattle.relations.proofs.Permuted.{place_of_among, places_again, order_has_all, order_distinct, order_below, places_below, picked_all, get_placed}
 
 abbrev at : Terms Fraction → List Fraction → Fraction
 at p s = value_at ℚ p s
@@ -63,9 +63,9 @@ variables_of n js = each-map (Arity n) (λ i. get_or (variables ℚ n) i []) js
     (each_of (λ i. Arity n (get_or (variables ℚ n) i [])) (arity_of_variable n) js)
 
 values_of_variables : (n : ℕ) (js : List ℕ) (t : List Fraction) → length t ≡ n
-    → map (λ q. at q t) (map (λ i. get_or (variables ℚ n) i []) js) ≡ picked js t
+    → map (λ q. at q t) (map (λ i. get_or (variables ℚ n) i []) js) ≡ values_at_places js t
 values_of_variables n js t l = map-map (λ q. at q t) (λ i. get_or (variables ℚ n) i []) js
-    ∙ same_mapped _ _ js (each_of _ (λ i. variable_value n i t l) js)
+    ∙ map_same _ _ js (each_of _ (λ i. variable_value n i t l) js)
 
 module _ (m : ℕ) (is : List ℕ) where
   abbrev k : ℕ
@@ -84,16 +84,16 @@ module _ (m : ℕ) (is : List ℕ) where
   length-order : length (order m is) ≡ k + v
   length-order = length-append (hidden m is) (visible m is)
 
-  length-picked : (s : List Fraction) → length (picked (order m is) s) ≡ k + v
+  length-picked : (s : List Fraction) → length (values_at_places (order m is) s) ≡ k + v
   length-picked s = length-map (order m is) _ ∙ length-order
 
-  back_of_picked : (s : List Fraction) → length s ≡ m → back (picked (order m is) s) ≡ s
+  back_of_picked : (s : List Fraction) → length s ≡ m → back (values_at_places (order m is) s) ≡ s
   unfolding Each
-  back_of_picked s l = same_mapped _ (λ i. get_or s i ℚ.zero) (places 0 m)
+  back_of_picked s l = map_same _ (λ i. get_or s i ℚ.zero) (places 0 m)
       (each_below (places 0 m) (places_below 0 m m (omega arith))) ∙ picked_all s m ℚ.zero l
     where
       each_below : (js : List ℕ) → Each (λ i. i < m) js
-          → Each (λ i. get_or (picked (order m is) s)
+          → Each (λ i. get_or (values_at_places (order m is) s)
           (place_in (order m is) i) ℚ.zero ≡ get_or s i ℚ.zero) js
       each_below [] h = tt
       each_below (j ∷ js) h = (
@@ -102,9 +102,9 @@ module _ (m : ℕ) (is : List ℕ) where
         each_below js h.1,
       )
 
-  picked_back : (t : List Fraction) → length t ≡ k + v → picked (order m is) (back t) ≡ t
+  picked_back : (t : List Fraction) → length t ≡ k + v → values_at_places (order m is) (back t) ≡ t
   unfolding Each
-  picked_back t l = same_mapped _ (λ i. get_or t (place_in (order m is) i) ℚ.zero) (order m is)
+  picked_back t l = map_same _ (λ i. get_or t (place_in (order m is) i) ℚ.zero) (order m is)
       (each_below (order m is) (order_below m is))
       ∙ places_again (order m is) t ℚ.zero (order_distinct m is) (l ∙ sym length-order)
     where
@@ -118,11 +118,12 @@ module _ (m : ℕ) (is : List ℕ) where
       )
 
   -- the visible values stand behind the hidden ones
-  visible_behind : (s : List Fraction) → drop k (picked (order m is) s) ≡ picked (visible m is) s
+  visible_behind : (s : List Fraction) → drop k (values_at_places (order m is) s) ≡ values_at_places
+      (visible m is) s
   visible_behind s =
       ap₂ drop (sym (length-map (hidden m is) (λ i. get_or s i ℚ.zero)))
       (map-append (λ i. get_or s i ℚ.zero) (hidden m is) (visible m is))
-      ∙ drop_length (picked (hidden m is) s) (picked (visible m is) s)
+      ∙ drop_length (values_at_places (hidden m is) s) (values_at_places (visible m is) s)
 
   -- ---- polynomials in order
   images_arity : AllArity (k + v) (images m is)
@@ -133,15 +134,15 @@ module _ (m : ℕ) (is : List ℕ) where
   images_at : (t : List Fraction) → length t ≡ k + v → map (λ q. at q t) (images m is) ≡ back t
   images_at t l = map-map (λ q. at q t)
       (λ i. get_or (variables ℚ (k + v)) (place_in (order m is) i) []) (places 0 m)
-      ∙ same_mapped _ _ (places 0 m)
+      ∙ map_same _ _ (places 0 m)
       (each_of _ (λ i. variable_value (k + v) (place_in (order m is) i) t l) (places 0 m))
 
   ordered_at : (p : Terms Fraction) (t : List Fraction) → length t ≡ k + v
-      → at (ordered m is p) t ≡ at p (back t)
+      → at (in_order m is p) t ≡ at p (back t)
   ordered_at p t l = value_at-compose ℚ_ring (k + v) p (images m is) t ∙ ap (at p) (images_at t l)
 
-  pub ordered_arity : (gs : List (Terms Fraction)) → AllArity (k + v) (map (ordered m is) gs)
-  ordered_arity gs = each-map (Arity (k + v)) (ordered m is) gs
+  pub ordered_arity : (gs : List (Terms Fraction)) → AllArity (k + v) (map (in_order m is) gs)
+  ordered_arity gs = each-map (Arity (k + v)) (in_order m is) gs
       (each_of _ (λ g. arity-compose (k + v) ℚ g (images m is) images_arity) gs)
 
 module _ {At : Type 0} (program : Program (Expr At)) (is : List ℕ) (gs : List (Terms Fraction))
@@ -157,26 +158,28 @@ module _ {At : Type 0} (program : Program (Expr At)) (is : List ℕ) (gs : List 
 
   all_zero : (s : List Fraction) → length s ≡ n → (hs : List (Terms Fraction))
       → ((i : ℕ) → i < length hs → at (get_or hs i []) s ≡ ℚ.zero)
-      → All (λ g. at g (picked (order n is) s) ≡ ℚ.zero) (map (ordered n is) hs)
+      → All (λ g. at g (values_at_places (order n is) s) ≡ ℚ.zero) (map (in_order n is) hs)
   all_zero s l [] h = All-nil _
   all_zero s l (g ∷ hs) h =
-      All-cons (λ g. at g (picked (order n is) s) ≡ ℚ.zero) (ordered n is g) (map (ordered n is) hs)
-      (ordered_at n is g (picked (order n is) s) (length-picked n is s)
+      All-cons (λ g. at g (values_at_places (order n is) s) ≡ ℚ.zero) (in_order n is g)
+      (map (in_order n is) hs)
+      (ordered_at n is g (values_at_places (order n is) s) (length-picked n is s)
       ∙ ap (at g) (back_of_picked n is s l) ∙ h 0 (omega arith))
       (all_zero s l hs (λ i k. h (suc i) (omega arith)))
 
   to_relation : (p : Terms Fraction) → Arity b p
-      → IsMember ℚ (a + b) (map (ordered n is) gs) (in_front a p) → IsShown program (visible n is) p
+      → IsMember ℚ (a + b) (map (in_order n is) gs) (in_front a p)
+      → IsShown program (visible n is) p
   to_relation p h i = record {
     arity = h;
     zero = λ r.
         let s = r.end in
         let l : length s ≡ n = end_is_state program r in
-        let t = picked (order n is) s in
+        let t = values_at_places (order n is) s in
         ap (at p) (sym (visible_behind n is s))
         ∙ sym (in_front_at a b p t (length-picked n is s))
         ∙ value_at_same ℚ_ring _ _ t i.is
-        ∙ combination_zero ℚ_ring i.cofactors (map (ordered n is) gs) t
+        ∙ combination_zero ℚ_ring i.cofactors (map (in_order n is) gs) t
         (all_zero s l gs (λ j
         k. (generates.only (get_or gs j []) (arity_at n gs generates.arities j)
         (member_at n gs generates.arities j k)).zero r));
@@ -187,7 +190,7 @@ module _ {At : Type 0} (program : Program (Expr At)) (is : List ℕ) (gs : List 
   lifted p = compose ℚ n p (map (λ i. get_or (variables ℚ n) i []) (visible n is))
 
   lifted_at : (p : Terms Fraction) (s : List Fraction) → length s ≡ n
-      → at (lifted p) s ≡ at p (picked (visible n is) s)
+      → at (lifted p) s ≡ at p (values_at_places (visible n is) s)
   unfolding lifted
   lifted_at p s l = value_at-compose ℚ_ring n p
       (map (λ i. get_or (variables ℚ n) i []) (visible n is)) s
@@ -199,7 +202,7 @@ module _ {At : Type 0} (program : Program (Expr At)) (is : List ℕ) (gs : List 
       (variables_of n (visible n is))
 
   from_relation : (p : Terms Fraction) → IsShown program (visible n is) p
-      → IsMember ℚ (a + b) (map (ordered n is) gs) (in_front a p)
+      → IsMember ℚ (a + b) (map (in_order n is) gs) (in_front a p)
   from_relation p h =
       let q = lifted p in
       let inv : Inv program q =
@@ -209,11 +212,11 @@ module _ {At : Type 0} (program : Program (Expr At)) (is : List ℕ) (gs : List 
             ∙ h.zero r;
       } in
       let member : IsMember ℚ n gs q = generates.all q (lifted_arity p) inv in
-      let turned : IsMember ℚ (a + b) (map (ordered n is) gs) (ordered n is q) =
+      let turned : IsMember ℚ (a + b) (map (in_order n is) gs) (in_order n is q) =
       member_compose ℚ_ring n (a + b) (images n is) (images_arity n is) gs q generates.arities
       (lifted_arity p) member in
-      member_same (a + b) (map (ordered n is) gs) (ordered n is q) (in_front a p)
-      (same_by_values (a + b) (in_front a p) (ordered n is q) (arity-pad a b p h.arity)
+      member_same (a + b) (map (in_order n is) gs) (in_order n is q) (in_front a p)
+      (same_by_values (a + b) (in_front a p) (in_order n is q) (arity-pad a b p h.arity)
       (arity-compose (a + b) ℚ q (images n is) (images_arity n is))
       (λ t l. in_front_at a b p t l ∙ ap (λ z. at p (drop a z)) (sym (picked_back n is t l))
       ∙ ap (at p) (visible_behind n is (back n is t))
@@ -222,7 +225,7 @@ module _ {At : Type 0} (program : Program (Expr At)) (is : List ℕ) (gs : List 
 
   pub ordered_members : (p : Terms Fraction) → Arity (length (visible (length program.names) is)) p
       → IsMember ℚ (length (hidden (length program.names) is) + length
-      (visible (length program.names) is)) (map (ordered (length program.names) is) gs)
+      (visible (length program.names) is)) (map (in_order (length program.names) is) gs)
       (in_front (length (hidden (length program.names) is)) p)
       ↔ IsShown program (visible (length program.names) is) p
   ordered_members p h = (to_relation p h, from_relation p)

@@ -7,8 +7,8 @@
 use Rattle.std.proofs.Common.{◌≡◌, ℕ, zero, suc, ◌+◌, ◌<◌, ◌≤◌, Bool, true, false, not, ◌||◌, eqb, cond, List, [], ◌∷◌, ◌++◌, map, length, get_or, filter, arith, refl, sym, ap, ap₂, ◌∙◌}
 use Rattle.std.proofs.lemmas.Bool.{eqb-true, eqb-false, ne_eqb}
 use Rattle.rings.specs.Each.{Each}
-use Rattle.rings.proofs.Basics.{eqb_same}
-use Rattle.rings.proofs.Each.{each-append}
+use Rattle.rings.proofs.Basics.{eqb_same, or_false, or_true}
+use Rattle.rings.proofs.Each.{each-append, map_same}
 use Rattle.recurrences.proofs.Lists.{along, at_place, more_before, length-more}
 use Rattle.recurrences.specs.Turning.{places}
 use Rattle.relations.specs.Order.{is_among, place_in, hidden, visible, order}
@@ -26,10 +26,6 @@ eqb_more i k = ne_eqb i (suc (i + k)) (λ e. omega arith)
 eqb_is : (i j : ℕ) → eqb i j ≡ true → i ≡ j
 eqb_is i j h = eqb-true i j h
 
-or_true : (b : Bool) → b || true ≡ true
-or_true true = refl
-or_true false = refl
-
 -- ---- places in a list
 module _ {A : Type 0} where
   pub place_of_among : (f : ℕ → A) (d : A) (xs : List ℕ) (i : ℕ) → is_among xs i ≡ true
@@ -44,19 +40,10 @@ module _ {A : Type 0} where
       go true e h more = ap f (eqb_is x i e)
       go false e h more = more h
 
-  map_each : (f g : ℕ → A) (xs : List ℕ) → Each (λ x. f x ≡ g x) xs → map f xs ≡ map g xs
-  unfolding Each
-  map_each f g [] h = refl
-  map_each f g (x ∷ xs) h = ap₂ ◌∷◌ h.0 (map_each f g xs h.1)
-
 -- none twice
 unfoldable pub Distinct : List ℕ → Type 0
 Distinct [] = Unit {0}
 Distinct (x ∷ xs) = (is_among xs x ≡ false) × Distinct xs
-
-or_false : (a b : Bool) → a || b ≡ false → (a ≡ false) × (b ≡ false)
-or_false true b h = absurd (cc)
-or_false false b h = (refl, h)
 
 others : (x : ℕ) (xs : List ℕ) → is_among xs x ≡ false → Each (λ i. eqb x i ≡ false) xs
 unfolding Each
@@ -73,7 +60,7 @@ module _ {A : Type 0} where
   places_again (x ∷ xs) [] d h l = absurd (omega arith)
   places_again (x ∷ xs) (y ∷ t) d h l =
       ap₂ ◌∷◌ (ap (λ b. get_or (y ∷ t) (cond b 0 (suc (place_in xs x))) d) (eqb_same x))
-      (map_each (λ i. get_or (y ∷ t) (place_in (x ∷ xs) i) d) (λ i. get_or t (place_in xs i) d) xs
+      (map_same (λ i. get_or (y ∷ t) (place_in (x ∷ xs) i) d) (λ i. get_or t (place_in xs i) d) xs
       (later xs (others x xs h.0)) ∙ places_again xs t d h.1 (omega arith))
     where
       later : (is : List ℕ) → Each (λ i. eqb x i ≡ false) is
@@ -242,9 +229,6 @@ module _ {A : Type 0} where
 
   pub get_placed : (f : ℕ → A) (m i : ℕ) (d : A) → i < m → get_or (map f (places 0 m)) i d ≡ f i
   get_placed f m i d h = get_mapped f 0 m i d h ∙ ap f (omega arith)
-
-  pub same_mapped : (f g : ℕ → A) (xs : List ℕ) → Each (λ x. f x ≡ g x) xs → map f xs ≡ map g xs
-  same_mapped f g xs h = map_each f g xs h
 
 -- ---- the order
 module _ (m : ℕ) (is : List ℕ) where

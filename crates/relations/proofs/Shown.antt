@@ -6,7 +6,7 @@ use Rattle.std.proofs.lemmas.List.Elements.{filter-append}
 use Rattle.rings.specs.Each.{Each}
 use Rattle.rings.proofs.Basics.{eqb_same}
 use Rattle.recurrences.specs.Sequences.{Sequence, order, size}
-use Rattle.recurrences.specs.Turning.{places, shown}
+use Rattle.recurrences.specs.Turning.{places, first_places}
 use Rattle.recurrences.proofs.Lists.{along, moved}
 use Rattle.relations.specs.Order.{is_among, visible}
 use Rattle.relations.proofs.Permuted.{eqb_more}
@@ -16,12 +16,14 @@ eqb_less i k = ne_eqb (suc (i + k)) i (λ e. omega arith)
 
 module _ {E : Type 0} where
   -- what stands behind a place is not it
-  before_shown : (a k : ℕ) (qs : List (Sequence E)) → is_among (shown (suc (a + k)) qs) a ≡ false
-  unfolding shown
+  before_shown : (a k : ℕ) (qs : List (Sequence E)) → is_among (first_places (suc (a + k)) qs) a
+      ≡ false
+  unfolding first_places
   before_shown a k [] = refl
   before_shown a k (q ∷ qs) =
-      ap (λ b. b || is_among (shown (suc (a + k) + order q) qs) a) (eqb_less a k)
-      ∙ along (λ n. is_among (shown n qs) a) (suc (a + k) + order q) (suc (a + (k + order q)))
+      ap (λ b. b || is_among (first_places (suc (a + k) + order q) qs) a) (eqb_less a k)
+      ∙ along (λ n. is_among (first_places n qs) a) (suc (a + k) + order q)
+      (suc (a + (k + order q)))
       (omega arith) ∙ before_shown a (k + order q) qs
 
 -- the same tests, the same parts
@@ -60,31 +62,32 @@ later_same a d (suc r) is = (
 module _ {E : Type 0} where
   -- between one place and the next none is shown
   between : (a k r : ℕ) (qs : List (Sequence E)) → (n : ℕ) → suc (a + k) + r ≤ n
-      → Each (λ i. is_among (a ∷ shown n qs) i ≡ false) (places (suc (a + k)) r)
+      → Each (λ i. is_among (a ∷ first_places n qs) i ≡ false) (places (suc (a + k)) r)
   unfolding places Each
   between a k zero qs n l = tt
   between a k (suc r) qs n l = (
-    ap (λ b. b || is_among (shown n qs) (suc (a + k))) (eqb_more a k)
+    ap (λ b. b || is_among (first_places n qs) (suc (a + k))) (eqb_more a k)
         ∙ later,
-    moved (λ i. Each (λ i. is_among (a ∷ shown n qs) i ≡ false) (places i r))
+    moved (λ i. Each (λ i. is_among (a ∷ first_places n qs) i ≡ false) (places i r))
         (suc (a + suc k)) (suc (suc (a + k))) (omega arith)
         (between a (suc k) r qs n (omega arith)),
   )
     where
-      gap : (d : ℕ) → n ≡ suc (suc (a + k) + d) → is_among (shown n qs) (suc (a + k)) ≡ false
-      gap d e = ap (λ n. is_among (shown n qs) (suc (a + k))) e ∙ before_shown (suc (a + k)) d qs
+      gap : (d : ℕ) → n ≡ suc (suc (a + k) + d) → is_among (first_places n qs) (suc (a + k)) ≡ false
+      gap d e = ap (λ n. is_among (first_places n qs) (suc (a + k))) e
+          ∙ before_shown (suc (a + k)) d qs
 
-      later : is_among (shown n qs) (suc (a + k)) ≡ false
+      later : is_among (first_places n qs) (suc (a + k)) ≡ false
       later = gap (n - suc (suc (a + k))) (omega arith)
 
   shown_from : (a : ℕ) (qs : List (Sequence E))
-      → filter (is_among (shown a qs)) (places a (size qs)) ≡ shown a qs
-  unfolding shown size places
+      → filter (is_among (first_places a qs)) (places a (size qs)) ≡ first_places a qs
+  unfolding first_places size places
   shown_from a [] = refl
   shown_from a (q ∷ qs) =
       let n = a + order q in
       let r = length q.later in
-      let js = shown n qs in
+      let js = first_places n qs in
       let p = is_among (a ∷ js) in
       ap (filter p) (places-append a (order q) (size qs))
       ∙ filter-append p (places a (order q)) (places n (size qs))
@@ -99,5 +102,6 @@ module _ {E : Type 0} where
       (suc (a + length q.later)) n (omega arith) (later_same a (length q.later) (size qs) js))
       ∙ shown_from n qs)
 
-  pub visible_shown : (qs : List (Sequence E)) → visible (size qs) (shown 0 qs) ≡ shown 0 qs
+  pub visible_shown : (qs : List (Sequence E)) → visible (size qs) (first_places 0 qs)
+      ≡ first_places 0 qs
   visible_shown qs = shown_from 0 qs

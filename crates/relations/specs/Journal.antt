@@ -15,10 +15,10 @@ use Rattle.polynomials.specs.Order.{grevlex}
 use Rattle.polynomials.specs.Weight.{IsPastComposition}
 use Rattle.machines.specs.Journal.{Entry}
 use Rattle.machines.specs.Elimination as elimination
-use Rattle.machines.specs.Elimination.{kept}
+use Rattle.machines.specs.Elimination.{free_part}
 use Rattle.machines.specs.Machine.{Machine}
 use Rattle.machines.specs.Machines as machines
-use Rattle.machines.specs.Work.{Worked, Finished, IsSpent, PastAfter}
+use Rattle.machines.specs.Work.{WorkFrom, WorkToEnd, IsSpent, PastAfter}
 use Rattle.loops.specs.Program.{Expr, Program}
 use Rattle.rounds.specs.Analysis as analysis
 use Rattle.rounds.specs.Journal as analysis_journal
@@ -31,7 +31,7 @@ module _ (m : ℕ) (is : List ℕ) where
 
   abbrev pub ordered_elimination : List (Terms Fraction) → Machine (elimination.State Fraction)
   ordered_elimination gs =
-      machines.elimination fractions (block_order m is) grevlex (kept (length (hidden m is)))
+      machines.elimination fractions (block_order m is) grevlex (free_part (length (hidden m is)))
       (starting m is gs)
 
   abbrev pub elimination_from : List (Terms Fraction) → Machine (elimination.State Fraction)
@@ -43,12 +43,12 @@ module _ (m : ℕ) (is : List ℕ) where
   }
 
   abbrev pub list_of : elimination.State Fraction → List (Terms Fraction)
-  list_of s = elimination.list_of grevlex (kept (length (hidden m is))) s
+  list_of s = elimination.list_of grevlex (free_part (length (hidden m is))) s
 
   -- behind the entries fs of an analysis that has ended with the basis gs
   pub record IsEliminated (fs es : List Entry) (gs hs : List (Terms Fraction)) : Type 0 where
     pub last : elimination.State Fraction
-    pub finished : Finished (elimination_from gs).next (elimination_from gs).start fs es last
+    pub finished : WorkToEnd (elimination_from gs).next (elimination_from gs).start fs es last
     pub list : hs ≡ list_of last
 
   abbrev pub IsPastBehind : (fs es : List Entry) (gs : List (Terms Fraction)) → Type 0
@@ -62,7 +62,7 @@ module _ (m : ℕ) (is : List ℕ) where
       IsSpent (elimination_from gs).next (elimination_from gs).start limit fs es
 
   abbrev pub HasWorkedBehind : (fs es : List Entry) (gs : List (Terms Fraction)) → Type 0
-  HasWorkedBehind fs es gs = Worked (elimination_from gs).next (elimination_from gs).start fs es
+  HasWorkedBehind fs es gs = WorkFrom (elimination_from gs).next (elimination_from gs).start fs es
 
 module _ {At : Type 0} (program : Program (Expr At)) (is : List ℕ) where
   pub record IsBehind (P : List Entry → List (Terms Fraction) → Type 0) : Type 0 where

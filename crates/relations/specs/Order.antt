@@ -4,7 +4,7 @@
 --   order m is           the ones before the others
 --   place_in js i        where i stands first in js
 --   images m is          for each variable of the loop, in declared order, the variable at its place in the order
---   ordered m is p       p with these variables
+--   in_order m is p       p with these variables
 --   block_order m is     the order of monomials with the variables that are not shown in its first block
 --   starting m is gs     the gs with these variables, in this order of monomials
 use Rattle.std.specs.Prelude.{ℕ, suc, ◌+◌, Bool, not, eqb, cond, List, [], ◌∷◌, ◌++◌, map, length, get_or, filter}
@@ -39,11 +39,11 @@ module _ (m : ℕ) (is : List ℕ) where
   abbrev pub images : List (Terms Fraction)
   images = map (λ i. get_or (variables ℚ arity) (place_in order i) []) (places 0 m)
 
-  abbrev pub ordered : Terms Fraction → Terms Fraction
-  ordered p = compose ℚ arity p images
+  abbrev pub in_order : Terms Fraction → Terms Fraction
+  in_order p = compose ℚ arity p images
 
   abbrev pub block_order : Rank
   block_order = blocks (length hidden) grevlex grevlex
 
   unfoldable pub starting : List (Terms Fraction) → List (Terms Fraction)
-  starting gs = map (collect rationals block_order) (map ordered gs)
+  starting gs = map (collect rationals block_order) (map in_order gs)

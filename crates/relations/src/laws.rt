@@ -13,9 +13,9 @@ ghost use Rattle.loops.specs.Program.{Expr, Program};
 ghost use Rattle.loops.specs.WellFormed.{IsWellFormed};
 ghost use Rattle.rounds.specs.Journal.{IsFinished};
 ghost use Rattle.recurrences.specs.Sequences.{Sequence, AreFormed};
-ghost use Rattle.recurrences.specs.Turning.{program_of, shown};
+ghost use Rattle.recurrences.specs.Turning.{program_of, first_places};
 ghost use Rattle.recurrences.specs.Relations.{IsRelation, IsShown};
-ghost use Rattle.relations.specs.Order.{hidden, visible, ordered};
+ghost use Rattle.relations.specs.Order.{hidden, visible, in_order};
 ghost use Rattle.relations.specs.Journal.{IsEnded, IsOut};
 
 /// Of a list that generates the invariants: what has only the variables that are shown, in the ideal of the list with its variables in order, is what is zero there at the end of every run.
@@ -23,7 +23,7 @@ pub fn ordered_lists_have_the_relations<At>()
     ensures { (program : Program (Expr At)) → IsWellFormed program → (is : List ℕ)
         (es : List Entry) (k : ℕ) (gs : List (Terms Fraction)) → IsFinished program es k gs
         → let m = length program.names in (p : Terms Fraction) → Arity (length (visible m is)) p
-        → IsMember ℚ (length (hidden m is) + length (visible m is)) (map (ordered m is) gs)
+        → IsMember ℚ (length (hidden m is) + length (visible m is)) (map (in_order m is) gs)
         (in_front (length (hidden m is)) p)
         ↔ IsShown program (visible m is) p }
 {}
@@ -47,14 +47,14 @@ pub fn ended_journals_have_the_basis<At>()
 /// Of sequences: it is the one reduced basis of exactly their relations, and generates them.
 pub fn ended_journals_have_the_relations<At>()
     ensures basis { (qs : List (Sequence (Expr At))) → AreFormed qs → (es : List Entry)
-        (hs : List (Terms Fraction)) → IsEnded (program_of qs) (shown 0 qs) es hs
+        (hs : List (Terms Fraction)) → IsEnded (program_of qs) (first_places 0 qs) es hs
         → IsReducedFor rationals grevlex (length qs) hs (IsRelation qs) }
     ensures generates { (qs : List (Sequence (Expr At))) → AreFormed qs → (es : List Entry)
-        (hs : List (Terms Fraction)) → IsEnded (program_of qs) (shown 0 qs) es hs
+        (hs : List (Terms Fraction)) → IsEnded (program_of qs) (first_places 0 qs) es hs
         → (p : Terms Fraction) → IsPolynomial ℚ grevlex (length qs) p
         → IsMember ℚ (length qs) hs p ↔ IsRelation qs p }
     ensures one { (qs : List (Sequence (Expr At))) → AreFormed qs → (es : List Entry)
-        (hs ks : List (Terms Fraction)) → IsEnded (program_of qs) (shown 0 qs) es hs
+        (hs ks : List (Terms Fraction)) → IsEnded (program_of qs) (first_places 0 qs) es hs
         → IsReducedFor rationals grevlex (length qs) ks (IsRelation qs) → ks ≡ hs }
 {}
 

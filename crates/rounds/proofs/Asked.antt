@@ -6,14 +6,14 @@ use Rattle.std.proofs.Common.{◌≡◌, ℕ, zero, suc, Bool, true, false, cond
 use Rattle.numbers.specs.Fraction.{Fraction, rationals}
 use Rattle.polynomials.specs.Terms.{Terms}
 use Rattle.polynomials.specs.Order.{grevlex}
-use Rattle.machines.specs.Elimination.{kept}
+use Rattle.machines.specs.Elimination.{free_part}
 use Rattle.machines.specs.Event.{Event}
 use Rattle.machines.specs.Journal as journal
 use Rattle.machines.specs.Journal.{Entry, Begin}
 use Rattle.machines.specs.Run.{IsRun}
 use Rattle.machines.specs.Elimination as elimination
 use Rattle.machines.specs.Division as division
-use Rattle.rounds.specs.Analysis.{Setting, with_asked, Work, starts, turn, turn_meet, orbit, meet, State, fresh, working, closing, turning, asking, Step, goes, finished, answered, form_of, turns_of, block, order, starting, ending, test, closing_from, begin_turn, begin_orbit, after_turns, begin_branch, after_branch, after_orbit, after, worked, divided, closed_by, asked_by, first_step, next, moved, moves}
+use Rattle.rounds.specs.Analysis.{Setting, with_asked, Work, starts, turn, turn_meet, orbit, meet, State, fresh, working, closing, turning, asking, Step, goes, finished, answered, form_of, turns_of, block, order, starting, after_closing, test, closing_from, begin_turn, begin_orbit, after_turns, begin_branch, after_branch, after_orbit, after, next_work, after_test, closed_by, asked_by, first_step, next, move_of, moves}
 use Rattle.rounds.proofs.SameForms.{same_block, same_order}
 
 module _ (setting : Setting) (p : Terms Fraction) where
@@ -26,7 +26,7 @@ module _ (setting : Setting) (p : Terms Fraction) where
   -- after the end, the division
   abbrev pub goes_on : Step → Step
   goes_on (goes e s) = goes e s
-  goes_on (finished k gs) = goes (Begin journal.Member) (asking k gs (division.begun gs p))
+  goes_on (finished k gs) = goes (Begin journal.Member) (asking k gs (division.initial_state gs p))
   goes_on (answered k gs s) = answered k gs s
 
   same_closing : (k b i : ℕ) (gs : List (Terms Fraction)) → closing_from B k b i gs
@@ -36,8 +36,11 @@ module _ (setting : Setting) (p : Terms Fraction) where
       (length setting.forms))
     where
       outer : (o q : Bool)
-          → cond o (test B k b i gs) (cond q (test B k (suc b) 0 gs) (ending B (Some p) k gs))
-          ≡ goes_on (cond o (test A k b i gs) (cond q (test A k (suc b) 0 gs) (ending A None k gs)))
+          → cond o (test B k b i gs) (cond q (test B k (suc b) 0 gs)
+          (after_closing B (Some p) k gs))
+          ≡ goes_on
+          (cond o (test A k b i gs) (cond q (test A k (suc b) 0 gs)
+          (after_closing A None k gs)))
       outer true q = refl
       outer false true = refl
       outer false false = refl
@@ -79,21 +82,22 @@ module _ (setting : Setting) (p : Terms Fraction) where
   same_after (meet k b gs so_far hs) ls = same_branch k b gs ls
 
   same_working : (w : Work) (s : elimination.State Fraction)
-      → worked B w s (elimination.next rationals (order B w) grevlex (kept (block B w)) s)
-      ≡ goes_on (worked A w s (elimination.next rationals (order A w) grevlex (kept (block A w))
+      → next_work B w s (elimination.next rationals (order B w) grevlex (free_part (block B w)) s)
+      ≡ goes_on (next_work A w s (elimination.next rationals (order A w) grevlex
+      (free_part (block A w))
       s))
   same_working w s =
-      ap (λ O. worked B w s (elimination.next rationals O grevlex (kept (block B w)) s))
+      ap (λ O. next_work B w s (elimination.next rationals O grevlex (free_part (block B w)) s))
       (same_order A B refl refl w)
-      ∙ ap (λ k. worked B w s (elimination.next rationals (order A w) grevlex (kept k) s))
+      ∙ ap (λ k. next_work B w s (elimination.next rationals (order A w) grevlex (free_part k) s))
       (same_block A B refl refl w)
-      ∙ go (elimination.next rationals (order A w) grevlex (kept (block A w)) s)
+      ∙ go (elimination.next rationals (order A w) grevlex (free_part (block A w)) s)
     where
       go : (o : Option (Event × elimination.State Fraction))
-          → worked B w s o ≡ goes_on (worked A w s o)
-      go None = ap (λ k. after B w (elimination.list_of grevlex (kept k) s))
+          → next_work B w s o ≡ goes_on (next_work A w s o)
+      go None = ap (λ k. after B w (elimination.list_of grevlex (free_part k) s))
           (same_block A B refl refl w)
-          ∙ same_after w (elimination.list_of grevlex (kept (block A w)) s)
+          ∙ same_after w (elimination.list_of grevlex (free_part (block A w)) s)
       go (Some (e, t)) = refl
 
   same_closed : (k b i : ℕ) (gs : List (Terms Fraction)) (s : division.State Fraction)
@@ -101,7 +105,8 @@ module _ (setting : Setting) (p : Terms Fraction) where
       ≡ goes_on (closed_by A k b i gs s (division.next rationals grevlex gs s))
   same_closed k b i gs s = go (division.next rationals grevlex gs s)
     where
-      rest : (o : Option (Terms Fraction)) → divided B k b i gs o ≡ goes_on (divided A k b i gs o)
+      rest : (o : Option (Terms Fraction)) → after_test B k b i gs o
+          ≡ goes_on (after_test A k b i gs o)
       rest None = same_closing k b (suc i) gs
       rest (Some q) = refl
 
@@ -133,7 +138,8 @@ module _ (setting : Setting) (p : Terms Fraction) where
   next_asked (turning k gs) = same_turns k 0 0 gs gs gs
   next_asked (asking k gs s) = same_asking k gs s
 
-  same_moves : (x : Step) (y : Entry × State) → moved A x ≡ Some y → moved B (goes_on x) ≡ Some y
+  same_moves : (x : Step) (y : Entry × State) → move_of A x ≡ Some y
+      → move_of B (goes_on x) ≡ Some y
   same_moves (goes e s) y h = h
   same_moves (finished k gs) y h = absurd (cc)
   same_moves (answered k gs s) y h = h
@@ -143,10 +149,10 @@ module _ (setting : Setting) (p : Terms Fraction) where
   run_asked [] s t r = r
   run_asked (e ∷ es) s t r = (
     r.0,
-    ap (moved B) (next_asked s) ∙ same_moves (next A s) (e, r.0) r.1,
+    ap (move_of B) (next_asked s) ∙ same_moves (next A s) (e, r.0) r.1,
     run_asked es r.0 t r.2,
   )
 
   pub finished_asked : (s : State) (k : ℕ) (gs : List (Terms Fraction)) → next A s ≡ finished k gs
-      → next B s ≡ goes (Begin journal.Member) (asking k gs (division.begun gs p))
+      → next B s ≡ goes (Begin journal.Member) (asking k gs (division.initial_state gs p))
   finished_asked s k gs h = next_asked s ∙ ap goes_on h

@@ -12,7 +12,7 @@ use Rattle.loops.specs.Program.{Expr, Program}
 use Rattle.rounds.specs.Word.{Every, Stays}
 use Rattle.rounds.specs.Generate.{Generates}
 use Rattle.rounds.specs.Analysis.{Setting, starts, list_at}
-use Rattle.rounds.specs.Results.{LeadsTo, Worked, IsReducedList}
+use Rattle.rounds.specs.Results.{LeadsTo, EndsWork, IsReducedList}
 
 -- ---- runs, one event longer
 module _ {S E : Type 0} (next : S → Option (E × S)) where
@@ -39,7 +39,7 @@ pub record IsTold {At : Type 0} (program : Program (Expr At)) (I : Terms Fractio
 
 pub record Begins {At : Type 0} (program : Program (Expr At)) (A : Setting) (I : Terms Fraction
     → Type 0) : Type 0 where
-  pub starts_generate : A.given ≡ None → (made : Worked A starts)
+  pub starts_generate : A.given ≡ None → (made : EndsWork A starts)
       → Generates (length program.names) (list_at A starts made.last) I
   pub given_reduced : (gs : List (Terms Fraction)) → A.given ≡ Some gs
       → IsReducedList (length program.names) gs

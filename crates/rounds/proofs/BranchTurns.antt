@@ -12,31 +12,32 @@ use Rattle.loops.specs.Map.{branch_map}
 use Rattle.loops.specs.Run.{effect, IsState}
 use Rattle.loops.proofs.Maps.{branch_map_values, effect_keeps_state, length-branch_map}
 use Rattle.rounds.specs.Word.{branch_of}
-use Rattle.rounds.specs.Orbit.{turned}
+use Rattle.rounds.specs.Orbit.{state_after}
 
 module _ {At : Type 0} (program : Program (Expr At)) (b : ℕ) where
   abbrev pub bm : List (Terms Fraction)
   bm = branch_map program (branch_of program b)
 
-  pub turned-last : (n : ℕ) (s : List Fraction) → turned program b (suc n) s ≡ effect program
-      (branch_of program b) (turned program b n s)
-  unfolding turned
+  pub turned-last : (n : ℕ) (s : List Fraction) → state_after program b (suc n) s ≡ effect program
+      (branch_of program b) (state_after program b n s)
+  unfolding state_after
   turned-last zero s = refl
   turned-last (suc n) s = turned-last n (effect program (branch_of program b) s)
 
   pub turned_keeps : (n : ℕ) (s : List Fraction) → IsState program s
-      → IsState program (turned program b n s)
-  unfolding turned
+      → IsState program (state_after program b n s)
+  unfolding state_after
   turned_keeps zero s is = is
   turned_keeps (suc n) s is = turned_keeps n (effect program (branch_of program b) s)
       (effect_keeps_state program (branch_of program b) s is)
 
   pub turns-are : (n : ℕ) (s : List Fraction) → IsState program s
-      → turns.turns bm n s ≡ turned program b n s
-  unfolding turned
+      → turns.turns bm n s ≡ state_after program b n s
+  unfolding state_after
   turns-are zero s is = refl
   turns-are (suc n) s is = ap (turns.values_at bm) (turns-are n s is)
-      ∙ branch_map_values program (branch_of program b) (turned program b n s) (turned_keeps n s is)
+      ∙ branch_map_values program (branch_of program b) (state_after program b n s)
+      (turned_keeps n s is)
       ∙ sym (turned-last n s)
 
   -- a form has a polynomial for each variable

@@ -24,23 +24,23 @@ use Rattle.polynomials.specs.Exponent.{same, plus, lcm, unit_exponents, over as 
 use Rattle.polynomials.specs.Order.{compare, grevlex, blocks}
 use Rattle.polynomials.specs.Polynomial.{Falls, IsPolynomial}
 use Rattle.polynomials.specs.Terms.{Terms, constant, variables, evaluate, monomial_at, retold}
-use Rattle.machines.specs.Collect.{collect, insert, place, scaled}
+use Rattle.machines.specs.Collect.{collect, insert, place, scale_terms}
 use Rattle.machines.specs.Completion as completion
 use Rattle.machines.specs.Elimination as elimination
-use Rattle.machines.specs.Completion.{with_element, with_elements, s_polynomial, reducing, taking, acting}
+use Rattle.machines.specs.Completion.{with_element, with_elements, s_polynomial, next_reduction, next_pair, next_completion}
 use Rattle.machines.specs.Cut.{lead_of, tail_of, lead_number, divides, cut_by, find_cut, after_cut, monic}
 use Rattle.machines.specs.Division as division
-use Rattle.machines.specs.Division.{with_term, divided, dividing}
-use Rattle.machines.specs.Elimination.{all_free, kept}
+use Rattle.machines.specs.Division.{with_term, next_cut, next_division}
+use Rattle.machines.specs.Elimination.{all_free, free_part}
 use Rattle.machines.specs.Event.{Pair, Cut, Keep, Zero}
 use Rattle.machines.specs.Journal.{Entry, Begin, Did, Start, Closed, Round, Orbit, Meet}
-use Rattle.machines.specs.Pairs.{coprime, mixes_degrees, waits, beside, put_pair, with_new, covers, settled}
+use Rattle.machines.specs.Pairs.{coprime, mixes_degrees, waits, beside, put_pair, with_new, covers, skip_covered}
 use Rattle.machines.specs.Tidying as tidying
-use Rattle.machines.specs.Tidying.{without, drop_from, tail_or, tail_from, tailing, dropping, ahead, put_by_lead, by_lead}
+use Rattle.machines.specs.Tidying.{without, drop_from, tail_or, tail_from, next_tail, next_drop, ahead, put_by_lead, by_lead}
 use Rattle.machines.specs.Run.{IsRun}
 use Rattle.machines.proofs.Runs.{on, trace, run_of}
 use Rattle.exponentials.specs.Base.{IsTheBase}
-use Rattle.exponentials.specs.Keys.{left}
+use Rattle.exponentials.specs.Keys.{excess}
 use Rattle.turns.specs.Turns as turns
 use Rattle.turns.specs.Turns.{point, values_at}
 use Rattle.loops.specs.Effect.{store, value_of, after_statement, after_branch}
@@ -348,12 +348,15 @@ entries_are : (trace (moves setting) 30 fresh).0 ≡ steps_journal
 unfolding on trace next block starting closing_from analysis.after_turns analysis.after_branch
     analysis.after relation
     relations_to start_list start_polynomial in_order branch_map after_branch after_statement store
-    value_of variables unit_exponents constant collect insert place scaled compare blocks grevlex
-    elimination.next completion.next with_element with_elements s_polynomial reducing taking acting
+    value_of variables unit_exponents constant collect insert place scale_terms compare blocks
+    grevlex
+    elimination.next completion.next with_element with_elements s_polynomial next_reduction
+    next_pair next_completion
     lead_of tail_of lead_number divides cut_by find_cut after_cut monic division.next with_term
-    divided dividing all_free kept retold coprime completion.degree mixes_degrees waits beside
-    put_pair with_new covers settled tidying.next without drop_from tail_or tail_from tailing
-    dropping ahead put_by_lead by_lead less same plus lcm left Algebra.times Algebra.shift
+    next_cut next_division all_free free_part retold coprime completion.degree mixes_degrees waits
+    beside
+    put_pair with_new covers skip_covered tidying.next without drop_from tail_or tail_from next_tail
+    next_drop ahead put_by_lead by_lead less same plus lcm excess Algebra.times Algebra.shift
     Algebra.negate evaluate sum_over monomial_at power fraction Fraction.sum Fraction.product
     Fraction.opposite Fraction.inverse is_lowest reduce gcd
 entries_are = refl
@@ -362,12 +365,15 @@ ends : next setting (trace (moves setting) 30 fresh).1 ≡ finished 1 steps_basi
 unfolding on trace next block starting closing_from analysis.after_turns analysis.after_branch
     analysis.after relation
     relations_to start_list start_polynomial in_order branch_map after_branch after_statement store
-    value_of variables unit_exponents constant collect insert place scaled compare blocks grevlex
-    elimination.next completion.next with_element with_elements s_polynomial reducing taking acting
+    value_of variables unit_exponents constant collect insert place scale_terms compare blocks
+    grevlex
+    elimination.next completion.next with_element with_elements s_polynomial next_reduction
+    next_pair next_completion
     lead_of tail_of lead_number divides cut_by find_cut after_cut monic division.next with_term
-    divided dividing all_free kept retold coprime completion.degree mixes_degrees waits beside
-    put_pair with_new covers settled tidying.next without drop_from tail_or tail_from tailing
-    dropping ahead put_by_lead by_lead less same plus lcm left Algebra.times Algebra.shift
+    next_cut next_division all_free free_part retold coprime completion.degree mixes_degrees waits
+    beside
+    put_pair with_new covers skip_covered tidying.next without drop_from tail_or tail_from next_tail
+    next_drop ahead put_by_lead by_lead less same plus lcm excess Algebra.times Algebra.shift
     Algebra.negate evaluate sum_over monomial_at power fraction Fraction.sum Fraction.product
     Fraction.opposite Fraction.inverse is_lowest reduce gcd
 ends = refl

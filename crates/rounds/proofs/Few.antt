@@ -8,7 +8,7 @@ use Rattle.numbers.specs.Fraction.{Fraction, ℚ, rationals}
 use Rattle.polynomials.specs.Order.{grevlex, blocks}
 use Rattle.polynomials.specs.Terms.{Terms, variables, compose}
 use Rattle.machines.specs.Collect.{collect}
-use Rattle.machines.specs.Elimination.{kept}
+use Rattle.machines.specs.Elimination.{free_part}
 use Rattle.machines.proofs.Lengths.{made, NothingKept, kept_made}
 use Rattle.rounds.specs.Form.{Form, front, normal, passes, passing, form_before, late_order, orbit_front, orbit_list, orbit_order, front_since, list_since, relations, turn_before, turn_front, turn_list, unwound_by}
 use Rattle.rounds.specs.Graph.{less, at_before}
@@ -21,7 +21,7 @@ less_few (x ∷ xs) (y ∷ ys) = let h = less_few xs ys in omega (arith, h)
 
 module _ (f : Form) (m : ℕ) (gs : List (Terms Fraction)) where
   abbrev HasFew : ℕ → ℕ → Type 0
-  HasFew d n = length (kept (front_since d f m)
+  HasFew d n = length (free_part (front_since d f m)
       (made rationals (front_since d f m) (list_since d f m gs))) ≤ n
 
   whole : HasFew 0 (length gs)
@@ -32,7 +32,7 @@ module _ (f : Form) (m : ℕ) (gs : List (Terms Fraction)) where
       let b = length-map gs (unwound_by f m) in
       omega (arith, a, b)
 
-  pub whole_few : f.since ≡ 0 → length (kept (orbit_front f m)
+  pub whole_few : f.since ≡ 0 → length (free_part (orbit_front f m)
       (made rationals (orbit_front f m) (orbit_list f m gs))) ≤ length gs
   whole_few e = subst (λ d. HasFew d (length gs)) (sym e) whole
 
@@ -57,12 +57,13 @@ module _ (f : Form) (m : ℕ) (gs : List (Terms Fraction)) where
       let all = kept_made rationals (k + t) (ks ++ map (normal O r) ds) us
       (all_not_kept (k + t) r (k + (t + m)) (omega arith) (omega arith)) in
       let e = length-append ks (map (normal O r) ds) in
-      let z : length (kept (k + t) (made rationals (k + t) ((ks ++ map (normal O r) ds) ++ us)))
+      let z : length
+      (free_part (k + t) (made rationals (k + t) ((ks ++ map (normal O r) ds) ++ us)))
       ≤ length gs + m = omega (arith, all, e, j, n) in
-      subst (λ l. length (kept (k + t) (made rationals (k + t) l)) ≤ length gs + m)
+      subst (λ l. length (free_part (k + t) (made rationals (k + t) l)) ≤ length gs + m)
       (append_assoc ks (map (normal O r) ds) us) z
 
-  pub orbit_few : length f.polys ≡ m → length (kept (orbit_front f m)
+  pub orbit_few : length f.polys ≡ m → length (free_part (orbit_front f m)
       (made rationals (orbit_front f m) (orbit_list f m gs))) ≤ length gs + m
   orbit_few count = go f.since
     where
@@ -71,7 +72,8 @@ module _ (f : Form) (m : ℕ) (gs : List (Terms Fraction)) where
       go (suc d) = late d count
 
   pub turn_few : (images : List (Terms Fraction)) → length images ≡ m
-      → length (kept (turn_front f m) (made rationals (turn_front f m) (turn_list f m images gs)))
+      → length (free_part (turn_front f m) (made rationals (turn_front f m)
+      (turn_list f m images gs)))
       ≤ length gs + m
   unfolding NothingKept
   turn_few images count =
@@ -88,7 +90,9 @@ module _ (f : Form) (m : ℕ) (gs : List (Terms Fraction)) where
       images) in
       let e = length-map images (at_before 0 t m before) in
       let g = length-map gs (λ g. compose ℚ (0 + t + m) g before) in
-      let none : length (kept t (made rationals t (turn_list f m images gs ++ []))) ≡ length (kept t
-      (made rationals t (turn_list f m images gs))) = ap (λ l. length (kept t (made rationals t l)))
+      let none : length (free_part t (made rationals t (turn_list f m images gs ++ [])))
+      ≡ length (free_part t
+      (made rationals t (turn_list f m images gs))) =
+      ap (λ l. length (free_part t (made rationals t l)))
       (append-nil (turn_list f m images gs)) in
       omega (arith, all, a, b, c, d, e, g, none, count)

@@ -24,12 +24,12 @@ use Rattle.loops.specs.Program.{Expr, Program}
 use Rattle.loops.specs.Run.{IsState}
 use Rattle.loops.proofs.Maps.{length-variables}
 use Rattle.rounds.specs.Word.{after_word}
-use Rattle.rounds.specs.Orbit.{turned, IsPoints, IsFormAt, at_point, Padded, IsIndependent, IsEliminated}
+use Rattle.rounds.specs.Orbit.{state_after, IsPoints, IsFormAt, at_point, Padded, IsIndependent, IsEliminated}
 use Rattle.rounds.specs.Round.{IsOrbitAt}
 use Rattle.rounds.proofs.Orbit.{value_turned, value_at_point, arity-at_point}
 use Rattle.rounds.proofs.BranchTurns.{turned_keeps}
 use Rattle.rounds.proofs.Word.{arity-after_word}
-use Rattle.rounds.specs.Graph.{IsBefore, put, less, at_before, graph_list, AreWide}
+use Rattle.rounds.specs.Graph.{IsBefore, images_behind, less, at_before, graph_list, AreWide}
 use Rattle.rounds.proofs.Congruent.{member_congruent}
 
 -- ---- lists
@@ -103,12 +103,12 @@ split_same w x y a c =
 
 -- ---- what is put for the variables
 module _ (k w : ℕ) where
-  pub put_arity : (us : List (Terms Fraction)) → AllArity w us → AllArity w (put k w us)
+  pub put_arity : (us : List (Terms Fraction)) → AllArity w us → AllArity w (images_behind k w us)
   put_arity us a = each-append (Arity w) (take k (variables ℚ w)) us
       (each-take (Arity w) k (variables ℚ w) (arity-variables w ℚ)) a
 
   pub put_at : (us : List (Terms Fraction)) (s : List Fraction) → length s ≡ w
-      → map (λ q. at q s) (put k w us) ≡ take k s ++ map (λ q. at q s) us
+      → map (λ q. at q s) (images_behind k w us) ≡ take k s ++ map (λ q. at q s) us
   put_at us s l = map-append (λ q. at q s) (take k (variables ℚ w)) us
       ∙ ap (λ z. z ++ map (λ q. at q s) us) (map-take k (variables ℚ w) s
       ∙ ap (take k) (value_at-variables ℚ_ring w s l))
@@ -142,7 +142,8 @@ module _ {At : Type 0} (program : Program (Expr At)) (i k t : ℕ) (point : ℕ 
 
   there_arity : AllArity w there
   there_arity = each-map (Arity w) (at_before k t m before) fs
-      (each_of (λ f. Arity w (at_before k t m before f)) (λ f. arity-compose w ℚ f (put k w before)
+      (each_of (λ f. Arity w (at_before k t m before f))
+      (λ f. arity-compose w ℚ f (images_behind k w before)
       (put_arity k w before was.arities)) fs)
 
   elements_arity : AllArity w elements
@@ -186,7 +187,7 @@ module _ {At : Type 0} (program : Program (Expr At)) (i k t : ℕ) (point : ℕ 
       fs)))
 
   abbrev place : ℕ → List Fraction → List Fraction
-  place n s = point n ++ (map (λ c. at c s) copied ++ turned program i (times n) s)
+  place n s = point n ++ (map (λ c. at c s) copied ++ state_after program i (times n) s)
 
   forms_at : (n : ℕ) (s : List Fraction) → IsState program s → (es : List (Terms Fraction))
       → map (λ q. at q s) (map (at_point k m point n) es) ≡ map (λ f. at f (point n ++ s)) es
@@ -210,11 +211,11 @@ module _ {At : Type 0} (program : Program (Expr At)) (i k t : ℕ) (point : ℕ 
       ∙ omega arith
 
   place-drop : (n : ℕ) (s : List Fraction) → IsState program s → drop (k + t) (place n s)
-      ≡ turned program i (times n) s
+      ≡ state_after program i (times n) s
   place-drop n s is =
       ap (drop (k + t))
-      (sym (append_assoc (point n) (map (λ c. at c s) copied) (turned program i (times n) s)))
-      ∙ drop_at (point n ++ map (λ c. at c s) copied) (turned program i (times n) s) (k + t)
+      (sym (append_assoc (point n) (map (λ c. at c s) copied) (state_after program i (times n) s)))
+      ∙ drop_at (point n ++ map (λ c. at c s) copied) (state_after program i (times n) s) (k + t)
       (length-append (point n) _ ∙ ap₂ ◌+◌ (points.size n) (length-map copied _ ∙ was.count))
 
   place-take : (n : ℕ) (s : List Fraction) → take k (place n s) ≡ point n
@@ -270,7 +271,7 @@ module _ {At : Type 0} (program : Program (Expr At)) (i k t : ℕ) (point : ℕ 
       ≡ map (λ f. at f (point n ++ s)) es
   there_at n s is [] = refl
   there_at n s is (e ∷ es) = ap₂ ◌∷◌
-      (value_at-compose ℚ_ring w e (put k w before) (place n s)
+      (value_at-compose ℚ_ring w e (images_behind k w before) (place n s)
       ∙ ap (at e) (put_at k w before (place n s) (place-length n s is)
       ∙ ap₂ ◌++◌ (place-take n s) (was.was n s is)))
       (there_at n s is es)
@@ -287,12 +288,12 @@ module _ {At : Type 0} (program : Program (Expr At)) (i k t : ℕ) (point : ℕ 
   relations_there n [] h = tt
   relations_there n (x ∷ xs) h = (
     zero_there n x (λ s is. All-head (λ r. at r (place n s) ≡ ℚ.zero) x xs
-        (h (map (λ c. at c s) copied ++ turned program i (times n) s) (rest_length n s is))),
+        (h (map (λ c. at c s) copied ++ state_after program i (times n) s) (rest_length n s is))),
     relations_there n xs (λ y l. All-tail (λ r. at r (point n ++ y) ≡ ℚ.zero) x xs (h y l)),
   )
     where
       rest_length : (n : ℕ) (s : List Fraction) → IsState program s
-          → length (map (λ c. at c s) copied ++ turned program i (times n) s) ≡ t + m
+          → length (map (λ c. at c s) copied ++ state_after program i (times n) s) ≡ t + m
       rest_length n s is = length-append (map (λ c. at c s) copied) _ ∙ ap₂ ◌+◌ (length-map copied _
           ∙ was.count) (turned_keeps program i (times n) s is)
 
@@ -317,7 +318,7 @@ module _ {At : Type 0} (program : Program (Expr At)) (i k t : ℕ) (point : ℕ 
 
   -- ---- to the list
   abbrev back : List (Terms Fraction)
-  back = put k (k + t + length program.names) before
+  back = images_behind k (k + t + length program.names) before
 
   back_arity : AllArity w back
   back_arity = put_arity k w before was.arities

@@ -12,7 +12,7 @@ use Rattle.polynomials.specs.Order.{grevlex, blocks}
 use Rattle.polynomials.proofs.Orders.{grevlex_order}
 use Rattle.machines.proofs.ReducedLists.{reduced_arity}
 use Rattle.ideals.specs.Members.{IsMember}
-use Rattle.machines.specs.Elimination.{kept, blend}
+use Rattle.machines.specs.Elimination.{free_part, blend}
 use Rattle.machines.specs.Event.{Event}
 use Rattle.machines.specs.Journal.{Entry}
 use Rattle.machines.specs.Reduced.{IsReducedFor}
@@ -26,8 +26,8 @@ use Rattle.rounds.specs.Generate.{IsMeet}
 use Rattle.rounds.specs.Round as rounds
 use Rattle.rounds.specs.Round.{IsAfter, IsSoFar, IsClosed, IsRound}
 use Rattle.rounds.specs.Orbit.{IsEliminated}
-use Rattle.rounds.specs.Analysis.{Setting, Work, starts, turn, turn_meet, orbit, meet, State, fresh, working, closing, turning, asking, Step, goes, finished, answered, form_of, turns_of, block, order, starting, turned, ending, test, closing_from, begin_turn, begin_orbit, begin_meet, after_turns, begin_branch, after_branch, after_orbit, after, worked, machine_of, list_at, divided, closed_by, asked_by, first_step, next, moved, moves}
-use Rattle.rounds.specs.Results.{LeadsTo, Worked, IsReducedList, Laws}
+use Rattle.rounds.specs.Analysis.{Setting, Work, starts, turn, turn_meet, orbit, meet, State, fresh, working, closing, turning, asking, Step, goes, finished, answered, form_of, turns_of, block, order, starting, pullback, after_closing, test, closing_from, begin_turn, begin_orbit, begin_meet, after_turns, begin_branch, after_branch, after_orbit, after, next_work, machine_of, list_at, after_test, closed_by, asked_by, first_step, next, move_of, moves}
+use Rattle.rounds.specs.Results.{LeadsTo, EndsWork, IsReducedList, Laws}
 use Rattle.rounds.proofs.Invariants.{reduced_for}
 use Rattle.rounds.proofs.Parts.{own_list, no_turns, first_so_far, later_turns, one_turn_more, met_turn, met_orbit, to_next_branch}
 use Rattle.rounds.proofs.Round.{closed_generates}
@@ -101,7 +101,7 @@ module _ {At : Type 0} (program : Program (Expr At)) (nonempty : 0 < length prog
     pub branch : b < length program.branches
     pub element : i < length gs
     pub divides : LeadsTo (division.next rationals grevlex gs)
-        (division.begun gs (turned A b (get_or gs i []))) s
+        (division.initial_state gs (pullback A b (get_or gs i []))) s
 
   pub record InAsking (k : ℕ) (gs : List (Terms Fraction)) (s : division.State Fraction) : Type
       0 where
@@ -109,7 +109,8 @@ module _ {At : Type 0} (program : Program (Expr At)) (nonempty : 0 < length prog
     pub closed : IsClosed program gs
     pub polynomial : Terms Fraction
     pub is_asked : A.asked ≡ Some polynomial
-    pub divides : LeadsTo (division.next rationals grevlex gs) (division.begun gs polynomial) s
+    pub divides : LeadsTo (division.next rationals grevlex gs)
+        (division.initial_state gs polynomial) s
 
   unfoldable pub Sound : State → Type 0
   Sound fresh = Unit {0}
@@ -125,7 +126,7 @@ module _ {At : Type 0} (program : Program (Expr At)) (nonempty : 0 < length prog
 
   -- ---- closing tests
   ending_sound : (k : ℕ) (gs : List (Terms Fraction)) → Found k gs → IsClosed program gs
-      → (o : Option (Terms Fraction)) → A.asked ≡ o → SoundStep (ending A o k gs)
+      → (o : Option (Terms Fraction)) → A.asked ≡ o → SoundStep (after_closing A o k gs)
   unfolding SoundStep Sound
   ending_sound k gs f c None h = (f, c, h)
   ending_sound k gs f c (Some p) h = record {
@@ -133,7 +134,7 @@ module _ {At : Type 0} (program : Program (Expr At)) (nonempty : 0 < length prog
     closed = c;
     polynomial = p;
     is_asked = h;
-    divides = comes_here (division.next rationals grevlex gs) (division.begun gs p);
+    divides = comes_here (division.next rationals grevlex gs) (division.initial_state gs p);
   }
 
   test_sound : (k b i : ℕ) (gs : List (Terms Fraction)) → Found k gs → Before gs b i
@@ -145,7 +146,7 @@ module _ {At : Type 0} (program : Program (Expr At)) (nonempty : 0 < length prog
     branch = lb;
     element = li;
     divides = comes_here (division.next rationals grevlex gs)
-        (division.begun gs (turned A b (get_or gs i [])));
+        (division.initial_state gs (pullback A b (get_or gs i [])));
   }
 
   -- past the last element: all before and of branch b
@@ -201,7 +202,7 @@ module _ {At : Type 0} (program : Program (Expr At)) (nonempty : 0 < length prog
       done (inr h) = inr (last h)
 
       inner : (o : Bool) → (ltb 0 (length gs) && ltb (suc b) (length A.forms)) ≡ o → length gs ≤ i
-          → SoundStep (cond o (test A k (suc b) 0 gs) (ending A A.asked k gs))
+          → SoundStep (cond o (test A k (suc b) 0 gs) (after_closing A A.asked k gs))
       inner true h l =
           let both = and_parts (ltb 0 (length gs)) (ltb (suc b) (length A.forms)) h in
           test_sound k (suc b) 0 gs f (next_branch gs b i l before) (let n =
@@ -215,7 +216,7 @@ module _ {At : Type 0} (program : Program (Expr At)) (nonempty : 0 < length prog
       outer : (o : Bool) → ltb i (length gs) ≡ o
           → SoundStep
           (cond o (test A k b i gs) (cond (ltb 0 (length gs) && ltb (suc b) (length A.forms))
-          (test A k (suc b) 0 gs) (ending A A.asked k gs)))
+          (test A k (suc b) 0 gs) (after_closing A A.asked k gs)))
       outer true h = test_sound k b i gs f before lb (ltb-true i (length gs) h)
       outer false h = inner (ltb 0 (length gs) && ltb (suc b) (length A.forms)) refl
           (ltb-false i (length gs) h)
@@ -322,7 +323,7 @@ module _ {At : Type 0} (program : Program (Expr At)) (nonempty : 0 < length prog
   after_orbit_sound k zero (suc d) gs so_far hs e c o = orbit_met k 0 gs so_far hs c o
   after_orbit_sound k (suc b) (suc d) gs so_far hs e c o = orbit_met k (suc b) gs so_far hs c o
 
-  after_sound : (x : Work) → Context x → (e : Worked A x)
+  after_sound : (x : Work) → Context x → (e : EndsWork A x)
       → SoundStep (after A x (list_at A x e.last))
   unfolding after Context block starting SoundStep Sound Works
   after_sound starts c made =
@@ -385,15 +386,17 @@ module _ {At : Type 0} (program : Program (Expr At)) (nonempty : 0 < length prog
 
   -- ---- in a task
   working_sound : (x : Work) (s : elimination.State Fraction) → Context x → Works x s
-      → SoundStep (worked A x s (elimination.next rationals (order A x) grevlex (kept (block A x))
+      → SoundStep (next_work A x s (elimination.next rationals (order A x) grevlex
+      (free_part (block A x))
       s))
   unfolding SoundStep Sound Works
-  working_sound x s c t = go (elimination.next rationals (order A x) grevlex (kept (block A x)) s)
+  working_sound x s c t = go (elimination.next rationals (order A x) grevlex (free_part (block A x))
+      s)
       refl
     where
       go : (o : Option (Event × elimination.State Fraction))
-          → elimination.next rationals (order A x) grevlex (kept (block A x)) s ≡ o
-          → SoundStep (worked A x s o)
+          → elimination.next rationals (order A x) grevlex (free_part (block A x)) s ≡ o
+          → SoundStep (next_work A x s o)
       go None h = after_sound x c (record { events = t.events; last = s; run = t.run; ended = h })
       go (Some (e, u)) h = (c, comes_longer (machine_of A x).next (machine_of A x).start s u e t h)
 
@@ -404,7 +407,7 @@ module _ {At : Type 0} (program : Program (Expr At)) (nonempty : 0 < length prog
   closed_sound k b i gs s c = go (division.next rationals grevlex gs s) refl
     where
       decided : HasEnded (division.next rationals grevlex gs) s → (o : Option (Terms Fraction))
-          → s.current ≡ o → SoundStep (divided A k b i gs o)
+          → s.current ≡ o → SoundStep (after_test A k b i gs o)
       decided h None e = closing_sound k b (suc i) gs c.found (record {
         passed = λ d j q lj.
             passed d j q lj;
@@ -459,7 +462,7 @@ module _ {At : Type 0} (program : Program (Expr At)) (nonempty : 0 < length prog
         branch = c.branch;
         element = c.element;
         divides = comes_longer (division.next rationals grevlex gs)
-            (division.begun gs (turned A b (get_or gs i []))) s t e c.divides h;
+            (division.initial_state gs (pullback A b (get_or gs i []))) s t e c.divides h;
       }
 
   asked_sound : (k : ℕ) (gs : List (Terms Fraction)) (s : division.State Fraction) → InAsking k gs s
@@ -476,7 +479,7 @@ module _ {At : Type 0} (program : Program (Expr At)) (nonempty : 0 < length prog
         polynomial = c.polynomial;
         is_asked = c.is_asked;
         divides = comes_longer (division.next rationals grevlex gs)
-            (division.begun gs c.polynomial) s t e c.divides h;
+            (division.initial_state gs c.polynomial) s t e c.divides h;
       }
 
   first_sound : (o : Option (List (Terms Fraction))) → A.given ≡ o → SoundStep (first_step A o)
@@ -507,7 +510,7 @@ module _ {At : Type 0} (program : Program (Expr At)) (nonempty : 0 < length prog
   state_of None = fresh
   state_of (Some x) = x.1
 
-  moved_sound : (x : Step) → SoundStep x → (e : Entry) (u : State) → moved A x ≡ Some (e, u)
+  moved_sound : (x : Step) → SoundStep x → (e : Entry) (u : State) → move_of A x ≡ Some (e, u)
       → Sound u
   unfolding SoundStep state_of
   moved_sound (goes f t) h e u is = subst Sound (ap state_of is) h
@@ -569,7 +572,8 @@ module _ {At : Type 0} (program : Program (Expr At)) (nonempty : 0 < length prog
       let a = answered_round es t k gs d r e in
       let q : Terms Fraction = a.0.polynomial in
       let same : q ≡ p = polynomial_of (A.asked) q p a.0.is_asked is in
-      let run = subst (λ x. LeadsTo (division.next rationals grevlex gs) (division.begun gs x) d)
+      let run =
+      subst (λ x. LeadsTo (division.next rationals grevlex gs) (division.initial_state gs x) d)
       same a.0.divides in
       let member = laws.answers gs p d a.0.found.reduced h run a.1 in
       let g = closed_generates program I nonempty k gs a.0.found.round a.0.closed in

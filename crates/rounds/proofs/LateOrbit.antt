@@ -14,7 +14,7 @@ use Rattle.polynomials.proofs.Arity.{arity-append, arity-negate}
 use Rattle.polynomials.proofs.Orders.{grevlex_order, blocks_order}
 use Rattle.polynomials.proofs.Same.{Same-sym}
 use Rattle.polynomials.proofs.ValueAt.{value_at_same, value_at-append, value_at-negate}
-use Rattle.turns.specs.Expo.{normalized}
+use Rattle.turns.specs.Expo.{with_normal_keys}
 use Rattle.turns.specs.Turns as turns
 use Rattle.turns.specs.Turns.{point, width, IsItself}
 use Rattle.loops.specs.Map.{branch_map}
@@ -121,7 +121,7 @@ module _ (bs : List ℕ) (c : Coprime bs) (x : ℕ) where
 
     normal_arity : (p : Terms Fraction) → Arity w p → Arity w (normal O r p)
     normal_arity p a = subst (λ n. Arity n (normal O r p)) wide-is
-        ((collect-polynomial ℚ_field O order (width r x) (normalized r p)
+        ((collect-polynomial ℚ_field O order (width r x) (with_normal_keys r p)
         (arity-normalized r x p (subst (λ n. Arity n p) (sym wide-is) a))).arity)
 
     pub normals_arity : (ps : List (Terms Fraction)) → AllArity (front (length bs) + x) ps
@@ -136,7 +136,8 @@ module _ (bs : List ℕ) (c : Coprime bs) (x : ℕ) where
     normals_alike [] a = tt
     normals_alike (p ∷ ps) a = (
       (λ n s l.
-          value_at_same ℚ_ring _ _ (point bs n s) (collect-same ℚ_field O order (normalized r p))
+          value_at_same ℚ_ring _ _ (point bs n s) (collect-same ℚ_field O order
+          (with_normal_keys r p))
           ∙ normal-value bs c x p (subst (λ j. Arity j p) (sym wide-is) a.0) n s),
       normals_alike ps a.1,
     )
@@ -280,7 +281,7 @@ module _ {At : Type 0} (program : Program (Expr At)) (b since : ℕ) (f : Form)
       subst (λ n. IsPolynomial ℚ O n (normal O (length f.base) p)) (wide-is f.base coprime (t + m) O
           order)
           (collect-polynomial ℚ_field O order (width (length f.base) (t + m))
-          (normalized (length f.base) p) (arity-normalized (length f.base) (t + m) p
+          (with_normal_keys (length f.base) p) (arity-normalized (length f.base) (t + m) p
           (subst (λ n. Arity n p) (sym (wide-is f.base coprime (t + m) O order)) a.0))),
       normal_each ps a.1,
     )

@@ -16,7 +16,7 @@ use Rattle.polynomials.proofs.ValueAt.{value_at_same}
 use Rattle.ideals.specs.Members.{IsMember}
 use Rattle.machines.specs.Basis.{AtPlaces, IsBasisOf}
 use Rattle.machines.specs.Collect.{collect}
-use Rattle.machines.specs.Elimination.{all_free, kept, in_front, blend}
+use Rattle.machines.specs.Elimination.{all_free, free_part, in_front, blend}
 use Rattle.machines.specs.Reduced.{IsReducedFor}
 use Rattle.machines.specs.Completion as completion
 use Rattle.machines.specs.Elimination as elimination
@@ -35,9 +35,9 @@ use Rattle.rounds.specs.Word.{after_turn}
 use Rattle.rounds.specs.Orbit.{IsEliminated}
 use Rattle.rounds.specs.Start.{start_list}
 use Rattle.rounds.specs.Form.{Form, orbit_front, turn_front, IsClosedForm}
-use Rattle.rounds.specs.Analysis.{Setting, Work, starts, turn, turn_meet, orbit, meet, block, order, starting, list_at, turned}
+use Rattle.rounds.specs.Analysis.{Setting, Work, starts, turn, turn_meet, orbit, meet, block, order, starting, list_at, pullback}
 use Rattle.rounds.specs.Journal.{setting_from, AreForms}
-use Rattle.rounds.specs.Results.{IsBranch, Worked, IsReducedList, IsOverWork, Laws}
+use Rattle.rounds.specs.Results.{IsBranch, EndsWork, IsReducedList, IsOverWork, Laws}
 use Rattle.machines.proofs.Collecting.{collect-polynomial, collect-same}
 use Rattle.ideals.proofs.FractionMembers.{member_same}
 use Rattle.polynomials.proofs.ByValues.{same_by_values}
@@ -65,10 +65,10 @@ unfolding all_free same
 nothing-free [] = refl
 nothing-free (t ∷ p) = nothing-free p
 
-pub kept-nothing : (gs : List (Terms Fraction)) → kept 0 gs ≡ gs
-unfolding kept
+pub kept-nothing : (gs : List (Terms Fraction)) → free_part 0 gs ≡ gs
+unfolding free_part
 kept-nothing [] = refl
-kept-nothing (g ∷ gs) = ap (λ o. cond o (retold (λ e. e) g ∷ kept 0 gs) (kept 0 gs))
+kept-nothing (g ∷ gs) = ap (λ o. cond o (retold (λ e. e) g ∷ free_part 0 gs) (free_part 0 gs))
     (nothing-free g) ∙ ap₂ ◌∷◌ (retold_itself g) (kept-nothing gs)
 
 nothing-front : (p : Terms Fraction) → in_front 0 p ≡ p
@@ -103,13 +103,13 @@ module _ (m : ℕ) (hs gs list : List (Terms Fraction)) (ph : AtPlaces (IsPolyno
 module _ (k m : ℕ) (hs basis gs list : List (Terms Fraction))
     (ph : AtPlaces (IsPolynomial ℚ (blocks k grevlex grevlex) (k + m)) hs)
     (b : IsBasisOf rationals (blocks k grevlex grevlex) (k + m) basis hs)
-    (es : List Event) (c : IsRun (tidying.next rationals grevlex) (kept k basis) es list)
+    (es : List Event) (c : IsRun (tidying.next rationals grevlex) (free_part k basis) es list)
     (e : HasEnded (tidying.next rationals grevlex) list) (is : gs ≡ tidying.by_lead grevlex
     list) where
-  kb : IsBasisOf rationals grevlex m (kept k basis) (kept k basis)
+  kb : IsBasisOf rationals grevlex m (free_part k basis) (free_part k basis)
   kb = kept_basis ℚ_field k m grevlex grevlex grevlex_order grevlex_order basis hs ph b
 
-  in_block : (p : Terms Fraction) → Arity m p → IsMember ℚ m (kept k basis) p
+  in_block : (p : Terms Fraction) → Arity m p → IsMember ℚ m (free_part k basis) p
       ↔ IsMember ℚ (k + m) hs (in_front k p)
   in_block p a =
       let q : Terms Fraction = collect rationals grevlex p in
@@ -117,9 +117,10 @@ module _ (k m : ℕ) (hs basis gs list : List (Terms Fraction))
       q (collect-polynomial ℚ_field grevlex grevlex_order m p a) in (
         (λ i. member_same (k + m) hs (in_front k q) (in_front k p)
             (Same-sym ℚ (in_front_collected k m p a))
-            (both.0 (member_same m (kept k basis) p q (collect-same ℚ_field grevlex grevlex_order
+            (both.0 (member_same m (free_part k basis) p q (collect-same ℚ_field grevlex
+            grevlex_order
             p) i))),
-        (λ i. member_same m (kept k basis) q p
+        (λ i. member_same m (free_part k basis) q p
             (Same-sym ℚ (collect-same ℚ_field grevlex grevlex_order p))
             (both.1 (member_same (k + m) hs (in_front k p) (in_front k q)
             (in_front_collected k m p a) i))),
@@ -127,21 +128,22 @@ module _ (k m : ℕ) (hs basis gs list : List (Terms Fraction))
 
   work_eliminates : IsEliminated k m hs gs
   work_eliminates = record {
-    arities = made_arity m (kept k basis) gs list kb.polynomials kb es c e is;
+    arities = made_arity m (free_part k basis) gs list kb.polynomials kb es c e is;
     only = λ p a i.
-        (in_block p a).0 ((made_members m (kept k basis) gs list kb.polynomials kb es c e is p a).0
+        (in_block p a).0 ((made_members m (free_part k basis) gs list kb.polynomials kb es c e is p
+        a).0
         i);
-    all = λ p a i. (made_members m (kept k basis) gs list kb.polynomials kb es c e is p a).1
+    all = λ p a i. (made_members m (free_part k basis) gs list kb.polynomials kb es c e is p a).1
         ((in_block p a).1 i);
   }
 
   work_reduces : IsReducedList m gs
-  work_reduces = made_reduced m (kept k basis) gs list kb.polynomials kb es c e is
+  work_reduces = made_reduced m (free_part k basis) gs list kb.polynomials kb es c e is
 
 -- ---- the first work, which eliminates nothing
 module _ (m : ℕ) (hs basis gs list : List (Terms Fraction)) (ha : AllArity m hs)
     (ph : AtPlaces (IsPolynomial ℚ grevlex m) hs) (b : IsBasisOf rationals grevlex m basis hs)
-    (es : List Event) (c : IsRun (tidying.next rationals grevlex) (kept 0 basis) es list)
+    (es : List Event) (c : IsRun (tidying.next rationals grevlex) (free_part 0 basis) es list)
     (e : HasEnded (tidying.next rationals grevlex) list) (is : gs ≡ tidying.by_lead grevlex
     list) where
   itself : IsBasisOf rationals grevlex m basis basis
@@ -260,18 +262,19 @@ module _ {At : Type 0} (program : Program (Expr At)) (given : Option (List (Term
       (map_turns program given forms asked b l))
 
   -- ---- what works end with
-  parts : (w : Work) (e : Worked A w) → Parts rationals (order A w) grevlex (kept (block A w))
-      (completion.begun rationals (order A w) (starting A w)) e.last
-  parts w e = parts_of rationals (order A w) grevlex (kept (block A w))
-      (completion.begun rationals (order A w) (starting A w)) e.last e.events e.run e.ended
+  parts : (w : Work) (e : EndsWork A w)
+      → Parts rationals (order A w) grevlex (free_part (block A w))
+      (completion.initial_state rationals (order A w) (starting A w)) e.last
+  parts w e = parts_of rationals (order A w) grevlex (free_part (block A w))
+      (completion.initial_state rationals (order A w) (starting A w)) e.last e.events e.run e.ended
 
   -- a work that eliminates d variables
   ended : (d : ℕ) (xs : List (Terms Fraction)) (t : elimination.State Fraction)
-      → Parts rationals (blocks d grevlex grevlex) grevlex (kept d)
-      (completion.begun rationals (blocks d grevlex grevlex) xs) t
+      → Parts rationals (blocks d grevlex grevlex) grevlex (free_part d)
+      (completion.initial_state rationals (blocks d grevlex grevlex) xs) t
       → AtPlaces (IsPolynomial ℚ (blocks d grevlex grevlex) (d + m)) xs
-      → IsEliminated d m xs (elimination.list_of grevlex (kept d) t)
-      × IsReducedList m (elimination.list_of grevlex (kept d) t)
+      → IsEliminated d m xs (elimination.list_of grevlex (free_part d) t)
+      × IsReducedList m (elimination.list_of grevlex (free_part d) t)
   ended d xs t made hp =
       let b = completed ℚ_field (blocks d grevlex grevlex) (blocks_order d grevlex grevlex
       grevlex_order grevlex_order) (d + m) xs hp made.last made.events made.run made.ended in (
@@ -281,7 +284,7 @@ module _ {At : Type 0} (program : Program (Expr At)) (given : Option (List (Term
             made.is,
       )
 
-  both : (w : Work) → IsBranch program w → IsOverWork m w → (e : Worked A w)
+  both : (w : Work) → IsBranch program w → IsOverWork m w → (e : EndsWork A w)
       → IsEliminated (block A w) m (starting A w) (list_at A w e.last)
       × IsReducedList m (list_at A w e.last)
   unfolding block starting first_list
@@ -318,11 +321,11 @@ module _ {At : Type 0} (program : Program (Expr At)) (given : Option (List (Term
     divides = λ gs b i s r lb li c h.
         let g : Terms Fraction = get_or gs i [] in
         let ga : Arity m g = arity_at m gs (list_arity gs r) i in
-        let e = division_decides m gs (turned A b g) c.events s r (turned_polynomial program given
+        let e = division_decides m gs (pullback A b g) c.events s r (turned_polynomial program given
         forms asked b g lb) c.run h in
         let q = turned_same program given forms asked b g ga lb in (
-          (λ n. e.0 (member_same m gs (after_turn program (suc b) g) (turned A b g) q n)),
-          (λ n. member_same m gs (turned A b g) (after_turn program (suc b) g) (Same-sym ℚ q)
+          (λ n. e.0 (member_same m gs (after_turn program (suc b) g) (pullback A b g) q n)),
+          (λ n. member_same m gs (pullback A b g) (after_turn program (suc b) g) (Same-sym ℚ q)
               (e.1 n)),
         );
     start_members = λ p a. start_members p;

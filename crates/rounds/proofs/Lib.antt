@@ -41,3 +41,4 @@ pub mod Orbits
 pub mod Parts
 pub mod Whole
 pub mod Resets
+pub mod StartOrder

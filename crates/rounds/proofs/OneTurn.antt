@@ -25,7 +25,7 @@ use Rattle.loops.specs.Run.{IsState}
 use Rattle.loops.proofs.Maps.{branch_map_values, length-branch_map, arity-branch_map}
 use Rattle.rounds.specs.Word.{branch_of}
 use Rattle.rounds.specs.Form.{Form, copies, passing, at_minus_one, turn_before, turn_graph}
-use Rattle.rounds.specs.Orbit.{turned, IsPoints, IsFormAt, IsIndependent, Padded, IsEliminated}
+use Rattle.rounds.specs.Orbit.{state_after, IsPoints, IsFormAt, IsIndependent, Padded, IsEliminated}
 use Rattle.rounds.specs.Graph.{IsBefore, AreWide}
 use Rattle.rounds.specs.Round.{IsOrbitAt}
 use Rattle.rounds.proofs.BranchTurns.{bm, turned_keeps, form_count}
@@ -72,8 +72,8 @@ module _ {At : Type 0} (program : Program (Expr At)) (b since : ℕ) (f : Form)
   zero_plus = omega arith
 
   one_turn : (s : List Fraction) → IsState program s → turns.turns (bm program b) 1 s
-      ≡ turned program b 1 s
-  unfolding turned
+      ≡ state_after program b 1 s
+  unfolding state_after
   one_turn s st = branch_map_values program (branch_of program b) s st
 
   map_at : IsFormAt program b 0 no_point (λ n. 1) (bm program b)
@@ -101,11 +101,11 @@ module _ {At : Type 0} (program : Program (Expr At)) (b since : ℕ) (f : Form)
 
   stays_back : (s : List Fraction) → IsState program s → (j : ℕ) → j < length backs
       → passes (0 + j) ≡ false
-      → at (get_or backs j []) ([] ++ turned program b 1 s) ≡ get_or s (0 + j) ℚ.zero
+      → at (get_or backs j []) ([] ++ state_after program b 1 s) ≡ get_or s (0 + j) ℚ.zero
   stays_back s st j l kept =
-      sym (get_or-map (λ q. at q (turned program b 1 s)) backs j [] ℚ.zero l)
+      sym (get_or-map (λ q. at q (state_after program b 1 s)) backs j [] ℚ.zero l)
       ∙ ap (λ z. get_or z j ℚ.zero)
-      (minus_one_value (turned program b 1 s) (turned_keeps program b 1 s st) f.polys
+      (minus_one_value (state_after program b 1 s) (turned_keeps program b 1 s st) f.polys
       ∙ ap (λ y. values_at f.polys (back_point f.base 1 y)) (sym (one_turn s st))
       ∙ back_to_zero f.base coprime (bm program b) since f.polys is 1 s (st ∙ sym size))
       ∙ (stays j (let e = length-map f.polys (at_minus_one f m) in let q = polys-length in
@@ -132,7 +132,7 @@ module _ {At : Type 0} (program : Program (Expr At)) (b since : ℕ) (f : Form)
     copies = all_copies_arity m passes;
     arities = before_arity 0 t m passes backs 0 0;
     was = λ n s st.
-        before_values 0 t m passes [] (map (λ c. at c s) told) s (turned program b 1 s) refl
+        before_values 0 t m passes [] (map (λ c. at c s) told) s (state_after program b 1 s) refl
         (length-map told _) st (turned_keeps program b 1 s st) backs 0 0
         (let q = backs-length in omega (arith, q))
         (ap (λ n. map (λ c. at c s) (copies m passes 0 n)) backs-length)

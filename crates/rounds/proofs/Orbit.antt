@@ -24,7 +24,7 @@ use Rattle.loops.specs.Run.{effect, IsState}
 use Rattle.loops.proofs.Maps.{value_after_branch, effect_keeps_state}
 use Rattle.rounds.specs.Word.{branch_of, after_word}
 use Rattle.rounds.specs.Round.{IsOrbit}
-use Rattle.rounds.specs.Orbit.{turned, IsPoints, IsForm, at_point, AreRelations, Padded, IsIndependent, Unwinds, IsEliminated}
+use Rattle.rounds.specs.Orbit.{state_after, IsPoints, IsForm, at_point, AreRelations, Padded, IsIndependent, Unwinds, IsEliminated}
 use Rattle.ideals.proofs.FractionMembers.{member_same, member_nil, member_at, member_turned}
 use Rattle.polynomials.proofs.ByValues.{same_by_values}
 use Rattle.machines.proofs.Padding.{at, arity-pad, arity-padded, value_at-pad}
@@ -32,8 +32,8 @@ use Rattle.rounds.proofs.Word.{arity-after_word}
 
 module _ {At : Type 0} (program : Program (Expr At)) (i : ℕ) where
   pub value_turned : (n : ℕ) (p : Terms Fraction) (s : List Fraction) → IsState program s
-      → at (after_word program (replicate n i) p) s ≡ at p (turned program i n s)
-  unfolding after_word turned
+      → at (after_word program (replicate n i) p) s ≡ at p (state_after program i n s)
+  unfolding after_word state_after
   value_turned zero p s is = refl
   value_turned (suc n) p s is = value_after_branch program (after_word program (replicate n i) p)
       (branch_of program i) s is

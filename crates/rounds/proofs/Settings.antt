@@ -8,7 +8,7 @@ use Rattle.numbers.specs.Fraction.{Fraction, rationals, fractions}
 use Rattle.polynomials.specs.Terms.{Terms}
 use Rattle.polynomials.specs.Order.{grevlex}
 use Rattle.machines.specs.Collect.{collect}
-use Rattle.machines.specs.Elimination.{kept}
+use Rattle.machines.specs.Elimination.{free_part}
 use Rattle.machines.specs.Event.{Event}
 use Rattle.machines.specs.Journal.{Entry, Begin}
 use Rattle.machines.specs.Journal as journal
@@ -16,7 +16,7 @@ use Rattle.machines.specs.Past as machine
 use Rattle.machines.specs.Run.{IsRun}
 use Rattle.machines.specs.Elimination as elimination
 use Rattle.machines.specs.Division as division
-use Rattle.rounds.specs.Analysis.{Setting, Work, starts, turn, turn_meet, orbit, meet, State, fresh, working, closing, turning, asking, Step, goes, finished, answered, form_of, turns_of, block, order, starting, begun, closing_from, begin_turn, begin_orbit, begin_meet, after_turns, begin_branch, after_branch, after_orbit, after, worked, divided, closed_by, asked_by, first_step, next, moved, moves}
+use Rattle.rounds.specs.Analysis.{Setting, Work, starts, turn, turn_meet, orbit, meet, State, fresh, working, closing, turning, asking, Step, goes, finished, answered, form_of, turns_of, block, order, starting, start_of, closing_from, begin_turn, begin_orbit, begin_meet, after_turns, begin_branch, after_branch, after_orbit, after, next_work, after_test, closed_by, asked_by, first_step, next, move_of, moves}
 use Rattle.rounds.specs.Past.{IsPastStarting, IsPastEvent, IsPastTask, IsPast}
 use Rattle.rounds.proofs.SameForms.{same_block, same_order}
 
@@ -43,9 +43,10 @@ module _ (A : Setting) (ss : List (Terms Fraction)) (alike : map (collect ration
   same_starting (orbit k b gs so_far) = refl
   same_starting (meet k b gs so_far hs) = refl
 
-  same_begun : (w : Work) → begun B w ≡ begun A w
-  same_begun w = ap (λ O. working w (elimination.begun rationals O (starting B w)))
-      (same_order A B refl refl w) ∙ ap (λ l. working w (elimination.begun rationals (order A w) l))
+  same_begun : (w : Work) → start_of B w ≡ start_of A w
+  same_begun w = ap (λ O. working w (elimination.initial_state rationals O (starting B w)))
+      (same_order A B refl refl w)
+      ∙ ap (λ l. working w (elimination.initial_state rationals (order A w) l))
       (same_starting w)
 
   same_closing : (k b i : ℕ) (gs : List (Terms Fraction)) → closing_from B k b i gs ≡ closing_from A
@@ -101,19 +102,19 @@ module _ (A : Setting) (ss : List (Terms Fraction)) (alike : map (collect ration
   same_after (meet k b gs so_far hs) ls = same_branch k b gs ls
 
   same_working : (w : Work) (s : elimination.State Fraction)
-      → worked B w s (elimination.next rationals (order B w) grevlex (kept (block B w)) s)
-      ≡ worked A w s (elimination.next rationals (order A w) grevlex (kept (block A w)) s)
+      → next_work B w s (elimination.next rationals (order B w) grevlex (free_part (block B w)) s)
+      ≡ next_work A w s (elimination.next rationals (order A w) grevlex (free_part (block A w)) s)
   same_working w s =
-      ap (λ O. worked B w s (elimination.next rationals O grevlex (kept (block B w)) s))
+      ap (λ O. next_work B w s (elimination.next rationals O grevlex (free_part (block B w)) s))
       (same_order A B refl refl w)
-      ∙ ap (λ k. worked B w s (elimination.next rationals (order A w) grevlex (kept k) s))
+      ∙ ap (λ k. next_work B w s (elimination.next rationals (order A w) grevlex (free_part k) s))
       (same_block A B refl refl w)
-      ∙ go (elimination.next rationals (order A w) grevlex (kept (block A w)) s)
+      ∙ go (elimination.next rationals (order A w) grevlex (free_part (block A w)) s)
     where
-      go : (o : Option (Event × elimination.State Fraction)) → worked B w s o ≡ worked A w s o
-      go None = ap (λ k. after B w (elimination.list_of grevlex (kept k) s))
+      go : (o : Option (Event × elimination.State Fraction)) → next_work B w s o ≡ next_work A w s o
+      go None = ap (λ k. after B w (elimination.list_of grevlex (free_part k) s))
           (same_block A B refl refl w)
-          ∙ same_after w (elimination.list_of grevlex (kept (block A w)) s)
+          ∙ same_after w (elimination.list_of grevlex (free_part (block A w)) s)
       go (Some (e, t)) = refl
 
   same_closed : (k b i : ℕ) (gs : List (Terms Fraction)) (s : division.State Fraction)
@@ -121,7 +122,7 @@ module _ (A : Setting) (ss : List (Terms Fraction)) (alike : map (collect ration
       gs s o
   same_closed k b i gs s None = rest s.current
     where
-      rest : (o : Option (Terms Fraction)) → divided B k b i gs o ≡ divided A k b i gs o
+      rest : (o : Option (Terms Fraction)) → after_test B k b i gs o ≡ after_test A k b i gs o
       rest None = same_closing k b (suc i) gs
       rest (Some q) = refl
   same_closed k b i gs s (Some (e, t)) = refl
@@ -143,7 +144,7 @@ module _ (A : Setting) (ss : List (Terms Fraction)) (alike : map (collect ration
   alike_next (turning k gs) = same_turns k 0 0 gs gs gs
   alike_next (asking k gs s) = same_asking k gs s (division.next rationals grevlex gs s)
 
-  same_moved : (x : Step) → moved B x ≡ moved A x
+  same_moved : (x : Step) → move_of B x ≡ move_of A x
   same_moved (goes e s) = refl
   same_moved (finished k gs) = refl
   same_moved (answered k gs s) = refl
@@ -154,7 +155,7 @@ module _ (A : Setting) (ss : List (Terms Fraction)) (alike : map (collect ration
   alike_run [] s t r = r
   alike_run (e ∷ es) s t r = (
     r.0,
-    same_moved (next B s) ∙ ap (moved A) (alike_next s)
+    same_moved (next B s) ∙ ap (move_of A) (alike_next s)
         ∙ r.1,
     alike_run es r.0 t r.2,
   )
@@ -190,9 +191,9 @@ module _ (A : Setting) (ss : List (Terms Fraction)) (alike : map (collect ration
   past_event : (s : State) → IsPastEvent A s → IsPastEvent B s
   past_event fresh p = p
   past_event (working w s) p =
-      subst (λ O. machine.IsPastElimination fractions rationals O (kept (block B w)) s)
+      subst (λ O. machine.IsPastElimination fractions rationals O (free_part (block B w)) s)
       (sym (same_order A B refl refl w))
-      (subst (λ k. machine.IsPastElimination fractions rationals (order A w) (kept k) s)
+      (subst (λ k. machine.IsPastElimination fractions rationals (order A w) (free_part k) s)
       (sym (same_block A B refl refl w)) p)
   past_event (closing k b i gs s) p = p
   past_event (turning k gs) p = p

@@ -19,7 +19,7 @@ use Rattle.machines.proofs.Collecting.{collect-polynomial, collect-same}
 use Rattle.loops.specs.Map.{branch_map}
 use Rattle.loops.specs.Program.{Expr, Program, Statement}
 use Rattle.loops.proofs.Maps.{arity-branch_map}
-use Rattle.rounds.specs.Analysis.{Setting, turned}
+use Rattle.rounds.specs.Analysis.{Setting, pullback}
 use Rattle.rounds.specs.Form.{Form}
 use Rattle.rounds.specs.Journal.{setting_from}
 use Rattle.rounds.specs.Orbit.{IsFormAt}
@@ -61,7 +61,7 @@ module _ {At : Type 0} (program : Program (Expr At)) (given : Option (List (Term
   map_arity b = arity-branch_map program (get_or program.branches b [])
 
   unfolded : (b : ℕ) (g : Terms Fraction) → b < length program.branches
-      → turned A b g ≡ collect rationals grevlex
+      → pullback A b g ≡ collect rationals grevlex
       (compose ℚ m g (map (collect rationals grevlex) (the_map b)))
   unfolding the_map
   unfolded b g l = ap (λ maps. collect rationals grevlex (compose ℚ m g maps))
@@ -69,13 +69,13 @@ module _ {At : Type 0} (program : Program (Expr At)) (given : Option (List (Term
 
   pub turned_polynomial : (b : ℕ) (g : Terms Fraction) → b < length program.branches
       → IsPolynomial ℚ grevlex (length program.names)
-      (turned (setting_from program given forms asked) b g)
+      (pullback (setting_from program given forms asked) b g)
   turned_polynomial b g l = subst (IsPolynomial ℚ grevlex m) (sym (unfolded b g l))
       (collect-polynomial ℚ_field grevlex grevlex_order m _
       (arity-compose m ℚ g _ (collected_arity (the_map b) (map_arity b))))
 
   pub turned_same : (b : ℕ) (g : Terms Fraction) → Arity (length program.names) g
-      → b < length program.branches → Same ℚ (turned (setting_from program given forms asked) b g)
+      → b < length program.branches → Same ℚ (pullback (setting_from program given forms asked) b g)
       (after_turn program (suc b) g)
   unfolding the_map
   turned_same b g a l = subst (λ x. Same ℚ x (after_turn program (suc b) g)) (sym (unfolded b g l))

@@ -11,8 +11,8 @@ use Rattle.rings.proofs.RingLaws as L
 use Rattle.rings.proofs.Sums.{sum-nil, sum-cons}
 use Rattle.polynomials.specs.Exponent.{plus}
 use Rattle.polynomials.specs.Terms.{monomial_at}
-use Rattle.exponentials.specs.Base.{Coprime, Fits}
-use Rattle.exponentials.specs.Keys.{Key, IsNormalKey, top, rest, left, parity, normal_key}
+use Rattle.exponentials.specs.Base.{Coprime, SameLength}
+use Rattle.exponentials.specs.Keys.{Key, IsNormalKey, top, rest, excess, parity, normal_key}
 use Rattle.exponentials.proofs.PowerProducts.{lower, lower_comm, lower-left}
 use Rattle.exponentials.proofs.Monomial.{power-mul, power-one}
 use Rattle.exponentials.proofs.Points.{term-value}
@@ -77,17 +77,18 @@ module _ {A : Type 0} (R : CommRing A) (gs : List A) where
       (inverse_congruent us vs h.1 e))
 
   common_congruent : (us vs : List A) → AllZip (λ u v. Near (u ⊗ v) 𝟙) us vs → (bs d e : List ℕ)
-      → Fits bs d → Fits bs e → Near (mon us d ⊗ mon vs e) (mon us (left d e) ⊗ mon vs (left e d))
+      → SameLength bs d → SameLength bs e
+      → Near (mon us d ⊗ mon vs e) (mon us (excess d e) ⊗ mon vs (excess e d))
   common_congruent us vs h bs d e p q =
       let k = lower d e in
       congruent_same R gs
-      (ap₂ ◌⊗◌ (ap (mon us) (sym (lower-left bs d e p q)) ∙ monomial-plus R us k (left d e))
+      (ap₂ ◌⊗◌ (ap (mon us) (sym (lower-left bs d e p q)) ∙ monomial-plus R us k (excess d e))
       (ap (mon vs) (sym (lower-left bs e d q p)
-      ∙ ap (λ z. plus z (left e d)) (lower_comm e d)) ∙ monomial-plus R vs k (left e d))
-      ∙ L.mul_swap R (mon us k) (mon us (left d e)) (mon vs k) (mon vs (left e d)))
-      (sym (L.one-mul R (mon us (left d e) ⊗ mon vs (left e d))))
+      ∙ ap (λ z. plus z (excess e d)) (lower_comm e d)) ∙ monomial-plus R vs k (excess e d))
+      ∙ L.mul_swap R (mon us k) (mon us (excess d e)) (mon vs k) (mon vs (excess e d)))
+      (sym (L.one-mul R (mon us (excess d e) ⊗ mon vs (excess e d))))
       (congruent_mul R gs (mon us k ⊗ mon vs k) 𝟙 _ _ (inverse_congruent us vs h k)
-      (congruent_refl R gs (mon us (left d e) ⊗ mon vs (left e d))))
+      (congruent_refl R gs (mon us (excess d e) ⊗ mon vs (excess e d))))
 
   -- the value of a monomial in n, s, u and v
   abbrev place_of_lists : A → A → List A → List A → Place → A

@@ -23,7 +23,7 @@ use Rattle.polynomials.proofs.ValueAt.{value_at_same, value_at-append, value_at-
 use Rattle.exponentials.specs.Base.{Coprime}
 use Rattle.turns.specs.Turns as turns
 use Rattle.turns.specs.Turns.{point, back_point, width}
-use Rattle.turns.specs.Expo.{normalized, turned_back}
+use Rattle.turns.specs.Expo.{with_normal_keys, backward_terms}
 use Rattle.turns.proofs.OneForm.{back_is_inverse}
 use Rattle.turns.proofs.Operations.{point-append, back-value, normal-value, turned_value}
 use Rattle.turns.proofs.Lengths.{arity-normalized, arity-turned_back}
@@ -35,7 +35,7 @@ use Rattle.loops.specs.Map.{branch_map}
 use Rattle.loops.proofs.Maps.{length-branch_map}
 use Rattle.polynomials.proofs.Arity.{arity_at}
 use Rattle.rounds.specs.Word.{branch_of}
-use Rattle.rounds.specs.Orbit.{turned, IsForm, at_point, Unwinds}
+use Rattle.rounds.specs.Orbit.{state_after, IsForm, at_point, Unwinds}
 use Rattle.rounds.specs.Form.{Form, front, point_of, relations}
 use Rattle.machines.proofs.Collecting.{collect-polynomial, collect-same}
 use Rattle.ideals.proofs.FractionMembers.{member_same, member_nil, member_at, member_members, member_append, member_left, member_right, member_turned}
@@ -86,7 +86,7 @@ module _ {At : Type 0} (program : Program (Expr At)) (b : ℕ) (f : Form) (copri
   fs_arity_w = subst (λ n. AllArity n f.polys) (width-is r m) fs_arity
 
   forward : (n : ℕ) (s : List Fraction) → length s ≡ m → map (λ p. at p (point f.base n s)) f.polys
-      ≡ turned program b n s
+      ≡ state_after program b n s
   forward n s l = closed.values n s (l ∙ sym size) (omega arith) ∙ turns-are program b n s l
 
   pub form_of_closed : IsForm program b (front (length f.base)) (point_of f.base) f.polys
@@ -98,7 +98,7 @@ module _ {At : Type 0} (program : Program (Expr At)) (b : ℕ) (f : Form) (copri
 
   -- the state after n turns, back
   backward_turns : (n : ℕ) (s : List Fraction) → length s ≡ m
-      → map (λ p. at p (back_point f.base n (turned program b n s))) f.polys ≡ s
+      → map (λ p. at p (back_point f.base n (state_after program b n s))) f.polys ≡ s
   backward_turns n s l = ap (λ x. map (λ p. at p (back_point f.base n x)) f.polys)
       (sym (turns-are program b n s l)) ∙ back_is_inverse f.base coprime (bm program b) f.polys
       closed n s (l ∙ sym size)
@@ -107,19 +107,19 @@ module _ {At : Type 0} (program : Program (Expr At)) (b : ℕ) (f : Form) (copri
   count =
       let s : List Fraction = map (λ x. ℚ.zero) program.names in
       let l : length s ≡ m = length-map program.names _ in
-      sym (length-map f.polys (λ p. at p (back_point f.base 0 (turned program b 0 s))))
+      sym (length-map f.polys (λ p. at p (back_point f.base 0 (state_after program b 0 s))))
       ∙ ap length (backward_turns 0 s l) ∙ l
 
   -- ---- the form backward
   backs : List (Terms Fraction)
-  backs = map (λ p. collect rationals grevlex (turned_back r p)) f.polys
+  backs = map (λ p. collect rationals grevlex (backward_terms r p)) f.polys
 
   backs_each : (us : List (Terms Fraction)) → AllArity (width r m) us
-      → AllArity w (map (λ p. collect rationals grevlex (turned_back r p)) us)
+      → AllArity w (map (λ p. collect rationals grevlex (backward_terms r p)) us)
   unfolding Each
   backs_each [] a = tt
   backs_each (p ∷ us) a = (
-    to_w _ ((collect-polynomial ℚ_field grevlex grevlex_order (width r m) (turned_back r p)
+    to_w _ ((collect-polynomial ℚ_field grevlex grevlex_order (width r m) (backward_terms r p)
         (arity-turned_back r m p a.0)).arity),
     backs_each us a.1,
   )
@@ -129,13 +129,14 @@ module _ {At : Type 0} (program : Program (Expr At)) (b : ℕ) (f : Form) (copri
   backs_arity = backs_each f.polys fs_arity
 
   back_values : (us : List (Terms Fraction)) → AllArity (width r m) us → (n : ℕ) (s : List Fraction)
-      → map (λ p. at p (point f.base n s)) (map (λ p. collect rationals grevlex (turned_back r p))
+      → map (λ p. at p (point f.base n s))
+      (map (λ p. collect rationals grevlex (backward_terms r p))
       us) ≡ map (λ p. at p (back_point f.base n s)) us
   unfolding Each
   back_values [] a n s = refl
   back_values (p ∷ us) a n s =
       ap₂ ◌∷◌ (value_at_same ℚ_ring _ _ (point f.base n s) (collect-same ℚ_field grevlex
-      grevlex_order (turned_back r p)) ∙ back-value f.base coprime m p a.0 n s)
+      grevlex_order (backward_terms r p)) ∙ back-value f.base coprime m p a.0 n s)
       (back_values us a.1 n s)
 
   backs_at : (n : ℕ) (s : List Fraction) → map (λ p. at p (point f.base n s)) backs
@@ -235,7 +236,7 @@ module _ {At : Type 0} (program : Program (Expr At)) (b : ℕ) (f : Form) (copri
       ∙ ap₂ ◌+◌ (length-powers _) l)) ∙ omega arith
 
   twice_back : (p : Terms Fraction) → Arity (width r m) p → (n : ℕ) (s : List Fraction)
-      → at (turned_back r p) (back_point f.base n s) ≡ at p (point f.base n s)
+      → at (backward_terms r p) (back_point f.base n s) ≡ at p (point f.base n s)
   twice_back p a n s =
       turned_value f.base coprime m s (ℚ.neg (whole (pos n))) (turns.sign n)
       (λ b. power ℚ (inverse (whole (pos b))) n) (λ b. power ℚ (whole (pos b)) n) p a
@@ -250,28 +251,28 @@ module _ {At : Type 0} (program : Program (Expr At)) (b : ℕ) (f : Form) (copri
   gone_back n s = map (λ p. at p (back_point f.base n s)) f.polys
 
   one_back : (p v : Terms Fraction) → Arity (width r m) p → Arity w v → ((n : ℕ) (s : List Fraction)
-      → length s ≡ m → at p (back_point f.base n (turned program b n s))
+      → length s ≡ m → at p (back_point f.base n (state_after program b n s))
       ≡ at v (point f.base n s))
       → (n : ℕ) (s : List Fraction) → length s ≡ m → at p (point f.base n (gone_back n s))
       ≡ at v (back_point f.base n s)
   unfolding rs
   one_back p v a c h n s l =
       let q : List Fraction = back_point f.base n s in
-      let e : Terms Fraction = compose ℚ w (turned_back r p) (fronts ++ f.polys) in
-      let ea : Arity w e = arity-compose w ℚ (turned_back r p) (fronts ++ f.polys)
+      let e : Terms Fraction = compose ℚ w (backward_terms r p) (fronts ++ f.polys) in
+      let ea : Arity w e = arity-compose w ℚ (backward_terms r p) (fronts ++ f.polys)
       (images_arity f.polys fs_arity_w) in
       let d : Terms Fraction = e ++ negate ℚ v in
       let i : IsMember ℚ w rs d = zero_member d (arity-append w e _ ea (arity-negate w ℚ v c))
       (λ n s l. difference_zero e v (point f.base n s)
-      (value_at-compose ℚ_ring w (turned_back r p) (fronts ++ f.polys) (point f.base n s)
-      ∙ ap (at (turned_back r p)) (images_at_point f.polys n s l
+      (value_at-compose ℚ_ring w (backward_terms r p) (fronts ++ f.polys) (point f.base n s)
+      ∙ ap (at (backward_terms r p)) (images_at_point f.polys n s l
       ∙ ap (point f.base n) (forward n s l))
-      ∙ back-value f.base coprime m p a n (turned program b n s) ∙ h n s l)) in
+      ∙ back-value f.base coprime m p a n (state_after program b n s) ∙ h n s l)) in
       let zero : at d q ≡ ℚ.zero = value_at_same ℚ_ring d (combination ℚ i.cofactors rs) q i.is
       ∙ combination_zero ℚ_ring i.cofactors rs q (zero_at_back_points f.base coprime m n s l) in
       let is : at e q ≡ at p (point f.base n (gone_back n s)) =
-      value_at-compose ℚ_ring w (turned_back r p) (fronts ++ f.polys) q
-      ∙ ap (at (turned_back r p)) (images_at f.polys q (length-back_point n s l)
+      value_at-compose ℚ_ring w (backward_terms r p) (fronts ++ f.polys) q
+      ∙ ap (at (backward_terms r p)) (images_at f.polys q (length-back_point n s l)
       ∙ back-take n s (gone_back n s)) ∙ twice_back p a n (gone_back n s) in
       sym is ∙ eq_of_sub ℚ_ring (at e q) (at v q)
       (ap (ℚ.add (at e q)) (sym (value_at-negate ℚ_ring v q))
@@ -279,7 +280,7 @@ module _ {At : Type 0} (program : Program (Expr At)) (b : ℕ) (f : Form) (copri
 
   all_back : (us vs : List (Terms Fraction)) → AllArity (width r m) us → AllArity w vs
       → ((n : ℕ) (s : List Fraction) → length s ≡ m
-      → map (λ p. at p (back_point f.base n (turned program b n s))) us
+      → map (λ p. at p (back_point f.base n (state_after program b n s))) us
       ≡ map (λ p. at p (point f.base n s)) vs)
       → (n : ℕ) (s : List Fraction) → length s ≡ m
       → map (λ p. at p (point f.base n (gone_back n s))) us
@@ -310,18 +311,19 @@ module _ {At : Type 0} (program : Program (Expr At)) (b : ℕ) (f : Form) (copri
   O_order = blocks_order k grevlex grevlex grevlex_order grevlex_order
 
   abbrev unwound : Terms Fraction → Terms Fraction
-  unwound g = collect rationals O (normalized r (compose ℚ w g backs))
+  unwound g = collect rationals O (with_normal_keys r (compose ℚ w g backs))
 
   unwound_arity : (g : Terms Fraction) → Arity w (unwound g)
   unwound_arity g =
-      to_w _ ((collect-polynomial ℚ_field O O_order (width r m) (normalized r (compose ℚ w g backs))
+      to_w _ ((collect-polynomial ℚ_field O O_order (width r m)
+      (with_normal_keys r (compose ℚ w g backs))
       (arity-normalized r m _ (from_w _ (arity-compose w ℚ g backs backs_arity)))).arity)
 
   unwound_at : (g : Terms Fraction) (n : ℕ) (s : List Fraction) → at (unwound g) (point f.base n s)
       ≡ at g (gone_back n s)
   unwound_at g n s =
       value_at_same ℚ_ring _ _ (point f.base n s) (collect-same ℚ_field O O_order
-      (normalized r (compose ℚ w g backs)))
+      (with_normal_keys r (compose ℚ w g backs)))
       ∙ normal-value f.base coprime m (compose ℚ w g backs)
       (from_w _ (arity-compose w ℚ g backs backs_arity)) n s
       ∙ value_at-compose ℚ_ring w g backs (point f.base n s) ∙ ap (at g) (backs_at n s)
@@ -367,12 +369,13 @@ module _ {At : Type 0} (program : Program (Expr At)) (b : ℕ) (f : Form) (copri
         (zero_at_points f.base coprime m n s l)
 
     -- ---- from the starting list
-    turned_length : (n : ℕ) (s : List Fraction) → length s ≡ m → length (turned program b n s) ≡ m
+    turned_length : (n : ℕ) (s : List Fraction) → length s ≡ m → length (state_after program b n s)
+        ≡ m
     turned_length n s l = turned_keeps program b n s l
 
     forward_images : (h : Terms Fraction) (n : ℕ) (s : List Fraction) → length s ≡ m
         → at (compose ℚ w h (fronts ++ f.polys)) (point f.base n s)
-        ≡ at h (point f.base n (turned program b n s))
+        ≡ at h (point f.base n (state_after program b n s))
     forward_images h n s l = value_at-compose ℚ_ring w h (fronts ++ f.polys) (point f.base n s)
         ∙ ap (at h) (images_at_point f.polys n s l ∙ ap (point f.base n) (forward n s l))
 
@@ -399,7 +402,8 @@ module _ {At : Type 0} (program : Program (Expr At)) (b : ℕ) (f : Form) (copri
         ∙ ap (at e) (point-append f.base n s) ∙ h s l)
 
     forward_member : (h g : Terms Fraction) → Arity w h → Arity m g → IsMember ℚ m gs g
-        → ((n : ℕ) (s : List Fraction) → length s ≡ m → at h (point f.base n (turned program b n s))
+        → ((n : ℕ) (s : List Fraction) → length s ≡ m
+        → at h (point f.base n (state_after program b n s))
         ≡ at g s)
         → IsMember ℚ w (map (in_front k) gs ++ rs) (compose ℚ w h (fronts ++ f.polys))
     forward_member h g a c i at_h = padded_member (compose ℚ w h (fronts ++ f.polys))
@@ -414,7 +418,7 @@ module _ {At : Type 0} (program : Program (Expr At)) (b : ℕ) (f : Form) (copri
     lefts [] a i = tt
     lefts (u ∷ us) a i = (
       forward_member (unwound u) u (unwound_arity u) a.0 i.0 (λ n s l.
-          unwound_at u n (turned program b n s) ∙ ap (at u) (backward_turns n s l)),
+          unwound_at u n (state_after program b n s) ∙ ap (at u) (backward_turns n s l)),
       lefts us a.1 i.1,
     )
 
@@ -427,9 +431,9 @@ module _ {At : Type 0} (program : Program (Expr At)) (b : ℕ) (f : Form) (copri
     rights (u ∷ us) a z = (
       forward_member (collect rationals O u) []
           ((collect-polynomial ℚ_field O O_order w u a.0).arity) tt (member_nil m gs)
-          (λ n s l. value_at_same ℚ_ring _ _ (point f.base n (turned program b n s))
+          (λ n s l. value_at_same ℚ_ring _ _ (point f.base n (state_after program b n s))
           (collect-same ℚ_field O O_order u)
-          ∙ (z n (turned program b n s) (turned_length n s l)).0),
+          ∙ (z n (state_after program b n s) (turned_length n s l)).0),
       rights us a.1 (λ n s l. (z n s l).1),
     )
 
@@ -531,9 +535,9 @@ module _ {At : Type 0} (program : Program (Expr At)) (b : ℕ) (f : Form) (copri
     pub starting_polynomials : Each (IsPolynomial ℚ (blocks (front (length f.base)) grevlex grevlex)
         (front (length f.base) + length program.names))
         (map (λ g. collect rationals (blocks (front (length f.base)) grevlex grevlex)
-        (normalized (length f.base)
+        (with_normal_keys (length f.base)
         (compose ℚ (front (length f.base) + length program.names) g
-        (map (λ p. collect rationals grevlex (turned_back (length f.base) p))
+        (map (λ p. collect rationals grevlex (backward_terms (length f.base) p))
         f.polys)))) gs
         ++ map (collect rationals (blocks (front (length f.base)) grevlex grevlex))
         (relations (length f.base) (length program.names)))
@@ -543,9 +547,9 @@ module _ {At : Type 0} (program : Program (Expr At)) (b : ℕ) (f : Form) (copri
     pub closed_form_unwinds : Unwinds (front (length f.base)) (length program.names) f.polys
         (relations (length f.base) (length program.names)) gs
         (map (λ g. collect rationals (blocks (front (length f.base)) grevlex grevlex)
-        (normalized (length f.base)
+        (with_normal_keys (length f.base)
         (compose ℚ (front (length f.base) + length program.names) g
-        (map (λ p. collect rationals grevlex (turned_back (length f.base) p))
+        (map (λ p. collect rationals grevlex (backward_terms (length f.base) p))
         f.polys)))) gs
         ++ map (collect rationals (blocks (front (length f.base)) grevlex grevlex))
         (relations (length f.base) (length program.names)))

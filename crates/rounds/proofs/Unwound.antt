@@ -16,7 +16,7 @@ use Rattle.polynomials.proofs.Past.{composition_under}
 use Rattle.polynomials.proofs.Same.{Same-trans}
 use Rattle.polynomials.proofs.Weight.{composition-pos}
 use Rattle.machines.proofs.Collecting.{collect-is, collect-same}
-use Rattle.turns.specs.Expo.{normalized}
+use Rattle.turns.specs.Expo.{with_normal_keys}
 use Rattle.turns.proofs.Lengths.{arity-normalized}
 use Rattle.turns.proofs.Retold.{same_normalized}
 use Rattle.rounds.specs.Form.{Form, front, normal, orbit_order, form_backward, unwound_by}
@@ -34,8 +34,8 @@ module _ (f : Form) (m : ℕ) (backs : AllArity (front (length f.base) + m) (for
   abbrev composed : Terms Fraction
   composed = compose ℚ w g (form_backward f)
 
-  normal_arity : Arity w (normalized r composed)
-  normal_arity = subst (λ n. Arity n (normalized r composed)) (width-is r m)
+  normal_arity : Arity w (with_normal_keys r composed)
+  normal_arity = subst (λ n. Arity n (with_normal_keys r composed)) (width-is r m)
       (arity-normalized r m composed (subst (λ n. Arity n composed) (sym (width-is r m))
       (arity-compose w ℚ g (form_backward f) backs)))
 
@@ -47,9 +47,9 @@ module _ (f : Form) (m : ℕ) (backs : AllArity (front (length f.base) + m) (for
       → p ≡ unwound_by f m g
   unwound_is moved normals p s e t h =
       collect-is ℚ_field (orbit_order r) (blocks_order (front r) grevlex grevlex grevlex_order
-      grevlex_order) w (normalized r composed) p normal_arity h
+      grevlex_order) w (with_normal_keys r composed) p normal_arity h
       (Same-trans ℚ (subst (Same ℚ p) e t)
-      (Same-trans ℚ (collect-same ℚ_field grevlex grevlex_order (normalized r moved))
+      (Same-trans ℚ (collect-same ℚ_field grevlex grevlex_order (with_normal_keys r moved))
       (same_normalized ℚ_ring r moved composed s)))
 
   pub unwound_past : (moved : Terms Fraction) → IsPolynomial ℚ grevlex (front (length f.base) + m)

@@ -18,7 +18,7 @@ use Rattle.polynomials.proofs.ByValues.{same_by_values}
 use Rattle.polynomials.proofs.ValueAt.{value_at-append, value_at-times, value_at-negate, value_at-constant, value_at-compose, value_at-variables}
 use Rattle.turns.specs.Turns as turns
 use Rattle.turns.specs.Turns.{point, values_at, IsItself}
-use Rattle.turns.specs.Expo.{turned_back}
+use Rattle.turns.specs.Expo.{backward_terms}
 use Rattle.turns.proofs.Operations.{point-append}
 use Rattle.turns.proofs.OneForm.{backward_to_zero}
 use Rattle.machines.proofs.Padding.{at, inner-is, inner_arity, inner_at}
@@ -27,11 +27,11 @@ use Rattle.loops.specs.Map.{branch_map}
 use Rattle.loops.specs.Run.{IsState}
 use Rattle.loops.proofs.Maps.{length-branch_map, length-variables}
 use Rattle.rounds.specs.Word.{branch_of}
-use Rattle.rounds.specs.Form.{Form, front, point_of, variable_at, relation, relations_to, relations, copies, passing, widened, before_by, form_before}
-use Rattle.rounds.specs.Orbit.{turned, IsFormAt, IsEliminated}
+use Rattle.rounds.specs.Form.{Form, front, point_of, variable_at, relation, relations_to, relations, copies, passing, with_room_for, before_by, form_before}
+use Rattle.rounds.specs.Orbit.{state_after, IsFormAt, IsEliminated}
 use Rattle.rounds.proofs.Independent.{points_of_base, arity_relations}
 use Rattle.rounds.proofs.Relations.{zero_at_points}
-use Rattle.rounds.specs.Graph.{IsBefore, put, at_before, graph_list, AreWide}
+use Rattle.rounds.specs.Graph.{IsBefore, images_behind, at_before, graph_list, AreWide}
 use Rattle.rounds.specs.Round.{IsOrbitAt}
 use Rattle.rounds.proofs.BranchTurns.{bm, turned_keeps, turns-are, form_count}
 use Rattle.rounds.proofs.Graph.{put_arity, put_at, graph_arity, graph_gives_orbit}
@@ -55,9 +55,9 @@ module _ (k t m : ℕ) where
   unfolding last
   last_arity = subst (AllArity w) (inner-is (k + t) m) (inner_arity (k + t) m)
 
-  pub widened_arity : (p : Terms Fraction) → Arity (k + t + m) (widened k t m p)
+  pub widened_arity : (p : Terms Fraction) → Arity (k + t + m) (with_room_for k t m p)
   unfolding last
-  widened_arity p = arity-compose w ℚ p (put k w last) (put_arity k w last last_arity)
+  widened_arity p = arity-compose w ℚ p (images_behind k w last) (put_arity k w last last_arity)
 
   take_first : (x y : List Fraction) → length x ≡ k → take k (x ++ y) ≡ x
   take_first x y l = ap (λ n. take n (x ++ y)) (sym l) ∙ exact x y
@@ -67,13 +67,13 @@ module _ (k t m : ℕ) where
       exact (a ∷ x) y = ap (λ z. a ∷ z) (exact x y)
 
   pub widened_value : (p : Terms Fraction) (x c y : List Fraction) → length x ≡ k → length c ≡ t
-      → length y ≡ m → at (widened k t m p) (x ++ (c ++ y)) ≡ at p (x ++ y)
+      → length y ≡ m → at (with_room_for k t m p) (x ++ (c ++ y)) ≡ at p (x ++ y)
   unfolding last
   widened_value p x c y lx lc ly =
       let s : List Fraction = x ++ (c ++ y) in
       let ls : length s ≡ w = length-append x (c ++ y) ∙ ap₂ ◌+◌ lx (length-append c y
       ∙ ap₂ ◌+◌ lc ly) ∙ omega arith in
-      value_at-compose ℚ_ring w p (put k w last) s
+      value_at-compose ℚ_ring w p (images_behind k w last) s
       ∙ ap (at p) (put_at k w last s ls
       ∙ ap₂ ◌++◌ (take_first x (c ++ y) lx) (ap (map (λ q. at q s)) (sym (inner-is (k + t) m))
       ∙ inner_at (k + t) m s ls ∙ ap (drop (k + t)) (sym (append_assoc x c y))
@@ -126,7 +126,7 @@ module _ (k t m : ℕ) (passes : ℕ → Bool) (x cs s y : List Fraction) (lx : 
       → ((a : ℕ) → a < length ps → passes (i + a) ≡ false → at (get_or ps a []) (x ++ y)
       ≡ get_or s (i + a) ℚ.zero)
       → map (λ b. at b (x ++ (cs ++ y))) (before_by (k + t + m) k passes i j
-      (map (widened k t m) ps)) ≡ drop i s
+      (map (with_room_for k t m) ps)) ≡ drop i s
   before_values [] i j e agree h = sym (nothing_left s i (omega (arith, e, ls)))
     where
       nothing_left : (s : List Fraction) (i : ℕ) → length s ≡ i → drop i s ≡ []
@@ -153,10 +153,10 @@ module _ (k t m : ℕ) (passes : ℕ → Bool) (x cs s y : List Fraction) (lx : 
           (copies m passes (suc i) (length ps))) ≡ drop j cs
           → ((j' : ℕ) → map (λ c. at c s) (copies m passes (suc i) (length ps)) ≡ drop j' cs
           → map (λ b. at b place) (before_by (k + t + m) k passes (suc i) j'
-          (map (widened k t m) ps)) ≡ drop (suc i) s)
+          (map (with_room_for k t m) ps)) ≡ drop (suc i) s)
           → map (λ b. at b place) (cond b (variable_at (k + t + m) (k + j) ∷ before_by (k + t + m) k
-          passes (suc i) (suc j) (map (widened k t m) ps)) (widened k t m p
-          ∷ before_by (k + t + m) k passes (suc i) j (map (widened k t m) ps))) ≡ drop i s
+          passes (suc i) (suc j) (map (with_room_for k t m) ps)) (with_room_for k t m p
+          ∷ before_by (k + t + m) k passes (suc i) j (map (with_room_for k t m) ps))) ≡ drop i s
       go true f q later =
           let r = drop_is cs j (at (variable_at m i) s)
           (map (λ c. at c s) (copies m passes (suc i) (length ps))) (sym q) in
@@ -168,7 +168,7 @@ module _ (k t m : ℕ) (passes : ℕ → Bool) (x cs s y : List Fraction) (lx : 
           ∙ f) ∙ ap (λ n. get_or s n ℚ.zero) zero_more) (later j q) ∙ whole
 
 pub before_arity : (k t m : ℕ) (passes : ℕ → Bool) (ps : List (Terms Fraction)) (i j : ℕ)
-    → AllArity (k + t + m) (before_by (k + t + m) k passes i j (map (widened k t m) ps))
+    → AllArity (k + t + m) (before_by (k + t + m) k passes i j (map (with_room_for k t m) ps))
 unfolding Each
 before_arity k t m passes [] i j = tt
 before_arity k t m passes (p ∷ ps) i j = go (passes i) (before_arity k t m passes ps (suc i))
@@ -176,10 +176,10 @@ before_arity k t m passes (p ∷ ps) i j = go (passes i) (before_arity k t m pas
     go : (b : Bool)
         → ((j : ℕ)
         → AllArity (k + t + m) (before_by (k + t + m) k passes (suc i) j
-        (map (widened k t m) ps)))
+        (map (with_room_for k t m) ps)))
         → AllArity (k + t + m) (cond b (variable_at (k + t + m) (k + j) ∷ before_by (k + t + m) k
-        passes (suc i) (suc j) (map (widened k t m) ps)) (widened k t m p
-        ∷ before_by (k + t + m) k passes (suc i) j (map (widened k t m) ps)))
+        passes (suc i) (suc j) (map (with_room_for k t m) ps)) (with_room_for k t m p
+        ∷ before_by (k + t + m) k passes (suc i) j (map (with_room_for k t m) ps)))
     go true h = (
       arity_at (k + t + m) (variables ℚ (k + t + m)) (arity-variables (k + t + m) ℚ)
           (k + j),
@@ -188,16 +188,18 @@ before_arity k t m passes (p ∷ ps) i j = go (passes i) (before_arity k t m pas
     go false h = (widened_arity k t m p, h j)
 
 pub before_length : (k t m : ℕ) (passes : ℕ → Bool) (ps : List (Terms Fraction)) (i j : ℕ)
-    → length (before_by (k + t + m) k passes i j (map (widened k t m) ps)) ≡ length ps
+    → length (before_by (k + t + m) k passes i j (map (with_room_for k t m) ps)) ≡ length ps
 before_length k t m passes [] i j = refl
 before_length k t m passes (p ∷ ps) i j = go (passes i) (before_length k t m passes ps (suc i))
   where
     go : (b : Bool)
-        → ((j : ℕ) → length (before_by (k + t + m) k passes (suc i) j (map (widened k t m) ps))
+        → ((j : ℕ)
+        → length (before_by (k + t + m) k passes (suc i) j (map (with_room_for k t m) ps))
         ≡ length ps)
         → length (cond b (variable_at (k + t + m) (k + j) ∷ before_by (k + t + m) k passes (suc i)
-        (suc j) (map (widened k t m) ps)) (widened k t m p ∷ before_by (k + t + m) k passes
-        (suc i) j (map (widened k t m) ps))) ≡ suc (length ps)
+        (suc j) (map (with_room_for k t m) ps)) (with_room_for k t m p ∷ before_by (k + t + m) k
+        passes
+        (suc i) j (map (with_room_for k t m) ps))) ≡ suc (length ps)
     go true h = ap suc (h (suc j))
     go false h = ap suc (h j)
 
@@ -234,10 +236,11 @@ module _ (r t m : ℕ) (before : List (Terms Fraction)) (ba : AllArity (front r 
   relation_same i j hi hj = subst (λ n. Same ℚ (at_before k t m before (relation (k + m) i j))
       (relation n i j)) (sym wide-is)
       (same_by_values (k + t + m) _ _ (arity-compose (k + t + m) ℚ (relation (k + m) i j)
-      (put k (k + t + m) before) (put_arity k (k + t + m) before ba))
+      (images_behind k (k + t + m) before) (put_arity k (k + t + m) before ba))
       (relation_arity (k + t + m) i j)
       (λ s l.
-      value_at-compose ℚ_ring (k + t + m) (relation (k + m) i j) (put k (k + t + m) before) s
+      value_at-compose ℚ_ring (k + t + m) (relation (k + m) i j)
+      (images_behind k (k + t + m) before) s
       ∙ ap (at (relation (k + m) i j)) (put_at k (k + t + m) before s l)
       ∙ relation_value (k + m) i j (take k s ++ map (λ q. at q s) before) (long s l) (omega arith)
       (omega arith)
@@ -312,7 +315,7 @@ module _ {At : Type 0} (program : Program (Expr At)) (b since : ℕ) (f : Form)
   size = length-branch_map program (branch_of program b)
 
   form_at : (n : ℕ) (s : List Fraction) → IsState program s
-      → values_at f.polys (point f.base (since + n) s) ≡ turned program b (since + n) s
+      → values_at f.polys (point f.base (since + n) s) ≡ state_after program b (since + n) s
   form_at n s st = is.values (since + n) s (st ∙ sym size) (omega arith)
       ∙ turns-are program b (since + n) s st
 
@@ -341,19 +344,21 @@ module _ {At : Type 0} (program : Program (Expr At)) (b since : ℕ) (f : Form)
   told = copies (length program.names) passes 0 (length program.names)
 
   abbrev backs : List (Terms Fraction)
-  backs = map (turned_back (length f.base)) f.polys
+  backs = map (backward_terms (length f.base)) f.polys
 
   -- a variable that stays, by the form backward
   stays_back : (n : ℕ) (s : List Fraction) → IsState program s → (j : ℕ) → j < length backs
       → passes (0 + j) ≡ false
-      → at (get_or backs j []) (point_of f.base n ++ turned program b n s) ≡ get_or s (0 + j) ℚ.zero
+      → at (get_or backs j []) (point_of f.base n ++ state_after program b n s) ≡ get_or s (0 + j)
+      ℚ.zero
   stays_back n s st j l kept =
-      sym (get_or-map (λ q. at q (point_of f.base n ++ turned program b n s)) backs j [] ℚ.zero l)
+      sym (get_or-map (λ q. at q (point_of f.base n ++ state_after program b n s)) backs j [] ℚ.zero
+      l)
       ∙ ap (λ z. get_or z j ℚ.zero)
-      (ap (λ z. map (λ q. at q z) backs) (point-append f.base n (turned program b n s)
+      (ap (λ z. map (λ q. at q z) backs) (point-append f.base n (state_after program b n s)
       ∙ ap (point f.base n) (sym (turns-are program b n s st)))
       ∙ backward_to_zero f.base coprime (bm program b) since f.polys is n s (st ∙ sym size))
-      ∙ (stays j (let e = length-map f.polys (turned_back (length f.base)) in let q =
+      ∙ (stays j (let e = length-map f.polys (backward_terms (length f.base)) in let q =
       polys-length in omega (arith, e, q, l)) (ap passes plus ∙ kept)).is s st
       ∙ ap (λ n. get_or s n ℚ.zero) plus
     where
@@ -361,7 +366,7 @@ module _ {At : Type 0} (program : Program (Expr At)) (b since : ℕ) (f : Form)
       plus = omega arith
 
   backs-length : length backs ≡ m
-  backs-length = length-map f.polys (turned_back (length f.base)) ∙ polys-length
+  backs-length = length-map f.polys (backward_terms (length f.base)) ∙ polys-length
 
   pub form_before_is : IsBefore program b (front (length f.base)) (passing (length program.names)
       passes) (λ n. point_of f.base (since + n)) (λ n. since + n) (copies (length program.names)
@@ -372,7 +377,7 @@ module _ {At : Type 0} (program : Program (Expr At)) (b since : ℕ) (f : Form)
     arities = before_arity (front (length f.base)) t m passes backs 0 0;
     was = λ n s st.
         before_values (front (length f.base)) t m passes (point_of f.base (since + n))
-        (map (λ c. at c s) told) s (turned program b (since + n) s) (front-length (since + n))
+        (map (λ c. at c s) told) s (state_after program b (since + n) s) (front-length (since + n))
         (length-map told _) st (turned_keeps program b (since + n) s st) backs 0 0
         (let q = backs-length in omega (arith, q))
         (ap (λ n. map (λ c. at c s) (copies m passes 0 n)) backs-length)

@@ -3,17 +3,17 @@
 --                     that of the start list, if one is given, and a polynomial that is asked for, if one is
 --   with_asked p A    the setting A where p is asked for
 --   Work              what a completion and a tidying are for: `gs` is the list of the round before, `so_far` the list so far, which is gs before the first branch,
---                     `before` that of the turns taken so far, `turned` that of one turn more
+--                     `before` that of the turns taken so far, `ks` that of one turn more
 --   block w, order w  how many variables it eliminates, and its order
 --   starting w        the list that it begins with, before zeros are left out and each element is made monic
 --   machine_of w      the elimination that it is;  list_at w s: its list in the state s
---   turned b g, unwound b g     g with the map of branch b, and with its form backward, for the variables; backwards b: that form
+--   pullback b g, unwound b g     g with the map of branch b, and with its form backward, for the variables; backwards b: that form
 --   turns_of b        how many turns of branch b are taken one by one: one less than from which on its form is the state
 --   State             of the analysis; Step: what comes next: an entry, or the end
 --   first_step gs     what comes first: the first task, or what comes when it has ended with the list that is given
 --   next s            what comes next
 --   begin_branch k b gs so_far     the first task of branch b
---   begun w           the state in which a work begins; after w gs: what comes next when it has ended with gs
+--   start_of w           the state in which a work begins; after w gs: what comes next when it has ended with gs
 --   closing_from k b i gs      the closing tests of round k, from branch b and element i on
 --   moves s           the entry that comes next, if one does, and the state after it
 use Rattle.std.specs.Prelude.{ℕ, zero, suc, pred, ◌&&◌, cond, ltb, List, [], map, length, get_or, Option, Some, None}
@@ -23,13 +23,13 @@ use Rattle.polynomials.specs.Order.{Rank, grevlex, blocks}
 use Rattle.machines.specs.Event.{Event}
 use Rattle.machines.specs.Collect.{collect}
 use Rattle.machines.specs.Elimination as elimination
-use Rattle.machines.specs.Elimination.{kept, blend}
+use Rattle.machines.specs.Elimination.{free_part, blend}
 use Rattle.machines.specs.Journal as journal
 use Rattle.machines.specs.Journal.{Entry, Begin, Did}
 use Rattle.machines.specs.Machine.{Machine}
 use Rattle.machines.specs.Machines as machines
 use Rattle.machines.specs.Division as division
-use Rattle.rounds.specs.Form.{Form, form_backward, unwound_by, orbit_front, orbit_list, turn_front, turn_list}
+use Rattle.rounds.specs.Form.{Form, unwound_by, orbit_front, orbit_list, turn_front, turn_list}
 
 pub record Setting : Type 0 where
   pub arity : ℕ
@@ -42,7 +42,7 @@ pub record Setting : Type 0 where
 pub data Work : Type 0 where
   starts : Work
   turn : (k b n : ℕ) (gs before so_far : List (Terms Fraction)) → Work
-  turn_meet : (k b n : ℕ) (gs so_far turned : List (Terms Fraction)) → Work
+  turn_meet : (k b n : ℕ) (gs so_far ks : List (Terms Fraction)) → Work
   orbit : (k b : ℕ) (gs so_far : List (Terms Fraction)) → Work
   meet : (k b : ℕ) (gs so_far orbit : List (Terms Fraction)) → Work
 
@@ -96,9 +96,6 @@ module _ (A : Setting) where
   order (orbit k b gs so_far) = blocks (front_of b) grevlex grevlex
   order (meet k b gs so_far hs) = blocks 1 grevlex grevlex
 
-  abbrev pub backwards : ℕ → List (Terms Fraction)
-  backwards b = form_backward (form_of b)
-
   abbrev pub unwound : ℕ → Terms Fraction → Terms Fraction
   unwound b g = unwound_by (form_of b) A.arity g
 
@@ -110,47 +107,49 @@ module _ (A : Setting) where
   starting (meet k b gs so_far hs) = blend rationals (blocks 1 grevlex grevlex) so_far hs
 
   -- an element with the branch's map for its variables
-  abbrev pub turned : ℕ → Terms Fraction → Terms Fraction
-  turned b g = collect rationals grevlex (compose ℚ A.arity g (get_or A.maps b []))
+  abbrev pub pullback : ℕ → Terms Fraction → Terms Fraction
+  pullback b g = collect rationals grevlex (compose ℚ A.arity g (get_or A.maps b []))
 
   abbrev pub machine_of : Work → Machine (elimination.State Fraction)
-  machine_of w = machines.elimination fractions (order w) grevlex (kept (block w)) (starting w)
+  machine_of w = machines.elimination fractions (order w) grevlex (free_part (block w)) (starting w)
 
   abbrev pub list_at : Work → elimination.State Fraction → List (Terms Fraction)
-  list_at w s = elimination.list_of grevlex (kept (block w)) s
+  list_at w s = elimination.list_of grevlex (free_part (block w)) s
 
-  abbrev pub begun : Work → State
-  begun w = working w (elimination.begun rationals (order w) (starting w))
+  abbrev pub start_of : Work → State
+  start_of w = working w (elimination.initial_state rationals (order w) (starting w))
 
   -- ---- the closing tests of round k, from branch b and element i on
-  abbrev pub ending : Option (Terms Fraction) → ℕ → List (Terms Fraction) → Step
-  ending None k gs = finished k gs
-  ending (Some p) k gs = goes (Begin journal.Member) (asking k gs (division.begun gs p))
+  abbrev pub after_closing : Option (Terms Fraction) → ℕ → List (Terms Fraction) → Step
+  after_closing None k gs = finished k gs
+  after_closing (Some p) k gs =
+      goes (Begin journal.Member) (asking k gs (division.initial_state gs p))
 
   abbrev pub test : ℕ → ℕ → ℕ → List (Terms Fraction) → Step
   test k b i gs =
       goes (Begin (journal.Closed k (suc b) (suc i)))
-      (closing k b i gs (division.begun gs (turned b (get_or gs i []))))
+      (closing k b i gs (division.initial_state gs (pullback b (get_or gs i []))))
 
   unfoldable pub closing_from : ℕ → ℕ → ℕ → List (Terms Fraction) → Step
   closing_from k b i gs =
       cond (ltb i (length gs)) (test k b i gs)
       (cond (ltb 0 (length gs) && ltb (suc b) (length A.forms)) (test k (suc b) 0 gs)
-      (ending A.asked k gs))
+      (after_closing A.asked k gs))
 
   -- ---- what follows a task that has ended with a list
   abbrev pub begin_turn : ℕ → ℕ → ℕ → List (Terms Fraction) → List (Terms Fraction)
       → List (Terms Fraction) → Step
   begin_turn k b n gs before so_far =
-      goes (Begin (journal.Turn k (suc b) (suc n))) (begun (turn k b n gs before so_far))
+      goes (Begin (journal.Turn k (suc b) (suc n))) (start_of (turn k b n gs before so_far))
 
   abbrev pub begin_orbit : ℕ → ℕ → List (Terms Fraction) → List (Terms Fraction) → Step
-  begin_orbit k b gs so_far = goes (Begin (journal.Orbit k (suc b))) (begun (orbit k b gs so_far))
+  begin_orbit k b gs so_far = goes (Begin (journal.Orbit k (suc b)))
+      (start_of (orbit k b gs so_far))
 
   abbrev pub begin_meet : ℕ → ℕ → List (Terms Fraction) → List (Terms Fraction)
       → List (Terms Fraction) → Step
   begin_meet k b gs so_far hs =
-      goes (Begin (journal.Meet k (suc b))) (begun (meet k b gs so_far hs))
+      goes (Begin (journal.Meet k (suc b))) (start_of (meet k b gs so_far hs))
 
   -- n turns are taken
   unfoldable pub after_turns : ℕ → ℕ → ℕ → List (Terms Fraction) → List (Terms Fraction)
@@ -176,25 +175,25 @@ module _ (A : Setting) where
   unfoldable pub after : Work → List (Terms Fraction) → Step
   after starts gs = closing_from 0 0 0 gs
   after (turn k b n gs before so_far) ks =
-      goes (Begin (journal.TurnMeet k (suc b) (suc n))) (begun (turn_meet k b n gs so_far ks))
+      goes (Begin (journal.TurnMeet k (suc b) (suc n))) (start_of (turn_meet k b n gs so_far ks))
   after (turn_meet k b n gs so_far ks) ls = after_turns k b (suc n) gs ks ls
   after (orbit k b gs so_far) hs = after_orbit (form_of b).since k b gs so_far hs
   after (meet k b gs so_far hs) ls = after_branch k b gs ls
 
   -- ---- what follows in a task
-  abbrev pub worked : Work → elimination.State Fraction
+  abbrev pub next_work : Work → elimination.State Fraction
       → Option (Event × elimination.State Fraction) → Step
-  worked w s None = after w (list_at w s)
-  worked w s (Some (e, t)) = goes (Did e) (working w t)
+  next_work w s None = after w (list_at w s)
+  next_work w s (Some (e, t)) = goes (Did e) (working w t)
 
   -- by the rest: none is closed, another begins a round
-  abbrev pub divided : ℕ → ℕ → ℕ → List (Terms Fraction) → Option (Terms Fraction) → Step
-  divided k b i gs None = closing_from k b (suc i) gs
-  divided k b i gs (Some rest) = goes (Begin (journal.Round (suc k))) (turning (suc k) gs)
+  abbrev pub after_test : ℕ → ℕ → ℕ → List (Terms Fraction) → Option (Terms Fraction) → Step
+  after_test k b i gs None = closing_from k b (suc i) gs
+  after_test k b i gs (Some rest) = goes (Begin (journal.Round (suc k))) (turning (suc k) gs)
 
   abbrev pub closed_by : ℕ → ℕ → ℕ → List (Terms Fraction) → division.State Fraction
       → Option (Event × division.State Fraction) → Step
-  closed_by k b i gs s None = divided k b i gs s.current
+  closed_by k b i gs s None = after_test k b i gs s.current
   closed_by k b i gs s (Some (e, t)) = goes (Did e) (closing k b i gs t)
 
   abbrev pub asked_by : ℕ → List (Terms Fraction) → division.State Fraction
@@ -203,20 +202,21 @@ module _ (A : Setting) where
   asked_by k gs s (Some (e, t)) = goes (Did e) (asking k gs t)
 
   abbrev pub first_step : Option (List (Terms Fraction)) → Step
-  first_step None = goes (Begin journal.Start) (begun starts)
+  first_step None = goes (Begin journal.Start) (start_of starts)
   first_step (Some gs) = after starts gs
 
   unfoldable pub next : State → Step
   next fresh = first_step A.given
-  next (working w s) = worked w s (elimination.next rationals (order w) grevlex (kept (block w)) s)
+  next (working w s) = next_work w s (elimination.next rationals (order w) grevlex
+      (free_part (block w)) s)
   next (closing k b i gs s) = closed_by k b i gs s (division.next rationals grevlex gs s)
   next (turning k gs) = begin_branch k 0 gs gs
   next (asking k gs s) = asked_by k gs s (division.next rationals grevlex gs s)
 
-  abbrev pub moved : Step → Option (Entry × State)
-  moved (goes e s) = Some (e, s)
-  moved (finished k gs) = None
-  moved (answered k gs s) = None
+  abbrev pub move_of : Step → Option (Entry × State)
+  move_of (goes e s) = Some (e, s)
+  move_of (finished k gs) = None
+  move_of (answered k gs s) = None
 
   abbrev pub moves : State → Option (Entry × State)
-  moves s = moved (next s)
+  moves s = move_of (next s)

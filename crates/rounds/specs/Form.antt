@@ -12,7 +12,7 @@
 --   unwound_by f m g     g, of m variables, with the form f backward (form_backward f) for its variables, normal
 --   at_zero f m i        the polynomial of the variable i at n = 0;  passes f m i: it isn't that variable
 --   copies m passes i n, passing m passes     the variables from the ith on that pass, of n, and how many pass of all
---   widened k t m p      p, in k + m variables, with t variables behind the first k
+--   with_room_for k t m p      p, in k + m variables, with t variables behind the first k
 --   before_by w k passes i j backs     what the variables from the ith on were, with the copies from the jth on: the copy of one that passes, else that of the backs
 --   form_before f m passes     with the form backward
 --   late_order m f       the order that eliminates the variables in front, and the copies
@@ -31,13 +31,13 @@ use Rattle.polynomials.specs.Polynomial.{IsPolynomial}
 use Rattle.turns.specs.Classes.{IsFormBase}
 use Rattle.turns.specs.Turns as turns
 use Rattle.turns.specs.Turns.{point, back_point, width, IsNormal}
-use Rattle.turns.specs.Expo.{normalized, turned_back, zero_images}
+use Rattle.turns.specs.Expo.{with_normal_keys, backward_terms, zero_images}
 use Rattle.machines.specs.Collect.{collect}
 use Rattle.loops.specs.Program.{Expr, Program}
 use Rattle.loops.specs.Map.{branch_map}
 use Rattle.rounds.specs.Word.{branch_of}
 use Rattle.rounds.specs.BranchMap.{map_of}
-use Rattle.rounds.specs.Graph.{put, less, at_before, graph_list}
+use Rattle.rounds.specs.Graph.{images_behind, less, at_before, graph_list}
 
 pub record Form : Type 0 where
   pub base : List ℕ
@@ -68,10 +68,10 @@ relations r m = relation (front r + m) 1 1 ∷ relations_to r (front r + m) r
 
 -- ---- normal and backward, collected
 abbrev pub normal : Rank → ℕ → Terms Fraction → Terms Fraction
-normal O r p = collect rationals O (normalized r p)
+normal O r p = collect rationals O (with_normal_keys r p)
 
 abbrev pub backward : Rank → ℕ → Terms Fraction → Terms Fraction
-backward O r p = collect rationals O (turned_back r p)
+backward O r p = collect rationals O (backward_terms r p)
 
 -- ---- what an orbit begins with
 abbrev pub orbit_order : ℕ → Rank
@@ -104,9 +104,9 @@ copies m passes i (suc n) =
 abbrev pub passing : ℕ → (ℕ → Bool) → ℕ
 passing m passes = length (copies m passes 0 m)
 
-abbrev pub widened : ℕ → ℕ → ℕ → Terms Fraction → Terms Fraction
-widened k t m p =
-    compose ℚ (k + t + m) p (put k (k + t + m) (drop (k + t) (variables ℚ (k + t + m))))
+abbrev pub with_room_for : ℕ → ℕ → ℕ → Terms Fraction → Terms Fraction
+with_room_for k t m p =
+    compose ℚ (k + t + m) p (images_behind k (k + t + m) (drop (k + t) (variables ℚ (k + t + m))))
 
 abbrev pub before_by : ℕ → ℕ → (ℕ → Bool) → ℕ → ℕ → List (Terms Fraction) → List (Terms Fraction)
 before_by w k passes i j [] = []
@@ -119,7 +119,7 @@ form_before f m passes =
     let k = front (length f.base) in
     let t = passing m passes in
     before_by (k + t + m) k passes 0 0
-    (map (widened k t m) (map (turned_back (length f.base)) f.polys))
+    (map (with_room_for k t m) (map (backward_terms (length f.base)) f.polys))
 
 -- ---- the orbit
 abbrev pub late_order : Form → ℕ → (ℕ → Bool) → Rank
@@ -160,7 +160,7 @@ at_minus_one f m p = compose ℚ m p (map (constant m) (back_point f.base 1 []) 
 abbrev pub turn_before : Form → ℕ → (ℕ → Bool) → List (Terms Fraction)
 turn_before f m passes =
     let t = passing m passes in
-    before_by (0 + t + m) 0 passes 0 0 (map (widened 0 t m) (map (at_minus_one f m) f.polys))
+    before_by (0 + t + m) 0 passes 0 0 (map (with_room_for 0 t m) (map (at_minus_one f m) f.polys))
 
 abbrev pub turn_graph : Form → ℕ → (ℕ → Bool) → List (Terms Fraction) → List (Terms Fraction)
     → List (Terms Fraction)

@@ -1,7 +1,7 @@
 -- How the list of an orbit comes by elimination where turns can't be undone: by the graph of what was and what is.
 -- There are k variables in front (the number of turns, and the powers that go with it), then t that tell what was, then the program's m.
 --   IsBefore program i k t point times copied before     with the nth point, the values of `copied` at a state, and the state times n turns later, the values of `before` are the state
---   put k t before       `before` behind the variables in front: what is put for those of polynomials in k + m variables
+--   images_behind k t before       `before` behind the variables in front: what is put for those of polynomials in k + m variables
 --   less xs ys           the differences, place by place
 --   graph_list k t m before fs rs gs     gs at what was; each variable less its form there; and the rs
 --   AreWide k t m point before rs us     the us are the rs at what was, and zero at each point
@@ -12,7 +12,7 @@ use Rattle.polynomials.specs.Terms.{Terms, AllSame, variables, negate, compose, 
 use Rattle.polynomials.specs.Polynomial.{AllArity}
 use Rattle.loops.specs.Program.{Expr, Program}
 use Rattle.loops.specs.Run.{IsState}
-use Rattle.rounds.specs.Orbit.{turned}
+use Rattle.rounds.specs.Orbit.{state_after}
 
 module _ {At : Type 0} (program : Program (Expr At)) where
   pub record IsBefore (i k t : ℕ) (point : ℕ → List Fraction) (times : ℕ → ℕ)
@@ -23,12 +23,12 @@ module _ {At : Type 0} (program : Program (Expr At)) where
     pub was : (n : ℕ) (s : List Fraction) → IsState program s
         → map
         (λ b. value_at ℚ b (point n ++ (map (λ c. value_at ℚ c s) copied
-        ++ turned program i (times n) s)))
+        ++ state_after program i (times n) s)))
         before
         ≡ s
 
-abbrev pub put : ℕ → ℕ → List (Terms Fraction) → List (Terms Fraction)
-put k w before = take k (variables ℚ w) ++ before
+abbrev pub images_behind : ℕ → ℕ → List (Terms Fraction) → List (Terms Fraction)
+images_behind k w before = take k (variables ℚ w) ++ before
 
 abbrev pub less : List (Terms Fraction) → List (Terms Fraction) → List (Terms Fraction)
 less [] ys = []
@@ -37,7 +37,7 @@ less (x ∷ xs) (y ∷ ys) = (x ++ negate ℚ y) ∷ less xs ys
 
 module _ (k t m : ℕ) where
   abbrev pub at_before : List (Terms Fraction) → Terms Fraction → Terms Fraction
-  at_before before f = compose ℚ (k + t + m) f (put k (k + t + m) before)
+  at_before before f = compose ℚ (k + t + m) f (images_behind k (k + t + m) before)
 
   abbrev pub graph_list : List (Terms Fraction) → List (Terms Fraction) → List (Terms Fraction)
       → List (Terms Fraction) → List (Terms Fraction)

@@ -1,6 +1,6 @@
 -- Any number of turns of a branch as one list of polynomials, and how the list of an orbit comes from it.
 -- There are k variables in front of the program's m: the number of turns, and the powers that go with it. `point n` are their values after n turns.
---   turned program i n s           the state after n turns of branch i
+--   state_after program i n s           the state after n turns of branch i
 --   at_point m point n e           e, with the values of the nth point for the variables in front
 --   IsPoints k point               each point has k fractions
 --   IsFormAt program i k point times fs     at the nth point the values of fs are the state after times n turns of branch i
@@ -22,9 +22,10 @@ use Rattle.loops.specs.Run.{effect, IsState}
 use Rattle.rounds.specs.Word.{branch_of}
 use Rattle.rounds.specs.Generate.{Generates}
 
-unfoldable pub turned : {At : Type 0} → Program (Expr At) → ℕ → ℕ → List Fraction → List Fraction
-turned program i zero s = s
-turned program i (suc n) s = turned program i n (effect program (branch_of program i) s)
+unfoldable pub state_after : {At : Type 0} → Program (Expr At) → ℕ → ℕ → List Fraction
+    → List Fraction
+state_after program i zero s = s
+state_after program i (suc n) s = state_after program i n (effect program (branch_of program i) s)
 
 pub record IsPoints (k : ℕ) (point : ℕ → List Fraction) : Type 0 where
   pub size : (n : ℕ) → length (point n) ≡ k
@@ -33,7 +34,7 @@ pub record IsFormAt {At : Type 0} (program : Program (Expr At)) (i k : ℕ)
     (point : ℕ → List Fraction) (times : ℕ → ℕ) (fs : List (Terms Fraction)) : Type 0 where
   pub arities : AllArity (k + length program.names) fs
   pub turns : (n : ℕ) (s : List Fraction) → IsState program s
-      → map (λ f. value_at ℚ f (point n ++ s)) fs ≡ turned program i (times n) s
+      → map (λ f. value_at ℚ f (point n ++ s)) fs ≡ state_after program i (times n) s
 
 abbrev pub IsForm : {At : Type 0} → Program (Expr At) → ℕ → ℕ → (ℕ → List Fraction)
     → List (Terms Fraction) → Type 0

@@ -15,13 +15,13 @@ use Rattle.polynomials.specs.Order.{grevlex}
 use Rattle.polynomials.specs.Terms.{Terms, constant, variables, negate}
 use Rattle.polynomials.specs.Weight.{IsPastSum, IsPastProduct, IsPastComposition}
 use Rattle.machines.specs.Collect.{collect}
-use Rattle.machines.specs.Elimination.{kept, in_front}
+use Rattle.machines.specs.Elimination.{free_part, in_front}
 use Rattle.machines.specs.Journal as journal
 use Rattle.machines.specs.Journal.{Task}
 use Rattle.machines.specs.Past as machine
 use Rattle.rounds.specs.Analysis.{Setting, Work, starts, turn, turn_meet, orbit, meet, State, fresh, working, closing, turning, asking, form_of, starting, block, order}
 use Rattle.rounds.specs.Form.{Form, front, form_backward, passes, passing, form_before, point_of, turn_before, turn_front}
-use Rattle.rounds.specs.Graph.{put, at_before}
+use Rattle.rounds.specs.Graph.{images_behind, at_before}
 
 -- the variable in front of m others
 abbrev pub the_t : ℕ → Terms Fraction
@@ -39,7 +39,7 @@ abbrev pub IsPastGraph : ℕ → ℕ → ℕ → List (Terms Fraction) → List 
     → List (Terms Fraction) → Type 0
 IsPastGraph k t m before fs gs =
     Any (λ g. IsPastComposition fractions g before) gs
-    ⊎ (Any (λ f. IsPastComposition fractions f (put k (k + t + m) before)) fs
+    ⊎ (Any (λ f. IsPastComposition fractions f (images_behind k (k + t + m) before)) fs
     ⊎ IsPastLess (drop (k + t) (variables ℚ (k + t + m)))
     (map (λ f. collect rationals grevlex (at_before k t m before f)) fs))
 
@@ -84,7 +84,7 @@ module _ (A : Setting) where
   abbrev pub IsPastEvent : State → Type 0
   IsPastEvent fresh = ⊥
   IsPastEvent (working w s) =
-      machine.IsPastElimination fractions rationals (order A w) (kept (block A w)) s
+      machine.IsPastElimination fractions rationals (order A w) (free_part (block A w)) s
   IsPastEvent (closing k b i gs s) = machine.IsPastDivision fractions rationals gs s
   IsPastEvent (turning k gs) = ⊥
   IsPastEvent (asking k gs s) = machine.IsPastDivision fractions rationals gs s

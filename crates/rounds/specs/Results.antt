@@ -1,6 +1,6 @@
 -- What the tasks of an analysis end with, and what is to be known of that.
 --   LeadsTo next s t           the events of some run lead from s to t
---   Worked A w                 a run of the elimination that the work w is, which has ended
+--   EndsWork A w                 a run of the elimination that the work w is, which has ended
 --   IsReducedList m gs         gs is reduced for its own ideal
 --   IsOverWork m w             the lists that the work w is of are reduced; IsBranch program w: its branch is one of the program's
 --   orbit_turns d n            n + d turns, for the orbit of a form that is the state from d turns on
@@ -20,14 +20,14 @@ use Rattle.rounds.specs.Word.{after_turn}
 use Rattle.rounds.specs.Round.{IsOrbitAt}
 use Rattle.rounds.specs.Orbit.{IsEliminated}
 use Rattle.rounds.specs.Start.{start_list}
-use Rattle.rounds.specs.Analysis.{Setting, Work, starts, turn, turn_meet, orbit, meet, machine_of, list_at, block, form_of, starting, turned}
+use Rattle.rounds.specs.Analysis.{Setting, Work, starts, turn, turn_meet, orbit, meet, machine_of, list_at, block, form_of, starting, pullback}
 
 pub record LeadsTo {S E : Type 0} (next : S → Option (E × S)) (s t : S) : Type 0 where
   pub events : List E
   pub run : IsRun next s events t
 
-abbrev pub Worked : Setting → Work → Type 0
-Worked A w = Ends (machine_of A w).next (machine_of A w).start
+abbrev pub EndsWork : Setting → Work → Type 0
+EndsWork A w = Ends (machine_of A w).next (machine_of A w).start
 
 abbrev pub IsReducedList : ℕ → List (Terms Fraction) → Type 0
 IsReducedList m gs = IsReducedFor rationals grevlex m gs (IsMember ℚ m gs)
@@ -55,20 +55,20 @@ orbit_turns (suc d) n = suc d + n
 pub record Laws {At : Type 0} (program : Program (Expr At)) (A : Setting) : Type 0 where
   -- completion, elimination and tidying
   pub eliminates : (w : Work) → IsBranch program w → IsOverWork (length program.names) w
-      → (e : Worked A w)
+      → (e : EndsWork A w)
       → IsEliminated (block A w) (length program.names) (starting A w) (list_at A w e.last)
   pub reduces : (w : Work) → IsBranch program w → IsOverWork (length program.names) w
-      → (e : Worked A w) → IsReducedList (length program.names) (list_at A w e.last)
+      → (e : EndsWork A w) → IsReducedList (length program.names) (list_at A w e.last)
   -- division
   pub answers : (gs : List (Terms Fraction)) (p : Terms Fraction) (s : division.State Fraction)
       → IsReducedList (length program.names) gs → IsPolynomial ℚ grevlex (length program.names) p
-      → LeadsTo (division.next rationals grevlex gs) (division.begun gs p) s
+      → LeadsTo (division.next rationals grevlex gs) (division.initial_state gs p) s
       → HasEnded (division.next rationals grevlex gs) s
       → IsMember ℚ (length program.names) gs p ↔ (s.current ≡ None)
   pub divides : (gs : List (Terms Fraction)) (b i : ℕ) (s : division.State Fraction)
       → IsReducedList (length program.names) gs → b < length program.branches → i < length gs
       → LeadsTo (division.next rationals grevlex gs)
-      (division.begun gs (turned A b (get_or gs i []))) s
+      (division.initial_state gs (pullback A b (get_or gs i []))) s
       → HasEnded (division.next rationals grevlex gs) s
       → IsMember ℚ (length program.names) gs (after_turn program (suc b) (get_or gs i []))
       ↔ (s.current ≡ None)

@@ -268,7 +268,8 @@ pub fn what_is_asked_matters_at_the_end()
     ensures next { (A : Setting) (p : Terms Fraction) (s : State) (k : ℕ)
         (gs : List (Terms Fraction))
         → next (with_asked None A) s ≡ finished k gs
-        → next (with_asked (Some p) A) s ≡ goes (Begin Member) (asking k gs (division.begun gs p)) }
+        → next (with_asked (Some p) A) s
+        ≡ goes (Begin Member) (asking k gs (division.initial_state gs p)) }
 {}
 
 /// A branch has one closed form, so the journals of a loop from one beginning are beginnings of one list, and none runs out of a budget that a finished one keeps within.

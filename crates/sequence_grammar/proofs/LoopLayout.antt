@@ -10,12 +10,12 @@ use Rattle.rings.proofs.Each.{each-left, each-right, each_weaker}
 use Rattle.loops.specs.Limits.{most_names, most_bytes, most_branches, most_statements, operators, highest_exponent, IsSmall, IsWithinLimits}
 use Rattle.loops.specs.Program.{Expr, variable, Equation, Statement}
 use Rattle.loops.specs.WellFormed.{Uses}
-use Rattle.recurrences.specs.Sequences.{Sequence, order, given, size, sequence_names, AreFormed}
-use Rattle.recurrences.specs.Turning.{names, names_of, all_given, equations, shown, variables_from, turn, step, program_of}
+use Rattle.recurrences.specs.Sequences.{Sequence, order, given_values, size, sequence_names, AreFormed}
+use Rattle.recurrences.specs.Turning.{names, names_of, all_given, equations, first_places, variables_from, turn, step, program_of}
 use Rattle.recurrences.proofs.Starts.{length-names}
 use Rattle.sequence_grammar.specs.LoopLayout.{total, starts, turns, IsGiven, IsOver, AreLaid}
-use Rattle.sequence_grammar.specs.Names.{named, made}
-use Rattle.sequence_grammar.specs.SeqReader.{sequence_of, joined}
+use Rattle.sequence_grammar.specs.Names.{sequence_variables, all_variables}
+use Rattle.sequence_grammar.specs.SeqReader.{sequence_of, sequences_from}
 
 -- ---- one sequence more
 pub total_more : (rs : List ℕ) (r : ℕ) → total (rs ++ r ∷ []) ≡ total rs + r
@@ -47,12 +47,12 @@ turns_more i (q ∷ rs) (d ∷ es) r e l =
 -- ---- one sequence
 module _ (w : List ℕ) (e : Expr ℕ) where
   names_one : (us : List (Expr ℕ)) → 0 < length us
-      → names_of (sequence_of w us e) ≡ named w (length us)
-  unfolding named
+      → names_of (sequence_of w us e) ≡ sequence_variables w (length us)
+  unfolding sequence_variables
   names_one [] l = absurd (omega (arith, l))
   names_one (u ∷ us) l = refl
 
-  given_one : (us : List (Expr ℕ)) → 0 < length us → given (sequence_of w us e) ≡ us
+  given_one : (us : List (Expr ℕ)) → 0 < length us → given_values (sequence_of w us e) ≡ us
   given_one [] l = absurd (omega (arith, l))
   given_one (u ∷ us) l = refl
 
@@ -88,21 +88,22 @@ module _ (w : List ℕ) (e : Expr ℕ) where
 -- ---- all of them, with as many orders and recurrences as names
 names_laid : (ws : List (List ℕ)) (rs : List ℕ) (vs es : List (Expr ℕ))
     → length rs ≡ length ws → length es ≡ length ws → Each (λ r. 0 < r) rs
-    → total rs ≡ length vs → names (joined ws rs vs es) ≡ made ws rs
-unfolding joined names made total Each
+    → total rs ≡ length vs → names (sequences_from ws rs vs es) ≡ all_variables ws rs
+unfolding sequences_from names all_variables total Each
 names_laid [] rs vs es a b c t = refl
 names_laid (w ∷ ws) [] vs es a b c t = absurd (omega (arith, a))
 names_laid (w ∷ ws) (r ∷ rs) vs [] a b c t = absurd (omega (arith, b))
 names_laid (w ∷ ws) (r ∷ rs) vs (e ∷ es) a b c t =
     ap₂ (λ x y. x ++ y)
-    (names_one w e (take r vs) (some_taken w e r rs vs t c.0) ∙ ap (named w) (taken w e r rs vs t))
+    (names_one w e (take r vs) (some_taken w e r rs vs t c.0)
+    ∙ ap (sequence_variables w) (taken w e r rs vs t))
     (names_laid ws rs (drop r vs) es (omega (arith, a)) (omega (arith, b)) c.1
     (behind w e r rs vs t))
 
 given_laid : (ws : List (List ℕ)) (rs : List ℕ) (vs es : List (Expr ℕ))
     → length rs ≡ length ws → length es ≡ length ws → Each (λ r. 0 < r) rs
-    → total rs ≡ length vs → all_given (joined ws rs vs es) ≡ vs
-unfolding joined all_given total Each
+    → total rs ≡ length vs → all_given (sequences_from ws rs vs es) ≡ vs
+unfolding sequences_from all_given total Each
 given_laid [] [] [] es a b c t = refl
 given_laid [] [] (v ∷ vs) es a b c t = absurd (omega (arith, t))
 given_laid [] (r ∷ rs) vs es a b c t = absurd (omega (arith, a))
@@ -116,8 +117,8 @@ given_laid (w ∷ ws) (r ∷ rs) vs (e ∷ es) a b c t =
 
 size_laid : (ws : List (List ℕ)) (rs : List ℕ) (vs es : List (Expr ℕ))
     → length rs ≡ length ws → length es ≡ length ws → Each (λ r. 0 < r) rs
-    → total rs ≡ length vs → size (joined ws rs vs es) ≡ length vs
-unfolding joined size total Each
+    → total rs ≡ length vs → size (sequences_from ws rs vs es) ≡ length vs
+unfolding sequences_from size total Each
 size_laid [] [] vs es a b c t = t
 size_laid [] (r ∷ rs) vs es a b c t = absurd (omega (arith, a))
 size_laid (w ∷ ws) [] vs es a b c t = absurd (omega (arith, a))
@@ -131,8 +132,8 @@ size_laid (w ∷ ws) (r ∷ rs) vs (e ∷ es) a b c t =
 
 turn_laid : (i : ℕ) (ws : List (List ℕ)) (rs : List ℕ) (vs es : List (Expr ℕ))
     → length rs ≡ length ws → length es ≡ length ws → Each (λ r. 0 < r) rs
-    → total rs ≡ length vs → turn i (joined ws rs vs es) ≡ turns i rs es
-unfolding joined turn turns total Each
+    → total rs ≡ length vs → turn i (sequences_from ws rs vs es) ≡ turns i rs es
+unfolding sequences_from turn turns total Each
 turn_laid i [] [] vs es a b c t = refl
 turn_laid i [] (r ∷ rs) vs es a b c t = absurd (omega (arith, a))
 turn_laid i (w ∷ ws) [] vs es a b c t = absurd (omega (arith, a))
@@ -141,7 +142,7 @@ turn_laid i (w ∷ ws) (r ∷ rs) vs (e ∷ es) a b c t =
     let some = some_taken w e r rs vs t c.0 in
     let long = taken w e r rs vs t in
     let q = sequence_of w (take r vs) e in
-    let rest = joined ws rs (drop r vs) es in
+    let rest = sequences_from ws rs (drop r vs) es in
     ap (λ k. variables_from (suc i) k ++ q.next ∷ turn (i + order q) rest)
     (later_one w e (take r vs) some ∙ ap pred long)
     ∙ ap (λ d. variables_from (suc i) (pred r) ++ d ∷ turn (i + order q) rest)
@@ -154,22 +155,22 @@ turn_laid i (w ∷ ws) (r ∷ rs) vs (e ∷ es) a b c t =
 
 shown_laid : (i : ℕ) (ws : List (List ℕ)) (rs : List ℕ) (vs es : List (Expr ℕ))
     → length rs ≡ length ws → length es ≡ length ws → Each (λ r. 0 < r) rs
-    → total rs ≡ length vs → shown i (joined ws rs vs es) ≡ starts i rs
-unfolding joined shown starts total Each
+    → total rs ≡ length vs → first_places i (sequences_from ws rs vs es) ≡ starts i rs
+unfolding sequences_from first_places starts total Each
 shown_laid i [] [] vs es a b c t = refl
 shown_laid i [] (r ∷ rs) vs es a b c t = absurd (omega (arith, a))
 shown_laid i (w ∷ ws) [] vs es a b c t = absurd (omega (arith, a))
 shown_laid i (w ∷ ws) (r ∷ rs) vs [] a b c t = absurd (omega (arith, b))
 shown_laid i (w ∷ ws) (r ∷ rs) vs (e ∷ es) a b c t =
-    ap (λ k. i ∷ shown (i + k) (joined ws rs (drop r vs) es))
+    ap (λ k. i ∷ first_places (i + k) (sequences_from ws rs (drop r vs) es))
     (order_one w e (take r vs) (some_taken w e r rs vs t c.0) ∙ taken w e r rs vs t)
     ∙ ap (λ l. i ∷ l) (shown_laid (i + r) ws rs (drop r vs) es (omega (arith, a))
     (omega (arith, b)) c.1 (behind w e r rs vs t))
 
 sequence_names_laid : (ws : List (List ℕ)) (rs : List ℕ) (vs es : List (Expr ℕ))
     → length rs ≡ length ws → length es ≡ length ws
-    → sequence_names (joined ws rs vs es) ≡ ws
-unfolding joined
+    → sequence_names (sequences_from ws rs vs es) ≡ ws
+unfolding sequences_from
 sequence_names_laid [] rs vs es a b = refl
 sequence_names_laid (w ∷ ws) [] vs es a b = absurd (omega (arith, a))
 sequence_names_laid (w ∷ ws) (r ∷ rs) vs [] a b = absurd (omega (arith, b))
@@ -179,8 +180,8 @@ sequence_names_laid (w ∷ ws) (r ∷ rs) vs (e ∷ es) a b =
 
 count_laid : (ws : List (List ℕ)) (rs : List ℕ) (vs es : List (Expr ℕ))
     → length rs ≡ length ws → length es ≡ length ws
-    → length (joined ws rs vs es) ≡ length ws
-unfolding joined
+    → length (sequences_from ws rs vs es) ≡ length ws
+unfolding sequences_from
 count_laid [] rs vs es a b = refl
 count_laid (w ∷ ws) [] vs es a b = absurd (omega (arith, a))
 count_laid (w ∷ ws) (r ∷ rs) vs [] a b = absurd (omega (arith, b))
@@ -191,18 +192,18 @@ abbrev Closed : Expr ℕ → Type 0
 Closed e = Uses (λ i. ⊥) e
 
 closed_each : (qs : List (Sequence (Expr ℕ))) → Each (λ e. Uses (λ i. ⊥) e) (all_given qs)
-    → Each (λ (q : Sequence (Expr ℕ)). Each (Uses (λ i. ⊥)) (given q)) qs
+    → Each (λ (q : Sequence (Expr ℕ)). Each (Uses (λ i. ⊥)) (given_values q)) qs
 unfolding all_given Each
 closed_each [] h = tt
 closed_each (q ∷ qs) h = (
-  each-left Closed (given q) (all_given qs) h,
-  closed_each qs (each-right Closed (given q) (all_given qs) h),
+  each-left Closed (given_values q) (all_given qs) h,
+  closed_each qs (each-right Closed (given_values q) (all_given qs) h),
 )
 
 nexts_laid : (m : ℕ) (ws : List (List ℕ)) (rs : List ℕ) (vs es : List (Expr ℕ))
     → Each (IsOver m) es
-    → Each (λ (q : Sequence (Expr ℕ)). Uses (λ i. i < m) q.next) (joined ws rs vs es)
-unfolding joined Each
+    → Each (λ (q : Sequence (Expr ℕ)). Uses (λ i. i < m) q.next) (sequences_from ws rs vs es)
+unfolding sequences_from Each
 nexts_laid m [] rs vs es h = tt
 nexts_laid m (w ∷ ws) [] vs es h = tt
 nexts_laid m (w ∷ ws) (r ∷ rs) vs [] h = tt
@@ -214,27 +215,27 @@ nexts_laid m (w ∷ ws) (r ∷ rs) vs (e ∷ es) h = (
 module _ (ws : List (List ℕ)) (rs : List ℕ) (vs es : List (Expr ℕ))
     (laid : AreLaid ws rs vs es) where
   abbrev qs : List (Sequence (Expr ℕ))
-  qs = joined ws rs vs es
+  qs = sequences_from ws rs vs es
 
-  pub names_are : names (joined ws rs vs es) ≡ made ws rs
+  pub names_are : names (sequences_from ws rs vs es) ≡ all_variables ws rs
   names_are = names_laid ws rs vs es laid.orders laid.nexts laid.values.some laid.values.count
 
-  pub sequence_names_are : sequence_names (joined ws rs vs es) ≡ ws
+  pub sequence_names_are : sequence_names (sequences_from ws rs vs es) ≡ ws
   sequence_names_are = sequence_names_laid ws rs vs es laid.orders laid.nexts
 
-  pub given_are : all_given (joined ws rs vs es) ≡ vs
+  pub given_are : all_given (sequences_from ws rs vs es) ≡ vs
   given_are = given_laid ws rs vs es laid.orders laid.nexts laid.values.some laid.values.count
 
-  pub size_is : size (joined ws rs vs es) ≡ length vs
+  pub size_is : size (sequences_from ws rs vs es) ≡ length vs
   size_is = size_laid ws rs vs es laid.orders laid.nexts laid.values.some laid.values.count
 
-  pub turn_is : turn 0 (joined ws rs vs es) ≡ turns 0 rs es
+  pub turn_is : turn 0 (sequences_from ws rs vs es) ≡ turns 0 rs es
   turn_is = turn_laid 0 ws rs vs es laid.orders laid.nexts laid.values.some laid.values.count
 
-  pub shown_are : shown 0 (joined ws rs vs es) ≡ starts 0 rs
+  pub shown_are : first_places 0 (sequences_from ws rs vs es) ≡ starts 0 rs
   shown_are = shown_laid 0 ws rs vs es laid.orders laid.nexts laid.values.some laid.values.count
 
-  pub formed_laid : AreFormed (joined ws rs vs es)
+  pub formed_laid : AreFormed (sequences_from ws rs vs es)
   formed_laid = record {
     some = subst (λ n. 0 < n) (sym (count_laid ws rs vs es laid.orders laid.nexts)) laid.some;
     values = closed_each qs (subst (Each Closed) (sym given_are)
@@ -272,11 +273,11 @@ small_turns m i (r ∷ rs) (e ∷ es) h =
 
 module _ (ws : List (List ℕ)) (rs : List ℕ) (vs es : List (Expr ℕ))
     (laid : AreLaid ws rs vs es) where
-  pub limits_laid : All (λ w. length w ≤ most_bytes) (made ws rs)
-      → IsWithinLimits (program_of (joined ws rs vs es))
+  pub limits_laid : All (λ w. length w ≤ most_bytes) (all_variables ws rs)
+      → IsWithinLimits (program_of (sequences_from ws rs vs es))
   unfolding most_branches most_statements
   limits_laid short =
-      let qs = joined ws rs vs es in
+      let qs = sequences_from ws rs vs es in
       let small : All IsSmall (turn 0 qs) =
       subst (All IsSmall) (sym (turn_is ws rs vs es laid))
       (small_turns (length vs) 0 rs es laid.over) in

@@ -2,7 +2,7 @@
 --   named_more, made_more  one value more, and one sequence more
 --   base                   what stands before the first _ of a name
 --   new_plain, new_short, new_other     a sequence's next variable is a name, and another one
-use Rattle.std.proofs.Common.{◌≡◌, ◌≢◌, ℕ, zero, suc, ◌+◌, ◌<◌, ◌≤◌, ◌^◌, Bool, true, false, cond, ◌&&◌, ◌||◌, ◌==◌, IsTrue, List, [], ◌∷◌, ◌++◌, length, get_or, decimal, codes, bytes_eq, is_none, arith, refl, sym, ap, ap₂, subst, ◌∙◌, Option, Some, None}
+use Rattle.std.proofs.Common.{◌≡◌, ◌≢◌, ℕ, zero, suc, ◌+◌, ◌<◌, ◌≤◌, ◌^◌, Bool, true, false, cond, ◌&&◌, ◌==◌, IsTrue, List, [], ◌∷◌, ◌++◌, length, get_or, decimal, codes, bytes_eq, is_none, arith, refl, sym, ap, ap₂, subst, ◌∙◌, Option, Some, None}
 use Rattle.std.specs.List.{list_any, list_all}
 use Rattle.std.specs.Fmt.{digits}
 use Rattle.std.specs.Char.{is_ascii_alphabetic}
@@ -15,43 +15,42 @@ use Rattle.loops.specs.Limits.{most_names, most_bytes}
 use Rattle.expressions.specs.Words.{is_word, is_word_text, is_plain_word, keyword_of}
 use Rattle.expressions.specs.Names.{place_of}
 use Rattle.expressions.proofs.Places.{place_within, place_stands, bytes_apart}
-use Rattle.recurrences.specs.Turning.{indexed}
+use Rattle.recurrences.specs.Turning.{indexed_names}
 use Rattle.sequence_grammar.specs.Seqs.{variable_name, most_seqname}
-use Rattle.sequence_grammar.specs.Names.{named, made, IsSeqName, AreReady}
+use Rattle.sequence_grammar.specs.Names.{sequence_variables, all_variables, IsSeqName, AreReady}
+use Rattle.rings.proofs.Basics.{or_false, or_true}
 
 indexed_more : (w : List ℕ) (i r : ℕ)
-    → indexed w i (suc r) ≡ indexed w i r ++ (w ++ 95 ∷ decimal (i + r)) ∷ []
-unfolding indexed
+    → indexed_names w i (suc r) ≡ indexed_names w i r ++ (w ++ 95 ∷ decimal (i + r)) ∷ []
+unfolding indexed_names
 indexed_more w i zero = ap (λ k. (w ++ 95 ∷ decimal k) ∷ []) (omega arith)
 indexed_more w i (suc r) =
     ap (λ l. (w ++ 95 ∷ decimal i) ∷ l) (indexed_more w (suc i) r
-    ∙ ap (λ k. indexed w (suc i) r ++ (w ++ 95 ∷ decimal k) ∷ []) (omega arith))
+    ∙ ap (λ k. indexed_names w (suc i) r ++ (w ++ 95 ∷ decimal k) ∷ []) (omega arith))
 
-pub named_more : (w : List ℕ) (n : ℕ) → named w (suc n) ≡ named w n ++ variable_name w n ∷ []
-unfolding named indexed
+pub named_more : (w : List ℕ) (n : ℕ) → sequence_variables w (suc n) ≡ sequence_variables w n
+    ++ variable_name w n ∷ []
+unfolding sequence_variables indexed_names
 named_more w zero = refl
 named_more w (suc r) =
     ap (λ l. w ∷ l) (indexed_more w 1 r
-    ∙ ap (λ k. indexed w 1 r ++ (w ++ 95 ∷ decimal k) ∷ []) (omega arith))
+    ∙ ap (λ k. indexed_names w 1 r ++ (w ++ 95 ∷ decimal k) ∷ []) (omega arith))
 
 pub made_more : (ws : List (List ℕ)) (rs : List ℕ) (w : List ℕ) (r : ℕ)
-    → length ws ≡ length rs → made (ws ++ w ∷ []) (rs ++ r ∷ []) ≡ made ws rs ++ named w r
-unfolding made
-made_more [] [] w r l = append-nil (named w r)
+    → length ws ≡ length rs → all_variables (ws ++ w ∷ []) (rs ++ r ∷ []) ≡ all_variables ws rs
+    ++ sequence_variables w r
+unfolding all_variables
+made_more [] [] w r l = append-nil (sequence_variables w r)
 made_more [] (q ∷ rs) w r l = absurd (omega arith)
 made_more (v ∷ ws) [] w r l = absurd (omega arith)
 made_more (v ∷ ws) (q ∷ rs) w r l =
-    ap (λ z. named v q ++ z) (made_more ws rs w r (omega arith))
-    ∙ sym (append_assoc (named v q) (made ws rs) (named w r))
+    ap (λ z. sequence_variables v q ++ z) (made_more ws rs w r (omega arith))
+    ∙ sym (append_assoc (sequence_variables v q) (all_variables ws rs) (sequence_variables w r))
 
 -- ---- names of sequences
 base : List ℕ → List ℕ
 base [] = []
 base (c ∷ cs) = cond (c == 95) [] (c ∷ base cs)
-
-or_false : (a b : Bool) → a || b ≡ false → (a ≡ false) × (b ≡ false)
-or_false true b h = absurd (cc)
-or_false false b h = (refl, h)
 
 base_bare : (w : List ℕ) → list_any (λ c. c == 95) w ≡ false → base w ≡ w
 unfolding base
@@ -74,10 +73,6 @@ base_of w (suc i) is = base_under w (decimal (suc i)) is.bare
 -- a name tells its index
 under_there : (w ds : List ℕ) → list_any (λ c. c == 95) (w ++ 95 ∷ ds) ≡ true
 under_there w ds = list_any-append (λ c. c == 95) w (95 ∷ ds) ∙ or_true (list_any (λ c. c == 95) w)
-  where
-    or_true : (b : Bool) → b || true ≡ true
-    or_true true = refl
-    or_true false = refl
 
 abbrev tail_of : List ℕ → List ℕ
 tail_of [] = []
@@ -103,26 +98,26 @@ index_of w (suc i) (suc j) is a b h =
 -- ---- what the variables of a sequence are
 each_indexed : (P : List ℕ → Type 0) (w : List ℕ) (n : ℕ)
     → ((j : ℕ) → j < n → P (variable_name w j)) → (k r : ℕ) → suc k + r ≤ n
-    → Each P (indexed w (suc k) r)
-unfolding Each indexed
+    → Each P (indexed_names w (suc k) r)
+unfolding Each indexed_names
 each_indexed P w n h k zero l = tt
 each_indexed P w n h k (suc r) l =
     (h (suc k) (omega arith), each_indexed P w n h (suc k) r (omega arith))
 
 each_named : (P : List ℕ → Type 0) (w : List ℕ) (n : ℕ) → ((j : ℕ) → j < n → P (variable_name w j))
-    → Each P (named w n)
-unfolding Each named
+    → Each P (sequence_variables w n)
+unfolding Each sequence_variables
 each_named P w zero h = tt
 each_named P w (suc r) h = (h 0 (omega arith), each_indexed P w (suc r) h 0 r (omega arith))
 
 each_made : (P : List ℕ → Type 0) (Q : List ℕ → Type 0)
     → ((w : List ℕ) (j : ℕ) → Q w → P (variable_name w j))
-    → (ws : List (List ℕ)) (rs : List ℕ) → Each Q ws → Each P (made ws rs)
-unfolding Each made
+    → (ws : List (List ℕ)) (rs : List ℕ) → Each Q ws → Each P (all_variables ws rs)
+unfolding Each all_variables
 each_made P Q h [] rs q = tt
 each_made P Q h (w ∷ ws) [] q = tt
 each_made P Q h (w ∷ ws) (r ∷ rs) q =
-    each-append P (named w r) (made ws rs)
+    each-append P (sequence_variables w r) (all_variables ws rs)
     (each_named P w r (λ j l. h w j q.0)) (each_made P Q h ws rs q.1)
 
 -- what is none of the names has no place among them
@@ -226,12 +221,12 @@ module _ (ws : List (List ℕ)) (rs : List ℕ) (w : List ℕ) (i : ℕ) (variab
   pub new_short : length (variable_name w i) ≤ most_bytes
   new_short = short_name w i ready.name low
 
-  others : Each (λ v. v ≢ variable_name w i) (made ws rs)
+  others : Each (λ v. v ≢ variable_name w i) (all_variables ws rs)
   others = each_made (λ v. v ≢ variable_name w i) (λ v. IsSeqName v × (v ≢ w))
       (λ v j q h. q.1 (sym (base_of v j q.0) ∙ ap base h ∙ base_of w i ready.name)) ws rs
       (each_both IsSeqName (λ v. v ≢ w) ws ready.good ready.apart)
 
-  own : Each (λ v. v ≢ variable_name w i) (named w i)
+  own : Each (λ v. v ≢ variable_name w i) (sequence_variables w i)
   own = each_named (λ v. v ≢ variable_name w i) w i
       (λ j k h. let l = low in
       let e = index_of w j i ready.name (omega (arith, l, k)) (omega (arith, l)) h in
@@ -240,4 +235,5 @@ module _ (ws : List (List ℕ)) (rs : List ℕ) (w : List ℕ) (i : ℕ) (variab
   pub new_other : place_of variables (variable_name w i) ≡ None
   new_other = new_place variables (variable_name w i)
       (subst (Each (λ v. v ≢ variable_name w i)) (sym ready.made)
-      (each-append (λ v. v ≢ variable_name w i) (made ws rs) (named w i) others own))
+      (each-append (λ v. v ≢ variable_name w i) (all_variables ws rs) (sequence_variables w i)
+      others own))

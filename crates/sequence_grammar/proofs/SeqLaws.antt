@@ -6,7 +6,7 @@ use Rattle.loops.specs.Program.{Expr}
 use Rattle.loops.specs.Limits.{most_names}
 use Rattle.recurrences.specs.Sequences.{Sequence}
 use Rattle.grammars.specs.Grammar.{Placed}
-use Rattle.grammars.specs.Reader.{Answer}
+use Rattle.grammars.specs.Reader.{ReadResult}
 use Rattle.grammars.specs.FirstFault.{IsFirstFault}
 use Rattle.grammars.specs.Spelled.{IsRead, AreSpelled, spelled_marks}
 use Rattle.grammars.proofs.Automata.{leads}
@@ -41,7 +41,7 @@ seqs_spelled : AreSpelled seq_language whole_seqs nothing tokens
 seqs_spelled = texts_spelled seq_language (λ n. sum_leads) kinds_exact
     (λ x. refl) rules_lead whole_seqs refl nothing
 
-abbrev sequences_told : Answer Lexeme SeqContext SeqValue Reason
+abbrev sequences_told : ReadResult Lexeme SeqContext SeqValue Reason
     → Result (List (Sequence (Expr ℕ))) Fault
 sequences_told a = sequences_or_fault (told a)
 

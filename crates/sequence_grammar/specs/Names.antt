@@ -1,5 +1,5 @@
 -- The names of the variables that sequences make.
---   named w n        those of the sequence w with n values;  made ws rs: those of the sequences ws with so many values each
+--   sequence_variables w n        those of the sequence w with n values;  all_variables ws rs: those of the sequences ws with so many values each
 --   IsSeqName w      a name of a sequence: a plain word of few bytes without _
 --   AreReady ws rs w i variables     the sequences ws with so many values each have these variables, and so has the sequence w, another one, with i values; there is room for one more
 use Rattle.std.specs.Prelude.{◌≡◌, ◌≢◌, ℕ, zero, suc, ◌<◌, ◌≤◌, ◌==◌, false, IsTrue, List, [], ◌∷◌, ◌++◌, length}
@@ -8,17 +8,17 @@ use Rattle.rings.specs.Each.{Each}
 use Rattle.loops.specs.Limits.{most_names}
 use Rattle.expressions.specs.Ascii.{underscore}
 use Rattle.expressions.specs.Words.{is_plain_word}
-use Rattle.recurrences.specs.Turning.{indexed}
+use Rattle.recurrences.specs.Turning.{indexed_names}
 use Rattle.sequence_grammar.specs.Seqs.{most_seqname}
 
-unfoldable pub named : List ℕ → ℕ → List (List ℕ)
-named w zero = []
-named w (suc r) = w ∷ indexed w 1 r
+unfoldable pub sequence_variables : List ℕ → ℕ → List (List ℕ)
+sequence_variables w zero = []
+sequence_variables w (suc r) = w ∷ indexed_names w 1 r
 
-unfoldable pub made : List (List ℕ) → List ℕ → List (List ℕ)
-made (w ∷ ws) (r ∷ rs) = named w r ++ made ws rs
-made (w ∷ ws) [] = []
-made [] rs = []
+unfoldable pub all_variables : List (List ℕ) → List ℕ → List (List ℕ)
+all_variables (w ∷ ws) (r ∷ rs) = sequence_variables w r ++ all_variables ws rs
+all_variables (w ∷ ws) [] = []
+all_variables [] rs = []
 
 pub record IsSeqName (w : List ℕ) : Type 0 where
   pub plain : IsTrue (is_plain_word w)
@@ -30,6 +30,6 @@ pub record AreReady (ws : List (List ℕ)) (rs : List ℕ) (w : List ℕ) (i : �
   pub good : Each IsSeqName ws
   pub apart : Each (λ v. v ≢ w) ws
   pub name : IsSeqName w
-  pub made : variables ≡ made ws rs ++ named w i
+  pub made : variables ≡ all_variables ws rs ++ sequence_variables w i
   pub few : i ≤ length variables
   pub room : length variables < most_names

@@ -1,5 +1,5 @@
 -- What a text says: it is read by the grammar of sequences.
---   joined ws rs vs es         the sequences with these names, of these orders, with these values in turn, and these recurrences
+--   sequences_from ws rs vs es         the sequences with these names, of these orders, with these values in turn, and these recurrences
 --   sequences_in s             the sequences that were read
 --   sequences_or_fault t       they, or the first fault; fault_at x why: that of the token x
 --   sequences_of bytes         what the text says, or its first fault
@@ -17,15 +17,16 @@ abbrev pub sequence_of : List ℕ → List (Expr ℕ) → Expr ℕ → Sequence 
 sequence_of w [] e = record { name = w; first = number (pos 0); later = []; next = e }
 sequence_of w (v ∷ vs) e = record { name = w; first = v; later = vs; next = e }
 
-unfoldable pub joined : List (List ℕ) → List ℕ → List (Expr ℕ) → List (Expr ℕ)
+unfoldable pub sequences_from : List (List ℕ) → List ℕ → List (Expr ℕ) → List (Expr ℕ)
     → List (Sequence (Expr ℕ))
-joined (w ∷ ws) (r ∷ rs) vs (e ∷ es) = sequence_of w (take r vs) e ∷ joined ws rs (drop r vs) es
-joined [] rs vs es = []
-joined (w ∷ ws) [] vs es = []
-joined (w ∷ ws) (r ∷ rs) vs [] = []
+sequences_from (w ∷ ws) (r ∷ rs) vs (e ∷ es) = sequence_of w (take r vs) e ∷ sequences_from ws rs
+    (drop r vs) es
+sequences_from [] rs vs es = []
+sequences_from (w ∷ ws) [] vs es = []
+sequences_from (w ∷ ws) (r ∷ rs) vs [] = []
 
 abbrev pub sequences_in : SeqState → List (Sequence (Expr ℕ))
-sequences_in s = joined s.context.sequences s.value.orders s.value.values s.value.nexts
+sequences_in s = sequences_from s.context.sequences s.value.orders s.value.values s.value.nexts
 
 abbrev pub sequences_or_fault : Told SeqContext SeqValue → Result (List (Sequence (Expr ℕ))) Fault
 sequences_or_fault (Ok r) = Ok (sequences_in r.0)

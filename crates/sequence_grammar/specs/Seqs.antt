@@ -20,7 +20,7 @@ use Rattle.loops.specs.Limits.{most_names, most_bytes}
 use Rattle.loops.specs.Program.{Expr, number}
 use Rattle.expressions.specs.Ascii.{underscore, left_parenthesis, right_parenthesis, star, plus_sign, comma, minus_sign, slash, semicolon, equal_sign}
 use Rattle.expressions.specs.Names.{place_of}
-use Rattle.grammars.specs.Grammar.{State, Grammar, Language, token, change, sequence, rule, joined, plain}
+use Rattle.grammars.specs.Grammar.{State, Grammar, Language, token, change, sequence, rule, separated, plain}
 use Rattle.grammars.specs.Embedded.{Embedding, lift}
 use Rattle.expr_text.specs.Lexemes as lexemes
 use Rattle.expr_text.specs.Lexemes.{Lexeme}
@@ -184,7 +184,7 @@ abbrev pub first_end : Rule
 first_end = token_of (a_sign right_parenthesis) end_first with_first
 
 abbrev pub values : Rule
-values = sequence (joined (sign comma) value) first_end
+values = sequence (separated (sign comma) value) first_end
 
 abbrev pub first : Rule
 first = sequence declared_name (sequence (sign equal_sign) (sequence (sign left_parenthesis)
@@ -194,7 +194,7 @@ abbrev pub firsts_end : Rule
 firsts_end = token_of (a_sign semicolon) end_firsts keep
 
 abbrev pub firsts : Rule
-firsts = sequence (joined (sign comma) first) firsts_end
+firsts = sequence (separated (sign comma) first) firsts_end
 
 -- recurrences
 abbrev pub due_name : Rule

@@ -7,7 +7,7 @@ use Rattle.rings.specs.Each.{Each}
 use Rattle.rings.proofs.Each.{each-append, each-map}
 use Rattle.exponentials.specs.Table.{numbers}
 use Rattle.exponentials.proofs.Table.{each_number}
-use Rattle.machines.specs.Elimination.{kept}
+use Rattle.machines.specs.Elimination.{free_part}
 use Rattle.loops.specs.Program.{Expr, Program}
 use Rattle.loops.specs.Certificate.{IsValid}
 use Rattle.rounds.specs.Start.{start_list}
@@ -68,7 +68,8 @@ module _ {At : Type 0} (program : Program (Expr At)) (c : FullCertificate)
       (each-append P _ _ (spots in_gens (length (starting program c r b kind)) s.gens)
       (each-append P _ _ (spots in_pairs (length (pairs_of (length (stage_of c r b kind).list)))
       s.pairs)
-      (spots in_links (length (kept (front_of c b kind) (stage_of c r b kind).list)) s.links))))
+      (spots in_links (length (free_part (front_of c b kind) (stage_of c r b kind).list))
+      s.links))))
 
   branch : (r b : ℕ) → r < length c.rounds → b < length program.branches
       → Each Q (branch_parts program c r b)

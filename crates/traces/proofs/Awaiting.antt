@@ -16,7 +16,7 @@ use Rattle.polynomials.specs.Order.{grevlex}
 use Rattle.polynomials.specs.Terms.{Terms}
 use Rattle.machines.specs.Completion as completion
 use Rattle.machines.specs.Division as division
-use Rattle.machines.specs.Elimination.{kept}
+use Rattle.machines.specs.Elimination.{free_part}
 use Rattle.machines.specs.Event.{Event, Pair}
 use Rattle.machines.specs.Journal.{Entry, Begin, Did, Task, Journal, units_of}
 use Rattle.machines.specs.Machine.{Machine, Refusal, too_wide, out_of_units, out_of_memory, Stops}
@@ -24,13 +24,13 @@ use Rattle.machines.specs.Machines as machines
 use Rattle.machines.specs.Past as past
 use Rattle.machines.specs.Run.{IsRun, HasEnded}
 use Rattle.machines.specs.Tidying as tidying
-use Rattle.machines.specs.Work.{Work as Done, Finished}
+use Rattle.machines.specs.Work.{Work as Done, WorkToEnd}
 use Rattle.machines.proofs.Runs.{run_then}
 use Rattle.rounds.specs.Analysis.{Setting, Work, starts, turn, turn_meet, orbit, meet, block, order, starting}
 use Rattle.rounds.specs.Past.{IsPastStarting, task_of_work}
 use Rattle.traces.specs.Coming.{Comes, Awaits, IsStopped, IsOutOf, Refuses}
 use Rattle.traces.specs.Followed.{IsPastDividends, IsPastDivided, IsPastEvent, task_of}
-use Rattle.traces.specs.Trace.{Dividend, CompletedList, Results, State, fresh, completing, dividing, tidying_up, linking, Step, goes, coming, begun, list_dividends, link_dividends, link_from, divide_from, next, moved, moves}
+use Rattle.traces.specs.Trace.{Dividend, CompletedList, Results, State, fresh, completing, dividing, tidying_up, linking, Step, goes, next_or, start_of, list_dividends, link_dividends, link_from, divide_from, next, move_of, moves}
 
 module _ (A : Setting) (rounds : ℕ) where
   pub forgotten : (es : List Entry) (task : Task) (step : Step) (P : Type 0)
@@ -40,12 +40,12 @@ module _ (A : Setting) (rounds : ℕ) where
   -- ---- a computation in a task
   module _ {S : Type 0} (M : Machine S) (task : Task) (at : S → State) (later : S → Step)
       (past_later : S → Type 0)
-      (follows : (s : S) → next A rounds (at s) ≡ coming at (M.next s) (later s))
+      (follows : (s : S) → next A rounds (at s) ≡ next_or at (M.next s) (later s))
       (in_task : (s : S) → task_of (at s) ≡ task)
       (weighs : (s : S) → M.IsPastNext s ⊎ (HasEnded M.next s × past_later s)
       → IsPastEvent A (at s)) where
     abbrev step : S → Step
-    step s = coming at (M.next s) (later s)
+    step s = next_or at (M.next s) (later s)
 
     abbrev past_at : S → Type 0
     past_at s = M.IsPastNext s ⊎ (HasEnded M.next s × past_later s)
@@ -56,7 +56,7 @@ module _ (A : Setting) (rounds : ℕ) where
     one_more s t e es a h = record {
       state = at t;
       run = run_then (moves A rounds) fresh a.state (at t) es (Did e) a.run
-          (ap (moved A rounds) (a.is ∙ ap (λ o. coming at o (later s)) h));
+          (ap (move_of A rounds) (a.is ∙ ap (λ o. next_or at o (later s)) h));
       in_task = in_task t;
       is = follows t;
       past_next = weighs t;
@@ -82,7 +82,7 @@ module _ (A : Setting) (rounds : ℕ) where
         (awaits_run s t w.events before a w.run)
 
     pub awaits_ended : (before after : List Entry) (s t : S)
-        → Awaits A rounds before task (step s) (past_at s) → Finished M.next s before after t
+        → Awaits A rounds before task (step s) (past_at s) → WorkToEnd M.next s before after t
         → Awaits A rounds after task (later t) (past_later t)
     awaits_ended before after s t a f =
         let b = awaits_work before after s t a f.work in
@@ -90,7 +90,7 @@ module _ (A : Setting) (rounds : ℕ) where
           state = b.state;
           run = b.run;
           in_task = b.in_task;
-          is = b.is ∙ ap (λ o. coming at o (later t)) f.ended;
+          is = b.is ∙ ap (λ o. next_or at o (later t)) f.ended;
           past_next = λ p. b.past_next (inr (f.ended, p));
         }
 
@@ -116,7 +116,7 @@ module _ (A : Setting) (rounds : ℕ) where
           comes = record {
             state = b.state;
             run = b.run;
-            is = b.is ∙ ap (λ o. coming at o (later i.at)) i.comes;
+            is = b.is ∙ ap (λ o. next_or at o (later i.at)) i.comes;
           };
           unit = i.unit;
           spent = i.spent;
@@ -146,42 +146,42 @@ module _ (A : Setting) (rounds : ℕ) where
 
     completing_next : (s : completion.State Fraction)
         → next A rounds (completing done w s)
-        ≡ coming (completing done w) (completion.next rationals (order A w) s) (list_coming s)
+        ≡ next_or (completing done w) (completion.next rationals (order A w) s) (list_coming s)
     unfolding next
     completing_next s = refl
 
     pub begun_awaits : (es : List Entry)
-        → Comes A rounds es (goes (Begin (task_of_work w)) (begun A done w))
+        → Comes A rounds es (goes (Begin (task_of_work w)) (start_of A done w))
         → Awaits A rounds (es ++ Begin (task_of_work w) ∷ []) (task_of_work w)
-        (coming (completing done w) (completes.next completes.start) (list_coming completes.start))
+        (next_or (completing done w) (completes.next completes.start) (list_coming completes.start))
         (completes.IsPastNext completes.start
         ⊎ (HasEnded completes.next completes.start × list_past completes.start))
     begun_awaits es c = record {
-      state = begun A done w;
-      run = run_then (moves A rounds) fresh c.state (begun A done w) es (Begin (task_of_work w))
-          c.run (ap (moved A rounds) c.is);
+      state = start_of A done w;
+      run = run_then (moves A rounds) fresh c.state (start_of A done w) es (Begin (task_of_work w))
+          c.run (ap (move_of A rounds) c.is);
       in_task = refl;
       is = completing_next completes.start;
       past_next = λ p. p;
     }
 
     begun_past : (es : List Entry)
-        → Comes A rounds es (goes (Begin (task_of_work w)) (begun A done w)) → IsPastStarting A w
+        → Comes A rounds es (goes (Begin (task_of_work w)) (start_of A done w)) → IsPastStarting A w
         → IsStopped A rounds (task_of_work w) (es ++ Begin (task_of_work w) ∷ [])
     begun_past es c p =
         record {
-          state = begun A done w;
-          run = run_then (moves A rounds) fresh c.state (begun A done w) es
-              (Begin (task_of_work w)) c.run (ap (moved A rounds) c.is);
+          state = start_of A done w;
+          run = run_then (moves A rounds) fresh c.state (start_of A done w) es
+              (Begin (task_of_work w)) c.run (ap (move_of A rounds) c.is);
           in_task = refl;
           past = inl p;
         }
 
     -- the completion
     module _ (es : List Entry)
-        (c : Comes A rounds es (goes (Begin (task_of_work w)) (begun A done w))) where
+        (c : Comes A rounds es (goes (Begin (task_of_work w)) (start_of A done w))) where
       pub list_awaits : (after : List Entry) (s : completion.State Fraction)
-          → Finished completes.next completes.start (es ++ Begin (task_of_work w) ∷ []) after s
+          → WorkToEnd completes.next completes.start (es ++ Begin (task_of_work w) ∷ []) after s
           → Awaits A rounds after (task_of_work w) (list_coming s) (list_past s)
       list_awaits after s f = awaits_ended completes (task_of_work w) (completing done w)
           list_coming list_past completing_next (λ t. refl) (λ t p. p)
@@ -193,7 +193,7 @@ module _ (A : Setting) (rounds : ℕ) where
       list_refused before after e r s =
           awaits_refused completes (task_of_work w) (completing done w) list_coming list_past
           completing_next (λ t. refl) (λ t p. p) before after
-          (subst (λ l. Awaits A rounds l (task_of_work w) (coming (completing done w)
+          (subst (λ l. Awaits A rounds l (task_of_work w) (next_or (completing done w)
           (completes.next completes.start) (list_coming completes.start))
           (completes.IsPastNext completes.start
           ⊎ (HasEnded completes.next completes.start × list_past completes.start))) (sym e)
@@ -219,18 +219,18 @@ module _ (A : Setting) (rounds : ℕ) where
 
       abbrev DivisionAwaited : List Entry → Type 0
       DivisionAwaited es = Awaits A rounds es (task_of_work w)
-          (coming at_division (divides.next divides.start) (row_coming divides.start))
+          (next_or at_division (divides.next divides.start) (row_coming divides.start))
           (divides.IsPastNext divides.start
           ⊎ (HasEnded divides.next divides.start × row_past divides.start))
 
       dividing_next : (d : division.State Fraction)
           → next A rounds (at_division d)
-          ≡ coming at_division (division.next rationals (order A w) gs d) (row_coming d)
+          ≡ next_or at_division (division.next rationals (order A w) gs d) (row_coming d)
       unfolding next
       dividing_next d = refl
 
       division_ended : (before after : List Entry) (d : division.State Fraction)
-          → DivisionAwaited before → Finished divides.next divides.start before after d
+          → DivisionAwaited before → WorkToEnd divides.next divides.start before after d
           → Awaits A rounds after (task_of_work w) (row_coming d) (row_past d)
       division_ended before after d a f = awaits_ended divides (task_of_work w) at_division
           row_coming row_past dividing_next (λ t. refl) (λ t q. q) before after divides.start d a f
@@ -253,7 +253,8 @@ module _ (A : Setting) (rounds : ℕ) where
           → Awaits A rounds before (task_of_work w)
           (divide_from A rounds done w gs rows ((None, p) ∷ left))
           (IsPastDivided A w gs ((None, p) ∷ left))
-          → Finished (machines.division fractions (order A w) gs p).next (division.begun gs p)
+          → WorkToEnd (machines.division fractions (order A w) gs p).next
+          (division.initial_state gs p)
           before after d → Awaits A rounds after (task_of_work w)
           (divide_from A rounds done w gs (rows ++ d.cofactors ∷ []) left)
           (IsPastDivided A w gs left)
@@ -277,13 +278,13 @@ module _ (A : Setting) (rounds : ℕ) where
         pair_next = a.is
 
         pub pair_awaits : Awaits A rounds (es ++ Did (Pair ab.0 ab.1) ∷ []) (task_of_work w)
-            (coming at_division (divides.next divides.start) (row_coming divides.start))
+            (next_or at_division (divides.next divides.start) (row_coming divides.start))
             (divides.IsPastNext divides.start
             ⊎ (HasEnded divides.next divides.start × row_past divides.start))
         pair_awaits = record {
           state = at_division divides.start;
           run = run_then (moves A rounds) fresh a.state (at_division divides.start) es
-              (Did (Pair ab.0 ab.1)) a.run (ap (moved A rounds) pair_next);
+              (Did (Pair ab.0 ab.1)) a.run (ap (move_of A rounds) pair_next);
           in_task = refl;
           is = dividing_next divides.start;
           past_next = λ q. q;
@@ -309,7 +310,8 @@ module _ (A : Setting) (rounds : ℕ) where
         }
 
         pub s_polynomial_awaits : (after : List Entry) (d : division.State Fraction)
-            → Finished (machines.division fractions (order A w) gs p).next (division.begun gs p)
+            → WorkToEnd (machines.division fractions (order A w) gs p).next
+            (division.initial_state gs p)
             (es ++ Did (Pair ab.0 ab.1) ∷ []) after d
             → Awaits A rounds after (task_of_work w)
             (divide_from A rounds done w gs (rows ++ d.cofactors ∷ []) left)
@@ -342,7 +344,7 @@ module _ (A : Setting) (rounds : ℕ) where
 
       tidying_next : (hs : List (Terms Fraction))
           → next A rounds (tidying_up done w told hs)
-          ≡ coming (tidying_up done w told) (tidying.next rationals grevlex hs) (out_coming hs)
+          ≡ next_or (tidying_up done w told) (tidying.next rationals grevlex hs) (out_coming hs)
       unfolding next
       tidying_next hs = refl
 
@@ -351,21 +353,21 @@ module _ (A : Setting) (rounds : ℕ) where
           (divide_from A rounds done w list rows []) (IsPastDivided A w list [])
 
       -- where each element is monic already
-      module _ (is : gs ≡ kept (block A w) list) (monic : tidies.start ≡ gs) where
+      module _ (is : gs ≡ free_part (block A w) list) (monic : tidies.start ≡ gs) where
         tidying_coming : (es : List Entry) → TidyingAwaited es → Awaits A rounds es
             (task_of_work w)
-            (coming (tidying_up done w told) (tidies.next tidies.start) (out_coming tidies.start))
+            (next_or (tidying_up done w told) (tidies.next tidies.start) (out_coming tidies.start))
             (tidies.IsPastNext tidies.start
             ⊎ (HasEnded tidies.next tidies.start × out_past tidies.start))
         unfolding divide_from IsPastDividends
         tidying_coming es a = subst (λ hs. Awaits A rounds es (task_of_work w)
-            (coming (tidying_up done w told) (tidies.next hs) (out_coming hs))
+            (next_or (tidying_up done w told) (tidies.next hs) (out_coming hs))
             (tidies.IsPastNext hs ⊎ (HasEnded tidies.next hs × out_past hs)))
             (sym (monic ∙ is)) a
 
         pub out_awaits : (before after : List Entry) (hs : List (Terms Fraction))
             → TidyingAwaited before
-            → Finished (machines.tidying fractions grevlex gs).next
+            → WorkToEnd (machines.tidying fractions grevlex gs).next
             (machines.tidying fractions grevlex gs).start before after hs
             → Awaits A rounds after (task_of_work w) (out_coming hs) (out_past hs)
         out_awaits before after hs a f = awaits_ended tidies (task_of_work w)
@@ -397,13 +399,14 @@ module _ (A : Setting) (rounds : ℕ) where
 
         linking_next : (d : division.State Fraction)
             → next A rounds (at_link d)
-            ≡ coming at_link (division.next rationals grevlex out d) (link_coming d)
+            ≡ next_or at_link (division.next rationals grevlex out d) (link_coming d)
         unfolding next
         linking_next d = refl
 
         abbrev LinkAwaited : List Entry → Type 0
         LinkAwaited es = Awaits A rounds es (task_of_work w)
-            (coming at_link (link_divides.next link_divides.start) (link_coming link_divides.start))
+            (next_or at_link (link_divides.next link_divides.start)
+            (link_coming link_divides.start))
             (link_divides.IsPastNext link_divides.start
             ⊎ (HasEnded link_divides.next link_divides.start × link_past link_divides.start))
 
@@ -425,8 +428,8 @@ module _ (A : Setting) (rounds : ℕ) where
               → Awaits A rounds before (task_of_work w)
               (link_from A rounds done w told out links (j ∷ left))
               (IsPastDividends grevlex out (j ∷ left) ⊥)
-              → Finished (machines.division fractions grevlex out j.1).next
-              (division.begun out j.1) before after d
+              → WorkToEnd (machines.division fractions grevlex out j.1).next
+              (division.initial_state out j.1) before after d
               → Awaits A rounds after (task_of_work w)
               (link_from A rounds done w told out (links ++ d.cofactors ∷ []) left)
               (IsPastDividends grevlex out left ⊥)

@@ -52,7 +52,7 @@ use Rattle.rounds.proofs.Invariants.{reduced_for}
 use Rattle.rounds.proofs.Start.{start_list_arity}
 use Rattle.rounds.proofs.Unwind.{starting_polynomials}
 use Rattle.completeness.specs.Stage.{Stage, block_order, StageHolds, IsStageOver}
-use Rattle.completeness.specs.FormIdentities.{PassesForm}
+use Rattle.completeness.specs.FormIdentities.{IsRightForm}
 use Rattle.completeness.specs.Full.{BranchStages, FullCertificate, WrittenForm, as_form, orbit, meet, of_kind, of_option, certificate, stage_of, so_far, before, front_of, IsFullOver}
 use Rattle.completeness.specs.Full as full
 use Rattle.completeness.specs.Parts.{AllHold}
@@ -372,7 +372,7 @@ module _ {At : Type 0} (program : Program (Expr At)) (w : IsWellFormed program)
         (start_told ended.in_round.started.stage ended.in_round.started.work i l))
 
     judged : (b : ℕ) → b < length program.branches
-        → PassesForm (branch_map program (get_or program.branches b [])) (length program.names)
+        → IsRightForm (branch_map program (get_or program.branches b [])) (length program.names)
         (as_form (get_or written b (record { base = []; polys = [] })))
     judged b l =
         let e : IsClosedForm program (suc b) (as_form (get_or written b bare)) = closed b l in

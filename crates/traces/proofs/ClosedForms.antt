@@ -21,7 +21,7 @@ use Rattle.exponentials.specs.Base.{Coprime, Ascending}
 use Rattle.exponentials.specs.Keys.{IsNormalKey, key_of}
 use Rattle.turns.specs.Turns as turns
 use Rattle.turns.specs.Turns.{point, width, IsNormal}
-use Rattle.turns.specs.Expo.{with_key, normalized, next_images, zero_images}
+use Rattle.turns.specs.Expo.{with_key, with_normal_keys, next_images, zero_images}
 use Rattle.turns.proofs.Lengths.{arity-normalized}
 use Rattle.turns.proofs.Numbers.{one_form}
 use Rattle.turns.proofs.Operations.{zero-value, next-value, normal-value}
@@ -31,7 +31,7 @@ use Rattle.machines.proofs.Padding.{at}
 use Rattle.rounds.specs.Form.{Form}
 use Rattle.expo.proofs.Normal.{AllStay, Stays, exponents_stay, stay_normal, normal_stay, collect_each}
 use Rattle.expo.proofs.Shifted.{compose_stay, arity-next}
-use Rattle.completeness.specs.FormIdentities.{PassesForm, IsRightAtZero, GoesOn}
+use Rattle.completeness.specs.FormIdentities.{IsRightForm, IsRightAtZero, GoesOn}
 
 -- ---- exponents of normal polynomials
 put_together : (r : ℕ) (a b : ℕ) (l : List ℕ) → with_key a (b, take r l, take r (drop r l))
@@ -184,7 +184,7 @@ module _ (images : List (Terms Fraction)) (m : ℕ) (size : length images ≡ m)
   )
 
   normals_stay : (qs us : List (Terms Fraction)) → AllArity w us
-      → Each (AllStay r) (map (λ q. normalized r (compose ℚ w q us)) qs)
+      → Each (AllStay r) (map (λ q. with_normal_keys r (compose ℚ w q us)) qs)
   unfolding Each
   normals_stay [] us a = tt
   normals_stay (q ∷ qs) us a = (
@@ -193,7 +193,7 @@ module _ (images : List (Terms Fraction)) (m : ℕ) (size : length images ≡ m)
   )
 
   normals_arity : (qs us : List (Terms Fraction)) → AllArity w us
-      → AllArity w (map (λ q. normalized r (compose ℚ w q us)) qs)
+      → AllArity w (map (λ q. with_normal_keys r (compose ℚ w q us)) qs)
   unfolding Each
   normals_arity [] us a = tt
   normals_arity (q ∷ qs) us a = (
@@ -202,7 +202,7 @@ module _ (images : List (Terms Fraction)) (m : ℕ) (size : length images ≡ m)
   )
 
   map_values : (qs us : List (Terms Fraction)) → AllArity w us → (n : ℕ) (s : List Fraction)
-      → map (λ q. at q (point f.base n s)) (map (λ q. normalized r (compose ℚ w q us)) qs)
+      → map (λ q. at q (point f.base n s)) (map (λ q. with_normal_keys r (compose ℚ w q us)) qs)
       ≡ map (λ q. at q (map (λ u. at u (point f.base n s)) us)) qs
   map_values [] us a n s = refl
   map_values (q ∷ qs) us a n s =
@@ -223,7 +223,7 @@ module _ (images : List (Terms Fraction)) (m : ℕ) (size : length images ≡ m)
       ∙ ap (λ z. map (λ q. at q z) images) (values n s l) ∙ sym (values (suc n) s l)
       ∙ sym (next_values f.polys n s l))
 
-  pub closed_form_passes : PassesForm images m f
+  pub closed_form_passes : IsRightForm images m f
   closed_form_passes = record {
     ascending = ascending;
     coprime = coprime;

@@ -1,6 +1,6 @@
 -- A full certificate of a trace has as many of all as it must (completeness/specs/Counts).
 --   finished_counted     where a finished trace gives it
-use Rattle.std.proofs.Common.{◌≡◌, ◌≢◌, ℕ, zero, suc, pred, ◌+◌, ◌<◌, ◌≤◌, Bool, true, false, cond, eqb, List, [], ◌∷◌, ◌++◌, map, filter, length, get_or, None, refl, sym, ap, ap₂, subst, ◌∙◌, arith}
+use Rattle.std.proofs.Common.{◌≡◌, ◌≢◌, ℕ, zero, suc, pred, ◌+◌, ◌<◌, ◌≤◌, Bool, true, false, eqb, List, [], ◌∷◌, ◌++◌, map, filter, length, get_or, None, refl, sym, ap, subst, ◌∙◌, arith}
 use Rattle.std.specs.Prelude.{All, replicate, is_some}
 use Rattle.std.proofs.lemmas.Bool.{eqb-true, eqb-false}
 use Rattle.std.proofs.lemmas.List.{length-append, length-map, length-replicate, get_or_default, get_or-map}
@@ -38,35 +38,10 @@ use Rattle.traces.proofs.WrittenForms.{form_is}
 use Rattle.traces.proofs.Chained.{branch_of, list_at, RoundsDone, AreDone}
 use Rattle.traces.proofs.Following.{WorkDone, Ended, finished_ended}
 use Rattle.traces.proofs.Over.{rows_count, rows_widths, orbit_counted, meet_counted}
+use Rattle.rounds.proofs.StartOrder.{none_in_order, sets, passed, outside}
 
 -- ---- the equations of init, in the order of the variables that they set
-none_in_order : (E : Type 0) (n : ℕ) → length (in_order {E = E} n []) ≡ 0
-unfolding in_order
-none_in_order E zero = refl
-none_in_order E (suc n) = length-append (in_order {E = E} n []) []
-    ∙ (let e = none_in_order E n in omega (arith, e))
-
 module _ {E : Type 0} where
-  abbrev sets : ℕ → Equation E → Bool
-  sets n e = eqb e.name n
-
-  passed : (b : Bool) (n : ℕ) (e : Equation E) (es : List (Equation E)) → eqb e.name n ≡ b
-      → filter (sets n) (e ∷ es) ≡ cond b (e ∷ filter (sets n) es) (filter (sets n) es)
-  passed b n e es is = ap (λ a. cond a (e ∷ filter (sets n) es) (filter (sets n) es)) is
-
-  -- an equation behind the first n variables, and one of them
-  outside : (n : ℕ) (e : Equation E) (es : List (Equation E)) → n ≤ e.name
-      → in_order n (e ∷ es) ≡ in_order n es
-  unfolding in_order
-  outside zero e es l = refl
-  outside (suc n) e es l = go (eqb e.name n) refl (outside n e es (omega (arith, l)))
-    where
-      go : (b : Bool) → eqb e.name n ≡ b → in_order n (e ∷ es) ≡ in_order n es
-          → in_order n (e ∷ es) ++ filter (sets n) (e ∷ es) ≡ in_order n es ++ filter (sets n) es
-      go true is same_before =
-          let same = eqb-true e.name n is in absurd (omega (arith, l, same))
-      go false is same_before = ap₂ (λ xs ys. xs ++ ys) same_before (passed false n e es is)
-
   inside : (n : ℕ) (e : Equation E) (es : List (Equation E)) → e.name < n
       → length (in_order n (e ∷ es)) ≡ suc (length (in_order n es))
   unfolding in_order

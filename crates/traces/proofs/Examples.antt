@@ -3,33 +3,33 @@
 --   squares_traced                   it is finished with these
 --   signs_entries_are, signs_end     the same of vars x; init x=1; branch { x=x; } branch { x=-x; }, with an intersection
 --   squares_full                     so it gives a valid full certificate
-use Rattle.std.proofs.Common.{◌≡◌, ℕ, zero, suc, ◌<◌, pos, negsuc, true, List, [], ◌∷◌, refl, subst, arith, None, Some}
+use Rattle.std.proofs.Common.{◌≡◌, ℕ, zero, suc, ◌<◌, pos, negsuc, List, [], ◌∷◌, refl, subst, arith, None, Some}
 use Rattle.std.specs.Prelude.{⊤}
 use Rattle.rings.specs.Arithmetic.{power}
 use Rattle.rings.specs.Sum.{sum_over}
 use Rattle.numbers.specs.Gcd.{gcd}
 use Rattle.numbers.specs.Ratio.{is_lowest, reduce}
 use Rattle.numbers.specs.Fraction as Fraction
-use Rattle.numbers.specs.Fraction.{Fraction, fraction, over, whole, ℚ}
-use Rattle.numbers.proofs.Fractions.{ℚ_ring, fraction_eq, fraction_eq_refl, fraction_eq_true}
+use Rattle.numbers.specs.Fraction.{Fraction, fraction, over, whole}
+use Rattle.numbers.proofs.Fractions.{fraction_eq}
 use Rattle.polynomials.specs.Algebra as Algebra
 use Rattle.polynomials.specs.Exponent.{same, plus, over as less, lcm, unit_exponents}
 use Rattle.polynomials.specs.Order.{compare, grevlex, blocks}
-use Rattle.polynomials.specs.Terms.{Terms, Same, combination, constant, variables, evaluate, monomial_at, retold}
-use Rattle.polynomials.proofs.SameDecided.{agree_at, test_same, same_from_test}
-use Rattle.exponentials.specs.Keys.{left}
-use Rattle.machines.specs.Collect.{collect, insert, place, scaled}
+use Rattle.polynomials.specs.Terms.{Terms, combination, constant, variables, evaluate, monomial_at, retold}
+use Rattle.polynomials.proofs.SameDecided.{agree_at, test_same}
+use Rattle.exponentials.specs.Keys.{excess}
+use Rattle.machines.specs.Collect.{collect, insert, place, scale_terms}
 use Rattle.machines.specs.Completion as completion
-use Rattle.machines.specs.Completion.{with_element, with_elements, s_polynomial, reducing, taking, acting}
+use Rattle.machines.specs.Completion.{with_element, with_elements, s_polynomial, next_reduction, next_pair, next_completion}
 use Rattle.machines.specs.Cut.{lead_of, tail_of, lead_number, divides, cut_by, find_cut, after_cut, monic}
 use Rattle.machines.specs.Division as division
-use Rattle.machines.specs.Division.{with_term, divided, dividing}
-use Rattle.machines.specs.Elimination.{all_free, kept}
+use Rattle.machines.specs.Division.{with_term, next_cut, next_division}
+use Rattle.machines.specs.Elimination.{all_free, free_part}
 use Rattle.machines.specs.Event.{Pair, Cut, Keep, Zero}
 use Rattle.machines.specs.Journal.{Entry, Begin, Did, Start, Orbit, Meet}
-use Rattle.machines.specs.Pairs.{coprime, mixes_degrees, waits, beside, put_pair, with_new, covers, settled}
+use Rattle.machines.specs.Pairs.{coprime, mixes_degrees, waits, beside, put_pair, with_new, covers, skip_covered}
 use Rattle.machines.specs.Tidying as tidying
-use Rattle.machines.specs.Tidying.{without, drop_from, tail_or, tail_from, tailing, dropping, ahead, put_by_lead, by_lead}
+use Rattle.machines.specs.Tidying.{without, drop_from, tail_or, tail_from, next_tail, next_drop, ahead, put_by_lead, by_lead}
 use Rattle.machines.specs.Run.{IsRun}
 use Rattle.machines.proofs.Runs.{on, trace, run_of}
 use Rattle.loops.specs.Effect.{init_statement, start_from, store, value_of, after_statement, after_branch as after_statements}
@@ -51,6 +51,7 @@ use Rattle.traces.specs.Certified.{full_from}
 use Rattle.traces.specs.Followed.{IsFinished}
 use Rattle.traces.specs.Trace.{Results, fresh, finished, list_dividends, link_dividends, stage_of, next, moves, after_branch, after, link_from, divide_from}
 use Rattle.traces.proofs.Certified.{finished_full}
+use Rattle.completeness.proofs.Examples.{tested}
 
 abbrev one : Fraction
 one = whole (pos 1)
@@ -248,11 +249,14 @@ entries_are : (trace (moves setting 1) 141 fresh).0 ≡ squares_entries
 unfolding on trace next block starting list_dividends link_dividends stage_of after_branch after
     link_from divide_from relation relations_to start_list start_polynomial in_order branch_map
     after_statements after_statement store value_of variables unit_exponents constant collect insert
-    place scaled compare blocks grevlex completion.next with_element with_elements s_polynomial
-    reducing taking acting lead_of tail_of lead_number divides cut_by find_cut after_cut monic
-    division.next with_term divided dividing all_free kept retold coprime mixes_degrees waits beside
-    put_pair with_new covers settled tidying.next without drop_from tail_or tail_from tailing
-    dropping ahead put_by_lead by_lead pairs_of less same plus lcm left Algebra.times Algebra.shift
+    place scale_terms compare blocks grevlex completion.next with_element with_elements s_polynomial
+    next_reduction next_pair next_completion lead_of tail_of lead_number divides cut_by find_cut
+    after_cut monic
+    division.next with_term next_cut next_division all_free free_part retold coprime mixes_degrees
+    waits beside
+    put_pair with_new covers skip_covered tidying.next without drop_from tail_or tail_from next_tail
+    next_drop ahead put_by_lead by_lead pairs_of less same plus lcm excess Algebra.times
+    Algebra.shift
     Algebra.negate evaluate sum_over monomial_at power fraction Fraction.sum Fraction.product
     Fraction.opposite Fraction.inverse is_lowest reduce gcd completion.degree
 entries_are = refl
@@ -261,11 +265,14 @@ ends : next setting 1 (trace (moves setting 1) 141 fresh).1 ≡ finished squares
 unfolding on trace next block starting list_dividends link_dividends stage_of after_branch after
     link_from divide_from relation relations_to start_list start_polynomial in_order branch_map
     after_statements after_statement store value_of variables unit_exponents constant collect insert
-    place scaled compare blocks grevlex completion.next with_element with_elements s_polynomial
-    reducing taking acting lead_of tail_of lead_number divides cut_by find_cut after_cut monic
-    division.next with_term divided dividing all_free kept retold coprime mixes_degrees waits beside
-    put_pair with_new covers settled tidying.next without drop_from tail_or tail_from tailing
-    dropping ahead put_by_lead by_lead pairs_of less same plus lcm left Algebra.times Algebra.shift
+    place scale_terms compare blocks grevlex completion.next with_element with_elements s_polynomial
+    next_reduction next_pair next_completion lead_of tail_of lead_number divides cut_by find_cut
+    after_cut monic
+    division.next with_term next_cut next_division all_free free_part retold coprime mixes_degrees
+    waits beside
+    put_pair with_new covers skip_covered tidying.next without drop_from tail_or tail_from next_tail
+    next_drop ahead put_by_lead by_lead pairs_of less same plus lcm excess Algebra.times
+    Algebra.shift
     Algebra.negate evaluate sum_over monomial_at power fraction Fraction.sum Fraction.product
     Fraction.opposite Fraction.inverse is_lowest reduce gcd completion.degree
 ends = refl
@@ -286,9 +293,6 @@ squares_traced = record {
 }
 
 -- ---- the certificate in it
-tested : (p q : Terms Fraction) → test_same ℚ fraction_eq p q ≡ true → Same ℚ p q
-tested p q h = same_from_test ℚ_ring fraction_eq fraction_eq_refl fraction_eq_true p q h
-
 at_start : (i : ℕ) → i < 2
     → PassesStart squares (record { basis = squares_basis; steps = squares_steps }) i
 unfolding combination start_map branch_map start_from init_statement after_statements
@@ -425,11 +429,14 @@ pub signs_entries_are : (trace (moves signs_setting 1) 73 fresh).0 ≡ signs_ent
 unfolding on trace next block starting list_dividends link_dividends stage_of after_branch after
     link_from divide_from relation relations_to start_list start_polynomial in_order branch_map
     after_statements after_statement store value_of variables unit_exponents constant collect insert
-    place scaled compare blocks grevlex completion.next with_element with_elements s_polynomial
-    reducing taking acting lead_of tail_of lead_number divides cut_by find_cut after_cut monic
-    division.next with_term divided dividing all_free kept retold coprime mixes_degrees waits beside
-    put_pair with_new covers settled tidying.next without drop_from tail_or tail_from tailing
-    dropping ahead put_by_lead by_lead pairs_of less same plus lcm left Algebra.times Algebra.shift
+    place scale_terms compare blocks grevlex completion.next with_element with_elements s_polynomial
+    next_reduction next_pair next_completion lead_of tail_of lead_number divides cut_by find_cut
+    after_cut monic
+    division.next with_term next_cut next_division all_free free_part retold coprime mixes_degrees
+    waits beside
+    put_pair with_new covers skip_covered tidying.next without drop_from tail_or tail_from next_tail
+    next_drop ahead put_by_lead by_lead pairs_of less same plus lcm excess Algebra.times
+    Algebra.shift
     Algebra.negate evaluate sum_over monomial_at power fraction Fraction.sum Fraction.product
     Fraction.opposite Fraction.inverse is_lowest reduce gcd completion.degree
 signs_entries_are = refl
@@ -439,11 +446,14 @@ pub signs_end : next signs_setting 1 (trace (moves signs_setting 1) 73 fresh).1
 unfolding on trace next block starting list_dividends link_dividends stage_of after_branch after
     link_from divide_from relation relations_to start_list start_polynomial in_order branch_map
     after_statements after_statement store value_of variables unit_exponents constant collect insert
-    place scaled compare blocks grevlex completion.next with_element with_elements s_polynomial
-    reducing taking acting lead_of tail_of lead_number divides cut_by find_cut after_cut monic
-    division.next with_term divided dividing all_free kept retold coprime mixes_degrees waits beside
-    put_pair with_new covers settled tidying.next without drop_from tail_or tail_from tailing
-    dropping ahead put_by_lead by_lead pairs_of less same plus lcm left Algebra.times Algebra.shift
+    place scale_terms compare blocks grevlex completion.next with_element with_elements s_polynomial
+    next_reduction next_pair next_completion lead_of tail_of lead_number divides cut_by find_cut
+    after_cut monic
+    division.next with_term next_cut next_division all_free free_part retold coprime mixes_degrees
+    waits beside
+    put_pair with_new covers skip_covered tidying.next without drop_from tail_or tail_from next_tail
+    next_drop ahead put_by_lead by_lead pairs_of less same plus lcm excess Algebra.times
+    Algebra.shift
     Algebra.negate evaluate sum_over monomial_at power fraction Fraction.sum Fraction.product
     Fraction.opposite Fraction.inverse is_lowest reduce gcd completion.degree
 signs_end = refl

@@ -8,7 +8,7 @@ use Rattle.numbers.specs.Fraction.{Fraction, rationals}
 use Rattle.polynomials.specs.Terms.{Terms}
 use Rattle.polynomials.specs.Order.{Rank, grevlex}
 use Rattle.machines.specs.Event.{Event}
-use Rattle.machines.specs.Elimination.{kept}
+use Rattle.machines.specs.Elimination.{free_part}
 use Rattle.machines.specs.Journal.{Entry}
 use Rattle.machines.specs.Run.{IsRun, HasEnded, Ends}
 use Rattle.machines.specs.Completion as completion
@@ -20,7 +20,7 @@ use Rattle.rounds.specs.Results.{LeadsTo}
 use Rattle.completeness.specs.Stage.{Stage}
 use Rattle.completeness.specs.Full.{BranchStages}
 use Rattle.traces.specs.Traced.{IsDivided, IsCompleted, IsTidied}
-use Rattle.traces.specs.Trace.{Dividend, CompletedList, Divisions, Results, no_results, with_stage, with_round, State, fresh, completing, dividing, tidying_up, linking, Step, goes, finished, begun, list_dividends, link_dividends, stage_of, begin_orbit, after_round, after_branch, after, coming, link_from, tidy_from, divide_from, next, moved, moves}
+use Rattle.traces.specs.Trace.{Dividend, CompletedList, Divisions, Results, no_results, with_stage, with_round, State, fresh, completing, dividing, tidying_up, linking, Step, goes, finished, start_of, list_dividends, link_dividends, stage_of, begin_orbit, after_round, after_branch, after, next_or, link_from, tidy_from, divide_from, next, move_of, moves}
 
 -- ---- runs
 begun_run : {S E : Type 0} (next : S → Option (E × S)) (s : S) → LeadsTo next s s
@@ -61,7 +61,7 @@ module _ (O : Rank) (gs : List (Terms Fraction)) where
     pub now : Dividend
     pub is : all ≡ past ++ now ∷ row.left
     pub done : AllDivided past row.rows
-    pub run : LeadsTo (division.next rationals O gs) (division.begun gs now.1) d
+    pub run : LeadsTo (division.next rationals O gs) (division.initial_state gs now.1) d
 
 shifted : {X : Type 0} (xs ys : List X) (x : X) → xs ++ x ∷ ys ≡ (xs ++ x ∷ []) ++ ys
 shifted xs ys x = sym (append_assoc xs (x ∷ []) ys)
@@ -75,7 +75,7 @@ module _ (A : Setting) where
     pub links : List (List (Terms Fraction))
     pub completed : IsCompleted (order A w) (starting A w) list
     pub divided : AllDivided (order A w) list (list_dividends A w list) rows
-    pub tidied : IsTidied (kept (block A w) list) out
+    pub tidied : IsTidied (free_part (block A w) list) out
     pub linked : AllDivided grevlex out (link_dividends A w list) links
     pub is : s ≡ stage_of A w (record { list = list; rows = rows }) out links
 
@@ -139,17 +139,17 @@ module _ (A : Setting) (R : ℕ) (some : 0 < length A.forms) where
   abbrev pub Good : State → Type 0
   Good fresh = Unit {0}
   Good (completing done w s) = Stands done w × LeadsTo (completion.next rationals (order A w))
-      (completion.begun rationals (order A w) (starting A w)) s
+      (completion.initial_state rationals (order A w) (starting A w)) s
   Good (dividing done w gs row d) = Stands done w × IsCompleted (order A w) (starting A w) gs
       × Dividing (order A w) gs (list_dividends A w gs) row d
   Good (tidying_up done w t gs) =
       Stands done w × IsCompleted (order A w) (starting A w) t.list
       × AllDivided (order A w) t.list (list_dividends A w t.list) t.rows
-      × LeadsTo (tidying.next rationals grevlex) (kept (block A w) t.list) gs
+      × LeadsTo (tidying.next rationals grevlex) (free_part (block A w) t.list) gs
   Good (linking done w t out row d) =
       Stands done w × IsCompleted (order A w) (starting A w) t.list
       × AllDivided (order A w) t.list (list_dividends A w t.list) t.rows
-      × IsTidied (kept (block A w) t.list) out
+      × IsTidied (free_part (block A w) t.list) out
       × Dividing grevlex out (link_dividends A w t.list) row d
 
   abbrev pub StepGood : Step → Type 0
@@ -157,7 +157,7 @@ module _ (A : Setting) (R : ℕ) (some : 0 < length A.forms) where
   StepGood (finished done) = Ended done
 
   -- ---- from one task to the next
-  good_begun : (d : Results) (w : Work) → Stands d w → Good (begun A d w)
+  good_begun : (d : Results) (w : Work) → Stands d w → Good (start_of A d w)
   good_begun d w s = (s, begun_run _ _)
 
   good_round : (d : Results) (k : ℕ) (gs : List (Terms Fraction)) → InRound A d k gs → k ≤ R
@@ -244,7 +244,7 @@ module _ (A : Setting) (R : ℕ) (some : 0 < length A.forms) where
       (comp : IsCompleted (order A w) (starting A w) t.list) (divs : AllDivided (order A w) t.list
       (list_dividends A w t.list) t.rows) where
     done_work : (out : List (Terms Fraction)) (links : List (List (Terms Fraction)))
-        → IsTidied (kept (block A w) t.list) out
+        → IsTidied (free_part (block A w) t.list) out
         → AllDivided grevlex out (link_dividends A w t.list) links
         → WorkDone A w (stage_of A w t out links)
     done_work out links tidy linked = record {
@@ -259,7 +259,7 @@ module _ (A : Setting) (R : ℕ) (some : 0 < length A.forms) where
       is = refl;
     }
 
-    good_link : (out : List (Terms Fraction)) → IsTidied (kept (block A w) t.list) out
+    good_link : (out : List (Terms Fraction)) → IsTidied (free_part (block A w) t.list) out
         → (left past : List Dividend) (rows : List (List (Terms Fraction)))
         → link_dividends A w t.list ≡ past ++ left → AllDivided grevlex out past rows
         → StepGood (link_from A R d w t out rows left)
@@ -271,19 +271,24 @@ module _ (A : Setting) (R : ℕ) (some : 0 < length A.forms) where
         (done_work out rows tidy (subst (λ js. AllDivided grevlex out js rows)
         (sym (e ∙ append-nil past)) a)))
     good_link out tidy (j ∷ left) past rows e a =
-        go (division.next rationals grevlex out (division.begun out j.1)) refl
+        go (division.next rationals grevlex out (division.initial_state out j.1)) refl
         (λ ended. good_link out tidy left (past ++ j ∷ [])
-        (rows ++ (division.begun out j.1).cofactors ∷ []) (e ∙ shifted past left j)
-        (divided_more grevlex out past rows j (division.begun out j.1).cofactors a
-        (record { ends = ended_at _ _ (division.begun out j.1) (begun_run _ _) ended; is = refl })))
+        (rows ++ (division.initial_state out j.1).cofactors ∷ []) (e ∙ shifted past left j)
+        (divided_more grevlex out past rows j (division.initial_state out j.1).cofactors a
+        (record {
+          ends = ended_at _ _ (division.initial_state out j.1) (begun_run _ _) ended;
+          is =
+              refl;
+        })))
       where
         go : (o : Option (Event × division.State Fraction))
-            → division.next rationals grevlex out (division.begun out j.1) ≡ o
-            → (division.next rationals grevlex out (division.begun out j.1) ≡ None
-            → StepGood (link_from A R d w t out (rows ++ (division.begun out j.1).cofactors
+            → division.next rationals grevlex out (division.initial_state out j.1) ≡ o
+            → (division.next rationals grevlex out (division.initial_state out j.1) ≡ None
+            → StepGood (link_from A R d w t out (rows ++ (division.initial_state out j.1).cofactors
             ∷ []) left))
-            → StepGood (coming (linking d w t out (record { rows = rows; left = left })) o
-            (link_from A R d w t out (rows ++ (division.begun out j.1).cofactors ∷ []) left))
+            → StepGood (next_or (linking d w t out (record { rows = rows; left = left })) o
+            (link_from A R d w t out (rows ++ (division.initial_state out j.1).cofactors ∷ [])
+            left))
         go None h later = later h
         go (Some (ev, u)) h later = (
           stands,
@@ -300,15 +305,15 @@ module _ (A : Setting) (R : ℕ) (some : 0 < length A.forms) where
         )
 
     -- a division by it goes on
-    good_linking : (out : List (Terms Fraction)) → IsTidied (kept (block A w) t.list) out
+    good_linking : (out : List (Terms Fraction)) → IsTidied (free_part (block A w) t.list) out
         → (row : Divisions) (u : division.State Fraction)
         → Dividing grevlex out (link_dividends A w t.list) row u
-        → StepGood (coming (linking d w t out row) (division.next rationals grevlex out u)
+        → StepGood (next_or (linking d w t out row) (division.next rationals grevlex out u)
         (link_from A R d w t out (row.rows ++ u.cofactors ∷ []) row.left))
     good_linking out tidy row u x = go (division.next rationals grevlex out u) refl
       where
         go : (o : Option (Event × division.State Fraction)) → division.next rationals grevlex out u
-            ≡ o → StepGood (coming (linking d w t out row) o
+            ≡ o → StepGood (next_or (linking d w t out row) o
             (link_from A R d w t out (row.rows ++ u.cofactors ∷ []) row.left))
         go None h = good_link out tidy row.left (x.past ++ x.now ∷ []) (row.rows ++ u.cofactors
             ∷ []) (x.is ∙ shifted x.past row.left x.now)
@@ -330,11 +335,11 @@ module _ (A : Setting) (R : ℕ) (some : 0 < length A.forms) where
 
     -- ---- tidying
     good_tidy : (gs : List (Terms Fraction)) → LeadsTo (tidying.next rationals grevlex)
-        (kept (block A w) t.list) gs → StepGood (tidy_from A R d w t gs)
+        (free_part (block A w) t.list) gs → StepGood (tidy_from A R d w t gs)
     good_tidy gs l = go (tidying.next rationals grevlex gs) refl
       where
         go : (o : Option (Event × List (Terms Fraction))) → tidying.next rationals grevlex gs ≡ o
-            → StepGood (coming (tidying_up d w t) o
+            → StepGood (next_or (tidying_up d w t) o
             (link_from A R d w t (tidying.by_lead grevlex gs) [] (link_dividends A w t.list)))
         go None h = good_link (tidying.by_lead grevlex gs) (record {
           ends = ended_at _ _ (gs) (l) h;
@@ -351,26 +356,32 @@ module _ (A : Setting) (R : ℕ) (some : 0 < length A.forms) where
     unfolding divide_from
     good_divide [] past rows e a = good_tidy d w (record { list = gs; rows = rows }) stands comp
         (subst (λ js. AllDivided (order A w) gs js rows) (sym (e ∙ append-nil past)) a)
-        (kept (block A w) gs) (begun_run _ _)
+        (free_part (block A w) gs) (begun_run _ _)
     good_divide ((Some b, p) ∷ left) past rows e a = (
       stands,
       comp,
       record { past = past; now = (Some b, p); is = e; done = a; run = begun_run _ _ },
     )
     good_divide ((None, p) ∷ left) past rows e a =
-        go (division.next rationals (order A w) gs (division.begun gs p)) refl
-        (λ ended. good_divide left (past ++ (None, p) ∷ []) (rows ++ (division.begun gs p).cofactors
+        go (division.next rationals (order A w) gs (division.initial_state gs p)) refl
+        (λ ended. good_divide left (past ++ (None, p) ∷ [])
+        (rows ++ (division.initial_state gs p).cofactors
         ∷ []) (e ∙ shifted past left (None, p))
-        (divided_more (order A w) gs past rows (None, p) (division.begun gs p).cofactors a
-        (record { ends = ended_at _ _ (division.begun gs p) (begun_run _ _) ended; is = refl })))
+        (divided_more (order A w) gs past rows (None, p) (division.initial_state gs p).cofactors a
+        (record {
+          ends = ended_at _ _ (division.initial_state gs p) (begun_run _ _) ended;
+          is =
+              refl;
+        })))
       where
         go : (o : Option (Event × division.State Fraction)) → division.next rationals (order A w) gs
-            (division.begun gs p) ≡ o
-            → (division.next rationals (order A w) gs (division.begun gs p) ≡ None
-            → StepGood (divide_from A R d w gs (rows ++ (division.begun gs p).cofactors ∷ [])
+            (division.initial_state gs p) ≡ o
+            → (division.next rationals (order A w) gs (division.initial_state gs p) ≡ None
+            → StepGood (divide_from A R d w gs (rows ++ (division.initial_state gs p).cofactors
+            ∷ [])
             left))
-            → StepGood (coming (dividing d w gs (record { rows = rows; left = left })) o
-            (divide_from A R d w gs (rows ++ (division.begun gs p).cofactors ∷ []) left))
+            → StepGood (next_or (dividing d w gs (record { rows = rows; left = left })) o
+            (divide_from A R d w gs (rows ++ (division.initial_state gs p).cofactors ∷ []) left))
         go None h later = later h
         go (Some (ev, u)) h later = (
           stands,
@@ -386,12 +397,12 @@ module _ (A : Setting) (R : ℕ) (some : 0 < length A.forms) where
 
     good_dividing : (row : Divisions) (u : division.State Fraction)
         → Dividing (order A w) gs (list_dividends A w gs) row u
-        → StepGood (coming (dividing d w gs row) (division.next rationals (order A w) gs u)
+        → StepGood (next_or (dividing d w gs row) (division.next rationals (order A w) gs u)
         (divide_from A R d w gs (row.rows ++ u.cofactors ∷ []) row.left))
     good_dividing row u x = go (division.next rationals (order A w) gs u) refl
       where
         go : (o : Option (Event × division.State Fraction)) → division.next rationals (order A w) gs
-            u ≡ o → StepGood (coming (dividing d w gs row) o
+            u ≡ o → StepGood (next_or (dividing d w gs row) o
             (divide_from A R d w gs (row.rows ++ u.cofactors ∷ []) row.left))
         go None h = good_divide row.left (x.past ++ x.now ∷ []) (row.rows ++ u.cofactors ∷ []) (x.is
             ∙ shifted x.past row.left x.now)
@@ -411,14 +422,15 @@ module _ (A : Setting) (R : ℕ) (some : 0 < length A.forms) where
 
   -- ---- completion
   good_completing : (d : Results) (w : Work) (s : completion.State Fraction) → Stands d w
-      → LeadsTo (completion.next rationals (order A w)) (completion.begun rationals (order A w)
-      (starting A w)) s → StepGood (coming (completing d w)
+      → LeadsTo (completion.next rationals (order A w)) (completion.initial_state rationals
+      (order A w)
+      (starting A w)) s → StepGood (next_or (completing d w)
       (completion.next rationals (order A w) s) (divide_from A R d w s.basis []
       (list_dividends A w s.basis)))
   good_completing d w s stands l = go (completion.next rationals (order A w) s) refl
     where
       go : (o : Option (Event × completion.State Fraction)) → completion.next rationals (order A w)
-          s ≡ o → StepGood (coming (completing d w) o
+          s ≡ o → StepGood (next_or (completing d w) o
           (divide_from A R d w s.basis [] (list_dividends A w s.basis)))
       go None h = good_divide d w s.basis stands (record {
         ends = ended_at _ _ (s) (l) h;
@@ -435,7 +447,8 @@ module _ (A : Setting) (R : ℕ) (some : 0 < length A.forms) where
   good_next (tidying_up d w t gs) g = good_tidy d w t g.0 g.1 g.2 gs g.3
   good_next (linking d w t out row u) g = good_linking d w t g.0 g.1 g.2 out g.3 row u g.4
 
-  good_moved : (x : Step) (e : Entry) (u : State) → StepGood x → moved A R x ≡ Some (e, u) → Good u
+  good_moved : (x : Step) (e : Entry) (u : State) → StepGood x → move_of A R x ≡ Some (e, u)
+      → Good u
   good_moved (goes f v) e u g h =
       let is : ◌≡◌ {A = Entry × State} (f, v) (e, u) = cc in
       subst Good (ap (λ (z : Entry × State). z.1) is) g

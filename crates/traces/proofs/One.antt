@@ -13,7 +13,7 @@ use Rattle.rounds.proofs.Forms.{forms_are_one}
 use Rattle.completeness.specs.Full.{as_form}
 use Rattle.rounds.proofs.Prefixes.{begins_ended}
 use Rattle.traces.specs.Followed.{IsFinished, IsOut}
-use Rattle.traces.specs.Trace.{Results, fresh, goes, finished, next, moved, moves}
+use Rattle.traces.specs.Trace.{Results, fresh, goes, finished, next, move_of, moves}
 
 more_units : (fs rest : List Entry) (e : Entry) → counts e ≡ true
     → units_of fs < units_of (fs ++ e ∷ rest)
@@ -56,7 +56,7 @@ module _ {At : Type 0} (program : Program (Expr At)) (k : ℕ) where
       y.follows.run in
       let is = subst (λ l. next (setting_of program l None) k y.state ≡ finished e) same y.is in
       let one = ended_unique (moves A k) fresh x.state y.state es fs x.follows.run
-      (ap (moved A k) x.is) run (ap (moved A k) is) in
+      (ap (move_of A k) x.is) run (ap (move_of A k) is) in
       (one.0, same_results (sym x.is ∙ ap (next A k) one.1 ∙ is))
     where
       same_results : finished d ≡ finished e → d ≡ e
@@ -72,6 +72,6 @@ module _ {At : Type 0} (program : Program (Expr At)) (k : ℕ) where
       let is = subst (λ l. next (setting_of program l None) k out.comes.state
       ≡ goes out.entry out.state) same out.comes.is in
       let less = ended_has_more (moves A k) es fs fresh x.state out.comes.state out.state out.entry
-      x.follows.run (ap (moved A k) x.is) run (ap (moved A k) is) out.unit in
+      x.follows.run (ap (move_of A k) x.is) run (ap (move_of A k) is) out.unit in
       let spent = out.spent in
       omega (arith, less, few, spent)

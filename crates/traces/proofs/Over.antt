@@ -19,7 +19,7 @@ use Rattle.ideals.specs.Members.{IsMember}
 use Rattle.machines.specs.Basis.{AtPlaces, IsBasisOf}
 use Rattle.machines.specs.Completion.{s_polynomial}
 use Rattle.machines.specs.Division as division
-use Rattle.machines.specs.Elimination.{kept, blend}
+use Rattle.machines.specs.Elimination.{free_part, blend}
 use Rattle.machines.specs.Reduced.{IsReducedFor}
 use Rattle.machines.proofs.Cofactors.{cofactors_fall}
 use Rattle.machines.proofs.Dividing.{kept_begun, kept_run}
@@ -73,7 +73,7 @@ module _ (O : Rank) (gs : List (Terms Fraction)) where
     row_width : (p : Terms Fraction) → IsPolynomial ℚ O n p → (qs : List (Terms Fraction))
         → IsDivided O gs p qs → length qs ≡ length gs
     row_width p h qs d = ap length d.is
-        ∙ (kept_run ℚ_field O o n gs el p (division.begun gs p) d.ends.last d.ends.events
+        ∙ (kept_run ℚ_field O o n gs el p (division.initial_state gs p) d.ends.last d.ends.events
         d.ends.run (kept_begun ℚ_field O o n gs el p h)).count
 
     pub rows_widths : (js : List Dividend) (rows : List (List (Terms Fraction)))
@@ -100,8 +100,8 @@ module _ (k m : ℕ) (hs : List (Terms Fraction))
     (divs : AllDivided (block_order k) list (map (λ p. (None, p)) hs ++ map
     (λ a. (Some a, s_polynomial rationals (block_order k) list a)) (pairs_of (length list)))
     rows)
-    (tidy : IsTidied (kept k list) out) (linked : AllDivided grevlex out
-    (map (λ p. (None, p)) (kept k list)) links) where
+    (tidy : IsTidied (free_part k list) out) (linked : AllDivided grevlex out
+    (map (λ p. (None, p)) (free_part k list)) links) where
   s : Stage
   s = record {
     list = list;
@@ -136,7 +136,7 @@ module _ (k m : ℕ) (hs : List (Terms Fraction))
     nonzero = is_basis.nonzero i g at;
   }
 
-  reduced : IsReducedFor rationals grevlex m out (IsMember ℚ m (kept k list))
+  reduced : IsReducedFor rationals grevlex m out (IsMember ℚ m (free_part k list))
   reduced = out_reduced k m hs ph (record {
     list = list;
     gens = take (length hs) rows;
@@ -149,7 +149,7 @@ module _ (k m : ℕ) (hs : List (Terms Fraction))
   out_elements i g at = let j = in_slice out i g at in
       record { polynomial = reduced.polynomials g j; nonzero = reduced.nonzero g j }
 
-  is_kept : IsBasisOf rationals grevlex m (kept k list) (kept k list)
+  is_kept : IsBasisOf rationals grevlex m (free_part k list) (free_part k list)
   is_kept = kept_is k m hs ph (record {
     list = list;
     gens = take (length hs) rows;
@@ -190,13 +190,13 @@ module _ (k m : ℕ) (hs : List (Terms Fraction))
       (k + m) list list_elements _ rows dividends_are divs
 
   links_polynomials : Each (λ (j : Dividend). IsPolynomial ℚ grevlex m j.1)
-      (map (λ p. (None, p)) (kept k list))
+      (map (λ p. (None, p)) (free_part k list))
   links_polynomials = each-map (λ (j : Dividend). IsPolynomial ℚ grevlex m j.1) (λ p. (None, p))
-      (kept k list) (at_each (IsPolynomial ℚ grevlex m) (kept k list) is_kept.polynomials)
+      (free_part k list) (at_each (IsPolynomial ℚ grevlex m) (free_part k list) is_kept.polynomials)
 
   links_are : Each (Each (IsPolynomial ℚ grevlex m)) links
   links_are = rows_over grevlex grevlex_order m out out_elements
-      (map (λ p. (None, p)) (kept k list)) links links_polynomials linked
+      (map (λ p. (None, p)) (free_part k list)) links links_polynomials linked
 
   widths : All (λ row. length row ≡ length list) rows
   widths = rows_widths (block_order k) list
@@ -236,10 +236,10 @@ module _ (k m : ℕ) (hs : List (Terms Fraction))
     pairs = pairs_count;
     pairs_widths = All-drop (λ (row : List (Terms Fraction)). length row ≡ length list)
         (length hs) rows widths;
-    links = rows_count grevlex out (map (λ p. (None, p)) (kept k list)) links linked
-        ∙ alone_count (kept k list);
+    links = rows_count grevlex out (map (λ p. (None, p)) (free_part k list)) links linked
+        ∙ alone_count (free_part k list);
     links_widths = rows_widths grevlex out grevlex_order m out_elements
-        (map (λ p. (None, p)) (kept k list)) links links_polynomials linked;
+        (map (λ p. (None, p)) (free_part k list)) links links_polynomials linked;
   }
 
   pub stage_over : IsStageOver k m (record {

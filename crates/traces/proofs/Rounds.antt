@@ -12,12 +12,12 @@ use Rattle.completeness.specs.Stage.{Stage}
 use Rattle.completeness.specs.Full.{BranchStages}
 use Rattle.traces.specs.Coming.{Comes}
 use Rattle.traces.specs.Trace.{Results, finished, after_round}
-use Rattle.traces.specs.Rounds.{behind, within, alone, both, Orbiting, Orbited, Meeting, Met, ComesBehind}
+use Rattle.traces.specs.Rounds.{behind, within, alone, both, OrbitBegins, OrbitEnds, MeetBegins, MeetEnds, ComesBehind}
 use Rattle.traces.proofs.Tasks.{after_first, after_orbit, after_meet, branch_next, branch_last, round_next, round_last}
 
 module _ (A : Setting) (R : ℕ) (d : Results) (es : List Entry) (k : ℕ)
     (gs : List (Terms Fraction)) where
-  pub first_at : (s : Stage) → Orbited A R d es k 0 gs [] s
+  pub first_at : (s : Stage) → OrbitEnds A R d es k 0 gs [] s
       → ComesBehind A R d es k 1 gs (alone s ∷ []) s.out
   first_at s c = record {
     last = 0;
@@ -29,9 +29,9 @@ module _ (A : Setting) (R : ℕ) (d : Results) (es : List Entry) (k : ℕ)
 
   module _ (p : ℕ) (bs : List BranchStages) (hs : List (Terms Fraction))
       (c : ComesBehind A R d es k p gs bs hs) where
-    pub orbit_at : p < length A.forms → Orbiting A R (within d bs c.stage) es k p gs hs
+    pub orbit_at : p < length A.forms → OrbitBegins A R (within d bs c.stage) es k p gs hs
     orbit_at l =
-        subst (λ b. Orbiting A R (within d bs c.stage) es k b gs hs) c.is
+        subst (λ b. OrbitBegins A R (within d bs c.stage) es k b gs hs) c.is
         (subst (Comes A R es) (branch_next A R (within d bs c.stage) k c.last gs hs
         (let e = c.is in omega (arith, e, l))) c.comes)
 
@@ -41,14 +41,14 @@ module _ (A : Setting) (R : ℕ) (d : Results) (es : List Entry) (k : ℕ)
         (let e = c.is in omega (arith, e, l))) c.comes
 
   pub meet_at : (p : ℕ) → 1 ≤ p → (bs : List BranchStages) (hs : List (Terms Fraction))
-      (x s : Stage) → Orbited A R (within d bs x) es k p gs hs s
-      → Meeting A R (within d bs s) es k p gs hs s.out
+      (x s : Stage) → OrbitEnds A R (within d bs x) es k p gs hs s
+      → MeetBegins A R (within d bs s) es k p gs hs s.out
   meet_at zero l bs hs x s c = absurd (omega (arith, l))
   meet_at (suc b) l bs hs x s c =
       subst (Comes A R es) (after_orbit A R (within d bs s) k gs hs b s.out) c
 
   pub met_at : (p : ℕ) (bs : List BranchStages) (hs ks : List (Terms Fraction)) (s t : Stage)
-      → Met A R (within d bs s) es k p gs hs ks t
+      → MeetEnds A R (within d bs s) es k p gs hs ks t
       → ComesBehind A R d es k (p + 1) gs (bs ++ both s t ∷ []) t.out
   met_at p bs hs ks s t c = record {
     last = p;
@@ -59,7 +59,7 @@ module _ (A : Setting) (R : ℕ) (d : Results) (es : List Entry) (k : ℕ)
   }
 
   pub round_begins : k < R → Comes A R es (after_round A R d k gs)
-      → Orbiting A R d es (suc k) 0 gs []
+      → OrbitBegins A R d es (suc k) 0 gs []
   round_begins l c = subst (Comes A R es) (round_next A R d k gs l) c
 
   pub rounds_end : R ≤ k → Comes A R es (after_round A R d k gs) → Comes A R es (finished d)

@@ -9,7 +9,7 @@ use Rattle.polynomials.specs.Order.{Rank, grevlex}
 use Rattle.polynomials.specs.Terms.{Terms}
 use Rattle.machines.specs.Completion.{s_polynomial}
 use Rattle.machines.specs.Cut.{monic}
-use Rattle.machines.specs.Elimination.{kept}
+use Rattle.machines.specs.Elimination.{free_part}
 use Rattle.machines.specs.Event.{Pair}
 use Rattle.machines.specs.Journal.{Entry, Did, units_of}
 use Rattle.machines.proofs.Joined.{later_finished}
@@ -59,17 +59,17 @@ module _ (O : Rank) (gs : List (Terms Fraction)) where
 module _ (k : ℕ) (O : Rank) (hs list out : List (Terms Fraction))
     (before listed paired tidied : List Entry) (m : IsListMade O hs list before listed)
     (behind : units_of listed ≤ units_of paired) (gs : List (Terms Fraction))
-    (is : gs ≡ kept k list) (o : IsOutMade gs out paired tidied) where
-  begins : map (monic rationals) gs ≡ kept k m.last.basis
+    (is : gs ≡ free_part k list) (o : IsOutMade gs out paired tidied) where
+  begins : map (monic rationals) gs ≡ free_part k m.last.basis
   begins = ap (map (monic rationals)) is
-      ∙ ones_begin (kept k list) (kept_ones k list m.monic) ∙ ap (kept k) m.is
+      ∙ ones_begin (free_part k list) (kept_ones k list m.monic) ∙ ap (free_part k) m.is
 
-  pub out_few : length out + units_of before ≤ length (kept k (made rationals k hs))
+  pub out_few : length out + units_of before ≤ length (free_part k (made rationals k hs))
       + units_of tidied
   out_few =
       let w = o.finished.work in
       let to = listed ++ map Did w.events in
-      let e = later_finished rationals O grevlex (kept k) hs before listed to m.last m.finished
+      let e = later_finished rationals O grevlex (free_part k) hs before listed to m.last m.finished
       (map (monic rationals) gs) begins o.last (record {
         work = record { events = w.events; entries = refl; run = w.run };
         ended = o.finished.ended;
@@ -81,11 +81,11 @@ module _ (k : ℕ) (O : Rank) (hs list out : List (Terms Fraction))
       let d = units_added paired tidied w.events w.entries in
       omega (arith, f, a, b, c, d, behind)
 
-  all_kept : length (kept k (made rationals k hs)) ≤ length hs
+  all_kept : length (free_part k (made rationals k hs)) ≤ length hs
   unfolding NothingKept
   all_kept =
       let a = kept_made rationals k hs [] tt in
-      let b = ap (λ l. length (kept k (made rationals k l))) (append-nil hs) in
+      let b = ap (λ l. length (free_part k (made rationals k l))) (append-nil hs) in
       omega (arith, a, b)
 
   pub out_within : length out ≤ length hs + units_of tidied
@@ -93,14 +93,14 @@ module _ (k : ℕ) (O : Rank) (hs list out : List (Terms Fraction))
 
 pub stage_few : (k : ℕ) (hs : List (Terms Fraction)) (s : Stage) (before after : List Entry)
     → IsStageMade k hs s before after
-    → length s.out + units_of before ≤ length (kept k (made rationals k hs)) + units_of after
+    → length s.out + units_of before ≤ length (free_part k (made rationals k hs)) + units_of after
 stage_few k hs s before after m =
     let a = rows_units (block_order k) s.list hs s.gens m.listed m.divided m.gens in
     let b = pair_rows_units (block_order k) s.list _ s.pairs m.divided m.paired m.pairs in
     let l : units_of m.listed ≤ units_of m.paired = omega (arith, a, b) in
     let f = out_few k (block_order k) hs s.list s.out before m.listed m.paired m.tidied m.list l
-    (kept k s.list) refl m.out in
-    let d = rows_units grevlex s.out (kept k s.list) s.links m.tidied after m.links in
+    (free_part k s.list) refl m.out in
+    let d = rows_units grevlex s.out (free_part k s.list) s.links m.tidied after m.links in
     omega (arith, f, d)
 
 pub start_few : (hs out : List (Terms Fraction)) (links : List (List (Terms Fraction)))
@@ -122,5 +122,5 @@ stage_units k hs s before after m =
     let b = rows_units (block_order k) s.list hs s.gens m.listed m.divided m.gens in
     let c = pair_rows_units (block_order k) s.list _ s.pairs m.divided m.paired m.pairs in
     let d = units_added m.paired m.tidied v.events v.entries in
-    let e = rows_units grevlex s.out (kept k s.list) s.links m.tidied after m.links in
+    let e = rows_units grevlex s.out (free_part k s.list) s.links m.tidied after m.links in
     omega (arith, a, b, c, d, e)

@@ -12,12 +12,12 @@ use Rattle.polynomials.proofs.Orders.{grevlex_order}
 use Rattle.machines.specs.Basis.{AtPlaces}
 use Rattle.machines.specs.Completion.{s_polynomial}
 use Rattle.machines.specs.Cut.{lead_number, monic}
-use Rattle.machines.specs.Elimination.{kept}
+use Rattle.machines.specs.Elimination.{free_part}
 use Rattle.machines.specs.Journal.{Entry, Begin, Journal}
 use Rattle.machines.specs.Machine.{Refusal, out_of_memory, Stops}
 use Rattle.machines.specs.Machines as machines
 use Rattle.machines.specs.Past as past
-use Rattle.machines.specs.Work.{Finished}
+use Rattle.machines.specs.Work.{WorkToEnd}
 use Rattle.machines.proofs.Ends.{monic_list}
 use Rattle.machines.proofs.Front.{comes, lead_number_dropped}
 use Rattle.rounds.specs.Analysis.{Setting, Work, block, order}
@@ -27,7 +27,7 @@ use Rattle.completeness.specs.Stage.{Stage, block_order}
 use Rattle.traces.specs.Coming.{IsGoing, Comes, Awaits, Refuses}
 use Rattle.traces.specs.Followed.{IsPastDividends, IsPastDivided}
 use Rattle.traces.specs.Rows.{AreDivided, IsRefusedIn, ArePairsDivided, IsRefusedInPairs}
-use Rattle.traces.specs.Trace.{Dividend, Results, with_stage, goes, begun, alone, list_dividends, link_dividends, stage_of, after, link_from, divide_from}
+use Rattle.traces.specs.Trace.{Dividend, Results, with_stage, goes, start_of, alone, list_dividends, link_dividends, stage_of, after, link_from, divide_from}
 use Rattle.traces.proofs.Awaiting.{list_awaits, list_refused, out_awaits, out_refused}
 use Rattle.traces.proofs.AwaitingRows.{list_rows_await, list_rows_refused, pair_rows_await, pair_rows_refused, link_rows_await, link_rows_refused, links_end}
 use Rattle.traces.specs.Making.{Eliminates, IsListMade, IsOutMade, IsStageMade, IsRefusedBehindGens, IsRefusedBehindPairs, IsRefusedBehindOut, IsStageRefused}
@@ -36,7 +36,7 @@ abbrev IsOne : Terms Fraction → Type 0
 IsOne g = lead_number rationals g ≡ ℚ.one
 
 pub kept_ones : (k : ℕ) (gs : List (Terms Fraction)) → AtPlaces IsOne gs
-    → AtPlaces IsOne (kept k gs)
+    → AtPlaces IsOne (free_part k gs)
 kept_ones k gs h j g at =
     let c = comes k gs j g at in
     ap (lead_number rationals) c.is ∙ lead_number_dropped rationals (drop k) c.whole
@@ -69,7 +69,7 @@ ones_fit gs h p = p.past.0 (h p.place p.element p.at)
 
 module _ (A : Setting) (rounds : ℕ) (done : Results) (w : Work) (k : ℕ)
     (hs : List (Terms Fraction)) (e : Eliminates A w k hs) (es : List Entry)
-    (c : Comes A rounds es (goes (Begin (task_of_work w)) (begun A done w))) where
+    (c : Comes A rounds es (goes (Begin (task_of_work w)) (start_of A done w))) where
   abbrev Q : Rank
   Q = block_order k
 
@@ -92,9 +92,9 @@ module _ (A : Setting) (rounds : ℕ) (done : Results) (w : Work) (k : ℕ)
       subst (λ js. ListAwaited gs [] js at) (e.lists gs)
       (subst (λ l. ListAwaited l [] (list_dividends A w l) at) (sym m.is)
       (list_awaits A rounds done w es c at m.last
-      (subst (λ l. Finished (machines.completion fractions (order A w) l).next
+      (subst (λ l. WorkToEnd (machines.completion fractions (order A w) l).next
       (machines.completion fractions (order A w) l).start first at m.last) (sym e.begins)
-      (subst (λ O. Finished (machines.completion fractions O hs).next
+      (subst (λ O. WorkToEnd (machines.completion fractions O hs).next
       (machines.completion fractions O hs).start first at m.last) (sym e.order_is) m.finished))))
 
   -- behind the divisions by its list
@@ -135,43 +135,45 @@ module _ (A : Setting) (rounds : ℕ) (done : Results) (w : Work) (k : ℕ)
         (link_from A rounds done w (record { list = gs; rows = rows }) out links js)
         (IsPastDividends grevlex out js ⊥)
 
-    kept_is : kept k gs ≡ kept (block A w) gs
-    kept_is = ap (λ n. kept n gs) (sym e.block_is)
+    kept_is : free_part k gs ≡ free_part (block A w) gs
+    kept_is = ap (λ n. free_part n gs) (sym e.block_is)
 
-    begin : map (monic rationals) (kept k gs) ≡ kept k gs
-    begin = ones_begin (kept k gs) (kept_ones k gs ones)
+    begin : map (monic rationals) (free_part k gs) ≡ free_part k gs
+    begin = ones_begin (free_part k gs) (kept_ones k gs ones)
 
     tidied : (before at : List Entry) (out : List (Terms Fraction)) → ListAwaited gs rows [] before
-        → IsOutMade (kept k gs) out before at
-        → LinksAwaited out [] (alone A (kept k gs) ++ []) at
+        → IsOutMade (free_part k gs) out before at
+        → LinksAwaited out [] (alone A (free_part k gs) ++ []) at
     tidied before at out a m =
         subst (λ js. LinksAwaited out [] js at)
-        (e.links gs ∙ sym (append-nil (alone A (kept k gs))))
+        (e.links gs ∙ sym (append-nil (alone A (free_part k gs))))
         (subst (λ l. LinksAwaited l [] (link_dividends A w gs) at) (sym m.is)
-        (out_awaits A rounds done w gs rows (kept k gs) kept_is begin before at m.last a
+        (out_awaits A rounds done w gs rows (free_part k gs) kept_is begin before at m.last a
         m.finished))
 
     untidied : (before after : Journal) → ListAwaited gs rows [] before.entries → (r : Refusal)
-        → Stops (machines.tidying fractions grevlex (kept k gs)) before after r
+        → Stops (machines.tidying fractions grevlex (free_part k gs)) before after r
         → Refuses A rounds (task_of_work w) after r
-    untidied before after a r s = out_refused A rounds done w gs rows (kept k gs) kept_is begin
-        before after a (ones_fit (kept k gs) (kept_ones k gs ones)) r s
+    untidied before after a r s = out_refused A rounds done w gs rows (free_part k gs) kept_is begin
+        before after a (ones_fit (free_part k gs) (kept_ones k gs ones)) r s
 
     linked : (out : List (Terms Fraction)) (links : List (List (Terms Fraction)))
-        (before at : List Entry) → LinksAwaited out [] (alone A (kept k gs) ++ []) before
-        → AreDivided grevlex out (kept k gs) links before at → Comes A rounds at
+        (before at : List Entry) → LinksAwaited out [] (alone A (free_part k gs) ++ []) before
+        → AreDivided grevlex out (free_part k gs) links before at → Comes A rounds at
         (after A rounds (with_stage done w
         (stage_of A w (record { list = gs; rows = rows }) out links)) w out)
-    linked out links before at a d = links_end A rounds done w gs rows (kept k gs) out links at
-        (link_rows_await A rounds done w gs rows (kept k gs) out [] (kept k gs) [] links before at
+    linked out links before at a d = links_end A rounds done w gs rows (free_part k gs) out links at
+        (link_rows_await A rounds done w gs rows (free_part k gs) out [] (free_part k gs) [] links
+        before at
         a d)
 
     unlinked : (out : List (Terms Fraction)) (before : List Entry) (after : Journal)
-        → LinksAwaited out [] (alone A (kept k gs) ++ []) before → (r : Refusal)
-        → IsRefusedIn grevlex out (kept k gs) before after r
+        → LinksAwaited out [] (alone A (free_part k gs) ++ []) before → (r : Refusal)
+        → IsRefusedIn grevlex out (free_part k gs) before after r
         → Refuses A rounds (task_of_work w) after r
-    unlinked out before after a r x = link_rows_refused A rounds done w gs rows (kept k gs) out []
-        (kept k gs) [] before after a r x
+    unlinked out before after a r x = link_rows_refused A rounds done w gs rows (free_part k gs) out
+        []
+        (free_part k gs) [] before after a r x
 
   -- ---- all of it
   pub stage_awaits : (s : Stage) (at : List Entry) → IsStageMade k hs s first at
@@ -231,7 +233,7 @@ module _ (A : Setting) (rounds : ℕ) (done : Results) (w : Work) (k : ℕ)
           p : ListAwaited b.list (gens ++ x.pairs) [] x.paired.entries
           p = paired b.list gens divided d x.pairs x.paired.entries x.made
 
-          go : Stops (machines.tidying fractions grevlex (kept k b.list)) x.paired after r
+          go : Stops (machines.tidying fractions grevlex (free_part k b.list)) x.paired after r
               ⊎ IsRefusedBehindOut k hs after r b.list x.paired.entries
               → Refuses A rounds (task_of_work w) after r
           go (inl s) = untidied b.list b.made.monic (gens ++ x.pairs) x.paired after p r s

@@ -5,18 +5,18 @@ use Rattle.std.proofs.Common.{◌≡◌, ◌⊎◌, inl, inr, ℕ, List, [], ◌
 use Rattle.numbers.specs.Fraction.{Fraction, fractions}
 use Rattle.polynomials.specs.Order.{grevlex}
 use Rattle.polynomials.specs.Terms.{Terms}
-use Rattle.machines.specs.Elimination.{kept}
+use Rattle.machines.specs.Elimination.{free_part}
 use Rattle.machines.specs.Journal as journal
 use Rattle.machines.specs.Journal.{Entry, Begin, Journal}
 use Rattle.machines.specs.Machine.{Refusal, Stops}
 use Rattle.machines.specs.Machines as machines
-use Rattle.machines.specs.Work.{Finished}
+use Rattle.machines.specs.Work.{WorkToEnd}
 use Rattle.rounds.specs.Analysis.{Setting, starts, block, starting}
 use Rattle.rounds.proofs.Lawful.{kept-nothing}
 use Rattle.completeness.specs.Stage.{Stage}
 use Rattle.traces.specs.Coming.{Comes, Awaits, Refuses}
 use Rattle.traces.specs.Followed.{IsPastDividends, IsPastDivided}
-use Rattle.traces.specs.Trace.{Results, with_stage, goes, begun, alone, list_dividends, link_dividends, stage_of, after, link_from, divide_from}
+use Rattle.traces.specs.Trace.{Results, with_stage, goes, start_of, alone, list_dividends, link_dividends, stage_of, after, link_from, divide_from}
 use Rattle.traces.specs.Making.{IsListMade, IsOutMade, IsStartMade, IsRefusedAtLinks, IsStartRefused}
 use Rattle.traces.proofs.Awaiting.{list_awaits, list_refused, out_awaits, out_refused}
 use Rattle.traces.proofs.AwaitingRows.{link_rows_await, link_rows_refused, links_end}
@@ -28,7 +28,7 @@ start_stage out links = record { list = []; gens = []; pairs = []; out = out; li
 
 module _ (A : Setting) (rounds : ℕ) (done : Results) (hs : List (Terms Fraction))
     (begins : starting A starts ≡ hs) (es : List Entry)
-    (c : Comes A rounds es (goes (Begin journal.Start) (begun A done starts))) where
+    (c : Comes A rounds es (goes (Begin journal.Start) (start_of A done starts))) where
   abbrev first : List Entry
   first = es ++ Begin journal.Start ∷ []
 
@@ -49,7 +49,7 @@ module _ (A : Setting) (rounds : ℕ) (done : Results) (hs : List (Terms Fractio
       (divide_from A rounds done starts m.last.basis [] js)
       (IsPastDivided A starts m.last.basis js)) (none_listed m.last.basis)
       (list_awaits A rounds done starts es c at m.last
-      (subst (λ l. Finished (machines.completion fractions grevlex l).next
+      (subst (λ l. WorkToEnd (machines.completion fractions grevlex l).next
       (machines.completion fractions grevlex l).start first at m.last) (sym begins) m.finished)))
 
   -- behind the tidying
@@ -60,7 +60,7 @@ module _ (A : Setting) (rounds : ℕ) (done : Results) (hs : List (Terms Fractio
           (link_from A rounds done starts (record { list = gs; rows = [] }) out []
           (alone A hs ++ [])) (IsPastDividends grevlex out (alone A hs ++ []) ⊥)
 
-      kept_is : gs ≡ kept (block A starts) gs
+      kept_is : gs ≡ free_part (block A starts) gs
       unfolding block
       kept_is = sym (kept-nothing gs)
 

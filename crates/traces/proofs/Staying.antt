@@ -18,10 +18,10 @@ use Rattle.polynomials.specs.Polynomial.{Arity, Below, Falls, IsPolynomial}
 use Rattle.polynomials.proofs.Algebra.{coefficient-append, coefficient-negate}
 use Rattle.polynomials.proofs.Canonical.{coefficient_below, Below-weaker}
 use Rattle.polynomials.proofs.Lead.{below-append, below-shift}
-use Rattle.polynomials.proofs.Order.{compare_equal, less_trans, greater_less}
+use Rattle.polynomials.proofs.Order.{below_others}
 use Rattle.machines.specs.Basis.{AtPlaces}
 use Rattle.machines.specs.Cut.{lead_of, Cutting, find_cut, after_cut, all_places}
-use Rattle.machines.specs.Division.{State, begun, rest, with_term, divided, dividing, next}
+use Rattle.machines.specs.Division.{State, initial_state, rest, with_term, next_cut, next_division, next}
 use Rattle.machines.specs.Event.{Event, Cut, Zero}
 use Rattle.machines.specs.Run.{IsRun}
 use Rattle.machines.proofs.Cofactors.{get_with_term, cofactors_fall}
@@ -53,15 +53,6 @@ module _ {A : Type 0} (K : Field A) (O : Rank) (o : IsMonomialOrder O) (m : ℕ)
         → slice_get gs k ≡ Some g → (u : List ℕ × A) → In u q → compare O (plus u.0 (lead_of g)) l
         ≡ Less
 
-  -- what is below l is below what isn't
-  above : (d c : List ℕ) → (compare O d l ≡ Less → ⊥) → compare O c l ≡ Less → compare O c d ≡ Less
-  above d c n k = go (compare O d l) refl
-    where
-      go : (w : Ordering) → compare O d l ≡ w → compare O c d ≡ Less
-      go Less h = absurd (n h)
-      go Equal h = ap (compare O c) (compare_equal O o d l h) ∙ k
-      go Greater h = less_trans O o c l d k (greater_less O o d l h)
-
   stays_cut : (p : Terms A) (qs : List (Terms A)) (c : Cutting A) → find_cut F all_places gs p
       ≡ Some c → Stays (record { current = Some p; cofactors = qs })
       → Stays (record {
@@ -82,7 +73,8 @@ module _ {A : Type 0} (K : Field A) (O : Rank) (o : IsMonomialOrder O) (m : ℕ)
         low = λ d n. (collect-same K O o _).at d ∙ coefficient-append exponents R p _ d
             ∙ ap₂ R.add (s.low d n) (coefficient-negate exponents R _ d
             ∙ ap R.neg (shift_above K O o m c.by c.number c.of g long d
-            (above d (plus c.by (lead_of c.of)) n down)) ∙ neg-zero R) ∙ R.add-zero K.zero;
+            (below_others O o d l (plus c.by (lead_of c.of)) n down)) ∙ neg-zero R)
+            ∙ R.add-zero K.zero;
         products = λ k x y ix iy u iu. new_products at down k x y iy u iu
             (get_with_term c.place (c.by, c.number) qs k x ix);
       }
@@ -105,9 +97,9 @@ module _ {A : Type 0} (K : Field A) (O : Rank) (o : IsMonomialOrder O) (m : ℕ)
               (ap lead_of (sym same))) ∙ down
 
   stays_divided : (p : Terms A) (qs : List (Terms A)) (c : Option (Cutting A)) (e : Event)
-      (u : State A) → find_cut F all_places gs p ≡ c → divided F O gs p qs c ≡ Some (e, u)
+      (u : State A) → find_cut F all_places gs p ≡ c → next_cut F O gs p qs c ≡ Some (e, u)
       → Stays (record { current = Some p; cofactors = qs }) → Stays u
-  unfolding divided
+  unfolding next_cut
   stays_divided p qs (Some c) e u h n s =
       let is : ◌≡◌ {A = Event × State A} (
         Cut c.place,
@@ -128,9 +120,9 @@ module _ {A : Type 0} (K : Field A) (O : Rank) (o : IsMonomialOrder O) (m : ℕ)
   stays_divided (t ∷ p) qs None e u h n s = absurd (let z : ⊥ = cc in z)
 
   stays_dividing : (c : Option (Terms A)) (qs : List (Terms A)) (e : Event) (u : State A)
-      → dividing F O gs c qs ≡ Some (e, u) → Stays (record { current = c; cofactors = qs })
+      → next_division F O gs c qs ≡ Some (e, u) → Stays (record { current = c; cofactors = qs })
       → Stays u
-  unfolding dividing
+  unfolding next_division
   stays_dividing None qs e u n s = absurd (let z : ⊥ = cc in z)
   stays_dividing (Some p) qs e u n s = stays_divided p qs (find_cut F all_places gs p) e u refl n s
 
@@ -146,7 +138,7 @@ module _ {A : Type 0} (K : Field A) (O : Rank) (o : IsMonomialOrder O) (m : ℕ)
   nothing (g ∷ hs) zero q h = cc
   nothing (g ∷ hs) (suc k) q h = nothing hs k q h
 
-  pub stays_begun : (p : Terms A) → IsPolynomial N O m p → IsLow p → Stays (begun gs p)
+  pub stays_begun : (p : Terms A) → IsPolynomial N O m p → IsLow p → Stays (initial_state gs p)
   stays_begun p h low = record {
     polynomial = h;
     low = low;
@@ -200,7 +192,7 @@ module _ {A : Type 0} (K : Field A) (O : Rank) (o : IsMonomialOrder O) (m : ℕ)
   )
 
   pub products_below : (p : Terms A) → IsPolynomial N O m p → IsLow p
-      → (s : State A) (es : List Event) → IsRun (next F O gs) (begun gs p) es s
+      → (s : State A) (es : List Event) → IsRun (next F O gs) (initial_state gs p) es s
       → AreBelow F O l s.cofactors gs
   products_below p h low s es run = rows_below s.cofactors gs (cofactors_fall K O o m gs el p h s es
-      run) el (stays_run (begun gs p) s es run (stays_begun p h low)).products
+      run) el (stays_run (initial_state gs p) s es run (stays_begun p h low)).products

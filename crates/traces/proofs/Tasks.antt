@@ -15,7 +15,7 @@ use Rattle.machines.proofs.Runs.{run_then}
 use Rattle.rounds.specs.Analysis.{Setting, Work, starts, orbit, meet, block, front_of, starting}
 use Rattle.rounds.specs.Past.{IsPastStarting, task_of_work}
 use Rattle.traces.specs.Coming.{IsGoing, Comes, IsStopped}
-use Rattle.traces.specs.Trace.{Results, with_round, fresh, Step, goes, finished, begun, begin_orbit, after_round, after_branch, after, moved, moves, link_dividends, stage_of}
+use Rattle.traces.specs.Trace.{Results, with_round, fresh, Step, goes, finished, start_of, begin_orbit, after_round, after_branch, after, move_of, moves, link_dividends, stage_of}
 use Rattle.traces.proofs.AwaitingRows.{orbit_dividends_are, meet_dividends_are}
 use Rattle.traces.specs.Making.{Eliminates}
 
@@ -45,19 +45,19 @@ meet_eliminates A k b gs so_far hs = record {
 
 -- ---- the beginning of a task
 module _ (A : Setting) (rounds : ℕ) (done : Results) (w : Work) (es : List Entry)
-    (c : Comes A rounds es (goes (Begin (task_of_work w)) (begun A done w))) where
+    (c : Comes A rounds es (goes (Begin (task_of_work w)) (start_of A done w))) where
   abbrev first : List Entry
   first = es ++ Begin (task_of_work w) ∷ []
 
-  begins : IsRun (moves A rounds) fresh first (begun A done w)
-  begins = run_then (moves A rounds) fresh c.state (begun A done w) es (Begin (task_of_work w))
-      c.run (ap (moved A rounds) c.is)
+  begins : IsRun (moves A rounds) fresh first (start_of A done w)
+  begins = run_then (moves A rounds) fresh c.state (start_of A done w) es (Begin (task_of_work w))
+      c.run (ap (move_of A rounds) c.is)
 
   pub task_stopped : IsPastStarting A w → IsStopped A rounds (task_of_work w) first
-  task_stopped p = record { state = begun A done w; run = begins; in_task = refl; past = inl p }
+  task_stopped p = record { state = start_of A done w; run = begins; in_task = refl; past = inl p }
 
   pub task_lost : IsGoing A rounds first
-  task_lost = record { state = begun A done w; run = begins }
+  task_lost = record { state = start_of A done w; run = begins }
 
 -- ---- what follows a task
 not_below : (a b : ℕ) → b ≤ a → ltb a b ≡ false
@@ -82,7 +82,8 @@ module _ (A : Setting) (rounds : ℕ) (done : Results) where
 
     pub after_orbit : (b : ℕ) (hs : List (Terms Fraction))
         → after A rounds done (orbit k (suc b) gs so_far) hs
-        ≡ goes (Begin (journal.Meet k (suc (suc b)))) (begun A done (meet k (suc b) gs so_far hs))
+        ≡ goes (Begin (journal.Meet k (suc (suc b))))
+        (start_of A done (meet k (suc b) gs so_far hs))
     unfolding after
     after_orbit b hs = refl
 

@@ -18,7 +18,7 @@ use Rattle.machines.specs.Completion.{s_polynomial}
 use Rattle.machines.specs.Completion as completion
 use Rattle.machines.specs.Cut.{lead_of, lead_number}
 use Rattle.machines.specs.Division as division
-use Rattle.machines.specs.Elimination.{kept}
+use Rattle.machines.specs.Elimination.{free_part}
 use Rattle.machines.specs.Pairs.{multiple}
 use Rattle.machines.proofs.Completed.{completed, from_has, rest_decides}
 use Rattle.machines.proofs.ReducedLists.{generated, reduced_generates}
@@ -184,14 +184,15 @@ module _ (k m : ℕ) (hs : List (Terms Fraction))
     led = λ u p h i. basis.led u p h ((basis.same (u ∷ p) h).0 i);
   }
 
-  pub kept_is : IsBasisOf rationals grevlex m (kept k s.list) (kept k s.list)
+  pub kept_is : IsBasisOf rationals grevlex m (free_part k s.list) (free_part k s.list)
   kept_is = kept_basis ℚ_field k m grevlex grevlex grevlex_order grevlex_order s.list s.list
       basis.polynomials list_basis
 
-  pub out_reduced : IsReducedFor rationals grevlex m s.out (IsMember ℚ m (kept k s.list))
-  out_reduced = subst (λ l. IsReducedFor rationals grevlex m l (IsMember ℚ m (kept k s.list)))
+  pub out_reduced : IsReducedFor rationals grevlex m s.out (IsMember ℚ m (free_part k s.list))
+  out_reduced = subst (λ l. IsReducedFor rationals grevlex m l (IsMember ℚ m (free_part k s.list)))
       (sym t.out.is)
-      (tidied ℚ_field grevlex grevlex_order m (kept k s.list) (kept k s.list) kept_is.polynomials
+      (tidied ℚ_field grevlex grevlex_order m (free_part k s.list) (free_part k s.list)
+      kept_is.polynomials
       kept_is t.out.ends.last t.out.ends.events t.out.ends.run t.out.ends.ended)
 
   out_two : AtPlaces (λ g. IsPolynomial ℚ grevlex m g × (g ≢ [])) s.out
@@ -200,27 +201,30 @@ module _ (k m : ℕ) (hs : List (Terms Fraction))
     out_reduced.nonzero g j,
   )
 
-  kept_arity : AllArity m (kept k s.list)
-  kept_arity = at_each (Arity m) (kept k s.list) (λ i g at. (kept_is.polynomials i g at).arity)
+  kept_arity : AllArity m (free_part k s.list)
+  kept_arity = at_each (Arity m) (free_part k s.list) (λ i g at. (kept_is.polynomials i g at).arity)
 
   out_leads : (u : List ℕ × Fraction) (q : Terms Fraction) → IsPolynomial ℚ grevlex m (u ∷ q)
       → IsMember ℚ m s.out (u ∷ q) → SomeLeadDivides s.out u.0
   out_leads u q hq i =
-      let (g, among, d) = out_reduced.led u q hq (generated grevlex grevlex_order m (kept k s.list)
+      let (g, among, d) =
+      out_reduced.led u q hq (generated grevlex grevlex_order m (free_part k s.list)
       kept_is.polynomials s.out out_reduced (u ∷ q) hq.arity kept_arity i) in
       let (n, at) = slice_in s.out g among in
       record { place = n; element = g; at = at; divided = d }
 
-  kept_member : (i : ℕ) → i < length (kept k s.list)
-      → IsMember ℚ m s.out (get_or (kept k s.list) i [])
-  kept_member i l = reduced_generates grevlex grevlex_order m (kept k s.list) kept_is.polynomials
-      s.out out_reduced (get_or (kept k s.list) i []) (arity_at m (kept k s.list) kept_arity i)
-      (member_at m (kept k s.list) kept_arity i l)
+  kept_member : (i : ℕ) → i < length (free_part k s.list)
+      → IsMember ℚ m s.out (get_or (free_part k s.list) i [])
+  kept_member i l = reduced_generates grevlex grevlex_order m (free_part k s.list)
+      kept_is.polynomials
+      s.out out_reduced (get_or (free_part k s.list) i []) (arity_at m (free_part k s.list)
+      kept_arity i)
+      (member_at m (free_part k s.list) kept_arity i l)
 
-  kept_polynomial : (i : ℕ) → i < length (kept k s.list)
-      → IsPolynomial ℚ grevlex m (get_or (kept k s.list) i [])
-  kept_polynomial i l = let (g, at) = below_get (kept k s.list) i l in
-      subst (IsPolynomial ℚ grevlex m) (sym (get_or_from_slice_get (kept k s.list) i g [] at))
+  kept_polynomial : (i : ℕ) → i < length (free_part k s.list)
+      → IsPolynomial ℚ grevlex m (get_or (free_part k s.list) i [])
+  kept_polynomial i l = let (g, at) = below_get (free_part k s.list) i l in
+      subst (IsPolynomial ℚ grevlex m) (sym (get_or_from_slice_get (free_part k s.list) i g [] at))
       (kept_is.polynomials i g at)
 
   -- THE STAGE OF A TASK THAT IS TRACED HOLDS
@@ -231,6 +235,7 @@ module _ (k m : ℕ) (hs : List (Terms Fraction))
         (starting i l) (starting_member i l) (get_or s.gens i []) (t.gens i l);
     pairs = pair_told;
     links = λ i l. divided_sum grevlex grevlex_order m s.out out_two out_leads
-        (get_or (kept k s.list) i []) (kept_polynomial i l) (kept_member i l) (get_or s.links i [])
+        (get_or (free_part k s.list) i []) (kept_polynomial i l) (kept_member i l)
+        (get_or s.links i [])
         (t.links i l);
   }

@@ -7,15 +7,15 @@ use Rattle.numbers.specs.Fraction.{Fraction, rationals}
 use Rattle.polynomials.specs.Terms.{Terms}
 use Rattle.polynomials.specs.Order.{Rank, grevlex}
 use Rattle.machines.specs.Completion.{s_polynomial}
-use Rattle.machines.specs.Elimination.{kept, blend}
+use Rattle.machines.specs.Elimination.{free_part, blend}
 use Rattle.machines.specs.Completion as completion
 use Rattle.machines.specs.Journal.{Did}
 use Rattle.machines.specs.Tidying as tidying
-use Rattle.machines.specs.Work.{Finished}
+use Rattle.machines.specs.Work.{WorkToEnd}
 use Rattle.machines.proofs.Joined.{Ending, later_finished}
 use Rattle.rounds.specs.Analysis.{Setting, Work, orbit, meet, block, order, starting, form_of, front_of, list_at}
 use Rattle.rounds.specs.Form.{orbit_list}
-use Rattle.rounds.specs.Results.{Worked}
+use Rattle.rounds.specs.Results.{EndsWork}
 use Rattle.completeness.specs.Representation.{pairs_of}
 use Rattle.completeness.specs.Stage.{Stage, block_order}
 use Rattle.traces.specs.Traced.{IsDivided, IsCompleted, IsTidied, IsTraced}
@@ -61,8 +61,8 @@ module _ (k : ℕ) (hs list : List (Terms Fraction)) (rows : List (List (Terms F
     (divs : AllDivided (block_order k) list (map (λ p. (None, p)) hs ++ map
     (λ a. (Some a, s_polynomial rationals (block_order k) list a)) (pairs_of (length list)))
     rows)
-    (tidy : IsTidied (kept k list) out) (linked : AllDivided grevlex out
-    (map (λ p. (None, p)) (kept k list)) links) where
+    (tidy : IsTidied (free_part k list) out) (linked : AllDivided grevlex out
+    (map (λ p. (None, p)) (free_part k list)) links) where
   alone : Terms Fraction → Dividend
   alone p = (None, p)
 
@@ -88,7 +88,7 @@ module _ (k : ℕ) (hs list : List (Terms Fraction)) (rows : List (List (Terms F
         (pairs_of (length list))) (drop n rows)) gens_count (divided_back (block_order k) list
         (map (λ p. (None, p)) hs) _ rows divs));
     out = tidy;
-    links = polynomials_at grevlex out (kept k list) links linked;
+    links = polynomials_at grevlex out (free_part k list) links linked;
   }
 
 module _ (A : Setting) where
@@ -117,8 +117,8 @@ module _ (A : Setting) where
 
   -- ---- as an elimination
   module _ (w : Work) (s : Stage) (x : WorkDone A w s) where
-    first : Finished (completion.next rationals (order A w))
-        (completion.begun rationals (order A w) (starting A w)) []
+    first : WorkToEnd (completion.next rationals (order A w))
+        (completion.initial_state rationals (order A w) (starting A w)) []
         (map Did x.completed.ends.events) x.completed.ends.last
     first = record {
       work = record {
@@ -129,7 +129,7 @@ module _ (A : Setting) where
       ended = x.completed.ends.ended;
     }
 
-    second : Finished (tidying.next rationals grevlex) (kept (block A w) x.list)
+    second : WorkToEnd (tidying.next rationals grevlex) (free_part (block A w) x.list)
         (map Did x.completed.ends.events)
         (map Did x.completed.ends.events ++ map Did x.tidied.ends.events) x.tidied.ends.last
     second = record {
@@ -137,18 +137,18 @@ module _ (A : Setting) where
       ended = x.tidied.ends.ended;
     }
 
-    ending : Ending rationals (order A w) grevlex (kept (block A w)) (starting A w) []
+    ending : Ending rationals (order A w) grevlex (free_part (block A w)) (starting A w) []
         (map Did x.completed.ends.events)
         (map Did x.completed.ends.events ++ map Did x.tidied.ends.events) x.completed.ends.last
-        first (kept (block A w) x.list) (ap (kept (block A w)) x.completed.is)
+        first (free_part (block A w) x.list) (ap (free_part (block A w)) x.completed.is)
         x.tidied.ends.last
-    ending = later_finished rationals (order A w) grevlex (kept (block A w)) (starting A w) []
+    ending = later_finished rationals (order A w) grevlex (free_part (block A w)) (starting A w) []
         (map Did x.completed.ends.events)
         (map Did x.completed.ends.events ++ map Did x.tidied.ends.events) x.completed.ends.last
-        first (kept (block A w) x.list) (ap (kept (block A w)) x.completed.is)
+        first (free_part (block A w) x.list) (ap (free_part (block A w)) x.completed.is)
         x.tidied.ends.last second
 
-    pub work_ends : Worked A w
+    pub work_ends : EndsWork A w
     work_ends = record {
       events = ending.finished.work.events;
       last = ending.last;

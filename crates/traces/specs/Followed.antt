@@ -10,7 +10,7 @@ use Rattle.polynomials.specs.Order.{Rank, grevlex}
 use Rattle.polynomials.specs.Terms.{Terms}
 use Rattle.machines.specs.Division as division
 use Rattle.machines.specs.Completion as completion
-use Rattle.machines.specs.Elimination.{kept}
+use Rattle.machines.specs.Elimination.{free_part}
 use Rattle.machines.specs.Journal as journal
 use Rattle.machines.specs.Journal.{Entry, Task, counts, units_of}
 use Rattle.machines.specs.Past as machine
@@ -57,7 +57,7 @@ unfoldable pub IsPastDividends : Rank → List (Terms Fraction) → List Dividen
 IsPastDividends O gs [] later = later
 IsPastDividends O gs ((Some a, p) ∷ left) later = machine.IsPastPair fractions rationals gs a
 IsPastDividends O gs ((None, p) ∷ left) later =
-    IsPastDividing O gs (division.begun gs p) (IsPastDividends O gs left later)
+    IsPastDividing O gs (division.initial_state gs p) (IsPastDividends O gs left later)
 
 module _ (A : Setting) where
   abbrev pub IsPastTidying : Work → List (Terms Fraction) → List (Terms Fraction) → Type 0
@@ -68,7 +68,7 @@ module _ (A : Setting) where
 
   abbrev pub IsPastDivided : Work → List (Terms Fraction) → List Dividend → Type 0
   IsPastDivided w gs left =
-      IsPastDividends (order A w) gs left (IsPastTidying w gs (kept (block A w) gs))
+      IsPastDividends (order A w) gs left (IsPastTidying w gs (free_part (block A w) gs))
 
   abbrev pub IsPastCompleting : Work → completion.State Fraction → Type 0
   IsPastCompleting w s =

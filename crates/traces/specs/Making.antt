@@ -16,12 +16,12 @@ use Rattle.machines.specs.Basis.{AtPlaces}
 use Rattle.machines.specs.Completion as completion
 use Rattle.machines.specs.Completion.{s_polynomial}
 use Rattle.machines.specs.Cut.{lead_number}
-use Rattle.machines.specs.Elimination.{kept}
+use Rattle.machines.specs.Elimination.{free_part}
 use Rattle.machines.specs.Journal.{Entry, Journal}
 use Rattle.machines.specs.Machine.{Refusal, out_of_memory, Stops}
 use Rattle.machines.specs.Machines as machines
 use Rattle.machines.specs.Tidying as tidying
-use Rattle.machines.specs.Work.{Finished}
+use Rattle.machines.specs.Work.{WorkToEnd}
 use Rattle.rounds.specs.Analysis.{Setting, Work, block, order, starting}
 use Rattle.completeness.specs.Representation.{pairs_of}
 use Rattle.completeness.specs.Stage.{Stage, block_order}
@@ -31,14 +31,14 @@ use Rattle.traces.specs.Trace.{CompletedList, alone, list_dividends, link_divide
 pub record IsListMade (O : Rank) (hs list : List (Terms Fraction)) (before after : List Entry)
     : Type 0 where
   pub last : completion.State Fraction
-  pub finished : Finished (machines.completion fractions O hs).next
+  pub finished : WorkToEnd (machines.completion fractions O hs).next
       (machines.completion fractions O hs).start before after last
   pub is : list ≡ last.basis
   pub monic : AtPlaces (λ g. lead_number rationals g ≡ ℚ.one) list
 
 pub record IsOutMade (gs out : List (Terms Fraction)) (before after : List Entry) : Type 0 where
   pub last : List (Terms Fraction)
-  pub finished : Finished (machines.tidying fractions grevlex gs).next
+  pub finished : WorkToEnd (machines.tidying fractions grevlex gs).next
       (machines.tidying fractions grevlex gs).start before after last
   pub is : out ≡ tidying.by_lead grevlex last
 
@@ -52,8 +52,8 @@ module _ (k : ℕ) (hs : List (Terms Fraction)) where
     pub gens : AreDivided (block_order k) s.list hs s.gens listed divided
     pub pairs : ArePairsDivided (block_order k) s.list (pairs_of (length s.list)) s.pairs divided
         paired
-    pub out : IsOutMade (kept k s.list) s.out paired tidied
-    pub links : AreDivided grevlex s.out (kept k s.list) s.links tidied after
+    pub out : IsOutMade (free_part k s.list) s.out paired tidied
+    pub links : AreDivided grevlex s.out (free_part k s.list) s.links tidied after
 
   -- ---- refusals
   module _ (after : Journal) (r : Refusal) where
@@ -61,8 +61,8 @@ module _ (k : ℕ) (hs : List (Terms Fraction)) where
         0 where
       pub out : List (Terms Fraction)
       pub tidied : List Entry
-      pub made : IsOutMade (kept k list) out paired tidied
-      pub refused : IsRefusedIn grevlex out (kept k list) tidied after r
+      pub made : IsOutMade (free_part k list) out paired tidied
+      pub refused : IsRefusedIn grevlex out (free_part k list) tidied after r
 
     pub record IsRefusedBehindPairs (list : List (Terms Fraction)) (divided : List Entry) : Type
         0 where
@@ -70,7 +70,7 @@ module _ (k : ℕ) (hs : List (Terms Fraction)) where
       pub paired : Journal
       pub made : ArePairsDivided (block_order k) list (pairs_of (length list)) pairs divided
           paired.entries
-      pub refused : Stops (machines.tidying fractions grevlex (kept k list)) paired after r
+      pub refused : Stops (machines.tidying fractions grevlex (free_part k list)) paired after r
           ⊎ IsRefusedBehindOut list paired.entries
 
     pub record IsRefusedBehindGens (list : List (Terms Fraction)) (listed : List Entry) : Type
@@ -131,7 +131,7 @@ pub record Eliminates (A : Setting) (w : Work) (k : ℕ) (hs : List (Terms Fract
   pub begins : starting A w ≡ hs
   pub lists : (gs : List (Terms Fraction)) → list_dividends A w gs ≡ alone A hs
       ++ (map (λ a. (Some a, s_polynomial rationals (order A w) gs a)) (pairs_of (length gs)) ++ [])
-  pub links : (gs : List (Terms Fraction)) → link_dividends A w gs ≡ alone A (kept k gs)
+  pub links : (gs : List (Terms Fraction)) → link_dividends A w gs ≡ alone A (free_part k gs)
   pub stage_is : (t : CompletedList) (out : List (Terms Fraction))
       (rows : List (List (Terms Fraction))) → stage_of A w t out rows ≡ record {
         list = t.list;

@@ -2,8 +2,8 @@
 --   behind out links rounds     what the start and some rounds have given
 --   within d bs s               where behind d the branches bs of a round have ended, and s is the last orbit
 --   alone s, both s t           the stages of the first branch, and of another
---   Orbiting es k b gs hs       behind the es the orbit of the gs along branch b comes, where the hs are those before;  Orbited es k b gs hs s: what comes when it has ended with the stage s
---   Meeting es k b gs hs ks     so of the intersection of the hs with that orbit ks;  Met es k b gs hs ks s
+--   OrbitBegins es k b gs hs       behind the es the orbit of the gs along branch b comes, where the hs are those before;  OrbitEnds es k b gs hs s: what comes when it has ended with the stage s
+--   MeetBegins es k b gs hs ks     so of the intersection of the hs with that orbit ks;  Met es k b gs hs ks s
 --   ComesBehind es k p gs bs hs     behind the es so many branches of round k have ended, p, with their stages bs and the list hs
 use Rattle.std.specs.Prelude.{◌≡◌, ℕ, suc, List, [], Some, None}
 use Rattle.numbers.specs.Fraction.{Fraction}
@@ -14,7 +14,7 @@ use Rattle.rounds.specs.Analysis.{Setting, orbit, meet}
 use Rattle.completeness.specs.Stage.{Stage, no_stage}
 use Rattle.completeness.specs.Full.{BranchStages}
 use Rattle.traces.specs.Coming.{Comes}
-use Rattle.traces.specs.Trace.{Results, with_stage, goes, begun, begin_orbit, after_branch, after}
+use Rattle.traces.specs.Trace.{Results, with_stage, goes, start_of, begin_orbit, after_branch, after}
 
 abbrev pub behind : List (Terms Fraction) → List (List (Terms Fraction))
     → List (List BranchStages) → Results
@@ -43,19 +43,19 @@ both s t = record { orbit_stage = s; meet_stage = Some t }
 
 module _ (A : Setting) (rounds : ℕ) (d : Results) (es : List Entry) (k b : ℕ)
     (gs hs : List (Terms Fraction)) where
-  abbrev pub Orbiting : Type 0
-  Orbiting = Comes A rounds es (begin_orbit A rounds d k b gs hs)
+  abbrev pub OrbitBegins : Type 0
+  OrbitBegins = Comes A rounds es (begin_orbit A rounds d k b gs hs)
 
-  abbrev pub Orbited : Stage → Type 0
-  Orbited s = Comes A rounds es
+  abbrev pub OrbitEnds : Stage → Type 0
+  OrbitEnds s = Comes A rounds es
       (after A rounds (with_stage d (orbit k b gs hs) s) (orbit k b gs hs) s.out)
 
-  abbrev pub Meeting : List (Terms Fraction) → Type 0
-  Meeting ks = Comes A rounds es
-      (goes (Begin (journal.Meet k (suc b))) (begun A d (meet k b gs hs ks)))
+  abbrev pub MeetBegins : List (Terms Fraction) → Type 0
+  MeetBegins ks = Comes A rounds es
+      (goes (Begin (journal.Meet k (suc b))) (start_of A d (meet k b gs hs ks)))
 
-  abbrev pub Met : List (Terms Fraction) → Stage → Type 0
-  Met ks s = Comes A rounds es
+  abbrev pub MeetEnds : List (Terms Fraction) → Stage → Type 0
+  MeetEnds ks s = Comes A rounds es
       (after A rounds (with_stage d (meet k b gs hs ks) s) (meet k b gs hs ks) s.out)
 
 pub record ComesBehind (A : Setting) (rounds : ℕ) (d : Results) (es : List Entry) (k p : ℕ)

@@ -16,13 +16,14 @@ use Rattle.machines.specs.Journal.{Entry, Did, Journal, units_of}
 use Rattle.machines.specs.Machine.{Refusal, too_wide, out_of_units, out_of_memory, Stops}
 use Rattle.machines.specs.Machines as machines
 use Rattle.machines.specs.Past.{IsPastPair}
-use Rattle.machines.specs.Work.{Finished}
+use Rattle.machines.specs.Work.{WorkToEnd}
 
 module _ (O : Rank) (gs : List (Terms Fraction)) where
   pub record IsDividedIn (p : Terms Fraction) (row : List (Terms Fraction))
       (before after : List Entry) : Type 0 where
     pub last : division.State Fraction
-    pub finished : Finished (division.next rationals O gs) (division.begun gs p) before after last
+    pub finished : WorkToEnd (division.next rationals O gs) (division.initial_state gs p) before
+        after last
     pub is : row ≡ last.cofactors
 
   unfoldable pub AreDivided : List (Terms Fraction) → List (List (Terms Fraction))

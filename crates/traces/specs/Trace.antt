@@ -16,7 +16,7 @@ use Rattle.numbers.specs.Fraction.{Fraction, rationals}
 use Rattle.polynomials.specs.Terms.{Terms}
 use Rattle.polynomials.specs.Order.{grevlex}
 use Rattle.machines.specs.Event.{Event, Pair}
-use Rattle.machines.specs.Elimination.{kept}
+use Rattle.machines.specs.Elimination.{free_part}
 use Rattle.machines.specs.Journal as journal
 use Rattle.machines.specs.Journal.{Entry, Begin, Did}
 use Rattle.machines.specs.Completion as completion
@@ -112,13 +112,14 @@ pub data Step : Type 0 where
 
 -- the event of a computation that comes next, with the state of the trace; where it has ended, what
 -- comes later
-abbrev pub coming : {S : Type 0} → (S → State) → Option (Event × S) → Step → Step
-coming at (Some (e, s)) later = goes (Did e) (at s)
-coming at None later = later
+abbrev pub next_or : {S : Type 0} → (S → State) → Option (Event × S) → Step → Step
+next_or at (Some (e, s)) later = goes (Did e) (at s)
+next_or at None later = later
 
 module _ (A : Setting) where
-  abbrev pub begun : Results → Work → State
-  begun done w = completing done w (completion.begun rationals (order A w) (starting A w))
+  abbrev pub start_of : Results → Work → State
+  start_of done w = completing done w (completion.initial_state rationals (order A w)
+      (starting A w))
 
   abbrev pub alone : List (Terms Fraction) → List Dividend
   alone ps = map (λ p. (None, p)) ps
@@ -140,10 +141,10 @@ module _ (A : Setting) where
   unfoldable pub link_dividends : Work → List (Terms Fraction) → List Dividend
   link_dividends starts gs = alone (starting A starts)
   link_dividends (turn k b n hs before so_far) gs =
-      alone (kept (block A (turn k b n hs before so_far)) gs)
-  link_dividends (turn_meet k b n hs so_far ks) gs = alone (kept 1 gs)
-  link_dividends (orbit k b hs so_far) gs = alone (kept (block A (orbit k b hs so_far)) gs)
-  link_dividends (meet k b hs so_far ls) gs = alone (kept 1 gs)
+      alone (free_part (block A (turn k b n hs before so_far)) gs)
+  link_dividends (turn_meet k b n hs so_far ks) gs = alone (free_part 1 gs)
+  link_dividends (orbit k b hs so_far) gs = alone (free_part (block A (orbit k b hs so_far)) gs)
+  link_dividends (meet k b hs so_far ls) gs = alone (free_part 1 gs)
 
   -- ---- the stages
   abbrev pub stage_from : Work → CompletedList → (out : List (Terms Fraction))
@@ -166,7 +167,7 @@ module _ (A : Setting) (rounds : ℕ) where
   -- ---- what follows a task that has ended with a list
   abbrev pub begin_orbit : Results → ℕ → ℕ → List (Terms Fraction) → List (Terms Fraction) → Step
   begin_orbit done k b gs so_far =
-      goes (Begin (journal.Orbit k (suc b))) (begun A done (orbit k b gs so_far))
+      goes (Begin (journal.Orbit k (suc b))) (start_of A done (orbit k b gs so_far))
 
   -- after round k, which ended with the list gs
   abbrev pub after_round : Results → ℕ → List (Terms Fraction) → Step
@@ -185,7 +186,7 @@ module _ (A : Setting) (rounds : ℕ) where
   after done (turn_meet k b n gs so_far ks) ls = finished done
   after done (orbit k zero gs so_far) hs = after_branch done k zero gs hs
   after done (orbit k (suc b) gs so_far) hs =
-      goes (Begin (journal.Meet k (suc (suc b)))) (begun A done (meet k (suc b) gs so_far hs))
+      goes (Begin (journal.Meet k (suc (suc b)))) (start_of A done (meet k (suc b) gs so_far hs))
   after done (meet k b gs so_far hs) ls = after_branch done k b gs ls
 
   -- ---- the divisions by the list that is given
@@ -193,45 +194,45 @@ module _ (A : Setting) (rounds : ℕ) where
       → List (List (Terms Fraction)) → List Dividend → Step
   link_from done w t out rows [] = after (with_stage done w (stage_of A w t out rows)) w out
   link_from done w t out rows (j ∷ left) =
-      coming (linking done w t out (record { rows = rows; left = left }))
-      (division.next rationals grevlex out (division.begun out j.1))
-      (link_from done w t out (rows ++ (division.begun out j.1).cofactors ∷ []) left)
+      next_or (linking done w t out (record { rows = rows; left = left }))
+      (division.next rationals grevlex out (division.initial_state out j.1))
+      (link_from done w t out (rows ++ (division.initial_state out j.1).cofactors ∷ []) left)
 
   -- ---- tidying
   abbrev pub tidy_from : Results → Work → CompletedList → List (Terms Fraction) → Step
   tidy_from done w t gs =
-      coming (tidying_up done w t) (tidying.next rationals grevlex gs)
+      next_or (tidying_up done w t) (tidying.next rationals grevlex gs)
       (link_from done w t (tidying.by_lead grevlex gs) [] (link_dividends A w t.list))
 
   -- ---- the divisions by the completed list
   unfoldable pub divide_from : Results → Work → (gs : List (Terms Fraction))
       → List (List (Terms Fraction)) → List Dividend → Step
   divide_from done w gs rows [] =
-      tidy_from done w (record { list = gs; rows = rows }) (kept (block A w) gs)
+      tidy_from done w (record { list = gs; rows = rows }) (free_part (block A w) gs)
   divide_from done w gs rows ((Some a, p) ∷ left) =
       goes (Did (Pair a.0 a.1))
-      (dividing done w gs (record { rows = rows; left = left }) (division.begun gs p))
+      (dividing done w gs (record { rows = rows; left = left }) (division.initial_state gs p))
   divide_from done w gs rows ((None, p) ∷ left) =
-      coming (dividing done w gs (record { rows = rows; left = left }))
-      (division.next rationals (order A w) gs (division.begun gs p))
-      (divide_from done w gs (rows ++ (division.begun gs p).cofactors ∷ []) left)
+      next_or (dividing done w gs (record { rows = rows; left = left }))
+      (division.next rationals (order A w) gs (division.initial_state gs p))
+      (divide_from done w gs (rows ++ (division.initial_state gs p).cofactors ∷ []) left)
 
   unfoldable pub next : State → Step
-  next fresh = goes (Begin journal.Start) (begun A no_results starts)
+  next fresh = goes (Begin journal.Start) (start_of A no_results starts)
   next (completing done w s) =
-      coming (completing done w) (completion.next rationals (order A w) s)
+      next_or (completing done w) (completion.next rationals (order A w) s)
       (divide_from done w s.basis [] (list_dividends A w s.basis))
   next (dividing done w gs row d) =
-      coming (dividing done w gs row) (division.next rationals (order A w) gs d)
+      next_or (dividing done w gs row) (division.next rationals (order A w) gs d)
       (divide_from done w gs (row.rows ++ d.cofactors ∷ []) row.left)
   next (tidying_up done w t gs) = tidy_from done w t gs
   next (linking done w t out row d) =
-      coming (linking done w t out row) (division.next rationals grevlex out d)
+      next_or (linking done w t out row) (division.next rationals grevlex out d)
       (link_from done w t out (row.rows ++ d.cofactors ∷ []) row.left)
 
-  abbrev pub moved : Step → Option (Entry × State)
-  moved (goes e s) = Some (e, s)
-  moved (finished done) = None
+  abbrev pub move_of : Step → Option (Entry × State)
+  move_of (goes e s) = Some (e, s)
+  move_of (finished done) = None
 
   abbrev pub moves : State → Option (Entry × State)
-  moves s = moved (next s)
+  moves s = move_of (next s)

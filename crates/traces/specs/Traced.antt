@@ -13,17 +13,17 @@ use Rattle.machines.specs.Completion as completion
 use Rattle.machines.specs.Completion.{s_polynomial}
 use Rattle.machines.specs.Tidying as tidying
 use Rattle.machines.specs.Division as division
-use Rattle.machines.specs.Elimination.{kept}
+use Rattle.machines.specs.Elimination.{free_part}
 use Rattle.completeness.specs.Representation.{pairs_of}
 use Rattle.completeness.specs.Stage.{Stage, block_order, pair_at}
 
 pub record IsDivided (O : Rank) (gs : List (Terms Fraction)) (p : Terms Fraction)
     (qs : List (Terms Fraction)) : Type 0 where
-  pub ends : Ends (division.next rationals O gs) (division.begun gs p)
+  pub ends : Ends (division.next rationals O gs) (division.initial_state gs p)
   pub is : qs ≡ ends.last.cofactors
 
 pub record IsCompleted (O : Rank) (hs gs : List (Terms Fraction)) : Type 0 where
-  pub ends : Ends (completion.next rationals O) (completion.begun rationals O hs)
+  pub ends : Ends (completion.next rationals O) (completion.initial_state rationals O hs)
   pub is : gs ≡ ends.last.basis
 
 pub record IsTidied (gs out : List (Terms Fraction)) : Type 0 where
@@ -38,9 +38,9 @@ pub record IsTraced (k : ℕ) (hs : List (Terms Fraction)) (s : Stage) : Type 0 
       → IsDivided (block_order k) s.list (s_polynomial rationals (block_order k) s.list
       (pair_at s i))
       (get_or s.pairs i [])
-  pub out : IsTidied (kept k s.list) s.out
-  pub links : (i : ℕ) → i < length (kept k s.list)
-      → IsDivided grevlex s.out (get_or (kept k s.list) i []) (get_or s.links i [])
+  pub out : IsTidied (free_part k s.list) s.out
+  pub links : (i : ℕ) → i < length (free_part k s.list)
+      → IsDivided grevlex s.out (get_or (free_part k s.list) i []) (get_or s.links i [])
 
 pub record IsStartTraced (hs out : List (Terms Fraction))
     (links : List (List (Terms Fraction))) : Type 0 where

@@ -7,7 +7,7 @@ ghost use Rattle.polynomials.specs.Order.{grevlex};
 ghost use Rattle.polynomials.specs.Polynomial.{IsPolynomial};
 ghost use Rattle.ideals.specs.Members.{IsMember};
 ghost use Rattle.machines.specs.Basis.{AtPlaces};
-ghost use Rattle.machines.specs.Elimination.{kept};
+ghost use Rattle.machines.specs.Elimination.{free_part};
 ghost use Rattle.machines.specs.Journal.{Entry, units_of};
 ghost use Rattle.machines.specs.Reduced.{IsReducedFor};
 ghost use Rattle.completeness.specs.Stage.{Stage, block_order, StageHolds};
@@ -23,7 +23,7 @@ ghost use Rattle.rounds.specs.Form.{Form};
 ghost use Rattle.rounds.specs.Journal as analysis;
 ghost use Rattle.completeness.specs.Full.{IsFullOver};
 ghost use Rattle.completeness.specs.Counts.{IsSquare, IsCounted};
-ghost use Rattle.completeness.specs.FormIdentities.{PassesForm};
+ghost use Rattle.completeness.specs.FormIdentities.{IsRightForm};
 ghost use Rattle.completeness.specs.Parts.{AllHold};
 ghost use Rattle.traces.specs.Trace.{Results};
 ghost use Rattle.traces.specs.Followed.{IsFinished, IsOut};
@@ -37,7 +37,7 @@ pub fn traced_stages_hold()
         → StageHolds k hs s }
     ensures reduced { (k m : ℕ) (hs : List (Terms Fraction))
         → AtPlaces (IsPolynomial ℚ (block_order k) (k + m)) hs → (s : Stage) → IsTraced k hs s
-        → IsReducedFor rationals grevlex m s.out (IsMember ℚ m (kept k s.list)) }
+        → IsReducedFor rationals grevlex m s.out (IsMember ℚ m (free_part k s.list)) }
 {}
 
 /// A loop has one trace of so many rounds that has ended, and none runs out of a budget that it
@@ -85,5 +85,5 @@ pub fn finished_traces_give_as_many<At>()
 pub fn closed_forms_pass()
     ensures { (images : List (Terms Fraction)) (m : ℕ) → length images ≡ m → (f : Form)
         → Coprime f.base → Ascending f.base → IsClosedForm f.base images f.polys
-        → Each (IsNormal f.base) f.polys → PassesForm images m f }
+        → Each (IsNormal f.base) f.polys → IsRightForm images m f }
 {}

@@ -10,7 +10,7 @@
 use Rattle.std.proofs.Common.{◌≡◌, ℕ, zero, suc, ◌+◌, ◌-◌, ◌<◌, ◌≤◌, List, [], ◌∷◌, ◌++◌, map, length, refl, sym, ap, ap₂, ◌∙◌, arith}
 use Rattle.rings.specs.Arithmetic.{power}
 use Rattle.rings.specs.Each.{Each}
-use Rattle.rings.proofs.Each.{each_weaker}
+use Rattle.rings.proofs.Each.{each_weaker, map_same}
 use Rattle.exponentials.specs.Base.{Coprime}
 use Rattle.rings.specs.Ring.{CommRing, Field, operations, of_nat}
 use Rattle.rings.proofs.RingLaws as L
@@ -22,7 +22,7 @@ use Rattle.polynomials.proofs.ValueAt.{value_at-compose, value_at-constant, valu
 use Rattle.exponentials.proofs.Monomial.{power_inverse}
 use Rattle.exponentials.proofs.Expo.{IsChar0, positive}
 use Rattle.exponentials.proofs.Units.{IsUnit, at}
-use Rattle.turns.specs.Shifts.{later, turned}
+use Rattle.turns.specs.Shifts.{later, on_variables}
 use Rattle.turns.specs.Turns.{width}
 use Rattle.turns.proofs.Values.{values, turns, turns-first, turns-length, value_kept, natural, at-length, same_at_unit_points}
 use Rattle.turns.proofs.Shifts.{later-at, turned-at, map-later, map-turned, all-later, all-turned}
@@ -35,12 +35,6 @@ each_same f g (x ∷ xs) h = (
   (λ n. let e : f n x ∷ map (f n) xs ≡ g n x ∷ map (g n) xs = h n in cc),
   each_same f g xs (λ n. let e : f n x ∷ map (f n) xs ≡ g n x ∷ map (g n) xs = h n in cc),
 )
-
-map_same : {X Y : Type 0} (f g : X → Y) (xs : List X) → Each (λ x. f x ≡ g x) xs
-    → map f xs ≡ map g xs
-unfolding Each
-map_same f g [] h = refl
-map_same f g (x ∷ xs) h = ap₂ ◌∷◌ h.0 (map_same f g xs h.1)
 
 module _ {A : Type 0} (F : Field A) (char : IsChar0 F) (bs : List ℕ) (c : Coprime bs) (m : ℕ) where
   abbrev R : CommRing A
@@ -67,7 +61,7 @@ module _ {A : Type 0} (F : Field A) (char : IsChar0 F) (bs : List ℕ) (c : Copr
       (variables (operations R) w)
 
   abbrev turn_images : List (Terms A) → List (Terms A)
-  turn_images f = turned bs (λ l. map (λ p. compose (operations R) w p l) f)
+  turn_images f = on_variables bs (λ l. map (λ p. compose (operations R) w p l) f)
       (variables (operations R) w)
 
   pub arity_next : AllArity w next_images
@@ -96,11 +90,11 @@ module _ {A : Type 0} (F : Field A) (char : IsChar0 F) (bs : List ℕ) (c : Copr
       ∙ ap (later (operations R) bs u v) (value_at-variables R w s l)
 
   turn_values : (f : List (Terms A)) (s : List A) → length s ≡ w → vals (turn_images f) s
-      ≡ turned bs (vals f) s
+      ≡ on_variables bs (vals f) s
   turn_values f s l =
       map-turned (λ q. value_at (operations R) q s) bs (λ l. map (λ p. compose (operations R) w p l)
       f) (vals f) (through f) (variables (operations R) w)
-      ∙ ap (turned bs (vals f)) (value_at-variables R w s l)
+      ∙ ap (on_variables bs (vals f)) (value_at-variables R w s l)
     where
       through : (f l : List (Terms A)) → vals (map (λ p. compose (operations R) w p l) f) s
           ≡ vals f (vals l s)

@@ -31,11 +31,11 @@ use Rattle.vectors.proofs.EchelonKernel.{total-single}
 use Rattle.vectors.proofs.ListLaws.{below-entry, entries-past}
 use Rattle.vectors.specs.Rows.{rows_of}
 use Rattle.turns.specs.Classes.{IsClass, IsEigenvalue, column}
-use Rattle.turns.specs.Turned.{form_at, mine, place, rest_of, rests_at, IsSplit, IsTurnedForm}
+use Rattle.turns.specs.AfterTurns.{form_at, mine, place, rest_of, rests_at, IsSplit, IsFormAfterTurns}
 use Rattle.turns.specs.Turns.{point, turns, width, IsClosedForm}
 use Rattle.turns.proofs.ClassSteps.{joined, place_in, rest_in, rest_lacks, together, total_form, values-entry, zero_form_turned}
 use Rattle.turns.proofs.Eigenvalues.{as_row, each_zero, firsts, firsts-entry, firsts-length}
-use Rattle.turns.proofs.Existence.{map-same, map-two, weighted, weighted-value}
+use Rattle.turns.proofs.Existence.{map-two, weighted, weighted-value}
 use Rattle.turns.proofs.OneForm.{all_values}
 use Rattle.turns.proofs.Operations.{point-append}
 use Rattle.turns.proofs.Parts.{mine_in}
@@ -44,6 +44,8 @@ use Rattle.turns.proofs.Sources as Sources
 use Rattle.turns.proofs.Numbers.{point-is}
 use Rattle.turns.proofs.Values.{at-length, turns-length}
 use Rattle.vectors.proofs.VectorRing as VR
+use Rattle.rings.proofs.Each.{map_same}
+use Rattle.rings.proofs.Basics.{to_true}
 
 abbrev F : Field Fraction
 F = ℚ_field
@@ -61,10 +63,6 @@ take-first zero [] ys e = refl
 take-first zero (x ∷ xs) ys e = absurd (omega (arith, e))
 take-first (suc k) [] ys e = absurd (omega (arith, e))
 take-first (suc k) (x ∷ xs) ys e = ap (λ l. x ∷ l) (take-first k xs ys (omega (arith, e)))
-
-sure : (b : Bool) → T b → b ≡ true
-sure true h = refl
-sure false h = absurd h
 
 -- ---- the places of a class are apart
 above_place : (i : ℕ) (g : List ℕ) → Above i g → (b : ℕ) → b < length g → i < place g b
@@ -206,7 +204,7 @@ module _ (base : List ℕ) (c : Coprime base) (images : List (Terms Fraction))
 
     same_rests : (n : ℕ) → rests_at images g (turns images n s) ≡ rests_at images g
         (turns images n t)
-    same_rests n = map-same (λ i. value_at ℚ (rest_of g (poly_at images i)) (turns images n s))
+    same_rests n = map_same (λ i. value_at ℚ (rest_of g (poly_at images i)) (turns images n s))
         (λ i. value_at ℚ (rest_of g (poly_at images i)) (turns images n t)) g
         (each_from g (λ i h. Sources.value_used F (rest_of g (poly_at images i))
         (turns images n s) (turns images n t) (same_size n)
@@ -241,7 +239,7 @@ module _ (base : List ℕ) (c : Coprime base) (images : List (Terms Fraction))
     unfolding sum_of_products
     no_more x = R.add-zero x
 
-    is_turned : IsTurnedForm base images 1 g w solution.poly
+    is_turned : IsFormAfterTurns base images 1 g w solution.poly
     unfolding Each
     is_turned = zero_form_turned base images 0 is none g class [] tt w wide ℚ.zero [] splits source
         (λ n s l late. source-value n s l ∙ sym (no_more (sum_of_products ℚ w
@@ -275,7 +273,7 @@ module _ (base : List ℕ) (c : Coprime base) (images : List (Terms Fraction))
         weighted-value W w (map (poly_at ps) g) (point base n s)
         ∙ ap (sum_of_products ℚ w)
         (map-two (poly_at ps) (λ q. value_at ℚ q (point base n s)) g
-        ∙ map-same (λ j. value_at ℚ (poly_at ps j) (point base n s))
+        ∙ map_same (λ j. value_at ℚ (poly_at ps j) (point base n s))
         (entries F (turns images n s)) g
         (each_from g (λ j h.
         sym (values-entry ps (point base n s) j (let e = ps-length in
@@ -301,7 +299,7 @@ module _ (base : List ℕ) (c : Coprime base) (images : List (Terms Fraction))
     single-own : (x : Fraction) (k : ℕ) → k < m → entries F (single x k) k ≡ x
     unfolding single
     single-own x k l = firsts-entry m (λ j. cond (eqb j k) x ℚ.zero) k l
-        ∙ ap (λ b. cond b x ℚ.zero) (sure (eqb k k) (eqb_refl k))
+        ∙ ap (λ b. cond b x ℚ.zero) (to_true (eqb k k) (eqb_refl k))
 
     single-other : (x : Fraction) (k j : ℕ) → j ≢ k → entries F (single x k) j ≡ ℚ.zero
     unfolding single

@@ -31,12 +31,12 @@ use Rattle.vectors.proofs.EchelonKernel.{total-single}
 use Rattle.exponentials.proofs.Lists.{Distinct}
 use Rattle.turns.specs.Classes.{IsClass}
 use Rattle.turns.specs.Inverse.{unit_list}
-use Rattle.turns.specs.Turned.{mine, rest_of, form_at, rests_at, IsTurned, AreTurned, IsTurnedForm, HasRecurrence, HasValueAfter, Done, rows_done, values_done, IsSplit}
+use Rattle.turns.specs.AfterTurns.{mine, rest_of, form_at, rests_at, IsAfterTurns, AreAfterTurns, IsFormAfterTurns, HasRecurrence, HasValueAfter, Done, rows_done, values_done, IsSplit}
 use Rattle.turns.specs.Turns.{point, turns}
 use Rattle.turns.proofs.ClassForms as CF
 use Rattle.turns.proofs.ClassForms.{dot}
 use Rattle.turns.proofs.ClassTurns as CT
-use Rattle.turns.specs.Turned.{place}
+use Rattle.turns.specs.AfterTurns.{place}
 use Rattle.vectors.proofs.ListLaws.{below-entry}
 use Rattle.turns.proofs.Eigenvalues.{same_below}
 use Rattle.turns.proofs.Inverses.{unit-own, unit-other}
@@ -107,7 +107,7 @@ module _ (base : List ℕ) (images : List (Terms Fraction)) (since : ℕ)
         clash b e h = subst T e h
 
     -- the images that are composed with, at a point
-    module _ (ps : List (Terms Fraction)) (turned : AreTurned base images since earlier ps)
+    module _ (ps : List (Terms Fraction)) (turned : AreAfterTurns base images since earlier ps)
         (n : ℕ) (s : List Fraction) (size : length s ≡ m) (late : since ≤ n) where
       abbrev z : List Fraction
       z = point base n s
@@ -260,7 +260,7 @@ module _ (base : List ℕ) (images : List (Terms Fraction)) (since : ℕ)
 
   -- ---- a form and those before it
   abbrev pub IsDone : List Fraction × Terms Fraction → Type 0
-  IsDone t = IsTurnedForm base images since g t.0 t.1
+  IsDone t = IsFormAfterTurns base images since g t.0 t.1
 
   module _ (s : List Fraction) (size : length s ≡ length images) where
     abbrev Told : Type 0
@@ -365,7 +365,7 @@ module _ (base : List ℕ) (images : List (Terms Fraction)) (since : ℕ)
     from_first : (start : List Fraction → Fraction) (y : Terms Fraction)
         → HasRecurrence base (length images) l q start y
         → ((s : List Fraction) → length s ≡ length images → value_at ℚ y (point base (since + 0) s)
-        ≡ sequence s 0) → IsTurnedForm base images since g w y
+        ≡ sequence s 0) → IsFormAfterTurns base images since g w y
     from_first start y rec known = record {
       width = width;
       values = λ n s size late.
@@ -380,7 +380,7 @@ module _ (base : List ℕ) (images : List (Terms Fraction)) (since : ℕ)
 
     pub form_turned : (start : List Fraction → Fraction) (y : Terms Fraction)
         → HasRecurrence base (length images) l q start y → HasValueAfter base images g w since y
-        → IsTurnedForm base images since g w y
+        → IsFormAfterTurns base images since g w y
     form_turned start y rec known = from_first start y rec (λ s size.
         let e : since + 0 ≡ since = omega arith in
         ap (λ i. value_at ℚ y (point base i s)) e ∙ known.is s size
@@ -388,14 +388,15 @@ module _ (base : List ℕ) (images : List (Terms Fraction)) (since : ℕ)
 
     pub later_form_turned : l ≢ F.zero → (start : List Fraction → Fraction) (y : Terms Fraction)
         → HasRecurrence base (length images) l q start y → (d : ℕ)
-        → HasValueAfter base images g w (since + d) y → IsTurnedForm base images since g w y
+        → HasValueAfter base images g w (since + d) y → IsFormAfterTurns base images since g w y
     later_form_turned ne start y rec d known = from_first start y rec (λ s size.
         same_first ne (λ n. value_at ℚ y (point base (since + n) s)) (sequence s)
         (λ n. value_at ℚ q (point base (since + n) s)) (next_of start y rec s size)
         (sequence-next s) d (known.is s size ∙ sym (sequence-is d s size)))
 
     pub zero_form_turned : l ≡ F.zero → (start : List Fraction → Fraction) (y : Terms Fraction)
-        → HasRecurrence base (length images) l q start y → IsTurnedForm base images (suc since) g w
+        → HasRecurrence base (length images) l q start y → IsFormAfterTurns base images (suc since)
+        g w
         y
     zero_form_turned e start y rec = record {
       width = width;
@@ -422,7 +423,7 @@ module _ (base : List ℕ) (images : List (Terms Fraction)) (since : ℕ)
       → (p : Terms Fraction) → ((n : ℕ) (s : List Fraction) → length s ≡ length images → since ≤ n
       → value_at ℚ p (point base n s) ≡ sum_of_products ℚ by
       (values_done forms (point base n s)))
-      → IsTurned base images since (place g a) p
+      → IsAfterTurns base images since (place g a) p
   variable_turned forms done a l by makes p values = record {
     values = λ n s size late.
         from_there since (λ i. value_at ℚ p (point base i s) ≡ entries F (turns images i s)

@@ -19,7 +19,7 @@ use Rattle.vectors.specs.Rows.{Row}
 use Rattle.vectors.specs.Lists.{entries, below, below-past}
 use Rattle.vectors.specs.Echelon.{total}
 use Rattle.exponentials.proofs.Lists.{Distinct}
-use Rattle.turns.specs.Turned.{mine, rest_of, place}
+use Rattle.turns.specs.AfterTurns.{mine, rest_of, place}
 use Rattle.turns.proofs.Parts.{value_split}
 use Rattle.turns.proofs.ClassForms.{dot, row_at, IsNext}
 use Rattle.vectors.proofs.EchelonKernel.{total_same}

@@ -23,7 +23,7 @@ use Rattle.exponentials.specs.Base.{IsTheBase}
 use Rattle.vectors.specs.Matrices.{AreForms}
 use Rattle.vectors.proofs.ListLaws.{entries-past, same_entries}
 use Rattle.turns.specs.Classes.{class_matrix, IsClass, IsFormBase, sizes_of}
-use Rattle.turns.specs.Turned.{IsTurned, AreTurned, IsTurnedForm}
+use Rattle.turns.specs.AfterTurns.{IsAfterTurns, AreAfterTurns, IsFormAfterTurns}
 use Rattle.turns.specs.Turns.{point, turns, values_at, width, IsClosedFormFrom}
 use Rattle.turns.proofs.ClassSteps.{values-entry, together, joined}
 use Rattle.turns.proofs.Eigenvalues.{value_is_eigenvalue, eigenvector_value}
@@ -33,25 +33,26 @@ module _ (base : List ℕ) (images : List (Terms Fraction)) (since : ℕ) where
   abbrev m : ℕ
   m = length images
 
-  pub turned_none : (ps : List (Terms Fraction)) → length ps ≡ m → AreTurned base images since [] ps
+  pub turned_none : (ps : List (Terms Fraction)) → length ps ≡ m
+      → AreAfterTurns base images since [] ps
   turned_none ps e = record { size = e; each = λ i h. absurd h }
 
   -- the polynomials of a class stand at its places, the others as before
   pub turned_more : (earlier g : List ℕ) (ps qs : List (Terms Fraction))
-      → AreTurned base images since earlier ps → length qs ≡ m
-      → ((i : ℕ) → In i g → IsTurned base images since i (poly_at qs i))
+      → AreAfterTurns base images since earlier ps → length qs ≡ m
+      → ((i : ℕ) → In i g → IsAfterTurns base images since i (poly_at qs i))
       → ((i : ℕ) → (In i g → ⊥) → poly_at qs i ≡ poly_at ps i)
-      → ((i : ℕ) → In i earlier → In i g → ⊥) → AreTurned base images since (earlier ++ g) qs
+      → ((i : ℕ) → In i earlier → In i g → ⊥) → AreAfterTurns base images since (earlier ++ g) qs
   turned_more earlier g ps qs h size new old apart = record {
     size = size;
     each = λ i k. elim (in_either i earlier g k) [
-      | inl e ↦ subst (IsTurned base images since i) (sym (old i (apart i e))) (h.each i e)
+      | inl e ↦ subst (IsAfterTurns base images since i) (sym (old i (apart i e))) (h.each i e)
       | inr e ↦ new i e
     ];
   }
 
   pub turned_all : (earlier : List ℕ) (ps : List (Terms Fraction))
-      → AreClasses (uses images) m earlier [] → AreTurned base images since earlier ps
+      → AreClasses (uses images) m earlier [] → AreAfterTurns base images since earlier ps
       → AllArity (width (length base) m) ps → IsClosedFormFrom base images since ps
   turned_all earlier ps all h arity = record {
     arity = arity;
@@ -73,7 +74,7 @@ module _ (base : List ℕ) (images : List (Terms Fraction)) (since : ℕ) where
 
   -- ---- from later on too
   pub later_turned : (d : ℕ) → since ≤ d → (vs : List ℕ) (ps : List (Terms Fraction))
-      → AreTurned base images since vs ps → AreTurned base images d vs ps
+      → AreAfterTurns base images since vs ps → AreAfterTurns base images d vs ps
   later_turned d more vs ps h = record {
     size = h.size;
     each = λ i k. record {
@@ -82,7 +83,7 @@ module _ (base : List ℕ) (images : List (Terms Fraction)) (since : ℕ) where
   }
 
   pub later_form : (d : ℕ) → since ≤ d → (g : List ℕ) (w : List Fraction) (y : Terms Fraction)
-      → IsTurnedForm base images since g w y → IsTurnedForm base images d g w y
+      → IsFormAfterTurns base images since g w y → IsFormAfterTurns base images d g w y
   later_form d more g w y h = record {
     width = h.width;
     values = λ n s l late. h.values n s l (omega (arith, more, late));

@@ -17,7 +17,7 @@ use Rattle.numbers.proofs.Fractions.{ℚ_ring, ℚ_field}
 use Rattle.polynomials.specs.Terms.{Terms, coefficient, sum_of_products}
 use Rattle.chains.specs.Uses.{poly_at, unit}
 use Rattle.vectors.specs.Lists.{entries, below, row_of}
-use Rattle.vectors.specs.Matrices.{rows_in, acted, valued, AreForms}
+use Rattle.vectors.specs.Matrices.{rows_in, times_matrix, with_values, AreForms}
 use Rattle.vectors.specs.Rows.{Row, same_row, rows_of}
 use Rattle.vectors.specs.Space.{Space, combine, IsCombination, IsLinear}
 use Rattle.vectors.specs.Splitting.{shift, after, vectors_of}
@@ -33,7 +33,7 @@ use Rattle.vectors.proofs.SplitDecided.{valued-length}
 use Rattle.vectors.proofs.SplittingLaws as SL
 use Rattle.vectors.proofs.VectorRing.{scalar, vector, vector_rules, vectors}
 use Rattle.turns.specs.Classes.{class_matrix, column, IsClass, IsEigenvalue}
-use Rattle.turns.specs.Turned.{place}
+use Rattle.turns.specs.AfterTurns.{place}
 
 -- ---- over any vectors
 module _ {A V : Type 0} (F : Field A) (S : Space F.ring V) (t : V → V) where
@@ -195,7 +195,7 @@ made-entry n (x ∷ xs) (row ∷ rows) j l =
     ap₂ F.add (ap (F.mul x) (below-entry ℚ_field n (entries F row) j l)) (made-entry n xs rows j l)
 
 pub acted-entry : (n : ℕ) (xs : List Fraction) (rows : List (List Fraction)) → length rows ≡ n
-    → (j : ℕ) → j < n → (acted n rows (row_of F n xs)).0 j ≡ sum_of_products ℚ xs
+    → (j : ℕ) → j < n → (times_matrix n rows (row_of F n xs)).0 j ≡ sum_of_products ℚ xs
     (map (λ row. entries F row j) rows)
 acted-entry n xs rows size j l =
     ap (λ (v : Row F n). v.0 j) (C.combine-same (rows_of F n) (below F n (entries F xs))
@@ -253,7 +253,7 @@ module _ (images : List (Terms Fraction)) (g : List ℕ) where
   S = rows_of F n
 
   abbrev t : Row F n → Row F n
-  t y = acted n M y
+  t y = times_matrix n M y
 
   matrix-size : length M ≡ n
   matrix-size =
@@ -328,20 +328,20 @@ module _ (images : List (Terms Fraction)) (g : List ℕ) where
     linear = RL.times-linear F n (rows_in n M)
 
     values-are : (forms : List (List Fraction)) (values : List Fraction)
-        → length values ≡ length forms → values_of (valued n forms values) ≡ values
+        → length values ≡ length forms → values_of (with_values n forms values) ≡ values
     values-are [] [] e = refl
     values-are [] (c ∷ values) e = absurd (omega (arith, e))
     values-are (form ∷ forms) [] e = absurd (omega (arith, e))
     values-are (form ∷ forms) (c ∷ values) e =
         ap (λ l. c ∷ l) (values-are forms values (omega (arith, e)))
 
-    same_values : values_of (valued n forms values) ≡ values
+    same_values : values_of (with_values n forms values) ≡ values
     same_values = values-are forms values (h.value_count ∙ sym h.count)
 
-    all_made : (v : Row F n) → IsCombination S (vectors_of (valued n forms values)) v
+    all_made : (v : Row F n) → IsCombination S (vectors_of (with_values n forms values)) v
     all_made v =
-        I.independent-all F S (RL.all_units F n) (vectors_of (valued n forms values))
-        (each_from (vectors_of (valued n forms values)) (λ u i. RL.all_units-all F n u))
+        I.independent-all F S (RL.all_units F n) (vectors_of (with_values n forms values))
+        (each_from (vectors_of (with_values n forms values)) (λ u i. RL.all_units-all F n u))
         h.independent
         (valued-length n forms values (h.value_count ∙ sym h.count) ∙ h.count
         ∙ sym (RL.all_units-length F n)) v (RL.all_units-all F n v)
@@ -349,7 +349,8 @@ module _ (images : List (Terms Fraction)) (g : List ℕ) where
     pub value_is_eigenvalue : IsClass images g → (c : Fraction) → In c values
         → IsEigenvalue images c
     value_is_eigenvalue is c i =
-        let e : IsEigen F S t c = eigenvector_of F S t c [] (valued n forms values) none h.split
+        let e : IsEigen F S t c = eigenvector_of F S t c [] (with_values n forms values) none
+        h.split
         h.independent (subst (In c) (sym same_values) i) in
         record {
           class = g;
@@ -367,7 +368,8 @@ module _ (images : List (Terms Fraction)) (g : List ℕ) where
         → ⊥) → IsTurnedBy x vector → In x values
     eigenvector_value x vector nonzero e =
         subst (In x) same_values
-        (eigen_among F S t linear (valued n forms values) h.split all_made x (row_of F n vector)
+        (eigen_among F S t linear (with_values n forms values) h.split all_made x
+        (row_of F n vector)
         (as_row x vector e)
         (λ z. nonzero
         (each_zero vector (λ i l.

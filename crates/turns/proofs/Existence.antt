@@ -10,9 +10,9 @@ use Rattle.std.proofs.lemmas.List.{length-map}
 use Rattle.rings.specs.Each.{Each}
 use Rattle.rings.specs.In.{In}
 use Rattle.rings.specs.Ring.{CommRing, Field}
-use Rattle.rings.proofs.Each.{each-append, each-left, each-map, each-right, each_weaker}
+use Rattle.rings.proofs.Each.{each-append, each-left, each-map, each-right, each_weaker, map_same}
 use Rattle.rings.proofs.FieldLaws as FL
-use Rattle.rings.proofs.In.{each_from, each_in}
+use Rattle.rings.proofs.In.{each_from}
 use Rattle.numbers.specs.Fraction.{Fraction, ℚ}
 use Rattle.numbers.proofs.Fractions.{ℚ_ring, ℚ_field}
 use Rattle.chains.specs.Chain.{IsChain}
@@ -26,7 +26,7 @@ use Rattle.polynomials.specs.Polynomial.{AllArity, Arity}
 use Rattle.polynomials.proofs.Arity.{arity-append, arity-combination, arity-compose, arity-constants, arity-variables, length-units}
 use Rattle.polynomials.proofs.ValueAt.{value_at-append, value_at-combination, value_at-compose, value_at-variables, values_at-constants}
 use Rattle.vectors.specs.Lists.{entries, row_of}
-use Rattle.vectors.specs.Matrices.{acted, valued}
+use Rattle.vectors.specs.Matrices.{times_matrix, with_values}
 use Rattle.vectors.specs.Rows.{Row, rows_of}
 use Rattle.vectors.specs.Space.{Space, combine, IsCombination}
 use Rattle.vectors.specs.SplitForms.{of_value, AreSplitForms}
@@ -40,9 +40,9 @@ use Rattle.turns.specs.Classes.{class_matrix, IsClass}
 use Rattle.turns.specs.Expo.{power_key}
 use Rattle.turns.specs.Inverse.{unit_list}
 use Rattle.turns.specs.Splits.{HasForms, IsOfBase}
-use Rattle.turns.specs.Turned.{form_at, place, rest_of, rests_at, AreTurned, Done, IsSplit, IsTurned, IsTurnedForm, rows_done, values_done}
+use Rattle.turns.specs.AfterTurns.{form_at, place, rest_of, rests_at, AreAfterTurns, Done, IsSplit, IsAfterTurns, IsFormAfterTurns, rows_done, values_done}
 use Rattle.turns.specs.Turns.{point, turns, values_at, width, IsClosedFormFrom}
-use Rattle.turns.proofs.ClassSteps.{later_form_turned, rest_in, rests_turned, values-entry, variable_turned, zero_form_turned}
+use Rattle.turns.proofs.ClassSteps.{later_form_turned, rests_turned, values-entry, variable_turned, zero_form_turned}
 use Rattle.turns.proofs.Classwise.{later_form, later_turned, next_apart, next_is_class, turned_all, turned_more, turned_none, whole_more}
 use Rattle.turns.proofs.Eigenvalues.{firsts, firsts-entry, firsts-length, of_value-within, vectors-append}
 use Rattle.turns.proofs.Made.{in_place}
@@ -83,12 +83,6 @@ pub map-two : {X Y Z : Type 0} (f : X → Y) (g : Y → Z) (xs : List X)
 map-two f g [] = refl
 map-two f g (x ∷ xs) = ap (λ l. g (f x) ∷ l) (map-two f g xs)
 
-pub map-same : {X Y : Type 0} (f g : X → Y) (xs : List X) → Each (λ x. f x ≡ g x) xs
-    → map f xs ≡ map g xs
-unfolding Each
-map-same f g [] h = refl
-map-same f g (x ∷ xs) h = ap₂ ◌∷◌ h.0 (map-same f g xs h.1)
-
 -- ---- a sum with numbers
 abbrev pub weighted : ℕ → List Fraction → List (Terms Fraction) → Terms Fraction
 weighted k w qs = combination ℚ (map (constant k) w) qs
@@ -101,11 +95,6 @@ weighted-value k w qs z = value_at-combination R (map (constant k) w) qs z
 pub weighted-arity : (k : ℕ) (w : List Fraction) (qs : List (Terms Fraction)) → AllArity k qs
     → Arity k (weighted k w qs)
 weighted-arity k w qs a = arity-combination k ℚ (map (constant k) w) qs (arity-constants k w) a
-
--- ---- rests have as many exponents
-rest-arity : (k : ℕ) (g : List ℕ) (p : Terms Fraction) → Arity k p → Arity k (rest_of g p)
-rest-arity k g p a = each_from (rest_of g p) (λ t i. each_in (λ (t : List ℕ × Fraction).
-    length t.0 ≡ k) p t a (rest_in g p t i))
 
 module _ (base : List ℕ) (c : Coprime base) (images : List (Terms Fraction))
     (is : IsMap (length images) images)
@@ -163,7 +152,7 @@ module _ (base : List ℕ) (c : Coprime base) (images : List (Terms Fraction))
       weighted-value m w (map (poly_at (after d)) g) s
       ∙ ap (sum_of_products ℚ w)
       (map-two (poly_at (after d)) (λ q. value_at ℚ q s) g
-      ∙ map-same (λ j. value_at ℚ (poly_at (after d) j) s) (entries F (turns images d s)) g
+      ∙ map_same (λ j. value_at ℚ (poly_at (after d) j) s) (entries F (turns images d s)) g
       (each_weaker (λ j. j < m) (λ j. value_at ℚ (poly_at (after d) j) s
       ≡ entries F (turns images d s) j) (λ j b.
       sym (values-entry (after d) s j (let e = after-length d in omega (arith, e, b)))
@@ -180,7 +169,7 @@ module _ (base : List ℕ) (c : Coprime base) (images : List (Terms Fraction))
 
   module _ (since k : ℕ) (earlier g : List ℕ) (next : IsNext (uses images) m earlier k)
       (of : IsClassOf (uses images) m k g) (ps : List (Terms Fraction))
-      (known : AreTurned base images since earlier ps) (arity : AllArity W ps) where
+      (known : AreAfterTurns base images since earlier ps) (arity : AllArity W ps) where
     abbrev n : ℕ
     n = length g
 
@@ -188,7 +177,7 @@ module _ (base : List ℕ) (c : Coprime base) (images : List (Terms Fraction))
     S = rows_of F n
 
     abbrev T : Row F n → Row F n
-    T v = acted n (class_matrix images g) v
+    T v = times_matrix n (class_matrix images g) v
 
     the_class : IsClass images g
     the_class = next_is_class images earlier g k next of
@@ -210,7 +199,7 @@ module _ (base : List ℕ) (c : Coprime base) (images : List (Terms Fraction))
     source w by before = compose ℚ W (rest_poly w) ps ++ weighted W by (map (λ t. t.1) before)
 
     abbrev AllDone : ℕ → Done → Type 0
-    AllDone z before = Each (λ t. IsTurnedForm base images (since + z) g t.0 t.1) before
+    AllDone z before = Each (λ t. IsFormAfterTurns base images (since + z) g t.0 t.1) before
 
     abbrev AllWide : Done → Type 0
     AllWide before = Each (λ t. Arity W t.1) before
@@ -314,7 +303,7 @@ module _ (base : List ℕ) (c : Coprime base) (images : List (Terms Fraction))
           wide = y.arity;
           done = (
             (let one : suc (since + z) ≡ since + suc z = omega arith in
-                subst (λ d. IsTurnedForm base images d g w y.poly) one
+                subst (λ d. IsFormAfterTurns base images d g w y.poly) one
                 (zero_form_turned base images (since + z) is none g the_class before done w size l
                 by splits q (λ i s b late. source-value z w by before i s b late) e
                 (λ s. value_at ℚ y.poly (point base 0 s)) y.poly
@@ -336,10 +325,7 @@ module _ (base : List ℕ) (c : Coprime base) (images : List (Terms Fraction))
                 by splits q (λ i s b late. source-value z w by before i s b late) ne
                 (λ s. value_at ℚ y.solution.poly (point base 0 s)) y.solution.poly
                 (Realized.recurrence base c m l q y.solution) 0
-                (record {
-                  is = λ s b. y.is s b
-                      ∙ form_after-value w g within (since + z + 0) s b;
-                }),
+                (record { is = λ s b. y.is s b ∙ form_after-value w g within (since + z + 0) s b }),
             done,
           );
           stays = λ ne. refl;
@@ -347,9 +333,9 @@ module _ (base : List ℕ) (c : Coprime base) (images : List (Terms Fraction))
 
     forms_exist : (fs : List (List Fraction)) (vs : List Fraction) → length vs ≡ length fs
         → Each (λ w. length w ≡ n) fs → Each (λ l. l ≢ ℚ.zero → IsOfBase base l) vs
-        → (seen : List (Row F n × Fraction)) → AreSplitForms F S T seen (valued n fs vs)
+        → (seen : List (Row F n × Fraction)) → AreSplitForms F S T seen (with_values n fs vs)
         → (z : ℕ) (before : Done) → AllDone z before → AllWide before → Covered before seen
-        → Forms z seen (valued n fs vs) vs
+        → Forms z seen (with_values n fs vs) vs
     unfolding Each
     forms_exist [] vs e widths numbers seen split z before done wide cover = record {
       zeros = z;
@@ -386,8 +372,9 @@ module _ (base : List ℕ) (c : Coprime base) (images : List (Terms Fraction))
             cover)
             (C.combination-first S (row_of F n w) (rows_done n before), tt))
 
-        last : (y : Step z before w l) → Forms y.zeros (seen ++ (item ∷ [])) (valued n fs vs) vs
-            → Forms z seen (valued n (w ∷ fs) (l ∷ vs)) (l ∷ vs)
+        last : (y : Step z before w l) → Forms y.zeros (seen ++ (item ∷ [])) (with_values n fs vs)
+            vs
+            → Forms z seen (with_values n (w ∷ fs) (l ∷ vs)) (l ∷ vs)
         last y r =
             let both : Each (IsCombination S (rows_done n r.forms))
             (vectors_of seen ++ (row_of F n w ∷ [])) =
@@ -409,23 +396,23 @@ module _ (base : List ℕ) (c : Coprime base) (images : List (Terms Fraction))
 
         go : Step z before w l → ((y : Step z before w l)
             → Covered ((w, y.poly) ∷ before) (seen ++ (item ∷ []))
-            → Forms y.zeros (seen ++ (item ∷ [])) (valued n fs vs) vs)
-            → Forms z seen (valued n (w ∷ fs) (l ∷ vs)) (l ∷ vs)
+            → Forms y.zeros (seen ++ (item ∷ [])) (with_values n fs vs) vs)
+            → Forms z seen (with_values n (w ∷ fs) (l ∷ vs)) (l ∷ vs)
         go y rest = last y (rest y (covered_more y.poly))
 
     -- ---- the variables
     pub record ClassMade (new : ℕ) (values : List Fraction) : Type 0 where
       pub polys : List (Terms Fraction)
-      pub are : AreTurned base images (since + new) (earlier ++ g) polys
+      pub are : AreAfterTurns base images (since + new) (earlier ++ g) polys
       pub wide : AllArity W polys
       pub stays : Each (λ l. l ≢ ℚ.zero) values → new ≡ 0
 
     module _ (split : HasForms base images g) (whole : AreWhole (uses images) m earlier) where
       abbrev all_forms : List (Row F n × Fraction)
-      all_forms = valued n split.forms split.values
+      all_forms = with_values n split.forms split.values
 
       vectors-length : (fs : List (List Fraction)) (vs : List Fraction) → length vs ≡ length fs
-          → length (vectors_of (valued n fs vs)) ≡ length fs
+          → length (vectors_of (with_values n fs vs)) ≡ length fs
       vectors-length [] vs e = refl
       vectors-length (f ∷ fs) [] e = absurd (omega (arith, e))
       vectors-length (f ∷ fs) (v ∷ vs) e = ap suc (vectors-length fs vs (omega (arith, e)))
@@ -456,7 +443,7 @@ module _ (base : List ℕ) (c : Coprime base) (images : List (Terms Fraction))
             (each-map (Arity W) (λ (t : List Fraction × Terms Fraction). t.1) made.forms made.wide)
 
         variable_is : (a : ℕ) → a < n
-            → IsTurned base images (since + made.zeros) (place g a) (variable a)
+            → IsAfterTurns base images (since + made.zeros) (place g a) (variable a)
         variable_is a low =
             variable_turned base images (since + made.zeros) is none g the_class made.forms
             made.done a low (firsts (length (rows_done n made.forms)) d.0)
@@ -479,7 +466,7 @@ module _ (base : List ℕ) (c : Coprime base) (images : List (Terms Fraction))
         pub record Placed (i : ℕ) : Type 0 where
           pub poly : Terms Fraction
           pub wide : Arity W poly
-          pub new : In i g → IsTurned base images (since + made.zeros) i poly
+          pub new : In i g → IsAfterTurns base images (since + made.zeros) i poly
           pub old : (In i g → ⊥) → poly ≡ poly_at ps i
 
         placed : (i : ℕ) → Placed i
@@ -487,7 +474,8 @@ module _ (base : List ℕ) (c : Coprime base) (images : List (Terms Fraction))
           | yes h ↦ let r = in_place g i h in record {
             poly = variable r.0;
             wide = variable-arity r.0;
-            new = λ h. subst (λ j. IsTurned base images (since + made.zeros) j (variable r.0)) r.2
+            new = λ h. subst (λ j. IsAfterTurns base images (since + made.zeros) j (variable r.0))
+                r.2
                 (variable_is r.0 r.1);
             old = λ not. absurd (not h);
           }
@@ -509,7 +497,7 @@ module _ (base : List ℕ) (c : Coprime base) (images : List (Terms Fraction))
           are = turned_more base images (since + made.zeros) earlier g ps polys
               (later_turned base images since (since + made.zeros) (omega arith) earlier ps known)
               (firsts-length m (λ i. (placed i).poly))
-              (λ i h. subst (IsTurned base images (since + made.zeros) i)
+              (λ i h. subst (IsAfterTurns base images (since + made.zeros) i)
               (sym (firsts-poly m (λ i. (placed i).poly) i (of.inside i h).0)) ((placed i).new h))
               (λ i not. elim (cases_lt i m) [
                 | inl l ↦ firsts-poly m (λ i. (placed i).poly) i l ∙ (placed i).old not
@@ -543,7 +531,7 @@ module _ (base : List ℕ) (c : Coprime base) (images : List (Terms Fraction))
 
     classes_exist : (groups : List (List ℕ)) (earlier : List ℕ)
         → AreClasses (uses images) m earlier groups → AreWhole (uses images) m earlier
-        → (since : ℕ) (ps : List (Terms Fraction)) → AreTurned base images since earlier ps
+        → (since : ℕ) (ps : List (Terms Fraction)) → AreAfterTurns base images since earlier ps
         → AllArity W ps → (NoneIsZero → since ≡ 0) → MapMade
     classes_exist [] earlier all whole since ps known arity stays = record {
       since = since;

@@ -9,7 +9,7 @@ use Rattle.numbers.proofs.Fractions.{ℚ_ring, ℚ_field}
 use Rattle.polynomials.specs.Terms.{sum_of_products}
 use Rattle.vectors.specs.Causes.{row_at}
 use Rattle.vectors.specs.Lists.{entries, tables, row_of}
-use Rattle.vectors.specs.Matrices.{rows_in, acted, valued, AreForms}
+use Rattle.vectors.specs.Matrices.{rows_in, times_matrix, with_values, AreForms}
 use Rattle.vectors.specs.Rows.{Row, rows_of}
 use Rattle.vectors.specs.Sequences.{sequences}
 use Rattle.vectors.specs.Space.{Space, combine, Independent}
@@ -30,8 +30,9 @@ abbrev Q : Space ℚ_ring (ℕ → Fraction)
 Q = sequences ℚ_ring ℕ
 
 valued-append : (n : ℕ) (us : List (List Fraction)) (cs : List Fraction) (vs : List (List Fraction))
-    (ds : List Fraction) → length us ≡ length cs → valued n (us ++ vs) (cs ++ ds) ≡ valued n us cs
-    ++ valued n vs ds
+    (ds : List Fraction) → length us ≡ length cs → with_values n (us ++ vs) (cs ++ ds)
+    ≡ with_values n us cs
+    ++ with_values n vs ds
 valued-append n [] [] vs ds q = refl
 valued-append n [] (c ∷ cs) vs ds q = absurd (omega (arith, q))
 valued-append n (u ∷ us) [] vs ds q = absurd (omega (arith, q))
@@ -39,7 +40,7 @@ valued-append n (u ∷ us) (c ∷ cs) vs ds q = ap (λ z. (row_of F n u, c) ∷ 
     (valued-append n us cs vs ds (omega (arith, q)))
 
 vectors-are : (n : ℕ) (forms : List (List Fraction)) (values : List Fraction)
-    → length values ≡ length forms → vectors_of (valued n forms values) ≡ rows_in n forms
+    → length values ≡ length forms → vectors_of (with_values n forms values) ≡ rows_in n forms
 vectors-are n [] values q = refl
 vectors-are n (form ∷ forms) [] q = absurd (omega (arith, q))
 vectors-are n (form ∷ forms) (c ∷ values) q = ap (λ z. row_of F n form ∷ z)
@@ -170,14 +171,15 @@ module _ (n : ℕ) where
           (map (λ row. entries F row b) rows))
           → ((b : ℕ) → b < n → entries F by b ≡ sum_of_products ℚ turned
           (map (λ row. entries F row b) back))
-          → acted n rows (row_of F n w) ≡ S.add (S.scale l (row_of F n w))
+          → times_matrix n rows (row_of F n w) ≡ S.add (S.scale l (row_of F n w))
           (combine S (entries F by) (rows_in n us))
       form_splits us vs w cs ds l e f k turned by g h =
-          split_row F S (λ y. acted n rows y) (valued n us cs) (row_of F n w, l) (valued n vs ds)
-          (subst (λ fs. AreSplitForms F S (λ y. acted n rows y) [] fs) at are.split)
+          split_row F S (λ y. times_matrix n rows y) (with_values n us cs) (row_of F n w, l)
+          (with_values n vs ds)
+          (subst (λ fs. AreSplitForms F S (λ y. times_matrix n rows y) [] fs) at are.split)
           (subst (λ fs. Independent S (vectors_of fs)) at are.independent)
           (entries F by)
-          (same_below n (acted n rows (row_of F n w)) (row_of F n turned) (λ b q.
+          (same_below n (times_matrix n rows (row_of F n w)) (row_of F n turned) (λ b q.
           acted-entry n w rows size b q ∙ sym (g b q)
           ∙ sym (below-entry ℚ_field n (entries F turned) b q))
           ∙ solved_by turned by h
@@ -186,8 +188,9 @@ module _ (n : ℕ) where
           ∙ ap (λ z. S.add (S.scale l (row_of F n w)) (combine S (entries F by) z))
           (vectors-are n us cs (sym k))
         where
-          at : valued n forms values ≡ valued n us cs ++ ((row_of F n w, l) ∷ valued n vs ds)
-          at = ap₂ (valued n) e f ∙ valued-append n us cs (w ∷ vs) (l ∷ ds) k
+          at : with_values n forms values ≡ with_values n us cs
+              ++ ((row_of F n w, l) ∷ with_values n vs ds)
+          at = ap₂ (with_values n) e f ∙ valued-append n us cs (w ∷ vs) (l ∷ ds) k
 
 pub forms_inverse : (n : ℕ) (rows forms echelon : List (List Fraction)) (values : List Fraction)
     → AreForms n rows forms values → IsEchelonOf (n + n) (beside n 0 forms) echelon

@@ -2,7 +2,7 @@
 --   key_is_power           the law
 use Rattle.std.proofs.Common.{◌≡◌, ◌⊎◌, inl, inr, ◌<◌, ℕ, zero, suc, ℤ, pos, negsuc, ◌-ℤ◌, Bool, cond, eqb, List, [], ◌∷◌, map, length, refl, sym, ap, ap₂, arith}
 use borrow.Author.Differences.{ints}
-use Rattle.exponentials.specs.Base.{Disjoint, Fits}
+use Rattle.exponentials.specs.Base.{Disjoint, SameLength}
 use Rattle.exponentials.specs.Keys.{Key, IsNormalKey}
 use Rattle.turns.specs.Expo.{up_part, down_part, power_key, differences}
 
@@ -20,14 +20,16 @@ up_is m n h = (parts_are (pos m -ℤ pos n) m n refl h).0
 down_is : (m n : ℕ) → (m ≡ 0) ⊎ (n ≡ 0) → down_part (pos m -ℤ pos n) ≡ n
 down_is m n h = (parts_are (pos m -ℤ pos n) m n refl h).1
 
-ups : (bs u v : List ℕ) → Fits bs u → Fits bs v → Disjoint u v → map up_part (differences u v) ≡ u
+ups : (bs u v : List ℕ) → SameLength bs u → SameLength bs v → Disjoint u v
+    → map up_part (differences u v) ≡ u
 ups [] [] v f g d = refl
 ups [] (m ∷ u) v f g d = absurd f
 ups (b ∷ bs) [] v f g d = absurd f
 ups (b ∷ bs) (m ∷ u) [] f g d = absurd g
 ups (b ∷ bs) (m ∷ u) (n ∷ v) f g d = ap₂ ◌∷◌ (up_is m n d.0) (ups bs u v f g d.1)
 
-downs : (bs u v : List ℕ) → Fits bs u → Fits bs v → Disjoint u v → map down_part (differences u v)
+downs : (bs u v : List ℕ) → SameLength bs u → SameLength bs v → Disjoint u v
+    → map down_part (differences u v)
     ≡ v
 downs [] [] [] f g d = refl
 downs [] [] (n ∷ v) f g d = absurd g
@@ -36,7 +38,8 @@ downs (b ∷ bs) [] v f g d = absurd f
 downs (b ∷ bs) (m ∷ u) [] f g d = absurd g
 downs (b ∷ bs) (m ∷ u) (n ∷ v) f g d = ap₂ ◌∷◌ (down_is m n d.0) (downs bs u v f g d.1)
 
-pub differences-length : (bs u v : List ℕ) → Fits bs u → Fits bs v → length (differences u v)
+pub differences-length : (bs u v : List ℕ) → SameLength bs u → SameLength bs v
+    → length (differences u v)
     ≡ length bs
 differences-length [] [] v f g = refl
 differences-length [] (m ∷ u) v f g = absurd f

@@ -9,8 +9,8 @@ use Rattle.numbers.specs.Fraction.{Fraction, ℚ, whole}
 use Rattle.polynomials.specs.Polynomial.{Arity, AllArity}
 use Rattle.polynomials.specs.Terms.{Terms, constant, variables}
 use Rattle.polynomials.proofs.Arity.{arity-constant, arity-variables}
-use Rattle.exponentials.specs.Keys.{key_of, normal_key, left, rest, top}
-use Rattle.turns.specs.Expo.{normalized, turned_back, zero_images, with_key, tail}
+use Rattle.exponentials.specs.Keys.{key_of, normal_key, excess, rest, top}
+use Rattle.turns.specs.Expo.{with_normal_keys, backward_terms, zero_images, with_key, tail}
 use Rattle.turns.specs.Turns.{width}
 
 length-rest : (e : List ℕ) (n : ℕ) → length e ≡ suc (suc n) → length (rest (rest e)) ≡ n
@@ -35,25 +35,25 @@ with-length r m e us vs hu hv l n k =
     ∙ ap₂ ◌+◌ (hu _ _ lx ly) (length-append (vs (take r d) (take r (drop r d))) _
     ∙ ap₂ ◌+◌ (hv _ _ lx ly) lz))
 
-pub length-left : (r : ℕ) (d e : List ℕ) → length d ≡ r → length e ≡ r → length (left d e) ≡ r
-unfolding left
+pub length-left : (r : ℕ) (d e : List ℕ) → length d ≡ r → length e ≡ r → length (excess d e) ≡ r
+unfolding excess
 length-left r [] e l k = l
 length-left r (x ∷ d) [] l k = absurd (omega (arith, l, k))
 length-left r (x ∷ d) (y ∷ e) l k = ap suc (length-left (length d) d e refl (omega (arith, l, k)))
     ∙ l
 
 pub arity-normalized : {A : Type 0} (r m : ℕ) (p : Terms A) → Arity (width r m) p
-    → Arity (width r m) (normalized r p)
+    → Arity (width r m) (with_normal_keys r p)
 unfolding Each
 arity-normalized r m [] a = tt
 arity-normalized r m (t ∷ p) a = (
-  with-length r m t.0 (λ d e. left d e) (λ d e. left e d) (length-left r) (λ d e k l.
+  with-length r m t.0 (λ d e. excess d e) (λ d e. excess e d) (length-left r) (λ d e k l.
       length-left r e d l k) a.0 (top t.0) (normal_key r t.0).0,
   arity-normalized r m p a.1,
 )
 
 pub arity-turned_back : (r m : ℕ) (p : Terms Fraction) → Arity (width r m) p
-    → Arity (width r m) (turned_back r p)
+    → Arity (width r m) (backward_terms r p)
 unfolding Each
 arity-turned_back r m [] a = tt
 arity-turned_back r m (t ∷ p) a = (

@@ -11,7 +11,7 @@ use Rattle.chains.specs.Class.{IsNext, IsClassOf}
 use Rattle.chains.specs.Chain.{IsChain}
 use Rattle.chains.specs.Uses.{uses, strongly, poly_at, IsMap}
 use Rattle.turns.specs.Classes.{IsClass}
-use Rattle.turns.specs.Turned.{place, rests_at, IsTurned, AreTurned, IsTurnedForm, Done, values_done}
+use Rattle.turns.specs.AfterTurns.{place, rests_at, IsAfterTurns, AreAfterTurns, IsFormAfterTurns, Done, values_done}
 use Rattle.turns.specs.Turns.{point, turns}
 use Rattle.turns.specs.Made.{IsSource, AreMade, none, stays, passes, Made, begin, class}
 use Rattle.turns.proofs.ClassSteps.{rests_turned, later_form_turned, zero_form_turned, variable_turned}
@@ -29,7 +29,7 @@ in_place (j ∷ g) i (inr h) = let r = in_place g i h in (
 module _ (base : List ℕ) (images ps : List (Terms Fraction)) (is : IsMap (length images) images)
     (no_chain : (vs : List ℕ) → IsChain (uses images) (strongly images) vs → ⊥) where
   module _ (since k : ℕ) (earlier g : List ℕ) (next : IsNext (uses images) (length images) earlier
-      k) (of : IsClassOf (uses images) (length images) k g) (known : AreTurned base images since
+      k) (of : IsClassOf (uses images) (length images) k g) (known : AreAfterTurns base images since
       earlier ps) where
     the_class : IsClass images g
     the_class = next_is_class images earlier g k next of
@@ -48,8 +48,8 @@ module _ (base : List ℕ) (images ps : List (Terms Fraction)) (is : IsMap (leng
         source.rest source.width source.rest_is)
 
     all_later : (z : ℕ) (forms : Done)
-        → Each (λ t. IsTurnedForm base images (since + z) g t.0 t.1) forms
-        → Each (λ t. IsTurnedForm base images (since + suc z) g t.0 t.1) forms
+        → Each (λ t. IsFormAfterTurns base images (since + z) g t.0 t.1) forms
+        → Each (λ t. IsFormAfterTurns base images (since + suc z) g t.0 t.1) forms
     unfolding Each
     all_later z [] h = tt
     all_later z (t ∷ ts) h = (
@@ -58,7 +58,7 @@ module _ (base : List ℕ) (images ps : List (Terms Fraction)) (is : IsMap (leng
     )
 
     pub forms_made : (z : ℕ) (forms : Done) → AreMade base images ps since g z forms
-        → Each (λ t. IsTurnedForm base images (since + z) g t.0 t.1) forms
+        → Each (λ t. IsFormAfterTurns base images (since + z) g t.0 t.1) forms
     unfolding Each
     forms_made _ _ none = tt
     forms_made _ _ (stays z d before w by l q y start made width splits some source rec value) =
@@ -70,14 +70,14 @@ module _ (base : List ℕ) (images ps : List (Terms Fraction)) (is : IsMap (leng
     forms_made _ _ (passes z before w by l q y start made width splits nothing source rec) =
         let done = forms_made z before made in
         let e : suc (since + z) ≡ since + suc z = omega arith in (
-          subst (λ d. IsTurnedForm base images d g w y) e
+          subst (λ d. IsFormAfterTurns base images d g w y) e
               (zero_form_turned base images (since + z) is no_chain g the_class before done w width
               l by splits q (source_is z before w by q source) nothing start y rec),
           all_later z before done,
         )
 
   pub all_made : (since : ℕ) (vs : List ℕ) → Made base images ps since vs
-      → AreTurned base images since vs ps
+      → AreAfterTurns base images since vs ps
   all_made _ _ (begin size) = record { size = size; each = λ i h. absurd h }
   all_made _ _ (class since z k earlier g forms before next of made makes) =
       let known = all_made since earlier before in
@@ -85,14 +85,15 @@ module _ (base : List ℕ) (images ps : List (Terms Fraction)) (is : IsMap (leng
       let done = forms_made since k earlier g next of known z forms made in
       record { size = later.size; each = λ i h. one i later done (in_either i earlier g h) }
     where
-      one : (i : ℕ) → AreTurned base images (since + z) earlier ps
-          → Each (λ t. IsTurnedForm base images (since + z) g t.0 t.1) forms → In i earlier ⊎ In i g
-          → IsTurned base images (since + z) i (poly_at ps i)
+      one : (i : ℕ) → AreAfterTurns base images (since + z) earlier ps
+          → Each (λ t. IsFormAfterTurns base images (since + z) g t.0 t.1) forms → In i earlier
+          ⊎ In i g
+          → IsAfterTurns base images (since + z) i (poly_at ps i)
       one i later done (inl h) = later.each i h
       one i later done (inr h) =
           let r = in_place g i h in
           let m = makes r.0 r.1 in
-          subst (λ j. IsTurned base images (since + z) j (poly_at ps j)) r.2
+          subst (λ j. IsAfterTurns base images (since + z) j (poly_at ps j)) r.2
           (variable_turned base images (since + z) is no_chain g
           (next_is_class images earlier g k next of) forms done r.0 r.1 m.by m.makes
           (poly_at ps (place g r.0)) m.values)

@@ -20,10 +20,10 @@ use Rattle.vectors.specs.Rows.{rows_of}
 use Rattle.vectors.specs.Space.{combine}
 use Rattle.turns.specs.Classes.{class_matrix, IsClass}
 use Rattle.turns.specs.Inverse.{IsInverse, IsProduct}
-use Rattle.turns.specs.Turned.{rests_at, IsTurned, IsTurnedForm, HasRecurrence, HasValueAfter, Done, rows_done, values_done, with_polynomials, IsSplit}
+use Rattle.turns.specs.AfterTurns.{rests_at, IsAfterTurns, IsFormAfterTurns, HasRecurrence, HasValueAfter, Done, rows_done, values_done, with_polynomials, IsSplit}
 use Rattle.turns.specs.Turns.{point, turns}
 use Rattle.turns.proofs.ClassSteps as Steps
-use Rattle.turns.specs.Turned.{place}
+use Rattle.turns.specs.AfterTurns.{place}
 use Rattle.turns.proofs.Eigenvalues.{made-entry}
 use Rattle.turns.proofs.FormSplits.{form_splits}
 
@@ -100,7 +100,7 @@ module _ (base : List ℕ) (images : List (Terms Fraction)) (since : ℕ)
   c = length g
 
   abbrev AreDone : List (List Fraction) → List (Terms Fraction) → Type 0
-  AreDone ws ys = (i : ℕ) → i < length ys → IsTurnedForm base images since g (row_at ws i)
+  AreDone ws ys = (i : ℕ) → i < length ys → IsFormAfterTurns base images since g (row_at ws i)
       (poly_at ys i)
 
   zipped-done : (ws : List (List Fraction)) (ys : List (Terms Fraction)) → AreDone ws ys
@@ -148,7 +148,7 @@ module _ (base : List ℕ) (images : List (Terms Fraction)) (since : ℕ)
 
       before_done : Each (Steps.IsDone base images since is none g class) before
       before_done = zipped-done (take k forms) done
-          (λ i b. subst (λ w. IsTurnedForm base images since g w (poly_at done i))
+          (λ i b. subst (λ w. IsFormAfterTurns base images since g w (poly_at done i))
           (sym (row_taken forms k i (let e = count in omega (arith, b, e)))) (known i b))
 
       own_width : length (row_at forms k) ≡ c
@@ -170,7 +170,7 @@ module _ (base : List ℕ) (images : List (Terms Fraction)) (since : ℕ)
       pub next_form : (start : List Fraction → Fraction) (y : Terms Fraction)
           → HasRecurrence base (length images) (number_at values k) q start y
           → HasValueAfter base images g (row_at forms k) since y
-          → IsTurnedForm base images since g (row_at forms k) y
+          → IsFormAfterTurns base images since g (row_at forms k) y
       next_form start y rec first = Steps.form_turned base images since is none g class before
           before_done (row_at forms k) own_width (number_at values k) by splits q source_is start y
           rec first
@@ -178,7 +178,7 @@ module _ (base : List ℕ) (images : List (Terms Fraction)) (since : ℕ)
       pub later_form : number_at values k ≢ ℚ.zero → (start : List Fraction → Fraction)
           (y : Terms Fraction) → HasRecurrence base (length images) (number_at values k) q start y
           → (d : ℕ) → HasValueAfter base images g (row_at forms k) (since + d) y
-          → IsTurnedForm base images since g (row_at forms k) y
+          → IsFormAfterTurns base images since g (row_at forms k) y
       later_form some start y rec d later =
           Steps.later_form_turned base images since is none g class before before_done
           (row_at forms k) own_width (number_at values k) by splits q source_is some start y rec d
@@ -186,7 +186,7 @@ module _ (base : List ℕ) (images : List (Terms Fraction)) (since : ℕ)
 
       pub zero_form : number_at values k ≡ ℚ.zero → (start : List Fraction → Fraction)
           (y : Terms Fraction) → HasRecurrence base (length images) (number_at values k) q start y
-          → IsTurnedForm base images (suc since) g (row_at forms k) y
+          → IsFormAfterTurns base images (suc since) g (row_at forms k) y
       zero_form nothing start y rec = Steps.zero_form_turned base images since is none g class
           before before_done (row_at forms k) own_width (number_at values k) by splits q source_is
           nothing start y rec
@@ -196,7 +196,7 @@ module _ (base : List ℕ) (images : List (Terms Fraction)) (since : ℕ)
         → ((n : ℕ) (s : List Fraction) → length s ≡ length images → since ≤ n
         → value_at ℚ p (point base n s) ≡ sum_of_products ℚ (row_at back a)
         (map (λ y. value_at ℚ y (point base n s)) done))
-        → IsTurned base images since (place g a) p
+        → IsAfterTurns base images since (place g a) p
     variable_of done count known a l p h =
         let few : length done ≡ length forms = count ∙ sym are.count in
         Steps.variable_turned base images since is none g class

@@ -6,7 +6,7 @@
 use Rattle.std.proofs.lemmas.List.{length-map, map-append, append_assoc}
 use Rattle.std.proofs.Common.{◌≡◌, ℕ, zero, suc, pos, List, [], ◌∷◌, ◌++◌, map, length, take, drop, replicate, negsuc, refl, sym, ap, ap₂, subst, ◌∙◌, arith}
 use mathlib.Core.Path.{fun_ext}
-use Rattle.exponentials.specs.Base.{Coprime, Fits}
+use Rattle.exponentials.specs.Base.{Coprime, SameLength}
 use Rattle.exponentials.specs.Keys.{Key, IsNormalKey, key_of, normal_key, rest, top}
 use Rattle.rings.specs.Arithmetic.{power}
 use Rattle.rings.specs.Each.{Each}
@@ -23,19 +23,19 @@ use Rattle.polynomials.proofs.ValueAt.{value_at-nil, value_at-compose, value_at-
 use Rattle.exponentials.proofs.Points.{term-value}
 use Rattle.exponentials.proofs.Unique.{fraction_char0}
 use Rattle.exponentials.proofs.Units.{IsUnit, at, Room, room_long, normal_good, normal_term, natural_unit}
-use Rattle.turns.specs.Expo.{tail, with_key, normalized, next_images, zero_images, turned_sign, turned_back, at_turn}
+use Rattle.turns.specs.Expo.{tail, with_key, with_normal_keys, next_images, zero_images, backward_sign, backward_terms, at_turn}
 use Rattle.turns.specs.Turns.{point, back_point, powers, inverses, sign, width, IsNormal}
 use Rattle.turns.proofs.Back as Back
 use Rattle.turns.proofs.Numbers.{point-is}
 use Rattle.turns.specs.Shifts.{later}
 
-take-front : (bs e l : List ℕ) → Fits bs e → take (length bs) (e ++ l) ≡ e
+take-front : (bs e l : List ℕ) → SameLength bs e → take (length bs) (e ++ l) ≡ e
 take-front [] [] l f = refl
 take-front [] (n ∷ e) l f = absurd f
 take-front (b ∷ bs) [] l f = absurd f
 take-front (b ∷ bs) (n ∷ e) l f = ap (λ z. n ∷ z) (take-front bs e l f)
 
-drop-front : (bs e l : List ℕ) → Fits bs e → drop (length bs) (e ++ l) ≡ l
+drop-front : (bs e l : List ℕ) → SameLength bs e → drop (length bs) (e ++ l) ≡ l
 drop-front [] [] l f = refl
 drop-front [] (n ∷ e) l f = absurd f
 drop-front (b ∷ bs) [] l f = absurd f
@@ -48,7 +48,8 @@ point-append base n s = ap (λ z. whole (pos n) ∷ sign n ∷ z) (append_assoc 
     (inverses base n ++ []) s
     ∙ ap (λ z. powers base n ++ z) (append_assoc (inverses base n) [] s))
 
-module _ (bs : List ℕ) (n : ℕ) (x : Key) (e : List ℕ) (f : Fits bs x.1) (g : Fits bs x.2) where
+module _ (bs : List ℕ) (n : ℕ) (x : Key) (e : List ℕ) (f : SameLength bs x.1)
+    (g : SameLength bs x.2) where
   pub key_with : key_of (length bs) (with_key n x e) ≡ x
   key_with =
       let us = take-front bs x.1 (x.2 ++ e) f in
@@ -77,7 +78,7 @@ module _ {A : Type 0} (R : CommRing A) (bs : List ℕ) (xs : List A) (a s : A) (
       (monomial_at (operations R) (map g bs) (take j (drop i (rest (rest e)))))))))
       (length-map bs f) (length-map bs g)
 
-  pub with_parts : (c : A) (n : ℕ) (x : Key) (e : List ℕ) → Fits bs x.1 → Fits bs x.2
+  pub with_parts : (c : A) (n : ℕ) (x : Key) (e : List ℕ) → SameLength bs x.1 → SameLength bs x.2
       → R.mul c (monomial_at (operations R) (at bs xs a s f g) (with_key n x e)) ≡ part_value c n x
       e
   with_parts c n x e p q = term_parts c (with_key n x e)
@@ -88,7 +89,7 @@ module _ (bs : List ℕ) (m : ℕ) where
   room t l = room_long bs t (omega arith)
 
   pub normalized-normal : {A : Type 0} (p : Terms A) → Arity (width (length bs) m) p
-      → IsNormal bs (normalized (length bs) p)
+      → IsNormal bs (with_normal_keys (length bs) p)
   unfolding Each
   normalized-normal [] a = tt
   normalized-normal (t ∷ p) a =
@@ -104,7 +105,7 @@ module _ (bs : List ℕ) (m : ℕ) where
   module _ {A : Type 0} (R : CommRing A) (xs : List A) (a s : A) (f g : ℕ → A) where
     -- where s s = 1 and u v = 1
     pub normalized-value : IsUnit R bs xs s f g → (p : Terms A) → Arity (width (length bs) m) p
-        → value_at (operations R) (normalized (length bs) p) (at bs xs a s f g)
+        → value_at (operations R) (with_normal_keys (length bs) p) (at bs xs a s f g)
         ≡ value_at (operations R) p (at bs xs a s f g)
     unfolding Each evaluate sum_over
     normalized-value unit [] k = refl
@@ -127,11 +128,11 @@ module _ (base : List ℕ) (c : Coprime base) (m : ℕ) where
   abbrev w : ℕ
   w = width (length base) m
 
-  sign_value : (n : ℕ) (k a : Fraction) → R.mul (turned_sign n k) (power (operations R) a n)
+  sign_value : (n : ℕ) (k a : Fraction) → R.mul (backward_sign n k) (power (operations R) a n)
       ≡ R.mul k (power (operations R) (R.neg a) n)
   unfolding power
   sign_value zero k a = refl
-  sign_value (suc n) k a = turn (turned_sign n k) a (power (operations R) a n)
+  sign_value (suc n) k a = turn (backward_sign n k) a (power (operations R) a n)
       ∙ ap (λ z. R.mul z (R.neg a)) (sign_value n k a) ∙ back k (power (operations R) (R.neg a) n)
       (R.neg a)
     where
@@ -143,7 +144,7 @@ module _ (base : List ℕ) (c : Coprime base) (m : ℕ) where
 
   pub turned_value : (xs : List Fraction) (a s : Fraction) (f g : ℕ → Fraction) (p : Terms Fraction)
       → Arity w p
-      → value_at ℚ (turned_back (length base) p) (at base xs a s f g) ≡ value_at ℚ p
+      → value_at ℚ (backward_terms (length base) p) (at base xs a s f g) ≡ value_at ℚ p
       (at base xs (R.neg a) s g f)
   unfolding Each evaluate sum_over
   turned_value xs a s f g [] k = refl
@@ -153,8 +154,8 @@ module _ (base : List ℕ) (c : Coprime base) (m : ℕ) where
       let l = tail (length base) t.0 in
       let h : Room base t = room base m t k.0 in
       ap₂ R.add
-      (with_parts R base xs a s f g (turned_sign n t.1) n (x.0, x.2, x.1) l h.1 h.0
-      ∙ turn (turned_sign n t.1) (monomial_at (operations R) xs l) (power (operations R) a n)
+      (with_parts R base xs a s f g (backward_sign n t.1) n (x.0, x.2, x.1) l h.1 h.0
+      ∙ turn (backward_sign n t.1) (monomial_at (operations R) xs l) (power (operations R) a n)
       (power (operations R) s x.0) (monomial_at (operations R) (map f base) x.2)
       (monomial_at (operations R) (map g base) x.1)
       ∙ ap (λ z.
@@ -176,7 +177,7 @@ module _ (base : List ℕ) (c : Coprime base) (m : ℕ) where
       back c y a s u v = ring R (c ∷ y ∷ a ∷ s ∷ u ∷ v ∷ []) (search ring_rules depth 40) refl
 
   pub back-value : (p : Terms Fraction) → Arity w p → (n : ℕ) (s : List Fraction)
-      → value_at ℚ (turned_back (length base) p) (point base n s) ≡ value_at ℚ p
+      → value_at ℚ (backward_terms (length base) p) (point base n s) ≡ value_at ℚ p
       (back_point base n s)
   back-value p k n s = turned_value s (whole (pos n)) (power ℚ (whole (negsuc 0)) n)
       (λ b. power ℚ (whole (pos b)) n) (λ b. power ℚ (inverse (whole (pos b))) n) p k
@@ -219,9 +220,10 @@ module _ (base : List ℕ) (c : Coprime base) (m : ℕ) where
       ∙ ap (value_at ℚ p) (sym (point-is base (suc n) s))
 
   pub normal-value : (p : Terms Fraction) → Arity w p → (n : ℕ) (s : List Fraction)
-      → value_at ℚ (normalized (length base) p) (point base n s) ≡ value_at ℚ p (point base n s)
+      → value_at ℚ (with_normal_keys (length base) p) (point base n s) ≡ value_at ℚ p
+      (point base n s)
   normal-value p k n s =
-      ap (value_at ℚ (normalized (length base) p)) (point-is base n s)
+      ap (value_at ℚ (with_normal_keys (length base) p)) (point-is base n s)
       ∙ normalized-value base m R s (of_nat R n) (power (operations R) (R.neg R.one) n)
       (λ b. power (operations R) (of_nat R b) n)
       (λ b. power (operations R) (F.inverse (of_nat R b)) n)

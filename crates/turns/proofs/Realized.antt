@@ -21,14 +21,14 @@ use Rattle.polynomials.specs.Polynomial.{Arity}
 use Rattle.polynomials.proofs.Arity.{arity-append, arity-constant, arity-constants, arity-variables, arity-times, arity-negate, arity-compose}
 use Rattle.polynomials.proofs.Value.{monomial-zeros}
 use Rattle.polynomials.proofs.ValueAt.{value_at-nil, value_at-append, value_at-times, value_at-negate, value_at-constant}
-use Rattle.exponentials.specs.Base.{Coprime, Fits}
+use Rattle.exponentials.specs.Base.{Coprime, SameLength}
 use Rattle.exponentials.specs.Keys.{Key, key_of, top}
 use Rattle.exponentials.proofs.Expo as Expo
 use Rattle.exponentials.proofs.Monomial.{power-one, power_inverse}
 use Rattle.exponentials.proofs.Unique.{fraction_char0, zero_ideal}
 use Rattle.exponentials.proofs.Units.{room_long}
 use Rattle.turns.specs.Expo.{tail, with_key, next_images, at_turn}
-use Rattle.turns.specs.Turned.{HasRecurrence}
+use Rattle.turns.specs.AfterTurns.{HasRecurrence}
 use Rattle.turns.specs.Turns.{point, width}
 use Rattle.turns.proofs.Differences.{HasSums, Recurs, ends_power, solution_exists}
 use Rattle.turns.proofs.Numbers.{point-is}
@@ -43,13 +43,13 @@ R = ℚ_ring
 abbrev F : Field Fraction
 F = ℚ_field
 
-pub fits_size : (bs e : List ℕ) → Fits bs e → length e ≡ length bs
-fits_size [] [] f = refl
-fits_size [] (n ∷ e) f = absurd f
-fits_size (b ∷ bs) [] f = absurd f
-fits_size (b ∷ bs) (n ∷ e) f = ap suc (fits_size bs e f)
+pub lengths_agree : (bs e : List ℕ) → SameLength bs e → length e ≡ length bs
+lengths_agree [] [] f = refl
+lengths_agree [] (n ∷ e) f = absurd f
+lengths_agree (b ∷ bs) [] f = absurd f
+lengths_agree (b ∷ bs) (n ∷ e) f = ap suc (lengths_agree bs e f)
 
-pub zeros_fit : (bs : List ℕ) → Fits bs (replicate (length bs) 0)
+pub zeros_fit : (bs : List ℕ) → SameLength bs (replicate (length bs) 0)
 zeros_fit [] = tt
 zeros_fit (b ∷ bs) = zeros_fit bs
 
@@ -140,14 +140,14 @@ module _ (base : List ℕ) (c : Coprime base) (m : ℕ) where
       (R.mul (power (operations R) (of_nat R n) (top t.0)) z)) (key_value (key_of r t.0) n)
 
   -- a term with given parts
-  term : (k : Fraction) (i : ℕ) (x : Key) (e : List ℕ) → Fits base x.1 → Fits base x.2
+  term : (k : Fraction) (i : ℕ) (x : Key) (e : List ℕ) → SameLength base x.1 → SameLength base x.2
       → length e ≡ m → IsRealized (term_at k i x e)
   unfolding Each
   term k i x e f g l = record {
     poly = (with_key i x e, k) ∷ [];
     arity = (
       (let a = length-append x.1 (x.2 ++ e) in let b = length-append x.2 e in
-          let u = fits_size base x.1 f in let v = fits_size base x.2 g in
+          let u = lengths_agree base x.1 f in let v = lengths_agree base x.2 g in
           omega (arith, a, b, u, v, l)),
       tt,
     );
@@ -199,7 +199,7 @@ module _ (base : List ℕ) (c : Coprime base) (m : ℕ) where
       alone : (x : Fraction) → R.mul (R.mul R.one R.one) (R.mul (R.mul x R.one) R.one) ≡ x
       alone x = ring R (x ∷ []) (search ring_rules depth 40) refl
 
-  pub power_of : (x : Key) → Fits base x.1 → Fits base x.2
+  pub power_of : (x : Key) → SameLength base x.1 → SameLength base x.2
       → IsRealized (λ n s. power (operations R) (number_of x) n)
   power_of x f g = same _ _ (term R.one 0 x (replicate m 0) f g (length-replicate m 0))
       (λ n s h. ap₂ (λ a b. R.mul (R.mul R.one a) (R.mul b
@@ -241,8 +241,8 @@ module _ (base : List ℕ) (c : Coprime base) (m : ℕ) where
   tail_size (a ∷ b ∷ e) l = length-drop r (drop r e) ∙ ap (λ k. k - r) (length-drop r e)
       ∙ (let h : length e - r - r ≡ m = omega (arith, l) in h)
 
-  term_size : (t : List ℕ × Fraction) → length t.0 ≡ w → Fits base (key_of r t.0).1
-      × Fits base (key_of r t.0).2 × (length (tail r t.0) ≡ m)
+  term_size : (t : List ℕ × Fraction) → length t.0 ≡ w → SameLength base (key_of r t.0).1
+      × SameLength base (key_of r t.0).2 × (length (tail r t.0) ≡ m)
   term_size t l =
       let fits = room_long base t (omega (arith, l)) in
       (fits.0, fits.1, tail_size t.0 l)
@@ -266,7 +266,8 @@ module _ (base : List ℕ) (c : Coprime base) (m : ℕ) where
       x : Key
       x = key_of r t.0
 
-      size : Fits base (key_of r t.0).1 × Fits base (key_of r t.0).2 × (length (tail r t.0) ≡ m)
+      size : SameLength base (key_of r t.0).1 × SameLength base (key_of r t.0).2
+          × (length (tail r t.0) ≡ m)
       size = term_size t a.0
 
       own : List Fraction → Fraction
@@ -304,8 +305,8 @@ module _ (base : List ℕ) (c : Coprime base) (m : ℕ) where
   -- ---- with a given value at some n
   pub record IsNumber (l : Fraction) : Type 0 where
     pub key : Key
-    pub up : Fits base key.1
-    pub down : Fits base key.2
+    pub up : SameLength base key.1
+    pub down : SameLength base key.2
     pub is : number_of key ≡ l
 
   pub record HasValue (l : Fraction) (q : Terms Fraction) (d : ℕ) (v : Terms Fraction) : Type 0

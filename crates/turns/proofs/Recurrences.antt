@@ -15,9 +15,9 @@ use Rattle.polynomials.specs.Terms.{Terms, times, evaluate, value_at, monomial_a
 use Rattle.polynomials.proofs.ValueAt.{value_at-append, value_at-times}
 use Rattle.exponentials.specs.Base.{Coprime}
 use Rattle.exponentials.specs.Keys.{key_of, top}
-use Rattle.exponentials.specs.Powers.{number, signed}
+use Rattle.exponentials.specs.Powers.{number, negate_if}
 use Rattle.turns.specs.Expo.{tail, power_key, IsSolution}
-use Rattle.turns.specs.Turned.{HasRecurrence}
+use Rattle.turns.specs.AfterTurns.{HasRecurrence}
 use Rattle.turns.specs.Turns.{point}
 use Rattle.turns.proofs.Numbers.{point-is}
 use Rattle.turns.proofs.Operations.{term_parts}
@@ -98,7 +98,7 @@ module _ (base : List ℕ) (c : Coprime base) where
       ≡ power_key negative e → (n : ℕ) (s : List Fraction)
       → value_at ℚ (t ∷ []) (point base n s)
       ≡ ℚ.mul (ℚ.mul t.1 (monomial_at ℚ s (tail (length base) t.0)))
-      (ℚ.mul (power ℚ (whole (pos n)) (top t.0)) (power ℚ (signed negative (number base e)) n))
+      (ℚ.mul (power ℚ (whole (pos n)) (top t.0)) (power ℚ (negate_if negative (number base e)) n))
   term_value t negative e key n s =
       ap (value_at ℚ (t ∷ [])) (point-is base n s)
       ∙ one_value t (Values.natural ℚ_field base n s)
@@ -120,10 +120,10 @@ module _ (base : List ℕ) (c : Coprime base) where
         → key_of (length base) t.0 ≡ power_key negative e
         → key_of (length base) p.0 ≡ power_key false (replicate (length base) (pos 0)) → top p.0 ≡ 0
         → tail (length base) p.0 ≡ tail (length base) t.0 → p.1 ≡ t.1
-        → IsSolution base m (top t.0) (signed negative (number base e)) l y
+        → IsSolution base m (top t.0) (negate_if negative (number base e)) l y
         → HasRecurrence base m l (t ∷ []) (λ s. ℚ.zero) (times ℚ y (p ∷ []))
     term_solved t p negative e y key own none_left same number_is h =
-        scaled_solved base m l (top t.0) (signed negative (number base e)) y (p ∷ []) (t ∷ [])
+        scaled_solved base m l (top t.0) (negate_if negative (number base e)) y (p ∷ []) (t ∷ [])
         (λ s. ℚ.mul t.1 (monomial_at ℚ s (tail (length base) t.0))) h
         (λ n s.
         term_value p false (replicate (length base) (pos 0)) own n s
@@ -142,19 +142,20 @@ module _ (base : List ℕ) (c : Coprime base) where
         one_power (suc n) = L.power-suc R R.one n ∙ ap (R.mul R.one) (one_power n) ∙ R.mul-one R.one
 
     -- a number's n-th power times what does not change
-    pub growing_solved : (negative : Bool) (e : List ℤ) → signed negative (number base e) ≡ l
+    pub growing_solved : (negative : Bool) (e : List ℤ) → negate_if negative (number base e) ≡ l
         → (y : Terms Fraction) (start : List Fraction → Fraction)
         → ((n : ℕ) (s : List Fraction) → length s ≡ m → value_at ℚ y (point base n s)
-        ≡ ℚ.mul (power ℚ (signed negative (number base e)) n) (start s))
+        ≡ ℚ.mul (power ℚ (negate_if negative (number base e)) n) (start s))
         → HasRecurrence base m l [] start y
     growing_solved negative e own y start h = record {
       first = λ s k. h 0 s k
-          ∙ ap (λ x. R.mul x (start s)) (L.power-zero R (signed negative (number base e)))
+          ∙ ap (λ x. R.mul x (start s)) (L.power-zero R (negate_if negative (number base e)))
           ∙ L.one-mul R (start s);
       next = λ n s k.
           h (suc n) s k
-          ∙ ap (λ x. R.mul x (start s)) (L.power-suc R (signed negative (number base e)) n)
-          ∙ R.mul_assoc (signed negative (number base e)) (power ℚ (signed negative (number base e))
+          ∙ ap (λ x. R.mul x (start s)) (L.power-suc R (negate_if negative (number base e)) n)
+          ∙ R.mul_assoc (negate_if negative (number base e))
+          (power ℚ (negate_if negative (number base e))
           n) (start s)
           ∙ ap₂ R.mul own (sym (h n s k))
           ∙ sym (ap (R.add (R.mul l (value_at ℚ y (point base n s)))) (no_value (point base n s))

@@ -9,7 +9,7 @@ use Rattle.polynomials.specs.Terms.{Terms, Same, retold}
 use Rattle.polynomials.proofs.Algebra.{gather, gather-nil, gather-cons, gather_same, same_of_gather}
 use Rattle.polynomials.proofs.Exponent.{exponents_monoid}
 use Rattle.exponentials.specs.Keys.{normal_key, top}
-use Rattle.turns.specs.Expo.{tail, with_key, normalized}
+use Rattle.turns.specs.Expo.{tail, with_key, with_normal_keys}
 
 module _ {A : Type 0} (R : CommRing A) where
   gather-retold : (f : List ℕ → A) (h : List ℕ → List ℕ) (p : Terms A)
@@ -30,12 +30,12 @@ module _ {A : Type 0} (R : CommRing A) where
   abbrev normal_exponents : ℕ → List ℕ → List ℕ
   normal_exponents r e = with_key (top e) (normal_key r e) (tail r e)
 
-  normalized-retold : (r : ℕ) (p : Terms A) → retold (normal_exponents r) p ≡ normalized r p
+  normalized-retold : (r : ℕ) (p : Terms A) → retold (normal_exponents r) p ≡ with_normal_keys r p
   unfolding retold
   normalized-retold r [] = refl
   normalized-retold r (t ∷ p) = ap (λ q. (normal_exponents r t.0, t.1) ∷ q) (normalized-retold r p)
 
   pub same_normalized : (r : ℕ) (p q : Terms A) → Same (operations R) p q
-      → Same (operations R) (normalized r p) (normalized r q)
+      → Same (operations R) (with_normal_keys r p) (with_normal_keys r q)
   same_normalized r p q s = rw (sym (normalized-retold r p)) (rw (sym (normalized-retold r q))
       (same_retold (normal_exponents r) p q s))

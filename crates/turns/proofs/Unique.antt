@@ -7,7 +7,7 @@
 use Rattle.std.proofs.Common.{◌≡◌, ◌≢◌, ◌⊎◌, inl, inr, ℕ, zero, suc, ◌+◌, ◌<◌, List, [], ◌∷◌, ◌++◌, map, length, take, drop, cond, Bool, true, false, refl, sym, ap, ap₂, subst, ◌∙◌, arith, take-append-drop}
 use mathlib.Core.Path.{fun_ext}
 use Rattle.polynomials.proofs.Orders.{split_equal}
-use Rattle.exponentials.specs.Base.{Coprime, Disjoint, Fits}
+use Rattle.exponentials.specs.Base.{Coprime, Disjoint, SameLength}
 use Rattle.exponentials.specs.Keys.{Key, IsNormalKey, top, rest, key_of}
 use Rattle.rings.specs.Arithmetic.{power}
 use Rattle.rings.specs.Each.{Each}
@@ -53,7 +53,7 @@ map_alike f g h [] = refl
 map_alike f g h (x ∷ xs) = ap₂ ◌∷◌ (h x) (map_alike f g h xs)
 
 -- ---- good exponents are decided
-fits_dec : (bs e : List ℕ) → Dec (Fits bs e)
+fits_dec : (bs e : List ℕ) → Dec (SameLength bs e)
 fits_dec [] [] = yes tt
 fits_dec [] (n ∷ e) = no (λ h. h)
 fits_dec (b ∷ bs) [] = no (λ h. h)

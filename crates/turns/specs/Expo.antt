@@ -1,8 +1,8 @@
 -- Operations on polynomials in n, s, u, v and m variables, on their terms.
---   normalized r p         s s and u v are replaced by 1
+--   with_normal_keys r p         s s and u v are replaced by 1
 --   next_images base m     n + 1, -s, b u, v / b, and the variables
 --   zero_images r m        0 for n, 1 for s and each u and v, and the variables
---   turned_back r p        -n for n, with u and v exchanged
+--   backward_terms r p        -n for n, with u and v exchanged
 --   one_before base m p    n - 1 for n, -s, u / b, b v: backward, one more, and backward again
 --   front r e, tail r e    the exponents of n, s, u and v, and those of the variables
 --   part r e p             the coefficient of p at n, s, u and v with the exponents e: a polynomial in the variables
@@ -26,9 +26,10 @@ tail r e = drop r (drop r (rest (rest e)))
 abbrev pub with_key : ℕ → Key → List ℕ → List ℕ
 with_key n x e = n ∷ x.0 ∷ (x.1 ++ (x.2 ++ e))
 
-abbrev pub normalized : {A : Type 0} → ℕ → Terms A → Terms A
-normalized r [] = []
-normalized r (t ∷ p) = (with_key (top t.0) (normal_key r t.0) (tail r t.0), t.1) ∷ normalized r p
+abbrev pub with_normal_keys : {A : Type 0} → ℕ → Terms A → Terms A
+with_normal_keys r [] = []
+with_normal_keys r (t ∷ p) = (with_key (top t.0) (normal_key r t.0) (tail r t.0), t.1)
+    ∷ with_normal_keys r p
 
 abbrev pub next_images : List ℕ → ℕ → List (Terms Fraction)
 next_images base m =
@@ -41,20 +42,21 @@ zero_images r m =
     [] ∷ constant m (whole (pos 1)) ∷ (replicate r (constant m (whole (pos 1)))
     ++ (replicate r (constant m (whole (pos 1))) ++ variables ℚ m))
 
-abbrev pub turned_sign : ℕ → Fraction → Fraction
-turned_sign zero c = c
-turned_sign (suc n) c = opposite (turned_sign n c)
+abbrev pub backward_sign : ℕ → Fraction → Fraction
+backward_sign zero c = c
+backward_sign (suc n) c = opposite (backward_sign n c)
 
-abbrev pub turned_back : ℕ → Terms Fraction → Terms Fraction
-turned_back r [] = []
-turned_back r (t ∷ p) =
+abbrev pub backward_terms : ℕ → Terms Fraction → Terms Fraction
+backward_terms r [] = []
+backward_terms r (t ∷ p) =
     let x = key_of r t.0 in
-    (with_key (top t.0) (x.0, x.2, x.1) (tail r t.0), turned_sign (top t.0) t.1) ∷ turned_back r p
+    (with_key (top t.0) (x.0, x.2, x.1) (tail r t.0), backward_sign (top t.0) t.1) ∷ backward_terms
+    r p
 
 abbrev pub one_before : List ℕ → ℕ → Terms Fraction → Terms Fraction
 one_before base m p =
     let r = length base in
-    turned_back r (compose ℚ (width r m) (turned_back r p) (next_images base m))
+    backward_terms r (compose ℚ (width r m) (backward_terms r p) (next_images base m))
 
 abbrev pub front : ℕ → List ℕ → List ℕ
 front r e = let x = key_of r e in with_key (top e) x []

@@ -14,7 +14,7 @@ use Rattle.vectors.specs.Lists.{entries}
 use Rattle.vectors.specs.Rows.{rows_of}
 use Rattle.vectors.specs.Space.{combine}
 use Rattle.turns.specs.Inverse.{unit_list}
-use Rattle.turns.specs.Turned.{place, rests_at, HasRecurrence, HasValueAfter, Done, rows_done, values_done, IsSplit}
+use Rattle.turns.specs.AfterTurns.{place, rests_at, HasRecurrence, HasValueAfter, Done, rows_done, values_done, IsSplit}
 use Rattle.turns.specs.Turns.{point}
 
 module _ (base : List ℕ) (images ps : List (Terms Fraction)) where

@@ -5,7 +5,7 @@ use Rattle.std.specs.Prelude.{◌≡◌, ◌≢◌, ℕ, ℤ, Bool, List, length
 use Rattle.rings.specs.Each.{Each}
 use Rattle.numbers.specs.Fraction.{Fraction, ℚ}
 use Rattle.polynomials.specs.Terms.{Terms}
-use Rattle.exponentials.specs.Powers.{number, signed}
+use Rattle.exponentials.specs.Powers.{number, negate_if}
 use Rattle.vectors.specs.Matrices.{AreForms}
 use Rattle.turns.specs.Classes.{class_matrix}
 
@@ -13,7 +13,7 @@ pub record IsOfBase (base : List ℕ) (x : Fraction) : Type 0 where
   pub negative : Bool
   pub by : List ℤ
   pub size : length by ≡ length base
-  pub is : signed negative (number base by) ≡ x
+  pub is : negate_if negative (number base by) ≡ x
 
 pub record HasForms (base : List ℕ) (images : List (Terms Fraction)) (g : List ℕ) : Type 0 where
   pub forms : List (List Fraction)

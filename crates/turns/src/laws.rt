@@ -11,7 +11,7 @@ ghost use Rattle.turns.specs.Classes.{class_matrix, IsClass, IsEigenvalue};
 ghost use Rattle.vectors.specs.Causes.{row_at};
 ghost use Rattle.vectors.specs.Lists.{entries};
 ghost use Rattle.turns.specs.Inverse.{beside, unit_list, IsInverse, IsProduct};
-ghost use Rattle.turns.specs.Turned.{place, rests_at, IsTurned, AreTurned, IsTurnedForm, HasRecurrence, HasValueAfter, Done, rows_done, values_done, with_polynomials, IsSplit};
+ghost use Rattle.turns.specs.AfterTurns.{place, rests_at, IsAfterTurns, AreAfterTurns, IsFormAfterTurns, HasRecurrence, HasValueAfter, Done, rows_done, values_done, with_polynomials, IsSplit};
 ghost use Rattle.turns.specs.Made.{Made};
 ghost use Rattle.turns.specs.Splits.{HasForms};
 ghost use Rattle.vectors.specs.Rows.{rows_of};
@@ -26,8 +26,8 @@ ghost use Rattle.polynomials.specs.Order.{Rank, IsMonomialOrder};
 ghost use Rattle.polynomials.specs.Polynomial.{Arity, AllArity, IsPolynomial};
 ghost use Rattle.ideals.specs.Members.{IsMember};
 ghost use Rattle.turns.specs.Turns.{point, back_point, values_at, turns, width, IsNormal, IsNormalForm, IsClosedFormFrom, IsClosedForm};
-ghost use Rattle.exponentials.specs.Powers.{number, signed};
-ghost use Rattle.turns.specs.Expo.{normalized, next_images, zero_images, turned_back, one_before, at_turn, part, power_key, other_terms, equal_terms, IsSolution};
+ghost use Rattle.exponentials.specs.Powers.{number, negate_if};
+ghost use Rattle.turns.specs.Expo.{with_normal_keys, next_images, zero_images, backward_terms, one_before, at_turn, part, power_key, other_terms, equal_terms, IsSolution};
 
 /// The values of a closed form at -n, at the state after n turns, are those at 0, and so are those of the form made backward at n; where it is one from 0 on, that is the state before.
 pub fn closed_forms_go_back()
@@ -40,7 +40,7 @@ pub fn closed_forms_go_back()
         → (images : List (Terms Fraction)) (since : ℕ) (ps : List (Terms Fraction))
         → IsClosedFormFrom base images since ps → (n : ℕ) (s : List Fraction)
         → length s ≡ length images
-        → values_at (map (turned_back (length base)) ps) (point base n (turns images n s))
+        → values_at (map (backward_terms (length base)) ps) (point base n (turns images n s))
         ≡ values_at ps (point base 0 s) }
     ensures to_the_state { (base : List ℕ) → Coprime base → (images ps : List (Terms Fraction))
         → IsClosedForm base images ps → (n : ℕ) (s : List Fraction) → length s ≡ length images
@@ -109,17 +109,18 @@ pub fn parts_vanish_at_a_state()
 /// What the operations on polynomials in n, s, u, v and the variables do to their values.
 pub fn values_of_exponentials()
     ensures normal { (base : List ℕ) → Coprime base → (m : ℕ) (p : Terms Fraction)
-        → Arity (width (length base) m) p → IsNormal base (normalized (length base) p) }
+        → Arity (width (length base) m) p → IsNormal base (with_normal_keys (length base) p) }
     ensures the_same { (base : List ℕ) → Coprime base → (m : ℕ) (p : Terms Fraction)
         → Arity (width (length base) m) p → (n : ℕ) (s : List Fraction)
-        → value_at ℚ (normalized (length base) p) (point base n s) ≡ value_at ℚ p (point base n s) }
+        → value_at ℚ (with_normal_keys (length base) p) (point base n s)
+        ≡ value_at ℚ p (point base n s) }
     ensures next { (base : List ℕ) → Coprime base
         → (m : ℕ) (p : Terms Fraction) (n : ℕ) (s : List Fraction) → length s ≡ m
         → value_at ℚ (compose ℚ (width (length base) m) p (next_images base m))
         (point base n s) ≡ value_at ℚ p (point base (suc n) s) }
     ensures back { (base : List ℕ) → Coprime base → (m : ℕ) (p : Terms Fraction)
         → Arity (width (length base) m) p → (n : ℕ) (s : List Fraction)
-        → value_at ℚ (turned_back (length base) p) (point base n s) ≡ value_at ℚ p
+        → value_at ℚ (backward_terms (length base) p) (point base n s) ≡ value_at ℚ p
         (back_point base n s) }
     ensures at_zero { (base : List ℕ) → Coprime base
         → (m : ℕ) (p : Terms Fraction) (s : List Fraction) → length s ≡ m
@@ -139,18 +140,19 @@ pub fn tables_solve_recurrences()
     ensures other { (base : List ℕ) → Coprime base
         → (m a : ℕ) (negative own_negative : Bool) (source own : List ℤ)
         → length source ≡ length base → length own ≡ length base
-        → signed negative (number base source) ≢ signed own_negative (number base own)
+        → negate_if negative (number base source) ≢ negate_if own_negative (number base own)
         → (q : ℕ → Fraction)
-        → IsOther ℚ_field (signed negative (number base source))
-        (signed own_negative (number base own)) a q
-        → IsSolution base m a (signed negative (number base source))
-        (signed own_negative (number base own))
+        → IsOther ℚ_field (negate_if negative (number base source))
+        (negate_if own_negative (number base own)) a q
+        → IsSolution base m a (negate_if negative (number base source))
+        (negate_if own_negative (number base own))
         (other_terms m (power_key negative source) (power_key own_negative own) a q) }
     ensures equal { (base : List ℕ) → Coprime base → (m a : ℕ) (negative : Bool) (own : List ℤ)
-        → length own ≡ length base → signed negative (number base own) ≢ ℚ.zero → (q : ℕ → Fraction)
-        → IsEqual ℚ_field (signed negative (number base own)) a q
-        → IsSolution base m a (signed negative (number base own))
-        (signed negative (number base own)) (equal_terms m (power_key negative own) a q) }
+        → length own ≡ length base → negate_if negative (number base own) ≢ ℚ.zero
+        → (q : ℕ → Fraction)
+        → IsEqual ℚ_field (negate_if negative (number base own)) a q
+        → IsSolution base m a (negate_if negative (number base own))
+        (negate_if negative (number base own)) (equal_terms m (power_key negative own) a q) }
 {}
 
 /// The eigenvalues of a class are the values of any forms that split its matrix.
@@ -177,7 +179,7 @@ pub fn forms_come_one_after_another()
         → IsMap (length images) images → (earlier : List ℕ) (k : ℕ) (g : List ℕ)
         → IsNext (uses images) (length images) earlier k
         → IsClassOf (uses images) (length images) k g → (ps : List (Terms Fraction))
-        → AreTurned base images since earlier ps
+        → AreAfterTurns base images since earlier ps
         → (w : List Fraction) (p : Terms Fraction) (w' : ℕ)
         → ((y : List Fraction) → value_at ℚ p y ≡ sum_of_products ℚ w (rests_at images g y))
         → (n : ℕ) (s : List Fraction) → length s ≡ length images → since ≤ n
@@ -187,7 +189,7 @@ pub fn forms_come_one_after_another()
         → IsMap (length images) images
         → ((vs : List ℕ) → IsChain (uses images) (strongly images) vs → ⊥) → (g : List ℕ)
         → IsClass images g → (before : Done)
-        → Each (λ t. IsTurnedForm base images since g t.0 t.1) before → (w : List Fraction)
+        → Each (λ t. IsFormAfterTurns base images since g t.0 t.1) before → (w : List Fraction)
         → length w ≡ length g → (l : Fraction) (by : List Fraction)
         → IsSplit images g before w l by → (q : Terms Fraction)
         → ((n : ℕ) (s : List Fraction) → length s ≡ length images → since ≤ n
@@ -196,12 +198,12 @@ pub fn forms_come_one_after_another()
         (sum_of_products ℚ by (values_done before (point base n s))))
         → (start : List Fraction → Fraction) (y : Terms Fraction)
         → HasRecurrence base (length images) l q start y
-        → HasValueAfter base images g w since y → IsTurnedForm base images since g w y }
+        → HasValueAfter base images g w since y → IsFormAfterTurns base images since g w y }
     ensures later { (base : List ℕ) (images : List (Terms Fraction)) (since : ℕ)
         → IsMap (length images) images
         → ((vs : List ℕ) → IsChain (uses images) (strongly images) vs → ⊥) → (g : List ℕ)
         → IsClass images g → (before : Done)
-        → Each (λ t. IsTurnedForm base images since g t.0 t.1) before → (w : List Fraction)
+        → Each (λ t. IsFormAfterTurns base images since g t.0 t.1) before → (w : List Fraction)
         → length w ≡ length g → (l : Fraction) (by : List Fraction)
         → IsSplit images g before w l by → (q : Terms Fraction)
         → ((n : ℕ) (s : List Fraction) → length s ≡ length images → since ≤ n
@@ -210,12 +212,12 @@ pub fn forms_come_one_after_another()
         (sum_of_products ℚ by (values_done before (point base n s))))
         → l ≢ ℚ.zero → (start : List Fraction → Fraction) (y : Terms Fraction)
         → HasRecurrence base (length images) l q start y → (d : ℕ)
-        → HasValueAfter base images g w (since + d) y → IsTurnedForm base images since g w y }
+        → HasValueAfter base images g w (since + d) y → IsFormAfterTurns base images since g w y }
     ensures zero { (base : List ℕ) (images : List (Terms Fraction)) (since : ℕ)
         → IsMap (length images) images
         → ((vs : List ℕ) → IsChain (uses images) (strongly images) vs → ⊥) → (g : List ℕ)
         → IsClass images g → (before : Done)
-        → Each (λ t. IsTurnedForm base images since g t.0 t.1) before → (w : List Fraction)
+        → Each (λ t. IsFormAfterTurns base images since g t.0 t.1) before → (w : List Fraction)
         → length w ≡ length g → (l : Fraction) (by : List Fraction)
         → IsSplit images g before w l by → (q : Terms Fraction)
         → ((n : ℕ) (s : List Fraction) → length s ≡ length images → since ≤ n
@@ -224,12 +226,12 @@ pub fn forms_come_one_after_another()
         (sum_of_products ℚ by (values_done before (point base n s))))
         → l ≡ ℚ.zero → (start : List Fraction → Fraction) (y : Terms Fraction)
         → HasRecurrence base (length images) l q start y
-        → IsTurnedForm base images (suc since) g w y }
+        → IsFormAfterTurns base images (suc since) g w y }
     ensures variable { (base : List ℕ) (images : List (Terms Fraction)) (since : ℕ)
         → IsMap (length images) images
         → ((vs : List ℕ) → IsChain (uses images) (strongly images) vs → ⊥) → (g : List ℕ)
         → IsClass images g → (forms : Done)
-        → Each (λ t. IsTurnedForm base images since g t.0 t.1) forms
+        → Each (λ t. IsFormAfterTurns base images since g t.0 t.1) forms
         → (a : ℕ) → a < length g → (by : List Fraction)
         → ((i : ℕ) → i < length g
         → (combine (rows_of ℚ_field (length g)) (entries ℚ_field by)
@@ -239,7 +241,7 @@ pub fn forms_come_one_after_another()
         → ((n : ℕ) (s : List Fraction) → length s ≡ length images → since ≤ n
         → value_at ℚ p (point base n s) ≡ sum_of_products ℚ by
         (values_done forms (point base n s)))
-        → IsTurned base images since (place g a) p }
+        → IsAfterTurns base images since (place g a) p }
 {}
 
 /// Forms by their places in what a matrix is split into: the row of the inverse tells what a form has of those before it.
@@ -259,13 +261,13 @@ pub fn forms_of_a_splitting_are_split()
 pub fn classes_end_with_the_closed_form()
     ensures none { (base : List ℕ) (images : List (Terms Fraction)) (since : ℕ)
         (ps : List (Terms Fraction))
-        → length ps ≡ length images → AreTurned base images since [] ps }
+        → length ps ≡ length images → AreAfterTurns base images since [] ps }
     ensures later { (base : List ℕ) (images : List (Terms Fraction)) (since d : ℕ) → since ≤ d
         → (vs : List ℕ) (ps : List (Terms Fraction))
-        → AreTurned base images since vs ps → AreTurned base images d vs ps }
+        → AreAfterTurns base images since vs ps → AreAfterTurns base images d vs ps }
     ensures all { (base : List ℕ) (images : List (Terms Fraction)) (since : ℕ) (earlier : List ℕ)
         (ps : List (Terms Fraction)) → AreClasses (uses images) (length images) earlier []
-        → AreTurned base images since earlier ps
+        → AreAfterTurns base images since earlier ps
         → AllArity (width (length base) (length images)) ps
         → IsClosedFormFrom base images since ps }
 {}
@@ -276,7 +278,7 @@ pub fn as_many_turns_as_zeros_suffice()
         → IsMap (length images) images
         → ((vs : List ℕ) → IsChain (uses images) (strongly images) vs → ⊥)
         → (zeros : ℕ) (vs : List ℕ) → Made base images ps zeros vs
-        → AreTurned base images zeros vs ps }
+        → AreAfterTurns base images zeros vs ps }
     ensures whole { (base : List ℕ) (images ps : List (Terms Fraction))
         → IsMap (length images) images
         → ((vs : List ℕ) → IsChain (uses images) (strongly images) vs → ⊥)

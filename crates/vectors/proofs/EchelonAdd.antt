@@ -11,7 +11,7 @@ use Rattle.rings.specs.Each.{Each}
 use Rattle.rings.proofs.Each.{each_weaker}
 use Rattle.vectors.specs.Space.{Space, IsCombination}
 use Rattle.vectors.specs.Sequences.{sequences}
-use Rattle.vectors.specs.Echelon.{Pivots, rows_in, Leads, IsReduced, reduced_by, clear_one, cleared, placed, added, leads_at, free_from, IsFree, Rising, AreFree}
+use Rattle.vectors.specs.Echelon.{Pivots, rows_in, Leads, IsReduced, reduced_by, clear_one, clear_column, insert_row, with_row, leads_at, free_from, IsFree, Rising, AreFree}
 use Rattle.vectors.proofs.Combinations as C
 use Rattle.vectors.proofs.EchelonLaws as E
 use Rattle.vectors.proofs.EchelonKernel.{same_or_not}
@@ -101,23 +101,23 @@ module _ {A : Type 0} (F : Field A) where
     After p ps = Each (λ q. (p.0 < q.0) × (p.1 q.0 ≡ R.zero)) ps
 
     clear_after : (p : ℕ × (ℕ → A)) (ps : Pivots F) → Each (λ q. h q.0 ≡ R.zero) ps → After p ps
-        → After (p.0, clear_one F c h p.1) (cleared F c h ps)
+        → After (p.0, clear_one F c h p.1) (clear_column F c h ps)
     unfolding Each
     clear_after p [] z a = tt
     clear_after p (q ∷ ps) z a = ((a.0.0, clear_same p.1 q.0 z.0 ∙ a.0.1), clear_after p ps z.1 a.1)
 
     pub placed-each : (P : ℕ × (ℕ → A) → Type 0) (ps : Pivots F) → P (c, h) → Each P ps
-        → Each P (placed F c h ps)
+        → Each P (insert_row F c h ps)
     unfolding Each
     placed-each P [] x e = (x, tt)
     placed-each P (p ∷ ps) x e =
-        elim (ltb c p.0) as (λ b. Each P (cond b ((c, h) ∷ p ∷ ps) (p ∷ placed F c h ps))) [
+        elim (ltb c p.0) as (λ b. Each P (cond b ((c, h) ∷ p ∷ ps) (p ∷ insert_row F c h ps))) [
           | true ↦ (x, e)
           | false ↦ (e.0, placed-each P ps x e.1)
         ]
 
     cleared-reduced : (ps : Pivots F) → IsReduced F ps → Each (λ q. h q.0 ≡ R.zero) ps
-        → IsReduced F (cleared F c h ps)
+        → IsReduced F (clear_column F c h ps)
     unfolding Each
     cleared-reduced [] r z = tt
     cleared-reduced (p ∷ ps) r z = (
@@ -127,7 +127,7 @@ module _ {A : Type 0} (F : Field A) where
     )
 
     first_after : (p : ℕ × (ℕ → A)) (ps : Pivots F) → Each (λ q. h q.0 ≡ R.zero) ps → c < p.0
-        → After p ps → After (c, h) (cleared F c h ps)
+        → After p ps → After (c, h) (clear_column F c h ps)
     unfolding Each
     first_after p [] z l a = tt
     first_after p (q ∷ ps) z l a = (
@@ -136,20 +136,23 @@ module _ {A : Type 0} (F : Field A) where
     )
 
     pub added-reduced : (ps : Pivots F) → IsReduced F ps → Each (λ q. h q.0 ≡ R.zero) ps
-        → IsReduced F (added F c h ps)
+        → IsReduced F (with_row F c h ps)
     unfolding Each
     added-reduced [] r z = (leads, tt, tt)
     added-reduced (p ∷ ps) r z =
         (elim (ltb c p.0) as (λ b. ltb c p.0 ≡ b
-        → IsReduced F (cond b ((c, h) ∷ (p.0, clear_one F c h p.1) ∷ cleared F c h ps)
-        ((p.0, clear_one F c h p.1) ∷ placed F c h (cleared F c h ps)))) [
+        → IsReduced F (cond b ((c, h) ∷ (p.0, clear_one F c h p.1) ∷ clear_column F c h ps)
+        ((p.0, clear_one F c h p.1) ∷ insert_row F c h (clear_column F c h ps)))) [
           | true ↦ λ e. let l : c < p.0 = ltb→lt c p.0 (subst T (sym e) tt) in
               (leads, ((l, z.0), first_after p ps z.1 l r.1), cleared-reduced (p ∷ ps) r z)
           | false ↦ λ e. let l : p.0 < c = (let ne : p.0 ≢ c = apart p z.0 in let g : ltb c p.0
               ≡ false = e in after_not p e ne) in (
                 clear_leads p r.0 z.0,
                 placed-each (λ q. (p.0 < q.0)
-                    × (clear_one F c h p.1 q.0 ≡ R.zero)) (cleared F c h ps) (l, clear_here p.1)
+                    × (clear_one F c h p.1 q.0 ≡ R.zero)) (clear_column F c h ps) (
+                      l,
+                      clear_here p.1,
+                    )
                     (clear_after p ps z.1 r.1),
                 added-reduced ps r.2 z.1,
               )
@@ -180,7 +183,7 @@ module _ {A : Type 0} (F : Field A) where
 
     cleared-each : (us : List (ℕ → A)) (ps : Pivots F) → IsCombination S us h
         → Each (λ p. IsCombination S us p.1) ps
-        → Each (λ p. IsCombination S us p.1) (cleared F c h ps)
+        → Each (λ p. IsCombination S us p.1) (clear_column F c h ps)
     unfolding Each
     cleared-each us [] m e = tt
     cleared-each us (p ∷ ps) m e = (
@@ -195,30 +198,31 @@ module _ {A : Type 0} (F : Field A) where
 
     -- each new row is a combination of h and the old ones
     pub added-made : (ps : Pivots F) → Each (λ p. IsCombination S (h ∷ rows_in F ps) p.1)
-        (added F c h ps)
+        (with_row F c h ps)
     added-made ps =
         let us = h ∷ rows_in F ps in
         let first = C.combination-first S h (rows_in F ps) in
-        placed-each (λ p. IsCombination S us p.1) (cleared F c h ps) first
+        placed-each (λ p. IsCombination S us p.1) (clear_column F c h ps) first
         (cleared-each us ps first (each_pivots (IsCombination S us) ps
         (each_weaker (IsCombination S (rows_in F ps)) (IsCombination S us)
         (λ w. C.combination-more S h (rows_in F ps) w) (rows_in F ps)
         (C.combination-each S (rows_in F ps)))))
 
     -- and the other way
-    placed-has : (P : ℕ × (ℕ → A) → Type 0) (ps : Pivots F) → Each P (placed F c h ps) → P (c, h)
+    placed-has : (P : ℕ × (ℕ → A) → Type 0) (ps : Pivots F) → Each P (insert_row F c h ps)
+        → P (c, h)
         × Each P ps
     unfolding Each
     placed-has P [] e = (e.0, tt)
     placed-has P (p ∷ ps) e =
-        (elim (ltb c p.0) as (λ b. Each P (cond b ((c, h) ∷ p ∷ ps) (p ∷ placed F c h ps))
+        (elim (ltb c p.0) as (λ b. Each P (cond b ((c, h) ∷ p ∷ ps) (p ∷ insert_row F c h ps))
         → P (c, h) × Each P (p ∷ ps)) [
           | true ↦ λ e. (e.0, e.1)
           | false ↦ λ e. let k = placed-has P ps e.1 in (k.0, (e.0, k.1))
         ]) e
 
     cleared-back : (us : List (ℕ → A)) (ps : Pivots F) → IsCombination S us h
-        → Each (λ p. IsCombination S us p.1) (cleared F c h ps)
+        → Each (λ p. IsCombination S us p.1) (clear_column F c h ps)
         → Each (λ p. IsCombination S us p.1) ps
     unfolding Each
     cleared-back us [] m e = tt
@@ -231,13 +235,13 @@ module _ {A : Type 0} (F : Field A) where
       cleared-back us ps m e.1,
     )
 
-    pub added-back : (ps : Pivots F) → Each (IsCombination S (rows_in F (added F c h ps)))
+    pub added-back : (ps : Pivots F) → Each (IsCombination S (rows_in F (with_row F c h ps)))
         (h ∷ rows_in F ps)
     unfolding Each
     added-back ps =
-        let us = rows_in F (added F c h ps) in
-        let k = placed-has (λ p. IsCombination S us p.1) (cleared F c h ps)
-        (each_pivots (IsCombination S us) (added F c h ps) (C.combination-each S us)) in
+        let us = rows_in F (with_row F c h ps) in
+        let k = placed-has (λ p. IsCombination S us p.1) (clear_column F c h ps)
+        (each_pivots (IsCombination S us) (with_row F c h ps) (C.combination-each S us)) in
         (k.0, each_rows (IsCombination S us) ps (cleared-back us ps k.0 k.1))
 
   -- ---- adding any row: what is left of it, divided by its first entry
@@ -264,7 +268,7 @@ module _ {A : Type 0} (F : Field A) where
   scaled ps (q ∷ qs) v e k = (ap (R.mul k) e.0 ∙ L.mul-zero R k, scaled ps qs v e.1 k)
 
   pub row_reduced : (n : ℕ) (ps : Pivots F) (v : ℕ → A) → IsReduced F ps
-      → (f : First n (reduced_by F ps v)) → IsReduced F (added F f.column (new_row n ps v f) ps)
+      → (f : First n (reduced_by F ps v)) → IsReduced F (with_row F f.column (new_row n ps v f) ps)
   row_reduced n ps v r f = added-reduced f.column (new_row n ps v f)
       (first_leads n (reduced_by F ps v) f) ps r (scaled ps ps v (E.reduced_zero F ps r v)
       (F.inverse (reduced_by F ps v f.column)))
@@ -278,13 +282,13 @@ module _ {A : Type 0} (F : Field A) where
   -- the new list makes the row and the old ones
   pub row_makes : (n : ℕ) (ps : Pivots F) (v : ℕ → A) → IsReduced F ps
       → (f : First n (reduced_by F ps v))
-      → Each (IsCombination S (rows_in F (added F f.column (new_row n ps v f) ps)))
+      → Each (IsCombination S (rows_in F (with_row F f.column (new_row n ps v f) ps)))
       (v ∷ rows_in F ps)
   unfolding Each
   row_makes n ps v r f =
       let g = reduced_by F ps v f.column in
       let h : ℕ → A = new_row n ps v f in
-      let ws = rows_in F (added F f.column h ps) in
+      let ws = rows_in F (with_row F f.column h ps) in
       let d : ℕ → A = λ i. R.add (v i) (R.neg (reduced_by F ps v i)) in
       let back : Each (IsCombination S ws) (h ∷ rows_in F ps) =
       added-back f.column h (first_leads n (reduced_by F ps v) f) ps in (
@@ -302,7 +306,7 @@ module _ {A : Type 0} (F : Field A) where
   -- and is made of them
   pub row_made : (n : ℕ) (ps : Pivots F) (v : ℕ → A) → IsReduced F ps
       → (f : First n (reduced_by F ps v)) → Each (IsCombination S (v ∷ rows_in F ps))
-      (rows_in F (added F f.column (new_row n ps v f) ps))
+      (rows_in F (with_row F f.column (new_row n ps v f) ps))
   unfolding Each
   row_made n ps v r f =
       let h : ℕ → A = new_row n ps v f in
@@ -315,8 +319,8 @@ module _ {A : Type 0} (F : Field A) where
       each_weaker (IsCombination S (rows_in F ps)) (IsCombination S us)
       (λ w. C.combination-more S v (rows_in F ps) w) (rows_in F ps)
       (C.combination-each S (rows_in F ps)) in
-      each_rows f.column h l (IsCombination S us) (added F f.column h ps)
-      (each_trans us (h ∷ rows_in F ps) (added F f.column h ps) (h_made, old_made)
+      each_rows f.column h l (IsCombination S us) (with_row F f.column h ps)
+      (each_trans us (h ∷ rows_in F ps) (with_row F f.column h ps) (h_made, old_made)
       (added-made f.column h l ps))
 
   -- ---- the free columns

@@ -9,7 +9,7 @@ use Rattle.vectors.specs.Space.{Space, IsCombination, Independent, IsLinear}
 use Rattle.vectors.specs.Sequences.{column_sum}
 use Rattle.vectors.specs.Rows.{Row, rows_of, times_rows}
 use Rattle.vectors.specs.Splitting.{IsKilled, vectors_of, AllKilled, Taken, IsLevel}
-use Rattle.vectors.specs.SplitForms.{valued, AreSplitForms}
+use Rattle.vectors.specs.SplitForms.{with_value, AreSplitForms}
 use Rattle.vectors.proofs.SplitFormLaws as SF
 use Rattle.vectors.proofs.RowLaws as RL
 use Rattle.vectors.proofs.Kernels as K
@@ -22,13 +22,13 @@ use Rattle.std.specs.Int.Signed.{◌<ℤ◌}
 use Rattle.std.proofs.lemmas.Int.{ints}
 
 pub vectors-append : {A V : Type 0} (forms : List (V × A)) (c : A) (es : List V)
-    → vectors_of (forms ++ valued c es) ≡ vectors_of forms ++ es
+    → vectors_of (forms ++ with_value c es) ≡ vectors_of forms ++ es
 vectors-append [] c [] = refl
 vectors-append [] c (e ∷ es) = ap (◌∷◌ e) (vectors-append [] c es)
 vectors-append (f ∷ forms) c es = ap (◌∷◌ f.0) (vectors-append forms c es)
 
 pub valued-each : {A V : Type 0} (P : V × A → Type 0) (c : A) (es : List V)
-    → Each (λ e. P (e, c)) es → Each P (valued c es)
+    → Each (λ e. P (e, c)) es → Each P (with_value c es)
 unfolding Each
 valued-each P c [] h = tt
 valued-each P c (e ∷ es) h = (h.0, valued-each P c es h.1)
@@ -111,7 +111,7 @@ module _ {A : Type 0} (F : Field A) (Q : Fractions F) (n : ℕ) (rows : List (Ro
       → More p → ((q : ℤ) → More q → Done q ⊎ (q ≡ p))
       → (forms : List (Row F n × A)) (c : A) (k : ℕ) (es : List (Row F n)) → SearchedTo Done forms
       → Over p c → k ≤ n → IsLevel S t c k es → ((v : Row F n) → IsKilled S t c n v
-      → IsKilled S t c k v) → SearchedTo More (forms ++ valued c es)
+      → IsKilled S t c k v) → SearchedTo More (forms ++ with_value c es)
   search_more Done More p new keeps more only forms c k es s over small level stop =
       let up : (v : Row F n) → IsKilled S t c k v → IsKilled S t c n v =
       λ v e. (let split : (n - k) + k ≡ n = omega arith in subst (λ i. IsKilled S t c i v) split
@@ -122,12 +122,13 @@ module _ {A : Type 0} (F : Field A) (Q : Fractions F) (n : ℕ) (rows : List (Ro
       (each_weaker (λ (f : Row F n × A). (q : ℤ) × Done q × Over q f.1) (λ f. f.1 ≢ c) (λ f o e.
       new (subst Done (over_number o.0 p c (subst (Over o.0) e o.2) over) o.1)) forms
       s.over) in
-      let join : vectors_of (forms ++ valued c es) ≡ vectors_of forms ++ es =
+      let join : vectors_of (forms ++ with_value c es) ≡ vectors_of forms ++ es =
       vectors-append forms c es in
       record {
-        killed = each-append (λ (f : Row F n × A). IsKilled S t f.1 n f.0) forms (valued c es)
+        killed = each-append (λ (f : Row F n × A). IsKilled S t f.1 n f.0) forms (with_value c es)
             s.killed (valued-each (λ f. IsKilled S t f.1 n f.0) c es es_killed);
-        over = each-append (λ (f : Row F n × A). (q : ℤ) × More q × Over q f.1) forms (valued c es)
+        over = each-append (λ (f : Row F n × A). (q : ℤ) × More q × Over q f.1) forms
+            (with_value c es)
             (each_weaker (λ (f : Row F n × A). (q : ℤ) × Done q × Over q f.1) (λ f. (q : ℤ) × More q
             × Over q f.1) (λ f o. (o.0, keeps o.0 o.1, o.2)) forms s.over)
             (valued-each (λ f. (q : ℤ) × More q × Over q f.1) c es (each_of (λ e. (q : ℤ) × More q
@@ -136,8 +137,8 @@ module _ {A : Type 0} (F : Field A) (Q : Fractions F) (n : ℕ) (rows : List (Ro
             (K.independent-block F S t linear n forms c es s.killed
             others
             es_killed s.independent level.independent);
-        split = SF.split_forms-append F S t [] forms (valued c es) s.split
-            (subst (λ l. AreSplitForms F S t l (valued c es)) (append-nil forms)
+        split = SF.split_forms-append F S t [] forms (with_value c es) s.split
+            (subst (λ l. AreSplitForms F S t l (with_value c es)) (append-nil forms)
             (SF.split_forms-block F S t c forms others [] es level.triangular));
         taken = λ q m c' o v e. subst (λ l. IsCombination S l v) (sym join)
             (elim (only q m) [
@@ -201,7 +202,7 @@ module _ {A : Type 0} (F : Field A) (Q : Fractions F) (n : ℕ) (rows : List (Ro
   pub search_last : (b : ℕ) (forms : List (Row F n × A)) (c : A) (k : ℕ) (es : List (Row F n))
       → SearchedTo (Below b (pos (suc b))) forms → Over (pos 0) c → k ≤ n → IsLevel S t c k es
       → ((v : Row F n) → IsKilled S t c n v → IsKilled S t c k v)
-      → SearchedTo (Within b) (forms ++ valued c es)
+      → SearchedTo (Within b) (forms ++ with_value c es)
   search_last b forms c k es s over small level stop =
       search_more (Below b (pos (suc b))) (Within b) (pos 0) (λ h. h.not_zero refl)
       (λ q h. h.within) (omega arith) (λ q l. zero_or_not b q l) forms c k es s over small level
@@ -249,7 +250,7 @@ module _ {A : Type 0} (F : Field A) (Q : Fractions F) (n : ℕ) (rows : List (Ro
       → (forms : List (Row F n × A)) (c : A) (k : ℕ) (es : List (Row F n))
       → SearchedTo (Below b p) forms → Over p c → k ≤ n → IsLevel S t c k es
       → ((v : Row F n) → IsKilled S t c n v → IsKilled S t c k v)
-      → SearchedTo (Below b (p +ℤ pos 1)) (forms ++ valued c es)
+      → SearchedTo (Below b (p +ℤ pos 1)) (forms ++ with_value c es)
   search_next b p l ne forms c k es s over small level stop =
       search_more (Below b p) (Below b (p +ℤ pos 1)) p (λ h. not_below p h.below)
       (λ q h. record { within = h.within; not_zero = h.not_zero; below = below_more q p h.below })

@@ -7,7 +7,7 @@ use Rattle.rings.proofs.RingLaws as L
 use Rattle.rings.specs.Each.{Each}
 use Rattle.vectors.specs.Space.{Space, IsCombination}
 use Rattle.vectors.specs.Splitting.{shift, IsTriangular}
-use Rattle.vectors.specs.SplitForms.{valued, of_value, AreSplitForms}
+use Rattle.vectors.specs.SplitForms.{with_value, of_value, AreSplitForms}
 
 module _ {A : Type 0} (F : Field A) where
   is_zero-difference : (c : A) → F.is_zero (F.add c (F.neg c)) ≡ true
@@ -29,10 +29,10 @@ module _ {A V : Type 0} (F : Field A) where
         | false ↦ of_value-append c es fs
       ]
 
-  of_value-valued : (c : A) (es : List V) → of_value F c (valued c es) ≡ es
+  of_value-valued : (c : A) (es : List V) → of_value F c (with_value c es) ≡ es
   of_value-valued c [] = refl
   of_value-valued c (e ∷ es) =
-      ap (λ b. cond b (e ∷ of_value F c (valued c es)) (of_value F c (valued c es)))
+      ap (λ b. cond b (e ∷ of_value F c (with_value c es)) (of_value F c (with_value c es)))
       (is_zero-difference F c) ∙ ap (◌∷◌ e) (of_value-valued c es)
 
   pub of_value-none : (c : A) (forms : List (V × A)) → Each (λ f. f.1 ≢ c) forms
@@ -42,7 +42,8 @@ module _ {A V : Type 0} (F : Field A) where
   of_value-none c (f ∷ forms) h = ap (λ b. cond b (f.0 ∷ of_value F c forms) (of_value F c forms))
       (not_zero-difference F f.1 c h.0) ∙ of_value-none c forms h.1
 
-  valued-append : (c : A) (es fs : List V) → valued c (es ++ fs) ≡ valued c es ++ valued c fs
+  valued-append : (c : A) (es fs : List V) → with_value c (es ++ fs) ≡ with_value c es
+      ++ with_value c fs
   valued-append c [] fs = refl
   valued-append c (e ∷ es) fs = ap (◌∷◌ (e, c)) (valued-append c es fs)
 
@@ -58,17 +59,20 @@ module _ {A V : Type 0} (F : Field A) where
 
     -- forms of a new value
     pub split_forms-block : (c : A) (forms : List (V × A)) → Each (λ f. f.1 ≢ c) forms
-        → (ds es : List V) → IsTriangular S t c ds es → AreSplitForms F S t (forms ++ valued c ds)
-        (valued c es)
+        → (ds es : List V) → IsTriangular S t c ds es
+        → AreSplitForms F S t (forms ++ with_value c ds)
+        (with_value c es)
     split_forms-block c forms ne ds [] h = tt
     split_forms-block c forms ne ds (e ∷ es) h =
-        let same : of_value F c (forms ++ valued c ds) ≡ ds = of_value-append c forms (valued c ds)
-        ∙ ap (λ l. l ++ of_value F c (valued c ds)) (of_value-none c forms ne)
+        let same : of_value F c (forms ++ with_value c ds) ≡ ds =
+        of_value-append c forms (with_value c ds)
+        ∙ ap (λ l. l ++ of_value F c (with_value c ds)) (of_value-none c forms ne)
         ∙ of_value-valued c ds in
-        let join : forms ++ valued c (ds ++ (e ∷ [])) ≡ (forms ++ valued c ds) ++ ((e, c) ∷ []) =
+        let join : forms ++ with_value c (ds ++ (e ∷ [])) ≡ (forms ++ with_value c ds)
+        ++ ((e, c) ∷ []) =
         ap (λ l. forms ++ l) (valued-append c ds (e ∷ []))
-        ∙ sym (append_assoc forms (valued c ds) ((e, c) ∷ [])) in (
+        ∙ sym (append_assoc forms (with_value c ds) ((e, c) ∷ [])) in (
           subst (λ l. IsCombination S l (shift S t c e)) (sym same) h.0,
-          subst (λ l. AreSplitForms F S t l (valued c es)) join (split_forms-block c forms ne
+          subst (λ l. AreSplitForms F S t l (with_value c es)) join (split_forms-block c forms ne
               (ds ++ (e ∷ [])) es h.1),
         )

@@ -5,7 +5,7 @@ use Rattle.rings.proofs.RingLaws as L
 use Rattle.rings.proofs.FieldLaws as FL
 use Rattle.rings.specs.Each.{Each}
 use Rattle.vectors.specs.Space.{Space, combine, IsCombination, IsLinear}
-use Rattle.vectors.specs.Splitting.{shift, shifted, after, IsKilled, vectors_of, repeat, roots, AllKilled, Taken}
+use Rattle.vectors.specs.Splitting.{shift, shift_power, after, IsKilled, vectors_of, repeat, roots, AllKilled, Taken}
 use Rattle.vectors.proofs.VectorRing.{scalar, vector, vector_rules, vectors, vfrom, add-zero, scale-zero}
 use Rattle.vectors.proofs.Combinations as C
 
@@ -26,17 +26,17 @@ module _ {A V : Type 0} (F : Field A) (S : Space F.ring V) (t : V → V) (linear
   pub shift-zero : (c : A) → shift S t c S.zero ≡ S.zero
   shift-zero c = C.linear-zero S (shift S t c) (shift-linear c)
 
-  pub shifted-linear : (c : A) (k : ℕ) → IsLinear S (shifted S t c k)
+  pub shifted-linear : (c : A) (k : ℕ) → IsLinear S (shift_power S t c k)
   shifted-linear c zero = record { on_add = λ v w. refl; on_scale = λ d v. refl }
   shifted-linear c (suc k) = record {
-    on_add = λ v w. ap (shifted S t c k) ((shift-linear c).on_add v w)
+    on_add = λ v w. ap (shift_power S t c k) ((shift-linear c).on_add v w)
         ∙ (shifted-linear c k).on_add (shift S t c v) (shift S t c w);
-    on_scale = λ d v. ap (shifted S t c k) ((shift-linear c).on_scale d v)
+    on_scale = λ d v. ap (shift_power S t c k) ((shift-linear c).on_scale d v)
         ∙ (shifted-linear c k).on_scale d (shift S t c v);
   }
 
-  pub shifted-zero : (c : A) (k : ℕ) → shifted S t c k S.zero ≡ S.zero
-  shifted-zero c k = C.linear-zero S (shifted S t c k) (shifted-linear c k)
+  pub shifted-zero : (c : A) (k : ℕ) → shift_power S t c k S.zero ≡ S.zero
+  shifted-zero c k = C.linear-zero S (shift_power S t c k) (shifted-linear c k)
 
   -- t of v - d v
   t-shift : (d : A) (v : V) → t (shift S t d v) ≡ S.add (t (t v)) (S.neg (S.scale d (t v)))
@@ -55,14 +55,14 @@ module _ {A V : Type 0} (F : Field A) (S : Space F.ring V) (t : V → V) (linear
       (search vector_rules depth 40) refl
       ∙ sym (ap (λ x. S.add x (S.neg (S.scale d (shift S t c v)))) (t-shift c v))
 
-  pub shifted_comm : (c d : A) (k : ℕ) (v : V) → shifted S t c k (shift S t d v)
-      ≡ shift S t d (shifted S t c k v)
+  pub shifted_comm : (c d : A) (k : ℕ) (v : V) → shift_power S t c k (shift S t d v)
+      ≡ shift S t d (shift_power S t c k v)
   shifted_comm c d zero v = refl
-  shifted_comm c d (suc k) v = ap (shifted S t c k) (shift_comm c d v)
+  shifted_comm c d (suc k) v = ap (shift_power S t c k) (shift_comm c d v)
       ∙ shifted_comm c d k (shift S t c v)
 
-  pub after_comm : (c : A) (k : ℕ) (cs : List A) (v : V) → after S t cs (shifted S t c k v)
-      ≡ shifted S t c k (after S t cs v)
+  pub after_comm : (c : A) (k : ℕ) (cs : List A) (v : V) → after S t cs (shift_power S t c k v)
+      ≡ shift_power S t c k (after S t cs v)
   after_comm c k [] v = refl
   after_comm c k (d ∷ cs) v = ap (after S t cs) (sym (shifted_comm c d k v))
       ∙ after_comm c k cs (shift S t d v)
@@ -191,7 +191,7 @@ module _ {A V : Type 0} (F : Field A) (S : Space F.ring V) (t : V → V) (linear
       ∙ ap₂ S.add (p.1 ∙ q.is) ((shift-linear c).on_scale (R.neg R.one) q.moved)
       ∙ vectors S (vector S (shift S t c q.moved) ∷ vector S q.rest ∷ [])
       (search vector_rules depth 40) refl in
-      let inside : W less = taken less (ap (shifted S t c e) moved ∙ q.killed) in
+      let inside : W less = taken less (ap (shift_power S t c e) moved ∙ q.killed) in
       subst W (vectors S (vector S y ∷ vector S q.moved ∷ []) {v = S.add less q.moved} {w = y}
       (search vector_rules depth 40) refl)
       (closed.has_add less q.moved inside q.made)
@@ -209,7 +209,7 @@ module _ {A V : Type 0} (F : Field A) (S : Space F.ring V) (t : V → V) (linear
 
   -- ---- and back: where the forms make everything, the product of their values is zero
   after-repeat : (k : ℕ) (c : A) (cs : List A) (v : V) → after S t (repeat k c cs) v ≡ after S t cs
-      (shifted S t c k v)
+      (shift_power S t c k v)
   after-repeat zero c cs v = refl
   after-repeat (suc k) c cs v = after-repeat k c cs (shift S t c v)
 
@@ -221,10 +221,10 @@ module _ {A V : Type 0} (F : Field A) (S : Space F.ring V) (t : V → V) (linear
       let w = combine S (λ i. g (suc i)) (vectors_of forms) in
       after-repeat e f.1 (roots e forms) (S.add (S.scale (g 0) f.0) w)
       ∙ ap (after S t (roots e forms)) ((shifted-linear f.1 e).on_add (S.scale (g 0) f.0) w
-      ∙ ap (λ x. S.add x (shifted S t f.1 e w)) ((killed-closed f.1 e).has_scale (g 0) f.0
-      k.0) ∙ S.zero-add (shifted S t f.1 e w))
+      ∙ ap (λ x. S.add x (shift_power S t f.1 e w)) ((killed-closed f.1 e).has_scale (g 0) f.0
+      k.0) ∙ S.zero-add (shift_power S t f.1 e w))
       ∙ after_comm f.1 e (roots e forms) w
-      ∙ ap (shifted S t f.1 e) (product_zero e forms k.1 (λ i. g (suc i))) ∙ shifted-zero f.1 e
+      ∙ ap (shift_power S t f.1 e) (product_zero e forms k.1 (λ i. g (suc i))) ∙ shifted-zero f.1 e
 
   pub repeat-each : (P : A → Type 0) (k : ℕ) (c : A) (cs : List A) → P c → Each P cs
       → Each P (repeat k c cs)

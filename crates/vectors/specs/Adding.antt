@@ -3,7 +3,7 @@
 --   IsCombinationOf rows row     the row is a combination of them
 --   AreKernel n given vectors    the vectors of the columns without a leading one, in order
 --   lead row                     the place of the first entry that isn't zero
---   reduced rows row             row less the sum of each of rows times row's entry in its leading column
+--   reduce_row rows row             row less the sum of each of rows times row's entry in its leading column
 --   quotient row                 the row over its first entry that isn't zero
 --   row_size row                 the weight of a row, its entries taken as coefficients of different variables
 --   IsPastTarget rows row target     the weight of the combination with this target is past
@@ -56,15 +56,15 @@ abbrev pub reduced_by : List Fraction → List (List Fraction) → List Fraction
 reduced_by by [] row = row
 reduced_by by (e ∷ rows) row = reduced_by by rows (less row (entry by (lead e)) e)
 
-abbrev pub reduced : List (List Fraction) → List Fraction → List Fraction
-reduced rows row = reduced_by row rows row
+abbrev pub reduce_row : List (List Fraction) → List Fraction → List Fraction
+reduce_row rows row = reduced_by row rows row
 
-abbrev pub scaled : Fraction → List Fraction → List Fraction
-scaled c [] = []
-scaled c (a ∷ row) = ℚ.mul a c ∷ scaled c row
+abbrev pub scale_row : Fraction → List Fraction → List Fraction
+scale_row c [] = []
+scale_row c (a ∷ row) = ℚ.mul a c ∷ scale_row c row
 
 abbrev pub quotient : List Fraction → List Fraction
-quotient row = scaled (inverse (entry row (lead row))) row
+quotient row = scale_row (inverse (entry row (lead row))) row
 
 -- ---- weights
 abbrev pub row_size : List Fraction → Size
@@ -84,8 +84,8 @@ first_entry row = entry row (lead row)
 abbrev pub IsPastRow : List (List Fraction) → List Fraction → Type 0
 IsPastRow rows row =
     IsPast (reduced_size row rows (row_size row))
-    ⊎ IsPast (quotient_size (row_size (reduced rows row))
-    (fraction_size (first_entry (reduced rows row))))
+    ⊎ IsPast (quotient_size (row_size (reduce_row rows row))
+    (fraction_size (first_entry (reduce_row rows row))))
 
 -- of the row e, when the new row h, which leads in the column c, is cleared out of it
 abbrev pub IsPastClearing : List Fraction → ℕ → List Fraction → Type 0
@@ -96,5 +96,5 @@ abbrev pub IsPastTarget : List (List Fraction) → List Fraction → ℕ → Typ
 IsPastTarget rows row target =
     ((target ≡ length rows) × IsPastRow rows row)
     ⊎ ((target < length rows)
-    × IsPastClearing (quotient (reduced rows row)) (lead (reduced rows row))
+    × IsPastClearing (quotient (reduce_row rows row)) (lead (reduce_row rows row))
     (get_or rows target []))

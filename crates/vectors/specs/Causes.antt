@@ -45,8 +45,8 @@ on_diagonal p zero (suc j) = ℚ.zero
 on_diagonal p (suc i) zero = ℚ.zero
 on_diagonal p (suc i) (suc j) = on_diagonal p i j
 
-abbrev pub shifted : ℕ → ℤ → List (List Fraction) → List (List Fraction)
-shifted d p rows =
+abbrev pub matrix_less : ℕ → ℤ → List (List Fraction) → List (List Fraction)
+matrix_less d p rows =
     map
     (λ i. map (λ j. ℚ.add (ℚ.mul (whole (pos d)) (entry (row_at rows i) j))
     (ℚ.neg (on_diagonal p i j))) (numbers_to (length rows)))
@@ -65,10 +65,10 @@ pub record IsPastColumn (n : ℕ) (rows : List (List Fraction)) (p : ℤ) (k row
   pub target : ℕ
   pub echelon : List (List Fraction)
   pub is : IsEchelonOf n
-      (map (λ j. column j (power n (shifted (denominator rows) p rows) k))
+      (map (λ j. column j (power n (matrix_less (denominator rows) p rows) k))
       (numbers_to before)) echelon
   pub past : IsPastTarget echelon
-      (column before (power n (shifted (denominator rows) p rows) k)) target
+      (column before (power n (matrix_less (denominator rows) p rows) k)) target
 
 pub record IsPastVector (n : ℕ) (found : List (List Fraction)) (vector : List Fraction) : Type
     0 where

@@ -8,7 +8,7 @@
 --   IsKernel F n rows y      the product of y with each row is zero
 --   IsFree F ps j            no row leads in the column j; AreFree F n ps js: the js are those below n, in order
 --   IsKernelVector F n ps j x     the vector of the free column j; AreKernelVectors: of each of a list of columns
---   added F c h ps           ps with the row h more, which leads in c and is cleared out of the others
+--   with_row F c h ps           ps with the row h more, which leads in c and is cleared out of the others
 --   free_from F ps k m       the free ones of the m columns from k on
 --   kernel_vector F ps j     the vector of the column j, entry by entry
 --   IsRref F n given ps      ps is the reduced echelon list of the rows given, of width n
@@ -89,16 +89,16 @@ module _ {A : Type 0} (F : Field A) where
   abbrev pub clear_one : ℕ → (ℕ → A) → (ℕ → A) → ℕ → A
   clear_one c h r = λ i. F.add (r i) (F.neg (F.mul (r c) (h i)))
 
-  abbrev pub cleared : ℕ → (ℕ → A) → Pivots → Pivots
-  cleared c h [] = []
-  cleared c h (p ∷ ps) = (p.0, clear_one c h p.1) ∷ cleared c h ps
+  abbrev pub clear_column : ℕ → (ℕ → A) → Pivots → Pivots
+  clear_column c h [] = []
+  clear_column c h (p ∷ ps) = (p.0, clear_one c h p.1) ∷ clear_column c h ps
 
-  abbrev pub placed : ℕ → (ℕ → A) → Pivots → Pivots
-  placed c h [] = (c, h) ∷ []
-  placed c h (p ∷ ps) = cond (ltb c p.0) ((c, h) ∷ p ∷ ps) (p ∷ placed c h ps)
+  abbrev pub insert_row : ℕ → (ℕ → A) → Pivots → Pivots
+  insert_row c h [] = (c, h) ∷ []
+  insert_row c h (p ∷ ps) = cond (ltb c p.0) ((c, h) ∷ p ∷ ps) (p ∷ insert_row c h ps)
 
-  abbrev pub added : ℕ → (ℕ → A) → Pivots → Pivots
-  added c h ps = placed c h (cleared c h ps)
+  abbrev pub with_row : ℕ → (ℕ → A) → Pivots → Pivots
+  with_row c h ps = insert_row c h (clear_column c h ps)
 
   -- ---- the free columns, m from k on
   abbrev pub leads_at : Pivots → ℕ → Bool

@@ -4,7 +4,7 @@
 --   whole_number d a         d times a, where the denominator of a divides d
 --   greatest_sum n rows      the greatest column sum of the absolute values of the matrix times its denominator
 --   SplitsAt n rows          a list of values, so that the product of the matrix less each of them is zero
---   valued n forms values    the forms with their values
+--   with_values n forms values    the forms with their values
 --   AreForms n rows forms values     as many as rows, independent, each times the matrix its value times it and a combination of earlier ones of that value
 --   AreSearched n rows forms values  what a search has found that went through all candidates: whole numbers over the denominator, at most the greatest sum
 use Rattle.std.specs.Prelude.{◌≡◌, ◌≤◌, ℕ, zero as nought, suc, ◌+◌, ◌/◌, max, ℤ, pos, ◌*ℤ◌, List, [], ◌∷◌, length}
@@ -22,8 +22,8 @@ use Rattle.vectors.specs.SplitForms.{AreSplitForms}
 abbrev pub rows_in : (n : ℕ) → List (List Fraction) → List (Row ℚ_field n)
 rows_in n rows = matrix_of ℚ_field n rows
 
-abbrev pub acted : (n : ℕ) → List (List Fraction) → Row ℚ_field n → Row ℚ_field n
-acted n rows y = times_rows ℚ_field n (rows_in n rows) y
+abbrev pub times_matrix : (n : ℕ) → List (List Fraction) → Row ℚ_field n → Row ℚ_field n
+times_matrix n rows y = times_rows ℚ_field n (rows_in n rows) y
 
 abbrev pub row_denominator : List Fraction → ℕ
 row_denominator [] = 1
@@ -51,27 +51,29 @@ greatest_sum n rows = greatest_of n (sum_of_column (denominator rows) rows)
 pub record SplitsAt (n : ℕ) (rows : List (List Fraction)) : Type 0 where
   pub values : List Fraction
   pub is_zero : (v : Row ℚ_field n)
-      → after (rows_of ℚ_field n) (acted n rows) values v ≡ (rows_of ℚ_field n).zero
+      → after (rows_of ℚ_field n) (times_matrix n rows) values v ≡ (rows_of ℚ_field n).zero
 
-abbrev pub valued : (n : ℕ) → List (List Fraction) → List Fraction → List (Row ℚ_field n × Fraction)
-valued n [] values = []
-valued n (form ∷ forms) [] = []
-valued n (form ∷ forms) (c ∷ values) = (row_of ℚ_field n form, c) ∷ valued n forms values
+abbrev pub with_values : (n : ℕ) → List (List Fraction) → List Fraction
+    → List (Row ℚ_field n × Fraction)
+with_values n [] values = []
+with_values n (form ∷ forms) [] = []
+with_values n (form ∷ forms) (c ∷ values) = (row_of ℚ_field n form, c) ∷ with_values n forms values
 
 pub record AreForms (n : ℕ) (rows forms : List (List Fraction)) (values : List Fraction) : Type
     0 where
   pub count : length forms ≡ n
   pub value_count : length values ≡ n
   pub widths : Each (λ form. length form ≡ n) forms
-  pub independent : Independent (rows_of ℚ_field n) (vectors_of (valued n forms values))
-  pub split : AreSplitForms ℚ_field (rows_of ℚ_field n) (acted n rows) [] (valued n forms values)
+  pub independent : Independent (rows_of ℚ_field n) (vectors_of (with_values n forms values))
+  pub split : AreSplitForms ℚ_field (rows_of ℚ_field n) (times_matrix n rows) []
+      (with_values n forms values)
 
 pub record AreSearched (n : ℕ) (rows forms : List (List Fraction)) (values : List Fraction) : Type
     0 where
   pub one_each : length values ≡ length forms
-  pub killed : AllKilled (rows_of ℚ_field n) (acted n rows) n (valued n forms values)
-  pub independent : Independent (rows_of ℚ_field n) (vectors_of (valued n forms values))
+  pub killed : AllKilled (rows_of ℚ_field n) (times_matrix n rows) n (with_values n forms values)
+  pub independent : Independent (rows_of ℚ_field n) (vectors_of (with_values n forms values))
   pub taken : (p : ℤ) → nat_abs p ≤ greatest_sum n rows → (c : Fraction)
       → product (whole (pos (denominator rows))) c ≡ whole p
-      → Taken (rows_of ℚ_field n) (acted n rows) n
-      (IsCombination (rows_of ℚ_field n) (vectors_of (valued n forms values))) c
+      → Taken (rows_of ℚ_field n) (times_matrix n rows) n
+      (IsCombination (rows_of ℚ_field n) (vectors_of (with_values n forms values))) c

@@ -1,5 +1,5 @@
 -- Forms with their values: each times the matrix is its value times it, and a combination of earlier forms of the same value.
---   valued c es              vectors with the value c
+--   with_value c es              vectors with the value c
 --   of_value F c forms       the forms of the value c
 --   AreSplitForms F S t before forms     so they are, after those before
 use Rattle.std.specs.Prelude.{List, [], ◌∷◌, ◌++◌, cond}
@@ -8,9 +8,9 @@ use Rattle.vectors.specs.Space.{Space, IsCombination}
 use Rattle.vectors.specs.Splitting.{shift}
 
 -- vectors with one value
-abbrev pub valued : {A V : Type 0} → A → List V → List (V × A)
-valued c [] = []
-valued c (e ∷ es) = (e, c) ∷ valued c es
+abbrev pub with_value : {A V : Type 0} → A → List V → List (V × A)
+with_value c [] = []
+with_value c (e ∷ es) = (e, c) ∷ with_value c es
 
 -- the forms of a value
 abbrev pub of_value : {A V : Type 0} → Field A → A → List (V × A) → List V

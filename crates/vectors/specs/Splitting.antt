@@ -34,9 +34,9 @@ module _ {A V : Type 0} {R : CommRing A} (S : Space R V) (t : V → V) where
   shift c v = S.add (t v) (S.neg (S.scale c v))
 
   -- v times (M - c)^k
-  abbrev pub shifted : A → ℕ → V → V
-  shifted c nought v = v
-  shifted c (suc k) v = shifted c k (shift c v)
+  abbrev pub shift_power : A → ℕ → V → V
+  shift_power c nought v = v
+  shift_power c (suc k) v = shift_power c k (shift c v)
 
   -- v times (M - c) for each c of the list
   abbrev pub after : List A → V → V
@@ -45,7 +45,7 @@ module _ {A V : Type 0} {R : CommRing A} (S : Space R V) (t : V → V) where
 
   -- it is killed by the power e of M - c
   abbrev pub IsKilled : A → ℕ → V → Type 0
-  IsKilled c e v = shifted c e v ≡ S.zero
+  IsKilled c e v = shift_power c e v ≡ S.zero
 
   abbrev pub AllKilled : ℕ → List (V × A) → Type 0
   AllKilled e forms = Each (λ f. IsKilled f.1 e f.0) forms

@@ -5,9 +5,9 @@
 --   at_class g state             the numbers of the variables of g at a state
 --   form_at w g state            the form w of them: each times its number of w
 --   rests_at images g state      the values, at a state, of what the polynomials of g have without variables of g
---   IsTurned base images since i p     from `since` on, p at n is the variable i after n turns
---   AreTurned base images since vs ps  for each variable of vs that one of ps is
---   IsTurnedForm base images since g w y     from `since` on, y at n is the form w of the variables of g after n turns
+--   IsAfterTurns base images since i p     from `since` on, p at n is the variable i after n turns
+--   AreAfterTurns base images since vs ps  for each variable of vs that one of ps is
+--   IsFormAfterTurns base images since g w y     from `since` on, y at n is the form w of the variables of g after n turns
 --   HasRecurrence base m l q start y   y at 0 is the start, and at n + 1 it is l times y at n, and q at n
 --   HasValueAfter base images g w d y  y at d is the form w of the variables of g after d turns
 --   Done                         forms with their polynomials; rows_done c ts, values_done ts z: their rows, and their polynomials' values
@@ -20,7 +20,7 @@ use Rattle.numbers.proofs.Fractions.{ℚ_field}
 use Rattle.polynomials.specs.Terms.{Terms, sum_of_products, value_at}
 use Rattle.chains.specs.Uses.{has, poly_at}
 use Rattle.vectors.specs.Lists.{entries, row_of}
-use Rattle.vectors.specs.Matrices.{acted}
+use Rattle.vectors.specs.Matrices.{times_matrix}
 use Rattle.vectors.specs.Rows.{Row, rows_of}
 use Rattle.vectors.specs.Space.{combine}
 use Rattle.turns.specs.Classes.{class_matrix}
@@ -49,15 +49,16 @@ abbrev pub rests_at : List (Terms Fraction) → List ℕ → List Fraction → L
 rests_at images g state = map (λ i. value_at ℚ (rest_of g (poly_at images i)) state) g
 
 module _ (base : List ℕ) (images : List (Terms Fraction)) where
-  pub record IsTurned (since i : ℕ) (p : Terms Fraction) : Type 0 where
+  pub record IsAfterTurns (since i : ℕ) (p : Terms Fraction) : Type 0 where
     pub values : (n : ℕ) (s : List Fraction) → length s ≡ length images → since ≤ n
         → value_at ℚ p (point base n s) ≡ entries ℚ_field (turns images n s) i
 
-  pub record AreTurned (since : ℕ) (vs : List ℕ) (ps : List (Terms Fraction)) : Type 0 where
+  pub record AreAfterTurns (since : ℕ) (vs : List ℕ) (ps : List (Terms Fraction)) : Type 0 where
     pub size : length ps ≡ length images
-    pub each : (i : ℕ) → In i vs → IsTurned since i (poly_at ps i)
+    pub each : (i : ℕ) → In i vs → IsAfterTurns since i (poly_at ps i)
 
-  pub record IsTurnedForm (since : ℕ) (g : List ℕ) (w : List Fraction) (y : Terms Fraction) : Type
+  pub record IsFormAfterTurns (since : ℕ) (g : List ℕ) (w : List Fraction)
+      (y : Terms Fraction) : Type
       0 where
     pub width : length w ≡ length g
     pub values : (n : ℕ) (s : List Fraction) → length s ≡ length images → since ≤ n
@@ -93,7 +94,7 @@ with_polynomials (w ∷ ws) (y ∷ ys) = (w, y) ∷ with_polynomials ws ys
 
 pub record IsSplit (images : List (Terms Fraction)) (g : List ℕ) (before : Done)
     (w : List Fraction) (l : Fraction) (by : List Fraction) : Type 0 where
-  pub is : acted (length g) (class_matrix images g) (row_of ℚ_field (length g) w)
+  pub is : times_matrix (length g) (class_matrix images g) (row_of ℚ_field (length g) w)
       ≡ (rows_of ℚ_field (length g)).add
       ((rows_of ℚ_field (length g)).scale l (row_of ℚ_field (length g) w))
       (combine (rows_of ℚ_field (length g)) (entries ℚ_field by) (rows_done (length g) before))
