@@ -18,7 +18,7 @@ use Rattle.numbers.specs.Fraction.{Fraction, whole}
 use Rattle.numbers.proofs.Fractions.{ℚ_ring}
 use Rattle.numbers.proofs.Wholes.{whole_injective}
 use Rattle.exponentials.specs.Base.{Coprime, product}
-use Rattle.exponentials.specs.Powers.{raised, number}
+use Rattle.exponentials.specs.Powers.{integer_power, number}
 use Rattle.exponentials.proofs.Coprimes as C
 use Rattle.exponentials.proofs.Factoring.{Taken, taken-product}
 use Rattle.coprime_base.specs.Parts.{IsQuotient, Begun}
@@ -93,9 +93,10 @@ module _ (base : List ℕ) (n d : ℕ) where
       sides : (up (pos t -ℤ pos u) ≡ t) × (down (pos t -ℤ pos u) ≡ u)
       sides = ups t u (one_side b m k t u m' k' c.0 s.lowest p q)
 
-      first : IsQuotient (raised b (pos t -ℤ pos u)) (b ^ t) (b ^ u)
-      first = subst (λ i. IsQuotient (raised b (pos t -ℤ pos u)) (b ^ i) (b ^ u)) sides.0
-          (subst (λ j. IsQuotient (raised b (pos t -ℤ pos u)) (b ^ up (pos t -ℤ pos u)) (b ^ j))
+      first : IsQuotient (integer_power b (pos t -ℤ pos u)) (b ^ t) (b ^ u)
+      first = subst (λ i. IsQuotient (integer_power b (pos t -ℤ pos u)) (b ^ i) (b ^ u)) sides.0
+          (subst (λ j. IsQuotient (integer_power b (pos t -ℤ pos u)) (b ^ up (pos t -ℤ pos u))
+          (b ^ j))
           sides.1 (raised_is b (pos t -ℤ pos u) (let h : 1 < b = c.0 in omega arith)))
 
       longer : (e : List ℤ) → IsQuotient (number rest e) m' k'
@@ -103,7 +104,7 @@ module _ (base : List ℕ) (n d : ℕ) where
       longer e h =
           subst (λ x. IsQuotient (number (b ∷ rest) ((pos t -ℤ pos u) ∷ e)) x k) p
           (subst (λ y. IsQuotient (number (b ∷ rest) ((pos t -ℤ pos u) ∷ e)) (b ^ t * m') y) q
-          (quotient_product (raised b (pos t -ℤ pos u)) (number rest e) (b ^ t) (b ^ u) m' k'
+          (quotient_product (integer_power b (pos t -ℤ pos u)) (number rest e) (b ^ t) (b ^ u) m' k'
           first h))
 
       at_tail : (f : List ℤ) → (m' ≡ product rest (map up f)) × (k' ≡ product rest (map down f))

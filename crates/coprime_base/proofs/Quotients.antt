@@ -16,7 +16,7 @@ use Rattle.numbers.proofs.Fractions.{ℚ_ring, ℚ_field}
 use Rattle.numbers.proofs.Wholes.{whole_injective, product-whole}
 use Rattle.rings.proofs.RingSolver.{ring_rules, ring}
 use Rattle.exponentials.specs.Base.{Coprime, Disjoint, product}
-use Rattle.exponentials.specs.Powers.{raised, number}
+use Rattle.exponentials.specs.Powers.{integer_power, number}
 use Rattle.exponentials.proofs.Factoring.{fraction_made}
 use Rattle.coprime_base.specs.Parts.{IsQuotient}
 
@@ -56,7 +56,7 @@ inverse_power b (suc n) h =
     ∙ ℚ_field.mul-inverse (whole (pos b)) (not_zero b h)) (inverse_power b n h)
     ∙ R.mul-one R.one
 
-pub raised_is : (b : ℕ) (z : ℤ) → 0 < b → IsQuotient (raised b z) (b ^ up z) (b ^ down z)
+pub raised_is : (b : ℕ) (z : ℤ) → 0 < b → IsQuotient (integer_power b z) (b ^ up z) (b ^ down z)
 raised_is b (pos n) h = ap₂ R.mul (power_is b n) (ap (λ k. whole (pos k)) (N.pow-zero b))
     ∙ R.mul-one (whole (pos (b ^ n)))
 raised_is b (negsuc n) h = ap (R.mul (power ℚ (inverse (whole (pos b))) (suc n)))
@@ -77,7 +77,8 @@ pub number_is : (bs : List ℕ) (e : List ℤ) → Coprime bs
 number_is [] e c = one_quotient
 number_is (b ∷ bs) [] c = one_quotient
 number_is (b ∷ bs) (z ∷ e) c =
-    quotient_product (raised b z) (number bs e) (b ^ up z) (b ^ down z) (product bs (map up e))
+    quotient_product (integer_power b z) (number bs e) (b ^ up z) (b ^ down z)
+    (product bs (map up e))
     (product bs (map down e))
     (raised_is b z (let h : 1 < b = c.0 in omega arith)) (number_is bs e c.2)
 

@@ -48,10 +48,9 @@ impl<T: Drop> From<AllocFailed<T>> for BaseError {
 
 /// The coarsest list of numbers above 1, pairwise coprime and ascending, of whose powers each number of the list is a product
 /// (Bach, Driscoll, Shallit, "Factor refinement", 1993).
-pub fn base(alloc: Global, list: &Vec<Whole>) -> Result<Vec<Whole>, BaseError>
+pub fn base(alloc: Global, list: &Vec<Whole>) -> Result<Vec<Whole>, AllocError>
     requires { ArePositive list.now.items }
     ensures base { IfOk result (λ base. IsTheBase (sizes list.now.items) (sizes base.items)) }
-    ensures always { ¬ IsErrOf result BaseError.NotInBase }
 {
     let waiting = magnitudes(alloc, list.as_slice())?;
     let found = coarsest(alloc, waiting)?;
@@ -100,9 +99,8 @@ fn size(whole: &Whole) -> u128
 }
 
 /// The sizes of the numbers.
-fn magnitudes(alloc: Global, list: &[Whole]) -> Result<Vec<u128>, BaseError>
+fn magnitudes(alloc: Global, list: &[Whole]) -> Result<Vec<u128>, AllocError>
     ensures ok { IfOk result (λ found. found.items ≡ sizes list.now) }
-    ensures always { ¬ IsErrOf result BaseError.NotInBase }
 {
     let mut found = Vec::new(alloc);
     for whole in list {
@@ -112,10 +110,9 @@ fn magnitudes(alloc: Global, list: &[Whole]) -> Result<Vec<u128>, BaseError>
 }
 
 /// The numbers of these sizes.
-fn numbers_of_sizes(alloc: Global, list: &[u128]) -> Result<Vec<Whole>, BaseError>
+fn numbers_of_sizes(alloc: Global, list: &[u128]) -> Result<Vec<Whole>, AllocError>
     requires { All (λ n. n < number_limit) list.now }
     ensures ok { IfOk result (λ found. sizes found.items ≡ list.now) }
-    ensures always { ¬ IsErrOf result BaseError.NotInBase }
 {
     let mut found = Vec::new(alloc);
     for size in list {

@@ -11,10 +11,10 @@ use Rattle.numbers.proofs.Fractions.{ℚ_ring, ℚ_field}
 use Rattle.vectors.specs.Lists.{entries, below}
 use Rattle.vectors.specs.Rows.{Row, rows_of}
 use Rattle.vectors.specs.Space.{Space, combine}
-use Rattle.vectors.specs.Splitting.{shift, shifted}
+use Rattle.vectors.specs.Splitting.{shift, shift_power}
 use Rattle.vectors.specs.Adding.{entry}
-use Rattle.vectors.specs.Matrices.{rows_in, acted}
-use Rattle.vectors.specs.Causes.{row_at, dot, column, numbers_to, on_diagonal, shifted as shifted_of, power}
+use Rattle.vectors.specs.Matrices.{rows_in, times_matrix}
+use Rattle.vectors.specs.Causes.{row_at, dot, column, numbers_to, on_diagonal, matrix_less as shifted_of, power}
 use Rattle.vectors.proofs.EchelonKernel as EK
 use Rattle.vectors.proofs.RowLaws as RL
 use Rattle.vectors.proofs.ListLaws.{below-entry}
@@ -45,7 +45,7 @@ module _ (n : ℕ) (rows : List (List Fraction)) (size : length rows ≡ n)
   S = rows_of ℚ_field n
 
   abbrev t : Row ℚ_field n → Row ℚ_field n
-  t y = acted n rows y
+  t y = times_matrix n rows y
 
   abbrev pub at : List (List Fraction) → ℕ → ℕ → Fraction
   at xs i j = entry (row_at xs i) j
@@ -135,10 +135,10 @@ module _ (n : ℕ) (rows : List (List Fraction)) (size : length rows ≡ n)
 
     pub acts : (k : ℕ) (y : Row ℚ_field n) (j : ℕ) → j < n
         → Σ_to n (λ i. ℚ.mul (at (at_power k) i j) (y.0 i)) ≡ ℚ.mul (factor k)
-        ((shifted S t c (suc k) y).0 j)
+        ((shift_power S t c (suc k) y).0 j)
     acts zero y j h = acts_once y j h
     acts (suc k) y j h =
-        let w : Row ℚ_field n = shifted S t c (suc k) y in
+        let w : Row ℚ_field n = shift_power S t c (suc k) y in
         let inner : ℕ → ℕ → Fraction =
         λ i l. ℚ.mul (at ys l j) (ℚ.mul (at (at_power k) i l) (y.0 i)) in
         EK.total_same ℚ_field n _ (λ i. Σ_to n (inner i)) (λ i m.

@@ -26,7 +26,7 @@ use Rattle.numbers.proofs.Wholes.{whole_injective, whole-some, of_int-whole}
 use Rattle.vectors.specs.Adding.{entry}
 use Rattle.vectors.specs.Causes.{row_at, numbers_to}
 use Rattle.vectors.specs.Echelon.{total}
-use Rattle.vectors.specs.Matrices.{denominator, row_denominator, whole_number, acted}
+use Rattle.vectors.specs.Matrices.{denominator, row_denominator, whole_number, times_matrix}
 use Rattle.vectors.specs.Rows.{Row, rows_of}
 use Rattle.vectors.specs.Space.{Space}
 use Rattle.vectors.specs.Splitting.{shift}
@@ -189,7 +189,7 @@ module _ (n : ℕ) (rows : List (List Fraction)) (p : ℤ) where
       abbrev S : Space ℚ_ring (Row ℚ_field n)
       S = rows_of ℚ_field n
 
-      module _ (y : Row ℚ_field n) (e : shift S (acted n rows) (over p d) y ≡ S.zero) where
+      module _ (y : Row ℚ_field n) (e : shift S (times_matrix n rows) (over p d) y ≡ S.zero) where
         killed : (j : ℕ) → j < n → Σ_to n (λ i. ℚ.mul (whole (shifted_entry d p rows i j)) (y.0 i))
             ≡ ℚ.zero
         killed j h =

@@ -16,7 +16,7 @@ use Rattle.numbers.specs.Fraction.{Fraction, over}
 use Rattle.vectors.specs.Matrices.{denominator, sum_of_column, greatest_of, greatest_sum, SplitsAt, AreForms, AreSearched}
 use Rattle.vectors.specs.Causes.{limit, IsTooWide, denominator_past, entry_past, sum_past}
 use Rattle.eigen_split.specs.Ints.{IsReady}
-use Rattle.eigen_split.specs.Search.{Found, AreFormsOf, repeated, IsTurn, new_forms, IsOther, TurnsTo, AreOthers, IsWholeSearch, enough, zero_last}
+use Rattle.eigen_split.specs.Search.{Found, AreFormsOf, copies, IsTurn, new_forms, IsOther, TurnsTo, AreOthers, IsWholeSearch, enough, zero_last}
 use Rattle.eigen_split.specs.Parts.{IfPastIn}
 use Rattle.eigen_split.specs.Refusal.{Ascending, IsWithin, IsSearched, IfRefused}
 use Rattle.eigen_split.specs.declared.EigenError.{EigenError}
@@ -200,11 +200,11 @@ pub turn_found : (n : ℕ) (rows : List (List Fraction)) (d : ℕ) (p q r : ℤ)
     → d ≡ denominator rows → q ≡ p → r ≡ p → AreFormsOf n rows q (rows_of forms)
     → fraction_of v ≡ over r d
     → count ≡ length forms → rows_of more ≡ f.forms ++ rows_of forms
-    → fractions_of values ≡ f.values ++ repeated count (fraction_of v)
+    → fractions_of values ≡ f.values ++ copies count (fraction_of v)
     → IsTurn n rows p f (record { forms = rows_of more; values = fractions_of values })
 turn_found n rows d p q r f forms more values v count least e g a w c h k =
     new_forms (rows_of forms) (subst (λ q. AreFormsOf n rows q (rows_of forms)) e a)
     (ap₂ (λ fs vs. record { forms = fs; values = vs }) h
-    (k ∙ ap₂ (λ m x. f.values ++ repeated m x) (c
+    (k ∙ ap₂ (λ m x. f.values ++ copies m x) (c
     ∙ sym (length-map forms (λ (v : Vec Frac Global). fractions_of v.items))) (w
     ∙ ap₂ over g least)))

@@ -21,7 +21,7 @@ use Rattle.vectors.specs.Space.{Space, IsCombination}
 use Rattle.vectors.specs.Sequences.{sequences}
 use Rattle.vectors.specs.Splitting.{IsKilled, IsLevel, Pushing}
 use Rattle.vectors.specs.Adding.{IsCombinationOf}
-use Rattle.vectors.specs.Matrices.{rows_in, acted, denominator}
+use Rattle.vectors.specs.Matrices.{rows_in, times_matrix, denominator}
 use Rattle.vectors.proofs.Combinations as C
 use Rattle.vectors.proofs.MatrixKernels as MK
 use Rattle.vectors.proofs.Forms as FO
@@ -86,7 +86,7 @@ module _ (n : ℕ) (rows : List (List Fraction)) (size : length rows ≡ n)
   S = rows_of ℚ_field n
 
   abbrev t : Row ℚ_field n → Row ℚ_field n
-  t y = acted n rows y
+  t y = times_matrix n rows y
 
   abbrev M : List (List Fraction) → List (Row ℚ_field n)
   M vs = matrix_of ℚ_field n vs

@@ -16,9 +16,9 @@ use Rattle.vectors.specs.Echelon as E
 use Rattle.vectors.specs.Lists.{entries, tables, row_of, matrix_of}
 use Rattle.vectors.specs.Rows.{Row, rows_of, entries_of}
 use Rattle.vectors.specs.Space.{Space, IsCombination, Independent}
-use Rattle.vectors.specs.Splitting.{shifted, IsKilled}
+use Rattle.vectors.specs.Splitting.{shift_power, IsKilled}
 use Rattle.vectors.specs.Adding.{entry}
-use Rattle.vectors.specs.Matrices.{rows_in, acted}
+use Rattle.vectors.specs.Matrices.{rows_in, times_matrix}
 use Rattle.vectors.specs.Causes.{row_at, column, numbers_to}
 use Rattle.vectors.proofs.Combinations as C
 use Rattle.vectors.proofs.EchelonKernel as EK
@@ -84,7 +84,7 @@ module _ (n : ℕ) (rows : List (List Fraction)) (size : length rows ≡ n)
   S = rows_of ℚ_field n
 
   abbrev t : Row ℚ_field n → Row ℚ_field n
-  t y = acted n rows y
+  t y = times_matrix n rows y
 
   pub record IsBasis (c : Fraction) (k : ℕ) (xs : List (Row ℚ_field n)) : Type 0 where
     pub made : (v : Row ℚ_field n) → IsCombination S xs v → IsKilled S t c k v
@@ -138,8 +138,8 @@ module _ (n : ℕ) (rows : List (List Fraction)) (size : length rows ≡ n)
         y.0 → IsKilled S t c (suc k) y
     unfolding Zero
     kernel_killed k y h =
-        RL.row_zero ℚ_field n (shifted S t c (suc k) y) (λ j l.
-        elim (FL.no_zero_divisors ℚ_field (f k) ((shifted S t c (suc k) y).0 j)
+        RL.row_zero ℚ_field n (shift_power S t c (suc k) y) (λ j l.
+        elim (FL.no_zero_divisors ℚ_field (f k) ((shift_power S t c (suc k) y).0 j)
         (sym (A.acts n rows size widths d p c over k y j l)
         ∙ column-out k y.0 j (over_each (λ x. Σ_to n (λ i. ℚ.mul (entries ℚ_field x i) (y.0 i))
         ≡ ℚ.zero) (λ j. column j (P k)) n

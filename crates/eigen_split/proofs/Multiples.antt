@@ -24,12 +24,12 @@ use Rattle.numbers.proofs.RatioLaws.{nat_abs-neg_ℤ}
 use Rattle.numbers.proofs.Wholes.{sum-whole, product-whole, opposite-whole}
 use Rattle.vectors.specs.Adding.{entry}
 use Rattle.vectors.specs.Matrices.{row_denominator, denominator, whole_number, sum_of_column, greatest_sum}
-use Rattle.vectors.specs.Causes.{limit, row_at, dot, column, numbers_to, on_diagonal, shifted, product, power}
+use Rattle.vectors.specs.Causes.{limit, row_at, dot, column, numbers_to, on_diagonal, matrix_less, product, power}
 use Rattle.numbers.proofs.Wholes.{of_int-whole}
 use Rattle.vectors.proofs.SplitDecided.{row_some, zero-den, denominator_some, whole_number-is, at_most_greatest}
 use Rattle.vectors.proofs.WholeEigen.{nat_abs-add}
 use Rattle.linear.proofs.Echelon.{entry-is}
-use Rattle.eigen_split.specs.Ints.{wholes, whole_rows, shifted_entry, shifted_row, shifted_rows, int_column, int_columns, int_dot, times_columns, power_rows, sizes, Fits, IsReady}
+use Rattle.eigen_split.specs.Ints.{wholes, whole_rows, shifted_entry, shifted_row, shifted_rows, int_column, int_columns, int_dot, times_columns, power_rows, sizes, FitsProduct, IsReady}
 use Rattle.eigen_split.proofs.Sums.{over_same, over-suc, get-over}
 use Rattle.eigen_split.proofs.Kernels.{each_over}
 
@@ -105,7 +105,7 @@ module _ (n : ℕ) (p : ℤ) (rows : List (List Fraction)) (size : length rows �
   abbrev d : ℕ
   d = denominator rows
 
-  pub first_is : whole_rows (shifted_rows d p rows) ≡ shifted d p rows
+  pub first_is : whole_rows (shifted_rows d p rows) ≡ matrix_less d p rows
   first_is =
       map-map wholes (λ i. shifted_row d p rows i) (numbers_to (length rows))
       ∙ over_same _ _ (length rows) (λ i l. map-map whole (λ j. shifted_entry d p rows i j)
@@ -114,7 +114,7 @@ module _ (n : ℕ) (p : ℤ) (rows : List (List Fraction)) (size : length rows �
 
   row-is : (row : List ℤ)
       → wholes (times_columns (int_columns (length rows) (shifted_rows d p rows)) row)
-      ≡ map (λ j. dot (wholes row) (column j (shifted d p rows))) (numbers_to n)
+      ≡ map (λ j. dot (wholes row) (column j (matrix_less d p rows))) (numbers_to n)
   row-is row =
       ap wholes (map-map (int_dot row) (λ j. int_column j (shifted_rows d p rows))
       (numbers_to (length rows)))
@@ -123,17 +123,18 @@ module _ (n : ℕ) (p : ℤ) (rows : List (List Fraction)) (size : length rows �
       ∙ over_same _ _ (length rows) (λ j l. sym (dot-is row (int_column j (shifted_rows d p rows)))
       ∙ ap (dot (wholes row)) (sym (column-is j (shifted_rows d p rows))
       ∙ ap (column j) first_is))
-      ∙ ap (λ m. map (λ j. dot (wholes row) (column j (shifted d p rows))) (numbers_to m)) size
+      ∙ ap (λ m. map (λ j. dot (wholes row) (column j (matrix_less d p rows))) (numbers_to m)) size
 
   rows-are : (xs : List (List ℤ))
       → whole_rows (map (times_columns (int_columns (length rows) (shifted_rows d p rows))) xs)
-      ≡ product n (whole_rows xs) (shifted d p rows)
+      ≡ product n (whole_rows xs) (matrix_less d p rows)
   rows-are [] = refl
   rows-are (x ∷ xs) = ap₂ ◌∷◌ (row-is x) (rows-are xs)
 
-  pub power_is : (k : ℕ) → whole_rows (power_rows d p rows k) ≡ power n (shifted d p rows) k
+  pub power_is : (k : ℕ) → whole_rows (power_rows d p rows k) ≡ power n (matrix_less d p rows) k
   power_is zero = first_is
-  power_is (suc k) = rows-are (power_rows d p rows k) ∙ ap (λ xs. product n xs (shifted d p rows))
+  power_is (suc k) = rows-are (power_rows d p rows k)
+      ∙ ap (λ xs. product n xs (matrix_less d p rows))
       (power_is k)
 
 -- ---- how great they are
@@ -284,11 +285,12 @@ base_power n k l h = go (leb n 8) refl
 pub fits_next : (n : ℕ) (p : ℤ) (rows : List (List Fraction)) → IsReady n rows (denominator rows)
     → nat_abs p ≤ limit n → (k : ℕ) → suc k < n
     → Each (λ r.
-    Each (λ c. Fits r c) (int_columns (length rows) (shifted_rows (denominator rows) p rows)))
+    Each (λ c. FitsProduct r c) (int_columns (length rows) (shifted_rows (denominator rows) p
+    rows)))
     (power_rows (denominator rows) p rows k)
 fits_next n p rows ready c k l =
     each_weaker (λ r. Each (λ x. nat_abs x ≤ base n ^ suc k) r) _
-    (λ r h. each_over (λ column. Fits r column)
+    (λ r h. each_over (λ column. FitsProduct r column)
     (λ j. int_column j (shifted_rows (denominator rows) p rows)) (length rows)
     (λ j m. record {
       most = base n ^ suc k;

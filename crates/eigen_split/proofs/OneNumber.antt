@@ -12,7 +12,7 @@ use Rattle.vectors.specs.Rows.{Row, same_row}
 use Rattle.vectors.specs.Rows.{rows_of as row_space}
 use Rattle.vectors.specs.Space.{Space, IsCombination, combine, Independent}
 use Rattle.vectors.specs.Splitting.{shift}
-use Rattle.vectors.specs.Matrices.{acted, SplitsAt, AreForms, AreSearched}
+use Rattle.vectors.specs.Matrices.{times_matrix, SplitsAt, AreForms, AreSearched}
 use Rattle.vectors.proofs.Combinations as C
 use Rattle.std.proofs.lemmas.List.Elements.{All-head}
 use Rattle.frac128.specs.FracMeaning.{fraction_of}
@@ -33,7 +33,7 @@ module _ (a : Fraction) where
   rows = (a ∷ []) ∷ []
 
   abbrev t : Row ℚ_field 1 → Row ℚ_field 1
-  t v = acted 1 rows v
+  t v = times_matrix 1 rows v
 
   multiplied : (v : Row ℚ_field 1) → t v ≡ S.scale a v
   multiplied v = same_row ℚ_field 1 (t v) (S.scale a v) (fun_ext each)

@@ -18,7 +18,7 @@ use Rattle.vectors.specs.Matrices.{denominator}
 use Rattle.vectors.proofs.SearchLaws.{below_more, below_next}
 use Rattle.vectors.proofs.SplitDecided.{denominator_some}
 use Rattle.eigen_split.specs.Refusal.{MayFollow, Ascending}
-use Rattle.eigen_split.specs.Search.{Found, repeated, IsTurn, no_eigenvalue, new_forms, IsOther, zero_passed, other_turn, TurnsTo, IsWholeSearch, enough, zero_last}
+use Rattle.eigen_split.specs.Search.{Found, copies, IsTurn, no_eigenvalue, new_forms, IsOther, zero_passed, other_turn, TurnsTo, IsWholeSearch, enough, zero_last}
 use Rattle.eigen_split.proofs.Forming.{over-is}
 
 pub candidate_next : (b k : ℕ) → (pos k +ℤ neg_ℤ (pos b)) +ℤ pos 1 ≡ pos (suc k) +ℤ neg_ℤ (pos b)
@@ -54,21 +54,21 @@ over-zero d some = elim (FL.no_zero_divisors ℚ_field (whole (pos d)) (over (po
     ]
 
 -- ---- one value so many times
-each_repeated : (P : Fraction → Type 0) (k : ℕ) (c : Fraction) → P c → Each P (repeated k c)
+each_repeated : (P : Fraction → Type 0) (k : ℕ) (c : Fraction) → P c → Each P (copies k c)
 unfolding Each
 each_repeated P zero c h = tt
 each_repeated P (suc k) c h = (h, each_repeated P k c h)
 
-repeated-ascends : (k : ℕ) (c : Fraction) → MayFollow c c → Ascending (repeated k c)
+repeated-ascends : (k : ℕ) (c : Fraction) → MayFollow c c → Ascending (copies k c)
 repeated-ascends zero c h = tt
 repeated-ascends (suc k) c h = (each_repeated (MayFollow c) k c h, repeated-ascends k c h)
 
 ascending-append : (k : ℕ) (c : Fraction) (values : List Fraction) → MayFollow c c
-    → Ascending values → Each (λ v. MayFollow v c) values → Ascending (values ++ repeated k c)
+    → Ascending values → Each (λ v. MayFollow v c) values → Ascending (values ++ copies k c)
 unfolding Each
 ascending-append k c [] s a h = repeated-ascends k c s
 ascending-append k c (v ∷ values) s a h = (
-  each-append (MayFollow v) values (repeated k c) a.0 (each_repeated (MayFollow v) k c h.0),
+  each-append (MayFollow v) values (copies k c) a.0 (each_repeated (MayFollow v) k c h.0),
   ascending-append k c values s a.1 h.1,
 )
 
@@ -121,7 +121,7 @@ module _ (n : ℕ) (rows : List (List Fraction)) where
             (each_weaker (IsBelow d p) (λ c. MayFollow c (over p d)) (λ c h. follows p c ne h)
             f.values a.below);
         below = each-append (IsBelow d (p +ℤ pos 1)) f.values
-            (repeated (length forms) (over p d)) ((more p f.values a).below)
+            (copies (length forms) (over p d)) ((more p f.values a).below)
             (each_repeated (IsBelow d (p +ℤ pos 1)) (length forms)
             (over p d) (record { number = p; low = below_next p; some = ne; is = refl }));
       })

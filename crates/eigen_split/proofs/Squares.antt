@@ -15,8 +15,8 @@ use Rattle.linear.specs.Rows.{fractions_of}
 use Rattle.vectors.specs.Adding.{entry}
 use Rattle.frac128.specs.declared.Whole.{Whole}
 use Rattle.vectors.specs.Causes.{limit, column, numbers_to}
-use Rattle.eigen_split.specs.Ints.{ints, ints_of, wholes, whole_rows, shifted_row, shifted_rows, shifted_entry, int_column, int_columns, int_dot, times_columns, power_rows, sizes, Fits, IsReady}
-use Rattle.eigen_split.specs.Search.{repeated}
+use Rattle.eigen_split.specs.Ints.{ints, ints_of, wholes, whole_rows, shifted_row, shifted_rows, shifted_entry, int_column, int_columns, int_dot, times_columns, power_rows, sizes, FitsProduct, IsReady}
+use Rattle.eigen_split.specs.Search.{copies}
 use Rattle.eigen_split.proofs.Sums.{over-more, length-over}
 use Rattle.eigen_split.proofs.Kernels.{each_over}
 use Rattle.eigen_split.proofs.Multiples.{fits_next, dot_bound}
@@ -88,32 +88,34 @@ pub fit_next : (n : ℕ) (d : ℕ) (p : ℤ) (rows : List (List Fraction)) (k : 
     (xs columns : List (Vec Whole Global)) → IsReady n rows d → nat_abs p ≤ limit n → 0 < k → k < n
     → ints_of xs ≡ power_rows d p rows (k - 1) → ints_of columns ≡ int_columns (length rows)
     (shifted_rows d p rows)
-    → All (λ row. All (λ column. Fits (ints row.items) (ints column.items)) columns) xs
+    → All (λ row. All (λ column. FitsProduct (ints row.items) (ints column.items)) columns) xs
 fit_next n d p rows k xs columns ready c some l e q =
     let h = fits_next n p rows (subst (IsReady n rows) ready.least ready) c (k - 1) (omega arith) in
     let f = subst
-    (λ d. Each (λ r. Each (λ c. Fits r c) (int_columns (length rows) (shifted_rows d p rows)))
+    (λ d. Each
+    (λ r. Each (λ c. FitsProduct r c) (int_columns (length rows) (shifted_rows d p rows)))
     (power_rows d p rows (k - 1))) (sym ready.least) h in
-    all_rows (λ r. All (λ column. Fits r (ints column.items)) columns) xs
-    (subst (Each (λ r. All (λ column. Fits r (ints column.items)) columns)) (sym e)
+    all_rows (λ r. All (λ column. FitsProduct r (ints column.items)) columns) xs
+    (subst (Each (λ r. All (λ column. FitsProduct r (ints column.items)) columns)) (sym e)
     (each_weaker
-    (λ r. Each (λ c. Fits r c) (int_columns (length rows) (shifted_rows d p rows)))
-    (λ r. All (λ column. Fits r (ints column.items)) columns)
-    (λ r g. all_rows (Fits r) columns (subst (Each (Fits r)) (sym q) g))
+    (λ r. Each (λ c. FitsProduct r c) (int_columns (length rows) (shifted_rows d p rows)))
+    (λ r. All (λ column. FitsProduct r (ints column.items)) columns)
+    (λ r g. all_rows (FitsProduct r) columns (subst (Each (FitsProduct r)) (sym q) g))
     (power_rows d p rows (k - 1)) f))
 
 -- ---- the parts of a sum of products
 module _ (left right l r : List Whole) (a b : Whole) (e : left ≡ a ∷ l) (q : right ≡ b ∷ r)
-    (f : Fits (ints left) (ints right)) where
-  both : Fits (a.value ∷ ints l) (b.value ∷ ints r)
-  both = subst (λ xs. Fits (ints xs) (b.value ∷ ints r)) e (subst (λ ys. Fits (ints left) (ints ys))
+    (f : FitsProduct (ints left) (ints right)) where
+  both : FitsProduct (a.value ∷ ints l) (b.value ∷ ints r)
+  both = subst (λ xs. FitsProduct (ints xs) (b.value ∷ ints r)) e
+      (subst (λ ys. FitsProduct (ints left) (ints ys))
       q f)
 
   spread : both.most * (nat_abs b.value + sizes (ints r)) ≡ both.most * nat_abs b.value + both.most
       * sizes (ints r)
   spread = N.mul-add both.most (nat_abs b.value) (sizes (ints r))
 
-  pub fits_rest : Fits (ints l) (ints r)
+  pub fits_rest : FitsProduct (ints l) (ints r)
   unfolding Each
   fits_rest = record {
     most = both.most;
@@ -172,14 +174,14 @@ column_more j xs out more k x w f l e m g p h q =
     (x ∷ [])) ∙ ap ints_of (sym (take_one xs k x l e))))
 
 pub repeated_more : (out more : List Frac) (old : List Fraction) (k : ℕ) (v : Frac)
-    → fractions_of out ≡ old ++ repeated k (fraction_of v) → more ≡ out ++ v ∷ []
-    → fractions_of more ≡ old ++ repeated (k + 1) (fraction_of v)
+    → fractions_of out ≡ old ++ copies k (fraction_of v) → more ≡ out ++ v ∷ []
+    → fractions_of more ≡ old ++ copies (k + 1) (fraction_of v)
 repeated_more out more old k v h q =
     ap fractions_of q ∙ map-append fraction_of out (v ∷ []) ∙ ap (λ l. l ++ fraction_of v ∷ []) h
-    ∙ append_assoc old (repeated k (fraction_of v)) (fraction_of v ∷ [])
+    ∙ append_assoc old (copies k (fraction_of v)) (fraction_of v ∷ [])
     ∙ ap (λ l. old ++ l) (last k (fraction_of v)
-    ∙ ap (λ m. repeated m (fraction_of v)) (sym (add-one k)))
+    ∙ ap (λ m. copies m (fraction_of v)) (sym (add-one k)))
   where
-    last : (k : ℕ) (c : Fraction) → repeated k c ++ c ∷ [] ≡ c ∷ repeated k c
+    last : (k : ℕ) (c : Fraction) → copies k c ++ c ∷ [] ≡ c ∷ copies k c
     last zero c = refl
     last (suc k) c = ap (◌∷◌ c) (last k c)

@@ -15,7 +15,7 @@ use Rattle.vectors.specs.Rows.{Row, rows_of}
 use Rattle.vectors.specs.Space.{Space, IsCombination}
 use Rattle.vectors.specs.SplitForms as F
 use Rattle.vectors.specs.Splitting.{shift, IsKilled, IsLevel, vectors_of}
-use Rattle.vectors.specs.Matrices.{rows_in, acted, denominator, greatest_sum, valued, AreForms, AreSearched, SplitsAt}
+use Rattle.vectors.specs.Matrices.{rows_in, times_matrix, denominator, greatest_sum, with_values, AreForms, AreSearched, SplitsAt}
 use Rattle.numbers.proofs.Wholes.{of_int-whole}
 use Rattle.vectors.proofs.FractionEigen.{ℚ_fractions}
 use Rattle.vectors.proofs.Forms as FO
@@ -26,17 +26,17 @@ use Rattle.vectors.proofs.RowLaws as RL
 use Rattle.vectors.proofs.SearchLaws as SE
 use Rattle.vectors.proofs.SearchLaws.{SearchedTo, Below, Within}
 use Rattle.vectors.proofs.SplitDecided.{denominator_some, all_done, done_searched, done_forms, split_decided, searched_is, whole_rows, valued-length}
-use Rattle.eigen_split.specs.Search.{Found, repeated, IsTurn, no_eigenvalue, new_forms, IsOther, zero_passed, other_turn}
+use Rattle.eigen_split.specs.Search.{Found, copies, IsTurn, no_eigenvalue, new_forms, IsOther, zero_passed, other_turn}
 use Rattle.eigen_split.proofs.Forming.{over-is, IsWholeLevel, whole_level}
 
 valued-append : (n : ℕ) (forms more : List (List Fraction)) (values : List Fraction) (c : Fraction)
     → length values ≡ length forms
-    → valued n (forms ++ more) (values ++ repeated (length more) c) ≡ valued n forms values
-    ++ F.valued c (matrix_of ℚ_field n more)
+    → with_values n (forms ++ more) (values ++ copies (length more) c) ≡ with_values n forms values
+    ++ F.with_value c (matrix_of ℚ_field n more)
 valued-append n [] more [] c e = alone more
   where
-    alone : (more : List (List Fraction)) → valued n more (repeated (length more) c)
-        ≡ F.valued c (matrix_of ℚ_field n more)
+    alone : (more : List (List Fraction)) → with_values n more (copies (length more) c)
+        ≡ F.with_value c (matrix_of ℚ_field n more)
     alone [] = refl
     alone (form ∷ more) = ap (◌∷◌ (row_of ℚ_field n form, c)) (alone more)
 valued-append n [] more (v ∷ values) c e = absurd (omega arith)
@@ -44,7 +44,7 @@ valued-append n (form ∷ forms) more [] c e = absurd (omega arith)
 valued-append n (form ∷ forms) more (v ∷ values) c e = ap (◌∷◌ (row_of ℚ_field n form, v))
     (valued-append n forms more values c (omega arith))
 
-repeated-length : (k : ℕ) (c : Fraction) → length (repeated k c) ≡ k
+repeated-length : (k : ℕ) (c : Fraction) → length (copies k c) ≡ k
 repeated-length zero c = refl
 repeated-length (suc k) c = ap suc (repeated-length k c)
 
@@ -54,7 +54,7 @@ module _ (n : ℕ) (rows : List (List Fraction)) (size : length rows ≡ n)
   S = rows_of ℚ_field n
 
   abbrev t : Row ℚ_field n → Row ℚ_field n
-  t y = acted n rows y
+  t y = times_matrix n rows y
 
   abbrev d : ℕ
   d = denominator rows
@@ -71,7 +71,7 @@ module _ (n : ℕ) (rows : List (List Fraction)) (size : length rows ≡ n)
       (greatest_sum n rows)
 
   pub record IsSearchedBy (Done : ℤ → Type 0) (f : Found) : Type 0 where
-    pub to : To Done (valued n f.forms f.values)
+    pub to : To Done (with_values n f.forms f.values)
     pub one_each : length f.values ≡ length f.forms
     pub wide : Each (λ form. length form ≡ n) f.forms
 
@@ -101,15 +101,15 @@ module _ (n : ℕ) (rows : List (List Fraction)) (size : length rows ≡ n)
 
   -- what a candidate adds, with what the forms of a candidate add
   step : (Before After : ℤ → Type 0) (p : ℤ) (f g : Found)
-      → ((k : ℕ) (es : List (Row ℚ_field n)) → To Before (valued n f.forms f.values) → k ≤ n
+      → ((k : ℕ) (es : List (Row ℚ_field n)) → To Before (with_values n f.forms f.values) → k ≤ n
       → IsLevel S t (over p d) k es
       → ((v : Row ℚ_field n) → IsKilled S t (over p d) n v → IsKilled S t (over p d) k v)
-      → To After (valued n f.forms f.values ++ F.valued (over p d) es))
+      → To After (with_values n f.forms f.values ++ F.with_value (over p d) es))
       → IsTurn n rows p f g → IsSearchedBy Before f → IsSearchedBy After g
   step Before After p f g more (no_eigenvalue h e) s =
       subst (IsSearchedBy After) (sym e)
       (record {
-        to = subst (To After) (append-nil (valued n f.forms f.values))
+        to = subst (To After) (append-nil (with_values n f.forms f.values))
             (more 0 [] s.to (omega arith)
             (FO.level_none ℚ_field S t (RL.times-linear ℚ_field n (rows_in n rows)) (over p d))
             (λ v k. never (over p d) h.is n v k));
@@ -123,7 +123,7 @@ module _ (n : ℕ) (rows : List (List Fraction)) (size : length rows ≡ n)
         to = subst (To After)
             (sym (valued-append n f.forms forms f.values (over p d) s.one_each))
             (more w.powers (matrix_of ℚ_field n forms) s.to w.few w.level w.stop);
-        one_each = length-append f.values (repeated (length forms) (over p d))
+        one_each = length-append f.values (copies (length forms) (over p d))
             ∙ ap₂ ◌+◌ s.one_each (repeated-length (length forms) (over p d))
             ∙ sym (length-append f.forms forms);
         wide = each-append (λ form. length form ≡ n) f.forms forms s.wide w.wide;
@@ -134,11 +134,12 @@ module _ (n : ℕ) (rows : List (List Fraction)) (size : length rows ≡ n)
   turned b p f g l (zero_passed z e) s =
       subst (IsSearchedTo b (p +ℤ pos 1)) (sym e)
       (record {
-        to = subst (λ m. To (Done b m) (valued n f.forms f.values)) (let q : pos 1 ≡ p +ℤ pos 1 =
+        to = subst (λ m. To (Done b m) (with_values n f.forms f.values)) (let q : pos 1
+            ≡ p +ℤ pos 1 =
             omega (arith, ints) in q)
             (SE.search_zero ℚ_field ℚ_fractions n (rows_in n rows) d (denominator_some rows) b
-            (valued n f.forms f.values)
-            (subst (λ m. To (Done b m) (valued n f.forms f.values)) z s.to));
+            (with_values n f.forms f.values)
+            (subst (λ m. To (Done b m) (with_values n f.forms f.values)) z s.to));
         one_each = s.one_each;
         wide = s.wide;
       })
@@ -146,7 +147,7 @@ module _ (n : ℕ) (rows : List (List Fraction)) (size : length rows ≡ n)
       step (Done b p) (Done b (p +ℤ pos 1)) p f g
       (λ k es to. SE.search_next ℚ_field ℚ_fractions n (rows_in n rows) d (denominator_some rows) b
       p
-      l ne (valued n f.forms f.values) (over p d) k es to (over_of p))
+      l ne (with_values n f.forms f.values) (over p d) k es to (over_of p))
       h s
 
   -- ---- after the other candidates
@@ -158,13 +159,13 @@ module _ (n : ℕ) (rows : List (List Fraction)) (size : length rows ≡ n)
   with_zero f g h s =
       step (Done b (pos (suc b))) All (pos 0) f g
       (λ k es to. SE.search_last ℚ_field ℚ_fractions n (rows_in n rows) d (denominator_some rows) b
-      (valued n f.forms f.values) (over (pos 0) d) k es to (over_of (pos 0)))
+      (with_values n f.forms f.values) (over (pos 0) d) k es to (over_of (pos 0)))
       h s
 
   -- independent forms are no more than the rows
   few : (f : Found) → IsSearchedTo b (pos (suc b)) f → length f.forms ≤ n
   few f s =
-      let vs = vectors_of (valued n f.forms f.values) in
+      let vs = vectors_of (with_values n f.forms f.values) in
       let l : length vs ≤ length (RL.all_units ℚ_field n) =
       I.independent-length ℚ_field S (RL.all_units ℚ_field n) vs
       (each_of (IsCombination S (RL.all_units ℚ_field n)) (RL.all_units-all ℚ_field n) vs)
@@ -192,7 +193,7 @@ module _ (n : ℕ) (rows : List (List Fraction)) (size : length rows ≡ n)
     pub splits : length f.forms ≡ n → SplitsAt n rows
     splits e =
         let h = MS.split_where ℚ_field ℚ_fractions n (rows_in n rows) (λ c. Unit {0}) d
-        (whole_rows n d rows) b (valued n f.forms f.values)
+        (whole_rows n d rows) b (with_values n f.forms f.values)
         (searched_is n rows size f.forms f.values searched)
         (valued-length n f.forms f.values s.one_each ∙ e) in
         record { values = h.values; is_zero = h.is_zero }

@@ -7,7 +7,7 @@
 --   int_dot xs ys            the sum of the products;  times_columns row columns: with each column
 --   power_rows d p rows k    the power k + 1 of that matrix
 --   sizes xs                 the sum of the absolute values
---   Fits xs ys               the sum of the products fits, whatever its order
+--   FitsProduct xs ys               the sum of the products fits, whatever its order
 --   AllFit rows columns      each row fits beside each column
 --   most_rows                a matrix has at most so many rows;  most_sum: the greatest limit of a column sum
 --   IsReady n rows d         a matrix of n rows, 2 to most_rows, with its least common denominator, whose column sums are within the limit
@@ -68,14 +68,14 @@ abbrev pub sizes : List ℤ → ℕ
 sizes [] = 0
 sizes (x ∷ xs) = nat_abs x + sizes xs
 
-pub record Fits (xs ys : List ℤ) : Type 0 where
+pub record FitsProduct (xs ys : List ℤ) : Type 0 where
   pub most : ℕ
   pub within : Each (λ x. nat_abs x ≤ most) xs
   pub small : most * sizes ys < number_limit
 
 abbrev pub AllFit : List (Vec Whole Global) → List (Vec Whole Global) → Type 0
 AllFit rows columns = All (λ (row : Vec Whole Global). All (λ (column : Vec Whole Global).
-    Fits (ints row.items) (ints column.items)) columns) rows
+    FitsProduct (ints row.items) (ints column.items)) columns) rows
 
 abbrev pub most_rows : ℕ
 most_rows = 12

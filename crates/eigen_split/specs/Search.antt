@@ -20,8 +20,8 @@ use Rattle.vectors.specs.Rows.{Row, rows_of}
 use Rattle.vectors.specs.Splitting.{shift}
 use Rattle.vectors.specs.Adding.{IsEchelonOf, IsCombinationOf, AreKernel}
 use Rattle.linear.specs.View.{Echelon}
-use Rattle.vectors.specs.Matrices.{denominator, greatest_sum, acted}
-use Rattle.vectors.specs.Causes.{column, numbers_to, shifted, power}
+use Rattle.vectors.specs.Matrices.{denominator, greatest_sum, times_matrix}
+use Rattle.vectors.specs.Causes.{column, numbers_to, matrix_less, power}
 
 pub record IsKernelAt (n : ℕ) (rows vectors : List (List Fraction)) : Type 0 where
   pub echelon : List (List Fraction)
@@ -41,7 +41,7 @@ AreNew found (v ∷ vectors) new =
     × AreNew (found ++ v ∷ []) vectors rest))
 
 abbrev pub multiple : ℕ → List (List Fraction) → ℤ → ℕ → List (List Fraction)
-multiple n rows p k = power n (shifted (denominator rows) p rows) k
+multiple n rows p k = power n (matrix_less (denominator rows) p rows) k
 
 abbrev pub FormsTo : ℕ → List (List Fraction) → ℤ → ℕ → List (List Fraction) → Type 0
 FormsTo n rows p zero found = found ≡ []
@@ -71,23 +71,23 @@ pub record AreFormsOf (n : ℕ) (rows : List (List Fraction)) (p : ℤ)
       × HasKernel n rows p (suc powers) m)
 
 pub record IsNoEigenvalue (n : ℕ) (rows : List (List Fraction)) (c : Fraction) : Type 0 where
-  pub is : (v : Row ℚ_field n) → shift (rows_of ℚ_field n) (acted n rows) c v
+  pub is : (v : Row ℚ_field n) → shift (rows_of ℚ_field n) (times_matrix n rows) c v
       ≡ (rows_of ℚ_field n).zero → v ≡ (rows_of ℚ_field n).zero
 
 pub record Found : Type 0 where
   pub forms : List (List Fraction)
   pub values : List Fraction
 
-abbrev pub repeated : ℕ → Fraction → List Fraction
-repeated zero c = []
-repeated (suc k) c = c ∷ repeated k c
+abbrev pub copies : ℕ → Fraction → List Fraction
+copies zero c = []
+copies (suc k) c = c ∷ copies k c
 
 pub data IsTurn (n : ℕ) (rows : List (List Fraction)) (p : ℤ) (f g : Found) : Type 0 where
   no_eigenvalue : IsNoEigenvalue n rows (over p (denominator rows)) → g ≡ f → IsTurn n rows p f g
   new_forms : (forms : List (List Fraction)) → AreFormsOf n rows p forms
       → g ≡ record {
         forms = f.forms ++ forms;
-        values = f.values ++ repeated (length forms)
+        values = f.values ++ copies (length forms)
             (over p (denominator rows));
       } → IsTurn n rows p f g
 

@@ -256,15 +256,12 @@ fn product(left: &Gf, right: &Gf) -> Gf
     }
 }
 
-/// The opposite, which always fits.
+/// The opposite.
 #[tactic(auto, using(gf65521::proofs::GfResults::opposite_at))]
 fn opposite(number: &Gf) -> Gf
     ensures { residue_of result ≡ GF.neg (residue_of number.now) }
 {
-    match number.neg() {
-        Ok(opposite) => opposite,
-        Err(_) => unreachable!(),
-    }
+    number.neg()
 }
 
 /// The quotient by a number that is not zero.

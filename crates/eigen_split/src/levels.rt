@@ -1,5 +1,5 @@
 //! The forms of one candidate, from the kernels of the powers of the matrix less it.
-ghost use Rattle.std.specs.Prelude.{◌≡◌, ◌<◌, ◌≤◌, ◌+◌, [], All, length, IfOk, IfErr, OnOk};
+ghost use Rattle.std.specs.Prelude.{◌≡◌, ◌<◌, ◌≤◌, ◌+◌, All, length, IfOk, IfErr, OnOk};
 ghost use Rattle.linear.specs.Rows.{fractions_of, rows_of};
 ghost use Rattle.linear.specs.View.{IsMore};
 ghost use Rattle.vectors.specs.Adding.{IsEchelonOf};
@@ -16,12 +16,12 @@ use std::alloc::{AllocError, Global};
 
 /// A power of the matrix less a candidate: what is told where it is too wide.
 #[derive(Clone, Copy)]
-struct Place {
+struct CandidatePower {
     candidate: i32,
     power: u32,
 }
 
-impl Place {
+impl CandidatePower {
     /// The refusal of a row.
     fn wide(&self, row: u32) -> EigenError
         ensures { result ≡ EigenError.Wide self.now.candidate self.now.power row }
@@ -34,21 +34,11 @@ impl Place {
     }
 }
 
-/// An echelon list without rows.
-fn empty(alloc: Global, width: usize) -> Result<Rref, AllocError>
-    ensures { IfOk result (λ r. r ≡ record { width = width; rows = [] }) }
-{
-    match Rref::new(alloc, width) {
-        Ok(echelon) => Ok(echelon),
-        Err(_) => Err(AllocError),
-    }
-}
-
 /// The kernel of the echelon list of a matrix's columns. `Wide` only where adding that column is past.
 fn kernel(
     alloc: Global,
     rows: &Vec<Vec<Whole>>,
-    place: &Place,
+    place: &CandidatePower,
 ) -> Result<Vec<Vec<Frac>>, EigenError>
     requires few { length rows.now.items ≤ most_rows }
     requires widths { All (λ row. length row.items ≡ length rows.now.items) rows.now.items }
@@ -57,21 +47,22 @@ fn kernel(
         (IfColumnPastOf rows.now.items place.now.candidate place.now.power) }
 {
     let echelon = echelon_of(alloc, rows, place)?;
-    match echelon.kernel() {
-        Ok(vectors) => Ok(vectors),
-        Err(_) => Err(EigenError::Memory),
-    }
+    Ok(echelon.kernel()?)
 }
 
 /// The echelon list of a matrix's columns. `Wide` only where adding that column is past.
-fn echelon_of(alloc: Global, rows: &Vec<Vec<Whole>>, place: &Place) -> Result<Rref, EigenError>
+fn echelon_of(
+    alloc: Global,
+    rows: &Vec<Vec<Whole>>,
+    place: &CandidatePower,
+) -> Result<Rref, EigenError>
     requires few { length rows.now.items ≤ most_rows }
     requires widths { All (λ row. length row.items ≡ length rows.now.items) rows.now.items }
     ensures echelon { IfOk result (IsEchelonOfColumns rows.now.items) }
     ensures refused { IfErr result
         (IfColumnPastOf rows.now.items place.now.candidate place.now.power) }
 {
-    let mut echelon = empty(alloc, rows.len())?;
+    let mut echelon = Rref::new(alloc, rows.len());
     for j in 0..rows.len() {
         let column = column(alloc, rows.as_slice(), j)?;
         match echelon.add_row(&column) {
@@ -86,7 +77,7 @@ fn echelon_of(alloc: Global, rows: &Vec<Vec<Whole>>, place: &Place) -> Result<Rr
 /// The vectors that are no combination of the forms so far go behind these, one after another. `Wide` only where adding that vector is past.
 fn take_new(
     vectors: &Vec<Vec<Frac>>,
-    place: &Place,
+    place: &CandidatePower,
     size: usize,
     known: &mut Rref,
     forms: &mut Vec<Vec<Frac>>,
@@ -116,7 +107,7 @@ fn take_new(
 fn take_one(
     vector: &Vec<Frac>,
     row: u32,
-    place: &Place,
+    place: &CandidatePower,
     known: &mut Rref,
     forms: &mut Vec<Vec<Frac>>,
 ) -> Result<(), EigenError>
@@ -176,11 +167,11 @@ pub(crate) fn forms_of(
     let first = less_candidate(alloc, matrix, denominator, number)?;
     let columns = columns_of(alloc, &first)?;
     let mut power = first;
-    let mut known = empty(alloc, size)?;
+    let mut known = Rref::new(alloc, size);
     let mut forms = Vec::new(alloc);
     let mut grown = 0;
     for step in 0..size {
-        let place = Place {
+        let place = CandidatePower {
             candidate,
             power: step as u32 + 1,
         };

@@ -5,7 +5,7 @@ ghost use Rattle.linear.specs.Rows.{fractions_of, rows_of};
 ghost use Rattle.vectors.specs.Adding.{entry as entry_in};
 ghost use Rattle.vectors.specs.Matrices.{whole_number as whole_of};
 ghost use Rattle.vectors.specs.Causes.{column as column_of, row_at};
-ghost use Rattle.eigen_split.specs.Ints.{ints, ints_of, whole_rows, shifted_entry as entry_of, shifted_row as row_of, shifted_rows, int_column as column_in, int_columns, int_dot, times_columns, Fits, AllFit, IsReady, most_sum};
+ghost use Rattle.eigen_split.specs.Ints.{ints, ints_of, whole_rows, shifted_entry as entry_of, shifted_row as row_of, shifted_rows, int_column as column_in, int_columns, int_dot, times_columns, FitsProduct, AllFit, IsReady, most_sum};
 
 use crate::whole::whole_number;
 use frac128::{Frac, Whole};
@@ -162,7 +162,7 @@ pub(crate) fn product(
 
 /// A row times the matrix of these columns.
 fn times(alloc: Global, row: &[Whole], columns: &[Vec<Whole>]) -> Result<Vec<Whole>, AllocError>
-    requires { All (λ column. Fits (ints row.now) (ints column.items)) columns.now }
+    requires { All (λ column. FitsProduct (ints row.now) (ints column.items)) columns.now }
     ensures { IfOk result (λ out.
         ints out.items ≡ times_columns (ints_of columns.now) (ints row.now)) }
 {
@@ -175,7 +175,7 @@ fn times(alloc: Global, row: &[Whole], columns: &[Vec<Whole>]) -> Result<Vec<Who
 
 /// The sum of the products.
 fn dot(left: &[Whole], right: &[Whole]) -> Whole
-    requires { Fits (ints left.now) (ints right.now) }
+    requires { FitsProduct (ints left.now) (ints right.now) }
     ensures { result.value ≡ int_dot (ints left.now) (ints right.now) }
 {
     let (Some((first, left)), Some((second, right))) = (left.split_first(), right.split_first())

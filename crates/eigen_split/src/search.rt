@@ -6,7 +6,7 @@ ghost use Rattle.frac128.specs.FracMeaning.{fraction_of};
 ghost use Rattle.linear.specs.Rows.{fractions_of, rows_of};
 ghost use Rattle.vectors.specs.Matrices.{greatest_sum};
 ghost use Rattle.eigen_split.specs.Ints.{IsReady, most_sum};
-ghost use Rattle.eigen_split.specs.Search.{AreOthers, IsTurn, IsWholeSearch, repeated};
+ghost use Rattle.eigen_split.specs.Search.{AreOthers, IsTurn, IsWholeSearch, copies};
 ghost use Rattle.eigen_split.specs.Parts.{found_of, IfPastIn};
 ghost use Rattle.eigen_split.specs.Refusal.{IsCandidate};
 ghost use Rattle.eigen_split.specs.Residues.{gfs, IsAnnihilating};
@@ -137,7 +137,7 @@ fn number_of(candidate: i32) -> Whole
 /// The value goes behind the others so many times.
 fn repeat(values: &mut Vec<Frac>, count: usize, value: &Frac) -> Result<(), AllocError>
     ensures { OnOk result (fractions_of values.new.items
-        ≡ fractions_of values.old.items ++ repeated count (fraction_of value.now)) }
+        ≡ fractions_of values.old.items ++ copies count (fraction_of value.now)) }
 {
     for i in 0..count {
         values.push(*value)?;

@@ -26,7 +26,7 @@ use Rattle.numbers.proofs.Wholes.{ratio-whole, whole_injective, of_int-whole}
 use Rattle.numbers.proofs.RatioParts.{product_parts, sum_parts}
 use Rattle.numbers.specs.Fraction as T
 use Rattle.numbers.proofs.Fractions.{same_fraction, some, top_zero, fractions_ring, fractions_field, ratio-fraction, fraction-ratio, ratio-sum, ratio-product, ratio-opposite, ratio-inverse}
-use Rattle.frac128.specs.Sums.{part, signed, SumIsPast, left_past, right_past, parts_past, den_past}
+use Rattle.frac128.specs.Sums.{part, negate_if, SumIsPast, left_past, right_past, parts_past, den_past}
 use Rattle.frac128.specs.FracMeaning.{frac_meaning, fraction_of, is_in_lowest_terms}
 use Rattle.frac128.specs.declared.fraction.Frac.{Frac}
 
@@ -253,8 +253,9 @@ turned_above x h e = subst (Means x.den.value x.num.value) (sym (ratio-inverse (
     (λ z. e (same_fraction _ _ (zero_means x z ∙ sym (ratio-whole (pos 0))))) x.den_low
     (is_in_lowest_terms x))
 
-reduce_signed : (negative : Bool) (size den : ℕ) → reduce (ratio (signed negative (pos size)) den)
-    ≡ ratio (signed negative (pos (size / gcd size den))) (den / gcd size den)
+reduce_signed : (negative : Bool) (size den : ℕ)
+    → reduce (ratio (negate_if negative (pos size)) den)
+    ≡ ratio (negate_if negative (pos (size / gcd size den))) (den / gcd size den)
 unfolding reduce
 reduce_signed false size den = refl
 reduce_signed true zero den = ap (λ (z : ℤ). ratio z (den / gcd 0 den))
@@ -262,18 +263,18 @@ reduce_signed true zero den = ap (λ (z : ℤ). ratio z (den / gcd 0 den))
 reduce_signed true (suc size) den = refl
 
 pub reduced_means : (negative : Bool) (size den g : ℕ) (n m : ℤ) → 0 < den → g ≡ gcd size den
-    → n ≡ signed negative (pos (size / g)) → m ≡ pos (den / g)
-    → Means n m (T.over (signed negative (pos size)) den).ratio
+    → n ≡ negate_if negative (pos (size / g)) → m ≡ pos (den / g)
+    → Means n m (T.over (negate_if negative (pos size)) den).ratio
 reduced_means negative size den g n m some eg en em =
-    subst (Means n m) (sym (ratio-fraction (reduce (ratio (signed negative (pos size)) den))
-    (reduce-value (ratio (signed negative (pos size)) den) some)))
-    (means n m (reduce (ratio (signed negative (pos size)) den))
-    (ap₂ ratio (en ∙ ap (λ x. signed negative (pos (size / x))) eg) (ap unsigned_abs em
+    subst (Means n m) (sym (ratio-fraction (reduce (ratio (negate_if negative (pos size)) den))
+    (reduce-value (ratio (negate_if negative (pos size)) den) some)))
+    (means n m (reduce (ratio (negate_if negative (pos size)) den))
+    (ap₂ ratio (en ∙ ap (λ x. negate_if negative (pos (size / x))) eg) (ap unsigned_abs em
     ∙ ap (λ x. den / x) eg) ∙ sym (reduce_signed negative size den))
     (subst (λ z. pos 0 ≤ℤ z) (sym em) (omega (arith, ints)))
-    (reduce-value (ratio (signed negative (pos size)) den) some))
+    (reduce-value (ratio (negate_if negative (pos size)) den) some))
 
-pub abs-signed : (negative : Bool) (n : ℕ) → unsigned_abs (signed negative (pos n)) ≡ n
+pub abs-signed : (negative : Bool) (n : ℕ) → unsigned_abs (negate_if negative (pos n)) ≡ n
 abs-signed false n = refl
 abs-signed true n = abs-neg (pos n)
 

@@ -1,20 +1,24 @@
 -- What results by numbers of 64 bits mean.
 --   lowered_means            numerator and denominator over their greatest common divisor are the fraction
+--   short_multiple_means     a product with a whole number from its parts; product_turned: from the factors turned round
 --   short_product_means      a product from its parts; product_low: a product of denominators is above zero
 --   short_sum_means          a sum from its parts; short_sum_fits: it is not past
-use Rattle.std.proofs.Common.{◌≡◌, ◌∙◌, SFits, sym, ap, ap₂, subst, refl, ℕ, ◌*◌, ◌/◌, ◌<◌, ◌^◌, ℤ, pos, negsuc, ◌+ℤ◌, ◌*ℤ◌, unsigned_abs, arith}
+use Rattle.std.proofs.Common.{◌≡◌, ◌∙◌, Option, Some, None, IfSome, SFits, sym, ap, ap₂, subst, refl, ℕ, ◌*◌, ◌/◌, ◌<◌, ◌^◌, ℤ, pos, negsuc, ◌+ℤ◌, ◌*ℤ◌, unsigned_abs, arith}
 use mir.Syntax.{w64}
+use native.Mathlib.Nat as N
 use lib.Signed.{◌≤ℤ◌}
 use Rattle.std.proofs.lemmas.Int.{ints}
+use Rattle.rings.proofs.IntRing.{ℤ_ring}
 use Rattle.numbers.specs.Gcd.{gcd}
 use Rattle.numbers.specs.Ratio.{ratio, ratios, exact, reduce}
 use Rattle.numbers.specs.Fraction as T
-use Rattle.numbers.proofs.RatioLaws.{reduce-value, mul-pos}
-use Rattle.numbers.proofs.Fractions.{ratio-fraction}
+use Rattle.numbers.proofs.RatioLaws.{reduce-value, mul-pos, exact_whole}
+use Rattle.numbers.proofs.Fractions.{ratio-fraction, fractions_ring}
 use Rattle.frac128.specs.declared.fraction.Frac.{Frac}
 use Rattle.frac128.specs.FracMeaning.{fraction_of}
 use Rattle.frac128.specs.Sums.{SumIsPast, over}
-use Rattle.frac128.proofs.FracResults.{Means, means, IsSum, sum_means, sum_fits}
+use Rattle.frac128.proofs.FracResults.{Means, means, IsSum, product_means, sum_means, sum_fits}
+use Rattle.frac128.proofs.WholeNumbers.{gcd-one}
 
 reduce_exact : (n : ℤ) (d : ℕ) → reduce (ratio n d) ≡ ratio (exact n (gcd (unsigned_abs n) d))
     (d / gcd (unsigned_abs n) d)
@@ -54,6 +58,32 @@ pub short_product_means : (p q : Frac) (n m : ℤ) → n ≡ p.num.value *ℤ q.
 unfolding fraction_of T.product
 short_product_means p q n m en em = pair_product p.num.value p.den.value q.num.value q.den.value n m
     p.den_low q.den_low en em
+
+exact_one : (z : ℤ) → exact z 1 ≡ z
+exact_one z = sym (ℤ_ring.mul-one (exact z 1)) ∙ exact_whole z 1 (N.one-dvd (unsigned_abs z))
+
+pub short_multiple_means : (p q : Frac) (a b c h y u n : ℤ) → q.den.value ≡ pos 1
+    → a ≡ p.num.value → b ≡ p.den.value → c ≡ q.num.value
+    → h ≡ pos (gcd (unsigned_abs c) (unsigned_abs b)) → y ≡ exact c (unsigned_abs h)
+    → u ≡ exact b (unsigned_abs h) → n ≡ a *ℤ y
+    → Means n u (T.product (fraction_of p) (fraction_of q)).ratio
+short_multiple_means p q a b c h y u n one ea eb ec eh ey eu en =
+    product_means p q (pos 1) h p.num.value y u (pos 1) n u
+    (ap pos (sym (ap (λ z. gcd (unsigned_abs p.num.value) (unsigned_abs z)) one
+    ∙ gcd-one (unsigned_abs p.num.value))))
+    (eh ∙ ap₂ (λ x z. pos (gcd (unsigned_abs x) (unsigned_abs z))) ec eb)
+    (sym (exact_one p.num.value))
+    (ey ∙ ap (λ z. exact z (unsigned_abs h)) ec)
+    (eu ∙ ap (λ z. exact z (unsigned_abs h)) eb)
+    (sym (ap (λ z. exact z 1) one ∙ exact_one (pos 1)))
+    (en ∙ ap (λ z. z *ℤ y) ea)
+    (sym (ℤ_ring.mul-one u))
+
+pub product_turned : (r : Option Frac) (a b : T.Fraction)
+    → IfSome r (λ x. fraction_of x ≡ T.product a b)
+    → IfSome r (λ x. fraction_of x ≡ T.product b a)
+product_turned None a b h = tt
+product_turned (Some x) a b h = h ∙ fractions_ring.mul_comm a b
 
 pub short_sum_means : (p q : Frac) (a b c d g e f l r t k n w m : ℤ) → a ≡ p.num.value
     → b ≡ p.den.value → c ≡ q.num.value → d ≡ q.den.value

@@ -1,6 +1,6 @@
 -- Fractions whose parts may not fit in 128 bits.
 --   over n d           n over d, with the sign of both in the numerator
---   signed b z         z, or its opposite where b is true
+--   negate_if b z         z, or its opposite where b is true
 --   DoesNotFit p     its numerator or its denominator is above 2^127 - 1
 --   SumIsPast p q      one of the two parts of p + q over the least common denominator, their sum, or the denominator of p + q is above 2^127 - 1
 use Rattle.std.specs.Prelude.{◌/◌, ◌≤◌, ℤ, pos, negsuc, suc, ◌+ℤ◌, ◌*ℤ◌, neg_ℤ, unsigned_abs, Bool, true, false}
@@ -14,9 +14,9 @@ abbrev pub over : ℤ → ℤ → Fraction
 over n (pos d) = fractions.over n d
 over n (negsuc d) = fractions.over (neg_ℤ n) (suc d)
 
-abbrev pub signed : Bool → ℤ → ℤ
-signed false z = z
-signed true z = neg_ℤ z
+abbrev pub negate_if : Bool → ℤ → ℤ
+negate_if false z = z
+negate_if true z = neg_ℤ z
 
 abbrev pub DoesNotFit : Fraction → Type 0
 DoesNotFit p = IsPast (fraction_size p)

@@ -1,10 +1,10 @@
 //! Fractions of 128 bits.
-ghost use Rattle.std.specs.Prelude.{◌≡◌, ◌≢◌, pos, ◌≤ℤ◌, ◌<◌, true, unsigned_abs, IsErr, IfOk, IfSome, IsSome, IsNone, IsErrOf, IsOkAnd, neg_ℤ, ◌^◌, ◌↔◌, ◌⊎◌};
+ghost use Rattle.std.specs.Prelude.{◌≡◌, ◌≢◌, pos, ◌≤ℤ◌, ◌<◌, true, unsigned_abs, IsErr, IfOk, IfSome, IsSome, IsNone, IsErrOf, neg_ℤ, ◌^◌, ◌↔◌, ◌⊎◌};
 ghost use Rattle.numbers.specs.Gcd.{gcd as gcd_of};
 ghost use Rattle.numbers.specs.Ratio.{ratio};
 ghost use Rattle.numbers.specs.Fraction.{fraction, fractions, whole};
 ghost use Rattle.numbers.specs.Limits.{number_limit};
-ghost use Rattle.frac128.specs.Sums.{over, signed, DoesNotFit, SumIsPast};
+ghost use Rattle.frac128.specs.Sums.{over, negate_if, DoesNotFit, SumIsPast};
 
 use crate::Whole;
 use crate::ratio::compare_ratios;
@@ -75,8 +75,8 @@ impl Frac {
     fn in_lowest_terms(negative: bool, size: u128, den: u128) -> Result<Frac, Wide>
         requires { 0 < den }
         ensures ok { IfOk result (λ frac.
-            fraction_of frac ≡ over (signed negative (pos size)) (pos den)) }
-        ensures wide { IsErr result ↔ DoesNotFit (over (signed negative (pos size)) (pos den)) }
+            fraction_of frac ≡ over (negate_if negative (pos size)) (pos den)) }
+        ensures wide { IsErr result ↔ DoesNotFit (over (negate_if negative (pos size)) (pos den)) }
     {
         let common = common_divisor(size, den);
         let num = Whole::with_sign(negative, size / common)?;
@@ -161,11 +161,30 @@ impl Frac {
         Some(Frac::coprime(quotient(top, shared), bottom))
     }
 
+    /// The product with a whole number, where numbers of 64 bits suffice on the way. What it can be lowered by divides the whole number.
+    fn short_multiple(&self, factor: &Frac) -> Option<Frac>
+        requires { factor.now.den.value ≡ pos 1 }
+        ensures { IfSome result (λ product.
+            fraction_of product ≡ fractions.mul (fraction_of self.now) (fraction_of factor.now)) }
+    {
+        let (num, den) = self.short()?;
+        let (number, _) = factor.short()?;
+        let common = divisor(number, den);
+        let top = num.checked_mul(quotient(number, common))?;
+        Some(Frac::coprime(top, quotient(den, common)))
+    }
+
     /// The product, where numbers of 64 bits suffice on the way.
     fn short_product(&self, other: &Frac) -> Option<Frac>
         ensures { IfSome result (λ product.
             fraction_of product ≡ fractions.mul (fraction_of self.now) (fraction_of other.now)) }
     {
+        if other.den.value == 1 {
+            return self.short_multiple(other);
+        }
+        if self.den.value == 1 {
+            return other.short_multiple(self);
+        }
         let (num, den) = self.short()?;
         let (other_num, other_den) = other.short()?;
         let top = num.checked_mul(other_num)?;
@@ -273,7 +292,7 @@ impl Ring for Frac {
         ensures wide { IsErr result
             ↔ SumIsPast (fraction_of self.now) (fractions.neg (fraction_of other.now)) }
     {
-        self.add(&other.neg()?)
+        self.add(&other.neg())
     }
 
     /// The product. `Wide` exactly where it does not fit in lowest terms.
@@ -297,14 +316,13 @@ impl Ring for Frac {
     }
 
     /// The opposite, which always fits.
-    fn neg(&self) -> Result<Frac, Wide>
-        ensures { IsOkAnd result (λ opposite. fraction_of opposite
-            ≡ fractions.neg (fraction_of self.now)) }
+    fn neg(&self) -> Frac
+        ensures { fraction_of result ≡ fractions.neg (fraction_of self.now) }
     {
-        Ok(Frac {
+        Frac {
             num: self.num.opposite(),
             den: self.den,
-        })
+        }
     }
 
     ghost ring = { fractions_ring };

@@ -1,11 +1,11 @@
 //! Numbers of 128 bits: whole numbers and fractions, both as elements of the fractions.
 #![tactic(auto)]
 
-ghost use Rattle.std.specs.Prelude.{◌≡◌, pos, ◌<◌, ◌≤◌, ◌+ℤ◌, ◌-ℤ◌, ◌*ℤ◌, neg_ℤ, unsigned_abs, MatchOption, IfSome, IsNone, ◌↔◌, IsErr, IfOk, IsOkAnd, ◌<ℤ◌};
+ghost use Rattle.std.specs.Prelude.{◌≡◌, pos, ◌<◌, ◌≤◌, ◌+ℤ◌, ◌-ℤ◌, ◌*ℤ◌, neg_ℤ, unsigned_abs, MatchOption, IfSome, IsNone, ◌↔◌, IsErr, IfOk, ◌<ℤ◌};
 ghost use Rattle.numbers.specs.Gcd.{gcd as gcd_of};
 ghost use Rattle.numbers.specs.Ratio.{exact};
 ghost use Rattle.numbers.specs.Limits.{number_limit};
-ghost use Rattle.frac128.specs.Sums.{signed};
+ghost use Rattle.frac128.specs.Sums.{negate_if};
 
 mod fraction;
 pub mod laws;
@@ -87,7 +87,7 @@ impl Whole {
 
     /// The number of this size, with a sign.
     fn with_sign(negative: bool, size: u128) -> Result<Whole, Wide>
-        ensures ok { IfOk result (λ whole. whole.value ≡ signed negative (pos size)) }
+        ensures ok { IfOk result (λ whole. whole.value ≡ negate_if negative (pos size)) }
         ensures wide { IsErr result ↔ (number_limit ≤ size) }
     {
         match i128::try_from(size) {
@@ -186,10 +186,10 @@ impl Ring for Whole {
     }
 
     /// The opposite, which always fits.
-    fn neg(&self) -> Result<Whole, Wide>
-        ensures { IsOkAnd result (λ whole. whole.value ≡ neg_ℤ self.now.value) }
+    fn neg(&self) -> Whole
+        ensures { result.value ≡ neg_ℤ self.now.value }
     {
-        Ok(self.opposite())
+        self.opposite()
     }
 
     ghost ring = { fractions_ring };

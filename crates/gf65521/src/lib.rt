@@ -109,11 +109,11 @@ impl Ring for Gf {
         Ok(Gf::rest(u32::from(self.value) * u32::from(other.value)))
     }
 
-    /// The opposite, never `Wide`.
-    fn neg(&self) -> Result<Gf, Wide>
-        ensures { IsOkAnd result (λ opposite. opposite.value ≡ (prime - self.now.value) % prime) }
+    /// The opposite.
+    fn neg(&self) -> Gf
+        ensures { result.value ≡ (prime - self.now.value) % prime }
     {
-        Ok(Gf::rest(PRIME - u32::from(self.value)))
+        Gf::rest(PRIME - u32::from(self.value))
     }
 
     ghost ring = { residues_ring prime tt };

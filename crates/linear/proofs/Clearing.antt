@@ -9,11 +9,11 @@ use Rattle.numbers.proofs.Fractions.{ℚ_ring}
 use Rattle.numbers.proofs.SizeLaws.{under-sum, under_refl, past_under}
 use Rattle.numbers.proofs.ProductSizes.{product_den-pos, times_under_product}
 use Rattle.numbers.proofs.LcmLaws.{lcm-pos}
-use Rattle.vectors.specs.Adding.{lead, entry, less, reduced_by, reduced, scaled, quotient, row_size}
+use Rattle.vectors.specs.Adding.{lead, entry, less, reduced_by, reduce_row, scale_row, quotient, row_size}
 use Rattle.frac128.specs.FracMeaning.{fraction_of}
 use Rattle.frac128.specs.declared.fraction.Frac.{Frac}
 use Rattle.linear.specs.Rows.{fractions_of, rows_of}
-use Rattle.linear.specs.Parts.{IsPastLess, IsPastClear, IsFresh, IsAdded, cleared, place}
+use Rattle.linear.specs.Parts.{IsPastLess, IsPastClear, IsFresh, IsAdded, clear_column, place}
 use Rattle.linear.proofs.Weights.{weigh, some, clean, row_clean, row_some, times-some}
 use Rattle.linear.proofs.Lists.{entry_at, fractions-length, less-none, less-length}
 
@@ -60,8 +60,9 @@ pub rows-append : (xs ys : List (Vec Frac Global)) → rows_of (xs ++ ys) ≡ ro
 rows-append [] ys = refl
 rows-append (x ∷ xs) ys = ap (λ l. fractions_of x.items ∷ l) (rows-append xs ys)
 
-cleared-append : (c : ℕ) (h : List Fraction) (xs ys : List (List Fraction)) → cleared c h (xs ++ ys)
-    ≡ cleared c h xs ++ cleared c h ys
+cleared-append : (c : ℕ) (h : List Fraction) (xs ys : List (List Fraction))
+    → clear_column c h (xs ++ ys)
+    ≡ clear_column c h xs ++ clear_column c h ys
 cleared-append c h [] ys = refl
 cleared-append c h (x ∷ xs) ys = ap (λ l. less x (entry x c) h ∷ l) (cleared-append c h xs ys)
 
@@ -70,17 +71,17 @@ pub cleared_more : (c : ℕ) (fresh : List Fraction) (rows : List (Vec Frac Glob
     → i < length rows → row ≡ get_or rows i row
     → fractions_of next.items ≡ less (fractions_of row.items) (entry (fractions_of row.items) c)
     fresh → more ≡ out ++ next ∷ []
-    → rows_of out ≡ cleared c fresh (rows_of (take i rows))
-    → rows_of more ≡ cleared c fresh (rows_of (take (i + 1) rows))
+    → rows_of out ≡ clear_column c fresh (rows_of (take i rows))
+    → rows_of more ≡ clear_column c fresh (rows_of (take (i + 1) rows))
 cleared_more c fresh rows i row out more next h e q p s =
     ap rows_of p ∙ rows-append out (next ∷ []) ∙ ap₂ (λ l a. l ++ a ∷ []) s q
-    ∙ sym (ap (λ l. cleared c fresh (rows_of l)) (take_more rows i row h
+    ∙ sym (ap (λ l. clear_column c fresh (rows_of l)) (take_more rows i row h
     ∙ ap (λ z. take i rows ++ z ∷ []) (sym e))
-    ∙ ap (cleared c fresh) (rows-append (take i rows) (row ∷ []))
+    ∙ ap (clear_column c fresh) (rows-append (take i rows) (row ∷ []))
     ∙ cleared-append c fresh (rows_of (take i rows)) (fractions_of row.items ∷ []))
 
 pub cleared-length : (c : ℕ) (h : List Fraction) (rows : List (List Fraction))
-    → length (cleared c h rows) ≡ length rows
+    → length (clear_column c h rows) ≡ length rows
 cleared-length c h [] = refl
 cleared-length c h (e ∷ rows) = ap suc (cleared-length c h rows)
 
@@ -98,7 +99,7 @@ place-within c (e ∷ rows) = (let h = place-within c rows in elim (ltb c (lead 
     ])
 
 -- ---- the new row in its place
-scaled-length : (c : Fraction) (row : List Fraction) → length (scaled c row) ≡ length row
+scaled-length : (c : Fraction) (row : List Fraction) → length (scale_row c row) ≡ length row
 scaled-length c [] = refl
 scaled-length c (a ∷ row) = ap suc (scaled-length c row)
 
@@ -115,7 +116,7 @@ module _ (rows : List (Vec Frac Global)) (row : List Frac) (column : ℕ) (fresh
     (is : IsFresh (rows_of rows) (fractions_of row) column (fractions_of fresh.items)) where
   fresh_width : length fresh.items ≡ length row
   fresh_width = sym (fractions-length fresh.items) ∙ ap length is.is
-      ∙ quotient-length (reduced (rows_of rows) (fractions_of row))
+      ∙ quotient-length (reduce_row (rows_of rows) (fractions_of row))
       ∙ reduced-length (fractions_of row) (rows_of rows) (fractions_of row) ∙ fractions-length row
 
   pub fresh_widths : All (λ e. length e.items ≡ length row) rows
@@ -128,7 +129,7 @@ module _ (rows : List (Vec Frac Global)) (row : List Frac) (column : ℕ) (fresh
       omega (arith, h, f, l))
 
   pub insert_within : (more : List (Vec Frac Global)) (at n : ℕ)
-      → rows_of more ≡ cleared column (fractions_of fresh.items) (rows_of rows)
+      → rows_of more ≡ clear_column column (fractions_of fresh.items) (rows_of rows)
       → at ≡ place column (rows_of rows) → n ≡ length more → at ≤ n
   insert_within more at n e p l =
       (let h = place-within column (rows_of rows) in
@@ -137,17 +138,17 @@ module _ (rows : List (Vec Frac Global)) (row : List Frac) (column : ℕ) (fresh
       omega (arith, h, k, p, l))
 
   pub added_is : (more final : List (Vec Frac Global)) (at : ℕ)
-      → rows_of more ≡ cleared column (fractions_of fresh.items) (rows_of rows)
+      → rows_of more ≡ clear_column column (fractions_of fresh.items) (rows_of rows)
       → at ≡ place column (rows_of rows) → final ≡ insert more at fresh
       → IsAdded (rows_of rows) (fractions_of row) (rows_of final)
   added_is more final at e p f = record {
     within = subst (λ c. c < length (fractions_of row)) is.column is.within;
     is = ap rows_of f ∙ rows_insert more at fresh
         ∙ ap₂ (λ l i. insert l i (fractions_of fresh.items)) e p
-        ∙ ap (λ c. insert (cleared c (fractions_of fresh.items) (rows_of rows))
+        ∙ ap (λ c. insert (clear_column c (fractions_of fresh.items) (rows_of rows))
         (place c (rows_of rows)) (fractions_of fresh.items)) is.column
-        ∙ ap (λ h. insert (cleared (lead (reduced (rows_of rows) (fractions_of row))) h
-        (rows_of rows)) (place (lead (reduced (rows_of rows) (fractions_of row)))
+        ∙ ap (λ h. insert (clear_column (lead (reduce_row (rows_of rows) (fractions_of row))) h
+        (rows_of rows)) (place (lead (reduce_row (rows_of rows) (fractions_of row)))
         (rows_of rows)) h) is.is;
   }
     where

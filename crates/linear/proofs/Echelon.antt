@@ -21,13 +21,13 @@ use Rattle.vectors.specs.Sequences.{sequences}
 use Rattle.vectors.specs.Lists.{entries, tables}
 use Rattle.vectors.specs.Echelon as S
 use Rattle.vectors.specs.Echelon.{Pivots, rows_in, IsReduced, IsRref}
-use Rattle.vectors.specs.Adding.{lead, after_zero, entry, less, reduced_by, reduced, scaled, quotient, IsEchelonOf, IsCombinationOf}
+use Rattle.vectors.specs.Adding.{lead, after_zero, entry, less, reduced_by, reduce_row, scale_row, quotient, IsEchelonOf, IsCombinationOf}
 use Rattle.vectors.proofs.Combinations as C
 use Rattle.vectors.proofs.EchelonLaws as E
 use Rattle.vectors.proofs.EchelonAdd.{First}
 use Rattle.vectors.proofs.RrefLaws as RL
 use Rattle.vectors.proofs.ListLaws.{entries-past}
-use Rattle.linear.specs.Parts.{cleared, place}
+use Rattle.linear.specs.Parts.{clear_column, place}
 use Rattle.linear.proofs.Lists.{lead-zero, lead-some, lead_some, less-length}
 use Rattle.linear.proofs.Clearing.{quotient-length, reduced-length}
 
@@ -162,13 +162,13 @@ list_taken by (e ∷ rows) (p ∷ ps) row a w i =
 
 pub reduced_is : (rows : List (List Fraction)) (ps : Pivots F) (row : List Fraction)
     → Aligned rows ps → Each (λ e. length e ≡ length row) rows
-    → at (reduced rows row) ≡ S.reduced_by F ps (at row)
+    → at (reduce_row rows row) ≡ S.reduced_by F ps (at row)
 reduced_is rows ps row a w = fun_ext (λ i. list_taken row rows ps row a w i
     ∙ sym (theory_taken ps (at row) i))
 
 -- ---- the row that is added
 entries-scaled : (c : Fraction) (row : List Fraction) (i : ℕ)
-    → at (scaled c row) i ≡ R.mul (at row i) c
+    → at (scale_row c row) i ≡ R.mul (at row i) c
 entries-scaled c [] i = sym (L.zero-mul R c)
 entries-scaled c (a ∷ row) zero = refl
 entries-scaled c (a ∷ row) (suc i) = entries-scaled c row i
@@ -180,8 +180,8 @@ quotient_is rest = fun_ext (λ i. entries-scaled (inverse (entry rest (lead rest
     ∙ ap (λ x. R.mul (inverse x) (at rest i)) (entry-is rest (lead rest)))
 
 cleared_tables : (c : ℕ) (h : List Fraction) (rows : List (List Fraction)) (ps : Pivots F)
-    → Aligned rows ps → Each (λ e. length e ≡ length h) rows → tables F (cleared c h rows)
-    ≡ rows_in F (S.cleared F c (at h) ps)
+    → Aligned rows ps → Each (λ e. length e ≡ length h) rows → tables F (clear_column c h rows)
+    ≡ rows_in F (S.clear_column F c (at h) ps)
 unfolding Each
 cleared_tables c h [] [] a w = refl
 cleared_tables c h [] (p ∷ ps) a w = absurd a
@@ -195,8 +195,8 @@ cleared_tables c h (e ∷ rows) (p ∷ ps) a w =
 
 added_tables : (c : ℕ) (h : List Fraction) (rows : List (List Fraction)) (ps : Pivots F)
     → Aligned rows ps → Each (λ e. length e ≡ length h) rows
-    → tables F (insert (cleared c h rows) (place c rows) h)
-    ≡ rows_in F (S.placed F c (at h) (S.cleared F c (at h) ps))
+    → tables F (insert (clear_column c h rows) (place c rows) h)
+    ≡ rows_in F (S.insert_row F c (at h) (S.clear_column F c (at h) ps))
 unfolding Each head_of
 added_tables c h [] [] a w = refl
 added_tables c h [] (p ∷ ps) a w = absurd a
@@ -204,14 +204,15 @@ added_tables c h (e ∷ rows) [] a w = absurd a
 added_tables c h (e ∷ rows) (p ∷ ps) a w = go (ltb c (lead e)) (ltb c p.0) (ap (ltb c) a.1)
     (added_tables c h rows ps a.2 w.1) (cleared_tables c h (e ∷ rows) (p ∷ ps) a w)
   where
-    go : (b d : Bool) → b ≡ d → tables F (insert (cleared c h rows) (place c rows) h)
-        ≡ rows_in F (S.placed F c (at h) (S.cleared F c (at h) ps))
-        → tables F (less e (entry e c) h ∷ cleared c h rows)
-        ≡ rows_in F ((p.0, S.clear_one F c (at h) p.1) ∷ S.cleared F c (at h) ps)
-        → tables F (insert (less e (entry e c) h ∷ cleared c h rows) (cond b 0 (suc (place c rows)))
-        h) ≡ rows_in F (cond d ((c, at h) ∷ (p.0, S.clear_one F c (at h) p.1) ∷ S.cleared F c
-        (at h) ps) ((p.0, S.clear_one F c (at h) p.1) ∷ S.placed F c (at h)
-        (S.cleared F c (at h) ps)))
+    go : (b d : Bool) → b ≡ d → tables F (insert (clear_column c h rows) (place c rows) h)
+        ≡ rows_in F (S.insert_row F c (at h) (S.clear_column F c (at h) ps))
+        → tables F (less e (entry e c) h ∷ clear_column c h rows)
+        ≡ rows_in F ((p.0, S.clear_one F c (at h) p.1) ∷ S.clear_column F c (at h) ps)
+        → tables F (insert (less e (entry e c) h ∷ clear_column c h rows)
+        (cond b 0 (suc (place c rows)))
+        h) ≡ rows_in F (cond d ((c, at h) ∷ (p.0, S.clear_one F c (at h) p.1) ∷ S.clear_column F c
+        (at h) ps) ((p.0, S.clear_one F c (at h) p.1) ∷ S.insert_row F c (at h)
+        (S.clear_column F c (at h) ps)))
     go true true e i t = ap (λ l. at h ∷ l) t
     go true false e i t = absurd (let z : true ≡ false = e in cc)
     go false true e i t = absurd (let z : false ≡ true = e in cc)
@@ -227,7 +228,7 @@ insert_each P (y ∷ xs) zero x p a = (p, a)
 insert_each P (y ∷ xs) (suc k) x p a = (a.0, insert_each P xs k x p a.1)
 
 cleared_widths : (n c : ℕ) (h : List Fraction) (rows : List (List Fraction))
-    → Each (λ l. length l ≡ n) rows → Each (λ l. length l ≡ n) (cleared c h rows)
+    → Each (λ l. length l ≡ n) rows → Each (λ l. length l ≡ n) (clear_column c h rows)
 unfolding Each
 cleared_widths n c h [] a = tt
 cleared_widths n c h (r ∷ rows) a = (
@@ -271,26 +272,27 @@ echelon_own n given rows e = record {
 module _ (n : ℕ) (given rows : List (List Fraction)) (row : List Fraction) (width : length row ≡ n)
     (e : IsEchelonOf n given rows) where
   abbrev rest : List Fraction
-  rest = reduced rows row
+  rest = reduce_row rows row
 
   align : Aligned rows e.pivots
   align = aligned rows e.pivots e.are e.reduced.reduced
 
-  rest_is : at (reduced rows row) ≡ S.reduced_by F e.pivots (at row)
+  rest_is : at (reduce_row rows row) ≡ S.reduced_by F e.pivots (at row)
   rest_is = reduced_is rows e.pivots row align (same_widths n (length row) rows width e.widths)
 
-  rest_width : length (reduced rows row) ≡ n
+  rest_width : length (reduce_row rows row) ≡ n
   rest_width = reduced-length row rows row ∙ width
 
   -- what is left is nothing
-  pub same_old : lead (reduced rows row) ≡ length row → IsCombinationOf rows row
+  pub same_old : lead (reduce_row rows row) ≡ length row → IsCombinationOf rows row
   same_old l = record {
     is = subst (λ us. IsCombination (sequences R ℕ) us (at row)) (sym e.are)
         (E.member-out F e.pivots (at row) (sym rest_is
         ∙ nothing_of rest (l ∙ width ∙ sym rest_width)));
   }
 
-  pub echelon_same : lead (reduced rows row) ≡ length row → IsEchelonOf n (given ++ row ∷ []) rows
+  pub echelon_same : lead (reduce_row rows row) ≡ length row
+      → IsEchelonOf n (given ++ row ∷ []) rows
   echelon_same l = record {
     widths = e.widths;
     pivots = e.pivots;
@@ -300,11 +302,11 @@ module _ (n : ℕ) (given rows : List (List Fraction)) (row : List Fraction) (wi
         (subst (λ us. IsCombination (sequences R ℕ) us (at row)) e.are (same_old l).is));
   }
 
-  module _ (within : lead (reduced rows row) < length row) where
-    low : lead (reduced rows row) < n
-    low = subst (λ m. lead (reduced rows row) < m) width within
+  module _ (within : lead (reduce_row rows row) < length row) where
+    low : lead (reduce_row rows row) < n
+    low = subst (λ m. lead (reduce_row rows row) < m) width within
 
-    first_rest : First F n (at (reduced rows row))
+    first_rest : First F n (at (reduce_row rows row))
     first_rest = first_of n rest rest_width low
 
     pub added_new : IsCombinationOf rows row → ⊥
@@ -314,38 +316,39 @@ module _ (n : ℕ) (given rows : List (List Fraction)) (row : List Fraction) (wi
         (subst (λ us. IsCombination (sequences R ℕ) us (at row)) e.are m.is)))
 
     abbrev h : List Fraction
-    h = quotient (reduced rows row)
+    h = quotient (reduce_row rows row)
 
     -- the theory's new list, at any way to say what is left
     rref_at : (v : ℕ → Fraction) → S.reduced_by F e.pivots (at row) ≡ v → (f : First F n v)
         → IsRref F n (tables F given ++ at row ∷ [])
-        (S.added F f.column (λ i. R.mul (F.inverse (v f.column)) (v i)) e.pivots)
+        (S.with_row F f.column (λ i. R.mul (F.inverse (v f.column)) (v i)) e.pivots)
     rref_at v q =
         subst (λ v. (f : First F n v) → IsRref F n (tables F given ++ at row ∷ [])
-        (S.added F f.column (λ i. R.mul (F.inverse (v f.column)) (v i)) e.pivots)) q
+        (S.with_row F f.column (λ i. R.mul (F.inverse (v f.column)) (v i)) e.pivots)) q
         (λ f. RL.rref_more F n (tables F given) e.pivots (at row) e.reduced (past_end n row width)
         f)
 
-    h_width : length (quotient (reduced rows row)) ≡ n
+    h_width : length (quotient (reduce_row rows row)) ≡ n
     h_width = quotient-length rest ∙ rest_width
 
     pub echelon_added : (more : List (List Fraction))
-        → more ≡ insert (cleared (lead (reduced rows row)) (quotient (reduced rows row)) rows)
-        (place (lead (reduced rows row)) rows) (quotient (reduced rows row))
+        → more ≡ insert (clear_column (lead (reduce_row rows row)) (quotient (reduce_row rows row))
+        rows)
+        (place (lead (reduce_row rows row)) rows) (quotient (reduce_row rows row))
         → IsEchelonOf n (given ++ row ∷ []) more
     unfolding first_rest first_of
     echelon_added more q =
         subst (IsEchelonOf n (given ++ row ∷ [])) (sym q)
         (record {
-          widths = insert_each (λ l. length l ≡ n) (cleared (lead rest) h rows)
+          widths = insert_each (λ l. length l ≡ n) (clear_column (lead rest) h rows)
               (place (lead rest) rows) h h_width (cleared_widths n (lead rest) h rows e.widths);
-          pivots = S.added F (lead rest) (at h) e.pivots;
+          pivots = S.with_row F (lead rest) (at h) e.pivots;
           are = added_tables (lead rest) h rows e.pivots align (same_widths n (length h) rows
               h_width e.widths);
-          reduced = subst (λ us. IsRref F n us (S.added F (lead rest) (at h) e.pivots))
+          reduced = subst (λ us. IsRref F n us (S.with_row F (lead rest) (at h) e.pivots))
               (sym (tables-append given row))
               (subst (λ u. IsRref F n (tables F given ++ at row ∷ [])
-              (S.added F (lead rest) u e.pivots)) (sym (quotient_is rest))
+              (S.with_row F (lead rest) u e.pivots)) (sym (quotient_is rest))
               (rref_at (at rest) (sym rest_is) first_rest));
         })
 

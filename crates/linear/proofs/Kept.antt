@@ -2,7 +2,7 @@
 use Rattle.std.proofs.Common.{◌≡◌, ◌<◌, ℕ, List, [], ◌∷◌, ◌++◌, length, All, true, false, IsTrue, refl, sym, ap, subst, ◌∙◌, Vec, Global}
 use Rattle.rings.specs.Each.{Each}
 use Rattle.numbers.specs.Fraction.{Fraction}
-use Rattle.vectors.specs.Adding.{lead, reduced, IsEchelonOf, IsCombinationOf}
+use Rattle.vectors.specs.Adding.{lead, reduce_row, IsEchelonOf, IsCombinationOf}
 use Rattle.std.proofs.lemmas.List.Elements.{All-nil, All-cons}
 use Rattle.frac128.specs.declared.fraction.Frac.{Frac}
 use Rattle.linear.specs.Rows.{fractions_of, rows_of}
@@ -71,9 +71,9 @@ module _ (e : Echelon) (n : ℕ) (rows slice : List (Vec Frac Global)) (row : Li
       (λ f. refl),
     )
 
-  module _ (nothing : lead (reduced (rows_of slice) (fractions_of row)) ≡ length row) where
-    none : lead (reduced (rows_of rows) (fractions_of row)) ≡ length (fractions_of row)
-    none = ap (λ (l : List (Vec Frac Global)). lead (reduced (rows_of l) (fractions_of row)))
+  module _ (nothing : lead (reduce_row (rows_of slice) (fractions_of row)) ≡ length row) where
+    none : lead (reduce_row (rows_of rows) (fractions_of row)) ≡ length (fractions_of row)
+    none = ap (λ (l : List (Vec Frac Global)). lead (reduce_row (rows_of l) (fractions_of row)))
         (sym s) ∙ nothing ∙ sym (fractions-length row)
 
     pub rows_same : (given : List (List Fraction)) → IsEchelonOf e.width given e.rows

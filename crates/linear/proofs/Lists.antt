@@ -1,5 +1,5 @@
 -- Rows as lists: where they lead, and what adding a row computes.
-use Rattle.std.proofs.Common.{◌≡◌, ◌≢◌, ◌⊎◌, inl, inr, ◌<◌, ◌≤◌, ℕ, zero, suc, ◌+◌, ℤ, pos, negsuc, List, [], ◌∷◌, ◌++◌, length, get_or, take, drop, All, refl, sym, ap, ap₂, subst, ◌∙◌, arith, drop-cons, add-one, Vec, Global, Err, IsErrOf}
+use Rattle.std.proofs.Common.{◌≡◌, ◌≢◌, ◌⊎◌, inl, inr, ◌<◌, ◌≤◌, ℕ, zero, suc, ◌+◌, ℤ, pos, negsuc, List, [], ◌∷◌, ◌++◌, length, get_or, take, drop, All, refl, sym, ap, ap₂, subst, ◌∙◌, arith, drop-cons, add-one, Vec, Global}
 use Rattle.std.proofs.lemmas.List.{drop_all}
 use Rattle.rings.specs.In.{In}
 use Rattle.rings.specs.Ring.{CommRing}
@@ -13,7 +13,7 @@ use Rattle.numbers.proofs.Fractions.{ℚ_ring, fractions_ring, top_zero, ratio-z
 use Rattle.numbers.proofs.LcmLaws.{lcm-pos}
 use Rattle.numbers.proofs.SizeLaws.{under_trans, under_refl, under-sum, sum-left, sum-right, past_under, zero_or_some, sum_size_comm, sum_size_assoc, difference_within, fractions_bounded}
 use Rattle.numbers.proofs.ProductSizes.{product_den-pos, times_under_product, under_sum-times, past_product, fraction_quotients_bounded}
-use Rattle.vectors.specs.Adding.{lead, after_zero, entry, less, reduced_by, reduced, reduced_size, quotient, scaled, row_size}
+use Rattle.vectors.specs.Adding.{lead, after_zero, entry, less, reduced_by, reduce_row, reduced_size, quotient, scale_row, row_size}
 use Rattle.frac128.specs.FracMeaning.{fraction_of}
 use Rattle.frac128.specs.declared.fraction.Frac.{Frac}
 use Rattle.linear.specs.Rows.{fractions_of, rows_of}
@@ -312,20 +312,20 @@ pub fractions-append : (xs ys : List Frac) → fractions_of (xs ++ ys) ≡ fract
 fractions-append [] ys = refl
 fractions-append (x ∷ xs) ys = ap (λ l. fraction_of x ∷ l) (fractions-append xs ys)
 
-scaled-append : (c : Fraction) (xs ys : List Fraction) → scaled c (xs ++ ys) ≡ scaled c xs
-    ++ scaled c ys
+scaled-append : (c : Fraction) (xs ys : List Fraction) → scale_row c (xs ++ ys) ≡ scale_row c xs
+    ++ scale_row c ys
 scaled-append c [] ys = refl
 scaled-append c (x ∷ xs) ys = ap (λ l. R.mul x c ∷ l) (scaled-append c xs ys)
 
 pub scaled_more : (c : Fraction) (row : List Frac) (i : ℕ) (x : Frac) (out more : List Frac)
     (y : Frac) → i < length row → x ≡ get_or row i x → fraction_of y ≡ R.mul (fraction_of x) c
     → more ≡ out ++ y ∷ []
-    → fractions_of out ≡ scaled c (fractions_of (take i row))
-    → fractions_of more ≡ scaled c (fractions_of (take (i + 1) row))
+    → fractions_of out ≡ scale_row c (fractions_of (take i row))
+    → fractions_of more ≡ scale_row c (fractions_of (take (i + 1) row))
 scaled_more c row i x out more y h e m p s =
     ap fractions_of p ∙ fractions-append out (y ∷ []) ∙ ap₂ (λ l a. l ++ a ∷ []) s m
-    ∙ sym (ap (λ l. scaled c (fractions_of l)) (take_one row i x h e)
-    ∙ ap (scaled c) (fractions-append (take i row) (x ∷ []))
+    ∙ sym (ap (λ l. scale_row c (fractions_of l)) (take_one row i x h e)
+    ∙ ap (scale_row c) (fractions-append (take i row) (x ∷ []))
     ∙ scaled-append c (fractions_of (take i row)) (fraction_of x ∷ []))
 
 -- ---- what is left, divided
@@ -385,7 +385,7 @@ lead_within (a ∷ row) = (let h = lead_within row in elim (after_cases a.num (l
 
 -- ---- the row that is added, over what the code has
 module _ (rows : List (List Fraction)) (row rest : List Frac) (column : ℕ) (is : fractions_of rest
-    ≡ reduced rows (fractions_of row)) (width : length rest ≡ length row)
+    ≡ reduce_row rows (fractions_of row)) (width : length rest ≡ length row)
     (at : column ≡ lead (fractions_of rest)) (ne : column ≢ length rest) where
   pub column_within : column < length rest
   column_within = (let h = lead_within (fractions_of rest) in let l = fractions-length rest in
@@ -413,13 +413,13 @@ module _ (rows : List (List Fraction)) (row rest : List Frac) (column : ℕ) (is
         (subst (IsPastScaled (fractions_of rest)) r p))))
 
     pub fresh_is : (by : Frac) → fraction_of by ≡ inverse (fraction_of number) → (fresh : List Frac)
-        → fractions_of fresh ≡ scaled (fraction_of by) (fractions_of rest)
+        → fractions_of fresh ≡ scale_row (fraction_of by) (fractions_of rest)
         → IsFresh rows (fractions_of row) column (fractions_of fresh)
     fresh_is by r fresh q = record {
       column = at ∙ ap lead is;
       within = (let h = column_within in let l = fractions-length row in
           omega (arith, h, l, width));
-      is = q ∙ ap (λ c. scaled c (fractions_of rest)) (r ∙ ap inverse (sym number_is))
+      is = q ∙ ap (λ c. scale_row c (fractions_of rest)) (r ∙ ap inverse (sym number_is))
           ∙ ap quotient is;
     }
 
@@ -428,8 +428,3 @@ pub below : (row : List Frac) (all : List (Vec Frac Global)) (i : ℕ) (e : Vec 
     → All (λ v. lead (fractions_of v.items) < length row) all → l < length row
 below row all i e l h at q a = subst (λ n. n < length row) (sym q) (subst (λ (v : Vec Frac Global).
     lead (fractions_of v.items) < length row) (sym at) (a i e h))
-
--- the same error of another call
-pub same_error : {T U E : Type 0} (x v : E) → IsErrOf {T = T} {E = E} (Err x) v
-    → IsErrOf {T = U} {E = E} (Err x) v
-same_error x v h = let e : x ≡ v = cc in ap Err e

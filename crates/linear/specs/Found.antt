@@ -6,13 +6,13 @@ use Rattle.std.specs.Prelude.{◌≡◌, ℕ, List, length, Option, MatchOption}
 use Rattle.std.specs.declared.alloc.Global.{Global}
 use Rattle.std.specs.declared.vec.Vec.{Vec}
 use Rattle.frac128.specs.declared.fraction.Frac.{Frac}
-use Rattle.vectors.specs.Adding.{lead, reduced}
+use Rattle.vectors.specs.Adding.{lead, reduce_row}
 use Rattle.linear.specs.Rows.{fractions_of, rows_of}
 use Rattle.linear.specs.Parts.{IsFresh, IsAdded}
 
 module _ (rows : List (Vec Frac Global)) (row : List Frac) where
   abbrev pub LeavesNothing : Type 0
-  LeavesNothing = lead (reduced (rows_of rows) (fractions_of row)) ≡ length row
+  LeavesNothing = lead (reduce_row (rows_of rows) (fractions_of row)) ≡ length row
 
   abbrev pub IsFreshOrLeft : Option (ℕ × Vec Frac Global) → Type 0
   IsFreshOrLeft found = MatchOption found LeavesNothing

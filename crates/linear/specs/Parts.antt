@@ -3,7 +3,7 @@
 --   IsPastScaled row c          the weight of c times an entry of row is past
 --   IsFresh rows row c h        what rows leave of row leads in the column c, and is h when divided by its entry there
 --   IsPastFresh rows row        the weight of what rows leave of row, or of that division, is past
---   cleared c h rows            each row less its entry in the column c times h
+--   clear_column c h rows            each row less its entry in the column c times h
 --   place c rows                the first place of a row that leads behind the column c
 --   IsAdded rows row more       more are rows, cleared by what they leave of row, divided, and that in its place
 --   IsPastClear row c h         the weight of row less its entry in the column c times h is past
@@ -13,7 +13,7 @@ use Rattle.std.specs.Prelude.{◌≡◌, ◌<◌, ◌⊎◌, ℕ, zero, suc, Boo
 use Rattle.rings.specs.In.{In}
 use Rattle.numbers.specs.Fraction.{Fraction, ℚ, fraction_size}
 use Rattle.numbers.specs.Size.{sum_size, product_size, times_size, quotient_size, IsPast}
-use Rattle.vectors.specs.Adding.{row_size, reduced_size, less, entry, lead, reduced, quotient}
+use Rattle.vectors.specs.Adding.{row_size, reduced_size, less, entry, lead, reduce_row, quotient}
 
 abbrev pub IsPastLess : List Fraction → Fraction → List Fraction → Type 0
 IsPastLess row c other =
@@ -26,19 +26,19 @@ pub record IsPastScaled (row : List Fraction) (c : Fraction) : Type 0 where
 
 pub record IsFresh (rows : List (List Fraction)) (row : List Fraction) (c : ℕ)
     (h : List Fraction) : Type 0 where
-  pub column : c ≡ lead (reduced rows row)
+  pub column : c ≡ lead (reduce_row rows row)
   pub within : c < length row
-  pub is : h ≡ quotient (reduced rows row)
+  pub is : h ≡ quotient (reduce_row rows row)
 
 abbrev pub IsPastFresh : List (List Fraction) → List Fraction → Type 0
 IsPastFresh rows row =
     IsPast (reduced_size row rows (row_size row))
-    ⊎ IsPast (quotient_size (row_size (reduced rows row))
-    (fraction_size (entry (reduced rows row) (lead (reduced rows row)))))
+    ⊎ IsPast (quotient_size (row_size (reduce_row rows row))
+    (fraction_size (entry (reduce_row rows row) (lead (reduce_row rows row)))))
 
-abbrev pub cleared : ℕ → List Fraction → List (List Fraction) → List (List Fraction)
-cleared c h [] = []
-cleared c h (e ∷ rows) = less e (entry e c) h ∷ cleared c h rows
+abbrev pub clear_column : ℕ → List Fraction → List (List Fraction) → List (List Fraction)
+clear_column c h [] = []
+clear_column c h (e ∷ rows) = less e (entry e c) h ∷ clear_column c h rows
 
 -- the first place of a row that leads behind the column
 abbrev pub place : ℕ → List (List Fraction) → ℕ
@@ -47,9 +47,10 @@ place c (e ∷ rows) = cond (ltb c (lead e)) 0 (suc (place c rows))
 
 pub record IsAdded (rows : List (List Fraction)) (row : List Fraction)
     (more : List (List Fraction)) : Type 0 where
-  pub within : lead (reduced rows row) < length row
-  pub is : more ≡ insert (cleared (lead (reduced rows row)) (quotient (reduced rows row)) rows)
-      (place (lead (reduced rows row)) rows) (quotient (reduced rows row))
+  pub within : lead (reduce_row rows row) < length row
+  pub is : more ≡ insert (clear_column (lead (reduce_row rows row)) (quotient (reduce_row rows row))
+      rows)
+      (place (lead (reduce_row rows row)) rows) (quotient (reduce_row rows row))
 
 abbrev pub IsPastClear : List Fraction → ℕ → List Fraction → Type 0
 IsPastClear row c h =

@@ -2,13 +2,13 @@
 ghost use Rattle.std.specs.Prelude.{◌≡◌, ◌<◌, ℕ, All, length, get_or, IfOk, IsErrOf, []};
 ghost use Rattle.vectors.specs.Adding.{less, lead, entry, IsPastTarget};
 ghost use Rattle.linear.specs.Rows.{fractions_of, rows_of};
-ghost use Rattle.linear.specs.Parts.{cleared, place, IsPastClear};
+ghost use Rattle.linear.specs.Parts.{clear_column, place, IsPastClear};
 ghost use Rattle.linear.specs.Found.{IsAddedOrLeft};
 
 use crate::LinearError;
-use crate::rows::{RowError, copy_row, fresh_of, lead_of, less_of};
+use crate::rows::{copy_row, fresh_of, lead_of, less_of};
 use frac128::Frac;
-use ring_laws::Ring;
+use ring_laws::{ArithmeticError, Ring};
 use std::alloc::Global;
 
 /// The rows with one row more. None where it is a combination of them.
@@ -26,8 +26,8 @@ pub(crate) fn with_row(
 {
     let found = match fresh_of(alloc, rows, row) {
         Ok(found) => found,
-        Err(RowError::Wide) => return Err(LinearError::Wide { target: rows.len() }),
-        Err(RowError::Memory) => return Err(LinearError::Memory),
+        Err(ArithmeticError::Wide) => return Err(LinearError::Wide { target: rows.len() }),
+        Err(ArithmeticError::Memory) => return Err(LinearError::Memory),
     };
     let Some((column, fresh)) = found else {
         return Ok(None);
@@ -50,7 +50,7 @@ fn cleared_of(
     requires widths { All (λ e. length e.items ≡ length fresh.now.items) rows.now }
     requires column { column < length fresh.now.items }
     ensures rows { IfOk result (λ out.
-        rows_of out.items ≡ cleared column (fractions_of fresh.now.items) (rows_of rows.now)) }
+        rows_of out.items ≡ clear_column column (fractions_of fresh.now.items) (rows_of rows.now)) }
     ensures wide { (target : ℕ) → IsErrOf result (LinearError.Wide target)
         → (target < length rows.now)
         × IsPastClear (get_or (rows_of rows.now) target []) column (fractions_of fresh.now.items) }
@@ -59,8 +59,8 @@ fn cleared_of(
     for target in 0..rows.len() {
         match cleared_row(alloc, &rows[target], column, fresh) {
             Ok(row) => out.push(row)?,
-            Err(RowError::Wide) => return Err(LinearError::Wide { target }),
-            Err(RowError::Memory) => return Err(LinearError::Memory),
+            Err(ArithmeticError::Wide) => return Err(LinearError::Wide { target }),
+            Err(ArithmeticError::Memory) => return Err(LinearError::Memory),
         }
     }
     Ok(out)
@@ -72,12 +72,12 @@ fn cleared_row(
     row: &Vec<Frac>,
     column: usize,
     fresh: &Vec<Frac>,
-) -> Result<Vec<Frac>, RowError>
+) -> Result<Vec<Frac>, ArithmeticError>
     requires width { length row.now.items ≡ length fresh.now.items }
     requires column { column < length fresh.now.items }
     ensures row { IfOk result (λ out. fractions_of out.items ≡ less (fractions_of row.now.items)
         (entry (fractions_of row.now.items) column) (fractions_of fresh.now.items)) }
-    ensures wide { IsErrOf result RowError.Wide
+    ensures wide { IsErrOf result ArithmeticError.Wide
         → IsPastClear (fractions_of row.now.items) column (fractions_of fresh.now.items) }
 {
     let factor = &row[column];

@@ -67,22 +67,12 @@ fn entry_of(rows: &[Vec<Frac>], column: usize, i: usize) -> Frac
 {
     for row in rows {
         if lead_of(row) == i {
-            return opposite(&row[column]);
+            return row[column].neg();
         }
     }
     if i == column {
         Frac::one()
     } else {
         Frac::zero()
-    }
-}
-
-/// The opposite of a number, which always fits.
-fn opposite(number: &Frac) -> Frac
-    ensures { fraction_of result ≡ ℚ.neg (fraction_of number.now) }
-{
-    match number.neg() {
-        Ok(opposite) => opposite,
-        Err(_) => *number,
     }
 }

@@ -67,15 +67,14 @@ impl Model for Rref {
 
 impl Rref {
     /// No rows, of this width.
-    pub fn new(alloc: Global, width: usize) -> Result<Rref, LinearError>
-        ensures width { IfOk result (λ r. r.width ≡ width) }
-        ensures rows { IfOk result (λ r. r.rows ≡ []) }
-        ensures narrow { (target : ℕ) → ¬ IsErrOf result (LinearError.Wide target) }
+    pub fn new(alloc: Global, width: usize) -> Rref
+        ensures width { result.width ≡ width }
+        ensures rows { result.rows ≡ [] }
     {
-        Ok(Rref {
+        Rref {
             width,
             rows: Vec::new(alloc),
-        })
+        }
     }
 
     /// Adds a row: the rows are then the reduced echelon list of all rows added. True exactly where the row was no combination of those before.
@@ -108,11 +107,9 @@ impl Rref {
     }
 
     /// One vector for each column in which no row leads, in order of columns: 1 there and 0 at the other such columns. They are the kernel.
-    pub fn kernel(&self) -> Result<Vec<Vec<Frac>>, LinearError>
-        ensures narrow { (target : ℕ) → ¬ IsErrOf result (LinearError.Wide target) }
+    pub fn kernel(&self) -> Result<Vec<Vec<Frac>>, AllocError>
         ensures kernel { IfOk result (λ vectors. AreKernelOf self.now (rows_of vectors.items)) }
     {
-        let vectors = kernel_of(*self.rows.allocator(), self.rows.as_slice(), self.width)?;
-        Ok(vectors)
+        kernel_of(*self.rows.allocator(), self.rows.as_slice(), self.width)
     }
 }

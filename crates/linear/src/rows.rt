@@ -2,51 +2,14 @@
 ghost use Rattle.std.specs.Prelude.{◌≡◌, ◌<◌, ◌++◌, All, length, OnOk, IfOk, IsErrOf};
 ghost use Rattle.frac128.specs.FracMeaning.{fraction_of};
 ghost use Rattle.numbers.specs.Size.{IsPast};
-ghost use Rattle.vectors.specs.Adding.{less, lead, reduced, reduced_size, row_size, scaled};
+ghost use Rattle.vectors.specs.Adding.{less, lead, reduce_row, reduced_size, row_size, scale_row};
 ghost use Rattle.linear.specs.Rows.{fractions_of, rows_of};
 ghost use Rattle.linear.specs.Parts.{IsPastLess, IsPastScaled, IsPastFresh};
 ghost use Rattle.linear.specs.Found.{IsFreshOrLeft};
 
 use frac128::Frac;
-use ring_laws::{Ring, Wide};
-use std::alloc::{AllocError, AllocFailed, Global};
-
-/// Why a row was not made.
-#[derive(Clone, Copy, Debug, PartialEq, Eq)]
-pub(crate) enum RowError {
-    Wide,
-    Memory,
-}
-
-impl From<Wide> for RowError {
-    ghost use Rattle.linear.specs.declared.rows.RowError.TheVariants.{Wide as WideRow};
-
-    ghost from_gives = { λ _ e. e ≡ WideRow };
-
-    fn from(_: Wide) -> RowError {
-        RowError::Wide
-    }
-}
-
-impl From<AllocError> for RowError {
-    ghost use Rattle.linear.specs.declared.rows.RowError.TheVariants.{Memory};
-
-    ghost from_gives = { λ _ e. e ≡ Memory };
-
-    fn from(_: AllocError) -> RowError {
-        RowError::Memory
-    }
-}
-
-impl<T: Drop> From<AllocFailed<T>> for RowError {
-    ghost use Rattle.linear.specs.declared.rows.RowError.TheVariants.{Memory};
-
-    ghost from_gives = { λ _ e. e ≡ Memory };
-
-    fn from(_: AllocFailed<T>) -> RowError {
-        RowError::Memory
-    }
-}
+use ring_laws::{ArithmeticError, Ring};
+use std::alloc::{AllocError, Global};
 
 /// The place of the first entry that isn't zero.
 pub(crate) fn lead_of(row: &Vec<Frac>) -> usize
@@ -66,11 +29,11 @@ pub(crate) fn less_of(
     row: &Vec<Frac>,
     factor: &Frac,
     other: &Vec<Frac>,
-) -> Result<Vec<Frac>, RowError>
+) -> Result<Vec<Frac>, ArithmeticError>
     requires { length row.now.items ≡ length other.now.items }
     ensures row { IfOk result (λ out. fractions_of out.items ≡ less (fractions_of row.now.items)
         (fraction_of factor.now) (fractions_of other.now.items)) }
-    ensures wide { IsErrOf result RowError.Wide → IsPastLess (fractions_of row.now.items)
+    ensures wide { IsErrOf result ArithmeticError.Wide → IsPastLess (fractions_of row.now.items)
         (fraction_of factor.now) (fractions_of other.now.items) }
 {
     let mut out = Vec::new(alloc);
@@ -84,11 +47,11 @@ fn push_less(
     row: &[Frac],
     factor: &Frac,
     other: &[Frac],
-) -> Result<(), RowError>
+) -> Result<(), ArithmeticError>
     requires { length row.now ≡ length other.now }
     ensures row { OnOk result (fractions_of out.new.items ≡ fractions_of out.old.items
         ++ less (fractions_of row.now) (fraction_of factor.now) (fractions_of other.now)) }
-    ensures wide { IsErrOf result RowError.Wide
+    ensures wide { IsErrOf result ArithmeticError.Wide
         → IsPastLess (fractions_of row.now) (fraction_of factor.now) (fractions_of other.now) }
 {
     let (Some((first, row)), Some((second, other))) = (row.split_first(), other.split_first())
@@ -106,56 +69,53 @@ pub(crate) fn fresh_of(
     alloc: Global,
     rows: &[Vec<Frac>],
     row: &Vec<Frac>,
-) -> Result<Option<(usize, Vec<Frac>)>, RowError>
+) -> Result<Option<(usize, Vec<Frac>)>, ArithmeticError>
     requires widths { All (λ e. length e.items ≡ length row.now.items) rows.now }
     requires leads { All (λ e. lead (fractions_of e.items) < length row.now.items) rows.now }
     ensures fresh { IfOk result (IsFreshOrLeft rows.now row.now.items) }
-    ensures wide { IsErrOf result RowError.Wide
+    ensures wide { IsErrOf result ArithmeticError.Wide
         → IsPastFresh (rows_of rows.now) (fractions_of row.now.items) }
 {
-    let rest = match reduced_of(alloc, rows, row) {
-        Ok(rest) => rest,
-        Err(error) => return Err(error),
-    };
+    let rest = reduced_of(alloc, rows, row)?;
     let column = lead_of(&rest);
     if column == rest.len() {
         return Ok(None);
     }
     let by = rest[column].reciprocal();
-    match scaled_of(alloc, rest.as_slice(), &by) {
-        Ok(fresh) => Ok(Some((column, fresh))),
-        Err(error) => Err(error),
-    }
+    let fresh = scaled_of(alloc, rest.as_slice(), &by)?;
+    Ok(Some((column, fresh)))
 }
 
 /// The row less, for each of the rows, its entry in their leading column times them. `Wide` only where the weight of that is past.
-fn reduced_of(alloc: Global, rows: &[Vec<Frac>], row: &Vec<Frac>) -> Result<Vec<Frac>, RowError>
+fn reduced_of(
+    alloc: Global,
+    rows: &[Vec<Frac>],
+    row: &Vec<Frac>,
+) -> Result<Vec<Frac>, ArithmeticError>
     requires widths { All (λ e. length e.items ≡ length row.now.items) rows.now }
     requires leads { All (λ e. lead (fractions_of e.items) < length row.now.items) rows.now }
     ensures row { IfOk result (λ out.
-        fractions_of out.items ≡ reduced (rows_of rows.now) (fractions_of row.now.items)) }
+        fractions_of out.items ≡ reduce_row (rows_of rows.now) (fractions_of row.now.items)) }
     ensures width { IfOk result (λ out. length out.items ≡ length row.now.items) }
-    ensures wide { IsErrOf result RowError.Wide → IsPast (reduced_size (fractions_of row.now.items)
+    ensures wide { IsErrOf result ArithmeticError.Wide
+        → IsPast (reduced_size (fractions_of row.now.items)
         (rows_of rows.now) (row_size (fractions_of row.now.items))) }
 {
     let mut rest = copy_row(alloc, row.as_slice())?;
     for other in rows {
         let factor = &row[lead_of(other)];
         if !factor.is_zero() {
-            match less_of(alloc, &rest, factor, other) {
-                Ok(less) => rest = less,
-                Err(error) => return Err(error),
-            }
+            rest = less_of(alloc, &rest, factor, other)?;
         }
     }
     Ok(rest)
 }
 
 /// The row times a number. `Wide` only where a product is past.
-fn scaled_of(alloc: Global, row: &[Frac], by: &Frac) -> Result<Vec<Frac>, RowError>
+fn scaled_of(alloc: Global, row: &[Frac], by: &Frac) -> Result<Vec<Frac>, ArithmeticError>
     ensures row { IfOk result (λ out.
-        fractions_of out.items ≡ scaled (fraction_of by.now) (fractions_of row.now)) }
-    ensures wide { IsErrOf result RowError.Wide
+        fractions_of out.items ≡ scale_row (fraction_of by.now) (fractions_of row.now)) }
+    ensures wide { IsErrOf result ArithmeticError.Wide
         → IsPastScaled (fractions_of row.now) (fraction_of by.now) }
 {
     let mut out = Vec::new(alloc);

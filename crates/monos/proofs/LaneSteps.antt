@@ -7,7 +7,7 @@ use Rattle.std.specs.Int.Bits.{bit_and}
 use Rattle.std.proofs.lemmas.Cmp.{ranked, by_ranked}
 use Rattle.std.proofs.lemmas.List.{append-nil, take_more_set}
 use Rattle.std.proofs.lemmas.List.Sums.{sum_by-cons}
-use Rattle.std.proofs.lemmas.Nat.{one_shl, and_mask, shl_whole, pow_pos, mod_below}
+use Rattle.std.proofs.lemmas.Nat.{one_shl, and_mask, shl_whole, pow_pos}
 use Rattle.std.proofs.Math.Nat.{pow-le-pow_right, mul-suc}
 use Rattle.monos.specs.Lanes.{AreSmall, lanes, word}
 use Rattle.monos.proofs.Words.{small_rest, small_more, word_below}
@@ -18,18 +18,6 @@ mask_is w k h = ap (λ m. bit_and w (m - 1)) (one_shl k 128 h) ∙ and_mask w k
 
 pub one_fits : (k : ℕ) → k < 128 → 1 ≤ (1 * 2 ^ k) % 2 ^ 128
 one_fits k h = rw (one_shl k 128 h) (pow_pos k)
-
-pub lane_below : (b w : ℕ) → b ≤ 15 → w % 2 ^ (b + 1) < 65536 + 1
-lane_below b w h =
-    let top = pow-le-pow_right {n = 2} (omega arith) {i = b + 1} {j = 16} (omega (arith, h)) in
-    let low = mod_below w (2 ^ (b + 1)) (pow_pos (b + 1)) in
-    omega (arith, top, low)
-
-pub lane_fits : (b w : ℕ) → b ≤ 15 → w % 2 ^ (b + 1) < 2 ^ 16
-lane_fits b w h =
-    let top = pow-le-pow_right {n = 2} (omega arith) {i = b + 1} {j = 16} (omega (arith, h)) in
-    let low = mod_below w (2 ^ (b + 1)) (pow_pos (b + 1)) in
-    omega (arith, top, low)
 
 -- the first of some lanes, and the others
 lanes-suc : (b n w : ℕ) → 0 < n → lanes b n w ≡ (w % 2 ^ (b + 1)) ∷ lanes b (n - 1)

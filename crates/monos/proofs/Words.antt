@@ -17,7 +17,7 @@ use Rattle.std.proofs.lemmas.Cmp.{ranked, by_ranked}
 use Rattle.numbers.proofs.QuotientOrder.{nat_cmp-add}
 use Rattle.polynomials.specs.Order.{compare, grevlex, blocks}
 use Rattle.polynomials.proofs.Order.{compare_equal}
-use Rattle.polynomials.proofs.Orders.{compare_grevlex, compare_blocks, grevlex_order}
+use Rattle.polynomials.proofs.Orders.{compare_grevlex, compare_blocks, grevlex_order, slice_cmp-append}
 use Rattle.polynomials.specs.Exponent.{plus, Divides}
 use Rattle.monos.specs.Lanes.{AreSmall, lanes, guards, word}
 
@@ -285,25 +285,10 @@ divides_of_test b (suc n) (x ∷ d) (y ∷ e) h l s t test =
 
 -- ---- comparing
 
-then_assoc : (a b c : Ordering) → ordering_then a (ordering_then b c) ≡ ordering_then
-    (ordering_then a b) c
-then_assoc Less b c = refl
-then_assoc Equal b c = refl
-then_assoc Greater b c = refl
-
 then_nothing : (o : Ordering) → ordering_then o Equal ≡ o
 then_nothing Less = refl
 then_nothing Equal = refl
 then_nothing Greater = refl
-
-pub slice_cmp-append : (a b c d : List ℕ) → length a ≡ length c
-    → slice_cmp nat_cmp (a ++ b) (c ++ d)
-    ≡ ordering_then (slice_cmp nat_cmp a c) (slice_cmp nat_cmp b d)
-slice_cmp-append [] b [] d l = refl
-slice_cmp-append [] b (y ∷ c) d l = absurd (omega arith)
-slice_cmp-append (x ∷ a) b [] d l = absurd (omega arith)
-slice_cmp-append (x ∷ a) b (y ∷ c) d l = ap (ordering_then (nat_cmp x y))
-    (slice_cmp-append a b c d (omega arith)) ∙ then_assoc (nat_cmp x y) _ _
 
 word_below_word : (p x y k l : ℕ) → k < p → x < y → x * p + k < y * p + l
 word_below_word p x y k l h lt =

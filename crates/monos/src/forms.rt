@@ -7,9 +7,10 @@ ghost use Rattle.monos.specs.Variables.{most_variables};
 
 use crate::lists::{differences, sums, sums_fit};
 use crate::short_mono::ShortMono;
-use crate::{Form, Mono, MonoError};
+use crate::{Form, Mono};
+use ring_laws::ArithmeticError;
 use smallvec::SmallVec;
-use std::alloc::Global;
+use std::alloc::{AllocError, Global};
 use std::boxed::Box;
 
 impl Mono {
@@ -47,10 +48,9 @@ impl Mono {
     }
 
     /// The monomial with the exponents of a list.
-    pub(crate) fn of_list(alloc: Global, list: SmallVec<u16, 16>) -> Result<Mono, MonoError>
+    pub(crate) fn of_list(alloc: Global, list: SmallVec<u16, 16>) -> Result<Mono, AllocError>
         requires { length list.items ≤ most_variables }
         ensures ok { IfOk result (λ mono. mono ≡ list.items) }
-        ensures narrow { ¬ IsErrOf result MonoError.Wide }
         ensures short { IsShort list.items → IsOk result }
     {
         match ShortMono::of_slice(list.as_slice()) {
@@ -65,9 +65,8 @@ impl Mono {
     }
 
     /// The copy of a list.
-    pub(crate) fn copy_of_list(&self, alloc: Global) -> Result<Mono, MonoError>
+    pub(crate) fn copy_of_list(&self, alloc: Global) -> Result<Mono, AllocError>
         ensures ok { IfOk result (λ mono. mono ≡ self.now) }
-        ensures narrow { ¬ IsErrOf result MonoError.Wide }
         ensures short { IsShort self.now → IsOk result }
     {
         Mono::of_list(
@@ -90,29 +89,32 @@ impl Mono {
     }
 
     /// The product by lists.
-    pub(crate) fn product_of_lists(&self, alloc: Global, other: &Mono) -> Result<Mono, MonoError>
+    pub(crate) fn product_of_lists(
+        &self,
+        alloc: Global,
+        other: &Mono,
+    ) -> Result<Mono, ArithmeticError>
         requires { length self.now ≡ length other.now }
         ensures ok { IfOk result (λ product. product ≡ plus self.now other.now) }
-        ensures wide { IsErrOf result MonoError.Wide ↔ ¬ (ProductFits self.now other.now) }
+        ensures wide { IsErrOf result ArithmeticError.Wide ↔ ¬ (ProductFits self.now other.now) }
         ensures short { IsShort (plus self.now other.now) → IsOk result }
     {
         let (these, others) = (self.exponents(), other.exponents());
         let (left, right) = (these.as_slice(), others.as_slice());
         // Known before any memory is asked for, since the product is Wide whether or not there is memory.
         if !sums_fit(left, right) {
-            return Err(MonoError::Wide);
+            return Err(ArithmeticError::Wide);
         }
-        Mono::of_list(alloc, sums(alloc, left, right)?)
+        Ok(Mono::of_list(alloc, sums(alloc, left, right)?)?)
     }
 
     /// The quotient by lists.
     #[tactic(auto, using(crate::proofs::Shorts::short_part))]
-    pub(crate) fn quotient_of_lists(&self, alloc: Global, other: &Mono) -> Result<Mono, MonoError>
+    pub(crate) fn quotient_of_lists(&self, alloc: Global, other: &Mono) -> Result<Mono, AllocError>
         requires arity { length self.now ≡ length other.now }
         requires divides { Divides other.now self.now }
         ensures ok { IfOk result (λ quotient. plus other.now quotient ≡ self.now) }
         ensures arity { IfOk result (λ quotient. length quotient ≡ length self.now) }
-        ensures narrow { ¬ IsErrOf result MonoError.Wide }
         ensures short { IsShort self.now → IsOk result }
     {
         let (these, others) = (self.exponents(), other.exponents());

@@ -1,19 +1,18 @@
 //! Monomials behind one another, and without their first variables.
-ghost use Rattle.std.specs.Prelude.{◌≡◌, ◌≤◌, ◌+◌, ◌++◌, length, take, drop, replicate, IsTrue, ◌↔◌, IfOk, IsErrOf, IsOk};
+ghost use Rattle.std.specs.Prelude.{◌≡◌, ◌≤◌, ◌+◌, ◌++◌, length, take, drop, replicate, IsTrue, ◌↔◌, IfOk, IsOk};
 ghost use Rattle.monos.specs.Lanes.{IsShort};
 ghost use Rattle.monos.specs.Variables.{most_variables};
 
+use crate::Mono;
 use crate::lists::sum_of;
-use crate::{Mono, MonoError};
 use smallvec::SmallVec;
-use std::alloc::Global;
+use std::alloc::{AllocError, Global};
 
 impl Mono {
     /// The product with a monomial in other variables, which stand behind this one's.
-    pub fn concat(&self, alloc: Global, other: &Mono) -> Result<Mono, MonoError>
+    pub fn concat(&self, alloc: Global, other: &Mono) -> Result<Mono, AllocError>
         requires { length self.now + length other.now ≤ most_variables }
         ensures ok { IfOk result (λ product. product ≡ self.now ++ other.now) }
-        ensures narrow { ¬ IsErrOf result MonoError.Wide }
         ensures short { IsShort (self.now ++ other.now) → IsOk result }
     {
         let (these, others) = (self.exponents(), other.exponents());
@@ -33,10 +32,9 @@ impl Mono {
     }
 
     /// The monomial in the other variables alone, where the first `count` are left out.
-    pub fn without_first(&self, alloc: Global, count: usize) -> Result<Mono, MonoError>
+    pub fn without_first(&self, alloc: Global, count: usize) -> Result<Mono, AllocError>
         requires { count ≤ length self.now }
         ensures ok { IfOk result (λ mono. mono ≡ drop count self.now) }
-        ensures narrow { ¬ IsErrOf result MonoError.Wide }
         ensures short { IsShort (drop count self.now) → IsOk result }
     {
         let exponents = self.exponents();

@@ -17,7 +17,7 @@ fn is_ratio(answer: Result<Frac, Wide>, num: i128, den: i128) -> bool {
     }
 }
 
-fn fractions() -> [bool; 11] {
+fn fractions() -> [bool; 14] {
     [
         Frac::new(6, -4) == Ok(ratio(-3, 2)),
         Frac::new(1, 0) == Err(FracError::ZeroDenominator),
@@ -34,6 +34,14 @@ fn fractions() -> [bool; 11] {
             1,
         ),
         is_ratio(ratio(6, 35).mul(&ratio(-14, 9)), -4, 15),
+        // A whole factor on either side, also where the product leaves 64 bits, and equal denominators.
+        is_ratio(ratio(-9, 1).mul(&ratio(5, 6)), -15, 2),
+        is_ratio(
+            ratio((1 << 63) - 1, 3).mul(&ratio(9, 1)),
+            3 * ((1 << 63) - 1),
+            1,
+        ),
+        is_ratio(ratio(7, 10).sub(&ratio(1, 10)), 3, 5),
         Frac::unit(-6) == Some((ratio(-6, 1), ratio(-1, 6))),
     ]
 }
@@ -66,7 +74,7 @@ fn use_field_laws<K: Field>() {
 // What every ring says of an element.
 fn is_of_ring<K: Ring>(x: &K) -> Result<bool, Wide> {
     use_ring_laws::<K>();
-    let opposite = x.neg()?;
+    let opposite = x.neg();
     let none = x.sub(x)?;
     Ok(
         none.is_zero()

@@ -1,19 +1,20 @@
 // Rows of monomials and their orders.
 use crate::expect;
-use monos::{Blocks, Grevlex, Lex, Mono, MonoError, Order};
-use std::alloc::Global;
+use monos::{Blocks, Grevlex, Lex, Mono, Order};
+use ring_laws::ArithmeticError;
+use std::alloc::{AllocError, Global};
 use std::cmp::Ordering;
 
 // The monomial with these exponents.
-fn mono(alloc: Global, exponents: &[u16; 3]) -> Result<Mono, MonoError> {
+fn mono(alloc: Global, exponents: &[u16; 3]) -> Result<Mono, AllocError> {
     Mono::new(alloc, &exponents.to_vec(alloc)?)
 }
 
-fn copy(alloc: Global, of: &[u16; 3]) -> Result<Mono, MonoError> {
+fn copy(alloc: Global, of: &[u16; 3]) -> Result<Mono, AllocError> {
     mono(alloc, of)?.copy(alloc)
 }
 
-fn degree(alloc: Global, of: &[u16; 3]) -> Result<u32, MonoError> {
+fn degree(alloc: Global, of: &[u16; 3]) -> Result<u32, AllocError> {
     Ok(mono(alloc, of)?.degree())
 }
 
@@ -30,39 +31,44 @@ fn called(
     call: MonoCall,
     left: &[u16; 3],
     right: &[u16; 3],
-) -> Result<Mono, MonoError> {
+) -> Result<Mono, ArithmeticError> {
     let left = mono(alloc, left)?;
     let right = mono(alloc, right)?;
     call_on(alloc, call, &left, &right)
 }
 
-fn call_on(alloc: Global, call: MonoCall, left: &Mono, right: &Mono) -> Result<Mono, MonoError> {
+fn call_on(
+    alloc: Global,
+    call: MonoCall,
+    left: &Mono,
+    right: &Mono,
+) -> Result<Mono, ArithmeticError> {
     if left.arity() != right.arity() {
-        return Err(MonoError::Memory);
+        return Err(ArithmeticError::Memory);
     }
     match call {
         MonoCall::Product => left.times(alloc, right),
-        MonoCall::Quotient if right.divides(left) => left.quotient(alloc, right),
-        MonoCall::Quotient => Err(MonoError::Memory),
-        MonoCall::Multiple => left.lcm(alloc, right),
+        MonoCall::Quotient if right.divides(left) => Ok(left.quotient(alloc, right)?),
+        MonoCall::Quotient => Err(ArithmeticError::Memory),
+        MonoCall::Multiple => Ok(left.lcm(alloc, right)?),
     }
 }
 
-fn is_mono(answer: Result<Mono, MonoError>, wanted: &[u16]) -> bool {
+fn is_mono<E: Drop>(answer: Result<Mono, E>, wanted: &[u16]) -> bool {
     match answer {
         Ok(mono) => mono.exponents().as_slice() == wanted,
         Err(_) => false,
     }
 }
 
-fn is_wide(answer: Result<Mono, MonoError>) -> bool {
+fn is_wide(answer: Result<Mono, ArithmeticError>) -> bool {
     match answer {
         Ok(_) => false,
-        Err(error) => error == MonoError::Wide,
+        Err(error) => error == ArithmeticError::Wide,
     }
 }
 
-fn is_same(left: Result<Mono, MonoError>, right: Result<Mono, MonoError>) -> bool {
+fn is_same(left: Result<Mono, ArithmeticError>, right: Result<Mono, AllocError>) -> bool {
     match (left, right) {
         (Ok(left), Ok(right)) => left == right,
         _ => false,

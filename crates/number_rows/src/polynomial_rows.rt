@@ -5,25 +5,22 @@ use crate::expect;
 use crate::fraction_rows::ratio;
 use frac128::Frac;
 use monos::{Grevlex, Lex, Mono, Order};
-use poly::{Poly, PolyError, Term, laws as polynomial};
-use ring_laws::Ring;
-use std::alloc::Global;
+use poly::{Poly, Term, laws as polynomial};
+use ring_laws::{ArithmeticError, Ring};
+use std::alloc::{AllocError, Global};
 
 // Exponents in two variables, and a number.
 type Row = ([u16; 2], i128);
 
 // The monomial with these exponents.
-fn monomial(alloc: Global, exponents: &[u16; 2]) -> Result<Mono, PolyError>
+fn monomial(alloc: Global, exponents: &[u16; 2]) -> Result<Mono, AllocError>
     ensures { IfOk result (λ m. length m ≡ 2) }
 {
-    match Mono::new(alloc, &exponents.to_vec(alloc)?) {
-        Ok(mono) => Ok(mono),
-        Err(_) => Err(PolyError::Memory),
-    }
+    Mono::new(alloc, &exponents.to_vec(alloc)?)
 }
 
 // The polynomial of these terms.
-fn poly(alloc: Global, rows: &[Row]) -> Result<Poly<Frac, Grevlex>, PolyError>
+fn poly(alloc: Global, rows: &[Row]) -> Result<Poly<Frac, Grevlex>, ArithmeticError>
     ensures { IfOk result (λ p. p.arity ≡ 2) }
 {
     let mut terms = Vec::new(alloc);
@@ -39,7 +36,11 @@ fn whole(number: i128) -> Frac {
     ratio(number, 1)
 }
 
-fn is_poly(alloc: Global, answer: Result<Poly<Frac, Grevlex>, PolyError>, wanted: &[Row]) -> bool {
+fn is_poly(
+    alloc: Global,
+    answer: Result<Poly<Frac, Grevlex>, ArithmeticError>,
+    wanted: &[Row],
+) -> bool {
     match (answer, poly(alloc, wanted)) {
         (Ok(answer), Ok(wanted)) => {
             polynomial::equality_decides(&answer, &wanted);
@@ -49,7 +50,7 @@ fn is_poly(alloc: Global, answer: Result<Poly<Frac, Grevlex>, PolyError>, wanted
     }
 }
 
-fn is_zero(alloc: Global, rows: &[Row]) -> Result<bool, PolyError> {
+fn is_zero(alloc: Global, rows: &[Row]) -> Result<bool, ArithmeticError> {
     Ok(poly(alloc, rows)?.is_zero())
 }
 
@@ -66,7 +67,7 @@ fn combined(
     call: PolyCall,
     left: &[Row],
     right: &[Row],
-) -> Result<Poly<Frac, Grevlex>, PolyError> {
+) -> Result<Poly<Frac, Grevlex>, ArithmeticError> {
     let left = poly(alloc, left)?;
     let right = poly(alloc, right)?;
     match call {
@@ -76,15 +77,19 @@ fn combined(
     }
 }
 
-fn copied(alloc: Global, of: &[Row]) -> Result<Poly<Frac, Grevlex>, PolyError> {
-    poly(alloc, of)?.copy(alloc)
+fn copied(alloc: Global, of: &[Row]) -> Result<Poly<Frac, Grevlex>, ArithmeticError> {
+    Ok(poly(alloc, of)?.copy(alloc)?)
 }
 
-fn multiple(alloc: Global, of: &[Row], by: i128) -> Result<Poly<Frac, Grevlex>, PolyError> {
+fn multiple(alloc: Global, of: &[Row], by: i128) -> Result<Poly<Frac, Grevlex>, ArithmeticError> {
     poly(alloc, of)?.scale(alloc, &whole(by))
 }
 
-fn shifted(alloc: Global, of: &[Row], by: &[u16; 2]) -> Result<Poly<Frac, Grevlex>, PolyError> {
+fn shifted(
+    alloc: Global,
+    of: &[Row],
+    by: &[u16; 2],
+) -> Result<Poly<Frac, Grevlex>, ArithmeticError> {
     poly(alloc, of)?.shift(alloc, &monomial(alloc, by)?)
 }
 
@@ -92,12 +97,12 @@ fn composition(
     alloc: Global,
     of: &[Row],
     images: [&[Row]; 2],
-) -> Result<Poly<Frac, Grevlex>, PolyError> {
+) -> Result<Poly<Frac, Grevlex>, ArithmeticError> {
     let images = vec![in alloc; poly(alloc, images[0])?, poly(alloc, images[1])?]?;
     poly(alloc, of)?.compose(alloc, &images)
 }
 
-fn value(alloc: Global, of: &[Row], point: [i128; 2]) -> Result<Frac, PolyError> {
+fn value(alloc: Global, of: &[Row], point: [i128; 2]) -> Result<Frac, ArithmeticError> {
     let point = vec![in alloc; whole(point[0]), whole(point[1])]?;
     Ok(poly(alloc, of)?.value_at(&point)?)
 }
@@ -111,18 +116,26 @@ fn lead_is<O: Order>(poly: &Poly<Frac, O>, wanted: &[u16; 2], degree: u32) -> bo
     first && poly.degree() == Some(degree)
 }
 
-fn lead_by_degree_is(alloc: Global, of: &[Row], wanted: &[u16; 2]) -> Result<bool, PolyError> {
+fn lead_by_degree_is(
+    alloc: Global,
+    of: &[Row],
+    wanted: &[u16; 2],
+) -> Result<bool, ArithmeticError> {
     let copy = poly(alloc, of)?.copy(alloc)?;
     Ok(lead_is(&copy.reorder(alloc, Grevlex)?, wanted, 2))
 }
 
-fn lead_by_letters_is(alloc: Global, of: &[Row], wanted: &[u16; 2]) -> Result<bool, PolyError> {
+fn lead_by_letters_is(
+    alloc: Global,
+    of: &[Row],
+    wanted: &[u16; 2],
+) -> Result<bool, ArithmeticError> {
     let copy = poly(alloc, of)?.copy(alloc)?;
     Ok(lead_is(&copy.reorder(alloc, Lex)?, wanted, 2))
 }
 
 // The polynomial whose coefficient at x^i y^j is the product of the numbers at i and j.
-fn grid(alloc: Global, numbers: &[i8]) -> Result<Vec<Row>, PolyError> {
+fn grid(alloc: Global, numbers: &[i8]) -> Result<Vec<Row>, AllocError> {
     let mut rows = Vec::new(alloc);
     for (i, left) in (0u16..).zip(numbers) {
         for (j, right) in (0u16..).zip(numbers) {
@@ -133,7 +146,7 @@ fn grid(alloc: Global, numbers: &[i8]) -> Result<Vec<Row>, PolyError> {
 }
 
 // The square of the product of 1 + x + x^2 and 1 + y + y^2.
-fn squares_a_dense_one(alloc: Global) -> Result<bool, PolyError> {
+fn squares_a_dense_one(alloc: Global) -> Result<bool, ArithmeticError> {
     let dense = grid(alloc, &[1, 1, 1])?;
     let wanted = grid(alloc, &[1, 2, 3, 2, 1])?;
     let square = combined(alloc, PolyCall::Product, &dense, &dense);
@@ -141,7 +154,7 @@ fn squares_a_dense_one(alloc: Global) -> Result<bool, PolyError> {
 }
 
 // Halves of 16 terms are multiplied with their denominators cleared.
-fn squares_halves(alloc: Global) -> Result<bool, PolyError> {
+fn squares_halves(alloc: Global) -> Result<bool, ArithmeticError> {
     let dense = poly(alloc, &grid(alloc, &[1, 1, 1, 1])?)?;
     let half = dense.scale(alloc, &ratio(1, 2))?;
     let wanted = poly(alloc, &grid(alloc, &[1, 2, 3, 4, 3, 2, 1])?)?;

@@ -1,15 +1,18 @@
 //! The lowest layer of code: rings, ordered rings and fields whose elements are checked against numbers with no bound.
 #![tactic(auto)]
 
-ghost use Rattle.std.specs.Prelude.{◌≡◌, ◌≢◌, true, pos, ◌≤ℤ◌, ◌<◌, unsigned_abs, IsTrue, ◌↔◌, IfOk, IfSome, IsErr, IsOkAnd};
+ghost use Rattle.std.specs.Prelude.{◌≡◌, ◌≢◌, true, pos, ◌≤ℤ◌, ◌<◌, unsigned_abs, IsTrue, ◌↔◌, IfOk, IfSome, IsErr};
 ghost use Rattle.rings.specs.Integers.{integer_in};
 ghost use Rattle.rings.specs.Ring.{IsRing, IsOrderOf, IsFieldOf};
 ghost use Rattle.numbers.specs.Scalars.{Scalars, IsBounded, BoundsQuotients, IsPastAdd, IsPastMul, IsPastDiv, AreInverses};
 ghost use Rattle.numbers.specs.Size.{size, sum_size, product_size, factor_size, SomeIf};
 ghost use Rattle.ring_laws.specs.Sign.{sign_of};
+ghost use Rattle.ring_laws.specs.declared.ArithmeticError.TheVariants.{Wide as WideError, Memory as MemoryError};
 
 pub use euclid::gcd;
+use std::alloc::{AllocError, AllocFailed};
 use std::cmp::Ordering;
+use thiserror::Error;
 
 mod euclid;
 pub mod laws;
@@ -17,6 +20,40 @@ pub mod laws;
 /// The refusal of an operation that has a number that does not fit its type.
 #[derive(Clone, Copy, Debug, PartialEq, Eq)]
 pub struct Wide;
+
+/// Why a number, a monomial or a polynomial was not made.
+#[derive(Clone, Copy, Debug, PartialEq, Eq, Error)]
+pub enum ArithmeticError {
+    /// A number does not fit its type, or an exponent is above 65,535.
+    #[error("a number or an exponent is too wide")]
+    Wide,
+    #[error("out of memory")]
+    Memory,
+}
+
+impl From<Wide> for ArithmeticError {
+    ghost from_gives = { λ _ e. e ≡ WideError };
+
+    fn from(_: Wide) -> ArithmeticError {
+        ArithmeticError::Wide
+    }
+}
+
+impl From<AllocError> for ArithmeticError {
+    ghost from_gives = { λ _ e. e ≡ MemoryError };
+
+    fn from(_: AllocError) -> ArithmeticError {
+        ArithmeticError::Memory
+    }
+}
+
+impl<T: Drop> From<AllocFailed<T>> for ArithmeticError {
+    ghost from_gives = { λ _ e. e ≡ MemoryError };
+
+    fn from(_: AllocFailed<T>) -> ArithmeticError {
+        ArithmeticError::Memory
+    }
+}
 
 /// A weight with both its numbers at most 2^127 - 1: what bounds the numbers of a computation, as a size over a denominator.
 #[derive(Clone, Copy, Debug, PartialEq, Eq)]
@@ -126,8 +163,8 @@ pub trait Ring: Copy + Eq {
         ensures wide { IsErr result → IsPastMul scalars (meaning self.now) (meaning other.now) };
 
     /// The opposite, which always fits.
-    fn neg(&self) -> Result<Self, Wide>
-        ensures { IsOkAnd result (λ opposite. meaning opposite ≡ scalars.neg (meaning self.now)) };
+    fn neg(&self) -> Self
+        ensures { meaning result ≡ scalars.neg (meaning self.now) };
 
     ghost ring: { IsRing scalars.arithmetic };
 

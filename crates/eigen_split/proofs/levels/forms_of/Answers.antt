@@ -1,4 +1,4 @@
-use Rattle.std.proofs.Common.{◌≡◌, List, ◌≤◌, ◌<◌, All, length, ap, subst, sym, ◌∙◌, arith, [], Vec, Global}
+use Rattle.std.proofs.Common.{◌≡◌, List, ◌≤◌, ◌<◌, All, length, ap₂, subst, sym, ◌∙◌, arith, Vec, Global}
 use Rattle.std.proofs.lemmas.Int.{to_z-of_z}
 use mir.Syntax.{w32}
 use Rattle.frac128.specs.declared.fraction.Frac.{Frac}
@@ -19,14 +19,14 @@ pub loop-step-init : goal.loop-step-init
 loop-step-init c =
     subst (λ (fs : List (Vec Frac Global)). Going (length c.args.matrix.now.items)
     (rows_of c.args.matrix.now.items) c.args.denominator c.args.number.now.value 0
-    (ints_of c.in_ok-first.first.items) (rows_of fs) c.in_ok-known.known 0)
+    (ints_of c.in_ok-first.first.items) (rows_of fs) c.new-known.result 0)
     (sym c.new-forms.ensures.items)
     (going_first (length c.args.matrix.now.items) (rows_of c.args.matrix.now.items)
     c.args.denominator
     c.args.number.now.value c.requires.ready
-    (ints_of c.in_ok-first.first.items) c.in_ok-known.known c.in_ok-first.ensures
-    (c.in_ok-known.ensures ∙ ap (λ w. record { width = w; rows = [] }) (c.len-size.ensures
-    ∙ c.args.matrix.now.ok.0)))
+    (ints_of c.in_ok-first.first.items) c.new-known.result c.in_ok-first.ensures
+    (ap₂ (λ w r. record { width = w; rows = r }) (c.new-known.ensures.width
+    ∙ c.len-size.ensures ∙ c.args.matrix.now.ok.0) c.new-known.ensures.rows))
 
 pub next_power-requires : goal.next_power-requires
 next_power-requires c = λ some.

@@ -1,4 +1,5 @@
 use Rattle.std.proofs.Common.{List, refl, sym, ap, subst, ◌∙◌, Vec, Global}
+use Rattle.std.proofs.lemmas.Result.{IfOk-weaker}
 use Rattle.frac128.specs.declared.fraction.Frac.{Frac}
 use Rattle.vectors.specs.Adding.{AreKernel}
 use Rattle.linear.specs.Rows.{rows_of}
@@ -12,12 +13,14 @@ pub kernel_of-requires : goal.kernel_of-requires
 kernel_of-requires c = kept_widths c.self.inside.width c.self.inside.width c.self.inside.rows.items
     c.as_slice.result.now refl c.as_slice.ensures.value c.self.invariant
 
-pub returns-clause-kernel : goal.returns-clause-kernel
-returns-clause-kernel c =
-    subst (λ (e : Echelon). AreKernel e.width e.rows (rows_of c.in_ok-vectors.vectors.items))
-    c.self.view_is
-    (subst (AreKernel c.self.inside.width (rows_of c.self.inside.rows.items))
-    (sym (c.in_ok-vectors.ensures
-    ∙ ap (λ (l : List (Vec Frac Global)). kernel_rows (rows_of l) c.self.inside.width 0
-    c.self.inside.width) c.as_slice.ensures.value))
-    (kernel_is c.self.inside.width (rows_of c.self.inside.rows.items) c.self.invariant))
+pub returns : goal.returns
+returns c = record {
+  kernel = IfOk-weaker c.kernel_of.result _ _
+      (λ vectors is. subst (λ (e : Echelon). AreKernel e.width e.rows (rows_of vectors.items))
+      c.self.view_is
+      (subst (AreKernel c.self.inside.width (rows_of c.self.inside.rows.items))
+      (sym (is ∙ ap (λ (l : List (Vec Frac Global)). kernel_rows (rows_of l) c.self.inside.width 0
+      c.self.inside.width) c.as_slice.ensures.value))
+      (kernel_is c.self.inside.width (rows_of c.self.inside.rows.items) c.self.invariant)))
+      c.kernel_of.ensures;
+}

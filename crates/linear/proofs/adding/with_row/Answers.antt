@@ -1,5 +1,5 @@
 use Rattle.std.proofs.Common.{◌≡◌, ℕ, length, Vec, Global}
-use Rattle.vectors.specs.Adding.{lead, reduced}
+use Rattle.vectors.specs.Adding.{lead, reduce_row}
 use Rattle.frac128.specs.declared.fraction.Frac.{Frac}
 use Rattle.linear.specs.Rows.{fractions_of, rows_of}
 use Rattle.linear.specs.Parts.{IsFresh}
@@ -11,7 +11,7 @@ fresh : (c : In-Some) → IsFresh (rows_of c.args.rows.now) (fractions_of c.args
     c.in-Some.column (fractions_of c.in-Some.fresh.items)
 fresh c =
     found_some c.in-Ok.found (c.in-Some.column, c.in-Some.fresh)
-    (lead (reduced (rows_of c.args.rows.now) (fractions_of c.args.row.now.items))
+    (lead (reduce_row (rows_of c.args.rows.now) (fractions_of c.args.row.now.items))
     ≡ length c.args.row.now.items)
     (λ (f : ℕ × Vec Frac Global). IsFresh (rows_of c.args.rows.now)
     (fractions_of c.args.row.now.items) f.0 (fractions_of f.1.items)) c.in-Some.is

@@ -1,9 +1,10 @@
 use Rattle.std.proofs.Common.{IsTrue, false, ◌+◌, ap, ◌∙◌, sym, refl, subst, Vec, Global, drop}
+use Rattle.std.proofs.lemmas.Result.{err_from_is_err_and}
 use Rattle.linear.specs.Rows.{fractions_of, rows_of}
 use Rattle.frac128.specs.declared.fraction.Frac.{Frac}
 use Rattle.linear.proofs.Lists.{Going, going_first, going_done, going_width, same_width, turn_less, turn_same, turn_wide, below}
 use Rattle.linear.proofs.rows.reduced_of.Goals as goal
-use Rattle.linear.proofs.rows.reduced_of.Goals.{then-not-is_zero+in-Ok, else-not-is_zero}
+use Rattle.linear.proofs.rows.reduced_of.Goals.{then-not-is_zero+in_ok-rest-2, else-not-is_zero}
 
 pub loop-other-init : goal.loop-other-init
 loop-other-init c = going_first (fractions_of c.args.row.now.items) (rows_of c.args.rows.now)
@@ -18,15 +19,18 @@ less_of-requires c = same_width c.args.row.now.items c.args.rows.now c.loop-othe
 apart : IsTrue false → ⊥
 apart e = cc
 
-pub returns-in-Err-clause-wide : goal.returns-in-Err-clause-wide
-returns-in-Err-clause-wide c = λ h.
+pub returns-in_err-rest-2-clause-wide : goal.returns-in_err-rest-2-clause-wide
+returns-in_err-rest-2-clause-wide c =
+    let p = err_from_is_err_and c.from_residual-in_err-rest-2.result
+    c.from_residual-in_err-rest-2.ensures.1 in
+    λ h.
     turn_wide c.args.row.now.items c.args.rows.now c.loop-other.other-index c.other-item.result
     c.loop-other.rest c.loop-other-test.true c.other-item.is c.requires.widths
     c.loop-other.invariant
     c.lead_of.result c.index-factor.result.now c.lead_of.ensures
     (below c.args.row.now.items c.args.rows.now c.loop-other.other-index c.other-item.result
     c.lead_of.result c.loop-other-test.true c.other-item.is c.lead_of.ensures
-    c.requires.leads) c.index-factor.ensures (c.in-Err.ensures.wide h)
+    c.requires.leads) c.index-factor.ensures (c.in_err-rest-2.ensures.wide (cc (p.1, p.2, h)))
 
 pub loop-other-preserved : goal.loop-other-preserved
 loop-other-preserved c =
@@ -36,13 +40,13 @@ loop-other-preserved c =
     let low = below row all i c.other-item.result c.lead_of.result c.loop-other-test.true
     c.other-item.is c.lead_of.ensures c.requires.leads in
     elim c.if-not-is_zero.branch [
-      | then-not-is_zero+in-Ok w
+      | then-not-is_zero+in_ok-rest-2 w
           ↦ subst (λ (v : Vec Frac Global). Going (fractions_of row) (rows_of all)
           (rows_of (drop (i + 1) all)) (fractions_of v.items)) (sym w.rest-is)
           (turn_less row all i c.other-item.result c.loop-other.rest c.loop-other-test.true
           c.other-item.is c.requires.widths c.loop-other.invariant
           c.lead_of.result c.index-factor.result.now c.lead_of.ensures low c.index-factor.ensures _
-          w.in-Ok.ensures.row)
+          w.in_ok-rest-2.ensures.row)
       | else-not-is_zero w ↦ subst (λ (v : Vec Frac Global). Going (fractions_of row) (rows_of all)
           (rows_of (drop (i + 1) all)) (fractions_of v.items)) (sym w.rest-is)
           (turn_same row all i c.other-item.result c.loop-other.rest c.loop-other-test.true

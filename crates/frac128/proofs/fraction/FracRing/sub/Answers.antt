@@ -5,8 +5,8 @@ use Rattle.frac128.proofs.fraction.FracRing.sub.Goals as goal
 
 pub returns-clause-wide : goal.returns-clause-wide
 returns-clause-wide c = (
-  (λ w. subst (SumIsPast (fraction_of c.args.self.now)) c.in_ok-neg.ensures
+  (λ w. subst (SumIsPast (fraction_of c.args.self.now)) c.neg.ensures
       (c.add.ensures.wide.0 w)),
   (λ p. c.add.ensures.wide.1 (subst (SumIsPast (fraction_of c.args.self.now))
-      (sym c.in_ok-neg.ensures) p)),
+      (sym c.neg.ensures) p)),
 )
