@@ -18,11 +18,11 @@ use Rattle.numbers.proofs.RatioLaws.{mul-pos}
 use Rattle.numbers.proofs.SizeLaws.{under_refl, under_trans, under-sum, sum-right, past_under, sum_size_assoc}
 use Rattle.numbers.proofs.ProductSizes.{under_at_most, past_at_most, product_at_most_left, product_den-pos, times_under_product, under_times, past_product, clean_of}
 use Rattle.polynomials.specs.Algebra as Algebra
-use Rattle.polynomials.specs.Exponent.{plus, lcm}
+use Rattle.polynomials.specs.Exponent.{plus}
 use Rattle.polynomials.specs.Order.{Rank}
 use Rattle.polynomials.specs.Polynomial.{Arity, IsPolynomial}
 use Rattle.polynomials.specs.Terms.{Terms, Same, coefficient, constant, negate, shift, times}
-use Rattle.polynomials.specs.Weight.{weight, degrees, Fits, IsPastSum}
+use Rattle.polynomials.specs.Weight.{weight, degrees, FitsMonomial, IsPastSum}
 use Rattle.polynomials.proofs.Arity.{zeros-plus}
 use Rattle.polynomials.proofs.Same.{Same-refl}
 use Rattle.polynomials.proofs.Weight.{weight-pos, weight-append, weight-front, weight-term, clean-weight, weight-shift, sum_within}
@@ -176,7 +176,7 @@ module _ (S : Scalars) (r : IsRing S.arithmetic) where
     pub past_raise_one : (p g done back zs : Terms S.Elem) (t : List ℕ × S.Elem) (d : List ℕ)
         (c e : S.Elem) → c ≡ S.one → e ≡ S.neg c → g ≡ done ++ t ∷ back
         → Same S.arithmetic zs (p ++ shift S.arithmetic d e done)
-        → IsPastRaise S zs d e t → IsPastSum S p g ⊎ ¬ (Fits (plus d (degrees g)))
+        → IsPastRaise S zs d e t → IsPastSum S p g ⊎ ¬ (FitsMonomial (plus d (degrees g)))
     past_raise_one p g done back zs t d c e one is at same (inl wide) =
         inr (λ fits. wide (shift_fits_at d g done back t at fits))
     past_raise_one p g done back zs t d c e one is at same (inr (inl past)) =

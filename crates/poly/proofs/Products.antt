@@ -14,7 +14,7 @@ use Rattle.numbers.specs.Size.{IsPast, product_size}
 use Rattle.polynomials.specs.Exponent.{plus}
 use Rattle.polynomials.specs.Terms.{Terms, Same, constant, shift, times, lists}
 use Rattle.polynomials.specs.Polynomial.{Arity}
-use Rattle.polynomials.specs.Weight.{degrees, Fits}
+use Rattle.polynomials.specs.Weight.{degrees, FitsMonomial}
 use Rattle.polynomials.specs.Weight.{weight, IsPastProduct}
 use Rattle.polynomials.specs.Exponent.{exponents}
 use Rattle.polynomials.proofs.Exponent.{exponents_monoid}
@@ -74,12 +74,12 @@ module _ (S : Scalars) where
             (sym (ap (weight S.size) is ∙ weight-one S r z e c)) past)
 
         pub past_one_moved : (ts f : Terms S.Elem) → ts ≡ (e, c) ∷ []
-            → ¬ (Fits (plus e (degrees f))) → IsPastProduct S ts f
+            → ¬ (FitsMonomial (plus e (degrees f))) → IsPastProduct S ts f
         past_one_moved ts f is wide = inr (λ fits.
             wide (fits_divides (plus e (degrees f)) (plus (degrees ((e, c) ∷ [])) (degrees f))
             (divides-plus e (degrees f) (degrees ((e, c) ∷ [])) (degrees f)
             (degrees-term [] (e, c) []) (divides_refl (degrees f)))
-            (subst (λ (zs : Terms S.Elem). Fits (plus (degrees zs) (degrees f))) is fits)))
+            (subst (λ (zs : Terms S.Elem). FitsMonomial (plus (degrees zs) (degrees f))) is fits)))
 
     pub product_turned : (p q q' s : Terms S.Elem) → q' ≡ q
         → Same S.arithmetic s (times S.arithmetic q' p)

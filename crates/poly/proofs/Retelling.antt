@@ -4,7 +4,7 @@
 --   distinct_retold               where h keeps exponents apart
 --   behind_distinct, rest_distinct     as it does behind a monomial, and without first variables that are in none
 --   free_step, free_none, free_at     what is free of the first variables, term by term
-use Rattle.std.proofs.Common.{◌≡◌, ◌+◌, ℕ, false, List, [], ◌∷◌, ◌++◌, take, drop, replicate, length, refl, sym, ap, ap₂, subst, ◌∙◌, ◌⊎◌, inl, inr, take-append-drop, true≢false}
+use Rattle.std.proofs.Common.{◌≡◌, ℕ, false, List, [], ◌∷◌, ◌++◌, take, drop, replicate, length, refl, sym, ap, ap₂, subst, ◌∙◌, ◌⊎◌, inl, inr, take-append-drop, true≢false}
 use Rattle.rings.specs.Each.{Each}
 use Rattle.rings.proofs.Each.{each-append, each-right}
 use Rattle.polynomials.specs.Exponent.{same}

@@ -17,7 +17,7 @@ use Rattle.polynomials.specs.Terms.{Terms, shift, negate}
 use Rattle.polynomials.specs.Order.{Rank, IsMonomialOrder, compare}
 use Rattle.polynomials.specs.Polynomial.{Below, Falls, Arity}
 use Rattle.polynomials.specs.Polynomial.{HasNoZero, IsPolynomial}
-use Rattle.polynomials.specs.Weight.{degrees, Fits}
+use Rattle.polynomials.specs.Weight.{degrees, FitsMonomial}
 use Rattle.polynomials.specs.Weight.{weight, IsPastSum}
 use Rattle.polynomials.proofs.Degrees.{shift_fits}
 use Rattle.polynomials.proofs.Past.{past_scale}
@@ -160,9 +160,9 @@ module _ (S : Scalars) (r : IsRing S.arithmetic) (z : IsBounded S.arithmetic S.s
 
 -- ---- exponents
 pub shift_fits_at : {A : Type 0} (d : List ℕ) (ts front back : Terms A) (t : List ℕ × A)
-    → ts ≡ front ++ t ∷ back → Fits (plus d (degrees ts)) → Fits (plus d t.0)
+    → ts ≡ front ++ t ∷ back → FitsMonomial (plus d (degrees ts)) → FitsMonomial (plus d t.0)
 shift_fits_at d ts front back t e fits =
-    shift_fits d front t back (subst (λ (zs : Terms _). Fits (plus d (degrees zs))) e fits)
+    shift_fits d front t back (subst (λ (zs : Terms _). FitsMonomial (plus d (degrees zs))) e fits)
 
 -- one term of a list has as many exponents as all
 arity_between : {A : Type 0} (m : ℕ) (front back : Terms A) (t : List ℕ × A)

@@ -7,12 +7,12 @@ use Rattle.numbers.specs.Size.{IsPast, sum_size, product_size}
 use Rattle.numbers.specs.Scalars.{Scalars}
 use Rattle.polynomials.specs.Exponent.{plus}
 use Rattle.polynomials.specs.Terms.{Terms}
-use Rattle.polynomials.specs.Weight.{weight, degrees, Fits}
+use Rattle.polynomials.specs.Weight.{weight, degrees, FitsMonomial}
 
 abbrev pub IsPastMultiple : (S : Scalars) → Terms S.Elem → List ℕ → S.Elem → Terms S.Elem → Type 0
 IsPastMultiple S p d c g =
     IsPast (sum_size (weight S.size p) (product_size (S.size c) (weight S.size g)))
-    ⊎ ¬ (Fits (plus d (degrees g)))
+    ⊎ ¬ (FitsMonomial (plus d (degrees g)))
 
 abbrev pub lead_coefficient : {A : Type 0} → Arithmetic A → Terms A → A
 lead_coefficient N [] = N.zero

@@ -14,7 +14,7 @@ use Rattle.rings.specs.Arithmetic as Arithmetic
 use Rattle.numbers.specs.Size.{IsPast, product_size, quotient_size}
 use Rattle.polynomials.specs.Exponent.{plus}
 use Rattle.polynomials.specs.Terms.{Terms, Same, constant, variables, negate, shift, times, lists, compose, value_at}
-use Rattle.polynomials.specs.Weight.{weight, degrees, Fits, IsPastSum, IsPastProduct, IsPastPower, IsPastComposition, IsPastValue}
+use Rattle.polynomials.specs.Weight.{weight, degrees, FitsMonomial, IsPastSum, IsPastProduct, IsPastPower, IsPastComposition, IsPastValue}
 use Rattle.ring_laws.specs.declared.Ring as Ring
 use Rattle.monos.specs.declared.order.Order as Order
 use Rattle.poly.specs.declared.Poly.{Poly}
@@ -87,7 +87,7 @@ module _ {K O : Type 0} {g : Ring.Ghosts K} {h : PartialEq.Ghosts K} {k : Order.
       IsPast (quotient_size (weight g.scalars.size (terms_in p)) (g.scalars.size c))
 
   abbrev pub ShiftIsPast : List ℕ → Poly K O g h k l → Type 0
-  ShiftIsPast e p = ¬ (Fits (plus e (degrees (terms_in p))))
+  ShiftIsPast e p = ¬ (FitsMonomial (plus e (degrees (terms_in p))))
 
   abbrev pub LessMultipleIsPast : Poly K O g h k l → Term K → Poly K O g h k l → Type 0
   LessMultipleIsPast p t q = IsPastMultiple g.scalars (terms_in p) t.mono (g.meaning t.coef)

@@ -11,7 +11,7 @@ use Rattle.polynomials.specs.Exponent.{plus}
 use Rattle.polynomials.specs.Order.{Rank, compare}
 use Rattle.polynomials.specs.Polynomial.{IsPolynomial}
 use Rattle.polynomials.specs.Terms.{Terms, Same, coefficient}
-use Rattle.polynomials.specs.Weight.{Fits}
+use Rattle.polynomials.specs.Weight.{FitsMonomial}
 
 abbrev pub Exceeds : Rank → {A : Type 0} → List ℕ → Terms A → Type 0
 Exceeds O e p = Each (λ t. compare O t.0 e ≡ Greater) p
@@ -29,6 +29,6 @@ module _ (S : Scalars) where
 
   abbrev pub IsPastRaise : Terms S.Elem → List ℕ → S.Elem → List ℕ × S.Elem → Type 0
   IsPastRaise olds d c t =
-      ¬ (Fits (plus d t.0))
+      ¬ (FitsMonomial (plus d t.0))
       ⊎ IsPastMul S c t.1
       ⊎ IsPastAdd S (coefficient S.arithmetic olds (plus d t.0)) (S.mul c t.1)

@@ -1,7 +1,6 @@
 //! Polynomials of given terms.
-ghost use Rattle.std.specs.Prelude.{◌≡◌, ◌≤◌, ◌<◌, length, [], ◌∷◌, replicate, slice_get, All, IfOk, IsErrOf, IsSomeAnd, IsTrue, ◌↔◌};
+ghost use Rattle.std.specs.Prelude.{◌≡◌, ◌≤◌, ◌<◌, length, [], ◌∷◌, slice_get, All, IfOk, IsErrOf, IsSomeAnd, IsTrue, ◌↔◌};
 ghost use Rattle.numbers.specs.Size.{IsPast};
-ghost use Rattle.polynomials.specs.Exponent.{unit_exponents};
 ghost use Rattle.polynomials.specs.Terms.{constant, variables};
 ghost use Rattle.polynomials.specs.Polynomial.{IsPolynomial};
 ghost use Rattle.polynomials.specs.Weight.{weight};
@@ -12,10 +11,10 @@ ghost use Rattle.poly.specs.Seen.{Is, terms_in};
 ghost use Rattle.poly.specs.View.{terms_of};
 
 use crate::sums::push_nonzero;
-use crate::{Poly, PolyError, Term};
+use crate::{Poly, Term};
 use monos::{Mono, Order};
-use ring_laws::Ring;
-use std::alloc::Global;
+use ring_laws::{ArithmeticError, Ring};
+use std::alloc::{AllocError, Global};
 
 impl<K: Ring, O: Order> Poly<K, O> {
     /// The constant `value` in `arity` variables.
@@ -24,21 +23,19 @@ impl<K: Ring, O: Order> Poly<K, O> {
         order: O,
         arity: usize,
         value: &K,
-    ) -> Result<Poly<K, O>, PolyError>
+    ) -> Result<Poly<K, O>, AllocError>
         requires { arity ≤ most_variables }
         ensures constant { IfOk result (Is order arity (constant arity (K.meaning value.now))) }
-        ensures narrow { ¬ IsErrOf result PolyError.Wide }
     {
-        single(alloc, order, arity, one(alloc, arity)?, *value)
+        single(alloc, order, arity, Mono::one(alloc, arity)?, *value)
     }
 
     /// The polynomial 1 in `arity` variables.
-    pub fn one(alloc: Global, order: O, arity: usize) -> Result<Poly<K, O>, PolyError>
+    pub fn one(alloc: Global, order: O, arity: usize) -> Result<Poly<K, O>, AllocError>
         requires { arity ≤ most_variables }
         ensures one { IfOk result (Is order arity (constant arity K.scalars.one)) }
-        ensures narrow { ¬ IsErrOf result PolyError.Wide }
     {
-        single(alloc, order, arity, one(alloc, arity)?, K::one())
+        single(alloc, order, arity, Mono::one(alloc, arity)?, K::one())
     }
 
     /// The variable with this index, of `arity` variables.
@@ -47,13 +44,18 @@ impl<K: Ring, O: Order> Poly<K, O> {
         order: O,
         arity: usize,
         index: usize,
-    ) -> Result<Poly<K, O>, PolyError>
+    ) -> Result<Poly<K, O>, AllocError>
         requires few { arity ≤ most_variables }
         requires index { index < arity }
         ensures variable { IfOk result (IsVariable order arity index) }
-        ensures narrow { ¬ IsErrOf result PolyError.Wide }
     {
-        single(alloc, order, arity, unit(alloc, arity, index)?, K::one())
+        single(
+            alloc,
+            order,
+            arity,
+            Mono::variable(alloc, arity, index)?,
+            K::one(),
+        )
     }
 
     /// The sum of some terms, which may have the same monomials.
@@ -63,15 +65,30 @@ impl<K: Ring, O: Order> Poly<K, O> {
         order: O,
         arity: usize,
         terms: Vec<Term<K>>,
-    ) -> Result<Poly<K, O>, PolyError>
+    ) -> Result<Poly<K, O>, ArithmeticError>
         requires few { arity ≤ most_variables }
         requires arities { All (λ t. length t.mono ≡ arity) terms.items }
         ensures sum { IfOk result (Is order arity (terms_of K.meaning terms.items)) }
-        ensures wide { IsErrOf result PolyError.Wide
+        ensures wide { IsErrOf result ArithmeticError.Wide
             → IsPast (weight K.scalars.size (terms_of K.meaning terms.items)) }
-        ensures distinct { AreDistinct terms.items → ¬ IsErrOf result PolyError.Wide }
+        ensures distinct { AreDistinct terms.items → ¬ IsErrOf result ArithmeticError.Wide }
     {
         sum_of(alloc, order, arity, terms)
+    }
+
+    /// The polynomial of terms with different monomials, which stand in any order.
+    pub fn from_distinct(
+        alloc: Global,
+        order: O,
+        arity: usize,
+        terms: Vec<Term<K>>,
+    ) -> Result<Poly<K, O>, AllocError>
+        requires few { arity ≤ most_variables }
+        requires arities { All (λ t. length t.mono ≡ arity) terms.items }
+        requires distinct { AreDistinct terms.items }
+        ensures { IfOk result (Is order arity (terms_of K.meaning terms.items)) }
+    {
+        sum_of_distinct(alloc, order, arity, terms)
     }
 
     /// The polynomial of terms that stand in falling order, none with the coefficient 0.
@@ -91,38 +108,11 @@ impl<K: Ring, O: Order> Poly<K, O> {
     }
 
     /// The same polynomial with its terms in another order.
-    pub fn reorder<P: Order>(&self, alloc: Global, order: P) -> Result<Poly<K, P>, PolyError>
+    pub fn reorder<P: Order>(&self, alloc: Global, order: P) -> Result<Poly<K, P>, AllocError>
         ensures same { IfOk result (Is order self.now.arity (terms_in self.now)) }
-        ensures narrow { ¬ IsErrOf result PolyError.Wide }
     {
         let copy = self.copy(alloc)?;
-        sum_of(alloc, order, self.arity, copy.terms)
-    }
-}
-
-/// The monomial 1.
-fn one(alloc: Global, arity: usize) -> Result<Mono, PolyError>
-    requires { arity ≤ most_variables }
-    ensures ok { IfOk result (λ mono. mono ≡ replicate arity 0) }
-    ensures narrow { ¬ IsErrOf result PolyError.Wide }
-{
-    match Mono::one(alloc, arity) {
-        Ok(mono) => Ok(mono),
-        Err(_) => Err(PolyError::Memory),
-    }
-}
-
-/// The monomial of one variable.
-fn unit(alloc: Global, arity: usize, index: usize) -> Result<Mono, PolyError>
-    requires few { arity ≤ most_variables }
-    requires index { index < arity }
-    ensures ok { IfOk result (λ mono. slice_get (unit_exponents arity) index ≡ Some mono) }
-    ensures arity { IfOk result (λ mono. length mono ≡ arity) }
-    ensures narrow { ¬ IsErrOf result PolyError.Wide }
-{
-    match Mono::variable(alloc, arity, index) {
-        Ok(mono) => Ok(mono),
-        Err(_) => Err(PolyError::Memory),
+        sum_of_distinct(alloc, order, self.arity, copy.terms)
     }
 }
 
@@ -133,11 +123,10 @@ fn single<K: Ring, O: Order>(
     arity: usize,
     mono: Mono,
     coef: K,
-) -> Result<Poly<K, O>, PolyError>
+) -> Result<Poly<K, O>, AllocError>
     requires few { arity ≤ most_variables }
     requires arity { length mono ≡ arity }
     ensures term { IfOk result (Is order arity ((mono, K.meaning coef) ∷ [])) }
-    ensures narrow { ¬ IsErrOf result PolyError.Wide }
 {
     let mut terms = Vec::new(alloc);
     push_nonzero(&mut terms, mono, coef)?;
@@ -154,14 +143,14 @@ pub(crate) fn sum_of<K: Ring, O: Order>(
     order: O,
     arity: usize,
     mut terms: Vec<Term<K>>,
-) -> Result<Poly<K, O>, PolyError>
+) -> Result<Poly<K, O>, ArithmeticError>
     requires few { arity ≤ most_variables }
     requires arities { All (λ t. length t.mono ≡ arity) terms.items }
     ensures sum { IfOk result (Is order arity (terms_of K.meaning terms.items)) }
-    ensures wide { IsErrOf result PolyError.Wide
+    ensures wide { IsErrOf result ArithmeticError.Wide
         → IsPast (weight K.scalars.size (terms_of K.meaning terms.items)) }
     ensures distinct { IsDistinct (terms_of K.meaning terms.items)
-        → ¬ IsErrOf result PolyError.Wide }
+        → ¬ IsErrOf result ArithmeticError.Wide }
 {
     if terms.len() < 2 {
         return Ok(at_most_one(alloc, order, arity, terms));
@@ -170,6 +159,25 @@ pub(crate) fn sum_of<K: Ring, O: Order>(
     let left = sum_of(alloc, order, arity, terms)?;
     let right = sum_of(alloc, order, arity, back)?;
     left.plus(alloc, right)
+}
+
+/// The sum of some terms with different monomials.
+pub(crate) fn sum_of_distinct<K: Ring, O: Order>(
+    alloc: Global,
+    order: O,
+    arity: usize,
+    terms: Vec<Term<K>>,
+) -> Result<Poly<K, O>, AllocError>
+    requires few { arity ≤ most_variables }
+    requires arities { All (λ t. length t.mono ≡ arity) terms.items }
+    requires distinct { IsDistinct (terms_of K.meaning terms.items) }
+    ensures { IfOk result (Is order arity (terms_of K.meaning terms.items)) }
+{
+    match sum_of(alloc, order, arity, terms) {
+        Ok(sum) => Ok(sum),
+        Err(ArithmeticError::Memory) => Err(AllocError),
+        Err(ArithmeticError::Wide) => unreachable!(),
+    }
 }
 
 /// The polynomial of one term or none.

@@ -9,10 +9,10 @@ ghost use Rattle.poly.specs.Seen.{Is};
 ghost use Rattle.poly.specs.View.{term_of, terms_of};
 
 use crate::build::sum_of;
-use crate::{Poly, PolyError, Term};
+use crate::{Poly, Term};
 use monos::{Mono, Order};
-use ring_laws::Ring;
-use std::alloc::Global;
+use ring_laws::{ArithmeticError, Ring};
+use std::alloc::{AllocError, Global};
 
 /// The most places of a grid.
 const MOST_PLACES: usize = 1 << 20;
@@ -30,12 +30,16 @@ pub(crate) fn grid_for<K: Ring>(
         (terms_of K.meaning left.now) (terms_of K.meaning right.now)) }
     ensures places { IfSome result (λ grid. grid.1 ≡ grid.0 ^ arity) }
 {
+    let products = left.len().checked_mul(right.len())?;
+    // so few that no grid is worth it, whatever the exponents
+    if places_of(2, arity)? > products / 2 {
+        return None;
+    }
     let base = usize::from(greatest(left)) + usize::from(greatest(right)) + 1;
     if base > 65_536 {
         return None;
     }
     let places = places_of(base, arity)?;
-    let products = left.len().checked_mul(right.len())?;
     if places <= products / 2 {
         Some((base, places))
     } else {
@@ -52,14 +56,14 @@ pub(crate) fn dense_product<K: Ring, O: Order>(
     places: usize,
     left: &[Term<K>],
     right: &[Term<K>],
-) -> Result<Poly<K, O>, PolyError>
+) -> Result<Poly<K, O>, ArithmeticError>
     requires few { arity ≤ most_variables }
     requires grid { IsGridFor K.scalars.arithmetic base arity
         (terms_of K.meaning left.now) (terms_of K.meaning right.now) }
     requires places { places ≡ base ^ arity }
     ensures product { IfOk result (Is order arity (times K.scalars.arithmetic
         (terms_of K.meaning left.now) (terms_of K.meaning right.now))) }
-    ensures wide { IsErrOf result PolyError.Wide → IsPastProduct K.scalars
+    ensures wide { IsErrOf result ArithmeticError.Wide → IsPastProduct K.scalars
         (terms_of K.meaning left.now) (terms_of K.meaning right.now) }
 {
     let mut grid = zeros(alloc, places)?;
@@ -71,10 +75,9 @@ pub(crate) fn dense_product<K: Ring, O: Order>(
 }
 
 /// As many zeros as there are places.
-fn zeros<K: Ring>(alloc: Global, places: usize) -> Result<Vec<K>, PolyError>
+fn zeros<K: Ring>(alloc: Global, places: usize) -> Result<Vec<K>, AllocError>
     ensures count { IfOk result (λ zeros. length zeros.items ≡ places) }
     ensures ok { IfOk result (λ zeros. All (λ a. K.meaning a ≡ K.scalars.zero) zeros.items) }
-    ensures narrow { ¬ IsErrOf result PolyError.Wide }
 {
     let mut zeros = Vec::with_capacity(alloc, places)?;
     while zeros.len() < places {
@@ -89,7 +92,7 @@ fn add_row<K: Ring>(
     base: usize,
     term: &Term<K>,
     right: &[Term<K>],
-) -> Result<(), PolyError>
+) -> Result<(), ArithmeticError>
     requires size { length grid.old.items ≡ base ^ length term.now.mono }
     requires grid { IsGridFor K.scalars.arithmetic base (length term.now.mono)
         (term_of K.meaning term.now ∷ []) (terms_of K.meaning right.now) }
@@ -97,7 +100,7 @@ fn add_row<K: Ring>(
         (term_of K.meaning term.now) (terms_of K.meaning right.now)
         (map K.meaning grid.old.items) (map K.meaning grid.new.items)) }
     ensures size { length grid.new.items ≡ length grid.old.items }
-    ensures wide { IsErrOf result PolyError.Wide → (p : Terms K.scalars.Elem)
+    ensures wide { IsErrOf result ArithmeticError.Wide → (p : Terms K.scalars.Elem)
         → Holds K.scalars.arithmetic base (length term.now.mono) (map K.meaning grid.old.items)
         (times K.scalars.arithmetic p (terms_of K.meaning right.now))
         → IsPastProduct K.scalars (p ++ term_of K.meaning term.now ∷ [])
@@ -118,14 +121,13 @@ fn terms_at<K: Ring>(
     base: usize,
     arity: usize,
     grid: &[K],
-) -> Result<Vec<Term<K>>, PolyError>
+) -> Result<Vec<Term<K>>, AllocError>
     requires few { arity ≤ most_variables }
     requires positive { 0 < base }
     requires narrow { base ≤ most_base }
     requires size { length grid.now ≡ base ^ arity }
     ensures ok { IfOk result (λ out. Read K.scalars.arithmetic base arity
         (map K.meaning grid.now) (terms_of K.meaning out.items)) }
-    ensures narrow { ¬ IsErrOf result PolyError.Wide }
 {
     let mut out = Vec::new(alloc);
     for (place, coef) in grid.iter().enumerate() {
@@ -138,12 +140,11 @@ fn terms_at<K: Ring>(
 }
 
 /// The monomial at a place.
-fn monomial_at(alloc: Global, base: usize, arity: usize, place: usize) -> Result<Mono, PolyError>
+fn monomial_at(alloc: Global, base: usize, arity: usize, place: usize) -> Result<Mono, AllocError>
     requires few { arity ≤ most_variables }
     requires positive { 0 < base }
     requires narrow { base ≤ most_base }
     ensures ok { IfOk result (λ mono. mono ≡ exponents_at base arity place) }
-    ensures narrow { ¬ IsErrOf result PolyError.Wide }
 {
     let mut exponents = Vec::with_capacity(alloc, arity)?;
     let mut rest = place;
@@ -151,10 +152,7 @@ fn monomial_at(alloc: Global, base: usize, arity: usize, place: usize) -> Result
         exponents.push((rest % base) as u16)?;
         rest /= base;
     }
-    match Mono::new(alloc, &exponents) {
-        Ok(mono) => Ok(mono),
-        Err(_) => Err(PolyError::Memory),
-    }
+    Mono::new(alloc, &exponents)
 }
 
 /// The place of the monomial with these exponents.

@@ -6,7 +6,6 @@ ghost use Rattle.polynomials.specs.Polynomial.{IsPolynomial};
 ghost use Rattle.polynomials.proofs.Canonical.{polynomial_prop};
 ghost use Rattle.monos.specs.Variables.{most_variables};
 ghost use Rattle.poly.specs.View.{terms_of};
-ghost use Rattle.poly.specs.declared.PolyError.TheVariants.{Wide as WideError, Memory as MemoryError};
 
 mod build;
 mod clearing;
@@ -22,44 +21,9 @@ mod product;
 mod source;
 mod sums;
 
-use monos::{Mono, MonoError, Order};
-use ring_laws::{Ring, Wide};
-use std::alloc::{AllocError, AllocFailed, Global};
-use thiserror::Error;
-
-/// Why a polynomial was not made.
-#[derive(Clone, Copy, Debug, PartialEq, Eq, Error)]
-pub enum PolyError {
-    /// A number does not fit its type, or an exponent is above 65,535.
-    #[error("a number or an exponent is too wide")]
-    Wide,
-    #[error("out of memory")]
-    Memory,
-}
-
-impl From<Wide> for PolyError {
-    ghost from_gives = { λ _ e. e ≡ WideError };
-
-    fn from(_: Wide) -> PolyError {
-        PolyError::Wide
-    }
-}
-
-impl From<AllocError> for PolyError {
-    ghost from_gives = { λ _ e. e ≡ MemoryError };
-
-    fn from(_: AllocError) -> PolyError {
-        PolyError::Memory
-    }
-}
-
-impl<T: Drop> From<AllocFailed<T>> for PolyError {
-    ghost from_gives = { λ _ e. e ≡ MemoryError };
-
-    fn from(_: AllocFailed<T>) -> PolyError {
-        PolyError::Memory
-    }
-}
+use monos::{Mono, Order};
+use ring_laws::Ring;
+use std::alloc::Global;
 
 /// A monomial with its coefficient.
 #[derive(Drop, Debug, PartialEq, Eq)]

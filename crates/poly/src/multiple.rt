@@ -1,5 +1,5 @@
 //! What divisions make: a polynomial less a multiple of another, and polynomials whose lead has the number 1.
-ghost use Rattle.std.specs.Prelude.{◌≡◌, ◌≢◌, ◌⊎◌, [], ◌++◌, length, All, IfOk, OnOk, IsErrOf};
+ghost use Rattle.std.specs.Prelude.{◌≡◌, ◌≢◌, ◌<◌, ◌≤◌, ◌+◌, ◌⊎◌, [], ◌++◌, length, vec_capacity, All, IfOk, OnOk, IsErrOf};
 ghost use Rattle.numbers.specs.Scalars.{IsPastAdd};
 ghost use Rattle.polynomials.specs.Exponent.{plus};
 ghost use Rattle.polynomials.specs.Polynomial.{IsPolynomial};
@@ -10,10 +10,10 @@ ghost use Rattle.poly.specs.Seen.{terms_in};
 ghost use Rattle.poly.specs.View.{term_of, terms_of};
 
 use crate::product::product;
-use crate::sums::{copy_mono, push_nonzero};
-use crate::{Poly, PolyError, Term};
+use crate::sums::{push_nonzero, put_nonzero};
+use crate::{Poly, Term};
 use monos::{Mono, Order};
-use ring_laws::{Field, Ring};
+use ring_laws::{ArithmeticError, Field, Ring};
 use std::alloc::Global;
 use std::cmp::Ordering;
 use std::collections::VecDeque;
@@ -27,20 +27,23 @@ impl<K: Ring, O: Order> Poly<K, O> {
         alloc: Global,
         factor: &Term<K>,
         other: &Poly<K, O>,
-    ) -> Result<Poly<K, O>, PolyError>
+    ) -> Result<Poly<K, O>, ArithmeticError>
         requires order { self.order ≡ other.now.order }
         requires arity { self.arity ≡ other.now.arity }
         requires factor { length factor.now.mono ≡ self.arity }
         ensures difference { IfOk result (IsLike self (less_multiple self factor.now other.now)) }
-        ensures wide { IsErrOf result PolyError.Wide
+        ensures wide { IsErrOf result ArithmeticError.Wide
             → LessMultipleIsPast self factor.now other.now }
         ensures shifted { K.meaning factor.now.coef ≡ K.scalars.one
-            → IsErrOf result PolyError.Wide
+            → IsErrOf result ArithmeticError.Wide
             → SumIsPast self other.now ⊎ ShiftIsPast factor.now.mono other.now }
     {
         let (order, arity) = (self.order, self.arity);
-        let number = factor.coef.neg()?;
-        let room = self.terms.len().saturating_add(other.terms.len());
+        let number = factor.coef.neg();
+        // room for all terms, so that none needs a test whether there is some
+        let Some(room) = self.terms.len().checked_add(other.terms.len()) else {
+            return Err(ArithmeticError::Memory);
+        };
         let mut front = Vec::with_capacity(alloc, room)?;
         let mut back = VecDeque::from_vec(self.terms);
         for term in &other.terms {
@@ -66,34 +69,35 @@ impl<K: Ring, O: Order> Poly<K, O> {
 impl<K: Field, O: Order> Poly<K, O> {
     /// The polynomial divided by the number of its lead.
     /// `Wide` only where the weight of that division is past, and never where the number is 1 already.
-    pub fn monic(&self, alloc: Global) -> Result<Poly<K, O>, PolyError>
+    pub fn monic(&self, alloc: Global) -> Result<Poly<K, O>, ArithmeticError>
         requires { terms_in self.now ≢ [] }
         ensures quotient { IfOk result
             (IsLike self.now (quotient (lead_number self.now) self.now)) }
-        ensures wide { IsErrOf result PolyError.Wide
+        ensures wide { IsErrOf result ArithmeticError.Wide
             → QuotientIsPast (lead_number self.now) self.now }
         ensures narrow { lead_number self.now ≡ K.scalars.one
-            → ¬ IsErrOf result PolyError.Wide }
+            → ¬ IsErrOf result ArithmeticError.Wide }
     {
         let Some(lead) = self.terms.first() else {
             unreachable!()
         };
         if lead.coef == K::one() {
-            return self.copy(alloc);
+            return Ok(self.copy(alloc)?);
         }
         self.divide_by(alloc, &lead.coef)
     }
 
     /// The quotient by a number that isn't 0. `Wide` only where its weight is past.
-    fn divide_by(&self, alloc: Global, by: &K) -> Result<Poly<K, O>, PolyError>
+    fn divide_by(&self, alloc: Global, by: &K) -> Result<Poly<K, O>, ArithmeticError>
         requires { K.meaning by.now ≢ K.scalars.zero }
         ensures quotient { IfOk result (IsLike self.now (quotient (K.meaning by.now) self.now)) }
-        ensures wide { IsErrOf result PolyError.Wide → QuotientIsPast (K.meaning by.now) self.now }
+        ensures wide { IsErrOf result ArithmeticError.Wide
+            → QuotientIsPast (K.meaning by.now) self.now }
     {
         let mut out = Vec::with_capacity(alloc, self.terms.len())?;
         for term in &self.terms {
             let coef = term.coef.div(by)?;
-            push_nonzero(&mut out, copy_mono(alloc, &term.mono)?, coef)?;
+            push_nonzero(&mut out, term.mono.copy(alloc)?, coef)?;
         }
         Ok(Poly {
             order: self.order,
@@ -112,17 +116,21 @@ fn put_product<K: Ring, O: Order>(
     by: &Mono,
     number: &K,
     term: &Term<K>,
-) -> Result<(), PolyError>
+) -> Result<(), ArithmeticError>
     requires long { length by.now ≡ length term.now.mono }
     requires falling { IsPolynomial K.scalars.arithmetic (O.order order) (length by.now)
         (terms_of K.meaning front.old.items ++ terms_of K.meaning back.old.items) }
     requires above { Exceeds (O.order order) (plus by.now term.now.mono)
         (terms_of K.meaning front.old.items) }
+    requires room { length front.old.items + length back.old.items < vec_capacity front.old }
+    ensures count { OnOk result (length front.new.items + length back.new.items
+        ≤ length front.old.items + length back.old.items + 1) }
+    ensures room { OnOk result (vec_capacity front.new ≡ vec_capacity front.old) }
     ensures ok { OnOk result (IsRaised K.scalars (O.order order) (plus by.now term.now.mono)
         (K.scalars.mul (K.meaning number.now) (K.meaning term.now.coef))
         (terms_of K.meaning front.old.items ++ terms_of K.meaning back.old.items)
         (terms_of K.meaning front.new.items) (terms_of K.meaning back.new.items)) }
-    ensures wide { IsErrOf result PolyError.Wide → IsPastRaise K.scalars
+    ensures wide { IsErrOf result ArithmeticError.Wide → IsPastRaise K.scalars
         (terms_of K.meaning front.old.items ++ terms_of K.meaning back.old.items)
         by.now (K.meaning number.now) (term_of K.meaning term.now) }
 {
@@ -141,57 +149,60 @@ fn put<K: Ring, O: Order>(
     back: &mut VecDeque<Term<K>>,
     mono: Mono,
     coef: K,
-) -> Result<(), PolyError>
+) -> Result<(), ArithmeticError>
     requires nonzero { K.meaning coef ≢ K.scalars.zero }
     requires falling { IsPolynomial K.scalars.arithmetic (O.order order) (length mono)
         (terms_of K.meaning front.old.items ++ terms_of K.meaning back.old.items) }
     requires above { Exceeds (O.order order) mono (terms_of K.meaning front.old.items) }
+    requires room { length front.old.items + length back.old.items < vec_capacity front.old }
+    ensures count { OnOk result (length front.new.items + length back.new.items
+        ≤ length front.old.items + length back.old.items + 1) }
+    ensures room { OnOk result (vec_capacity front.new ≡ vec_capacity front.old) }
     ensures ok { OnOk result (IsRaised K.scalars (O.order order) mono (K.meaning coef)
         (terms_of K.meaning front.old.items ++ terms_of K.meaning back.old.items)
         (terms_of K.meaning front.new.items) (terms_of K.meaning back.new.items)) }
-    ensures wide { IsErrOf result PolyError.Wide → IsPastAdd K.scalars
+    ensures wide { IsErrOf result ArithmeticError.Wide → IsPastAdd K.scalars
         (coefficient K.scalars.arithmetic
         (terms_of K.meaning front.old.items ++ terms_of K.meaning back.old.items) mono)
         (K.meaning coef) }
 {
-    if !pass_greater(order, front, back, &mono)? {
-        front.push(Term { mono, coef })?;
+    if !pass_greater(order, front, back, &mono) {
+        front.push_reserved(Term { mono, coef });
         return Ok(());
     }
     let Some(like) = back.pop_front() else {
         unreachable!()
     };
     let sum = like.coef.add(&coef)?;
-    push_nonzero(front, mono, sum)
+    put_nonzero(front, mono, sum);
+    Ok(())
 }
 
-/// Moves the terms above a monomial from the second part of a polynomial to the first. Whether the next has that monomial.
+/// Moves the terms above a monomial from the second part of a polynomial to the first, which has room for them. Whether the next has that monomial.
 fn pass_greater<K: Ring, O: Order>(
     order: O,
     front: &mut Vec<Term<K>>,
     back: &mut VecDeque<Term<K>>,
     mono: &Mono,
-) -> Result<bool, PolyError>
+) -> bool
     requires long { All (λ t. length t.mono ≡ length mono.now) back.old.items }
-    ensures terms { OnOk result
-        (front.new.items ++ back.new.items ≡ front.old.items ++ back.old.items) }
-    ensures above { OnOk result
-        (Exceeds (O.order order) mono.now (terms_of K.meaning front.old.items)
-        → Exceeds (O.order order) mono.now (terms_of K.meaning front.new.items)) }
-    ensures begins { IfOk result (λ b. Begins (O.order order) mono.now b
-        (terms_of K.meaning back.new.items)) }
-    ensures narrow { ¬ IsErrOf result PolyError.Wide }
+    requires room { length front.old.items + length back.old.items ≤ vec_capacity front.old }
+    ensures terms { front.new.items ++ back.new.items ≡ front.old.items ++ back.old.items }
+    ensures above { Exceeds (O.order order) mono.now (terms_of K.meaning front.old.items)
+        → Exceeds (O.order order) mono.now (terms_of K.meaning front.new.items) }
+    ensures begins { Begins (O.order order) mono.now result (terms_of K.meaning back.new.items) }
+    ensures room { vec_capacity front.new ≡ vec_capacity front.old }
 {
     while let Some(next) = back.front() {
         match order.compare(&next.mono, mono) {
             Ordering::Greater => {}
-            Ordering::Equal => return Ok(true),
-            Ordering::Less => return Ok(false),
+            Ordering::Equal => return true,
+            Ordering::Less => return false,
         }
         let Some(term) = back.pop_front() else {
             unreachable!()
         };
-        front.push(term)?;
+        front.push_reserved(term);
     }
-    Ok(false)
+    false
 }

@@ -2,28 +2,29 @@
 ghost use Rattle.std.specs.Prelude.{◌≡◌, [], ◌∷◌, length, All, IfOk, IsErrOf};
 ghost use Rattle.polynomials.specs.Exponent.{plus};
 ghost use Rattle.polynomials.specs.Terms.{shift, times};
-ghost use Rattle.polynomials.specs.Weight.{degrees, Fits, IsPastProduct};
+ghost use Rattle.polynomials.specs.Weight.{degrees, FitsMonomial, IsPastProduct};
 ghost use Rattle.poly.specs.Operations.{IsLike, multiple, shift_by as shifted_in, product as product_in, power as power_in, MultipleIsPast, ShiftIsPast, ProductIsPast, PowerIsPast};
 ghost use Rattle.poly.specs.Seen.{terms_in};
 ghost use Rattle.poly.specs.View.{term_of, terms_of};
 
 use crate::grid::{dense_product, grid_for};
-use crate::sums::{copy_mono, push_nonzero};
-use crate::{Poly, PolyError, Term};
-use monos::{Mono, MonoError, Order};
-use ring_laws::Ring;
+use crate::sums::put_nonzero;
+use crate::{Poly, Term};
+use monos::{Mono, Order};
+use ring_laws::{ArithmeticError, Ring};
 use std::alloc::Global;
 
 impl<K: Ring, O: Order> Poly<K, O> {
     /// The product with a number. `Wide` only where its weight is past.
-    pub fn scale(&self, alloc: Global, by: &K) -> Result<Poly<K, O>, PolyError>
+    pub fn scale(&self, alloc: Global, by: &K) -> Result<Poly<K, O>, ArithmeticError>
         ensures product { IfOk result (IsLike self.now (multiple (K.meaning by.now) self.now)) }
-        ensures wide { IsErrOf result PolyError.Wide → MultipleIsPast (K.meaning by.now) self.now }
+        ensures wide { IsErrOf result ArithmeticError.Wide
+            → MultipleIsPast (K.meaning by.now) self.now }
     {
-        let mut out = Vec::new(alloc);
+        let mut out = Vec::with_capacity(alloc, self.terms.len())?;
         for term in &self.terms {
             let coef = by.mul(&term.coef)?;
-            push_nonzero(&mut out, copy_mono(alloc, &term.mono)?, coef)?;
+            put_nonzero(&mut out, term.mono.copy(alloc)?, coef);
         }
         Ok(Poly {
             order: self.order,
@@ -33,10 +34,10 @@ impl<K: Ring, O: Order> Poly<K, O> {
     }
 
     /// The product with a monomial. `Wide` only where a sum of exponents is above 65,535.
-    pub fn shift(&self, alloc: Global, by: &Mono) -> Result<Poly<K, O>, PolyError>
+    pub fn shift(&self, alloc: Global, by: &Mono) -> Result<Poly<K, O>, ArithmeticError>
         requires { length by.now ≡ self.now.arity }
         ensures product { IfOk result (IsLike self.now (shifted_in by.now self.now)) }
-        ensures wide { IsErrOf result PolyError.Wide → ShiftIsPast by.now self.now }
+        ensures wide { IsErrOf result ArithmeticError.Wide → ShiftIsPast by.now self.now }
     {
         Ok(Poly {
             order: self.order,
@@ -46,17 +47,17 @@ impl<K: Ring, O: Order> Poly<K, O> {
     }
 
     /// The product. `Wide` only where its weight is past, or a sum of exponents of the factors is above 65,535.
-    pub fn mul(&self, alloc: Global, other: &Poly<K, O>) -> Result<Poly<K, O>, PolyError>
+    pub fn mul(&self, alloc: Global, other: &Poly<K, O>) -> Result<Poly<K, O>, ArithmeticError>
         requires order { self.now.order ≡ other.now.order }
         requires arity { self.now.arity ≡ other.now.arity }
         ensures product { IfOk result (IsLike self.now (product_in self.now other.now)) }
-        ensures wide { IsErrOf result PolyError.Wide → ProductIsPast self.now other.now }
+        ensures wide { IsErrOf result ArithmeticError.Wide → ProductIsPast self.now other.now }
     {
         if let Some(clearing) = self.clearing(other) {
             match self.cleared_product(alloc, other, clearing) {
                 Ok(product) => return Ok(product),
-                Err(PolyError::Memory) => return Err(PolyError::Memory),
-                Err(PolyError::Wide) => {}
+                Err(ArithmeticError::Memory) => return Err(ArithmeticError::Memory),
+                Err(ArithmeticError::Wide) => {}
             }
         }
         self.plain_product(alloc, other)
@@ -67,11 +68,11 @@ impl<K: Ring, O: Order> Poly<K, O> {
         &self,
         alloc: Global,
         other: &Poly<K, O>,
-    ) -> Result<Poly<K, O>, PolyError>
+    ) -> Result<Poly<K, O>, ArithmeticError>
         requires order { self.now.order ≡ other.now.order }
         requires arity { self.now.arity ≡ other.now.arity }
         ensures product { IfOk result (IsLike self.now (product_in self.now other.now)) }
-        ensures wide { IsErrOf result PolyError.Wide → ProductIsPast self.now other.now }
+        ensures wide { IsErrOf result ArithmeticError.Wide → ProductIsPast self.now other.now }
     {
         if self.terms.len() <= other.terms.len() {
             product_with(alloc, &self.terms, other)
@@ -81,16 +82,16 @@ impl<K: Ring, O: Order> Poly<K, O> {
     }
 
     /// The power with this exponent, by squares. `Wide` only where its weight is past, or a product of the exponent with one of the polynomial's is above 65,535.
-    pub fn power(&self, alloc: Global, exponent: u16) -> Result<Poly<K, O>, PolyError>
+    pub fn power(&self, alloc: Global, exponent: u16) -> Result<Poly<K, O>, ArithmeticError>
         ensures power { IfOk result (IsLike self.now (power_in self.now exponent)) }
-        ensures wide { IsErrOf result PolyError.Wide → PowerIsPast self.now exponent }
+        ensures wide { IsErrOf result ArithmeticError.Wide → PowerIsPast self.now exponent }
     {
         let arity = self.arity;
         if exponent == 0 {
-            return Poly::one(alloc, self.order, arity);
+            return Ok(Poly::one(alloc, self.order, arity)?);
         }
         if exponent == 1 {
-            return self.copy(alloc);
+            return Ok(self.copy(alloc)?);
         }
         let half = self.power(alloc, exponent / 2)?;
         let square = half.mul(alloc, &half)?;
@@ -106,11 +107,11 @@ fn product_with<K: Ring, O: Order>(
     alloc: Global,
     terms: &[Term<K>],
     factor: &Poly<K, O>,
-) -> Result<Poly<K, O>, PolyError>
+) -> Result<Poly<K, O>, ArithmeticError>
     requires arities { All (λ t. length t.mono ≡ factor.now.arity) terms.now }
     ensures product { IfOk result (IsLike factor.now
         (times K.scalars.arithmetic (terms_of K.meaning terms.now) (terms_in factor.now))) }
-    ensures wide { IsErrOf result PolyError.Wide
+    ensures wide { IsErrOf result ArithmeticError.Wide
         → IsPastProduct K.scalars (terms_of K.meaning terms.now) (terms_in factor.now) }
 {
     let (order, arity) = (factor.order, factor.arity);
@@ -127,11 +128,11 @@ fn product_of<K: Ring, O: Order>(
     alloc: Global,
     terms: &[Term<K>],
     factor: &Poly<K, O>,
-) -> Result<Poly<K, O>, PolyError>
+) -> Result<Poly<K, O>, ArithmeticError>
     requires arities { All (λ t. length t.mono ≡ factor.now.arity) terms.now }
     ensures product { IfOk result (IsLike factor.now
         (times K.scalars.arithmetic (terms_of K.meaning terms.now) (terms_in factor.now))) }
-    ensures wide { IsErrOf result PolyError.Wide
+    ensures wide { IsErrOf result ArithmeticError.Wide
         → IsPastProduct K.scalars (terms_of K.meaning terms.now) (terms_in factor.now) }
 {
     match terms {
@@ -151,18 +152,18 @@ fn term_product<K: Ring, O: Order>(
     alloc: Global,
     term: &Term<K>,
     factor: &Poly<K, O>,
-) -> Result<Poly<K, O>, PolyError>
+) -> Result<Poly<K, O>, ArithmeticError>
     requires { length term.now.mono ≡ factor.now.arity }
     ensures product { IfOk result (IsLike factor.now (shift K.scalars.arithmetic
         term.now.mono (K.meaning term.now.coef) (terms_in factor.now))) }
-    ensures wide { IsErrOf result PolyError.Wide
+    ensures wide { IsErrOf result ArithmeticError.Wide
         → IsPastProduct K.scalars (term_of K.meaning term.now ∷ []) (terms_in factor.now) }
 {
     let mut out = Vec::with_capacity(alloc, factor.terms.len())?;
     for other in &factor.terms {
         let mono = product(alloc, &term.mono, &other.mono)?;
         let coef = term.coef.mul(&other.coef)?;
-        push_nonzero(&mut out, mono, coef)?;
+        put_nonzero(&mut out, mono, coef);
     }
     Ok(Poly {
         order: factor.order,
@@ -176,14 +177,14 @@ fn shift_terms<K: Ring>(
     alloc: Global,
     by: &Mono,
     terms: &[Term<K>],
-) -> Result<Vec<Term<K>>, PolyError>
+) -> Result<Vec<Term<K>>, ArithmeticError>
     requires { All (λ t. length t.mono ≡ length by.now) terms.now }
     ensures ok { IfOk result (λ out. terms_of K.meaning out.items
         ≡ shift K.scalars.arithmetic by.now K.scalars.one (terms_of K.meaning terms.now)) }
-    ensures wide { IsErrOf result PolyError.Wide
-        → ¬ (Fits (plus by.now (degrees (terms_of K.meaning terms.now)))) }
+    ensures wide { IsErrOf result ArithmeticError.Wide
+        → ¬ (FitsMonomial (plus by.now (degrees (terms_of K.meaning terms.now)))) }
 {
-    let mut out = Vec::new(alloc);
+    let mut out = Vec::with_capacity(alloc, terms.len())?;
     for term in terms {
         let mono = product(alloc, by, &term.mono)?;
         out.push(Term {
@@ -196,14 +197,11 @@ fn shift_terms<K: Ring>(
 
 /// The product of two monomials.
 #[inline(always)]
-pub(crate) fn product(alloc: Global, left: &Mono, right: &Mono) -> Result<Mono, PolyError>
+pub(crate) fn product(alloc: Global, left: &Mono, right: &Mono) -> Result<Mono, ArithmeticError>
     requires { length left.now ≡ length right.now }
     ensures ok { IfOk result (λ mono. mono ≡ plus left.now right.now) }
-    ensures wide { IsErrOf result PolyError.Wide → ¬ (Fits (plus left.now right.now)) }
+    ensures wide { IsErrOf result ArithmeticError.Wide
+        → ¬ (FitsMonomial (plus left.now right.now)) }
 {
-    match left.times(alloc, right) {
-        Ok(mono) => Ok(mono),
-        Err(MonoError::Wide) => Err(PolyError::Wide),
-        Err(MonoError::Memory) => Err(PolyError::Memory),
-    }
+    left.times(alloc, right)
 }

@@ -1,5 +1,5 @@
 //! Sums of polynomials.
-ghost use Rattle.std.specs.Prelude.{◌≡◌, ◌≤◌, [], ◌∷◌, ◌++◌, IfOk, OnOk, IsErrOf};
+ghost use Rattle.std.specs.Prelude.{◌≡◌, ◌<◌, ◌≤◌, ◌+◌, [], ◌∷◌, ◌++◌, length, vec_capacity, IfOk, OnOk, IsErrOf};
 ghost use Rattle.polynomials.specs.Terms.{negate};
 ghost use Rattle.polynomials.specs.Polynomial.{IsPolynomial};
 ghost use Rattle.polynomials.specs.Weight.{weight, IsPastSum};
@@ -11,20 +11,19 @@ ghost use Rattle.poly.specs.Pushed.{Takes};
 ghost use Rattle.poly.specs.Shared.{Share};
 
 use crate::source::Source;
-use crate::{Poly, PolyError, Term};
+use crate::{Poly, Term};
 use monos::{Mono, Order};
-use ring_laws::Ring;
-use std::alloc::Global;
+use ring_laws::{ArithmeticError, Ring};
+use std::alloc::{AllocError, Global};
 use std::cmp::Ordering;
 use std::collections::VecDeque;
 
 impl<K: Ring, O: Order> Poly<K, O> {
     /// A polynomial with the same terms.
-    pub fn copy(&self, alloc: Global) -> Result<Poly<K, O>, PolyError>
+    pub fn copy(&self, alloc: Global) -> Result<Poly<K, O>, AllocError>
         ensures order { IfOk result (λ p. p.order ≡ self.now.order) }
         ensures arity { IfOk result (λ p. p.arity ≡ self.now.arity) }
         ensures terms { IfOk result (λ p. terms_in p ≡ terms_in self.now) }
-        ensures narrow { ¬ IsErrOf result PolyError.Wide }
     {
         let mut terms = Vec::new(alloc);
         push_copies(alloc, &mut terms, &self.terms)?;
@@ -36,24 +35,28 @@ impl<K: Ring, O: Order> Poly<K, O> {
     }
 
     /// The sum. `Wide` only where its weight is past, and some monomial is in both.
-    pub fn add(&self, alloc: Global, other: &Poly<K, O>) -> Result<Poly<K, O>, PolyError>
+    pub fn add(&self, alloc: Global, other: &Poly<K, O>) -> Result<Poly<K, O>, ArithmeticError>
         requires order { self.now.order ≡ other.now.order }
         requires arity { self.now.arity ≡ other.now.arity }
         ensures sum { IfOk result (IsLike self.now (terms_in self.now ++ terms_in other.now)) }
-        ensures wide { IsErrOf result PolyError.Wide → SumIsPast self.now other.now }
-        ensures shared { IsErrOf result PolyError.Wide → ShareMonomial self.now other.now }
+        ensures wide { IsErrOf result ArithmeticError.Wide → SumIsPast self.now other.now }
+        ensures shared { IsErrOf result ArithmeticError.Wide → ShareMonomial self.now other.now }
     {
         let (left, right) = (self.terms.as_slice(), other.terms.as_slice());
         merge(alloc, self.order, self.arity, left, right)
     }
 
     /// The sum, made of the terms of both.
-    pub(crate) fn plus(self, alloc: Global, other: Poly<K, O>) -> Result<Poly<K, O>, PolyError>
+    pub(crate) fn plus(
+        self,
+        alloc: Global,
+        other: Poly<K, O>,
+    ) -> Result<Poly<K, O>, ArithmeticError>
         requires order { self.order ≡ other.order }
         requires arity { self.arity ≡ other.arity }
         ensures sum { IfOk result (IsLike self (terms_in self ++ terms_in other)) }
-        ensures wide { IsErrOf result PolyError.Wide → SumIsPast self other }
-        ensures shared { IsErrOf result PolyError.Wide → ShareMonomial self other }
+        ensures wide { IsErrOf result ArithmeticError.Wide → SumIsPast self other }
+        ensures shared { IsErrOf result ArithmeticError.Wide → ShareMonomial self other }
     {
         let left = VecDeque::from_vec(self.terms);
         let right = VecDeque::from_vec(other.terms);
@@ -61,11 +64,11 @@ impl<K: Ring, O: Order> Poly<K, O> {
     }
 
     /// The difference. `Wide` only where the weight of the sum is past.
-    pub fn sub(&self, alloc: Global, other: &Poly<K, O>) -> Result<Poly<K, O>, PolyError>
+    pub fn sub(&self, alloc: Global, other: &Poly<K, O>) -> Result<Poly<K, O>, ArithmeticError>
         requires order { self.now.order ≡ other.now.order }
         requires arity { self.now.arity ≡ other.now.arity }
         ensures difference { IfOk result (IsLike self.now (difference self.now other.now)) }
-        ensures wide { IsErrOf result PolyError.Wide → SumIsPast self.now other.now }
+        ensures wide { IsErrOf result ArithmeticError.Wide → SumIsPast self.now other.now }
     {
         let left = self.terms.as_slice();
         let right = opposites(alloc, &other.terms)?;
@@ -79,9 +82,8 @@ impl<K: Ring, O: Order> Poly<K, O> {
     }
 
     /// The opposite, which always fits.
-    pub fn neg(&self, alloc: Global) -> Result<Poly<K, O>, PolyError>
+    pub fn neg(&self, alloc: Global) -> Result<Poly<K, O>, AllocError>
         ensures opposite { IfOk result (IsLike self.now (opposite self.now)) }
-        ensures narrow { ¬ IsErrOf result PolyError.Wide }
     {
         Ok(Poly {
             order: self.order,
@@ -98,7 +100,7 @@ fn merge<K: Ring, O: Order, L: Source<K>, R: Source<K>>(
     arity: usize,
     left: L,
     right: R,
-) -> Result<Poly<K, O>, PolyError>
+) -> Result<Poly<K, O>, ArithmeticError>
     requires few { arity ≤ most_variables }
     requires left { IsPolynomial K.scalars.arithmetic (O.order order) arity
         (terms_of K.meaning (L.items left)) }
@@ -106,9 +108,9 @@ fn merge<K: Ring, O: Order, L: Source<K>, R: Source<K>>(
         (terms_of K.meaning (R.items right)) }
     ensures sum { IfOk result (Is order arity
         (terms_of K.meaning (L.items left) ++ terms_of K.meaning (R.items right))) }
-    ensures wide { IsErrOf result PolyError.Wide → IsPastSum K.scalars
+    ensures wide { IsErrOf result ArithmeticError.Wide → IsPastSum K.scalars
         (terms_of K.meaning (L.items left)) (terms_of K.meaning (R.items right)) }
-    ensures shared { IsErrOf result PolyError.Wide
+    ensures shared { IsErrOf result ArithmeticError.Wide
         → Share (terms_of K.meaning (L.items left)) (terms_of K.meaning (R.items right)) }
 {
     let mut terms = Vec::with_capacity(alloc, left.count().saturating_add(right.count()))?;
@@ -142,9 +144,8 @@ pub(crate) fn push_rest<K: Ring, S: Source<K>>(
     alloc: Global,
     out: &mut Vec<Term<K>>,
     mut rest: S,
-) -> Result<(), PolyError>
+) -> Result<(), AllocError>
     ensures ok { OnOk result (out.new.items ≡ out.old.items ++ S.items rest) }
-    ensures narrow { ¬ IsErrOf result PolyError.Wide }
 {
     while rest.peek().is_some() {
         out.push(rest.take(alloc)?)?;
@@ -152,27 +153,15 @@ pub(crate) fn push_rest<K: Ring, S: Source<K>>(
     Ok(())
 }
 
-/// A copy of the monomial.
-pub(crate) fn copy_mono(alloc: Global, mono: &Mono) -> Result<Mono, PolyError>
-    ensures ok { IfOk result (λ copy. copy ≡ mono.now) }
-    ensures narrow { ¬ IsErrOf result PolyError.Wide }
-{
-    match mono.copy(alloc) {
-        Ok(copy) => Ok(copy),
-        Err(_) => Err(PolyError::Memory),
-    }
-}
-
 /// Puts a copy of the term behind the others.
 pub(crate) fn push_copy<K: Ring>(
     alloc: Global,
     out: &mut Vec<Term<K>>,
     term: &Term<K>,
-) -> Result<(), PolyError>
+) -> Result<(), AllocError>
     ensures ok { OnOk result (out.new.items ≡ out.old.items ++ term.now ∷ []) }
-    ensures narrow { ¬ IsErrOf result PolyError.Wide }
 {
-    let mono = copy_mono(alloc, &term.mono)?;
+    let mono = term.mono.copy(alloc)?;
     out.push(Term {
         mono,
         coef: term.coef,
@@ -185,9 +174,8 @@ pub(crate) fn push_copies<K: Ring>(
     alloc: Global,
     out: &mut Vec<Term<K>>,
     terms: &[Term<K>],
-) -> Result<(), PolyError>
+) -> Result<(), AllocError>
     ensures ok { OnOk result (out.new.items ≡ out.old.items ++ terms.now) }
-    ensures narrow { ¬ IsErrOf result PolyError.Wide }
 {
     for term in terms {
         push_copy(alloc, out, term)?;
@@ -200,10 +188,9 @@ pub(crate) fn push_nonzero<K: Ring>(
     out: &mut Vec<Term<K>>,
     mono: Mono,
     coef: K,
-) -> Result<(), PolyError>
+) -> Result<(), AllocError>
     ensures ok { OnOk result (Takes K.scalars mono (K.meaning coef)
         (terms_of K.meaning out.old.items) (terms_of K.meaning out.new.items)) }
-    ensures narrow { ¬ IsErrOf result PolyError.Wide }
 {
     if coef.is_zero() {
         return Ok(());
@@ -212,16 +199,28 @@ pub(crate) fn push_nonzero<K: Ring>(
     Ok(())
 }
 
+/// Puts a term at the end of a list that has room for it, unless its coefficient is zero.
+pub(crate) fn put_nonzero<K: Ring>(out: &mut Vec<Term<K>>, mono: Mono, coef: K)
+    requires room { length out.old.items < vec_capacity out.old }
+    ensures term { Takes K.scalars mono (K.meaning coef)
+        (terms_of K.meaning out.old.items) (terms_of K.meaning out.new.items) }
+    ensures count { length out.new.items ≤ length out.old.items + 1 }
+    ensures room { vec_capacity out.new ≡ vec_capacity out.old }
+{
+    if !coef.is_zero() {
+        out.push_reserved(Term { mono, coef });
+    }
+}
+
 /// The terms with the opposite of each coefficient.
-fn opposites<K: Ring>(alloc: Global, terms: &[Term<K>]) -> Result<Vec<Term<K>>, PolyError>
+fn opposites<K: Ring>(alloc: Global, terms: &[Term<K>]) -> Result<Vec<Term<K>>, AllocError>
     ensures ok { IfOk result (λ out. terms_of K.meaning out.items
         ≡ negate K.scalars.arithmetic (terms_of K.meaning terms.now)) }
-    ensures narrow { ¬ IsErrOf result PolyError.Wide }
 {
     let mut out = Vec::new(alloc);
     for term in terms {
-        let coef = term.coef.neg()?;
-        let mono = copy_mono(alloc, &term.mono)?;
+        let coef = term.coef.neg();
+        let mono = term.mono.copy(alloc)?;
         out.push(Term { mono, coef })?;
     }
     Ok(out)

@@ -16,8 +16,8 @@ terms_behind-requires g c = rw c.deref.ensures.value (All-weaker (λ (t : Term g
     (λ t e. (let r = c.requires in omega (arith, e, r))) c.args.self.now.terms.items
     (all_arity g.K.Ring.meaning _ c.args.self.now.terms.items c.args.self.now.polynomial.arity))
 
-pub sum_of-requires-clause-arities : goal.sum_of-requires-clause-arities
-sum_of-requires-clause-arities g c =
+pub sum_of_distinct-requires-clause-arities : goal.sum_of_distinct-requires-clause-arities
+sum_of_distinct-requires-clause-arities g c =
     let front = c.args.front.now in
     let m = c.args.self.now.arity in
     let k = terms_of g.K.Ring.meaning in
@@ -30,13 +30,12 @@ sum_of-requires-clause-arities g c =
     all_arity g.K.Ring.meaning (c.arity.result + m) _ (subst (Arity (c.arity.result + m)) (sym seen)
     long)
 
-pub returns-clause-narrow : goal.returns-clause-narrow
-returns-clause-narrow g c =
+pub sum_of_distinct-requires-clause-distinct : goal.sum_of_distinct-requires-clause-distinct
+sum_of_distinct-requires-clause-distinct g c =
     let front = c.args.front.now in
     let k = terms_of g.K.Ring.meaning in
     let seen = c.in_ok-terms.ensures.ok ∙ ap (λ ts. retold (λ e. front ++ e) (k ts))
     c.deref.ensures.value in
-    c.sum_of.ensures.distinct
-    (subst IsDistinct (sym seen) (behind_distinct front (k c.args.self.now.terms.items)
+    subst IsDistinct (sym seen) (behind_distinct front (k c.args.self.now.terms.items)
     (distinct_falls _ (g.met.O.Order.is_order c.args.self.now.order) _
-    c.args.self.now.polynomial.falls)))
+    c.args.self.now.polynomial.falls))

@@ -26,7 +26,7 @@ loop-term-preserved g c =
     step_shifting g.K.Ring.scalars g.met.K.Ring.ring _ _ m (replicate m 0) _
     (map t c.deref-term-items.result.now) _ _ _ _ _ _ (length-replicate m 0) kept at
     (take_next t _ _ _ c.loop-term-test.true c.term-item.is)
-    (takes_as g.K.Ring.scalars _ _ _ _ _ _ (c.in_ok-copy_mono.ensures.ok
+    (takes_as g.K.Ring.scalars _ _ _ _ _ _ (c.in_ok-copy.ensures.ok
     ∙ sym (zeros-plus m _ (arity_at m _ _ _ _ kept.arity at)))
     (quotient_number g.K.Ring.scalars g.met.K.Ring.ring g.met.K.Field.field _ _ _ c.requires
     c.in_ok-coef.ensures.ok) c.in_ok-push_nonzero.ensures.ok) c.loop-term.invariant

@@ -1,6 +1,5 @@
 use Rattle.std.proofs.Common.{◌≡◌, true, false, sym, ap, ◌∙◌}
 use Rattle.poly.specs.View.{term_of}
-use Rattle.poly.proofs.IsLaws.{is_from}
 use Rattle.poly.proofs.Multiples.{monic_already, seen_lead, first_number, first_nonzero}
 use Rattle.poly.proofs.Poly.monic.Goals as goal
 
@@ -10,10 +9,14 @@ returns-then-eq-clause-quotient g c =
     c.in-Some.lead.now c.in-Some.ensures.value c.deref.ensures.value in
     let one = ap g.K.Ring.meaning ((g.met.K.Ring.eq_is c.in-Some.lead.now.coef c.one.result).0
     (sym c.eq.ensures ∙ c.if-eq.true)) ∙ c.one.ensures in
-    is_from c.copy.result _ _ _ _ (λ p e. monic_already g.K.Ring.scalars g.met.K.Ring.ring
-    g.met.K.Field.field _ _ _ _ c.args.self.now.polynomial.arity
-    (sym (first_number g.K.Ring.scalars.arithmetic _ _ _ lead) ∙ one) e) c.copy.ensures.order
-    c.copy.ensures.arity c.copy.ensures.terms
+    record {
+      order = c.in_ok-copy.ensures.order;
+      arity = c.in_ok-copy.ensures.arity;
+      same = monic_already g.K.Ring.scalars g.met.K.Ring.ring g.met.K.Field.field _ _ _ _
+          c.args.self.now.polynomial.arity
+          (sym (first_number g.K.Ring.scalars.arithmetic _ _ _ lead) ∙ one)
+          c.in_ok-copy.ensures.terms;
+    }
 
 pub divide_by-requires : goal.divide_by-requires
 divide_by-requires g c =

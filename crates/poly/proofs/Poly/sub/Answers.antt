@@ -1,5 +1,4 @@
 use Rattle.std.proofs.Common.{refl, ap, ap₂, subst, ◌++◌, sym, ◌∙◌}
-use Rattle.std.proofs.lemmas.Result.{err_from_is_err_and}
 use Rattle.polynomials.specs.Terms.{negate}
 use Rattle.polynomials.specs.Weight.{IsPastSum}
 use Rattle.polynomials.specs.Terms.{Same}
@@ -9,11 +8,6 @@ use Rattle.poly.proofs.IsLaws.{is_as}
 use Rattle.poly.proofs.Kept.{polynomial_in}
 use Rattle.poly.proofs.Steps.{polynomial_negate, past_difference}
 use Rattle.poly.proofs.Poly.sub.Goals as goal
-
-pub returns-in_err-right-clause-wide : goal.returns-in_err-right-clause-wide
-returns-in_err-right-clause-wide g c =
-    let p = err_from_is_err_and c.from_residual.result c.from_residual.ensures.1 in
-    λ w. absurd (c.in_err-right.ensures.narrow (cc (p.1, p.2)))
 
 pub merge-requires-clause-right : goal.merge-requires-clause-right
 merge-requires-clause-right g c =

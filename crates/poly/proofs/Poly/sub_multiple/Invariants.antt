@@ -1,4 +1,5 @@
-use Rattle.std.proofs.Common.{take, drop}
+use Rattle.std.proofs.Common.{◌≤◌, ◌+◌, ◌-◌, length, take, drop}
+use Rattle.std.specs.Vec.{vec_capacity}
 use Rattle.poly.specs.Seen.{terms_in}
 use Rattle.poly.specs.View.{terms_of}
 use Rattle.poly.proofs.Raising.{Raising}
@@ -11,3 +12,5 @@ invariant-loop-term g l =
     (g.K.Ring.meaning l.number) (terms_in l.fn.self)
     (k (take l.term-index l.term-items)) (k (drop l.term-index l.term-items)) (k l.front.items)
     (k l.back.items)
+    × (length l.front.items + length l.back.items + (length l.term-items - l.term-index)
+    ≤ vec_capacity l.front)

@@ -15,8 +15,8 @@ terms_without_first-requires g c = rw c.deref.ensures.value (All-weaker (λ (t :
     (λ t e. (let r = c.requires.count in omega (arith, e, r))) c.args.self.now.terms.items
     (all_arity g.K.Ring.meaning _ c.args.self.now.terms.items c.args.self.now.polynomial.arity))
 
-pub sum_of-requires-clause-arities : goal.sum_of-requires-clause-arities
-sum_of-requires-clause-arities g c =
+pub sum_of_distinct-requires-clause-arities : goal.sum_of_distinct-requires-clause-arities
+sum_of_distinct-requires-clause-arities g c =
     let n = c.args.count in
     let m = c.args.self.now.arity in
     let k = terms_of g.K.Ring.meaning in
@@ -26,12 +26,11 @@ sum_of-requires-clause-arities g c =
     c.args.self.now.polynomial.arity in
     all_arity g.K.Ring.meaning (m - n) _ (subst (Arity (m - n)) (sym seen) long)
 
-pub returns-clause-narrow : goal.returns-clause-narrow
-returns-clause-narrow g c =
+pub sum_of_distinct-requires-clause-distinct : goal.sum_of_distinct-requires-clause-distinct
+sum_of_distinct-requires-clause-distinct g c =
     let n = c.args.count in
     let k = terms_of g.K.Ring.meaning in
     let seen = c.in_ok-terms.ensures.ok ∙ ap (λ ts. retold (drop n) (k ts)) c.deref.ensures.value in
-    c.sum_of.ensures.distinct
-    (subst IsDistinct (sym seen) (rest_distinct n (k c.args.self.now.terms.items)
+    subst IsDistinct (sym seen) (rest_distinct n (k c.args.self.now.terms.items)
     c.requires.free (distinct_falls _ (g.met.O.Order.is_order c.args.self.now.order) _
-    c.args.self.now.polynomial.falls)))
+    c.args.self.now.polynomial.falls))

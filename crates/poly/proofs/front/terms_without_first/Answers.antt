@@ -17,7 +17,9 @@ loop-term-preserved g c =
     (ap (map t) c.in_ok-push.ensures.items ∙ map-append t _ _) c.in_ok-mono.ensures.ok refl
     c.loop-term.invariant
 
-pub returns-clause-ok : goal.returns-clause-ok
-returns-clause-ok g c = c.loop-term.invariant
-    ∙ ap (λ ts. retold (drop c.args.count) (terms_of g.K.Ring.meaning ts))
-    (take_all _ _ c.loop-term-test.false)
+pub returns : goal.returns
+returns g c = record {
+  ok = c.loop-term.invariant
+      ∙ ap (λ ts. retold (drop c.args.count) (terms_of g.K.Ring.meaning ts))
+      (take_all _ _ c.loop-term-test.false);
+}

@@ -1,4 +1,5 @@
 use Rattle.std.proofs.Common.{◌∙◌, ap, length, length-append, arith}
+use Rattle.std.proofs.lemmas.Result.{IfOk-weaker}
 use Rattle.poly.proofs.GridSteps.{digits_more, digits_whole}
 use Rattle.poly.proofs.grid.monomial_at.Goals as goal
 
@@ -22,8 +23,10 @@ loop-exponents-preserved c = record {
   );
 }
 
-pub returns-in-Ok-clause-ok : goal.returns-in-Ok-clause-ok
-returns-in-Ok-clause-ok c =
-    c.in-Ok.ensures.ok ∙ digits_whole c.args.base c.args.arity c.loop-exponents.rest _ _
-    (omega (arith, c.loop-exponents-test.false, c.len.ensures, c.loop-exponents.exponents.ok.0))
-    c.loop-exponents.invariant.so_far
+pub returns : goal.returns
+returns c = record {
+  ok = IfOk-weaker c.new.result _ _ (λ mono e. e
+      ∙ digits_whole c.args.base c.args.arity c.loop-exponents.rest _ _
+      (omega (arith, c.loop-exponents-test.false, c.len.ensures, c.loop-exponents.exponents.ok.0))
+      c.loop-exponents.invariant.so_far) c.new.ensures.ok;
+}

@@ -8,7 +8,7 @@ use Rattle.poly.proofs.product.shift_terms.Goals as goal
 
 pub loop-term-init : goal.loop-term-init
 loop-term-init g c = begin_shift g.K.Ring.scalars g.met.K.Ring.ring _ _
-    (ap (map (term_of g.K.Ring.meaning)) c.new-out.ensures.items)
+    (ap (map (term_of g.K.Ring.meaning)) c.in_ok-out.ensures.items)
 
 pub loop-term-preserved : goal.loop-term-preserved
 loop-term-preserved g c =
@@ -20,7 +20,8 @@ loop-term-preserved g c =
 
 pub returns-in_err-mono-clause-wide : goal.returns-in_err-mono-clause-wide
 returns-in_err-mono-clause-wide g c =
-    let p = err_from_is_err_and c.from_residual.result c.from_residual.ensures.1 in
+    let p = err_from_is_err_and c.from_residual-in_err-mono.result
+    c.from_residual-in_err-mono.ensures.1 in
     λ w fits. c.in_err-mono.ensures.wide (cc (p.1, p.2))
     (shift_fits_at _ _ _ _ _ (at_index (term_of g.K.Ring.meaning) _ _ _ c.loop-term-test.true
     c.term-item.is) fits)

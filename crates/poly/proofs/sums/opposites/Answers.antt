@@ -14,4 +14,4 @@ loop-term-preserved g c =
     let t = term_of g.K.Ring.meaning in
     step_negate g.K.Ring.scalars _ _ _ _ _ _ (take_next t _ _ _ c.loop-term-test.true
     c.term-item.is) (ap (map t) c.in_ok-push.ensures.items ∙ map-append t _ _)
-    c.in_ok-mono.ensures.ok c.in_ok-coef.ensures c.loop-term.invariant
+    c.in_ok-mono.ensures.ok c.neg-coef.ensures c.loop-term.invariant
