@@ -26,7 +26,7 @@ use Rattle.loop_model.specs.Maps.{AreFree}
 use Rattle.invariant_fix.specs.Refusals.{AllHaveForms, IsRefused}
 use Rattle.invariant_fix.specs.declared.errors.AnalyseError.{AnalyseError}
 use Rattle.invariant_fix.specs.declared.errors.AnalyseError.TheVariants as error
-use Rattle.chain_bases.specs.Bases.{opened, IsFormed, InLoop, InCode, HasWorked, IsRefusedAt, copies_to, AreBases, IsLast, IsRefusedIn}
+use Rattle.chain_bases.specs.Bases.{empty_journal, IsFormed, InLoop, InCode, HasWorked, IsRefusedAt, copies_to, AreBases, IsLast, IsRefusedIn}
 use Rattle.chain_bases.specs.Limits.{budget_limit, elements_limit}
 use Rattle.chain_bases.specs.Steps.{HasList, LedFrom, HasStage, HasWorkedStage, IsRefusedStage}
 use Rattle.chain_bases.specs.declared.refused.LoopError.{LoopError}
@@ -89,7 +89,7 @@ module _ (c : Chain (Expr ℕ)) (budget : ℕ) where
         → InLoop c budget m 0 P
     at_start P so = record { left = budget; given = None; known = at_first; limit = limit; so = so }
 
-    first_refusal : (e : AnalyseError) → IsRefused c.first (opened budget) m e
+    first_refusal : (e : AnalyseError) → IsRefused c.first (empty_journal budget) m e
         → IsRefusedAt c budget m 0 (loop_error.Analysis e)
     first_refusal (error.Map e) r = r
     first_refusal (error.Branch b e) r = r
@@ -102,13 +102,13 @@ module _ (c : Chain (Expr ℕ)) (budget : ℕ) where
 
     pub refused_first : (r : Refused) (e : AnalyseError)
         → r ≡ record { place = 0; error = loop_error.Analysis e }
-        → IsRefused l (opened budget) m e → IsRefusedIn c budget m r
+        → IsRefused l (empty_journal budget) m e → IsRefusedIn c budget m r
     refused_first r e same h =
         subst (IsRefusedIn c budget m) (sym same) (record {
           within = omega arith;
           before = λ j k. absurd (omega (arith, k));
           reached = tt;
-          refused = first_refusal e (subst (λ p. IsRefused p (opened budget) m e) is h);
+          refused = first_refusal e (subst (λ p. IsRefused p (empty_journal budget) m e) is h);
         })
 
   -- ---- one more

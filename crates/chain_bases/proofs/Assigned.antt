@@ -8,7 +8,7 @@ use Rattle.std.specs.List.{list_any}
 use Rattle.std.proofs.lemmas.List.{append-nil, length-append}
 use Rattle.loop_model.specs.declared.statement.Statement as code
 use Rattle.loop_chain.specs.Parts.{statements_in}
-use Rattle.loop_chains.specs.CodeBetween.{assigned, copy_of, copies}
+use Rattle.loop_chains.specs.CodeBetween.{assigned_variables, copy_of, copies}
 use Rattle.loop_chains.proofs.CodeBetween.{assigned_next, copy_within}
 use Rattle.chain_bases.specs.Code.{assigned_by, all, place_before}
 
@@ -39,27 +39,29 @@ module _ (v : ℕ) where
   look_end (x ∷ b) (suc k) l = look_end b k (omega (arith, l))
 
 module _ (b : List code.Statement) (i : ℕ) where
-  next_assigned : assigned (i + 1) (statements_in b)
-      ≡ assigned i (statements_in b) ++ cond (assigned_by b i) (i ∷ []) []
-  next_assigned = ap (λ k. assigned k (statements_in b)) (let q : i + 1 ≡ suc i = omega arith in q)
+  next_assigned : assigned_variables (i + 1) (statements_in b)
+      ≡ assigned_variables i (statements_in b) ++ cond (assigned_by b i) (i ∷ []) []
+  next_assigned = ap (λ k. assigned_variables k (statements_in b)) (let q : i + 1 ≡ suc i =
+      omega arith in q)
       ∙ assigned_next (statements_in b) i
 
   pub more_assigned : assigned_by b i ≡ true
-      → assigned (i + 1) (statements_in b) ≡ assigned i (statements_in b) ++ i ∷ []
+      → assigned_variables (i + 1) (statements_in b) ≡ assigned_variables i (statements_in b) ++ i
+      ∷ []
   more_assigned h = next_assigned
-      ∙ ap (λ t. assigned i (statements_in b) ++ cond t (i ∷ []) []) h
+      ∙ ap (λ t. assigned_variables i (statements_in b) ++ cond t (i ∷ []) []) h
 
   pub same_assigned : assigned_by b i ≡ false
-      → assigned (i + 1) (statements_in b) ≡ assigned i (statements_in b)
+      → assigned_variables (i + 1) (statements_in b) ≡ assigned_variables i (statements_in b)
   same_assigned h = next_assigned
-      ∙ ap (λ t. assigned i (statements_in b) ++ cond t (i ∷ []) []) h
-      ∙ append-nil (assigned i (statements_in b))
+      ∙ ap (λ t. assigned_variables i (statements_in b) ++ cond t (i ∷ []) []) h
+      ∙ append-nil (assigned_variables i (statements_in b))
 
   pub counted : (n : ℕ) → n ≡ copies i (statements_in b) → assigned_by b i ≡ true
       → n + 1 ≡ copies (i + 1) (statements_in b)
   counted n e h =
       let p = ap length (more_assigned h) in
-      let q = length-append (assigned i (statements_in b)) (i ∷ []) in
+      let q = length-append (assigned_variables i (statements_in b)) (i ∷ []) in
       omega (arith, e, p, q)
 
   pub uncounted : (n : ℕ) → n ≡ copies i (statements_in b) → assigned_by b i ≡ false

@@ -26,11 +26,11 @@ use Rattle.polynomials.proofs.Same.{Same-refl, Same-trans, AllSame-refl, AllSame
 use Rattle.machines.specs.Collect.{collect}
 use Rattle.machines.specs.Completion as completion
 use Rattle.machines.specs.Elimination as elimination
-use Rattle.machines.specs.Elimination.{kept}
+use Rattle.machines.specs.Elimination.{free_part}
 use Rattle.machines.specs.Journal.{Journal, units_of}
 use Rattle.machines.specs.Machine.{Outcome, done, stopped, too_wide, out_of_units, out_of_memory, Ran}
 use Rattle.machines.specs.Machines as machines
-use Rattle.machines.specs.Pairs.{settled}
+use Rattle.machines.specs.Pairs.{skip_covered}
 use Rattle.machines.specs.Run.{HasEnded}
 use Rattle.machines.specs.Tidying as tidying
 use Rattle.machines.proofs.Collecting.{collect-polynomial, collect-same, collect-is}
@@ -46,15 +46,15 @@ use Rattle.divide.specs.Outcomes.{outcome_of}
 use Rattle.divide.specs.declared.EngineError.{EngineError}
 use Rattle.expressions.specs.FracPoly.{FracPoly}
 use Rattle.ideal_ops.specs.Calls as ideal
-use Rattle.ideal_ops.specs.Calls.{AreOver, first_block, IsEliminationOf, eliminating, elimination_of}
+use Rattle.ideal_ops.specs.Calls.{AreOver, first_block, IsEliminationOf, elimination_way, elimination_of}
 use Rattle.invariant_fix.specs.Blocked.{Blocked}
 use Rattle.invariant_fix.proofs.Blocks.{graded_polynomial}
 use Rattle.loop_model.specs.declared.statement.Statement as code
 use Rattle.loop_chain.specs.Parts.{statements_in}
 use Rattle.loop_chains.specs.Between.{code_order, starting, value_at_code, IsPastMaking, code_elimination, between}
-use Rattle.loop_chains.specs.CodeBetween.{variable_of, assigned, copies, was, of_what_was, code_list}
+use Rattle.loop_chains.specs.CodeBetween.{variable_of, assigned_variables, copies, was, of_what_was, code_list}
 use Rattle.loop_chains.proofs.CodeBetween.{was_arity, assigned_within}
-use Rattle.chain_bases.specs.Code.{all, put, put_value, HaveCopies, IsPastValueOf, IsCodeList, IsPastCode, IsListOf}
+use Rattle.chain_bases.specs.Code.{all, in_code_order, put_value, HaveCopies, IsPastValueOf, IsCodeList, IsPastCode, IsListOf}
 
 -- lists that are the same with like terms collected
 collect_alike : (k n : ℕ) (p q : Terms Fraction) → Arity n p → Arity n q → Same ℚ p q
@@ -128,11 +128,12 @@ module _ (program : Program (Expr ℕ)) (b : List code.Statement) (fs : List Fra
   list_is basis gens h =
       let O = code_order m (statements_in b) in
       let gs = terms_each basis in
-      let ys = assigned m (statements_in b) in
+      let ys = assigned_variables m (statements_in b) in
       let less : ℕ → Terms Fraction = λ y. variable_of n (t + y)
       ++ negate ℚ (of_what_was program (statements_in b) (bm y)) in
-      subst (λ k. terms_each gens ≡ map (put k b) gs
-      ++ map (λ v. put_value k b v (value v)) (assigned k (statements_in b))) values_count h
+      subst (λ k. terms_each gens ≡ map (in_code_order k b) gs
+      ++ map (λ v. put_value k b v (value v)) (assigned_variables k (statements_in b))) values_count
+      h
       ∙ ap₂ ◌++◌
       (sym (map-map (collect rationals O) (of_what_was program (statements_in b)) gs))
       (differences_same ys ∙ sym (map-map (collect rationals O) less ys))
@@ -159,11 +160,12 @@ module _ (program : Program (Expr ℕ)) (b : List code.Statement) (fs : List Fra
       → IsPastMaking program (statements_in b) (terms_each basis)
   past_is basis h =
       go (subst (λ k. Any (λ g. IsPastComposition fractions g (was k (statements_in b)))
-      (terms_each basis) ⊎ Any (λ v. IsPastValueOf k b (value v) v) (assigned k (statements_in b)))
+      (terms_each basis) ⊎ Any (λ v. IsPastValueOf k b (value v) v)
+      (assigned_variables k (statements_in b)))
       values_count h)
     where
       go : Any (λ g. IsPastComposition fractions g (was m (statements_in b))) (terms_each basis)
-          ⊎ Any (λ v. IsPastValueOf m b (value v) v) (assigned m (statements_in b))
+          ⊎ Any (λ v. IsPastValueOf m b (value v) v) (assigned_variables m (statements_in b))
           → IsPastMaking program (statements_in b) (terms_each basis)
       go (inl p) = inl p
       go (inr (i, y, l, at, p)) =
@@ -183,15 +185,16 @@ module _ (program : Program (Expr ℕ)) (b : List code.Statement) (fs : List Fra
 
 -- ---- nothing to be eliminated from
 nothing_comes : (k : ℕ) → HasEnded (elimination.next rationals (blocks k grevlex grevlex) grevlex
-    (kept k)) (elimination.begun rationals (blocks k grevlex grevlex) [])
-unfolding elimination.next completion.next completion.acting completion.taking
-    completion.with_elements settled tidying.next tidying.dropping tidying.drop_from tidying.tailing
-    tidying.tail_from kept
+    (free_part k)) (elimination.initial_state rationals (blocks k grevlex grevlex) [])
+unfolding elimination.next completion.next completion.next_completion completion.next_pair
+    completion.with_elements skip_covered tidying.next tidying.next_drop tidying.drop_from
+    tidying.next_tail
+    tidying.tail_from free_part
 nothing_comes k = refl
 
-nothing_is : (k : ℕ) → [] ≡ elimination.list_of grevlex (kept k)
-    (elimination.begun rationals (blocks k grevlex grevlex) [])
-unfolding completion.with_elements kept tidying.by_lead
+nothing_is : (k : ℕ) → [] ≡ elimination.list_of grevlex (free_part k)
+    (elimination.initial_state rationals (blocks k grevlex grevlex) [])
+unfolding completion.with_elements free_part tidying.by_lead
 nothing_is k = refl
 
 module _ (program : Program (Expr ℕ)) (b : List code.Statement) (basis : List FracPoly) where
@@ -210,12 +213,14 @@ module _ (program : Program (Expr ℕ)) (b : List code.Statement) (basis : List 
         work = work_begun (between program (statements_in b) (terms_each basis)).next
             (between program (statements_in b) (terms_each basis)).start j.entries;
         ended = subst (λ l. HasEnded (elimination.next rationals (blocks size grevlex grevlex)
-            grevlex (kept size)) (elimination.begun rationals (blocks size grevlex grevlex) l))
+            grevlex (free_part size)) (elimination.initial_state rationals
+            (blocks size grevlex grevlex) l))
             (sym e) (nothing_comes size);
       };
       gives = ap terms_each none
-          ∙ subst (λ l. [] ≡ elimination.list_of grevlex (kept size)
-          (elimination.begun rationals (blocks size grevlex grevlex) l)) (sym e) (nothing_is size);
+          ∙ subst (λ l. [] ≡ elimination.list_of grevlex (free_part size)
+          (elimination.initial_state rationals (blocks size grevlex grevlex) l)) (sym e)
+          (nothing_is size);
     };
   }
 
@@ -226,7 +231,8 @@ module _ (program : Program (Expr ℕ)) (b : List code.Statement) (basis : List 
       length-map (code_list program (statements_in b) (terms_each basis)) (collect rationals O)
       ∙ length-append _ _
       ∙ ap₂ ◌+◌ (length-map (terms_each basis) (of_what_was program (statements_in b))
-      ∙ length-map basis terms_in) (length-map (assigned (length program.names) (statements_in b))
+      ∙ length-map basis terms_in)
+      (length-map (assigned_variables (length program.names) (statements_in b))
       _)
 
   -- what comes of it is no more than the elements, the copies and the units
@@ -240,7 +246,7 @@ module _ (program : Program (Expr ℕ)) (b : List code.Statement) (basis : List 
       let a = list_few rationals size (blocks size grevlex grevlex) grevlex gens before.entries
       after.entries r.to.last r.to.finished.work in
       let q = kept_made rationals size gens [] tt in
-      let e = ap (λ l. length (kept size (made rationals size l))) (append-nil gens) in
+      let e = ap (λ l. length (free_part size (made rationals size l))) (append-nil gens) in
       let n = starting_count in
       let x = sym (length-map hs.items terms_in) ∙ ap length r.to.gives in
       omega (arith, a, q, e, n, x)
@@ -273,8 +279,8 @@ module _ (program : Program (Expr ℕ)) (b : List code.Statement) (basis : List 
 
     -- the elimination from the gens is that of the code
     pub ran_so : (before after : Journal) (o : Outcome (Vec FracPoly Global))
-        → Ran (elimination_of (eliminating (first_block gens) gens))
-        (ideal.IsListOf (eliminating (first_block gens) gens)) before after o
+        → Ran (elimination_of (elimination_way (first_block gens) gens))
+        (ideal.IsListOf (elimination_way (first_block gens) gens)) before after o
         → Ran (between program (statements_in b) (terms_each basis))
         (IsListOf (length program.names) (statements_in b)) before after o
     ran_so before after o h = go o (subst (λ ts. Said size ts o) u.list
@@ -282,10 +288,10 @@ module _ (program : Program (Expr ℕ)) (b : List code.Statement) (basis : List 
       where
         Said : ℕ → List (Terms Fraction) → Outcome (Vec FracPoly Global) → Type 0
         Said k ts o = Ran (machines.elimination fractions (blocks k grevlex grevlex) grevlex
-            (kept k)
+            (free_part k)
             ts)
             (λ (hs : Vec FracPoly Global) s. terms_each hs.items ≡ elimination.list_of grevlex
-            (kept k) s)
+            (free_part k) s)
             before after o
 
         go : (o : Outcome (Vec FracPoly Global))

@@ -26,9 +26,9 @@ use Rattle.invariant_fix.specs.Blocked.{Blocked}
 use Rattle.starting_lists.proofs.TwoTerms.{block_polynomial}
 use Rattle.loop_model.specs.declared.statement.Statement as code
 use Rattle.loop_chain.specs.Parts.{statements_in}
-use Rattle.loop_chains.specs.CodeBetween.{variable_of, listed, copy_of, copies, was_at, was, assigned}
+use Rattle.loop_chains.specs.CodeBetween.{variable_of, list_from, copy_of, copies, was_at, was, assigned_variables}
 use Rattle.loop_chains.proofs.CodeBetween.{listed_next, copy_is, copy_within}
-use Rattle.chain_bases.specs.Code.{assigned_by, all, place_before, AreBefore, put, put_value, IsPastValueOf, IsPastValue}
+use Rattle.chain_bases.specs.Code.{assigned_by, all, place_before, AreBefore, in_code_order, put_value, IsPastValueOf, IsPastValue}
 use Rattle.chain_bases.proofs.Assigned.{more_assigned, same_assigned}
 
 -- ---- what the variables were
@@ -45,30 +45,30 @@ module _ (m : ℕ) (b : List code.Statement) where
       go false = refl
 
   pub no_places : (ps : List FracPoly) → ps ≡ []
-      → terms_each ps ≡ listed 0 0 (was_at m (statements_in b))
+      → terms_each ps ≡ list_from 0 0 (was_at m (statements_in b))
   no_places ps e = ap terms_each e
 
   pub more_places : (v : ℕ) (ps news : List FracPoly) (p : FracPoly) → news ≡ ps ++ p ∷ []
       → terms_in p ≡ variable_of (all m b) (place_before m b v)
-      → terms_each ps ≡ listed 0 v (was_at m (statements_in b))
-      → terms_each news ≡ listed 0 (v + 1) (was_at m (statements_in b))
+      → terms_each ps ≡ list_from 0 v (was_at m (statements_in b))
+      → terms_each news ≡ list_from 0 (v + 1) (was_at m (statements_in b))
   more_places v ps news p e is h =
       ap terms_each e ∙ map-append terms_in ps (p ∷ [])
       ∙ ap₂ (λ xs x. xs ++ x ∷ []) h (is ∙ before_at v)
-      ∙ sym (ap (λ k. listed 0 k (was_at m (statements_in b)))
+      ∙ sym (ap (λ k. list_from 0 k (was_at m (statements_in b)))
       (let q : v + 1 ≡ suc v = omega arith in q)
       ∙ listed_next (was_at m (statements_in b)) 0 v
-      ∙ ap (λ k. listed 0 v (was_at m (statements_in b)) ++ was_at m (statements_in b) k ∷ [])
+      ∙ ap (λ k. list_from 0 v (was_at m (statements_in b)) ++ was_at m (statements_in b) k ∷ [])
       (let q : 0 + v ≡ v = omega arith in q))
 
   pub all_places : (v : ℕ) (ps : List FracPoly) → v ≤ m → m ≤ v
-      → terms_each ps ≡ listed 0 v (was_at m (statements_in b))
+      → terms_each ps ≡ list_from 0 v (was_at m (statements_in b))
       → terms_each ps ≡ was m (statements_in b)
-  all_places v ps x y h = h ∙ ap (λ k. listed 0 k (was_at m (statements_in b)))
+  all_places v ps x y h = h ∙ ap (λ k. list_from 0 k (was_at m (statements_in b)))
       (let q : v ≡ m = omega (arith, x, y) in q)
 
   module _ (ps : List FracPoly) (are : AreBefore m b ps) where
-    length-listed : {A : Type 0} (i n : ℕ) (f : ℕ → A) → length (listed i n f) ≡ n
+    length-listed : {A : Type 0} (i n : ℕ) (f : ℕ → A) → length (list_from i n f) ≡ n
     length-listed i zero f = refl
     length-listed i (suc n) f = ap suc (length-listed (suc i) n f)
 
@@ -99,7 +99,7 @@ module _ (m : ℕ) (b : List code.Statement) (ps : List FracPoly) (are : AreBefo
   pub put_at : (g : Terms Fraction) (p : Blocked)
       → terms_in p ≡ collect rationals (blocks k grevlex grevlex)
       (compose ℚ (k + n) g (terms_each ps))
-      → terms_in p ≡ put m b g
+      → terms_in p ≡ in_code_order m b g
   put_at g p h = h
       ∙ ap₂ (λ (k n : ℕ). collect rationals (blocks k grevlex grevlex)
       (compose ℚ (k + n) g (terms_each ps))) copied size
@@ -166,22 +166,22 @@ module _ (b : List code.Statement) (fs : List FracPoly) (v : ℕ) where
 
   pub one_difference : (first : List (Terms Fraction)) (gens news : List Blocked) (p : Blocked)
       → assigned_by b v ≡ true → news ≡ gens ++ p ∷ [] → terms_in p ≡ less_at v
-      → terms_each gens ≡ first ++ map less_at (assigned v (statements_in b))
-      → terms_each news ≡ first ++ map less_at (assigned (v + 1) (statements_in b))
+      → terms_each gens ≡ first ++ map less_at (assigned_variables v (statements_in b))
+      → terms_each news ≡ first ++ map less_at (assigned_variables (v + 1) (statements_in b))
   one_difference first gens news p t e is h =
       ap terms_each e ∙ map-append terms_in gens (p ∷ [])
       ∙ ap₂ (λ xs x. xs ++ x ∷ []) h is
-      ∙ append_assoc first (map less_at (assigned v (statements_in b))) (less_at v ∷ [])
+      ∙ append_assoc first (map less_at (assigned_variables v (statements_in b))) (less_at v ∷ [])
       ∙ ap (λ l. first ++ l) (sym (ap (map less_at) (more_assigned b v t)
-      ∙ map-append less_at (assigned v (statements_in b)) (v ∷ [])))
+      ∙ map-append less_at (assigned_variables v (statements_in b)) (v ∷ [])))
 
   pub no_difference : (first now : List (Terms Fraction)) → assigned_by b v ≡ false
-      → now ≡ first ++ map less_at (assigned v (statements_in b))
-      → now ≡ first ++ map less_at (assigned (v + 1) (statements_in b))
+      → now ≡ first ++ map less_at (assigned_variables v (statements_in b))
+      → now ≡ first ++ map less_at (assigned_variables (v + 1) (statements_in b))
   no_difference first now t h = h ∙ ap (λ l. first ++ map less_at l) (sym (same_assigned b v t))
 
   pub past_difference : v < length fs → assigned_by b v ≡ true → IsPastValue b fs v
-      → Any (IsPastValue b fs) (assigned (length fs) (statements_in b))
+      → Any (IsPastValue b fs) (assigned_variables (length fs) (statements_in b))
   past_difference l t p = (
     copy_of (statements_in b) v,
     v,

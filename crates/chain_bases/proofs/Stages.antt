@@ -11,7 +11,7 @@ use Rattle.numbers.specs.Fraction.{Fraction}
 use Rattle.polynomials.specs.Terms.{Terms}
 use Rattle.machines.specs.Journal.{Journal, units_of}
 use Rattle.machines.specs.Machine.{Outcome, Ran, done, stopped, too_wide, out_of_units, out_of_memory}
-use Rattle.machines.specs.Work.{Worked, Finished, IsSpent, PastAfter}
+use Rattle.machines.specs.Work.{WorkFrom, WorkToEnd, IsSpent, PastAfter}
 use Rattle.loops.specs.Program.{Expr, Program, Statement}
 use Rattle.poly.specs.Seen.{terms_each}
 use Rattle.expressions.specs.FracPoly.{FracPoly}
@@ -25,10 +25,10 @@ use Rattle.loop_chains.specs.Between.{between, IsLed}
 use Rattle.loop_chains.specs.Chain.{loop_of}
 use Rattle.loop_chains.specs.CodeBetween.{assigned_from, copies}
 use Rattle.loop_model.specs.Maps.{maps_operations, AreFree}
-use Rattle.invariant_fix.specs.Refusals.{AllHaveForms, unformed, IfUnformedLoop, IsStoppedFrom, IsRefusedFrom}
+use Rattle.invariant_fix.specs.Refusals.{AllHaveForms, analysis_error_of, IfUnformedLoop, IsStoppedFrom, IsRefusedFrom}
 use Rattle.invariant_fix.specs.declared.errors.AnalyseError.{AnalyseError}
 use Rattle.invariant_fix.specs.declared.errors.AnalyseError.TheVariants as error
-use Rattle.chain_bases.specs.Bases.{opened, code_operations}
+use Rattle.chain_bases.specs.Bases.{empty_journal, code_operations}
 use Rattle.chain_bases.specs.Code.{IsListOf}
 use Rattle.chain_bases.specs.Steps.{HasList, LedFrom, HasStage, IsRefusedStage, IsFormedStage}
 use Rattle.chain_bases.specs.declared.refused.LoopError.TheVariants as loop_error
@@ -68,7 +68,7 @@ module _ (p : Program (Expr ℕ)) (bs : List (List (Statement (Expr ℕ)))) (xs 
   }
 
   refused_without : (e : AnalyseError)
-      → IsRefusedFrom (loop_of p bs) (Some (terms_each xs)) (opened budget) m e
+      → IsRefusedFrom (loop_of p bs) (Some (terms_each xs)) (empty_journal budget) m e
       → IsRefusedStage p [] bs xs budget m (loop_error.Analysis e)
   refused_without (error.Map e) r = r
   refused_without (error.Branch b e) r = r
@@ -88,7 +88,7 @@ module _ (p : Program (Expr ℕ)) (bs : List (List (Statement (Expr ℕ)))) (xs 
         subst (λ c. HasStage p c bs xs budget m gs) (sym none) (has_without free forms gs h)
 
     pub plain_refused : (e : AnalyseError)
-        → IsRefusedFrom (loop_of p bs) (Some (terms_each xs)) (opened budget) m e
+        → IsRefusedFrom (loop_of p bs) (Some (terms_each xs)) (empty_journal budget) m e
         → IsRefusedStage p code bs xs budget m (loop_error.Analysis e)
     plain_refused e r = subst (λ c. IsRefusedStage p c bs xs budget m (loop_error.Analysis e))
         (sym none) (refused_without e r)
@@ -102,7 +102,7 @@ wide_no_memory at q = cc
 
 module _ (p : Program (Expr ℕ)) (code : List (Statement (Expr ℕ)))
     (bs : List (List (Statement (Expr ℕ)))) (xs : List FracPoly) (budget : ℕ) (m : Journal)
-    (begun : m ≡ opened budget) where
+    (begun : m ≡ empty_journal budget) where
   abbrev size : ℕ
   size = length p.names
 
@@ -117,7 +117,7 @@ module _ (p : Program (Expr ℕ)) (code : List (Statement (Expr ℕ)))
 
   -- of the code's map
   pub first_unformed : (e : MapError) → Stops size these e
-      → IsRefusedStage p code bs xs budget m (loop_error.Analysis (unformed e))
+      → IsRefusedStage p code bs xs budget m (loop_error.Analysis (analysis_error_of e))
   first_unformed (map_error.Limit at) h =
       (begun, (λ q. limit_no_memory at q, stops_front size these those (map_error.Limit at) h))
   first_unformed (map_error.Wide at) h =
@@ -147,7 +147,7 @@ both_free p code bs xs budget m free more forms = (
 -- ---- where there is code
 module _ (p : Program (Expr ℕ)) (a : Statement (Expr ℕ)) (cs : List (Statement (Expr ℕ)))
     (bs : List (List (Statement (Expr ℕ)))) (xs : List FracPoly) (budget : ℕ) (start : Journal)
-    (begun : start ≡ opened budget) where
+    (begun : start ≡ empty_journal budget) where
   abbrev Formed : Journal → Type 0
   Formed m = IsFormedStage p (a ∷ cs) bs xs budget m
 
@@ -168,7 +168,7 @@ module _ (p : Program (Expr ℕ)) (a : Statement (Expr ℕ)) (cs : List (Stateme
     leads : IsLed p (a ∷ cs) (terms_each xs) mid.entries (terms_each ks)
     leads = record {
       last = ran.to.last;
-      finished = subst (λ es. Finished (between p (a ∷ cs) (terms_each xs)).next
+      finished = subst (λ es. WorkToEnd (between p (a ∷ cs) (terms_each xs)).next
           (between p (a ∷ cs) (terms_each xs)).start es mid.entries ran.to.last) none_yet
           ran.to.finished;
       list = ap terms_each (sym vs) ∙ ran.to.gives;
@@ -245,7 +245,11 @@ module _ (p : Program (Expr ℕ)) (a : Statement (Expr ℕ)) (cs : List (Stateme
       → IsRefusedStage p (a ∷ cs) bs xs budget m (loop_error.Analysis error.Memory)
   led_wanting m r =
       let M = between p (a ∷ cs) (terms_each xs) in
-      inr (r.limit ∙ limit_is, inr (subst (λ es. Worked M.next M.start es m.entries) none_yet r.to))
+      inr (
+        r.limit ∙ limit_is,
+        inr (subst (λ es. WorkFrom M.next M.start es m.entries) none_yet
+            r.to),
+      )
 
 -- ---- where the code has a statement
 some_code : {S : Type 0} (P : List S → Type 0) → ((a : S) (cs : List S) → P (a ∷ cs))
@@ -254,7 +258,7 @@ some_code P h [] some = absurd (some refl)
 some_code P h (a ∷ cs) some = h a cs
 
 module _ (p : Program (Expr ℕ)) (bs : List (List (Statement (Expr ℕ)))) (xs : List FracPoly)
-    (budget : ℕ) (start : Journal) (begun : start ≡ opened budget) where
+    (budget : ℕ) (start : Journal) (begun : start ≡ empty_journal budget) where
   abbrev pub CodeRuns : List (Statement (Expr ℕ)) → Journal → Outcome (Vec FracPoly Global) → Type 0
   CodeRuns code m o =
       Ran (between p code (terms_each xs)) (IsListOf (length p.names) code) start m o

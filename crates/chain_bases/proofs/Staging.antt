@@ -10,7 +10,7 @@ use Rattle.std.proofs.lemmas.List.Elements.{All-nil}
 use Rattle.std.specs.Prelude.{eqb, true, false}
 use Rattle.machines.specs.Journal.{Journal, units_of}
 use Rattle.machines.specs.Machine.{Outcome, Ran, done}
-use Rattle.machines.specs.Work.{Finished}
+use Rattle.machines.specs.Work.{WorkToEnd}
 use Rattle.loops.specs.Map.{branch_map}
 use Rattle.loops.specs.Program.{Expr, Program, Statement}
 use Rattle.poly.specs.Seen.{terms_each}
@@ -30,7 +30,7 @@ use Rattle.loop_chains.proofs.Led.{code_reduced}
 use Rattle.loop_chain.specs.Parts.{IsStageOf, statements_in, code_in, stage_of}
 use Rattle.loop_chain.specs.declared.stage.Stage.{Stage}
 use Rattle.invariant_fix.specs.Refusals.{AllHaveForms}
-use Rattle.chain_bases.specs.Bases.{opened, code_operations}
+use Rattle.chain_bases.specs.Bases.{empty_journal, code_operations}
 use Rattle.chain_bases.specs.Code.{IsListOf}
 use Rattle.chain_bases.proofs.Leading.{nothing_there}
 use Rattle.chain_bases.proofs.Loops.{body_is, once_is}
@@ -97,21 +97,21 @@ module _ (p : Program (Expr ℕ)) (g : Stage) (is : IsStageOf p g) where
 
 -- what the elimination has ended with
 pub led_list : (p : Program (Expr ℕ)) (c : List (Statement (Expr ℕ))) (xs : List FracPoly)
-    → AreOver (length p.names) xs → (budget : ℕ) (start m : Journal) → start ≡ opened budget
+    → AreOver (length p.names) xs → (budget : ℕ) (start m : Journal) → start ≡ empty_journal budget
     → (v : Vec FracPoly) → Ran (between p c (terms_each xs)) (IsListOf (length p.names) c) start m
     (done v) → IsReducedList (length p.names) (terms_each v.items)
 led_list p c xs over budget start m begun v r =
     code_reduced p c (terms_each xs) (arities_over (length p.names) xs over) m.entries
     (terms_each v.items) (record {
       last = r.to.last;
-      finished = subst (λ es. Finished (between p c (terms_each xs)).next
+      finished = subst (λ es. WorkToEnd (between p c (terms_each xs)).next
           (between p c (terms_each xs)).start es m.entries r.to.last)
           (ap (λ (j : Journal). j.entries) begun) r.to.finished;
       list = r.to.gives;
     })
 
 -- how many units it has left
-pub units_left : (start m : Journal) (budget used left : ℕ) → start ≡ opened budget
+pub units_left : (start m : Journal) (budget used left : ℕ) → start ≡ empty_journal budget
     → m.limit ≡ start.limit → used ≡ units_of m.entries → used ≤ m.limit
     → left ≡ m.limit - units_of m.entries → units_of m.entries + left ≡ budget
 units_left start m budget used left begun same is within rest =

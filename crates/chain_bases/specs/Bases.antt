@@ -1,5 +1,5 @@
 -- What the analysis of a chain gives, loop by loop.
---   opened limit                      the journal with which a loop, or the analysis behind its code, begins
+--   empty_journal limit                      the journal with which a loop, or the analysis behind its code, begins
 --   code_operations program code      the operations by which the map of the code is formed; none where there is no code
 --   operations_at c j                 those of the code before the loop at the place j, and then those of the loop's maps
 --   IsFormed c j                      no operation of these passes a limit, and each branch of the loop has a closed form
@@ -35,8 +35,8 @@ use Rattle.chain_bases.specs.declared.refused.LoopError.{LoopError}
 use Rattle.chain_bases.specs.declared.refused.LoopError.TheVariants.{Analysis, Between}
 use Rattle.chain_bases.specs.declared.refused.Refused.{Refused}
 
-abbrev pub opened : ℕ → Journal
-opened limit = record { limit = limit; entries = [] }
+abbrev pub empty_journal : ℕ → Journal
+empty_journal limit = record { limit = limit; entries = [] }
 
 abbrev pub code_operations : Program (Expr ℕ) → List (Statement (Expr ℕ)) → List Operation
 code_operations program [] = []
@@ -76,9 +76,9 @@ module _ (c : Chain (Expr ℕ)) where
 
     abbrev pub IsRefusedAt : LoopError → Type 0
     IsRefusedAt (Analysis (error.Map e)) =
-        (m ≡ opened budget) × IfUnformedBy (loop_at c j) (operations_at j) (error.Map e)
+        (m ≡ empty_journal budget) × IfUnformedBy (loop_at c j) (operations_at j) (error.Map e)
     IsRefusedAt (Analysis (error.Branch b e)) =
-        (m ≡ opened budget) × IfUnformedBy (loop_at c j) (operations_at j) (error.Branch b e)
+        (m ≡ empty_journal budget) × IfUnformedBy (loop_at c j) (operations_at j) (error.Branch b e)
     IsRefusedAt (Analysis (error.Wide task)) =
         IsFormed j
         × InLoop (λ left given. HasStoppedFrom (loop_at c j) given (view.task_of task) m.entries)

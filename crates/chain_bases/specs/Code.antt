@@ -2,7 +2,7 @@
 --   assigned_by b v              the variable v stands on a left side of the statements b
 --   place_before m b v           where among the copies and the variables stands what the variable v was before b
 --   AreBefore m b ps             the ps are what the variables were before b
---   put program b g              the element g, of what was, in the order with the copies first
+--   in_code_order program b g              the element g, of what was, in the order with the copies first
 --   put_value program b v f      the variable v less f, of what was, in that order
 --   HaveCopies m b hs            each of the hs is in that order, over the copies and the variables
 --   IsPastValueOf m b f v        the weight of composing f, or of the difference, is past;  IsPastValue b fs v: where f is that of v among the fs
@@ -26,7 +26,7 @@ use Rattle.loop_model.specs.declared.statement.Statement as code
 use Rattle.loop_chain.specs.Parts.{statements_in}
 use Rattle.loop_chains.specs.Between.{code_order, list_of}
 use Rattle.loops.specs.Program.{Statement}
-use Rattle.loop_chains.specs.CodeBetween.{variable_of, is_assigned, assigned, copy_of, copies, was}
+use Rattle.loop_chains.specs.CodeBetween.{variable_of, is_assigned, assigned_variables, copy_of, copies, was}
 
 abbrev pub assigned_by : List code.Statement → ℕ → Bool
 assigned_by b v = is_assigned (statements_in b) v
@@ -42,8 +42,8 @@ module _ (m : ℕ) (b : List code.Statement) where
   abbrev pub AreBefore : List FracPoly → Type 0
   AreBefore ps = (terms_each ps ≡ was m (statements_in b)) × AreOver all ps
 
-  abbrev pub put : Terms Fraction → Terms Fraction
-  put g =
+  abbrev pub in_code_order : Terms Fraction → Terms Fraction
+  in_code_order g =
       collect rationals (code_order m (statements_in b)) (compose ℚ all g (was m (statements_in b)))
 
   abbrev pub put_value : ℕ → Terms Fraction → Terms Fraction
@@ -69,14 +69,14 @@ module _ (b : List code.Statement) (fs : List FracPoly) where
 
   abbrev pub IsCodeList : List FracPoly → List Blocked → Type 0
   IsCodeList gs hs =
-      terms_each hs ≡ map (put (length fs) b) (terms_each gs)
+      terms_each hs ≡ map (in_code_order (length fs) b) (terms_each gs)
       ++ map (λ v. put_value (length fs) b v (get_or (terms_each fs) v []))
-      (assigned (length fs) (statements_in b))
+      (assigned_variables (length fs) (statements_in b))
 
   abbrev pub IsPastCode : List FracPoly → Type 0
   IsPastCode gs =
       Any (λ g. IsPastComposition fractions g (was (length fs) (statements_in b))) (terms_each gs)
-      ⊎ Any IsPastValue (assigned (length fs) (statements_in b))
+      ⊎ Any IsPastValue (assigned_variables (length fs) (statements_in b))
 
 module _ {E : Type 0} (m : ℕ) (code : List (Statement E)) where
   abbrev pub IsListOf : Vec FracPoly → elimination.State Fraction → Type 0

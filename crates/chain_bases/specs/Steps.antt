@@ -20,7 +20,7 @@ use Rattle.loop_chains.specs.CodeBetween.{copies}
 use Rattle.loop_model.specs.Maps.{maps_operations}
 use Rattle.invariant_fix.specs.Refusals.{AllHaveForms, IfUnformedBy, HasStoppedFrom, HasFollowedFrom}
 use Rattle.invariant_fix.specs.declared.errors.AnalyseError.TheVariants as error
-use Rattle.chain_bases.specs.Bases.{opened, code_operations}
+use Rattle.chain_bases.specs.Bases.{empty_journal, code_operations}
 use Rattle.chain_bases.specs.declared.refused.LoopError.{LoopError}
 use Rattle.chain_bases.specs.declared.refused.LoopError.TheVariants.{Analysis, Between}
 
@@ -66,9 +66,10 @@ module _ (program : Program (Expr ℕ)) (code : List (Statement (Expr ℕ)))
 
   abbrev pub IsRefusedStage : LoopError → Type 0
   IsRefusedStage (Analysis (error.Map e)) =
-      (m ≡ opened budget) × IfUnformedBy (loop_of program bs) stage_operations (error.Map e)
+      (m ≡ empty_journal budget) × IfUnformedBy (loop_of program bs) stage_operations (error.Map e)
   IsRefusedStage (Analysis (error.Branch b e)) =
-      (m ≡ opened budget) × IfUnformedBy (loop_of program bs) stage_operations (error.Branch b e)
+      (m ≡ empty_journal budget) × IfUnformedBy (loop_of program bs) stage_operations
+      (error.Branch b e)
   IsRefusedStage (Analysis (error.Wide task)) =
       IsFormedStage × LedFrom (λ left list. HasStoppedFrom (loop_of program bs) (Some list)
       (view.task_of task) m.entries)

@@ -18,7 +18,7 @@ ghost use Rattle.loops.specs.Map.{branch_map};
 ghost use Rattle.loop_model.specs.View.{program_of};
 ghost use Rattle.loop_chain.specs.Parts.{code_in, statements_in};
 ghost use Rattle.loop_chains.specs.Between.{between};
-ghost use Rattle.loop_chains.specs.CodeBetween.{variable_of, assigned, copies};
+ghost use Rattle.loop_chains.specs.CodeBetween.{variable_of, assigned_variables, copies};
 ghost use Rattle.chain_bases.specs.Limits.{elements_limit};
 ghost use Rattle.chain_bases.specs.Code.{assigned_by, all, place_before, AreBefore, put_value, HaveCopies, IsPastValue, IsCodeList, IsPastCode, IsListOf};
 
@@ -28,8 +28,9 @@ use ideal_ops::eliminate;
 use journal::Meter;
 use loop_model::{Loop, Statement};
 use monos::{Blocks, Grevlex};
-use poly::{Poly, PolyError};
-use std::alloc::Global;
+use poly::Poly;
+use ring_laws::ArithmeticError;
+use std::alloc::{AllocError, Global};
 
 /// Whether the variable stands on a left side of the statements.
 fn is_assigned(code: &[Statement], var: usize) -> bool
@@ -79,12 +80,11 @@ fn before(
     code: &[Statement],
     vars: usize,
     first: usize,
-) -> Result<Vec<Poly<Frac, Grevlex>>, PolyError>
+) -> Result<Vec<Poly<Frac, Grevlex>>, AllocError>
     requires copies { first ≡ copies vars (statements_in code.now) }
     requires few { first ≤ vars }
     requires vars { vars + vars ≤ most_variables }
     ensures before { IfOk result (λ ps. AreBefore vars code.now ps.items) }
-    ensures narrow { ¬ IsErrOf result PolyError.Wide }
 {
     let mut images = Vec::new(alloc);
     for var in 0..vars {
@@ -100,7 +100,7 @@ fn put(
     first: usize,
     before: &Vec<Poly<Frac, Grevlex>>,
     element: &Poly<Frac, Grevlex>,
-) -> Result<Poly<Frac, Blocks>, PolyError>
+) -> Result<Poly<Frac, Blocks>, ArithmeticError>
     requires some { 0 < element.now.arity }
     requires count { length before.now.items ≡ element.now.arity }
     requires over { AreOver (first + element.now.arity) before.now.items }
@@ -109,11 +109,11 @@ fn put(
         (terms_each before.now.items))) }
     ensures block { IfOk result (λ p. (p.order.first ≡ first)
         × (p.arity ≡ first + element.now.arity)) }
-    ensures wide { IsErrOf result PolyError.Wide
+    ensures wide { IsErrOf result ArithmeticError.Wide
         → IsPastComposition fractions (terms_in element.now) (terms_each before.now.items) }
 {
     let composed = element.compose(alloc, before)?;
-    composed.reorder(alloc, Blocks { first })
+    Ok(composed.reorder(alloc, Blocks { first })?)
 }
 
 /// A variable less the code's value for it, of what the variables were before the code, in the order with the copies first.
@@ -123,7 +123,7 @@ fn difference(
     before: &Vec<Poly<Frac, Grevlex>>,
     value: &Poly<Frac, Grevlex>,
     var: usize,
-) -> Result<Poly<Frac, Blocks>, PolyError>
+) -> Result<Poly<Frac, Blocks>, ArithmeticError>
     requires some { 0 < value.now.arity }
     requires few { first + value.now.arity ≤ most_variables }
     requires var { var < value.now.arity }
@@ -136,7 +136,7 @@ fn difference(
     ensures block { IfOk result (λ p. (p.order.first ≡ first)
         × (p.arity ≡ first + value.now.arity)) }
     ensures wide { let n = first + value.now.arity in
-        IsErrOf result PolyError.Wide
+        IsErrOf result ArithmeticError.Wide
         → IsPastComposition fractions (terms_in value.now) (terms_each before.now.items)
         ⊎ IsPastSum fractions (variable_of n (first + var))
         (collect rationals grevlex (compose ℚ n (terms_in value.now)
@@ -145,7 +145,7 @@ fn difference(
     let composed = value.compose(alloc, before)?;
     let now = Poly::variable(alloc, Grevlex, first + value.arity(), first + var)?;
     let less = now.sub(alloc, &composed)?;
-    less.reorder(alloc, Blocks { first })
+    Ok(less.reorder(alloc, Blocks { first })?)
 }
 
 /// Puts the differences for the variables that the code assigns behind the others.
@@ -156,7 +156,7 @@ fn push_differences(
     first: usize,
     before: &Vec<Poly<Frac, Grevlex>>,
     values: &[Poly<Frac, Grevlex>],
-) -> Result<(), PolyError>
+) -> Result<(), ArithmeticError>
     requires copies { first ≡ copies (length values.now) (statements_in code.now) }
     requires few { first + length values.now ≤ most_variables }
     requires before { AreBefore (length values.now) code.now before.now.items }
@@ -165,11 +165,11 @@ fn push_differences(
     ensures list { let m = length values.now in
         OnOk result (terms_each gens.new.items ≡ terms_each gens.old.items
         ++ map (λ v. put_value m code.now v (get_or (terms_each values.now) v []))
-        (assigned m (statements_in code.now))) }
+        (assigned_variables m (statements_in code.now))) }
     ensures block { OnOk result (HaveCopies (length values.now) code.now gens.new.items) }
-    ensures wide { IsErrOf result PolyError.Wide
+    ensures wide { IsErrOf result ArithmeticError.Wide
         → Any (IsPastValue code.now values.now)
-        (assigned (length values.now) (statements_in code.now)) }
+        (assigned_variables (length values.now) (statements_in code.now)) }
 {
     for var in 0..values.len() {
         if is_assigned(code, var) {
@@ -185,7 +185,7 @@ fn code_list(
     code: &[Statement],
     values: &[Poly<Frac, Grevlex>],
     basis: &[Poly<Frac, Grevlex>],
-) -> Result<Vec<Poly<Frac, Blocks>>, PolyError>
+) -> Result<Vec<Poly<Frac, Blocks>>, ArithmeticError>
     requires some { 0 < length values.now }
     requires few { length values.now + length values.now ≤ most_variables }
     requires values { AreOver (length values.now) values.now }
@@ -193,7 +193,7 @@ fn code_list(
     ensures list { IfOk result (λ gens. IsCodeList code.now values.now basis.now gens.items) }
     ensures block { IfOk result (λ gens.
         HaveCopies (length values.now) code.now gens.items) }
-    ensures wide { IsErrOf result PolyError.Wide → IsPastCode code.now values.now basis.now }
+    ensures wide { IsErrOf result ArithmeticError.Wide → IsPastCode code.now values.now basis.now }
 {
     let vars = values.len();
     let first = count_assigned(code, vars);
@@ -230,6 +230,7 @@ pub(crate) fn led(
         + copies (length (program_of lp.now).names) (code_in lp.now)
         + units_of meter.new.entries) }
 {
+    // for its contract, which tells the prover that no more units are used than are allowed
     let _ = meter.used();
     let gens = code_list(alloc, &lp.branches()[0], values, basis)?;
     if gens.is_empty() {

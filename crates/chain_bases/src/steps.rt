@@ -8,10 +8,10 @@ ghost use Rattle.journal.specs.View.{most_units};
 ghost use Rattle.loop_model.specs.Maps.{AreFree};
 ghost use Rattle.loop_model.specs.View.{program_of};
 ghost use Rattle.rounds.specs.Results.{IsReducedList};
-ghost use Rattle.invariant_fix.specs.Refusals.{AllHaveForms, IsRefused, IsRefusedFrom, IsStoppedFrom, unformed};
-ghost use Rattle.invariant_fix.specs.Setting.{Fits, HoldsOf, most_given};
+ghost use Rattle.invariant_fix.specs.Refusals.{AllHaveForms, IsRefused, IsRefusedFrom, IsStoppedFrom, analysis_error_of};
+ghost use Rattle.invariant_fix.specs.Setting.{FitsSetting, HoldsOf, most_given};
 ghost use Rattle.loop_chain.specs.Parts.{IsStageOf, stage_of};
-ghost use Rattle.chain_bases.specs.Bases.{opened};
+ghost use Rattle.chain_bases.specs.Bases.{empty_journal};
 ghost use Rattle.chain_bases.specs.Limits.{budget_limit, elements_limit};
 ghost use Rattle.chain_bases.specs.Steps.{HasList, HasStage, IsRefusedStage};
 
@@ -43,10 +43,11 @@ pub(crate) fn first_basis(
     ensures ok { let program = program_of lp.now in
         IfOk result (λ b.
         HasList program None (length program.names) budget meter.new b.items) }
-    ensures err { IfErr result (IsRefused (program_of lp.now) (opened budget) meter.new) }
+    ensures err { IfErr result (IsRefused (program_of lp.now) (empty_journal budget) meter.new) }
 {
     meter.open(budget);
     let found = analyse(alloc, lp, meter)?;
+    // for its contract, which tells the prover that no more units are used than are allowed
     let _ = meter.used();
     let Analysis { basis, .. } = found;
     Ok(basis)
@@ -70,10 +71,11 @@ fn basis_from(
     ensures ok { IfOk result (λ b. HasList (program_of lp.now) (Some (terms_each given.now))
         (length given.now) units meter.new b.items) }
     ensures err { IfErr result (IsRefusedFrom (program_of lp.now) (Some (terms_each given.now))
-        (opened units) meter.new) }
+        (empty_journal units) meter.new) }
 {
     meter.open(units);
     let found = analyse_from(alloc, lp, given, meter)?;
+    // for its contract, which tells the prover that no more units are used than are allowed
     let _ = meter.used();
     let Analysis { basis, .. } = found;
     Ok(basis)
@@ -88,7 +90,7 @@ fn basis_in(
     meter: &mut Meter,
 ) -> Result<Vec<Poly<Frac, Grevlex>>, AnalyseError>
     requires budget { units ≤ most_units }
-    requires fits { Fits setting }
+    requires fits { FitsSetting setting }
     requires over { AreOver setting.arity given.now }
     requires reduced { IsReducedList setting.arity (terms_each given.now) }
     requires few { length given.now ≤ most_given }
@@ -100,6 +102,7 @@ fn basis_in(
 {
     meter.open(units);
     let found = analyse_in(alloc, setting, given, meter)?;
+    // for its contract, which tells the prover that no more units are used than are allowed
     let _ = meter.used();
     let Analysis { basis, .. } = found;
     Ok(basis)
@@ -159,7 +162,7 @@ pub(crate) fn stage_basis(
 
 /// The refusal of a map that is not formed.
 fn not_formed(error: MapError) -> LoopError
-    ensures { result ≡ LoopError.Analysis (unformed error) }
+    ensures { result ≡ LoopError.Analysis (analysis_error_of error) }
 {
     match error {
         MapError::Memory => LoopError::Analysis(AnalyseError::Memory),

@@ -24,11 +24,11 @@ use Rattle.eigen_split.specs.declared.splitting.Split.{Split}
 use Rattle.frac128.specs.declared.fraction.Frac.{Frac}
 use Rattle.frac128.specs.FracMeaning.{fraction_of}
 use Rattle.linear.specs.Rows.{fractions_of}
-use Rattle.turns.specs.Turned.{form_at, HasRecurrence}
+use Rattle.turns.specs.AfterTurns.{form_at, HasRecurrence}
 use Rattle.turns.specs.Turns.{point, turns, values_at}
 use Rattle.turns.proofs.ClassSteps.{values-entry}
 use Rattle.closed_forms.specs.Later.{IsLaterForm, IsOneLater}
-use Rattle.closed_forms.specs.Sources.{collected, part}
+use Rattle.closed_forms.specs.Sources.{collect_terms, part}
 use Rattle.closed_forms.specs.States.{zeros_in, next_of, after}
 use Rattle.closed_forms.specs.Values.{values_in}
 use Rattle.closed_forms.proofs.Recurring.{collected_value, collected-arity, part_value}
@@ -65,7 +65,7 @@ module _ (images : List (Terms Fraction)) where
   pub after_count : (n : ℕ) → length (after images n) ≡ m
   unfolding variables
   after_count zero = length-map (unit_exponents m) _ ∙ length-units m
-  after_count (suc n) = length-map images (λ p. collected (compose ℚ m p (after images n)))
+  after_count (suc n) = length-map images (λ p. collect_terms (compose ℚ m p (after images n)))
 
   pub after_arity : (n : ℕ) → AllArity m (after images n)
   after_arity zero = arity-variables m ℚ

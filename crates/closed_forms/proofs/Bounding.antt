@@ -13,8 +13,8 @@ use Rattle.numbers.specs.Fraction.{Fraction, ℚ, whole}
 use Rattle.numbers.specs.Ratio.{Ratio}
 use Rattle.numbers.proofs.Fractions.{ℚ_ring, some, ratio-opposite, top_zero}
 use Rattle.vectors.proofs.FractionEigen.{times_bottom}
-use Rattle.exponentials.specs.Base.{Coprime, Fits, IsProductOf, product}
-use Rattle.exponentials.specs.Powers.{number, raised, signed}
+use Rattle.exponentials.specs.Base.{Coprime, SameLength, IsProductOf, product}
+use Rattle.exponentials.specs.Powers.{number, integer_power, negate_if}
 use Rattle.exponentials.proofs.Orders.{each-all}
 use Rattle.frac128.specs.FracMeaning.{fraction_of}
 use Rattle.frac128.specs.declared.fraction.Frac.{Frac}
@@ -55,7 +55,7 @@ pub back_again : (x z : Fraction) → z ≡ ℚ.neg x → ℚ.neg z ≡ x
 back_again x z e = ap ℚ.neg e ∙ L.neg-neg R x
 
 -- ---- numbers that are made of a base
-pub made_size : (bs : List ℕ) (negative : Bool) (s x : Fraction) → signed negative s ≡ x
+pub made_size : (bs : List ℕ) (negative : Bool) (s x : Fraction) → negate_if negative s ≡ x
     → IsMade bs x → IsMade bs s
 made_size bs false s x e h = subst (IsMade bs) (sym e) h
 made_size bs true s x e h =
@@ -76,17 +76,17 @@ quotient_more b m n x h =
     (subst (λ k. IsQuotient (ℚ.mul (whole (pos 1)) x) k (b ^ suc n)) (sym (N.pow-succ' b m))
     (subst (λ k. IsQuotient (ℚ.mul (whole (pos 1)) x) (b * b ^ m) k) (sym (N.pow-succ' b n)) both))
 
-raised_over : (b m n : ℕ) → 0 < b → IsQuotient (raised b (pos m -ℤ pos n)) (b ^ m) (b ^ n)
-raised_over b m zero h = subst (λ z. IsQuotient (raised b z) (b ^ m) (b ^ 0)) (let e : pos m
+raised_over : (b m n : ℕ) → 0 < b → IsQuotient (integer_power b (pos m -ℤ pos n)) (b ^ m) (b ^ n)
+raised_over b m zero h = subst (λ z. IsQuotient (integer_power b z) (b ^ m) (b ^ 0)) (let e : pos m
     ≡ pos m -ℤ pos 0 = omega (arith, ints) in e) (raised_is b (pos m) h)
-raised_over b zero (suc n) h = subst (λ z. IsQuotient (raised b z) (b ^ 0) (b ^ suc n))
+raised_over b zero (suc n) h = subst (λ z. IsQuotient (integer_power b z) (b ^ 0) (b ^ suc n))
     (let e : negsuc n ≡ pos 0 -ℤ pos (suc n) = omega (arith, ints) in e) (raised_is b (negsuc n) h)
 raised_over b (suc m) (suc n) h =
-    subst (λ z. IsQuotient (raised b z) (b ^ suc m) (b ^ suc n)) (let e : pos m -ℤ pos n
+    subst (λ z. IsQuotient (integer_power b z) (b ^ suc m) (b ^ suc n)) (let e : pos m -ℤ pos n
     ≡ pos (suc m) -ℤ pos (suc n) = omega (arith, ints) in e)
-    (quotient_more b m n (raised b (pos m -ℤ pos n)) (raised_over b m n h))
+    (quotient_more b m n (integer_power b (pos m -ℤ pos n)) (raised_over b m n h))
 
-number_over : (bs u v : List ℕ) → Coprime bs → Fits bs u → Fits bs v
+number_over : (bs u v : List ℕ) → Coprime bs → SameLength bs u → SameLength bs v
     → IsQuotient (number bs (differences u v)) (product bs u) (product bs v)
 number_over [] [] [] c f g = R.mul-one R.one
 number_over [] (m ∷ u) v c f g = absurd f
@@ -94,7 +94,8 @@ number_over [] [] (n ∷ v) c f g = absurd g
 number_over (b ∷ bs) [] v c f g = absurd f
 number_over (b ∷ bs) (m ∷ u) [] c f g = absurd g
 number_over (b ∷ bs) (m ∷ u) (n ∷ v) c f g =
-    quotient_product (raised b (pos m -ℤ pos n)) (number bs (differences u v)) (b ^ m) (b ^ n)
+    quotient_product (integer_power b (pos m -ℤ pos n)) (number bs (differences u v)) (b ^ m)
+    (b ^ n)
     (product bs u) (product bs v)
     (raised_over b m n (let h : 1 < b = c.0 in omega arith)) (number_over bs u v c.2 f g)
 

@@ -24,7 +24,7 @@ use Rattle.solvable.proofs.Using.{FracPoly, length_each}
 use Rattle.turns.specs.Turns.{IsNormalForm}
 use Rattle.eigen_split.specs.declared.splitting.Split.{Split}
 use Rattle.expo.specs.declared.exponential.Expo.{Expo}
-use Rattle.closed_forms.specs.declared.sources.Setting.{Setting}
+use Rattle.closed_forms.specs.declared.sources.ClassSetting.{ClassSetting}
 use Rattle.closed_forms.specs.ClassForms.{ahead_in, IsNormalOver, IsNextOf, IsPastFormOf, AreNextOf, IsPastNextOf}
 use Rattle.closed_forms.specs.Later.{Ahead}
 use Rattle.closed_forms.specs.Known.{IsNextForm, AreNextForms, IsPastNext, IsPastVariable, IsPastRowOf, variable_in}
@@ -88,7 +88,7 @@ each_at P [] i x l is h = absurd (omega (arith, l))
 each_at P (y ∷ xs) zero x l is h = subst (λ z. P (fraction_of z)) (sym is) h.0
 each_at P (y ∷ xs) (suc i) x l is h = each_at P xs i x (omega (arith, l)) is h.1
 
-module _ (base g : List ℕ) (s : Setting) (split : Split) where
+module _ (base g : List ℕ) (s : ClassSetting) (split : Split) where
   pub next_begun : (done : List FracPoly) → done ≡ [] → AreNextOf base g s split (terms_each done)
   next_begun done e = subst (λ (l : List FracPoly). AreNextOf base g s split (terms_each l)) (sym e)
       (next_none base (length s.earlier.items) g (terms_each s.rests.items)

@@ -1,9 +1,10 @@
 -- The closed form of a map from what its calls give.
 --   form_base_is                     the base of the values of the classes' forms, but zero, is the map's
 --   all_pass                         no class is refused
---   of_class, later_class, later_turn, later_state, memory_later, refused_first, refused_later     what a refusal tells
+--   of_class, later_class, later_turn, later_state, memory_later, out_of_memory, refused_first, refused_later     what a refusal tells
 --   closed_is, closed_count          the polynomials are a closed form, as many as variables;  normal_in, told_in, passes_in, over_in, count_in, few_in: what is told of it, with the map's polynomials as the code has them
-use Rattle.std.proofs.Common.{◌≡◌, inl, inr, ◌<◌, ◌≤◌, ℕ, zero, suc, List, [], ◌∷◌, length, replicate, get_or, All, Option, Some, None, refl, sym, ap, ap₂, subst, ◌∙◌, arith}
+use Rattle.std.proofs.Common.{◌≡◌, inl, inr, ◌<◌, ◌≤◌, ℕ, zero, suc, List, [], ◌∷◌, length, replicate, get_or, All, Option, Some, None, Result, Ok, Err, refl, sym, ap, ap₂, subst, ◌∙◌, arith}
+use Rattle.std.specs.Result.{IfErr, IsErrAnd}
 use Rattle.std.proofs.lemmas.List.{length-map}
 use Rattle.rings.specs.Each.{Each}
 use Rattle.rings.specs.In.{In}
@@ -137,6 +138,11 @@ module _ (images : List (Terms Fraction)) (base : List ℕ) (b : IsFormBase imag
 
 pub memory_later : (images : List (Terms Fraction)) (e : FormsError) → e ≡ Memory → IfLater images e
 memory_later images e h = subst (IfLater images) (sym h) tt
+
+pub out_of_memory : {A : Type 0} (images : List (Terms Fraction)) (r : Result A FormsError)
+    → IsErrAnd r (λ e. e ≡ Memory) → IfErr r (IfLater images)
+out_of_memory images (Ok x) h = tt
+out_of_memory images (Err e) h = memory_later images e h
 
 pub refused_first : (images : List (Terms Fraction)) (e : FormsError)
     → IfRefusedAt images (IsReachedClass images) e → IfRefusedBy images e

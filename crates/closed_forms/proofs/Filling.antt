@@ -8,6 +8,7 @@ use Rattle.std.proofs.Common.{◌≡◌, ◌≢◌, inl, inr, ◌<◌, ◌+◌, 
 use Rattle.rings.specs.Each.{Each}
 use Rattle.rings.proofs.Each.{each-left, each-right}
 use Rattle.rings.specs.In.{In}
+use Rattle.rings.proofs.Basics.{not_both}
 use Rattle.rings.proofs.In.{in_get, each_in, each_from}
 use Rattle.numbers.specs.Fraction.{Fraction, ℚ, is_zero}
 use Rattle.numbers.proofs.Fractions.{zero_is}
@@ -131,9 +132,6 @@ in_some (x ∷ values) c h = go (is_zero x) refl h (λ q. in_some values c q)
     more : In c values × (c ≢ ℚ.zero) → In c (x ∷ values) × (c ≢ ℚ.zero)
     more r = (inr r.0, r.1)
 
-    clash : (b : Bool) → b ≡ false → b ≡ true → ⊥
-    clash b e f = (let bad : ⊥ = cc in bad)
-
     go : (b : Bool) → is_zero x ≡ b → In c (cond (is_zero x) (some_of values) (x ∷ some_of values))
         → (In c (some_of values) → In c values × (c ≢ ℚ.zero)) → In c (x ∷ values) × (c ≢ ℚ.zero)
     go true e h later = more (later (subst (λ b. In c (cond b (some_of values)
@@ -142,7 +140,7 @@ in_some (x ∷ values) c h = go (is_zero x) refl h (λ q. in_some values c q)
         e h) [
           | inl q ↦ (
             inl q,
-            λ z. clash (is_zero x) e (ap is_zero (sym q ∙ z) ∙ (zero_is ℚ.zero).1 refl),
+            λ z. not_both (is_zero x) (ap is_zero (sym q ∙ z) ∙ (zero_is ℚ.zero).1 refl) e,
           )
           | inr q ↦ more (later q)
         ]

@@ -11,7 +11,7 @@ use Rattle.poly.specs.Seen.{terms_in}
 use Rattle.expo.specs.Operations.{before_of, IsOver, IsPastBefore}
 use Rattle.expo.specs.View.{base_of, value_of}
 use Rattle.expo.specs.declared.exponential.Expo.{Expo}
-use Rattle.turns.specs.Expo.{next_images, turned_back}
+use Rattle.turns.specs.Expo.{next_images, backward_terms}
 use Rattle.turns.specs.Turns.{point}
 use Rattle.closed_forms.specs.Later.{Ahead, IsOneLater, IsFormFrom, IsPastFrom, IsPastOneLater, at_once, one_later, at_once_past as once_past, one_later_past as zero_past}
 use Rattle.closed_forms.specs.Solved.{IsSolvedForm, IsPastSolved}
@@ -39,10 +39,10 @@ module _ (base : List ℕ) (m : ℕ) (source : Expo) (over : IsExpoOver base m s
   pub one_later_past : IsPastBefore source → IsPastOneLater base m (terms_in source.body)
   one_later_past h =
       subst (λ b. IsPastComposition fractions
-      (collect rationals grevlex (turned_back (length b) (terms_in source.body)))
+      (collect rationals grevlex (backward_terms (length b) (terms_in source.body)))
       (next_images b m)) over.over_base
       (subst (λ k. IsPastComposition fractions
-      (collect rationals grevlex (turned_back (length (base_of source)) (terms_in source.body)))
+      (collect rationals grevlex (backward_terms (length (base_of source)) (terms_in source.body)))
       (next_images (base_of source) k)) over.over_vars h)
 
 module _ (base : List ℕ) (m : ℕ) (w : List Fraction) (g : List ℕ) (l x : Fraction) (a : Ahead)

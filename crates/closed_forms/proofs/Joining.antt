@@ -1,5 +1,4 @@
 -- What goes behind other terms in solving, and what each call of it gives.
---   wide_poly              a refusal that is handed on
 --   over_arity, over_normal      how many exponents an exponential polynomial has; it is normal
 --   tabled_over            a solution is over the base and the variables that it was asked for
 --   sides_next, sides_front, sides_length      the exponents of a power on a side of the line, and those of the n-th power
@@ -11,9 +10,8 @@
 --   key_solution, term_past, product_past      the solution for the powers in a term
 --   all_one                one of a list
 --   whole_is, form_is, normal_past     the growing form and the solutions of all terms, made normal
-use Rattle.std.proofs.Common.{◌≡◌, ◌⊎◌, inl, inr, ◌<◌, ℕ, zero, suc, ◌+◌, ℤ, pos, ◌-ℤ◌, Bool, true, false, cond, eqb, List, [], ◌∷◌, ◌++◌, map, take, drop, get_or, replicate, length, All, Result, Ok, Err, refl, sym, ap, ap₂, subst, ◌∙◌, arith, append_assoc}
+use Rattle.std.proofs.Common.{◌≡◌, ◌⊎◌, inl, inr, ◌<◌, ℕ, zero, suc, ◌+◌, ℤ, pos, ◌-ℤ◌, Bool, true, false, cond, eqb, List, [], ◌∷◌, ◌++◌, map, take, drop, get_or, replicate, length, All, refl, sym, ap, ap₂, subst, ◌∙◌, arith, append_assoc}
 use Rattle.std.proofs.lemmas.List.{append-nil, length-append, length-map}
-use Rattle.std.specs.Result.{IsErrOf, IsErrAnd}
 use Rattle.rings.specs.Each.{Each}
 use Rattle.numbers.specs.Fraction.{Fraction, ℚ, fractions, fraction_size}
 use Rattle.numbers.specs.Size.{IsPast}
@@ -28,37 +26,23 @@ use Rattle.frac128.specs.declared.fraction.Frac.{Frac}
 use Rattle.linear.specs.Rows.{fractions_of}
 use Rattle.poly.specs.Seen.{terms_in}
 use Rattle.poly.specs.View.{term_of}
-use Rattle.poly.specs.declared.PolyError.{PolyError}
-use Rattle.poly.specs.declared.PolyError.TheVariants as poly_error
 use Rattle.poly.specs.declared.Term.{Term}
-use Rattle.turns.specs.Expo.{normalized, power_key, with_key, IsSolution, differences}
+use Rattle.turns.specs.Expo.{with_normal_keys, power_key, with_key, IsSolution, differences}
 use Rattle.turns.specs.Turns.{width, IsNormal, IsNormalForm}
 use Rattle.turns.proofs.Keys.{differences-length, key_is_power}
 use Rattle.turns.proofs.Operations.{normalized-normal}
-use Rattle.expo.specs.declared.ExpoError.{ExpoError}
-use Rattle.expo.specs.declared.ExpoError.TheVariants.{Wide, Memory}
 use Rattle.expo.specs.declared.exponential.Expo.{Expo}
 use Rattle.expo.specs.declared.powers.Power.{Power}
 use Rattle.expo.specs.Powers.{number_of, key_of_power, side_of}
-use Rattle.expo.specs.Refusal.{of_poly}
 use Rattle.expo.specs.Solutions as Solutions
 use Rattle.expo.specs.Solutions.{IsTabled, IsPastSolution}
 use Rattle.expo.specs.View.{IsExpo}
 use Rattle.expo.proofs.Stepping.{rest_is}
 use Rattle.closed_forms.specs.Solved as Solved
-use Rattle.closed_forms.specs.Solved.{still, steady, growing, IsKeySolution, IsSolvedTerm, AreSolvedBehind, IsWhole, IsSolvedForm, IsPastSolving, IsPastTerm, IsPastAmong, IsPastSolved}
-use Rattle.closed_forms.specs.Sources.{collected}
+use Rattle.closed_forms.specs.Solved.{still, steady, homogeneous_part, IsKeySolution, IsSolvedTerm, AreSolvedBehind, IsWhole, IsSolvedForm, IsPastSolving, IsPastTerm, IsPastAmong, IsPastSolved}
+use Rattle.closed_forms.specs.Sources.{collect_terms}
 use Rattle.closed_forms.specs.Values.{IsExpoOver}
 use Rattle.closed_forms.proofs.Mixing.{tell, terms-push, more_behind}
-
--- ---- refusals
-pub wide_poly : {T S P : Type 0} (e : PolyError) (r : Result T ExpoError)
-    → IsErrAnd r (λ x. x ≡ of_poly e) → (IsErrOf {T = S} (Err e) poly_error.Wide → P)
-    → IsErrOf r Wide → P
-wide_poly e (Ok x) h k w = absurd h
-wide_poly poly_error.Wide (Err x) h k w = k refl
-wide_poly poly_error.Memory (Err x) h k w = absurd (let q : x ≡ Wide = cc in let z : Memory ≡ Wide =
-    sym h ∙ q in let n : ⊥ = cc in n)
 
 -- ---- exponential polynomials
 module _ (base : List ℕ) (m : ℕ) (e : Expo) (over : IsExpoOver base m e) where
@@ -69,8 +53,9 @@ module _ (base : List ℕ) (m : ℕ) (e : Expo) (over : IsExpoOver base m e) whe
   over_polynomial = subst (λ n. IsPolynomial ℚ grevlex n (terms_in e.body)) over_arity
       e.body.polynomial
 
-  own_normal : normalized (length base) (terms_in e.body) ≡ terms_in e.body
-  own_normal = subst (λ b. normalized (length b) (terms_in e.body) ≡ terms_in e.body) over.over_base
+  own_normal : with_normal_keys (length base) (terms_in e.body) ≡ terms_in e.body
+  own_normal = subst (λ b. with_normal_keys (length b) (terms_in e.body) ≡ terms_in e.body)
+      over.over_base
       e.normal
 
   pub over_normal : IsNormalForm base grevlex m (terms_in e.body)
@@ -183,7 +168,7 @@ module _ (bs : List ℕ) (e others up more down : List ℕ) (r : ℕ) (k : r ≡
 
 -- ---- growing terms
 pub growing_none : (m : ℕ) (x : Key) (old : Terms Fraction) (cs : List Frac) (g : List ℕ)
-    → (length cs ≡ 0) ⊎ (length g ≡ 0) → old ≡ old ++ growing m x (fractions_of cs) g
+    → (length cs ≡ 0) ⊎ (length g ≡ 0) → old ≡ old ++ homogeneous_part m x (fractions_of cs) g
 growing_none m x old [] g h = sym (append-nil old)
 growing_none m x old (c ∷ cs) [] h = sym (append-nil old)
 growing_none m x old (c ∷ cs) (j ∷ g) (inl h) = absurd (omega (arith, h))
@@ -192,13 +177,13 @@ growing_none m x old (c ∷ cs) (j ∷ g) (inr h) = absurd (omega (arith, h))
 pub growing_next : (m : ℕ) (x : Key) (cs cs' : List Frac) (c : Frac) (g g' : List ℕ) (j : ℕ)
     (old mid new : List (Term Frac)) (u : Term Frac) → cs ≡ c ∷ cs' → g ≡ j ∷ g'
     → mid ≡ old ++ u ∷ [] → u.mono ≡ with_key 0 x (unit m j) → u.coef ≡ c
-    → tell new ≡ tell mid ++ growing m x (fractions_of cs') g'
-    → tell new ≡ tell old ++ growing m x (fractions_of cs) g
+    → tell new ≡ tell mid ++ homogeneous_part m x (fractions_of cs') g'
+    → tell new ≡ tell old ++ homogeneous_part m x (fractions_of cs) g
 growing_next m x cs cs' c g g' j old mid new u e f k n o h =
     more_behind (tell old) (tell mid) (tell new) (u.mono, fraction_of u.coef)
-    (growing m x (fractions_of cs') g') (terms-push old mid u k) h
-    ∙ ap₂ (λ a b. tell old ++ (a, fraction_of b) ∷ growing m x (fractions_of cs') g') n o
-    ∙ ap₂ (λ a b. tell old ++ growing m x (fractions_of a) b) (sym e) (sym f)
+    (homogeneous_part m x (fractions_of cs') g') (terms-push old mid u k) h
+    ∙ ap₂ (λ a b. tell old ++ (a, fraction_of b) ∷ homogeneous_part m x (fractions_of cs') g') n o
+    ∙ ap₂ (λ a b. tell old ++ homogeneous_part m x (fractions_of a) b) (sym e) (sym f)
 
 -- ---- solutions of terms
 module _ (base : List ℕ) (m : ℕ) (l : Fraction) where
@@ -284,7 +269,7 @@ module _ (base : List ℕ) (m : ℕ) (w : List Fraction) (g : List ℕ) (own : P
   l = number_of base own
 
   pub whole_is : (none grown all : Terms Fraction) → length own.exponents.items ≡ length base
-      → none ≡ [] → grown ≡ none ++ growing m (key_of_power own) w g
+      → none ≡ [] → grown ≡ none ++ homogeneous_part m (key_of_power own) w g
       → AreSolvedBehind base m l q grown all → IsWhole base m w g l q all
   whole_is none grown all k z e h = record {
     negative = own.negative;
@@ -292,20 +277,22 @@ module _ (base : List ℕ) (m : ℕ) (w : List Fraction) (g : List ℕ) (own : P
     power = record { count = k; is = refl };
     solved = h.solved;
     are = h.are;
-    terms = h.terms ∙ ap (λ x. x ++ h.solved) (e ∙ ap (λ x. x ++ growing m (key_of_power own) w g)
+    terms = h.terms
+        ∙ ap (λ x. x ++ h.solved) (e ∙ ap (λ x. x ++ homogeneous_part m (key_of_power own) w g)
         z);
   }
 
   pub form_is : (all sum : Terms Fraction) (k : ℕ) (e : Expo) → IsWhole base m w g l q all
-      → sum ≡ collected all → IsExpo base k (normalized (length base) sum) e
+      → sum ≡ collect_terms all → IsExpo base k (with_normal_keys (length base) sum) e
       → IsSolvedForm base m w g l q (terms_in e.body)
   form_is all sum k e h s x = record {
     whole = all;
     is = h;
     terms = x.terms
-        ∙ ap (λ y. collected (normalized (length base) y)) s;
+        ∙ ap (λ y. collect_terms (with_normal_keys (length base) y)) s;
   }
 
-  pub normal_past : (all sum : Terms Fraction) → IsWhole base m w g l q all → sum ≡ collected all
+  pub normal_past : (all sum : Terms Fraction) → IsWhole base m w g l q all
+      → sum ≡ collect_terms all
       → IsPast (weight fraction_size sum) → IsPastSolved base m w g l q
   normal_past all sum h s x = Solved.normal all h (subst (λ y. IsPast (weight fraction_size y)) s x)

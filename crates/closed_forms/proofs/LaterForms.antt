@@ -21,25 +21,25 @@ use Rattle.polynomials.specs.Polynomial.{Arity, IsPolynomial}
 use Rattle.polynomials.specs.Terms.{Terms, constant, variables, value_at, monomial_at, sum_of_products}
 use Rattle.polynomials.proofs.Arity.{arity-compose, arity-constants, arity-variables}
 use Rattle.polynomials.proofs.ValueAt.{value_at-append}
-use Rattle.exponentials.specs.Base.{Coprime, Fits}
+use Rattle.exponentials.specs.Base.{Coprime, SameLength}
 use Rattle.exponentials.specs.Keys.{Key}
-use Rattle.exponentials.specs.Powers.{number, signed}
+use Rattle.exponentials.specs.Powers.{number, negate_if}
 use Rattle.frac128.specs.FracMeaning.{fraction_of}
 use Rattle.frac128.specs.declared.fraction.Frac.{Frac}
 use Rattle.poly.specs.Seen.{terms_in, terms_each}
 use Rattle.poly.specs.declared.Term.{Term}
 use Rattle.solvable.proofs.Using.{FracPoly}
-use Rattle.turns.specs.Expo.{at_turn, normalized, power_key, with_key, up_part, down_part}
+use Rattle.turns.specs.Expo.{at_turn, with_normal_keys, power_key, with_key, up_part, down_part}
 use Rattle.turns.specs.Turns.{point, width}
 use Rattle.turns.proofs.Operations.{key_with, tail_with, normal-value}
 use Rattle.turns.proofs.Recurrences.{one_value, no_value, term_value, recurrence_same}
 use Rattle.expo.specs.View.{IsExpo}
 use Rattle.expo.specs.declared.exponential.Expo.{Expo}
 use Rattle.expo.proofs.Normal.{fits_map}
-use Rattle.expo.proofs.Solved.{fits_length}
-use Rattle.closed_forms.specs.Later.{grown, IsSumOf, IsStart, IsJoined}
+use Rattle.turns.proofs.Realized.{lengths_agree}
+use Rattle.closed_forms.specs.Later.{with_powers, IsSumOf, IsStart, IsJoined}
 use Rattle.closed_forms.specs.Solved.{AreSolved, AreSolvedBehind}
-use Rattle.closed_forms.specs.Sources.{collected, part}
+use Rattle.closed_forms.specs.Sources.{collect_terms, part}
 use Rattle.closed_forms.specs.Values.{IsExpoOver}
 use Rattle.closed_forms.proofs.Joining.{over_normal}
 use Rattle.closed_forms.proofs.Mixing.{tell, terms-push, more_behind}
@@ -61,14 +61,14 @@ at-arity base m n p = arity-compose m ℚ p _ (each-append (Arity m)
 
 -- ---- what is collected, made normal
 normal_of_value : (base : List ℕ) → Coprime base → (m k : ℕ) (all sum : Terms Fraction) (e : Expo)
-    → Arity (width (length base) m) all → sum ≡ collected all
-    → IsExpo base k (normalized (length base) sum) e → (n : ℕ) (s : List Fraction)
+    → Arity (width (length base) m) all → sum ≡ collect_terms all
+    → IsExpo base k (with_normal_keys (length base) sum) e → (n : ℕ) (s : List Fraction)
     → value_at ℚ (terms_in e.body) (point base n s) ≡ value_at ℚ all (point base n s)
 normal_of_value base c m k all sum e a is x n s =
     let z = point base n s in
     let b : Arity (width (length base) m) sum = subst (Arity (width (length base) m)) (sym is)
     (collected-arity (width (length base) m) all a) in
-    ap (λ q. value_at ℚ q z) x.terms ∙ collected_value (normalized (length base) sum) z
+    ap (λ q. value_at ℚ q z) x.terms ∙ collected_value (with_normal_keys (length base) sum) z
     ∙ normal-value base c m sum b n s ∙ ap (λ q. value_at ℚ q z) is ∙ collected_value all z
 
 -- ---- the sum
@@ -78,8 +78,9 @@ solved_all base m l q none all e h = subst (AreSolved base m l q)
     (sym (h.terms ∙ ap (λ x. x ++ h.solved) e)) h.are
 
 pub sum_is : (base : List ℕ) → Coprime base → (m k : ℕ) (l : Fraction) (q all sum : Terms Fraction)
-    (e : Expo) → Arity (width (length base) m) q → AreSolved base m l q all → sum ≡ collected all
-    → IsExpo base k (normalized (length base) sum) e → IsExpoOver base m e
+    (e : Expo) → Arity (width (length base) m) q → AreSolved base m l q all
+    → sum ≡ collect_terms all
+    → IsExpo base k (with_normal_keys (length base) sum) e → IsExpoOver base m e
     → IsSumOf base m l q (terms_in e.body)
 sum_is base c m k l q all sum e a solved is x over = record {
   normal = over_normal base m e over;
@@ -134,19 +135,20 @@ module _ (base : List ℕ) (m : ℕ) (l : Fraction) (z : ℕ) (there at p : Frac
 
 -- ---- a polynomial of the variables times a power
 pub grown_none : (x : Key) (old : Terms Fraction) (ts : List (Term Frac)) → length ts ≡ 0
-    → old ≡ old ++ grown x (tell ts)
+    → old ≡ old ++ with_powers x (tell ts)
 grown_none x old [] h = sym (append-nil old)
 grown_none x old (t ∷ ts) h = absurd (omega (arith, h))
 
 pub grown_next : (x : Key) (ts rest : List (Term Frac)) (t u : Term Frac)
     (old mid new : List (Term Frac)) → ts ≡ t ∷ rest → mid ≡ old ++ u ∷ []
-    → u.mono ≡ with_key 0 x t.mono → u.coef ≡ t.coef → tell new ≡ tell mid ++ grown x (tell rest)
-    → tell new ≡ tell old ++ grown x (tell ts)
+    → u.mono ≡ with_key 0 x t.mono → u.coef ≡ t.coef
+    → tell new ≡ tell mid ++ with_powers x (tell rest)
+    → tell new ≡ tell old ++ with_powers x (tell ts)
 grown_next x ts rest t u old mid new e k n o h =
     more_behind (tell old) (tell mid) (tell new) (u.mono, fraction_of u.coef)
-    (grown x (tell rest)) (terms-push old mid u k) h
-    ∙ ap₂ (λ a b. tell old ++ (a, fraction_of b) ∷ grown x (tell rest)) n o
-    ∙ ap (λ l. tell old ++ grown x (tell l)) (sym e)
+    (with_powers x (tell rest)) (terms-push old mid u k) h
+    ∙ ap₂ (λ a b. tell old ++ (a, fraction_of b) ∷ with_powers x (tell rest)) n o
+    ∙ ap (λ l. tell old ++ with_powers x (tell l)) (sym e)
 
 module _ (base : List ℕ) (c : Coprime base) (m : ℕ) (negative : Bool) (e : List ℤ)
     (k : length e ≡ length base) where
@@ -156,32 +158,32 @@ module _ (base : List ℕ) (c : Coprime base) (m : ℕ) (negative : Bool) (e : L
   abbrev x : Key
   x = power_key negative e
 
-  fits : Fits base x.1
+  fits : SameLength base x.1
   fits = fits_map up_part base e k
 
-  fits' : Fits base x.2
+  fits' : SameLength base x.2
   fits' = fits_map down_part base e k
 
-  pub grown-arity : (p : Terms Fraction) → Arity m p → Arity w (grown x p)
+  pub grown-arity : (p : Terms Fraction) → Arity m p → Arity w (with_powers x p)
   unfolding Each
   grown-arity [] a = tt
   grown-arity (t ∷ p) a = (
     ap (λ n. suc (suc n)) (length-append x.1 (x.2 ++ t.0)
-        ∙ ap₂ ◌+◌ (fits_length base x.1 fits) (length-append x.2 t.0
-        ∙ ap₂ ◌+◌ (fits_length base x.2 fits') a.0)),
+        ∙ ap₂ ◌+◌ (lengths_agree base x.1 fits) (length-append x.2 t.0
+        ∙ ap₂ ◌+◌ (lengths_agree base x.2 fits') a.0)),
     grown-arity p a.1,
   )
 
   grown_value : (p : Terms Fraction) (n : ℕ) (s : List Fraction)
-      → value_at ℚ (grown x p) (point base n s)
-      ≡ ℚ.mul (power ℚ (signed negative (number base e)) n) (value_at ℚ p s)
+      → value_at ℚ (with_powers x p) (point base n s)
+      ≡ ℚ.mul (power ℚ (negate_if negative (number base e)) n) (value_at ℚ p s)
   grown_value [] n s = no_value (point base n s)
-      ∙ sym (ap (ℚ.mul (power ℚ (signed negative (number base e)) n)) (no_value s)
-      ∙ L.mul-zero R (power ℚ (signed negative (number base e)) n))
+      ∙ sym (ap (ℚ.mul (power ℚ (negate_if negative (number base e)) n)) (no_value s)
+      ∙ L.mul-zero R (power ℚ (negate_if negative (number base e)) n))
   grown_value (t ∷ p) n s =
-      let d = power ℚ (signed negative (number base e)) n in
+      let d = power ℚ (negate_if negative (number base e)) n in
       let u : List ℕ × Fraction = (with_key 0 x t.0, t.1) in
-      more_value u (grown x p) (point base n s)
+      more_value u (with_powers x p) (point base n s)
       ∙ ap₂ ℚ.add
       (term_value base c u negative e (key_with base 0 x t.0 fits fits') n s
       ∙ ap₂ (λ l z. ℚ.mul (ℚ.mul t.1 (monomial_at ℚ s l)) (ℚ.mul z d))
@@ -196,20 +198,20 @@ module _ (base : List ℕ) (c : Coprime base) (m : ℕ) (negative : Bool) (e : L
       out x y z f = ring R (x ∷ y ∷ z ∷ f ∷ []) (search ring_rules depth 40) refl
 
   -- ---- the two together
-  module _ (start sum all : Terms Fraction) (is : all ≡ grown x start ++ sum)
+  module _ (start sum all : Terms Fraction) (is : all ≡ with_powers x start ++ sum)
       (a : Arity m start) (b : Arity w sum) where
     pub together-arity : Arity w all
     together-arity = subst (Arity w) (sym is)
-        (each-append (λ (t : List ℕ × Fraction). length t.0 ≡ w) (grown x start) sum
+        (each-append (λ (t : List ℕ × Fraction). length t.0 ≡ w) (with_powers x start) sum
         (grown-arity start a) b)
 
-    pub joined_is : (j : ℕ) (body : Terms Fraction) (y : Expo) → body ≡ collected all
-        → IsExpo base j (normalized (length base) body) y
-        → IsJoined base m (signed negative (number base e)) start sum (terms_in y.body)
+    pub joined_is : (j : ℕ) (body : Terms Fraction) (y : Expo) → body ≡ collect_terms all
+        → IsExpo base j (with_normal_keys (length base) body) y
+        → IsJoined base m (negate_if negative (number base e)) start sum (terms_in y.body)
     joined_is j body y k h = record {
       values = λ n s l.
           normal_of_value base c m j all body y together-arity k h n s
           ∙ ap (λ q. value_at ℚ q (point base n s)) is
-          ∙ value_at-append R (grown x start) sum (point base n s)
+          ∙ value_at-append R (with_powers x start) sum (point base n s)
           ∙ ap (λ v. R.add v (value_at ℚ sum (point base n s))) (grown_value start n s);
     }

@@ -9,6 +9,7 @@ use Rattle.std.proofs.Common.{◌≡◌, inl, inr, ℕ, zero, suc, ◌<◌, ◌�
 use Rattle.std.proofs.lemmas.Bool.{cases_lt}
 use Rattle.std.proofs.lemmas.List.{length-map}
 use Rattle.rings.specs.In.{In}
+use Rattle.rings.proofs.Basics.{not_both}
 use Rattle.rings.proofs.In.{each_in}
 use Rattle.numbers.specs.Fraction.{Fraction, ℚ}
 use Rattle.numbers.proofs.Fractions.{ℚ_field}
@@ -152,7 +153,7 @@ module _ (images : List (Terms Fraction)) (base : List ℕ) (groups : List (List
     settled_here (i, l, set) = record {
       closed = h.closed;
       least = λ d closed. elim (cases_lt d since) [
-        | inl less ↦ absurd (clash (get_or marks i false) set ((told_at i low).1
+        | inl less ↦ absurd (not_both (get_or marks i false) set ((told_at i low).1
             (there_of n (later closed (omega (arith, less, one))) i low)))
         | inr more ↦ omega (arith, more)
       ];
@@ -168,9 +169,6 @@ module _ (images : List (Terms Fraction)) (base : List ℕ) (groups : List (List
           arity = closed.arity;
           values = λ k s e late. closed.values k s e (omega (arith, less, late));
         }
-
-        clash : (b : Bool) → b ≡ true → b ≡ false → ⊥
-        clash b p q = (let bad : ⊥ = cc in bad)
 
     pub settling_before : ((i : ℕ) → get_or marks i false ≡ false)
         → IsSettling images base groups lists es n

@@ -21,19 +21,19 @@ use Rattle.frac128.specs.declared.Whole.{Whole}
 use Rattle.poly.specs.Seen.{terms_in, terms_each, arity_of}
 use Rattle.coprime_base.specs.Sizes.{sizes}
 use Rattle.solvable.proofs.Using.{FracPoly}
-use Rattle.turns.specs.Expo.{normalized}
+use Rattle.turns.specs.Expo.{with_normal_keys}
 use Rattle.turns.specs.Turns.{width}
 use Rattle.expo.specs.declared.exponential.Expo.{Expo}
 use Rattle.expo.specs.Operations.{normal_of, vars_of}
 use Rattle.expo.specs.View.{IsExpo}
-use Rattle.closed_forms.specs.Sources.{collected, part, moved, IsBefore, IsSource}
+use Rattle.closed_forms.specs.Sources.{collect_terms, part, part_by_forms, IsBefore, IsSource}
 use Rattle.closed_forms.specs.Solved.{still, steady, IsKeySolution, IsSolvedTerm}
 use Rattle.closed_forms.specs.Sums.{mix}
 use Rattle.closed_forms.specs.Values.{IsExpoOver}
 use Rattle.closed_forms.proofs.Mixing.{mix-arity, polys_arity}
 
 pub poly_is : (w : ℕ) (q : FracPoly) (ts : Terms Fraction) → Arity w ts → q.arity ≡ w
-    → Same ℚ (terms_in q) ts → terms_in q ≡ collected ts
+    → Same ℚ (terms_in q) ts → terms_in q ≡ collect_terms ts
 poly_is w q ts a e s = collect-is ℚ_field grevlex grevlex_order w ts (terms_in q) a
     (subst (λ n. IsPolynomial ℚ grevlex n (terms_in q)) e q.polynomial) s
 
@@ -62,14 +62,14 @@ pub moved_is : (base : List ℕ) (m : ℕ) (cs : List Fraction) (rests : List (T
     → All (λ (q : FracPoly). q.arity ≡ width (length base) m) images
     → terms_in p ≡ part cs rests → r.arity ≡ arity_of images
     → Same ℚ (terms_in r) (compose ℚ (arity_of images) (terms_in p) (terms_each images))
-    → terms_in r ≡ moved base m cs rests (terms_each images)
+    → terms_in r ≡ part_by_forms base m cs rests (terms_each images)
 moved_is base m cs rests images p r l h e a s =
     let w = width (length base) m in
     let is = arity_of_is w images l h in
     poly_is w r (compose ℚ w (terms_in p) (terms_each images)) (arity-compose w ℚ (terms_in p)
     (terms_each images) (polys_arity w images h)) (a ∙ is)
     (subst (λ n. Same ℚ (terms_in r) (compose ℚ n (terms_in p) (terms_each images))) is s)
-    ∙ ap (λ x. collected (compose ℚ w x (terms_each images))) e
+    ∙ ap (λ x. collect_terms (compose ℚ w x (terms_each images))) e
 
 -- ---- the combination of earlier forms
 -- ---- what is made normal
@@ -88,24 +88,24 @@ code_width ws m = (let e : length (sizes ws) ≡ length ws = length-map ws _ in 
 
 pub sum_is : (w : ℕ) (p q r : FracPoly) (ps qs : Terms Fraction) → p.arity ≡ w → q.arity ≡ w
     → r.arity ≡ p.arity → terms_in p ≡ ps → terms_in q ≡ qs
-    → Same ℚ (terms_in r) (terms_in p ++ terms_in q) → terms_in r ≡ collected (ps ++ qs)
+    → Same ℚ (terms_in r) (terms_in p ++ terms_in q) → terms_in r ≡ collect_terms (ps ++ qs)
 sum_is w p q r ps qs a b c e f s =
     poly_is w r (terms_in p ++ terms_in q) (each-append (λ (t : List ℕ × Fraction). length t.0 ≡ w)
     (terms_in p) (terms_in q) (poly_arity w p a) (poly_arity w q b)) (c ∙ a) s
-    ∙ ap₂ (λ x y. collected (x ++ y)) e f
+    ∙ ap₂ (λ x y. collect_terms (x ++ y)) e f
 
 module _ (base : List ℕ) (m : ℕ) (cs : List Fraction) (rests ps : List (Terms Fraction))
     (matrix back : List (List Fraction)) (done : List (Terms Fraction)) where
   pub source_is : (before sum : Terms Fraction) (e : Expo) (k : ℕ)
       → (is : IsBefore cs matrix back done before)
-      → sum ≡ collected (moved base m cs rests ps ++ before)
-      → IsExpo base k (normalized (length base) sum) e
+      → sum ≡ collect_terms (part_by_forms base m cs rests ps ++ before)
+      → IsExpo base k (with_normal_keys (length base) sum) e
       → IsSource base m cs rests ps matrix back done (terms_in e.body)
   source_is before sum e k is h x = record {
     by = is.by;
     is_by = is.is_by;
-    terms = x.terms ∙ ap (λ y. collected (normalized (length base) y)) (h
-        ∙ ap (λ y. collected (moved base m cs rests ps ++ y)) is.terms);
+    terms = x.terms ∙ ap (λ y. collect_terms (with_normal_keys (length base) y)) (h
+        ∙ ap (λ y. collect_terms (part_by_forms base m cs rests ps ++ y)) is.terms);
   }
 
 -- ---- the solution of a term
@@ -115,7 +115,7 @@ pub steady_is : (bs : List ℕ) (t : List ℕ × Fraction) (n : ℕ) (q : FracPo
 unfolding Each
 steady_is bs t n q e x ts k a b l g s =
     poly_is n q ((e, x) ∷ []) (l, tt) g (subst (Same ℚ (terms_in q)) k s)
-    ∙ ap₂ (λ d y. collected ((d, y) ∷ [])) a b
+    ∙ ap₂ (λ d y. collect_terms ((d, y) ∷ [])) a b
 
 pub product_is : (base : List ℕ) (m : ℕ) (t : List ℕ × Fraction) (l : Fraction) (y q r : FracPoly)
     → y.arity ≡ width (length base) m → q.arity ≡ width (length base) m → r.arity ≡ y.arity
@@ -127,5 +127,5 @@ product_is base m t l y q r a b c h e s = record {
   terms = poly_is (width (length base) m) r (times ℚ (terms_in y) (terms_in q))
       (arity-times (width (length base) m) ℚ (terms_in y) (terms_in q)
       (poly_arity (width (length base) m) y a) (poly_arity (width (length base) m) q b)) (c ∙ a) s
-      ∙ ap (λ x. collected (times ℚ (terms_in y) x)) e;
+      ∙ ap (λ x. collect_terms (times ℚ (terms_in y) x)) e;
 }

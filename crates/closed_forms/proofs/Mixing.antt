@@ -1,6 +1,5 @@
 -- Sums of polynomials, each times a number, term by term.
 use Rattle.std.proofs.Common.{◌≡◌, inl, inr, ◌≢◌, ◌<◌, ◌≤◌, ℕ, suc, Bool, true, false, cond, ◌||◌, T, List, [], ◌∷◌, ◌++◌, get_or, length, All, append_assoc, Result, Ok, Err, OnOk, IfOk, lt→ltb, ltb→lt, refl, sym, ap, ap₂, subst, ◌∙◌, arith}
-use Rattle.std.specs.Result.{IsErrAnd, IsErrOf}
 use Rattle.std.proofs.lemmas.List.{append-nil}
 use Rattle.rings.specs.Each.{Each}
 use Rattle.rings.proofs.Each.{each-append}
@@ -13,20 +12,15 @@ use Rattle.chains.proofs.Reach.{or_left}
 use Rattle.polynomials.specs.Order.{Rank}
 use Rattle.polynomials.specs.Polynomial.{Arity, Below, Falls, IsPolynomial}
 use Rattle.polynomials.specs.Terms.{Terms}
-use Rattle.machines.specs.Collect.{scaled}
+use Rattle.machines.specs.Collect.{scale_terms}
 use Rattle.frac128.specs.FracMeaning.{fraction_of}
 use Rattle.frac128.specs.declared.fraction.Frac.{Frac}
 use Rattle.poly.proofs.Steps as steps
 use Rattle.poly.specs.Seen.{terms_in, terms_each}
 use Rattle.solvable.proofs.Using.{FracPoly, to_false}
 use Rattle.poly.specs.View.{terms_of}
-use Rattle.poly.specs.declared.PolyError.{PolyError}
-use Rattle.poly.specs.declared.PolyError.TheVariants as poly_error
 use Rattle.poly.specs.declared.Term.{Term}
-use Rattle.turns.specs.Turned.{mine, rest_of}
-use Rattle.expo.specs.Refusal.{of_poly}
-use Rattle.expo.specs.declared.ExpoError.{ExpoError}
-use Rattle.expo.specs.declared.ExpoError.TheVariants.{Wide}
+use Rattle.turns.specs.AfterTurns.{mine, rest_of}
 use Rattle.closed_forms.specs.Sums.{mix, IsPastScaled}
 
 abbrev pub tell : List (Term Frac) → Terms Fraction
@@ -49,14 +43,14 @@ more_behind old mid new t rest e h = h ∙ ap (λ r. r ++ rest) e ∙ append_ass
 module _ (ts rest : List (Term Frac)) (t : Term Frac) (is : ts ≡ t ∷ rest) where
   pub scaled_next : (c : Fraction) (old mid new : List (Term Frac)) (u : Term Frac)
       → u.mono ≡ t.mono → fraction_of u.coef ≡ ℚ.mul c (fraction_of t.coef) → mid ≡ old ++ u ∷ []
-      → tell new ≡ tell mid ++ scaled rationals c (tell rest)
-      → tell new ≡ tell old ++ scaled rationals c (tell ts)
-  unfolding scaled
+      → tell new ≡ tell mid ++ scale_terms rationals c (tell rest)
+      → tell new ≡ tell old ++ scale_terms rationals c (tell ts)
+  unfolding scale_terms
   scaled_next c old mid new u m k e h =
       more_behind (tell old) (tell mid) (tell new) (u.mono, fraction_of u.coef)
-      (scaled rationals c (tell rest)) (terms-push old mid u e) h
-      ∙ ap₂ (λ x y. tell old ++ (x, y) ∷ scaled rationals c (tell rest)) m k
-      ∙ ap (λ l. tell old ++ scaled rationals c (tell l)) (sym is)
+      (scale_terms rationals c (tell rest)) (terms-push old mid u e) h
+      ∙ ap₂ (λ x y. tell old ++ (x, y) ∷ scale_terms rationals c (tell rest)) m k
+      ∙ ap (λ l. tell old ++ scale_terms rationals c (tell l)) (sym is)
 
   pub past_scaled_here : (c : Fraction) → IsPast (fraction_size (ℚ.mul c (fraction_of t.coef)))
       → IsPastScaled c (tell ts)
@@ -69,8 +63,8 @@ module _ (ts rest : List (Term Frac)) (t : Term Frac) (is : ts ≡ t ∷ rest) w
 
 -- ---- arities
 scaled-arity : (m : ℕ) (c : Fraction) (p : Terms Fraction) → Arity m p
-    → Arity m (scaled rationals c p)
-unfolding Each scaled
+    → Arity m (scale_terms rationals c p)
+unfolding Each scale_terms
 scaled-arity m c [] h = tt
 scaled-arity m c (t ∷ p) h = (h.0, scaled-arity m c p h.1)
 
@@ -80,7 +74,7 @@ unfolding Each
 mix-arity m [] ps h = tt
 mix-arity m (c ∷ cs) [] h = tt
 mix-arity m (c ∷ cs) (p ∷ ps) h = each-append (λ (t : List ℕ × Fraction). length t.0 ≡ m)
-    (scaled rationals c p) (mix cs ps) (scaled-arity m c p h.0) (mix-arity m cs ps h.1)
+    (scale_terms rationals c p) (mix cs ps) (scaled-arity m c p h.0) (mix-arity m cs ps h.1)
 
 pub all_arity : (m : ℕ) (ts : List (Term Frac)) → Arity m (tell ts)
     → All (λ (t : Term Frac). length t.mono ≡ m) ts
@@ -94,12 +88,6 @@ arity_all m (t ∷ ts) h =
     (h 0 t (omega arith), arity_all m ts (λ k d l. h (suc k) d (omega (arith, l))))
 
 -- ---- outcomes
-pub wide_of : {X : Type 0} (r : Result X ExpoError) (e : PolyError)
-    → IsErrAnd r (λ f. f ≡ of_poly e) → IsErrOf r Wide → e ≡ poly_error.Wide
-wide_of (Ok x) e h w = absurd h
-wide_of (Err y) poly_error.Wide h w = refl
-wide_of (Err y) poly_error.Memory h w = absurd (let z : ⊥ = cc in z)
-
 pub on_ok_where : {A E : Type 0} (r : Result A E) (P Q : Type 0) → (P → Q) → OnOk r P → OnOk r Q
 on_ok_where (Ok a) P Q h k = h k
 on_ok_where (Err e) P Q h k = tt
@@ -110,8 +98,8 @@ if_ok_where (Ok a) P Q h k = h a k
 if_ok_where (Err e) P Q h k = tt
 
 pub scaled_none : (old : Terms Fraction) (c : Fraction) (ts : List (Term Frac)) → length ts ≡ 0
-    → old ≡ old ++ scaled rationals c (tell ts)
-unfolding scaled
+    → old ≡ old ++ scale_terms rationals c (tell ts)
+unfolding scale_terms
 scaled_none old c [] e = sym (append-nil old)
 scaled_none old c (t ∷ ts) e = absurd (omega (arith, e))
 

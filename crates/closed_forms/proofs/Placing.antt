@@ -4,26 +4,23 @@
 --   known_begun, known_ready, known_next, known_last     before the first class, before and after a class, after the last
 --   bodies-count                     how many polynomials there are
 --   over_normals, put_over           they stay over their base
---   zero_small                       the weight of 0 is not past
 use Rattle.std.proofs.Common.{◌≡◌, ◌≢◌, ◌⊎◌, inl, inr, ◌<◌, ◌≤◌, ℕ, zero, suc, ◌+◌, List, [], ◌∷◌, ◌++◌, length, get_or, set, Option, Some, None, refl, sym, ap, subst, ◌∙◌, arith, below_more}
 use Rattle.std.proofs.lemmas.List.{length-map, length-set, length_push, get_or-set_same, get_or-set_other, get_or_append_left, get_or_push}
 use Rattle.std.proofs.lemmas.Bool.{cases_eq, cases_lt}
 use Rattle.rings.specs.Each.{Each}
 use Rattle.rings.specs.In.{In}
 use Rattle.rings.proofs.In.{in_get, in_place, in_left, in_right}
-use Rattle.numbers.specs.Fraction.{Fraction, fraction_size}
-use Rattle.numbers.specs.Size.{IsPast}
+use Rattle.numbers.specs.Fraction.{Fraction}
 use Rattle.polynomials.specs.Order.{grevlex}
 use Rattle.polynomials.specs.Polynomial.{AllArity}
 use Rattle.polynomials.specs.Terms.{Terms}
-use Rattle.polynomials.specs.Weight.{weight}
 use Rattle.chains.specs.Class.{AreClasses, Above, Ascends}
 use Rattle.chains.specs.Uses.{uses, poly_at}
 use Rattle.linear.specs.Rows.{fractions_of}
 use Rattle.eigen_split.specs.declared.splitting.Split.{Split}
 use Rattle.poly.specs.Seen.{terms_in}
 use Rattle.turns.specs.Classes.{first_of}
-use Rattle.turns.specs.Turned.{place, IsTurned}
+use Rattle.turns.specs.AfterTurns.{place, IsAfterTurns}
 use Rattle.turns.specs.Turns.{width, IsNormalForm, IsClosedFormFrom}
 use Rattle.turns.proofs.Classwise.{whole_more, next_apart, next_is_class, later_turned, turned_none, turned_more, turned_all}
 use Rattle.expo.specs.declared.exponential.Expo.{Expo}
@@ -244,7 +241,7 @@ module _ (base : List ℕ) (images : List (Terms Fraction)) (splits : List (Opti
       → IsPut g news old new → length news ≡ length g → ((i : ℕ) → In i g → i < m)
       → (split : Split) → get_or splits (first_of g) None ≡ Some split
       → ((a : ℕ) → a < length g
-      → IsTurned base images (h.since + zeros_in (fractions_of split.values.items)) (place g a)
+      → IsAfterTurns base images (h.since + zeros_in (fractions_of split.values.items)) (place g a)
       (poly_at (bodies_of news) a))
       → AreKnown base images splits z rest (bodies_of new)
   known_next groups rest g news old new e h put count low split here turned =
@@ -262,7 +259,7 @@ module _ (base : List ℕ) (images : List (Terms Fraction)) (splits : List (Opti
       new-size : length (bodies_of new) ≡ m
       new-size = bodies-count new ∙ put.count ∙ sym (bodies-count old) ∙ size
 
-      at_new : (i : ℕ) → In i g → IsTurned base images d i (poly_at (bodies_of new) i)
+      at_new : (i : ℕ) → In i g → IsAfterTurns base images d i (poly_at (bodies_of new) i)
       at_new i inside =
           let r = at_place g i inside in
           let a = r.0 in
@@ -270,8 +267,8 @@ module _ (base : List ℕ) (images : List (Terms Fraction)) (splits : List (Opti
           let is = r.2 in
           let s = bodies-count new in
           let b : i < m = low i inside in
-          subst (λ j. IsTurned base images d j (poly_at (bodies_of new) j)) (sym is)
-          (subst (IsTurned base images d (place g a))
+          subst (λ j. IsAfterTurns base images d j (poly_at (bodies_of new) j)) (sym is)
+          (subst (IsAfterTurns base images d (place g a))
           (sym (same_body new news (place g a) a (omega (arith, s, new-size, b, is))
           (omega (arith, count, l)) (λ d. put.each a d l))) (turned a l))
 
@@ -349,11 +346,4 @@ put_over base m g news old new put count h k = λ i d l. elim (found i g) [
       ∙ put.each r.0 d b)) (h r.0 d (omega (arith, count, b))))
   | inr n ↦ subst (IsExpoOver base m) (sym (put.others i d n))
       (k i d (let c = put.count in omega (arith, c, l)))
-]
-
-pub zero_small : (p : Terms Fraction) → p ≡ [] → IsPast (weight fraction_size p) → ⊥
-unfolding weight
-zero_small p e h = elim (subst (λ q. IsPast (weight fraction_size q)) e h) [
-  | inl l ↦ omega (arith, l)
-  | inr l ↦ omega (arith, l)
 ]

@@ -21,34 +21,34 @@ use Rattle.polynomials.specs.Terms.{Terms, times, value_at, monomial_at, sum_of_
 use Rattle.polynomials.proofs.Arity.{arity-times}
 use Rattle.polynomials.proofs.Orders.{grevlex_order}
 use Rattle.polynomials.proofs.ValueAt.{value_at-append, value_at-times, value_at_same}
-use Rattle.machines.specs.Collect.{scaled}
+use Rattle.machines.specs.Collect.{scale_terms}
 use Rattle.machines.proofs.Collecting.{collect-same, collect-polynomial}
 use Rattle.chains.proofs.Exponents.{length-unit}
 use Rattle.chains.specs.Uses.{unit}
-use Rattle.exponentials.specs.Base.{Coprime, Fits}
+use Rattle.exponentials.specs.Base.{Coprime, SameLength}
 use Rattle.exponentials.specs.Keys.{Key, key_of, normal_key, top}
-use Rattle.exponentials.specs.Powers.{number, signed}
+use Rattle.exponentials.specs.Powers.{number, negate_if}
 use Rattle.vectors.specs.Lists.{entries}
-use Rattle.turns.specs.Expo.{normalized, tail, power_key, with_key, up_part, down_part}
-use Rattle.turns.specs.Turned.{form_at, HasRecurrence}
+use Rattle.turns.specs.Expo.{with_normal_keys, tail, power_key, with_key, up_part, down_part}
+use Rattle.turns.specs.AfterTurns.{form_at, HasRecurrence}
 use Rattle.turns.specs.Turns.{point, width}
 use Rattle.turns.proofs.Operations.{key_with, tail_with, normal-value}
 use Rattle.turns.proofs.Recurrences.{one_value, no_value, recurrence_more, recurrence_same, term_value, term_solved, growing_solved}
 use Rattle.exponentials.proofs.Units.{room_long, normal_good}
 use Rattle.expo.proofs.Normal.{fits_map}
-use Rattle.expo.proofs.Solved.{fits_length}
+use Rattle.turns.proofs.Realized.{lengths_agree}
 use Rattle.closed_forms.specs.Sums.{mix}
-use Rattle.closed_forms.specs.Sources.{collected, part}
-use Rattle.closed_forms.specs.Solved.{still, steady, growing, IsSolvedTerm, AreSolved, IsWhole, IsSolvedForm}
+use Rattle.closed_forms.specs.Sources.{collect_terms, part}
+use Rattle.closed_forms.specs.Solved.{still, steady, homogeneous_part, IsSolvedTerm, AreSolved, IsWhole, IsSolvedForm}
 
 abbrev R : CommRing Fraction
 R = ℚ_ring
 
-pub collected_value : (p : Terms Fraction) (z : List Fraction) → value_at ℚ (collected p) z
+pub collected_value : (p : Terms Fraction) (z : List Fraction) → value_at ℚ (collect_terms p) z
     ≡ value_at ℚ p z
 collected_value p z = value_at_same ℚ_ring _ _ z (collect-same ℚ_field grevlex grevlex_order p)
 
-pub collected-arity : (w : ℕ) (p : Terms Fraction) → Arity w p → Arity w (collected p)
+pub collected-arity : (w : ℕ) (p : Terms Fraction) → Arity w p → Arity w (collect_terms p)
 collected-arity w p a = (collect-polynomial ℚ_field grevlex grevlex_order w p a).arity
 
 pub more_value : (t : List ℕ × Fraction) (p : Terms Fraction) (z : List Fraction)
@@ -57,11 +57,11 @@ more_value t p z = value_at-append R (t ∷ []) p z
 
 -- ---- forms of polynomials
 scaled_value : (c : Fraction) (p : Terms Fraction) (z : List Fraction)
-    → value_at ℚ (scaled rationals c p) z ≡ ℚ.mul c (value_at ℚ p z)
-unfolding scaled
+    → value_at ℚ (scale_terms rationals c p) z ≡ ℚ.mul c (value_at ℚ p z)
+unfolding scale_terms
 scaled_value c [] z = no_value z ∙ sym (ap (ℚ.mul c) (no_value z) ∙ L.mul-zero R c)
 scaled_value c (t ∷ p) z =
-    more_value (t.0, ℚ.mul c t.1) (scaled rationals c p) z
+    more_value (t.0, ℚ.mul c t.1) (scale_terms rationals c p) z
     ∙ ap₂ ℚ.add (one_value (t.0, ℚ.mul c t.1) z) (scaled_value c p z)
     ∙ out c t.1 (monomial_at ℚ z t.0) (value_at ℚ p z)
     ∙ ap (ℚ.mul c) (ap (λ x. ℚ.add x (value_at ℚ p z)) (sym (one_value t z))
@@ -76,7 +76,7 @@ pub mix_value : (cs : List Fraction) (ps : List (Terms Fraction)) (z : List Frac
 unfolding sum_of_products
 mix_value [] ps z = no_value z
 mix_value (c ∷ cs) [] z = no_value z
-mix_value (c ∷ cs) (p ∷ ps) z = value_at-append R (scaled rationals c p) (mix cs ps) z
+mix_value (c ∷ cs) (p ∷ ps) z = value_at-append R (scale_terms rationals c p) (mix cs ps) z
     ∙ ap₂ ℚ.add (scaled_value c p z) (mix_value cs ps z)
 
 pub part_value : (cs : List Fraction) (ps : List (Terms Fraction)) (z : List Fraction)
@@ -135,14 +135,14 @@ tail-length r m (a ∷ []) l = absurd (omega (arith, l))
 tail-length r m (a ∷ b ∷ e) l = length-drop r (drop r e) ∙ ap (λ k. k - r) (length-drop r e)
     ∙ (let h : length e - r - r ≡ m = omega (arith, l) in h)
 
-with-length : (bs : List ℕ) (m n : ℕ) (x : Key) (e : List ℕ) → Fits bs x.1 → Fits bs x.2
+with-length : (bs : List ℕ) (m n : ℕ) (x : Key) (e : List ℕ) → SameLength bs x.1 → SameLength bs x.2
     → length e ≡ m → length (with_key n x e) ≡ width (length bs) m
 with-length bs m n x e f g l =
     ap (λ k. suc (suc k)) (length-append x.1 (x.2 ++ e)
-    ∙ ap₂ ◌+◌ (fits_length bs x.1 f) (length-append x.2 e ∙ ap₂ ◌+◌ (fits_length bs x.2 g) l))
+    ∙ ap₂ ◌+◌ (lengths_agree bs x.1 f) (length-append x.2 e ∙ ap₂ ◌+◌ (lengths_agree bs x.2 g) l))
 
 pub normalized-arity : (bs : List ℕ) (m : ℕ) (p : Terms Fraction) → Arity (width (length bs) m) p
-    → Arity (width (length bs) m) (normalized (length bs) p)
+    → Arity (width (length bs) m) (with_normal_keys (length bs) p)
 unfolding Each
 normalized-arity bs m [] a = tt
 normalized-arity bs m (t ∷ p) a =
@@ -179,7 +179,7 @@ module _ (base : List ℕ) (c : Coprime base) (m : ℕ) where
   w = width r m
 
   growing-arity : (negative : Bool) (e : List ℤ) → length e ≡ r → (cs : List Fraction) (g : List ℕ)
-      → Arity w (growing m (power_key negative e) cs g)
+      → Arity w (homogeneous_part m (power_key negative e) cs g)
   unfolding Each
   growing-arity negative e k [] g = tt
   growing-arity negative e k (x ∷ cs) [] = tt
@@ -211,7 +211,7 @@ module _ (base : List ℕ) (c : Coprime base) (m : ℕ) where
   whole-arity cs g l q p a h =
       subst (Arity w) (sym h.terms)
       (each-append (λ (t : List ℕ × Fraction). length t.0 ≡ w)
-      (growing m (power_key h.negative h.exponents) cs g) h.solved
+      (homogeneous_part m (power_key h.negative h.exponents) cs g) h.solved
       (growing-arity h.negative h.exponents h.power.count cs g)
       (solved-arity l q h.solved a h.are))
 
@@ -252,28 +252,29 @@ module _ (base : List ℕ) (c : Coprime base) (m : ℕ) where
 
   growing_value : (negative : Bool) (e : List ℤ) → length e ≡ r → (cs : List Fraction) (g : List ℕ)
       → Each (λ j. j < m) g → (n : ℕ) (s : List Fraction) → length s ≡ m
-      → value_at ℚ (growing m (power_key negative e) cs g) (point base n s)
-      ≡ ℚ.mul (power ℚ (signed negative (number base e)) n) (form_at cs g s)
+      → value_at ℚ (homogeneous_part m (power_key negative e) cs g) (point base n s)
+      ≡ ℚ.mul (power ℚ (negate_if negative (number base e)) n) (form_at cs g s)
   unfolding Each sum_of_products
   growing_value negative e k [] g a n s l = no_value (point base n s)
-      ∙ sym (L.mul-zero R (power ℚ (signed negative (number base e)) n))
+      ∙ sym (L.mul-zero R (power ℚ (negate_if negative (number base e)) n))
   growing_value negative e k (x ∷ cs) [] a n s l = no_value (point base n s)
-      ∙ sym (L.mul-zero R (power ℚ (signed negative (number base e)) n))
+      ∙ sym (L.mul-zero R (power ℚ (negate_if negative (number base e)) n))
   growing_value negative e k (x ∷ cs) (j ∷ g) a n s l =
       let y = power_key negative e in
       let f = fits_map up_part base e k in
       let f' = fits_map down_part base e k in
       let t : List ℕ × Fraction = (with_key 0 y (unit m j), x) in
-      more_value t (growing m y cs g) (point base n s)
+      more_value t (homogeneous_part m y cs g) (point base n s)
       ∙ ap₂ ℚ.add
       (term_value base c t negative e (key_with base 0 y (unit m j) f f') n s
       ∙ ap₂ (λ d z. ℚ.mul (ℚ.mul x (monomial_at ℚ s d))
-      (ℚ.mul z (power ℚ (signed negative (number base e)) n))) (tail_with base 0 y (unit m j)
+      (ℚ.mul z (power ℚ (negate_if negative (number base e)) n))) (tail_with base 0 y (unit m j)
       f f') (L.power-zero R (whole (pos n)))
-      ∙ ap (λ d. ℚ.mul (ℚ.mul x d) (ℚ.mul ℚ.one (power ℚ (signed negative (number base e)) n)))
+      ∙ ap (λ d. ℚ.mul (ℚ.mul x d) (ℚ.mul ℚ.one (power ℚ (negate_if negative (number base e)) n)))
       (unit_value m s j l a.0))
       (growing_value negative e k cs g a.1 n s l)
-      ∙ out x (entries ℚ_field s j) (power ℚ (signed negative (number base e)) n) (form_at cs g s)
+      ∙ out x (entries ℚ_field s j) (power ℚ (negate_if negative (number base e)) n)
+      (form_at cs g s)
     where
       out : (x y z f : Fraction) → R.add (R.mul (R.mul x y) (R.mul R.one z)) (R.mul z f)
           ≡ R.mul z (R.add (R.mul x y) f)
@@ -283,7 +284,7 @@ module _ (base : List ℕ) (c : Coprime base) (m : ℕ) where
       → Each (λ j. j < m) g → Arity w q → IsWhole base m cs g l q p
       → HasRecurrence base m l q (form_at cs g) p
   whole_recurs cs g l q p low a h =
-      let y = growing m (power_key h.negative h.exponents) cs g in
+      let y = homogeneous_part m (power_key h.negative h.exponents) cs g in
       subst (HasRecurrence base m l q (form_at cs g)) (sym h.terms)
       (recurrence_more base m l (form_at cs g) [] y q h.solved
       (growing_solved base c m l h.negative h.exponents h.power.is y (form_at cs g) (λ n s k.
@@ -294,11 +295,11 @@ module _ (base : List ℕ) (c : Coprime base) (m : ℕ) where
       → Each (λ j. j < m) g → Arity w q → IsSolvedForm base m cs g l q y
       → HasRecurrence base m l q (form_at cs g) y
   form_recurs cs g l q y low a h =
-      let b : Arity w (collected h.whole) =
+      let b : Arity w (collect_terms h.whole) =
       collected-arity w h.whole (whole-arity cs g l q h.whole a h.is) in
       recurrence_same base m l (form_at cs g) q h.whole y (whole_recurs cs g l q h.whole low a h.is)
       (λ n s.
       ap (λ x. value_at ℚ x (point base n s)) h.terms
-      ∙ collected_value (normalized r (collected h.whole)) (point base n s)
-      ∙ normal-value base c m (collected h.whole) b n s
+      ∙ collected_value (with_normal_keys r (collect_terms h.whole)) (point base n s)
+      ∙ normal-value base c m (collect_terms h.whole) b n s
       ∙ collected_value h.whole (point base n s))

@@ -32,11 +32,11 @@ use Rattle.turns.specs.Turns.{width, IsNormal}
 use Rattle.turns.proofs.Classwise.{class_few}
 use Rattle.turns.proofs.FormSplits.{forms_inverse}
 use Rattle.expo.specs.declared.exponential.Expo.{Expo}
-use Rattle.closed_forms.specs.declared.sources.Setting.{Setting}
+use Rattle.closed_forms.specs.declared.sources.ClassSetting.{ClassSetting}
 use Rattle.closed_forms.specs.Later.{ahead_of}
 use Rattle.closed_forms.specs.ClassForms.{IsSettingOf, ahead_in, zeros_of, AreNextOf, IsPastNextOf, AreVariablesOf, IsPastClassOf}
 use Rattle.closed_forms.specs.Known.{rests_in, IsReady, AreNextForms, IsPastRowOf, form_past, variable_past, variable_in}
-use Rattle.closed_forms.specs.Setting.{IsSetting}
+use Rattle.closed_forms.specs.ClassSetting.{IsClassSetting}
 use Rattle.closed_forms.specs.Splits.{IsSplitOf}
 use Rattle.closed_forms.specs.Values.{bodies_of, IsExpoOver, AreOver}
 use Rattle.closed_forms.proofs.Chaining.{next_told, past_told, map-at}
@@ -85,7 +85,7 @@ module _ (images : List (Terms Fraction)) (g : List ℕ) (split : Split)
 
 -- ---- what is known where the forms of a class are made
 pub record IsAtHand (bs : List ℕ) (images : List FracPoly) (g : List ℕ) (es : List Expo)
-    (split : Split) (z : ℕ) (s : Setting) : Type 0 where
+    (split : Split) (z : ℕ) (s : ClassSetting) : Type 0 where
   pub coprime : Coprime bs
   pub square : All (λ (p : FracPoly). p.arity ≡ length images) images
   pub solvable : IsSolvable (terms_each images)
@@ -97,7 +97,7 @@ pub record IsAtHand (bs : List ℕ) (images : List FracPoly) (g : List ℕ) (es 
   pub ahead : All (λ (p : FracPoly). p.arity ≡ length images) s.ahead.items
 
 module _ (bs : List ℕ) (images : List FracPoly) (g : List ℕ) (es : List Expo) (split : Split)
-    (z : ℕ) (s : Setting) (h : IsAtHand bs images g es split z s) where
+    (z : ℕ) (s : ClassSetting) (h : IsAtHand bs images g es split z s) where
   abbrev M : List (Terms Fraction)
   M = terms_each images
 
@@ -142,7 +142,7 @@ module _ (bs : List ℕ) (images : List FracPoly) (g : List ℕ) (es : List Expo
   pub back_count : length s.back.items ≡ length g
   back_count = sym (length-map s.back.items (λ row. fractions_of row.items)) ∙ inverse_is.size
 
-  pub setting_is : IsSetting bs (length split.forms.items) s
+  pub setting_is : IsClassSetting bs (length split.forms.items) s
   setting_is =
       let n : length split.forms.items ≡ length g = forms_count M g split h.splits in
       record {

@@ -13,6 +13,7 @@ use mir.Val.{to_z, of_z}
 use Rattle.std.proofs.lemmas.Int.{to_z-of_z, fits_signed_from_abs}
 use Rattle.rings.specs.Each.{Each}
 use Rattle.std.specs.Result.{OnOk}
+use Rattle.rings.proofs.Basics.{not_both}
 use Rattle.numbers.specs.Fraction.{Fraction, ℚ, is_zero}
 use Rattle.numbers.proofs.Fractions.{facts, top_zero, zero_is}
 use Rattle.exponentials.specs.Base.{IsTheBase}
@@ -98,10 +99,7 @@ some_nonzero (x ∷ values) = go (is_zero x) refl (some_nonzero values)
     go : (b : Bool) → is_zero x ≡ b → Each (λ c. c ≢ ℚ.zero) (some_of values)
         → Each (λ c. c ≢ ℚ.zero) (cond b (some_of values) (x ∷ some_of values))
     go true e h = h
-    go false e h = ((λ z. clash (is_zero x) e ((zero_is x).1 z)), h)
-      where
-        clash : (b : Bool) → b ≡ false → b ≡ true → ⊥
-        clash b e f = (let z : ⊥ = cc in z)
+    go false e h = ((λ z. not_both (is_zero x) ((zero_is x).1 z) e), h)
 
 pub some_few : (values : List Fraction) → length (some_of values) ≤ length values
 some_few [] = omega arith

@@ -25,7 +25,7 @@ use Rattle.chains.proofs.Exponents.{length-unit, unit_get}
 use Rattle.monos.specs.declared.order.Grevlex.{Grevlex}
 use Rattle.poly.specs.Seen.{terms_in, terms_each, arity_of, Is}
 use Rattle.solvable.proofs.Using.{FracPoly, length_each, poly_at-is}
-use Rattle.closed_forms.specs.Sources.{collected}
+use Rattle.closed_forms.specs.Sources.{collect_terms}
 use Rattle.closed_forms.specs.States.{next_of, after, states_to, IsPastNextState, IsPastState}
 use Rattle.closed_forms.proofs.Ahead.{after_count}
 use Rattle.closed_forms.proofs.Making.{arity_of_is, poly_is}
@@ -95,7 +95,7 @@ variables_all m i out l h =
 
 -- ---- a state after another one
 abbrev pub turned : ℕ → List (Terms Fraction) → FracPoly → Terms Fraction
-turned m state p = collected (compose ℚ m (terms_in p) state)
+turned m state p = collect_terms (compose ℚ m (terms_in p) state)
 
 pub image_next : (state images out more : List FracPoly) (i : ℕ) (image p : FracPoly)
     → 0 < length state → All (λ (q : FracPoly). q.arity ≡ length state) state

@@ -24,9 +24,9 @@ use Rattle.vectors.specs.Causes.{row_at}
 use Rattle.vectors.specs.Lists.{entries}
 use Rattle.vectors.specs.Matrices.{AreForms}
 use Rattle.turns.specs.Classes.{class_matrix, IsClass}
-use Rattle.turns.specs.Expo.{normalized}
+use Rattle.turns.specs.Expo.{with_normal_keys}
 use Rattle.turns.specs.Inverse.{IsInverse, IsProduct}
-use Rattle.turns.specs.Turned.{rest_of, place, rests_at, form_at, IsTurned, IsTurnedForm, HasValueAfter}
+use Rattle.turns.specs.AfterTurns.{rest_of, place, rests_at, form_at, IsAfterTurns, IsFormAfterTurns, HasValueAfter}
 use Rattle.turns.specs.Turns.{point, turns, width, IsNormalForm}
 use Rattle.turns.proofs.ClassSteps.{rests_turned}
 use Rattle.turns.proofs.Classwise.{later_form as lift_form}
@@ -35,7 +35,7 @@ use Rattle.turns.proofs.Operations.{normal-value}
 use Rattle.closed_forms.specs.Later.{Ahead, ahead_of, IsFormFrom, at_once, later, one_later, IsLaterForm, IsOneLater}
 use Rattle.closed_forms.specs.Solved.{IsSolvedForm}
 use Rattle.closed_forms.specs.States.{zeros_in}
-use Rattle.closed_forms.specs.Sources.{part, moved, both, source_in}
+use Rattle.closed_forms.specs.Sources.{part, part_by_forms, both, source_in}
 use Rattle.closed_forms.specs.Sums.{mix}
 use Rattle.closed_forms.specs.Known.{rests_in, IsReady, AreDone, IsNextForm, AreNextForms, IsPastNext, IsPastFormAt, IsPastRowOf, IsPastVariableAt, variable_in}
 use Rattle.closed_forms.proofs.Ahead.{ahead_value, later_recurs, later_there, one_later_recurs, zeros_none, zeros_one, zeros_next, zeros_part}
@@ -98,9 +98,9 @@ module _ (base : List ℕ) (c : Coprime base) (images : List (Terms Fraction))
     both-arity : (cs by : List Fraction) (done : List (Terms Fraction)) → Each (Arity w) done
         → Arity w (both base m cs (rests_in images g) ps by done)
     both-arity cs by done d =
-        collected-arity w (moved base m cs (rests_in images g) ps ++ part by done)
+        collected-arity w (part_by_forms base m cs (rests_in images g) ps ++ part by done)
         (each-append (λ (t : List ℕ × Fraction). length t.0 ≡ w)
-        (moved base m cs (rests_in images g) ps) (part by done)
+        (part_by_forms base m cs (rests_in images g) ps) (part by done)
         (collected-arity w (compose ℚ w (part cs (rests_in images g)) ps)
         (arity-compose w ℚ (part cs (rests_in images g)) ps all))
         (collected-arity w (mix by done) (mix-arity w by done d)))
@@ -109,7 +109,7 @@ module _ (base : List ℕ) (c : Coprime base) (images : List (Terms Fraction))
         → (q : Terms Fraction) → q ≡ source_in base m cs (rests_in images g) ps by done → Arity w q
     source-arity cs by done d q e =
         subst (Arity w) (sym e)
-        (collected-arity w (normalized r (both base m cs (rests_in images g) ps by done))
+        (collected-arity w (with_normal_keys r (both base m cs (rests_in images g) ps by done))
         (normalized-arity base m (both base m cs (rests_in images g) ps by done)
         (both-arity cs by done d)))
 
@@ -123,10 +123,10 @@ module _ (base : List ℕ) (c : Coprime base) (images : List (Terms Fraction))
         let x = point base n s in
         let rests = rests_in images g in
         ap (λ p. value_at ℚ p x) e
-        ∙ collected_value (normalized r (both base m cs rests ps by done)) x
+        ∙ collected_value (with_normal_keys r (both base m cs rests ps by done)) x
         ∙ normal-value base c m (both base m cs rests ps by done) (both-arity cs by done d) n s
-        ∙ collected_value (moved base m cs rests ps ++ part by done) x
-        ∙ value_at-append ℚ_ring (moved base m cs rests ps) (part by done) x
+        ∙ collected_value (part_by_forms base m cs rests ps ++ part by done) x
+        ∙ value_at-append ℚ_ring (part_by_forms base m cs rests ps) (part by done) x
         ∙ ap₂ ℚ.add
         (collected_value (compose ℚ w (part cs rests) ps) x
         ∙ rests_turned base images ready.since is ready.earlier ready.first g ready.next
@@ -138,7 +138,8 @@ module _ (base : List ℕ) (c : Coprime base) (images : List (Terms Fraction))
         (are : AreForms (length g) (class_matrix images g) forms values)
         (inverse : IsInverse (length g) forms back) where
       abbrev AreTurnedTo : ℕ → List (Terms Fraction) → Type 0
-      AreTurnedTo d done = (i : ℕ) → i < length done → IsTurnedForm base images d g (row_at forms i)
+      AreTurnedTo d done = (i : ℕ) → i < length done
+          → IsFormAfterTurns base images d g (row_at forms i)
           (poly_at done i)
 
       module _ (k : ℕ) (l : k < length g) (d : ℕ) (late : ready.since ≤ d) (early : d ≤ z)
@@ -170,7 +171,7 @@ module _ (base : List ℕ) (c : Coprime base) (images : List (Terms Fraction))
             (omega (arith, late, b))
 
         abbrev Turned : ℕ → Type 0
-        Turned n = IsTurnedForm base images n g own y
+        Turned n = IsFormAfterTurns base images n g own y
 
         at_first : (n : ℕ) → d ≡ n → n ≡ 0 → IsSolvedForm base m own g v h.source y → Turned d
         at_first n e o solved =
@@ -224,7 +225,7 @@ module _ (base : List ℕ) (c : Coprime base) (images : List (Terms Fraction))
           → AreNextForms base m g (rests_in images g) ps (class_matrix images g) back a forms
           values done
           → (k : ℕ) → k ≤ length done → (i : ℕ) → i < k
-          → IsTurnedForm base images (from k) g (row_at forms i) (poly_at done i)
+          → IsFormAfterTurns base images (from k) g (row_at forms i) (poly_at done i)
       turned_to done few h zero b i l = absurd (omega (arith, l))
       turned_to done few h (suc k) b i l =
           let before = turned_to done few h k (omega (arith, b)) in
@@ -233,18 +234,19 @@ module _ (base : List ℕ) (c : Coprime base) (images : List (Terms Fraction))
           let up : from k ≤ from (suc k) = omega (arith, more) in
           let part = zeros_part values k in
           let within = ready.within in
-          let next : IsTurnedForm base images (from (suc k)) g (row_at forms k) (poly_at done k) =
-          subst (λ d. IsTurnedForm base images d g (row_at forms k) (poly_at done k))
+          let next : IsFormAfterTurns base images (from (suc k)) g (row_at forms k)
+          (poly_at done k) =
+          subst (λ d. IsFormAfterTurns base images d g (row_at forms k) (poly_at done k))
           (let q : from k + zeros_in (entries ℚ_field values k ∷ []) ≡ from (suc k) =
           omega (arith, more) in q)
           (next_turned k (omega (arith, few, b)) (from k) (omega arith)
           (omega (arith, part, within)) (take k done) n
           (λ j q. let p : j < k = omega (arith, q, n) in
-          subst (IsTurnedForm base images (from k) g (row_at forms j))
+          subst (IsFormAfterTurns base images (from k) g (row_at forms j))
           (sym (poly_taken done k j p)) (before j p))
           (each_taken (Arity w) k done (normal-arities base m done h.normal)) (poly_at done k)
           (h.each k (omega (arith, b)))) in
-          below_more (λ j. IsTurnedForm base images (from (suc k)) g (row_at forms j)
+          below_more (λ j. IsFormAfterTurns base images (from (suc k)) g (row_at forms j)
           (poly_at done j)) k
           (λ j p. lift_form base images (from k) (from (suc k)) up g (row_at forms j)
           (poly_at done j) (before j p)) next i (omega (arith, l))
@@ -263,18 +265,19 @@ module _ (base : List ℕ) (c : Coprime base) (images : List (Terms Fraction))
           → AreNextForms base m g (rests_in images g) ps (class_matrix images g) back a forms
           values done → (i : ℕ) → i < length g → (p : Terms Fraction)
           → p ≡ variable_in base (row_at back i) done
-          → IsTurned base images (ready.since + zeros_in values) (place g i) p
+          → IsAfterTurns base images (ready.since + zeros_in values) (place g i) p
       variable_turned done count h i l p e =
           let d = ready.since + zeros_in values in
           let size = are.value_count in
           let whole : from (length done) ≡ d = ap (λ xs. ready.since + zeros_in xs)
           (take_all (length done) values (omega (arith, size, count))) in
           variable_of base images d is solvable g class forms back values are inverse done count
-          (λ j b. subst (λ n. IsTurnedForm base images n g (row_at forms j) (poly_at done j)) whole
+          (λ j b. subst (λ n. IsFormAfterTurns base images n g (row_at forms j) (poly_at done j))
+          whole
           (turned_to done (omega (arith, count)) h (length done) (omega arith) j b)) i l p
           (λ n s k late.
           ap (λ x. value_at ℚ x (point base n s)) e
-          ∙ collected_value (normalized r (part (row_at back i) done)) (point base n s)
+          ∙ collected_value (with_normal_keys r (part (row_at back i) done)) (point base n s)
           ∙ normal-value base c m (part (row_at back i) done)
           (collected-arity w (mix (row_at back i) done) (mix-arity w (row_at back i) done
           (normal-arities base m done h.normal))) n s

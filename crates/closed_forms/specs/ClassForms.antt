@@ -18,17 +18,17 @@ use Rattle.poly.specs.Seen.{terms_each}
 use Rattle.eigen_split.specs.declared.splitting.Split.{Split}
 use Rattle.expo.specs.declared.exponential.Expo.{Expo}
 use Rattle.turns.specs.Classes.{class_matrix}
-use Rattle.turns.specs.Turned.{place, IsTurned}
+use Rattle.turns.specs.AfterTurns.{place, IsAfterTurns}
 use Rattle.turns.specs.Turns.{IsNormalForm}
 use Rattle.closed_forms.specs.Inverses.{IsBehind}
 use Rattle.closed_forms.specs.Known.{rests_in, IsNextForm, AreNextForms, IsPastForm, IsPastNext, IsPastClass}
 use Rattle.closed_forms.specs.Later.{Ahead}
 use Rattle.closed_forms.specs.States.{after, zeros_in}
 use Rattle.closed_forms.specs.Values.{bodies_of}
-use Rattle.closed_forms.specs.declared.sources.Setting.{Setting}
+use Rattle.closed_forms.specs.declared.sources.ClassSetting.{ClassSetting}
 
 pub record IsSettingOf (images : List (Terms Fraction)) (z : ℕ) (g : List ℕ) (split : Split)
-    (es : List Expo) (s : Setting) : Type 0 where
+    (es : List Expo) (s : ClassSetting) : Type 0 where
   pub earlier : terms_each s.earlier.items ≡ bodies_of es
   pub arities : (w : ℕ) → All (λ e. e.body.arity ≡ w) es → All (λ p. p.arity ≡ w) s.earlier.items
   pub rests : terms_each s.rests.items ≡ rests_in images g
@@ -38,33 +38,34 @@ pub record IsSettingOf (images : List (Terms Fraction)) (z : ℕ) (g : List ℕ)
   pub turns : s.turns ≡ z
   pub ahead : terms_each s.ahead.items ≡ map (poly_at (after images z)) g
 
-abbrev pub ahead_in : Setting → Ahead
+abbrev pub ahead_in : ClassSetting → Ahead
 ahead_in s = record { turns = s.turns; state = terms_each s.ahead.items }
 
-abbrev pub IsNormalOver : List ℕ → Setting → Terms Fraction → Type 0
+abbrev pub IsNormalOver : List ℕ → ClassSetting → Terms Fraction → Type 0
 IsNormalOver base s p = IsNormalForm base grevlex (length s.earlier.items) p
 
-abbrev pub IsNextOf : List ℕ → List ℕ → Setting → List Fraction → Fraction → List (Terms Fraction)
+abbrev pub IsNextOf : List ℕ → List ℕ → ClassSetting → List Fraction → Fraction
+    → List (Terms Fraction)
     → Terms Fraction → Type 0
 IsNextOf base g s w l done y =
     IsNextForm base (length s.earlier.items) g (terms_each s.rests.items)
     (terms_each s.earlier.items) (rows_of s.matrix.items) (rows_of s.back.items) (ahead_in s) w l
     done y
 
-abbrev pub IsPastFormOf : List ℕ → List ℕ → Setting → List Fraction → Fraction
+abbrev pub IsPastFormOf : List ℕ → List ℕ → ClassSetting → List Fraction → Fraction
     → List (Terms Fraction) → Type 0
 IsPastFormOf base g s w l done =
     IsPastForm base (length s.earlier.items) g (terms_each s.rests.items)
     (terms_each s.earlier.items) (rows_of s.matrix.items) (rows_of s.back.items) (ahead_in s) w l
     done
 
-abbrev pub AreNextOf : List ℕ → List ℕ → Setting → Split → List (Terms Fraction) → Type 0
+abbrev pub AreNextOf : List ℕ → List ℕ → ClassSetting → Split → List (Terms Fraction) → Type 0
 AreNextOf base g s split done =
     AreNextForms base (length s.earlier.items) g (terms_each s.rests.items)
     (terms_each s.earlier.items) (rows_of s.matrix.items) (rows_of s.back.items) (ahead_in s)
     (rows_of split.forms.items) (fractions_of split.values.items) done
 
-abbrev pub IsPastNextOf : List ℕ → List ℕ → Setting → Split → Type 0
+abbrev pub IsPastNextOf : List ℕ → List ℕ → ClassSetting → Split → Type 0
 IsPastNextOf base g s split =
     IsPastNext base (length s.earlier.items) g (terms_each s.rests.items)
     (terms_each s.earlier.items) (rows_of s.matrix.items) (rows_of s.back.items) (ahead_in s)
@@ -73,7 +74,7 @@ IsPastNextOf base g s split =
 abbrev pub AreVariablesOf : List ℕ → List (Terms Fraction) → ℕ → List ℕ → List (Terms Fraction)
     → Type 0
 AreVariablesOf base images since g ps =
-    (a : ℕ) → a < length g → IsTurned base images since (place g a) (poly_at ps a)
+    (a : ℕ) → a < length g → IsAfterTurns base images since (place g a) (poly_at ps a)
 
 abbrev pub zeros_of : Split → ℕ
 zeros_of split = zeros_in (fractions_of split.values.items)

@@ -24,13 +24,13 @@ use Rattle.chains.specs.Uses.{uses, poly_at}
 use Rattle.vectors.specs.Causes.{row_at}
 use Rattle.vectors.specs.Lists.{entries}
 use Rattle.turns.specs.Classes.{class_matrix, first_of, IsClass}
-use Rattle.turns.specs.Expo.{normalized}
-use Rattle.turns.specs.Turned.{rest_of, AreTurned, IsTurnedForm}
+use Rattle.turns.specs.Expo.{with_normal_keys}
+use Rattle.turns.specs.AfterTurns.{rest_of, AreAfterTurns, IsFormAfterTurns}
 use Rattle.turns.specs.Turns.{IsNormalForm, IsClosedFormFrom}
 use Rattle.eigen_split.specs.Refusal.{IsSplitInto}
 use Rattle.eigen_split.specs.declared.splitting.Split.{Split}
 use Rattle.closed_forms.specs.Inverses.{IsBehind, IsPastInverse}
-use Rattle.closed_forms.specs.Sources.{collected, part, IsSource, IsPastSource}
+use Rattle.closed_forms.specs.Sources.{collect_terms, part, IsSource, IsPastSource}
 use Rattle.closed_forms.specs.Later.{Ahead, ahead_of, IsFormFrom, IsPastAt, IsPastFrom}
 use Rattle.closed_forms.specs.States.{zeros_in}
 use Rattle.closed_forms.specs.Sums.{IsPastMix}
@@ -45,7 +45,7 @@ pub record AreKnown (base : List ℕ) (images : List (Terms Fraction)) (splits :
   pub whole : AreWhole (uses images) (length images) earlier
   pub classes : AreClasses (uses images) (length images) earlier groups
   pub since : ℕ
-  pub turned : AreTurned base images since earlier ps
+  pub turned : AreAfterTurns base images since earlier ps
   pub left : List (Option Split)
   pub others : (k : ℕ) (d : Option Split) → (In k earlier → ⊥) → get_or left k d ≡ get_or splits k d
   pub sum : since + zeros_in (values_in left) ≡ z
@@ -57,13 +57,13 @@ pub record IsReady (base : List ℕ) (images : List (Terms Fraction)) (z k : ℕ
   pub next : IsNext (uses images) (length images) earlier first
   pub class : IsClassOf (uses images) (length images) first g
   pub since : ℕ
-  pub turned : AreTurned base images since earlier ps
+  pub turned : AreAfterTurns base images since earlier ps
   pub within : since + k ≤ z
 
 pub record AreDone (base : List ℕ) (images : List (Terms Fraction)) (g : List ℕ)
     (forms : List (List Fraction)) (done : List (Terms Fraction)) : Type 0 where
   pub since : ℕ
-  pub each : (i : ℕ) → i < length done → IsTurnedForm base images since g (row_at forms i)
+  pub each : (i : ℕ) → i < length done → IsFormAfterTurns base images since g (row_at forms i)
       (poly_at done i)
   pub normal : Each (IsNormalForm base grevlex (length images)) done
 
@@ -104,7 +104,7 @@ pub record IsPastNext (base : List ℕ) (m : ℕ) (g : List ℕ) (rests ps : Lis
       (entries ℚ_field values (length done)) done
 
 abbrev pub variable_in : List ℕ → List Fraction → List (Terms Fraction) → Terms Fraction
-variable_in base row done = collected (normalized (length base) (part row done))
+variable_in base row done = collect_terms (with_normal_keys (length base) (part row done))
 
 abbrev pub IsPastVariable : List Fraction → List (Terms Fraction) → Type 0
 IsPastVariable row done = IsPastMix row done ⊎ IsPast (weight fraction_size (part row done))

@@ -1,5 +1,5 @@
 -- Forms by their values after some turns, and those with the value 0, and what is past in making them.
---   grown x p                 p, in the variables, times the n-th power with the exponents x of s, u and v
+--   with_powers x p                 p, in the variables, times the n-th power with the exponents x of s, u and v
 --   IsSumOf base m l q y      y is normal, zero at 0, and solves the recurrence of l with the source q
 --   IsStart base m l z there sum c     c is l to the power -z times the difference of `there` and the sum at z turns
 --   IsJoined base m l c sum y     at n, y is the n-th power of l times c, and the sum
@@ -19,18 +19,18 @@ use Rattle.polynomials.specs.Terms.{Terms, value_at}
 use Rattle.polynomials.specs.Weight.{weight, IsPastComposition}
 use Rattle.chains.specs.Uses.{poly_at}
 use Rattle.exponentials.specs.Keys.{Key}
-use Rattle.turns.specs.Expo.{at_turn, next_images, power_key, turned_back, with_key}
-use Rattle.turns.specs.Turned.{HasRecurrence}
+use Rattle.turns.specs.Expo.{at_turn, next_images, power_key, backward_terms, with_key}
+use Rattle.turns.specs.AfterTurns.{HasRecurrence}
 use Rattle.turns.specs.Turns.{point, IsNormalForm}
 use Rattle.expo.specs.Points.{turn_images, IsPastPower, IsPastPoint}
 use Rattle.closed_forms.specs.Solved.{AreSolved, IsPower, IsPastAmong, IsSolvedForm, IsPastSolved}
-use Rattle.closed_forms.specs.Sources.{collected, part}
+use Rattle.closed_forms.specs.Sources.{collect_terms, part}
 use Rattle.closed_forms.specs.States.{after}
 use Rattle.closed_forms.specs.Sums.{IsPastMix}
 
-abbrev pub grown : Key → Terms Fraction → Terms Fraction
-grown x [] = []
-grown x (t ∷ p) = (with_key 0 x t.0, t.1) ∷ grown x p
+abbrev pub with_powers : Key → Terms Fraction → Terms Fraction
+with_powers x [] = []
+with_powers x (t ∷ p) = (with_key 0 x t.0, t.1) ∷ with_powers x p
 
 pub record IsSumOf (base : List ℕ) (m : ℕ) (l : Fraction) (q y : Terms Fraction) : Type 0 where
   pub normal : IsNormalForm base grevlex m y
@@ -81,7 +81,7 @@ pub data IsPastSum (base : List ℕ) (m : ℕ) (l : Fraction) (q : Terms Fractio
   terms_past : (p : Terms Fraction) → AreSolved base m l q p → IsPast (weight fraction_size p)
       → IsPastSum base m l q
   normal_past : (p : Terms Fraction) → AreSolved base m l q p
-      → IsPast (weight fraction_size (collected p)) → IsPastSum base m l q
+      → IsPast (weight fraction_size (collect_terms p)) → IsPastSum base m l q
 
 abbrev pub IsPastAt : List ℕ → ℕ → ℕ → Terms Fraction → Type 0
 IsPastAt base m n p = IsPastPoint base n ⊎ IsPastComposition fractions p (turn_images base m n)
@@ -90,13 +90,14 @@ pub data IsPastStart (base : List ℕ) (m : ℕ) (l : Fraction) (z : ℕ) (there
     : Type 0 where
   power_past : IsPastPower (inverse l) z → IsPastStart base m l z there sum
   turn_past : IsPastAt base m z sum → IsPastStart base m l z there sum
-  difference_past : (let k = power ℚ (inverse l) z in let at = collected (at_turn base m z sum) in
+  difference_past : (let k = power ℚ (inverse l) z in let at =
+      collect_terms (at_turn base m z sum) in
       IsPastMix (k ∷ ℚ.neg k ∷ []) (there ∷ at ∷ [])) → IsPastStart base m l z there sum
 
 abbrev pub IsPastJoined : Key → Terms Fraction → Terms Fraction → Type 0
 IsPastJoined x c sum =
-    IsPast (weight fraction_size (grown x c ++ sum))
-    ⊎ IsPast (weight fraction_size (collected (grown x c ++ sum)))
+    IsPast (weight fraction_size (with_powers x c ++ sum))
+    ⊎ IsPast (weight fraction_size (collect_terms (with_powers x c ++ sum)))
 
 pub data IsPastLater (base : List ℕ) (m : ℕ) (l : Fraction) (z : ℕ) (there q : Terms Fraction)
     : Type 0 where
@@ -109,7 +110,8 @@ pub data IsPastLater (base : List ℕ) (m : ℕ) (l : Fraction) (z : ℕ) (there
       → IsPastJoined (power_key negative e) c sum → IsPastLater base m l z there q
 
 abbrev pub IsPastOneLater : List ℕ → ℕ → Terms Fraction → Type 0
-IsPastOneLater base m q = IsPastComposition fractions (collected (turned_back (length base) q))
+IsPastOneLater base m q =
+    IsPastComposition fractions (collect_terms (backward_terms (length base) q))
     (next_images base m)
 
 pub data IsPastFrom (base : List ℕ) (m : ℕ) (w : List Fraction) (g : List ℕ) (l : Fraction)

@@ -8,7 +8,7 @@ pub mod Sources
 pub mod Solved
 pub mod Later
 pub mod Known
-pub mod Setting
+pub mod ClassSetting
 pub mod ClassForms
 pub mod Put
 pub mod View

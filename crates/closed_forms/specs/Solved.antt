@@ -3,7 +3,7 @@
 --   IsSolvedTerm base m l t p     p solves the recurrence of l with the source t: the normal solution for the term's powers, times what does not change
 --   AreSolved base m l q ys   ys are what solves that of each term of q, one after another
 --   AreSolvedBehind base m l q old new     they are what new has behind old
---   growing m x w g           the form w of the variables g, times the n-th power with the exponents x of s, u and v
+--   homogeneous_part m x w g           the form w of the variables g, times the n-th power with the exponents x of s, u and v
 --   IsMade base x             numerator and denominator of x are products of powers of the base
 --   IsPower base negative e l     l is the power of the base with these sign and exponents
 --   IsSolvedForm base m w g l q y     y has the growing form and what solves the terms of q, made normal
@@ -19,17 +19,17 @@ use Rattle.polynomials.specs.Weight.{weight, IsPastProduct}
 use Rattle.chains.specs.Uses.{unit}
 use Rattle.exponentials.specs.Base.{IsProductOf}
 use Rattle.exponentials.specs.Keys.{Key, key_of, top}
-use Rattle.exponentials.specs.Powers.{number, signed}
-use Rattle.turns.specs.Expo.{normalized, power_key, with_key, IsSolution}
+use Rattle.exponentials.specs.Powers.{number, negate_if}
+use Rattle.turns.specs.Expo.{with_normal_keys, power_key, with_key, IsSolution}
 use Rattle.turns.specs.Turns.{width, IsNormalForm}
 use Rattle.expo.specs.Rows.{IsPastOther, IsPastEqual}
-use Rattle.closed_forms.specs.Sources.{collected}
+use Rattle.closed_forms.specs.Sources.{collect_terms}
 
 abbrev pub still : ℕ → List ℕ → List ℕ
 still r e = replicate (width r 0) 0 ++ drop (width r 0) e
 
 abbrev pub steady : ℕ → List ℕ × Fraction → Terms Fraction
-steady r t = collected ((still r t.0, t.1) ∷ [])
+steady r t = collect_terms ((still r t.0, t.1) ∷ [])
 
 pub record IsMade (base : List ℕ) (x : Fraction) : Type 0 where
   pub numerator : IsProductOf base (unsigned_abs x.num)
@@ -37,7 +37,7 @@ pub record IsMade (base : List ℕ) (x : Fraction) : Type 0 where
 
 pub record IsPower (base : List ℕ) (negative : Bool) (e : List ℤ) (l : Fraction) : Type 0 where
   pub count : length e ≡ length base
-  pub is : signed negative (number base e) ≡ l
+  pub is : negate_if negative (number base e) ≡ l
 
 -- y is the solution for the powers of n and of a number in the term t
 pub record IsKeySolution (base : List ℕ) (m : ℕ) (l : Fraction) (t : List ℕ × Fraction)
@@ -46,13 +46,13 @@ pub record IsKeySolution (base : List ℕ) (m : ℕ) (l : Fraction) (t : List �
   pub exponents : List ℤ
   pub key : key_of (length base) t.0 ≡ power_key negative exponents
   pub normal : IsNormalForm base grevlex m y
-  pub solution : IsSolution base m (top t.0) (signed negative (number base exponents)) l y
+  pub solution : IsSolution base m (top t.0) (negate_if negative (number base exponents)) l y
 
 pub record IsSolvedTerm (base : List ℕ) (m : ℕ) (l : Fraction) (t : List ℕ × Fraction)
     (p : Terms Fraction) : Type 0 where
   pub y : Terms Fraction
   pub is : IsKeySolution base m l t y
-  pub terms : p ≡ collected (times ℚ y (steady (length base) t))
+  pub terms : p ≡ collect_terms (times ℚ y (steady (length base) t))
 
 abbrev pub AreSolved : List ℕ → ℕ → Fraction → Terms Fraction → Terms Fraction → Type 0
 AreSolved base m l [] ys = ys ≡ []
@@ -67,10 +67,10 @@ pub record AreSolvedBehind (base : List ℕ) (m : ℕ) (l : Fraction)
   pub are : AreSolved base m l q solved
   pub terms : new ≡ old ++ solved
 
-abbrev pub growing : ℕ → Key → List Fraction → List ℕ → Terms Fraction
-growing m x [] g = []
-growing m x (c ∷ w) [] = []
-growing m x (c ∷ w) (j ∷ g) = (with_key 0 x (unit m j), c) ∷ growing m x w g
+abbrev pub homogeneous_part : ℕ → Key → List Fraction → List ℕ → Terms Fraction
+homogeneous_part m x [] g = []
+homogeneous_part m x (c ∷ w) [] = []
+homogeneous_part m x (c ∷ w) (j ∷ g) = (with_key 0 x (unit m j), c) ∷ homogeneous_part m x w g
 
 -- the growing form, and what solves the terms of q
 pub record IsWhole (base : List ℕ) (m : ℕ) (w : List Fraction) (g : List ℕ) (l : Fraction)
@@ -80,13 +80,13 @@ pub record IsWhole (base : List ℕ) (m : ℕ) (w : List Fraction) (g : List ℕ
   pub power : IsPower base negative exponents l
   pub solved : Terms Fraction
   pub are : AreSolved base m l q solved
-  pub terms : p ≡ growing m (power_key negative exponents) w g ++ solved
+  pub terms : p ≡ homogeneous_part m (power_key negative exponents) w g ++ solved
 
 pub record IsSolvedForm (base : List ℕ) (m : ℕ) (w : List Fraction) (g : List ℕ) (l : Fraction)
     (q y : Terms Fraction) : Type 0 where
   pub whole : Terms Fraction
   pub is : IsWhole base m w g l q whole
-  pub terms : y ≡ collected (normalized (length base) (collected whole))
+  pub terms : y ≡ collect_terms (with_normal_keys (length base) (collect_terms whole))
 
 -- ---- what is past
 pub data IsPastSolving (σ l : Fraction) (a : ℕ) : Type 0 where
@@ -98,7 +98,7 @@ pub data IsPastSolving (σ l : Fraction) (a : ℕ) : Type 0 where
 pub data IsPastTerm (base : List ℕ) (m : ℕ) (l : Fraction) (t : List ℕ × Fraction) : Type 0 where
   degree : most_degree < top t.0 → IsPastTerm base m l t
   solving : (negative : Bool) (e : List ℤ) → key_of (length base) t.0 ≡ power_key negative e
-      → IsPastSolving (signed negative (number base e)) l (top t.0) → IsPastTerm base m l t
+      → IsPastSolving (negate_if negative (number base e)) l (top t.0) → IsPastTerm base m l t
   product : (y : Terms Fraction) → IsKeySolution base m l t y
       → IsPastProduct fractions y (steady (length base) t) → IsPastTerm base m l t
 
@@ -113,4 +113,4 @@ pub data IsPastSolved (base : List ℕ) (m : ℕ) (w : List Fraction) (g : List 
   sum : (p : Terms Fraction) → IsWhole base m w g l q p → IsPast (weight fraction_size p)
       → IsPastSolved base m w g l q
   normal : (p : Terms Fraction) → IsWhole base m w g l q p
-      → IsPast (weight fraction_size (collected p)) → IsPastSolved base m w g l q
+      → IsPast (weight fraction_size (collect_terms p)) → IsPastSolved base m w g l q

@@ -1,7 +1,7 @@
 -- The source of a form's recurrence, exactly as lists of terms, and what is past in making it.
---   collected p                 like terms collected, in falling order
+--   collect_terms p                 like terms collected, in falling order
 --   part w rests                the form w of the rests
---   moved base m w rests ps     composed with the closed forms ps of m variables
+--   part_by_forms base m w rests ps     composed with the closed forms ps of m variables
 --   IsBy w matrix back by       by is w times the matrix times the inverse of the forms
 --   IsBefore w matrix back done p     p is the form by of earlier forms
 --   source_in base m w rests ps by done    the source, with earlier forms by the numbers `by`, made normal
@@ -14,21 +14,23 @@ use Rattle.polynomials.specs.Order.{grevlex}
 use Rattle.polynomials.specs.Terms.{Terms, compose}
 use Rattle.polynomials.specs.Weight.{weight, IsPastSum, IsPastComposition}
 use Rattle.machines.specs.Collect.{collect}
-use Rattle.turns.specs.Expo.{normalized}
+use Rattle.turns.specs.Expo.{with_normal_keys}
 use Rattle.turns.specs.Inverse.{IsProduct}
 use Rattle.turns.specs.Turns.{width}
 use Rattle.closed_forms.specs.Products.{IsPastRow}
 use Rattle.closed_forms.specs.Sums.{mix, IsPastMix}
 
-abbrev pub collected : Terms Fraction → Terms Fraction
-collected p = collect rationals grevlex p
+abbrev pub collect_terms : Terms Fraction → Terms Fraction
+collect_terms p = collect rationals grevlex p
 
 abbrev pub part : List Fraction → List (Terms Fraction) → Terms Fraction
-part w rests = collected (mix w rests)
+part w rests = collect_terms (mix w rests)
 
-abbrev pub moved : List ℕ → ℕ → List Fraction → List (Terms Fraction) → List (Terms Fraction)
+abbrev pub part_by_forms : List ℕ → ℕ → List Fraction → List (Terms Fraction)
+    → List (Terms Fraction)
     → Terms Fraction
-moved base m w rests ps = collected (compose ℚ (width (length base) m) (part w rests) ps)
+part_by_forms base m w rests ps = collect_terms (compose ℚ (width (length base) m) (part w rests)
+    ps)
 
 pub record IsBy (w : List Fraction) (matrix back : List (List Fraction)) (by : List Fraction)
     : Type 0 where
@@ -45,12 +47,12 @@ pub record IsBefore (w : List Fraction) (matrix back : List (List Fraction))
 
 abbrev pub both : List ℕ → ℕ → List Fraction → List (Terms Fraction) → List (Terms Fraction)
     → List Fraction → List (Terms Fraction) → Terms Fraction
-both base m w rests ps by done = collected (moved base m w rests ps ++ part by done)
+both base m w rests ps by done = collect_terms (part_by_forms base m w rests ps ++ part by done)
 
 abbrev pub source_in : List ℕ → ℕ → List Fraction → List (Terms Fraction) → List (Terms Fraction)
     → List Fraction → List (Terms Fraction) → Terms Fraction
 source_in base m w rests ps by done =
-    collected (normalized (length base) (both base m w rests ps by done))
+    collect_terms (with_normal_keys (length base) (both base m w rests ps by done))
 
 pub record IsSource (base : List ℕ) (m : ℕ) (w : List Fraction) (rests ps : List (Terms Fraction))
     (matrix back : List (List Fraction)) (done : List (Terms Fraction)) (q : Terms Fraction)
@@ -75,7 +77,7 @@ pub data IsPastSource (base : List ℕ) (m : ℕ) (w : List Fraction) (rests ps 
   moved_past : IsPastMoved w rests ps → IsPastSource base m w rests ps matrix back done
   before_past : IsPastBefore w matrix back done → IsPastSource base m w rests ps matrix back done
   sum_past : (by : List Fraction) → IsBy w matrix back by
-      → IsPastSum fractions (moved base m w rests ps) (part by done)
+      → IsPastSum fractions (part_by_forms base m w rests ps) (part by done)
       → IsPastSource base m w rests ps matrix back done
   normal_past : (by : List Fraction) → IsBy w matrix back by
       → IsPast (weight fraction_size (both base m w rests ps by done))

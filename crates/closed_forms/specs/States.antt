@@ -12,7 +12,7 @@ use Rattle.polynomials.specs.Terms.{Terms, variables, compose}
 use Rattle.polynomials.specs.Weight.{IsPastComposition}
 use Rattle.chains.specs.Uses.{poly_at}
 use Rattle.eigen_split.specs.declared.splitting.Split.{Split}
-use Rattle.closed_forms.specs.Sources.{collected}
+use Rattle.closed_forms.specs.Sources.{collect_terms}
 use Rattle.closed_forms.specs.Splits.{AreSplits}
 use Rattle.closed_forms.specs.Values.{values_in}
 
@@ -25,7 +25,7 @@ some_of [] = []
 some_of (c ∷ values) = cond (is_zero c) (some_of values) (c ∷ some_of values)
 
 abbrev pub next_of : ℕ → List (Terms Fraction) → List (Terms Fraction) → List (Terms Fraction)
-next_of m images state = map (λ p. collected (compose ℚ m p state)) images
+next_of m images state = map (λ p. collect_terms (compose ℚ m p state)) images
 
 abbrev pub after : List (Terms Fraction) → ℕ → List (Terms Fraction)
 after images zero = variables ℚ (length images)

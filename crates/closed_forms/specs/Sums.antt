@@ -9,12 +9,12 @@ use Rattle.numbers.specs.Fraction.{Fraction, ℚ, rationals, fraction_size}
 use Rattle.numbers.specs.Size.{IsPast}
 use Rattle.polynomials.specs.Terms.{Terms}
 use Rattle.polynomials.specs.Weight.{weight}
-use Rattle.machines.specs.Collect.{scaled}
+use Rattle.machines.specs.Collect.{scale_terms}
 
 abbrev pub mix : List Fraction → List (Terms Fraction) → Terms Fraction
 mix [] ps = []
 mix (c ∷ cs) [] = []
-mix (c ∷ cs) (p ∷ ps) = scaled rationals c p ++ mix cs ps
+mix (c ∷ cs) (p ∷ ps) = scale_terms rationals c p ++ mix cs ps
 
 pub record IsPastScaled (c : Fraction) (p : Terms Fraction) : Type 0 where
   pub exponents : List ℕ

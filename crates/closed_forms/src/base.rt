@@ -1,5 +1,5 @@
 //! The base of all eigenvalues.
-ghost use Rattle.std.specs.Prelude.{◌≡◌, ◌≢◌, ◌<◌, ◌≤◌, ◌<ℤ◌, ◌++◌, pos, length, map, unsigned_abs, IfOk, OnOk, IfErr};
+ghost use Rattle.std.specs.Prelude.{◌≡◌, ◌≢◌, ◌<◌, ◌≤◌, ◌<ℤ◌, ◌++◌, pos, length, map, unsigned_abs, IfOk, OnOk};
 ghost use Rattle.rings.specs.Each.{Each};
 ghost use Rattle.numbers.specs.Fraction.{Fraction, ℚ};
 ghost use Rattle.numbers.specs.Limits.{number_limit};
@@ -10,32 +10,26 @@ ghost use Rattle.turns.specs.Classes.{sizes_of};
 ghost use Rattle.closed_forms.specs.Limits.{most_images, most_in_base};
 ghost use Rattle.closed_forms.specs.States.{some_of};
 ghost use Rattle.closed_forms.specs.Values.{values_in};
-ghost use Rattle.closed_forms.specs.declared.errors.FormsError.TheVariants.{Memory};
 
-use crate::FormsError;
 use coprime_base::base;
 use eigen_split::Split;
 use frac128::{Frac, Whole};
 use ring_laws::Ring;
-use std::alloc::{AllocFailed, Global};
+use std::alloc::{AllocError, AllocFailed, Global};
 
 /// The base of the sizes of the numerators and denominators of all values but zero, which are at most 12.
-pub(crate) fn base_of(alloc: Global, splits: &[Option<Split>]) -> Result<Vec<Whole>, FormsError>
+pub(crate) fn base_of(alloc: Global, splits: &[Option<Split>]) -> Result<Vec<Whole>, AllocError>
     requires few { length (values_in splits.now) ≤ most_images }
     ensures base { IfOk result
         (λ found. IsTheBase (sizes_of (some_of (values_in splits.now))) (sizes found.items)) }
     ensures few { IfOk result (λ found. length found.items ≤ most_in_base) }
-    ensures memory { IfErr result (λ e. e ≡ Memory) }
 {
     let mut values = Vec::new(alloc);
     push_values(&mut values, splits)?;
     let mut sizes = Vec::new(alloc);
     push_numerators(&mut sizes, values.as_slice())?;
     push_denominators(&mut sizes, values.as_slice())?;
-    match base(alloc, &sizes) {
-        Ok(found) => Ok(found),
-        Err(_) => Err(FormsError::Memory),
-    }
+    base(alloc, &sizes)
 }
 
 /// Puts the values of the splittings that there are, but zero, behind the others.

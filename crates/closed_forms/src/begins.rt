@@ -10,10 +10,11 @@ ghost use Rattle.closed_forms.specs.Settling.{IsAt, AreAlike, KeptMarks, AreMark
 ghost use Rattle.closed_forms.specs.Splits.{groups_in};
 
 use crate::FormsError;
-use expo::{Expo, ExpoError};
+use expo::Expo;
 use frac128::Frac;
 use monos::Grevlex;
 use poly::Poly;
+use ring_laws::ArithmeticError;
 use std::alloc::Global;
 
 /// The least number of turns from which on the polynomials are the state, where they are from `since` on: as long as they are the state at one turn less, it is one less.
@@ -136,10 +137,10 @@ fn mark(
     let group = group.as_slice();
     match mark_class(alloc, group, polys, state, turns, marks) {
         Ok(()) => mark(alloc, groups, polys, state, turns, marks),
-        Err(ExpoError::Wide) => Err(FormsError::WideForm {
+        Err(ArithmeticError::Wide) => Err(FormsError::WideForm {
             variable: first_of(group),
         }),
-        Err(ExpoError::Memory) => Err(FormsError::Memory),
+        Err(ArithmeticError::Memory) => Err(FormsError::Memory),
     }
 }
 
@@ -161,7 +162,7 @@ fn mark_class(
     state: &[Poly<Frac, Grevlex>],
     turns: u32,
     marks: &mut Vec<bool>,
-) -> Result<(), ExpoError>
+) -> Result<(), ArithmeticError>
     requires inside { All (λ i. i < length polys.now) group.now }
     requires alike { AreAlike polys.now state.now }
     requires count { length marks.old.items ≡ length polys.now }
@@ -170,7 +171,7 @@ fn mark_class(
         marks.old.items marks.new.items) }
     ensures marked { OnOk result (AreMarked polys.now turns (terms_each state.now)
         group.now marks.new.items) }
-    ensures wide { IsErrOf result ExpoError.Wide → IsPastPlace polys.now turns group.now }
+    ensures wide { IsErrOf result ArithmeticError.Wide → IsPastPlace polys.now turns group.now }
 {
     let Some((variable, group)) = group.split_first() else {
         return Ok(());
@@ -186,11 +187,11 @@ fn is_at(
     poly: &Expo,
     state: &Poly<Frac, Grevlex>,
     turns: u32,
-) -> Result<bool, ExpoError>
+) -> Result<bool, ArithmeticError>
     requires { state.now.arity ≡ poly.now.vars }
     ensures decides { IfOk result
         (λ same. (same ≡ true) ↔ IsAt poly.now turns (terms_in state.now)) }
-    ensures wide { IsErrOf result ExpoError.Wide → IsPastTurn poly.now turns }
+    ensures wide { IsErrOf result ArithmeticError.Wide → IsPastTurn poly.now turns }
 {
     let there = poly.at_turn(alloc, turns)?;
     Ok(there == *state)

@@ -17,7 +17,7 @@ ghost use Rattle.closed_forms.specs.Inverses.{IsPastInverse};
 ghost use Rattle.closed_forms.specs.Known.{variable_in, IsReady, IsPastRowOf};
 ghost use Rattle.closed_forms.specs.Later.{IsFormFrom, IsPastFrom};
 ghost use Rattle.closed_forms.specs.Limits.{most_images, most_in_base};
-ghost use Rattle.closed_forms.specs.Setting.{variables_over, IsSetting};
+ghost use Rattle.closed_forms.specs.ClassSetting.{variables_over, IsClassSetting};
 ghost use Rattle.closed_forms.specs.Solved.{IsMade};
 ghost use Rattle.closed_forms.specs.Splits.{IsSplitOf};
 ghost use Rattle.closed_forms.specs.States.{after};
@@ -28,15 +28,15 @@ use crate::linear_parts::{class_matrix, rests};
 use crate::matrices::inverse;
 use crate::powers::power_over;
 use crate::solving::solve;
-use crate::sources::{Setting, source};
+use crate::sources::{ClassSetting, source};
 use crate::sums::weighted_sum;
 use eigen_split::Split;
-use expo::{Expo, ExpoError};
+use expo::Expo;
 use frac128::{Frac, Whole};
 use monos::Grevlex;
 use poly::Poly;
-use ring_laws::Ring;
-use std::alloc::Global;
+use ring_laws::{ArithmeticError, Ring};
+use std::alloc::{AllocError, Global};
 
 /// The polynomial of each variable of a class.
 pub(crate) fn closed_class(
@@ -48,7 +48,7 @@ pub(crate) fn closed_class(
     turns: u32,
     state: &[Poly<Frac, Grevlex>],
     polys: &[Expo],
-) -> Result<Vec<Expo>, ExpoError>
+) -> Result<Vec<Expo>, ArithmeticError>
     requires few { length images.now.items ≤ most_images }
     requires square { All (λ p. p.arity ≡ length images.now.items) images.now.items }
     requires solvable { IsSolvable (terms_each images.now.items) }
@@ -70,7 +70,7 @@ pub(crate) fn closed_class(
         let images = terms_each images.now.items in
         IfOk result (λ news. (r : IsReady b images turns k group.now (bodies_of polys.now))
         → AreVariablesOf b images (r.since + k) group.now (bodies_of news.items)) }
-    ensures wide { IsErrOf result ExpoError.Wide → IsPastClassOf (sizes base.now.items)
+    ensures wide { IsErrOf result ArithmeticError.Wide → IsPastClassOf (sizes base.now.items)
         (terms_each images.now.items) turns group.now split.now (bodies_of polys.now) }
 {
     let setting = setting_of(alloc, images, group, split, turns, state, polys)?;
@@ -87,7 +87,7 @@ fn setting_of(
     turns: u32,
     state: &[Poly<Frac, Grevlex>],
     polys: &[Expo],
-) -> Result<Setting, ExpoError>
+) -> Result<ClassSetting, ArithmeticError>
     requires few { length images.now.items ≤ most_images }
     requires square { All (λ p. p.arity ≡ length images.now.items) images.now.items }
     requires class { IsClass (terms_each images.now.items) group.now }
@@ -98,14 +98,15 @@ fn setting_of(
         (IsSettingOf (terms_each images.now.items) turns group.now split.now polys.now) }
     ensures arities { IfOk result
         (λ s. All (λ p. p.arity ≡ length images.now.items) s.ahead.items) }
-    ensures wide { IsErrOf result ExpoError.Wide → IsPastInverse (rows_of split.now.forms.items) }
+    ensures wide { IsErrOf result ArithmeticError.Wide
+        → IsPastInverse (rows_of split.now.forms.items) }
 {
     let earlier = bodies(alloc, polys)?;
     let rests = rests(alloc, images, group)?;
     let matrix = class_matrix(alloc, images, group)?;
     let back = inverse(alloc, &split.forms)?;
     let ahead = picked(alloc, state, group)?;
-    Ok(Setting {
+    Ok(ClassSetting {
         earlier,
         rests,
         matrix,
@@ -120,13 +121,12 @@ fn picked(
     alloc: Global,
     state: &[Poly<Frac, Grevlex>],
     group: &[usize],
-) -> Result<Vec<Poly<Frac, Grevlex>>, ExpoError>
+) -> Result<Vec<Poly<Frac, Grevlex>>, AllocError>
     requires { All (λ i. i < length state.now) group.now }
     ensures arities { IfOk result (λ out. (w : ℕ) → All (λ p. p.arity ≡ w) state.now
         → All (λ p. p.arity ≡ w) out.items) }
     ensures terms { IfOk result
         (λ out. terms_each out.items ≡ map (poly_at (terms_each state.now)) group.now) }
-    ensures narrow { ¬ IsErrOf result ExpoError.Wide }
 {
     let mut out = Vec::new(alloc);
     for variable in group {
@@ -136,11 +136,10 @@ fn picked(
 }
 
 /// The polynomials themselves.
-fn bodies(alloc: Global, polys: &[Expo]) -> Result<Vec<Poly<Frac, Grevlex>>, ExpoError>
+fn bodies(alloc: Global, polys: &[Expo]) -> Result<Vec<Poly<Frac, Grevlex>>, AllocError>
     ensures arities { IfOk result (λ out. (w : ℕ) → All (λ e. e.body.arity ≡ w) polys.now
         → All (λ p. p.arity ≡ w) out.items) }
     ensures terms { IfOk result (λ out. terms_each out.items ≡ bodies_of polys.now) }
-    ensures narrow { ¬ IsErrOf result ExpoError.Wide }
 {
     let mut out = Vec::new(alloc);
     for poly in polys {
@@ -155,8 +154,8 @@ fn closed_forms(
     base: &Vec<Whole>,
     group: &[usize],
     split: &Split,
-    setting: &Setting,
-) -> Result<Vec<Poly<Frac, Grevlex>>, ExpoError>
+    setting: &ClassSetting,
+) -> Result<Vec<Poly<Frac, Grevlex>>, ArithmeticError>
     requires base { IsCoprimeBase (sizes base.now.items) }
     requires some { 0 < length setting.now.earlier.items }
     requires few { variables_over (sizes base.now.items) setting.now ≤ most_variables }
@@ -166,14 +165,14 @@ fn closed_forms(
     requires values { length split.now.values.items ≡ length split.now.forms.items }
     requires made { Each (λ c. c ≢ ℚ.zero → IsMade (sizes base.now.items) c)
         (fractions_of split.now.values.items) }
-    requires setting { IsSetting (sizes base.now.items)
+    requires setting { IsClassSetting (sizes base.now.items)
         (length split.now.forms.items) setting.now }
     ensures count { IfOk result (λ out. length out.items ≡ length split.now.forms.items) }
     ensures arities { IfOk result
         (λ out. All (λ p. p.arity ≡ variables_over (sizes base.now.items) setting.now) out.items) }
     ensures forms { IfOk result (λ out. AreNextOf (sizes base.now.items)
         group.now setting.now split.now (terms_each out.items)) }
-    ensures wide { IsErrOf result ExpoError.Wide
+    ensures wide { IsErrOf result ArithmeticError.Wide
         → IsPastNextOf (sizes base.now.items) group.now setting.now split.now }
 {
     let mut done = Vec::new(alloc);
@@ -193,16 +192,16 @@ fn closed_form(
     group: &[usize],
     form: &[Frac],
     value: &Frac,
-    setting: &Setting,
+    setting: &ClassSetting,
     done: &[Poly<Frac, Grevlex>],
-) -> Result<Poly<Frac, Grevlex>, ExpoError>
+) -> Result<Poly<Frac, Grevlex>, ArithmeticError>
     requires base { IsCoprimeBase (sizes base.now.items) }
     requires some { 0 < length setting.now.earlier.items }
     requires few { variables_over (sizes base.now.items) setting.now ≤ most_variables }
     requires group { All (λ j. j < length setting.now.earlier.items) group.now }
     requires made { fraction_of value.now ≢ ℚ.zero
         → IsMade (sizes base.now.items) (fraction_of value.now) }
-    requires setting { IsSetting (sizes base.now.items) (length form.now) setting.now }
+    requires setting { IsClassSetting (sizes base.now.items) (length form.now) setting.now }
     requires done { All (λ p. p.arity ≡ variables_over (sizes base.now.items) setting.now)
         done.now }
     ensures arity { IfOk result
@@ -211,7 +210,7 @@ fn closed_form(
         (λ p. IsNormalOver (sizes base.now.items) setting.now (terms_in p)) }
     ensures next { IfOk result (λ p. IsNextOf (sizes base.now.items) group.now setting.now
         (fractions_of form.now) (fraction_of value.now) (terms_each done.now) (terms_in p)) }
-    ensures wide { IsErrOf result ExpoError.Wide
+    ensures wide { IsErrOf result ArithmeticError.Wide
         → IsPastFormOf (sizes base.now.items) group.now setting.now
         (fractions_of form.now) (fraction_of value.now) (terms_each done.now) }
 {
@@ -227,9 +226,9 @@ fn form_from(
     group: &[usize],
     form: &[Frac],
     value: &Frac,
-    setting: &Setting,
+    setting: &ClassSetting,
     source: &Expo,
-) -> Result<Expo, ExpoError>
+) -> Result<Expo, ArithmeticError>
     requires base { IsCoprimeBase (sizes base.now.items) }
     requires few { variables_over (sizes base.now.items) setting.now ≤ most_variables }
     requires group { All (λ j. j < length setting.now.earlier.items) group.now }
@@ -245,7 +244,7 @@ fn form_from(
         (length setting.now.earlier.items) (fractions_of form.now) group.now
         (fraction_of value.now) (ahead_in setting.now) (terms_in source.now.body)
         (terms_in y.body)) }
-    ensures wide { IsErrOf result ExpoError.Wide → IsPastFrom (sizes base.now.items)
+    ensures wide { IsErrOf result ArithmeticError.Wide → IsPastFrom (sizes base.now.items)
         (length setting.now.earlier.items) (fractions_of form.now) group.now
         (fraction_of value.now) (ahead_in setting.now) (terms_in source.now.body) }
 {
@@ -262,9 +261,9 @@ fn some_form(
     group: &[usize],
     form: &[Frac],
     value: &Frac,
-    setting: &Setting,
+    setting: &ClassSetting,
     source: &Expo,
-) -> Result<Expo, ExpoError>
+) -> Result<Expo, ArithmeticError>
     requires base { IsCoprimeBase (sizes base.now.items) }
     requires few { variables_over (sizes base.now.items) setting.now ≤ most_variables }
     requires group { All (λ j. j < length setting.now.earlier.items) group.now }
@@ -280,7 +279,7 @@ fn some_form(
         (length setting.now.earlier.items) (fractions_of form.now) group.now
         (fraction_of value.now) (ahead_in setting.now) (terms_in source.now.body)
         (terms_in y.body)) }
-    ensures wide { IsErrOf result ExpoError.Wide → IsPastFrom (sizes base.now.items)
+    ensures wide { IsErrOf result ArithmeticError.Wide → IsPastFrom (sizes base.now.items)
         (length setting.now.earlier.items) (fractions_of form.now) group.now
         (fraction_of value.now) (ahead_in setting.now) (terms_in source.now.body) }
 {
@@ -301,7 +300,7 @@ fn variables(
     vars: usize,
     back: &[Vec<Frac>],
     forms: &[Poly<Frac, Grevlex>],
-) -> Result<Vec<Expo>, ExpoError>
+) -> Result<Vec<Expo>, ArithmeticError>
     requires base { IsCoprimeBase (sizes base.now.items) }
     requires few { width (length (sizes base.now.items)) vars ≤ most_variables }
     requires forms { All (λ p. p.arity ≡ width (length (sizes base.now.items)) vars) forms.now }
@@ -310,7 +309,7 @@ fn variables(
     ensures variables { IfOk result (λ out. bodies_of out.items
         ≡ map (λ row. variable_in (sizes base.now.items) row (terms_each forms.now))
         (rows_of back.now)) }
-    ensures wide { IsErrOf result ExpoError.Wide
+    ensures wide { IsErrOf result ArithmeticError.Wide
         → IsPastRowOf (rows_of back.now) (terms_each forms.now) }
 {
     let mut out = Vec::new(alloc);

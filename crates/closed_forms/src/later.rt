@@ -10,19 +10,19 @@ ghost use Rattle.turns.specs.Turns.{width, IsNormal};
 ghost use Rattle.monos.specs.Variables.{most_variables};
 ghost use Rattle.expo.specs.Bases.{IsCoprimeBase};
 ghost use Rattle.expo.specs.Powers.{key_of_power, number_of};
-ghost use Rattle.closed_forms.specs.Later.{grown, IsSumOf, IsStart, IsJoined, IsLaterForm, IsPastSum, IsPastStart, IsPastJoined, IsPastLater};
+ghost use Rattle.closed_forms.specs.Later.{with_powers, IsSumOf, IsStart, IsJoined, IsLaterForm, IsPastSum, IsPastStart, IsPastJoined, IsPastLater};
 ghost use Rattle.closed_forms.specs.Limits.{AreLow};
 ghost use Rattle.closed_forms.specs.Values.{IsExpoOver};
 
 use crate::powers::behind_power;
 use crate::solving::push_solved;
 use crate::sums::{push_copies, weighted_sum};
-use expo::{Expo, ExpoError, Power, power};
+use expo::{Expo, Power, power};
 use frac128::{Frac, Whole};
 use monos::Grevlex;
 use poly::{Poly, Term};
-use ring_laws::Ring;
-use std::alloc::Global;
+use ring_laws::{ArithmeticError, Ring};
+use std::alloc::{AllocError, Global};
 
 /// The polynomial y with y(n+1) = λ y(n) + q(n) that is `there` after this number of turns, where λ is the value, which is the number of `own` and isn't zero, and q the source.
 /// It is λ^n c plus the sum of what solves the recurrences of the source's terms from zero on, where c is λ^(-turns) times the difference of `there` and that sum after these turns.
@@ -34,7 +34,7 @@ pub(crate) fn solve_later(
     turns: u32,
     there: Poly<Frac, Grevlex>,
     source: &[Term<Frac>],
-) -> Result<Expo, ExpoError>
+) -> Result<Expo, ArithmeticError>
     requires base { IsCoprimeBase (sizes base.now.items) }
     requires few { width (length (sizes base.now.items)) there.arity ≤ most_variables }
     requires count { length own.now.exponents.items ≡ length base.now.items }
@@ -50,7 +50,7 @@ pub(crate) fn solve_later(
         IfOk result (λ y. IsLaterForm b there.arity l turns (terms_in there) q
         (terms_in y.body)) }
     ensures wide { let b = sizes base.now.items in let l = fraction_of value.now in
-        let q = terms_of fraction_of source.now in IsErrOf result ExpoError.Wide
+        let q = terms_of fraction_of source.now in IsErrOf result ArithmeticError.Wide
         → IsPastLater b there.arity l turns (terms_in there) q }
 {
     let vars = there.arity();
@@ -66,7 +66,7 @@ fn solutions(
     vars: usize,
     source: &[Term<Frac>],
     own: &Power,
-) -> Result<Expo, ExpoError>
+) -> Result<Expo, ArithmeticError>
     requires base { IsCoprimeBase (sizes base.now.items) }
     requires few { width (length (sizes base.now.items)) vars ≤ most_variables }
     requires count { length own.now.exponents.items ≡ length base.now.items }
@@ -78,7 +78,7 @@ fn solutions(
         IfOk result
         (λ y. IsSumOf b vars l (terms_of fraction_of source.now) (terms_in y.body)) }
     ensures wide { let b = sizes base.now.items in let l = number_of b own.now in
-        IsErrOf result ExpoError.Wide → IsPastSum b vars l (terms_of fraction_of source.now) }
+        IsErrOf result ArithmeticError.Wide → IsPastSum b vars l (terms_of fraction_of source.now) }
 {
     let mut terms = Vec::new(alloc);
     push_solved(alloc, &mut terms, base, vars, source, own)?;
@@ -94,19 +94,19 @@ fn start_of(
     turns: u32,
     there: Poly<Frac, Grevlex>,
     sum: &Expo,
-) -> Result<Poly<Frac, Grevlex>, ExpoError>
+) -> Result<Poly<Frac, Grevlex>, ArithmeticError>
     requires nonzero { fraction_of value.now ≢ ℚ.zero }
     requires arity { there.arity ≡ sum.now.vars }
     requires few { there.arity ≤ most_variables }
     ensures arity { IfOk result (λ p. p.arity ≡ there.arity) }
     ensures start { IfOk result (λ p. IsStart (sizes sum.now.base.items) there.arity
         (fraction_of value.now) turns (terms_in there) (terms_in sum.now.body) (terms_in p)) }
-    ensures wide { IsErrOf result ExpoError.Wide → IsPastStart (sizes sum.now.base.items)
+    ensures wide { IsErrOf result ArithmeticError.Wide → IsPastStart (sizes sum.now.base.items)
         there.arity (fraction_of value.now) turns (terms_in there) (terms_in sum.now.body) }
 {
     let arity = there.arity();
     let factor = power(&value.reciprocal(), turns)?;
-    let opposite = factor.neg()?;
+    let opposite = factor.neg();
     let at = sum.at_turn(alloc, turns)?;
     let numbers = vec![in alloc; factor, opposite]?;
     let polys = vec![in alloc; there, at]?;
@@ -120,7 +120,7 @@ fn joined(
     own: &Power,
     start: &Poly<Frac, Grevlex>,
     sum: &Expo,
-) -> Result<Expo, ExpoError>
+) -> Result<Expo, ArithmeticError>
     requires base { IsCoprimeBase (sizes base.now.items) }
     requires few { width (length (sizes base.now.items)) start.now.arity ≤ most_variables }
     requires count { length own.now.exponents.items ≡ length base.now.items }
@@ -130,7 +130,7 @@ fn joined(
     ensures joined { let b = sizes base.now.items in IfOk result
         (λ y. IsJoined b start.now.arity (number_of b own.now) (terms_in start.now)
         (terms_in sum.now.body) (terms_in y.body)) }
-    ensures wide { IsErrOf result ExpoError.Wide
+    ensures wide { IsErrOf result ArithmeticError.Wide
         → IsPastJoined (key_of_power own.now) (terms_in start.now) (terms_in sum.now.body) }
 {
     let mut terms = Vec::new(alloc);
@@ -147,15 +147,14 @@ fn push_grown(
     out: &mut Vec<Term<Frac>>,
     own: &Power,
     terms: &[Term<Frac>],
-) -> Result<(), ExpoError>
+) -> Result<(), AllocError>
     requires few { All
         (λ t. width (length own.now.exponents.items) (length t.mono) ≤ most_variables)
         terms.now }
     requires small { AreLow own.now.exponents.items }
     ensures terms { OnOk result (terms_of fraction_of out.new.items
         ≡ terms_of fraction_of out.old.items
-        ++ grown (key_of_power own.now) (terms_of fraction_of terms.now)) }
-    ensures narrow { ¬ IsErrOf result ExpoError.Wide }
+        ++ with_powers (key_of_power own.now) (terms_of fraction_of terms.now)) }
 {
     let Some((term, terms)) = terms.split_first() else {
         return Ok(());

@@ -1,5 +1,5 @@
 //! The linear part of the polynomials of a class in its own variables, and what they have beside it.
-ghost use Rattle.std.specs.Prelude.{◌≡◌, ◌<◌, ℕ, All, length, map, IfOk, IsErrOf, IsTrue, ◌↔◌};
+ghost use Rattle.std.specs.Prelude.{◌≡◌, ◌<◌, ℕ, All, length, map, IfOk, IsTrue, ◌↔◌};
 ghost use Rattle.numbers.specs.Fraction.{ℚ};
 ghost use Rattle.polynomials.specs.Polynomial.{IsDistinct};
 ghost use Rattle.polynomials.specs.Terms.{coefficient};
@@ -9,10 +9,9 @@ ghost use Rattle.linear.specs.Rows.{fractions_of, rows_of};
 ghost use Rattle.poly.specs.Seen.{terms_in, terms_each};
 ghost use Rattle.poly.specs.View.{terms_of};
 ghost use Rattle.turns.specs.Classes.{class_matrix as matrix_of};
-ghost use Rattle.turns.specs.Turned.{rest_of as without};
+ghost use Rattle.turns.specs.AfterTurns.{rest_of as without};
 
 use crate::sums::rest_of;
-use expo::ExpoError;
 use frac128::Frac;
 use monos::{Grevlex, Mono};
 use poly::{Poly, Term};
@@ -89,14 +88,13 @@ pub(crate) fn rests(
     alloc: Global,
     images: &Vec<Poly<Frac, Grevlex>>,
     group: &[usize],
-) -> Result<Vec<Poly<Frac, Grevlex>>, ExpoError>
+) -> Result<Vec<Poly<Frac, Grevlex>>, AllocError>
     requires square { All (λ p. p.arity ≡ length images.now.items) images.now.items }
     requires inside { All (λ i. i < length images.now.items) group.now }
     ensures arities { IfOk result
         (λ out. All (λ p. p.arity ≡ length images.now.items) out.items) }
     ensures terms { IfOk result (λ out. terms_each out.items
         ≡ map (λ i. without group.now (poly_at (terms_each images.now.items) i)) group.now) }
-    ensures narrow { ¬ IsErrOf result ExpoError.Wide }
 {
     let mut out = Vec::new(alloc);
     for variable in group {

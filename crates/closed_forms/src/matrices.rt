@@ -8,19 +8,18 @@ ghost use Rattle.turns.specs.Inverse.{unit_list, beside as all_beside};
 ghost use Rattle.eigen_split.specs.Ints.{most_rows};
 ghost use Rattle.closed_forms.specs.Inverses.{IsBehind, IsPastInverse};
 
-use expo::ExpoError;
 use frac128::Frac;
 use linear::{LinearError, Rref};
-use ring_laws::Ring;
+use ring_laws::{ArithmeticError, Ring};
 use std::alloc::{AllocError, Global};
 
 /// What stands behind the identity in the echelon list of the forms, which are at most 12 and as wide as many: the inverse of their matrix, where they are independent.
 /// `Wide` only where adding a form, with its row of the identity, is past.
-pub(crate) fn inverse(alloc: Global, forms: &[Vec<Frac>]) -> Result<Vec<Vec<Frac>>, ExpoError>
+pub(crate) fn inverse(alloc: Global, forms: &[Vec<Frac>]) -> Result<Vec<Vec<Frac>>, ArithmeticError>
     requires few { length forms.now ≤ most_rows }
     requires square { All (λ form. length form.items ≡ length forms.now) forms.now }
     ensures inverse { IfOk result (λ back. IsBehind (rows_of forms.now) (rows_of back.items)) }
-    ensures wide { IsErrOf result ExpoError.Wide → IsPastInverse (rows_of forms.now) }
+    ensures wide { IsErrOf result ArithmeticError.Wide → IsPastInverse (rows_of forms.now) }
 {
     let echelon = echelon_beside(alloc, forms)?;
     let halves = halves(alloc, echelon.rows().as_slice(), forms.len())?;
@@ -41,24 +40,21 @@ fn halves(alloc: Global, rows: &[Vec<Frac>], size: usize) -> Result<Vec<Vec<Frac
 }
 
 /// The echelon list of the forms, each with a row of the identity behind it.
-fn echelon_beside(alloc: Global, forms: &[Vec<Frac>]) -> Result<Rref, ExpoError>
+fn echelon_beside(alloc: Global, forms: &[Vec<Frac>]) -> Result<Rref, ArithmeticError>
     requires few { length forms.now ≤ most_rows }
     requires square { All (λ form. length form.items ≡ length forms.now) forms.now }
     ensures echelon { IfOk result (λ e. IsEchelonOf (length forms.now + length forms.now)
         (all_beside (length forms.now) 0 (rows_of forms.now)) e.rows) }
-    ensures wide { IsErrOf result ExpoError.Wide → IsPastInverse (rows_of forms.now) }
+    ensures wide { IsErrOf result ArithmeticError.Wide → IsPastInverse (rows_of forms.now) }
 {
     let size = forms.len();
-    let mut echelon = match Rref::new(alloc, 2 * size) {
-        Ok(echelon) => echelon,
-        Err(_) => return Err(ExpoError::Memory),
-    };
+    let mut echelon = Rref::new(alloc, 2 * size);
     for place in 0..size {
         let row = beside(alloc, forms[place].as_slice(), size, place)?;
         match echelon.add_row(&row) {
             Ok(_) => {}
-            Err(LinearError::Wide { .. }) => return Err(ExpoError::Wide),
-            Err(LinearError::Memory) => return Err(ExpoError::Memory),
+            Err(LinearError::Wide { .. }) => return Err(ArithmeticError::Wide),
+            Err(LinearError::Memory) => return Err(ArithmeticError::Memory),
         }
     }
     Ok(echelon)

@@ -1,9 +1,9 @@
 //! Numbers as signed products of powers of a base, and their n-th powers.
-ghost use Rattle.std.specs.Prelude.{◌≡◌, ◌≢◌, ◌≤◌, ◌<◌, ◌<ℤ◌, ◌-ℤ◌, ◌++◌, pos, length, map, IsOk, IfOk, OnOk, IsErrOf};
+ghost use Rattle.std.specs.Prelude.{◌≡◌, ◌≢◌, ◌≤◌, ◌<◌, ◌<ℤ◌, ◌-ℤ◌, ◌++◌, pos, length, map, IfOk, OnOk};
 ghost use Rattle.numbers.specs.Fraction.{ℚ};
 ghost use Rattle.chains.specs.Uses.{unit};
 ghost use Rattle.exponentials.specs.Keys.{key_of, IsNormalKey};
-ghost use Rattle.exponentials.specs.Powers.{signed};
+ghost use Rattle.exponentials.specs.Powers.{negate_if};
 ghost use Rattle.frac128.specs.FracMeaning.{fraction_of};
 ghost use Rattle.coprime_base.specs.Sizes.{sizes};
 ghost use Rattle.turns.specs.Expo.{with_key, differences};
@@ -15,55 +15,56 @@ ghost use Rattle.closed_forms.specs.Limits.{IsLow, AreLow};
 ghost use Rattle.closed_forms.specs.Solved.{IsMade, IsPower};
 
 use coprime_base::{BaseError, exponents};
-use expo::{ExpoError, Power};
+use expo::Power;
 use frac128::{Frac, Whole};
 use monos::Mono;
-use ring_laws::{Ring, Wide};
-use std::alloc::{AllocFailed, Global};
+use ring_laws::Ring;
+use std::alloc::{AllocError, AllocFailed, Global};
 
 /// A value as a signed product of powers of the base.
-pub(crate) fn power_over(alloc: Global, base: &Vec<Whole>, value: &Frac) -> Result<Power, ExpoError>
+pub(crate) fn power_over(
+    alloc: Global,
+    base: &Vec<Whole>,
+    value: &Frac,
+) -> Result<Power, AllocError>
     requires base { IsCoprimeBase (sizes base.now.items) }
     requires nonzero { fraction_of value.now ≢ ℚ.zero }
     requires made { IsMade (sizes base.now.items) (fraction_of value.now) }
     ensures power { let b = sizes base.now.items in let l = fraction_of value.now in
         IfOk result (λ p. IsPower b p.negative p.exponents.items l) }
     ensures small { IfOk result (λ p. AreLow p.exponents.items) }
-    ensures narrow { ¬ IsErrOf result ExpoError.Wide }
 {
-    let (negative, size) = sign_and_size(value)?;
+    let (negative, size) = sign_and_size(value);
     match exponents(alloc, base, &size) {
         Ok(exponents) => Ok(Power {
             negative,
             exponents,
         }),
         Err(BaseError::NotInBase) => unreachable!(),
-        Err(BaseError::Memory) => Err(ExpoError::Memory),
+        Err(BaseError::Memory) => Err(AllocError),
     }
 }
 
 /// Whether a value is negative, and the value without its sign.
-fn sign_and_size(value: &Frac) -> Result<(bool, Frac), Wide>
+fn sign_and_size(value: &Frac) -> (bool, Frac)
     requires { fraction_of value.now ≢ ℚ.zero }
-    ensures positive { IfOk result (λ p. pos 0 <ℤ (fraction_of p.1).num) }
-    ensures value { IfOk result (λ p. signed p.0 (fraction_of p.1) ≡ fraction_of value.now) }
-    ensures always { IsOk result }
+    ensures positive { pos 0 <ℤ (fraction_of result.1).num }
+    ensures value { negate_if result.0 (fraction_of result.1) ≡ fraction_of value.now }
 {
     if value.num() < 0 {
-        Ok((true, value.neg()?))
+        (true, value.neg())
     } else {
-        Ok((false, *value))
+        (false, *value)
     }
 }
 
 /// The number whose n-th power the s, u and v of a monomial are.
-pub(crate) fn power_of(alloc: Global, base: &[Whole], mono: &Mono) -> Result<Power, ExpoError>
+pub(crate) fn power_of(alloc: Global, base: &[Whole], mono: &Mono) -> Result<Power, AllocError>
     requires normal { IsNormalKey (sizes base.now) (key_of (length (sizes base.now)) mono.now) }
     requires width { width (length (sizes base.now)) 0 ≤ length mono.now }
     ensures count { IfOk result (λ p. length p.exponents.items ≡ length base.now) }
     ensures key { let r = length (sizes base.now) in
         IfOk result (λ p. key_of r mono.now ≡ key_of_power p) }
-    ensures narrow { ¬ IsErrOf result ExpoError.Wide }
 {
     let count = base.len();
     let list = mono.exponents();
@@ -102,32 +103,30 @@ pub(crate) fn growing_monomial(
     vars: usize,
     variable: usize,
     own: &Power,
-) -> Result<Mono, ExpoError>
+) -> Result<Mono, AllocError>
     requires small { AreLow own.now.exponents.items }
     requires variable { variable < vars }
     requires few { width (length own.now.exponents.items) vars ≤ most_variables }
     ensures ok { let x = key_of_power own.now in
         IfOk result (λ mono. mono ≡ with_key 0 x (unit vars variable)) }
-    ensures narrow { ¬ IsErrOf result ExpoError.Wide }
 {
     let unit = Mono::variable(alloc, vars, variable)?;
     behind_power(alloc, own, &unit)
 }
 
 /// The n-th power of a number times a monomial in the variables.
-pub(crate) fn behind_power(alloc: Global, own: &Power, variables: &Mono) -> Result<Mono, ExpoError>
+pub(crate) fn behind_power(alloc: Global, own: &Power, variables: &Mono) -> Result<Mono, AllocError>
     requires small { AreLow own.now.exponents.items }
     requires few { width (length own.now.exponents.items) (length variables.now)
         ≤ most_variables }
     ensures ok { let x = key_of_power own.now in
         IfOk result (λ mono. mono ≡ with_key 0 x variables.now) }
-    ensures narrow { ¬ IsErrOf result ExpoError.Wide }
 {
     let mut exponents = vec![in alloc; 0, u16::from(own.negative)]?;
     push_sides(&mut exponents, &own.exponents, false)?;
     push_sides(&mut exponents, &own.exponents, true)?;
     let front = Mono::new(alloc, &exponents)?;
-    Ok(front.concat(alloc, variables)?)
+    front.concat(alloc, variables)
 }
 
 /// Puts the exponents above the line, or those below it, behind the others.

@@ -7,9 +7,8 @@ ghost use Rattle.linear.specs.Rows.{fractions_of, rows_of};
 ghost use Rattle.turns.specs.Inverse.{numbers_at, IsProduct};
 ghost use Rattle.closed_forms.specs.Products.{IsPastDot, IsPastRow};
 
-use expo::ExpoError;
 use frac128::Frac;
-use ring_laws::{Ring, Wide};
+use ring_laws::{ArithmeticError, Ring, Wide};
 use std::alloc::Global;
 
 /// The row times a matrix of this width. `Wide` only where a number of a sum of products does not fit.
@@ -18,11 +17,11 @@ pub(crate) fn row_times(
     row: &[Frac],
     matrix: &[Vec<Frac>],
     width: usize,
-) -> Result<Vec<Frac>, ExpoError>
+) -> Result<Vec<Frac>, ArithmeticError>
     requires { All (λ r. length r.items ≡ width) matrix.now }
     ensures product { IfOk result (λ out. IsProduct width (fractions_of row.now)
         (rows_of matrix.now) (fractions_of out.items)) }
-    ensures wide { IsErrOf result ExpoError.Wide
+    ensures wide { IsErrOf result ArithmeticError.Wide
         → IsPastRow width (fractions_of row.now) (rows_of matrix.now) }
 {
     let mut out = Vec::new(alloc);

@@ -11,16 +11,17 @@ ghost use Rattle.monos.specs.Variables.{most_variables};
 ghost use Rattle.expo.specs.Bases.{IsCoprimeBase};
 ghost use Rattle.expo.specs.Powers.{key_of_power, number_of};
 ghost use Rattle.closed_forms.specs.Limits.{AreLow};
-ghost use Rattle.closed_forms.specs.Solved.{growing, steady as steady_of, IsSolvedTerm, AreSolvedBehind, IsSolvedForm, IsPastTerm, IsPastAmong, IsPastSolved};
+ghost use Rattle.closed_forms.specs.Solved.{homogeneous_part, steady as steady_of, IsSolvedTerm, AreSolvedBehind, IsSolvedForm, IsPastTerm, IsPastAmong, IsPastSolved};
 ghost use Rattle.closed_forms.specs.Values.{IsExpoOver};
 
 use crate::powers::{growing_monomial, power_of};
 use crate::sums::push_copies;
-use expo::{Expo, ExpoError, Power, solve_term};
+use expo::{Expo, Power, solve_term};
 use frac128::{Frac, Whole};
 use monos::{Grevlex, Mono};
 use poly::{Poly, Term};
-use std::alloc::Global;
+use ring_laws::ArithmeticError;
+use std::alloc::{AllocError, Global};
 
 /// The polynomial y with y(0) = w x and y(n+1) = λ y(n) + q(n), where w are the numbers of some variables, λ is the number of `own`, and q the source.
 pub(crate) fn solve(
@@ -31,7 +32,7 @@ pub(crate) fn solve(
     group: &[usize],
     own: &Power,
     source: &[Term<Frac>],
-) -> Result<Expo, ExpoError>
+) -> Result<Expo, ArithmeticError>
     requires base { IsCoprimeBase (sizes base.now.items) }
     requires few { width (length (sizes base.now.items)) vars ≤ most_variables }
     requires group { All (λ j. j < vars) group.now }
@@ -46,7 +47,7 @@ pub(crate) fn solve(
         IfOk result (λ y. IsSolvedForm b vars w group.now l q (terms_in y.body)) }
     ensures wide { let b = sizes base.now.items in let l = number_of b own.now in
         let w = fractions_of form.now in let q = terms_of fraction_of source.now in
-        IsErrOf result ExpoError.Wide → IsPastSolved b vars w group.now l q }
+        IsErrOf result ArithmeticError.Wide → IsPastSolved b vars w group.now l q }
 {
     let mut terms = Vec::new(alloc);
     push_growing(alloc, &mut terms, vars, form, group, own)?;
@@ -64,14 +65,13 @@ fn push_growing(
     form: &[Frac],
     group: &[usize],
     own: &Power,
-) -> Result<(), ExpoError>
+) -> Result<(), AllocError>
     requires few { width (length own.now.exponents.items) vars ≤ most_variables }
     requires group { All (λ j. j < vars) group.now }
     requires small { AreLow own.now.exponents.items }
     ensures terms { let x = key_of_power own.now in let w = fractions_of form.now in
         OnOk result (terms_of fraction_of out.new.items
-        ≡ terms_of fraction_of out.old.items ++ growing vars x w group.now) }
-    ensures narrow { ¬ IsErrOf result ExpoError.Wide }
+        ≡ terms_of fraction_of out.old.items ++ homogeneous_part vars x w group.now) }
 {
     let (Some((number, form)), Some((variable, group))) = (form.split_first(), group.split_first())
     else {
@@ -93,7 +93,7 @@ pub(crate) fn push_solved(
     vars: usize,
     terms: &[Term<Frac>],
     own: &Power,
-) -> Result<(), ExpoError>
+) -> Result<(), ArithmeticError>
     requires base { IsCoprimeBase (sizes base.now.items) }
     requires few { width (length (sizes base.now.items)) vars ≤ most_variables }
     requires count { length own.now.exponents.items ≡ length base.now.items }
@@ -104,7 +104,8 @@ pub(crate) fn push_solved(
         OnOk result (AreSolvedBehind b vars l (terms_of fraction_of terms.now)
         (terms_of fraction_of out.old.items) (terms_of fraction_of out.new.items)) }
     ensures wide { let b = sizes base.now.items in let l = number_of b own.now in
-        IsErrOf result ExpoError.Wide → IsPastAmong b vars l (terms_of fraction_of terms.now) }
+        IsErrOf result ArithmeticError.Wide
+        → IsPastAmong b vars l (terms_of fraction_of terms.now) }
 {
     let Some((term, terms)) = terms.split_first() else {
         return Ok(());
@@ -121,7 +122,7 @@ fn term_solved(
     vars: usize,
     term: &Term<Frac>,
     own: &Power,
-) -> Result<Poly<Frac, Grevlex>, ExpoError>
+) -> Result<Poly<Frac, Grevlex>, ArithmeticError>
     requires base { IsCoprimeBase (sizes base.now.items) }
     requires few { width (length (sizes base.now.items)) vars ≤ most_variables }
     requires count { length own.now.exponents.items ≡ length base.now.items }
@@ -131,16 +132,16 @@ fn term_solved(
     ensures solved { let b = sizes base.now.items in let l = number_of b own.now in
         IfOk result (λ p. IsSolvedTerm b vars l (term_of fraction_of term.now) (terms_in p)) }
     ensures wide { let b = sizes base.now.items in let l = number_of b own.now in
-        IsErrOf result ExpoError.Wide → IsPastTerm b vars l (term_of fraction_of term.now) }
+        IsErrOf result ArithmeticError.Wide → IsPastTerm b vars l (term_of fraction_of term.now) }
 {
     let turns = term.mono.exponent(0);
     if turns == u16::MAX {
-        return Err(ExpoError::Wide);
+        return Err(ArithmeticError::Wide);
     }
     let source = power_of(alloc, base, &term.mono)?;
     let solution = solve_term(alloc, base, vars, u32::from(turns), &source, own)?;
     let rest = steady(alloc, term, base)?;
-    Ok(solution.body().mul(alloc, &rest)?)
+    solution.body().mul(alloc, &rest)
 }
 
 /// What does not change with n in a term: its number times its variables, which stand behind the first ones.
@@ -148,12 +149,11 @@ fn steady(
     alloc: Global,
     term: &Term<Frac>,
     base: &[Whole],
-) -> Result<Poly<Frac, Grevlex>, ExpoError>
+) -> Result<Poly<Frac, Grevlex>, AllocError>
     requires width { width (length (sizes base.now)) 0 ≤ length term.now.mono }
     ensures arity { IfOk result (λ p. p.arity ≡ length term.now.mono) }
     ensures terms { let t = term_of fraction_of term.now in
         IfOk result (λ p. terms_in p ≡ steady_of (length (sizes base.now)) t) }
-    ensures narrow { ¬ IsErrOf result ExpoError.Wide }
 {
     let arity = term.mono.arity();
     let first = 2 + 2 * base.len();
@@ -161,5 +161,5 @@ fn steady(
     let mono = Mono::one(alloc, first)?.concat(alloc, &variables)?;
     let coef = term.coef;
     let terms = vec![in alloc; Term { mono, coef }]?;
-    Ok(Poly::from_terms(alloc, Grevlex, arity, terms)?)
+    Poly::from_distinct(alloc, Grevlex, arity, terms)
 }

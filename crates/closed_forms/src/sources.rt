@@ -5,20 +5,21 @@ ghost use Rattle.linear.specs.Rows.{fractions_of};
 ghost use Rattle.poly.specs.Seen.{terms_in, terms_each};
 ghost use Rattle.coprime_base.specs.Sizes.{sizes};
 ghost use Rattle.expo.specs.Bases.{IsCoprimeBase};
-ghost use Rattle.closed_forms.specs.Setting.{variables_over, IsSetting, moved_of, IsPastMovedOf, IsBeforeOf, IsPastBeforeOf, IsSourceOf, IsPastSourceOf};
+ghost use Rattle.closed_forms.specs.ClassSetting.{variables_over, IsClassSetting, moved_of, IsPastMovedOf, IsBeforeOf, IsPastBeforeOf, IsSourceOf, IsPastSourceOf};
 ghost use Rattle.closed_forms.specs.Values.{IsExpoOver};
 
 use crate::products::row_times;
 use crate::sums::weighted_sum;
-use expo::{Expo, ExpoError};
+use expo::Expo;
 use frac128::{Frac, Whole};
 use monos::Grevlex;
 use poly::Poly;
+use ring_laws::ArithmeticError;
 use std::alloc::Global;
 
 /// What the forms of a class are made from.
 #[derive(Drop)]
-pub(crate) struct Setting {
+pub(crate) struct ClassSetting {
     /// The polynomials of all variables, where they are known.
     pub(crate) earlier: Vec<Poly<Frac, Grevlex>>,
     /// What the class's polynomials have without variables of the class.
@@ -37,20 +38,20 @@ pub(crate) fn source(
     alloc: Global,
     base: &Vec<Whole>,
     form: &[Frac],
-    setting: &Setting,
+    setting: &ClassSetting,
     done: &[Poly<Frac, Grevlex>],
-) -> Result<Expo, ExpoError>
+) -> Result<Expo, ArithmeticError>
     requires base { IsCoprimeBase (sizes base.now.items) }
     requires some { 0 < length setting.now.earlier.items }
     requires few { variables_over (sizes base.now.items) setting.now ≤ most_variables }
-    requires setting { IsSetting (sizes base.now.items) (length form.now) setting.now }
+    requires setting { IsClassSetting (sizes base.now.items) (length form.now) setting.now }
     requires done { All (λ p. p.arity ≡ variables_over (sizes base.now.items) setting.now)
         done.now }
     ensures over { IfOk result
         (IsExpoOver (sizes base.now.items) (length setting.now.earlier.items)) }
     ensures source { IfOk result (λ q. IsSourceOf (sizes base.now.items) (fractions_of form.now)
         setting.now (terms_each done.now) (terms_in q.body)) }
-    ensures wide { IsErrOf result ExpoError.Wide → IsPastSourceOf (sizes base.now.items)
+    ensures wide { IsErrOf result ArithmeticError.Wide → IsPastSourceOf (sizes base.now.items)
         (fractions_of form.now) setting.now (terms_each done.now) }
 {
     let arity = 2 + 2 * base.len() + setting.earlier.len();
@@ -64,9 +65,9 @@ pub(crate) fn source(
 fn compose_rests(
     alloc: Global,
     form: &[Frac],
-    setting: &Setting,
+    setting: &ClassSetting,
     base: &[Whole],
-) -> Result<Poly<Frac, Grevlex>, ExpoError>
+) -> Result<Poly<Frac, Grevlex>, ArithmeticError>
     requires some { 0 < length setting.now.earlier.items }
     requires few { variables_over (sizes base.now) setting.now ≤ most_variables }
     requires earlier { All (λ p. p.arity ≡ variables_over (sizes base.now) setting.now)
@@ -76,7 +77,7 @@ fn compose_rests(
     ensures arity { IfOk result (λ p. p.arity ≡ variables_over (sizes base.now) setting.now) }
     ensures terms { IfOk result (λ p. terms_in p
         ≡ moved_of (sizes base.now) (fractions_of form.now) setting.now) }
-    ensures wide { IsErrOf result ExpoError.Wide
+    ensures wide { IsErrOf result ArithmeticError.Wide
         → IsPastMovedOf (fractions_of form.now) setting.now }
 {
     let part = weighted_sum(alloc, form, &setting.rests, setting.earlier.len())?;
@@ -87,10 +88,10 @@ fn compose_rests(
 fn before(
     alloc: Global,
     form: &[Frac],
-    setting: &Setting,
+    setting: &ClassSetting,
     done: &[Poly<Frac, Grevlex>],
     arity: usize,
-) -> Result<Poly<Frac, Grevlex>, ExpoError>
+) -> Result<Poly<Frac, Grevlex>, ArithmeticError>
     requires few { arity ≤ most_variables }
     requires matrix { All (λ row. length row.items ≡ length form.now) setting.now.matrix.items }
     requires back { All (λ row. length row.items ≡ length form.now) setting.now.back.items }
@@ -98,7 +99,7 @@ fn before(
     ensures arity { IfOk result (λ p. p.arity ≡ arity) }
     ensures terms { IfOk result (λ p. IsBeforeOf (fractions_of form.now) setting.now
         (terms_each done.now) (terms_in p)) }
-    ensures wide { IsErrOf result ExpoError.Wide
+    ensures wide { IsErrOf result ArithmeticError.Wide
         → IsPastBeforeOf (fractions_of form.now) setting.now (terms_each done.now) }
 {
     let turned = row_times(alloc, form, &setting.matrix, form.len())?;

@@ -9,12 +9,11 @@ ghost use Rattle.closed_forms.specs.States.{zeros_in, next_of, states_to, IsPast
 ghost use Rattle.closed_forms.specs.Values.{values_in};
 
 use eigen_split::Split;
-use expo::ExpoError;
 use frac128::Frac;
 use monos::Grevlex;
 use poly::Poly;
-use ring_laws::Ring;
-use std::alloc::Global;
+use ring_laws::{ArithmeticError, Ring};
+use std::alloc::{AllocError, Global};
 
 /// How many values of the splittings that there are are zero.
 pub(crate) fn zeros_of(splits: &[Option<Split>]) -> u32
@@ -50,7 +49,7 @@ pub(crate) fn states(
     alloc: Global,
     images: &Vec<Poly<Frac, Grevlex>>,
     turns: u32,
-) -> Result<Vec<Vec<Poly<Frac, Grevlex>>>, ExpoError>
+) -> Result<Vec<Vec<Poly<Frac, Grevlex>>>, ArithmeticError>
     requires few { length images.now.items ≤ most_images }
     requires square { All (λ p. p.arity ≡ length images.now.items) images.now.items }
     requires some { 0 < turns → 0 < length images.now.items }
@@ -58,7 +57,7 @@ pub(crate) fn states(
         ≡ states_to (terms_each images.now.items) turns) }
     ensures arities { IfOk result
         (λ found. All (λ v. All (λ p. p.arity ≡ length images.now.items) v.items) found.items) }
-    ensures wide { IsErrOf result ExpoError.Wide
+    ensures wide { IsErrOf result ArithmeticError.Wide
         → IsPastState (terms_each images.now.items) turns }
 {
     let mut found = Vec::new(alloc);
@@ -71,11 +70,10 @@ pub(crate) fn states(
 }
 
 /// The variables.
-fn variables(alloc: Global, count: usize) -> Result<Vec<Poly<Frac, Grevlex>>, ExpoError>
+fn variables(alloc: Global, count: usize) -> Result<Vec<Poly<Frac, Grevlex>>, AllocError>
     requires { count ≤ most_images }
     ensures terms { IfOk result (λ out. terms_each out.items ≡ variables_of ℚ count) }
     ensures arities { IfOk result (λ out. All (λ p. p.arity ≡ count) out.items) }
-    ensures narrow { ¬ IsErrOf result ExpoError.Wide }
 {
     let mut out = Vec::new(alloc);
     for variable in 0..count {
@@ -89,7 +87,7 @@ fn next_state(
     alloc: Global,
     images: &[Poly<Frac, Grevlex>],
     state: &Vec<Poly<Frac, Grevlex>>,
-) -> Result<Vec<Poly<Frac, Grevlex>>, ExpoError>
+) -> Result<Vec<Poly<Frac, Grevlex>>, ArithmeticError>
     requires square { All (λ p. p.arity ≡ length state.now.items) images.now }
     requires arities { All (λ p. p.arity ≡ length state.now.items) state.now.items }
     requires some { 0 < length state.now.items }
@@ -97,7 +95,7 @@ fn next_state(
         ≡ next_of (length state.now.items) (terms_each images.now) (terms_each state.now.items)) }
     ensures arities { IfOk result
         (λ out. All (λ p. p.arity ≡ length state.now.items) out.items) }
-    ensures wide { IsErrOf result ExpoError.Wide
+    ensures wide { IsErrOf result ArithmeticError.Wide
         → IsPastNextState (terms_each images.now) (terms_each state.now.items) }
 {
     let mut out = Vec::new(alloc);

@@ -3,20 +3,19 @@ ghost use Rattle.std.specs.Prelude.{◌≡◌, ◌≤◌, ◌<◌, ◌++◌, All
 ghost use Rattle.numbers.specs.Fraction.{rationals};
 ghost use Rattle.frac128.specs.FracMeaning.{fraction_of};
 ghost use Rattle.linear.specs.Rows.{fractions_of};
-ghost use Rattle.machines.specs.Collect.{scaled};
+ghost use Rattle.machines.specs.Collect.{scale_terms};
 ghost use Rattle.poly.specs.Seen.{terms_in, terms_each};
 ghost use Rattle.poly.specs.View.{terms_of};
-ghost use Rattle.turns.specs.Turned.{mine, rest_of as without};
+ghost use Rattle.turns.specs.AfterTurns.{mine, rest_of as without};
 ghost use Rattle.monos.specs.Variables.{most_variables};
 ghost use Rattle.closed_forms.specs.Sources.{part};
 ghost use Rattle.closed_forms.specs.Sums.{mix, IsPastScaled, IsPastProducts, IsPastMix};
 
-use expo::ExpoError;
 use frac128::Frac;
 use monos::Grevlex;
 use poly::{Poly, Term};
-use ring_laws::Ring;
-use std::alloc::Global;
+use ring_laws::{ArithmeticError, Ring};
+use std::alloc::{AllocError, Global};
 
 /// The sum of the polynomials, each times its number, as far as there are both.
 /// `Wide` only where a product of numbers does not fit, or the weight of the sum is past.
@@ -25,18 +24,18 @@ pub(crate) fn weighted_sum(
     numbers: &[Frac],
     polys: &[Poly<Frac, Grevlex>],
     arity: usize,
-) -> Result<Poly<Frac, Grevlex>, ExpoError>
+) -> Result<Poly<Frac, Grevlex>, ArithmeticError>
     requires few { arity ≤ most_variables }
     requires arities { All (λ p. p.arity ≡ arity) polys.now }
     ensures arity { IfOk result (λ p. p.arity ≡ arity) }
     ensures terms { IfOk result (λ p. terms_in p
         ≡ part (fractions_of numbers.now) (terms_each polys.now)) }
-    ensures wide { IsErrOf result ExpoError.Wide
+    ensures wide { IsErrOf result ArithmeticError.Wide
         → IsPastMix (fractions_of numbers.now) (terms_each polys.now) }
 {
     let mut terms = Vec::new(alloc);
     push_mixed(alloc, &mut terms, numbers, polys)?;
-    Ok(Poly::from_terms(alloc, Grevlex, arity, terms)?)
+    Poly::from_terms(alloc, Grevlex, arity, terms)
 }
 
 /// Puts the terms of the polynomials, each times its number, behind the others.
@@ -45,11 +44,11 @@ fn push_mixed(
     out: &mut Vec<Term<Frac>>,
     numbers: &[Frac],
     polys: &[Poly<Frac, Grevlex>],
-) -> Result<(), ExpoError>
+) -> Result<(), ArithmeticError>
     ensures terms { OnOk result (terms_of fraction_of out.new.items
         ≡ terms_of fraction_of out.old.items
         ++ mix (fractions_of numbers.now) (terms_each polys.now)) }
-    ensures wide { IsErrOf result ExpoError.Wide
+    ensures wide { IsErrOf result ArithmeticError.Wide
         → IsPastProducts (fractions_of numbers.now) (terms_each polys.now) }
 {
     let (Some((number, numbers)), Some((poly, polys))) = (
@@ -68,11 +67,11 @@ fn push_scaled(
     out: &mut Vec<Term<Frac>>,
     number: &Frac,
     terms: &[Term<Frac>],
-) -> Result<(), ExpoError>
+) -> Result<(), ArithmeticError>
     ensures terms { OnOk result (terms_of fraction_of out.new.items
         ≡ terms_of fraction_of out.old.items
-        ++ scaled rationals (fraction_of number.now) (terms_of fraction_of terms.now)) }
-    ensures wide { IsErrOf result ExpoError.Wide
+        ++ scale_terms rationals (fraction_of number.now) (terms_of fraction_of terms.now)) }
+    ensures wide { IsErrOf result ArithmeticError.Wide
         → IsPastScaled (fraction_of number.now) (terms_of fraction_of terms.now) }
 {
     let Some((term, terms)) = terms.split_first() else {
@@ -89,10 +88,9 @@ pub(crate) fn push_copies(
     alloc: Global,
     out: &mut Vec<Term<Frac>>,
     terms: &[Term<Frac>],
-) -> Result<(), ExpoError>
+) -> Result<(), AllocError>
     ensures terms { OnOk result (terms_of fraction_of out.new.items
         ≡ terms_of fraction_of out.old.items ++ terms_of fraction_of terms.now) }
-    ensures narrow { ¬ IsErrOf result ExpoError.Wide }
 {
     let Some((term, terms)) = terms.split_first() else {
         return Ok(());
@@ -110,11 +108,10 @@ pub(crate) fn rest_of(
     alloc: Global,
     poly: &Poly<Frac, Grevlex>,
     group: &[usize],
-) -> Result<Poly<Frac, Grevlex>, ExpoError>
+) -> Result<Poly<Frac, Grevlex>, AllocError>
     requires { All (λ j. j < poly.now.arity) group.now }
     ensures arity { IfOk result (λ p. p.arity ≡ poly.now.arity) }
     ensures terms { IfOk result (λ p. terms_in p ≡ without group.now (terms_in poly.now)) }
-    ensures narrow { ¬ IsErrOf result ExpoError.Wide }
 {
     let mut terms = Vec::new(alloc);
     push_rest(alloc, &mut terms, poly.terms(), group)?;
@@ -127,12 +124,11 @@ fn push_rest(
     out: &mut Vec<Term<Frac>>,
     terms: &[Term<Frac>],
     group: &[usize],
-) -> Result<(), ExpoError>
+) -> Result<(), AllocError>
     requires { All (λ t. All (λ j. j < length t.mono) group.now) terms.now }
     ensures terms { OnOk result (terms_of fraction_of out.new.items
         ≡ terms_of fraction_of out.old.items
         ++ without group.now (terms_of fraction_of terms.now)) }
-    ensures narrow { ¬ IsErrOf result ExpoError.Wide }
 {
     let Some((term, terms)) = terms.split_first() else {
         return Ok(());

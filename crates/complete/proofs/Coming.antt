@@ -24,12 +24,12 @@ use Rattle.numbers.specs.Scalars.{Scalars, field}
 use Rattle.polynomials.specs.Exponent.{plus, over}
 use Rattle.polynomials.specs.Order.{Rank}
 use Rattle.polynomials.specs.Terms.{Terms, shift, negate}
-use Rattle.polynomials.specs.Weight.{degrees, Fits, IsPastSum}
+use Rattle.polynomials.specs.Weight.{degrees, FitsMonomial, IsPastSum}
 use Rattle.machines.specs.Collect.{collect}
-use Rattle.machines.specs.Completion.{State, degree, leads, with_element, with_elements, s_polynomial, reducing, taking, acting, next}
+use Rattle.machines.specs.Completion.{State, degree, leads, with_element, with_elements, s_polynomial, next_reduction, next_pair, next_completion, next}
 use Rattle.machines.specs.Cut.{Cutting, lead_of, find_cut, after_cut, all_places, monic}
 use Rattle.machines.specs.Event.{Pair, Cut, Keep, Zero}
-use Rattle.machines.specs.Pairs.{multiple, sugar, settled}
+use Rattle.machines.specs.Pairs.{multiple, sugar, skip_covered}
 use Rattle.machines.specs.Past.{IsPastMonic, IsPastPair, IsPastReducing, IsPastReduction, IsPastTaking, IsPastCompletion, IsPastStart}
 
 module _ {A : Type 0} where
@@ -48,27 +48,27 @@ module _ (S : Scalars) (O : Rank) (bs : List (Terms S.Elem)) (ss : List ℕ) (n 
           Cut m,
           now bs ss n w (Some q),
         )
-    unfolding next acting reducing
+    unfolding next next_completion next_reduction
     cut_comes c q m e at left = ap (λ x. next F O (now bs ss n w x)) is
-        ∙ ap (λ x. Some (reducing F O (now bs ss n w (Some p)) p x)) e
+        ∙ ap (λ x. Some (next_reduction F O (now bs ss n w (Some p)) p x)) e
         ∙ ap₂ (λ k x. Some (Cut k, now bs ss n w (Some x))) (sym at) (sym left)
 
     pub zero_comes : p ≡ [] → next F O (now bs ss n w o) ≡ Some (Zero, now bs ss n w None)
-    unfolding next acting reducing find_cut
+    unfolding next next_completion next_reduction find_cut
     zero_comes e = ap (λ x. next F O (now bs ss n w x)) (is ∙ ap Some e)
 
-    keeping : (q : Terms S.Elem) → q ≢ [] → reducing F O (now bs ss n w (Some q)) q None
+    keeping : (q : Terms S.Elem) → q ≢ [] → next_reduction F O (now bs ss n w (Some q)) q None
         ≡ (Keep, with_element F O (now bs ss n w (Some q)) (monic F q) n)
-    unfolding reducing
+    unfolding next_reduction
     keeping [] m = absurd (m refl)
     keeping (t ∷ q) m = refl
 
     -- whatever else is said to be current when the element is put in
     pub keep_comes : (v : Option (Terms S.Elem)) → find_cut F all_places bs p ≡ None → p ≢ []
         → next F O (now bs ss n w o) ≡ Some (Keep, with_element F O (now bs ss n w v) (monic F p) n)
-    unfolding next acting with_element
+    unfolding next next_completion with_element
     keep_comes v e m = ap (λ x. next F O (now bs ss n w x)) is
-        ∙ ap (λ x. Some (reducing F O (now bs ss n w (Some p)) p x)) e ∙ ap Some (keeping p m)
+        ∙ ap (λ x. Some (next_reduction F O (now bs ss n w (Some p)) p x)) e ∙ ap Some (keeping p m)
 
     pub keep_past : find_cut F all_places bs p ≡ None → IsPastMonic S F p
         → IsPastCompletion S F (now bs ss n w o)
@@ -82,26 +82,26 @@ module _ (S : Scalars) (O : Rank) (bs : List (Terms S.Elem)) (ss : List ℕ) (n 
   -- ---- without one
   module _ (ls : List (List ℕ)) (leads_are : ls ≡ map lead_of bs) (o : Option (Terms S.Elem))
       (is : o ≡ None) where
-    pub pair_comes : (a : ℕ × ℕ) (v : List (ℕ × ℕ)) (p : Terms S.Elem) → settled ls w ≡ a ∷ v
+    pub pair_comes : (a : ℕ × ℕ) (v : List (ℕ × ℕ)) (p : Terms S.Elem) → skip_covered ls w ≡ a ∷ v
         → p ≡ s_polynomial F O bs a → next F O (now bs ss n w o) ≡ Some (
           Pair a.0 a.1,
           now bs ss (sugar ls ss a) v (Some p),
         )
-    unfolding next acting taking
+    unfolding next next_completion next_pair
     pair_comes a v p e q = ap (λ x. next F O (now bs ss n w x)) is
-        ∙ ap (taking F O (now bs ss n w None)) (ap (λ x. settled x w) (sym leads_are) ∙ e)
+        ∙ ap (next_pair F O (now bs ss n w None)) (ap (λ x. skip_covered x w) (sym leads_are) ∙ e)
         ∙ ap₂ (λ x (ms : List (List ℕ)). Some (Pair a.0 a.1, now bs ss (sugar ms ss a) v (Some x)))
         (sym q) (sym leads_are)
 
-    pub none_comes : settled ls w ≡ [] → next F O (now bs ss n w o) ≡ None
-    unfolding next acting taking
+    pub none_comes : skip_covered ls w ≡ [] → next F O (now bs ss n w o) ≡ None
+    unfolding next next_completion next_pair
     none_comes e = ap (λ x. next F O (now bs ss n w x)) is
-        ∙ ap (taking F O (now bs ss n w None)) (ap (λ x. settled x w) (sym leads_are) ∙ e)
+        ∙ ap (next_pair F O (now bs ss n w None)) (ap (λ x. skip_covered x w) (sym leads_are) ∙ e)
 
-    pub pair_past : (a : ℕ × ℕ) (v : List (ℕ × ℕ)) → settled ls w ≡ a ∷ v → IsPastPair S F bs a
+    pub pair_past : (a : ℕ × ℕ) (v : List (ℕ × ℕ)) → skip_covered ls w ≡ a ∷ v → IsPastPair S F bs a
         → IsPastCompletion S F (now bs ss n w o)
     pair_past a v e h = subst (λ x. IsPastCompletion S F (now bs ss n w x)) (sym is)
-        (subst (IsPastTaking S F bs) (sym (ap (λ x. settled x w) (sym leads_are) ∙ e)) h)
+        (subst (IsPastTaking S F bs) (sym (ap (λ x. skip_covered x w) (sym leads_are) ∙ e)) h)
 
   -- ---- the two elements of a pair
   module _ (a : ℕ × ℕ) (l : List ℕ) (f g : Terms S.Elem) (left : get_or bs a.0 [] ≡ f)
@@ -116,8 +116,8 @@ module _ (S : Scalars) (O : Rank) (bs : List (Terms S.Elem)) (ss : List ℕ) (n 
         (shift S.arithmetic (over (sym is i) (lead_of (sym right i))) S.one (sym right i))))
 
     abbrev Past : List ℕ → Terms S.Elem → Terms S.Elem → Type 0
-    Past l f g = IsPastSum S f g ⊎ ¬ (Fits (plus (over l (lead_of f)) (degrees f)))
-        ⊎ ¬ (Fits (plus (over l (lead_of g)) (degrees g)))
+    Past l f g = IsPastSum S f g ⊎ ¬ (FitsMonomial (plus (over l (lead_of f)) (degrees f)))
+        ⊎ ¬ (FitsMonomial (plus (over l (lead_of g)) (degrees g)))
 
     pub pair_weight : Past l f g → IsPastPair S F bs a
     pair_weight h = subst (λ x. Past (multiple (leads bs) a) x (get_or bs a.1 [])) (sym left)

@@ -13,7 +13,7 @@ use Rattle.std.proofs.lemmas.List.Elements.{All-drop}
 use Rattle.polynomials.specs.Exponent.{lcm}
 use Rattle.polynomials.specs.Terms.{Terms}
 use Rattle.machines.specs.Cut.{lead_of}
-use Rattle.machines.specs.Pairs.{multiple, settled}
+use Rattle.machines.specs.Pairs.{multiple, skip_covered}
 use Rattle.complete.specs.declared.pair.Pair.{Pair}
 use Rattle.complete.specs.Pairs.{pair_of, Stands, AllStand}
 use Rattle.complete.specs.Pairs.{InOrder}
@@ -24,12 +24,12 @@ use Rattle.complete.proofs.Putting.{left_in, stand_long}
 use Rattle.complete.proofs.Tables.{once_drop}
 
 pub settled_from : (items ds : List Pair) (ls es : List (List ℕ)) (t r : ℕ) → ds ≡ items → es ≡ ls
-    → settled es (map pair_of (take (length ds - t) (drop t ds)))
+    → skip_covered es (map pair_of (take (length ds - t) (drop t ds)))
     ≡ map pair_of (drop r (take (length ds - t) (drop t ds)))
-    → settled ls (map pair_of (drop t items)) ≡ map pair_of (drop (t + r) items)
+    → skip_covered ls (map pair_of (drop t items)) ≡ map pair_of (drop (t + r) items)
 settled_from items ds ls es t r i j e =
     let slice = take_rest ds t ∙ ap (drop t) i in
-    ap₂ (λ k ps. settled k (map pair_of ps)) (sym j) (sym slice) ∙ e
+    ap₂ (λ k ps. skip_covered k (map pair_of ps)) (sym j) (sym slice) ∙ e
     ∙ ap (λ ps. map pair_of (drop r ps)) slice ∙ ap (map pair_of) (drop-drop r t items)
 
 pub stands_in : {X : Type 0} (P : X → Type 0) (xs : List X) (t r : ℕ) (x : X) → t + r < length xs

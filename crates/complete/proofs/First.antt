@@ -14,8 +14,8 @@ use Rattle.monos.specs.declared.order.Order as Order
 use Rattle.poly.specs.Seen.{terms_in, terms_each}
 use Rattle.complete.specs.declared.element.Completing.{Completing}
 use Rattle.divide.specs.Current.{IsCurrent}
-use Rattle.complete.specs.Completing.{state_of, current_of, Fits, IsSmall}
-use Rattle.complete.specs.Pairs.{pair_of, keys, InOrder, Stands, HasSugar, queued, rows_of, IsTold}
+use Rattle.complete.specs.Completing.{state_of, current_of, FitsCompletion, IsSmall}
+use Rattle.complete.specs.Pairs.{pair_of, keys, InOrder, Stands, HasSugar, waiting_pairs, rows_of, IsTold}
 use Rattle.complete.specs.Table.{IsTriangle, Tells, Once}
 
 drop_none : {X : Type 0} (k : ℕ) → drop {A = X} k [] ≡ []
@@ -27,7 +27,7 @@ module _ {K O : Type 0} {g : Ring.Ghosts K} {h : PartialEq.Ghosts K} {k : Order.
     (basis : s.basis.items ≡ []) (leads : s.leads.items ≡ []) (sugars : s.sugars.items ≡ [])
     (pairs : s.queue.pairs.items ≡ []) (rows : rows_of s.queue.table ≡ []) (current : s.current
     ≡ None) (sugar : s.pair_sugar ≡ 0) where
-  none_waits : queued s.queue ≡ []
+  none_waits : waiting_pairs s.queue ≡ []
   none_waits = ap (drop s.queue.taken) pairs ∙ drop_none s.queue.taken
 
   pub first_is : state_of s ≡ empty_state
@@ -40,11 +40,11 @@ module _ {K O : Type 0} {g : Ring.Ghosts K} {h : PartialEq.Ghosts K} {k : Order.
   }
 
   pub first_told : IsTold s.queue
-  first_told = subst (λ t. Tells t (map pair_of (queued s.queue))) (sym rows) (λ i j l m.
+  first_told = subst (λ t. Tells t (map pair_of (waiting_pairs s.queue))) (sym rows) (λ i j l m.
       absurd (omega (arith, m)))
 
   pub first_fits : (o : O) (m : ℕ) → s.order ≡ o → s.arity ≡ m → s.queue.taken ≡ 0
-      → (m ≤ most_variables → s.queue.mixed ≡ mixes_degrees (k.order o) m) → Fits o m s
+      → (m ≤ most_variables → s.queue.mixed ≡ mixes_degrees (k.order o) m) → FitsCompletion o m s
   unfolding InOrder Once
   first_fits o m e f t mixed = record {
     order = e;

@@ -13,7 +13,7 @@ use Rattle.divide.specs.declared.current.Current.{Current}
 use Rattle.divide.specs.Current.{IsCurrent, IsLike}
 use Rattle.divide.proofs.Like.{divisors_along}
 use Rattle.complete.specs.declared.element.Completing.{Completing}
-use Rattle.complete.specs.Completing.{Fits}
+use Rattle.complete.specs.Completing.{FitsCompletion}
 use Rattle.complete.specs.Pairs.{IsQueue}
 use Rattle.complete.proofs.Coming.{known}
 
@@ -25,8 +25,9 @@ module _ {K O : Type 0} {g : Ring.Ghosts K} {h : PartialEq.Ghosts K} {k : Order.
   current_along o o' m m' ls None e f i = tt
   current_along o o' m m' ls (Some q) e f i = (i.0 ∙ e, i.1 ∙ f, i.2)
 
-  pub fits_along : (o o' : O) (m m' : ℕ) (s : Completing K O g h k l) → o ≡ o' → m ≡ m' → Fits o m s
-      → Fits o' m' s
+  pub fits_along : (o o' : O) (m m' : ℕ) (s : Completing K O g h k l) → o ≡ o' → m ≡ m'
+      → FitsCompletion o m s
+      → FitsCompletion o' m' s
   fits_along o o' m m' s e f i = record {
     order = i.order ∙ e;
     arity = i.arity ∙ f;
@@ -43,7 +44,7 @@ module _ {K O : Type 0} {g : Ring.Ghosts K} {h : PartialEq.Ghosts K} {k : Order.
 
   fits_of : (o : O) (m : ℕ) (c : Option (Current K O g h k l)) (s : Completing K O g h k l)
       → IfSome c (λ q. (q.rest.order ≡ o) × (q.rest.arity ≡ m) × IsCurrent s.leads.items q)
-      → Fits o m s → Fits o m (record s { current = c })
+      → FitsCompletion o m s → FitsCompletion o m (record s { current = c })
   fits_of o m c s there i = record {
     order = i.order;
     arity = i.arity;
@@ -58,13 +59,13 @@ module _ {K O : Type 0} {g : Ring.Ghosts K} {h : PartialEq.Ghosts K} {k : Order.
   }
 
   pub fits_idle : (o : O) (m : ℕ) (c : Option (Current K O g h k l)) (s : Completing K O g h k l)
-      → c ≡ None → Fits o m s → Fits o m (record s { current = c })
+      → c ≡ None → FitsCompletion o m s → FitsCompletion o m (record s { current = c })
   fits_idle o m c s none i = fits_of o m c s (subst (λ (d : Option (Current K O g h k l)). IfSome d
       (λ q. (q.rest.order ≡ o) × (q.rest.arity ≡ m) × IsCurrent s.leads.items q)) (sym none) tt) i
 
   pub fits_with : (o : O) (m : ℕ) (c d : Current K O g h k l) (s : Completing K O g h k l)
-      → s.current ≡ Some c → IsLike c d → IsCurrent s.leads.items d → Fits o m s
-      → Fits o m (record s { current = Some d })
+      → s.current ≡ Some c → IsLike c d → IsCurrent s.leads.items d → FitsCompletion o m s
+      → FitsCompletion o m (record s { current = Some d })
   fits_with o m c d s is like there i =
       let old = known (λ q. (q.rest.order ≡ o) × (q.rest.arity ≡ m)
       × IsCurrent s.leads.items q) s.current c is i.current in

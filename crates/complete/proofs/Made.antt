@@ -20,12 +20,12 @@ use Rattle.polynomials.specs.Exponent.{plus}
 use Rattle.polynomials.specs.Order.{Rank, IsMonomialOrder}
 use Rattle.polynomials.specs.Polynomial.{Arity, IsPolynomial}
 use Rattle.polynomials.specs.Terms.{Terms, Same, constant, negate, shift, times}
-use Rattle.polynomials.specs.Weight.{weight, degrees, Fits, IsPastSum}
+use Rattle.polynomials.specs.Weight.{weight, degrees, FitsMonomial, IsPastSum}
 use Rattle.polynomials.proofs.Arity.{zeros-plus, arity-append, arity-negate}
 use Rattle.polynomials.proofs.Canonical.{polynomial_unique}
 use Rattle.polynomials.proofs.Same.{Same-trans, same_append, same_negate}
 use Rattle.polynomials.proofs.Weight.{weight-pos, weight_of_polynomial}
-use Rattle.machines.specs.Collect.{collect, scaled}
+use Rattle.machines.specs.Collect.{collect, scale_terms}
 use Rattle.machines.specs.Cut.{lead_number, monic}
 use Rattle.machines.proofs.Collecting.{collect-is}
 use Rattle.machines.proofs.Elements.{IsElement}
@@ -58,8 +58,8 @@ module _ (S : Scalars) (r : IsRing S.arithmetic) (f : IsFieldOf S.arithmetic S.i
   R = ring_of S.arithmetic r
 
   scaled_shift : (c : S.Elem) (p : Terms S.Elem) → Arity m p
-      → shift S.arithmetic (replicate m 0) c p ≡ scaled (field S) c p
-  unfolding scaled Algebra.shift Each
+      → shift S.arithmetic (replicate m 0) c p ≡ scale_terms (field S) c p
+  unfolding scale_terms Algebra.shift Each
   scaled_shift c [] a = refl
   scaled_shift c (t ∷ p) a = ap₂ (λ (e : List ℕ) (zs : Terms S.Elem). (e, S.mul c t.1) ∷ zs)
       (zeros-plus m t.0 a.0) (scaled_shift c p a.1)
@@ -71,7 +71,7 @@ module _ (S : Scalars) (r : IsRing S.arithmetic) (f : IsFieldOf S.arithmetic S.i
   quotient_list p a =
       append-nil (shift S.arithmetic (replicate m 0) (S.inverse (lead_coefficient S.arithmetic p))
       p) ∙ scaled_shift (S.inverse (lead_coefficient S.arithmetic p)) p a
-      ∙ ap (λ l. scaled (field S) (S.inverse l) p) (lead_same S p)
+      ∙ ap (λ l. scale_terms (field S) (S.inverse l) p) (lead_same S p)
 
   module _ (p : Terms S.Elem) (hp : IsPolynomial S.arithmetic O m p) (n : p ≢ []) where
     element : IsElement K O o m p
@@ -114,8 +114,8 @@ module _ (S : Scalars) (r : IsRing S.arithmetic) (b : IsBounded S.arithmetic S.s
   -- the difference with another that is shifted, by a monomial that is seen as k
   pub past_pair : (A : Type 0) (x f g : Terms S.Elem) (d e k : List ℕ)
       → IsPolynomial S.arithmetic O m x → Same S.arithmetic x (shift S.arithmetic d S.one f) → k ≡ e
-      → IsPastSum S x g ⊎ ¬ (Fits (plus k (degrees g)))
-      → IsPastSum S f g ⊎ A ⊎ ¬ (Fits (plus e (degrees g)))
+      → IsPastSum S x g ⊎ ¬ (FitsMonomial (plus k (degrees g)))
+      → IsPastSum S f g ⊎ A ⊎ ¬ (FitsMonomial (plus e (degrees g)))
   past_pair A x f g d e k hx sx is (inl past) =
       let R = ring_of S.arithmetic r in
       let wx = weight-pos R S.size b x in
@@ -126,4 +126,4 @@ module _ (S : Scalars) (r : IsRing S.arithmetic) (b : IsBounded S.arithmetic S.s
       (under-sum (W x) (W g) (W f) (W g) wx wg wf wg (under_shift x f d hx sx)
       (under_refl (W g) wg)) past)
   past_pair A x f g d e k hx sx is (inr wide) =
-      inr (inr (λ fits. wide (subst (λ n. Fits (plus n (degrees g))) (sym is) fits)))
+      inr (inr (λ fits. wide (subst (λ n. FitsMonomial (plus n (degrees g))) (sym is) fits)))

@@ -23,7 +23,7 @@ use Rattle.machines.proofs.Waiting.{AllWithin}
 use Rattle.monos.specs.Coprime.{IsCoprime}
 use Rattle.complete.specs.declared.pair.Pair.{Pair}
 use Rattle.complete.specs.declared.pairs.Queue.{Queue}
-use Rattle.complete.specs.Pairs.{pair_of, Stands, AllStand, HasSugar, AllHaveSugar, keys, InOrder, enter, enters, IsPairOf, queued, IsQueue}
+use Rattle.complete.specs.Pairs.{pair_of, Stands, AllStand, HasSugar, AllHaveSugar, keys, InOrder, enter, enters, IsPairOf, waiting_pairs, IsQueue}
 use Rattle.complete.proofs.Placing.{keys_total, keys_apart, enter_is}
 use Rattle.complete.proofs.Entering.{all_enter, all_enters, in_order_enter, in_order_enters, enters_enter}
 
@@ -209,10 +209,10 @@ module _ (O : Rank) (mixed : Bool) (ls : List (List ℕ)) (ss : List ℕ) where
 -- the pairs that wait, for one more lead
 pub kept_more : (O : Rank) (ls : List (List ℕ)) (ss : List ℕ) (e : List ℕ) (n : ℕ) (q : Queue)
     → length ss ≡ length ls → IsQueue O ls ss q
-    → Kept O q.mixed (ls ++ e ∷ []) (ss ++ n ∷ []) (queued q)
+    → Kept O q.mixed (ls ++ e ∷ []) (ss ++ n ∷ []) (waiting_pairs q)
 kept_more O ls ss e n q size i = record {
-  pairs = stand_more ls e (queued q) i.pairs;
-  sugars = sugar_more ls ss e n (queued q) size i.pairs i.sugars;
+  pairs = stand_more ls e (waiting_pairs q) i.pairs;
+  sugars = sugar_more ls ss e n (waiting_pairs q) size i.pairs i.sugars;
   in_order = i.in_order;
 }
 

@@ -11,7 +11,7 @@ use Rattle.complete.specs.declared.pair.Pair.{Pair}
 use Rattle.complete.specs.Pairs.{pair_of, covers_pair}
 use Rattle.complete.specs.Table.{of_either, IsTriangle, without, Tells, Once}
 use Rattle.complete.proofs.Tables.{told_either, told_taken, once_drop, once_first}
-use Rattle.machines.specs.Pairs.{waits, covers, is_covered, settled}
+use Rattle.machines.specs.Pairs.{waits, covers, is_covered, skip_covered}
 
 module _ {X Y : Type 0} (f : X → Y) where
   pub seen_drop : (xs : List X) (k : ℕ) (x : X) → k < length xs → x ≡ get_or xs k x
@@ -88,19 +88,19 @@ told_behind list i a t u l e is left right triangle once told =
     (once_drop pair_of i list once)))
 
 module _ (ls : List (List ℕ)) (a : ℕ × ℕ) (w v : List (ℕ × ℕ)) (e : w ≡ a ∷ v) where
-  settled_first : settled ls w ≡ cond (is_covered ls v a) (settled ls v) (a ∷ v)
-  unfolding settled
-  settled_first = ap (settled ls) e
+  settled_first : skip_covered ls w ≡ cond (is_covered ls v a) (skip_covered ls v) (a ∷ v)
+  unfolding skip_covered
+  settled_first = ap (skip_covered ls) e
 
-  pub settled_next : is_covered ls v a ≡ true → settled ls w ≡ settled ls v
-  settled_next t = settled_first ∙ ap (λ b. cond b (settled ls v) (a ∷ v)) t
+  pub settled_next : is_covered ls v a ≡ true → skip_covered ls w ≡ skip_covered ls v
+  settled_next t = settled_first ∙ ap (λ b. cond b (skip_covered ls v) (a ∷ v)) t
 
-  pub settled_here : is_covered ls v a ≡ false → settled ls w ≡ w
-  settled_here t = settled_first ∙ ap (λ b. cond b (settled ls v) (a ∷ v)) t ∙ sym e
+  pub settled_here : is_covered ls v a ≡ false → skip_covered ls w ≡ w
+  settled_here t = settled_first ∙ ap (λ b. cond b (skip_covered ls v) (a ∷ v)) t ∙ sym e
 
-pub settled_none : (ls : List (List ℕ)) (w : List (ℕ × ℕ)) → w ≡ [] → settled ls w ≡ w
-unfolding settled
-settled_none ls w e = ap (settled ls) e ∙ sym e
+pub settled_none : (ls : List (List ℕ)) (w : List (ℕ × ℕ)) → w ≡ [] → skip_covered ls w ≡ w
+unfolding skip_covered
+settled_none ls w e = ap (skip_covered ls) e ∙ sym e
 
 pub next_leads : (ls : List (List ℕ)) (k : ℕ) (e : List ℕ) → k < length ls → e ≡ get_or ls k e
     → drop k ls ≡ e ∷ drop (k + 1) ls

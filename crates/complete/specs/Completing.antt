@@ -4,7 +4,7 @@
 --   AreAlike gs           all of the gs have one order and as many variables
 --   state_of s            a completion on its way, as a state of the machine
 --   IsSmall k n           the sugar n is below what it can be where there are k elements
---   Fits o m s            its elements and what is current have the order o and m variables, the leads are theirs, each has a sugar, and the pairs are a queue
+--   FitsCompletion o m s            its elements and what is current have the order o and m variables, the leads are theirs, each has a sugar, and the pairs are a queue
 --   completion_of o gens  the completion of the gens, as a machine
 --   HasElements o m gs s  the gs are the elements of the state s, of the order o and m variables, and not 0
 --   IsBasis o m gens gs                the gs are a Gröbner basis of the ideal of the gens
@@ -27,7 +27,7 @@ use Rattle.machines.specs.Machine.{Machine}
 use Rattle.machines.specs.Machines as machines
 use Rattle.machines.specs.Pairs.{mixes_degrees}
 use Rattle.machines.specs.Past.{IsPastCompletion}
-use Rattle.machines.specs.Work.{Turned, StoppedAt}
+use Rattle.machines.specs.Work.{StepOrEnd, StoppedAt}
 use Rattle.ring_laws.specs.declared.Ring as Ring
 use Rattle.monos.specs.Variables.{most_variables}
 use Rattle.monos.specs.declared.order.Order as Order
@@ -36,7 +36,7 @@ use Rattle.poly.specs.Seen.{terms_in, terms_each}
 use Rattle.divide.specs.declared.current.Current.{Current}
 use Rattle.divide.specs.Current.{left_of, IsCurrent, AreDivisors}
 use Rattle.complete.specs.declared.element.Completing.{Completing}
-use Rattle.complete.specs.Pairs.{pair_of, queued, IsQueue}
+use Rattle.complete.specs.Pairs.{pair_of, waiting_pairs, IsQueue}
 
 abbrev pub IsSmall : ℕ → ℕ → Type 0
 IsSmall k n = n < (k + 1) * 2 ^ 32
@@ -51,7 +51,7 @@ module _ {K O : Type 0} {g : Ring.Ghosts K} {h : PartialEq.Ghosts K} {k : Order.
   state_of s = record {
     basis = terms_each s.basis.items;
     sugars = s.sugars.items;
-    waiting = map pair_of (queued s.queue);
+    waiting = map pair_of (waiting_pairs s.queue);
     current = current_of s.current;
     pair_sugar = s.pair_sugar;
   }
@@ -62,7 +62,7 @@ module _ {K O : Type 0} {g : Ring.Ghosts K} {h : PartialEq.Ghosts K} {k : Order.
   abbrev pub AreAlike : List (Poly K O g h k l) → Type 0
   AreAlike gs = All (λ f. AreLike f.order f.arity gs) gs
 
-  pub record Fits (o : O) (m : ℕ) (s : Completing K O g h k l) : Type 0 where
+  pub record FitsCompletion (o : O) (m : ℕ) (s : Completing K O g h k l) : Type 0 where
     pub order : s.order ≡ o
     pub arity : s.arity ≡ m
     pub elements : AreDivisors o m s.basis.items
@@ -89,7 +89,7 @@ module _ {K O : Type 0} {g : Ring.Ghosts K} {h : PartialEq.Ghosts K} {k : Order.
 
   abbrev pub IsNext : (s t : Completing K O g h k l) → (before after : Journal) → Bool → Type 0
   IsNext s t before after b =
-      Turned (completion.next (field g.scalars) (k.order s.order)) (state_of s) (state_of t)
+      StepOrEnd (completion.next (field g.scalars) (k.order s.order)) (state_of s) (state_of t)
       before after b
 
   abbrev pub IsPastNext : Completing K O g h k l → Type 0

@@ -11,7 +11,7 @@
 --   IsPairOf a d m e n p               p is the pair of the places a, whose leads are d and e with the sugars m and n
 --   rows_of t           the entries of a table
 -- Of a queue of pairs, with the leads ls and the sugars ss of the elements:
---   queued q            the pairs that wait
+--   waiting_pairs q            the pairs that wait
 --   IsQueue O ls ss q   they stand for leads, have their sugars, are in their order, each once, and the table has a row for each element
 --   IsTold q            the table tells which pairs wait
 --   IsWithNew O ls ss d n q r          r is q with the pairs of a new lead d of sugar n
@@ -86,22 +86,22 @@ pub record IsPairOf (a : ℕ × ℕ) (d : List ℕ) (m : ℕ) (e : List ℕ) (n 
 abbrev pub rows_of : Table → List (List Bool)
 rows_of t = map (λ row. row.items) t.rows.items
 
-abbrev pub queued : Queue → List Pair
-queued q = drop q.taken q.pairs.items
+abbrev pub waiting_pairs : Queue → List Pair
+waiting_pairs q = drop q.taken q.pairs.items
 
 pub record IsQueue (O : Rank) (ls : List (List ℕ)) (ss : List ℕ) (q : Queue) : Type 0 where
   pub taken : q.taken ≤ length q.pairs.items
-  pub pairs : AllStand ls (queued q)
-  pub sugars : AllHaveSugar ls ss (queued q)
-  pub in_order : InOrder (keys O q.mixed) (queued q)
-  pub once : Once (map pair_of (queued q))
+  pub pairs : AllStand ls (waiting_pairs q)
+  pub sugars : AllHaveSugar ls ss (waiting_pairs q)
+  pub in_order : InOrder (keys O q.mixed) (waiting_pairs q)
+  pub once : Once (map pair_of (waiting_pairs q))
   pub count : length (rows_of q.table) ≡ length ls
   pub triangle : IsTriangle (rows_of q.table)
 
 abbrev pub IsTold : Queue → Type 0
-IsTold q = Tells (rows_of q.table) (map pair_of (queued q))
+IsTold q = Tells (rows_of q.table) (map pair_of (waiting_pairs q))
 
 abbrev pub IsWithNew : Rank → List (List ℕ) → List ℕ → List ℕ → ℕ → (q r : Queue) → Type 0
 IsWithNew O ls ss d n q r =
-    map pair_of (queued r)
-    ≡ with_new O (ls ++ d ∷ []) (ss ++ n ∷ []) (length ls) d ls 0 (map pair_of (queued q))
+    map pair_of (waiting_pairs r)
+    ≡ with_new O (ls ++ d ∷ []) (ss ++ n ∷ []) (length ls) d ls 0 (map pair_of (waiting_pairs q))

@@ -1,13 +1,15 @@
 //! Completion of a list to a Gröbner basis.
-ghost use Rattle.std.specs.Prelude.{◌≡◌, ◌≤◌, ◌^◌, length, None, true, IfOk, OnOk, OnErr, IsErrOf};
+ghost use Rattle.std.specs.Prelude.{◌≡◌, ◌≤◌, length, None, true, IfOk, OnOk, OnErr, IsErrOf};
 ghost use Rattle.numbers.specs.Scalars.{field};
 ghost use Rattle.machines.specs.Completion as completion;
 ghost use Rattle.machines.specs.Machine.{Ran};
 ghost use Rattle.machines.specs.Past.{IsPastMonic, IsPastStart};
 ghost use Rattle.poly.specs.Seen.{terms_in, terms_each};
 ghost use Rattle.divide.specs.Outcomes.{outcome_of};
-ghost use Rattle.complete.specs.Completing.{state_of, AreLike, Fits, IsBasis, IsNext, IsPastNext, IsStopped, IsWithGenerator, completion_of, HasElements};
+ghost use Rattle.complete.specs.Completing.{state_of, AreLike, FitsCompletion, IsBasis, IsNext, IsPastNext, IsStopped, IsWithGenerator, completion_of, HasElements};
 ghost use Rattle.complete.specs.Pairs.{IsTold};
+ghost use Rattle.divide.specs.Limits.{list_limit};
+ghost use Rattle.complete.specs.Limits.{generators_limit};
 
 use crate::element::{Completing, add_element, made_monic, s_polynomial};
 use crate::order_kind::mixes_degrees;
@@ -17,7 +19,7 @@ use divide::{Current, EngineError};
 use journal::{Event, Meter};
 use monos::Order;
 use poly::Poly;
-use ring_laws::Field;
+use ring_laws::{ArithmeticError, Field};
 use std::alloc::Global;
 
 /// Completes a list of polynomials of this order and arity to a Gröbner basis of their ideal, of monic polynomials.
@@ -32,11 +34,11 @@ pub fn complete_in<K: Field, O: Order>(
     meter: &mut Meter,
 ) -> Result<Vec<Poly<K, O>>, EngineError>
     requires like { AreLike order arity gens.now }
-    requires few { length gens.now ≤ 2 ^ 30 }
+    requires few { length gens.now ≤ generators_limit }
     ensures ran { Ran (completion_of order gens.now) (HasElements order arity)
         meter.old meter.new (outcome_of result) }
     ensures basis { IfOk result (λ gs. IsBasis order arity gens.now gs.items) }
-    ensures few { IfOk result (λ gs. length gs.items ≤ 2 ^ 31) }
+    ensures few { IfOk result (λ gs. length gs.items ≤ list_limit) }
 {
     // for its contract, which tells the prover that no more units are used than are allowed
     let _ = meter.used();
@@ -51,16 +53,16 @@ fn first_state<K: Field, O: Order>(
     order: O,
     arity: usize,
     gens: &[Poly<K, O>],
-) -> Result<Completing<K, O>, EngineError>
+) -> Result<Completing<K, O>, ArithmeticError>
     requires like { AreLike order arity gens.now }
-    requires few { length gens.now ≤ 2 ^ 30 }
+    requires few { length gens.now ≤ generators_limit }
     ensures ok { IfOk result (λ s.
-        state_of s ≡ completion.begun (field K.scalars) (O.order order) (terms_each gens.now)) }
-    ensures fits { IfOk result (Fits order arity) }
+        state_of s ≡ completion.initial_state (field K.scalars) (O.order order)
+        (terms_each gens.now)) }
+    ensures fits { IfOk result (FitsCompletion order arity) }
     ensures told { IfOk result (λ s. IsTold s.queue) }
-    ensures wide { IsErrOf result EngineError.Wide
+    ensures wide { IsErrOf result ArithmeticError.Wide
         → IsPastStart K.scalars (field K.scalars) (terms_each gens.now) }
-    ensures unmetered { ¬ IsErrOf result EngineError.Budget }
 {
     let queue = Queue {
         mixed: mixes_degrees(alloc, order, arity)?,
@@ -89,24 +91,24 @@ fn add_generator<K: Field, O: Order>(
     alloc: Global,
     state: &mut Completing<K, O>,
     g: &Poly<K, O>,
-) -> Result<(), EngineError>
-    requires fits { Fits state.old.order state.old.arity state.old }
-    requires few { length state.old.basis.items ≤ 2 ^ 31 }
+) -> Result<(), ArithmeticError>
+    requires fits { FitsCompletion state.old.order state.old.arity state.old }
+    requires few { length state.old.basis.items ≤ list_limit }
     requires order { g.now.order ≡ state.old.order }
     requires arity { g.now.arity ≡ state.old.arity }
     requires told { IsTold state.old.queue }
     ensures ok { OnOk result (IsWithGenerator g.now state.old state.new) }
-    ensures fits { OnOk result (Fits state.old.order state.old.arity state.new) }
+    ensures fits { OnOk result (FitsCompletion state.old.order state.old.arity state.new) }
     ensures told { OnOk result (IsTold state.new.queue) }
-    ensures wide { IsErrOf result EngineError.Wide
+    ensures wide { IsErrOf result ArithmeticError.Wide
         → IsPastMonic K.scalars (field K.scalars) (terms_in g.now) }
-    ensures unmetered { ¬ IsErrOf result EngineError.Budget }
 {
     let Some(degree) = g.degree() else {
         return Ok(());
     };
     let monic = made_monic(alloc, g)?;
-    add_element(alloc, state, monic, degree as u64)
+    add_element(alloc, state, monic, degree as u64)?;
+    Ok(())
 }
 
 /// The next event of a completion. False exactly where none comes.
@@ -115,11 +117,11 @@ fn step<K: Field, O: Order>(
     state: &mut Completing<K, O>,
     meter: &mut Meter,
 ) -> Result<bool, EngineError>
-    requires fits { Fits state.old.order state.old.arity state.old }
-    requires few { length state.old.basis.items ≤ 2 ^ 31 }
+    requires fits { FitsCompletion state.old.order state.old.arity state.old }
+    requires few { length state.old.basis.items ≤ list_limit }
     requires told { IsTold state.old.queue }
     ensures ok { IfOk result (λ b. IsNext state.old state.new meter.old meter.new b) }
-    ensures fits { IfOk result (λ _. Fits state.old.order state.old.arity state.new) }
+    ensures fits { IfOk result (λ _. FitsCompletion state.old.order state.old.arity state.new) }
     ensures told { IfOk result (λ b. b ≡ true → IsTold state.new.queue) }
     ensures err { OnErr result (meter.new ≡ meter.old) }
     ensures wide { IsErrOf result EngineError.Wide → IsPastNext state.old }
@@ -152,11 +154,11 @@ fn take_pair<K: Field, O: Order>(
     meter: &mut Meter,
 ) -> Result<bool, EngineError>
     requires idle { state.old.current ≡ None }
-    requires fits { Fits state.old.order state.old.arity state.old }
-    requires few { length state.old.basis.items ≤ 2 ^ 31 }
+    requires fits { FitsCompletion state.old.order state.old.arity state.old }
+    requires few { length state.old.basis.items ≤ list_limit }
     requires told { IsTold state.old.queue }
     ensures ok { IfOk result (λ b. IsNext state.old state.new meter.old meter.new b) }
-    ensures fits { IfOk result (λ _. Fits state.old.order state.old.arity state.new) }
+    ensures fits { IfOk result (λ _. FitsCompletion state.old.order state.old.arity state.new) }
     ensures told { IfOk result (λ b. b ≡ true → IsTold state.new.queue) }
     ensures err { OnErr result (meter.new ≡ meter.old) }
     ensures wide { IsErrOf result EngineError.Wide → IsPastNext state.old }

@@ -1,11 +1,10 @@
 //! Whether an order is by degree first.
-ghost use Rattle.std.specs.Prelude.{◌≡◌, ◌<◌, ◌≤◌, IfOk, IsErrOf};
+ghost use Rattle.std.specs.Prelude.{◌≡◌, ◌<◌, ◌≤◌, IfOk};
 ghost use Rattle.machines.specs.Pairs.{power_at, mixes_degrees};
 ghost use Rattle.monos.specs.Variables.{most_variables};
 
-use divide::EngineError;
 use monos::{Mono, Order};
-use std::alloc::Global;
+use std::alloc::{AllocError, Global};
 use std::cmp::Ordering;
 
 /// No monomial has more variables.
@@ -16,11 +15,9 @@ pub(crate) fn mixes_degrees<O: Order>(
     alloc: Global,
     order: O,
     arity: usize,
-) -> Result<bool, EngineError>
+) -> Result<bool, AllocError>
     ensures ok { IfOk result (λ b. arity ≤ most_variables
         → b ≡ mixes_degrees (O.order order) arity) }
-    ensures narrow { ¬ IsErrOf result EngineError.Wide }
-    ensures unmetered { ¬ IsErrOf result EngineError.Budget }
 {
     if arity == 0 {
         return Ok(false);
@@ -34,20 +31,12 @@ pub(crate) fn mixes_degrees<O: Order>(
 }
 
 /// The power of a variable.
-fn power(alloc: Global, arity: usize, variable: usize, exponent: u16) -> Result<Mono, EngineError>
+fn power(alloc: Global, arity: usize, variable: usize, exponent: u16) -> Result<Mono, AllocError>
     requires few { arity ≤ most_variables }
     requires inside { variable < arity }
     ensures ok { IfOk result (λ m. m ≡ power_at arity variable exponent) }
-    ensures narrow { ¬ IsErrOf result EngineError.Wide }
-    ensures unmetered { ¬ IsErrOf result EngineError.Budget }
 {
-    let mut exponents = match vec![in alloc; 0; arity] {
-        Ok(exponents) => exponents,
-        Err(_) => return Err(EngineError::Memory),
-    };
+    let mut exponents = vec![in alloc; 0; arity]?;
     exponents[variable] = exponent;
-    match Mono::new(alloc, &exponents) {
-        Ok(mono) => Ok(mono),
-        Err(_) => Err(EngineError::Memory),
-    }
+    Mono::new(alloc, &exponents)
 }

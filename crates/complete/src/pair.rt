@@ -1,5 +1,6 @@
 //! Pairs of places in a list.
-ghost use Rattle.std.specs.Prelude.{◌≡◌, ◌<◌, ◌^◌, sum};
+ghost use Rattle.std.specs.Prelude.{◌≡◌, ◌<◌, sum};
+ghost use Rattle.complete.specs.Limits.{place_limit};
 
 use monos::Mono;
 
@@ -12,7 +13,7 @@ pub(crate) struct Parts {
     pub(crate) degree: u32,
     pub(crate) sugar: u64,
     pub ghost degree_is: { degree ≡ sum multiple },
-    pub ghost degree_fits: { degree < 2 ^ 32 },
+    pub ghost degree_fits: { degree < place_limit },
 }
 
 /// A pair, whose parts stand elsewhere: so a list of pairs has one word to move for each.

@@ -1,14 +1,13 @@
 //! How pairs are made, and where one stands to another.
-ghost use Rattle.std.specs.Prelude.{◌≡◌, ◌+◌, ◌-◌, sum, length, cond, IfOk, IsErrOf};
+ghost use Rattle.std.specs.Prelude.{◌≡◌, ◌+◌, ◌-◌, sum, length, cond, IfOk};
 ghost use Rattle.std.specs.declared.cmp.Ordering.TheVariants.{Equal};
 ghost use Rattle.std.specs.Ordering.{nat_cmp};
 ghost use Rattle.polynomials.specs.Exponent.{Divides};
 ghost use Rattle.complete.specs.Pairs.{keys, HasRoom, IsPairOf};
 
 use crate::pair::{Pair, Parts};
-use divide::EngineError;
 use monos::{Mono, Order};
-use std::alloc::Global;
+use std::alloc::{AllocError, Global};
 use std::cmp::Ordering;
 
 impl Pair {
@@ -21,19 +20,14 @@ impl Pair {
         right: u32,
         second: &Mono,
         second_sugar: u64,
-    ) -> Result<Pair, EngineError>
+    ) -> Result<Pair, AllocError>
         requires same { length first.now ≡ length second.now }
         requires first_room { HasRoom first_sugar }
         requires second_room { HasRoom second_sugar }
         ensures pair { IfOk result
             (IsPairOf (left, right) first.now first_sugar second.now second_sugar) }
-        ensures narrow { ¬ IsErrOf result EngineError.Wide }
-        ensures unmetered { ¬ IsErrOf result EngineError.Budget }
     {
-        let multiple = match first.lcm(alloc, second) {
-            Ok(multiple) => multiple,
-            Err(_) => return Err(EngineError::Memory),
-        };
+        let multiple = first.lcm(alloc, second)?;
         let left_sugar = sugar_at(first_sugar, first, &multiple);
         let right_sugar = sugar_at(second_sugar, second, &multiple);
         let degree = multiple.degree();

@@ -1,13 +1,13 @@
 //! Pairs of places in a list that wait, in their order.
-ghost use Rattle.std.specs.Prelude.{◌≡◌, ◌<◌, ◌≤◌, ◌+◌, ◌^◌, ◌++◌, ◌∷◌, [], List, ℕ, false, true, length, map, take, drop, All, OnOk, IsErrOf};
+ghost use Rattle.std.specs.Prelude.{◌≡◌, ◌<◌, ◌≤◌, ◌+◌, ◌++◌, ◌∷◌, [], List, ℕ, false, true, length, map, take, drop, All, OnOk};
 ghost use Rattle.std.specs.Ordering.{is_lt};
-ghost use Rattle.machines.specs.Pairs.{mixes_degrees, is_covered, settled};
-ghost use Rattle.complete.specs.Pairs.{pair_of, keys, Stands, AllStand, InOrder, enter, enters, covers_pair, HaveVariables, rows_of, queued, HasRoom, IsQueue, IsTold, IsWithNew};
+ghost use Rattle.machines.specs.Pairs.{mixes_degrees, is_covered, skip_covered};
+ghost use Rattle.complete.specs.Pairs.{pair_of, keys, Stands, AllStand, InOrder, enter, enters, covers_pair, HaveVariables, rows_of, waiting_pairs, HasRoom, IsQueue, IsTold, IsWithNew};
 ghost use Rattle.complete.specs.Table.{IsTriangle, Tells, Once};
+ghost use Rattle.complete.specs.Limits.{place_limit};
 
 use crate::pair::Pair;
 use crate::table::Table;
-use divide::EngineError;
 use monos::{Mono, Order};
 use std::alloc::{AllocError, Global};
 use std::cmp::Ordering;
@@ -72,7 +72,7 @@ fn covers(pair: &Pair, table: &Table, place: u32, lead: &Mono) -> bool
 
 /// Whether some lead covers the pair.
 fn is_covered(pair: &Pair, table: &Table, leads: &[Mono]) -> bool
-    requires few { length leads.now ≤ 2 ^ 32 }
+    requires few { length leads.now ≤ place_limit }
     requires long { All (λ e. length e ≡ length pair.now.parts.value.multiple) leads.now }
     requires stands { Stands leads.now pair.now }
     requires count { length (rows_of table.now) ≡ length leads.now }
@@ -90,7 +90,7 @@ fn is_covered(pair: &Pair, table: &Table, leads: &[Mono]) -> bool
 
 /// How many pairs at the front are covered, up to the first that isn't. These, and it, wait no longer.
 pub(crate) fn covered_count(list: &[Pair], leads: &[Mono], table: &mut Table) -> usize
-    requires few { length leads.now ≤ 2 ^ 32 }
+    requires few { length leads.now ≤ place_limit }
     requires stand { AllStand leads.now list.now }
     requires long { All (λ a. All (λ e. length e ≡ length a.parts.value.multiple) leads.now)
         list.now }
@@ -99,7 +99,7 @@ pub(crate) fn covered_count(list: &[Pair], leads: &[Mono], table: &mut Table) ->
     requires told { Tells (rows_of table.old) (map pair_of list.now) }
     requires once { Once (map pair_of list.now) }
     ensures bound { result ≤ length list.now }
-    ensures settled { settled leads.now (map pair_of list.now)
+    ensures settled { skip_covered leads.now (map pair_of list.now)
         ≡ map pair_of (drop result list.now) }
     ensures count { length (rows_of table.new) ≡ length (rows_of table.old) }
     ensures triangle { IsTriangle (rows_of table.new) }
@@ -124,8 +124,8 @@ pub(crate) fn add_pairs<O: Order>(
     lead: &Mono,
     sugar: u64,
     queue: &mut Queue,
-) -> Result<(), EngineError>
-    requires few { length leads.now < 2 ^ 32 }
+) -> Result<(), AllocError>
+    requires few { length leads.now < place_limit }
     requires long { All (λ e. length e ≡ length lead.now) leads.now }
     requires count { length sugars.now ≡ length leads.now }
     requires room { All HasRoom (sugars.now ++ sugar ∷ []) }
@@ -138,8 +138,6 @@ pub(crate) fn add_pairs<O: Order>(
         (leads.now ++ lead.now ∷ []) (sugars.now ++ sugar ∷ []) queue.new) }
     ensures told { OnOk result (IsTold queue.new) }
     ensures mixed { queue.new.mixed ≡ queue.old.mixed }
-    ensures narrow { ¬ IsErrOf result EngineError.Wide }
-    ensures unmetered { ¬ IsErrOf result EngineError.Budget }
 {
     let right = leads.len() as u32;
     let mut row = Vec::new(alloc);
@@ -152,9 +150,7 @@ pub(crate) fn add_pairs<O: Order>(
             put_pair(order, queue.mixed, &mut news, pair)?;
         }
     }
-    let Ok(()) = put_pairs(alloc, order, queue, news) else {
-        return Err(EngineError::Memory);
-    };
+    put_pairs(alloc, order, queue, news)?;
     queue.table.push(row)
 }
 
@@ -164,14 +160,12 @@ fn put_pair<O: Order>(
     mixed: bool,
     list: &mut Vec<Pair>,
     pair: Pair,
-) -> Result<(), EngineError>
+) -> Result<(), AllocError>
     requires long { All (λ b. length b.parts.value.multiple ≡ length pair.parts.value.multiple)
         list.old.items }
     requires in_order { InOrder (keys (O.order order) mixed) list.old.items }
     ensures list { OnOk result
         (list.new.items ≡ enter (keys (O.order order) mixed) pair list.old.items) }
-    ensures narrow { ¬ IsErrOf result EngineError.Wide }
-    ensures unmetered { ¬ IsErrOf result EngineError.Budget }
 {
     let place = place_of(order, mixed, &pair, list);
     list.insert(place, pair)?;
@@ -186,12 +180,12 @@ fn put_pairs<O: Order>(
     queue: &mut Queue,
     news: Vec<Pair>,
 ) -> Result<(), AllocError>
-    requires long { HaveVariables (queued queue.old ++ news.items) }
+    requires long { HaveVariables (waiting_pairs queue.old ++ news.items) }
     requires news { InOrder (keys (O.order order) queue.old.mixed) news.items }
-    requires in_order { InOrder (keys (O.order order) queue.old.mixed) (queued queue.old) }
+    requires in_order { InOrder (keys (O.order order) queue.old.mixed) (waiting_pairs queue.old) }
     requires taken { queue.old.taken ≤ length queue.old.pairs.items }
-    ensures pairs { OnOk result (queued queue.new
-        ≡ enters (keys (O.order order) queue.old.mixed) news.items (queued queue.old)) }
+    ensures pairs { OnOk result (waiting_pairs queue.new
+        ≡ enters (keys (O.order order) queue.old.mixed) news.items (waiting_pairs queue.old)) }
     ensures taken { OnOk result (queue.new.taken ≤ length queue.new.pairs.items) }
     ensures mixed { queue.new.mixed ≡ queue.old.mixed }
     ensures table { queue.new.table ≡ queue.old.table }

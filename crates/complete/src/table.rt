@@ -1,10 +1,9 @@
 //! Which pairs of places wait, as a table.
-ghost use Rattle.std.specs.Prelude.{◌≡◌, ◌≢◌, ◌<◌, [], ◌∷◌, ◌++◌, length, OnOk, IsErrOf};
+ghost use Rattle.std.specs.Prelude.{◌≡◌, ◌≢◌, ◌<◌, [], ◌∷◌, ◌++◌, length, OnOk};
 ghost use Rattle.complete.specs.Table.{of_either, without, IsTriangle};
 ghost use Rattle.complete.specs.Pairs.{rows_of};
 
-use divide::EngineError;
-use std::alloc::Global;
+use std::alloc::{AllocError, Global};
 
 /// For each place, whether its pairs with the earlier places wait.
 #[derive(Drop)]
@@ -47,10 +46,8 @@ impl Table {
     }
 
     /// A place more, with an entry for its pair with each earlier one.
-    pub(crate) fn push(&mut self, row: Vec<bool>) -> Result<(), EngineError>
+    pub(crate) fn push(&mut self, row: Vec<bool>) -> Result<(), AllocError>
         ensures row { OnOk result (rows_of self.new ≡ rows_of self.old ++ row.items ∷ []) }
-        ensures narrow { ¬ IsErrOf result EngineError.Wide }
-        ensures unmetered { ¬ IsErrOf result EngineError.Budget }
     {
         self.rows.push(row)?;
         Ok(())

@@ -46,10 +46,7 @@ pub(crate) fn coarsest_of(alloc: Global, numbers: &str) -> Result<Vec<Whole>, Ro
     ensures { IfOk result (λ base. IsCoprimeBase (sizes base.items)) }
 {
     let list = positives_of(alloc, numbers)?;
-    match base(alloc, &list) {
-        Ok(found) => Ok(found),
-        Err(_) => Err(RowError::Memory),
-    }
+    Ok(base(alloc, &list)?)
 }
 
 fn positives_of(alloc: Global, numbers: &str) -> Result<Vec<Whole>, RowError>

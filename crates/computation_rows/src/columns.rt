@@ -3,6 +3,7 @@ ghost use Rattle.std.specs.Prelude.{◌≡◌, ◌≢◌, ◌≤◌, [], length,
 ghost use Rattle.poly.specs.Seen.{terms_in};
 ghost use Rattle.divide.specs.Current.{AreDivisors};
 ghost use Rattle.complete.specs.Completing.{AreLike};
+ghost use Rattle.computation_rows.specs.RowLimits.{most_polynomials};
 
 use crate::number::Number;
 use crate::row_error::RowError;
@@ -54,7 +55,7 @@ pub(crate) fn list_of<K: Number, O: Order>(
     text: &str,
 ) -> Result<Vec<Poly<K, O>>, RowError>
     ensures like { IfOk result (λ ps. AreLike order (length names.now) ps.items) }
-    ensures few { IfOk result (λ ps. length ps.items ≤ 1000) }
+    ensures few { IfOk result (λ ps. length ps.items ≤ most_polynomials) }
 {
     let mut list = Vec::new(alloc);
     for item in text.split("; ") {
@@ -74,7 +75,7 @@ pub(crate) fn divisors_of<K: Number, O: Order>(
     text: &str,
 ) -> Result<Vec<Poly<K, O>>, RowError>
     ensures divisors { IfOk result (λ ps. AreDivisors order (length names.now) ps.items) }
-    ensures few { IfOk result (λ ps. length ps.items ≤ 1000) }
+    ensures few { IfOk result (λ ps. length ps.items ≤ most_polynomials) }
 {
     let mut list = Vec::new(alloc);
     for item in text.split("; ") {
@@ -200,5 +201,5 @@ pub(crate) fn text_of_poly<K: Number, O: Order>(
         terms.push(term_over_fractions(alloc, names.len(), term)?)?;
     }
     let p: Poly<Frac, Grevlex> = Poly::from_terms(alloc, Grevlex, names.len(), terms)?;
-    print_poly(alloc, &p, names).or(Err(RowError::Memory))
+    Ok(print_poly(alloc, &p, names)?)
 }

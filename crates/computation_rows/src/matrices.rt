@@ -12,9 +12,7 @@ use worked_rows::push_item;
 /// What `add_row` answers to each row in turn, then the rows of the echelon list and its kernel.
 pub(crate) fn echelon_answer(alloc: Global, width: &str, rows: &str) -> Result<String, RowError> {
     let width: usize = width.parse().unwrap_or(0);
-    let Ok(mut echelon) = Rref::new(alloc, width) else {
-        return Err(RowError::Memory);
-    };
+    let mut echelon = Rref::new(alloc, width);
     let mut text = String::new(alloc);
     for row in rows.split(';') {
         let row = row_of(alloc, row)?;
@@ -42,10 +40,8 @@ fn added_text(alloc: Global, echelon: &mut Rref, row: &Vec<Frac>) -> Result<Stri
 }
 
 fn kernel_text(alloc: Global, echelon: &Rref) -> Result<String, RowError> {
-    match echelon.kernel() {
-        Ok(vectors) => rows_text(alloc, vectors.as_slice()),
-        Err(_) => Err(RowError::Memory),
-    }
+    let vectors = echelon.kernel()?;
+    rows_text(alloc, vectors.as_slice())
 }
 
 /// What `split` answers: each form with its value, or its refusal.

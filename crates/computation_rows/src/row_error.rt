@@ -1,7 +1,6 @@
 // Why a row has no answer.
 use divide::EngineError;
-use expo::ExpoError;
-use poly::PolyError;
+use ring_laws::ArithmeticError;
 use std::alloc::{AllocError, AllocFailed};
 use thiserror::Error;
 
@@ -39,20 +38,11 @@ impl From<EngineError> for RowError {
     }
 }
 
-impl From<ExpoError> for RowError {
-    fn from(error: ExpoError) -> Self {
+impl From<ArithmeticError> for RowError {
+    fn from(error: ArithmeticError) -> Self {
         match error {
-            ExpoError::Wide => RowError::Wide,
-            ExpoError::Memory => RowError::Memory,
-        }
-    }
-}
-
-impl From<PolyError> for RowError {
-    fn from(error: PolyError) -> Self {
-        match error {
-            PolyError::Wide => RowError::Wide,
-            PolyError::Memory => RowError::Memory,
+            ArithmeticError::Wide => RowError::Wide,
+            ArithmeticError::Memory => RowError::Memory,
         }
     }
 }

@@ -17,7 +17,7 @@ use Rattle.polynomials.specs.Terms.{Terms}
 use Rattle.polynomials.specs.Order.{Rank}
 use Rattle.machines.specs.Cut.{Cutting, find_cut, after_cut, all_places}
 use Rattle.machines.specs.Division as division
-use Rattle.machines.specs.Division.{State, with_term, divided, dividing, next}
+use Rattle.machines.specs.Division.{State, with_term, next_cut, next_division, next}
 use Rattle.machines.specs.Event.{Event, Cut, Zero}
 use Rattle.machines.specs.Journal.{Journal, Did, units_of}
 use Rattle.machines.specs.Past.{IsPastDivision, IsPastReduction}
@@ -26,22 +26,22 @@ use Rattle.machines.specs.Work.{Step, StoppedAt}
 use Rattle.machines.proofs.Cuts.{found_cut}
 use Rattle.machines.proofs.Places.{get_below}
 use Rattle.machines.proofs.Working.{step_of}
-use Rattle.poly.specs.declared.PolyError as poly
-use Rattle.poly.specs.declared.PolyError.TheVariants as poly_error
+use Rattle.ring_laws.specs.declared.ArithmeticError.{ArithmeticError}
+use Rattle.ring_laws.specs.declared.ArithmeticError.TheVariants as arithmetic_error
 use Rattle.journal.specs.declared.MeterError as meter
 use Rattle.journal.specs.declared.MeterError.TheVariants as meter_error
 use Rattle.divide.specs.declared.EngineError.{EngineError}
 use Rattle.divide.specs.declared.EngineError.TheVariants.{Wide, Budget}
-use Rattle.divide.specs.Errors.{of_poly, of_meter}
+use Rattle.divide.specs.Errors.{of_arithmetic, of_meter}
 
 pub no_true : false ≡ true → ⊥
 no_true e = cc
 
-pub wide_of : {X : Type 0} (r : Result X EngineError) (e : poly.PolyError)
-    → IsErrAnd r (λ f. f ≡ of_poly e) → IsErrOf r Wide → e ≡ poly_error.Wide
+pub wide_of : {X : Type 0} (r : Result X EngineError) (e : ArithmeticError)
+    → IsErrAnd r (λ f. f ≡ of_arithmetic e) → IsErrOf r Wide → e ≡ arithmetic_error.Wide
 wide_of (Ok x) e h w = absurd h
-wide_of (Err y) poly_error.Wide h w = refl
-wide_of (Err y) poly_error.Memory h w = absurd (let z : ⊥ = cc in z)
+wide_of (Err y) arithmetic_error.Wide h w = refl
+wide_of (Err y) arithmetic_error.Memory h w = absurd (let z : ⊥ = cc in z)
 
 pub budget_of : {X : Type 0} (r : Result X EngineError) (e : meter.MeterError)
     → IsErrAnd r (λ f. f ≡ of_meter e) → IsErrOf r Budget → e ≡ meter_error.Budget
@@ -88,7 +88,7 @@ module _ (S : Scalars) (O : Rank) (gs : List (Terms S.Elem)) (b : Bool) (p : Ter
   F = field S
 
   pub away_ended : b ≡ true → HasEnded (next F O gs) (state b p qs)
-  unfolding next dividing
+  unfolding next next_division
   away_ended e = ap (λ z. next F O gs (state z p qs)) e
 
   module _ (open_ : b ≡ false) where
@@ -98,8 +98,8 @@ module _ (S : Scalars) (O : Rank) (gs : List (Terms S.Elem)) (b : Bool) (p : Ter
 
     cut_comes : (c : Cutting S.Elem) → find_cut F all_places gs p ≡ Some c → next F O gs (left p qs)
         ≡ Some (Cut c.place, left (after_cut F O p c) (with_term c.place (c.by, c.number) qs))
-    unfolding next dividing divided
-    cut_comes c e = ap (divided F O gs p qs) e
+    unfolding next next_division next_cut
+    cut_comes c e = ap (next_cut F O gs p qs) e
 
     pub cut_step : (c : Cutting S.Elem) (q : Terms S.Elem) (news : List (Terms S.Elem)) (n : ℕ)
         (before after : Journal) → find_cut F all_places gs p ≡ Some c → n ≡ c.place
@@ -139,7 +139,7 @@ module _ (S : Scalars) (O : Rank) (gs : List (Terms S.Elem)) (b : Bool) (p : Ter
       Zero,
       record { current = None; cofactors = qs },
     )
-    unfolding next dividing divided find_cut
+    unfolding next next_division next_cut find_cut
     zero_comes e = ap (λ (q : Terms S.Elem). next F O gs (left q qs)) e
 
     pub zero_step : (before after : Journal) → p ≡ [] → after ≡ record {
@@ -152,9 +152,9 @@ module _ (S : Scalars) (O : Rank) (gs : List (Terms S.Elem)) (b : Bool) (p : Ter
 
     nothing_comes : (p : Terms S.Elem) → p ≢ [] → find_cut F all_places gs p ≡ None
         → next F O gs (left p qs) ≡ None
-    unfolding next dividing divided
+    unfolding next next_division next_cut
     nothing_comes [] n e = absurd (n refl)
-    nothing_comes (t ∷ p) n e = ap (divided F O gs (t ∷ p) qs) e
+    nothing_comes (t ∷ p) n e = ap (next_cut F O gs (t ∷ p) qs) e
 
     pub nothing_left : p ≢ [] → find_cut F all_places gs p ≡ None
         → HasEnded (next F O gs) (state b p qs)
@@ -163,7 +163,7 @@ module _ (S : Scalars) (O : Rank) (gs : List (Terms S.Elem)) (b : Bool) (p : Ter
 -- ---- the first state
 pub begun_is : {A : Type 0} (gs : List (Terms A)) (b : Bool) (p q : Terms A) (qs : List (Terms A))
     (n : ℕ) → b ≡ false → q ≡ p → qs ≡ replicate n [] → n ≡ length gs
-    → state b q qs ≡ division.begun gs p
+    → state b q qs ≡ division.initial_state gs p
 begun_is {A} gs b p q qs n open_ same none count = state_open b q qs open_
     ∙ ap₂ left same (none ∙ ap (λ k. replicate k []) count ∙ sym (nothing gs))
   where

@@ -15,9 +15,9 @@ use Rattle.polynomials.specs.Terms.{Terms, Same, combination}
 use Rattle.polynomials.specs.Order.{Rank, IsMonomialOrder}
 use Rattle.polynomials.specs.Polynomial.{IsPolynomial}
 use Rattle.machines.specs.Basis.{AtPlaces}
-use Rattle.machines.specs.Division.{State, next, begun, rest}
+use Rattle.machines.specs.Division.{State, next, initial_state, rest}
 use Rattle.machines.specs.Journal.{Entry}
-use Rattle.machines.specs.Work.{Finished}
+use Rattle.machines.specs.Work.{WorkToEnd}
 use Rattle.machines.proofs.Cofactors.{cofactors_fall}
 use Rattle.machines.proofs.Dividing.{division_sum}
 use Rattle.divide.proofs.Divided.{state}
@@ -46,7 +46,8 @@ module _ (S : Scalars) (r : IsRing S.arithmetic) (f : IsFieldOf S.arithmetic S.i
     (m : ℕ)
     (gs : List (Terms S.Elem)) (p : Terms S.Elem) (s : State S.Elem) (before after : List Entry)
     (hg : AtPlaces (λ g. IsPolynomial S.arithmetic O m g × (g ≢ [])) gs)
-    (hp : IsPolynomial S.arithmetic O m p) (fin : Finished (next (field S) O gs) (begun gs p)
+    (hp : IsPolynomial S.arithmetic O m p) (fin : WorkToEnd (next (field S) O gs)
+    (initial_state gs p)
     before after s) where
   abbrev K : Field S.Elem
   K = field_of (field S) (is_field S r f z)

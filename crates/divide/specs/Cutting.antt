@@ -10,7 +10,7 @@ use Rattle.polynomials.specs.Terms.{Terms}
 use Rattle.polynomials.specs.Order.{Rank}
 use Rattle.polynomials.specs.Exponent.{over}
 use Rattle.machines.specs.Cut.{Cutting, lead_of, lead_number, divides, find_cut, all_places, after_cut}
-use Rattle.divide.specs.declared.current.Place.{Place}
+use Rattle.divide.specs.declared.current.CutPlace.{CutPlace}
 
 module _ (S : Scalars) where
   abbrev pub term_at : Terms S.Elem → ℕ → List ℕ × S.Elem
@@ -31,7 +31,7 @@ module _ (S : Scalars) where
     pub divided : divides (lead_of (get_or gs k [])) (term_at p i).0 ≡ true
     pub is : find_cut (field S) all_places gs p ≡ Some (cutting_of k (term_at p i) (get_or gs k []))
 
-  abbrev pub FindsTerm : List (List ℕ) → Terms S.Elem → Option Place → Type 0
+  abbrev pub FindsTerm : List (List ℕ) → Terms S.Elem → Option CutPlace → Type 0
   FindsTerm ls p o = (gs : List (Terms S.Elem)) → ls ≡ map lead_of gs
       → MatchOption o (find_cut (field S) all_places gs p ≡ None)
       (λ a. FoundAt gs p a.term a.element)

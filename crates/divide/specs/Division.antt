@@ -1,6 +1,6 @@
 -- Divisions as the program makes them.
 --   state_of s             a division on its way, as a state of the machine
---   Fits o m n s           what is left has the order o and m variables, there are n cofactors, and nothing is left of what is put away
+--   FitsDivision o m n s           what is left has the order o and m variables, there are n cofactors, and nothing is left of what is put away
 --   order_of s, arity_of s     of what is left
 --   IsBegun p n s          nothing is done of a division of p by n elements
 --   division_of p gs       the division of p by the gs, as a machine
@@ -17,7 +17,7 @@ use Rattle.machines.specs.Journal.{Journal}
 use Rattle.machines.specs.Machine.{Machine}
 use Rattle.machines.specs.Machines as machines
 use Rattle.machines.specs.Past.{IsPastDivision}
-use Rattle.machines.specs.Work.{Turned, StoppedAt}
+use Rattle.machines.specs.Work.{StepOrEnd, StoppedAt}
 use Rattle.ring_laws.specs.declared.Ring as Ring
 use Rattle.monos.specs.declared.order.Order as Order
 use Rattle.poly.specs.declared.Poly.{Poly}
@@ -35,7 +35,7 @@ module _ {K O : Type 0} {g : Ring.Ghosts K} {h : PartialEq.Ghosts K} {k : Order.
     cofactors = map (λ v. terms_of g.meaning v.items) s.cofactors.items;
   }
 
-  pub record Fits (o : O) (m n : ℕ) (s : Dividing K O g h k l) : Type 0 where
+  pub record FitsDivision (o : O) (m n : ℕ) (s : Dividing K O g h k l) : Type 0 where
     pub order : s.current.rest.order ≡ o
     pub arity : s.current.rest.arity ≡ m
     pub count : length s.cofactors.items ≡ n
@@ -66,7 +66,7 @@ module _ {K O : Type 0} {g : Ring.Ghosts K} {h : PartialEq.Ghosts K} {k : Order.
   abbrev pub IsNext : List (Poly K O g h k l) → (s t : Dividing K O g h k l)
       → (before after : Journal) → Bool → Type 0
   IsNext gs s t before after b =
-      Turned (division.next (field g.scalars) (k.order s.current.rest.order) (terms_each gs))
+      StepOrEnd (division.next (field g.scalars) (k.order s.current.rest.order) (terms_each gs))
       (state_of s) (state_of t) before after b
 
   abbrev pub IsPastNext : List (Poly K O g h k l) → Dividing K O g h k l → Type 0

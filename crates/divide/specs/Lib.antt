@@ -1,3 +1,4 @@
+pub mod Limits
 pub mod Errors
 pub mod Outcomes
 pub mod Cutting

@@ -1,5 +1,5 @@
 //! The current polynomial of a division.
-ghost use Rattle.std.specs.Prelude.{◌≡◌, ◌≢◌, ◌<◌, ◌≤◌, ◌^◌, ℕ, List, [], ◌++◌, true, length, map, take, drop, position, All, IfOk, OnOk, IfSome, IsErrOf, IsTrue, ◌↔◌};
+ghost use Rattle.std.specs.Prelude.{◌≡◌, ◌≢◌, ◌<◌, ◌≤◌, ℕ, List, [], ◌++◌, true, length, map, take, drop, position, All, IfOk, OnOk, IfSome, IsErrOf, IsTrue, ◌↔◌};
 ghost use Rattle.numbers.specs.Scalars.{field};
 ghost use Rattle.polynomials.specs.Polynomial.{IsPolynomial};
 ghost use Rattle.machines.specs.Cut.{lead_of, divides};
@@ -7,11 +7,12 @@ ghost use Rattle.machines.specs.Past.{IsPastCut, IsPastReduction};
 ghost use Rattle.poly.specs.Seen.{terms_in, terms_each};
 ghost use Rattle.divide.specs.Current.{done_of, left_of, AreUndivided, IsCurrent, IsLike, AreDivisors, IsNextCut, CutsFirst};
 ghost use Rattle.divide.specs.Cutting.{term_at, cutting_of, FindsTerm, Cuts};
+ghost use Rattle.divide.specs.Limits.{list_limit};
 
 use monos::{Mono, Order};
-use poly::{Poly, PolyError, Term};
-use ring_laws::{Field, Ring};
-use std::alloc::Global;
+use poly::{Poly, Term};
+use ring_laws::{ArithmeticError, Field, Ring};
+use std::alloc::{AllocError, Global};
 use std::mem;
 
 /// What is left of a polynomial on its way through a division: its first terms, which no lead divides, and the others.
@@ -30,7 +31,7 @@ pub struct Cut<K: Ring> {
 
 /// The place of a term, and of an element whose lead divides it.
 #[derive(Clone, Copy, Debug, PartialEq, Eq)]
-struct Place {
+struct CutPlace {
     term: usize,
     element: usize,
 }
@@ -50,13 +51,12 @@ impl<K: Ring, O: Order> Current<K, O> {
     }
 
     /// What is left.
-    pub fn into_poly(self) -> Result<Poly<K, O>, PolyError>
+    pub fn into_poly(self) -> Result<Poly<K, O>, AllocError>
         requires falling { IsPolynomial K.scalars.arithmetic (O.order self.rest.order)
             self.rest.arity (left_of self) }
         ensures terms { IfOk result (λ p. terms_in p ≡ left_of self) }
         ensures order { IfOk result (λ p. p.order ≡ self.rest.order) }
         ensures arity { IfOk result (λ p. p.arity ≡ self.rest.arity) }
-        ensures narrow { ¬ IsErrOf result PolyError.Wide }
     {
         let (order, arity) = (self.rest.order(), self.rest.arity());
         let mut terms = self.done;
@@ -72,13 +72,12 @@ impl<K: Ring, O: Order> Current<K, O> {
     }
 
     /// Puts so many of the other terms behind those that are done.
-    fn finish(&mut self, alloc: Global, count: usize) -> Result<(), PolyError>
+    fn finish(&mut self, alloc: Global, count: usize) -> Result<(), AllocError>
         requires { count ≤ length (terms_in self.old.rest) }
         ensures done { OnOk result
             (done_of self.new ≡ done_of self.old ++ take count (terms_in self.old.rest)) }
         ensures rest { OnOk result (terms_in self.new.rest ≡ drop count (terms_in self.old.rest)) }
         ensures like { OnOk result (IsLike self.old self.new) }
-        ensures narrow { ¬ IsErrOf result PolyError.Wide }
     {
         if count == 0 {
             return Ok(());
@@ -101,15 +100,15 @@ impl<K: Field, O: Order> Current<K, O> {
         alloc: Global,
         list: &[Poly<K, O>],
         leads: &[Mono],
-    ) -> Result<Option<Cut<K>>, PolyError>
+    ) -> Result<Option<Cut<K>>, ArithmeticError>
         requires divisors { AreDivisors self.old.rest.order self.old.rest.arity list.now }
-        requires few { length list.now ≤ 2 ^ 31 }
+        requires few { length list.now ≤ list_limit }
         requires leads { leads.now ≡ map lead_of (terms_each list.now) }
         requires current { IsCurrent leads.now self.old }
         ensures ok { IfOk result (IsNextCut list.now self.old self.new) }
         ensures current { IfOk result (λ _. IsCurrent leads.now self.new) }
         ensures like { IfOk result (λ _. IsLike self.old self.new) }
-        ensures wide { IsErrOf result PolyError.Wide
+        ensures wide { IsErrOf result ArithmeticError.Wide
             → IsPastReduction K.scalars (field K.scalars) (terms_each list.now) (left_of self.old) }
     {
         let Some(place) = self.find(leads) else {
@@ -124,7 +123,7 @@ impl<K: Field, O: Order> Current<K, O> {
     }
 
     /// The first of the terms that aren't done that a lead divides, with the first lead that does.
-    fn find(&self, leads: &[Mono]) -> Option<Place>
+    fn find(&self, leads: &[Mono]) -> Option<CutPlace>
         requires { All (λ d. length d ≡ self.now.rest.arity) leads.now }
         ensures found { FindsTerm K.scalars leads.now (terms_in self.now.rest) result }
         ensures before { IfSome result (λ a.
@@ -132,7 +131,7 @@ impl<K: Field, O: Order> Current<K, O> {
     {
         for (term, found) in self.rest.terms().iter().enumerate() {
             if let Some(element) = first_divisor(&found.mono, leads) {
-                return Some(Place { term, element });
+                return Some(CutPlace { term, element });
             }
         }
         None
@@ -140,7 +139,7 @@ impl<K: Field, O: Order> Current<K, O> {
 
     /// Cancels the first term that isn't done by a polynomial whose lead divides it, and gives the factor.
     /// `Wide` only where the weight of that is past.
-    fn cancel_first(&mut self, alloc: Global, g: &Poly<K, O>) -> Result<Term<K>, PolyError>
+    fn cancel_first(&mut self, alloc: Global, g: &Poly<K, O>) -> Result<Term<K>, ArithmeticError>
         requires order { g.now.order ≡ self.old.rest.order }
         requires arity { g.now.arity ≡ self.old.rest.arity }
         requires nonzero { terms_in g.now ≢ [] }
@@ -154,7 +153,7 @@ impl<K: Field, O: Order> Current<K, O> {
             (O.order self.new.rest.order) self.new.rest.arity (left_of self.new)) }
         ensures done { IfOk result (λ _. self.new.done ≡ self.old.done) }
         ensures like { IfOk result (λ _. IsLike self.old self.new) }
-        ensures wide { IsErrOf result PolyError.Wide
+        ensures wide { IsErrOf result ArithmeticError.Wide
             → IsPastCut K.scalars (field K.scalars) (left_of self.old) (cutting_of K.scalars 0
             (term_at K.scalars (terms_in self.old.rest) 0) (terms_in g.now)) }
     {
@@ -173,7 +172,7 @@ pub fn cancel<K: Field, O: Order>(
     p: Poly<K, O>,
     at: usize,
     g: &Poly<K, O>,
-) -> Result<(Poly<K, O>, Term<K>), PolyError>
+) -> Result<(Poly<K, O>, Term<K>), ArithmeticError>
     requires order { g.now.order ≡ p.order }
     requires arity { g.now.arity ≡ p.arity }
     requires nonzero { terms_in g.now ≢ [] }
@@ -185,7 +184,7 @@ pub fn cancel<K: Field, O: Order>(
     ensures cutting { IfOk result (λ c. Cuts K.scalars (O.order p.order) (terms_in p)
         (term_at K.scalars (terms_in p) at) (terms_in g.now)
         c.1.mono (K.meaning c.1.coef) (terms_in c.0)) }
-    ensures wide { IsErrOf result PolyError.Wide
+    ensures wide { IsErrOf result ArithmeticError.Wide
         → IsPastCut K.scalars (field K.scalars) (terms_in p)
         (cutting_of K.scalars 0 (term_at K.scalars (terms_in p) at) (terms_in g.now)) }
 {
@@ -194,10 +193,7 @@ pub fn cancel<K: Field, O: Order>(
         unreachable!()
     };
     let coef = term.coef.div(&lead.coef)?;
-    let mono = match term.mono.quotient(alloc, &lead.mono) {
-        Ok(mono) => mono,
-        Err(_) => return Err(PolyError::Memory),
-    };
+    let mono = term.mono.quotient(alloc, &lead.mono)?;
     let factor = Term { mono, coef };
     let poly = p.sub_multiple(alloc, &factor, g)?;
     Ok((poly, factor))

@@ -1,5 +1,5 @@
 //! Division by a list, with cofactors.
-ghost use Rattle.std.specs.Prelude.{◌≡◌, ◌≢◌, ◌≤◌, ◌^◌, ℕ, List, [], ◌++◌, false, length, map, All, IfOk, OnErr, IsErrOf};
+ghost use Rattle.std.specs.Prelude.{◌≡◌, ◌≢◌, ◌≤◌, ℕ, List, [], ◌++◌, false, length, map, All, IfOk, OnErr, IsErrOf};
 ghost use Rattle.polynomials.specs.Polynomial.{IsPolynomial};
 ghost use Rattle.polynomials.specs.Terms.{Same, combination};
 ghost use Rattle.machines.specs.Basis.{AtPlaces};
@@ -10,14 +10,15 @@ ghost use Rattle.poly.specs.Seen.{terms_in, terms_each};
 ghost use Rattle.poly.specs.View.{terms_of};
 ghost use Rattle.divide.specs.Current.{AreDivisors, IsCurrent};
 ghost use Rattle.divide.specs.Outcomes.{outcome_of};
-ghost use Rattle.divide.specs.Division.{order_of, arity_of, Fits, IsBegun, IsNext, IsPastNext, IsStopped, division_of, HasCofactors};
+ghost use Rattle.divide.specs.Division.{order_of, arity_of, FitsDivision, IsBegun, IsNext, IsPastNext, IsStopped, division_of, HasCofactors};
+ghost use Rattle.divide.specs.Limits.{list_limit};
 
 use crate::{Current, Cut, EngineError};
 use journal::{Event, Meter};
 use monos::{Mono, Order};
-use poly::{Poly, PolyError, Term};
+use poly::{Poly, Term};
 use ring_laws::{Field, Ring};
-use std::alloc::Global;
+use std::alloc::{AllocError, Global};
 
 /// A division on its way: what is left, whether that was 0 and is put away, and for each element the terms of its cofactor so far.
 #[derive(Drop)]
@@ -43,7 +44,7 @@ pub fn divide<K: Field, O: Order>(
     meter: &mut Meter,
 ) -> Result<Division<K, O>, EngineError>
     requires divisors { AreDivisors p.now.order p.now.arity list.now }
-    requires few { length list.now ≤ 2 ^ 31 }
+    requires few { length list.now ≤ list_limit }
     ensures ran { Ran (division_of p.now list.now) (HasCofactors p.now.order p.now.arity)
         meter.old meter.new (outcome_of result) }
     ensures sum { IfOk result (λ d. Same K.scalars.arithmetic (terms_in p.now)
@@ -67,10 +68,9 @@ pub fn divide<K: Field, O: Order>(
 pub fn leads_of<K: Ring, O: Order>(
     alloc: Global,
     list: &[Poly<K, O>],
-) -> Result<Vec<Mono>, PolyError>
+) -> Result<Vec<Mono>, AllocError>
     requires { All (λ g. terms_in g ≢ []) list.now }
     ensures leads { IfOk result (λ leads. leads.items ≡ map lead_of (terms_each list.now)) }
-    ensures narrow { ¬ IsErrOf result PolyError.Wide }
 {
     let mut leads = Vec::with_capacity(alloc, list.len())?;
     for g in list {
@@ -80,18 +80,14 @@ pub fn leads_of<K: Ring, O: Order>(
 }
 
 /// A copy of the lead.
-pub fn lead_copy<K: Ring, O: Order>(alloc: Global, g: &Poly<K, O>) -> Result<Mono, PolyError>
+pub fn lead_copy<K: Ring, O: Order>(alloc: Global, g: &Poly<K, O>) -> Result<Mono, AllocError>
     requires { terms_in g.now ≢ [] }
     ensures lead { IfOk result (λ lead. lead ≡ lead_of (terms_in g.now)) }
-    ensures narrow { ¬ IsErrOf result PolyError.Wide }
 {
     let Some(lead) = g.terms().first() else {
         unreachable!()
     };
-    match lead.mono.copy(alloc) {
-        Ok(mono) => Ok(mono),
-        Err(_) => Err(PolyError::Memory),
-    }
+    lead.mono.copy(alloc)
 }
 
 /// A division of which nothing is done yet.
@@ -99,11 +95,10 @@ fn first_state<K: Ring, O: Order>(
     alloc: Global,
     p: &Poly<K, O>,
     count: usize,
-) -> Result<Dividing<K, O>, PolyError>
+) -> Result<Dividing<K, O>, AllocError>
     ensures ok { IfOk result (λ s. IsBegun p.now count s) }
-    ensures fits { IfOk result (Fits p.now.order p.now.arity count) }
+    ensures fits { IfOk result (FitsDivision p.now.order p.now.arity count) }
     ensures current { IfOk result (λ s. (ls : List (List ℕ)) → IsCurrent ls s.current) }
-    ensures narrow { ¬ IsErrOf result PolyError.Wide }
 {
     let mut cofactors = Vec::with_capacity(alloc, count)?;
     for _ in 0..count {
@@ -126,13 +121,14 @@ fn step<K: Field, O: Order>(
     meter: &mut Meter,
 ) -> Result<bool, EngineError>
     requires divisors { AreDivisors (order_of state.old) (arity_of state.old) list.now }
-    requires few { length list.now ≤ 2 ^ 31 }
+    requires few { length list.now ≤ list_limit }
     requires leads { leads.now ≡ map lead_of (terms_each list.now) }
-    requires fits { Fits (order_of state.old) (arity_of state.old) (length list.now) state.old }
+    requires fits { FitsDivision (order_of state.old) (arity_of state.old)
+        (length list.now) state.old }
     requires current { IsCurrent leads.now state.old.current }
     ensures ok { IfOk result (λ b. IsNext list.now state.old state.new meter.old meter.new b) }
     ensures fits { IfOk result (λ _.
-        Fits (order_of state.old) (arity_of state.old) (length list.now) state.new) }
+        FitsDivision (order_of state.old) (arity_of state.old) (length list.now) state.new) }
     ensures current { IfOk result (λ _. IsCurrent leads.now state.new.current) }
     ensures err { OnErr result (meter.new ≡ meter.old) }
     ensures wide { IsErrOf result EngineError.Wide → IsPastNext list.now state.old }
@@ -164,14 +160,13 @@ fn polynomials_of<K: Ring, O: Order>(
     order: O,
     arity: usize,
     lists: Vec<Vec<Term<K>>>,
-) -> Result<Vec<Poly<K, O>>, PolyError>
+) -> Result<Vec<Poly<K, O>>, AllocError>
     requires few { arity ≤ most_variables }
     requires falling { All (λ v. IsPolynomial K.scalars.arithmetic (O.order order) arity
         (terms_of K.meaning v.items)) lists.items }
     ensures terms { IfOk result (λ ps.
         terms_each ps.items ≡ map (λ v. terms_of K.meaning v.items) lists.items) }
     ensures like { IfOk result (λ ps. All (λ q. (q.order ≡ order) × (q.arity ≡ arity)) ps.items) }
-    ensures narrow { ¬ IsErrOf result PolyError.Wide }
 {
     let mut out = Vec::with_capacity(alloc, lists.len())?;
     for terms in lists {

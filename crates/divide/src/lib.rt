@@ -7,8 +7,8 @@ mod dividing;
 pub use current::{Current, Cut, cancel};
 pub use dividing::{Division, divide, lead_copy, leads_of};
 use journal::MeterError;
-use poly::PolyError;
-use std::alloc::AllocFailed;
+use ring_laws::ArithmeticError;
+use std::alloc::{AllocError, AllocFailed};
 use thiserror::Error;
 
 /// Why a computation with ideals gave no answer.
@@ -23,16 +23,16 @@ pub enum EngineError {
     Memory,
 }
 
-impl From<PolyError> for EngineError {
+impl From<ArithmeticError> for EngineError {
     ghost use Rattle.std.specs.Prelude.{◌≡◌};
-    ghost use Rattle.divide.specs.Errors.{of_poly};
+    ghost use Rattle.divide.specs.Errors.{of_arithmetic};
 
-    ghost from_gives = { λ e f. f ≡ of_poly e };
+    ghost from_gives = { λ e f. f ≡ of_arithmetic e };
 
-    fn from(error: PolyError) -> Self {
+    fn from(error: ArithmeticError) -> Self {
         match error {
-            PolyError::Wide => EngineError::Wide,
-            PolyError::Memory => EngineError::Memory,
+            ArithmeticError::Wide => EngineError::Wide,
+            ArithmeticError::Memory => EngineError::Memory,
         }
     }
 }
@@ -48,6 +48,17 @@ impl From<MeterError> for EngineError {
             MeterError::Budget => EngineError::Budget,
             MeterError::Memory => EngineError::Memory,
         }
+    }
+}
+
+impl From<AllocError> for EngineError {
+    ghost use Rattle.std.specs.Prelude.{◌≡◌};
+    ghost use Rattle.divide.specs.declared.EngineError.TheVariants.{Memory};
+
+    ghost from_gives = { λ _ e. e ≡ Memory };
+
+    fn from(_: AllocError) -> Self {
+        EngineError::Memory
     }
 }
 

@@ -27,12 +27,12 @@ use Rattle.poly.specs.Operations.{AreDistinct}
 use Rattle.poly.specs.Seen.{terms_in}
 use Rattle.poly.specs.View.{terms_of}
 use Rattle.poly.proofs.Steps.{all_arity}
-use Rattle.turns.specs.Expo.{normalized, next_images, zero_images}
+use Rattle.turns.specs.Expo.{with_normal_keys, next_images, zero_images}
 use Rattle.turns.specs.Turns.{width}
 use Rattle.turns.proofs.Operations.{zero-value}
 use Rattle.expo.specs.declared.exponential.Expo.{Expo}
 use Rattle.expo.specs.Images.{LikeIn}
-use Rattle.expo.specs.Operations.{sum_of, turned, at_next, at_zero}
+use Rattle.expo.specs.Operations.{sum_of, backward_of, at_next, at_zero}
 use Rattle.expo.specs.View.{base_of, value_of}
 use Rattle.expo.proofs.Distinct.{pairs_of, differ_falls, differ_turned}
 use Rattle.expo.proofs.ImageLists.{like_count, zero_count}
@@ -53,18 +53,20 @@ module _ (bs : List ℕ) (w : ℕ) (front : width (length bs) 0 ≤ w) where
   long_terms ts a = All-weaker (λ (t : Term Frac). length t.mono ≡ w) (λ t. width (length bs) 0
       ≤ length t.mono) (λ t e. omega (arith, e, front)) ts (all_arity fraction_of w ts a)
 
-  module _ (p made : Terms Fraction) (a : Arity w p) (is : made ≡ normalized (length bs) p) where
+  module _ (p made : Terms Fraction) (a : Arity w p) (is : made ≡ with_normal_keys (length bs)
+      p) where
     own : Arity (width (length bs) m) p
     own = subst (λ n. Arity n p) back a
 
     pub normal_arity : Arity w made
-    normal_arity = subst (Arity w) (sym is) (subst (λ n. Arity n (normalized (length bs) p))
+    normal_arity = subst (Arity w) (sym is) (subst (λ n. Arity n (with_normal_keys (length bs) p))
         (sym back) (arity-normalized (length bs) m p own))
 
     pub normal_made : (q : Terms Fraction) (k : ℕ) → k ≡ w → IsPolynomial ℚ grevlex k q
-        → Same ℚ q made → IsNormalList (length bs) (normalized (length bs) p) q
+        → Same ℚ q made → IsNormalList (length bs) (with_normal_keys (length bs) p) q
     normal_made q k e h s = normal_list (length bs) (width (length bs) m) q
-        (normalized (length bs) p) (arity-normalized (length bs) m p own) (normal_stay bs m p own)
+        (with_normal_keys (length bs) p) (arity-normalized (length bs) m p own)
+        (normal_stay bs m p own)
         (subst (λ n. IsPolynomial ℚ grevlex n q) (e ∙ back) h) (subst (Same ℚ q) is s)
 
 module _ (e : Expo) where
@@ -80,21 +82,22 @@ module _ (e : Expo) where
   own_stay : AllStay r (terms_in e.body)
   own_stay = kept_stay r (terms_in e.body) e.normal
 
-  module _ (made : Terms Fraction) (is : made ≡ turned e) where
+  module _ (made : Terms Fraction) (is : made ≡ backward_of e) where
     pub turned_arity : Arity e.body.arity made
-    turned_arity = subst (Arity e.body.arity) (sym is) (subst (λ n. Arity n (turned e))
+    turned_arity = subst (Arity e.body.arity) (sym is) (subst (λ n. Arity n (backward_of e))
         (sym e.arity) (arity-turned_back r e.vars (terms_in e.body) (expo_arity e)))
 
     pub turned_made : (q : Terms Fraction) (k : ℕ) → k ≡ e.body.arity → IsPolynomial ℚ grevlex k q
-        → Same ℚ q made → IsNormalList r (turned e) q
+        → Same ℚ q made → IsNormalList r (backward_of e) q
     turned_made q k f h s =
-        normal_list r w q (turned e) (arity-turned_back r e.vars (terms_in e.body) (expo_arity e))
+        normal_list r w q (backward_of e) (arity-turned_back r e.vars (terms_in e.body)
+        (expo_arity e))
         (turned_stay (base_of e) e.vars (terms_in e.body) (expo_arity e) own_stay)
         (subst (λ n. IsPolynomial ℚ grevlex n q) (f ∙ e.arity) h) (subst (Same ℚ q) is s)
 
-  pub turned_distinct : (ts : List (Term Frac)) → terms_of fraction_of ts ≡ turned e
+  pub turned_distinct : (ts : List (Term Frac)) → terms_of fraction_of ts ≡ backward_of e
       → AreDistinct ts
-  turned_distinct ts is = pairs_of ts (turned e) is (differ_turned (base_of e) e.vars
+  turned_distinct ts is = pairs_of ts (backward_of e) is (differ_turned (base_of e) e.vars
       (terms_in e.body) (expo_arity e) (differ_falls grevlex grevlex_order (terms_in e.body)
       e.body.polynomial.falls))
 
@@ -117,7 +120,7 @@ module _ (e : Expo) where
       normal_list r w q (sum_of e f) (each-append (λ t. length t.0 ≡ w) (terms_in e.body)
       (terms_in f.body) (expo_arity e) (other_arity e f b v))
       (each-append (λ t. Stays r t.0) (terms_in e.body) (terms_in f.body) own_stay
-      (kept_stay r (terms_in f.body) (subst (λ l. normalized (length l) (terms_in f.body)
+      (kept_stay r (terms_in f.body) (subst (λ l. with_normal_keys (length l) (terms_in f.body)
       ≡ terms_in f.body) (sym b) f.normal)))
       (subst (λ n. IsPolynomial ℚ grevlex n q) (g ∙ e.arity) h) s
 

@@ -15,18 +15,18 @@ use Rattle.polynomials.specs.Order.{Rank, IsMonomialOrder, compare}
 use Rattle.polynomials.specs.Polynomial.{Arity, Falls}
 use Rattle.polynomials.specs.Terms.{Terms}
 use Rattle.polynomials.proofs.Order.{less_irrefl}
-use Rattle.exponentials.specs.Base.{Fits}
+use Rattle.exponentials.specs.Base.{SameLength}
 use Rattle.exponentials.specs.Keys.{Key, key_of, top}
-use Rattle.exponentials.specs.Powers.{number, signed}
+use Rattle.exponentials.specs.Powers.{number, negate_if}
 use Rattle.frac128.specs.declared.fraction.Frac.{Frac}
 use Rattle.frac128.specs.FracMeaning.{fraction_of}
 use Rattle.poly.specs.declared.Term.{Term}
 use Rattle.poly.specs.View.{terms_of}
-use Rattle.turns.specs.Expo.{tail, with_key, turned_back, power_key, up_part, down_part, power_terms}
+use Rattle.turns.specs.Expo.{tail, with_key, backward_terms, power_key, up_part, down_part, power_terms}
 use Rattle.turns.specs.Turns.{width}
 use Rattle.turns.proofs.Operations.{key_with, tail_with}
 use Rattle.exponentials.proofs.Units.{Room, room_long}
-use Rattle.expo.specs.Exponents.{turned_exponents}
+use Rattle.expo.specs.Exponents.{backward_exponents}
 
 abbrev pub Differ : {A : Type 0} → Terms A → Type 0
 Differ [] = Unit {0}
@@ -82,7 +82,7 @@ rejoined r (a ∷ b ∷ e) l =
     ∙ take-append-drop r e)
 
 pub turned_twice : (bs : List ℕ) (m : ℕ) (e : List ℕ) → length e ≡ width (length bs) m
-    → turned_exponents (length bs) (turned_exponents (length bs) e) ≡ e
+    → backward_exponents (length bs) (backward_exponents (length bs) e) ≡ e
 turned_twice bs m e l =
     let r = length bs in
     let x : Key = key_of r e in
@@ -92,17 +92,17 @@ turned_twice bs m e l =
     ∙ rejoined r e (omega arith)
 
 pub differ_turned : (bs : List ℕ) (m : ℕ) (p : Terms Fraction) → Arity (width (length bs) m) p
-    → Differ p → Differ (turned_back (length bs) p)
+    → Differ p → Differ (backward_terms (length bs) p)
 unfolding Each
 differ_turned bs m [] a d = tt
 differ_turned bs m (t ∷ p) a d = (apart t a.0 p a.1 d.0, differ_turned bs m p a.1 d.1)
   where
     apart : (t : List ℕ × Fraction) → length t.0 ≡ width (length bs) m → (p : Terms Fraction)
         → Arity (width (length bs) m) p → Each (λ u. t.0 ≢ u.0) p
-        → Each (λ u. turned_exponents (length bs) t.0 ≢ u.0) (turned_back (length bs) p)
+        → Each (λ u. backward_exponents (length bs) t.0 ≢ u.0) (backward_terms (length bs) p)
     apart t l [] a h = tt
     apart t l (u ∷ p) a h = (
-      (λ e. h.0 (sym (turned_twice bs m t.0 l) ∙ ap (turned_exponents (length bs)) e
+      (λ e. h.0 (sym (turned_twice bs m t.0 l) ∙ ap (backward_exponents (length bs)) e
           ∙ turned_twice bs m u.0 a.0)),
       apart t l p a.1 h.1,
     )
@@ -138,7 +138,7 @@ differ_push (u ∷ p) t d h = (
 )
 
 pub differ_other : (bs : List ℕ) {A : Type 0} (m : ℕ) (x y : Key) (q : ℕ → A) (c : A) (n : ℕ)
-    → Fits bs x.1 → Fits bs x.2 → Fits bs y.1 → Fits bs y.2 → x ≢ y
+    → SameLength bs x.1 → SameLength bs x.2 → SameLength bs y.1 → SameLength bs y.2 → x ≢ y
     → Differ (power_terms m x q 0 n ++ (with_key 0 y (replicate m 0), c) ∷ [])
 unfolding Each
 differ_other bs m x y q c n f g h k ne = differ_push (power_terms m x q 0 n)
@@ -190,7 +190,7 @@ same_parts (y ∷ d) (z ∷ e) f g = ap₂ ◌∷◌ (same_part y z (ap heads f)
     (same_parts d e (ap tails f) (ap tails g))
 
 pub keys_apart : (bs : List ℕ) (a b : Bool) (d e : List ℤ)
-    → signed a (number bs d) ≢ signed b (number bs e) → power_key a d ≢ power_key b e
+    → negate_if a (number bs d) ≢ negate_if b (number bs e) → power_key a d ≢ power_key b e
 keys_apart bs a b d e ne h =
-    ne (ap₂ (λ (n : Bool) l. signed n (number bs l)) (same_sign a b (ap (λ (k : Key). k.0) h))
+    ne (ap₂ (λ (n : Bool) l. negate_if n (number bs l)) (same_sign a b (ap (λ (k : Key). k.0) h))
     (same_parts d e (ap (λ (k : Key). k.1) h) (ap (λ (k : Key). k.2) h)))

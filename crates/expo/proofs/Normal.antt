@@ -14,14 +14,14 @@ use Rattle.polynomials.specs.Order.{Rank, compare}
 use Rattle.polynomials.specs.Polynomial.{Arity}
 use Rattle.polynomials.specs.Terms.{Terms}
 use Rattle.machines.specs.Collect.{place, insert, collect}
-use Rattle.exponentials.specs.Base.{Fits, Disjoint}
-use Rattle.exponentials.specs.Keys.{Key, IsNormalKey, key_of, left, normal_key, parity, top}
+use Rattle.exponentials.specs.Base.{SameLength, Disjoint}
+use Rattle.exponentials.specs.Keys.{Key, IsNormalKey, key_of, excess, normal_key, parity, top}
 use Rattle.exponentials.proofs.Units.{Room, room_long, normal_good}
-use Rattle.turns.specs.Expo.{tail, with_key, normalized, turned_back, turned_sign, power_key, up_part, down_part, power_terms}
+use Rattle.turns.specs.Expo.{tail, with_key, with_normal_keys, backward_terms, backward_sign, power_key, up_part, down_part, power_terms}
 use Rattle.turns.specs.Turns.{width, IsNormal}
 use Rattle.turns.proofs.Operations.{key_with, tail_with}
 use Rattle.turns.proofs.Lengths.{with-length, length-left}
-use Rattle.expo.specs.Exponents.{normal_exponents, turned_exponents}
+use Rattle.expo.specs.Exponents.{normal_exponents, backward_exponents}
 
 abbrev pub Stays : ℕ → List ℕ → Type 0
 Stays r e = normal_exponents r e ≡ e
@@ -37,12 +37,12 @@ abbrev others_of : {A : Type 0} → Terms A → Terms A
 others_of [] = []
 others_of (t ∷ p) = p
 
-pub kept_stay : {A : Type 0} (r : ℕ) (p : Terms A) → normalized r p ≡ p → AllStay r p
+pub kept_stay : {A : Type 0} (r : ℕ) (p : Terms A) → with_normal_keys r p ≡ p → AllStay r p
 unfolding Each
 kept_stay r [] e = tt
 kept_stay r (t ∷ p) e = (ap first_of e, kept_stay r p (ap others_of e))
 
-pub stay_kept : {A : Type 0} (r : ℕ) (p : Terms A) → AllStay r p → normalized r p ≡ p
+pub stay_kept : {A : Type 0} (r : ℕ) (p : Terms A) → AllStay r p → with_normal_keys r p ≡ p
 unfolding Each
 stay_kept r [] h = refl
 stay_kept r (t ∷ p) h = ap₂ (λ (e : List ℕ) q. (e, t.1) ∷ q) h.0 (stay_kept r p h.1)
@@ -57,8 +57,8 @@ less_none : (m n : ℕ) → (m ≡ 0) ⊎ (n ≡ 0) → m - n ≡ m
 less_none m n (inl h) = omega arith
 less_none m n (inr h) = omega arith
 
-left_stays : (bs u v : List ℕ) → Fits bs u → Fits bs v → Disjoint u v → left u v ≡ u
-unfolding left
+left_stays : (bs u v : List ℕ) → SameLength bs u → SameLength bs v → Disjoint u v → excess u v ≡ u
+unfolding excess
 left_stays [] [] v f g d = refl
 left_stays [] (m ∷ u) v f g d = absurd f
 left_stays (b ∷ bs) [] v f g d = absurd f
@@ -79,7 +79,7 @@ module _ (bs : List ℕ) where
   abbrev r : ℕ
   r = length bs
 
-  key_stays : (x : Key) → IsNormalKey bs x → (parity x.0, left x.1 x.2, left x.2 x.1) ≡ x
+  key_stays : (x : Key) → IsNormalKey bs x → (parity x.0, excess x.1 x.2, excess x.2 x.1) ≡ x
   key_stays x h =
       let p = parity_stays x.0 h.0 in
       let u = left_stays bs x.1 x.2 h.1 h.2 h.3 in
@@ -88,7 +88,7 @@ module _ (bs : List ℕ) where
 
   pub exponents_stay : (n : ℕ) (x : Key) (e : List ℕ) → IsNormalKey bs x → Stays r (with_key n x e)
   exponents_stay n x e h = ap₂ (with_key n)
-      (ap (λ (k : Key). (parity k.0, left k.1 k.2, left k.2 k.1)) (key_with bs n x e h.1 h.2)
+      (ap (λ (k : Key). (parity k.0, excess k.1 k.2, excess k.2 k.1)) (key_with bs n x e h.1 h.2)
       ∙ key_stays x h)
       (tail_with bs n x e h.1 h.2)
 
@@ -110,7 +110,7 @@ module _ (bs : List ℕ) where
   stay_normal m (t ∷ p) a h = (key_normal m t a.0 h.0, stay_normal m p a.1 h.1)
 
   pub normal_stay : {A : Type 0} (m : ℕ) (p : Terms A) → Arity (width r m) p
-      → AllStay r (normalized r p)
+      → AllStay r (with_normal_keys r p)
   unfolding Each
   normal_stay m [] a = tt
   normal_stay m (t ∷ p) a = (
@@ -119,7 +119,7 @@ module _ (bs : List ℕ) where
   )
 
   pub turned_stay : (m : ℕ) (p : Terms Fraction) → Arity (width r m) p → AllStay r p
-      → AllStay r (turned_back r p)
+      → AllStay r (backward_terms r p)
   unfolding Each
   turned_stay m [] a h = tt
   turned_stay m (t ∷ p) a h =
@@ -144,7 +144,8 @@ module _ (bs : List ℕ) where
   )
 
 -- ---- keys of powers
-pub fits_map : (f : ℤ → ℕ) (bs : List ℕ) (e : List ℤ) → length e ≡ length bs → Fits bs (map f e)
+pub fits_map : (f : ℤ → ℕ) (bs : List ℕ) (e : List ℤ) → length e ≡ length bs
+    → SameLength bs (map f e)
 fits_map f [] [] l = tt
 fits_map f [] (z ∷ e) l = absurd (omega arith)
 fits_map f (b ∷ bs) [] l = absurd (omega arith)
@@ -197,23 +198,24 @@ module _ (O : Rank) (P : List ℕ → Type 0) where
       go false ih = insert_each t (collect rationals O p) k.0 ih
 
 pub collect_stay : (O : Rank) (r : ℕ) (p : Terms Fraction) → AllStay r p
-    → normalized r (collect rationals O p) ≡ collect rationals O p
+    → with_normal_keys r (collect rationals O p) ≡ collect rationals O p
 collect_stay O r p h = stay_kept r (collect rationals O p) (collect_each O (Stays r) p h)
 
 -- ---- one term more
 pub normalized-push : {A : Type 0} (r : ℕ) (p : Terms A) (t : List ℕ × A)
-    → normalized r (p ++ t ∷ []) ≡ normalized r p ++ (normal_exponents r t.0, t.1) ∷ []
+    → with_normal_keys r (p ++ t ∷ []) ≡ with_normal_keys r p ++ (normal_exponents r t.0, t.1) ∷ []
 normalized-push r [] t = refl
 normalized-push r (u ∷ p) t = ap (λ q. (normal_exponents r u.0, u.1) ∷ q) (normalized-push r p t)
 
-pub turned-push : (r : ℕ) (p : Terms Fraction) (t : List ℕ × Fraction) → turned_back r (p ++ t ∷ [])
-    ≡ turned_back r p ++ (turned_exponents r t.0, turned_sign (top t.0) t.1) ∷ []
+pub turned-push : (r : ℕ) (p : Terms Fraction) (t : List ℕ × Fraction)
+    → backward_terms r (p ++ t ∷ [])
+    ≡ backward_terms r p ++ (backward_exponents r t.0, backward_sign (top t.0) t.1) ∷ []
 turned-push r [] t = refl
-turned-push r (u ∷ p) t = ap (λ q. (turned_exponents r u.0, turned_sign (top u.0) u.1) ∷ q)
+turned-push r (u ∷ p) t = ap (λ q. (backward_exponents r u.0, backward_sign (top u.0) u.1) ∷ q)
     (turned-push r p t)
 
 -- ---- the number of exponents
 pub normal-length : (r m : ℕ) (e : List ℕ) → length e ≡ width r m → length (normal_exponents r e)
     ≡ width r m
-normal-length r m e l = with-length r m e (λ d f. left d f) (λ d f. left f d) (length-left r)
+normal-length r m e l = with-length r m e (λ d f. excess d f) (λ d f. excess f d) (length-left r)
     (λ d f k j. length-left r f d j k) l (top e) (normal_key r e).0

@@ -20,7 +20,7 @@ use Rattle.numbers.proofs.RatioLaws.{mul-pos, reduce_value_is}
 use Rattle.numbers.proofs.SizeLaws.{fractions_bounded}
 use Rattle.vectors.proofs.FractionEigen.{times_bottom}
 use Rattle.exponentials.specs.Base.{Coprime, product}
-use Rattle.exponentials.specs.Powers.{number, signed}
+use Rattle.exponentials.specs.Powers.{number, negate_if}
 use Rattle.exponentials.proofs.Factoring.{disjoint-coprime}
 use Rattle.frac128.specs.declared.fraction.Frac.{Frac}
 use Rattle.frac128.specs.declared.fraction.FracError.{FracError}
@@ -94,20 +94,20 @@ module _ (bs : List ℕ) (c : Coprime bs) (e : List ℤ) where
   number_size : fraction_size (number bs e) ≡ ratio_size (ratio (pos above) below)
   number_size = ap fraction_size (sym over_number) ∙ ap ratio_size over_ratio
 
-  signed_size : (negative : Bool) → fraction_size (signed negative (number bs e)) ≡ fraction_size
+  signed_size : (negative : Bool) → fraction_size (negate_if negative (number bs e)) ≡ fraction_size
       (number bs e)
   signed_size true = fractions_bounded.neg_size (number bs e)
   signed_size false = refl
 
   pub number_past : (negative : Bool) → (2 ^ 127 ≤ above) ⊎ (2 ^ 127 ≤ below)
-      → IsPast (fraction_size (signed negative (number bs e)))
+      → IsPast (fraction_size (negate_if negative (number bs e)))
   number_past negative h = subst IsPast (sym (signed_size negative ∙ number_size)) (go h)
     where
       go : (2 ^ 127 ≤ above) ⊎ (2 ^ 127 ≤ below) → IsPast (ratio_size (ratio (pos above) below))
       go (inl h) = inl (omega arith)
       go (inr h) = inr (omega arith)
 
-  pub number_nonzero : (negative : Bool) → signed negative (number bs e) ≢ ℚ.zero
+  pub number_nonzero : (negative : Bool) → negate_if negative (number bs e) ≢ ℚ.zero
   number_nonzero negative z =
       let none : above ≡ 0 = ap (λ (s : Size). s.size) (sym (signed_size negative ∙ number_size)
       ∙ ap fraction_size z ∙ fractions_bounded.zero_size) in
@@ -145,7 +145,7 @@ both_few (pos n ∷ e) h k = (h.0, both_few e h.1 k.1)
 both_few (negsuc n ∷ e) h k = (k.0, both_few e h.1 k.1)
 
 pub exponents_few : (bs : List ℕ) → Coprime bs → (e : List ℤ) (negative : Bool)
-    → length e ≡ length bs → ¬ (IsPast (fraction_size (signed negative (number bs e))))
+    → length e ≡ length bs → ¬ (IsPast (fraction_size (negate_if negative (number bs e))))
     → Each (λ z. unsigned_abs z < 128) e
 exponents_few bs c e negative l fits =
     both_few e (side_few bs c false e l (low (cases_lt (side_product bs false e) (2 ^ 127))))
@@ -192,24 +192,24 @@ module _ (bs : List ℕ) (c : Coprime bs) (e : List ℤ) (n d : ℕ) (f : n ≡ 
   pub made_some : 0 < d
   made_some = subst (λ x. 0 < x) (sym g) (product_some bs (map (side_of true) e) c)
 
-  pub made_number : (negative : Bool) (x : Fraction) → x ≡ signed negative (over (pos n) (pos d))
-      → x ≡ signed negative (number bs e)
-  made_number negative x h = h ∙ ap (signed negative) (ap₂ (λ a b. over (pos a) (pos b)) f g
+  pub made_number : (negative : Bool) (x : Fraction) → x ≡ negate_if negative (over (pos n) (pos d))
+      → x ≡ negate_if negative (number bs e)
+  made_number negative x h = h ∙ ap (negate_if negative) (ap₂ (λ a b. over (pos a) (pos b)) f g
       ∙ over_number bs c e)
 
   pub made_past : (negative : Bool) → (2 ^ 127 ≤ n) ⊎ (2 ^ 127 ≤ d)
-      → IsPast (fraction_size (signed negative (number bs e)))
+      → IsPast (fraction_size (negate_if negative (number bs e)))
   made_past negative (inl h) = number_past bs c e negative (inl (subst (λ x. 2 ^ 127 ≤ x) f h))
   made_past negative (inr h) = number_past bs c e negative (inr (subst (λ x. 2 ^ 127 ≤ x) g h))
 
 pub above_past : (bs : List ℕ) (c : Coprime bs) (e f : List ℤ) (negative : Bool) → f ≡ e
-    → 2 ^ 128 ≤ side_product bs false f → IsPast (fraction_size (signed negative (number bs e)))
+    → 2 ^ 128 ≤ side_product bs false f → IsPast (fraction_size (negate_if negative (number bs e)))
 above_past bs c e f negative is h =
     number_past bs c e negative (inl (let k : 2 ^ 128 ≤ side_product bs false e =
     subst (λ l. 2 ^ 128 ≤ side_product bs false l) is h in omega arith))
 
 pub below_past : (bs : List ℕ) (c : Coprime bs) (e f : List ℤ) (negative : Bool) → f ≡ e
-    → 2 ^ 128 ≤ side_product bs true f → IsPast (fraction_size (signed negative (number bs e)))
+    → 2 ^ 128 ≤ side_product bs true f → IsPast (fraction_size (negate_if negative (number bs e)))
 below_past bs c e f negative is h =
     number_past bs c e negative (inr (let k : 2 ^ 128 ≤ side_product bs true e =
     subst (λ l. 2 ^ 128 ≤ side_product bs true l) is h in omega arith))

@@ -1,7 +1,7 @@
 -- What the operations give.
 --   collected_is, collected_same     the one list of a polynomial; the same of the same
 --   IsNormalList r ts q              q is that of ts, and normal;  normal_list: that of normal terms
---   is_expo                          a result with these parts
+--   made_expo, is_expo               what has these parts, and a result with them
 --   normal_past, product_weight_past, shifted_past     where the weight is past
 --   expo_arity, other_arity          how many exponents the terms have;  mul_is: the product
 use Rattle.std.proofs.Common.{◌≡◌, inl, inr, ◌≤◌, ℕ, ◌-◌, List, [], ◌∷◌, length, Result, Ok, Err, refl, sym, ap, ap₂, subst, ◌∙◌, arith}
@@ -13,7 +13,7 @@ use Rattle.numbers.proofs.SizeLaws.{fractions_bounded, past_under}
 use Rattle.polynomials.specs.Order.{grevlex}
 use Rattle.polynomials.specs.Polynomial.{Arity, AllArity, IsPolynomial}
 use Rattle.polynomials.specs.Terms.{Terms, Same, times, evaluate, compose}
-use Rattle.polynomials.specs.Weight.{weight, degree_bounds, composition_weight, composition_degrees, IsPastProduct, IsPastComposition, Fits}
+use Rattle.polynomials.specs.Weight.{weight, degree_bounds, composition_weight, composition_degrees, IsPastProduct, IsPastComposition, FitsMonomial}
 use Rattle.polynomials.proofs.Arity.{arity-times}
 use Rattle.polynomials.proofs.Composition.{same_compose}
 use Rattle.polynomials.proofs.Orders.{grevlex_order}
@@ -23,7 +23,7 @@ use Rattle.polynomials.proofs.Weight.{weight-pos, weight_of_polynomial}
 use Rattle.machines.specs.Collect.{collect}
 use Rattle.machines.proofs.Collecting.{collect-same, collect-polynomial, collect-is}
 use Rattle.poly.specs.Seen.{terms_in}
-use Rattle.turns.specs.Expo.{normalized, next_images}
+use Rattle.turns.specs.Expo.{with_normal_keys, next_images}
 use Rattle.turns.specs.Turns.{width}
 use Rattle.expo.specs.declared.exponential.Expo.{Expo}
 use Rattle.expo.specs.Images.{LikeIn}
@@ -47,7 +47,7 @@ collected_same w p q a b s = collected_is w (collect rationals grevlex p) q b
 -- q is the one list of the polynomial of ts, and is normal
 pub record IsNormalList (r : ℕ) (ts q : Terms Fraction) : Type 0 where
   pub is : q ≡ collect rationals grevlex ts
-  pub normal : normalized r q ≡ q
+  pub normal : with_normal_keys r q ≡ q
 
 pub normal_list : (r w : ℕ) (q ts : Terms Fraction) → Arity w ts → AllStay r ts
     → IsPolynomial ℚ grevlex w q → Same ℚ q ts → IsNormalList r ts q
@@ -55,20 +55,25 @@ normal_list r w q ts a k h s =
     let e = collected_is w q ts a h s in
     record {
       is = e;
-      normal = subst (λ p. normalized r p ≡ p) (sym e)
+      normal = subst (λ p. with_normal_keys r p ≡ p) (sym e)
           (collect_stay grevlex r ts k);
     }
 
 -- ---- results
-pub is_expo : {E : Type 0} (base bs : List ℕ) (m n : ℕ) (q ts : Terms Fraction) → bs ≡ base → n ≡ m
-    → q ≡ collect rationals grevlex ts → (r : Result Expo E)
-    → IfOk r (λ e. base_of e ≡ bs) → IfOk r (λ e. e.vars ≡ n) → IfOk r (λ e. terms_in e.body ≡ q)
-    → IfOk r (IsExpo base m ts)
-is_expo base bs m n q ts f g e (Ok x) b v t = record {
+pub made_expo : (base bs : List ℕ) (m n : ℕ) (q ts : Terms Fraction) → bs ≡ base → n ≡ m
+    → q ≡ collect rationals grevlex ts → (x : Expo) → base_of x ≡ bs → x.vars ≡ n
+    → terms_in x.body ≡ q → IsExpo base m ts x
+made_expo base bs m n q ts f g e x b v t = record {
   over_base = b ∙ f;
   over_vars = v ∙ g;
   terms = t ∙ e;
 }
+
+pub is_expo : {E : Type 0} (base bs : List ℕ) (m n : ℕ) (q ts : Terms Fraction) → bs ≡ base → n ≡ m
+    → q ≡ collect rationals grevlex ts → (r : Result Expo E)
+    → IfOk r (λ e. base_of e ≡ bs) → IfOk r (λ e. e.vars ≡ n) → IfOk r (λ e. terms_in e.body ≡ q)
+    → IfOk r (IsExpo base m ts)
+is_expo base bs m n q ts f g e (Ok x) b v t = made_expo base bs m n q ts f g e x b v t
 is_expo base bs m n q ts f g e (Err x) b v t = tt
 
 pub vars_behind : (r m : ℕ) → width r m - width r 0 ≡ m
@@ -86,9 +91,11 @@ module _ (bs : List ℕ) (m : ℕ) where
   w = width r m
 
   pub product_collected : (p p' q : Terms Fraction) → Arity w p → Arity w p' → Arity w q
-      → Same ℚ q (times ℚ p p') → collect rationals grevlex (normalized r q) ≡ collect rationals
-      grevlex (normalized r (times ℚ p p'))
-  product_collected p p' q a b d s = collected_same w (normalized r q) (normalized r (times ℚ p p'))
+      → Same ℚ q (times ℚ p p') → collect rationals grevlex (with_normal_keys r q)
+      ≡ collect rationals
+      grevlex (with_normal_keys r (times ℚ p p'))
+  product_collected p p' q a b d s = collected_same w (with_normal_keys r q)
+      (with_normal_keys r (times ℚ p p'))
       (arity-normalized r m q d) (arity-normalized r m (times ℚ p p') (arity-times w ℚ p p' a b))
       (same_normalized ℚ_ring r q (times ℚ p p') s)
 
@@ -103,17 +110,18 @@ pub shifted_past : (qs ps : List (Terms Fraction)) (p : Terms Fraction) → Like
 unfolding composition_weight composition_degrees
 shifted_past qs ps p l (inl h) = inl (subst (λ l. IsPast (evaluate sizes fraction_size p l))
     l.weights h)
-shifted_past qs ps p l (inr h) = inr (subst (λ l. ¬ (Fits (evaluate degree_bounds (λ c. []) p l)))
+shifted_past qs ps p l (inr h) =
+    inr (subst (λ l. ¬ (FitsMonomial (evaluate degree_bounds (λ c. []) p l)))
     l.degrees h)
 
 -- ---- weights
-weight-normal : (r : ℕ) (p : Terms Fraction) → weight fraction_size (normalized r p)
+weight-normal : (r : ℕ) (p : Terms Fraction) → weight fraction_size (with_normal_keys r p)
     ≡ weight fraction_size p
 unfolding weight
 weight-normal r [] = refl
 weight-normal r (t ∷ p) = ap (sum_size (fraction_size t.1)) (weight-normal r p)
 
-pub normal_past : (r : ℕ) (p ts : Terms Fraction) → ts ≡ normalized r p
+pub normal_past : (r : ℕ) (p ts : Terms Fraction) → ts ≡ with_normal_keys r p
     → IsPast (weight fraction_size ts) → IsPast (weight fraction_size p)
 normal_past r p ts e h = subst IsPast (ap (weight fraction_size) e ∙ weight-normal r p) h
 

@@ -15,7 +15,7 @@ use Rattle.numbers.proofs.LcmLaws.{lcm-pos}
 use Rattle.numbers.proofs.SizeLaws.{fractions_bounded, under_refl, under_trans, under-sum, sum-left, sum_size_assoc, zero-sum_size, past_under}
 use Rattle.numbers.proofs.ProductSizes.{product_within, product_den-pos}
 use Rattle.numbers.proofs.Wholes.{of_nat-whole}
-use Rattle.exponentials.specs.Table.{alike, choose, numbers, sum_numbers, delta, weighed}
+use Rattle.exponentials.specs.Table.{alike, choose, numbers, sum_numbers, delta, binomial_term}
 use Rattle.exponentials.proofs.Lists.{sum_same, sum_alike}
 use Rattle.exponentials.proofs.Table.{each_number}
 use Rattle.exponentials.proofs.Terms.{alike_true, alike_refl}
@@ -38,22 +38,23 @@ numbers-append lo (suc m) n =
     (let e : suc lo + m ≡ lo + suc m = omega arith in e))
 
 -- ---- one place more of a sum
-pub weighed_is : (q : ℕ → Fraction) (i j : ℕ) → weighed R q i j ≡ ℚ.mul (binomial j i) (q j)
+pub weighed_is : (q : ℕ → Fraction) (i j : ℕ) → binomial_term R q i j ≡ ℚ.mul (binomial j i) (q j)
 weighed_is q i j = ap (λ c. ℚ.mul c (q j)) (of_nat-whole (choose j i))
 
-pub sum_first : (q : ℕ → Fraction) (i lo : ℕ) → sum_numbers R (weighed R q i) lo 0 ≡ ℚ.zero
+pub sum_first : (q : ℕ → Fraction) (i lo : ℕ) → sum_numbers R (binomial_term R q i) lo 0 ≡ ℚ.zero
 unfolding sum_over
 sum_first q i lo = refl
 
-pub sum_next : (q : ℕ → Fraction) (i lo n : ℕ) → sum_numbers R (weighed R q i) lo (suc n)
-    ≡ ℚ.add (sum_numbers R (weighed R q i) lo n) (ℚ.mul (binomial (lo + n) i) (q (lo + n)))
+pub sum_next : (q : ℕ → Fraction) (i lo n : ℕ) → sum_numbers R (binomial_term R q i) lo (suc n)
+    ≡ ℚ.add (sum_numbers R (binomial_term R q i) lo n) (ℚ.mul (binomial (lo + n) i) (q (lo + n)))
 unfolding sum_over
 sum_next q i lo n =
-    ap (sum_over (operations R) (weighed R q i)) (numbers-push lo n)
-    ∙ Sums.sum-append R (weighed R q i) (numbers lo n) ((lo + n) ∷ [])
-    ∙ ap (ℚ.add (sum_numbers R (weighed R q i) lo n)) (last (lo + n))
+    ap (sum_over (operations R) (binomial_term R q i)) (numbers-push lo n)
+    ∙ Sums.sum-append R (binomial_term R q i) (numbers lo n) ((lo + n) ∷ [])
+    ∙ ap (ℚ.add (sum_numbers R (binomial_term R q i) lo n)) (last (lo + n))
   where
-    last : (j : ℕ) → sum_over (operations R) (weighed R q i) (j ∷ []) ≡ ℚ.mul (binomial j i) (q j)
+    last : (j : ℕ) → sum_over (operations R) (binomial_term R q i) (j ∷ []) ≡ ℚ.mul (binomial j i)
+        (q j)
     last j = R.add-zero _ ∙ weighed_is q i j
 
 -- ---- what is past
@@ -118,7 +119,7 @@ module _ (f : ℕ → Fraction) where
           (weights-pos ys)
 
 pub sum_past_at : (q : ℕ → Fraction) (i lo k n : ℕ) → k < n
-    → IsPast (sum_size (fraction_size (sum_numbers R (weighed R q i) lo k))
+    → IsPast (sum_size (fraction_size (sum_numbers R (binomial_term R q i) lo k))
     (fraction_size (ℚ.mul (binomial (lo + k) i) (q (lo + k)))))
     → IsPastSum q i lo n
 sum_past_at q i lo k n h past =
@@ -128,13 +129,13 @@ sum_past_at q i lo k n h past =
     (sym (numbers-append lo k (suc (n - suc k))) ∙ ap (numbers lo) e)
     (part_past f (numbers lo k) (lo + k) (numbers (suc (lo + k)) (n - suc k))
     (subst (λ s. IsPast (sum_size (fraction_size s) (fraction_size (f (lo + k)))))
-    (sum_alike R (weighed R q i) f (numbers lo k) (weighed_is q i)) past)))
+    (sum_alike R (binomial_term R q i) f (numbers lo k) (weighed_is q i)) past)))
 
 -- ---- rows
 sums_agree : (q r : ℕ → Fraction) (i lo n : ℕ) → ((j : ℕ) → lo ≤ j → q j ≡ r j)
-    → sum_numbers R (weighed R q i) lo n ≡ sum_numbers R (weighed R r i) lo n
-sums_agree q r i lo n h = sum_same R (weighed R q i) (weighed R r i) (numbers lo n)
-    (each_number (λ j. weighed R q i j ≡ weighed R r i j) lo n (λ j l g.
+    → sum_numbers R (binomial_term R q i) lo n ≡ sum_numbers R (binomial_term R r i) lo n
+sums_agree q r i lo n h = sum_same R (binomial_term R q i) (binomial_term R r i) (numbers lo n)
+    (each_number (λ j. binomial_term R q i j ≡ binomial_term R r i j) lo n (λ j l g.
     ap (ℚ.mul (of_nat R (choose j i))) (h j l)))
 
 pub other_row_is : (σ l : Fraction) (a : ℕ) (q r : ℕ → Fraction) (i : ℕ)

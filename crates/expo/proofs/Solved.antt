@@ -7,8 +7,8 @@
 --   tabled_at                      the terms by the numbers of two powers, which the next are of
 --   tabled_parts, tabled_solution, tabled_expo, past_solution     their parts; they solve the recurrence; what is made of them; what is past
 --   same_number, other_number                      numbers that the code tells apart
---   handed_on, narrow_poly                         a refusal that is handed on, and one that cannot come
-use Rattle.std.proofs.Common.{◌≡◌, ◌≢◌, inl, inr, ℕ, zero, suc, ◌+◌, true, false, List, [], ◌∷◌, ◌++◌, length, replicate, ◌&&◌, Result, Ok, Err, refl, sym, ap, ap₂, subst, ◌∙◌, arith}
+--   handed_on                                      a refusal that is handed on
+use Rattle.std.proofs.Common.{◌≡◌, ◌≢◌, inl, inr, ℕ, zero, suc, ◌+◌, true, false, List, [], ◌∷◌, ◌++◌, length, replicate, ◌&&◌, Result, Ok, Err, sym, ap, ap₂, subst, ◌∙◌, arith}
 use Rattle.std.specs.Ordering.{int_eq}
 use Rattle.std.specs.Result.{IsErrOf, IsErrAnd}
 use Rattle.std.proofs.lemmas.List.{length-append, length-replicate}
@@ -17,32 +17,24 @@ use Rattle.rings.proofs.Each.{each-append}
 use Rattle.numbers.specs.Fraction.{Fraction, ℚ, opposite}
 use Rattle.polynomials.specs.Polynomial.{Arity}
 use Rattle.polynomials.specs.Terms.{Terms}
-use Rattle.exponentials.specs.Base.{Coprime, Fits}
+use Rattle.exponentials.specs.Base.{Coprime}
 use Rattle.frac128.specs.declared.fraction.Frac.{Frac}
 use Rattle.frac128.specs.FracMeaning.{fraction_of, fraction_decides, frac_eq_is}
-use Rattle.poly.specs.declared.PolyError.{PolyError}
-use Rattle.poly.specs.declared.PolyError.TheVariants as poly_error
 use Rattle.exponentials.specs.Keys.{Key, IsNormalKey}
 use Rattle.turns.specs.Expo.{with_key, power_terms, other_terms, equal_terms, IsSolution}
 use Rattle.turns.specs.Turns.{width}
 use Rattle.turns.proofs.Solving.{other_solution, equal_solution}
-use Rattle.expo.specs.declared.ExpoError.{ExpoError}
-use Rattle.expo.specs.declared.ExpoError.TheVariants.{Wide, Memory}
+use Rattle.ring_laws.specs.declared.ArithmeticError.{ArithmeticError}
+use Rattle.ring_laws.specs.declared.ArithmeticError.TheVariants.{Wide}
 use Rattle.expo.specs.declared.exponential.Expo.{Expo}
 use Rattle.expo.specs.declared.powers.Power.{Power}
 use Rattle.expo.specs.Powers.{number_of, key_of_power}
-use Rattle.expo.specs.Refusal.{of_poly}
 use Rattle.expo.specs.Solutions.{AreTabled, different, same, IsPastTable, IsTabled, IsPastSolution, other, equal}
 use Rattle.expo.specs.View.{IsExpo}
 use Rattle.expo.proofs.Distinct.{Differ, differ_powers, differ_other, keys_apart}
 use Rattle.expo.proofs.Normal.{Stays, AllStay, exponents_stay, power_stay, power_key_normal}
 use Rattle.expo.proofs.Ratios.{number_nonzero}
-
-pub fits_length : (bs e : List ℕ) → Fits bs e → length e ≡ length bs
-fits_length [] [] f = refl
-fits_length [] (n ∷ e) f = absurd f
-fits_length (b ∷ bs) [] f = absurd f
-fits_length (b ∷ bs) (n ∷ e) f = ap suc (fits_length bs e f)
+use Rattle.turns.proofs.Realized.{lengths_agree}
 
 pub record AreParts (bs : List ℕ) (m : ℕ) (ts : Terms Fraction) : Type 0 where
   pub arity : Arity (width (length bs) m) ts
@@ -55,8 +47,8 @@ module _ (bs : List ℕ) (m : ℕ) where
   key_length n x h =
       ap (λ k. suc (suc k))
       (length-append x.1 (x.2 ++ replicate m 0)
-      ∙ ap₂ ◌+◌ (fits_length bs x.1 h.1) (length-append x.2 (replicate m 0)
-      ∙ ap₂ ◌+◌ (fits_length bs x.2 h.2) (length-replicate m 0)))
+      ∙ ap₂ ◌+◌ (lengths_agree bs x.1 h.1) (length-append x.2 (replicate m 0)
+      ∙ ap₂ ◌+◌ (lengths_agree bs x.2 h.2) (length-replicate m 0)))
 
   arity-powers : (x : Key) (q : ℕ → Fraction) (lo n : ℕ) → IsNormalKey bs x
       → Arity (width (length bs) m) (power_terms m x q lo n)
@@ -186,15 +178,8 @@ pub other_number : (x y : Frac)
     → fraction_of x ≢ fraction_of y
 other_number x y h e = let no : false ≡ true = h ∙ (frac_eq_is x y).1 (fraction_decides x y e) in cc
 
-pub handed_on : {T S P : Type 0} (e : ExpoError) (r : Result T ExpoError) → IsErrAnd r (λ x. x ≡ e)
+pub handed_on : {T S P : Type 0} (e : ArithmeticError) (r : Result T ArithmeticError)
+    → IsErrAnd r (λ x. x ≡ e)
     → (IsErrOf {T = S} (Err e) Wide → P) → IsErrOf r Wide → P
 handed_on e (Ok x) h k w = absurd h
 handed_on e (Err x) h k w = let q : x ≡ Wide = cc in k (ap Err (sym h ∙ q))
-
-pub narrow_poly : {T S : Type 0} (e : PolyError) (r : Result T ExpoError)
-    → IsErrAnd r (λ x. x ≡ of_poly e) → ¬ (IsErrOf {T = S} (Err e) poly_error.Wide)
-    → ¬ (IsErrOf r Wide)
-narrow_poly e (Ok x) h k w = absurd h
-narrow_poly poly_error.Wide (Err x) h k w = k refl
-narrow_poly poly_error.Memory (Err x) h k w = let q : x ≡ Wide = cc in let z : Memory ≡ Wide = sym h
-    ∙ q in cc

@@ -9,36 +9,37 @@ use Rattle.rings.proofs.RingLaws.{neg-neg}
 use Rattle.numbers.specs.Fraction.{Fraction, opposite}
 use Rattle.numbers.proofs.Fractions.{ℚ_ring}
 use Rattle.polynomials.specs.Terms.{Terms}
-use Rattle.exponentials.specs.Keys.{left, parity, rest, top, key_of}
-use Rattle.turns.specs.Expo.{normalized, turned_back, turned_sign, tail}
-use Rattle.expo.specs.Exponents.{normal_exponents, turned_exponents}
+use Rattle.exponentials.specs.Keys.{excess, parity, rest, top, key_of}
+use Rattle.turns.specs.Expo.{with_normal_keys, backward_terms, backward_sign, tail}
+use Rattle.expo.specs.Exponents.{normal_exponents, backward_exponents}
 use Rattle.turns.specs.Turns.{width}
 use Rattle.expo.proofs.Normal.{normalized-push, turned-push, normal-length}
 
 pub step_normal : (r : ℕ) (p p' out news : Terms Fraction) (t u : List ℕ × Fraction)
     → p' ≡ p ++ t ∷ [] → news ≡ out ++ u ∷ [] → u.0 ≡ normal_exponents r t.0 → u.1 ≡ t.1
-    → out ≡ normalized r p → news ≡ normalized r p'
+    → out ≡ with_normal_keys r p → news ≡ with_normal_keys r p'
 step_normal r p p' out news t u e f m n h =
     f ∙ ap₂ (λ (zs : Terms Fraction) (v : List ℕ × Fraction). zs ++ v ∷ []) h (λ i. (m i, n i))
-    ∙ sym (normalized-push r p t) ∙ ap (normalized r) (sym e)
+    ∙ sym (normalized-push r p t) ∙ ap (with_normal_keys r) (sym e)
 
 pub step_turned : (r : ℕ) (p p' out news : Terms Fraction) (t u : List ℕ × Fraction)
-    → p' ≡ p ++ t ∷ [] → news ≡ out ++ u ∷ [] → u.0 ≡ turned_exponents r t.0
-    → u.1 ≡ turned_sign (top t.0) t.1
-    → out ≡ turned_back r p → news ≡ turned_back r p'
+    → p' ≡ p ++ t ∷ [] → news ≡ out ++ u ∷ [] → u.0 ≡ backward_exponents r t.0
+    → u.1 ≡ backward_sign (top t.0) t.1
+    → out ≡ backward_terms r p → news ≡ backward_terms r p'
 step_turned r p p' out news t u e f m n h =
     f ∙ ap₂ (λ (zs : Terms Fraction) (v : List ℕ × Fraction). zs ++ v ∷ []) h (λ i. (m i, n i))
-    ∙ sym (turned-push r p t) ∙ ap (turned_back r) (sym e)
+    ∙ sym (turned-push r p t) ∙ ap (backward_terms r) (sym e)
 
-pub sign_even : (n : ℕ) (c : Fraction) → n % 2 ≡ 0 → turned_sign n c ≡ c
+pub sign_even : (n : ℕ) (c : Fraction) → n % 2 ≡ 0 → backward_sign n c ≡ c
 sign_even zero c h = refl
 sign_even (suc zero) c h = absurd (omega arith)
-sign_even (suc (suc n)) c h = neg-neg ℚ_ring (turned_sign n c) ∙ sign_even n c (omega arith)
+sign_even (suc (suc n)) c h = neg-neg ℚ_ring (backward_sign n c) ∙ sign_even n c (omega arith)
 
-pub sign_odd : (n : ℕ) (c : Fraction) → n % 2 ≢ 0 → turned_sign n c ≡ opposite c
+pub sign_odd : (n : ℕ) (c : Fraction) → n % 2 ≢ 0 → backward_sign n c ≡ opposite c
 sign_odd zero c h = absurd (h refl)
 sign_odd (suc zero) c h = refl
-sign_odd (suc (suc n)) c h = neg-neg ℚ_ring (turned_sign n c) ∙ sign_odd n c (λ e. h (omega arith))
+sign_odd (suc (suc n)) c h = neg-neg ℚ_ring (backward_sign n c)
+    ∙ sign_odd n c (λ e. h (omega arith))
 
 pub parity_is : (n : ℕ) → n % 2 ≡ parity n
 parity_is zero = refl
@@ -65,7 +66,7 @@ pub normal_parts : (r : ℕ) (e front others up others' down vars out : List ℕ
     → 2 ≤ length e → front ≡ take 2 e → others ≡ drop 2 e
     → up ≡ take r others → others' ≡ drop r others → down ≡ take r others' → vars ≡ drop r others'
     → a ≡ get_or front 0 0 → b ≡ get_or front 1 0 % 2
-    → out ≡ (((a ∷ b ∷ []) ++ left up down) ++ left down up) ++ vars
+    → out ≡ (((a ∷ b ∷ []) ++ excess up down) ++ excess down up) ++ vars
     → out ≡ normal_exponents r e
 normal_parts r e front others up others' down vars out a b l f o u o' d v p q is =
     let others_is : others ≡ rest (rest e) = o ∙ rest_is e in
@@ -75,8 +76,8 @@ normal_parts r e front others up others' down vars out a b l f o u o' d v p q is
     let a_is : a ≡ top e = p ∙ ap (λ l. get_or l 0 0) f ∙ top_is e 0 l in
     let b_is : b ≡ parity (top (rest e)) = q ∙ ap (λ l. get_or l 1 0 % 2) f
     ∙ ap (λ n. n % 2) (sign_is e 0 l) ∙ parity_is (top (rest e)) in
-    is ∙ ap (λ (l : List ℕ). a ∷ b ∷ l) (append_assoc (left up down) (left down up) vars)
-    ∙ (λ i. a_is i ∷ b_is i ∷ (left (up_is i) (down_is i) ++ (left (down_is i) (up_is i)
+    is ∙ ap (λ (l : List ℕ). a ∷ b ∷ l) (append_assoc (excess up down) (excess down up) vars)
+    ∙ (λ i. a_is i ∷ b_is i ∷ (excess (up_is i) (down_is i) ++ (excess (down_is i) (up_is i)
     ++ vars_is i)))
 
 -- the sign at -n
@@ -85,12 +86,13 @@ top_at [] = refl
 top_at (a ∷ e) = refl
 
 pub even_sign : (e : List ℕ) (c : Fraction) (n : ℕ) → n ≡ get_or e 0 0 → n % 2 ≡ 0
-    → c ≡ turned_sign (top e) c
-even_sign e c n is h = sym (ap (λ n. turned_sign n c) (sym (is ∙ top_at e)) ∙ sign_even n c h)
+    → c ≡ backward_sign (top e) c
+even_sign e c n is h = sym (ap (λ n. backward_sign n c) (sym (is ∙ top_at e)) ∙ sign_even n c h)
 
 pub odd_sign : (e : List ℕ) (c d : Fraction) (n : ℕ) → n ≡ get_or e 0 0 → n % 2 ≢ 0 → d ≡ opposite c
-    → d ≡ turned_sign (top e) c
-odd_sign e c d n is h k = k ∙ sym (ap (λ n. turned_sign n c) (sym (is ∙ top_at e)) ∙ sign_odd n c h)
+    → d ≡ backward_sign (top e) c
+odd_sign e c d n is h k = k ∙ sym (ap (λ n. backward_sign n c) (sym (is ∙ top_at e))
+    ∙ sign_odd n c h)
 
 pub normal_long : (r : ℕ) (e out : List ℕ) → width r 0 ≤ length e → out ≡ normal_exponents r e
     → length out ≡ length e

@@ -10,7 +10,7 @@ use Rattle.numbers.specs.Fraction.{Fraction, ℚ, fraction_size, whole, inverse}
 use Rattle.numbers.proofs.Fractions.{ℚ_ring, ℚ_field}
 use Rattle.numbers.proofs.Wholes.{of_nat-whole}
 use Rattle.rings.proofs.RingLaws.{one-mul, zero-mul, eq_of_sub}
-use Rattle.exponentials.specs.Table.{sum_numbers, weighed, above, delta, IsOther, IsEqual}
+use Rattle.exponentials.specs.Table.{sum_numbers, binomial_term, above, delta, IsOther, IsEqual}
 use Rattle.exponentials.proofs.Table.{choose_same, choose_next}
 use Rattle.numbers.specs.Size.{IsPast, sum_size, quotient_size}
 use Rattle.frac128.specs.declared.fraction.Frac.{Frac}
@@ -25,7 +25,8 @@ use Rattle.expo.proofs.Rows.{product_past, sum_past_at, sum_first, sum_next, oth
 pub record Summed (q : ℕ → Fraction) (i before place : ℕ) (c total : Fraction) : Type 0 where
   pub after : before < place
   pub given : c ≡ binomial (place - 1) i
-  pub total_is : total ≡ sum_numbers ℚ_ring (weighed ℚ_ring q i) (suc before) (place - suc before)
+  pub total_is : total ≡ sum_numbers ℚ_ring (binomial_term ℚ_ring q i) (suc before)
+      (place - suc before)
 
 pub summed_first : (q : ℕ → Fraction) (i before place : ℕ) (c total : Fraction) → place ≡ before + 1
     → c ≡ binomial before i → total ≡ ℚ.zero → Summed q i before place c total
@@ -33,7 +34,8 @@ summed_first q i before place c total e g t = record {
   after = omega arith;
   given = g ∙ ap (λ j. binomial j i) (let o : before ≡ place - 1 = omega arith in o);
   total_is = t ∙ sym (sum_first q i (suc before))
-      ∙ ap (sum_numbers ℚ_ring (weighed ℚ_ring q i) (suc before)) (let o : 0 ≡ place - suc before =
+      ∙ ap (sum_numbers ℚ_ring (binomial_term ℚ_ring q i) (suc before)) (let o : 0 ≡ place
+      - suc before =
       omega arith in o);
 }
 
@@ -51,7 +53,7 @@ summed_next q i before place c total c' x total' g m t s =
           t ∙ ap₂ ℚ.add s.total_is (m ∙ ap₂ ℚ.mul (g ∙ ap (λ j. binomial j i) (sym at))
           (ap q (sym at)))
           ∙ sym (sum_next q i (suc before) k)
-          ∙ ap (sum_numbers ℚ_ring (weighed ℚ_ring q i) (suc before)) more;
+          ∙ ap (sum_numbers ℚ_ring (binomial_term ℚ_ring q i) (suc before)) more;
     }
 
 -- ---- rows
@@ -153,7 +155,7 @@ past_total q i before place n c total c' x s h g m past =
     let at : suc before + k ≡ place = (let o = s.after in omega arith) in
     sum_past_at q i (suc before) k n (let o = s.after in omega arith)
     (subst (λ z.
-    IsPast (sum_size (fraction_size (sum_numbers ℚ_ring (weighed ℚ_ring q i) (suc before)
+    IsPast (sum_size (fraction_size (sum_numbers ℚ_ring (binomial_term ℚ_ring q i) (suc before)
     k)) (fraction_size z)))
     (m ∙ ap₂ ℚ.mul (g ∙ ap (λ j. binomial j i) (sym at)) (ap q (sym at)))
     (subst (λ t. IsPast (sum_size (fraction_size t) (fraction_size x))) s.total_is
@@ -232,7 +234,7 @@ module _ (σ l : Fraction) (a r : ℕ) (xs ys : List Frac) (start : Fraction) (r
       (length ys)) where
     total_other : total ≡ above ℚ_ring a (number_at xs) (r - 1)
     total_other = subst (λ zs. total ≡ sum_behind (number_at zs) (r - 1) (r - 1) (length zs)) read
-        sum ∙ ap (sum_numbers ℚ_ring (weighed ℚ_ring (number_at xs) (r - 1)) (suc (r - 1)))
+        sum ∙ ap (sum_numbers ℚ_ring (binomial_term ℚ_ring (number_at xs) (r - 1)) (suc (r - 1)))
         places_other
 
     pub other_product_past : IsPast (fraction_size (ℚ.mul σ total)) → IsPastOther σ l a
@@ -296,7 +298,7 @@ module _ (l : Fraction) (a r : ℕ) (xs ys : List Frac) (start : Fraction) (read
       (length ys)) where
     total_equal : total ≡ equal_sum a (number_at xs) (r - 1)
     total_equal = subst (λ zs. total ≡ sum_behind (number_at zs) (r - 1) (r - 1 + 1) (length zs))
-        read sum ∙ ap₂ (sum_numbers ℚ_ring (weighed ℚ_ring (number_at xs) (r - 1))) next_place
+        read sum ∙ ap₂ (sum_numbers ℚ_ring (binomial_term ℚ_ring (number_at xs) (r - 1))) next_place
         places_equal
 
     pub equal_difference_past : SumIsPast start (ℚ.neg total) → IsPastEqual l a

@@ -15,7 +15,7 @@ use Rattle.polynomials.proofs.ValueAt.{value_at_same, value_at-append, value_at-
 use Rattle.machines.specs.Collect.{collect}
 use Rattle.machines.proofs.Collecting.{collect-same}
 use Rattle.exponentials.specs.Base.{Coprime}
-use Rattle.turns.specs.Expo.{normalized, turned_back, next_images, IsSolution}
+use Rattle.turns.specs.Expo.{with_normal_keys, backward_terms, next_images, IsSolution}
 use Rattle.turns.specs.Turns.{point, back_point, width}
 use Rattle.turns.proofs.Operations.{normal-value, next-value, back-value}
 use Rattle.expo.specs.declared.exponential.Expo.{Expo}
@@ -34,12 +34,13 @@ module _ (base : List ℕ) (c : Coprime base) (m : ℕ) (e : Expo) where
   abbrev w : ℕ
   w = width (length base) m
 
-  pub normal_values : (p : Terms Fraction) → Arity w p → IsExpo base m (normalized (length base) p)
+  pub normal_values : (p : Terms Fraction) → Arity w p
+      → IsExpo base m (with_normal_keys (length base) p)
       e → HasValues (λ n s. value_at ℚ p (point base n s)) e
   normal_values p a is = λ n s l. value_is base m _ e is n s ∙ normal-value base c m p a n s
 
   pub product_values : (p q : Terms Fraction) → Arity w p → Arity w q
-      → IsExpo base m (normalized (length base) (times ℚ p q)) e
+      → IsExpo base m (with_normal_keys (length base) (times ℚ p q)) e
       → HasValues (λ n s. ℚ.mul (value_at ℚ p (point base n s)) (value_at ℚ q (point base n s))) e
   product_values p q a b is = λ n s l. value_is base m _ e is n s
       ∙ normal-value base c m (times ℚ p q) (arity-times w ℚ p q a b) n s
@@ -50,7 +51,8 @@ module _ (base : List ℕ) (c : Coprime base) (m : ℕ) (e : Expo) where
   shifted_values p is = λ n s l. value_is base m _ e is n s ∙ next-value base c m p n s (l
       ∙ is.over_vars)
 
-  pub turned_values : (p : Terms Fraction) → Arity w p → IsExpo base m (turned_back (length base) p)
+  pub turned_values : (p : Terms Fraction) → Arity w p
+      → IsExpo base m (backward_terms (length base) p)
       e → HasValues (λ n s. value_at ℚ p (back_point base n s)) e
   turned_values p a is = λ n s l. value_is base m _ e is n s ∙ back-value base c m p a n s
 

@@ -11,7 +11,7 @@ use Rattle.numbers.specs.Gcd.{gcd}
 use Rattle.numbers.proofs.Fractions.{ℚ_ring}
 use Rattle.polynomials.specs.Terms.{Terms}
 use Rattle.exponentials.specs.Base.{Coprime, Ascending}
-use Rattle.turns.specs.Expo.{normalized}
+use Rattle.turns.specs.Expo.{with_normal_keys}
 
 abbrev pub IsCoprimeBase : List ℕ → Type 0
 IsCoprimeBase bs = Coprime bs × Ascending bs
@@ -38,10 +38,10 @@ pub coprime_base_prop : (bs : List ℕ) → IsProp (IsCoprimeBase bs)
 coprime_base_prop bs = hlevel (coprime_prop bs, ascending_prop bs)
 
 abbrev pub IsOwnNormal : List ℕ → Terms Fraction → Type 0
-IsOwnNormal bs p = normalized (length bs) p ≡ p
+IsOwnNormal bs p = with_normal_keys (length bs) p ≡ p
 
 terms_set : (p q : Terms Fraction) → IsProp (p ≡ q)
 terms_set p q = List.is_set (hlevel (List.is_set ℕ_set, ℚ_ring.is_set)) p q
 
 pub own_normal_prop : (bs : List ℕ) (p : Terms Fraction) → IsProp (IsOwnNormal bs p)
-own_normal_prop bs p = terms_set (normalized (length bs) p) p
+own_normal_prop bs p = terms_set (with_normal_keys (length bs) p) p

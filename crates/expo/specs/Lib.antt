@@ -5,7 +5,6 @@ pub mod Numbers
 pub mod Operations
 pub mod Points
 pub mod Powers
-pub mod Refusal
 pub mod Rows
 pub mod Solutions
 pub mod View

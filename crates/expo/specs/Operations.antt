@@ -1,6 +1,6 @@
 -- Operations on exponential polynomials, as the definitions make them on terms.
 --   normal_of base p                what is made of the terms p: s s and u v are 1;  vars_of base w: how many of w variables stand behind n, s, the u and the v
---   product_of e f, sum_of e f, at_next e, turned e     the terms of the product, of the sum, at n + 1, at -n
+--   product_of e f, sum_of e f, at_next e, backward_of e     the terms of the product, of the sum, at n + 1, at -n
 --   at_zero e                       those at n = 0, over the variables alone
 --   before_of e                     those at n - 1: backward, one more, and backward again
 --   back_of e                       those at -n, collected
@@ -13,7 +13,7 @@ use Rattle.polynomials.specs.Order.{grevlex}
 use Rattle.polynomials.specs.Terms.{Terms, times, compose}
 use Rattle.polynomials.specs.Weight.{IsPastSum, IsPastProduct, IsPastComposition}
 use Rattle.machines.specs.Collect.{collect}
-use Rattle.turns.specs.Expo.{normalized, turned_back, next_images, zero_images, one_before}
+use Rattle.turns.specs.Expo.{with_normal_keys, backward_terms, next_images, zero_images, one_before}
 use Rattle.turns.specs.Turns.{width}
 use Rattle.poly.specs.Seen.{terms_in}
 use Rattle.expo.specs.declared.exponential.Expo.{Expo}
@@ -21,7 +21,7 @@ use Rattle.expo.specs.Points.{turn_images, IsPastPoint}
 use Rattle.expo.specs.View.{base_of, IsExpo}
 
 abbrev pub normal_of : List ℕ → Terms Fraction → Terms Fraction
-normal_of base p = normalized (length base) p
+normal_of base p = with_normal_keys (length base) p
 
 abbrev pub vars_of : List ℕ → ℕ → ℕ
 vars_of base w = w - width (length base) 0
@@ -36,8 +36,8 @@ abbrev pub at_next : Expo → Terms Fraction
 at_next e = compose ℚ (width (length (base_of e)) e.vars) (terms_in e.body)
     (next_images (base_of e) e.vars)
 
-abbrev pub turned : Expo → Terms Fraction
-turned e = turned_back (length (base_of e)) (terms_in e.body)
+abbrev pub backward_of : Expo → Terms Fraction
+backward_of e = backward_terms (length (base_of e)) (terms_in e.body)
 
 abbrev pub at_zero : Expo → Terms Fraction
 at_zero e = compose ℚ e.vars (terms_in e.body) (zero_images (length (base_of e)) e.vars)
@@ -46,7 +46,7 @@ abbrev pub before_of : Expo → Terms Fraction
 before_of e = one_before (base_of e) e.vars (terms_in e.body)
 
 abbrev pub back_of : Expo → Terms Fraction
-back_of e = collect rationals grevlex (turned e)
+back_of e = collect rationals grevlex (backward_of e)
 
 abbrev pub IsOver : Expo → Terms Fraction → Expo → Type 0
 IsOver e ts f = IsExpo (base_of e) e.vars ts f

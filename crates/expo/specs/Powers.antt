@@ -10,13 +10,13 @@ use Rattle.numbers.specs.Fraction.{Fraction, fraction_size}
 use Rattle.numbers.specs.Size.{IsPast}
 use Rattle.exponentials.specs.Base.{product}
 use Rattle.exponentials.specs.Keys as keys
-use Rattle.exponentials.specs.Powers.{number, signed}
+use Rattle.exponentials.specs.Powers.{number, negate_if}
 use Rattle.turns.specs.Expo.{power_key, up_part, down_part}
 use Rattle.expo.specs.declared.powers.Key.{Key}
 use Rattle.expo.specs.declared.powers.Power.{Power}
 
 abbrev pub number_of : List ℕ → Power → Fraction
-number_of base p = signed p.negative (number base p.exponents.items)
+number_of base p = negate_if p.negative (number base p.exponents.items)
 
 abbrev pub key_of_power : Power → keys.Key
 key_of_power p = power_key p.negative p.exponents.items

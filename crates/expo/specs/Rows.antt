@@ -11,7 +11,7 @@ use Rattle.rings.specs.Sum.{sum_over}
 use Rattle.numbers.specs.Fraction.{Fraction, ℚ, fraction_size, whole, inverse}
 use Rattle.numbers.specs.Size.{sizes, sum_size, product_size, quotient_size, IsPast}
 use Rattle.numbers.proofs.Fractions.{ℚ_ring}
-use Rattle.exponentials.specs.Table.{choose, numbers, delta, weighed, above, sum_numbers}
+use Rattle.exponentials.specs.Table.{choose, numbers, delta, binomial_term, above, sum_numbers}
 
 abbrev pub binomial : ℕ → ℕ → Fraction
 binomial j i = whole (pos (choose j i))
@@ -23,7 +23,7 @@ abbrev pub other_number : Fraction → Fraction → ℕ → (ℕ → Fraction) �
 other_number σ l a q i = ℚ.mul (other_rest σ a q i) (inverse (ℚ.add σ (ℚ.neg l)))
 
 abbrev pub equal_sum : ℕ → (ℕ → Fraction) → ℕ → Fraction
-equal_sum a q i = sum_numbers ℚ_ring (weighed ℚ_ring q i) (suc (suc i)) (a - i)
+equal_sum a q i = sum_numbers ℚ_ring (binomial_term ℚ_ring q i) (suc (suc i)) (a - i)
 
 abbrev pub equal_rest : Fraction → ℕ → (ℕ → Fraction) → ℕ → Fraction
 equal_rest l a q i = ℚ.add (ℚ.mul (delta ℚ_ring i a) (inverse l)) (ℚ.neg (equal_sum a q i))
@@ -32,7 +32,7 @@ abbrev pub equal_number : Fraction → ℕ → (ℕ → Fraction) → ℕ → Fr
 equal_number l a q i = ℚ.mul (equal_rest l a q i) (inverse (whole (pos (suc i))))
 
 abbrev pub sum_behind : (ℕ → Fraction) → ℕ → ℕ → ℕ → Fraction
-sum_behind q i j n = sum_numbers ℚ_ring (weighed ℚ_ring q i) (suc j) (n - suc j)
+sum_behind q i j n = sum_numbers ℚ_ring (binomial_term ℚ_ring q i) (suc j) (n - suc j)
 
 -- ---- what is past
 pub data IsPastSum (q : ℕ → Fraction) (i lo n : ℕ) : Type 0 where

@@ -1,18 +1,16 @@
 //! The exponents of n, s, u, v and the variables in a monomial.
-ghost use Rattle.std.specs.Prelude.{◌≡◌, ◌≤◌, ◌++◌, length, IfOk, OnOk, IsErrOf};
-ghost use Rattle.exponentials.specs.Keys.{left};
+ghost use Rattle.std.specs.Prelude.{◌≡◌, ◌≤◌, ◌++◌, length, IfOk, OnOk};
+ghost use Rattle.exponentials.specs.Keys.{excess};
 ghost use Rattle.turns.specs.Turns.{width};
-ghost use Rattle.expo.specs.Exponents.{normal_exponents, turned_exponents};
+ghost use Rattle.expo.specs.Exponents.{normal_exponents, backward_exponents};
 
-use crate::ExpoError;
 use monos::Mono;
 use std::alloc::{AllocError, Global};
 
 /// The monomial with s s and each u_j v_j replaced by 1, where the base has `count` numbers.
-pub(crate) fn normal_monomial(alloc: Global, mono: &Mono, count: usize) -> Result<Mono, ExpoError>
+pub(crate) fn normal_monomial(alloc: Global, mono: &Mono, count: usize) -> Result<Mono, AllocError>
     requires { width count 0 ≤ length mono.now }
     ensures ok { IfOk result (λ found. found ≡ normal_exponents count mono.now) }
-    ensures narrow { ¬ IsErrOf result ExpoError.Wide }
 {
     let list = mono.exponents();
     let (front, others) = list.as_slice().split_at(2);
@@ -22,14 +20,17 @@ pub(crate) fn normal_monomial(alloc: Global, mono: &Mono, count: usize) -> Resul
     push_left(&mut exponents, up, down)?;
     push_left(&mut exponents, down, up)?;
     exponents.extend_from_slice(variables)?;
-    Ok(Mono::new(alloc, &exponents)?)
+    Mono::new(alloc, &exponents)
 }
 
 /// The monomial with u_j and v_j exchanged for each j, where the base has `count` numbers.
-pub(crate) fn turned_monomial(alloc: Global, mono: &Mono, count: usize) -> Result<Mono, ExpoError>
+pub(crate) fn monomial_backward(
+    alloc: Global,
+    mono: &Mono,
+    count: usize,
+) -> Result<Mono, AllocError>
     requires { width count 0 ≤ length mono.now }
-    ensures ok { IfOk result (λ found. found ≡ turned_exponents count mono.now) }
-    ensures narrow { ¬ IsErrOf result ExpoError.Wide }
+    ensures ok { IfOk result (λ found. found ≡ backward_exponents count mono.now) }
 {
     let list = mono.exponents();
     let (front, others) = list.as_slice().split_at(2);
@@ -39,12 +40,12 @@ pub(crate) fn turned_monomial(alloc: Global, mono: &Mono, count: usize) -> Resul
     exponents.extend_from_slice(down)?;
     exponents.extend_from_slice(up)?;
     exponents.extend_from_slice(variables)?;
-    Ok(Mono::new(alloc, &exponents)?)
+    Mono::new(alloc, &exponents)
 }
 
 /// Puts behind the others what some exponents have more than others at their places.
 fn push_left(out: &mut Vec<u16>, these: &[u16], others: &[u16]) -> Result<(), AllocError>
-    ensures { OnOk result (out.new.items ≡ out.old.items ++ left these.now others.now) }
+    ensures { OnOk result (out.new.items ≡ out.old.items ++ excess these.now others.now) }
 {
     let (Some((one, these)), Some((other, others))) = (these.split_first(), others.split_first())
     else {

@@ -1,5 +1,5 @@
 //! What stands for n, s, u, v and the variables at n + 1 and at 0.
-ghost use Rattle.std.specs.Prelude.{◌≡◌, ◌≢◌, ◌≤◌, ◌<◌, ◌+◌, ◌++◌, pos, All, drop, length, unsigned_abs, IfOk, OnOk, IsErrOf};
+ghost use Rattle.std.specs.Prelude.{◌≡◌, ◌≢◌, ◌≤◌, ◌<◌, ◌+◌, ◌++◌, pos, All, drop, length, unsigned_abs, IfOk, OnOk};
 ghost use Rattle.numbers.specs.Fraction.{ℚ, whole};
 ghost use Rattle.polynomials.specs.Terms.{variables};
 ghost use Rattle.exponentials.specs.Base.{Coprime};
@@ -12,31 +12,29 @@ ghost use Rattle.monos.specs.Variables.{most_variables};
 ghost use Rattle.expo.specs.Bases.{IsCoprimeBase};
 ghost use Rattle.expo.specs.Images.{IsMultiple, LikeIn, more, multiples, factor, factors_of};
 
-use crate::ExpoError;
 use frac128::{Frac, Whole};
 use monos::{Grevlex, Mono};
 use poly::{Poly, Term};
 use ring_laws::Ring;
-use std::alloc::Global;
+use std::alloc::{AllocError, Global};
 
 /// n + 1, -s, b_j u_j, v_j / b_j, and the variables.
 pub(crate) fn images_at_next(
     alloc: Global,
     base: &[Whole],
     vars: usize,
-) -> Result<Vec<Poly<Frac, Grevlex>>, ExpoError>
+) -> Result<Vec<Poly<Frac, Grevlex>>, AllocError>
     requires base { IsCoprimeBase (sizes base.now) }
     requires few { width (length (sizes base.now)) vars ≤ most_variables }
     ensures images { let b = sizes base.now in
         IfOk result (λ images. LikeIn (next_images b vars) (terms_each images.items)) }
     ensures arities { let w = width (length (sizes base.now)) vars in
         IfOk result (λ images. All (λ p. p.arity ≡ w) images.items) }
-    ensures narrow { ¬ IsErrOf result ExpoError.Wide }
 {
     let arity = 2 + 2 * base.len() + vars;
     let mut images = Vec::with_capacity(alloc, arity)?;
     images.push(one_more(alloc, arity)?)?;
-    images.push(multiple(alloc, arity, 1, Frac::one().neg()?)?)?;
+    images.push(multiple(alloc, arity, 1, Frac::one().neg())?)?;
     push_multiples(alloc, &mut images, arity, 2, base, false)?;
     push_multiples(alloc, &mut images, arity, 2 + base.len(), base, true)?;
     push_variables(alloc, &mut images, arity, 2 + 2 * base.len())?;
@@ -48,11 +46,10 @@ pub(crate) fn images_at_zero(
     alloc: Global,
     count: usize,
     vars: usize,
-) -> Result<Vec<Poly<Frac, Grevlex>>, ExpoError>
+) -> Result<Vec<Poly<Frac, Grevlex>>, AllocError>
     requires few { width count vars ≤ most_variables }
     ensures images { IfOk result (λ images. terms_each images.items ≡ zero_images count vars) }
     ensures arities { IfOk result (λ images. All (λ p. p.arity ≡ vars) images.items) }
-    ensures narrow { ¬ IsErrOf result ExpoError.Wide }
 {
     let mut images = Vec::with_capacity(alloc, 2 + 2 * count + vars)?;
     images.push(Poly::zero(alloc, Grevlex, vars))?;
@@ -71,7 +68,7 @@ fn push_multiples(
     from: usize,
     base: &[Whole],
     inverted: bool,
-) -> Result<(), ExpoError>
+) -> Result<(), AllocError>
     requires few { arity ≤ most_variables }
     requires base { Coprime (sizes base.now) }
     requires places { from + length base.now ≤ arity }
@@ -80,7 +77,6 @@ fn push_multiples(
         OnOk result (terms_each images.new.items
         ≡ terms_each images.old.items ++ multiples arity cs (drop from (variables ℚ arity))) }
     ensures arities { OnOk result (All (λ p. p.arity ≡ arity) images.new.items) }
-    ensures narrow { ¬ IsErrOf result ExpoError.Wide }
 {
     for place in 0..base.len() {
         let factor = factor_of(&base[place], inverted);
@@ -95,14 +91,13 @@ pub(crate) fn push_variables(
     images: &mut Vec<Poly<Frac, Grevlex>>,
     arity: usize,
     from: usize,
-) -> Result<(), ExpoError>
+) -> Result<(), AllocError>
     requires few { arity ≤ most_variables }
     requires from { from ≤ arity }
     requires arities { All (λ p. p.arity ≡ arity) images.old.items }
     ensures images { OnOk result (terms_each images.new.items
         ≡ terms_each images.old.items ++ drop from (variables ℚ arity)) }
     ensures arities { OnOk result (All (λ p. p.arity ≡ arity) images.new.items) }
-    ensures narrow { ¬ IsErrOf result ExpoError.Wide }
 {
     for place in from..arity {
         images.push(multiple(alloc, arity, place, Frac::one())?)?;
@@ -111,12 +106,11 @@ pub(crate) fn push_variables(
 }
 
 /// n + 1.
-fn one_more(alloc: Global, arity: usize) -> Result<Poly<Frac, Grevlex>, ExpoError>
+fn one_more(alloc: Global, arity: usize) -> Result<Poly<Frac, Grevlex>, AllocError>
     requires few { arity ≤ most_variables }
     requires some { 0 < arity }
     ensures arity { IfOk result (λ p. p.arity ≡ arity) }
     ensures terms { IfOk result (λ p. terms_in p ≡ more arity) }
-    ensures narrow { ¬ IsErrOf result ExpoError.Wide }
 {
     let variable = Mono::variable(alloc, arity, 0)?;
     let one = Mono::one(alloc, arity)?;
@@ -139,17 +133,16 @@ fn multiple(
     arity: usize,
     place: usize,
     coef: Frac,
-) -> Result<Poly<Frac, Grevlex>, ExpoError>
+) -> Result<Poly<Frac, Grevlex>, AllocError>
     requires few { arity ≤ most_variables }
     requires place { place < arity }
     requires nonzero { fraction_of coef ≢ ℚ.zero }
     ensures arity { IfOk result (λ p. p.arity ≡ arity) }
     ensures terms { IfOk result (λ p. IsMultiple arity (fraction_of coef) place (terms_in p)) }
-    ensures narrow { ¬ IsErrOf result ExpoError.Wide }
 {
     let mono = Mono::variable(alloc, arity, place)?;
     let terms = vec![in alloc; Term { mono, coef }]?;
-    Ok(Poly::from_terms(alloc, Grevlex, arity, terms)?)
+    Poly::from_distinct(alloc, Grevlex, arity, terms)
 }
 
 /// The number's size, or its inverse.

@@ -1,5 +1,5 @@
 //! Operations on exponential polynomials.
-ghost use Rattle.std.specs.Prelude.{◌≡◌, ◌≤◌, ◌<◌, ℕ, suc, List, All, length, IfOk, IsOkAnd, IsErrOf};
+ghost use Rattle.std.specs.Prelude.{◌≡◌, ◌≤◌, ◌<◌, ℕ, suc, List, All, length, IfOk, IsErrOf};
 ghost use Rattle.numbers.specs.Fraction.{Fraction, ℚ, fraction_size};
 ghost use Rattle.numbers.specs.Size.{IsPast};
 ghost use Rattle.polynomials.specs.Terms.{value_at};
@@ -10,23 +10,23 @@ ghost use Rattle.poly.specs.Seen.{terms_in};
 ghost use Rattle.poly.specs.Standing.{StandsFor};
 ghost use Rattle.poly.specs.View.{terms_of};
 ghost use Rattle.coprime_base.specs.Sizes.{sizes};
-ghost use Rattle.turns.specs.Expo.{normalized, turned_back, turned_sign};
+ghost use Rattle.turns.specs.Expo.{with_normal_keys, backward_terms, backward_sign};
 ghost use Rattle.turns.specs.Turns.{back_point, point, width};
 ghost use Rattle.expo.specs.Bases.{IsCoprimeBase};
 
-use crate::exponents::{normal_monomial, turned_monomial};
+use crate::Expo;
+use crate::exponents::{monomial_backward, normal_monomial};
 use crate::images::{images_at_next, images_at_zero};
 use crate::points::images_at_turn;
-use crate::{Expo, ExpoError};
 use frac128::{Frac, Whole};
 use monos::Grevlex;
 use poly::{Poly, Term};
-use ring_laws::{Ring, Wide};
-use std::alloc::Global;
+use ring_laws::{ArithmeticError, Ring};
+use std::alloc::{AllocError, Global};
 
 impl Expo {
     ghost use Rattle.expo.specs.View.{base_of, value_of, turn_of, HasValues, IsExpo};
-    ghost use Rattle.expo.specs.Operations.{normal_of, vars_of, product_of, sum_of, at_next, turned, at_zero, before_of, IsOver, IsPastProductOf, IsPastSumOf, IsPastNext, IsPastZero, IsPastBefore, IsPastTurn};
+    ghost use Rattle.expo.specs.Operations.{normal_of, vars_of, product_of, sum_of, at_next, backward_of, at_zero, before_of, IsOver, IsPastProductOf, IsPastSumOf, IsPastNext, IsPastZero, IsPastBefore, IsPastTurn};
 
     /// The polynomial with u_j v_j and s^2 replaced by 1. Its variables stand behind n, s, the u and the v.
     /// `Wide` only where its weight is past.
@@ -34,109 +34,108 @@ impl Expo {
         alloc: Global,
         base: &Vec<Whole>,
         body: &Poly<Frac, Grevlex>,
-    ) -> Result<Expo, ExpoError>
+    ) -> Result<Expo, ArithmeticError>
         requires base { IsCoprimeBase (sizes base.now.items) }
         requires front { width (length (sizes base.now.items)) 0 ≤ body.now.arity }
         ensures normal { let b = sizes base.now.items in IfOk result
             (IsExpo b (vars_of b body.now.arity) (normal_of b (terms_in body.now))) }
         ensures values { IfOk result
             (HasValues (λ n s. value_at ℚ (terms_in body.now) (point (sizes base.now.items) n s))) }
-        ensures wide { IsErrOf result ExpoError.Wide
+        ensures wide { IsErrOf result ArithmeticError.Wide
             → IsPast (weight fraction_size (terms_in body.now)) }
     {
         let count = base.len();
         let vars = body.arity() - 2 - 2 * count;
         let terms = normal_terms(alloc, body.terms(), count)?;
         let body = Poly::from_terms(alloc, Grevlex, body.arity(), terms)?;
-        Expo::of(alloc, base, vars, body)
+        Ok(Expo::of(alloc, base, vars, body)?)
     }
 
     /// The product. `Wide` only where its weight is past, or an exponent that it forms is above 65,535.
-    pub fn mul(&self, alloc: Global, other: &Expo) -> Result<Expo, ExpoError>
+    pub fn mul(&self, alloc: Global, other: &Expo) -> Result<Expo, ArithmeticError>
         requires base { base_of self.now ≡ base_of other.now }
         requires vars { self.now.vars ≡ other.now.vars }
         ensures product { IfOk result (IsOver self.now (product_of self.now other.now)) }
         ensures values { IfOk result
             (HasValues (λ n s. ℚ.mul (value_of self.now n s) (value_of other.now n s))) }
-        ensures wide { IsErrOf result ExpoError.Wide → IsPastProductOf self.now other.now }
+        ensures wide { IsErrOf result ArithmeticError.Wide → IsPastProductOf self.now other.now }
     {
         let product = self.body().mul(alloc, other.body())?;
         Expo::normal(alloc, self.base(), &product)
     }
 
     /// The sum. `Wide` only where its weight is past.
-    pub fn add(&self, alloc: Global, other: &Expo) -> Result<Expo, ExpoError>
+    pub fn add(&self, alloc: Global, other: &Expo) -> Result<Expo, ArithmeticError>
         requires base { base_of self.now ≡ base_of other.now }
         requires vars { self.now.vars ≡ other.now.vars }
         ensures sum { IfOk result (IsOver self.now (sum_of self.now other.now)) }
         ensures values { IfOk result
             (HasValues (λ n s. ℚ.add (value_of self.now n s) (value_of other.now n s))) }
-        ensures wide { IsErrOf result ExpoError.Wide → IsPastSumOf self.now other.now }
+        ensures wide { IsErrOf result ArithmeticError.Wide → IsPastSumOf self.now other.now }
     {
         let body = self.body().add(alloc, other.body())?;
-        Expo::of(alloc, self.base(), self.vars(), body)
+        Ok(Expo::of(alloc, self.base(), self.vars(), body)?)
     }
 
     /// The polynomial at n + 1: it has n + 1 for n, -s for s, b_j u_j for u_j and v_j / b_j for v_j.
     /// `Wide` only where the weight of the composition with these images is past.
-    pub fn shift_n(&self, alloc: Global) -> Result<Expo, ExpoError>
+    pub fn shift_n(&self, alloc: Global) -> Result<Expo, ArithmeticError>
         ensures shifted { IfOk result (IsOver self.now (at_next self.now)) }
         ensures values { IfOk result (HasValues (λ n s. value_of self.now (suc n) s)) }
-        ensures wide { IsErrOf result ExpoError.Wide → IsPastNext self.now }
+        ensures wide { IsErrOf result ArithmeticError.Wide → IsPastNext self.now }
     {
         let images = images_at_next(alloc, self.base(), self.vars())?;
         let body = self.body().compose(alloc, &images)?;
-        Expo::of(alloc, self.base(), self.vars(), body)
+        Ok(Expo::of(alloc, self.base(), self.vars(), body)?)
     }
 
     /// The polynomial at -n: it has -n for n, and u_j and v_j are exchanged.
-    pub fn backward(&self, alloc: Global) -> Result<Expo, ExpoError>
-        ensures backward { IfOk result (IsOver self.now (turned self.now)) }
+    pub fn backward(&self, alloc: Global) -> Result<Expo, AllocError>
+        ensures backward { IfOk result (IsOver self.now (backward_of self.now)) }
         ensures values { IfOk result
             (HasValues (λ n s. value_at ℚ (terms_in self.now.body)
             (back_point (base_of self.now) n s))) }
-        ensures narrow { ¬ IsErrOf result ExpoError.Wide }
     {
-        let terms = turned_terms(alloc, self.body().terms(), self.base().len())?;
-        let body = Poly::from_terms(alloc, Grevlex, self.body().arity(), terms)?;
+        let terms = terms_backward(alloc, self.body().terms(), self.base().len())?;
+        let body = Poly::from_distinct(alloc, Grevlex, self.body().arity(), terms)?;
         Expo::of(alloc, self.base(), self.vars(), body)
     }
 
     /// The polynomial at n - 1: it has n - 1 for n, -s for s, u_j / b_j for u_j and b_j v_j for v_j.
     /// `Wide` only where the weight of the composition that puts n + 1 for n in the polynomial at -n is past.
-    pub fn before(&self, alloc: Global) -> Result<Expo, ExpoError>
+    pub fn before(&self, alloc: Global) -> Result<Expo, ArithmeticError>
         ensures before { IfOk result (IsOver self.now (before_of self.now)) }
         ensures values { IfOk result (λ e. (n : ℕ) (s : List Fraction) → length s ≡ self.now.vars
             → value_of e (suc n) s ≡ value_of self.now n s) }
-        ensures wide { IsErrOf result ExpoError.Wide → IsPastBefore self.now }
+        ensures wide { IsErrOf result ArithmeticError.Wide → IsPastBefore self.now }
     {
         let back = self.backward(alloc)?;
         let next = back.shift_n(alloc)?;
-        next.backward(alloc)
+        Ok(next.backward(alloc)?)
     }
 
     /// The polynomial at a number of turns, over the variables alone.
     /// `Wide` only where a power of the base's numbers or of their inverses does not fit, or the weight of the composition with these is past.
-    pub fn at_turn(&self, alloc: Global, turns: u32) -> Result<Poly<Frac, Grevlex>, ExpoError>
+    pub fn at_turn(&self, alloc: Global, turns: u32) -> Result<Poly<Frac, Grevlex>, ArithmeticError>
         ensures turn { IfOk result (λ p. StandsFor self.now.vars p (turn_of self.now turns)) }
         ensures values { IfOk result (λ p. (s : List Fraction) → length s ≡ self.now.vars
             → value_at ℚ (terms_in p) s ≡ value_of self.now turns s) }
-        ensures wide { IsErrOf result ExpoError.Wide → IsPastTurn self.now turns }
+        ensures wide { IsErrOf result ArithmeticError.Wide → IsPastTurn self.now turns }
     {
         let images = images_at_turn(alloc, self.base(), self.vars(), turns)?;
-        Ok(self.body().compose(alloc, &images)?)
+        self.body().compose(alloc, &images)
     }
 
     /// The polynomial at n = 0, over the variables alone: it has 0 for n and 1 for s, the u and the v.
     /// `Wide` only where the weight of the composition with these is past.
-    pub fn at_zero(&self, alloc: Global) -> Result<Poly<Frac, Grevlex>, ExpoError>
+    pub fn at_zero(&self, alloc: Global) -> Result<Poly<Frac, Grevlex>, ArithmeticError>
         ensures zero { IfOk result (λ p. StandsFor self.now.vars p (at_zero self.now)) }
         ensures values { IfOk result (λ p. (s : List Fraction) → length s ≡ self.now.vars
             → value_at ℚ (terms_in p) s ≡ value_of self.now 0 s) }
-        ensures wide { IsErrOf result ExpoError.Wide → IsPastZero self.now }
+        ensures wide { IsErrOf result ArithmeticError.Wide → IsPastZero self.now }
     {
         let images = images_at_zero(alloc, self.base().len(), self.vars())?;
-        Ok(self.body().compose(alloc, &images)?)
+        self.body().compose(alloc, &images)
     }
 }
 
@@ -145,11 +144,10 @@ fn normal_terms(
     alloc: Global,
     terms: &[Term<Frac>],
     count: usize,
-) -> Result<Vec<Term<Frac>>, ExpoError>
+) -> Result<Vec<Term<Frac>>, AllocError>
     requires { All (λ t. width count 0 ≤ length t.mono) terms.now }
     ensures terms { IfOk result (λ out. terms_of fraction_of out.items
-        ≡ normalized count (terms_of fraction_of terms.now)) }
-    ensures narrow { ¬ IsErrOf result ExpoError.Wide }
+        ≡ with_normal_keys count (terms_of fraction_of terms.now)) }
 {
     let mut out = Vec::with_capacity(alloc, terms.len())?;
     for term in terms {
@@ -163,33 +161,31 @@ fn normal_terms(
 }
 
 /// The terms with -n for n, and u_j and v_j exchanged.
-fn turned_terms(
+fn terms_backward(
     alloc: Global,
     terms: &[Term<Frac>],
     count: usize,
-) -> Result<Vec<Term<Frac>>, ExpoError>
+) -> Result<Vec<Term<Frac>>, AllocError>
     requires { All (λ t. width count 0 ≤ length t.mono) terms.now }
     ensures terms { IfOk result (λ out. terms_of fraction_of out.items
-        ≡ turned_back count (terms_of fraction_of terms.now)) }
-    ensures narrow { ¬ IsErrOf result ExpoError.Wide }
+        ≡ backward_terms count (terms_of fraction_of terms.now)) }
 {
     let mut out = Vec::with_capacity(alloc, terms.len())?;
     for term in terms {
-        let mono = turned_monomial(alloc, &term.mono, count)?;
-        let coef = turned_coefficient(term)?;
+        let mono = monomial_backward(alloc, &term.mono, count)?;
+        let coef = coefficient_backward(term);
         out.push(Term { mono, coef })?;
     }
     Ok(out)
 }
 
 /// The coefficient of a term with -n for n.
-fn turned_coefficient(term: &Term<Frac>) -> Result<Frac, Wide>
+fn coefficient_backward(term: &Term<Frac>) -> Frac
     requires { 0 < length term.now.mono }
-    ensures { IsOkAnd result (λ coef. fraction_of coef
-        ≡ turned_sign (top term.now.mono) (fraction_of term.now.coef)) }
+    ensures { fraction_of result ≡ backward_sign (top term.now.mono) (fraction_of term.now.coef) }
 {
     if term.mono.exponent(0) % 2 == 0 {
-        Ok(term.coef)
+        term.coef
     } else {
         term.coef.neg()
     }

@@ -1,5 +1,5 @@
 //! What stands for n, s, u, v and the variables at a number of turns.
-ghost use Rattle.std.specs.Prelude.{◌≡◌, ◌<◌, ◌≤◌, ◌++◌, All, length, map, IfOk, OnOk, IsOkAnd, IsErr, IsErrOf};
+ghost use Rattle.std.specs.Prelude.{◌≡◌, ◌<◌, ◌≤◌, ◌++◌, All, length, map, IfOk, OnOk, IsErr, IsErrOf};
 ghost use Rattle.rings.specs.Arithmetic.{power as power_in};
 ghost use Rattle.numbers.specs.Fraction.{ℚ};
 ghost use Rattle.polynomials.specs.Terms.{constant};
@@ -11,14 +11,13 @@ ghost use Rattle.turns.specs.Turns.{width, sign as sign_at};
 ghost use Rattle.monos.specs.Variables.{most_variables};
 ghost use Rattle.expo.specs.Points.{number_image, turn_images, powers_by, IsPastPower, IsPastPoint};
 
-use crate::ExpoError;
 use crate::images::{factor_of, push_variables};
 use crate::table::natural;
 use frac128::{Frac, Whole};
 use monos::Grevlex;
 use poly::Poly;
-use ring_laws::{Ring, Wide};
-use std::alloc::Global;
+use ring_laws::{ArithmeticError, Ring, Wide};
+use std::alloc::{AllocError, Global};
 
 /// A power of a number. `Wide` only where it or one with a smaller exponent does not fit.
 pub fn power(number: &Frac, exponent: u32) -> Result<Frac, Wide>
@@ -40,17 +39,17 @@ pub(crate) fn images_at_turn(
     base: &[Whole],
     vars: usize,
     turns: u32,
-) -> Result<Vec<Poly<Frac, Grevlex>>, ExpoError>
+) -> Result<Vec<Poly<Frac, Grevlex>>, ArithmeticError>
     requires base { Coprime (sizes base.now) }
     requires few { width (length (sizes base.now)) vars ≤ most_variables }
     ensures images { IfOk result
         (λ images. terms_each images.items ≡ turn_images (sizes base.now) vars turns) }
     ensures arities { IfOk result (λ images. All (λ p. p.arity ≡ vars) images.items) }
-    ensures wide { IsErrOf result ExpoError.Wide → IsPastPoint (sizes base.now) turns }
+    ensures wide { IsErrOf result ArithmeticError.Wide → IsPastPoint (sizes base.now) turns }
 {
     let mut images = Vec::with_capacity(alloc, 2 + 2 * base.len() + vars)?;
     images.push(number_of(alloc, vars, turns)?)?;
-    images.push(Poly::constant(alloc, Grevlex, vars, &sign(turns)?)?)?;
+    images.push(Poly::constant(alloc, Grevlex, vars, &sign(turns))?)?;
     push_powers(alloc, &mut images, vars, base, turns, false)?;
     push_powers(alloc, &mut images, vars, base, turns, true)?;
     push_variables(alloc, &mut images, vars, 0)?;
@@ -58,25 +57,24 @@ pub(crate) fn images_at_turn(
 }
 
 /// A number of turns, as a constant.
-fn number_of(alloc: Global, vars: usize, turns: u32) -> Result<Poly<Frac, Grevlex>, ExpoError>
+fn number_of(alloc: Global, vars: usize, turns: u32) -> Result<Poly<Frac, Grevlex>, AllocError>
     requires { vars ≤ most_variables }
     ensures arity { IfOk result (λ p. p.arity ≡ vars) }
     ensures terms { IfOk result (λ p. terms_in p ≡ number_image vars turns) }
-    ensures narrow { ¬ IsErrOf result ExpoError.Wide }
 {
     let number = natural(turns as usize);
-    Ok(Poly::constant(alloc, Grevlex, vars, &number)?)
+    Poly::constant(alloc, Grevlex, vars, &number)
 }
 
 /// A power of -1.
-fn sign(turns: u32) -> Result<Frac, Wide>
-    ensures { IsOkAnd result (λ c. fraction_of c ≡ sign_at turns) }
+fn sign(turns: u32) -> Frac
+    ensures { fraction_of result ≡ sign_at turns }
 {
     let mut found = Frac::one();
     for _ in 0..turns {
-        found = found.neg()?;
+        found = found.neg();
     }
-    Ok(found)
+    found
 }
 
 /// Puts the powers of the base's numbers, or of their inverses, as constants behind the others. `Wide` only where one does not fit.
@@ -87,14 +85,14 @@ fn push_powers(
     base: &[Whole],
     turns: u32,
     inverted: bool,
-) -> Result<(), ExpoError>
+) -> Result<(), ArithmeticError>
     requires few { vars ≤ most_variables }
     requires base { Coprime (sizes base.now) }
     requires arities { All (λ p. p.arity ≡ vars) images.old.items }
     ensures images { OnOk result (terms_each images.new.items ≡ terms_each images.old.items
         ++ map (constant vars) (powers_by inverted (sizes base.now) turns)) }
     ensures arities { OnOk result (All (λ p. p.arity ≡ vars) images.new.items) }
-    ensures wide { IsErrOf result ExpoError.Wide → IsPastPoint (sizes base.now) turns }
+    ensures wide { IsErrOf result ArithmeticError.Wide → IsPastPoint (sizes base.now) turns }
 {
     let Some((number, base)) = base.split_first() else {
         return Ok(());

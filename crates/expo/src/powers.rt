@@ -3,7 +3,7 @@ ghost use Rattle.std.specs.Prelude.{◌≡◌, ◌<◌, ◌≤◌, ◌*◌, ◌^
 ghost use Rattle.numbers.specs.Gcd.{gcd};
 ghost use Rattle.numbers.specs.Limits.{number_limit, word_limit, word_bits};
 ghost use Rattle.exponentials.specs.Base.{Coprime};
-ghost use Rattle.exponentials.specs.Powers.{signed};
+ghost use Rattle.exponentials.specs.Powers.{negate_if};
 ghost use Rattle.frac128.specs.FracMeaning.{fraction_of};
 ghost use Rattle.frac128.specs.Sums.{over};
 ghost use Rattle.coprime_base.specs.Sizes.{sizes};
@@ -11,10 +11,9 @@ ghost use Rattle.turns.specs.Expo.{with_key};
 ghost use Rattle.monos.specs.Variables.{most_variables};
 ghost use Rattle.expo.specs.Powers.{number_of, key_of_power, key_in, arity_with, IsPastNumber, side_of, side_product};
 
-use crate::ExpoError;
 use frac128::{Frac, Whole};
 use monos::Mono;
-use ring_laws::{Ring, Wide};
+use ring_laws::{ArithmeticError, Ring, Wide};
 use std::alloc::{AllocError, Global};
 
 /// A product of whole powers of a base, with a sign: its exponents, one for each number of the base.
@@ -41,13 +40,18 @@ pub(crate) struct Evaluated {
 
 impl Power {
     /// The number, and the exponents of its n-th power. `Wide` only where the number does not fit.
-    pub(crate) fn evaluate(&self, alloc: Global, base: &[Whole]) -> Result<Evaluated, ExpoError>
+    pub(crate) fn evaluate(
+        &self,
+        alloc: Global,
+        base: &[Whole],
+    ) -> Result<Evaluated, ArithmeticError>
         requires base { Coprime (sizes base.now) }
         requires count { length self.now.exponents.items ≡ length base.now }
         ensures number { IfOk result
             (λ v. fraction_of v.number ≡ number_of (sizes base.now) self.now) }
         ensures key { IfOk result (λ v. key_in v.key ≡ key_of_power self.now) }
-        ensures wide { IsErrOf result ExpoError.Wide → IsPastNumber (sizes base.now) self.now }
+        ensures wide { IsErrOf result ArithmeticError.Wide
+            → IsPastNumber (sizes base.now) self.now }
     {
         let num = product_of(base, &self.exponents, false)?;
         let den = product_of(base, &self.exponents, true)?;
@@ -63,18 +67,22 @@ impl Power {
 
 impl Key {
     /// The monomial of this power of n and these of s, u and v, without a variable.
-    pub(crate) fn monomial(&self, alloc: Global, turns: u16, vars: usize) -> Result<Mono, ExpoError>
+    pub(crate) fn monomial(
+        &self,
+        alloc: Global,
+        turns: u16,
+        vars: usize,
+    ) -> Result<Mono, AllocError>
         requires { arity_with self.now vars ≤ most_variables }
         ensures ok { IfOk result
             (λ mono. mono ≡ with_key turns (key_in self.now) (replicate vars 0)) }
-        ensures narrow { ¬ IsErrOf result ExpoError.Wide }
     {
         let none = vec![in alloc; 0; vars]?;
         let mut exponents = vec![in alloc; turns, self.sign]?;
         exponents.extend_from_slice(&self.up)?;
         exponents.extend_from_slice(&self.down)?;
         exponents.extend_from_slice(&none)?;
-        Ok(Mono::new(alloc, &exponents)?)
+        Mono::new(alloc, &exponents)
     }
 }
 
@@ -142,7 +150,7 @@ fn signed_ratio(negative: bool, num: u128, den: u128) -> Result<Frac, Wide>
     requires den { 0 < den }
     requires coprime { gcd num den ≡ 1 }
     ensures ok { IfOk result
-        (λ ratio. fraction_of ratio ≡ signed negative (over (pos num) (pos den))) }
+        (λ ratio. fraction_of ratio ≡ negate_if negative (over (pos num) (pos den))) }
     ensures wide { IsErr result → (number_limit ≤ num) ⊎ (number_limit ≤ den) }
 {
     let (Ok(num), Ok(den)) = (i128::try_from(num), i128::try_from(den)) else {
@@ -151,5 +159,5 @@ fn signed_ratio(negative: bool, num: u128, den: u128) -> Result<Frac, Wide>
     let Ok(ratio) = Frac::new(num, den) else {
         return Err(Wide);
     };
-    if negative { ratio.neg() } else { Ok(ratio) }
+    if negative { Ok(ratio.neg()) } else { Ok(ratio) }
 }

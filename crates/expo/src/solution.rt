@@ -13,14 +13,14 @@ ghost use Rattle.expo.specs.Powers.{key_in, arity_with};
 ghost use Rattle.expo.specs.Rows.{IsPastOther, IsPastEqual};
 ghost use Rattle.expo.specs.Solutions.{AreOther, AreEqual, AreTabled, IsPastTable, IsTabled, IsSolutionOf, IsPastSolution, most_degree, most_numbers};
 
+use crate::Expo;
 use crate::powers::{Evaluated, Key, Power};
 use crate::table::{equal_numbers, other_numbers};
-use crate::{Expo, ExpoError};
 use frac128::{Frac, Whole};
 use monos::Grevlex;
 use poly::{Poly, Term};
-use ring_laws::Ring;
-use std::alloc::Global;
+use ring_laws::{ArithmeticError, Ring};
+use std::alloc::{AllocError, Global};
 
 /// The solution y of y(n+1) = λ y(n) + n^degree σ^n with y(0) = 0, where σ is the number of `source` and λ that of `own`.
 /// `Wide` only where a number of it, or an operation with them, is past.
@@ -31,7 +31,7 @@ pub fn solve_term(
     degree: u32,
     source: &Power,
     own: &Power,
-) -> Result<Expo, ExpoError>
+) -> Result<Expo, ArithmeticError>
     requires base { IsCoprimeBase (sizes base.now.items) }
     requires degree { degree ≤ most_degree }
     requires source { length source.now.exponents.items ≡ length base.now.items }
@@ -40,15 +40,15 @@ pub fn solve_term(
     ensures table { IfOk result (IsTabled (sizes base.now.items) vars degree source.now own.now) }
     ensures solves { IfOk result
         (IsSolutionOf (sizes base.now.items) vars degree source.now own.now) }
-    ensures wide { IsErrOf result ExpoError.Wide
+    ensures wide { IsErrOf result ArithmeticError.Wide
         → IsPastSolution (sizes base.now.items) degree source.now own.now }
 {
     let source = source.evaluate(alloc, base)?;
     let own = own.evaluate(alloc, base)?;
     let terms = terms_of_table(alloc, vars, degree, &source, &own)?;
     let arity = 2 + 2 * base.len() + vars;
-    let body = Poly::from_terms(alloc, Grevlex, arity, terms)?;
-    Expo::of(alloc, base, vars, body)
+    let body = Poly::from_distinct(alloc, Grevlex, arity, terms)?;
+    Ok(Expo::of(alloc, base, vars, body)?)
 }
 
 /// The terms, by the number of `source` and that of `own`.
@@ -58,7 +58,7 @@ fn terms_of_table(
     degree: u32,
     source: &Evaluated,
     own: &Evaluated,
-) -> Result<Vec<Term<Frac>>, ExpoError>
+) -> Result<Vec<Term<Frac>>, ArithmeticError>
     requires degree { degree ≤ most_degree }
     requires nonzero { fraction_of own.now.number ≢ ℚ.zero }
     requires source { arity_with source.now.key vars ≤ most_variables }
@@ -66,7 +66,7 @@ fn terms_of_table(
     ensures terms { IfOk result (λ out. AreTabled vars degree
         (fraction_of source.now.number) (fraction_of own.now.number)
         (key_in source.now.key) (key_in own.now.key) (terms_of fraction_of out.items)) }
-    ensures wide { IsErrOf result ExpoError.Wide
+    ensures wide { IsErrOf result ArithmeticError.Wide
         → IsPastTable (fraction_of source.now.number) (fraction_of own.now.number) degree }
 {
     if source.number == own.number {
@@ -83,7 +83,7 @@ fn other_terms(
     degree: u32,
     source: &Evaluated,
     own: &Evaluated,
-) -> Result<Vec<Term<Frac>>, ExpoError>
+) -> Result<Vec<Term<Frac>>, ArithmeticError>
     requires degree { degree ≤ most_degree }
     requires different { fraction_of source.now.number ≢ fraction_of own.now.number }
     requires source { arity_with source.now.key vars ≤ most_variables }
@@ -91,7 +91,7 @@ fn other_terms(
     ensures terms { IfOk result (λ out. AreOther vars degree
         (fraction_of source.now.number) (fraction_of own.now.number)
         (key_in source.now.key) (key_in own.now.key) (terms_of fraction_of out.items)) }
-    ensures wide { IsErrOf result ExpoError.Wide
+    ensures wide { IsErrOf result ArithmeticError.Wide
         → IsPastOther (fraction_of source.now.number) (fraction_of own.now.number) degree }
 {
     let numbers = other_numbers(alloc, degree, &source.number, &own.number)?;
@@ -100,7 +100,7 @@ fn other_terms(
     let mono = own.key.monomial(alloc, 0, vars)?;
     terms.push(Term {
         mono,
-        coef: first.neg()?,
+        coef: first.neg(),
     })?;
     Ok(terms)
 }
@@ -111,17 +111,17 @@ fn equal_terms(
     vars: usize,
     degree: u32,
     own: &Evaluated,
-) -> Result<Vec<Term<Frac>>, ExpoError>
+) -> Result<Vec<Term<Frac>>, ArithmeticError>
     requires degree { degree ≤ most_degree }
     requires nonzero { fraction_of own.now.number ≢ ℚ.zero }
     requires own { arity_with own.now.key vars ≤ most_variables }
     ensures terms { IfOk result (λ out. AreEqual vars degree
         (fraction_of own.now.number) (key_in own.now.key) (terms_of fraction_of out.items)) }
-    ensures wide { IsErrOf result ExpoError.Wide
+    ensures wide { IsErrOf result ArithmeticError.Wide
         → IsPastEqual (fraction_of own.now.number) degree }
 {
     let numbers = equal_numbers(alloc, degree, &own.number)?;
-    terms_by_power(alloc, vars, &own.key, &numbers)
+    Ok(terms_by_power(alloc, vars, &own.key, &numbers)?)
 }
 
 /// The numbers with the powers of n, each times a power.
@@ -130,12 +130,11 @@ fn terms_by_power(
     vars: usize,
     key: &Key,
     numbers: &[Frac],
-) -> Result<Vec<Term<Frac>>, ExpoError>
+) -> Result<Vec<Term<Frac>>, AllocError>
     requires few { length numbers.now ≤ most_numbers }
     requires key { arity_with key.now vars ≤ most_variables }
     ensures terms { IfOk result (λ out. terms_of fraction_of out.items
         ≡ terms_with vars (key_in key.now) (number_at numbers.now) 0 (length numbers.now)) }
-    ensures narrow { ¬ IsErrOf result ExpoError.Wide }
 {
     let mut terms = Vec::with_capacity(alloc, numbers.len())?;
     for turns in 0..numbers.len() {

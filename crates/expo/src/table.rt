@@ -9,9 +9,8 @@ ghost use Rattle.exponentials.specs.Table.{IsOther, IsEqual};
 ghost use Rattle.expo.specs.Numbers.{number_at};
 ghost use Rattle.expo.specs.Rows.{binomial, sum_behind, IsPastBehind, IsPastOther, IsPastEqual};
 
-use crate::ExpoError;
 use frac128::{Frac, Whole};
-use ring_laws::{Field, Ring, Wide};
+use ring_laws::{ArithmeticError, Field, Ring, Wide};
 use std::alloc::Global;
 
 /// The numbers q_0 to q_a where σ is not λ.
@@ -20,13 +19,13 @@ pub(crate) fn other_numbers(
     degree: u32,
     source: &Frac,
     own: &Frac,
-) -> Result<Vec<Frac>, ExpoError>
+) -> Result<Vec<Frac>, ArithmeticError>
     requires degree { degree ≤ most_degree }
     requires different { fraction_of source.now ≢ fraction_of own.now }
     ensures count { IfOk result (λ q. length q.items ≡ degree + 1) }
     ensures table { IfOk result (λ q. IsOther ℚ_field
         (fraction_of source.now) (fraction_of own.now) degree (number_at q.items)) }
-    ensures wide { IsErrOf result ExpoError.Wide
+    ensures wide { IsErrOf result ArithmeticError.Wide
         → IsPastOther (fraction_of source.now) (fraction_of own.now) degree }
 {
     let divisor = source.sub(own)?;
@@ -43,13 +42,17 @@ pub(crate) fn other_numbers(
 }
 
 /// The numbers q_0 to q_(a+1) where σ is λ.
-pub(crate) fn equal_numbers(alloc: Global, degree: u32, own: &Frac) -> Result<Vec<Frac>, ExpoError>
+pub(crate) fn equal_numbers(
+    alloc: Global,
+    degree: u32,
+    own: &Frac,
+) -> Result<Vec<Frac>, ArithmeticError>
     requires degree { degree ≤ most_degree }
     requires nonzero { fraction_of own.now ≢ ℚ.zero }
     ensures count { IfOk result (λ q. length q.items ≡ degree + 2) }
     ensures table { IfOk result
         (λ q. IsEqual ℚ_field (fraction_of own.now) degree (number_at q.items)) }
-    ensures wide { IsErrOf result ExpoError.Wide → IsPastEqual (fraction_of own.now) degree }
+    ensures wide { IsErrOf result ArithmeticError.Wide → IsPastEqual (fraction_of own.now) degree }
 {
     let mut row = degree as usize + 1;
     let mut numbers = vec![in alloc; Frac::zero(); row + 1]?;

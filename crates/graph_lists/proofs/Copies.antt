@@ -9,13 +9,12 @@ use Rattle.rings.specs.Each.{Each}
 use Rattle.rings.specs.Sum.{sum_over}
 use Rattle.rings.proofs.Lists.{length-front, length-back}
 use Rattle.numbers.specs.Fraction.{Fraction, ℚ}
-use Rattle.numbers.proofs.Fractions.{ℚ_ring}
 use Rattle.polynomials.specs.Polynomial.{Arity}
 use Rattle.polynomials.specs.Terms.{Terms, Same, evaluate, monomial_at, retold}
 use Rattle.polynomials.proofs.ByValues.{same_by_values}
-use Rattle.machines.proofs.Padding.{at}
+use Rattle.machines.proofs.Padding.{at, monomial_at-pad}
 use Rattle.expo.proofs.Distinct.{Differ}
-use Rattle.rounds.specs.Form.{widened}
+use Rattle.rounds.specs.Form.{with_room_for}
 use Rattle.rounds.proofs.WayBack.{widened_arity, widened_value}
 use Rattle.graph_lists.specs.Shapes.{wider}
 
@@ -73,18 +72,11 @@ module _ (k t m : ℕ) where
       apart u l (v ∷ p) a h = ((λ e. h.0 (wider_apart u.0 v.0 l a.0 e)), apart u l p a.1 h.1)
 
 -- ---- values
-pad : (c y : List Fraction) (f : List ℕ) → monomial_at ℚ (c ++ y) (replicate (length c) 0 ++ f)
-    ≡ monomial_at ℚ y f
-unfolding monomial_at power
-pad [] y f = refl
-pad (a ∷ c) y f = ap (ℚ.mul ℚ.one) (pad c y f) ∙ ℚ_ring.mul_comm ℚ.one (monomial_at ℚ y f)
-    ∙ ℚ_ring.mul-one (monomial_at ℚ y f)
-
 wide_monomial : (x c y : List Fraction) (d f : List ℕ) → length d ≡ length x
     → monomial_at ℚ (x ++ (c ++ y)) (d ++ (replicate (length c) 0 ++ f)) ≡ monomial_at ℚ (x ++ y)
     (d ++ f)
 unfolding monomial_at
-wide_monomial [] c y [] f l = pad c y f
+wide_monomial [] c y [] f l = monomial_at-pad c y f
 wide_monomial [] c y (n ∷ d) f l = absurd (omega (arith, l))
 wide_monomial (a ∷ x) c y [] f l = absurd (omega (arith, l))
 wide_monomial (a ∷ x) c y (n ∷ d) f l = ap (ℚ.mul (power ℚ a n))
@@ -105,12 +97,12 @@ module _ (k t m : ℕ) (x c y : List Fraction) (lx : length x ≡ k) (lc : lengt
   wider_value (u ∷ p) a = ap₂ ℚ.add (ap (ℚ.mul u.1) (monomial_wider u.0 a.0)) (wider_value p a.1)
 
 pub widened_same : (k t m : ℕ) (p : Terms Fraction) → Arity (k + m) p
-    → Same ℚ (retold (wider k t) p) (widened k t m p)
-widened_same k t m p a = same_by_values (k + t + m) (retold (wider k t) p) (widened k t m p)
+    → Same ℚ (retold (wider k t) p) (with_room_for k t m p)
+widened_same k t m p a = same_by_values (k + t + m) (retold (wider k t) p) (with_room_for k t m p)
     (wider_arity k t m p a) (widened_arity k t m p) (λ s l. go s l)
   where
     go : (s : List Fraction) → length s ≡ k + t + m
-        → at (retold (wider k t) p) s ≡ at (widened k t m p) s
+        → at (retold (wider k t) p) s ≡ at (with_room_for k t m p) s
     go s l =
         let x = take k s in
         let r = drop k s in
@@ -122,7 +114,7 @@ widened_same k t m p a = same_by_values (k + t + m) (retold (wider k t) p) (wide
         let ly : length y ≡ m = length-back t m r lr in
         let is : x ++ (c ++ y) ≡ s = ap (λ z. x ++ z) (take-append-drop t r)
         ∙ take-append-drop k s in
-        subst (λ z. at (retold (wider k t) p) z ≡ at (widened k t m p) z) is
+        subst (λ z. at (retold (wider k t) p) z ≡ at (with_room_for k t m p) z) is
         (wider_value k t m x c y lx lc p a ∙ sym (widened_value k t m p x c y lx lc ly))
 
 -- ---- term by term

@@ -27,7 +27,7 @@ use Rattle.poly.specs.Seen.{arity_of, terms_in, terms_each, Is}
 use Rattle.poly.specs.Standing.{IsOver, StandsFor, AllStandFor}
 use Rattle.poly.proofs.Standing.{arities_over, first_arity, polynomial_over, stands_push}
 use Rattle.rounds.specs.Form.{variable_at}
-use Rattle.rounds.specs.Graph.{put, less, at_before}
+use Rattle.rounds.specs.Graph.{images_behind, less, at_before}
 use Rattle.rounds.specs.Past.{IsPastLess, IsPastGraph}
 use Rattle.expressions.specs.FracPoly.{FracPoly}
 use Rattle.graph_lists.specs.Shapes.{passers, before_in}
@@ -187,7 +187,7 @@ module _ (w n m : ℕ) (l : n < w) (next : m ≡ suc n) (fs rest : List FracPoly
 
 -- ---- the whole list
 pub images_count : (k m w : ℕ) (images before : List FracPoly) → k ≤ w → length before ≡ m
-    → terms_each images ≡ put k w (terms_each before) → length images ≡ k + m
+    → terms_each images ≡ images_behind k w (terms_each before) → length images ≡ k + m
 images_count k m w images before l c e =
     let a = ap length e in
     let b = length-append (take k (variables ℚ w)) (terms_each before) in
@@ -200,7 +200,7 @@ images_count k m w images before l c e =
     omega (arith, a, b, c, d, f, i)
 
 module _ (k t m : ℕ) (images before : List (Terms Fraction))
-    (are : images ≡ put k (k + t + m) before) where
+    (are : images ≡ images_behind k (k + t + m) before) where
   last_is : k + t + 0 ≡ k + t
   last_is = omega arith
 

@@ -33,15 +33,15 @@ use Rattle.machines.proofs.Padding.{at}
 use Rattle.poly.specs.Seen.{terms_in, terms_each}
 use Rattle.poly.specs.Standing.{IsOver, AllStandFor}
 use Rattle.poly.proofs.Standing.{arities_over, polynomial_over, stands_all_along, stands_over, stands_same}
-use Rattle.turns.specs.Expo.{turned_back}
-use Rattle.rounds.specs.Form.{front, backward, variable_at, widened, before_by, at_minus_one}
-use Rattle.rounds.specs.Graph.{put, less, at_before, graph_list}
+use Rattle.turns.specs.Expo.{backward_terms}
+use Rattle.rounds.specs.Form.{front, backward, variable_at, with_room_for, before_by, at_minus_one}
+use Rattle.rounds.specs.Graph.{images_behind, less, at_before, graph_list}
 use Rattle.rounds.specs.Past.{IsPastLess, IsPastGraph}
 use Rattle.rounds.proofs.Graph.{each-take}
 use Rattle.rounds.proofs.WayBack.{before_arity}
 use Rattle.expo.specs.declared.exponential.Expo.{Expo}
 use Rattle.expressions.specs.FracPoly.{FracPoly}
-use Rattle.graph_lists.specs.Late.{Fits, HasShape, IsExpoOver, bodies_in, copies_in, form_in, form_over, numbers_in, vars_in, which}
+use Rattle.graph_lists.specs.Late.{FitsForm, HasShape, IsExpoOver, bodies_in, copies_in, form_in, form_over, numbers_in, vars_in, which}
 use Rattle.graph_lists.specs.Shapes.{before_in, passers, width_of}
 use Rattle.graph_lists.specs.declared.late_form.LateForm.{LateForm}
 use Rattle.graph_lists.specs.declared.shape.Shape.{Shape}
@@ -89,9 +89,9 @@ module _ (w k : ℕ) (wide : Terms Fraction → Terms Fraction)
   before_alike (false ∷ bs) j (p ∷ ps) (q ∷ qs) h = (keeps p q h.0, before_alike bs j ps qs h.1)
 
 widened_alike : (k t m : ℕ) (p q : Terms Fraction) → Same ℚ p q
-    → Same ℚ (widened k t m p) (widened k t m q)
+    → Same ℚ (with_room_for k t m p) (with_room_for k t m q)
 widened_alike k t m p q h = alike_compose (k + t + m) p q
-    (put k (k + t + m) (drop (k + t) (variables ℚ (k + t + m))))
+    (images_behind k (k + t + m) (drop (k + t) (variables ℚ (k + t + m))))
     (each-append (Arity (k + t + m)) (take k (variables ℚ (k + t + m)))
     (drop (k + t) (variables ℚ (k + t + m)))
     (each-take (Arity (k + t + m)) k (variables ℚ (k + t + m)) (arity-variables (k + t + m) ℚ))
@@ -100,15 +100,16 @@ widened_alike k t m p q h = alike_compose (k + t + m) p q
 
 pub stands_before : (k t m : ℕ) (passing : List Bool) (ps : List FracPoly)
     (told meant : List (Terms Fraction)) → AllSame ℚ told meant → length meant ≡ length passing
-    → AllStandFor (k + t + m) ps (before_in (k + t + m) k passing 0 (map (widened k t m) told))
+    → AllStandFor (k + t + m) ps (before_in (k + t + m) k passing 0
+    (map (with_room_for k t m) told))
     → AllStandFor (k + t + m) ps
-    (before_by (k + t + m) k (λ i. get_or passing i false) 0 0 (map (widened k t m) meant))
+    (before_by (k + t + m) k (λ i. get_or passing i false) 0 0 (map (with_room_for k t m) meant))
 stands_before k t m passing ps told meant same count h =
     let w = k + t + m in
-    subst (AllStandFor w ps) (before_are w k passing (map (widened k t m) meant)
-    (length-map meant (widened k t m) ∙ count))
+    subst (AllStandFor w ps) (before_are w k passing (map (with_room_for k t m) meant)
+    (length-map meant (with_room_for k t m) ∙ count))
     (stands_all_along w ps _ _
-    (before_alike w k (widened k t m) (widened_alike k t m) passing 0 told meant same) h)
+    (before_alike w k (with_room_for k t m) (widened_alike k t m) passing 0 told meant same) h)
 
 before-length : (w k : ℕ) (p : ℕ → Bool) (i j : ℕ) (ps : List (Terms Fraction))
     → length (before_by w k p i j ps) ≡ length ps
@@ -198,7 +199,7 @@ module _ (k t m : ℕ) where
   variables_arity = arity-variables (k + t + m) ℚ
 
   put_arities : (before : List (Terms Fraction)) → AllArity (k + t + m) before
-      → AllArity (k + t + m) (put k (k + t + m) before)
+      → AllArity (k + t + m) (images_behind k (k + t + m) before)
   put_arities before a = each-append (Arity (k + t + m)) (take k (variables ℚ (k + t + m))) before
       (each-take (Arity (k + t + m)) k (variables ℚ (k + t + m)) variables_arity) a
 
@@ -213,7 +214,8 @@ module _ (k t m : ℕ) where
       (less-arities (k + t + m) (drop (k + t) (variables ℚ (k + t + m)))
       (map (at_before k t m before) fs)
       (each-drop (Arity (k + t + m)) (k + t) (variables ℚ (k + t + m)) variables_arity)
-      (composed-arities (k + t + m) fs (put k (k + t + m) before) (put_arities before a))) tt)
+      (composed-arities (k + t + m) fs (images_behind k (k + t + m) before) (put_arities before a)))
+      tt)
 
   pub graph_alike : (before other fs gs : List (Terms Fraction)) → AllArity (k + t + m) before
       → AllArity (k + t + m) other → AllSame ℚ before other
@@ -226,8 +228,8 @@ module _ (k t m : ℕ) where
       fs))
       (less (drop (k + t) (variables ℚ (k + t + m))) (map (at_before k t m other) fs)) [] []
       (less_alike (drop (k + t) (variables ℚ (k + t + m))) _ _
-      (alike_each _ _ (λ f. alike_images (k + t + m) f (put k (k + t + m) before)
-      (put k (k + t + m) other) (put_arities before a) (put_arities other b)
+      (alike_each _ _ (λ f. alike_images (k + t + m) f (images_behind k (k + t + m) before)
+      (images_behind k (k + t + m) other) (put_arities before a) (put_arities other b)
       (alike_append (take k (variables ℚ (k + t + m))) (take k (variables ℚ (k + t + m))) before
       other (alike_itself (take k (variables ℚ (k + t + m)))) h)) fs)) (alike_itself []))
 
@@ -300,7 +302,7 @@ heavy_graph k t m before fs (g ∷ gs) (p ∷ ps) a (suc i, q, l, e, h) =
     go (inr past) = inr past
 
 -- ---- the graphs of a form
-module _ (f : LateForm) (fits : Fits f) (k : ℕ) (s : Shape) (is : HasShape f k s) where
+module _ (f : LateForm) (fits : FitsForm f) (k : ℕ) (s : Shape) (is : HasShape f k s) where
   shape_is : s ≡ record { front = k; copies = copies_in f; variables = vars_in f }
   shape_is = λ i. record { front = is.front i; copies = is.copies i; variables = is.variables i }
 
@@ -323,26 +325,30 @@ module _ (f : LateForm) (fits : Fits f) (k : ℕ) (s : Shape) (is : HasShape f k
   -- ---- what was told, in any list
   module _ (told meant : List (Terms Fraction)) (same : AllSame ℚ told meant)
       (count : length meant ≡ vars_in f) (before : List FracPoly) (stands : AllStandFor (width_of s)
-      before (before_in (width_of s) s.front f.passing.now.items 0 (map (widened s.front s.copies
+      before (before_in (width_of s) s.front f.passing.now.items 0
+      (map (with_room_for s.front s.copies
       s.variables) told))) where
     abbrev what : List (Terms Fraction)
     what = before_by (k + copies_in f + vars_in f) k (which f) 0 0
-        (map (widened k (copies_in f) (vars_in f)) meant)
+        (map (with_room_for k (copies_in f) (vars_in f)) meant)
 
     stands_here : AllStandFor (k + copies_in f + vars_in f) before (before_by
-        (k + copies_in f + vars_in f) k (which f) 0 0 (map (widened k (copies_in f) (vars_in f))
+        (k + copies_in f + vars_in f) k (which f) 0 0
+        (map (with_room_for k (copies_in f) (vars_in f))
         meant))
     stands_here = stands_before k (copies_in f) (vars_in f) f.passing.now.items before told meant
         same count (subst (λ (x : Shape). AllStandFor (width_of x) before (before_in (width_of x)
-        x.front f.passing.now.items 0 (map (widened x.front x.copies x.variables) told))) shape_is
+        x.front f.passing.now.items 0 (map (with_room_for x.front x.copies x.variables) told)))
+        shape_is
         stands)
 
     arities : AllArity (k + copies_in f + vars_in f) (before_by (k + copies_in f + vars_in f) k
-        (which f) 0 0 (map (widened k (copies_in f) (vars_in f)) meant))
+        (which f) 0 0 (map (with_room_for k (copies_in f) (vars_in f)) meant))
     arities = before_arity k (copies_in f) (vars_in f) (which f) meant 0 0
 
     terms_are : terms_each before ≡ map (collect rationals grevlex) (before_by
-        (k + copies_in f + vars_in f) k (which f) 0 0 (map (widened k (copies_in f) (vars_in f))
+        (k + copies_in f + vars_in f) k (which f) 0 0
+        (map (with_room_for k (copies_in f) (vars_in f))
         meant))
     terms_are = collected_list (k + copies_in f + vars_in f) before _ arities stands_here
 
@@ -351,10 +357,10 @@ module _ (f : LateForm) (fits : Fits f) (k : ℕ) (s : Shape) (is : HasShape f k
         let a = ap length terms_are in
         let b = length-map before terms_in in
         let c = length-map (before_by (k + copies_in f + vars_in f) k (which f) 0 0
-        (map (widened k (copies_in f) (vars_in f)) meant)) (collect rationals grevlex) in
+        (map (with_room_for k (copies_in f) (vars_in f)) meant)) (collect rationals grevlex) in
         let d = before-length (k + copies_in f + vars_in f) k (which f) 0 0
-        (map (widened k (copies_in f) (vars_in f)) meant) in
-        let e = length-map meant (widened k (copies_in f) (vars_in f)) in
+        (map (with_room_for k (copies_in f) (vars_in f)) meant) in
+        let e = length-map meant (with_room_for k (copies_in f) (vars_in f)) in
         let g = is.variables in
         omega (arith, a, b, c, d, e, g, count)
 
@@ -366,24 +372,26 @@ module _ (f : LateForm) (fits : Fits f) (k : ℕ) (s : Shape) (is : HasShape f k
           (graph_list s.front s.copies s.variables (terms_each before) fs [] gs)
           → AllStandFor (width_of s) out (graph_list k (copies_in f) (vars_in f) (before_by
           (k + copies_in f + vars_in f) k (which f) 0 0
-          (map (widened k (copies_in f) (vars_in f)) meant)) fs [] gs)
+          (map (with_room_for k (copies_in f) (vars_in f)) meant)) fs [] gs)
       graph_stands out a =
           let w = k + copies_in f + vars_in f in
           let here = subst (λ (x : Shape). AllStandFor (width_of x) out (graph_list x.front x.copies
           x.variables (terms_each before) fs [] gs)) shape_is a in
           subst (λ (x : Shape). AllStandFor (width_of x) out (graph_list k (copies_in f) (vars_in f)
-          (before_by w k (which f) 0 0 (map (widened k (copies_in f) (vars_in f)) meant)) fs [] gs))
+          (before_by w k (which f) 0 0 (map (with_room_for k (copies_in f) (vars_in f)) meant)) fs
+          [] gs))
           (sym shape_is)
           (stands_all_along w out _ _
           (graph_alike k (copies_in f) (vars_in f) (terms_each before)
-          (before_by w k (which f) 0 0 (map (widened k (copies_in f) (vars_in f)) meant)) fs gs
+          (before_by w k (which f) 0 0 (map (with_room_for k (copies_in f) (vars_in f)) meant)) fs
+          gs
           (arities_over w before (stands_over w before _ stands_here)) arities
           (stands_same w before _ stands_here)) here)
 
       pub graph_past : IsPastGraph s.front s.copies s.variables (terms_each before) fs gs
           → IsPastGraph k (copies_in f) (vars_in f) (map (collect rationals grevlex) (before_by
           (k + copies_in f + vars_in f) k (which f) 0 0
-          (map (widened k (copies_in f) (vars_in f)) meant))) fs gs
+          (map (with_room_for k (copies_in f) (vars_in f)) meant))) fs gs
       graph_past p = subst (λ b. IsPastGraph k (copies_in f) (vars_in f) b fs gs) terms_are
           (subst (λ (x : Shape). IsPastGraph x.front x.copies x.variables (terms_each before) fs gs)
           shape_is p)
@@ -393,25 +401,25 @@ module _ (f : LateForm) (fits : Fits f) (k : ℕ) (s : Shape) (is : HasShape f k
           → Any (λ p. IsPast (weight fraction_size p)) (terms_each out)
           → IsPastGraph k (copies_in f) (vars_in f) (map (collect rationals grevlex) (before_by
           (k + copies_in f + vars_in f) k (which f) 0 0
-          (map (widened k (copies_in f) (vars_in f)) meant))) fs gs
+          (map (with_room_for k (copies_in f) (vars_in f)) meant))) fs gs
       graph_heavy out a h = graph_past (heavy_graph s.front s.copies s.variables (terms_each before)
           fs gs out a h)
 
 -- ---- what an orbit is told
-module _ (f : LateForm) (fits : Fits f) where
+module _ (f : LateForm) (fits : FitsForm f) where
   abbrev meant : List (Terms Fraction)
-  meant = map (turned_back (numbers_in f)) (form_in f).polys
+  meant = map (backward_terms (numbers_in f)) (form_in f).polys
 
   pub orbit_told : AllSame ℚ (terms_each f.back.now.items)
-      (map (turned_back (numbers_in f)) (form_in f).polys)
-  orbit_told = subst (λ l. AllSame ℚ l (map (turned_back (numbers_in f)) (form_in f).polys))
+      (map (backward_terms (numbers_in f)) (form_in f).polys)
+  orbit_told = subst (λ l. AllSame ℚ l (map (backward_terms (numbers_in f)) (form_in f).polys))
       (sym fits.back)
-      (alike_each (backward grevlex (numbers_in f)) (turned_back (numbers_in f))
-      (λ p. collect-same ℚ_field grevlex grevlex_order (turned_back (numbers_in f) p))
+      (alike_each (backward grevlex (numbers_in f)) (backward_terms (numbers_in f))
+      (λ p. collect-same ℚ_field grevlex grevlex_order (backward_terms (numbers_in f) p))
       (form_in f).polys)
 
-  pub orbit_count : length (map (turned_back (numbers_in f)) (form_in f).polys) ≡ vars_in f
-  orbit_count = length-map (form_in f).polys (turned_back (numbers_in f))
+  pub orbit_count : length (map (backward_terms (numbers_in f)) (form_in f).polys) ≡ vars_in f
+  orbit_count = length-map (form_in f).polys (backward_terms (numbers_in f))
       ∙ length-map f.polys.now.items _ ∙ fits.count
 
   pub turn_told : (told : List FracPoly) → AllStandFor (vars_in f) told

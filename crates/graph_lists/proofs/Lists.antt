@@ -12,7 +12,7 @@ use Rattle.machines.specs.Collect.{collect}
 use Rattle.frac128.specs.declared.Whole.{Whole}
 use Rattle.poly.specs.Seen.{terms_each}
 use Rattle.coprime_base.specs.Sizes.{sizes}
-use Rattle.turns.specs.Expo.{turned_back}
+use Rattle.turns.specs.Expo.{backward_terms}
 use Rattle.rounds.specs.Form.{front, normal, relations, form_before, turn_before, at_minus_one}
 use Rattle.rounds.specs.Graph.{less, at_before}
 use Rattle.rounds.proofs.WayBack.{before_arity}
@@ -45,7 +45,7 @@ module _ (f : LateForm) (s : Shape) where
         (graph_arities k (copies_in f) (vars_in f) (form_before (form_in f) (vars_in f) (which f))
         (form_in f).polys (terms_each gs)
         (before_arity k (copies_in f) (vars_in f) (which f)
-        (map (turned_back (numbers_in f)) (form_in f).polys) 0 0))
+        (map (backward_terms (numbers_in f)) (form_in f).polys) 0 0))
 
     abbrev N : Terms Fraction → Terms Fraction
     N = normal (blocks (front (numbers_in f) + copies_in f) grevlex grevlex) (numbers_in f)

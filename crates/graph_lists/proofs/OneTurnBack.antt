@@ -31,10 +31,10 @@ use Rattle.poly.specs.Standing.{StandsFor, AllStandFor}
 use Rattle.poly.proofs.Standing.{arity_over}
 use Rattle.coprime_base.specs.Sizes.{sizes}
 use Rattle.turns.specs.Turns.{back_point, powers, inverses, sign}
-use Rattle.expo.specs.Operations.{turned, IsOver, IsPastTurn}
+use Rattle.expo.specs.Operations.{backward_of, IsOver, IsPastTurn}
 use Rattle.expo.specs.Points.{turn_images as images_at, IsPastPower, IsPastPoint}
 use Rattle.expo.specs.View.{base_of, value_of, turn_of, HasValues}
-use Rattle.expo.specs.declared.ExpoError.{ExpoError}
+use Rattle.ring_laws.specs.declared.ArithmeticError.{ArithmeticError}
 use Rattle.expo.specs.declared.exponential.Expo.{Expo}
 use Rattle.expo.proofs.Binomials.{quotient_fits}
 use Rattle.expressions.specs.FracPoly.{FracPoly}
@@ -62,7 +62,7 @@ module _ (bs : List ℕ) (coprime : Coprime bs) (m : ℕ) (body : Terms Fraction
       (each-append (Arity m) (map (constant m) (back_point bs 1 [])) (variables ℚ m)
       (arity-constants m (back_point bs 1 [])) (arity-variables m ℚ))
 
-module _ (e back : Expo) (over : IsOver e (turned e) back)
+module _ (e back : Expo) (over : IsOver e (backward_of e) back)
     (values : HasValues (λ n s. at (terms_in e.body) (back_point (base_of e) n s)) back) where
   stands : (p : FracPoly) → StandsFor back.vars p (turn_of back 1)
       → ((s : List Fraction) → length s ≡ back.vars → at (terms_in p) s ≡ value_of back 1 s)
@@ -78,7 +78,7 @@ module _ (e back : Expo) (over : IsOver e (turned e) back)
             ∙ sym (minus_one_value (base_of e) e.coprime.0 e.vars (terms_in e.body) s l));
       }
 
-  pub told_back : (r : Result FracPoly ExpoError) → IfOk r (λ p. StandsFor back.vars p
+  pub told_back : (r : Result FracPoly ArithmeticError) → IfOk r (λ p. StandsFor back.vars p
       (turn_of back 1)) → IfOk r (λ p. (s : List Fraction) → length s ≡ back.vars
       → at (terms_in p) s ≡ value_of back 1 s) → IfOk r (λ p. StandsFor e.vars p
       (at_minus_one (form_over (base_of e)) e.vars (terms_in e.body)))
@@ -137,7 +137,7 @@ images_are bs m =
     ∙ ap (λ l. map (constant m) (powers bs 1) ++ l)
     (append_assoc (map (constant m) (inverses bs 1)) [] (variables ℚ m))))
 
-pub past_back : (e back : Expo) → IsOver e (turned e) back → IsPastTurn back 1
+pub past_back : (e back : Expo) → IsOver e (backward_of e) back → IsPastTurn back 1
     → IsPastComposition fractions (backward grevlex (length (base_of e)) (terms_in e.body))
     (turn_images (form_over (base_of e)) e.vars)
 past_back e back over (inl p) = absurd (no_point back.base.items back.coprime.0 p)

@@ -22,7 +22,7 @@ use Rattle.machines.specs.Collect.{collect}
 use Rattle.machines.proofs.Collecting.{collect-is, collect-same}
 use Rattle.poly.specs.Seen.{terms_in, terms_each, Is}
 use Rattle.poly.specs.Standing.{StandsFor, AllStandFor}
-use Rattle.turns.specs.Expo.{normalized}
+use Rattle.turns.specs.Expo.{with_normal_keys}
 use Rattle.turns.specs.Turns.{width}
 use Rattle.turns.proofs.Lengths.{arity-normalized}
 use Rattle.turns.proofs.Retold.{same_normalized}
@@ -88,11 +88,11 @@ module _ (n w r : ℕ) (p made : FracPoly) (b : Blocked) (normals : terms_in mad
   normal_is q s a =
       let within = s.arity in
       let wide : width r (w - front r) ≡ w = omega (arith, some, within) in
-      collected_is n w b is.order (is.arity ∙ size ∙ s.arity) (normalized r q)
-      (subst (λ k. Arity k (normalized r q)) wide
+      collected_is n w b is.order (is.arity ∙ size ∙ s.arity) (with_normal_keys r q)
+      (subst (λ k. Arity k (with_normal_keys r q)) wide
       (arity-normalized r (w - front r) q (subst (λ k. Arity k q) (sym wide) a)))
       (Same-trans ℚ (subst (Same ℚ (terms_in b)) normals is.same)
-      (Same-trans ℚ (collect-same ℚ_field grevlex grevlex_order (normalized r (terms_in p)))
+      (Same-trans ℚ (collect-same ℚ_field grevlex grevlex_order (with_normal_keys r (terms_in p)))
       (same_normalized ℚ_ring r (terms_in p) q s.same)))
 
 -- ---- the relations

@@ -4,7 +4,7 @@
 --   numbers_in f, vars_in f    how many numbers its base has, and how many variables it is of
 --   form_in f                  the form (its lists don't ask from which number of turns on it is the state);  which f i: whether the variable i passes
 --   copies_in f, front_in f    how many copies there are, and how many variables an orbit eliminates
---   Fits f                     its parts are over its variables, and its form backward is that of the form
+--   FitsForm f                     its parts are over its variables, and its form backward is that of the form
 --   HasShape f k s             s has k variables in front, and the copies and variables of f
 --   orbit_graph_of f gs, turn_graph_of f fs gs     the lists of the graphs of an orbit, and of a turn
 --   orbit_of f gs, turn_of f fs gs     the lists of an orbit, and of a turn of the branch fs
@@ -64,7 +64,7 @@ module _ (f : LateForm) where
   abbrev pub front_in : ℕ
   front_in = front numbers_in + copies_in
 
-  pub record Fits : Type 0 where
+  pub record FitsForm : Type 0 where
     pub some : 0 < vars_in
     pub base : IsCoprimeBase (sizes f.base.now.items)
     pub few : front numbers_in + vars_in + vars_in ≤ most_variables

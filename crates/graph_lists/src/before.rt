@@ -1,19 +1,19 @@
 //! What the variables of a branch were.
-ghost use Rattle.std.specs.Prelude.{◌≡◌, ◌≤◌, ◌+◌, ◌++◌, List, length, map, All, IfOk, OnOk, IsErrOf};
+ghost use Rattle.std.specs.Prelude.{◌≡◌, ◌≤◌, ◌+◌, ◌++◌, List, length, map, All, IfOk, OnOk};
 ghost use Rattle.numbers.specs.Fraction.{Fraction};
 ghost use Rattle.polynomials.specs.Terms.{Terms};
 ghost use Rattle.monos.specs.Variables.{most_variables};
 ghost use Rattle.poly.specs.Seen.{terms_each};
 ghost use Rattle.poly.specs.Standing.{IsOver, AllStandFor};
-ghost use Rattle.rounds.specs.Form.{widened};
+ghost use Rattle.rounds.specs.Form.{with_room_for};
 ghost use Rattle.graph_lists.specs.Shapes.{width_of, passers, before_in};
 
 use crate::shape::Shape;
 use crate::widening::widened;
 use frac128::Frac;
 use monos::Grevlex;
-use poly::{Poly, PolyError};
-use std::alloc::Global;
+use poly::Poly;
+use std::alloc::{AllocError, Global};
 
 /// How many variables pass.
 pub(crate) fn passers(passing: &[bool]) -> usize
@@ -33,14 +33,13 @@ pub(crate) fn before(
     shape: Shape,
     passing: &[bool],
     told: &[Poly<Frac, Grevlex>],
-) -> Result<Vec<Poly<Frac, Grevlex>>, PolyError>
+) -> Result<Vec<Poly<Frac, Grevlex>>, AllocError>
     requires copies { shape.copies ≡ passers passing.now }
     requires few { width_of shape ≤ most_variables }
     requires over { All (IsOver (shape.front + shape.variables)) told.now }
-    ensures before { let wide = widened shape.front shape.copies shape.variables in
+    ensures before { let wide = with_room_for shape.front shape.copies shape.variables in
         IfOk result (λ out. AllStandFor (width_of shape) out.items
         (before_in (width_of shape) shape.front passing.now 0 (map wide (terms_each told.now)))) }
-    ensures narrow { ¬ IsErrOf result PolyError.Wide }
 {
     let mut out = Vec::new(alloc);
     push_before(alloc, &mut out, shape, 0, passing, told)?;
@@ -55,15 +54,14 @@ fn push_before(
     copy: usize,
     passing: &[bool],
     told: &[Poly<Frac, Grevlex>],
-) -> Result<(), PolyError>
+) -> Result<(), AllocError>
     requires copies { copy + passers passing.now ≤ shape.copies }
     requires few { width_of shape ≤ most_variables }
     requires over { All (IsOver (shape.front + shape.variables)) told.now }
-    ensures before { let wide = widened shape.front shape.copies shape.variables in
+    ensures before { let wide = with_room_for shape.front shape.copies shape.variables in
         (qs : List (Terms Fraction)) → AllStandFor (width_of shape) out.old.items qs
         → OnOk result (AllStandFor (width_of shape) out.new.items (qs
         ++ before_in (width_of shape) shape.front passing.now copy (map wide (terms_each told.now)))) }
-    ensures narrow { ¬ IsErrOf result PolyError.Wide }
 {
     let (Some((passes, passing)), Some((poly, told))) = (passing.split_first(), told.split_first())
     else {

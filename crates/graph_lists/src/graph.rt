@@ -9,15 +9,16 @@ ghost use Rattle.monos.specs.Variables.{most_variables};
 ghost use Rattle.poly.specs.Seen.{terms_in, terms_each};
 ghost use Rattle.poly.specs.Standing.{IsOver, StandsFor, AllStandFor};
 ghost use Rattle.rounds.specs.Form.{variable_at};
-ghost use Rattle.rounds.specs.Graph.{put, less, at_before, graph_list};
+ghost use Rattle.rounds.specs.Graph.{images_behind, less, at_before, graph_list};
 ghost use Rattle.rounds.specs.Past.{IsPastLess, IsPastGraph};
 ghost use Rattle.graph_lists.specs.Shapes.{width_of};
 
 use crate::shape::Shape;
 use frac128::Frac;
 use monos::Grevlex;
-use poly::{Poly, PolyError};
-use std::alloc::Global;
+use poly::Poly;
+use ring_laws::ArithmeticError;
+use std::alloc::{AllocError, Global};
 
 /// The elements of a list at what was, and each variable less its form there.
 pub(crate) fn graph(
@@ -26,7 +27,7 @@ pub(crate) fn graph(
     before: Vec<Poly<Frac, Grevlex>>,
     forms: &[Poly<Frac, Grevlex>],
     list: &[Poly<Frac, Grevlex>],
-) -> Result<Vec<Poly<Frac, Grevlex>>, PolyError>
+) -> Result<Vec<Poly<Frac, Grevlex>>, ArithmeticError>
     requires some { 0 < shape.variables }
     requires few { width_of shape ≤ most_variables }
     requires count { length before.items ≡ shape.variables }
@@ -37,7 +38,7 @@ pub(crate) fn graph(
     ensures graph { IfOk result (λ out. AllStandFor (width_of shape) out.items
         (graph_list shape.front shape.copies shape.variables (terms_each before.items)
         (terms_each forms.now) [] (terms_each list.now))) }
-    ensures wide { IsErrOf result PolyError.Wide
+    ensures wide { IsErrOf result ArithmeticError.Wide
         → IsPastGraph shape.front shape.copies shape.variables (terms_each before.items)
         (terms_each forms.now) (terms_each list.now) }
 {
@@ -55,7 +56,7 @@ fn push_composed(
     shape: Shape,
     before: &Vec<Poly<Frac, Grevlex>>,
     list: &[Poly<Frac, Grevlex>],
-) -> Result<(), PolyError>
+) -> Result<(), ArithmeticError>
     requires some { 0 < shape.variables }
     requires count { length before.now.items ≡ shape.variables }
     requires before { All (IsOver (width_of shape)) before.now.items }
@@ -65,7 +66,7 @@ fn push_composed(
         → OnOk result (AllStandFor (width_of shape) out.new.items (qs
         ++ map (λ g. compose ℚ (width_of shape) g (terms_each before.now.items))
         (terms_each list.now))) }
-    ensures wide { IsErrOf result PolyError.Wide
+    ensures wide { IsErrOf result ArithmeticError.Wide
         → Any (λ g. IsPastComposition fractions g (terms_each before.now.items))
         (terms_each list.now) }
 {
@@ -81,13 +82,12 @@ fn behind_front(
     alloc: Global,
     shape: Shape,
     before: Vec<Poly<Frac, Grevlex>>,
-) -> Result<Vec<Poly<Frac, Grevlex>>, PolyError>
+) -> Result<Vec<Poly<Frac, Grevlex>>, AllocError>
     requires few { width_of shape ≤ most_variables }
     requires before { All (IsOver (width_of shape)) before.items }
     ensures images { IfOk result (λ images. terms_each images.items
-        ≡ put shape.front (width_of shape) (terms_each before.items)) }
+        ≡ images_behind shape.front (width_of shape) (terms_each before.items)) }
     ensures over { IfOk result (λ images. All (IsOver (width_of shape)) images.items) }
-    ensures narrow { ¬ IsErrOf result PolyError.Wide }
 {
     let mut images = Vec::new(alloc);
     for place in 0..shape.front {
@@ -106,7 +106,7 @@ fn push_differences(
     images: &Vec<Poly<Frac, Grevlex>>,
     place: usize,
     forms: &[Poly<Frac, Grevlex>],
-) -> Result<(), PolyError>
+) -> Result<(), ArithmeticError>
     requires some { 0 < shape.variables }
     requires few { width_of shape ≤ most_variables }
     requires places { place + length forms.now ≤ shape.variables }
@@ -118,7 +118,7 @@ fn push_differences(
         → OnOk result (AllStandFor w out.new.items (qs
         ++ less (drop (shape.front + shape.copies + place) (variables ℚ w))
         (map (λ f. compose ℚ w f (terms_each images.now.items)) (terms_each forms.now)))) }
-    ensures wide { let w = width_of shape in IsErrOf result PolyError.Wide
+    ensures wide { let w = width_of shape in IsErrOf result ArithmeticError.Wide
         → Any (λ f. IsPastComposition fractions f (terms_each images.now.items))
         (terms_each forms.now)
         ⊎ IsPastLess (drop (shape.front + shape.copies + place) (variables ℚ w))
@@ -139,7 +139,7 @@ fn difference(
     images: &Vec<Poly<Frac, Grevlex>>,
     place: usize,
     form: &Poly<Frac, Grevlex>,
-) -> Result<Poly<Frac, Grevlex>, PolyError>
+) -> Result<Poly<Frac, Grevlex>, ArithmeticError>
     requires some { 0 < shape.variables }
     requires few { width_of shape ≤ most_variables }
     requires place { place < shape.variables }
@@ -149,7 +149,7 @@ fn difference(
     ensures difference { let w = width_of shape in IfOk result (λ p. StandsFor w p
         (variable_at w (shape.front + shape.copies + place)
         ++ negate ℚ (compose ℚ w (terms_in form.now) (terms_each images.now.items)))) }
-    ensures wide { let w = width_of shape in IsErrOf result PolyError.Wide
+    ensures wide { let w = width_of shape in IsErrOf result ArithmeticError.Wide
         → IsPastComposition fractions (terms_in form.now) (terms_each images.now.items)
         ⊎ IsPastSum fractions (variable_at w (shape.front + shape.copies + place))
         (collect rationals grevlex

@@ -13,18 +13,19 @@ ghost use Rattle.rounds.specs.Form.{front, backward, at_minus_one};
 ghost use Rattle.rounds.specs.Past.{turn_images};
 ghost use Rattle.graph_lists.specs.Placed.{HaveBlock};
 ghost use Rattle.graph_lists.specs.Shapes.{width_of};
-ghost use Rattle.graph_lists.specs.Late.{Fits, HasShape, numbers_in, orbit_graph_of, turn_graph_of, orbit_of, turn_of, IsPastOrbitOf, IsPastTurnOf, copies_in, front_in, vars_in, bodies_in, form_over, IsExpoOver};
+ghost use Rattle.graph_lists.specs.Late.{FitsForm, HasShape, numbers_in, orbit_graph_of, turn_graph_of, orbit_of, turn_of, IsPastOrbitOf, IsPastTurnOf, copies_in, front_in, vars_in, bodies_in, form_over, IsExpoOver};
 
 use crate::before::{before, passers};
 use crate::graph::graph;
 use crate::placed::{push_normal, push_placed, push_relations};
 use crate::shape::Shape;
-use expo::{Expo, ExpoError};
+use expo::Expo;
 use frac128::{Frac, Whole};
 use monos::{Blocks, Grevlex};
-use poly::{Poly, PolyError};
+use poly::Poly;
+use ring_laws::ArithmeticError;
 use starting_lists::front;
-use std::alloc::Global;
+use std::alloc::{AllocError, Global};
 
 /// A closed form that isn't the state from the start on: what its lists are made of.
 #[derive(Clone, Copy)]
@@ -46,13 +47,13 @@ impl<'a> LateForm<'a> {
         &self,
         alloc: Global,
         list: &[Poly<Frac, Grevlex>],
-    ) -> Result<Vec<Poly<Frac, Blocks>>, PolyError>
-        requires fits { Fits self.now }
+    ) -> Result<Vec<Poly<Frac, Blocks>>, ArithmeticError>
+        requires fits { FitsForm self.now }
         requires list { All (IsOver (vars_in self.now)) list.now }
         ensures list { IfOk result (λ gens. terms_each gens.items ≡ orbit_of self.now list.now) }
         ensures block { let n = front_in self.now in
             IfOk result (λ gens. HaveBlock n (n + vars_in self.now) gens.items) }
-        ensures wide { IsErrOf result PolyError.Wide → IsPastOrbitOf self.now list.now }
+        ensures wide { IsErrOf result ArithmeticError.Wide → IsPastOrbitOf self.now list.now }
     {
         let numbers = self.base.len();
         let shape = self.shape(front(numbers));
@@ -70,13 +71,13 @@ impl<'a> LateForm<'a> {
         alloc: Global,
         shape: Shape,
         list: &[Poly<Frac, Grevlex>],
-    ) -> Result<Vec<Poly<Frac, Grevlex>>, PolyError>
-        requires fits { Fits self.now }
+    ) -> Result<Vec<Poly<Frac, Grevlex>>, ArithmeticError>
+        requires fits { FitsForm self.now }
         requires shape { HasShape self.now (front (numbers_in self.now)) shape }
         requires list { All (IsOver (vars_in self.now)) list.now }
         ensures graph { IfOk result (λ out.
             AllStandFor (width_of shape) out.items (orbit_graph_of self.now list.now)) }
-        ensures wide { IsErrOf result PolyError.Wide → IsPastOrbitOf self.now list.now }
+        ensures wide { IsErrOf result ArithmeticError.Wide → IsPastOrbitOf self.now list.now }
         ensures heavy { IfOk result (λ out.
             Any (λ p. IsPast (weight fraction_size p)) (terms_each out.items)
             → IsPastOrbitOf self.now list.now) }
@@ -93,8 +94,8 @@ impl<'a> LateForm<'a> {
         alloc: Global,
         images: &[Poly<Frac, Grevlex>],
         list: &[Poly<Frac, Grevlex>],
-    ) -> Result<Vec<Poly<Frac, Blocks>>, PolyError>
-        requires fits { Fits self.now }
+    ) -> Result<Vec<Poly<Frac, Blocks>>, ArithmeticError>
+        requires fits { FitsForm self.now }
         requires count { length images.now ≡ vars_in self.now }
         requires images { All (IsOver (vars_in self.now)) images.now }
         requires list { All (IsOver (vars_in self.now)) list.now }
@@ -102,7 +103,7 @@ impl<'a> LateForm<'a> {
             terms_each gens.items ≡ turn_of self.now images.now list.now) }
         ensures block { let n = copies_in self.now in
             IfOk result (λ gens. HaveBlock n (n + vars_in self.now) gens.items) }
-        ensures wide { IsErrOf result PolyError.Wide
+        ensures wide { IsErrOf result ArithmeticError.Wide
             → IsPastTurnOf self.now images.now list.now }
     {
         let shape = self.shape(0);
@@ -119,15 +120,15 @@ impl<'a> LateForm<'a> {
         shape: Shape,
         images: &[Poly<Frac, Grevlex>],
         list: &[Poly<Frac, Grevlex>],
-    ) -> Result<Vec<Poly<Frac, Grevlex>>, PolyError>
-        requires fits { Fits self.now }
+    ) -> Result<Vec<Poly<Frac, Grevlex>>, ArithmeticError>
+        requires fits { FitsForm self.now }
         requires shape { HasShape self.now 0 shape }
         requires count { length images.now ≡ vars_in self.now }
         requires images { All (IsOver (vars_in self.now)) images.now }
         requires list { All (IsOver (vars_in self.now)) list.now }
         ensures graph { IfOk result (λ out. AllStandFor (width_of shape) out.items
             (turn_graph_of self.now images.now list.now)) }
-        ensures wide { IsErrOf result PolyError.Wide
+        ensures wide { IsErrOf result ArithmeticError.Wide
             → IsPastTurnOf self.now images.now list.now }
     {
         let mut told = Vec::new(alloc);
@@ -149,11 +150,10 @@ impl<'a> LateForm<'a> {
 }
 
 /// Copies of the polynomials themselves.
-fn bodies(alloc: Global, polys: &[Expo]) -> Result<Vec<Poly<Frac, Grevlex>>, PolyError>
+fn bodies(alloc: Global, polys: &[Expo]) -> Result<Vec<Poly<Frac, Grevlex>>, AllocError>
     ensures terms { IfOk result (λ out. terms_each out.items ≡ bodies_in polys.now) }
     ensures arities { IfOk result (λ out.
         map (λ p. p.arity) out.items ≡ map (λ (e : Expo). e.body.arity) polys.now) }
-    ensures narrow { ¬ IsErrOf result PolyError.Wide }
 {
     let mut out = Vec::new(alloc);
     for poly in polys {
@@ -167,13 +167,13 @@ fn push_told(
     alloc: Global,
     out: &mut Vec<Poly<Frac, Grevlex>>,
     polys: &[Expo],
-) -> Result<(), PolyError>
+) -> Result<(), ArithmeticError>
     ensures told { (bs : List ℕ) (m : ℕ) → All (IsExpoOver bs m) polys.now
         → (qs : List (Terms Fraction)) → AllStandFor m out.old.items qs
         → OnOk result (AllStandFor m out.new.items (qs
         ++ map (at_minus_one (form_over bs) m) (bodies_in polys.now))) }
     ensures wide { (bs : List ℕ) (m : ℕ) → All (IsExpoOver bs m) polys.now
-        → IsErrOf result PolyError.Wide
+        → IsErrOf result ArithmeticError.Wide
         → Any (λ p. IsPastComposition fractions p (turn_images (form_over bs) m))
         (map (backward grevlex (length bs)) (bodies_in polys.now)) }
 {
@@ -185,25 +185,10 @@ fn push_told(
 }
 
 /// The polynomial at n = -1.
-fn told_by(alloc: Global, poly: &Expo) -> Result<Poly<Frac, Grevlex>, PolyError>
+fn told_by(alloc: Global, poly: &Expo) -> Result<Poly<Frac, Grevlex>, ArithmeticError>
     ensures told { IfOk result (λ p. StandsFor poly.now.vars p
         (at_minus_one (form_over (base_of poly.now)) poly.now.vars (terms_in poly.now.body))) }
-    ensures wide { IsErrOf result PolyError.Wide → IsPastComposition fractions
-        (backward grevlex (length (base_of poly.now)) (terms_in poly.now.body))
-        (turn_images (form_over (base_of poly.now)) poly.now.vars) }
-{
-    match at_minus_one(alloc, poly) {
-        Ok(value) => Ok(value),
-        Err(ExpoError::Wide) => Err(PolyError::Wide),
-        Err(ExpoError::Memory) => Err(PolyError::Memory),
-    }
-}
-
-/// The same.
-fn at_minus_one(alloc: Global, poly: &Expo) -> Result<Poly<Frac, Grevlex>, ExpoError>
-    ensures told { IfOk result (λ p. StandsFor poly.now.vars p
-        (at_minus_one (form_over (base_of poly.now)) poly.now.vars (terms_in poly.now.body))) }
-    ensures wide { IsErrOf result ExpoError.Wide → IsPastComposition fractions
+    ensures wide { IsErrOf result ArithmeticError.Wide → IsPastComposition fractions
         (backward grevlex (length (base_of poly.now)) (terms_in poly.now.body))
         (turn_images (form_over (base_of poly.now)) poly.now.vars) }
 {

@@ -17,9 +17,10 @@ ghost use Rattle.graph_lists.specs.Placed.{HaveBlock};
 
 use frac128::{Frac, Whole};
 use monos::{Blocks, Grevlex};
-use poly::{Poly, PolyError};
+use poly::Poly;
+use ring_laws::ArithmeticError;
 use starting_lists::{front, normal_of, relation};
-use std::alloc::Global;
+use std::alloc::{AllocError, Global};
 
 /// Puts the polynomials, with s s and the u_j v_j replaced by 1, behind the others, in the order that eliminates the first ones.
 pub(crate) fn push_normal(
@@ -28,7 +29,7 @@ pub(crate) fn push_normal(
     base: &Vec<Whole>,
     first: usize,
     list: &[Poly<Frac, Grevlex>],
-) -> Result<(), PolyError>
+) -> Result<(), ArithmeticError>
     requires base { IsCoprimeBase (sizes base.now.items) }
     requires front { All (λ p. front (length (sizes base.now.items)) ≤ p.arity) list.now }
     ensures normal { (w : ℕ) (qs : List (Terms Fraction)) → AllStandFor w list.now qs
@@ -36,7 +37,7 @@ pub(crate) fn push_normal(
         ++ map (normal (blocks first grevlex grevlex) (length (sizes base.now.items))) qs) }
     ensures block { (w : ℕ) → All (IsOver w) list.now → HaveBlock first w gens.old.items
         → OnOk result (HaveBlock first w gens.new.items) }
-    ensures wide { IsErrOf result PolyError.Wide
+    ensures wide { IsErrOf result ArithmeticError.Wide
         → Any (λ p. IsPast (weight fraction_size p)) (terms_each list.now) }
 {
     let Some((p, list)) = list.split_first() else {
@@ -53,13 +54,12 @@ pub(crate) fn push_placed(
     gens: &mut Vec<Poly<Frac, Blocks>>,
     first: usize,
     list: &[Poly<Frac, Grevlex>],
-) -> Result<(), PolyError>
+) -> Result<(), AllocError>
     ensures placed { (w : ℕ) (qs : List (Terms Fraction)) → AllStandFor w list.now qs
         → AllArity w qs → OnOk result (terms_each gens.new.items ≡ terms_each gens.old.items
         ++ map (collect rationals (blocks first grevlex grevlex)) qs) }
     ensures block { (w : ℕ) → All (IsOver w) list.now → HaveBlock first w gens.old.items
         → OnOk result (HaveBlock first w gens.new.items) }
-    ensures narrow { ¬ IsErrOf result PolyError.Wide }
 {
     let Some((p, list)) = list.split_first() else {
         return Ok(());
@@ -75,14 +75,13 @@ pub(crate) fn push_relations(
     numbers: usize,
     copies: usize,
     variables: usize,
-) -> Result<(), PolyError>
+) -> Result<(), AllocError>
     requires few { front numbers + (copies + variables) ≤ most_variables }
     ensures list { OnOk result (terms_each gens.new.items ≡ terms_each gens.old.items
         ++ map (collect rationals (blocks (front numbers + copies) grevlex grevlex))
         (relations numbers (copies + variables))) }
     ensures block { let n = front numbers + copies in HaveBlock n (n + variables) gens.old.items
         → OnOk result (HaveBlock n (n + variables) gens.new.items) }
-    ensures narrow { ¬ IsErrOf result PolyError.Wide }
 {
     gens.push(placed_relation(alloc, numbers, copies, variables, 1, 1)?)?;
     for number in 0..numbers {
@@ -100,7 +99,7 @@ fn placed_relation(
     variables: usize,
     left: usize,
     right: usize,
-) -> Result<Poly<Frac, Blocks>, PolyError>
+) -> Result<Poly<Frac, Blocks>, AllocError>
     requires few { front numbers + (copies + variables) ≤ most_variables }
     requires left { left < front numbers }
     requires right { right < front numbers }
@@ -109,7 +108,6 @@ fn placed_relation(
         (relation (front numbers + (copies + variables)) left right)) }
     ensures block { let n = front numbers + copies in
         IfOk result (λ p. (p.order.first ≡ n) × (p.arity ≡ n + variables)) }
-    ensures narrow { ¬ IsErrOf result PolyError.Wide }
 {
     let first = front(numbers) + copies;
     let relation = relation(alloc, numbers, copies + variables, left, right)?;

@@ -1,5 +1,5 @@
 //! Which variables the polynomials of a graph have.
-ghost use Rattle.std.specs.Prelude.{◌≡◌, ◌≤◌, ◌<◌, IfOk, IsErrOf};
+ghost use Rattle.std.specs.Prelude.{◌≡◌, ◌≤◌, ◌<◌, IfOk};
 ghost use Rattle.monos.specs.Variables.{most_variables};
 ghost use Rattle.poly.specs.Seen.{terms_in};
 ghost use Rattle.rounds.specs.Form.{variable_at};
@@ -7,8 +7,8 @@ ghost use Rattle.graph_lists.specs.Shapes.{width_of};
 
 use frac128::Frac;
 use monos::Grevlex;
-use poly::{Poly, PolyError};
-use std::alloc::Global;
+use poly::Poly;
+use std::alloc::{AllocError, Global};
 
 /// How many variables stand in front, how many copies of others behind them, and how many variables behind these.
 #[derive(Clone, Copy)]
@@ -32,12 +32,11 @@ impl Shape {
         &self,
         alloc: Global,
         place: usize,
-    ) -> Result<Poly<Frac, Grevlex>, PolyError>
+    ) -> Result<Poly<Frac, Grevlex>, AllocError>
         requires few { width_of self.now ≤ most_variables }
         requires place { place < width_of self.now }
         ensures terms { IfOk result (λ p. terms_in p ≡ variable_at (width_of self.now) place) }
         ensures arity { IfOk result (λ p. p.arity ≡ width_of self.now) }
-        ensures narrow { ¬ IsErrOf result PolyError.Wide }
     {
         Poly::variable(alloc, Grevlex, self.width(), place)
     }

@@ -18,7 +18,7 @@ use Rattle.ideals.specs.Members.{IsMember, IsSumOf}
 use Rattle.ideals.proofs.Members.{member_sum, sum_member}
 use Rattle.machines.specs.Basis.{AtPlaces, IsBasisOf}
 use Rattle.machines.specs.Cut.{monic}
-use Rattle.machines.specs.Elimination.{kept, in_front, blend}
+use Rattle.machines.specs.Elimination.{free_part, in_front, blend}
 use Rattle.machines.specs.Reduced.{IsReducedBasis}
 use Rattle.machines.proofs.Eliminating.{kept_basis, kept_members}
 use Rattle.machines.proofs.Ends.{reduced_along, monic_list}
@@ -61,18 +61,18 @@ module _ {A : Type 0} (K : Field A) (k m : ℕ) (P Q : Rank) (p : IsMonomialOrde
   module _ (basis hs : List (Terms A))
       (ph : AtPlaces (IsPolynomial (operations K.ring) (blocks k P Q) (k + m)) hs)
       (b : IsBasisOf (calculus K) (blocks k P Q) (k + m) basis hs) where
-    pub kept_itself : IsBasisOf (calculus K) Q m (kept k basis) (kept k basis)
+    pub kept_itself : IsBasisOf (calculus K) Q m (free_part k basis) (free_part k basis)
     kept_itself = kept_basis K k m P Q p q basis hs ph b
 
-    pub kept_monic : map (monic (calculus K)) (kept k basis) ≡ kept k basis
-    kept_monic = monic_list K Q q m (kept k basis) kept_itself.monic
+    pub kept_monic : map (monic (calculus K)) (free_part k basis) ≡ free_part k basis
+    kept_monic = monic_list K Q q m (free_part k basis) kept_itself.monic
 
     -- ELIMINATION
     pub eliminated_of : (gs : List (Terms A))
-        → IsReducedBasis (calculus K) Q m gs (IsMember (operations K.ring) m (kept k basis))
+        → IsReducedBasis (calculus K) Q m gs (IsMember (operations K.ring) m (free_part k basis))
         → IsReducedBasis (calculus K) Q m gs (λ y. IsMember (operations K.ring) (k + m) hs
         (in_front k y))
-    eliminated_of gs = basis_along K Q q m gs (IsMember N m (kept k basis))
+    eliminated_of gs = basis_along K Q q m gs (IsMember N m (free_part k basis))
         (λ y. IsMember N (k + m) hs (in_front k y)) (λ y hy. kept_members K k m P Q p q basis hs ph
         b y hy)
 

@@ -22,7 +22,7 @@ module _ {A : Type 0} (K : Field A) (O : Rank) (o : IsMonomialOrder O) (m : ℕ)
     → IsMember (operations K.ring) m gs (t ∷ q) → SomeLeadDivides gs t.0)
     (p : Terms A) (hp : IsPolynomial (operations K.ring) O m p) (s : division.State A)
     (es : List Event)
-    (run : IsRun (division.next (calculus K) O gs) (division.begun gs p) es s)
+    (run : IsRun (division.next (calculus K) O gs) (division.initial_state gs p) es s)
     (ended : HasEnded (division.next (calculus K) O gs) s) where
   pub member_decided : IsMember (operations K.ring) m gs p ↔ (division.rest s ≡ [])
   member_decided = rest_decides K O o m gs (λ k g at. record {
@@ -32,9 +32,10 @@ module _ {A : Type 0} (K : Field A) (O : Rank) (o : IsMonomialOrder O) (m : ℕ)
 
 -- ---- nothing left
 module _ {A : Type 0} (F : FieldArithmetic A) (O : Rank) (gs : List (Terms A)) where
-  put_away : (c : Option (Terms A)) (qs : List (Terms A)) → division.dividing F O gs c qs ≡ None
+  put_away : (c : Option (Terms A)) (qs : List (Terms A)) → division.next_division F O gs c qs
+      ≡ None
       → division.rest_of c ≡ [] → c ≡ None
-  unfolding division.dividing division.divided find_cut
+  unfolding division.next_division division.next_cut find_cut
   put_away None qs n e = refl
   put_away (Some []) qs n e = absurd (let z : ⊥ = cc in z)
   put_away (Some (t ∷ p)) qs n e = absurd (let z : ⊥ = cc in z)

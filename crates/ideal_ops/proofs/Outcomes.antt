@@ -3,7 +3,7 @@
 --   ended_of      where there is an answer, it has ended with it
 use Rattle.std.proofs.Common.{Result, Ok, Err, IfOk}
 use Rattle.machines.specs.Journal.{Journal}
-use Rattle.machines.specs.Machine.{Machine, Outcome, done, stopped, Ended, Ran}
+use Rattle.machines.specs.Machine.{Machine, Outcome, done, stopped, RanToEnd, Ran}
 use Rattle.divide.specs.declared.EngineError.{EngineError}
 use Rattle.divide.specs.Outcomes.{outcome_of}
 
@@ -17,6 +17,6 @@ module _ {S A : Type 0} {M : Machine S} {before after : Journal} where
   ran_as f (stopped q) r = record { limit = r.limit; to = r.to }
 
   pub ended_of : {G : A → S → Type 0} (r : Result A EngineError)
-      → Ran M G before after (outcome_of r) → IfOk r (Ended M G before after)
+      → Ran M G before after (outcome_of r) → IfOk r (RanToEnd M G before after)
   ended_of (Ok a) h = h.to
   ended_of (Err e) h = tt

@@ -1,6 +1,6 @@
 -- What the calls on ideals do, and what they give.
 --   Way S              what is done: the gens are completed in an order, and a part of what that gives is tidied in graded reverse lexicographic order
---   adding ks bs, meeting ks bs, eliminating k gs     that of a sum, of an intersection, and of an elimination of the first k variables
+--   sum_way ks bs, intersection_way ks bs, elimination_way k gs     that of a sum, of an intersection, and of an elimination of the first k variables
 --   elimination_of w   the elimination that it is, as a machine;  IsListOf w gs s: the gs are its list in the state s
 --   AreOver m ps       each of the ps has m variables;  HaveOneArity ps: as many as the first
 --   first_block gs     how many variables stand in the first block of the first of the gs, and 0 of none
@@ -15,7 +15,7 @@ use Rattle.polynomials.specs.Order.{Rank, grevlex, blocks}
 use Rattle.polynomials.specs.Terms.{Terms}
 use Rattle.ideals.specs.Members.{IsMember, IsSumOf}
 use Rattle.machines.specs.Elimination as elimination
-use Rattle.machines.specs.Elimination.{kept, in_front, blend}
+use Rattle.machines.specs.Elimination.{free_part, in_front, blend}
 use Rattle.machines.specs.Machine.{Machine}
 use Rattle.machines.specs.Machines as machines
 use Rattle.machines.specs.Reduced.{IsReducedBasis}
@@ -39,20 +39,20 @@ module _ {K O : Type 0} {g : Ring.Ghosts K} {h : PartialEq.Ghosts K} {k : Order.
       → Type 0
   IsListOf w gs s = terms_each gs.items ≡ elimination.list_of grevlex w.part s
 
-  abbrev pub adding : List (Poly K O g h k l) → List (Poly K O g h k l) → Way g.scalars
-  adding ks bs = record { order = grevlex; part = λ gs. gs; gens = terms_each ks ++ terms_each bs }
+  abbrev pub sum_way : List (Poly K O g h k l) → List (Poly K O g h k l) → Way g.scalars
+  sum_way ks bs = record { order = grevlex; part = λ gs. gs; gens = terms_each ks ++ terms_each bs }
 
-  abbrev pub meeting : List (Poly K O g h k l) → List (Poly K O g h k l) → Way g.scalars
-  meeting ks bs = record {
+  abbrev pub intersection_way : List (Poly K O g h k l) → List (Poly K O g h k l) → Way g.scalars
+  intersection_way ks bs = record {
     order = blocks 1 grevlex grevlex;
-    part = kept 1;
+    part = free_part 1;
     gens = blend (field g.scalars) (blocks 1 grevlex grevlex) (terms_each ks) (terms_each bs);
   }
 
-  abbrev pub eliminating : ℕ → List (Poly K O g h k l) → Way g.scalars
-  eliminating n gs = record {
+  abbrev pub elimination_way : ℕ → List (Poly K O g h k l) → Way g.scalars
+  elimination_way n gs = record {
     order = blocks n grevlex grevlex;
-    part = kept n;
+    part = free_part n;
     gens = terms_each gs;
   }
 

@@ -1,3 +1,4 @@
+pub mod Limits
 pub mod Eliminating
 pub mod Blending
 pub mod Calls

@@ -4,7 +4,7 @@ ghost use Rattle.divide.specs.Current.{AreDivisors};
 ghost use Rattle.divide.specs.Division.{division_of};
 ghost use Rattle.divide.specs.Outcomes.{outcome_of};
 ghost use Rattle.machines.specs.Machine.{Ran};
-ghost use Rattle.reduced_basis.specs.Tidying.{list_limit};
+ghost use Rattle.divide.specs.Limits.{list_limit};
 ghost use Rattle.ideal_ops.specs.Membership.{Decides, IsComplete, IsInIdeal};
 
 use divide::{EngineError, divide};

@@ -1,21 +1,22 @@
 //! The operations on ideals.
-ghost use Rattle.std.specs.Prelude.{◌≡◌, ◌≢◌, ◌≤◌, ◌+◌, ◌++◌, ℕ, [], length, IfOk, OnOk, IsErrOf};
+ghost use Rattle.std.specs.Prelude.{◌≡◌, ◌≢◌, ◌≤◌, ◌+◌, ◌++◌, ℕ, [], length, IfOk, OnOk};
 ghost use Rattle.poly.specs.Seen.{arity_of, terms_each};
 ghost use Rattle.machines.specs.Machine.{Ran};
 ghost use Rattle.divide.specs.Outcomes.{outcome_of};
-ghost use Rattle.reduced_basis.specs.Reduction.{generators_limit};
-ghost use Rattle.ideal_ops.specs.Calls.{adding, meeting, eliminating, elimination_of, IsListOf, AreOver, HaveOneArity, IsSum, IsIntersection, IsEliminationOf, first_block};
+ghost use Rattle.complete.specs.Limits.{generators_limit};
+ghost use Rattle.ideal_ops.specs.Calls.{sum_way, intersection_way, elimination_way, elimination_of, IsListOf, AreOver, HaveOneArity, IsSum, IsIntersection, IsEliminationOf, first_block};
 ghost use Rattle.complete.specs.Completing.{AreAlike};
+ghost use Rattle.ideal_ops.specs.Limits.{most_blended};
 
 use crate::blending::blend;
 use crate::eliminating::eliminate_block;
 use divide::EngineError;
 use journal::Meter;
 use monos::{Blocks, Grevlex};
-use poly::{Poly, PolyError};
+use poly::Poly;
 use reduced_basis::reduced_basis_in;
 use ring_laws::{Field, Ring};
-use std::alloc::Global;
+use std::alloc::{AllocError, Global};
 
 /// The reduced basis of the sum of two ideals, each of which is given by a list that generates it: their elements together are completed, then tidied (Cox, Little, O'Shea, "Ideals, Varieties, and Algorithms", chapter 4).
 /// `Budget` only where the units are spent and the next event is one; `Wide` only where the weight of making an element monic, or of the next event, is past.
@@ -27,7 +28,7 @@ pub fn sum<K: Field>(
 ) -> Result<Vec<Poly<K, Grevlex>>, EngineError>
     requires alike { HaveOneArity (a.now ++ b.now) }
     requires few { length a.now + length b.now ≤ generators_limit }
-    ensures ran { let way = adding a.now b.now in
+    ensures ran { let way = sum_way a.now b.now in
         Ran (elimination_of way) (IsListOf way) meter.old meter.new (outcome_of result) }
     ensures sum { IfOk result (λ gs. IsSum a.now b.now gs.items) }
 {
@@ -44,9 +45,9 @@ pub fn meet<K: Field>(
     meter: &mut Meter,
 ) -> Result<Vec<Poly<K, Grevlex>>, EngineError>
     requires alike { HaveOneArity (a.now ++ b.now) }
-    requires arity { arity_of (a.now ++ b.now) ≤ 4095 }
+    requires arity { arity_of (a.now ++ b.now) ≤ most_blended }
     requires few { length a.now + length b.now ≤ generators_limit }
-    ensures ran { let way = meeting a.now b.now in
+    ensures ran { let way = intersection_way a.now b.now in
         Ran (elimination_of way) (IsListOf way) meter.old meter.new (outcome_of result) }
     ensures intersection { IfOk result (λ gs. IsIntersection a.now b.now gs.items) }
 {
@@ -66,7 +67,7 @@ pub fn eliminate<K: Field>(
     requires alike { AreAlike gens.now }
     requires block { first_block gens.now ≤ arity_of gens.now }
     requires few { length gens.now ≤ generators_limit }
-    ensures ran { let way = eliminating (first_block gens.now) gens.now in
+    ensures ran { let way = elimination_way (first_block gens.now) gens.now in
         Ran (elimination_of way) (IsListOf way) meter.old meter.new (outcome_of result) }
     ensures elimination { IfOk result (λ gs. IsEliminationOf gens.now gs.items) }
 {
@@ -93,11 +94,10 @@ fn together<K: Ring>(
     alloc: Global,
     a: &[Poly<K, Grevlex>],
     b: &[Poly<K, Grevlex>],
-) -> Result<Vec<Poly<K, Grevlex>>, PolyError>
+) -> Result<Vec<Poly<K, Grevlex>>, AllocError>
     requires alike { HaveOneArity (a.now ++ b.now) }
     ensures terms { IfOk result (λ gs. terms_each gs.items ≡ terms_each a.now ++ terms_each b.now) }
     ensures arity { IfOk result (λ gs. AreOver (arity_of (a.now ++ b.now)) gs.items) }
-    ensures narrow { ¬ IsErrOf result PolyError.Wide }
 {
     let mut gens = Vec::new(alloc);
     push_copies(alloc, &mut gens, a)?;
@@ -110,12 +110,11 @@ fn push_copies<K: Ring>(
     alloc: Global,
     gens: &mut Vec<Poly<K, Grevlex>>,
     list: &[Poly<K, Grevlex>],
-) -> Result<(), PolyError>
+) -> Result<(), AllocError>
     ensures terms { OnOk result (terms_each gens.new.items
         ≡ terms_each gens.old.items ++ terms_each list.now) }
     ensures arity { (m : ℕ) → AreOver m gens.old.items → AreOver m list.now
         → OnOk result (AreOver m gens.new.items) }
-    ensures narrow { ¬ IsErrOf result PolyError.Wide }
 {
     for p in list {
         gens.push(p.copy(alloc)?)?;

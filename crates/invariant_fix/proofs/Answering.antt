@@ -19,9 +19,9 @@ use Rattle.ideals.specs.Members.{IsMember}
 use Rattle.machines.specs.Division as division
 use Rattle.machines.specs.Journal as journal
 use Rattle.machines.specs.Journal.{Begin, Entry, Journal}
-use Rattle.machines.specs.Machine.{Outcome, done, stopped, too_wide, out_of_units, out_of_memory, Stops, Ended, Ran}
+use Rattle.machines.specs.Machine.{Outcome, done, stopped, too_wide, out_of_units, out_of_memory, Stops, RanToEnd, Ran}
 use Rattle.machines.specs.Past.{IsPastDivision}
-use Rattle.machines.specs.Work.{Worked, Finished, IsSpent, PastAfter}
+use Rattle.machines.specs.Work.{WorkFrom, WorkToEnd, IsSpent, PastAfter}
 use Rattle.machines.proofs.ReducedLists.{division_decides}
 use Rattle.loops.specs.Inv.{Inv}
 use Rattle.loops.specs.Program.{Expr, Program}
@@ -42,7 +42,7 @@ use Rattle.ideal_ops.specs.Calls.{AreOver}
 use Rattle.expressions.specs.FracPoly.{FracPoly}
 use Rattle.invariant_fix.specs.Blocked.{Divided}
 use Rattle.invariant_fix.specs.Membership.{asks, Answers, HasAsked, HasAnswered, IsWideAsking, IsAskingOutOfUnits}
-use Rattle.invariant_fix.specs.declared.membership.Answer.TheVariants.{Yes, No}
+use Rattle.invariant_fix.specs.declared.membership.Membership.TheVariants.{Yes, No}
 use Rattle.invariant_fix.proofs.Asking.{asking_answered}
 use Rattle.invariant_fix.proofs.Blocks.{graded_polynomial}
 use Rattle.invariant_fix.proofs.Lists.{arity_there, empty_list}
@@ -81,12 +81,12 @@ module _ (p : FracPoly) (gs list : List FracPoly) (is : list ≡ gs) (old mid ne
       mid new o → new.limit ≡ old.limit
   asked_within o r = r.limit ∙ ap (λ (j : Journal). j.limit) begun
 
-  worked : Worked (division.next rationals grevlex (terms_each list))
-      (division.begun (terms_each list) (terms_in p)) mid.entries new.entries
+  worked : WorkFrom (division.next rationals grevlex (terms_each list))
+      (division.initial_state (terms_each list) (terms_in p)) mid.entries new.entries
       → HasAsked (terms_each gs) (terms_in p) old new
   worked w =
-      inr (asked_so (λ hs es. Worked (division.next rationals grevlex hs)
-      (division.begun hs (terms_in p)) es new.entries) w)
+      inr (asked_so (λ hs es. WorkFrom (division.next rationals grevlex hs)
+      (division.initial_state hs (terms_in p)) es new.entries) w)
 
   pub has_asked : (o : Outcome Divided) → Ran (division_of p list) (HasCofactors p.order p.arity)
       mid new o → HasAsked (terms_each gs) (terms_in p) old new
@@ -111,26 +111,27 @@ module _ (p : FracPoly) (gs list : List FracPoly) (is : list ≡ gs) (old mid ne
         past : Stops (division_of p list) mid new too_wide
             → IsWideAsking (terms_each gs) (terms_in p) old new
         past (inl h) = asked_so (λ hs es. PastAfter (division.next rationals grevlex hs)
-            (IsPastDivision fractions rationals hs) (division.begun hs (terms_in p)) es
+            (IsPastDivision fractions rationals hs) (division.initial_state hs (terms_in p)) es
             new.entries) h
         past (inr h) = absurd h.1
 
     pub asked_out : e ≡ engine_error.Budget → IsAskingOutOfUnits (terms_each gs) (terms_in p) old
         new
     asked_out w = asked_so (λ hs es. IsSpent (division.next rationals grevlex hs)
-        (division.begun hs (terms_in p)) new.limit es new.entries) (refused engine_error.Budget w)
+        (division.initial_state hs (terms_in p)) new.limit es new.entries)
+        (refused engine_error.Budget w)
 
 module _ (p : FracPoly) (gs list : List FracPoly) (is : list ≡ gs) (old mid new : Journal)
     (begun : mid ≡ with_entry old (Begin journal.Member)) (d : Divided)
-    (i : Ended (division_of p list) (HasCofactors p.order p.arity) mid new d) where
-  pub division_done : Finished (division.next rationals grevlex (terms_each gs))
-      (division.begun (terms_each gs) (terms_in p)) (asks old.entries) new.entries i.last
+    (i : RanToEnd (division_of p list) (HasCofactors p.order p.arity) mid new d) where
+  pub division_done : WorkToEnd (division.next rationals grevlex (terms_each gs))
+      (division.initial_state (terms_each gs) (terms_in p)) (asks old.entries) new.entries i.last
   division_done =
-      subst (λ es. Finished (division.next rationals grevlex (terms_each gs))
-      (division.begun (terms_each gs) (terms_in p)) es new.entries i.last)
+      subst (λ es. WorkToEnd (division.next rationals grevlex (terms_each gs))
+      (division.initial_state (terms_each gs) (terms_in p)) es new.entries i.last)
       (ap (λ (j : Journal). j.entries) begun)
-      (subst (λ (l : List FracPoly). Finished (division.next rationals grevlex (terms_each l))
-      (division.begun (terms_each l) (terms_in p)) mid.entries new.entries i.last) is
+      (subst (λ (l : List FracPoly). WorkToEnd (division.next rationals grevlex (terms_each l))
+      (division.initial_state (terms_each l) (terms_in p)) mid.entries new.entries i.last) is
       i.finished)
 
   gone : terms_in d.rest ≡ [] → i.last.current ≡ None

@@ -13,10 +13,10 @@ use Rattle.machines.specs.Event.{Event}
 use Rattle.machines.specs.Journal as journal
 use Rattle.machines.specs.Journal.{Entry, Begin, Did}
 use Rattle.machines.specs.Run.{IsRun}
-use Rattle.machines.specs.Work.{Work, Finished}
+use Rattle.machines.specs.Work.{Work, WorkToEnd}
 use Rattle.machines.proofs.Runs.{run_joined, run_then}
 use Rattle.loops.specs.Program.{Expr, Program}
-use Rattle.rounds.specs.Analysis.{Setting, fresh, asking, asked_by, next, moved, moves}
+use Rattle.rounds.specs.Analysis.{Setting, fresh, asking, asked_by, next, move_of, moves}
 use Rattle.rounds.specs.Journal.{setting_of, IsFinished, IsAnswered}
 use Rattle.rounds.proofs.Asked.{run_asked, finished_asked}
 use Rattle.invariant_fix.specs.Membership.{asks}
@@ -32,33 +32,38 @@ module _ (A : Setting) (k : ℕ) (gs : List (Terms Fraction)) where
       → IsRun (moves A) (asking k gs s) (map Did es) (asking k gs t)
   unfolding IsRun
   asking_run s t [] h = ap (asking k gs) h
-  asking_run s t (e ∷ es) (u, n, r) =
-      (asking k gs u, ap (moved A) (asking_next s ∙ ap (asked_by A k gs s) n), asking_run u t es r)
+  asking_run s t (e ∷ es) (u, n, r) = (
+    asking k gs u,
+    ap (move_of A) (asking_next s ∙ ap (asked_by A k gs s) n),
+    asking_run u t es r,
+  )
 
 module _ (program : Program (Expr ℕ)) (p : Terms Fraction) (k : ℕ) (gs : List (Terms Fraction))
     (before after : List Entry) (done : IsFinished program before k gs) where
   abbrev B : Setting
   B = setting_of program done.follows.forms (Some p)
 
-  begun : IsRun (moves B) fresh (asks before) (asking k gs (division.begun gs p))
+  begun : IsRun (moves B) fresh (asks before) (asking k gs (division.initial_state gs p))
   begun =
-      run_then (moves B) fresh done.state (asking k gs (division.begun gs p)) before
+      run_then (moves B) fresh done.state (asking k gs (division.initial_state gs p)) before
       (Begin journal.Member)
       (run_asked (setting_of program done.follows.forms None) p before fresh done.state
       done.follows.run)
-      (ap (moved B) (finished_asked (setting_of program done.follows.forms None) p done.state k gs
+      (ap (move_of B) (finished_asked (setting_of program done.follows.forms None) p done.state k gs
       done.is))
 
   pub asking_reaches : (t : division.State Fraction) → Work (division.next rationals grevlex gs)
-      (division.begun gs p) (asks before) after t
+      (division.initial_state gs p) (asks before) after t
       → IsRun (moves (setting_of program done.follows.forms (Some p))) fresh after (asking k gs t)
   asking_reaches t w =
       subst (λ es. IsRun (moves B) fresh es (asking k gs t)) (sym w.entries)
-      (run_joined (moves B) fresh (asking k gs (division.begun gs p)) (asking k gs t) (asks before)
-      (map Did w.events) begun (asking_run B k gs (division.begun gs p) t w.events w.run))
+      (run_joined (moves B) fresh (asking k gs (division.initial_state gs p)) (asking k gs t)
+      (asks before)
+      (map Did w.events) begun (asking_run B k gs (division.initial_state gs p) t w.events w.run))
 
   pub asking_answered : (t : division.State Fraction)
-      → Finished (division.next rationals grevlex gs) (division.begun gs p) (asks before) after t
+      → WorkToEnd (division.next rationals grevlex gs) (division.initial_state gs p) (asks before)
+      after t
       → IsAnswered program p after k gs t
   asking_answered t f = record {
     state = asking k gs t;

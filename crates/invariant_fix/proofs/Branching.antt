@@ -12,10 +12,10 @@ use Rattle.machines.specs.Journal.{Entry, Begin, Journal, units_of}
 use Rattle.poly.specs.Seen.{terms_each}
 use Rattle.journal.specs.View.{with_entry}
 use Rattle.rounds.specs.Analysis as analysis
-use Rattle.rounds.specs.Analysis.{Setting, form_of, turns_of, goes, next, begun, begin_branch, begin_turn, begin_orbit, begin_meet, after_turns, after_branch, after_orbit, after, closing_from, turn, turn_meet, orbit, meet}
+use Rattle.rounds.specs.Analysis.{Setting, form_of, turns_of, goes, next, start_of, begin_branch, begin_turn, begin_orbit, begin_meet, after_turns, after_branch, after_orbit, after, closing_from, turn, turn_meet, orbit, meet}
 use Rattle.expressions.specs.FracPoly.{FracPoly}
 use Rattle.invariant_fix.specs.Coming.{Comes}
-use Rattle.invariant_fix.specs.Setting.{seen}
+use Rattle.invariant_fix.specs.Setting.{setting_of}
 use Rattle.invariant_fix.specs.Steps.{HasMeet, HasWhole, turning, branching, branched, turn_begins, turn_ends, turn_meets, turn_met, orbiting, orbited, meeting, met, started, closing}
 use Rattle.invariant_fix.specs.declared.setting.Setting as setting
 use Rattle.invariant_fix.proofs.Lists.{units_begun}
@@ -54,7 +54,7 @@ module _ (A : Setting) (k b : ℕ) (gs : List (Terms Fraction)) where
 
   turn_meet_comes : (n : ℕ) (ks hs ls : List (Terms Fraction))
       → after A (turn k b n gs ks hs) ls
-      ≡ goes (Begin (journal.TurnMeet k (suc b) (suc n))) (begun A (turn_meet k b n gs hs ls))
+      ≡ goes (Begin (journal.TurnMeet k (suc b) (suc n))) (start_of A (turn_meet k b n gs hs ls))
   unfolding after
   turn_meet_comes n ks hs ls = refl
 
@@ -100,17 +100,18 @@ whole_comes A k gs hs ls e = ap (λ d. after_orbit A d k 0 gs hs ls) e
 
 -- ---- of the program's own
 module _ (s : setting.Setting) (k : ℕ) (gs : List FracPoly) where
-  turning_next : next (seen s) (analysis.turning k (terms_each gs)) ≡ branching s k 0 gs
+  turning_next : next (setting_of s) (analysis.turning k (terms_each gs)) ≡ branching s k 0 gs
       (terms_each gs)
   unfolding next
   turning_next = refl
 
-  pub round_begun : (old mid : Journal) → Comes (seen s) old.entries (turning k gs)
+  pub round_begun : (old mid : Journal) → Comes (setting_of s) old.entries (turning k gs)
       → mid ≡ with_entry old (Begin (journal.Round k))
-      → Comes (seen s) mid.entries (branching s k 0 gs (terms_each gs))
+      → Comes (setting_of s) mid.entries (branching s k 0 gs (terms_each gs))
   round_begun old mid c e = record {
     state = analysis.turning k (terms_each gs);
-    run = begun_task (seen s) old mid (journal.Round k) (analysis.turning k (terms_each gs)) c e;
+    run = begun_task (setting_of s) old mid (journal.Round k) (analysis.turning k (terms_each gs)) c
+        e;
     is = turning_next;
   }
 
@@ -120,91 +121,103 @@ module _ (s : setting.Setting) (k : ℕ) (gs : List FracPoly) where
 
   module _ (es : List Entry) (b : ℕ) where
     -- ---- the turns of a branch
-    pub turn_due : (hs : List FracPoly) → 2 ≤ (form_of (seen s) b).since
-        → Comes (seen s) es (branching s k b gs (terms_each hs))
-        → Comes (seen s) es (turn_begins s k b 0 (terms_each gs) gs (terms_each hs))
-    turn_due hs l c = subst (Comes (seen s) es) (turn_comes (seen s) k b (terms_each gs) 0
-        (terms_each gs) (terms_each hs) (some_turns (form_of (seen s) b).since l)) c
+    pub turn_due : (hs : List FracPoly) → 2 ≤ (form_of (setting_of s) b).since
+        → Comes (setting_of s) es (branching s k b gs (terms_each hs))
+        → Comes (setting_of s) es (turn_begins s k b 0 (terms_each gs) gs (terms_each hs))
+    turn_due hs l c = subst (Comes (setting_of s) es) (turn_comes (setting_of s) k b (terms_each gs)
+        0
+        (terms_each gs) (terms_each hs) (some_turns (form_of (setting_of s) b).since l)) c
 
-    pub orbit_due : (hs : List FracPoly) → (form_of (seen s) b).since < 2
-        → Comes (seen s) es (branching s k b gs (terms_each hs))
-        → Comes (seen s) es (orbiting s k b gs (terms_each hs))
-    orbit_due hs l c = subst (Comes (seen s) es) (orbit_comes (seen s) k b (terms_each gs) 0
-        (terms_each gs) (terms_each hs) (no_turns (form_of (seen s) b).since l)) c
+    pub orbit_due : (hs : List FracPoly) → (form_of (setting_of s) b).since < 2
+        → Comes (setting_of s) es (branching s k b gs (terms_each hs))
+        → Comes (setting_of s) es (orbiting s k b gs (terms_each hs))
+    orbit_due hs l c = subst (Comes (setting_of s) es) (orbit_comes (setting_of s) k b
+        (terms_each gs) 0
+        (terms_each gs) (terms_each hs) (no_turns (form_of (setting_of s) b).since l)) c
 
     pub turn_meet_due : (n : ℕ) (ks hs ls : List FracPoly)
-        → Comes (seen s) es (turn_ends s k b n (terms_each gs) ks (terms_each hs) ls)
-        → Comes (seen s) es (turn_meets s k b n (terms_each gs) hs ls)
-    turn_meet_due n ks hs ls c = subst (Comes (seen s) es) (turn_meet_comes (seen s) k b
+        → Comes (setting_of s) es (turn_ends s k b n (terms_each gs) ks (terms_each hs) ls)
+        → Comes (setting_of s) es (turn_meets s k b n (terms_each gs) hs ls)
+    turn_meet_due n ks hs ls c = subst (Comes (setting_of s) es) (turn_meet_comes (setting_of s) k b
         (terms_each gs) n (terms_each ks) (terms_each hs) (terms_each ls)) c
 
     abbrev pub IsTaken : ℕ → List FracPoly → List FracPoly → Type 0
-    IsTaken n ks hs = Comes (seen s) es (after_turns (seen s) k b n (terms_each gs) (terms_each ks)
+    IsTaken n ks hs = Comes (setting_of s) es (after_turns (setting_of s) k b n (terms_each gs)
+        (terms_each ks)
         (terms_each hs))
 
     pub turns_go_on : (n : ℕ) (hs ks ls : List FracPoly)
-        → Comes (seen s) es (turn_met s k b n (terms_each gs) hs ks ls) → IsTaken (suc n) ks ls
-    turns_go_on n hs ks ls c = subst (Comes (seen s) es) (turns_come (seen s) k b (terms_each gs) n
+        → Comes (setting_of s) es (turn_met s k b n (terms_each gs) hs ks ls)
+        → IsTaken (suc n) ks ls
+    turns_go_on n hs ks ls c = subst (Comes (setting_of s) es) (turns_come (setting_of s) k b
+        (terms_each gs) n
         (terms_each hs) (terms_each ks) (terms_each ls)) c
 
-    pub next_turn : (n : ℕ) (ks hs : List FracPoly) → suc n < (form_of (seen s) b).since
+    pub next_turn : (n : ℕ) (ks hs : List FracPoly) → suc n < (form_of (setting_of s) b).since
         → IsTaken n ks hs
-        → Comes (seen s) es (turn_begins s k b n (terms_each gs) ks (terms_each hs))
-    next_turn n ks hs l c = subst (Comes (seen s) es) (turn_comes (seen s) k b (terms_each gs) n
-        (terms_each ks) (terms_each hs) (more_turns n (form_of (seen s) b).since l)) c
+        → Comes (setting_of s) es (turn_begins s k b n (terms_each gs) ks (terms_each hs))
+    next_turn n ks hs l c = subst (Comes (setting_of s) es) (turn_comes (setting_of s) k b
+        (terms_each gs) n
+        (terms_each ks) (terms_each hs) (more_turns n (form_of (setting_of s) b).since l)) c
 
-    pub turns_end : (n : ℕ) (ks hs : List FracPoly) → (form_of (seen s) b).since ≤ suc n
-        → IsTaken n ks hs → Comes (seen s) es (orbiting s k b gs (terms_each hs))
-    turns_end n ks hs l c = subst (Comes (seen s) es) (orbit_comes (seen s) k b (terms_each gs) n
-        (terms_each ks) (terms_each hs) (all_turns n (form_of (seen s) b).since l)) c
+    pub turns_end : (n : ℕ) (ks hs : List FracPoly) → (form_of (setting_of s) b).since ≤ suc n
+        → IsTaken n ks hs → Comes (setting_of s) es (orbiting s k b gs (terms_each hs))
+    turns_end n ks hs l c = subst (Comes (setting_of s) es) (orbit_comes (setting_of s) k b
+        (terms_each gs) n
+        (terms_each ks) (terms_each hs) (all_turns n (form_of (setting_of s) b).since l)) c
 
     -- ---- the orbit
     pub meet_due : (hs ls : List FracPoly) → HasMeet s b
-        → Comes (seen s) es (orbited s k b gs (terms_each hs) ls)
-        → Comes (seen s) es (meeting s k b (terms_each gs) hs ls)
-    meet_due hs ls h c = subst (Comes (seen s) es) (meet_comes (seen s) k b (terms_each gs)
+        → Comes (setting_of s) es (orbited s k b gs (terms_each hs) ls)
+        → Comes (setting_of s) es (meeting s k b (terms_each gs) hs ls)
+    meet_due hs ls h c = subst (Comes (setting_of s) es) (meet_comes (setting_of s) k b
+        (terms_each gs)
         (terms_each hs) (terms_each ls) h) c
 
     pub met_done : (hs ks ls : List FracPoly)
-        → Comes (seen s) es (met s k b (terms_each gs) hs ks ls)
-        → Comes (seen s) es (branched s k b gs (terms_each ls))
-    met_done hs ks ls c = subst (Comes (seen s) es) (met_comes (seen s) k b (terms_each gs)
+        → Comes (setting_of s) es (met s k b (terms_each gs) hs ks ls)
+        → Comes (setting_of s) es (branched s k b gs (terms_each ls))
+    met_done hs ks ls c = subst (Comes (setting_of s) es) (met_comes (setting_of s) k b
+        (terms_each gs)
         (terms_each hs) (terms_each ks) (terms_each ls)) c
 
   pub whole_done : (es : List Entry) (hs : List (Terms Fraction)) (ls : List FracPoly)
-      → HasWhole s 0 → Comes (seen s) es (orbited s k 0 gs hs ls)
-      → Comes (seen s) es (branched s k 0 gs (terms_each ls))
-  whole_done es hs ls e c = subst (Comes (seen s) es) (whole_comes (seen s) k (terms_each gs) hs
+      → HasWhole s 0 → Comes (setting_of s) es (orbited s k 0 gs hs ls)
+      → Comes (setting_of s) es (branched s k 0 gs (terms_each ls))
+  whole_done es hs ls e c = subst (Comes (setting_of s) es) (whole_comes (setting_of s) k
+      (terms_each gs) hs
       (terms_each ls) e) c
 
 pub started_closing : (s : setting.Setting) (es : List Entry) (gs : List FracPoly)
-    → Comes (seen s) es (started s gs) → Comes (seen s) es (closing s 0 0 0 gs)
+    → Comes (setting_of s) es (started s gs) → Comes (setting_of s) es (closing s 0 0 0 gs)
 unfolding after
 started_closing s es gs c = c
 
 -- ---- by the number of the next branch
 module _ (s : setting.Setting) (k : ℕ) (gs : List FracPoly) where
-  forms_count : length (seen s).forms ≡ length s.branches.items
+  forms_count : length (setting_of s).forms ≡ length s.branches.items
   forms_count = length-map s.branches.items _
 
   -- what comes behind the branches before this one
   abbrev pub ComesAt : List Entry → ℕ → List FracPoly → Type 0
-  ComesAt es p hs = (b : ℕ) → suc b ≡ p → Comes (seen s) es (branched s k b gs (terms_each hs))
+  ComesAt es p hs = (b : ℕ) → suc b ≡ p
+      → Comes (setting_of s) es (branched s k b gs (terms_each hs))
 
   pub come_at : (es : List Entry) (p n : ℕ) (hs : List FracPoly) → n ≡ suc p
-      → Comes (seen s) es (branched s k p gs (terms_each hs)) → ComesAt es n hs
-  come_at es p n hs e c b is = subst (λ x. Comes (seen s) es (branched s k x gs (terms_each hs)))
+      → Comes (setting_of s) es (branched s k p gs (terms_each hs)) → ComesAt es n hs
+  come_at es p n hs e c b is =
+      subst (λ x. Comes (setting_of s) es (branched s k x gs (terms_each hs)))
       (let z : p ≡ b = omega (arith, e, is) in z) c
 
   pub branch_at : (es : List Entry) (p : ℕ) (hs : List FracPoly) → 1 ≤ p
       → p < length s.branches.items → ComesAt es p hs
-      → Comes (seen s) es (branching s k p gs (terms_each hs))
+      → Comes (setting_of s) es (branching s k p gs (terms_each hs))
   branch_at es zero hs o l f = absurd (omega (arith, o))
-  branch_at es (suc b) hs o l f = subst (Comes (seen s) es) (branch_comes (seen s) k b
+  branch_at es (suc b) hs o l f = subst (Comes (setting_of s) es) (branch_comes (setting_of s) k b
       (terms_each gs) (terms_each hs) (let n = forms_count in omega (arith, n, l))) (f b refl)
 
   pub closing_at : (es : List Entry) (p : ℕ) (hs : List FracPoly) → 1 ≤ p → length s.branches.items
-      ≤ p → ComesAt es p hs → Comes (seen s) es (closing s k 0 0 hs)
+      ≤ p → ComesAt es p hs → Comes (setting_of s) es (closing s k 0 0 hs)
   closing_at es zero hs o l f = absurd (omega (arith, o))
-  closing_at es (suc b) hs o l f = subst (Comes (seen s) es) (closing_comes (seen s) k b
+  closing_at es (suc b) hs o l f = subst (Comes (setting_of s) es) (closing_comes (setting_of s) k b
       (terms_each gs) (terms_each hs) (let n = forms_count in omega (arith, n, l))) (f b refl)

@@ -24,7 +24,7 @@ use Rattle.loops.specs.Map.{branch_map, composition}
 use Rattle.loops.specs.Program.{Expr, Program}
 use Rattle.loops.specs.Run.{run_end}
 use Rattle.loops.specs.WellFormed.{IsWellFormed}
-use Rattle.rounds.specs.Analysis.{Setting, turned}
+use Rattle.rounds.specs.Analysis.{Setting, pullback}
 use Rattle.rounds.specs.Form.{Form}
 use Rattle.rounds.specs.Journal.{setting_from}
 use Rattle.rounds.specs.Word.{IsZeroAtStarts}
@@ -50,12 +50,13 @@ module _ (program : Program (Expr ℕ)) (w : IsWellFormed program)
     pub row_long : (qs : List (Terms Fraction)) (b i : ℕ) → b < length program.branches
         → i < length gs → IsClosing A b i gs qs → length qs ≡ length gs
     row_long qs b i lb li c =
-        let p = turned A b (get_or gs i []) in
+        let p = pullback A b (get_or gs i []) in
         let elements : (k : ℕ) (g : Terms Fraction) → slice_get gs k ≡ Some g
         → IsElement ℚ_field grevlex grevlex_order m g = λ k g at. (let i = in_slice gs k g at in
         record { polynomial = reduced.polynomials g i; nonzero = reduced.nonzero g i }) in
         ap length c.cofactors
-        ∙ (kept_run ℚ_field grevlex grevlex_order m gs elements p (division.begun gs p) c.last
+        ∙ (kept_run ℚ_field grevlex grevlex_order m gs elements p (division.initial_state gs p)
+        c.last
         c.leads.events c.leads.run (kept_begun ℚ_field grevlex grevlex_order m gs elements p
         (turned_polynomial program given forms None b (get_or gs i []) lb))).count
 
@@ -87,7 +88,7 @@ module _ (program : Program (Expr ℕ)) (w : IsWellFormed program)
     step_passes qs b i lb li c =
         let g = get_or gs i [] in
         let a = (invariant_at i li).arity in
-        let sum = division_sum ℚ_field grevlex grevlex_order m gs (turned A b g) c.last
+        let sum = division_sum ℚ_field grevlex grevlex_order m gs (pullback A b g) c.last
         c.leads.events places (turned_polynomial program given forms None b g lb) c.leads.run in
         let rest : division.rest c.last ≡ [] = ap division.rest_of c.gone in
         let is : combination ℚ c.last.cofactors gs ++ division.rest c.last ≡ combination ℚ qs gs =
@@ -95,7 +96,7 @@ module _ (program : Program (Expr ℕ)) (w : IsWellFormed program)
         ∙ append-nil (combination ℚ c.last.cofactors gs)
         ∙ ap (λ l. combination ℚ l gs) (sym c.cofactors) in
         Same-trans ℚ (Same-sym ℚ (turned_same program given forms None b g a lb))
-        (subst (Same ℚ (turned A b g)) is sum)
+        (subst (Same ℚ (pullback A b g)) is sum)
 
     pub closed_valid : (qs : List (List (List (Terms Fraction))))
         → AreSteps (setting_from program given forms None) gs qs

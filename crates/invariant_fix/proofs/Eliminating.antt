@@ -11,7 +11,7 @@ use Rattle.numbers.specs.Fraction.{Fraction, ℚ, rationals, fractions}
 use Rattle.polynomials.specs.Order.{grevlex, blocks}
 use Rattle.polynomials.specs.Terms.{Terms, variables, compose}
 use Rattle.machines.specs.Collect.{collect}
-use Rattle.machines.specs.Elimination.{kept}
+use Rattle.machines.specs.Elimination.{free_part}
 use Rattle.loops.proofs.Maps.{length-variables}
 use Rattle.poly.specs.Seen.{arity_of, terms_in, terms_each}
 use Rattle.rounds.specs.Form.{Form, front, normal, orbit_order, relations, relations_to, relation, unwound_by, passes, passing, form_before, late_order, list_since, orbit_list, turn_before, turn_front, turn_list}
@@ -48,10 +48,10 @@ module _ {n m : ℕ} {list : List (Terms Fraction)} {gens : List Blocked}
     pub block_arity : arity_of gens ≡ n + m
     block_arity = (here gens u.block some_gens).1
 
-    pub way_is : ideal.eliminating (first_block gens) gens
-        ≡ record { order = blocks n grevlex grevlex; part = kept n; gens = list }
+    pub way_is : ideal.elimination_way (first_block gens) gens
+        ≡ record { order = blocks n grevlex grevlex; part = free_part n; gens = list }
     way_is = ap₂ (λ (n : ℕ) (ts : List (Terms Fraction)). let w : Way fractions =
-        record { order = blocks n grevlex grevlex; part = kept n; gens = ts } in w) block_first
+        record { order = blocks n grevlex grevlex; part = free_part n; gens = ts } in w) block_first
         u.list
 
     module _ (hs : List FracPoly) (h : IsEliminationOf gens hs) where

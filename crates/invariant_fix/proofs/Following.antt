@@ -45,7 +45,7 @@ use Rattle.invariant_fix.specs.Closing.{AreSteps, seen_branch_steps, seen_steps,
 use Rattle.invariant_fix.specs.Coming.{Comes, Refuses}
 use Rattle.invariant_fix.specs.Lists.{IsList}
 use Rattle.invariant_fix.specs.Refusals.{AllHaveForms, HasFollowedFrom, IsStoppedFrom, IsRefusedFrom}
-use Rattle.invariant_fix.specs.Setting.{seen, given_of, most_first, form_of, Fits, IsSettingOf}
+use Rattle.invariant_fix.specs.Setting.{setting_of, given_of, most_first, form_of, FitsSetting, IsSettingOf}
 use Rattle.invariant_fix.specs.Steps.{starting, started, closed}
 use Rattle.invariant_fix.specs.declared.branches.Branch.{Branch}
 use Rattle.invariant_fix.specs.declared.errors.AnalyseError.{AnalyseError}
@@ -72,29 +72,32 @@ maps_same program (x ∷ bs) (c ∷ cs) e h = ap₂ ◌∷◌ (sym (h 0 c (omega
 -- where it begins
 module _ (s : Setting) where
   first_here : (es : List Entry) → es ≡ []
-      → Comes (seen s) es (first_step (seen s) (given_of s.given))
+      → Comes (setting_of s) es (first_step (setting_of s) (given_of s.given))
   unfolding next IsRun
   first_here es e = record {
     state = fresh;
-    run = subst (λ l. IsRun (moves (seen s)) fresh l fresh)
+    run = subst (λ l. IsRun (moves (setting_of s)) fresh l fresh)
         (sym e) refl;
     is = refl;
   }
 
   -- at the starts, or at what is given
-  pub begun_here : s.given ≡ None → (es : List Entry) → es ≡ [] → Comes (seen s) es (starting s)
+  pub begun_here : s.given ≡ None → (es : List Entry) → es ≡ []
+      → Comes (setting_of s) es (starting s)
   begun_here plain es e = subst (λ (o : Option (Vec FracPoly)).
-      Comes (seen s) es (first_step (seen s) (given_of o))) plain (first_here es e)
+      Comes (setting_of s) es (first_step (setting_of s) (given_of o))) plain (first_here es e)
 
   pub begun_given : (v : Vec FracPoly) → s.given ≡ Some v → (gs : List FracPoly)
       → terms_each v.items ≡ terms_each gs → (es : List Entry) → es ≡ []
-      → Comes (seen s) es (started s gs)
+      → Comes (setting_of s) es (started s gs)
   begun_given v at gs same es e =
-      subst (λ ts. Comes (seen s) es (first_step (seen s) (Some ts))) same
-      (subst (λ (o : Option (Vec FracPoly)). Comes (seen s) es (first_step (seen s) (given_of o)))
+      subst (λ ts. Comes (setting_of s) es (first_step (setting_of s) (Some ts))) same
+      (subst (λ (o : Option (Vec FracPoly)).
+      Comes (setting_of s) es (first_step (setting_of s) (given_of o)))
       at (first_here es e))
 
-module _ (program : Program (Expr ℕ)) (w : IsWellFormed program) (s : Setting) (fits : Fits s)
+module _ (program : Program (Expr ℕ)) (w : IsWellFormed program) (s : Setting)
+    (fits : FitsSetting s)
     (is : IsSettingOf program s) where
   abbrev pub forms_of : List form.Form
   forms_of = map (λ (c : Branch). form_of c.form) s.branches.items
@@ -128,7 +131,7 @@ module _ (program : Program (Expr ℕ)) (w : IsWellFormed program) (s : Setting)
       (is.branches.each b d l).images)
 
   abbrev B : analysis.Setting
-  B = with_starts (seen s) (start_list program)
+  B = with_starts (setting_of s) (start_list program)
 
   same : A ≡ B
   same = λ i. record {
@@ -141,26 +144,28 @@ module _ (program : Program (Expr ℕ)) (w : IsWellFormed program) (s : Setting)
   }
 
   alike : map (collect rationals grevlex) (start_list program) ≡ map (collect rationals grevlex)
-      (seen s).starts
+      (setting_of s).starts
   alike = sym (collected_starts s fits s.starts.items fits.starts ∙ is.starts)
 
-  follow_run : (es : List Entry) (t : State) → IsRun (moves (seen s)) fresh es t
+  follow_run : (es : List Entry) (t : State) → IsRun (moves (setting_of s)) fresh es t
       → IsRun (moves (setting_from program (given_of s.given) forms_of None)) fresh es t
   follow_run es t r = subst (λ C. IsRun (moves C) fresh es t) (sym same)
-      (alike_run (seen s) (start_list program) alike es fresh t r)
+      (alike_run (setting_of s) (start_list program) alike es fresh t r)
 
-  follow_next : (t : State) (step : Step) → next (seen s) t ≡ step
+  follow_next : (t : State) (step : Step) → next (setting_of s) t ≡ step
       → next (setting_from program (given_of s.given) forms_of None) t ≡ step
   follow_next t step e = subst (λ C. next C t ≡ step) (sym same)
-      (alike_next (seen s) (start_list program) alike t ∙ e)
+      (alike_next (setting_of s) (start_list program) alike t ∙ e)
 
-  follow_past : (t : State) → IsPast (seen s) t
+  follow_past : (t : State) → IsPast (setting_of s) t
       → IsPast (setting_from program (given_of s.given) forms_of None) t
-  follow_past t p = subst (λ C. IsPast C t) (sym same) (alike_past (seen s) (start_list program)
+  follow_past t p = subst (λ C. IsPast C t) (sym same)
+      (alike_past (setting_of s) (start_list program)
       alike t p)
 
   follow_steps : (gs : List (Terms Fraction)) (qs : List (List (List (Terms Fraction))))
-      → AreSteps (seen s) gs qs → AreSteps (setting_from program (given_of s.given) forms_of None)
+      → AreSteps (setting_of s) gs qs
+      → AreSteps (setting_from program (given_of s.given) forms_of None)
       gs qs
   follow_steps gs qs h = subst (λ C. AreSteps C gs qs) (sym same) (record {
     count = h.count;
@@ -176,13 +181,13 @@ module _ (program : Program (Expr ℕ)) (w : IsWellFormed program) (s : Setting)
     };
   })
 
-  follows : (es : List Entry) (t : State) → IsRun (moves (seen s)) fresh es t
+  follows : (es : List Entry) (t : State) → IsRun (moves (setting_of s)) fresh es t
       → FollowsFrom program (given_of s.given) None es t
   follows es t r = record { forms = forms_of; are_forms = are_forms; run = follow_run es t r }
 
   -- ---- a finished analysis
   module _ (es : List Entry) (k : ℕ) (gs : List (Terms Fraction))
-      (c : Comes (seen s) es (finished k gs)) where
+      (c : Comes (setting_of s) es (finished k gs)) where
     pub finished_of : IsFinishedBy program (given_of s.given) es k gs
     unfolding follows
     finished_of = record {
@@ -224,7 +229,8 @@ module _ (program : Program (Expr ℕ)) (w : IsWellFormed program) (s : Setting)
           finished_of))).2
 
   pub closed_by : (a : Analysis) (es : List Entry)
-      → Comes (seen s) es (closed a.rounds a.basis.items) → HasSteps s a.basis.items a.steps.items
+      → Comes (setting_of s) es (closed a.rounds a.basis.items)
+      → HasSteps s a.basis.items a.steps.items
       → IsClosedByFrom program (given_of s.given) a es
   unfolding finished_of
   closed_by a es c h = record {
@@ -233,7 +239,8 @@ module _ (program : Program (Expr ℕ)) (w : IsWellFormed program) (s : Setting)
   }
 
   pub valid_of : s.given ≡ None → (a : Analysis) (es : List Entry)
-      → Comes (seen s) es (closed a.rounds a.basis.items) → HasSteps s a.basis.items a.steps.items
+      → Comes (setting_of s) es (closed a.rounds a.basis.items)
+      → HasSteps s a.basis.items a.steps.items
       → IsValid program (certificate_of a)
   valid_of plain a es c h =
       closed_valid program w (given_of s.given) forms_of forms_count (terms_each a.basis.items)
@@ -268,12 +275,12 @@ module _ (program : Program (Expr ℕ)) (w : IsWellFormed program) (s : Setting)
       (subst (λ n. All (λ (row : Vec FracPoly). AreOver n row.items)
       (get_or a.steps.items b rows).items) is.arity (over b rows within)))
 
-  pub comes_followed : (es : List Entry) (step : Step) → Comes (seen s) es step
+  pub comes_followed : (es : List Entry) (step : Step) → Comes (setting_of s) es step
       → HasFollowedFrom program (given_of s.given) es
   comes_followed es step c = inr (record { state = c.state; follows = follows es c.state c.run })
 
   -- ---- a refusal
-  pub refuses_followed : (after : Journal) (e : AnalyseError) → Refuses (seen s) after e
+  pub refuses_followed : (after : Journal) (e : AnalyseError) → Refuses (setting_of s) after e
       → HasFollowedFrom program (given_of s.given) after.entries
   refuses_followed after (error.Map e) h = absurd h
   refuses_followed after (error.Branch b e) h = absurd h
@@ -288,7 +295,7 @@ module _ (program : Program (Expr ℕ)) (w : IsWellFormed program) (s : Setting)
   refuses_followed after error.Memory h =
       inr (record { state = h.state; follows = follows after.entries h.state h.run })
 
-  pub is_stopped : (after : Journal) (e : AnalyseError) → Refuses (seen s) after e
+  pub is_stopped : (after : Journal) (e : AnalyseError) → Refuses (setting_of s) after e
       → IsStoppedFrom program (given_of s.given) after e
   unfolding follows
   is_stopped after (error.Map e) h = absurd h
@@ -371,31 +378,33 @@ given_list s v at firsts gs copied same arities over reduced units = record {
 }
 
 -- ---- in the words of what is given
-module _ (program : Program (Expr ℕ)) (w : IsWellFormed program) (s : Setting) (fits : Fits s)
+module _ (program : Program (Expr ℕ)) (w : IsWellFormed program) (s : Setting)
+    (fits : FitsSetting s)
     (is : IsSettingOf program s) (given : Option (List (Terms Fraction))) (at : given_of s.given
     ≡ given) where
   pub closed_at : (a : Analysis) (es : List Entry)
-      → Comes (seen s) es (closed a.rounds a.basis.items) → HasSteps s a.basis.items a.steps.items
+      → Comes (setting_of s) es (closed a.rounds a.basis.items)
+      → HasSteps s a.basis.items a.steps.items
       → IsClosedByFrom program given a es
   closed_at a es c h = subst (λ o. IsClosedByFrom program o a es) at (closed_by program w s fits is
       a es c h)
 
-  pub followed_at : (es : List Entry) (step : Step) → Comes (seen s) es step
+  pub followed_at : (es : List Entry) (step : Step) → Comes (setting_of s) es step
       → HasFollowedFrom program given es
   followed_at es step c = subst (λ o. HasFollowedFrom program o es) at
       (comes_followed program w s fits is es step c)
 
-  pub refuses_at : (after : Journal) (e : AnalyseError) → Refuses (seen s) after e
+  pub refuses_at : (after : Journal) (e : AnalyseError) → Refuses (setting_of s) after e
       → HasFollowedFrom program given after.entries
   refuses_at after e h = subst (λ o. HasFollowedFrom program o after.entries) at
       (refuses_followed program w s fits is after e h)
 
-  pub stopped_at : (after : Journal) (e : AnalyseError) → Refuses (seen s) after e
+  pub stopped_at : (after : Journal) (e : AnalyseError) → Refuses (setting_of s) after e
       → IsStoppedFrom program given after e
   stopped_at after e h = subst (λ o. IsStoppedFrom program o after e) at
       (is_stopped program w s fits is after e h)
 
   pub refused_at : AreFree program → (before after : Journal) (e : AnalyseError)
-      → Refuses (seen s) after e → IsRefusedFrom program given before after e
+      → Refuses (setting_of s) after e → IsRefusedFrom program given before after e
   refused_at free before after e h = refused_stopped program given free
       (all_have program w s fits is) before after e (stopped_at after e h)

@@ -23,7 +23,7 @@ use Rattle.expressions.specs.FracPoly.{FracPoly}
 use Rattle.closed_forms.specs.Values as values
 use Rattle.rounds.specs.Form.{Form, front, backward, form_backward, passes, passing, form_before, front_since, list_since, late_orbit_list, turn_before, turn_graph}
 use Rattle.rounds.specs.Past.{IsPastGraph, IsPastOrbitSince, turn_images}
-use Rattle.graph_lists.specs.Late.{IsExpoOver, Fits, bodies_in, numbers_in, copies_in, front_in, orbit_of, turn_of, IsPastOrbitOf, IsPastTurnOf, vars_in, which, form_in}
+use Rattle.graph_lists.specs.Late.{IsExpoOver, FitsForm, bodies_in, numbers_in, copies_in, front_in, orbit_of, turn_of, IsPastOrbitOf, IsPastTurnOf, vars_in, which, form_in}
 use Rattle.graph_lists.specs.declared.late_form.LateForm.{LateForm}
 use Rattle.invariant_fix.specs.Orbits.{numbers_of, vars_of, orbit_front_of, orbit_list_of, turn_front_of, turn_list_of, unwound_list, IsPastUnwinding, IsPastTurning, IsPastUnwound}
 use Rattle.invariant_fix.specs.Setting.{form_of, FitsBranch}
@@ -102,7 +102,7 @@ module _ (b : Branch) (fits : FitsBranch (vars_of b) b) (some : 0 < vars_of b) (
       (subst (λ (v : Vec FracPoly). All (IsOver (front (numbers_of b) + vars_of b)) v.items)
       (sym back) fits.back_arity))
 
-  pub fits_late : Fits f
+  pub fits_late : FitsForm f
   fits_late = record {
     some = subst (λ n. 0 < n) (sym vars_are) some;
     base = subst IsCoprimeBase (sym base_is) fits.base;

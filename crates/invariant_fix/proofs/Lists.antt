@@ -21,7 +21,7 @@ use Rattle.polynomials.proofs.Canonical.{polynomial_unique}
 use Rattle.polynomials.proofs.Orders.{grevlex_order}
 use Rattle.polynomials.proofs.Same.{Same-trans, same_append}
 use Rattle.ideals.specs.Members.{IsMember, IsSumOf}
-use Rattle.machines.specs.Elimination.{kept}
+use Rattle.machines.specs.Elimination.{free_part}
 use Rattle.machines.specs.Journal as journal
 use Rattle.machines.specs.Journal.{Begin, Journal, units_of}
 use Rattle.machines.specs.Reduced.{Ascends, IsReducedFor, IsReducedBasis}
@@ -37,7 +37,7 @@ use Rattle.rounds.specs.Results.{IsReducedList}
 use Rattle.ideal_ops.specs.Calls as ideal
 use Rattle.ideal_ops.specs.Calls.{Way, elimination_of, IsListOf, AreOver, HaveOneArity, IsSum, IsIntersection}
 use Rattle.machines.specs.Machine.{done, Ran}
-use Rattle.invariant_fix.specs.Started.{started}
+use Rattle.invariant_fix.specs.Started.{with_past_start}
 use Rattle.std.proofs.lemmas.List.{length-map}
 use Rattle.std.specs.Global.{Vec}
 use Rattle.expressions.specs.FracPoly.{FracPoly}
@@ -53,13 +53,17 @@ units_begun old mid t e = ap (λ (j : Journal). units_of j.entries) e
 
 -- ---- lengths
 module _ (A : Setting) (w : Work) (mid new : Journal) (W : Way fractions) (is : W ≡ way_of A w)
-    (P : Type 0) (ls : Vec FracPoly) (r : Ran (started (elimination_of W) P) (IsListOf W) mid new
+    (P : Type 0) (ls : Vec FracPoly) (r : Ran (with_past_start (elimination_of W) P) (IsListOf W)
+    mid new
     (done ls)) where
-  ended : Ran (started (elimination_of (way_of A w)) P) (IsListOf (way_of A w)) mid new (done ls)
-  ended = subst (λ V. Ran (started (elimination_of V) P) (IsListOf V) mid new (done ls)) is r
+  ended : Ran (with_past_start (elimination_of (way_of A w)) P) (IsListOf (way_of A w)) mid new
+      (done ls)
+  ended = subst (λ V. Ran (with_past_start (elimination_of V) P) (IsListOf V) mid new (done ls)) is
+      r
 
   pub list_bound : length ls.items + units_of mid.entries
-      ≤ length (kept (block A w) (made rationals (block A w) (starting A w))) + units_of new.entries
+      ≤ length (free_part (block A w) (made rationals (block A w) (starting A w)))
+      + units_of new.entries
   list_bound =
       let e = ended.to in
       let a = list_few rationals (block A w) (order A w) grevlex (starting A w) mid.entries

@@ -17,7 +17,7 @@ use Rattle.machines.specs.Collect.{collect}
 use Rattle.machines.specs.Division as division
 use Rattle.machines.specs.Journal as journal
 use Rattle.machines.specs.Journal.{Begin, Journal, units_of}
-use Rattle.machines.specs.Machine.{Outcome, done, stopped, Ended, Ran}
+use Rattle.machines.specs.Machine.{Outcome, done, stopped, RanToEnd, Ran}
 use Rattle.machines.specs.Machines as machines
 use Rattle.machines.specs.Run.{IsRun}
 use Rattle.machines.proofs.Collecting.{collect-is}
@@ -33,10 +33,10 @@ use Rattle.rounds.specs.Analysis as analysis
 use Rattle.ideal_ops.specs.Calls.{AreOver}
 use Rattle.expressions.specs.FracPoly.{FracPoly}
 use Rattle.invariant_fix.specs.Blocked.{Divided}
-use Rattle.invariant_fix.specs.Closing.{turned_by, test_of, IsClosing}
+use Rattle.invariant_fix.specs.Closing.{pullback_by, test_of, IsClosing}
 use Rattle.invariant_fix.specs.Coming.{Comes, Refuses}
 use Rattle.invariant_fix.specs.Errors.{in_task}
-use Rattle.invariant_fix.specs.Setting.{seen}
+use Rattle.invariant_fix.specs.Setting.{setting_of}
 use Rattle.invariant_fix.specs.Steps.{closing, testing, turning}
 use Rattle.invariant_fix.specs.declared.branches.Branch.{Branch}
 use Rattle.invariant_fix.specs.declared.setting.Setting.{Setting}
@@ -79,9 +79,9 @@ module _ (b : Branch) (g : FracPoly) (some : 0 < g.arity) (over : AreOver g.arit
       → Ran (division_of t gs) (HasCofactors t.order t.arity) mid new o
       → Ran (test_of b g gs) (HasCofactors g.order g.arity) mid new o
   ran_test gs mid new o r =
-      ran_started (machines.division fractions grevlex (terms_each gs) (turned_by b g))
+      ran_started (machines.division fractions grevlex (terms_each gs) (pullback_by b g))
       (λ z. absurd z) o
-      (subst (λ n. Ran (machines.division fractions grevlex (terms_each gs) (turned_by b g))
+      (subst (λ n. Ran (machines.division fractions grevlex (terms_each gs) (pullback_by b g))
       (HasCofactors g.order n) mid new o) composed_arity
       (subst (λ p. Ran (machines.division fractions grevlex (terms_each gs) p)
       (HasCofactors g.order t.arity) mid new o) composed_is r))
@@ -91,14 +91,14 @@ module _ (s : Setting) (k place i : ℕ) (gs : List FracPoly) (branch : Branch) 
     (within : place < length s.branches.items) (inside : i < length gs) (branch_is : branch
     ≡ get_or s.branches.items place branch) (element_is : element ≡ get_or gs i element)
     (over : element.arity ≡ s.arity) where
-  map_at : get_or (seen s).maps place [] ≡ terms_each branch.images.items
+  map_at : get_or (setting_of s).maps place [] ≡ terms_each branch.images.items
   map_at = get_or-map (λ (c : Branch). terms_each c.images.items) s.branches.items place branch []
       within ∙ ap (λ (c : Branch). terms_each c.images.items) (sym branch_is)
 
   terms_at : get_or (terms_each gs) i [] ≡ terms_in element
   terms_at = get_or-map terms_in gs i element [] inside ∙ ap terms_in (sym element_is)
 
-  pub element_at : turned_by branch element ≡ analysis.turned (seen s) place
+  pub element_at : pullback_by branch element ≡ analysis.pullback (setting_of s) place
       (get_or (terms_each gs) i [])
   element_at =
       ap (λ n. collect rationals grevlex (compose ℚ n (terms_in element)
@@ -110,24 +110,26 @@ module _ (s : Setting) (k place i : ℕ) (gs : List FracPoly) (branch : Branch) 
     begun_test : mid ≡ with_entry old (Begin (journal.Closed k (suc place) (suc i)))
     begun_test = begun ∙ ap₂ (λ a b. with_entry old (Begin (journal.Closed k a b))) named numbered
 
-    module _ (c : Comes (seen s) old.entries (testing s k place i gs)) where
+    module _ (c : Comes (setting_of s) old.entries (testing s k place i gs)) where
       pub step_refused : {R : Type 0} {G : R → division.State Fraction → Type 0}
           (e : engine.EngineError) → Ran (test_of branch element gs) G mid new
-          (stopped (refusal_of e)) → Refuses (seen s) new (in_task (task.Closed k n j) e)
+          (stopped (refusal_of e)) → Refuses (setting_of s) new (in_task (task.Closed k n j) e)
       step_refused e r =
-          test_refused (seen s) k place i (terms_each gs) (turned_by branch element) element_at old
+          test_refused (setting_of s) k place i (terms_each gs) (pullback_by branch element)
+          element_at old
           mid new c begun_test _ past (task.Closed k n j) (ap₂ (journal.Closed k) named
           numbered) e r
         where
           past : IsPastComposition fractions (terms_in element) (terms_each branch.images.items)
               → IsPastComposition fractions (get_or (terms_each gs) i [])
-              (get_or (seen s).maps place [])
-          past p = subst (λ x. IsPastComposition fractions x (get_or (seen s).maps place []))
+              (get_or (setting_of s).maps place [])
+          past p = subst (λ x. IsPastComposition fractions x (get_or (setting_of s).maps place []))
               (sym terms_at) (subst (IsPastComposition fractions (terms_in element)) (sym map_at) p)
 
       module _ (d : Divided) (r : Ran (test_of branch element gs)
           (HasCofactors element.order element.arity) mid new (done d)) where
-        abbrev t : Ended (test_of branch element gs) (HasCofactors element.order element.arity) mid
+        abbrev t : RanToEnd (test_of branch element gs) (HasCofactors element.order element.arity)
+            mid
             new d
         t = r.to
 
@@ -138,29 +140,31 @@ module _ (s : Setting) (k place i : ℕ) (gs : List FracPoly) (branch : Branch) 
             let b = units_begun old mid (journal.Closed k n j) begun in
             omega (arith, a, b)
 
-        pub step_open : terms_in d.rest ≢ [] → Comes (seen s) new.entries (turning (suc k) gs)
+        pub step_open : terms_in d.rest ≢ [] → Comes (setting_of s) new.entries (turning (suc k) gs)
         step_open e =
             let (q, f) = something_left t.last (λ z. e (t.gives.rest ∙ z)) in
-            test_failed (seen s) k place i (terms_each gs) (turned_by branch element) element_at old
+            test_failed (setting_of s) k place i (terms_each gs) (pullback_by branch element)
+            element_at old
             mid new c begun_test t.last t.finished q f
 
         gone : terms_in d.rest ≡ [] → t.last.current ≡ None
         gone e = nothing_left (terms_each gs) t.last t.finished.ended (sym t.gives.rest ∙ e)
 
         pub step_next : terms_in d.rest ≡ []
-            → Comes (seen s) new.entries (closing s k place (suc i) gs)
-        step_next e = test_passed (seen s) k place i (terms_each gs) (turned_by branch element)
+            → Comes (setting_of s) new.entries (closing s k place (suc i) gs)
+        step_next e = test_passed (setting_of s) k place i (terms_each gs)
+            (pullback_by branch element)
             element_at old mid new c begun_test t.last t.finished (gone e)
 
         pub step_done : terms_in d.rest ≡ [] → (qs : Vec FracPoly Global) → qs ≡ d.cofactors
-            → IsClosing (seen s) place i (terms_each gs) (terms_each qs.items)
+            → IsClosing (setting_of s) place i (terms_each gs) (terms_each qs.items)
         step_done e qs is = record {
           last = t.last;
           leads = record {
             events = t.finished.work.events;
             run =
                 subst (λ p. IsRun (division.next rationals grevlex (terms_each gs))
-                (division.begun (terms_each gs) p) t.finished.work.events t.last) element_at
+                (division.initial_state (terms_each gs) p) t.finished.work.events t.last) element_at
                 t.finished.work.run;
           };
           ended = t.finished.ended;

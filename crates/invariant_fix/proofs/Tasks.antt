@@ -9,7 +9,7 @@ use Rattle.std.specs.Global.{Vec}
 use Rattle.numbers.specs.Fraction.{Fraction, rationals, fractions}
 use Rattle.polynomials.specs.Order.{grevlex}
 use Rattle.machines.specs.Elimination as elimination
-use Rattle.machines.specs.Elimination.{kept}
+use Rattle.machines.specs.Elimination.{free_part}
 use Rattle.machines.specs.Event.{Event}
 use Rattle.machines.specs.Journal as journal
 use Rattle.machines.specs.Journal.{Begin, Did, Journal}
@@ -21,7 +21,7 @@ use Rattle.machines.proofs.Runs.{run_joined, run_then}
 use Rattle.poly.specs.Seen.{terms_each}
 use Rattle.expressions.specs.FracPoly.{FracPoly}
 use Rattle.ideal_ops.specs.Calls.{Way, elimination_of, IsListOf}
-use Rattle.rounds.specs.Analysis.{Setting, Work, starts, turn, turn_meet, orbit, meet, State, fresh, working, goes, block, order, starting, begun, after, worked, next, moved, moves}
+use Rattle.rounds.specs.Analysis.{Setting, Work, starts, turn, turn_meet, orbit, meet, State, fresh, working, goes, block, order, starting, start_of, after, next_work, next, move_of, moves}
 use Rattle.rounds.specs.Past.{IsPastStarting, task_of_work}
 use Rattle.divide.specs.Outcomes.{refusal_of}
 use Rattle.divide.specs.declared.EngineError as engine
@@ -31,7 +31,7 @@ use Rattle.journal.specs.View.{with_entry}
 use Rattle.journal.specs.declared.Task as declared_task
 use Rattle.invariant_fix.specs.Coming.{Comes, IsStopped, IsOut, Refuses}
 use Rattle.invariant_fix.specs.Errors.{in_task}
-use Rattle.invariant_fix.specs.Started.{started}
+use Rattle.invariant_fix.specs.Started.{with_past_start}
 
 -- ---- the beginning of a task
 module _ (A : Setting) where
@@ -40,22 +40,22 @@ module _ (A : Setting) where
       → IsRun (moves A) fresh mid.entries s
   begun_task old mid t s c e =
       subst (λ (j : Journal). IsRun (moves A) fresh j.entries s) (sym e)
-      (run_then (moves A) fresh c.state s old.entries (Begin t) c.run (ap (moved A) c.is))
+      (run_then (moves A) fresh c.state s old.entries (Begin t) c.run (ap (move_of A) c.is))
 
 module _ (A : Setting) (w : Work) where
   abbrev pub way_of : Way fractions
-  way_of = record { order = order A w; part = kept (block A w); gens = starting A w }
+  way_of = record { order = order A w; part = free_part (block A w); gens = starting A w }
 
   abbrev step : elimination.State Fraction → Option (Event × elimination.State Fraction)
-  step s = elimination.next rationals (order A w) grevlex (kept (block A w)) s
+  step s = elimination.next rationals (order A w) grevlex (free_part (block A w)) s
 
   abbrev first : elimination.State Fraction
-  first = elimination.begun rationals (order A w) (starting A w)
+  first = elimination.initial_state rationals (order A w) (starting A w)
 
   -- what comes next
   work_next : (s : elimination.State Fraction)
-      → next A (working w s) ≡ worked A w s (elimination.next rationals (order A w) grevlex
-      (kept (block A w)) s)
+      → next A (working w s) ≡ next_work A w s (elimination.next rationals (order A w) grevlex
+      (free_part (block A w)) s)
   unfolding next
   work_next s = refl
 
@@ -65,7 +65,7 @@ module _ (A : Setting) (w : Work) where
   work_run s t [] h = ap (working w) h
   work_run s t (e ∷ es) (u, n, r) = (
     working w u,
-    ap (moved A) (work_next s ∙ ap (worked A w s) n),
+    ap (move_of A) (work_next s ∙ ap (next_work A w s) n),
     work_run u t es r,
   )
 
@@ -80,34 +80,36 @@ module _ (A : Setting) (w : Work) where
       go (meet k b gs so_far hs) p = inr (inr p)
 
   module _ (old mid new : Journal)
-      (c : Comes A old.entries (goes (Begin (task_of_work w)) (begun A w)))
+      (c : Comes A old.entries (goes (Begin (task_of_work w)) (start_of A w)))
       (m : mid ≡ with_entry old (Begin (task_of_work w))) where
-    here : IsRun (moves A) fresh mid.entries (begun A w)
-    here = begun_task A old mid (task_of_work w) (begun A w) c m
+    here : IsRun (moves A) fresh mid.entries (start_of A w)
+    here = begun_task A old mid (task_of_work w) (start_of A w) c m
 
     at : (t : elimination.State Fraction) → Done step first mid.entries new.entries t
         → IsRun (moves A) fresh new.entries (working w t)
     at t d =
         subst (λ es. IsRun (moves A) fresh es (working w t)) (sym d.entries)
-        (run_joined (moves A) fresh (begun A w) (working w t) mid.entries (map Did d.events) here
+        (run_joined (moves A) fresh (start_of A w) (working w t) mid.entries (map Did d.events) here
         (work_run first t d.events d.run))
 
     module _ (W : Way fractions) (same : W ≡ way_of) (P : Type 0) where
-      pub task_ended : (ls : Vec FracPoly) → Ran (started (elimination_of W) P) (IsListOf W) mid new
+      pub task_ended : (ls : Vec FracPoly) → Ran (with_past_start (elimination_of W) P) (IsListOf W)
+          mid new
           (done ls) → Comes A new.entries (after A w (terms_each ls.items))
       task_ended ls r =
-          let h = (subst (λ V. Ran (started (elimination_of V) P) (IsListOf V) mid new (done ls))
+          let h = (subst (λ V. Ran (with_past_start (elimination_of V) P) (IsListOf V) mid new
+          (done ls))
           same r).to in
           record {
             state = working w h.last;
             run = at h.last h.finished.work;
             is = work_next h.last
-                ∙ ap (worked A w h.last) h.finished.ended ∙ ap (after A w) (sym h.gives);
+                ∙ ap (next_work A w h.last) h.finished.ended ∙ ap (after A w) (sym h.gives);
           }
 
       module _ (past : P → IsPastStarting A w) (t : declared_task.Task) (named : view.task_of t
           ≡ task_of_work w) where
-        task_wide : Stops (started (elimination_of way_of) P) mid new too_wide
+        task_wide : Stops (with_past_start (elimination_of way_of) P) mid new too_wide
             → IsStopped A (view.task_of t) new.entries
         task_wide (inl p) = record {
           state = working w p.at;
@@ -117,7 +119,7 @@ module _ (A : Setting) (w : Work) where
         }
         task_wide (inr (n, p)) = subst (λ (j : Journal). IsStopped A (view.task_of t) j.entries)
             (sym n) (record {
-              state = begun A w;
+              state = start_of A w;
               run = here;
               is_task = sym named;
               past = inl (past p);
@@ -132,22 +134,24 @@ module _ (A : Setting) (w : Work) where
             state = working w h.at;
             run = at h.at h.work;
             is = work_next h.at
-                ∙ ap (worked A w h.at) h.comes;
+                ∙ ap (next_work A w h.at) h.comes;
           };
           unit = h.unit;
           spent = h.spent;
         }
 
-        refused : (e : engine.EngineError) → Stops (started (elimination_of way_of) P) mid new
+        refused : (e : engine.EngineError) → Stops (with_past_start (elimination_of way_of) P) mid
+            new
             (refusal_of e) → Refuses A new (in_task t e)
         refused engine_error.Wide h = task_wide h
         refused engine_error.Budget h = task_out h
         refused engine_error.Memory h = record { state = working w h.at; run = at h.at h.work }
 
         pub task_refused : {R : Type 0} {G : R → elimination.State Fraction → Type 0}
-            (e : engine.EngineError) → Ran (started (elimination_of W) P) G mid new
+            (e : engine.EngineError) → Ran (with_past_start (elimination_of W) P) G mid new
             (stopped (refusal_of e)) → Refuses A new (in_task t e)
         task_refused {G = G} e r =
             refused e
-            (subst (λ V. Ran (started (elimination_of V) P) G mid new (stopped (refusal_of e))) same
+            (subst (λ V. Ran (with_past_start (elimination_of V) P) G mid new
+            (stopped (refusal_of e))) same
             r).to

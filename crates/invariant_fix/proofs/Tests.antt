@@ -18,9 +18,9 @@ use Rattle.machines.specs.Journal.{Begin, Did, Journal}
 use Rattle.machines.specs.Machine.{stopped, too_wide, Stops, Ran}
 use Rattle.machines.specs.Machines as machines
 use Rattle.machines.specs.Run.{IsRun, HasEnded}
-use Rattle.machines.specs.Work.{Work as Done, Finished, IsSpent}
+use Rattle.machines.specs.Work.{Work as Done, WorkToEnd, IsSpent}
 use Rattle.machines.proofs.Runs.{run_joined}
-use Rattle.rounds.specs.Analysis.{Setting, State, fresh, closing, turning, goes, finished, turned, ending, test, closing_from, divided, closed_by, next, moved, moves}
+use Rattle.rounds.specs.Analysis.{Setting, State, fresh, closing, turning, goes, finished, pullback, after_closing, test, closing_from, after_test, closed_by, next, move_of, moves}
 use Rattle.divide.specs.Outcomes.{refusal_of}
 use Rattle.divide.specs.declared.EngineError as engine
 use Rattle.divide.specs.declared.EngineError.TheVariants as engine_error
@@ -29,16 +29,17 @@ use Rattle.journal.specs.View.{with_entry}
 use Rattle.journal.specs.declared.Task as declared_task
 use Rattle.invariant_fix.specs.Coming.{Comes, IsStopped, IsOut, Refuses}
 use Rattle.invariant_fix.specs.Errors.{in_task}
-use Rattle.invariant_fix.specs.Started.{started}
+use Rattle.invariant_fix.specs.Started.{with_past_start}
 use Rattle.invariant_fix.proofs.Tasks.{begun_task}
 
 -- ---- what is left
 pub nothing_left : (gs : List (Terms Fraction)) (s : division.State Fraction)
     → HasEnded (division.next rationals grevlex gs) s → division.rest s ≡ [] → s.current ≡ None
-unfolding division.next division.dividing division.divided find_cut
+unfolding division.next division.next_division division.next_cut find_cut
 nothing_left gs s h e = go s.current h e
   where
-    go : (o : Option (Terms Fraction)) → division.dividing rationals grevlex gs o s.cofactors ≡ None
+    go : (o : Option (Terms Fraction)) → division.next_division rationals grevlex gs o s.cofactors
+        ≡ None
         → division.rest_of o ≡ [] → o ≡ None
     go None h e = refl
     go (Some []) h e = absurd (let z : ⊥ = cc in z)
@@ -58,7 +59,7 @@ module _ (A : Setting) (k b i : ℕ) (gs : List (Terms Fraction)) where
   step s = division.next rationals grevlex gs s
 
   abbrev pub dividend : Terms Fraction
-  dividend = turned A b (get_or gs i [])
+  dividend = pullback A b (get_or gs i [])
 
   test_next : (s : division.State Fraction) → next A (closing k b i gs s) ≡ closed_by A k b i gs s
       (division.next rationals grevlex gs s)
@@ -71,32 +72,35 @@ module _ (A : Setting) (k b i : ℕ) (gs : List (Terms Fraction)) where
   test_run s t [] h = ap (closing k b i gs) h
   test_run s t (e ∷ es) (u, n, r) = (
     closing k b i gs u,
-    ap (moved A) (test_next s ∙ ap (closed_by A k b i gs s) n),
+    ap (move_of A) (test_next s ∙ ap (closed_by A k b i gs s) n),
     test_run u t es r,
   )
 
-  module _ (p : Terms Fraction) (is : p ≡ turned A b (get_or gs i [])) (old mid new : Journal)
+  module _ (p : Terms Fraction) (is : p ≡ pullback A b (get_or gs i [])) (old mid new : Journal)
       (c : Comes A old.entries (test A k b i gs))
       (m : mid ≡ with_entry old (Begin (journal.Closed k (suc b) (suc i)))) where
     abbrev start : State
-    start = closing k b i gs (division.begun gs p)
+    start = closing k b i gs (division.initial_state gs p)
 
     here : IsRun (moves A) fresh mid.entries start
     here =
-        subst (λ q. IsRun (moves A) fresh mid.entries (closing k b i gs (division.begun gs q)))
+        subst (λ q. IsRun (moves A) fresh mid.entries
+        (closing k b i gs (division.initial_state gs q)))
         (sym is)
         (begun_task A old mid (journal.Closed k (suc b) (suc i))
-        (closing k b i gs (division.begun gs dividend)) c m)
+        (closing k b i gs (division.initial_state gs dividend)) c m)
 
-    at : (t : division.State Fraction) → Done step (division.begun gs p) mid.entries new.entries t
+    at : (t : division.State Fraction) → Done step (division.initial_state gs p) mid.entries
+        new.entries t
         → IsRun (moves A) fresh new.entries (closing k b i gs t)
     at t d =
         subst (λ es. IsRun (moves A) fresh es (closing k b i gs t)) (sym d.entries)
         (run_joined (moves A) fresh start (closing k b i gs t) mid.entries (map Did d.events) here
-        (test_run (division.begun gs p) t d.events d.run))
+        (test_run (division.initial_state gs p) t d.events d.run))
 
-    test_ended : (t : division.State Fraction) → Finished step (division.begun gs p) mid.entries
-        new.entries t → Comes A new.entries (divided A k b i gs t.current)
+    test_ended : (t : division.State Fraction) → WorkToEnd step (division.initial_state gs p)
+        mid.entries
+        new.entries t → Comes A new.entries (after_test A k b i gs t.current)
     test_ended t f = record {
       state = closing k b i gs t;
       run = at t f.work;
@@ -104,20 +108,24 @@ module _ (A : Setting) (k b i : ℕ) (gs : List (Terms Fraction)) where
           ∙ ap (closed_by A k b i gs t) f.ended;
     }
 
-    pub test_passed : (t : division.State Fraction) → Finished (division.next rationals grevlex gs)
-        (division.begun gs p) mid.entries new.entries t → t.current ≡ None
+    pub test_passed : (t : division.State Fraction) → WorkToEnd (division.next rationals grevlex gs)
+        (division.initial_state gs p) mid.entries new.entries t → t.current ≡ None
         → Comes A new.entries (closing_from A k b (suc i) gs)
-    test_passed t f e = subst (λ o. Comes A new.entries (divided A k b i gs o)) e (test_ended t f)
+    test_passed t f e = subst (λ o. Comes A new.entries (after_test A k b i gs o)) e
+        (test_ended t f)
 
-    pub test_failed : (t : division.State Fraction) → Finished (division.next rationals grevlex gs)
-        (division.begun gs p) mid.entries new.entries t → (q : Terms Fraction) → t.current ≡ Some q
+    pub test_failed : (t : division.State Fraction) → WorkToEnd (division.next rationals grevlex gs)
+        (division.initial_state gs p) mid.entries new.entries t → (q : Terms Fraction)
+        → t.current ≡ Some q
         → Comes A new.entries (goes (Begin (journal.Round (suc k))) (turning (suc k) gs))
-    test_failed t f q e = subst (λ o. Comes A new.entries (divided A k b i gs o)) e (test_ended t f)
+    test_failed t f q e = subst (λ o. Comes A new.entries (after_test A k b i gs o)) e
+        (test_ended t f)
 
     module _ (P : Type 0) (past : P → IsPastComposition fractions (get_or gs i [])
         (get_or A.maps b [])) (task : declared_task.Task) (named : view.task_of task
         ≡ journal.Closed k (suc b) (suc i)) where
-      test_wide : Stops (started (machines.division fractions grevlex gs p) P) mid new too_wide
+      test_wide : Stops (with_past_start (machines.division fractions grevlex gs p) P) mid new
+          too_wide
           → IsStopped A (view.task_of task) new.entries
       test_wide (inl x) = record {
         state = closing k b i gs x.at;
@@ -128,7 +136,8 @@ module _ (A : Setting) (k b i : ℕ) (gs : List (Terms Fraction)) where
       test_wide (inr (n, x)) = subst (λ (j : Journal). IsStopped A (view.task_of task) j.entries)
           (sym n) (record { state = start; run = here; is_task = sym named; past = inl (past x) })
 
-      test_out : IsSpent (division.next rationals grevlex gs) (division.begun gs p) new.limit
+      test_out : IsSpent (division.next rationals grevlex gs) (division.initial_state gs p)
+          new.limit
           mid.entries new.entries → IsOut A new.limit new.entries
       test_out s = record {
         entry = Did s.event;
@@ -144,7 +153,8 @@ module _ (A : Setting) (k b i : ℕ) (gs : List (Terms Fraction)) where
       }
 
       pub test_refused : {R : Type 0} {G : R → division.State Fraction → Type 0}
-          (e : engine.EngineError) → Ran (started (machines.division fractions grevlex gs p) P) G
+          (e : engine.EngineError)
+          → Ran (with_past_start (machines.division fractions grevlex gs p) P) G
           mid new (stopped (refusal_of e)) → Refuses A new (in_task task e)
       test_refused engine_error.Wide r = test_wide r.to
       test_refused engine_error.Budget r = test_out r.to
@@ -159,15 +169,15 @@ module _ (A : Setting) (k b : ℕ) (gs : List (Terms Fraction)) where
   unfolding closing_from
   test_here i l =
       ap (λ o. cond o (test A k b i gs) (cond (ltb 0 (length gs) && ltb (suc b) (length A.forms))
-      (test A k (suc b) 0 gs) (ending A A.asked k gs))) (lt-ltb i (length gs) l)
+      (test A k (suc b) 0 gs) (after_closing A A.asked k gs))) (lt-ltb i (length gs) l)
 
   behind : closing_from A k b (length gs) gs
       ≡ cond (ltb 0 (length gs) && ltb (suc b) (length A.forms)) (test A k (suc b) 0 gs)
-      (ending A A.asked k gs)
+      (after_closing A A.asked k gs)
   unfolding closing_from
   behind = ap (λ o. cond o (test A k b (length gs) gs)
       (cond (ltb 0 (length gs) && ltb (suc b) (length A.forms)) (test A k (suc b) 0 gs)
-      (ending A A.asked k gs))) (le-ltb (length gs) (length gs) (omega arith))
+      (after_closing A A.asked k gs))) (le-ltb (length gs) (length gs) (omega arith))
 
   pub tests_go_on : suc b < length A.forms → closing_from A k b (length gs) gs ≡ closing_from A k
       (suc b) 0 gs
@@ -176,9 +186,9 @@ module _ (A : Setting) (k b : ℕ) (gs : List (Terms Fraction)) where
       (ltb (suc (suc b)) (length A.forms)) (lt-ltb (suc b) (length A.forms) l)
     where
       go : (some more still : Bool) → more ≡ true
-          → cond (some && more) (test A k (suc b) 0 gs) (ending A A.asked k gs)
+          → cond (some && more) (test A k (suc b) 0 gs) (after_closing A A.asked k gs)
           ≡ cond some (test A k (suc b) 0 gs)
-          (cond (some && still) (test A k (suc (suc b)) 0 gs) (ending A A.asked k gs))
+          (cond (some && still) (test A k (suc (suc b)) 0 gs) (after_closing A A.asked k gs))
       go true true still e = refl
       go true false still e = absurd (let z : ⊥ = cc in z)
       go false more still e = refl
@@ -186,10 +196,10 @@ module _ (A : Setting) (k b : ℕ) (gs : List (Terms Fraction)) where
   pub tests_end : length A.forms ≤ suc b → A.asked ≡ None → closing_from A k b (length gs) gs
       ≡ finished k gs
   tests_end l n = behind ∙ go (ltb 0 (length gs)) (ltb (suc b) (length A.forms))
-      (le-ltb (suc b) (length A.forms) l) ∙ ap (λ o. ending A o k gs) n
+      (le-ltb (suc b) (length A.forms) l) ∙ ap (λ o. after_closing A o k gs) n
     where
       go : (some more : Bool) → more ≡ false → cond (some && more) (test A k (suc b) 0 gs)
-          (ending A A.asked k gs) ≡ ending A A.asked k gs
+          (after_closing A A.asked k gs) ≡ after_closing A A.asked k gs
       go true true e = absurd (let z : ⊥ = cc in z)
       go true false e = refl
       go false more e = refl

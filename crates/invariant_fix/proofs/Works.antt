@@ -19,7 +19,7 @@ use Rattle.polynomials.specs.Order.{grevlex, blocks}
 use Rattle.polynomials.specs.Terms.{Terms}
 use Rattle.machines.specs.Collect.{collect}
 use Rattle.machines.specs.Elimination as elimination
-use Rattle.machines.specs.Elimination.{kept, blend}
+use Rattle.machines.specs.Elimination.{free_part, blend}
 use Rattle.machines.proofs.Collecting.{collect-is}
 use Rattle.machines.specs.Journal as journal
 use Rattle.machines.specs.Journal.{Begin, Journal, units_of}
@@ -43,7 +43,7 @@ use Rattle.invariant_fix.specs.Coming.{Comes, Refuses}
 use Rattle.invariant_fix.specs.Errors.{in_task}
 use Rattle.invariant_fix.specs.Lists.{IsList}
 use Rattle.invariant_fix.specs.Orbits.{orbit_front_of, orbit_list_of, unwinding, orbit_of, turning, turn_of}
-use Rattle.invariant_fix.specs.Setting.{seen, most_first, form_of, Fits, FitsBranch}
+use Rattle.invariant_fix.specs.Setting.{setting_of, most_first, form_of, FitsSetting, FitsBranch}
 use Rattle.invariant_fix.specs.Steps.{HasWhole, starting as start_step, started, orbiting, orbited, meeting, met, turn_begins, turn_ends, turn_meets, turn_met}
 use Rattle.invariant_fix.specs.declared.branches.Branch.{Branch}
 use Rattle.invariant_fix.specs.declared.setting.Setting.{Setting}
@@ -54,7 +54,7 @@ use Rattle.rounds.proofs.Few.{whole_few, orbit_few, turn_few}
 use Rattle.invariant_fix.proofs.Tasks.{way_of, past_start, task_ended, task_refused}
 
 -- ---- the first task
-module _ (s : Setting) (fits : Fits s) where
+module _ (s : Setting) (fits : FitsSetting s) where
   pub collected_starts : (ps : List FracPoly) → AreOver s.arity ps
       → map (collect rationals grevlex) (terms_each ps) ≡ terms_each ps
   collected_starts [] a = refl
@@ -67,7 +67,7 @@ module _ (s : Setting) (fits : Fits s) where
           p.polynomial.arity p.polynomial (Same-refl ℚ (terms_in p))
 
   module _ (ps : List FracPoly) (given : ps ≡ s.starts.items) where
-    own_way : ideal.adding s.starts.items [] ≡ way_of (seen s) starts
+    own_way : ideal.sum_way s.starts.items [] ≡ way_of (setting_of s) starts
     unfolding starting block
     own_way = λ i. record {
       order = grevlex;
@@ -76,30 +76,31 @@ module _ (s : Setting) (fits : Fits s) where
           ∙ sym (collected_starts s.starts.items fits.starts)) i;
     }
 
-    start_way : ideal.adding ps [] ≡ way_of (seen s) starts
-    start_way = ap (λ (qs : List FracPoly). ideal.adding qs []) given ∙ own_way
+    start_way : ideal.sum_way ps [] ≡ way_of (setting_of s) starts
+    start_way = ap (λ (qs : List FracPoly). ideal.sum_way qs []) given ∙ own_way
 
     module _ (old mid new : Journal) (begun : mid ≡ with_entry old (Begin journal.Start)) where
       abbrev P : Type 0
-      P = (elimination_of (ideal.adding ps [])).IsPastStart
+      P = (elimination_of (ideal.sum_way ps [])).IsPastStart
 
-      pub start_next : Comes (seen s) old.entries (start_step s) → (gs : Vec FracPoly)
-          → Ran (elimination_of (ideal.adding ps [])) (IsListOf (ideal.adding ps [])) mid new
-          (done gs) → Comes (seen s) new.entries (started s gs.items)
-      start_next c gs h = task_ended (seen s) starts old mid new c begun (ideal.adding ps [])
+      pub start_next : Comes (setting_of s) old.entries (start_step s) → (gs : Vec FracPoly)
+          → Ran (elimination_of (ideal.sum_way ps [])) (IsListOf (ideal.sum_way ps [])) mid new
+          (done gs) → Comes (setting_of s) new.entries (started s gs.items)
+      start_next c gs h = task_ended (setting_of s) starts old mid new c begun (ideal.sum_way ps [])
           start_way P gs h
 
       pub start_known : s.given ≡ None → (gs : Vec FracPoly)
-          → Ran (elimination_of (ideal.adding ps [])) (IsListOf (ideal.adding ps [])) mid new
+          → Ran (elimination_of (ideal.sum_way ps [])) (IsListOf (ideal.sum_way ps [])) mid new
           (done gs) → IsSum ps [] gs.items → IsList s.arity (most_first s.arity s.given)
           (units_of new.entries) gs.items
       unfolding starting block NothingKept
       start_known plain gs h i =
-          let bound = list_bound (seen s) starts mid new (ideal.adding ps []) start_way P gs h in
+          let bound = list_bound (setting_of s) starts mid new (ideal.sum_way ps []) start_way P gs
+          h in
           let few =
           kept_made rationals 0 (map (collect rationals grevlex) (terms_each s.starts.items)) []
           tt in
-          let none = ap (λ l. length (kept 0 (made rationals 0 l)))
+          let none = ap (λ l. length (free_part 0 (made rationals 0 l)))
           (append-nil (map (collect rationals grevlex) (terms_each s.starts.items))) in
           let a = length-map (terms_each s.starts.items) (collect rationals grevlex) in
           let b = length-map s.starts.items terms_in in
@@ -110,22 +111,22 @@ module _ (s : Setting) (fits : Fits s) where
           (start_reduced s.arity ps gs.items (subst (AreOver s.arity) (sym given) fits.starts)
           i) (omega (arith, bound, few, none, a, b, d)))
 
-      pub start_refused : Comes (seen s) old.entries (start_step s)
+      pub start_refused : Comes (setting_of s) old.entries (start_step s)
           → {R : Type 0} {G : R → elimination.State Fraction → Type 0} (e : engine.EngineError)
-          → Ran (elimination_of (ideal.adding ps [])) G mid new (stopped (refusal_of e))
-          → Refuses (seen s) new (in_task task.Start e)
+          → Ran (elimination_of (ideal.sum_way ps [])) G mid new (stopped (refusal_of e))
+          → Refuses (setting_of s) new (in_task task.Start e)
       start_refused c e r =
-          task_refused (seen s) starts old mid new c begun (ideal.adding ps []) start_way P
-          (λ p. past_start (seen s) starts (subst (λ (V : Way fractions).
+          task_refused (setting_of s) starts old mid new c begun (ideal.sum_way ps []) start_way P
+          (λ p. past_start (setting_of s) starts (subst (λ (V : Way fractions).
           IsPastStart fractions rationals V.gens) start_way p)) task.Start refl e r
 
 -- ---- a meet
 module _ (s : Setting) (k b : ℕ) (hs ks : List FracPoly) (old mid new : Journal) (n : ℕ)
     (named : n ≡ suc b) (begun : mid ≡ with_entry old (Begin (journal.Meet k n))) where
   abbrev Q : Type 0
-  Q = (elimination_of (ideal.meeting hs ks)).IsPastStart
+  Q = (elimination_of (ideal.intersection_way hs ks)).IsPastStart
 
-  meet_way : (gs : List (Terms Fraction)) → ideal.meeting hs ks ≡ way_of (seen s)
+  meet_way : (gs : List (Terms Fraction)) → ideal.intersection_way hs ks ≡ way_of (setting_of s)
       (meet k b gs (terms_each hs) (terms_each ks))
   unfolding starting block
   meet_way gs = refl
@@ -133,23 +134,26 @@ module _ (s : Setting) (k b : ℕ) (hs ks : List FracPoly) (old mid new : Journa
   begun_meet : mid ≡ with_entry old (Begin (journal.Meet k (suc b)))
   begun_meet = begun ∙ ap (λ j. with_entry old (Begin (journal.Meet k j))) named
 
-  pub met_next : (gs : List (Terms Fraction)) → Comes (seen s) old.entries (meeting s k b gs hs ks)
-      → (ls : Vec FracPoly) → Ran (elimination_of (ideal.meeting hs ks))
-      (IsListOf (ideal.meeting hs ks)) mid new (done ls)
-      → Comes (seen s) new.entries (met s k b gs hs ks ls.items)
-  met_next gs c ls h = task_ended (seen s) (meet k b gs (terms_each hs) (terms_each ks)) old mid new
-      c begun_meet (ideal.meeting hs ks) (meet_way gs) Q ls h
+  pub met_next : (gs : List (Terms Fraction))
+      → Comes (setting_of s) old.entries (meeting s k b gs hs ks)
+      → (ls : Vec FracPoly) → Ran (elimination_of (ideal.intersection_way hs ks))
+      (IsListOf (ideal.intersection_way hs ks)) mid new (done ls)
+      → Comes (setting_of s) new.entries (met s k b gs hs ks ls.items)
+  met_next gs c ls h = task_ended (setting_of s) (meet k b gs (terms_each hs) (terms_each ks)) old
+      mid new
+      c begun_meet (ideal.intersection_way hs ks) (meet_way gs) Q ls h
 
   module _ (units more : ℕ) (kh : IsList s.arity (most_first s.arity s.given) units hs)
       (kk : IsList s.arity more units ks) (ls : Vec FracPoly)
-      (h : Ran (elimination_of (ideal.meeting hs ks)) (IsListOf (ideal.meeting hs ks)) mid new
+      (h : Ran (elimination_of (ideal.intersection_way hs ks))
+      (IsListOf (ideal.intersection_way hs ks)) mid new
       (done ls)) where
     pub met_known : IsIntersection hs ks ls.items → IsList s.arity (most_first s.arity s.given)
         (units_of new.entries) ls.items
     unfolding starting block
     met_known i =
-        let bound = list_bound (seen s) (meet k b [] (terms_each hs) (terms_each ks)) mid new
-        (ideal.meeting hs ks) (meet_way []) Q ls h in
+        let bound = list_bound (setting_of s) (meet k b [] (terms_each hs) (terms_each ks)) mid new
+        (ideal.intersection_way hs ks) (meet_way []) Q ls h in
         let few = kept_made rationals 1 [] (blend rationals (blocks 1 grevlex grevlex)
         (terms_each hs) (terms_each ks)) (blend_not_kept s.arity (terms_each hs)
         (terms_each ks) (each_from (terms_each ks) kk.reduced.polynomials)) in
@@ -158,20 +162,22 @@ module _ (s : Setting) (k b : ℕ) (hs ks : List FracPoly) (old mid new : Journa
 
     pub met_units : units_of old.entries ≤ units_of new.entries
     met_units =
-        let a = units_follow (seen s) (meet k b [] (terms_each hs) (terms_each ks)) mid new
-        (ideal.meeting hs ks) (meet_way []) Q ls h in
+        let a = units_follow (setting_of s) (meet k b [] (terms_each hs) (terms_each ks)) mid new
+        (ideal.intersection_way hs ks) (meet_way []) Q ls h in
         let c = units_begun old mid (journal.Meet k n) begun in
         omega (arith, a, c)
 
   pub met_refused : (gs : List (Terms Fraction))
-      → Comes (seen s) old.entries (meeting s k b gs hs ks)
+      → Comes (setting_of s) old.entries (meeting s k b gs hs ks)
       → {R : Type 0} {G : R → elimination.State Fraction → Type 0} (e : engine.EngineError)
-      → Ran (elimination_of (ideal.meeting hs ks)) G mid new (stopped (refusal_of e))
-      → Refuses (seen s) new (in_task (task.Meet k n) e)
+      → Ran (elimination_of (ideal.intersection_way hs ks)) G mid new (stopped (refusal_of e))
+      → Refuses (setting_of s) new (in_task (task.Meet k n) e)
   met_refused gs c e r =
       let w = meet k b gs (terms_each hs) (terms_each ks) in
-      task_refused (seen s) w old mid new c begun_meet (ideal.meeting hs ks) (meet_way gs) Q
-      (λ p. past_start (seen s) w (subst (λ (V : Way fractions). IsPastStart fractions rationals
+      task_refused (setting_of s) w old mid new c begun_meet (ideal.intersection_way hs ks)
+      (meet_way gs) Q
+      (λ p. past_start (setting_of s) w (subst (λ (V : Way fractions).
+      IsPastStart fractions rationals
       V.gens) (meet_way gs) p)) (task.Meet k n) (ap (journal.Meet k) named) e r
 
 -- ---- a meet with a turn
@@ -179,9 +185,10 @@ module _ (s : Setting) (k b i : ℕ) (hs ks : List FracPoly) (old mid new : Jour
     (named : n ≡ suc b) (counted : j ≡ suc i)
     (begun : mid ≡ with_entry old (Begin (journal.TurnMeet k n j))) where
   abbrev QT : Type 0
-  QT = (elimination_of (ideal.meeting hs ks)).IsPastStart
+  QT = (elimination_of (ideal.intersection_way hs ks)).IsPastStart
 
-  turn_meet_way : (gs : List (Terms Fraction)) → ideal.meeting hs ks ≡ way_of (seen s)
+  turn_meet_way : (gs : List (Terms Fraction)) → ideal.intersection_way hs ks
+      ≡ way_of (setting_of s)
       (turn_meet k b i gs (terms_each hs) (terms_each ks))
   unfolding starting block
   turn_meet_way gs = refl
@@ -191,24 +198,27 @@ module _ (s : Setting) (k b i : ℕ) (hs ks : List FracPoly) (old mid new : Jour
       counted
 
   pub turn_met_next : (gs : List (Terms Fraction))
-      → Comes (seen s) old.entries (turn_meets s k b i gs hs ks)
-      → (ls : Vec FracPoly) → Ran (elimination_of (ideal.meeting hs ks))
-      (IsListOf (ideal.meeting hs ks)) mid new (done ls)
-      → Comes (seen s) new.entries (turn_met s k b i gs hs ks ls.items)
-  turn_met_next gs c ls h = task_ended (seen s) (turn_meet k b i gs (terms_each hs) (terms_each ks))
+      → Comes (setting_of s) old.entries (turn_meets s k b i gs hs ks)
+      → (ls : Vec FracPoly) → Ran (elimination_of (ideal.intersection_way hs ks))
+      (IsListOf (ideal.intersection_way hs ks)) mid new (done ls)
+      → Comes (setting_of s) new.entries (turn_met s k b i gs hs ks ls.items)
+  turn_met_next gs c ls h = task_ended (setting_of s) (turn_meet k b i gs (terms_each hs)
+      (terms_each ks))
       old mid new
-      c begun_turn_meet (ideal.meeting hs ks) (turn_meet_way gs) QT ls h
+      c begun_turn_meet (ideal.intersection_way hs ks) (turn_meet_way gs) QT ls h
 
   module _ (units more : ℕ) (kh : IsList s.arity (most_first s.arity s.given) units hs)
       (kk : IsList s.arity more units ks) (ls : Vec FracPoly)
-      (h : Ran (elimination_of (ideal.meeting hs ks)) (IsListOf (ideal.meeting hs ks)) mid new
+      (h : Ran (elimination_of (ideal.intersection_way hs ks))
+      (IsListOf (ideal.intersection_way hs ks)) mid new
       (done ls)) where
     pub turn_met_known : IsIntersection hs ks ls.items → IsList s.arity (most_first s.arity s.given)
         (units_of new.entries) ls.items
     unfolding starting block
     turn_met_known met =
-        let bound = list_bound (seen s) (turn_meet k b i [] (terms_each hs) (terms_each ks)) mid new
-        (ideal.meeting hs ks) (turn_meet_way []) QT ls h in
+        let bound = list_bound (setting_of s) (turn_meet k b i [] (terms_each hs) (terms_each ks))
+        mid new
+        (ideal.intersection_way hs ks) (turn_meet_way []) QT ls h in
         let few = kept_made rationals 1 [] (blend rationals (blocks 1 grevlex grevlex)
         (terms_each hs) (terms_each ks)) (blend_not_kept s.arity (terms_each hs)
         (terms_each ks) (each_from (terms_each ks) kk.reduced.polynomials)) in
@@ -217,31 +227,34 @@ module _ (s : Setting) (k b i : ℕ) (hs ks : List FracPoly) (old mid new : Jour
 
     pub turn_met_units : units_of old.entries ≤ units_of new.entries
     turn_met_units =
-        let a = units_follow (seen s) (turn_meet k b i [] (terms_each hs) (terms_each ks)) mid new
-        (ideal.meeting hs ks) (turn_meet_way []) QT ls h in
+        let a = units_follow (setting_of s) (turn_meet k b i [] (terms_each hs) (terms_each ks)) mid
+        new
+        (ideal.intersection_way hs ks) (turn_meet_way []) QT ls h in
         let c = units_begun old mid (journal.TurnMeet k n j) begun in
         omega (arith, a, c)
 
   pub turn_met_refused : (gs : List (Terms Fraction))
-      → Comes (seen s) old.entries (turn_meets s k b i gs hs ks)
+      → Comes (setting_of s) old.entries (turn_meets s k b i gs hs ks)
       → {R : Type 0} {G : R → elimination.State Fraction → Type 0} (e : engine.EngineError)
-      → Ran (elimination_of (ideal.meeting hs ks)) G mid new (stopped (refusal_of e))
-      → Refuses (seen s) new (in_task (task.TurnMeet k n j) e)
+      → Ran (elimination_of (ideal.intersection_way hs ks)) G mid new (stopped (refusal_of e))
+      → Refuses (setting_of s) new (in_task (task.TurnMeet k n j) e)
   turn_met_refused gs c e r =
       let w = turn_meet k b i gs (terms_each hs) (terms_each ks) in
-      task_refused (seen s) w old mid new c begun_turn_meet (ideal.meeting hs ks) (turn_meet_way gs)
+      task_refused (setting_of s) w old mid new c begun_turn_meet (ideal.intersection_way hs ks)
+      (turn_meet_way gs)
       QT
-      (λ p. past_start (seen s) w (subst (λ (V : Way fractions). IsPastStart fractions rationals
+      (λ p. past_start (setting_of s) w (subst (λ (V : Way fractions).
+      IsPastStart fractions rationals
       V.gens) (turn_meet_way gs) p)) (task.TurnMeet k n j) (ap₂ (journal.TurnMeet k) named
       counted) e r
 
 -- ---- an orbit, and a turn
-module _ (s : Setting) (fits : Fits s) (place : ℕ) (within : place < length s.branches.items)
+module _ (s : Setting) (fits : FitsSetting s) (place : ℕ) (within : place < length s.branches.items)
     (branch : Branch) (is : branch ≡ get_or s.branches.items place branch) where
   none : form.Form
   none = record { base = []; polys = []; since = 0 }
 
-  pub form_at : analysis.form_of (seen s) place ≡ form_of branch.form
+  pub form_at : analysis.form_of (setting_of s) place ≡ form_of branch.form
   form_at = get_or-map (λ (c : Branch). form_of c.form) s.branches.items place branch _ within
       ∙ ap (λ (c : Branch). form_of c.form) (sym is)
 
@@ -251,7 +264,7 @@ module _ (s : Setting) (fits : Fits s) (place : ℕ) (within : place < length s.
   vars_at : length branch.images.items ≡ s.arity
   vars_at = fits_at.count
 
-  map_at : get_or (seen s).maps place [] ≡ terms_each branch.images.items
+  map_at : get_or (setting_of s).maps place [] ≡ terms_each branch.images.items
   map_at = get_or-map (λ (c : Branch). terms_each c.images.items) s.branches.items place branch []
       within ∙ ap (λ (c : Branch). terms_each c.images.items) (sym is)
 
@@ -261,14 +274,14 @@ module _ (s : Setting) (fits : Fits s) (place : ℕ) (within : place < length s.
   -- ---- an orbit
   module _ (k : ℕ) (gs : List FracPoly) (old mid new : Journal) (n : ℕ) (named : n ≡ suc place)
       (begun : mid ≡ with_entry old (Begin (journal.Orbit k n))) where
-    orbit_way : (hs : List (Terms Fraction)) → unwinding branch gs ≡ way_of (seen s)
+    orbit_way : (hs : List (Terms Fraction)) → unwinding branch gs ≡ way_of (setting_of s)
         (orbit k place (terms_each gs) hs)
     unfolding starting block
     orbit_way hs =
         ap₂ (λ (f : form.Form) (m : ℕ). let w : ideal.Way fractions =
         record {
           order = blocks (form.orbit_front f m) grevlex grevlex;
-          part = kept (form.orbit_front f m);
+          part = free_part (form.orbit_front f m);
           gens = form.orbit_list f m (terms_each gs);
         } in w) (sym form_at) vars_at
 
@@ -279,10 +292,11 @@ module _ (s : Setting) (fits : Fits s) (place : ℕ) (within : place < length s.
     U = (orbit_of branch gs).IsPastStart
 
     pub orbit_next : (hs : List (Terms Fraction))
-        → Comes (seen s) old.entries (orbiting s k place gs hs) → (ls : Vec FracPoly)
+        → Comes (setting_of s) old.entries (orbiting s k place gs hs) → (ls : Vec FracPoly)
         → Ran (orbit_of branch gs) (IsListOf (unwinding branch gs)) mid new (done ls)
-        → Comes (seen s) new.entries (orbited s k place gs hs ls.items)
-    orbit_next hs c ls h = task_ended (seen s) (orbit k place (terms_each gs) hs) old mid new c
+        → Comes (setting_of s) new.entries (orbited s k place gs hs ls.items)
+    orbit_next hs c ls h = task_ended (setting_of s) (orbit k place (terms_each gs) hs) old mid new
+        c
         begun_orbit (unwinding branch gs) (orbit_way hs) U ls h
 
     module _ (kg : IsList s.arity (most_first s.arity s.given) (units_of old.entries) gs)
@@ -290,24 +304,25 @@ module _ (s : Setting) (fits : Fits s) (place : ℕ) (within : place < length s.
         (done ls)) where
       pub orbit_units : units_of old.entries ≤ units_of new.entries
       orbit_units =
-          let a = units_follow (seen s) (orbit k place (terms_each gs) []) mid new
+          let a = units_follow (setting_of s) (orbit k place (terms_each gs) []) mid new
           (unwinding branch gs) (orbit_way []) U ls h in
           let c = units_begun old mid (journal.Orbit k n) begun in
           omega (arith, a, c)
 
-      orbit_bound : length ls.items + units_of mid.entries ≤ length (kept (orbit_front_of branch)
+      orbit_bound : length ls.items + units_of mid.entries
+          ≤ length (free_part (orbit_front_of branch)
           (made rationals (orbit_front_of branch) (orbit_list_of branch gs))) + units_of new.entries
       unfolding starting block
       orbit_bound =
-          let bound = list_bound (seen s) (orbit k place (terms_each gs) []) mid new
+          let bound = list_bound (setting_of s) (orbit k place (terms_each gs) []) mid new
           (unwinding branch gs) (orbit_way []) U ls h in
           subst (λ m. length ls.items + units_of mid.entries
-          ≤ length (kept (form.orbit_front (form_of branch.form) m)
+          ≤ length (free_part (form.orbit_front (form_of branch.form) m)
           (made rationals (form.orbit_front (form_of branch.form) m)
           (form.orbit_list (form_of branch.form) m (terms_each gs)))) + units_of new.entries)
           (sym vars_at)
           (subst (λ f. length ls.items + units_of mid.entries
-          ≤ length (kept (form.orbit_front f s.arity)
+          ≤ length (free_part (form.orbit_front f s.arity)
           (made rationals (form.orbit_front f s.arity)
           (form.orbit_list f s.arity (terms_each gs)))) + units_of new.entries) form_at bound)
 
@@ -347,21 +362,22 @@ module _ (s : Setting) (fits : Fits s) (place : ℕ) (within : place < length s.
             (omega (arith, bound, few, b, d, e))
 
     past_here : U → (hs : List (Terms Fraction))
-        → IsPastStarting (seen s) (orbit k place (terms_each gs) hs)
+        → IsPastStarting (setting_of s) (orbit k place (terms_each gs) hs)
     past_here (inl p) hs =
-        inl (subst (λ m. IsPastOrbit (analysis.form_of (seen s) place) m (terms_each gs)) vars_at
+        inl (subst (λ m. IsPastOrbit (analysis.form_of (setting_of s) place) m (terms_each gs))
+        vars_at
         (subst (λ (f : form.Form). IsPastOrbit f (length branch.images.items) (terms_each gs))
         (sym form_at) p))
     past_here (inr p) hs =
         inr (subst (λ (V : Way fractions). IsPastStart fractions rationals V.gens) (orbit_way hs) p)
 
     pub orbit_refused : (hs : List (Terms Fraction))
-        → Comes (seen s) old.entries (orbiting s k place gs hs)
+        → Comes (setting_of s) old.entries (orbiting s k place gs hs)
         → {R : Type 0} {G : R → elimination.State Fraction → Type 0} (e : engine.EngineError)
         → Ran (orbit_of branch gs) G mid new (stopped (refusal_of e))
-        → Refuses (seen s) new (in_task (task.Orbit k n) e)
+        → Refuses (setting_of s) new (in_task (task.Orbit k n) e)
     orbit_refused hs c e r =
-        task_refused (seen s) (orbit k place (terms_each gs) hs) old mid new c begun_orbit
+        task_refused (setting_of s) (orbit k place (terms_each gs) hs) old mid new c begun_orbit
         (unwinding branch gs) (orbit_way hs) U (λ p. past_here p hs) (task.Orbit k n)
         (ap (journal.Orbit k) named) e r
 
@@ -369,18 +385,18 @@ module _ (s : Setting) (fits : Fits s) (place : ℕ) (within : place < length s.
   module _ (k i : ℕ) (ks : List FracPoly) (old mid new : Journal) (n j : ℕ)
       (named : n ≡ suc place) (counted : j ≡ suc i)
       (begun : mid ≡ with_entry old (Begin (journal.Turn k n j))) where
-    turn_way : (gs hs : List (Terms Fraction)) → turning branch ks ≡ way_of (seen s)
+    turn_way : (gs hs : List (Terms Fraction)) → turning branch ks ≡ way_of (setting_of s)
         (turn k place i gs (terms_each ks) hs)
     unfolding starting block
     turn_way gs hs =
         let here : (f : form.Form) → (m : ℕ) → List (Terms Fraction) → ideal.Way fractions =
         λ f m images. record {
           order = blocks (form.turn_front f m) grevlex grevlex;
-          part = kept (form.turn_front f m);
+          part = free_part (form.turn_front f m);
           gens = form.turn_list f m images (terms_each ks);
         } in
         ap₂ (λ f m. here f m (terms_each branch.images.items)) (sym form_at) vars_at
-        ∙ ap (here (analysis.form_of (seen s) place) s.arity) (sym map_at)
+        ∙ ap (here (analysis.form_of (setting_of s) place) s.arity) (sym map_at)
 
     begun_turn : mid ≡ with_entry old (Begin (journal.Turn k (suc place) (suc i)))
     begun_turn = begun ∙ ap₂ (λ x y. with_entry old (Begin (journal.Turn k x y))) named counted
@@ -389,17 +405,18 @@ module _ (s : Setting) (fits : Fits s) (place : ℕ) (within : place < length s.
     V = (turn_of branch ks).IsPastStart
 
     pub turn_next : (gs hs : List (Terms Fraction))
-        → Comes (seen s) old.entries (turn_begins s k place i gs ks hs) → (ls : Vec FracPoly)
+        → Comes (setting_of s) old.entries (turn_begins s k place i gs ks hs) → (ls : Vec FracPoly)
         → Ran (turn_of branch ks) (IsListOf (turning branch ks)) mid new (done ls)
-        → Comes (seen s) new.entries (turn_ends s k place i gs ks hs ls.items)
-    turn_next gs hs c ls h = task_ended (seen s) (turn k place i gs (terms_each ks) hs) old mid new
+        → Comes (setting_of s) new.entries (turn_ends s k place i gs ks hs ls.items)
+    turn_next gs hs c ls h = task_ended (setting_of s) (turn k place i gs (terms_each ks) hs) old
+        mid new
         c begun_turn (turning branch ks) (turn_way gs hs) V ls h
 
     module _ (most : ℕ) (kk : IsList s.arity most (units_of old.entries) ks) (ls : Vec FracPoly)
         (h : Ran (turn_of branch ks) (IsListOf (turning branch ks)) mid new (done ls)) where
       pub turn_units : units_of old.entries ≤ units_of new.entries
       turn_units =
-          let a = units_follow (seen s) (turn k place i [] (terms_each ks) []) mid new
+          let a = units_follow (setting_of s) (turn k place i [] (terms_each ks) []) mid new
           (turning branch ks) (turn_way [] []) V ls h in
           let c = units_begun old mid (journal.Turn k n j) begun in
           omega (arith, a, c)
@@ -409,10 +426,10 @@ module _ (s : Setting) (fits : Fits s) (place : ℕ) (within : place < length s.
           → IsList s.arity (most + s.arity) (units_of new.entries) ls.items
       unfolding starting block
       turn_known over reduced =
-          let bound = list_bound (seen s) (turn k place i [] (terms_each ks) []) mid new
+          let bound = list_bound (setting_of s) (turn k place i [] (terms_each ks) []) mid new
           (turning branch ks) (turn_way [] []) V ls h in
-          let f = analysis.form_of (seen s) place in
-          let few = turn_few f s.arity (terms_each ks) (get_or (seen s).maps place [])
+          let f = analysis.form_of (setting_of s) place in
+          let few = turn_few f s.arity (terms_each ks) (get_or (setting_of s).maps place [])
           (ap length map_at ∙ length-map branch.images.items terms_in ∙ vars_at) in
           let b = length-map ks terms_in in
           let d = units_begun old mid (journal.Turn k n j) begun in
@@ -425,11 +442,12 @@ module _ (s : Setting) (fits : Fits s) (place : ℕ) (within : place < length s.
           (omega (arith, bound, few, b, d, e))
 
     past_turn : V → (gs hs : List (Terms Fraction))
-        → IsPastStarting (seen s) (turn k place i gs (terms_each ks) hs)
+        → IsPastStarting (setting_of s) (turn k place i gs (terms_each ks) hs)
     past_turn (inl p) gs hs =
-        inl (subst (λ fs. IsPastTurn (analysis.form_of (seen s) place) s.arity fs (terms_each ks))
+        inl (subst (λ fs. IsPastTurn (analysis.form_of (setting_of s) place) s.arity fs
+        (terms_each ks))
         (sym map_at)
-        (subst (λ m. IsPastTurn (analysis.form_of (seen s) place) m
+        (subst (λ m. IsPastTurn (analysis.form_of (setting_of s) place) m
         (terms_each branch.images.items) (terms_each ks)) vars_at
         (subst (λ (f : form.Form). IsPastTurn f (length branch.images.items)
         (terms_each branch.images.items) (terms_each ks)) (sym form_at) p)))
@@ -438,11 +456,11 @@ module _ (s : Setting) (fits : Fits s) (place : ℕ) (within : place < length s.
         p)
 
     pub turn_refused : (gs hs : List (Terms Fraction))
-        → Comes (seen s) old.entries (turn_begins s k place i gs ks hs)
+        → Comes (setting_of s) old.entries (turn_begins s k place i gs ks hs)
         → {R : Type 0} {G : R → elimination.State Fraction → Type 0} (e : engine.EngineError)
         → Ran (turn_of branch ks) G mid new (stopped (refusal_of e))
-        → Refuses (seen s) new (in_task (task.Turn k n j) e)
+        → Refuses (setting_of s) new (in_task (task.Turn k n j) e)
     turn_refused gs hs c e r =
-        task_refused (seen s) (turn k place i gs (terms_each ks) hs) old mid new c begun_turn
+        task_refused (setting_of s) (turn k place i gs (terms_each ks) hs) old mid new c begun_turn
         (turning branch ks) (turn_way gs hs) V (λ p. past_turn p gs hs) (task.Turn k n j)
         (ap₂ (journal.Turn k) named counted) e r

@@ -17,18 +17,18 @@ use Rattle.machines.specs.Event.{Event}
 use Rattle.machines.specs.Journal as journal
 use Rattle.machines.specs.Journal.{Entry, Journal}
 use Rattle.machines.specs.Past.{IsPastDivision}
-use Rattle.machines.specs.Work.{Worked, Finished, IsSpent, PastAfter}
+use Rattle.machines.specs.Work.{WorkFrom, WorkToEnd, IsSpent, PastAfter}
 use Rattle.loops.specs.Program.{Expr, Program}
 use Rattle.rounds.specs.Journal.{IsAnswered}
 use Rattle.poly.specs.Seen.{terms_each}
 use Rattle.ideal_ops.specs.Calls.{AreOver}
-use Rattle.invariant_fix.specs.declared.membership.Answer.{Answer}
-use Rattle.invariant_fix.specs.declared.membership.Answer.TheVariants.{Yes, No}
+use Rattle.invariant_fix.specs.declared.membership.Membership.{Membership}
+use Rattle.invariant_fix.specs.declared.membership.Membership.TheVariants.{Yes, No}
 
 abbrev pub asks : List Entry → List Entry
 asks before = before ++ journal.Begin journal.Member ∷ []
 
-abbrev pub SaysYes : Answer → Type 0
+abbrev pub SaysYes : Membership → Type 0
 SaysYes (Yes qs) = ⊤
 SaysYes No = ⊥
 
@@ -37,19 +37,19 @@ module _ (gs : List (Terms Fraction)) (p : Terms Fraction) where
   step s = division.next rationals grevlex gs s
 
   abbrev first : division.State Fraction
-  first = division.begun gs p
+  first = division.initial_state gs p
 
   abbrev pub HasAsked : Journal → Journal → Type 0
   HasAsked before after =
-      (after.entries ≡ before.entries) ⊎ Worked step first (asks before.entries) after.entries
+      (after.entries ≡ before.entries) ⊎ WorkFrom step first (asks before.entries) after.entries
 
-  abbrev pub Tells : division.State Fraction → Answer → Type 0
+  abbrev pub Tells : division.State Fraction → Membership → Type 0
   Tells s (Yes qs) = (s.current ≡ None) × (terms_each qs.items ≡ s.cofactors)
   Tells s No = is_some s.current ≡ true
 
-  pub record Answers (before after : Journal) (a : Answer) : Type 0 where
+  pub record Answers (before after : Journal) (a : Membership) : Type 0 where
     pub last : division.State Fraction
-    pub finished : Finished step first (asks before.entries) after.entries last
+    pub finished : WorkToEnd step first (asks before.entries) after.entries last
     pub tells : Tells last a
 
   abbrev pub IsWideAsking : Journal → Journal → Type 0
@@ -61,16 +61,16 @@ module _ (gs : List (Terms Fraction)) (p : Terms Fraction) where
   IsAskingOutOfUnits before after =
       IsSpent step first after.limit (asks before.entries) after.entries
 
-abbrev pub HasCofactorsOver : ℕ → Answer → Type 0
+abbrev pub HasCofactorsOver : ℕ → Membership → Type 0
 HasCofactorsOver m (Yes qs) = AreOver m qs.items
 HasCofactorsOver m No = ⊤
 
-abbrev pub HasSum : List (Terms Fraction) → Terms Fraction → Answer → Type 0
+abbrev pub HasSum : List (Terms Fraction) → Terms Fraction → Membership → Type 0
 HasSum gs p (Yes qs) = Same ℚ p (combination ℚ (terms_each qs.items) gs)
 HasSum gs p No = ⊤
 
 pub record HasAnswered (program : Program (Expr ℕ)) (p : Terms Fraction) (k : ℕ)
-    (gs : List (Terms Fraction)) (es : List Entry) (a : Answer) : Type 0 where
+    (gs : List (Terms Fraction)) (es : List Entry) (a : Membership) : Type 0 where
   pub last : division.State Fraction
   pub answered : IsAnswered program p es k gs last
   pub tells : Tells gs p last a

@@ -17,7 +17,7 @@ use Rattle.polynomials.specs.Order.{grevlex, blocks}
 use Rattle.polynomials.specs.Terms.{Terms}
 use Rattle.polynomials.specs.Weight.{IsPastComposition}
 use Rattle.machines.specs.Collect.{collect}
-use Rattle.machines.specs.Elimination.{kept}
+use Rattle.machines.specs.Elimination.{free_part}
 use Rattle.rounds.specs.Form.{front, form_backward, normal, orbit_order, orbit_front, orbit_list, turn_front, turn_list, relations, unwound_by}
 use Rattle.rounds.specs.Past.{IsPastOrbit, IsPastTurn}
 use Rattle.coprime_base.specs.Sizes.{sizes}
@@ -29,7 +29,7 @@ use Rattle.ideal_ops.specs.Calls.{Way, elimination_of}
 use Rattle.ideal_ops.specs.Eliminating.{HaveBlock}
 use Rattle.invariant_fix.specs.Blocked.{Blocked}
 use Rattle.invariant_fix.specs.Setting.{form_of}
-use Rattle.invariant_fix.specs.Started.{started}
+use Rattle.invariant_fix.specs.Started.{with_past_start}
 use Rattle.invariant_fix.specs.declared.branches.Branch.{Branch}
 
 abbrev pub relations_of : (r m : ℕ) → List (Terms Fraction)
@@ -81,13 +81,13 @@ module _ (b : Branch) where
   abbrev pub unwinding : List FracPoly → Way fractions
   unwinding gs = record {
     order = blocks orbit_front_of grevlex grevlex;
-    part = kept orbit_front_of;
+    part = free_part orbit_front_of;
     gens = orbit_list_of gs;
   }
 
   abbrev pub orbit_of : List FracPoly → Machine (elimination.State Fraction)
   orbit_of gs =
-      started (elimination_of (unwinding gs))
+      with_past_start (elimination_of (unwinding gs))
       (IsPastUnwinding gs ⊎ (elimination_of (unwinding gs)).IsPastStart)
 
   -- ---- a turn
@@ -105,11 +105,11 @@ module _ (b : Branch) where
   abbrev pub turning : List FracPoly → Way fractions
   turning gs = record {
     order = blocks turn_front_of grevlex grevlex;
-    part = kept turn_front_of;
+    part = free_part turn_front_of;
     gens = turn_list_of gs;
   }
 
   abbrev pub turn_of : List FracPoly → Machine (elimination.State Fraction)
   turn_of gs =
-      started (elimination_of (turning gs))
+      with_past_start (elimination_of (turning gs))
       (IsPastTurning gs ⊎ (elimination_of (turning gs)).IsPastStart)

@@ -1,5 +1,5 @@
 -- Why an analysis gave no basis, over the program.
---   unformed e                   what an analysis answers to the refusal e of a map
+--   analysis_error_of e                   what an analysis answers to the refusal e of a map
 --   refused_branch b e          what it answers to the refusal e of the branch b, which counts from 0
 --   HasForm program b            the branch b, which counts from 1, has a closed form, and no class of its map is refused
 --   AllHaveForms program         that is so of each branch
@@ -36,10 +36,10 @@ use Rattle.journal.specs.View as view
 use Rattle.invariant_fix.specs.declared.errors.AnalyseError.{AnalyseError}
 use Rattle.invariant_fix.specs.declared.errors.AnalyseError.TheVariants.{Map, Branch, Wide, Budget, Memory}
 
-abbrev pub unformed : MapError → AnalyseError
-unformed (map_error.Limit at) = Map (map_error.Limit at)
-unformed (map_error.Wide at) = Map (map_error.Wide at)
-unformed map_error.Memory = Memory
+abbrev pub analysis_error_of : MapError → AnalyseError
+analysis_error_of (map_error.Limit at) = Map (map_error.Limit at)
+analysis_error_of (map_error.Wide at) = Map (map_error.Wide at)
+analysis_error_of map_error.Memory = Memory
 
 abbrev pub refused_branch : ℕ → FormsError → AnalyseError
 refused_branch b (forms_error.NotSolvable cycle) = Branch b (forms_error.NotSolvable cycle)

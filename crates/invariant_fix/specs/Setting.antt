@@ -1,10 +1,10 @@
 -- What an analysis is of.
---   seen s               it, as the machine has it; form_of f: a closed form
+--   setting_of s               it, as the machine has it; form_of f: a closed form
 --   given_of o           the list that is given, if one is;  most_first m o: how many elements the list that the analysis begins with has at most
 --   most_given         how many elements a list that is given may have;  most_turns: from how many turns on at most a form is the state
 --   IsSquare images      there are 1 to 12 polynomials, in as many variables
 --   FitsBranch m b       the parts of the branch b are over m variables, its form over its base too, which is short, and its form backward is that of its form
---   Fits s               the parts of s are over its variables, of which there are 1 to 12, and it has 1 to 6 branches
+--   FitsSetting s               the parts of s are over its variables, of which there are 1 to 12, and it has 1 to 6 branches
 --   IsMapIn program b images    they are the polynomials of the branch b, which counts from 1, as the analysis has them
 --   IsBranchOf program b c      c has the map and a closed form of the branch b, fits, and no class of its map is refused
 --   AreMapsTo program n maps, AreBranchesTo program n cs    that is so of the first n branches
@@ -36,6 +36,7 @@ use Rattle.closed_forms.specs.declared.Form.{Form}
 use Rattle.invariant_fix.specs.declared.branches.Branch.{Branch}
 use Rattle.invariant_fix.specs.declared.setting.Setting.{Setting}
 use Rattle.starting_lists.specs.Starts.{AreStarts}
+use Rattle.loop_model.specs.Limits.{names_limit}
 
 abbrev pub form_of : Form → form.Form
 form_of f = record {
@@ -52,6 +53,10 @@ most_given = 2 ^ 27 + 2 ^ 26
 abbrev pub most_turns : ℕ
 most_turns = 12
 
+-- how many elements a list may have that a turn or an orbit begins with
+abbrev pub start_limit : ℕ
+start_limit = 2 ^ 29
+
 abbrev pub given_of : Option (Vec FracPoly) → Option (List (Terms Fraction))
 given_of o = option_map (λ (v : Vec FracPoly). terms_each v.items) o
 
@@ -59,8 +64,8 @@ abbrev pub most_first : ℕ → Option (Vec FracPoly) → ℕ
 most_first m None = m
 most_first m (Some v) = length v.items
 
-abbrev pub seen : Setting → analysis.Setting
-seen s = record {
+abbrev pub setting_of : Setting → analysis.Setting
+setting_of s = record {
   arity = s.arity;
   starts = terms_each s.starts.items;
   maps = map (λ (b : Branch). terms_each b.images.items) s.branches.items;
@@ -71,7 +76,7 @@ seen s = record {
 
 pub record IsSquare (images : List FracPoly) : Type 0 where
   pub some : 1 ≤ length images
-  pub few : length images ≤ 12
+  pub few : length images ≤ names_limit
   pub arity : AreOver (length images) images
 
 pub record FitsBranch (m : ℕ) (b : Branch) : Type 0 where
@@ -89,9 +94,9 @@ pub record FitsBranch (m : ℕ) (b : Branch) : Type 0 where
   pub passing_count : length b.form.passing.items ≡ m
   pub passing : (i : ℕ) → get_or b.form.passing.items i false ≡ passes (form_of b.form) m i
 
-pub record Fits (s : Setting) : Type 0 where
+pub record FitsSetting (s : Setting) : Type 0 where
   pub some : 1 ≤ s.arity
-  pub few : s.arity ≤ 12
+  pub few : s.arity ≤ names_limit
   pub starts : AreOver s.arity s.starts.items
   pub few_starts : length s.starts.items ≤ s.arity
   pub few_first : most_first s.arity s.given ≤ most_given

@@ -1,6 +1,11 @@
 -- Machines whose start the code makes of something first.
---   started M P     the machine M, where making its start is past where P
+--   with_past_start M P     the machine M, where making its start is past where P
 use Rattle.machines.specs.Machine.{Machine}
 
-abbrev pub started : {S : Type 0} → Machine S → Type 0 → Machine S
-started M P = record { start = M.start; next = M.next; IsPastNext = M.IsPastNext; IsPastStart = P }
+abbrev pub with_past_start : {S : Type 0} → Machine S → Type 0 → Machine S
+with_past_start M P = record {
+  start = M.start;
+  next = M.next;
+  IsPastNext = M.IsPastNext;
+  IsPastStart = P;
+}

@@ -7,7 +7,7 @@
 --   closing s k b i gs         the closing tests of round k from branch b and element i on;  testing s k b i gs: this one
 --   closed k gs                the end, with round k and the gs
 --   turning k gs               the beginning of round k, behind the list gs
---   KnowsTurned s n j gs       the same of a list of n turns, which may have more elements
+--   KnowsTurns s n j gs       the same of a list of n turns, which may have more elements
 --   branching s k b gs hs      the first task of branch b, where hs is the list so far;  branched s k b gs hs: what comes behind branch b
 --   HasWhole s b, HasTurns s b     the form of branch b is the state from the start on; it isn't before two turns, so some are taken one by one
 --   HasMeet s b                    the orbit of branch b meets the list so far: the branch isn't the first, or its form isn't the state from the start on
@@ -21,12 +21,12 @@ use Rattle.polynomials.specs.Terms.{Terms}
 use Rattle.machines.specs.Journal as journal
 use Rattle.machines.specs.Journal.{Journal, units_of}
 use Rattle.rounds.specs.Analysis as analysis
-use Rattle.rounds.specs.Analysis.{Step, goes, finished, begun, after, after_branch, test, closing_from, begin_branch, begin_turn, begin_orbit}
+use Rattle.rounds.specs.Analysis.{Step, goes, finished, start_of, after, after_branch, test, closing_from, begin_branch, begin_turn, begin_orbit}
 use Rattle.poly.specs.Seen.{terms_each}
 use Rattle.expressions.specs.FracPoly.{FracPoly}
 use Rattle.invariant_fix.specs.Coming.{Comes, Refuses}
 use Rattle.invariant_fix.specs.Lists.{IsList}
-use Rattle.invariant_fix.specs.Setting.{seen, most_first}
+use Rattle.invariant_fix.specs.Setting.{setting_of, most_first}
 use Rattle.invariant_fix.specs.declared.errors.AnalyseError.{AnalyseError}
 use Rattle.invariant_fix.specs.declared.setting.Setting.{Setting}
 
@@ -41,74 +41,76 @@ Follow before after = units_of before.entries ≤ units_of after.entries
 
 module _ (s : Setting) where
   abbrev pub Awaits : Journal → Step → Type 0
-  Awaits j step = Comes (seen s) j.entries step
+  Awaits j step = Comes (setting_of s) j.entries step
 
   abbrev pub Knows : Journal → List FracPoly → Type 0
   Knows j gs = IsList s.arity (most_first s.arity s.given) (units_of j.entries) gs
 
-  abbrev pub KnowsTurned : ℕ → Journal → List FracPoly → Type 0
-  KnowsTurned n j gs =
+  abbrev pub KnowsTurns : ℕ → Journal → List FracPoly → Type 0
+  KnowsTurns n j gs =
       IsList s.arity (most_first s.arity s.given + s.arity * n) (units_of j.entries) gs
 
   abbrev pub HasWhole : ℕ → Type 0
-  HasWhole b = (analysis.form_of (seen s) b).since ≡ 0
+  HasWhole b = (analysis.form_of (setting_of s) b).since ≡ 0
 
   abbrev pub HasTurns : ℕ → Type 0
-  HasTurns b = 2 ≤ (analysis.form_of (seen s) b).since
+  HasTurns b = 2 ≤ (analysis.form_of (setting_of s) b).since
 
   abbrev pub HasMeet : ℕ → Type 0
-  HasMeet b = (0 < b) ⊎ (0 < (analysis.form_of (seen s) b).since)
+  HasMeet b = (0 < b) ⊎ (0 < (analysis.form_of (setting_of s) b).since)
 
   abbrev pub Stops : Journal → AnalyseError → Type 0
-  Stops j e = Refuses (seen s) j e
+  Stops j e = Refuses (setting_of s) j e
 
   abbrev pub starting : Step
-  starting = goes (journal.Begin journal.Start) (begun (seen s) analysis.starts)
+  starting = goes (journal.Begin journal.Start) (start_of (setting_of s) analysis.starts)
 
   abbrev pub started : List FracPoly → Step
-  started gs = after (seen s) analysis.starts (terms_each gs)
+  started gs = after (setting_of s) analysis.starts (terms_each gs)
 
   abbrev pub closing : (k b i : ℕ) → List FracPoly → Step
-  closing k b i gs = closing_from (seen s) k b i (terms_each gs)
+  closing k b i gs = closing_from (setting_of s) k b i (terms_each gs)
 
   abbrev pub testing : (k b i : ℕ) → List FracPoly → Step
-  testing k b i gs = test (seen s) k b i (terms_each gs)
+  testing k b i gs = test (setting_of s) k b i (terms_each gs)
 
   abbrev pub branching : (k b : ℕ) → List FracPoly → List (Terms Fraction) → Step
-  branching k b gs hs = begin_branch (seen s) k b (terms_each gs) hs
+  branching k b gs hs = begin_branch (setting_of s) k b (terms_each gs) hs
 
   abbrev pub branched : (k b : ℕ) → List FracPoly → List (Terms Fraction) → Step
-  branched k b gs hs = after_branch (seen s) k b (terms_each gs) hs
+  branched k b gs hs = after_branch (setting_of s) k b (terms_each gs) hs
 
   abbrev pub turn_begins : (k b n : ℕ) → List (Terms Fraction) → List FracPoly
       → List (Terms Fraction) → Step
-  turn_begins k b n gs ks hs = begin_turn (seen s) k b n gs (terms_each ks) hs
+  turn_begins k b n gs ks hs = begin_turn (setting_of s) k b n gs (terms_each ks) hs
 
   abbrev pub turn_ends : (k b n : ℕ) → List (Terms Fraction) → List FracPoly
       → List (Terms Fraction) → List FracPoly → Step
   turn_ends k b n gs ks hs ls =
-      after (seen s) (analysis.turn k b n gs (terms_each ks) hs) (terms_each ls)
+      after (setting_of s) (analysis.turn k b n gs (terms_each ks) hs) (terms_each ls)
 
   abbrev pub turn_meets : (k b n : ℕ) → List (Terms Fraction) → (hs ks : List FracPoly) → Step
   turn_meets k b n gs hs ks =
       goes (journal.Begin (journal.TurnMeet k (suc b) (suc n)))
-      (begun (seen s) (analysis.turn_meet k b n gs (terms_each hs) (terms_each ks)))
+      (start_of (setting_of s) (analysis.turn_meet k b n gs (terms_each hs) (terms_each ks)))
 
   abbrev pub turn_met : (k b n : ℕ) → List (Terms Fraction) → (hs ks ls : List FracPoly) → Step
   turn_met k b n gs hs ks ls =
-      after (seen s) (analysis.turn_meet k b n gs (terms_each hs) (terms_each ks)) (terms_each ls)
+      after (setting_of s) (analysis.turn_meet k b n gs (terms_each hs) (terms_each ks))
+      (terms_each ls)
 
   abbrev pub orbiting : (k b : ℕ) → List FracPoly → List (Terms Fraction) → Step
-  orbiting k b gs hs = begin_orbit (seen s) k b (terms_each gs) hs
+  orbiting k b gs hs = begin_orbit (setting_of s) k b (terms_each gs) hs
 
   abbrev pub orbited : (k b : ℕ) → List FracPoly → List (Terms Fraction) → List FracPoly → Step
-  orbited k b gs hs ls = after (seen s) (analysis.orbit k b (terms_each gs) hs) (terms_each ls)
+  orbited k b gs hs ls = after (setting_of s) (analysis.orbit k b (terms_each gs) hs)
+      (terms_each ls)
 
   abbrev pub meeting : (k b : ℕ) → List (Terms Fraction) → (hs ks : List FracPoly) → Step
   meeting k b gs hs ks =
       goes (journal.Begin (journal.Meet k (suc b)))
-      (begun (seen s) (analysis.meet k b gs (terms_each hs) (terms_each ks)))
+      (start_of (setting_of s) (analysis.meet k b gs (terms_each hs) (terms_each ks)))
 
   abbrev pub met : (k b : ℕ) → List (Terms Fraction) → (hs ks ls : List FracPoly) → Step
   met k b gs hs ks ls =
-      after (seen s) (analysis.meet k b gs (terms_each hs) (terms_each ks)) (terms_each ls)
+      after (setting_of s) (analysis.meet k b gs (terms_each hs) (terms_each ks)) (terms_each ls)

@@ -16,8 +16,8 @@ ghost use Rattle.rounds.specs.Results.{IsReducedList};
 ghost use Rattle.invariant_fix.specs.Answers.{IsClosedBy, IsClosedByFrom, IsLeastLevel, certificate_of};
 ghost use Rattle.ideal_ops.specs.Calls.{AreOver};
 ghost use Rattle.invariant_fix.specs.Closing.{IsSquare};
-ghost use Rattle.invariant_fix.specs.Refusals.{AllHaveForms, unformed, HasFollowed, HasFollowedFrom, IfUnformed, IfUnformedLoop, IsRefused, IsRefusedFrom, IsStoppedFrom};
-ghost use Rattle.invariant_fix.specs.Setting.{Fits, AreBranches, IsSettingOf, HoldsOf, most_given};
+ghost use Rattle.invariant_fix.specs.Refusals.{AllHaveForms, analysis_error_of, HasFollowed, HasFollowedFrom, IfUnformed, IfUnformedLoop, IsRefused, IsRefusedFrom, IsStoppedFrom};
+ghost use Rattle.invariant_fix.specs.Setting.{FitsSetting, AreBranches, IsSettingOf, HoldsOf, most_given};
 
 use crate::branches::{Branch, branch_maps, branches};
 use crate::round::rounds;
@@ -28,9 +28,9 @@ use frac128::Frac;
 use journal::Meter;
 use loop_model::{Loop, MapError};
 use monos::Grevlex;
-use poly::{Poly, PolyError};
+use poly::Poly;
 use starting_lists::start_list;
-use std::alloc::Global;
+use std::alloc::{AllocError, Global};
 
 /// The reduced basis of all polynomial invariants of a loop, in rounds (Rodríguez-Carbonell and Kapur, "Generating all polynomial invariants in simple loops", Journal of Symbolic Computation 42, 2007).
 ///
@@ -77,7 +77,7 @@ pub fn analyse(alloc: Global, lp: &Loop, meter: &mut Meter) -> Result<Analysis, 
 
 /// What the analysis of a loop is of. Refusals come as those of `analyse` for maps and branches.
 pub fn setting_of(alloc: Global, lp: &Loop) -> Result<Setting, AnalyseError>
-    ensures fits { IfOk result Fits }
+    ensures fits { IfOk result FitsSetting }
     ensures setting { IfOk result (IsSettingOf (program_of lp.now)) }
 
     // No list is given to begin with.
@@ -93,9 +93,7 @@ pub fn setting_of(alloc: Global, lp: &Loop) -> Result<Setting, AnalyseError>
         Err(error) => return Err(not_formed(error)),
     };
     let branches = all_branches(alloc, lp)?;
-    let Ok(starts) = start_list(alloc, lp, &values) else {
-        return Err(AnalyseError::Memory);
-    };
+    let starts = start_list(alloc, lp, &values)?;
     Ok(Setting {
         arity: lp.names().len(),
         starts,
@@ -158,7 +156,7 @@ pub fn analyse_in(
     first: &[Poly<Frac, Grevlex>],
     meter: &mut Meter,
 ) -> Result<Analysis, AnalyseError>
-    requires fits { Fits setting }
+    requires fits { FitsSetting setting }
     requires over { AreOver setting.arity first.now }
     requires reduced { IsReducedList setting.arity (terms_each first.now) }
     requires few { length first.now ≤ most_given }
@@ -190,21 +188,17 @@ pub fn analyse_in(
     ensures refused { HoldsOf setting (λ program.
         IfErr result (IsStoppedFrom program (Some (terms_each first.now)) meter.new)) }
 {
-    let Ok(given) = copy_list(alloc, first) else {
-        return Err(AnalyseError::Memory);
-    };
+    let given = copy_list(alloc, first)?;
     let setting = with_list(setting, given);
-    let Ok(basis) = copy_list(alloc, first) else {
-        return Err(AnalyseError::Memory);
-    };
+    let basis = copy_list(alloc, first)?;
     rounds(alloc, &setting, basis, meter)
 }
 
 /// The setting, with this list to begin with.
 fn with_list(setting: Setting, given: Vec<Poly<Frac, Grevlex>>) -> Setting
-    requires fits { Fits setting }
+    requires fits { FitsSetting setting }
     requires few { length given.items ≤ most_given }
-    ensures fits { Fits result }
+    ensures fits { FitsSetting result }
     ensures setting { (program : Program (Expr ℕ)) → IsSettingOf program setting
         → IsSettingOf program result }
     ensures given { result.given ≡ Some given }
@@ -222,7 +216,7 @@ fn with_list(setting: Setting, given: Vec<Poly<Frac, Grevlex>>) -> Setting
 fn copy_list(
     alloc: Global,
     list: &[Poly<Frac, Grevlex>],
-) -> Result<Vec<Poly<Frac, Grevlex>>, PolyError>
+) -> Result<Vec<Poly<Frac, Grevlex>>, AllocError>
     ensures same { IfOk result (λ out. terms_each out.items ≡ terms_each list.now) }
     ensures arities { IfOk result (λ out.
         map (λ p. p.arity) out.items ≡ map (λ p. p.arity) list.now) }
@@ -249,7 +243,7 @@ fn all_branches(alloc: Global, lp: &Loop) -> Result<Vec<Branch>, AnalyseError>
 
 /// The refusal of a map that is not formed.
 fn not_formed(error: MapError) -> AnalyseError
-    ensures { result ≡ unformed error }
+    ensures { result ≡ analysis_error_of error }
 {
     match error {
         MapError::Memory => AnalyseError::Memory,

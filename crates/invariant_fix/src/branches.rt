@@ -1,5 +1,5 @@
 //! The branches of a loop, with their closed forms.
-ghost use Rattle.std.specs.Prelude.{◌≡◌, ℕ, length, map, All, IfOk, IfErr, IsErrOf};
+ghost use Rattle.std.specs.Prelude.{◌≡◌, ℕ, length, map, All, IfOk, IfErr};
 ghost use Rattle.poly.specs.Seen.{terms_each};
 ghost use Rattle.loops.specs.Program.{Expr, Program};
 ghost use Rattle.rounds.specs.Form.{backward};
@@ -19,12 +19,12 @@ ghost use Rattle.invariant_fix.specs.Setting.{IsSquare, FitsBranch, AreMaps, Are
 
 use crate::AnalyseError;
 use closed_forms::{Form, FormsError, forms};
-use expo::{Expo, ExpoError};
+use expo::Expo;
 use frac128::Frac;
 use loop_model::{Loop, MapError};
 use monos::Grevlex;
 use poly::Poly;
-use std::alloc::Global;
+use std::alloc::{AllocError, Global};
 
 /// A branch of a loop.
 #[derive(Drop)]
@@ -97,19 +97,16 @@ fn form_branch(alloc: Global, images: Vec<Poly<Frac, Grevlex>>) -> Result<Branch
     ensures refused { IfErr result (IfRefusedBy (terms_each images.items)) }
 {
     let form = forms(alloc, &images)?;
-    match backward(alloc, &form.polys) {
-        Ok(back) => Ok(Branch { images, form, back }),
-        Err(_) => Err(FormsError::Memory),
-    }
+    let back = backward(alloc, &form.polys)?;
+    Ok(Branch { images, form, back })
 }
 
 /// The polynomials backward.
-fn backward(alloc: Global, polys: &[Expo]) -> Result<Vec<Poly<Frac, Grevlex>>, ExpoError>
+fn backward(alloc: Global, polys: &[Expo]) -> Result<Vec<Poly<Frac, Grevlex>>, AllocError>
     ensures terms { IfOk result (λ out. terms_each out.items ≡ map
         (λ (e : Expo). backward grevlex (length (base_of e)) (terms_in e.body)) polys.now) }
     ensures arity { IfOk result (λ out.
         map (λ p. p.arity) out.items ≡ map (λ (e : Expo). e.body.arity) polys.now) }
-    ensures narrow { ¬ IsErrOf result ExpoError.Wide }
 {
     let mut out = Vec::new(alloc);
     for poly in polys {

@@ -1,6 +1,6 @@
 //! The closing tests of a round: whether each element, with each branch's polynomials for its variables, has the rest 0.
 ghost use Rattle.std.specs.Prelude.{◌≡◌, ◌≢◌, ◌↔◌, ◌<◌, ◌≤◌, suc, length, [], IfOk, IfErr, IfSome, IsSome, IsNone, All};
-ghost use Rattle.reduced_basis.specs.Tidying.{list_limit};
+ghost use Rattle.divide.specs.Limits.{list_limit};
 ghost use Rattle.poly.specs.Seen.{terms_in};
 ghost use Rattle.machines.specs.Machine.{Ran};
 ghost use Rattle.divide.specs.Current.{AreDivisors};
@@ -8,7 +8,7 @@ ghost use Rattle.divide.specs.Division.{HasCofactors};
 ghost use Rattle.divide.specs.Outcomes.{outcome_of};
 ghost use Rattle.ideal_ops.specs.Calls.{AreOver};
 ghost use Rattle.invariant_fix.specs.Closing.{HasStep, HasBranchSteps, HasSteps, test_of};
-ghost use Rattle.invariant_fix.specs.Setting.{Fits};
+ghost use Rattle.invariant_fix.specs.Setting.{FitsSetting};
 ghost use Rattle.invariant_fix.specs.Steps.{Awaits, Knows, Stops, Follow, closing, testing, closed, turning};
 
 use crate::AnalyseError;
@@ -30,7 +30,7 @@ pub(crate) fn closing_steps(
     basis: &[Poly<Frac, Grevlex>],
     meter: &mut Meter,
 ) -> Result<Option<Vec<Vec<Vec<Poly<Frac, Grevlex>>>>>, AnalyseError>
-    requires fits { Fits setting.now }
+    requires fits { FitsSetting setting.now }
     requires basis { Knows setting.now meter.old basis.now }
     requires next { Awaits setting.now meter.old (closing setting.now round 0 0 basis.now) }
     ensures limit { meter.new.limit ≡ meter.old.limit }
@@ -65,7 +65,7 @@ fn branch_steps(
     basis: &[Poly<Frac, Grevlex>],
     meter: &mut Meter,
 ) -> Result<Option<Vec<Vec<Poly<Frac, Grevlex>>>>, AnalyseError>
-    requires fits { Fits setting.now }
+    requires fits { FitsSetting setting.now }
     requires place { place < length setting.now.branches.items }
     requires basis { Knows setting.now meter.old basis.now }
     requires next { Awaits setting.now meter.old (closing setting.now round place 0 basis.now) }
@@ -103,7 +103,7 @@ fn closing_step(
     basis: &[Poly<Frac, Grevlex>],
     meter: &mut Meter,
 ) -> Result<Option<Vec<Poly<Frac, Grevlex>>>, AnalyseError>
-    requires fits { Fits setting.now }
+    requires fits { FitsSetting setting.now }
     requires place { place < length setting.now.branches.items }
     requires element { element < length basis.now }
     requires basis { Knows setting.now meter.old basis.now }

@@ -60,7 +60,8 @@ impl<T: Drop> From<AllocFailed<T>> for AnalyseError {
     }
 }
 
-ghost use Rattle.std.specs.Prelude.{◌≡◌, ◌<◌, ◌^◌, suc};
+ghost use Rattle.std.specs.Prelude.{◌≡◌, ◌<◌, suc};
+ghost use Rattle.complete.specs.Limits.{place_limit};
 ghost use Rattle.invariant_fix.specs.Errors.{in_task};
 
 /// A refusal of a computation with ideals, in this task.
@@ -76,7 +77,7 @@ pub fn in_task(task: Task, error: EngineError) -> AnalyseError
 
 /// The number, counted from 1, of a place that is counted from 0.
 pub fn number_of_place(place: usize) -> u32
-    requires { suc place < 2 ^ 32 }
+    requires { suc place < place_limit }
     ensures { result ≡ suc place }
 {
     match u32::try_from(place + 1) {

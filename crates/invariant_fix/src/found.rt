@@ -1,6 +1,6 @@
 //! What an analysis gives.
 ghost use Rattle.std.specs.Prelude.{◌≤◌, length};
-ghost use Rattle.reduced_basis.specs.Reduction.{generators_limit};
+ghost use Rattle.complete.specs.Limits.{generators_limit};
 ghost use Rattle.poly.specs.Seen.{arity_of, terms_each};
 ghost use Rattle.rounds.specs.Results.{IsReducedList};
 ghost use Rattle.ideal_ops.specs.Calls.{AreOver};

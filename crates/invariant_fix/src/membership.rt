@@ -21,7 +21,7 @@ use std::alloc::Global;
 
 /// Whether a polynomial is an invariant.
 #[derive(Drop)]
-pub enum Answer {
+pub enum Membership {
     /// It is the sum of the products of these cofactors with the elements of the basis.
     Yes(Vec<Poly<Frac, Grevlex>>),
     No,
@@ -34,7 +34,7 @@ pub fn member(
     analysis: &Analysis,
     p: &Poly<Frac, Grevlex>,
     meter: &mut Meter,
-) -> Result<Answer, EngineError>
+) -> Result<Membership, EngineError>
     requires arity { AreOver p.now.arity analysis.now.basis.items }
     ensures limit { meter.new.limit ≡ meter.old.limit }
     ensures work { HasAsked (terms_each analysis.now.basis.items) (terms_in p.now)
@@ -68,7 +68,7 @@ pub fn member(
     meter.begin(Task::Member)?;
     let division = divide(alloc, p, &analysis.basis, meter)?;
     match cofactors_of(division) {
-        Some(cofactors) => Ok(Answer::Yes(cofactors)),
-        None => Ok(Answer::No),
+        Some(cofactors) => Ok(Membership::Yes(cofactors)),
+        None => Ok(Membership::No),
     }
 }

@@ -1,5 +1,5 @@
 //! The orbit of a list along a branch: what is in its ideal after any number of turns of the branch, from where its form begins to be the state.
-ghost use Rattle.std.specs.Prelude.{◌≡◌, ◌≤◌, ◌<◌, ◌+◌, ◌^◌, ◌++◌, List, length, IfOk, OnOk, IfErr, IsErrOf};
+ghost use Rattle.std.specs.Prelude.{◌≡◌, ◌≤◌, ◌<◌, ◌+◌, ◌++◌, List, length, IfOk, OnOk, IfErr, IsErrOf};
 ghost use Rattle.numbers.specs.Fraction.{Fraction, fraction_size};
 ghost use Rattle.numbers.specs.Size.{IsPast};
 ghost use Rattle.polynomials.specs.Terms.{Terms};
@@ -16,23 +16,24 @@ ghost use Rattle.ideal_ops.specs.Calls.{IsListOf, AreOver};
 ghost use Rattle.ideal_ops.specs.Eliminating.{HaveBlock};
 ghost use Rattle.invariant_fix.specs.Orbits.{numbers_of, vars_of, unwinding, orbit_of, orbit_front_of, orbit_list_of, unwound_element, unwound_each, unwound_list, normal_of, relations_of, HaveFront, IsPastAt, IsPastUnwound, IsPastUnwinding};
 ghost use Rattle.starting_lists.specs.Blocks.{HasFront};
-ghost use Rattle.invariant_fix.specs.Setting.{Fits, FitsBranch};
-ghost use Rattle.invariant_fix.specs.Steps.{Awaits, Knows, KnowsTurned, Stops, Follow, HasWhole, orbiting, orbited};
+ghost use Rattle.invariant_fix.specs.Setting.{FitsSetting, FitsBranch, start_limit};
+ghost use Rattle.invariant_fix.specs.Steps.{Awaits, Knows, KnowsTurns, Stops, Follow, HasWhole, orbiting, orbited};
 
 use crate::AnalyseError;
 use crate::branches::Branch;
 use crate::errors::{in_task, number_of_place};
 use crate::setting::Setting;
 use divide::EngineError;
-use expo::{Expo, ExpoError};
+use expo::Expo;
 use frac128::Frac;
 use graph_lists::LateForm;
 use ideal_ops::eliminate;
 use journal::{Meter, Task};
 use monos::{Blocks, Grevlex};
-use poly::{Poly, PolyError};
+use poly::Poly;
+use ring_laws::ArithmeticError;
 use starting_lists::{front, relation};
-use std::alloc::Global;
+use std::alloc::{AllocError, Global};
 
 /// The orbit of a list along the branch at this place, in this round.
 pub(crate) fn orbit(
@@ -43,7 +44,7 @@ pub(crate) fn orbit(
     basis: &[Poly<Frac, Grevlex>],
     meter: &mut Meter,
 ) -> Result<Vec<Poly<Frac, Grevlex>>, AnalyseError>
-    requires fits { Fits setting.now }
+    requires fits { FitsSetting setting.now }
     requires place { place < length setting.now.branches.items }
     requires basis { Knows setting.now meter.old basis.now }
     ensures limit { meter.new.limit ≡ meter.old.limit }
@@ -51,7 +52,7 @@ pub(crate) fn orbit(
         → Awaits setting.now meter.old (orbiting setting.now round place basis.now hs)
         → IfOk result (λ ls.
         Awaits setting.now meter.new (orbited setting.now round place basis.now hs ls.items)) }
-    ensures list { IfOk result (λ ls. KnowsTurned setting.now 1 meter.new ls.items) }
+    ensures list { IfOk result (λ ls. KnowsTurns setting.now 1 meter.new ls.items) }
     ensures whole { HasWhole setting.now place
         → IfOk result (λ ls. Knows setting.now meter.new ls.items) }
     ensures units { IfOk result (λ _. Follow meter.old meter.new) }
@@ -82,7 +83,7 @@ fn eliminated_orbit(
     requires branch { FitsBranch (vars_of branch.now) branch.now }
     requires some { 0 < vars_of branch.now }
     requires basis { AreOver (vars_of branch.now) basis.now }
-    requires few { length basis.now ≤ 2 ^ 29 }
+    requires few { length basis.now ≤ start_limit }
     ensures ran { Ran (orbit_of branch.now basis.now) (IsListOf (unwinding branch.now basis.now))
         meter.old meter.new (outcome_of result) }
     ensures arity { IfOk result (λ hs. AreOver (vars_of branch.now) hs.items) }
@@ -98,7 +99,7 @@ fn starting_list(
     alloc: Global,
     branch: &Branch,
     basis: &[Poly<Frac, Grevlex>],
-) -> Result<Vec<Poly<Frac, Blocks>>, PolyError>
+) -> Result<Vec<Poly<Frac, Blocks>>, ArithmeticError>
     requires branch { FitsBranch (vars_of branch.now) branch.now }
     requires some { 0 < vars_of branch.now }
     requires basis { AreOver (vars_of branch.now) basis.now }
@@ -106,7 +107,7 @@ fn starting_list(
         terms_each gens.items ≡ orbit_list_of branch.now basis.now) }
     ensures block { let n = orbit_front_of branch.now in
         IfOk result (λ gens. HaveBlock n (n + vars_of branch.now) gens.items) }
-    ensures wide { IsErrOf result PolyError.Wide → IsPastUnwinding branch.now basis.now }
+    ensures wide { IsErrOf result ArithmeticError.Wide → IsPastUnwinding branch.now basis.now }
 {
     if branch.form.since == 0 {
         return orbit_list(alloc, branch, basis);
@@ -134,7 +135,7 @@ pub fn orbit_list(
     alloc: Global,
     branch: &Branch,
     basis: &[Poly<Frac, Grevlex>],
-) -> Result<Vec<Poly<Frac, Blocks>>, PolyError>
+) -> Result<Vec<Poly<Frac, Blocks>>, ArithmeticError>
     requires branch { FitsBranch (vars_of branch.now) branch.now }
     requires some { 0 < vars_of branch.now }
     requires basis { AreOver (vars_of branch.now) basis.now }
@@ -142,7 +143,7 @@ pub fn orbit_list(
         terms_each gens.items ≡ unwound_list branch.now basis.now) }
     ensures block { IfOk result (λ gens.
         HaveFront (numbers_of branch.now) (vars_of branch.now) gens.items) }
-    ensures wide { IsErrOf result PolyError.Wide → IsPastUnwound branch.now basis.now }
+    ensures wide { IsErrOf result ArithmeticError.Wide → IsPastUnwound branch.now basis.now }
 {
     let mut gens = Vec::new(alloc);
     push_unwound(alloc, &mut gens, branch, basis)?;
@@ -161,7 +162,7 @@ fn push_unwound(
     gens: &mut Vec<Poly<Frac, Blocks>>,
     branch: &Branch,
     basis: &[Poly<Frac, Grevlex>],
-) -> Result<(), PolyError>
+) -> Result<(), ArithmeticError>
     requires branch { FitsBranch (vars_of branch.now) branch.now }
     requires some { 0 < vars_of branch.now }
     requires basis { AreOver (vars_of branch.now) basis.now }
@@ -170,7 +171,7 @@ fn push_unwound(
         ≡ terms_each gens.old.items ++ unwound_each branch.now basis.now) }
     ensures block { OnOk result
         (HaveFront (numbers_of branch.now) (vars_of branch.now) gens.new.items) }
-    ensures wide { IsErrOf result PolyError.Wide → IsPastUnwound branch.now basis.now }
+    ensures wide { IsErrOf result ArithmeticError.Wide → IsPastUnwound branch.now basis.now }
 {
     for element in basis {
         gens.push(unwound(alloc, branch, element)?)?;
@@ -183,18 +184,18 @@ fn unwound(
     alloc: Global,
     branch: &Branch,
     element: &Poly<Frac, Grevlex>,
-) -> Result<Poly<Frac, Blocks>, PolyError>
+) -> Result<Poly<Frac, Blocks>, ArithmeticError>
     requires branch { FitsBranch (vars_of branch.now) branch.now }
     requires element { element.now.arity ≡ vars_of branch.now }
     requires some { 0 < element.now.arity }
     ensures unwound { IfOk result (λ p. terms_in p ≡ unwound_element branch.now element.now) }
     ensures block { IfOk result (HasFront (numbers_of branch.now) (vars_of branch.now)) }
-    ensures wide { IsErrOf result PolyError.Wide → IsPastAt branch.now element.now }
+    ensures wide { IsErrOf result ArithmeticError.Wide → IsPastAt branch.now element.now }
 {
     let moved = element.compose(alloc, &branch.back)?;
     let normal = normal_body(alloc, branch, &moved)?;
     let first = front(branch.form.base.len());
-    normal.reorder(alloc, Blocks { first })
+    Ok(normal.reorder(alloc, Blocks { first })?)
 }
 
 /// The polynomial with s s and the u_j v_j replaced by 1.
@@ -202,19 +203,15 @@ fn normal_body(
     alloc: Global,
     branch: &Branch,
     body: &Poly<Frac, Grevlex>,
-) -> Result<Poly<Frac, Grevlex>, PolyError>
+) -> Result<Poly<Frac, Grevlex>, ArithmeticError>
     requires base { IsCoprimeBase (sizes branch.now.form.base.items) }
     requires front { front (numbers_of branch.now) ≤ body.now.arity }
     ensures normal { IfOk result (λ p. terms_in p ≡ normal_of branch.now body.now) }
     ensures arity { IfOk result (λ p. p.arity ≡ body.now.arity) }
-    ensures wide { IsErrOf result PolyError.Wide
+    ensures wide { IsErrOf result ArithmeticError.Wide
         → IsPast (weight fraction_size (terms_in body.now)) }
 {
-    match Expo::normal(alloc, &branch.form.base, body) {
-        Ok(normal) => Ok(normal.into_body()),
-        Err(ExpoError::Wide) => Err(PolyError::Wide),
-        Err(ExpoError::Memory) => Err(PolyError::Memory),
-    }
+    Ok(Expo::normal(alloc, &branch.form.base, body)?.into_body())
 }
 
 /// Puts s s - 1, and then the u_j v_j - 1, behind the others.
@@ -223,13 +220,12 @@ fn push_relations(
     gens: &mut Vec<Poly<Frac, Blocks>>,
     numbers: usize,
     vars: usize,
-) -> Result<(), PolyError>
+) -> Result<(), AllocError>
     requires few { front numbers + vars ≤ most_variables }
     requires block { HaveFront numbers vars gens.old.items }
     ensures list { OnOk result (terms_each gens.new.items
         ≡ terms_each gens.old.items ++ relations_of numbers vars) }
     ensures block { OnOk result (HaveFront numbers vars gens.new.items) }
-    ensures narrow { ¬ IsErrOf result PolyError.Wide }
 {
     gens.push(relation(alloc, numbers, vars, 1, 1)?)?;
     for number in 0..numbers {

@@ -6,8 +6,8 @@ ghost use Rattle.machines.specs.Journal.{units_of};
 ghost use Rattle.ideal_ops.specs.Calls.{AreOver};
 ghost use Rattle.invariant_fix.specs.Closing.{HasSteps};
 ghost use Rattle.poly.specs.Seen.{terms_each};
-ghost use Rattle.invariant_fix.specs.Setting.{Fits, most_turns};
-ghost use Rattle.invariant_fix.specs.Steps.{Awaits, Knows, KnowsTurned, Stops, Follow, HasMeet, started, closing, closed, turning, branching, branched, orbiting, meeting, met};
+ghost use Rattle.invariant_fix.specs.Setting.{FitsSetting, most_turns};
+ghost use Rattle.invariant_fix.specs.Steps.{Awaits, Knows, KnowsTurns, Stops, Follow, HasMeet, started, closing, closed, turning, branching, branched, orbiting, meeting, met};
 
 use crate::closing::closing_steps;
 use crate::errors::{in_task, number_of_place};
@@ -29,7 +29,7 @@ pub(crate) fn rounds(
     start: Vec<Poly<Frac, Grevlex>>,
     meter: &mut Meter,
 ) -> Result<Analysis, AnalyseError>
-    requires fits { Fits setting.now }
+    requires fits { FitsSetting setting.now }
     requires start { Knows setting.now meter.old start.items }
     requires next { Awaits setting.now meter.old (started setting.now start.items) }
     ensures limit { meter.new.limit ≡ meter.old.limit }
@@ -66,7 +66,7 @@ fn next_basis(
     basis: &[Poly<Frac, Grevlex>],
     meter: &mut Meter,
 ) -> Result<Vec<Poly<Frac, Grevlex>>, AnalyseError>
-    requires fits { Fits setting.now }
+    requires fits { FitsSetting setting.now }
     requires basis { Knows setting.now meter.old basis.now }
     requires next { Awaits setting.now meter.old (turning round basis.now) }
     ensures limit { meter.new.limit ≡ meter.old.limit }
@@ -92,7 +92,7 @@ fn first_list(
     basis: &[Poly<Frac, Grevlex>],
     meter: &mut Meter,
 ) -> Result<Vec<Poly<Frac, Grevlex>>, AnalyseError>
-    requires fits { Fits setting.now }
+    requires fits { FitsSetting setting.now }
     requires basis { Knows setting.now meter.old basis.now }
     requires next { Awaits setting.now meter.old
         (branching setting.now round 0 basis.now (terms_each basis.now)) }
@@ -119,7 +119,7 @@ fn list_behind(
     so_far: &[Poly<Frac, Grevlex>],
     meter: &mut Meter,
 ) -> Result<Vec<Poly<Frac, Grevlex>>, AnalyseError>
-    requires fits { Fits setting.now }
+    requires fits { FitsSetting setting.now }
     requires place { place < length setting.now.branches.items }
     requires meets { HasMeet setting.now place }
     requires basis { Knows setting.now meter.old basis.now }
@@ -152,7 +152,7 @@ fn meet_orbit(
     so_far: &[Poly<Frac, Grevlex>],
     meter: &mut Meter,
 ) -> Result<Vec<Poly<Frac, Grevlex>>, AnalyseError>
-    requires fits { Fits setting.now }
+    requires fits { FitsSetting setting.now }
     requires place { place < length setting.now.branches.items }
     requires meets { HasMeet setting.now place }
     requires basis { Knows setting.now meter.old basis.now }
@@ -180,10 +180,10 @@ fn meet_with_orbit(
     next: &[Poly<Frac, Grevlex>],
     meter: &mut Meter,
 ) -> Result<Vec<Poly<Frac, Grevlex>>, AnalyseError>
-    requires fits { Fits setting.now }
+    requires fits { FitsSetting setting.now }
     requires place { place < length setting.now.branches.items }
     requires so_far { Knows setting.now meter.old so_far.now }
-    requires next { KnowsTurned setting.now most_turns meter.old next.now }
+    requires next { KnowsTurns setting.now most_turns meter.old next.now }
     ensures limit { meter.new.limit ≡ meter.old.limit }
     ensures met { (gs : List (Terms Fraction))
         → Awaits setting.now meter.old

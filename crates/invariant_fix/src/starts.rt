@@ -1,6 +1,6 @@
 //! The basis of the list that an analysis starts with.
 ghost use Rattle.std.specs.Prelude.{◌≡◌, None, IfOk, IfErr};
-ghost use Rattle.invariant_fix.specs.Setting.{Fits};
+ghost use Rattle.invariant_fix.specs.Setting.{FitsSetting};
 ghost use Rattle.invariant_fix.specs.Steps.{Awaits, Knows, Stops, starting, started};
 
 use crate::AnalyseError;
@@ -19,7 +19,7 @@ pub(crate) fn start_basis(
     setting: &Setting,
     meter: &mut Meter,
 ) -> Result<Vec<Poly<Frac, Grevlex>>, AnalyseError>
-    requires fits { Fits setting.now }
+    requires fits { FitsSetting setting.now }
     requires plain { setting.now.given ≡ None }
     requires next { Awaits setting.now meter.old (starting setting.now) }
     ensures limit { meter.new.limit ≡ meter.old.limit }

@@ -1,5 +1,5 @@
 //! The first turns of a branch, one by one, where its form isn't the state from the start on.
-ghost use Rattle.std.specs.Prelude.{◌≡◌, ◌≤◌, ◌<◌, ◌+◌, ◌^◌, suc, List, length, IfOk, IfErr, IsErrOf};
+ghost use Rattle.std.specs.Prelude.{◌≡◌, ◌≤◌, ◌<◌, ◌+◌, suc, List, length, IfOk, IfErr, IsErrOf};
 ghost use Rattle.numbers.specs.Fraction.{Fraction};
 ghost use Rattle.polynomials.specs.Terms.{Terms};
 ghost use Rattle.rounds.specs.Results.{IsReducedList};
@@ -8,8 +8,8 @@ ghost use Rattle.machines.specs.Machine.{Ran};
 ghost use Rattle.divide.specs.Outcomes.{outcome_of};
 ghost use Rattle.ideal_ops.specs.Calls.{IsListOf, AreOver};
 ghost use Rattle.invariant_fix.specs.Orbits.{vars_of, turning, turn_of};
-ghost use Rattle.invariant_fix.specs.Setting.{Fits, FitsBranch, most_turns};
-ghost use Rattle.invariant_fix.specs.Steps.{Awaits, Knows, KnowsTurned, Stops, Follow, turn_begins, turn_ends, turn_meets, turn_met, branching, orbiting, HasTurns};
+ghost use Rattle.invariant_fix.specs.Setting.{FitsSetting, FitsBranch, most_turns, start_limit};
+ghost use Rattle.invariant_fix.specs.Steps.{Awaits, Knows, KnowsTurns, Stops, Follow, turn_begins, turn_ends, turn_meets, turn_met, branching, orbiting, HasTurns};
 
 use crate::AnalyseError;
 use crate::branches::Branch;
@@ -34,7 +34,7 @@ pub(crate) fn turns(
     so_far: &[Poly<Frac, Grevlex>],
     meter: &mut Meter,
 ) -> Result<Vec<Poly<Frac, Grevlex>>, AnalyseError>
-    requires fits { Fits setting.now }
+    requires fits { FitsSetting setting.now }
     requires place { place < length setting.now.branches.items }
     requires turns { HasTurns setting.now place }
     requires basis { Knows setting.now meter.old basis.now }
@@ -68,16 +68,16 @@ fn turn(
     before: &[Poly<Frac, Grevlex>],
     meter: &mut Meter,
 ) -> Result<Vec<Poly<Frac, Grevlex>>, AnalyseError>
-    requires fits { Fits setting.now }
+    requires fits { FitsSetting setting.now }
     requires place { place < length setting.now.branches.items }
     requires few { taken < most_turns }
-    requires before { KnowsTurned setting.now taken meter.old before.now }
+    requires before { KnowsTurns setting.now taken meter.old before.now }
     ensures limit { meter.new.limit ≡ meter.old.limit }
     ensures next { (gs hs : List (Terms Fraction))
         → Awaits setting.now meter.old (turn_begins setting.now round place taken gs before.now hs)
         → IfOk result (λ ls. Awaits setting.now meter.new
         (turn_ends setting.now round place taken gs before.now hs ls.items)) }
-    ensures list { IfOk result (λ ls. KnowsTurned setting.now (suc taken) meter.new ls.items) }
+    ensures list { IfOk result (λ ls. KnowsTurns setting.now (suc taken) meter.new ls.items) }
     ensures units { IfOk result (λ _. Follow meter.old meter.new) }
     ensures err { (gs hs : List (Terms Fraction))
         → Awaits setting.now meter.old (turn_begins setting.now round place taken gs before.now hs)
@@ -107,7 +107,7 @@ fn eliminated_turn(
     requires branch { FitsBranch (vars_of branch.now) branch.now }
     requires some { 0 < vars_of branch.now }
     requires before { AreOver (vars_of branch.now) before.now }
-    requires few { length before.now ≤ 2 ^ 29 }
+    requires few { length before.now ≤ start_limit }
     ensures ran { Ran (turn_of branch.now before.now) (IsListOf (turning branch.now before.now))
         meter.old meter.new (outcome_of result) }
     ensures arity { IfOk result (λ ks. AreOver (vars_of branch.now) ks.items) }
@@ -129,11 +129,11 @@ fn meet_with_turn(
     turned: &[Poly<Frac, Grevlex>],
     meter: &mut Meter,
 ) -> Result<Vec<Poly<Frac, Grevlex>>, AnalyseError>
-    requires fits { Fits setting.now }
+    requires fits { FitsSetting setting.now }
     requires place { place < length setting.now.branches.items }
     requires few { taken < most_turns }
     requires so_far { Knows setting.now meter.old so_far.now }
-    requires turned { KnowsTurned setting.now (suc taken) meter.old turned.now }
+    requires turned { KnowsTurns setting.now (suc taken) meter.old turned.now }
     ensures limit { meter.new.limit ≡ meter.old.limit }
     ensures met { (gs : List (Terms Fraction))
         → Awaits setting.now meter.old

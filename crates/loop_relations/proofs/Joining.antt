@@ -6,10 +6,10 @@
 use Rattle.std.proofs.Common.{◌≡◌, inl, inr, ℕ, List, [], length, refl, sym, ap, subst, Vec, Global}
 use Rattle.machines.specs.Completion as completion
 use Rattle.machines.specs.Elimination as elimination
-use Rattle.machines.specs.Elimination.{kept}
+use Rattle.machines.specs.Elimination.{free_part}
 use Rattle.machines.specs.Journal.{Journal, Entry}
 use Rattle.machines.specs.Machine.{Outcome, done, stopped, too_wide, out_of_units, out_of_memory, Ran}
-use Rattle.machines.specs.Pairs.{settled}
+use Rattle.machines.specs.Pairs.{skip_covered}
 use Rattle.machines.specs.Run.{HasEnded}
 use Rattle.machines.specs.Tidying as tidying
 use Rattle.machines.proofs.Working.{work_begun}
@@ -26,13 +26,13 @@ use Rattle.loop_relations.specs.Ordering.{IsListOf}
 
 nothing_comes : (m : ℕ) (is : List ℕ)
     → HasEnded (elimination_from m is []).next (elimination_from m is []).start
-unfolding elimination.next completion.next completion.acting completion.taking
-    completion.with_elements settled starting tidying.next tidying.dropping tidying.drop_from
-    tidying.tailing tidying.tail_from kept
+unfolding elimination.next completion.next completion.next_completion completion.next_pair
+    completion.with_elements skip_covered starting tidying.next tidying.next_drop tidying.drop_from
+    tidying.next_tail tidying.tail_from free_part
 nothing_comes m is = refl
 
 nothing_is : (m : ℕ) (is : List ℕ) → [] ≡ list_of m is (elimination_from m is []).start
-unfolding completion.with_elements starting kept tidying.by_lead
+unfolding completion.with_elements starting free_part tidying.by_lead
 nothing_is m is = refl
 
 module _ (program : Program (Expr ℕ)) (is : List ℕ) where

@@ -18,11 +18,11 @@ use Rattle.expressions.specs.FracPoly.{FracPoly}
 use Rattle.invariant_fix.specs.Blocked.{Blocked}
 use Rattle.recurrences.specs.Turning.{places}
 use Rattle.recurrences.proofs.Lists.{length-places}
-use Rattle.relations.specs.Order.{hidden, arity, images, ordered, block_order, starting}
+use Rattle.relations.specs.Order.{hidden, arity, images, in_order, block_order, starting}
 use Rattle.loop_relations.specs.Ordering.{AreImages, IsStarting}
 
 abbrev pub put : (m : ℕ) (is : List ℕ) → FracPoly → Terms Fraction
-put m is g = collect rationals (block_order m is) (ordered m is (terms_in g))
+put m is g = collect rationals (block_order m is) (in_order m is (terms_in g))
 
 module _ (m : ℕ) (is : List ℕ) (ps : List FracPoly) (a : AreImages m is ps) (some : 0 < m) where
   pub images_count : length ps ≡ m
@@ -57,6 +57,7 @@ pub all_put : (m : ℕ) (is : List ℕ) (basis : List FracPoly) (hs : List Block
     → terms_each hs ≡ map (put m is) basis → IsStarting m is basis hs
 unfolding starting
 all_put m is basis hs h =
-    h ∙ sym (map-map (λ (t : Terms Fraction). collect rationals (block_order m is) (ordered m is t))
+    h ∙ sym (map-map (λ (t : Terms Fraction). collect rationals (block_order m is)
+    (in_order m is t))
     (λ (g : FracPoly). terms_in g) basis)
-    ∙ sym (map-map (collect rationals (block_order m is)) (ordered m is) (terms_each basis))
+    ∙ sym (map-map (collect rationals (block_order m is)) (in_order m is) (terms_each basis))

@@ -10,10 +10,10 @@ use Rattle.numbers.specs.Fraction.{Fraction, rationals, fractions}
 use Rattle.polynomials.specs.Order.{grevlex, blocks}
 use Rattle.polynomials.specs.Terms.{Terms}
 use Rattle.machines.specs.Collect.{collect}
-use Rattle.machines.specs.Elimination.{kept}
+use Rattle.machines.specs.Elimination.{free_part}
 use Rattle.poly.specs.Seen.{arity_of, terms_in, terms_each}
 use Rattle.ideal_ops.specs.Calls as ideal
-use Rattle.ideal_ops.specs.Calls.{AreOver, first_block, IsEliminationOf, eliminating, elimination_of}
+use Rattle.ideal_ops.specs.Calls.{AreOver, first_block, IsEliminationOf, elimination_way, elimination_of}
 use Rattle.machines.specs.Elimination as elimination
 use Rattle.machines.specs.Journal.{Journal}
 use Rattle.machines.specs.Machine.{Outcome, done, stopped, too_wide, out_of_units, out_of_memory, Ran}
@@ -21,7 +21,7 @@ use Rattle.machines.specs.Machines as machines
 use Rattle.relations.specs.Journal.{ordered_elimination, elimination_from}
 use Rattle.expressions.specs.FracPoly.{FracPoly}
 use Rattle.invariant_fix.specs.Blocked.{Blocked}
-use Rattle.relations.specs.Order.{hidden, visible, arity, ordered, block_order, starting}
+use Rattle.relations.specs.Order.{hidden, visible, arity, in_order, block_order, starting}
 use Rattle.loop_relations.specs.Ordering.{HaveHidden, IsStarting, IsListOf}
 
 pub record AreOrdered (m : ℕ) (is : List ℕ) (basis : List FracPoly)
@@ -40,8 +40,8 @@ module _ {m : ℕ} {is : List ℕ} {basis : List FracPoly} {gens : List Blocked}
   unfolding starting
   gens_count =
       sym (length-map gens terms_in) ∙ ap length u.list
-      ∙ length-map (map (ordered m is) (terms_each basis))
-      (collect rationals (block_order m is)) ∙ length-map (terms_each basis) (ordered m is)
+      ∙ length-map (map (in_order m is) (terms_each basis))
+      (collect rationals (block_order m is)) ∙ length-map (terms_each basis) (in_order m is)
       ∙ length-map basis terms_in
 
   pub few_ordered : (n : ℕ) → length basis ≤ n → length gens ≤ n
@@ -67,17 +67,18 @@ module _ {m : ℕ} {is : List ℕ} {basis : List FracPoly} {gens : List Blocked}
 
   -- the elimination from the gens is that from the basis
   pub ran_so : (before after : Journal) (o : Outcome (Vec FracPoly Global))
-      → Ran (elimination_of (eliminating (first_block gens) gens))
-      (ideal.IsListOf (eliminating (first_block gens) gens)) before after o
+      → Ran (elimination_of (elimination_way (first_block gens) gens))
+      (ideal.IsListOf (elimination_way (first_block gens) gens)) before after o
       → Ran (elimination_from m is (terms_each basis)) (IsListOf m is) before after o
   ran_so before after o h = go o (subst (λ ts. Said (length (hidden m is)) ts o) u.list
       (subst (λ n. Said n (terms_each gens) o) block_first h))
     where
       Said : ℕ → List (Terms Fraction) → Outcome (Vec FracPoly Global) → Type 0
-      Said n ts o = Ran (machines.elimination fractions (blocks n grevlex grevlex) grevlex (kept n)
+      Said n ts o = Ran (machines.elimination fractions (blocks n grevlex grevlex) grevlex
+          (free_part n)
           ts)
           (λ (hs : Vec FracPoly Global) s. terms_each hs.items ≡ elimination.list_of grevlex
-          (kept n) s)
+          (free_part n) s)
           before after o
 
       go : (o : Outcome (Vec FracPoly Global))

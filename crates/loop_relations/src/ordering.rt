@@ -16,7 +16,8 @@ ghost use Rattle.loop_relations.specs.Ordering.{AreImages, HaveHidden, IsStartin
 
 use frac128::Frac;
 use monos::{Blocks, Grevlex};
-use poly::{Poly, PolyError};
+use poly::Poly;
+use ring_laws::ArithmeticError;
 use std::alloc::{AllocError, Global};
 
 /// Adds the positions below a number that aren't shown.
@@ -70,13 +71,12 @@ fn place_in(places: &[usize], var: usize) -> usize
 }
 
 /// The variable at the place of another in an order.
-fn image(alloc: Global, places: &[usize], var: usize) -> Result<Poly<Frac, Grevlex>, PolyError>
+fn image(alloc: Global, places: &[usize], var: usize) -> Result<Poly<Frac, Grevlex>, AllocError>
     requires few { length places.now ≤ most_variables }
     requires place { place_in places.now var < length places.now }
     ensures image { IfOk result (λ p. terms_in p
         ≡ get_or (variables ℚ (length places.now)) (place_in places.now var) []) }
     ensures arity { IfOk result (λ p. p.arity ≡ length places.now) }
-    ensures narrow { ¬ IsErrOf result PolyError.Wide }
 {
     Poly::variable(alloc, Grevlex, places.len(), place_in(places, var))
 }
@@ -87,11 +87,10 @@ fn images(
     vars: usize,
     places: &[usize],
     shown: &[usize],
-) -> Result<Vec<Poly<Frac, Grevlex>>, PolyError>
+) -> Result<Vec<Poly<Frac, Grevlex>>, AllocError>
     requires few { vars ≤ most_variables }
     requires order { places.now ≡ order vars shown.now }
     ensures images { IfOk result (λ ps. AreImages vars shown.now ps.items) }
-    ensures narrow { ¬ IsErrOf result PolyError.Wide }
 {
     let mut images = Vec::new(alloc);
     for var in 0..vars {
@@ -106,7 +105,7 @@ fn moved(
     first: usize,
     images: &Vec<Poly<Frac, Grevlex>>,
     element: &Poly<Frac, Grevlex>,
-) -> Result<Poly<Frac, Blocks>, PolyError>
+) -> Result<Poly<Frac, Blocks>, ArithmeticError>
     requires some { 0 < element.now.arity }
     requires count { length images.now.items ≡ element.now.arity }
     requires arities { AreOver (arity_of images.now.items) images.now.items }
@@ -115,11 +114,11 @@ fn moved(
         (terms_each images.now.items))) }
     ensures block { IfOk result (λ p. (p.order.first ≡ first)
         × (p.arity ≡ arity_of images.now.items)) }
-    ensures wide { IsErrOf result PolyError.Wide
+    ensures wide { IsErrOf result ArithmeticError.Wide
         → IsPastComposition fractions (terms_in element.now) (terms_each images.now.items) }
 {
     let composed = element.compose(alloc, images)?;
-    composed.reorder(alloc, Blocks { first })
+    Ok(composed.reorder(alloc, Blocks { first })?)
 }
 
 /// The elements with their variables in the order.
@@ -128,13 +127,13 @@ pub(crate) fn ordered(
     vars: usize,
     shown: &[usize],
     basis: &[Poly<Frac, Grevlex>],
-) -> Result<Vec<Poly<Frac, Blocks>>, PolyError>
+) -> Result<Vec<Poly<Frac, Blocks>>, ArithmeticError>
     requires some { 0 < vars }
     requires few { vars ≤ most_variables }
     requires basis { AreOver vars basis.now }
     ensures starting { IfOk result (λ hs. IsStarting vars shown.now basis.now hs.items) }
     ensures block { IfOk result (λ hs. HaveHidden vars shown.now hs.items) }
-    ensures wide { IsErrOf result PolyError.Wide
+    ensures wide { IsErrOf result ArithmeticError.Wide
         → IsPastOrdering vars shown.now (terms_each basis.now) }
 {
     let (places, hidden) = order(alloc, vars, shown)?;

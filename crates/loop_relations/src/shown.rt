@@ -2,7 +2,7 @@
 
 ghost use Rattle.std.specs.Prelude.{◌≡◌, ◌≢◌, ◌≤◌, ◌<◌, [], length, IfOk, IfErr};
 ghost use Rattle.numbers.specs.Fraction.{rationals};
-ghost use Rattle.reduced_basis.specs.Reduction.{generators_limit};
+ghost use Rattle.complete.specs.Limits.{generators_limit};
 ghost use Rattle.polynomials.specs.Order.{grevlex};
 ghost use Rattle.divide.specs.Outcomes.{outcome_of};
 ghost use Rattle.machines.specs.Machine.{Ran};
@@ -97,6 +97,7 @@ fn eliminated(
         (IsListOf vars shown.now) meter.old meter.new (outcome_of result) }
     ensures arity { IfOk result (λ gs. AreOver (length (visible vars shown.now)) gs.items) }
 {
+    // for its contract, which tells the prover that no more units are used than are allowed
     let _ = meter.used();
     let gens = ordered(alloc, vars, shown, basis)?;
     eliminate(alloc, &gens, meter)

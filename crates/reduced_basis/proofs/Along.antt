@@ -6,12 +6,13 @@ use Rattle.ring_laws.specs.declared.Ring as Ring
 use Rattle.monos.specs.declared.order.Order as Order
 use Rattle.divide.proofs.Like.{divisors_along}
 use Rattle.reduced_basis.specs.declared.tidying.Tidying.{Tidying}
-use Rattle.reduced_basis.specs.Tidying.{Fits}
+use Rattle.reduced_basis.specs.Tidying.{FitsTidying}
 
 module _ {K O : Type 0} {g : Ring.Ghosts K} {h : PartialEq.Ghosts K} {k : Order.Ghosts O}
     {l : PartialEq.Ghosts O} where
-  pub fits_along : (o o' : O) (m m' : ℕ) (s : Tidying K O g h k l) → o ≡ o' → m ≡ m' → Fits o m s
-      → Fits o' m' s
+  pub fits_along : (o o' : O) (m m' : ℕ) (s : Tidying K O g h k l) → o ≡ o' → m ≡ m'
+      → FitsTidying o m s
+      → FitsTidying o' m' s
   fits_along o o' m m' s e f i = record {
     order = i.order ∙ e;
     arity = i.arity ∙ f;

@@ -13,7 +13,7 @@ use Rattle.machines.specs.Basis.{AtPlaces, IsBasisOf}
 use Rattle.machines.specs.Journal.{Entry}
 use Rattle.machines.specs.Reduced.{IsReducedBasis}
 use Rattle.machines.specs.Tidying.{next, by_lead}
-use Rattle.machines.specs.Work.{Finished}
+use Rattle.machines.specs.Work.{WorkToEnd}
 use Rattle.machines.proofs.Ends.{reduced_basis}
 use Rattle.machines.proofs.Reducing.{tidied}
 
@@ -25,7 +25,7 @@ module _ (S : Scalars) (r : IsRing S.arithmetic) (f : IsFieldOf S.arithmetic S.i
 
   pub reduced_of : (hs gs us : List (Terms S.Elem)) (before after : List Entry)
       → AtPlaces (IsPolynomial S.arithmetic O m) hs → IsBasisOf (field S) O m gs hs
-      → Finished (next (field S) O) gs before after us
+      → WorkToEnd (next (field S) O) gs before after us
       → IsReducedBasis (field S) O m (by_lead O us) (IsMember S.arithmetic m hs)
   reduced_of hs gs us before after ph b fin =
       reduced_basis K O o m hs ph (by_lead O us) (tidied K O o m hs gs ph b us fin.work.events

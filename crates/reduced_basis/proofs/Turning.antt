@@ -28,7 +28,7 @@ use Rattle.machines.specs.Cut.{Cutting, lead_of, tail_of, divides, find_cut, aft
 use Rattle.machines.specs.Event.{Drop, Tail}
 use Rattle.machines.specs.Past.{IsPastCut, IsPastDropping, IsPastTailing, IsPastTidying}
 use Rattle.machines.specs.Run.{HasEnded}
-use Rattle.machines.specs.Tidying.{others, without, TailCut, drop_place, tail_cut, tail_from, tailing, dropping, next}
+use Rattle.machines.specs.Tidying.{others, without, TailCut, drop_place, tail_cut, tail_from, next_tail, next_drop, next}
 use Rattle.machines.proofs.Cuts.{Found, found_cut, found_at, by_long, at_term}
 use Rattle.machines.proofs.Elements.{IsElement}
 use Rattle.machines.proofs.Monic.{below_member}
@@ -55,8 +55,8 @@ module _ (S : Scalars) (O : Rank) (gs : List (Terms S.Elem)) where
   drop_place_is ls a o e h i = drop_is S gs 0 gs ∙ ap (λ l. redundant_from l 0 l) (sym e) ∙ h ∙ i
 
   pub drop_comes : (k : ℕ) → drop_place F gs ≡ Some k → next F O gs ≡ Some (Drop k, without k gs)
-  unfolding next dropping
-  drop_comes k e = ap (dropping F O gs) e
+  unfolding next next_drop
+  drop_comes k e = ap (next_drop F O gs) e
 
   module _ (still : drop_place F gs ≡ None) where
     pub tail_comes : (c : TailCut S.Elem) → tail_cut F gs ≡ Some c
@@ -64,12 +64,12 @@ module _ (S : Scalars) (O : Rank) (gs : List (Terms S.Elem)) where
           Tail c.element c.cutting.place,
           set gs c.element (after_cut F O c.from c.cutting),
         )
-    unfolding next dropping tailing
-    tail_comes c e = ap (dropping F O gs) still ∙ ap (tailing F O gs) e
+    unfolding next next_drop next_tail
+    tail_comes c e = ap (next_drop F O gs) still ∙ ap (next_tail F O gs) e
 
     pub none_comes : tail_cut F gs ≡ None → HasEnded (next F O) gs
-    unfolding next dropping tailing
-    none_comes e = ap (dropping F O gs) still ∙ ap (tailing F O gs) e
+    unfolding next next_drop next_tail
+    none_comes e = ap (next_drop F O gs) still ∙ ap (next_tail F O gs) e
 
     pub tail_past : (c : TailCut S.Elem) → tail_cut F gs ≡ Some c → IsPastCut S F c.from c.cutting
         → IsPastTidying S F gs

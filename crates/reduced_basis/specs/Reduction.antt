@@ -1,9 +1,8 @@
 -- The reduced basis of the ideal of a list: the list is completed, then all of what that gives is tidied.
---   generators_limit              how many generators there may be
 --   reduction_of o gens           the elimination of no variable from the gens, as a machine
 --   HasReduced o m gs s           the gs are the list of the state s, of the order o and m variables, and not 0
 --   IsTheReducedBasis o m gens hs     hs is the reduced basis of the ideal of the gens
-use Rattle.std.specs.Prelude.{◌≡◌, ◌^◌, ℕ, List}
+use Rattle.std.specs.Prelude.{◌≡◌, ℕ, List}
 use Rattle.std.specs.Global.{Vec}
 use Rattle.std.specs.declared.cmp.PartialEq as PartialEq
 use Rattle.numbers.specs.Scalars.{field}
@@ -17,9 +16,6 @@ use Rattle.monos.specs.declared.order.Order as Order
 use Rattle.poly.specs.declared.Poly.{Poly}
 use Rattle.poly.specs.Seen.{terms_each}
 use Rattle.divide.specs.Current.{AreDivisors}
-
-abbrev pub generators_limit : ℕ
-generators_limit = 2 ^ 30
 
 module _ {K O : Type 0} {g : Ring.Ghosts K} {h : PartialEq.Ghosts K} {k : Order.Ghosts O}
     {l : PartialEq.Ghosts O} where

@@ -10,7 +10,7 @@ use Rattle.polynomials.specs.Terms.{Terms}
 use Rattle.machines.specs.Cut.{lead_of, divides, find_cut}
 use Rattle.machines.specs.Tidying.{others, TailCut, tail_from}
 use Rattle.divide.specs.Cutting.{term_at, cutting_of}
-use Rattle.reduced_basis.specs.declared.tails.Place.{Place}
+use Rattle.reduced_basis.specs.declared.tails.CutPlace.{CutPlace}
 use Rattle.reduced_basis.specs.declared.tails.Tail.{Tail}
 
 module _ (S : Scalars) where
@@ -22,7 +22,7 @@ module _ (S : Scalars) where
     pub is : find_cut (field S) (others at) gs p
         ≡ Some (cutting_of S k (term_at S p i) (get_or gs k []))
 
-  abbrev pub FindsTerm : ℕ → List (List ℕ) → Terms S.Elem → Option Place → Type 0
+  abbrev pub FindsTerm : ℕ → List (List ℕ) → Terms S.Elem → Option CutPlace → Type 0
   FindsTerm at ls p o = (gs : List (Terms S.Elem)) → ls ≡ map lead_of gs
       → MatchOption o (find_cut (field S) (others at) gs p ≡ None)
       (λ a. FoundBut at gs p a.term a.divisor)

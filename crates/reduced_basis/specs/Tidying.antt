@@ -1,8 +1,7 @@
 -- Tidyings as the program makes them.
---   list_limit                        how many elements a list to be tidied may have
 --   start_of gs                       the list that a tidying of the gs begins at: each made monic
 --   elements_of s                     the elements of a tidying on its way
---   Fits o m s                        they have the order o and m variables and are not 0, the leads are theirs, and what comes next is found from the places on
+--   FitsTidying o m s                        they have the order o and m variables and are not 0, the leads are theirs, and what comes next is found from the places on
 --   tidying_of o gs                   the tidying of the gs, as a machine
 --   HasSorted o m gs hs               the gs are the elements of hs in ascending order of leads, of the order o and m variables, and not 0
 --   IsReducedOf o m gs hs             where the gs, made monic, are a Gröbner basis of an ideal, hs is its reduced basis
@@ -10,7 +9,7 @@
 --   IsNext s t before after b         b is whether an event comes next: it leads from s to t; else both states and both journals are the same
 --   IsPastNext s                      the next event is past
 --   IsStopped s journal               the next event is a unit, and the units equal the limit
-use Rattle.std.specs.Prelude.{◌≡◌, ◌≤◌, ◌^◌, ℕ, Bool, List, length, map, drop}
+use Rattle.std.specs.Prelude.{◌≡◌, ◌≤◌, ℕ, Bool, List, length, map, drop}
 use Rattle.std.specs.Global.{Vec}
 use Rattle.std.specs.declared.cmp.PartialEq as PartialEq
 use Rattle.numbers.specs.Scalars.{field}
@@ -25,7 +24,7 @@ use Rattle.machines.specs.Machines as machines
 use Rattle.machines.specs.Past.{IsPastTidying}
 use Rattle.machines.specs.Reduced.{IsReducedBasis}
 use Rattle.machines.specs.Tidying as tidying
-use Rattle.machines.specs.Work.{Turned, StoppedAt}
+use Rattle.machines.specs.Work.{StepOrEnd, StoppedAt}
 use Rattle.ring_laws.specs.declared.Ring as Ring
 use Rattle.monos.specs.declared.order.Order as Order
 use Rattle.poly.specs.declared.Poly.{Poly}
@@ -33,9 +32,7 @@ use Rattle.poly.specs.Seen.{terms_each}
 use Rattle.divide.specs.Current.{AreDivisors}
 use Rattle.reduced_basis.specs.declared.tidying.Tidying.{Tidying}
 use Rattle.reduced_basis.specs.Leads.{redundant_from}
-
-abbrev pub list_limit : ℕ
-list_limit = 2 ^ 31
+use Rattle.divide.specs.Limits.{list_limit}
 
 module _ {K O : Type 0} {g : Ring.Ghosts K} {h : PartialEq.Ghosts K} {k : Order.Ghosts O}
     {l : PartialEq.Ghosts O} where
@@ -45,7 +42,7 @@ module _ {K O : Type 0} {g : Ring.Ghosts K} {h : PartialEq.Ghosts K} {k : Order.
   abbrev pub elements_of : Tidying K O g h k l → List (Terms g.scalars.Elem)
   elements_of s = terms_each s.list.items
 
-  pub record Fits (o : O) (m : ℕ) (s : Tidying K O g h k l) : Type 0 where
+  pub record FitsTidying (o : O) (m : ℕ) (s : Tidying K O g h k l) : Type 0 where
     pub order : s.order ≡ o
     pub arity : s.arity ≡ m
     pub few : length s.list.items ≤ list_limit
@@ -75,7 +72,7 @@ module _ {K O : Type 0} {g : Ring.Ghosts K} {h : PartialEq.Ghosts K} {k : Order.
 
   abbrev pub IsNext : (s t : Tidying K O g h k l) → (before after : Journal) → Bool → Type 0
   IsNext s t before after b =
-      Turned (tidying.next (field g.scalars) (k.order s.order)) (elements_of s) (elements_of t)
+      StepOrEnd (tidying.next (field g.scalars) (k.order s.order)) (elements_of s) (elements_of t)
       before after b
 
   abbrev pub IsPastNext : Tidying K O g h k l → Type 0

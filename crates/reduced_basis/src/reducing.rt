@@ -3,7 +3,8 @@ ghost use Rattle.std.specs.Prelude.{◌≤◌, length, IfOk};
 ghost use Rattle.machines.specs.Machine.{Ran};
 ghost use Rattle.divide.specs.Outcomes.{outcome_of};
 ghost use Rattle.complete.specs.Completing.{AreLike};
-ghost use Rattle.reduced_basis.specs.Reduction.{generators_limit, reduction_of, HasReduced, IsTheReducedBasis};
+ghost use Rattle.complete.specs.Limits.{generators_limit};
+ghost use Rattle.reduced_basis.specs.Reduction.{reduction_of, HasReduced, IsTheReducedBasis};
 
 use crate::tidying::tidy_in;
 use complete::complete_in;

@@ -1,5 +1,5 @@
 //! Elements in ascending order of leads.
-ghost use Rattle.std.specs.Prelude.{◌≡◌, ◌≢◌, ◌≤◌, [], length, insert, IfOk, IsErrOf};
+ghost use Rattle.std.specs.Prelude.{◌≡◌, ◌≢◌, ◌≤◌, [], length, insert, IfOk};
 ghost use Rattle.polynomials.specs.Order.{compare};
 ghost use Rattle.machines.specs.Cut.{lead_of};
 ghost use Rattle.machines.specs.Tidying.{by_lead, put_by_lead};
@@ -7,9 +7,9 @@ ghost use Rattle.poly.specs.Seen.{terms_in, terms_each};
 ghost use Rattle.divide.specs.Current.{AreDivisors};
 
 use monos::Order;
-use poly::{Poly, PolyError};
+use poly::Poly;
 use ring_laws::Ring;
-use std::alloc::Global;
+use std::alloc::{AllocError, Global};
 use std::cmp::Ordering;
 
 /// Where the lead of `f` stands to that of `g`.
@@ -50,12 +50,11 @@ pub(crate) fn by_lead<K: Ring, O: Order>(
     order: O,
     arity: usize,
     list: Vec<Poly<K, O>>,
-) -> Result<Vec<Poly<K, O>>, PolyError>
+) -> Result<Vec<Poly<K, O>>, AllocError>
     requires divisors { AreDivisors order arity list.items }
     ensures sorted { IfOk result (λ gs.
         terms_each gs.items ≡ by_lead (O.order order) (terms_each list.items)) }
     ensures divisors { IfOk result (λ gs. AreDivisors order arity gs.items) }
-    ensures narrow { ¬ IsErrOf result PolyError.Wide }
 {
     let mut rest = list;
     let mut sorted = Vec::with_capacity(alloc, rest.len())?;

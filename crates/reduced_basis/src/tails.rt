@@ -13,7 +13,7 @@ use ring_laws::{Field, Ring};
 
 /// The place of a term, and of an element whose lead divides it.
 #[derive(Clone, Copy)]
-pub(crate) struct Place {
+pub(crate) struct CutPlace {
     pub(crate) term: usize,
     pub(crate) divisor: usize,
 }
@@ -27,13 +27,13 @@ pub(crate) struct Tail {
 }
 
 /// The first of the terms that the lead of another place than `at` divides, with the first such lead.
-fn divided_term<K: Field>(at: usize, leads: &[Mono], terms: &[Term<K>]) -> Option<Place>
+fn divided_term<K: Field>(at: usize, leads: &[Mono], terms: &[Term<K>]) -> Option<CutPlace>
     requires { All (λ t. All (λ d. length d ≡ length t.mono) leads.now) terms.now }
     ensures { FindsTerm K.scalars at leads.now (terms_of K.meaning terms.now) result }
 {
     for (term, found) in terms.iter().enumerate() {
         if let Some(divisor) = divisor_but(at, leads, &found.mono) {
-            return Some(Place { term, divisor });
+            return Some(CutPlace { term, divisor });
         }
     }
     None

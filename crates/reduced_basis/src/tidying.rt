@@ -6,7 +6,8 @@ ghost use Rattle.machines.specs.Past.{IsPastStart};
 ghost use Rattle.poly.specs.Seen.{terms_each};
 ghost use Rattle.divide.specs.Current.{AreDivisors};
 ghost use Rattle.divide.specs.Outcomes.{outcome_of};
-ghost use Rattle.reduced_basis.specs.Tidying.{list_limit, start_of, elements_of, Fits, tidying_of, HasSorted, IsReducedOf, IsNext, IsPastNext, IsStopped};
+ghost use Rattle.divide.specs.Limits.{list_limit};
+ghost use Rattle.reduced_basis.specs.Tidying.{start_of, elements_of, FitsTidying, tidying_of, HasSorted, IsReducedOf, IsNext, IsPastNext, IsStopped};
 
 use crate::leads::first_redundant;
 use crate::sorting::by_lead;
@@ -15,8 +16,8 @@ use complete::made_monic;
 use divide::{EngineError, cancel, leads_of};
 use journal::{Event, Meter};
 use monos::{Mono, Order};
-use poly::{Poly, PolyError};
-use ring_laws::{Field, Ring};
+use poly::Poly;
+use ring_laws::{ArithmeticError, Field, Ring};
 use std::alloc::Global;
 use std::mem;
 
@@ -58,12 +59,12 @@ fn first_state<K: Field, O: Order>(
     order: O,
     arity: usize,
     list: &[Poly<K, O>],
-) -> Result<Tidying<K, O>, PolyError>
+) -> Result<Tidying<K, O>, ArithmeticError>
     requires divisors { AreDivisors order arity list.now }
     requires few { length list.now ≤ list_limit }
     ensures ok { IfOk result (λ s. elements_of s ≡ start_of list.now) }
-    ensures fits { IfOk result (Fits order arity) }
-    ensures wide { IsErrOf result PolyError.Wide
+    ensures fits { IfOk result (FitsTidying order arity) }
+    ensures wide { IsErrOf result ArithmeticError.Wide
         → IsPastStart K.scalars (field K.scalars) (terms_each list.now) }
 {
     let list = all_monic(alloc, order, arity, list)?;
@@ -84,11 +85,11 @@ fn all_monic<K: Field, O: Order>(
     order: O,
     arity: usize,
     list: &[Poly<K, O>],
-) -> Result<Vec<Poly<K, O>>, PolyError>
+) -> Result<Vec<Poly<K, O>>, ArithmeticError>
     requires divisors { AreDivisors order arity list.now }
     ensures monic { IfOk result (λ gs. terms_each gs.items ≡ start_of list.now) }
     ensures divisors { IfOk result (λ gs. AreDivisors order arity gs.items) }
-    ensures wide { IsErrOf result PolyError.Wide
+    ensures wide { IsErrOf result ArithmeticError.Wide
         → IsPastStart K.scalars (field K.scalars) (terms_each list.now) }
 {
     let mut out = Vec::with_capacity(alloc, list.len())?;
@@ -104,9 +105,9 @@ fn step<K: Field, O: Order>(
     state: &mut Tidying<K, O>,
     meter: &mut Meter,
 ) -> Result<bool, EngineError>
-    requires fits { Fits state.old.order state.old.arity state.old }
+    requires fits { FitsTidying state.old.order state.old.arity state.old }
     ensures ok { IfOk result (λ b. IsNext state.old state.new meter.old meter.new b) }
-    ensures fits { IfOk result (λ _. Fits state.old.order state.old.arity state.new) }
+    ensures fits { IfOk result (λ _. FitsTidying state.old.order state.old.arity state.new) }
     ensures err { OnErr result (meter.new ≡ meter.old) }
     ensures wide { IsErrOf result EngineError.Wide → IsPastNext state.old }
     ensures budget { IsErrOf result EngineError.Budget → IsStopped state.old meter.old }
@@ -132,10 +133,10 @@ fn cancel_tail<K: Field, O: Order>(
     state: &mut Tidying<K, O>,
     meter: &mut Meter,
 ) -> Result<bool, EngineError>
-    requires fits { Fits state.old.order state.old.arity state.old }
+    requires fits { FitsTidying state.old.order state.old.arity state.old }
     requires apart { state.old.apart ≡ length state.old.leads.items }
     ensures ok { IfOk result (λ b. IsNext state.old state.new meter.old meter.new b) }
-    ensures fits { IfOk result (λ _. Fits state.old.order state.old.arity state.new) }
+    ensures fits { IfOk result (λ _. FitsTidying state.old.order state.old.arity state.new) }
     ensures err { OnErr result (meter.new ≡ meter.old) }
     ensures wide { IsErrOf result EngineError.Wide → IsPastNext state.old }
     ensures budget { IsErrOf result EngineError.Budget → IsStopped state.old meter.old }

@@ -15,7 +15,7 @@ use Rattle.polynomials.proofs.Past.{composition_under}
 use Rattle.polynomials.proofs.Same.{Same-sym, Same-trans}
 use Rattle.polynomials.proofs.Weight.{composition-pos}
 use Rattle.machines.proofs.Collecting.{collect-same}
-use Rattle.turns.specs.Expo.{normalized}
+use Rattle.turns.specs.Expo.{with_normal_keys}
 use Rattle.turns.proofs.Retold.{same_normalized}
 use Rattle.rounds.specs.Form.{front, normal, orbit_order}
 use Rattle.starting_lists.specs.Starting.{unwound}
@@ -26,11 +26,11 @@ module _ (r m : ℕ) (back : List (Terms Fraction)) (g moved : Terms Fraction)
       → Same ℚ p normals → Same ℚ p (unwound r m back g)
   moved_same normals p e t =
       Same-trans ℚ (subst (Same ℚ p) e t)
-      (Same-trans ℚ (collect-same ℚ_field grevlex grevlex_order (normalized r moved))
+      (Same-trans ℚ (collect-same ℚ_field grevlex grevlex_order (with_normal_keys r moved))
       (Same-trans ℚ (same_normalized ℚ_ring r moved (compose ℚ (front r + m) g back) same)
       (Same-sym ℚ (collect-same ℚ_field (orbit_order r)
       (blocks_order (front r) grevlex grevlex grevlex_order grevlex_order)
-      (normalized r (compose ℚ (front r + m) g back))))))
+      (with_normal_keys r (compose ℚ (front r + m) g back))))))
 
   pub moved_past : IsPolynomial ℚ grevlex (front r + m) moved
       → IsPast (weight fraction_size moved) → IsPastComposition fractions g back

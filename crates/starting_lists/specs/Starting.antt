@@ -4,7 +4,7 @@
 --   numbers_of base        how many numbers a base has
 --   starting m s           the list that it begins with: orbit_starting, meet_starting
 --   front_of s             how many variables stand in front of the m
---   Fits m s               the parts of s are over the variables that they should be over: FitsOrbit, FitsMeet
+--   FitsStart m s               the parts of s are over the variables that they should be over: FitsOrbit, FitsMeet
 --   IsPastAt m s i         the weight of an operation that makes the polynomial at place i of the list is past: IsPastOrbit, IsPastMeet
 use Rattle.std.specs.Prelude.{◌≡◌, ℕ, ◌+◌, ◌-◌, ◌<◌, ◌≤◌, List, [], ◌++◌, map, length, get_or, All, Vec}
 use Rattle.std.specs.declared.alloc.Global.{Global}
@@ -68,9 +68,9 @@ pub record FitsMeet (m : ℕ) (left right : Polys) : Type 0 where
   pub lefts : All (IsOver m) left.items
   pub rights : All (IsOver m) right.items
 
-abbrev pub Fits : ℕ → Starting → Type 0
-Fits m (Orbit base back list) = FitsOrbit m base.now back.now list.now
-Fits m (Meet left right) = FitsMeet m left.now right.now
+abbrev pub FitsStart : ℕ → Starting → Type 0
+FitsStart m (Orbit base back list) = FitsOrbit m base.now back.now list.now
+FitsStart m (Meet left right) = FitsMeet m left.now right.now
 
 -- ---- what is past
 abbrev pub IsPastOrbit : (back list : Polys) → ℕ → Type 0

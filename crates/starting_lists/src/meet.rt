@@ -10,46 +10,41 @@ ghost use Rattle.starting_lists.specs.Blocks.{in_blocks};
 
 use frac128::Frac;
 use monos::{Blocks, Grevlex, Mono};
-use poly::{Poly, PolyError};
-use std::alloc::Global;
+use poly::Poly;
+use ring_laws::ArithmeticError;
+use std::alloc::{AllocError, Global};
 
 /// The product with t.
 pub(crate) fn times_t(
     alloc: Global,
     p: &Poly<Frac, Grevlex>,
-) -> Result<Poly<Frac, Blocks>, PolyError>
+) -> Result<Poly<Frac, Blocks>, AllocError>
     requires { 1 + p.now.arity ≤ most_variables }
     ensures product { IfOk result
         (Is (in_blocks 1) (1 + p.now.arity) (with_first (terms_in p.now))) }
-    ensures narrow { ¬ IsErrOf result PolyError.Wide }
 {
-    match Mono::variable(alloc, 1, 0) {
-        Ok(t) => p.behind(alloc, Blocks { first: 1 }, &t),
-        Err(_) => Err(PolyError::Memory),
-    }
+    let t = Mono::variable(alloc, 1, 0)?;
+    p.behind(alloc, Blocks { first: 1 }, &t)
 }
 
 /// The polynomial with t in front, of which it has none.
-fn without_t(alloc: Global, p: &Poly<Frac, Grevlex>) -> Result<Poly<Frac, Blocks>, PolyError>
+fn without_t(alloc: Global, p: &Poly<Frac, Grevlex>) -> Result<Poly<Frac, Blocks>, AllocError>
     requires { 1 + p.now.arity ≤ most_variables }
     ensures same { IfOk result (Is (in_blocks 1) (1 + p.now.arity) (in_front 1 (terms_in p.now))) }
-    ensures narrow { ¬ IsErrOf result PolyError.Wide }
 {
-    match Mono::one(alloc, 1) {
-        Ok(one) => p.behind(alloc, Blocks { first: 1 }, &one),
-        Err(_) => Err(PolyError::Memory),
-    }
+    let one = Mono::one(alloc, 1)?;
+    p.behind(alloc, Blocks { first: 1 }, &one)
 }
 
 /// The product with 1 - t.
 pub(crate) fn times_rest(
     alloc: Global,
     p: &Poly<Frac, Grevlex>,
-) -> Result<Poly<Frac, Blocks>, PolyError>
+) -> Result<Poly<Frac, Blocks>, ArithmeticError>
     requires { 1 + p.now.arity ≤ most_variables }
     ensures product { IfOk result (Is (in_blocks 1) (1 + p.now.arity)
         (in_front 1 (terms_in p.now) ++ negate ℚ (with_first (terms_in p.now)))) }
-    ensures wide { IsErrOf result PolyError.Wide → IsPastSum fractions
+    ensures wide { IsErrOf result ArithmeticError.Wide → IsPastSum fractions
         (terms_in p.now) (terms_in p.now) }
 {
     let whole = without_t(alloc, p)?;

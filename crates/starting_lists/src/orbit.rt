@@ -14,10 +14,11 @@ ghost use Rattle.starting_lists.specs.Blocks.{in_blocks};
 ghost use Rattle.starting_lists.specs.Starting.{unwound};
 
 use crate::relations::front;
-use expo::{Expo, ExpoError};
+use expo::Expo;
 use frac128::{Frac, Whole};
 use monos::{Blocks, Grevlex};
-use poly::{Poly, PolyError};
+use poly::Poly;
+use ring_laws::ArithmeticError;
 use std::alloc::Global;
 
 /// The polynomial with s s and the u_j v_j replaced by 1. `Wide` only where its weight is past.
@@ -25,19 +26,16 @@ pub fn normal_of(
     alloc: Global,
     base: &Vec<Whole>,
     p: &Poly<Frac, Grevlex>,
-) -> Result<Poly<Frac, Grevlex>, PolyError>
+) -> Result<Poly<Frac, Grevlex>, ArithmeticError>
     requires base { IsCoprimeBase (sizes base.now.items) }
     requires front { front (length (sizes base.now.items)) ≤ p.now.arity }
     ensures normal { IfOk result (λ q. terms_in q
         ≡ normal grevlex (length (sizes base.now.items)) (terms_in p.now)) }
     ensures arity { IfOk result (λ q. q.arity ≡ p.now.arity) }
-    ensures wide { IsErrOf result PolyError.Wide → IsPast (weight fraction_size (terms_in p.now)) }
+    ensures wide { IsErrOf result ArithmeticError.Wide
+        → IsPast (weight fraction_size (terms_in p.now)) }
 {
-    match Expo::normal(alloc, base, p) {
-        Ok(normal) => Ok(normal.into_body()),
-        Err(ExpoError::Wide) => Err(PolyError::Wide),
-        Err(ExpoError::Memory) => Err(PolyError::Memory),
-    }
+    Ok(Expo::normal(alloc, base, p)?.into_body())
 }
 
 /// The polynomial with the form backward for its variables, normal.
@@ -46,7 +44,7 @@ pub(crate) fn unwound(
     base: &Vec<Whole>,
     back: &Vec<Poly<Frac, Grevlex>>,
     p: &Poly<Frac, Grevlex>,
-) -> Result<Poly<Frac, Blocks>, PolyError>
+) -> Result<Poly<Frac, Blocks>, ArithmeticError>
     requires base { IsCoprimeBase (sizes base.now.items) }
     requires some { 0 < p.now.arity }
     requires count { length back.now.items ≡ p.now.arity }
@@ -56,15 +54,11 @@ pub(crate) fn unwound(
     ensures unwound { let r = length (sizes base.now.items) in IfOk result
         (Is (in_blocks (front r)) (front r + p.now.arity)
         (unwound r p.now.arity (terms_each back.now.items) (terms_in p.now))) }
-    ensures wide { IsErrOf result PolyError.Wide
+    ensures wide { IsErrOf result ArithmeticError.Wide
         → IsPastComposition fractions (terms_in p.now) (terms_each back.now.items) }
 {
     let moved = p.compose(alloc, back)?;
     let normal = normal_of(alloc, base, &moved)?;
-    normal.reorder(
-        alloc,
-        Blocks {
-            first: front(base.len()),
-        },
-    )
+    let first = front(base.len());
+    Ok(normal.reorder(alloc, Blocks { first })?)
 }

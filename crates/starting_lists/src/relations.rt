@@ -1,5 +1,5 @@
 //! The relations between the powers over a base.
-ghost use Rattle.std.specs.Prelude.{◌≡◌, ◌≤◌, ◌<◌, ◌+◌, replicate, IfOk, IsErrOf};
+ghost use Rattle.std.specs.Prelude.{◌≡◌, ◌≤◌, ◌<◌, ◌+◌, IfOk};
 ghost use Rattle.polynomials.specs.Exponent.{plus};
 ghost use Rattle.chains.specs.Uses.{unit};
 ghost use Rattle.rounds.specs.Form.{front};
@@ -8,10 +8,10 @@ ghost use Rattle.poly.specs.Seen.{terms_in};
 ghost use Rattle.starting_lists.specs.Blocks.{HasFront, relation_of};
 
 use frac128::Frac;
-use monos::{Blocks, Mono, MonoError};
-use poly::{Poly, PolyError, Term};
-use ring_laws::Ring;
-use std::alloc::Global;
+use monos::{Blocks, Mono};
+use poly::{Poly, Term};
+use ring_laws::{ArithmeticError, Ring};
+use std::alloc::{AllocError, Global};
 
 /// How many variables stand in front of a loop's, over a base of so many numbers.
 pub fn front(numbers: usize) -> usize
@@ -28,13 +28,12 @@ pub fn relation(
     vars: usize,
     left: usize,
     right: usize,
-) -> Result<Poly<Frac, Blocks>, PolyError>
+) -> Result<Poly<Frac, Blocks>, AllocError>
     requires few { front numbers + vars ≤ most_variables }
     requires left { left < front numbers }
     requires right { right < front numbers }
     ensures relation { IfOk result (λ p. terms_in p ≡ relation_of numbers vars left right) }
     ensures block { IfOk result (HasFront numbers vars) }
-    ensures narrow { ¬ IsErrOf result PolyError.Wide }
 {
     let first = front(numbers);
     let arity = first + vars;
@@ -44,52 +43,24 @@ pub fn relation(
         coef: Frac::one(),
     })?;
     terms.push(Term {
-        mono: one_of(alloc, arity)?,
-        coef: Frac::one().neg()?,
+        mono: Mono::one(alloc, arity)?,
+        coef: Frac::one().neg(),
     })?;
-    Poly::from_terms(alloc, Blocks { first }, arity, terms)
+    Poly::from_distinct(alloc, Blocks { first }, arity, terms)
 }
 
-/// The product of two variables.
-fn product_of(alloc: Global, arity: usize, left: usize, right: usize) -> Result<Mono, PolyError>
+/// The product of two variables. Its exponents are at most 2, so it fits.
+fn product_of(alloc: Global, arity: usize, left: usize, right: usize) -> Result<Mono, AllocError>
     requires few { arity ≤ most_variables }
     requires left { left < arity }
     requires right { right < arity }
     ensures product { IfOk result (λ e. e ≡ plus (unit arity left) (unit arity right)) }
-    ensures narrow { ¬ IsErrOf result PolyError.Wide }
-{
-    match variables_product(alloc, arity, left, right) {
-        Ok(mono) => Ok(mono),
-        Err(_) => Err(PolyError::Memory),
-    }
-}
-
-/// The product of two variables. Its exponents are at most 2, so it is never `Wide`.
-fn variables_product(
-    alloc: Global,
-    arity: usize,
-    left: usize,
-    right: usize,
-) -> Result<Mono, MonoError>
-    requires few { arity ≤ most_variables }
-    requires left { left < arity }
-    requires right { right < arity }
-    ensures product { IfOk result (λ e. e ≡ plus (unit arity left) (unit arity right)) }
-    ensures narrow { ¬ IsErrOf result MonoError.Wide }
 {
     let one = Mono::variable(alloc, arity, left)?;
     let other = Mono::variable(alloc, arity, right)?;
-    one.times(alloc, &other)
-}
-
-/// The monomial 1.
-fn one_of(alloc: Global, arity: usize) -> Result<Mono, PolyError>
-    requires { arity ≤ most_variables }
-    ensures one { IfOk result (λ e. e ≡ replicate arity 0) }
-    ensures narrow { ¬ IsErrOf result PolyError.Wide }
-{
-    match Mono::one(alloc, arity) {
-        Ok(mono) => Ok(mono),
-        Err(_) => Err(PolyError::Memory),
+    match one.times(alloc, &other) {
+        Ok(product) => Ok(product),
+        Err(ArithmeticError::Memory) => Err(AllocError),
+        Err(ArithmeticError::Wide) => unreachable!(),
     }
 }

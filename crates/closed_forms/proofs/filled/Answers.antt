@@ -16,17 +16,17 @@ fill-requires-clause-made c = values_made (values_in c.args.splits.now)
 pub fill-requires-clause-known : goal.fill-requires-clause-known
 fill-requires-clause-known c =
     let M = terms_each c.args.images.now.items in
-    let es = c.in-Ok.polys.items in
+    let es = c.in_ok-polys.polys.items in
     known_begun (sizes c.args.base.now.items) M c.args.splits.now c.args.turns
     (groups_in c.args.groups.now) c.requires.classes (bodies_of es)
-    (bodies-count es ∙ c.in-Ok.ensures.count ∙ c.len.ensures ∙ c.args.images.now.ok.0
+    (bodies-count es ∙ c.in_ok-polys.ensures.count ∙ c.len.ensures ∙ c.args.images.now.ok.0
     ∙ sym (length_each c.args.images.now.items))
     (sym c.requires.turns)
 
-pub returns-in-Ok-fill-clause-closed : goal.returns-in-Ok-fill-clause-closed
-returns-in-Ok-fill-clause-closed c =
+pub returns-in-Ok-clause-closed : goal.returns-in-Ok-clause-closed
+returns-in-Ok-clause-closed c =
     let bs = sizes c.args.base.now.items in
     let es = c.fill.new.polys.items in
     closed_is bs (terms_each c.args.images.now.items) c.args.splits.now c.args.turns es
     (subst (λ m. AreOver bs m es) (sym (length_each c.args.images.now.items))
-    c.in-Ok-fill.ensures.over) c.in-Ok-fill.ensures.known
+    c.in-Ok.ensures.over) c.in-Ok.ensures.known

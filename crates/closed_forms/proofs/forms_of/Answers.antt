@@ -1,6 +1,6 @@
 use Rattle.poly.specs.Seen.{terms_each}
 use Rattle.closed_forms.proofs.Counting.{twelve_values}
-use Rattle.closed_forms.proofs.Ending.{memory_later}
+use Rattle.closed_forms.proofs.Ending.{out_of_memory}
 use Rattle.closed_forms.proofs.forms_of.Goals as goal
 
 pub base_of-requires : goal.base_of-requires
@@ -9,6 +9,6 @@ base_of-requires c = record {
       c.requires.splits;
 }
 
-pub returns-in-Err-clause-refused : goal.returns-in-Err-clause-refused
-returns-in-Err-clause-refused c = memory_later (terms_each c.args.images.now.items) c.in-Err.error
-    c.in-Err.ensures.memory
+pub returns-in_err-base-clause-refused : goal.returns-in_err-base-clause-refused
+returns-in_err-base-clause-refused c = out_of_memory (terms_each c.args.images.now.items)
+    c.from_residual.result c.from_residual.ensures.1

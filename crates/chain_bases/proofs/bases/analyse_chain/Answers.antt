@@ -14,7 +14,7 @@ use Rattle.loop_chain.specs.Seen.{chain_in}
 use Rattle.loop_chain.specs.declared.stage.Stage.{Stage}
 use Rattle.invariant_fix.specs.Refusals.{IsRefused}
 use Rattle.invariant_fix.specs.declared.errors.AnalyseError.TheVariants as error
-use Rattle.chain_bases.specs.Bases.{opened, AreBases, IsLast}
+use Rattle.chain_bases.specs.Bases.{empty_journal, AreBases, IsLast}
 use Rattle.chain_bases.specs.Limits.{elements_limit}
 use Rattle.chain_bases.specs.Steps.{HasList, HasStage, IsRefusedStage}
 use Rattle.chain_bases.specs.declared.refused.LoopError.{LoopError}
@@ -82,7 +82,8 @@ borrowed bases n x xs here items = items ∙ ap (λ (v : Vec FracPoly). v.items)
 
 -- want of memory behind a basis
 memory_first : (l : Program (Expr ℕ)) (budget : ℕ) (m : Journal) (gs : List FracPoly)
-    → HasList l None (length l.names) budget m gs → IsRefused l (opened budget) m error.Memory
+    → HasList l None (length l.names) budget m gs
+    → IsRefused l (empty_journal budget) m error.Memory
 memory_first l budget m gs h =
     inr (record { state = h.finished.state; follows = h.finished.follows })
 

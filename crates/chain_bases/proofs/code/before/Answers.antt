@@ -37,11 +37,12 @@ loop-var-preserved c =
           ∙ size);
     }
 
-pub returns-clause-before : goal.returns-clause-before
-returns-clause-before c =
-    let a = c.loop-var-test.false in
-    let b = c.loop-var.auto.var-end in (
-      all_places c.args.vars c.args.code.now c.loop-var.var c.loop-var.images.items
-          (omega (arith, b)) (omega (arith, a)) c.loop-var.invariant.list,
-      c.loop-var.invariant.over,
-    )
+pub returns : goal.returns
+returns c = record {
+  before = let a = c.loop-var-test.false in
+      let b = c.loop-var.auto.var-end in (
+        all_places c.args.vars c.args.code.now c.loop-var.var c.loop-var.images.items
+            (omega (arith, b)) (omega (arith, a)) c.loop-var.invariant.list,
+        c.loop-var.invariant.over,
+      );
+}

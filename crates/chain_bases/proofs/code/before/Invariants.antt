@@ -2,12 +2,12 @@ use Rattle.std.proofs.Common.{◌≡◌}
 use Rattle.poly.specs.Seen.{terms_each}
 use Rattle.ideal_ops.specs.Calls.{AreOver}
 use Rattle.loop_chain.specs.Parts.{statements_in}
-use Rattle.loop_chains.specs.CodeBetween.{listed, was_at}
+use Rattle.loop_chains.specs.CodeBetween.{list_from, was_at}
 use Rattle.chain_bases.specs.Code.{all}
 use Rattle.chain_bases.proofs.code.before.Given as goal
 
 abbrev pub invariant-loop-var : goal.invariant-loop-var
 invariant-loop-var l = record {
-  list : terms_each l.images.items ≡ listed 0 l.var (was_at l.vars (statements_in l.code));
+  list : terms_each l.images.items ≡ list_from 0 l.var (was_at l.vars (statements_in l.code));
   over : AreOver (all l.vars l.code) l.images.items;
 }

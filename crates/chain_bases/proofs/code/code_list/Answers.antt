@@ -7,8 +7,8 @@ use Rattle.rings.proofs.Lists.{have_more}
 use Rattle.expressions.specs.FracPoly.{FracPoly}
 use Rattle.invariant_fix.specs.Blocked.{Blocked}
 use Rattle.loop_chain.specs.Parts.{statements_in}
-use Rattle.loop_chains.specs.CodeBetween.{assigned, copies}
-use Rattle.chain_bases.specs.Code.{all, put, put_value}
+use Rattle.loop_chains.specs.CodeBetween.{assigned_variables, copies}
+use Rattle.chain_bases.specs.Code.{all, in_code_order, put_value}
 use Rattle.chain_bases.proofs.Making.{before_count, put_at, block_at, over_at, past_at}
 use Rattle.chain_bases.proofs.code.code_list.Goals as goal
 
@@ -43,7 +43,7 @@ loop-element-preserved c =
     let size : g.arity ≡ m = ap (λ (g : FracPoly). g.arity) c.element-item.is
     ∙ c.requires.basis c.loop-element.element-index g c.loop-element-test.true in
     record {
-      list = grown (λ (q : Blocked). terms_in q) (λ (g : FracPoly). put m b (terms_in g))
+      list = grown (λ (q : Blocked). terms_in q) (λ (g : FracPoly). in_code_order m b (terms_in g))
           c.args.basis.now c.loop-element.element-index g c.loop-element.gens.items
           c.push.new.self.items p c.loop-element-test.true c.element-item.is
           c.in_ok-push.ensures.items
@@ -65,10 +65,11 @@ returns-clause-list c =
     let b = c.args.code.now in
     c.in_ok-push_differences.ensures.list
     ∙ ap (λ l. l ++ map (λ v. put_value m b v (get_or (terms_each c.args.values.now) v []))
-    (assigned m (statements_in b))) (all_grown (λ (q : Blocked). terms_in q)
-    (λ (g : FracPoly). put m b (terms_in g)) c.args.basis.now c.loop-element.element-index _
+    (assigned_variables m (statements_in b))) (all_grown (λ (q : Blocked). terms_in q)
+    (λ (g : FracPoly). in_code_order m b (terms_in g)) c.args.basis.now c.loop-element.element-index
+    _
     c.loop-element-test.false c.loop-element.invariant.list
-    ∙ sym (map-map (put m b) (λ (g : FracPoly). terms_in g) c.args.basis.now))
+    ∙ sym (map-map (in_code_order m b) (λ (g : FracPoly). terms_in g) c.args.basis.now))
 
 pub returns-in_err-put-clause-wide : goal.returns-in_err-put-clause-wide
 returns-in_err-put-clause-wide c =

@@ -1,6 +1,5 @@
 use Rattle.std.proofs.Common.{◌≡◌, ◌+◌, ◌<◌, ◌++◌, ℕ, List, inr, ap, subst, ◌∙◌, arith}
 use Rattle.std.proofs.lemmas.Result.{err_from_is_err_and}
-use Rattle.complete.proofs.Made.{if_ok}
 use Rattle.numbers.specs.Fraction.{Fraction, ℚ, rationals, fractions}
 use Rattle.numbers.proofs.Fractions.{ℚ_field}
 use Rattle.polynomials.specs.Order.{grevlex}
@@ -67,20 +66,28 @@ module _ (c : After-sub) where
       let place : c.args.first + c.args.var < n = omega (arith, var) in
       variable_is _ n (c.args.first + c.args.var) place c.in_ok-now.now made
 
+pub returns-clause-block : goal.returns-clause-block
+returns-clause-block c =
+    let e = (goal.at.returns-clause-block c).After-sub in
+    let i = c.in_ok-reorder.ensures.same in (
+      ap (λ o. o.first) i.order,
+      i.arity ∙ c.in_ok-less.ensures.difference.arity
+          ∙ variable_arity _ (n e) (c.args.first + c.args.var) c.in_ok-now.now (made e),
+    )
+
 pub returns-clause-difference : goal.returns-clause-difference
 returns-clause-difference c =
     let e = (goal.at.returns-clause-difference c).After-sub in
-    if_ok _ _ c.reorder.result
-    (λ p i. in_blocks c.args.first (n e)
+    let block = returns-clause-block c in
+    in_blocks c.args.first (n e)
     (variable_of (n e) (c.args.first + c.args.var) ++ negate ℚ (put e))
     (arity-append (n e) _ _ (arity_at (n e) (variables ℚ (n e)) (arity-variables (n e) ℚ)
     (c.args.first + c.args.var))
     (arity-negate (n e) ℚ (put e) (put_arity e)))
-    p (ap (λ o. o.first) i.order) (i.arity ∙ c.in_ok-less.ensures.difference.arity
-    ∙ variable_arity _ (n e) (c.args.first + c.args.var) c.in_ok-now.now (made e))
-    (Same-trans ℚ i.same (differs c.in_ok-now.now c.in_ok-composed.composed _ (put e) _ (now_is e)
-    (put_is e).same c.in_ok-less.ensures.difference.same)))
-    c.reorder.ensures.same
+    c.in_ok-reorder.field-0 block.0 block.1
+    (Same-trans ℚ c.in_ok-reorder.ensures.same.same (differs c.in_ok-now.now
+    c.in_ok-composed.composed _ (put e) _ (now_is e) (put_is e).same
+    c.in_ok-less.ensures.difference.same))
 
 pub returns-in_err-less-clause-wide : goal.returns-in_err-less-clause-wide
 returns-in_err-less-clause-wide c =

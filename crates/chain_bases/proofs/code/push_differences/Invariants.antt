@@ -1,7 +1,7 @@
 use Rattle.std.proofs.Common.{◌≡◌, ◌++◌, [], map, get_or, length}
 use Rattle.poly.specs.Seen.{terms_each}
 use Rattle.loop_chain.specs.Parts.{statements_in}
-use Rattle.loop_chains.specs.CodeBetween.{assigned}
+use Rattle.loop_chains.specs.CodeBetween.{assigned_variables}
 use Rattle.chain_bases.specs.Code.{put_value, HaveCopies}
 use Rattle.chain_bases.proofs.code.push_differences.Given as goal
 
@@ -9,6 +9,6 @@ abbrev pub invariant-loop-var : goal.invariant-loop-var
 invariant-loop-var l = record {
   list : terms_each l.gens.items ≡ terms_each l.initial.gens.items
       ++ map (λ v. put_value (length l.values) l.code v (get_or (terms_each l.values) v []))
-      (assigned l.var (statements_in l.code));
+      (assigned_variables l.var (statements_in l.code));
   block : HaveCopies (length l.values) l.code l.gens.items;
 }

@@ -1,5 +1,4 @@
 use Rattle.std.proofs.Common.{◌≡◌, ◌+◌, ap, subst, ◌∙◌, arith}
-use Rattle.complete.proofs.Made.{if_ok}
 use Rattle.numbers.specs.Fraction.{ℚ}
 use Rattle.polynomials.specs.Terms.{compose}
 use Rattle.polynomials.proofs.Arity.{arity-compose}
@@ -16,6 +15,17 @@ compose-requires-clause-arities c =
     before_over (c.args.first + c.args.element.now.arity) c.args.before.now.items c.requires.over
     (omega (arith, some, count))
 
+pub returns-clause-block : goal.returns-clause-block
+returns-clause-block c =
+    let some = c.requires.some in
+    let count = c.requires.count in
+    let i = c.in_ok-reorder.ensures.same in (
+      ap (λ o. o.first) i.order,
+      i.arity ∙ c.in_ok-composed.ensures.composition.arity
+          ∙ before_arity (c.args.first + c.args.element.now.arity) c.args.before.now.items
+          c.requires.over (omega (arith, some, count)),
+    )
+
 pub returns-clause-put : goal.returns-clause-put
 returns-clause-put c =
     let some = c.requires.some in
@@ -26,10 +36,9 @@ returns-clause-put c =
     let is = subst (λ k. Is c.args.element.now.order k
     (compose ℚ k (terms_in c.args.element.now) (terms_each ps)) c.in_ok-composed.composed) size
     c.in_ok-composed.ensures.composition in
-    if_ok _ _ c.reorder.result
-    (λ p i. in_blocks c.args.first n
+    let block = returns-clause-block c in
+    in_blocks c.args.first n
     (compose ℚ n (terms_in c.args.element.now) (terms_each ps))
     (arity-compose n ℚ (terms_in c.args.element.now) (terms_each ps)
     (arities_over n ps c.requires.over))
-    p (ap (λ o. o.first) i.order) (i.arity ∙ is.arity) (Same-trans ℚ i.same is.same))
-    c.reorder.ensures.same
+    c.in_ok-reorder.field-0 block.0 block.1 (Same-trans ℚ c.in_ok-reorder.ensures.same.same is.same)

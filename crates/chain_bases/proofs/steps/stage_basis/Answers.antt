@@ -12,7 +12,7 @@ use Rattle.invariant_fix.specs.Refusals.{IfUnformedLoop, IsRefusedFrom, IsStoppe
 use Rattle.loop_chains.specs.Between.{between}
 use Rattle.loop_chains.specs.CodeBetween.{copies}
 use Rattle.loop_chain.specs.Parts.{code_in, stage_of}
-use Rattle.chain_bases.specs.Bases.{opened}
+use Rattle.chain_bases.specs.Bases.{empty_journal}
 use Rattle.chain_bases.specs.Code.{IsListOf}
 use Rattle.chain_bases.specs.Steps.{HasList, IsRefusedStage}
 use Rattle.chain_bases.proofs.Loops.{code_seen, body_is}
@@ -46,7 +46,7 @@ returns-in-Err-clause-err c = λ p is.
     c.basis_from.ensures.limit (stage_of g).code (no_code b (code_in g.code) same
     c.if-is_empty.ensures)
     c.in-Err.error (subst (λ q. IsRefusedFrom q (Some (terms_each c.args.before.now))
-    (opened c.args.budget) c.basis_from.new.meter c.in-Err.error) (body_is p g is)
+    (empty_journal c.args.budget) c.basis_from.new.meter c.in-Err.error) (body_is p g is)
     c.in-Err.ensures.err))
 
 -- of its map, and of the loop's maps and branches

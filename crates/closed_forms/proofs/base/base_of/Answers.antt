@@ -1,4 +1,5 @@
-use Rattle.std.proofs.Common.{◌≢◌, arith, List, ◌++◌, map, unsigned_abs, sym, ap, subst, ◌∙◌}
+use Rattle.std.proofs.Common.{◌≢◌, ◌≤◌, arith, List, length, ◌++◌, map, unsigned_abs, sym, ap, subst, ◌∙◌}
+use Rattle.std.proofs.lemmas.Result.{IfOk-weaker}
 use Rattle.rings.specs.Each.{Each}
 use Rattle.numbers.specs.Fraction.{Fraction, ℚ}
 use Rattle.exponentials.specs.Base.{IsTheBase}
@@ -21,12 +22,12 @@ base-requires c =
     (subst (Each (λ c. c ≢ ℚ.zero)) (sym (ap fractions_of c.as_slice.ensures.value ∙ is))
     (some_nonzero (values_in c.args.splits.now))))
 
-pub returns-in-Ok-clause-base : goal.returns-in-Ok-clause-base
-returns-in-Ok-clause-base c =
+pub returns-clause-base : goal.returns-clause-base
+returns-clause-base c =
     let vs = some_of (values_in c.args.splits.now) in
-    let is = values_are c.push_values.new.out.items c.new-values.result.items vs
+    let seen = values_are c.push_values.new.out.items c.new-values.result.items vs
     c.in_ok-push_values.ensures c.new-values.ensures.items in
-    subst (λ list. IsTheBase list (sizes c.in-Ok.found.items))
+    IfOk-weaker c.base.result _ _ (λ found is. subst (λ list. IsTheBase list (sizes found.items))
     (sizes_are c.push_denominators.new.out.items c.push_numerators.new.out.items
     c.new-sizes.result.items c.push_values.new.out.items vs c.new-sizes.ensures.items
     (c.in_ok-push_numerators.ensures.sizes ∙ ap (λ (l : List Frac). sizes c.new-sizes.result.items
@@ -34,11 +35,10 @@ returns-in-Ok-clause-base c =
     c.as_slice.ensures.value)
     (c.in_ok-push_denominators.ensures.sizes
     ∙ ap (λ (l : List Frac). sizes c.push_numerators.new.out.items ++ map (λ (x : Fraction).
-    x.den) (fractions_of l)) c.as_slice-2.ensures.value) is)
-    c.in-Ok.ensures.base
+    x.den) (fractions_of l)) c.as_slice-2.ensures.value) seen) is) c.base.ensures.base
 
-pub returns-in-Ok-clause-few : goal.returns-in-Ok-clause-few
-returns-in-Ok-clause-few c =
+pub returns-clause-few : goal.returns-clause-few
+returns-clause-few c =
     let vs = some_of (values_in c.args.splits.now) in
     let is = values_are c.push_values.new.out.items c.new-values.result.items vs
     c.in_ok-push_values.ensures c.new-values.ensures.items in
@@ -56,9 +56,6 @@ returns-in-Ok-clause-few c =
     (c.in_ok-push_denominators.ensures.sizes
     ∙ ap (λ (l : List Frac). sizes c.push_numerators.new.out.items ++ map (λ (x : Fraction).
     x.den) (fractions_of l)) c.as_slice-2.ensures.value) is in
-    few_sizes c.push_denominators.new.out.items c.in-Ok.found.items vs (omega (
-      arith,
-      few,
-      c.requires.few,
-    )) all positive
-    c.in-Ok.ensures.base
+    let size : length vs ≤ 12 = omega (arith, few, c.requires.few) in
+    IfOk-weaker c.base.result _ _ (λ found found_is. few_sizes c.push_denominators.new.out.items
+    found.items vs size all positive found_is) c.base.ensures.base

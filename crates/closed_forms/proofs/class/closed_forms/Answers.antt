@@ -4,7 +4,7 @@ use Rattle.std.proofs.lemmas.List.Elements.{All-nil, All-push, All-same}
 use Rattle.numbers.specs.Fraction.{ℚ}
 use Rattle.coprime_base.specs.Sizes.{sizes}
 use Rattle.solvable.proofs.Using.{FracPoly}
-use Rattle.closed_forms.specs.Setting.{variables_over}
+use Rattle.closed_forms.specs.ClassSetting.{variables_over}
 use Rattle.closed_forms.specs.Solved.{IsMade}
 use Rattle.closed_forms.proofs.Chaining.{each_at, next_begun, next_code, past_code}
 use Rattle.expo.proofs.Solved.{handed_on}

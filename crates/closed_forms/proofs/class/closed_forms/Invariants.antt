@@ -3,7 +3,7 @@ use Rattle.coprime_base.specs.Sizes.{sizes}
 use Rattle.poly.specs.Seen.{terms_each}
 use Rattle.solvable.proofs.Using.{FracPoly}
 use Rattle.closed_forms.specs.ClassForms.{AreNextOf}
-use Rattle.closed_forms.specs.Setting.{variables_over}
+use Rattle.closed_forms.specs.ClassSetting.{variables_over}
 use Rattle.closed_forms.proofs.class.closed_forms.Given as goal
 
 abbrev pub invariant-loop-place : goal.invariant-loop-place

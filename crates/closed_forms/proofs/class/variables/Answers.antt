@@ -7,8 +7,8 @@ use Rattle.polynomials.specs.Weight.{weight}
 use Rattle.linear.specs.Rows.{fractions_of}
 use Rattle.poly.specs.Seen.{terms_in, terms_each}
 use Rattle.coprime_base.specs.Sizes.{sizes}
-use Rattle.turns.specs.Expo.{normalized}
-use Rattle.closed_forms.specs.Sources.{collected, part}
+use Rattle.turns.specs.Expo.{with_normal_keys}
+use Rattle.closed_forms.specs.Sources.{collect_terms, part}
 use Rattle.closed_forms.specs.Sums.{IsPastMix}
 use Rattle.closed_forms.specs.Values.{IsExpoOver}
 use Rattle.closed_forms.proofs.Chaining.{variables_next, row_past}
@@ -52,6 +52,7 @@ loop-row-preserved c =
           c.loop-row.invariant.1 (normal_over bs _ m _ e arity c.in_ok-normal.ensures.normal)),
       variables_next bs forms c.args.back.now c.loop-row.row-index c.row-item.result out
           c.push.new.self.items e c.loop-row-test.true c.row-item.is more
-          (c.in_ok-normal.ensures.normal.terms ∙ ap (λ q. collected (normalized (length bs) q))
+          (c.in_ok-normal.ensures.normal.terms
+          ∙ ap (λ q. collect_terms (with_normal_keys (length bs) q))
           sum_is) c.loop-row.invariant.2,
     )

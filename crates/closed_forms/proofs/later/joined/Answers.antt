@@ -12,9 +12,10 @@ use Rattle.coprime_base.specs.Sizes.{sizes}
 use Rattle.turns.specs.Turns.{width}
 use Rattle.expo.specs.Operations.{vars_of}
 use Rattle.expo.specs.Powers.{key_of_power}
-use Rattle.closed_forms.specs.Later.{grown}
-use Rattle.closed_forms.specs.Sources.{collected}
-use Rattle.closed_forms.proofs.Joining.{wide_poly, over_normal}
+use Rattle.closed_forms.specs.Later.{with_powers}
+use Rattle.closed_forms.specs.Sources.{collect_terms}
+use Rattle.expo.proofs.Solved.{handed_on}
+use Rattle.closed_forms.proofs.Joining.{over_normal}
 use Rattle.closed_forms.proofs.LaterForms.{together-arity, joined_is}
 use Rattle.closed_forms.proofs.Making.{poly_is}
 use Rattle.closed_forms.proofs.Mixing.{tell, all_arity, if_ok_where}
@@ -61,13 +62,13 @@ module _ (c : After-arity) where
       let a = c.arity.ensures.arity in
       omega (arith, n, a)
 
-  all_is : all ≡ grown (key_of_power c.args.own.now) start ++ sum
+  all_is : all ≡ with_powers (key_of_power c.args.own.now) start ++ sum
   all_is =
       let x = key_of_power c.args.own.now in
       c.in_ok-push_copies.ensures.terms
       ∙ ap₂ (λ a (ts : List (Term Frac)). a ++ tell ts)
       (c.in_ok-push_grown.ensures.terms
-      ∙ ap₂ (λ (none ts : List (Term Frac)). tell none ++ grown x (tell ts))
+      ∙ ap₂ (λ (none ts : List (Term Frac)). tell none ++ with_powers x (tell ts))
       c.new-terms.ensures.items
       (c.deref.ensures.value ∙ ap (λ v. v.items) c.terms.ensures))
       (c.deref-2.ensures.value ∙ ap (λ v. v.items) c.terms-2.ensures
@@ -88,7 +89,7 @@ from_terms-requires-clause-arities c =
 pub returns-in_err-body-clause-wide : goal.returns-in_err-body-clause-wide
 returns-in_err-body-clause-wide c =
     let at = (goal.at.returns-in_err-body-clause-wide c).After-arity in
-    wide_poly c.in_err-body.field-0.0 c.from_residual-in_err-body.result
+    handed_on c.in_err-body.field-0.0 c.from_residual-in_err-body.result
     c.from_residual-in_err-body.ensures.1
     (λ x. inl (subst (λ p. IsPast (weight fraction_size p)) (all_is at)
     (c.in_err-body.ensures.wide x)))
@@ -113,5 +114,5 @@ returns-clause-wide c =
     let i = c.in_ok-body.ensures.sum in
     let made = poly_is (width (length (bs at)) (m at)) c.in_ok-body.body (all at) (long at)
     (i.arity ∙ width_is at) i.same in
-    λ x. inr (subst (λ p. IsPast (weight fraction_size p)) (made ∙ ap collected (all_is at))
+    λ x. inr (subst (λ p. IsPast (weight fraction_size p)) (made ∙ ap collect_terms (all_is at))
     (c.normal.ensures.wide x))

@@ -13,7 +13,6 @@ use Rattle.expo.specs.Powers.{number_of}
 use Rattle.expo.proofs.Solved.{handed_on}
 use Rattle.closed_forms.specs.Later.{term_past, terms_past, normal_past}
 use Rattle.closed_forms.specs.Solved.{AreSolved}
-use Rattle.closed_forms.proofs.Joining.{wide_poly}
 use Rattle.closed_forms.proofs.LaterForms.{solved_all, sum_is}
 use Rattle.closed_forms.proofs.Making.{poly_is, normal_over, room_before}
 use Rattle.closed_forms.proofs.Mixing.{tell, all_arity, arity_all, if_ok_where}
@@ -66,7 +65,7 @@ from_terms-requires-clause-arities c =
 pub returns-in_err-sum-clause-wide : goal.returns-in_err-sum-clause-wide
 returns-in_err-sum-clause-wide c =
     let at = (goal.at.returns-in_err-sum-clause-wide c).After-len in
-    wide_poly c.in_err-sum.field-0.0 c.from_residual-in_err-sum.result
+    handed_on c.in_err-sum.field-0.0 c.from_residual-in_err-sum.result
     c.from_residual-in_err-sum.ensures.1
     (λ x. terms_past (all at) (are at) (c.in_err-sum.ensures.wide x))
 

@@ -29,9 +29,9 @@ returns-clause-start c =
     (λ p a e. start_is (sizes sum.base.items) there.arity (fraction_of c.args.value.now)
     c.args.turns there c.in_ok-at.at p (terms_in sum.body) (fractions_of c.deref.result.now)
     c.deref-2.result.now (fraction_of c.in_ok-factor.factor)
-    (fraction_of c.in_ok-opposite.opposite)
+    (fraction_of c.neg-opposite.result)
     (c.in_ok-factor.ensures.ok ∙ ap (λ x. power ℚ x c.args.turns) c.reciprocal.ensures)
-    c.in_ok-opposite.ensures
+    c.neg-opposite.ensures
     (ap fractions_of (c.deref.ensures.value ∙ c.in_ok-numbers.ensures.items))
     (c.deref-2.ensures.value ∙ c.in_ok-polys.ensures.items)
     (a ∙ c.arity-arity.ensures.arity)
@@ -55,9 +55,9 @@ returns-clause-wide c =
     (terms_in there ∷ q ∷ [])) at_is
     (start_lists bs there.arity (fraction_of c.args.value.now) c.args.turns there at there
     (terms_in sum.body) (fractions_of c.deref.result.now) c.deref-2.result.now
-    (fraction_of c.in_ok-factor.factor) (fraction_of c.in_ok-opposite.opposite)
+    (fraction_of c.in_ok-factor.factor) (fraction_of c.neg-opposite.result)
     (c.in_ok-factor.ensures.ok ∙ ap (λ x. power ℚ x c.args.turns) c.reciprocal.ensures)
-    c.in_ok-opposite.ensures
+    c.neg-opposite.ensures
     (ap fractions_of (c.deref.ensures.value ∙ c.in_ok-numbers.ensures.items))
     (c.deref-2.ensures.value ∙ c.in_ok-polys.ensures.items) IsPastMix
     (c.weighted_sum.ensures.wide w)))

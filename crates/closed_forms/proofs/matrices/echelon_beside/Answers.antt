@@ -30,7 +30,7 @@ returns-in-Err-Wide-clause-wide c = λ h.
 pub loop-place-preserved : goal.loop-place-preserved
 loop-place-preserved c =
     let n = length c.args.forms.now in (
-      c.in-Ok-add_row.ensures.width ∙ c.loop-place.invariant.0,
+      c.in-Ok.ensures.width ∙ c.loop-place.invariant.0,
       echelon_next n c.args.forms.now c.loop-place.place c.index-forms-place.result
           c.in_ok-row.row.items c.add_row.new.self.rows c.loop-place-test.true
           c.index-forms-place.is
@@ -40,7 +40,7 @@ loop-place-preserved c =
           IsEchelonOf w (beside n 0 (rows_of (take c.loop-place.place c.args.forms.now))
           ++ fractions_of c.in_ok-row.row.items ∷ []) c.add_row.new.self.rows)
           c.loop-place.invariant.0
-          (c.in-Ok-add_row.ensures.rows
+          (c.in-Ok.ensures.rows
           (beside n 0 (rows_of (take c.loop-place.place c.args.forms.now)))
           (subst (λ w.
           IsEchelonOf w (beside n 0 (rows_of (take c.loop-place.place c.args.forms.now)))

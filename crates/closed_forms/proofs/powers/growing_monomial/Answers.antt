@@ -8,8 +8,10 @@ use Rattle.closed_forms.proofs.powers.growing_monomial.Goals as goal
 pub behind_power-requires-clause-few : goal.behind_power-requires-clause-few
 behind_power-requires-clause-few c = omega (arith, c.in_ok-unit.ensures.arity, c.requires.few)
 
-pub returns-clause-ok : goal.returns-clause-ok
-returns-clause-ok c = IfOk-weaker c.behind_power.result _ _
-    (λ mono e. e ∙ ap (with_key 0 (key_of_power c.args.own.now))
-    (unit_is c.args.vars c.args.variable c.in_ok-unit.unit c.requires.variable
-    c.in_ok-unit.ensures.ok)) c.behind_power.ensures.ok
+pub returns : goal.returns
+returns c = record {
+  ok = IfOk-weaker c.behind_power.result _ _
+      (λ mono e. e ∙ ap (with_key 0 (key_of_power c.args.own.now))
+      (unit_is c.args.vars c.args.variable c.in_ok-unit.unit c.requires.variable
+      c.in_ok-unit.ensures.ok)) c.behind_power.ensures.ok;
+}

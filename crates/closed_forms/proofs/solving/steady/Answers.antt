@@ -1,5 +1,6 @@
 use Rattle.std.proofs.Common.{◌≡◌, ◌+◌, ◌*◌, length, refl, ap, sym, ◌∙◌, arith}
 use Rattle.std.proofs.lemmas.List.{length-map, length-drop, length-replicate}
+use Rattle.std.proofs.lemmas.Result.{IfOk-weaker}
 use Rattle.frac128.specs.FracMeaning.{fraction_of}
 use Rattle.frac128.specs.declared.fraction.Frac.{Frac}
 use Rattle.poly.specs.View.{term_of}
@@ -34,8 +35,8 @@ concat-requires c =
       c.requires.width,
     )
 
-pub from_terms-requires-clause-arities : goal.from_terms-requires-clause-arities
-from_terms-requires-clause-arities c =
+pub from_distinct-requires-clause-arities : goal.from_distinct-requires-clause-arities
+from_distinct-requires-clause-arities c =
     let bs = sizes c.args.base.now in
     let e = c.args.term.now.mono in
     let n : length (sizes c.args.base.now) ≡ length c.args.base.now =
@@ -47,6 +48,15 @@ from_terms-requires-clause-arities c =
     c.in_ok-terms.ensures.items (ap length is ∙ still_long (length bs) e c.requires.width
     ∙ sym c.arity-arity.ensures.arity)
 
+pub from_distinct-requires-clause-distinct : goal.from_distinct-requires-clause-distinct
+from_distinct-requires-clause-distinct c =
+    let n = ap length c.in_ok-terms.ensures.items in
+    λ i j d l g. absurd (omega (arith, n, l, g))
+
+pub returns-clause-arity : goal.returns-clause-arity
+returns-clause-arity c = IfOk-weaker c.from_distinct.result _ _
+    (λ p i. i.arity ∙ c.arity-arity.ensures.arity) c.from_distinct.ensures
+
 pub returns-clause-terms : goal.returns-clause-terms
 returns-clause-terms c =
     let bs = sizes c.args.base.now in
@@ -56,9 +66,9 @@ returns-clause-terms c =
     let first : 2 + 2 * length c.args.base.now ≡ width (length bs) 0 = omega (arith, n) in
     let is = still_made (length bs) (2 + 2 * length c.args.base.now) t.0 _ _ c.in_ok-mono.mono first
     c.in_ok-one.ensures.ok c.in_ok-variables.ensures.ok c.in_ok-mono.ensures.ok in
-    let i = c.in_ok-from_terms.ensures.sum in
-    steady_is bs t (length t.0) c.in_ok-from_terms.field-0 c.in_ok-mono.mono
+    IfOk-weaker c.from_distinct.result _ _
+    (λ p i. steady_is bs t (length t.0) p c.in_ok-mono.mono
     (fraction_of c.args.term.now.coef) (tell c.in_ok-terms.terms.items)
     (ap tell c.in_ok-terms.ensures.items)
     is refl (ap length is ∙ still_long (length bs) t.0 c.requires.width) (i.arity
-    ∙ c.arity-arity.ensures.arity) i.same
+    ∙ c.arity-arity.ensures.arity) i.same) c.from_distinct.ensures

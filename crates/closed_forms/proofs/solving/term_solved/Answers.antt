@@ -1,5 +1,6 @@
 use Rattle.std.proofs.Common.{◌≡◌, ◌≤◌, ℕ, List, length, ap, sym, subst, ◌∙◌, arith}
 use Rattle.std.proofs.lemmas.List.{length-map}
+use Rattle.std.proofs.lemmas.Result.{IfOk-weaker}
 use Rattle.numbers.specs.Fraction.{Fraction}
 use Rattle.exponentials.specs.Keys.{key_of, IsNormalKey}
 use Rattle.frac128.specs.FracMeaning.{fraction_of}
@@ -15,7 +16,7 @@ use Rattle.closed_forms.specs.Solved.{steady, IsKeySolution}
 use Rattle.closed_forms.specs.Values.{IsExpoOver}
 use Rattle.expo.proofs.Solved.{handed_on}
 use Rattle.expo.proofs.Stepping.{top_at}
-use Rattle.closed_forms.proofs.Joining.{wide_poly, over_arity, tabled_over, key_solution, term_past, product_past}
+use Rattle.closed_forms.proofs.Joining.{over_arity, tabled_over, key_solution, term_past, product_past}
 use Rattle.closed_forms.proofs.Making.{product_is}
 use Rattle.closed_forms.proofs.solving.term_solved.Goals as goal
 use Rattle.closed_forms.proofs.solving.term_solved.Goals.{After-body}
@@ -100,18 +101,16 @@ mul-requires-clause-arity c = solution_arity (goal.at.mul-requires-clause-arity 
 pub returns-clause-solved : goal.returns-clause-solved
 returns-clause-solved c =
     let at = (goal.at.returns-clause-solved c).After-body in
-    let i = c.in_ok-mul.ensures.product in
-    product_is (sizes c.args.base.now.items) c.args.vars (t at)
+    IfOk-weaker c.mul.result _ _
+    (λ p i. product_is (sizes c.args.base.now.items) c.args.vars (t at)
     (number_of (sizes c.args.base.now.items) c.args.own.now) c.body.result.now c.in_ok-rest.rest
-    c.in_ok-mul.field-0 (solution_arity at) (c.in_ok-rest.ensures.arity ∙ c.requires.arity)
-    i.arity (solution_is at) (rest_is at) i.same
+    p (solution_arity at) (c.in_ok-rest.ensures.arity ∙ c.requires.arity)
+    i.arity (solution_is at) (rest_is at) i.same) c.mul.ensures.product
 
-pub returns-in_err-mul-clause-wide : goal.returns-in_err-mul-clause-wide
-returns-in_err-mul-clause-wide c =
-    let at = (goal.at.returns-in_err-mul-clause-wide c).After-body in
-    wide_poly c.in_err-mul.field-0.0 c.from_residual-in_err-mul.result
-    c.from_residual-in_err-mul.ensures.1
-    (λ x. product_past (sizes c.args.base.now.items) c.args.vars
+pub returns-clause-wide : goal.returns-clause-wide
+returns-clause-wide c =
+    let at = (goal.at.returns-clause-wide c).After-body in
+    λ w. product_past (sizes c.args.base.now.items) c.args.vars
     (number_of (sizes c.args.base.now.items) c.args.own.now) (t at)
     (terms_in c.body.result.now) (terms_in c.in_ok-rest.rest) (solution_is at) (rest_is at)
-    (c.in_err-mul.ensures.wide x))
+    (c.mul.ensures.wide w)

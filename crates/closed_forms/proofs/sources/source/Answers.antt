@@ -7,12 +7,13 @@ use Rattle.linear.specs.Rows.{fractions_of, rows_of}
 use Rattle.poly.specs.Seen.{terms_in, terms_each}
 use Rattle.coprime_base.specs.Sizes.{sizes}
 use Rattle.solvable.proofs.Using.{FracPoly}
-use Rattle.closed_forms.specs.Setting.{variables_over, moved_of}
+use Rattle.closed_forms.specs.ClassSetting.{variables_over, moved_of}
 use Rattle.closed_forms.specs.Sources.{part}
 use Rattle.closed_forms.specs.Sources as past
+use Rattle.expo.proofs.Outcomes.{wide_of}
 use Rattle.closed_forms.proofs.Making.{normal_over, room_before, source_is, sum_is}
 use Rattle.expo.proofs.Solved.{handed_on}
-use Rattle.closed_forms.proofs.Mixing.{if_ok_where, wide_of}
+use Rattle.closed_forms.proofs.Mixing.{if_ok_where}
 use Rattle.closed_forms.proofs.sources.source.Goals as goal
 use Rattle.closed_forms.proofs.sources.source.Goals.{In_ok-moved}
 

@@ -3,8 +3,8 @@ use Rattle.std.proofs.lemmas.List.{take_all}
 use Rattle.poly.specs.Seen.{terms_each}
 use Rattle.rings.proofs.Lists.{have_more}
 use Rattle.solvable.proofs.Using.{FracPoly}
+use Rattle.expo.proofs.Solved.{handed_on}
 use Rattle.closed_forms.proofs.Making.{arity_of_is, over_images}
-use Rattle.closed_forms.proofs.Joining.{wide_poly}
 use Rattle.closed_forms.proofs.StateLists.{image_next, images_all, past_image}
 use Rattle.closed_forms.proofs.states.next_state.Goals as goal
 
@@ -35,7 +35,7 @@ returns-clause-terms c =
 
 pub returns-in_err-compose-clause-wide : goal.returns-in_err-compose-clause-wide
 returns-in_err-compose-clause-wide c =
-    wide_poly c.in_err-compose.field-0.0 c.from_residual.result c.from_residual.ensures.1
+    handed_on c.in_err-compose.field-0.0 c.from_residual.result c.from_residual.ensures.1
     (λ w. past_image c.args.images.now (terms_each c.args.state.now.items)
     c.loop-image.image-index c.image-item.result c.loop-image-test.true c.image-item.is
     (c.in_err-compose.ensures.wide w))

@@ -1,4 +1,5 @@
 use Rattle.std.proofs.Common.{◌++◌, ap, sym, subst, ◌∙◌}
+use Rattle.std.proofs.lemmas.Result.{IfOk-weaker}
 use Rattle.polynomials.specs.Polynomial.{Arity}
 use Rattle.linear.specs.Rows.{fractions_of}
 use Rattle.poly.specs.Seen.{terms_each}
@@ -18,10 +19,10 @@ from_terms-requires-clause-arities c =
 
 pub returns-clause-terms : goal.returns-clause-terms
 returns-clause-terms c =
-    let i = c.in_ok-from_terms.ensures.sum in
-    part_is c.args.arity (fractions_of c.args.numbers.now) c.args.polys.now
-    (tell c.push_mixed.new.out.items) c.in_ok-from_terms.field-0 c.requires.arities
+    IfOk-weaker c.from_terms.result _ _
+    (λ p i. part_is c.args.arity (fractions_of c.args.numbers.now) c.args.polys.now
+    (tell c.push_mixed.new.out.items) p c.requires.arities
     (c.in_ok-push_mixed.ensures.terms
     ∙ ap (λ l. tell l ++ mix (fractions_of c.args.numbers.now) (terms_each c.args.polys.now))
     c.new-terms.ensures.items)
-    i.arity i.same
+    i.arity i.same) c.from_terms.ensures.sum

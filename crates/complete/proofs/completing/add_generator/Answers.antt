@@ -1,7 +1,6 @@
 use Rattle.std.proofs.Common.{ap, ◌∙◌, refl}
 use Rattle.numbers.specs.Scalars.{field}
 use Rattle.poly.specs.Seen.{terms_in}
-use Rattle.std.proofs.lemmas.Result.{on_ok_weaker}
 use Rattle.machines.specs.Completion.{with_element}
 use Rattle.complete.specs.Completing.{state_of}
 use Rattle.complete.proofs.Coming.{generator_zero, generator_some, degree_is}
@@ -19,8 +18,7 @@ returns-clause-ok g c =
     let p = terms_in c.args.g.now in
     let s = state_of c.args.state.now in
     let m = terms_in c.in_ok-monic.monic in
-    on_ok_weaker c.add_element.result (λ e. e
+    c.in_ok-add_element.ensures.element
     ∙ ap (λ n. with_element F O s m n) (degree_is c.in-Some.degree p c.in-Some.ensures.some)
     ∙ generator_some F O p m s (λ z. (let q = c.in-Some.ensures.none.1 z in
-    absurd (let f : ⊥ = cc in f))) c.in_ok-monic.ensures.monic)
-    c.add_element.ensures.element
+    absurd (let f : ⊥ = cc in f))) c.in_ok-monic.ensures.monic

@@ -16,7 +16,7 @@ use Rattle.machines.proofs.Working.{falls, turned_on, turned_off}
 use Rattle.poly.specs.Seen.{terms_in, terms_each}
 use Rattle.divide.proofs.Ended.{places_of}
 use Rattle.divide.proofs.OneCut.{along}
-use Rattle.divide.proofs.Refused.{unmade_list, step_refused}
+use Rattle.divide.proofs.Refused.{unmade, step_refused}
 use Rattle.complete.specs.Completing.{state_of, completion_of}
 use Rattle.machines.proofs.Units.{units_within}
 use Rattle.complete.proofs.Like.{fits_along}
@@ -31,9 +31,8 @@ completes g c o = machines.completion g.K.Ring.scalars (g.O.Order.order o)
     (terms_each c.args.gens.now)
 
 pub returns-in_err-state-clause-ran : goal.returns-in_err-state-clause-ran
-returns-in_err-state-clause-ran g c = unmade_list (completion_of c.args.order c.args.gens.now)
+returns-in_err-state-clause-ran g c = unmade (completion_of c.args.order c.args.gens.now)
     c.from_residual.result _ c.from_residual.ensures.1 c.in_err-state.ensures.wide
-    c.in_err-state.ensures.unmetered
 
 pub loop-state-init : goal.loop-state-init
 loop-state-init g c = (

@@ -3,13 +3,13 @@ use Rattle.numbers.specs.Scalars.{field}
 use Rattle.machines.specs.Journal.{units_of}
 use Rattle.machines.proofs.Going.{Going}
 use Rattle.machines.proofs.Measures.{open_}
-use Rattle.complete.specs.Completing.{state_of, Fits, completion_of}
+use Rattle.complete.specs.Completing.{state_of, FitsCompletion, completion_of}
 use Rattle.complete.specs.Pairs.{IsTold}
 use Rattle.complete.proofs.completing.complete_in.Given as goal
 
 abbrev pub invariant-loop-state : goal.invariant-loop-state
 invariant-loop-state g l =
-    Fits l.fn.order l.arity l.state × (units_of l.meter.entries ≤ l.meter.limit)
+    FitsCompletion l.fn.order l.arity l.state × (units_of l.meter.entries ≤ l.meter.limit)
     × (l.meter.limit ≤ 2 ^ 28) × Going (completion_of l.fn.order l.gens) l.initial.meter l.meter
     (state_of l.state) × IsTold l.state.queue
 

@@ -6,11 +6,11 @@ use Rattle.machines.specs.Completion.{next, with_element}
 use Rattle.machines.specs.Cut.{after_cut, find_cut, all_places, monic}
 use Rattle.machines.specs.Event.{Keep, Zero}
 use Rattle.machines.specs.Past.{IsPastCompletion, IsPastMonic, IsPastReduction}
-use Rattle.machines.specs.Work.{Turned, StoppedAt}
+use Rattle.machines.specs.Work.{StepOrEnd, StoppedAt}
 use Rattle.machines.proofs.Working.{step_of}
 use Rattle.divide.specs.Current.{left_of, Cancels, IsCurrent}
 use Rattle.divide.proofs.Divided.{no_true, wide_of, budget_of}
-use Rattle.complete.specs.Pairs.{pair_of, queued}
+use Rattle.complete.specs.Pairs.{pair_of, waiting_pairs}
 use Rattle.complete.specs.Completing.{state_of, current_of}
 use Rattle.complete.proofs.Coming.{now, cut_comes, zero_comes, keep_comes, cut_past, keep_past, known}
 use Rattle.complete.proofs.Like.{fits_idle, fits_with}
@@ -26,7 +26,7 @@ same : (g : Over) (c : In_default g)
     → state_of (record c.args.state.now { current = c.take.new.self }) ≡ state_of c.args.state.now
 same g c = let s = c.args.state.now in
     ap (λ o. now (terms_each s.basis.items) s.sugars.items s.pair_sugar
-    (map pair_of (queued s.queue)) (current_of o)) (idle g c)
+    (map pair_of (waiting_pairs s.queue)) (current_of o)) (idle g c)
 
 pub take_pair-requires-clause-fits : goal.take_pair-requires-clause-fits
 take_pair-requires-clause-fits g c =
@@ -36,7 +36,7 @@ pub returns-in_default-clause-ok : goal.returns-in_default-clause-ok
 returns-in_default-clause-ok g c =
     let at = (goal.at.returns-in_default-clause-ok g c).In_default in
     let O = g.O.Order.order c.args.state.now.order in
-    subst (λ s. IfOk c.take_pair.result (λ b. Turned (next (field g.K.Ring.scalars) O) s
+    subst (λ s. IfOk c.take_pair.result (λ b. StepOrEnd (next (field g.K.Ring.scalars) O) s
     (state_of c.take_pair.new.state) c.args.meter.now c.take_pair.new.meter b)) (same g at)
     c.take_pair.ensures.ok
 
@@ -75,7 +75,7 @@ returns-in_err-cut-clause-wide g c =
     let s = c.args.state.now in
     let F = field g.K.Ring.scalars in
     λ w. cut_past g.K.Ring.scalars (g.O.Order.order s.order) (terms_each s.basis.items)
-    s.sugars.items s.pair_sugar (map pair_of (queued s.queue)) (current_of s.current)
+    s.sugars.items s.pair_sugar (map pair_of (waiting_pairs s.queue)) (current_of s.current)
     (left_of c.in-Some.current) (ap current_of (was g at))
     (subst (λ l. IsPastReduction g.K.Ring.scalars F (terms_each l) (left_of c.in-Some.current))
     c.deref.ensures.value
@@ -95,7 +95,7 @@ returns-in_err-note-clause-budget g c =
       event = _;
       following = _;
       comes = cut_comes g.K.Ring.scalars (g.O.Order.order s.order) (terms_each s.basis.items)
-          s.sugars.items s.pair_sugar (map pair_of (queued s.queue)) (current_of s.current)
+          s.sugars.items s.pair_sugar (map pair_of (waiting_pairs s.queue)) (current_of s.current)
           (left_of p) (ap current_of (was g at)) t.cutting _ _ t.found refl refl;
       unit = refl;
       spent = (c.in_err-note.ensures.budget.0
@@ -117,7 +117,7 @@ returns-in-Some-2-clause-ok g c =
     step_of (next (field g.K.Ring.scalars) (g.O.Order.order s.order)) (state_of s) _
     c.args.meter.now c.note.new.self _
     (cut_comes g.K.Ring.scalars (g.O.Order.order s.order) (terms_each s.basis.items) s.sugars.items
-    s.pair_sugar (map pair_of (queued s.queue)) (current_of s.current) (left_of p)
+    s.pair_sugar (map pair_of (waiting_pairs s.queue)) (current_of s.current) (left_of p)
     (ap current_of (was g at)) t.cutting (left_of q) c.in-Some-2.cut.element t.found
     t.element left)
     c.in_ok-note.ensures.ok c.in_ok-note.ensures.within
@@ -149,13 +149,13 @@ returns-then-is_zero-clause-ok g c =
     step_of (next (field g.K.Ring.scalars) (g.O.Order.order s.order)) (state_of s) _
     c.args.meter.now c.note-then-is_zero.new.self _
     (zero_comes g.K.Ring.scalars (g.O.Order.order s.order) (terms_each s.basis.items) s.sugars.items
-    s.pair_sugar (map pair_of (queued s.queue)) (current_of s.current)
+    s.pair_sugar (map pair_of (waiting_pairs s.queue)) (current_of s.current)
     (left_of c.in-Some.current) (ap current_of (was g at.In-Some))
     (sym (stays g at.In_default-2).1 ∙ c.if-is_zero.ensures.0 refl)
     ∙ ap (λ o. Some (
       Zero,
       now (terms_each s.basis.items) s.sugars.items s.pair_sugar
-          (map pair_of (queued s.queue)) (current_of o),
+          (map pair_of (waiting_pairs s.queue)) (current_of o),
     )) (sym c.in-Some.ensures.after))
     c.in_ok-note-2.ensures.ok c.in_ok-note-2.ensures.within
 
@@ -170,12 +170,6 @@ pub made_monic-requires : goal.made_monic-requires
 made_monic-requires g c =
     λ e. no_true (c.if-is_zero.ensures.1 (sym c.in_ok-into_poly.ensures.terms ∙ e))
 
-pub returns-in_err-into_poly-clause-wide : goal.returns-in_err-into_poly-clause-wide
-returns-in_err-into_poly-clause-wide g c =
-    λ w. absurd (c.in_err-into_poly.ensures.narrow
-    (cc (wide_of c.from_residual-in_err-into_poly.result c.in_err-into_poly.field-0.0
-    c.from_residual-in_err-into_poly.ensures.1 w)))
-
 pub returns-in_err-monic-clause-wide : goal.returns-in_err-monic-clause-wide
 returns-in_err-monic-clause-wide g c =
     let at = goal.at.returns-in_err-monic-clause-wide g c in
@@ -183,7 +177,7 @@ returns-in_err-monic-clause-wide g c =
     let s = c.args.state.now in
     let F = field g.K.Ring.scalars in
     λ w. keep_past g.K.Ring.scalars (g.O.Order.order s.order) (terms_each s.basis.items)
-    s.sugars.items s.pair_sugar (map pair_of (queued s.queue)) (current_of s.current)
+    s.sugars.items s.pair_sugar (map pair_of (waiting_pairs s.queue)) (current_of s.current)
     (left_of c.in-Some.current) (ap current_of (was g at.In-Some)) left.0
     (subst (IsPastMonic g.K.Ring.scalars F) (c.in_ok-into_poly.ensures.terms ∙ left.1)
     (c.in_err-monic.ensures.wide (cc (wide_of c.from_residual-in_err-monic.result
@@ -216,11 +210,11 @@ returns-clause-ok g c =
     let v = current_of c.take.new.self in
     let element = c.in_ok-add_element.ensures.element
     ∙ ap (λ m. with_element F O (now (terms_each s.basis.items) s.sugars.items s.pair_sugar
-    (map pair_of (queued s.queue)) v) m s.pair_sugar) (c.in_ok-monic.ensures.monic
+    (map pair_of (waiting_pairs s.queue)) v) m s.pair_sugar) (c.in_ok-monic.ensures.monic
     ∙ ap (monic F) (c.in_ok-into_poly.ensures.terms ∙ left.1)) in
     step_of (next F O) (state_of s) _ c.args.meter.now c.note-2.new.self _
     (keep_comes g.K.Ring.scalars O (terms_each s.basis.items) s.sugars.items s.pair_sugar
-    (map pair_of (queued s.queue)) (current_of s.current) (left_of p)
+    (map pair_of (waiting_pairs s.queue)) (current_of s.current) (left_of p)
     (ap current_of (was g at.In-Some)) v left.0
     (λ e. no_true (c.if-is_zero.ensures.1 (left.1 ∙ e)))
     ∙ ap (λ t. Some (Keep, t)) (sym element))

@@ -5,13 +5,13 @@ use Rattle.numbers.specs.Scalars.{field}
 use Rattle.machines.specs.Completion.{next}
 use Rattle.machines.specs.Cut.{lead_of}
 use Rattle.machines.specs.Event.{Pair}
-use Rattle.machines.specs.Pairs.{multiple, settled}
+use Rattle.machines.specs.Pairs.{multiple, skip_covered}
 use Rattle.machines.proofs.Working.{step_of}
 use Rattle.poly.specs.Seen.{terms_in, terms_each}
 use Rattle.divide.proofs.Divided.{wide_of, budget_of}
 use Rattle.divide.proofs.OneCut.{along, leads_long}
 use Rattle.complete.specs.declared.pair.Parts.{Parts}
-use Rattle.complete.specs.Pairs.{pair_of, rows_of, queued, keys, Stands, AllStand, HasSugar}
+use Rattle.complete.specs.Pairs.{pair_of, rows_of, waiting_pairs, keys, Stands, AllStand, HasSugar}
 use Rattle.complete.specs.Completing.{state_of, current_of, IsSmall}
 use Rattle.complete.proofs.Coming.{now, pair_comes, none_comes, pair_past, pair_weight, s_polynomial_is}
 use Rattle.complete.proofs.Made.{collected_along}
@@ -44,15 +44,15 @@ covered_count-covered-requires-clause-long g c =
 pub returns-in_default-clause-ok : goal.returns-in_default-clause-ok
 returns-in_default-clause-ok g c =
     let s = c.args.state.now in
-    let settled = settled_from s.queue.pairs.items c.deref.result.now s.leads.items
+    let skip_covered = settled_from s.queue.pairs.items c.deref.result.now s.leads.items
     c.deref-2.result.now s.queue.taken c.covered_count-covered.result c.deref.ensures.value
     c.deref-2.ensures.value c.covered_count-covered.ensures.settled in
     let out = subst (λ xs. length xs ≤ s.queue.taken + c.covered_count-covered.result)
     c.deref-3.ensures.value c.in_default.ensures.lookup.3 in (
       none_comes g.K.Ring.scalars (g.O.Order.order s.order) (terms_each s.basis.items)
-          s.sugars.items s.pair_sugar (map pair_of (queued s.queue)) s.leads.items
+          s.sugars.items s.pair_sugar (map pair_of (waiting_pairs s.queue)) s.leads.items
           c.requires.fits.leads (current_of s.current) (ap current_of c.requires.idle)
-          (settled ∙ seen_end pair_of s.queue.pairs.items (s.queue.taken
+          (skip_covered ∙ seen_end pair_of s.queue.pairs.items (s.queue.taken
           + c.covered_count-covered.result) out),
       refl,
       refl,
@@ -176,7 +176,7 @@ s_polynomial-requires g c =
 
 -- ---- what comes next
 next_pair : (g : Over) (c : In-Some g)
-    → settled c.args.state.now.leads.items
+    → skip_covered c.args.state.now.leads.items
     (map pair_of (drop c.args.state.now.queue.taken c.args.state.now.queue.pairs.items))
     ≡ pair_of c.in-Some.pair.now
     ∷ map pair_of (drop (c.args.state.now.queue.taken + c.covered_count-covered.result + 1)
@@ -210,7 +210,7 @@ comes g c =
     let s = c.args.state.now in
     let O = g.O.Order.order s.order in
     let gs = terms_each s.basis.items in
-    let w = map pair_of (queued s.queue) in
+    let w = map pair_of (waiting_pairs s.queue) in
     let a = c.in-Some.pair.now in
     let later = map pair_of (drop (s.queue.taken + c.covered_count-covered.result + 1)
     s.queue.pairs.items) in
@@ -241,7 +241,7 @@ returns-in_err-p-clause-wide g c =
     let s = c.args.state.now in
     let O = g.O.Order.order s.order in
     let gs = terms_each s.basis.items in
-    let w = map pair_of (queued s.queue) in
+    let w = map pair_of (waiting_pairs s.queue) in
     let a = c.in-Some.pair.now in
     let at = (goal.at.returns-in_err-p-clause-wide g c).After-index-second in
     let pair = (goal.at.returns-in_err-p-clause-wide g c).In-Some in

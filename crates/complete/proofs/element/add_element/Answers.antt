@@ -7,7 +7,7 @@ use Rattle.machines.specs.Cut.{lead_of}
 use Rattle.machines.specs.Pairs.{mixes_degrees, with_new}
 use Rattle.monos.specs.Variables.{most_variables}
 use Rattle.poly.specs.Seen.{terms_in, terms_each}
-use Rattle.complete.specs.Pairs.{pair_of, queued, HasRoom, IsQueue}
+use Rattle.complete.specs.Pairs.{pair_of, waiting_pairs, HasRoom, IsQueue}
 use Rattle.complete.specs.Completing.{current_of, IsSmall}
 use Rattle.divide.proofs.Divided.{pushed}
 use Rattle.divide.proofs.OneCut.{along, lead_long, leads_long}
@@ -69,12 +69,12 @@ pub returns-clause-element : goal.returns-clause-element
 returns-clause-element g c =
     let s = c.args.state.now in
     let O = g.O.Order.order s.order in
-    let w = map pair_of (queued s.queue) in
+    let w = map pair_of (waiting_pairs s.queue) in
     let ls = c.deref.result.now in
     let d = c.in_ok-lead.lead in
     element_is (field g.K.Ring.scalars) O (terms_each s.basis.items)
     (terms_each c.push-3.new.self.items) s.sugars.items c.push-2.new.self.items w
-    (map pair_of (queued c.add_pairs.new.queue)) (current_of s.current) (terms_in c.args.g)
+    (map pair_of (waiting_pairs c.add_pairs.new.queue)) (current_of s.current) (terms_in c.args.g)
     c.args.sugar s.pair_sugar
     ls d (c.deref.ensures.value ∙ c.requires.fits.leads) c.in_ok-lead.ensures.lead
     (pushed terms_in s.basis.items c.push-3.new.self.items c.args.g

@@ -1,4 +1,6 @@
-use Rattle.std.proofs.Common.{◌≡◌, ◌∷◌, map, drop, length, refl, sym, ap, subst, ◌∙◌}
+use Rattle.std.proofs.Common.{◌≡◌, ◌∷◌, Result, Ok, Err, map, drop, length, refl, sym, ap, subst, ◌∙◌}
+use Rattle.std.specs.Result.{IfOk}
+use Rattle.std.proofs.lemmas.Result.{IfOk-weaker}
 use Rattle.polynomials.specs.Exponent.{Divides}
 use Rattle.poly.specs.Seen.{terms_in}
 use Rattle.poly.specs.View.{term_of}
@@ -31,10 +33,21 @@ quotient-requires-clause-divides g c =
     (lead_is _ _ _ (lead_seen g (goal.at.quotient-requires-clause-divides g c).In-Some))
     c.requires.divided
 
-pub returns-in-Ok-clause-quotient : goal.returns-in-Ok-clause-quotient
-returns-in-Ok-clause-quotient g c =
+-- what follows from two facts of a result
+both : {X E : Type 0} (P Q R : X → Type 0) → ((x : X) → P x → Q x → R x) → (r : Result X E)
+    → IfOk r P → IfOk r Q → IfOk r R
+both P Q R f (Ok x) p q = f x p q
+both P Q R f (Err e) p q = tt
+
+pub returns-clause-quotient : goal.returns-clause-quotient
+returns-clause-quotient g c =
     let S = g.K.Ring.scalars in
-    let at = (goal.at.returns-in-Ok-clause-quotient g c).In-Some in
+    let at = (goal.at.returns-clause-quotient g c).In-Some in
     let f = terms_in c.args.f.now in
-    factor_is S f f _ (c.args.multiple.now, S.zero) _ (c.args.multiple.now, S.zero)
-    (lead_seen g at) refl c.in-Ok.by c.in-Ok.ensures.ok (c.in-Ok.ensures.arity ∙ same_long g at)
+    both _ _ _ (λ by is long. factor_is S f f _ (c.args.multiple.now, S.zero) _
+    (c.args.multiple.now, S.zero) (lead_seen g at) refl by is (long ∙ same_long g at))
+    c.quotient.result c.quotient.ensures.ok c.quotient.ensures.arity
+
+pub returns-clause-long : goal.returns-clause-long
+returns-clause-long g c = IfOk-weaker c.quotient.result _ _ (λ by e. e ∙ c.requires.long)
+    c.quotient.ensures.arity

@@ -3,7 +3,7 @@ use Rattle.std.proofs.lemmas.Result.{err_from_is_err_and}
 use Rattle.polynomials.specs.Exponent.{plus, Divides}
 use Rattle.polynomials.specs.Polynomial.{Arity}
 use Rattle.polynomials.specs.Terms.{Same, shift}
-use Rattle.polynomials.specs.Weight.{degrees, Fits}
+use Rattle.polynomials.specs.Weight.{degrees, FitsMonomial}
 use Rattle.polynomials.proofs.Arity.{arity-shift}
 use Rattle.polynomials.proofs.Degrees.{divides-left, divides-right}
 use Rattle.polynomials.proofs.Exponent.{length-lcm}
@@ -40,7 +40,8 @@ returns-in_err-left-clause-wide g c =
     let p = err_from_is_err_and c.from_residual-in_err-left.result
     c.from_residual-in_err-left.ensures.1 in
     λ w. inr (inl (λ fits. c.in_err-left.ensures.wide (cc (p.1, p.2, w))
-    (subst (λ d. Fits (plus d (degrees (terms_in c.args.f.now)))) (sym c.in_ok-by.ensures.quotient)
+    (subst (λ d. FitsMonomial (plus d (degrees (terms_in c.args.f.now))))
+    (sym c.in_ok-by.ensures.quotient)
     fits)))
 
 pub quotient_by_lead-requires-2-clause-long : goal.quotient_by_lead-requires-2-clause-long

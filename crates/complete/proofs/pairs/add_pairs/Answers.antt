@@ -8,7 +8,7 @@ use Rattle.rings.proofs.Lists.{take_next}
 use Rattle.machines.specs.Pairs.{coprime, put_pair, with_new}
 use Rattle.machines.proofs.Waiting.{AllWithin}
 use Rattle.complete.specs.declared.pair.Pair.{Pair}
-use Rattle.complete.specs.Pairs.{pair_of, keys, InOrder, enters, queued, rows_of, HasRoom}
+use Rattle.complete.specs.Pairs.{pair_of, keys, InOrder, enters, waiting_pairs, rows_of, HasRoom}
 use Rattle.complete.specs.Table.{IsTriangle, Tells, Once}
 use Rattle.complete.proofs.Entering.{all_enter, enters_none}
 use Rattle.complete.proofs.Putting.{Kept, kept_none, kept_enter, kept_enters, kept_more, put_as, stands_at, sugar_there, stand_long, all_stand_long, within_all, coprime_is, slice_front, slice_last, new_next, new_end}
@@ -30,7 +30,7 @@ loop-k-init g c =
       kept_none O q.mixed ls ss c.new-news.result.items none,
       subst (All IsBefore) (sym none) (All-nil IsBefore),
       ap (λ ps. with_new O ls ss (length c.args.leads.now) d c.args.leads.now 0 (map pair_of ps))
-          (sym (enters_none (keys O q.mixed) c.new-news.result.items (queued q) none)),
+          (sym (enters_none (keys O q.mixed) c.new-news.result.items (waiting_pairs q) none)),
       c.new-row.ensures.items,
     )
 
@@ -71,9 +71,9 @@ Facts g c news =
     let ss = c.args.sugars.now ++ c.args.sugar ∷ [] in
     let O = g.O.Order.order c.args.order in
     let q = c.args.queue.now in
-    let w = map pair_of (enters (keys O q.mixed) c.loop-k.news.items (queued q)) in
+    let w = map pair_of (enters (keys O q.mixed) c.loop-k.news.items (waiting_pairs q)) in
     Kept O q.mixed ls ss news × All (λ a. a.parts.value.left < c.loop-k.k + 1) news
-    × (map pair_of (enters (keys O q.mixed) news (queued q))
+    × (map pair_of (enters (keys O q.mixed) news (waiting_pairs q))
     ≡ cond (coprime c.index-leads-k.result d) w
     (put_pair O ls ss (c.loop-k.k, length c.args.leads.now) w))
 
@@ -93,7 +93,7 @@ facts g c = elim c.if-waits.branch [
       let q = c.args.queue.now in
       let R = keys O q.mixed in
       let news = c.loop-k.news.items in
-      let v = map pair_of (enters R news (queued q)) in
+      let v = map pair_of (enters R news (waiting_pairs q)) in
       let l = c.loop-k-test.true in
       let count = c.requires.count in
       let first = subst (λ x. length x ≡ m) (sym c.index-leads-k.is) (c.requires.long k e l) in
@@ -116,8 +116,8 @@ facts g c = elim c.if-waits.branch [
         subst (All (λ a. a.parts.value.left < k + 1)) (sym is)
             (all_enter R (λ a. a.parts.value.left < k + 1) p news (omega (arith, left))
             (λ j x b. let before = i.1 j x b in omega (arith, before))),
-        ap (λ ps. map pair_of (enters R ps (queued q))) is
-            ∙ put_as O q.mixed ls ss m p news (queued q) c.requires.mixed long stands sugar
+        ap (λ ps. map pair_of (enters R ps (waiting_pairs q))) is
+            ∙ put_as O q.mixed ls ss m p news (waiting_pairs q) c.requires.mixed long stands sugar
             (subst (λ x. All (λ a. a.parts.value.left < x) news) (sym left) i.1) i.0 old
             ∙ ap (λ a. put_pair O ls ss a v) of.places
             ∙ ap (λ b. cond b v (put_pair O ls ss (k, n) v)) (sym w.if-waits.true
@@ -132,7 +132,7 @@ facts g c = elim c.if-waits.branch [
       let O = g.O.Order.order c.args.order in
       let i = c.loop-k.invariant in
       let v = map pair_of (enters (keys O c.args.queue.now.mixed) c.loop-k.news.items
-      (queued c.args.queue.now)) in
+      (waiting_pairs c.args.queue.now)) in
       let first = subst (λ x. length x ≡ length d) (sym c.index-leads-k.is)
       (c.requires.long c.loop-k.k c.index-leads-k.result c.loop-k-test.true) in (
         i.0,
@@ -179,9 +179,9 @@ put_pairs-requires-clause-long g c =
     c.args.sugar c.args.queue.now c.requires.count c.requires.queue in
     record {
       variables = m;
-      each = All-append (λ a. length a.parts.value.multiple ≡ m) (queued c.args.queue.now)
+      each = All-append (λ a. length a.parts.value.multiple ≡ m) (waiting_pairs c.args.queue.now)
           c.loop-k.news.items
-          (all_stand_long m ls (queued c.args.queue.now) all old.pairs)
+          (all_stand_long m ls (waiting_pairs c.args.queue.now) all old.pairs)
           (all_stand_long m ls c.loop-k.news.items all c.loop-k.invariant.0.pairs);
     }
 
@@ -189,11 +189,11 @@ put_pairs-requires-clause-long g c =
 out : (g : Over) (c : After-push-2 g) → length c.args.leads.now ≤ c.loop-k.k
 out g c = let e = c.loop-k-test.false in omega (arith, e)
 
-all_pairs : (g : Over) (c : After-push-2 g) → map pair_of (queued c.put_pairs.new.queue)
+all_pairs : (g : Over) (c : After-push-2 g) → map pair_of (waiting_pairs c.put_pairs.new.queue)
     ≡ with_new (g.O.Order.order c.args.order) (c.args.leads.now ++ c.args.lead.now ∷ [])
     (c.args.sugars.now ++ c.args.sugar ∷ []) (length c.args.leads.now) c.args.lead.now
-    c.args.leads.now 0 (map pair_of (queued c.args.queue.now))
-all_pairs g c = ap (map pair_of) c.in-Ok.ensures.pairs
+    c.args.leads.now 0 (map pair_of (waiting_pairs c.args.queue.now))
+all_pairs g c = ap (map pair_of) c.in_ok-put_pairs.ensures.pairs
     ∙ sym (c.loop-k.invariant.2 ∙ new_end (g.O.Order.order c.args.order) _ _ _ _ _
     c.loop-k.k _ (drop_all c.loop-k.k c.args.leads.now (out g c)))
 
@@ -203,8 +203,8 @@ whole_row g c = c.loop-k.invariant.3 ∙ ap (map (λ e. not (coprime e c.args.le
     (take_all c.loop-k.k c.args.leads.now (out g c))
 
 within : (g : Over) (c : After-push-2 g)
-    → AllWithin (length c.args.leads.now) (map pair_of (queued c.args.queue.now))
-within g c = within_all c.args.leads.now (queued c.args.queue.now) c.requires.queue.pairs
+    → AllWithin (length c.args.leads.now) (map pair_of (waiting_pairs c.args.queue.now))
+within g c = within_all c.args.leads.now (waiting_pairs c.args.queue.now) c.requires.queue.pairs
 
 pub returns-clause-pairs : goal.returns-clause-pairs
 returns-clause-pairs g c = on_ok_weaker c.push-2.result (λ e. all_pairs g c) c.push-2.ensures.row
@@ -215,15 +215,16 @@ returns-clause-queue g c = on_ok_weaker c.push-2.result (λ e. (
     let ls = c.args.leads.now ++ c.args.lead.now ∷ [] in
     let ss = c.args.sugars.now ++ c.args.sugar ∷ [] in
     let mixed = c.args.queue.now.mixed in
-    let put = c.in-Ok.ensures in
+    let put = c.in_ok-put_pairs.ensures in
     let old = kept_more O c.args.leads.now c.args.sugars.now c.args.lead.now c.args.sugar
     c.args.queue.now c.requires.count c.requires.queue in
     let kept = subst (Kept O mixed ls ss) (sym put.pairs) (kept_enters O mixed ls ss
-    c.loop-k.news.items (queued c.args.queue.now) c.loop-k.invariant.0 old) in
+    c.loop-k.news.items (waiting_pairs c.args.queue.now) c.loop-k.invariant.0 old) in
     let q = c.requires.queue in
     let t = rows_of c.args.queue.now.table in
     let row = map (λ x. not (coprime x c.args.lead.now)) c.args.leads.now in
-    let is = e ∙ ap₂ (λ u r. u ++ r ∷ []) (ap rows_of c.in-Ok.ensures.table) (whole_row g c) in
+    let is = e ∙ ap₂ (λ u r. u ++ r ∷ []) (ap rows_of c.in_ok-put_pairs.ensures.table)
+    (whole_row g c) in
     let count = q.count in
     let more = length_push t row in
     let leads = length_push c.args.leads.now c.args.lead.now in
@@ -232,7 +233,8 @@ returns-clause-queue g c = on_ok_weaker c.push-2.result (λ e. (
       taken = put.taken;
       pairs = kept.pairs;
       sugars = kept.sugars;
-      in_order = subst (λ b. InOrder (keys O b) (queued c.put_pairs.new.queue)) (sym put.mixed)
+      in_order = subst (λ b. InOrder (keys O b) (waiting_pairs c.put_pairs.new.queue))
+          (sym put.mixed)
           kept.in_order;
       once = subst Once (sym (all_pairs g c)) (once_all O ls ss c.args.lead.now c.args.leads.now _
           (within g c) q.once);
@@ -246,8 +248,9 @@ returns-clause-queue g c = on_ok_weaker c.push-2.result (λ e. (
 
 pub returns-clause-told : goal.returns-clause-told
 returns-clause-told g c = on_ok_weaker c.push-2.result (λ e. (
-    let is = e ∙ ap₂ (λ u r. u ++ r ∷ []) (ap rows_of c.in-Ok.ensures.table) (whole_row g c) in
-    subst (λ u. Tells u (map pair_of (queued c.put_pairs.new.queue))) (sym is)
+    let is = e ∙ ap₂ (λ u r. u ++ r ∷ []) (ap rows_of c.in_ok-put_pairs.ensures.table)
+    (whole_row g c) in
+    subst (λ u. Tells u (map pair_of (waiting_pairs c.put_pairs.new.queue))) (sym is)
     (subst (Tells _) (sym (all_pairs g c))
     (told_new (g.O.Order.order c.args.order) (c.args.leads.now ++ c.args.lead.now ∷ [])
     (c.args.sugars.now ++ c.args.sugar ∷ []) (rows_of c.args.queue.now.table) c.args.lead.now

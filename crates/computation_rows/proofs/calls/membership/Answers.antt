@@ -1,7 +1,7 @@
 use Rattle.std.proofs.Common.{◌≤◌, length, sym, subst, ◌∙◌}
 use Rattle.poly.specs.Seen.{terms_each}
 use Rattle.divide.specs.Current.{AreDivisors}
-use Rattle.reduced_basis.specs.Tidying.{list_limit}
+use Rattle.divide.specs.Limits.{list_limit}
 use Rattle.ideal_ops.specs.Membership.{IsComplete}
 use Rattle.computation_rows.proofs.Alike.{complete_of}
 use Rattle.computation_rows.proofs.calls.membership.Goals as goal

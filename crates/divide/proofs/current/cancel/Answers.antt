@@ -56,7 +56,7 @@ quotient-requires g c =
     }
 
 pub sub_multiple-requires-clause-factor : goal.sub_multiple-requires-clause-factor
-sub_multiple-requires-clause-factor g c = c.in-Ok.ensures.arity
+sub_multiple-requires-clause-factor g c = c.in_ok-mono.ensures.arity
     ∙ term_size g (goal.at.sub_multiple-requires-clause-factor g c).In-Some
 
 pub returns-in_err-poly-clause-wide : goal.returns-in_err-poly-clause-wide
@@ -68,7 +68,8 @@ returns-in_err-poly-clause-wide g c =
     let p = err_from_is_err_and c.from_residual-in_err-poly.result
     c.from_residual-in_err-poly.ensures.1 in
     λ w. past_rest S _ _ _ _ _ _ lead term _ _ (factor_is S (terms_in c.args.p) _ _ _ _ _ lead term
-    c.in-Ok.mono c.in-Ok.ensures.ok (c.in-Ok.ensures.arity ∙ term_size g at ∙ lead_size g at))
+    c.in_ok-mono.mono c.in_ok-mono.ensures.ok (c.in_ok-mono.ensures.arity ∙ term_size g at
+    ∙ lead_size g at))
     (number_is S (terms_in c.args.p) _ _ _ _ _ lead term g.met.K.Ring.ring g.met.K.Field.field _
     (first_nonzero S _ _ _ _ _ lead c.args.g.now.polynomial) c.in_ok-coef.ensures.ok)
     (c.in_err-poly.ensures.wide (cc (p.1, p.2, w)))
@@ -79,13 +80,14 @@ returns-clause-cutting g c =
     let at = (goal.at.returns-clause-cutting g c).In-Some in
     let lead = lead_seen g at in
     let term = term_seen g at in
-    let size = c.in-Ok.ensures.arity ∙ term_size g at in
+    let size = c.in_ok-mono.ensures.arity ∙ term_size g at in
     cuts S g.met.K.Ring.ring g.met.K.Field.field g.met.K.Ring.zero_is _
     (g.met.O.Order.is_order c.args.p.order) _ _ _ _ _ _ _ c.args.p.polynomial
     (along S g.O.Order.order _ _ _ _ _ c.requires.order c.requires.arity c.args.g.now.polynomial)
     (along S g.O.Order.order _ _ _ _ _ c.in_ok-poly.ensures.difference.order
     c.in_ok-poly.ensures.difference.arity c.in_ok-poly.poly.polynomial) size
-    (factor_is S (terms_in c.args.p) _ _ _ _ _ lead term c.in-Ok.mono c.in-Ok.ensures.ok (size
+    (factor_is S (terms_in c.args.p) _ _ _ _ _ lead term c.in_ok-mono.mono c.in_ok-mono.ensures.ok
+    (size
     ∙ lead_size g at))
     (number_is S (terms_in c.args.p) _ _ _ _ _ lead term g.met.K.Ring.ring g.met.K.Field.field _
     (first_nonzero S _ _ _ _ _ lead c.args.g.now.polynomial) c.in_ok-coef.ensures.ok)

@@ -19,7 +19,7 @@ use Rattle.machines.proofs.Dividing.{division_undivided}
 use Rattle.divide.proofs.Ended.{places_of, all_of, rest_is, sum_of, falling_of}
 use Rattle.divide.proofs.Like.{divisors_along, fits_along, starts}
 use Rattle.divide.proofs.OneCut.{along}
-use Rattle.divide.proofs.Refused.{unmade, out_of_room, step_refused}
+use Rattle.divide.proofs.Refused.{out_of_memory, out_of_room, step_refused}
 use Rattle.divide.proofs.dividing.divide.Given.{Over}
 use Rattle.divide.proofs.dividing.divide.Goals.{Start, In_ok-rest}
 use Rattle.divide.proofs.dividing.divide.Goals as goal
@@ -31,13 +31,12 @@ dividing g c o = machines.division g.K.Ring.scalars (g.O.Order.order o) (terms_e
     (terms_in c.args.p.now)
 
 pub returns-in_err-leads-clause-ran : goal.returns-in_err-leads-clause-ran
-returns-in_err-leads-clause-ran g c = unmade (division_of c.args.p.now c.args.list.now)
-    c.from_residual.result _ c.from_residual.ensures.1 c.in_err-leads.ensures.narrow
+returns-in_err-leads-clause-ran g c = out_of_memory (division_of c.args.p.now c.args.list.now)
+    c.from_residual.result c.from_residual.ensures.1
 
 pub returns-in_err-state-clause-ran : goal.returns-in_err-state-clause-ran
-returns-in_err-state-clause-ran g c = unmade (division_of c.args.p.now c.args.list.now)
-    c.from_residual-in_err-state.result _ c.from_residual-in_err-state.ensures.1
-    c.in_err-state.ensures.narrow
+returns-in_err-state-clause-ran g c = out_of_memory (division_of c.args.p.now c.args.list.now)
+    c.from_residual-in_err-state.result c.from_residual-in_err-state.ensures.1
 
 pub loop-state-init : goal.loop-state-init
 loop-state-init g c = (
@@ -119,8 +118,8 @@ returns-in_err-cofactors-clause-ran g c =
     let i = c.loop-state.invariant in
     let off = going_off (dividing g (goal.at.returns-in_err-cofactors-clause-ran g c).Start)
     i.0.order i.1 c.if-branch.false c.in_ok-step.ensures.ok in
-    out_of_room off.0 c.from_residual-in_err-cofactors.result _
-    c.from_residual-in_err-cofactors.ensures.1 c.in_err-cofactors.ensures.narrow
+    out_of_room off.0 c.from_residual-in_err-cofactors.result
+    c.from_residual-in_err-cofactors.ensures.1
 
 pub into_poly-requires : goal.into_poly-requires
 into_poly-requires g c = record { falling = c.in_ok-step.ensures.current.falling }
@@ -130,8 +129,7 @@ returns-in_err-rest-clause-ran g c =
     let i = c.loop-state.invariant in
     let off = going_off (dividing g (goal.at.returns-in_err-rest-clause-ran g c).Start) i.0.order
     i.1 c.if-branch.false c.in_ok-step.ensures.ok in
-    out_of_room off.0 c.from_residual-in_err-rest.result _ c.from_residual-in_err-rest.ensures.1
-    c.in_err-rest.ensures.narrow
+    out_of_room off.0 c.from_residual-in_err-rest.result c.from_residual-in_err-rest.ensures.1
 
 -- ---- what it gives
 over : (g : Over) (c : In_ok-rest g) → Going (division_of c.args.p.now c.args.list.now)

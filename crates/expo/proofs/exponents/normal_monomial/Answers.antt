@@ -1,6 +1,7 @@
 use Rattle.std.proofs.Common.{◌≡◌, ◌++◌, take, drop, length, refl, ap, ◌∙◌, arith}
-use Rattle.exponentials.specs.Keys.{left}
+use Rattle.exponentials.specs.Keys.{excess}
 use Rattle.expo.specs.Exponents.{normal_exponents}
+use Rattle.expo.proofs.Outcomes.{ok_weaker}
 use Rattle.expo.proofs.Stepping.{normal_parts, normal_long}
 use Rattle.expo.proofs.exponents.normal_monomial.Goals as goal
 use Rattle.expo.proofs.exponents.normal_monomial.Goals.{In_ok-extend_from_slice}
@@ -18,8 +19,8 @@ made c =
     c.split_at-2.ensures.front c.split_at-2.ensures.back c.split_at-3.ensures.front
     c.split_at-3.ensures.back refl refl
     (c.in_ok-extend_from_slice.ensures.items ∙ ap (λ l. l ++ vars) (c.in_ok-push_left-2.ensures
-    ∙ ap (λ l. l ++ left down up) (c.in_ok-push_left.ensures
-    ∙ ap (λ l. l ++ left up down) c.in_ok-exponents.ensures.items)))
+    ∙ ap (λ l. l ++ excess down up) (c.in_ok-push_left.ensures
+    ∙ ap (λ l. l ++ excess up down) c.in_ok-exponents.ensures.items)))
 
 pub new-requires : goal.new-requires
 new-requires c =
@@ -28,6 +29,9 @@ new-requires c =
     let own = ap length (c.as_slice.ensures ∙ c.exponents-list.ensures.exponents) in
     omega (arith, long, own, c.exponents-list.ensures.bound)
 
-pub returns-clause-ok : goal.returns-clause-ok
-returns-clause-ok c = c.in_ok-new.ensures.ok
-    ∙ made (goal.at.returns-clause-ok c).In_ok-extend_from_slice
+pub returns : goal.returns
+returns c = record {
+  ok = ok_weaker _ _
+      (λ mono e. e ∙ made (goal.at.returns c).In_ok-extend_from_slice) c.new.result
+      c.new.ensures.ok;
+}

@@ -10,7 +10,7 @@ use Rattle.expo.proofs.Single.{minus_nonzero}
 use Rattle.expo.proofs.images.images_at_next.Goals as goal
 
 pub multiple-requires-clause-nonzero : goal.multiple-requires-clause-nonzero
-multiple-requires-clause-nonzero c = minus_nonzero _ _ c.one.ensures c.in_ok-neg.ensures
+multiple-requires-clause-nonzero c = minus_nonzero _ _ c.one.ensures c.neg.ensures
 
 pub returns-clause-images : goal.returns-clause-images
 returns-clause-images c =
@@ -22,7 +22,7 @@ returns-clause-images c =
     (c.in_ok-push.ensures.items ∙ ap (λ l. l ++ c.in_ok-one_more.field-0 ∷ [])
     c.in_ok-images.ensures.items))) c.in_ok-one_more.ensures.terms
     (subst (λ x. IsMultiple (2 + 2 * length ws + c.args.vars) x 1
-    (terms_in c.in_ok-multiple.field-0)) (c.in_ok-neg.ensures ∙ ap ℚ.neg c.one.ensures)
+    (terms_in c.in_ok-multiple.field-0)) (c.neg.ensures ∙ ap ℚ.neg c.one.ensures)
     c.in_ok-multiple.ensures.terms)
     c.in_ok-push_multiples.ensures.images c.in_ok-push_multiples-2.ensures.images
     c.in_ok-push_variables.ensures.images

@@ -1,9 +1,9 @@
 use Rattle.std.proofs.Common.{◌≡◌, take}
-use Rattle.turns.specs.Expo.{normalized}
+use Rattle.turns.specs.Expo.{with_normal_keys}
 use Rattle.frac128.specs.FracMeaning.{fraction_of}
 use Rattle.poly.specs.View.{terms_of}
 use Rattle.expo.proofs.operations.normal_terms.Given as goal
 
 abbrev pub invariant-loop-term : goal.invariant-loop-term
-invariant-loop-term l = terms_of fraction_of l.out.items ≡ normalized l.count
+invariant-loop-term l = terms_of fraction_of l.out.items ≡ with_normal_keys l.count
     (terms_of fraction_of (take l.term-index l.terms))

@@ -14,8 +14,8 @@ returns-clause-images c =
     let p = c.in_ok-constant.field-0 in
     let i = c.in_ok-constant.ensures.constant in
     images_made (sizes c.args.base.now) c.args.vars c.args.turns _ _ _ _ _
-    (terms_in c.in_ok-number_of.field-0) (terms_in p) (fraction_of c.in_ok-sign.field-0)
-    c.in_ok-number_of.ensures.terms c.in_ok-sign.ensures
+    (terms_in c.in_ok-number_of.field-0) (terms_in p) (fraction_of c.sign.result)
+    c.in_ok-number_of.ensures.terms c.sign.ensures
     (subst (λ n. IsPolynomial ℚ grevlex n (terms_in p)) i.arity p.polynomial) i.same
     (ap terms_each (c.in_ok-push.ensures.items
     ∙ ap (λ l. l ++ c.in_ok-number_of.field-0 ∷ []) c.in_ok-images.ensures.items))

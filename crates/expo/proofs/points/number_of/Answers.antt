@@ -4,13 +4,13 @@ use Rattle.polynomials.specs.Order.{grevlex}
 use Rattle.polynomials.specs.Polynomial.{IsPolynomial}
 use Rattle.frac128.specs.FracMeaning.{fraction_of}
 use Rattle.poly.specs.Seen.{terms_in}
+use Rattle.expo.proofs.Outcomes.{ok_weaker}
 use Rattle.expo.proofs.AtTurns.{number_is}
 use Rattle.expo.proofs.points.number_of.Goals as goal
 
 pub returns-clause-terms : goal.returns-clause-terms
 returns-clause-terms c =
-    let p = c.in_ok-constant.field-0 in
-    let i = c.in_ok-constant.ensures.constant in
-    number_is c.args.vars c.args.turns (fraction_of c.natural-number.result) (terms_in p)
-    c.natural-number.ensures
-    (subst (λ n. IsPolynomial ℚ grevlex n (terms_in p)) i.arity p.polynomial) i.same
+    ok_weaker _ _ (λ p i. number_is c.args.vars c.args.turns (fraction_of c.natural-number.result)
+    (terms_in p) c.natural-number.ensures
+    (subst (λ n. IsPolynomial ℚ grevlex n (terms_in p)) i.arity p.polynomial) i.same)
+    c.constant.result c.constant.ensures.constant

@@ -9,4 +9,4 @@ loop-init c = power_none (whole (negsuc 0)) _ c.one-found.ensures
 
 pub loop-preserved : goal.loop-preserved
 loop-preserved c = sign_next (fraction_of c.loop.found) _ c.loop.counter c.loop.invariant
-    c.in_ok-found.ensures
+    c.neg-found.ensures

@@ -24,7 +24,7 @@ returns-clause-terms c =
           (subst (λ l. terms_of fraction_of c.in_ok-terms.terms.items ≡ power_terms c.args.vars x
           (number_at l) 0 (length l)) c.deref.ensures.value c.in_ok-terms.ensures.terms)
           c.in_ok-numbers.ensures.count c.in_ok-mono.ensures.ok
-          (c.in_ok-neg.ensures
+          (c.neg.ensures
           ∙ ap opposite (number_here xs 0 _ (let n = c.in_ok-numbers.ensures.count in
           omega (arith, n)) c.index.ensures));
     }

@@ -8,13 +8,12 @@ use Rattle.poly.specs.Seen.{terms_in}
 use Rattle.poly.specs.View.{terms_of}
 use Rattle.poly.proofs.Steps.{all_arity}
 use Rattle.coprime_base.specs.Sizes.{sizes}
-use Rattle.turns.specs.Expo.{normalized}
+use Rattle.turns.specs.Expo.{with_normal_keys}
 use Rattle.turns.specs.Turns.{width}
 use Rattle.expo.specs.Powers.{number_of}
 use Rattle.expo.proofs.Distinct.{pairs_of}
-use Rattle.expo.proofs.Outcomes.{ok_weaker}
-use Rattle.expo.proofs.Results.{IsNormalList, normal_list, is_expo}
-use Rattle.expo.proofs.Solved.{AreParts, Tabled, handed_on, narrow_poly, evaluated_at, power_nonzero, past_solution, tabled_at, tabled_expo, tabled_parts, tabled_solution}
+use Rattle.expo.proofs.Results.{IsNormalList, normal_list, made_expo}
+use Rattle.expo.proofs.Solved.{AreParts, Tabled, handed_on, evaluated_at, power_nonzero, past_solution, tabled_at, tabled_expo, tabled_parts, tabled_solution}
 use Rattle.expo.proofs.Values.{solution_is}
 use Rattle.expo.proofs.solution.solve_term.Goals as goal
 use Rattle.expo.proofs.solution.solve_term.Goals.{In_ok-terms, In_ok-body}
@@ -72,14 +71,14 @@ list_is c are =
     let n : c.len.result ≡ length bs = c.len.ensures ∙ c.args.base.now.ok.0
     ∙ sym (length-map c.args.base.now.items _) in
     let w : 2 + 2 * c.len.result + c.args.vars ≡ width (length bs) c.args.vars = omega (arith, n) in
-    let i = c.in_ok-body.ensures.sum in
+    let i = c.in_ok-body.ensures in
     let q = terms_in c.in_ok-body.body in
     normal_list (length bs) (width (length bs) c.args.vars) q
     (terms_of fraction_of c.in_ok-terms.terms.items) are.arity are.stay
     (subst (λ n. IsPolynomial ℚ grevlex n q) (i.arity ∙ w) c.in_ok-body.body.polynomial) i.same
 
-pub from_terms-requires-clause-arities : goal.from_terms-requires-clause-arities
-from_terms-requires-clause-arities c =
+pub from_distinct-requires-clause-arities : goal.from_distinct-requires-clause-arities
+from_distinct-requires-clause-arities c =
     let bs = sizes c.args.base.now.items in
     let n : c.len.result ≡ length bs = c.len.ensures ∙ c.args.base.now.ok.0
     ∙ sym (length-map c.args.base.now.items _) in
@@ -87,21 +86,19 @@ from_terms-requires-clause-arities c =
     let ts = c.in_ok-terms.terms.items in
     all_arity fraction_of (2 + 2 * c.len.result + c.args.vars) ts
     (subst (λ n. Arity n (terms_of fraction_of ts)) w
-    (parts (goal.at.from_terms-requires-clause-arities c).In_ok-terms).arity)
+    (parts (goal.at.from_distinct-requires-clause-arities c).In_ok-terms).arity)
 
-pub returns-in_err-body-clause-wide : goal.returns-in_err-body-clause-wide
-returns-in_err-body-clause-wide c =
+pub from_distinct-requires-clause-distinct : goal.from_distinct-requires-clause-distinct
+from_distinct-requires-clause-distinct c =
     let ts = c.in_ok-terms.terms.items in
-    λ x. absurd (narrow_poly c.in_err-body.field-0.0 c.from_residual-in_err-body.result
-    c.from_residual-in_err-body.ensures.1
-    (c.in_err-body.ensures.distinct (pairs_of ts (terms_of fraction_of ts) refl
-    (parts (goal.at.returns-in_err-body-clause-wide c).In_ok-terms).differ)) x)
+    pairs_of ts (terms_of fraction_of ts) refl
+    (parts (goal.at.from_distinct-requires-clause-distinct c).In_ok-terms).differ
 
 pub of-requires-clause-normal : goal.of-requires-clause-normal
 of-requires-clause-normal c =
     let at = goal.at.of-requires-clause-normal c in
     let q = terms_in c.in_ok-body.body in
-    subst (λ ws. normalized (length (sizes ws)) q ≡ q) (sym c.deref-3.ensures.value)
+    subst (λ ws. with_normal_keys (length (sizes ws)) q ≡ q) (sym c.deref-3.ensures.value)
     (list_is at.In_ok-body (parts at.In_ok-terms)).normal
 
 pub returns-clause-table : goal.returns-clause-table
@@ -109,11 +106,11 @@ returns-clause-table c =
     let at = goal.at.returns-clause-table c in
     let bs = sizes c.args.base.now.items in
     let ts = terms_of fraction_of c.in_ok-terms.terms.items in
-    ok_weaker _ _ (λ x. tabled_expo bs c.args.vars c.args.degree c.args.source.now c.args.own.now ts
-    x (tabled at.In_ok-terms)) c.of.result
-    (is_expo bs _ c.args.vars _ (terms_in c.in_ok-body.body) ts (ap sizes c.deref-3.ensures.value)
-    refl (list_is at.In_ok-body (parts at.In_ok-terms)).is c.of.result c.of.ensures.base
-    c.of.ensures.vars c.of.ensures.terms)
+    tabled_expo bs c.args.vars c.args.degree c.args.source.now c.args.own.now ts
+    c.in_ok-of.field-0 (tabled at.In_ok-terms)
+    (made_expo bs _ c.args.vars _ (terms_in c.in_ok-body.body) ts (ap sizes c.deref-3.ensures.value)
+    refl (list_is at.In_ok-body (parts at.In_ok-terms)).is c.in_ok-of.field-0
+    c.in_ok-of.ensures.base c.in_ok-of.ensures.vars c.in_ok-of.ensures.terms)
 
 pub returns-clause-solves : goal.returns-clause-solves
 returns-clause-solves c =
@@ -125,7 +122,6 @@ returns-clause-solves c =
     let solution = tabled_solution bs c.args.vars c.args.degree source own
     (source_count at.In_ok-terms) (own_count at.In_ok-terms) c.requires.base.0 ts
     (tabled at.In_ok-terms) in
-    ok_weaker _ _ (λ x e. solution_is bs c.args.vars c.args.degree (number_of bs source)
-    (number_of bs own) (terms_in x.body) ts (e
-    ∙ (list_is at.In_ok-body (parts at.In_ok-terms)).is) solution) c.of.result
-    c.of.ensures.terms
+    solution_is bs c.args.vars c.args.degree (number_of bs source) (number_of bs own)
+    (terms_in c.in_ok-of.field-0.body) ts (c.in_ok-of.ensures.terms
+    ∙ (list_is at.In_ok-body (parts at.In_ok-terms)).is) solution

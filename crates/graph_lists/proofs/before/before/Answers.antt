@@ -4,8 +4,9 @@ use Rattle.expressions.specs.FracPoly.{FracPoly}
 use Rattle.graph_lists.specs.Shapes.{width_of}
 use Rattle.graph_lists.proofs.before.before.Goals as goal
 
-pub returns-clause-before : goal.returns-clause-before
-returns-clause-before c =
-    c.in_ok-push_before.ensures.before []
-    (subst (λ (ps : List FracPoly). AllStandFor (width_of c.args.shape) ps [])
-    (sym c.new-out.ensures.items) tt)
+pub returns : goal.returns
+returns c = record {
+  before = c.in_ok-push_before.ensures.before []
+      (subst (λ (ps : List FracPoly). AllStandFor (width_of c.args.shape) ps [])
+      (sym c.new-out.ensures.items) tt);
+}

@@ -51,9 +51,9 @@ over : (c : In_ok-terms) → Arity (c.args.shape.front + c.args.shape.variables)
     (terms_in c.args.p.now)
 over c = arity_over _ c.args.p.now c.requires.arity
 
-pub from_terms-requires-clause-arities : goal.from_terms-requires-clause-arities
-from_terms-requires-clause-arities c =
-    let at = (goal.at.from_terms-requires-clause-arities c).In_ok-terms in
+pub from_distinct-requires-clause-arities : goal.from_distinct-requires-clause-arities
+from_distinct-requires-clause-arities c =
+    let at = (goal.at.from_distinct-requires-clause-arities c).In_ok-terms in
     let s = c.args.shape in
     subst (λ n. All (λ (t : Term Frac). length t.mono ≡ n) c.in_ok-terms.terms.items)
     (sym c.width.ensures)
@@ -61,25 +61,25 @@ from_terms-requires-clause-arities c =
     (subst (Arity (width_of s)) (sym (made_is at))
     (wider_arity s.front s.copies s.variables (terms_in c.args.p.now) (over at))))
 
-pub returns-clause-widened : goal.returns-clause-widened
-returns-clause-widened c =
-    let at = (goal.at.returns-clause-widened c).In_ok-terms in
+pub from_distinct-requires-clause-distinct : goal.from_distinct-requires-clause-distinct
+from_distinct-requires-clause-distinct c =
+    let at = (goal.at.from_distinct-requires-clause-distinct c).In_ok-terms in
     let s = c.args.shape in
-    IfOk-weaker c.from_terms.result _ _
-    (λ q i. record {
-      order = refl;
-      arity = i.arity ∙ c.width.ensures;
-      same = Same-trans ℚ (subst (Same ℚ (terms_in q)) (made_is at) i.same)
-          (widened_same s.front s.copies s.variables (terms_in c.args.p.now) (over at));
-    })
-    c.from_terms.ensures.sum
-
-pub returns-clause-narrow : goal.returns-clause-narrow
-returns-clause-narrow c =
-    let at = (goal.at.returns-clause-narrow c).In_ok-terms in
-    let s = c.args.shape in
-    c.from_terms.ensures.distinct
-    (pairs_of c.in_ok-terms.terms.items _ (made_is at)
+    pairs_of c.in_ok-terms.terms.items _ (made_is at)
     (differ_wider s.front s.copies s.variables (terms_in c.args.p.now) (over at)
     (differ_falls grevlex grevlex_order (terms_in c.args.p.now)
-    c.args.p.now.polynomial.falls)))
+    c.args.p.now.polynomial.falls))
+
+pub returns : goal.returns
+returns c = record {
+  widened = let at = (goal.at.returns c).In_ok-terms in
+      let s = c.args.shape in
+      IfOk-weaker c.from_distinct.result _ _
+      (λ q i. record {
+        order = refl;
+        arity = i.arity ∙ c.width.ensures;
+        same = Same-trans ℚ (subst (Same ℚ (terms_in q)) (made_is at) i.same)
+            (widened_same s.front s.copies s.variables (terms_in c.args.p.now) (over at));
+      })
+      c.from_distinct.ensures;
+}

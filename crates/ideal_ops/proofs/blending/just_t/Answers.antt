@@ -1,5 +1,8 @@
+use Rattle.std.proofs.lemmas.Result.{IfOk-weaker}
 use Rattle.ideal_ops.proofs.Blends.{just_t_of}
 use Rattle.ideal_ops.proofs.blending.just_t.Goals as goal
 
-pub returns-in-Ok-clause-ok : goal.returns-in-Ok-clause-ok
-returns-in-Ok-clause-ok c = just_t_of c.in-Ok.t c.in-Ok.ensures.ok
+pub returns : goal.returns
+returns c = record {
+  ok = IfOk-weaker c.variable.result _ _ (λ t is. just_t_of t is) c.variable.ensures.ok;
+}

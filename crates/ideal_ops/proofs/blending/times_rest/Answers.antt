@@ -1,11 +1,10 @@
-use Rattle.std.proofs.Common.{◌≡◌, subst, ◌∙◌}
+use Rattle.std.proofs.Common.{◌≡◌, Err, ap, subst, ◌∙◌}
 use Rattle.numbers.specs.Scalars.{field}
 use Rattle.polynomials.specs.Order.{grevlex, blocks}
 use Rattle.polynomials.specs.Polynomial.{IsPolynomial}
 use Rattle.machines.specs.Elimination.{in_front}
 use Rattle.poly.specs.Seen.{terms_in}
 use Rattle.ideal_ops.specs.Blending.{times_rest}
-use Rattle.complete.proofs.Made.{if_ok}
 use Rattle.ideal_ops.proofs.Blends.{one_made, opposite_made, rest_made, none_shared, with_one}
 use Rattle.ideal_ops.proofs.blending.times_rest.Given.{Over}
 use Rattle.ideal_ops.proofs.blending.times_rest.Goals as goal
@@ -23,8 +22,8 @@ one_is g c =
     (subst (λ o. IsPolynomial S.arithmetic (blocks o.first grevlex grevlex) whole.arity
     (terms_in whole)) i.order whole.polynomial) i.same
 
-pub returns-clause-product : goal.returns-clause-product
-returns-clause-product g c =
+pub returns-in-Ok-clause-product : goal.returns-in-Ok-clause-product
+returns-in-Ok-clause-product g c =
     let S = g.K.Ring.scalars in
     let q = c.args.q.now in
     let opposite = c.in_ok-opposite.opposite in
@@ -32,19 +31,19 @@ returns-clause-product g c =
     let opposite_is = opposite_made S g.met.K.Ring.ring g.met.K.Field.field g.met.K.Ring.zero_is
     q.arity opposite.arity (terms_in q) (terms_in opposite) q.polynomial opposite.polynomial
     c.in_ok-opposite.ensures.opposite.same in
-    if_ok _ (λ p. terms_in p ≡ times_rest (field S) (terms_in q)) c.add.result
-    (λ p i. rest_made S g.met.K.Ring.ring g.met.K.Field.field g.met.K.Ring.zero_is q.arity p.arity
+    let p = c.in-Ok.sum in
+    let i = c.in-Ok.ensures.sum in
+    rest_made S g.met.K.Ring.ring g.met.K.Field.field g.met.K.Ring.zero_is q.arity p.arity
     (terms_in q) (terms_in opposite) (terms_in c.in_ok-whole.whole)
     (terms_in c.in_ok-part.part) (terms_in p)
-    q.polynomial (one_is g (goal.at.returns-clause-product g c).In_ok-part) opposite_is
+    q.polynomial (one_is g (goal.at.returns-in-Ok-clause-product g c).In_ok-part) opposite_is
     c.in_ok-part.ensures.product
     (subst (λ o. IsPolynomial S.arithmetic (blocks o.first grevlex grevlex) p.arity (terms_in p))
     (i.order ∙ whole.order) p.polynomial) (with_one p.arity q.arity _ c.in_ok-one.ensures.ok
-    (i.arity ∙ whole.arity)) i.same)
-    c.add.ensures.sum
+    (i.arity ∙ whole.arity)) i.same
 
-pub returns-clause-narrow : goal.returns-clause-narrow
-returns-clause-narrow g c = λ w. none_shared (terms_in c.args.q.now)
+pub unreachable-requires : goal.unreachable-requires
+unreachable-requires g c = none_shared (terms_in c.args.q.now)
     (terms_in c.in_ok-opposite.opposite) _ _
-    (one_is g (goal.at.returns-clause-narrow g c).In_ok-part) c.in_ok-part.ensures.product
-    (c.add.ensures.shared w)
+    (one_is g (goal.at.unreachable-requires g c).In_ok-part) c.in_ok-part.ensures.product
+    (c.in-Err-Wide.ensures.shared (ap Err c.in-Err-Wide.field-0-is))

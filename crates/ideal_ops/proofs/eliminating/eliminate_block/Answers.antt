@@ -10,14 +10,14 @@ use Rattle.polynomials.specs.Polynomial.{IsPolynomial}
 use Rattle.polynomials.proofs.Orders.{grevlex_order}
 use Rattle.machines.specs.Basis.{AtPlaces, IsBasisOf}
 use Rattle.machines.specs.Cut.{lead_number, monic}
-use Rattle.machines.specs.Elimination.{kept, completing}
+use Rattle.machines.specs.Elimination.{free_part, completing}
 use Rattle.machines.proofs.Ends.{each_at, monic_list}
 use Rattle.machines.proofs.Front.{kept_few}
 use Rattle.machines.proofs.Going.{Going}
 use Rattle.machines.proofs.Joined.{first_work, first_refused, ran_later}
 use Rattle.poly.specs.Seen.{terms_in, terms_each}
 use Rattle.divide.proofs.Refused.{passed_on, out_of_room}
-use Rattle.ideal_ops.specs.Calls.{Way, eliminating, elimination_of, IsListOf}
+use Rattle.ideal_ops.specs.Calls.{Way, elimination_way, elimination_of, IsListOf}
 use Rattle.ideal_ops.specs.Eliminating.{HaveBlockAndLead}
 use Rattle.ideal_ops.proofs.Ending.{kept_itself, eliminated_of}
 use Rattle.ideal_ops.proofs.Lists.{block_like, block_each, divisors_block, divisors_over, both_ok}
@@ -32,7 +32,7 @@ complete_in-requires-clause-like g c = block_like c.args.first (c.args.first + c
 
 -- what is completed and kept, and its list
 abbrev way : (g : Over) (c : Start g) → Way g.K.Ring.scalars
-way g c = eliminating c.args.first c.args.gens.now
+way g c = elimination_way c.args.first c.args.gens.now
 
 pub returns-in_err-basis-clause-ran : goal.returns-in_err-basis-clause-ran
 returns-in_err-basis-clause-ran g c =
@@ -59,8 +59,7 @@ returns-in_err-list-clause-ran g c =
           c.args.meter.now.entries c.complete_in.new.meter.entries first.to.last
           first.to.finished.work;
     } in
-    out_of_room going c.from_residual-in_err-list.result _ c.from_residual-in_err-list.ensures.1
-    c.in_err-list.ensures.narrow
+    out_of_room going c.from_residual-in_err-list.result c.from_residual-in_err-list.ensures.1
 
 -- ---- where the completion has ended, and a list is kept
 polynomials : (g : Over) (c : In_ok-list g)
@@ -76,14 +75,15 @@ abbrev numbers : (g : Over) → Field g.K.Ring.scalars.Elem
 numbers g = field_of (field g.K.Ring.scalars) (is_field g.K.Ring.scalars g.met.K.Ring.ring
     g.met.K.Field.field g.met.K.Ring.zero_is)
 
-list_is : (g : Over) (c : In_ok-list g) → terms_each c.in_ok-list.list.items ≡ kept c.args.first
+list_is : (g : Over) (c : In_ok-list g) → terms_each c.in_ok-list.list.items
+    ≡ free_part c.args.first
     (terms_each c.in_ok-basis.basis.items)
-list_is g c = c.in_ok-list.ensures.kept ∙ ap (λ gs. kept c.args.first (terms_each gs))
+list_is g c = c.in_ok-list.ensures.kept ∙ ap (λ gs. free_part c.args.first (terms_each gs))
     c.deref.ensures.value
 
 kept_is : (g : Over) (c : In_ok-list g) → IsBasisOf (field g.K.Ring.scalars) grevlex c.args.rest
-    (kept c.args.first (terms_each c.in_ok-basis.basis.items))
-    (kept c.args.first (terms_each c.in_ok-basis.basis.items))
+    (free_part c.args.first (terms_each c.in_ok-basis.basis.items))
+    (free_part c.args.first (terms_each c.in_ok-basis.basis.items))
 kept_is g c = kept_itself (numbers g) c.args.first c.args.rest grevlex grevlex grevlex_order
     grevlex_order (terms_each c.in_ok-basis.basis.items) (terms_each c.args.gens.now)
     (polynomials g c) c.in_ok-basis.ensures.basis
@@ -97,7 +97,8 @@ ones g c =
     (sym (ap terms_each c.deref-2.ensures.value ∙ list_is g at)) (kept_is g at).monic
 
 begins : (g : Over) (c : After-deref-2 g)
-    → map (monic (field g.K.Ring.scalars)) (terms_each c.deref-2.result.now) ≡ kept c.args.first
+    → map (monic (field g.K.Ring.scalars)) (terms_each c.deref-2.result.now)
+    ≡ free_part c.args.first
     (terms_each c.in_ok-basis.basis.items)
 begins g c =
     monic_list (numbers g) grevlex grevlex_order c.args.rest (terms_each c.deref-2.result.now)
@@ -122,7 +123,7 @@ returns-clause-ran g c =
     ran_later g.K.Ring.scalars w.order grevlex w.part w.gens (IsListOf w) c.args.meter.now
     c.complete_in.new.meter c.tidy_in.new.meter first.limit first.to.last first.to.finished
     (terms_each c.deref-2.result.now)
-    (begins g at.After-deref-2 ∙ ap (kept c.args.first) first.to.gives.basis)
+    (begins g at.After-deref-2 ∙ ap (free_part c.args.first) first.to.gives.basis)
     (ones g at.After-deref-2) (λ gs hs s l h. h.sorted ∙ sym l) _ c.tidy_in.ensures.ran
 
 pub returns-clause-elimination : goal.returns-clause-elimination
@@ -139,7 +140,8 @@ returns-clause-elimination g c =
       reduced = eliminated_of (numbers g) k m grevlex grevlex grevlex_order grevlex_order basis
           (terms_each c.args.gens.now) (polynomials g at.In_ok-list) c.in_ok-basis.ensures.basis
           (terms_each gs.items)
-          (r (kept k basis) itself.polynomials (subst (λ l. IsBasisOf F grevlex m l (kept k basis))
+          (r (free_part k basis) itself.polynomials
+          (subst (λ l. IsBasisOf F grevlex m l (free_part k basis))
           (sym (begins g at.After-deref-2)) itself));
     })
     (ended_of c.tidy_in.result c.tidy_in.ensures.ran) c.tidy_in.ensures.reduced

@@ -2,7 +2,7 @@ use Rattle.std.proofs.Common.{◌≡◌, List, [], ◌∷◌, slice_get, Some, r
 use Rattle.monos.specs.declared.order.Blocks.{Blocks}
 use Rattle.machines.specs.Machine.{Ran}
 use Rattle.divide.specs.Outcomes.{outcome_of}
-use Rattle.ideal_ops.specs.Calls.{eliminating, elimination_of, IsListOf, first_block}
+use Rattle.ideal_ops.specs.Calls.{elimination_way, elimination_of, IsListOf, first_block}
 use Rattle.ideal_ops.proofs.operations.eliminate.Goals as goal
 
 -- what is told of a list by its first
@@ -18,6 +18,6 @@ returns-clause-ran g c =
     let first = ap (λ (o : Blocks). o.first) c.order-first.ensures
     ∙ sym (by_first first_block (λ p. p.order.first) (λ p ps. refl) gens c.in-Some.leader.now
     c.in-Some.ensures.value) in
-    subst (λ n. Ran (elimination_of (eliminating n gens)) (IsListOf (eliminating n gens))
+    subst (λ n. Ran (elimination_of (elimination_way n gens)) (IsListOf (elimination_way n gens))
     c.args.meter.now c.eliminate_block.new.meter (outcome_of c.eliminate_block.result)) first
     c.eliminate_block.ensures.ran

@@ -6,16 +6,16 @@ use Rattle.numbers.proofs.ScalarFields.{is_field}
 use Rattle.polynomials.specs.Order.{grevlex, blocks}
 use Rattle.polynomials.proofs.Orders.{grevlex_order}
 use Rattle.ideals.specs.Members.{IsMember}
-use Rattle.machines.specs.Elimination.{kept, in_front, with_first}
+use Rattle.machines.specs.Elimination.{free_part, in_front, with_first}
 use Rattle.machines.specs.Reduced.{IsReducedBasis}
 use Rattle.machines.specs.Machine.{Ran}
 use Rattle.machines.specs.Machines as machines
 use Rattle.poly.specs.Seen.{arity_of, terms_in, terms_each}
 use Rattle.divide.specs.Outcomes.{outcome_of}
-use Rattle.divide.proofs.Refused.{unmade}
+use Rattle.divide.proofs.Refused.{out_of_memory}
 use Rattle.complete.proofs.Made.{if_ok}
 use Rattle.ideal_ops.specs.Blending.{times_rest}
-use Rattle.ideal_ops.specs.Calls.{meeting, elimination_of, IsListOf, AreOver, IsReducedList}
+use Rattle.ideal_ops.specs.Calls.{intersection_way, elimination_of, IsListOf, AreOver, IsReducedList}
 use Rattle.ideal_ops.proofs.Ending.{met_of}
 use Rattle.ideal_ops.proofs.Lists.{over_left, over_right, over_each}
 use Rattle.ideal_ops.proofs.operations.meet.Goals as goal
@@ -31,9 +31,9 @@ blend-requires-clause-right g c = subst (λ m. AreOver m c.args.b.now)
     c.args.a.now c.args.b.now c.requires.alike)
 
 pub returns-in_err-gens-clause-ran : goal.returns-in_err-gens-clause-ran
-returns-in_err-gens-clause-ran g c = unmade (elimination_of (meeting c.args.a.now c.args.b.now))
-    c.from_residual.result _ c.from_residual.ensures.1
-    (λ w. absurd (c.in_err-gens.ensures.narrow w))
+returns-in_err-gens-clause-ran g c = out_of_memory
+    (elimination_of (intersection_way c.args.a.now c.args.b.now)) c.from_residual.result
+    c.from_residual.ensures.1
 
 pub eliminate_block-requires-clause-few : goal.eliminate_block-requires-clause-few
 eliminate_block-requires-clause-few g c =
@@ -81,7 +81,7 @@ returns-clause-ran g c =
     let S = g.K.Ring.scalars in
     let O = blocks 1 grevlex grevlex in
     let is = ap terms_each c.deref.ensures.value ∙ c.in_ok-gens.ensures.blend in
-    subst (λ ts. Ran (machines.elimination S O grevlex (kept 1) ts)
-    (IsListOf (meeting c.args.a.now c.args.b.now)) c.args.meter.now
+    subst (λ ts. Ran (machines.elimination S O grevlex (free_part 1) ts)
+    (IsListOf (intersection_way c.args.a.now c.args.b.now)) c.args.meter.now
     c.eliminate_block.new.meter (outcome_of c.eliminate_block.result)) is
     c.eliminate_block.ensures.ran

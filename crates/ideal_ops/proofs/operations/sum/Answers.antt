@@ -12,9 +12,9 @@ use Rattle.machines.specs.Reduced.{IsReducedBasis}
 use Rattle.monos.specs.declared.order.Grevlex.{Grevlex}
 use Rattle.poly.specs.Seen.{terms_in, terms_each}
 use Rattle.divide.specs.Outcomes.{outcome_of}
-use Rattle.divide.proofs.Refused.{unmade}
+use Rattle.divide.proofs.Refused.{out_of_memory}
 use Rattle.reduced_basis.specs.Reduction.{HasReduced}
-use Rattle.ideal_ops.specs.Calls.{adding, elimination_of, AreOver, IsReducedList}
+use Rattle.ideal_ops.specs.Calls.{sum_way, elimination_of, AreOver, IsReducedList}
 use Rattle.ideal_ops.proofs.Ending.{added_of}
 use Rattle.ideal_ops.proofs.Lists.{both_ok, divisors_over, over_left, over_right, over_each, over_like}
 use Rattle.ideal_ops.proofs.Outcomes.{ran_as, ended_of}
@@ -26,9 +26,9 @@ the_order : Grevlex
 the_order = record {}
 
 pub returns-in_err-gens-clause-ran : goal.returns-in_err-gens-clause-ran
-returns-in_err-gens-clause-ran g c = unmade (elimination_of (adding c.args.a.now c.args.b.now))
-    c.from_residual.result _ c.from_residual.ensures.1
-    (λ w. absurd (c.in_err-gens.ensures.narrow w))
+returns-in_err-gens-clause-ran g c = out_of_memory
+    (elimination_of (sum_way c.args.a.now c.args.b.now)) c.from_residual.result
+    c.from_residual.ensures.1
 
 pub reduced_basis_in-requires-clause-like : goal.reduced_basis_in-requires-clause-like
 reduced_basis_in-requires-clause-like g c =

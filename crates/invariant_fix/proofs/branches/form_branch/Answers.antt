@@ -13,8 +13,8 @@ use Rattle.rounds.specs.Form.{backward}
 use Rattle.invariant_fix.proofs.Forms.{fits_branch}
 use Rattle.invariant_fix.proofs.branches.form_branch.Goals as goal
 
-pub returns-in-Ok-clause-fits : goal.returns-in-Ok-clause-fits
-returns-in-Ok-clause-fits c =
+pub returns-clause-fits : goal.returns-clause-fits
+returns-clause-fits c =
     let f = c.in_ok-form.form in
     let e = c.in_ok-form.ensures in
     let size = sym (length-map c.args.images.items terms_in) in
@@ -34,10 +34,10 @@ returns-in-Ok-clause-fits c =
       early = e.early;
       few = subst (λ n. width (length (sizes f.base.items)) n ≤ 4096) size e.few;
     })
-    (c.in-Ok.ensures.terms
+    (c.in_ok-back.ensures.terms
     ∙ ap (map (λ (e : Expo). backward grevlex (length (base_of e)) (terms_in e.body)))
     c.deref.ensures.value)
-    (c.in-Ok.ensures.arity ∙ ap (map (λ (e : Expo). e.body.arity)) c.deref.ensures.value)
+    (c.in_ok-back.ensures.arity ∙ ap (map (λ (e : Expo). e.body.arity)) c.deref.ensures.value)
 
-pub returns-in-Ok-clause-pass : goal.returns-in-Ok-clause-pass
-returns-in-Ok-clause-pass c = c.in_ok-form.ensures.pass refl
+pub returns-clause-pass : goal.returns-clause-pass
+returns-clause-pass c = c.in_ok-form.ensures.pass refl

@@ -4,7 +4,7 @@ use Rattle.complete.proofs.Coming.{known}
 use Rattle.poly.specs.Seen.{terms_in, terms_each}
 use Rattle.rounds.specs.Analysis.{closing_from}
 use Rattle.invariant_fix.specs.Coming.{Comes}
-use Rattle.invariant_fix.specs.Setting.{seen}
+use Rattle.invariant_fix.specs.Setting.{setting_of}
 use Rattle.std.specs.Global.{Vec}
 use Rattle.expressions.specs.FracPoly.{FracPoly}
 use Rattle.ideal_ops.specs.Calls.{AreOver}
@@ -16,13 +16,13 @@ pub closing_step-requires-clause-next : goal.closing_step-requires-clause-next
 closing_step-requires-clause-next c =
     let size = length-map c.args.basis.now terms_in in
     let here = c.loop-element-test.true in
-    test_now (seen c.args.setting.now) c.args.round c.args.place c.loop-element.element
+    test_now (setting_of c.args.setting.now) c.args.round c.args.place c.loop-element.element
     (terms_each c.args.basis.now) c.loop-element.meter.entries (omega (arith, size, here))
     c.loop-element.invariant.next
 
 pub loop-element-preserved : goal.loop-element-preserved
 loop-element-preserved c =
-    let s = seen c.args.setting.now in
+    let s = setting_of c.args.setting.now in
     let gs = terms_each c.args.basis.now in
     let i = c.loop-element.element in
     let inv = c.loop-element.invariant in

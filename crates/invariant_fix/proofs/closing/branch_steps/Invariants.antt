@@ -3,7 +3,7 @@ use Rattle.std.specs.Global.{Vec}
 use Rattle.expressions.specs.FracPoly.{FracPoly}
 use Rattle.ideal_ops.specs.Calls.{AreOver}
 use Rattle.poly.specs.Seen.{terms_each}
-use Rattle.invariant_fix.specs.Setting.{seen}
+use Rattle.invariant_fix.specs.Setting.{setting_of}
 use Rattle.invariant_fix.specs.Steps.{Awaits, Knows, Follow, closing}
 use Rattle.invariant_fix.proofs.Passing.{StepsTo}
 use Rattle.invariant_fix.proofs.closing.branch_steps.Given as goal
@@ -15,5 +15,5 @@ invariant-loop-element l = record {
   next : Awaits l.setting l.meter (closing l.setting l.round l.place l.element l.basis);
   units : Follow l.initial.meter l.meter;
   over : All (λ (row : Vec FracPoly). AreOver l.setting.arity row.items) l.steps.items;
-  steps : StepsTo (seen l.setting) l.place (terms_each l.basis) l.element l.steps.items;
+  steps : StepsTo (setting_of l.setting) l.place (terms_each l.basis) l.element l.steps.items;
 }

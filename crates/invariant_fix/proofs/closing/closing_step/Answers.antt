@@ -2,7 +2,7 @@ use Rattle.std.proofs.Common.{sym, ap, subst, ◌∙◌}
 use Rattle.machines.specs.Journal.{units_of}
 use Rattle.divide.specs.Current.{AreDivisors}
 use Rattle.invariant_fix.specs.Coming.{Refuses}
-use Rattle.invariant_fix.specs.Setting.{seen}
+use Rattle.invariant_fix.specs.Setting.{setting_of}
 use Rattle.invariant_fix.proofs.Lists.{divisors_of, known_later}
 use Rattle.invariant_fix.proofs.Options.{some_given, if_some}
 use Rattle.invariant_fix.proofs.Squares.{quotients_over}
@@ -90,7 +90,8 @@ pub returns-in-Err-clause-err : goal.returns-in-Err-clause-err
 returns-in-Err-clause-err c =
     let over = ap (λ p. p.arity) c.index-basis-element.is ∙ c.requires.basis.arity c.args.element
     c.index-basis-element.result c.requires.element in
-    subst (Refuses (seen c.args.setting.now) c.closing_division.new.meter) (sym c.in_task.ensures)
+    subst (Refuses (setting_of c.args.setting.now) c.closing_division.new.meter)
+    (sym c.in_task.ensures)
     (step_refused c.args.setting.now c.args.round c.args.place c.args.element c.args.basis.now
     c.index.result.now c.index-basis-element.result c.requires.place c.requires.element
     c.index.ensures c.index-basis-element.is over

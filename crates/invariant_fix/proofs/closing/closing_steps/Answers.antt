@@ -4,7 +4,7 @@ use Rattle.complete.proofs.Coming.{known}
 use Rattle.poly.specs.Seen.{terms_in, terms_each}
 use Rattle.rounds.specs.Analysis.{closing_from}
 use Rattle.invariant_fix.specs.Coming.{Comes}
-use Rattle.invariant_fix.specs.Setting.{seen}
+use Rattle.invariant_fix.specs.Setting.{setting_of}
 use Rattle.std.specs.Global.{Vec}
 use Rattle.expressions.specs.FracPoly.{FracPoly}
 use Rattle.ideal_ops.specs.Calls.{AreOver}
@@ -14,7 +14,7 @@ use Rattle.invariant_fix.proofs.closing.closing_steps.Goals as goal
 
 pub loop-place-preserved : goal.loop-place-preserved
 loop-place-preserved c =
-    let s = seen c.args.setting.now in
+    let s = setting_of c.args.setting.now in
     let gs = terms_each c.args.basis.now in
     let p = c.loop-place.place in
     let inv = c.loop-place.invariant in

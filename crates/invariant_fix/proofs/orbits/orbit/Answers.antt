@@ -1,6 +1,6 @@
 use Rattle.std.proofs.Common.{sym, subst}
 use Rattle.invariant_fix.specs.Coming.{Refuses}
-use Rattle.invariant_fix.specs.Setting.{seen}
+use Rattle.invariant_fix.specs.Setting.{setting_of}
 use Rattle.invariant_fix.proofs.Works.{orbit_next, orbit_known, whole_known, orbit_units, orbit_refused}
 use Rattle.invariant_fix.proofs.orbits.orbit.Goals as goal
 
@@ -36,7 +36,8 @@ returns-in-Ok-clause-units c =
 
 pub returns-in-Err-clause-err : goal.returns-in-Err-clause-err
 returns-in-Err-clause-err c = λ hs a.
-    subst (Refuses (seen c.args.setting.now) c.eliminated_orbit.new.meter) (sym c.in_task.ensures)
+    subst (Refuses (setting_of c.args.setting.now) c.eliminated_orbit.new.meter)
+    (sym c.in_task.ensures)
     (orbit_refused c.args.setting.now c.requires.fits c.args.place c.requires.place
     c.index.result.now c.index.ensures c.args.round c.args.basis.now c.args.meter.now
     c.begin.new.self c.eliminated_orbit.new.meter c.number_of_place.result

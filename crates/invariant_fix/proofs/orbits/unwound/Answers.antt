@@ -1,5 +1,4 @@
 use Rattle.std.proofs.Common.{sym, ap, ◌∙◌}
-use Rattle.complete.proofs.Made.{if_ok}
 use Rattle.std.proofs.lemmas.Result.{err_from_is_err_and}
 use Rattle.poly.specs.Seen.{terms_in}
 use Rattle.rounds.specs.Form.{front}
@@ -32,8 +31,9 @@ returns-clause-unwound c =
     let normal = c.in_ok-normal.normal in
     let is = c.in_ok-moved.ensures.composition in
     let first = c.front-first.ensures in
-    if_ok _ _ c.reorder.result
-    (λ p i. unwound_is (form_of b.form) _ (back_arities b c.requires.branch)
+    let p = c.in_ok-reorder.field-0 in
+    let i = c.in_ok-reorder.ensures.same in
+    unwound_is (form_of b.form) _ (back_arities b c.requires.branch)
     (terms_in c.args.element.now) (terms_in moved) (terms_in normal) (terms_in p)
     (moved_same b c.args.element.now c.requires.branch c.requires.element c.requires.some moved is)
     c.in_ok-normal.ensures.normal i.same
@@ -41,5 +41,17 @@ returns-clause-unwound c =
     ∙ ap front (c.len.ensures ∙ b.form.base.ok.0)
     ∙ ap front (sym (numbers_are b.form.base.items))) (i.arity
     ∙ c.in_ok-normal.ensures.arity ∙ moved_arity b c.args.element.now c.requires.branch
-    c.requires.element c.requires.some moved is)))
-    c.reorder.ensures.same
+    c.requires.element c.requires.some moved is))
+
+pub returns-clause-block : goal.returns-clause-block
+returns-clause-block c =
+    let b = c.args.branch.now in
+    let moved = c.in_ok-moved.moved in
+    let is = c.in_ok-moved.ensures.composition in
+    let i = c.in_ok-reorder.ensures.same in (
+      ap (λ o. o.first) i.order ∙ c.front-first.ensures
+          ∙ ap front (c.len.ensures ∙ b.form.base.ok.0)
+          ∙ ap front (sym (numbers_are b.form.base.items)),
+      i.arity ∙ c.in_ok-normal.ensures.arity ∙ moved_arity b c.args.element.now
+          c.requires.branch c.requires.element c.requires.some moved is,
+    )

@@ -1,7 +1,7 @@
 use Rattle.std.proofs.Common.{◌≡◌, ◌+◌, ◌*◌, ◌≤◌, sym, subst, ◌∙◌, arith}
 use Rattle.std.proofs.lemmas.Result.{IfOk-weaker, err_from_is_err_and}
 use Rattle.poly.specs.Seen.{terms_each}
-use Rattle.invariant_fix.specs.Steps.{Awaits, KnowsTurned, meeting}
+use Rattle.invariant_fix.specs.Steps.{Awaits, KnowsTurns, meeting}
 use Rattle.invariant_fix.proofs.Lists.{known_later, known_more, turns_few}
 use Rattle.invariant_fix.proofs.Branching.{meet_due, met_done}
 use Rattle.invariant_fix.proofs.round.meet_orbit.Goals as goal
@@ -19,7 +19,7 @@ meet_with_orbit-requires-clause-so_far c = known_later c.args.setting.now.arity 
 pub meet_with_orbit-requires-clause-next : goal.meet_with_orbit-requires-clause-next
 meet_with_orbit-requires-clause-next c =
     let a = c.args.setting.now.arity in
-    subst (λ hs. KnowsTurned c.args.setting.now 12 c.orbit.new.meter hs) (sym c.deref.ensures.value)
+    subst (λ hs. KnowsTurns c.args.setting.now 12 c.orbit.new.meter hs) (sym c.deref.ensures.value)
     (known_more a _ _ _ c.in_ok-next.next.items c.in_ok-next.ensures.list
     (let z = turns_few a 1 (omega arith) in omega (arith, z)))
 

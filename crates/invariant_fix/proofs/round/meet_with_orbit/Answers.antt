@@ -1,7 +1,7 @@
 use Rattle.std.proofs.Common.{sym, subst}
 use Rattle.machines.specs.Journal.{units_of}
 use Rattle.invariant_fix.specs.Coming.{Refuses}
-use Rattle.invariant_fix.specs.Setting.{seen}
+use Rattle.invariant_fix.specs.Setting.{setting_of}
 use Rattle.invariant_fix.proofs.Lists.{one_arity, over_append, few_arity}
 use Rattle.invariant_fix.proofs.Works.{met_next, met_known, met_units, met_refused}
 use Rattle.invariant_fix.proofs.round.meet_with_orbit.Goals as goal
@@ -40,7 +40,7 @@ returns-in-Ok-clause-units c =
 
 pub returns-in-Err-clause-err : goal.returns-in-Err-clause-err
 returns-in-Err-clause-err c = λ gs a.
-    subst (Refuses (seen c.args.setting.now) c.meet.new.meter) (sym c.in_task.ensures)
+    subst (Refuses (setting_of c.args.setting.now) c.meet.new.meter) (sym c.in_task.ensures)
     (met_refused c.args.setting.now c.args.round c.args.place c.args.so_far.now c.args.next.now
     c.args.meter.now c.begin.new.self c.meet.new.meter c.number_of_place.result
     c.number_of_place.ensures c.in_ok-begin.ensures.ok gs a c.in-Err.error

@@ -1,6 +1,6 @@
 use Rattle.std.proofs.Common.{sym, subst}
 use Rattle.invariant_fix.specs.Coming.{Refuses}
-use Rattle.invariant_fix.specs.Setting.{seen}
+use Rattle.invariant_fix.specs.Setting.{setting_of}
 use Rattle.invariant_fix.proofs.Works.{start_next, start_known, start_refused}
 use Rattle.invariant_fix.proofs.starts.start_basis.Goals as goal
 
@@ -18,7 +18,7 @@ returns-in-Ok-clause-list c =
 
 pub returns-in-Err-clause-err : goal.returns-in-Err-clause-err
 returns-in-Err-clause-err c =
-    subst (Refuses (seen c.args.setting.now) c.sum.new.meter) (sym c.in_task.ensures)
+    subst (Refuses (setting_of c.args.setting.now) c.sum.new.meter) (sym c.in_task.ensures)
     (start_refused c.args.setting.now c.requires.fits c.deref.result.now c.deref.ensures.value
     c.args.meter.now c.begin.new.self c.sum.new.meter c.in_ok-begin.ensures.ok c.requires.next
     c.in-Err.error c.in-Err.ensures.ran)

@@ -1,7 +1,7 @@
 use Rattle.std.proofs.Common.{◌+◌, sym, subst, arith}
 use Rattle.machines.specs.Journal.{units_of}
 use Rattle.invariant_fix.specs.Coming.{Refuses}
-use Rattle.invariant_fix.specs.Setting.{seen}
+use Rattle.invariant_fix.specs.Setting.{setting_of}
 use Rattle.invariant_fix.proofs.Lists.{one_arity, over_append, few_arity}
 use Rattle.invariant_fix.proofs.Works.{turn_met_next, turn_met_known, turn_met_units, turn_met_refused}
 use Rattle.invariant_fix.proofs.turn_tasks.meet_with_turn.Goals as goal
@@ -44,7 +44,7 @@ returns-in-Ok-clause-units c =
 
 pub returns-in-Err-clause-err : goal.returns-in-Err-clause-err
 returns-in-Err-clause-err c = λ gs a.
-    subst (Refuses (seen c.args.setting.now) c.meet.new.meter) (sym c.in_task.ensures)
+    subst (Refuses (setting_of c.args.setting.now) c.meet.new.meter) (sym c.in_task.ensures)
     (turn_met_refused c.args.setting.now c.args.round c.args.place c.args.taken c.args.so_far.now
     c.args.turned.now
     c.args.meter.now c.begin.new.self c.meet.new.meter c.number_of_place.result

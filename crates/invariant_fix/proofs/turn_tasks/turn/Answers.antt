@@ -1,6 +1,6 @@
 use Rattle.std.proofs.Common.{◌+◌, sym, subst, arith}
 use Rattle.invariant_fix.specs.Coming.{Refuses}
-use Rattle.invariant_fix.specs.Setting.{seen}
+use Rattle.invariant_fix.specs.Setting.{setting_of}
 use Rattle.invariant_fix.proofs.Lists.{known_more, turned_more}
 use Rattle.invariant_fix.proofs.Works.{turn_next, turn_known, turn_units, turn_refused}
 use Rattle.invariant_fix.proofs.turn_tasks.turn.Goals as goal
@@ -34,7 +34,8 @@ returns-in-Ok-clause-units c =
 
 pub returns-in-Err-clause-err : goal.returns-in-Err-clause-err
 returns-in-Err-clause-err c = λ gs hs a.
-    subst (Refuses (seen c.args.setting.now) c.eliminated_turn.new.meter) (sym c.in_task.ensures)
+    subst (Refuses (setting_of c.args.setting.now) c.eliminated_turn.new.meter)
+    (sym c.in_task.ensures)
     (turn_refused c.args.setting.now c.requires.fits c.args.place c.requires.place
     c.index.result.now c.index.ensures c.args.round c.args.taken c.args.before.now
     c.args.meter.now c.begin.new.self c.eliminated_turn.new.meter c.number_of_place.result

@@ -3,8 +3,8 @@ use Rattle.std.proofs.lemmas.Result.{err_from_is_err_and}
 use Rattle.poly.specs.Seen.{terms_each}
 use Rattle.rounds.specs.Form.{Form}
 use Rattle.rounds.specs.Analysis.{form_of}
-use Rattle.invariant_fix.specs.Setting.{seen}
-use Rattle.invariant_fix.specs.Steps.{Awaits, Knows, KnowsTurned, turn_begins, turn_meets, turn_met}
+use Rattle.invariant_fix.specs.Setting.{setting_of}
+use Rattle.invariant_fix.specs.Steps.{Awaits, Knows, KnowsTurns, turn_begins, turn_meets, turn_met}
 use Rattle.invariant_fix.proofs.Lists.{known_later}
 use Rattle.invariant_fix.proofs.Works.{form_at}
 use Rattle.invariant_fix.proofs.Branching.{IsTaken, turn_due, turn_meet_due, turns_go_on, next_turn, turns_end}
@@ -69,7 +69,7 @@ loop-taken-init c =
     }
 
 -- ---- the turns behind it
-since_is : (c : After-index) → (form_of (seen c.args.setting.now) c.args.place).since
+since_is : (c : After-index) → (form_of (setting_of c.args.setting.now) c.args.place).since
     ≡ c.index.result.now.form.since
 since_is c = ap (λ (f : Form). f.since) (form_at c.args.setting.now c.requires.fits c.args.place
     c.requires.place c.index.result.now c.index.ensures)
@@ -152,7 +152,7 @@ loop-taken-preserved c =
     record {
       limit = c.in_ok-so_far-2.ensures.limit ∙ c.in_ok-before-2.ensures.limit ∙ i.limit;
       from = omega arith;
-      before = subst (λ m. KnowsTurned s m new ks) one
+      before = subst (λ m. KnowsTurns s m new ks) one
           (known_later s.arity _ _ _ ks c.in_ok-before-2.ensures.list
           c.in_ok-so_far-2.ensures.units);
       so_far = c.in_ok-so_far-2.ensures.list;

@@ -1,6 +1,6 @@
 use Rattle.std.proofs.Common.{◌≡◌, ◌≤◌}
 use Rattle.machines.specs.Journal.{units_of}
-use Rattle.invariant_fix.specs.Steps.{Knows, KnowsTurned}
+use Rattle.invariant_fix.specs.Steps.{Knows, KnowsTurns}
 use Rattle.invariant_fix.proofs.Branching.{IsTaken}
 use Rattle.invariant_fix.proofs.turn_tasks.turns.Given as goal
 
@@ -8,7 +8,7 @@ abbrev pub invariant-loop-taken : goal.invariant-loop-taken
 invariant-loop-taken l = record {
   limit : l.meter.limit ≡ l.fn.meter.limit;
   from : 1 ≤ l.taken;
-  before : KnowsTurned l.setting l.taken l.meter l.before.items;
+  before : KnowsTurns l.setting l.taken l.meter l.before.items;
   so_far : Knows l.setting l.meter l.so_far.items;
   next : IsTaken l.setting l.round l.basis l.meter.entries l.place l.taken l.before.items
       l.so_far.items;

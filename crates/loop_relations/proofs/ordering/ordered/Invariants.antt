@@ -3,7 +3,7 @@ use Rattle.numbers.specs.Fraction.{rationals}
 use Rattle.machines.specs.Collect.{collect}
 use Rattle.poly.specs.Seen.{terms_in, terms_each}
 use Rattle.expressions.specs.FracPoly.{FracPoly}
-use Rattle.relations.specs.Order.{block_order, ordered}
+use Rattle.relations.specs.Order.{block_order, in_order}
 use Rattle.loop_relations.specs.Ordering.{HaveHidden}
 use Rattle.loop_relations.proofs.ordering.ordered.Given as goal
 
@@ -11,6 +11,6 @@ abbrev pub invariant-loop-element : goal.invariant-loop-element
 invariant-loop-element l = record {
   list : terms_each l.gens.items ≡ map
       (λ (g : FracPoly). collect rationals (block_order l.vars l.shown)
-      (ordered l.vars l.shown (terms_in g))) (take l.element-index l.basis);
+      (in_order l.vars l.shown (terms_in g))) (take l.element-index l.basis);
   block : HaveHidden l.vars l.shown l.gens.items;
 }

@@ -14,7 +14,7 @@ use Rattle.divide.proofs.Ended.{places_of}
 use Rattle.divide.proofs.OneCut.{along}
 use Rattle.divide.proofs.Refused.{passed_on}
 use Rattle.complete.proofs.Made.{if_ok}
-use Rattle.reduced_basis.specs.Tidying.{list_limit}
+use Rattle.divide.specs.Limits.{list_limit}
 use Rattle.reduced_basis.specs.Reduction.{HasReduced}
 use Rattle.reduced_basis.proofs.reducing.reduced_basis_in.Given.{Over}
 use Rattle.reduced_basis.proofs.reducing.reduced_basis_in.Goals.{After-deref}

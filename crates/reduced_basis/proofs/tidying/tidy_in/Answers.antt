@@ -71,8 +71,7 @@ returns-in_err-sorted-clause-ran g c =
     let i = c.loop-state.invariant in
     let off = going_off (tidies g (goal.at.returns-in_err-sorted-clause-ran g c).Start) i.0.order
     i.1 c.if-branch.false c.in_ok-step.ensures.ok in
-    out_of_room off.0 c.from_residual-in_err-sorted.result _ c.from_residual-in_err-sorted.ensures.1
-    c.in_err-sorted.ensures.narrow
+    out_of_room off.0 c.from_residual-in_err-sorted.result c.from_residual-in_err-sorted.ensures.1
 
 pub returns-clause-ran : goal.returns-clause-ran
 returns-clause-ran g c =

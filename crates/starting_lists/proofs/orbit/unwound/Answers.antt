@@ -4,7 +4,6 @@ use Rattle.std.proofs.lemmas.List.{length-map}
 use Rattle.numbers.specs.Fraction.{ℚ}
 use Rattle.polynomials.specs.Terms.{Same, compose}
 use Rattle.poly.specs.Seen.{arity_of, terms_in, terms_each}
-use Rattle.poly.proofs.IsLaws.{is_as}
 use Rattle.poly.proofs.Standing.{first_arity, polynomial_over}
 use Rattle.coprime_base.specs.Sizes.{sizes}
 use Rattle.rounds.specs.Form.{front}
@@ -37,11 +36,13 @@ returns-clause-unwound c =
     let is = c.in_ok-moved.ensures.composition in
     let first : arity_of back ≡ front r + g.arity = first_arity (front r + g.arity) back
     c.requires.back (omega (arith, c.requires.some, c.requires.count)) in
-    is_as c.reorder.result _ _ _ _ _ _
-    (ap in_blocks (c.front.ensures
-    ∙ ap front (c.len.ensures ∙ c.args.base.now.ok.0 ∙ sym (length-map c.args.base.now.items _))))
-    (c.in_ok-normal.ensures.arity ∙ is.arity ∙ first)
-    (λ q same. moved_same r g.arity (terms_each back) (terms_in g) (terms_in moved)
-    (subst (λ n. Same ℚ (terms_in moved) (compose ℚ n (terms_in g) (terms_each back))) first
-    is.same) (terms_in c.in_ok-normal.normal) (terms_in q) c.in_ok-normal.ensures.normal same)
-    c.reorder.ensures.same
+    let i = c.in_ok-reorder.ensures.same in
+    record {
+      order = i.order ∙ ap in_blocks (c.front-first.ensures ∙ ap front (c.len.ensures
+          ∙ c.args.base.now.ok.0 ∙ sym (length-map c.args.base.now.items _)));
+      arity = i.arity ∙ c.in_ok-normal.ensures.arity ∙ is.arity ∙ first;
+      same = moved_same r g.arity (terms_each back) (terms_in g) (terms_in moved)
+          (subst (λ n. Same ℚ (terms_in moved) (compose ℚ n (terms_in g) (terms_each back))) first
+          is.same) (terms_in c.in_ok-normal.normal) (terms_in c.in_ok-reorder.field-0)
+          c.in_ok-normal.ensures.normal i.same;
+    }

@@ -1,4 +1,4 @@
-use Rattle.std.proofs.Common.{◌≡◌, ◌<◌, ◌≤◌, ◌-◌, ◌++◌, [], get_or, length, map, sym, ap, subst, ◌∙◌, arith}
+use Rattle.std.proofs.Common.{◌≡◌, ◌<◌, ◌≤◌, ◌-◌, ◌++◌, [], length, map, sym, ap, subst, ◌∙◌, arith}
 use Rattle.std.proofs.lemmas.List.{get_or-map, length-map}
 use Rattle.std.proofs.lemmas.Result.{IfOk-weaker}
 use Rattle.numbers.specs.Fraction.{Fraction, ℚ, rationals}
@@ -22,11 +22,11 @@ returns-then-place-len-clause-same c =
     let left = c.args.left.now.items in
     let size : c.len.result ≡ length left = c.len.ensures ∙ c.args.left.now.ok.0 in
     let inside : c.args.place < length left = omega (arith, c.if-place-len.true, size) in
-    IfOk-weaker c.times_t.result _ _ (λ p is. subst (Same ℚ (terms_in p))
+    subst (Same ℚ (terms_in c.in_ok-times_t.field-0))
     (at_front with_first (terms_each left) (map rest (terms_each c.args.right.now.items))
     c.args.place (terms_in c.index.result.now) (omega (arith, inside, length-map left terms_in))
-    (seen_at terms_in left c.args.place c.index.result.now inside c.index.ensures)) is.same)
-    c.times_t.ensures.product
+    (seen_at terms_in left c.args.place c.index.result.now inside c.index.ensures))
+    c.in_ok-times_t.ensures.product.same
 
 pub returns-clause-same : goal.returns-clause-same
 returns-clause-same c =

@@ -50,8 +50,7 @@ returns-clause-same c =
     ∙ sym (length-map list terms_in) in
     let behind : c.len-3.result ≤ c.args.place =
     omega (arith, c.if-place-len.false, c.len.ensures, c.len-3.ensures) in
-    IfOk-weaker c.relation_at.result _ _ (λ p is. same_equal ℚ (terms_in p) _ (is
+    same_equal ℚ (terms_in c.in_ok-relation_at.field-0) _ (c.in_ok-relation_at.ensures.relation
     ∙ ap (λ k. get_or (relations_of k c.args.variables) (c.args.place - c.len-3.result) []) numbers
     ∙ at_back (unwound r c.args.variables (terms_each c.args.back.now.items)) (terms_each list)
-    (relations_of r c.args.variables) c.args.place c.len-3.result size behind))
-    c.relation_at.ensures.relation
+    (relations_of r c.args.variables) c.args.place c.len-3.result size behind)

@@ -1,17 +1,17 @@
-use Rattle.std.proofs.lemmas.Result.{IfOk-weaker}
+use Rattle.std.proofs.Common.{Err, ap}
 use Rattle.starting_lists.proofs.LessValue.{value_less_is, nothing_shared}
 use Rattle.starting_lists.proofs.starts.less_value.Goals as goal
 
-pub returns-clause-difference : goal.returns-clause-difference
-returns-clause-difference c =
-    IfOk-weaker c.add.result _ _
-    (λ p s. value_less_is c.args.index c.args.value.now c.in_ok-variable.variable
+pub returns-in-Ok-clause-difference : goal.returns-in-Ok-clause-difference
+returns-in-Ok-clause-difference c =
+    value_less_is c.args.index c.args.value.now c.in_ok-variable.variable
     c.in_ok-opposite.opposite c.requires.index c.arity.result c.arity.ensures.arity _
-    c.in_ok-variable.ensures.variable c.in_ok-opposite.ensures.opposite p s)
-    c.add.ensures.sum
+    c.in_ok-variable.ensures.variable c.in_ok-opposite.ensures.opposite c.in-Ok.difference
+    c.in-Ok.ensures.sum
 
-pub returns-clause-narrow : goal.returns-clause-narrow
-returns-clause-narrow c = λ w.
+pub unreachable-requires : goal.unreachable-requires
+unreachable-requires c =
     nothing_shared c.args.index c.args.value.now c.in_ok-variable.variable c.in_ok-opposite.opposite
     c.requires.index c.arity.result c.arity.ensures.arity _ c.in_ok-variable.ensures.variable
-    c.in_ok-opposite.ensures.opposite c.requires.other (c.add.ensures.shared w)
+    c.in_ok-opposite.ensures.opposite c.requires.other
+    (c.in-Err-Wide.ensures.shared (ap Err c.in-Err-Wide.field-0-is))

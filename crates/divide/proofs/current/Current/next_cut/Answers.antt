@@ -55,11 +55,6 @@ finish-requires g c =
     let within = (found g (goal.at.finish-requires g c).In-Some).term_in in
     omega (arith, within)
 
-pub returns-in_err-finish-clause-wide : goal.returns-in_err-finish-clause-wide
-returns-in_err-finish-clause-wide g c =
-    let p = err_from_is_err_and c.from_residual.result c.from_residual.ensures.1 in
-    λ w. absurd (c.in_err-finish.ensures.narrow (cc (p.1, p.2, w)))
-
 pub cancel_first-requires : goal.cancel_first-requires
 cancel_first-requires g c =
     let at = (goal.at.cancel_first-requires g c).In-Some in

@@ -3,13 +3,12 @@ use Rattle.numbers.specs.Fraction.{ℚ}
 use Rattle.polynomials.specs.Terms.{Same, value_at}
 use Rattle.poly.specs.Seen.{terms_in}
 use Rattle.coprime_base.specs.Sizes.{sizes}
-use Rattle.turns.specs.Expo.{normalized}
+use Rattle.turns.specs.Expo.{with_normal_keys}
 use Rattle.turns.specs.Turns.{point}
 use Rattle.expo.specs.Operations.{sum_of}
 use Rattle.expo.specs.View.{base_of, value_of}
 use Rattle.expo.proofs.Calls.{sum_made}
-use Rattle.expo.proofs.Results.{IsNormalList, is_expo}
-use Rattle.expo.proofs.Outcomes.{ok_weaker}
+use Rattle.expo.proofs.Results.{IsNormalList, made_expo}
 use Rattle.expo.proofs.Values.{sum_values}
 use Rattle.expo.proofs.exponential.Expo.add.Goals as goal
 use Rattle.expo.proofs.exponential.Expo.add.Goals.{In_ok-body}
@@ -27,22 +26,22 @@ list_is c =
 pub of-requires-clause-normal : goal.of-requires-clause-normal
 of-requires-clause-normal c =
     let q = terms_in c.in_ok-body.body in
-    subst (λ ws. normalized (length (sizes ws)) q ≡ q) (sym (c.deref.ensures.value
+    subst (λ ws. with_normal_keys (length (sizes ws)) q ≡ q) (sym (c.deref.ensures.value
     ∙ ap (λ v. v.items) c.base.ensures))
     (list_is (goal.at.of-requires-clause-normal c).In_ok-body).normal
 
 pub returns-clause-sum : goal.returns-clause-sum
 returns-clause-sum c =
-    is_expo _ _ _ _ (terms_in c.in_ok-body.body) (sum_of c.args.self.now c.args.other.now)
+    made_expo _ _ _ _ (terms_in c.in_ok-body.body) (sum_of c.args.self.now c.args.other.now)
     (ap sizes (c.deref.ensures.value ∙ ap (λ v. v.items) c.base.ensures)) c.vars.ensures
     (list_is (goal.at.returns-clause-sum c).In_ok-body).is
-    c.of.result c.of.ensures.base c.of.ensures.vars c.of.ensures.terms
+    c.in_ok-of.field-0
+    c.in_ok-of.ensures.base c.in_ok-of.ensures.vars c.in_ok-of.ensures.terms
 
 pub returns-clause-values : goal.returns-clause-values
 returns-clause-values c =
     let e = c.args.self.now in
     let f = c.args.other.now in
-    ok_weaker _ _ (λ x is n s l. sum_values (base_of e) e.coprime.0 e.vars x (terms_in e.body)
-    (terms_in f.body) is n s l
-    ∙ ap (λ b. ℚ.add (value_of e n s) (value_at ℚ (terms_in f.body) (point b n s))) c.requires.base)
-    c.of.result (returns-clause-sum c)
+    λ n s l. sum_values (base_of e) e.coprime.0 e.vars c.in_ok-of.field-0 (terms_in e.body)
+    (terms_in f.body) (returns-clause-sum c) n s l
+    ∙ ap (λ b. ℚ.add (value_of e n s) (value_at ℚ (terms_in f.body) (point b n s))) c.requires.base

@@ -9,7 +9,7 @@ use Rattle.coprime_base.specs.Sizes.{sizes}
 use Rattle.expo.specs.Points.{turn_images}
 use Rattle.expo.specs.View.{base_of}
 use Rattle.expo.proofs.AtTurns.{images_count, turn_same, turn_values}
-use Rattle.expo.proofs.Outcomes.{wide_of}
+use Rattle.expo.proofs.Outcomes.{ok_weaker}
 use Rattle.expo.proofs.exponential.Expo.at_turn.Goals as goal
 use Rattle.expo.proofs.exponential.Expo.at_turn.Goals.{In_ok-images}
 
@@ -44,28 +44,25 @@ returns-clause-turn c =
     let at = (goal.at.returns-clause-turn c).In_ok-images in
     let e = c.args.self.now in
     let first = first_is at ∙ c.vars.ensures in
-    let i = c.in_ok-compose.ensures.composition in
-    record {
+    ok_weaker _ _ (λ p i. record {
       order = refl;
       arity = i.arity ∙ first;
       same = turn_same (base_of e) e.coprime.0 e.vars c.args.turns (terms_in e.body)
-          (terms_in c.in_ok-compose.field-0) (subst (Same ℚ (terms_in c.in_ok-compose.field-0))
+          (terms_in p) (subst (Same ℚ (terms_in p))
           (ap₂ (λ n l. compose ℚ n (terms_in c.body.result.now) l) first (images_are at)
           ∙ ap (λ x. compose ℚ e.vars (terms_in x) (turn_images (base_of e) e.vars c.args.turns))
           c.body.ensures) i.same);
-    }
+    }) c.compose.result c.compose.ensures.composition
 
 pub returns-clause-values : goal.returns-clause-values
 returns-clause-values c =
     let e = c.args.self.now in
-    λ s l. turn_values (base_of e) e.coprime.0 e.vars c.args.turns (terms_in e.body)
-    (terms_in c.in_ok-compose.field-0) (returns-clause-turn c).same s l
+    ok_weaker _ _ (λ p is s l. turn_values (base_of e) e.coprime.0 e.vars c.args.turns
+    (terms_in e.body) (terms_in p) is.same s l) c.compose.result (returns-clause-turn c)
 
-pub returns-in_err-compose-clause-wide : goal.returns-in_err-compose-clause-wide
-returns-in_err-compose-clause-wide c =
+pub returns-clause-wide : goal.returns-clause-wide
+returns-clause-wide c =
     λ w. inr (subst (λ l. IsPastComposition fractions (terms_in c.args.self.now.body) l)
-    (images_are (goal.at.returns-in_err-compose-clause-wide c).In_ok-images)
+    (images_are (goal.at.returns-clause-wide c).In_ok-images)
     (subst (λ x. IsPastComposition fractions x (terms_each c.in_ok-images.images.items))
-    (ap terms_in c.body.ensures) (c.in_err-compose.ensures.wide
-    (cc (wide_of c.from_residual-in_err-compose.result c.in_err-compose.field-0.0
-    c.from_residual-in_err-compose.ensures.1 w)))))
+    (ap terms_in c.body.ensures) (c.compose.ensures.wide w)))

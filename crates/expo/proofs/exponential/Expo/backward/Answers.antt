@@ -5,19 +5,19 @@ use Rattle.poly.specs.Seen.{terms_in}
 use Rattle.poly.specs.View.{terms_of}
 use Rattle.poly.proofs.Steps.{all_arity}
 use Rattle.coprime_base.specs.Sizes.{sizes}
-use Rattle.turns.specs.Expo.{normalized, turned_back}
+use Rattle.turns.specs.Expo.{with_normal_keys, backward_terms}
 use Rattle.turns.specs.Turns.{width}
-use Rattle.expo.specs.Operations.{turned}
+use Rattle.expo.specs.Operations.{backward_of}
 use Rattle.expo.specs.View.{base_of}
 use Rattle.expo.proofs.Calls.{long_terms, wide_front, turned_arity, turned_made, turned_distinct}
-use Rattle.expo.proofs.Outcomes.{ok_weaker, wide_of}
+use Rattle.expo.proofs.Outcomes.{ok_weaker}
 use Rattle.expo.proofs.Results.{IsNormalList, is_expo, expo_arity}
 use Rattle.expo.proofs.Values.{turned_values}
 use Rattle.expo.proofs.exponential.Expo.backward.Goals as goal
 use Rattle.expo.proofs.exponential.Expo.backward.Goals.{In_ok-terms, In_ok-body}
 
-pub turned_terms-requires : goal.turned_terms-requires
-turned_terms-requires c =
+pub terms_backward-requires : goal.terms_backward-requires
+terms_backward-requires c =
     let e = c.args.self.now in
     let items_is = c.deref.ensures.value ∙ ap (λ v. v.items) (c.terms.ensures
     ∙ ap (λ p. p.terms) c.body.ensures) in
@@ -29,43 +29,48 @@ turned_terms-requires c =
     e.body.polynomial.arity))
 
 made_is : (c : In_ok-terms) → terms_of fraction_of c.in_ok-terms.terms.items
-    ≡ turned c.args.self.now
+    ≡ backward_of c.args.self.now
 made_is c =
     let e = c.args.self.now in
-    c.in_ok-terms.ensures.terms ∙ ap₂ (λ n ts. turned_back n (terms_of fraction_of ts))
+    c.in_ok-terms.ensures.terms ∙ ap₂ (λ n ts. backward_terms n (terms_of fraction_of ts))
     (c.len.ensures ∙ ap (λ v. v.len) c.base.ensures ∙ e.base.ok.0
     ∙ sym (length-map e.base.items _))
     (c.deref.ensures.value ∙ ap (λ v. v.items) (c.terms.ensures ∙ ap (λ p. p.terms) c.body.ensures))
 
-list_is : (c : In_ok-body) → terms_of fraction_of c.in_ok-terms.terms.items ≡ turned c.args.self.now
-    → IsNormalList (length (base_of c.args.self.now)) (turned c.args.self.now)
+list_is : (c : In_ok-body) → terms_of fraction_of c.in_ok-terms.terms.items
+    ≡ backward_of c.args.self.now
+    → IsNormalList (length (base_of c.args.self.now)) (backward_of c.args.self.now)
     (terms_in c.in_ok-body.body)
 list_is c made =
-    let i = c.in_ok-body.ensures.sum in
+    let i = c.in_ok-body.ensures in
     turned_made c.args.self.now _ made (terms_in c.in_ok-body.body) c.in_ok-body.body.arity (i.arity
     ∙ c.arity.ensures.arity ∙ ap (λ p. p.arity) c.body-2.ensures) c.in_ok-body.body.polynomial
     i.same
 
-pub from_terms-requires-clause-arities : goal.from_terms-requires-clause-arities
-from_terms-requires-clause-arities c =
+pub from_distinct-requires-clause-arities : goal.from_distinct-requires-clause-arities
+from_distinct-requires-clause-arities c =
     let e = c.args.self.now in
     subst (λ n. All (λ t. length t.mono ≡ n) c.in_ok-terms.terms.items) (sym (c.arity.ensures.arity
     ∙ ap (λ p. p.arity) c.body-2.ensures))
     (all_arity fraction_of e.body.arity _
-    (turned_arity e _ (made_is (goal.at.from_terms-requires-clause-arities c).In_ok-terms)))
+    (turned_arity e _ (made_is (goal.at.from_distinct-requires-clause-arities c).In_ok-terms)))
+
+pub from_distinct-requires-clause-distinct : goal.from_distinct-requires-clause-distinct
+from_distinct-requires-clause-distinct c = turned_distinct c.args.self.now _
+    (made_is (goal.at.from_distinct-requires-clause-distinct c).In_ok-terms)
 
 pub of-requires-clause-normal : goal.of-requires-clause-normal
 of-requires-clause-normal c =
     let at = goal.at.of-requires-clause-normal c in
     let q = terms_in c.in_ok-body.body in
-    subst (λ ws. normalized (length (sizes ws)) q ≡ q) (sym (c.deref-2.ensures.value
+    subst (λ ws. with_normal_keys (length (sizes ws)) q ≡ q) (sym (c.deref-2.ensures.value
     ∙ ap (λ v. v.items) c.base-2.ensures))
     (list_is at.In_ok-body (made_is at.In_ok-terms)).normal
 
 pub returns-clause-backward : goal.returns-clause-backward
 returns-clause-backward c =
     let at = goal.at.returns-clause-backward c in
-    is_expo _ _ _ _ (terms_in c.in_ok-body.body) (turned c.args.self.now)
+    is_expo _ _ _ _ (terms_in c.in_ok-body.body) (backward_of c.args.self.now)
     (ap sizes (c.deref-2.ensures.value ∙ ap (λ v. v.items) c.base-2.ensures)) c.vars.ensures
     (list_is at.In_ok-body (made_is at.In_ok-terms)).is
     c.of.result c.of.ensures.base c.of.ensures.vars c.of.ensures.terms
@@ -75,10 +80,3 @@ returns-clause-values c =
     let e = c.args.self.now in
     ok_weaker _ _ (λ x is. turned_values (base_of e) e.coprime.0 e.vars x (terms_in e.body)
     (expo_arity e) is) c.of.result (returns-clause-backward c)
-
-pub returns-in_err-body-clause-narrow : goal.returns-in_err-body-clause-narrow
-returns-in_err-body-clause-narrow c =
-    let made = made_is (goal.at.returns-in_err-body-clause-narrow c).In_ok-terms in
-    λ w. c.in_err-body.ensures.distinct (turned_distinct c.args.self.now _ made)
-    (cc (wide_of c.from_residual-in_err-body.result c.in_err-body.field-0.0
-    c.from_residual-in_err-body.ensures.1 w))

@@ -6,12 +6,12 @@ use Rattle.poly.specs.Seen.{terms_in}
 use Rattle.poly.specs.View.{terms_of}
 use Rattle.poly.proofs.Steps.{all_arity}
 use Rattle.coprime_base.specs.Sizes.{sizes}
-use Rattle.turns.specs.Expo.{normalized}
+use Rattle.turns.specs.Expo.{with_normal_keys}
 use Rattle.turns.specs.Turns.{width}
 use Rattle.expo.specs.Operations.{vars_of, normal_of}
 use Rattle.expo.proofs.Calls.{long_terms, normal_arity, normal_made}
-use Rattle.expo.proofs.Outcomes.{ok_weaker, wide_of}
-use Rattle.expo.proofs.Results.{IsNormalList, is_expo, width_back, normal_past}
+use Rattle.expo.proofs.Outcomes.{wide_of}
+use Rattle.expo.proofs.Results.{IsNormalList, made_expo, width_back, normal_past}
 use Rattle.expo.proofs.Values.{normal_values}
 use Rattle.expo.proofs.exponential.Expo.normal.Goals as goal
 use Rattle.expo.proofs.exponential.Expo.normal.Goals.{In_ok-terms, In_ok-body}
@@ -31,7 +31,7 @@ made_is : (c : In_ok-terms) → terms_of fraction_of c.in_ok-terms.terms.items
     ≡ normal_of (sizes c.args.base.now.items) (terms_in c.args.body.now)
 made_is c =
     c.in_ok-terms.ensures.terms
-    ∙ ap₂ (λ n ts. normalized n (terms_of fraction_of ts)) (c.len-count.ensures
+    ∙ ap₂ (λ n ts. with_normal_keys n (terms_of fraction_of ts)) (c.len-count.ensures
     ∙ c.args.base.now.ok.0 ∙ sym (length-map c.args.base.now.items _)) (c.deref.ensures.value
     ∙ ap (λ v. v.items) c.terms.ensures)
 
@@ -59,7 +59,7 @@ pub of-requires-clause-normal : goal.of-requires-clause-normal
 of-requires-clause-normal c =
     let at = goal.at.of-requires-clause-normal c in
     let q = terms_in c.in_ok-body.body in
-    subst (λ ws. normalized (length (sizes ws)) q ≡ q) (sym c.deref-2.ensures.value)
+    subst (λ ws. with_normal_keys (length (sizes ws)) q ≡ q) (sym c.deref-2.ensures.value)
     (list_is at.In_ok-body (made_is at.In_ok-terms)).normal
 
 pub returns-clause-normal : goal.returns-clause-normal
@@ -70,19 +70,19 @@ returns-clause-normal c =
     let count_is : c.len-count.result ≡ length bs = c.len-count.ensures ∙ c.args.base.now.ok.0
     ∙ sym (length-map c.args.base.now.items _) in
     let few = c.arity.ensures.arity in
-    is_expo bs _ (vars_of bs p.arity) (c.arity.result - 2 - 2 * c.len-count.result)
+    made_expo bs _ (vars_of bs p.arity) (c.arity.result - 2 - 2 * c.len-count.result)
     (terms_in c.in_ok-body.body) (normal_of bs (terms_in p)) (ap sizes c.deref-2.ensures.value)
     (omega (arith, few, count_is))
-    (list_is at.In_ok-body (made_is at.In_ok-terms)).is c.of.result c.of.ensures.base
-    c.of.ensures.vars c.of.ensures.terms
+    (list_is at.In_ok-body (made_is at.In_ok-terms)).is c.in_ok-of.field-0
+    c.in_ok-of.ensures.base c.in_ok-of.ensures.vars c.in_ok-of.ensures.terms
 
 pub returns-clause-values : goal.returns-clause-values
 returns-clause-values c =
     let p = c.args.body.now in
     let bs = sizes c.args.base.now.items in
-    ok_weaker _ _ (λ x is. normal_values bs c.requires.base.0 (vars_of bs p.arity) x (terms_in p)
+    normal_values bs c.requires.base.0 (vars_of bs p.arity) c.in_ok-of.field-0 (terms_in p)
     (subst (λ n. Arity n (terms_in p)) (width_back (length bs) p.arity c.requires.front)
-    p.polynomial.arity) is) c.of.result (returns-clause-normal c)
+    p.polynomial.arity) (returns-clause-normal c)
 
 pub returns-in_err-body-clause-wide : goal.returns-in_err-body-clause-wide
 returns-in_err-body-clause-wide c =

@@ -5,13 +5,13 @@ use Rattle.polynomials.specs.Weight.{IsPastComposition}
 use Rattle.poly.specs.Seen.{terms_in, terms_each, arity_of}
 use Rattle.poly.proofs.Standing.{first_arity}
 use Rattle.coprime_base.specs.Sizes.{sizes}
-use Rattle.turns.specs.Expo.{normalized, next_images}
+use Rattle.turns.specs.Expo.{with_normal_keys, next_images}
 use Rattle.turns.specs.Turns.{width}
 use Rattle.expo.specs.Operations.{at_next}
 use Rattle.expo.specs.View.{base_of}
 use Rattle.expo.proofs.Calls.{AreNext, are_next, shifted_made}
-use Rattle.expo.proofs.Outcomes.{ok_weaker, wide_of}
-use Rattle.expo.proofs.Results.{IsNormalList, is_expo, shifted_past}
+use Rattle.expo.proofs.Outcomes.{wide_of}
+use Rattle.expo.proofs.Results.{IsNormalList, made_expo, shifted_past}
 use Rattle.expo.proofs.Values.{shifted_values}
 use Rattle.expo.proofs.exponential.Expo.shift_n.Goals as goal
 use Rattle.expo.proofs.exponential.Expo.shift_n.Goals.{In_ok-images, In_ok-body}
@@ -59,23 +59,24 @@ pub of-requires-clause-normal : goal.of-requires-clause-normal
 of-requires-clause-normal c =
     let at = goal.at.of-requires-clause-normal c in
     let q = terms_in c.in_ok-body.body in
-    subst (λ ws. normalized (length (sizes ws)) q ≡ q) (sym (c.deref-2.ensures.value
+    subst (λ ws. with_normal_keys (length (sizes ws)) q ≡ q) (sym (c.deref-2.ensures.value
     ∙ ap (λ v. v.items) c.base-2.ensures))
     (list_is at.In_ok-body (images_are at.In_ok-images)).normal
 
 pub returns-clause-shifted : goal.returns-clause-shifted
 returns-clause-shifted c =
     let at = goal.at.returns-clause-shifted c in
-    is_expo _ _ _ _ (terms_in c.in_ok-body.body) (at_next c.args.self.now)
+    made_expo _ _ _ _ (terms_in c.in_ok-body.body) (at_next c.args.self.now)
     (ap sizes (c.deref-2.ensures.value ∙ ap (λ v. v.items) c.base-2.ensures)) c.vars-2.ensures
     (list_is at.In_ok-body (images_are at.In_ok-images)).is
-    c.of.result c.of.ensures.base c.of.ensures.vars c.of.ensures.terms
+    c.in_ok-of.field-0
+    c.in_ok-of.ensures.base c.in_ok-of.ensures.vars c.in_ok-of.ensures.terms
 
 pub returns-clause-values : goal.returns-clause-values
 returns-clause-values c =
     let e = c.args.self.now in
-    ok_weaker _ _ (λ x is. shifted_values (base_of e) e.coprime.0 e.vars x (terms_in e.body) is)
-    c.of.result (returns-clause-shifted c)
+    shifted_values (base_of e) e.coprime.0 e.vars c.in_ok-of.field-0 (terms_in e.body)
+    (returns-clause-shifted c)
 
 pub returns-in_err-body-clause-wide : goal.returns-in_err-body-clause-wide
 returns-in_err-body-clause-wide c =

@@ -3,7 +3,7 @@ use Rattle.std.proofs.lemmas.List.{length-map}
 use Rattle.std.proofs.lemmas.Result.{IfOk-weaker}
 use Rattle.poly.specs.Seen.{terms_in, terms_each}
 use Rattle.poly.specs.Standing.{IsOver, AllStandFor}
-use Rattle.rounds.specs.Form.{widened}
+use Rattle.rounds.specs.Form.{with_room_for}
 use Rattle.rounds.specs.Graph.{graph_list}
 use Rattle.rounds.specs.Past.{IsPastGraph}
 use Rattle.expressions.specs.FracPoly.{FracPoly}
@@ -33,17 +33,18 @@ before-requires-clause-over c =
 
 stands : (c : In_ok-before) → AllStandFor (width_of c.args.shape) c.in_ok-before.before.items
     (before_in (width_of c.args.shape) c.args.shape.front c.args.self.now.passing.now.items 0
-    (map (widened c.args.shape.front c.args.shape.copies c.args.shape.variables)
+    (map (with_room_for c.args.shape.front c.args.shape.copies c.args.shape.variables)
     (terms_each c.args.self.now.back.now.items)))
 stands c =
     let s = c.args.shape in
     subst (λ bs. AllStandFor (width_of s) c.in_ok-before.before.items
     (before_in (width_of s) s.front
-    bs 0 (map (widened s.front s.copies s.variables) (terms_each c.args.self.now.back.now.items))))
+    bs 0 (map (with_room_for s.front s.copies s.variables)
+    (terms_each c.args.self.now.back.now.items))))
     c.as_slice.ensures.value
     (subst (λ (ps : List FracPoly). AllStandFor (width_of s) c.in_ok-before.before.items
     (before_in (width_of s) s.front c.as_slice.result.now 0
-    (map (widened s.front s.copies s.variables) (terms_each ps)))) c.as_slice-2.ensures.value
+    (map (with_room_for s.front s.copies s.variables) (terms_each ps)))) c.as_slice-2.ensures.value
     c.in_ok-before.ensures.before)
 
 pub graph-requires-clause-few : goal.graph-requires-clause-few

@@ -8,7 +8,7 @@ use Rattle.poly.specs.Seen.{terms_each}
 use Rattle.poly.specs.Standing.{IsOver, AllStandFor}
 use Rattle.poly.proofs.Standing.{stands_over}
 use Rattle.expo.specs.declared.exponential.Expo.{Expo}
-use Rattle.rounds.specs.Form.{backward, widened, at_minus_one}
+use Rattle.rounds.specs.Form.{backward, with_room_for, at_minus_one}
 use Rattle.rounds.specs.Past.{turn_images}
 use Rattle.expressions.specs.FracPoly.{FracPoly}
 use Rattle.graph_lists.specs.Late.{IsExpoOver, vars_in, form_in, form_over, bodies_in}
@@ -62,17 +62,17 @@ before-requires-clause-over c =
 
 stands : (c : In_ok-before) → AllStandFor (width_of c.args.shape) c.in_ok-before.before.items
     (before_in (width_of c.args.shape) c.args.shape.front c.args.self.now.passing.now.items 0
-    (map (widened c.args.shape.front c.args.shape.copies c.args.shape.variables)
+    (map (with_room_for c.args.shape.front c.args.shape.copies c.args.shape.variables)
     (terms_each c.push_told.new.out.items)))
 stands c =
     let s = c.args.shape in
     subst (λ bs. AllStandFor (width_of s) c.in_ok-before.before.items
     (before_in (width_of s) s.front
-    bs 0 (map (widened s.front s.copies s.variables) (terms_each c.push_told.new.out.items))))
+    bs 0 (map (with_room_for s.front s.copies s.variables) (terms_each c.push_told.new.out.items))))
     c.as_slice-2.ensures.value
     (subst (λ (ps : List FracPoly). AllStandFor (width_of s) c.in_ok-before.before.items
     (before_in (width_of s) s.front c.as_slice-2.result.now 0
-    (map (widened s.front s.copies s.variables) (terms_each ps)))) c.deref.ensures.value
+    (map (with_room_for s.front s.copies s.variables) (terms_each ps)))) c.deref.ensures.value
     c.in_ok-before.ensures.before)
 
 pub graph-requires-clause-few : goal.graph-requires-clause-few

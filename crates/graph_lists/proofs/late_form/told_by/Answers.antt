@@ -1,5 +1,5 @@
 use Rattle.graph_lists.proofs.OneTurnBack.{told_back, past_back}
-use Rattle.graph_lists.proofs.late_form.at_minus_one.Goals as goal
+use Rattle.graph_lists.proofs.late_form.told_by.Goals as goal
 
 pub returns-clause-told : goal.returns-clause-told
 returns-clause-told c = told_back c.args.poly.now c.in_ok-backward.field-0

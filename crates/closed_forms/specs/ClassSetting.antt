@@ -1,6 +1,6 @@
 -- What the forms of a class are made from, as the code has it.
 --   variables_over base s   how many variables polynomials over this base have, with as many of their own as there are closed forms
---   IsSetting base n s      the closed forms are such polynomials, the rests have the variables alone, the matrices have width n, and what is ahead has the variables alone
+--   IsClassSetting base n s      the closed forms are such polynomials, the rests have the variables alone, the matrices have width n, and what is ahead has the variables alone
 --   moved_of base w s       the form w of the rests, composed with the closed forms;  IsPastMovedOf w s: making it is past
 --   IsBeforeOf w s done p   p is the combination of earlier forms for the form w;  IsPastBeforeOf w s done: making it is past
 --   IsSourceOf base w s done q     q is the source of the recurrence of the form w;  IsPastSourceOf base w s done: making it is past
@@ -10,39 +10,42 @@ use Rattle.polynomials.specs.Terms.{Terms}
 use Rattle.linear.specs.Rows.{rows_of}
 use Rattle.poly.specs.Seen.{terms_each}
 use Rattle.turns.specs.Turns.{width}
-use Rattle.closed_forms.specs.Sources.{moved, IsBefore, IsSource, IsPastMoved, IsPastBefore, IsPastSource}
-use Rattle.closed_forms.specs.declared.sources.Setting.{Setting}
+use Rattle.closed_forms.specs.Sources.{part_by_forms, IsBefore, IsSource, IsPastMoved, IsPastBefore, IsPastSource}
+use Rattle.closed_forms.specs.declared.sources.ClassSetting.{ClassSetting}
 
-abbrev pub variables_over : List ℕ → Setting → ℕ
+abbrev pub variables_over : List ℕ → ClassSetting → ℕ
 variables_over base s = width (length base) (length s.earlier.items)
 
-pub record IsSetting (base : List ℕ) (n : ℕ) (s : Setting) : Type 0 where
+pub record IsClassSetting (base : List ℕ) (n : ℕ) (s : ClassSetting) : Type 0 where
   pub earlier : All (λ p. p.arity ≡ width (length base) (length s.earlier.items)) s.earlier.items
   pub rests : All (λ p. p.arity ≡ length s.earlier.items) s.rests.items
   pub matrix : All (λ row. length row.items ≡ n) s.matrix.items
   pub back : All (λ row. length row.items ≡ n) s.back.items
   pub ahead : All (λ p. p.arity ≡ length s.earlier.items) s.ahead.items
 
-abbrev pub moved_of : List ℕ → List Fraction → Setting → Terms Fraction
+abbrev pub moved_of : List ℕ → List Fraction → ClassSetting → Terms Fraction
 moved_of base w s =
-    moved base (length s.earlier.items) w (terms_each s.rests.items) (terms_each s.earlier.items)
+    part_by_forms base (length s.earlier.items) w (terms_each s.rests.items)
+    (terms_each s.earlier.items)
 
-abbrev pub IsPastMovedOf : List Fraction → Setting → Type 0
+abbrev pub IsPastMovedOf : List Fraction → ClassSetting → Type 0
 IsPastMovedOf w s = IsPastMoved w (terms_each s.rests.items) (terms_each s.earlier.items)
 
-abbrev pub IsBeforeOf : List Fraction → Setting → List (Terms Fraction) → Terms Fraction → Type 0
+abbrev pub IsBeforeOf : List Fraction → ClassSetting → List (Terms Fraction) → Terms Fraction
+    → Type 0
 IsBeforeOf w s done p = IsBefore w (rows_of s.matrix.items) (rows_of s.back.items) done p
 
-abbrev pub IsPastBeforeOf : List Fraction → Setting → List (Terms Fraction) → Type 0
+abbrev pub IsPastBeforeOf : List Fraction → ClassSetting → List (Terms Fraction) → Type 0
 IsPastBeforeOf w s done = IsPastBefore w (rows_of s.matrix.items) (rows_of s.back.items) done
 
-abbrev pub IsSourceOf : List ℕ → List Fraction → Setting → List (Terms Fraction) → Terms Fraction
+abbrev pub IsSourceOf : List ℕ → List Fraction → ClassSetting → List (Terms Fraction)
+    → Terms Fraction
     → Type 0
 IsSourceOf base w s done q =
     IsSource base (length s.earlier.items) w (terms_each s.rests.items) (terms_each s.earlier.items)
     (rows_of s.matrix.items) (rows_of s.back.items) done q
 
-abbrev pub IsPastSourceOf : List ℕ → List Fraction → Setting → List (Terms Fraction) → Type 0
+abbrev pub IsPastSourceOf : List ℕ → List Fraction → ClassSetting → List (Terms Fraction) → Type 0
 IsPastSourceOf base w s done =
     IsPastSource base (length s.earlier.items) w (terms_each s.rests.items)
     (terms_each s.earlier.items) (rows_of s.matrix.items) (rows_of s.back.items) done
