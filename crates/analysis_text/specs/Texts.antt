@@ -4,7 +4,7 @@
 --   basis_text names gs          an equation a line, in the order of the gs; `none` where there are no gs
 --   yes_text names qs            `yes`, and a cofactor a line
 --   name_of names i              the name at this place
---   listed names is              the names at these places, joined by `, `; listed_behind: each behind one
+--   names_at names is              the names at these places, joined by `, `; listed_behind: each behind one
 --   cause_text names r           why a branch has no closed form;  forms_text names e: by an error, which may be want of memory
 --   place_text task              where in an analysis
 --   map_text e                   which operator of a map can't be done
@@ -48,20 +48,21 @@ module _ (names : List (List ℕ)) where
   abbrev pub name_of : ℕ → List ℕ
   name_of i = get_or names i []
 
-  abbrev pub listed : List ℕ → List ℕ
-  listed is = join_by name_of (codes ", ") is
+  abbrev pub names_at : List ℕ → List ℕ
+  names_at is = join_by name_of (codes ", ") is
 
   abbrev pub listed_behind : List ℕ → List ℕ
   listed_behind is = flat_map (λ i. codes ", " ++ name_of i) is
 
   abbrev pub cause_text : Refusal → List ℕ
-  cause_text (not_solvable cycle) = codes "not solvable: " ++ listed cycle
-  cause_text (eigenvalues class) = codes "eigenvalues: " ++ listed class
-  cause_text (range class sum) = codes "range: " ++ signed_decimal sum ++ codes ": " ++ listed class
+  cause_text (not_solvable cycle) = codes "not solvable: " ++ names_at cycle
+  cause_text (eigenvalues class) = codes "eigenvalues: " ++ names_at class
+  cause_text (range class sum) = codes "range: " ++ signed_decimal sum ++ codes ": "
+      ++ names_at class
   cause_text (wide_split class candidate power row) =
       codes "wide in splitting: candidate " ++ signed_decimal candidate
       ++ codes ", power " ++ decimal power ++ codes ", row " ++ decimal row
-      ++ codes ": " ++ listed class
+      ++ codes ": " ++ names_at class
   cause_text (wide_form variable) = codes "wide in forms: " ++ name_of variable
 
   abbrev pub cause_or_memory : Option Refusal → List ℕ

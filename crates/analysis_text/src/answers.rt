@@ -66,9 +66,7 @@ fn push_line(
         ++ line (polynomial_text names.now (terms_in p.now) ++ end.now)) }
     ensures read_back { OnOk result (ReadsBack names.now (terms_in p.now)) }
 {
-    let Ok(printed) = print_poly(alloc, p, names) else {
-        return Err(AllocError);
-    };
+    let printed = print_poly(alloc, p, names)?;
     text.push_str(printed.as_str())?;
     text.push_str(end)?;
     text.push('\n')

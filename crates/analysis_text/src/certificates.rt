@@ -24,10 +24,7 @@ pub fn certificate_text(alloc: Global, names: &Names, found: Analysis) -> Result
         → ReadsAs (cert_in names.now (length c.steps) (string_bytes text)) c) }
 {
     let cert = Cert::new(names.len(), found.basis, found.steps);
-    match write_cert(alloc, &cert, names) {
-        Ok(text) => with_line_feed(text),
-        Err(_) => Err(AllocError),
-    }
+    with_line_feed(write_cert(alloc, &cert, names)?)
 }
 
 /// The text with a line feed behind it.

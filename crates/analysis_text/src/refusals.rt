@@ -2,7 +2,7 @@
 ghost use Rattle.std.specs.Prelude.{◌≡◌, ◌<◌, ◌+◌, ◌++◌, All, length, codes, decimal, string_bytes, IfOk, OnOk};
 ghost use Rattle.std.specs.Fmt.{signed_decimal};
 ghost use Rattle.analysis_text.specs.Naming.{AreNamed, AreNamedIn};
-ghost use Rattle.analysis_text.specs.Texts.{line, listed, listed_behind, forms_text, place_text, map_text, refusal_text, member_text};
+ghost use Rattle.analysis_text.specs.Texts.{line, names_at, listed_behind, forms_text, place_text, map_text, refusal_text, member_text};
 
 use closed_forms::FormsError;
 use divide::EngineError;
@@ -110,7 +110,7 @@ fn range_text(
 ) -> Result<String, AllocError>
     requires { All (λ i. i < length names.now) class.now }
     ensures { IfOk result (λ text. string_bytes text
-        ≡ codes "range: " ++ signed_decimal sum ++ codes ": " ++ listed names.now class.now) }
+        ≡ codes "range: " ++ signed_decimal sum ++ codes ": " ++ names_at names.now class.now) }
 {
     let list = name_list(alloc, names, class)?;
     let sum = integer(alloc, sum)?;
@@ -130,7 +130,7 @@ fn split_text(
     ensures { IfOk result (λ text. string_bytes text
         ≡ codes "wide in splitting: candidate " ++ signed_decimal candidate
         ++ codes ", power " ++ decimal power ++ codes ", row " ++ decimal row
-        ++ codes ": " ++ listed names.now class.now) }
+        ++ codes ": " ++ names_at names.now class.now) }
 {
     let list = name_list(alloc, names, class)?;
     let candidate = integer(alloc, i128::from(candidate))?;
@@ -146,7 +146,7 @@ fn cause_with_names(
 ) -> Result<String, AllocError>
     requires { All (λ i. i < length names.now) variables.now }
     ensures { IfOk result (λ text. string_bytes text
-        ≡ cause.now ++ listed names.now variables.now) }
+        ≡ cause.now ++ names_at names.now variables.now) }
 {
     let list = name_list(alloc, names, variables)?;
     format!(in alloc; "{cause}{list}")
@@ -155,7 +155,7 @@ fn cause_with_names(
 /// The names of some variables, joined by `, `.
 fn name_list(alloc: Global, names: &Names, variables: &[usize]) -> Result<String, AllocError>
     requires { All (λ i. i < length names.now) variables.now }
-    ensures { IfOk result (λ text. string_bytes text ≡ listed names.now variables.now) }
+    ensures { IfOk result (λ text. string_bytes text ≡ names_at names.now variables.now) }
 {
     let Some((first, others)) = variables.split_first() else {
         return Ok(String::new(alloc));

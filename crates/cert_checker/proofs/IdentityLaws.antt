@@ -8,7 +8,7 @@ use Rattle.numbers.specs.Fraction.{Fraction, ℚ}
 use Rattle.polynomials.specs.Terms.{Terms, Same, combination, compose}
 use Rattle.polynomials.proofs.Same.{Same-sym, Same-trans}
 use Rattle.monos.specs.declared.order.Grevlex.{Grevlex}
-use Rattle.poly.specs.declared.PolyError.{PolyError}
+use Rattle.ring_laws.specs.declared.ArithmeticError.{ArithmeticError}
 use Rattle.poly.specs.Seen.{Is, terms_in, terms_each, arity_of}
 use Rattle.poly.specs.Standing.{IsOver, StandsFor}
 use Rattle.poly.proofs.Standing.{first_arity}
@@ -34,7 +34,7 @@ composed_stands images element p o some all h =
           h.same;
     }
 
-pub combined_tells : (found : Result Bool PolyError) (p h : Terms Fraction)
+pub combined_tells : (found : Result Bool ArithmeticError) (p h : Terms Fraction)
     (qs rs gs ks : List (Terms Fraction)) → Same ℚ p h → qs ≡ rs → gs ≡ ks
     → IfOk found (λ b. IsTrue b ↔ Same ℚ p (combination ℚ qs gs))
     → IfOk found (λ b. IsTrue b ↔ Same ℚ h (combination ℚ rs ks))

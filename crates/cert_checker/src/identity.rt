@@ -11,7 +11,8 @@ ghost use Rattle.list_checks.specs.Past.{IsPastCombination};
 use frac128::Frac;
 use list_checks::is_combination;
 use monos::Grevlex;
-use poly::{Poly, PolyError};
+use poly::Poly;
+use ring_laws::ArithmeticError;
 use std::alloc::Global;
 
 /// Whether the element composed with the start map is 0.
@@ -19,13 +20,13 @@ pub(crate) fn start_holds(
     alloc: Global,
     element: &Poly<Frac, Grevlex>,
     images: &Vec<Poly<Frac, Grevlex>>,
-) -> Result<bool, PolyError>
+) -> Result<bool, ArithmeticError>
     requires some { 0 < length images.now.items }
     requires arity { element.now.arity ≡ length images.now.items }
     requires images { All (IsOver (length images.now.items)) images.now.items }
     ensures holds { let m = length images.now.items in IfOk result (λ holds. IsTrue holds ↔
         Same ℚ (compose ℚ m (terms_in element.now) (polys_in images.now)) []) }
-    ensures wide { IsErrOf result PolyError.Wide →
+    ensures wide { IsErrOf result ArithmeticError.Wide →
         IsPastComposition fractions (terms_in element.now) (polys_in images.now) }
 {
     Ok(element.compose(alloc, images)?.is_zero())
@@ -38,7 +39,7 @@ pub(crate) fn step_holds(
     images: &Vec<Poly<Frac, Grevlex>>,
     cofactors: &Vec<Poly<Frac, Grevlex>>,
     basis: &Vec<Poly<Frac, Grevlex>>,
-) -> Result<bool, PolyError>
+) -> Result<bool, ArithmeticError>
     requires some { 0 < length images.now.items }
     requires arity { element.now.arity ≡ length images.now.items }
     requires images { All (IsOver (length images.now.items)) images.now.items }
@@ -48,7 +49,7 @@ pub(crate) fn step_holds(
     ensures holds { let m = length images.now.items in IfOk result (λ holds. IsTrue holds ↔
         Same ℚ (compose ℚ m (terms_in element.now) (polys_in images.now))
         (combination ℚ (polys_in cofactors.now) (polys_in basis.now))) }
-    ensures wide { IsErrOf result PolyError.Wide →
+    ensures wide { IsErrOf result ArithmeticError.Wide →
         IsPastComposition fractions (terms_in element.now) (polys_in images.now)
         ⊎ IsPastCombination (polys_in cofactors.now) (polys_in basis.now) }
 {

@@ -9,7 +9,8 @@ use crate::CheckError;
 use crate::identity::{start_holds, step_holds};
 use frac128::Frac;
 use monos::Grevlex;
-use poly::{Poly, PolyError};
+use poly::Poly;
+use ring_laws::ArithmeticError;
 use std::alloc::Global;
 
 /// The first element that is not zero at each start.
@@ -33,11 +34,11 @@ pub(crate) fn first_failing_start(
         match start_holds(alloc, element, images) {
             Ok(true) => {}
             Ok(false) => return Ok(Some(i)),
-            Err(PolyError::Wide) => return Err(CheckError::Wide {
+            Err(ArithmeticError::Wide) => return Err(CheckError::Wide {
                 branch: 0,
                 element: i,
             }),
-            Err(PolyError::Memory) => return Err(CheckError::Memory),
+            Err(ArithmeticError::Memory) => return Err(CheckError::Memory),
         }
     }
     Ok(None)
@@ -67,8 +68,8 @@ pub(crate) fn first_failing_step(
         match step_holds(alloc, element, images, &rows[i], basis) {
             Ok(true) => {}
             Ok(false) => return Ok(Some(i)),
-            Err(PolyError::Wide) => return Err(CheckError::Wide { branch, element: i }),
-            Err(PolyError::Memory) => return Err(CheckError::Memory),
+            Err(ArithmeticError::Wide) => return Err(CheckError::Wide { branch, element: i }),
+            Err(ArithmeticError::Memory) => return Err(CheckError::Memory),
         }
     }
     Ok(None)

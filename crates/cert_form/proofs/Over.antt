@@ -12,7 +12,7 @@ use Rattle.polynomials.specs.Terms.{Terms}
 use Rattle.polynomials.specs.Polynomial.{Arity, AllArity}
 use Rattle.loops.specs.Certificate.{Certificate, AreOver}
 use Rattle.poly_text.specs.Flat.{flat_of}
-use Rattle.cert_form.specs.Form.{not_json, shape, polynomial, on, after, part, list_with, entry, poly_at, position_in, pair_at, zeros, paired, row_at, block_at, has_version, has_names, basis_of, steps_of, parts_of, cert_of, cert_in, document}
+use Rattle.cert_form.specs.Form.{not_json, shape, polynomial, on, after, part, list_with, entry, poly_at, position_in, pair_at, zeros, filled_row, row_at, block_at, has_version, has_names, basis_of, steps_of, parts_of, cert_of, cert_in, document}
 use Rattle.poly_text.proofs.FlatOver.{flat_over}
 use Rattle.cert_form.proofs.Readings.{on_ok, after_ok, expect_ok, ok_or_ok, parts_ok}
 
@@ -92,16 +92,16 @@ module _ (names : List (List ℕ)) where
       cofactor.part cofactor.is)
 
   paired_ok : (n : ℕ) (path : List ℕ) (least i : ℕ) (ds : Items) (row : List (Terms Fraction))
-      → paired names n path least i ds ≡ Ok row → AllOver row
+      → filled_row names n path least i ds ≡ Ok row → AllOver row
   paired_ok n path least i no_items row h =
       let same : zeros (n - least) ≡ row = cc in
       subst AllOver (append-nil (zeros (n - least)) ∙ same) (zeros_over (n - least) [] no_polys)
   paired_ok n path least i (item d ds) row h =
       let first = on_ok (λ (pair : ℕ × Terms Fraction).
-      after (zeros (pair.0 - least) ++ pair.1 ∷ []) (paired names n path (suc pair.0) (suc i)
+      after (zeros (pair.0 - least) ++ pair.1 ∷ []) (filled_row names n path (suc pair.0) (suc i)
       ds)) (pair_at names least n (part path i) d) row h in
       let behind = after_ok (zeros (first.part.0 - least) ++ first.part.1 ∷ [])
-      (paired names n path (suc first.part.0) (suc i) ds) row first.gives in
+      (filled_row names n path (suc first.part.0) (suc i) ds) row first.gives in
       let rest : AllOver behind.rest = paired_ok n path (suc first.part.0) (suc i) ds behind.rest
       behind.is in
       subst AllOver (sym (behind.joined ∙ append_assoc (zeros (first.part.0 - least))
@@ -112,7 +112,7 @@ module _ (names : List (List ℕ)) where
 
   row_ok : (sparse : Bool) (n : ℕ) (path : List ℕ) (d : Data) (row : List (Terms Fraction))
       → row_at names sparse n path d ≡ Ok row → AllOver row
-  row_ok true n path d row h = let list = on_ok (paired names n path 0 0)
+  row_ok true n path d row h = let list = on_ok (filled_row names n path 0 0)
       (ok_or (as_array d) (shape path)) row h in paired_ok n path 0 0 list.part row list.gives
   row_ok false n path d row h = parts_ok (poly_at names) Over AllOver poly_ok no_polys more_polys
       path (list_with n d) row h

@@ -15,7 +15,7 @@ use Rattle.polynomials.proofs.Same.{Same-refl}
 use Rattle.poly.specs.Seen.{terms_in}
 use Rattle.poly.specs.Standing.{StandsFor}
 use Rattle.expressions.specs.FracPoly.{FracPoly}
-use Rattle.cert_form.specs.Form.{Reading, on, after, part, pair_at, zeros, paired}
+use Rattle.cert_form.specs.Form.{Reading, on, after, part, pair_at, zeros, filled_row}
 use Rattle.cert_form.specs.Faults.{IsRead}
 use Rattle.cert_form.specs.Cert.{Polys, ArePolysOf, IsPairOf}
 use Rattle.cert_form.proofs.Each.{after-after, after-nil}
@@ -29,8 +29,8 @@ pub record PairsSoFar (names : List (List ℕ)) (n : ℕ) (path : List ℕ) (vs 
   pub raws : List (Terms Fraction)
   pub alike : ArePolysOf (length names) found raws
   pub within : vec_len found ≤ n
-  pub rest : paired names n path 0 0 (items_view vs)
-      ≡ after raws (paired names n path (vec_len found) i (items_view (drop i vs)))
+  pub rest : filled_row names n path 0 0 (items_view vs)
+      ≡ after raws (filled_row names n path (vec_len found) i (items_view (drop i vs)))
 
 module _ (names : List (List ℕ)) (n : ℕ) (path : List ℕ) (vs : List Value) where
   pub pairs_start : (found : Polys) → found.items ≡ [] → vec_len found ≡ 0
@@ -39,8 +39,8 @@ module _ (names : List (List ℕ)) (n : ℕ) (path : List ℕ) (vs : List Value)
     raws = [];
     alike = subst (λ ps. Zipped (length names) ps []) (sym none) tt;
     within = omega (arith, nothing);
-    rest = after-nil (paired names n path 0 0 (items_view vs))
-        ∙ ap (λ k. after [] (paired names n path k 0 (items_view vs))) (sym nothing);
+    rest = after-nil (filled_row names n path 0 0 (items_view vs))
+        ∙ ap (λ k. after [] (filled_row names n path k 0 (items_view vs))) (sym nothing);
   }
 
   module _ (i least : ℕ) (here : List ℕ) (v : Value) (found : Polys) (next_is : least
@@ -51,12 +51,13 @@ module _ (names : List (List ℕ)) (n : ℕ) (path : List ℕ) (vs : List Value)
 
     abbrev goes_on : ℕ × Terms Fraction → Reading (List (Terms Fraction))
     goes_on pair = after (zeros (pair.0 - vec_len found) ++ pair.1 ∷ [])
-        (paired names n path (suc pair.0) (suc i) (items_view (drop (suc i) vs)))
+        (filled_row names n path (suc pair.0) (suc i) (items_view (drop (suc i) vs)))
 
-    opened : paired names n path 0 0 (items_view vs) ≡ after before.raws
+    opened : filled_row names n path 0 0 (items_view vs) ≡ after before.raws
         (on goes_on (pair_at names least n here (view v)))
     opened = before.rest
-        ∙ ap (λ xs. after before.raws (paired names n path (vec_len found) i (items_view xs))) one
+        ∙ ap (λ xs. after before.raws (filled_row names n path (vec_len found) i (items_view xs)))
+        one
         ∙ ap₂ (λ k p. after before.raws (on goes_on (pair_at names k n p (view v)))) (sym next_is)
         (sym at)
 
@@ -71,9 +72,9 @@ module _ (names : List (List ℕ)) (n : ℕ) (path : List ℕ) (vs : List Value)
         let raw : ℕ × Terms Fraction = right.raw in
         let raws : List (Terms Fraction) = before.raws ++ (zeros (raw.0 - vec_len found) ++ raw.1
         ∷ []) in
-        let rest : Reading (List (Terms Fraction)) = paired names n path (suc raw.0) (suc i)
+        let rest : Reading (List (Terms Fraction)) = filled_row names n path (suc raw.0) (suc i)
         (items_view (drop (suc i) vs)) in
-        let joined : paired names n path 0 0 (items_view vs) ≡ after raws rest =
+        let joined : filled_row names n path 0 0 (items_view vs) ≡ after raws rest =
         opened ∙ ap (λ r. after before.raws (on goes_on r)) right.is
         ∙ after-after before.raws (zeros (raw.0 - vec_len found) ++ raw.1 ∷ []) rest in
         let zeros_alike : Zipped (length names) filled.items
@@ -94,7 +95,8 @@ module _ (names : List (List ℕ)) (n : ℕ) (path : List ℕ) (vs : List Value)
               (subst (Zipped (length names) (filled.items ++ pair.1 ∷ []))
               (append_assoc before.raws (zeros (raw.0 - vec_len found)) (raw.1 ∷ [])) pushed);
           within = omega (arith, longer, long, below);
-          rest = joined ∙ ap₂ (λ k j. after raws (paired names n path k j (items_view (drop j vs))))
+          rest = joined
+              ∙ ap₂ (λ k j. after raws (filled_row names n path k j (items_view (drop j vs))))
               (longer_is raw.0 right.alike.position) (sym (add-one i));
         }
       where

@@ -33,7 +33,7 @@ use Rattle.poly_text.specs.Flat.{flat_of}
 use Rattle.poly_text.specs.Printed.{polynomial_text}
 use Rattle.cert_form.specs.declared.error.CertError.{CertError}
 use Rattle.cert_form.specs.declared.error.CertError.TheVariants as error
-use Rattle.cert_form.specs.Form.{Fault, shape, polynomial, Reading, on, after, part, each, expect, count, list_with, most_elements, list_within, parts, poly_at, position_in, pair_at, zeros, paired, row_at, block_at, is_number, are_texts, is_list_of, has_version, has_names, elements_in, basis_of, steps_of, parts_of, cert_of, cert_in, ReadsAs}
+use Rattle.cert_form.specs.Form.{Fault, shape, polynomial, Reading, on, after, part, each, expect, count, list_with, most_elements, list_within, parts, poly_at, position_in, pair_at, zeros, filled_row, row_at, block_at, is_number, are_texts, is_list_of, has_version, has_names, elements_in, basis_of, steps_of, parts_of, cert_of, cert_in, ReadsAs}
 use Rattle.cert_form.specs.Faults.{IfFault, IsRead}
 use Rattle.cert_form.specs.Written.{poly_data, list_data, pair_data, pairs, row_data, block_data, document, document_of, AreBlanks, IsReadBack, IsReadable}
 use Rattle.cert_form.proofs.Zip.{zip_get}
@@ -147,7 +147,7 @@ module _ (names : List (List ℕ)) where
     paired_reads : (z least k i : ℕ) (row : List (Terms Fraction)) → k ≡ least + z
         → k + length row ≡ n → All (IsReadBack names) row
         → IsRead (AllZip Alike) (zeros z ++ row)
-        (paired names n path least i (items_of (pairs names k row)))
+        (filled_row names n path least i (items_of (pairs names k row)))
     paired_reads z least k i [] at long h =
         let end : k + 0 ≡ n = long in
         let left : n - least ≡ z = omega (arith, at, end) in
@@ -162,7 +162,7 @@ module _ (names : List (List ℕ)) where
         let later : suc k + length row ≡ n = (let same : k + suc (length row) ≡ n = long in
         omega (arith, same)) in
         let rest : IsRead (AllZip Alike) (zeros (suc z) ++ row)
-        (paired names n path least i (items_of (pairs names (suc k) row))) =
+        (filled_row names n path least i (items_of (pairs names (suc k) row))) =
         paired_reads (suc z) least (suc k) i row (omega (arith, at)) later
         (All-tail (IsReadBack names) [] row h) in
         record {
@@ -177,7 +177,7 @@ module _ (names : List (List ℕ)) where
         omega (arith, same)) in
         let first : IsRead Alike (t ∷ p) (poly_at names here (poly_data names (t ∷ p))) =
         poly_reads here (t ∷ p) (All-head (IsReadBack names) (t ∷ p) row h) in
-        let more : Reading (List (Terms Fraction)) = paired names n path (suc k) (suc i)
+        let more : Reading (List (Terms Fraction)) = filled_row names n path (suc k) (suc i)
         (items_of (pairs names (suc k) row)) in
         let rest : IsRead (AllZip Alike) row more =
         paired_reads 0 (suc k) (suc k) (suc i) row (omega arith) later
@@ -189,7 +189,7 @@ module _ (names : List (List ℕ)) where
         record {
           raw = (zeros z ++ first.raw ∷ []) ++ rest.raw;
           is = ap (on (λ (x : ℕ × Terms Fraction). after (zeros (x.0 - least) ++ x.1 ∷ [])
-              (paired names n path (suc x.0) (suc i) (items_of (pairs names (suc k) row)))))
+              (filled_row names n path (suc x.0) (suc i) (items_of (pairs names (suc k) row)))))
               pair
               ∙ ap₂ (λ j r. after (zeros j ++ first.raw ∷ []) r) before rest.is;
           alike = subst (AllZip Alike (zeros z ++ (t ∷ p) ∷ row))

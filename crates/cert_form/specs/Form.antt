@@ -17,7 +17,7 @@
 --   entry k ds                 the value at place k
 --   pair_at names least n path d     such a position and a polynomial over the names, in a list of two entries
 --   zeros n                    n times the polynomial 0
---   paired names n path least i ds   the cofactors from position `least` on, of n: those that the pairs ds give their positions, and else 0; the first pair is at place i of its list
+--   filled_row names n path least i ds   the cofactors from position `least` on, of n: those that the pairs ds give their positions, and else 0; the first pair is at place i of its list
 --   row_at names sparse n path d     a list of n polynomials; where it is sparse, written as the pairs of those that aren't left out
 --   block_at                   a list of n such lists
 --   has_version v d            whether the value has the version v;  has_known_version d: 1 or 2
@@ -107,16 +107,16 @@ pair_at names least n path d =
 abbrev pub zeros : ℕ → List (Terms Fraction)
 zeros n = replicate n []
 
-abbrev pub paired : List (List ℕ) → ℕ → List ℕ → ℕ → ℕ → Items → Reading (List (Terms Fraction))
-paired names n path least i no_items = Ok (zeros (n - least))
-paired names n path least i (item d ds) =
+abbrev pub filled_row : List (List ℕ) → ℕ → List ℕ → ℕ → ℕ → Items → Reading (List (Terms Fraction))
+filled_row names n path least i no_items = Ok (zeros (n - least))
+filled_row names n path least i (item d ds) =
     on (λ (pair : ℕ × Terms Fraction). after (zeros (pair.0 - least) ++ pair.1 ∷ [])
-    (paired names n path (suc pair.0) (suc i) ds))
+    (filled_row names n path (suc pair.0) (suc i) ds))
     (pair_at names least n (part path i) d)
 
 -- with positions from 0 on, each above the one before
 abbrev pub sparse_row : List (List ℕ) → ℕ → List ℕ → Data → Reading (List (Terms Fraction))
-sparse_row names n path d = on (paired names n path 0 0) (ok_or (as_array d) (shape path))
+sparse_row names n path d = on (filled_row names n path 0 0) (ok_or (as_array d) (shape path))
 
 abbrev pub full_row : List (List ℕ) → ℕ → List ℕ → Data → Reading (List (Terms Fraction))
 full_row names n path d = parts (poly_at names) path (list_with n d)

@@ -5,7 +5,7 @@ ghost use Rattle.numbers.specs.Fraction.{Fraction};
 ghost use Rattle.polynomials.specs.Terms.{Terms};
 ghost use Rattle.monos.specs.Variables.{most_variables};
 ghost use Rattle.cert_form.specs.Form as form;
-ghost use Rattle.cert_form.specs.Form.{pair_at, paired, sparse_row, zeros};
+ghost use Rattle.cert_form.specs.Form.{pair_at, filled_row, sparse_row, zeros};
 ghost use Rattle.cert_form.specs.Faults.{IfFault, IsRead};
 ghost use Rattle.cert_form.specs.Path.{path_bytes};
 ghost use Rattle.cert_form.specs.Cert.{ArePolysOf, IsPairOf, IsRowOf};
@@ -89,9 +89,9 @@ fn read_pairs<'a>(
 ) -> Result<Vec<Poly<Frac, Grevlex>>, CertError>
     ensures count { IfOk result (λ row. vec_len row ≡ count) }
     ensures ok { IfOk result (λ row. IsRead (ArePolysOf (length names.now)) row
-        (paired names.now count (path_bytes path.now) 0 0 (items_view list.now))) }
+        (filled_row names.now count (path_bytes path.now) 0 0 (items_view list.now))) }
     ensures fault { IfErr result (λ e. IfFault e (λ f.
-        paired names.now count (path_bytes path.now) 0 0 (items_view list.now) ≡ Err f)) }
+        filled_row names.now count (path_bytes path.now) 0 0 (items_view list.now) ≡ Err f)) }
 {
     let mut found = Vec::new(alloc);
     for (i, value) in list.iter().enumerate() {

@@ -1,16 +1,15 @@
 //! Writes certificates, with version 2.
 
-ghost use Rattle.std.specs.Prelude.{◌≡◌, ◌↔◌, ◌≤◌, ◌++◌, [], ℕ, List, length, map, IsTrue, string_bytes, All, IfOk, IfErr, OnOk};
+ghost use Rattle.std.specs.Prelude.{◌≡◌, ◌↔◌, ◌≤◌, ◌++◌, [], ℕ, List, length, map, IsTrue, string_bytes, All, IfOk, OnOk};
 ghost use Rattle.serde_json.specs.Data.{string};
 ghost use Rattle.serde_json.specs.View.{view};
 ghost use Rattle.poly.specs.Seen.{terms_in};
 ghost use Rattle.cert_form.specs.Form.{cert_in, most_elements, ReadsAs};
 ghost use Rattle.cert_form.specs.Cert.{HaveArity, polys_in, rows_in, blocks_in};
 ghost use Rattle.cert_form.specs.Written.{poly_data, list_data, pair_data, pair_of, row_data, block_data, document, document_of, text_of, AreBlanks, IsReadBack, IsReadable, IsWritten};
-ghost use Rattle.cert_form.specs.declared.error.CertError.TheVariants.{Memory};
 
+use crate::Cert;
 use crate::read::SPARSE_VERSION;
-use crate::{Cert, CertError};
 use expressions::Names;
 use frac128::Frac;
 use monos::Grevlex;
@@ -25,10 +24,7 @@ fn poly_value(alloc: Global, names: &Names, p: &Poly<Frac, Grevlex>) -> Result<V
     ensures { IfOk result
         (IsWritten (poly_data names.now) (IsReadBack names.now) (terms_in p.now)) }
 {
-    match print_poly(alloc, p, names) {
-        Ok(text) => Ok(Value::from(text)),
-        Err(_) => Err(AllocError),
-    }
+    Ok(Value::from(print_poly(alloc, p, names)?))
 }
 
 // The texts of polynomials, in order.
@@ -181,15 +177,14 @@ fn cert_value(alloc: Global, cert: &Cert, names: &Names) -> Result<Value, AllocE
 }
 
 /// The certificate as the text of a file, over as many names as it has variables: compact JSON with version 2, which leaves out
-/// exactly the cofactors that are 0. One of at most 512 polynomials is read back, also with blanks behind it. The only refusal is want of memory.
-pub fn write_cert(alloc: Global, cert: &Cert, names: &Names) -> Result<String, CertError>
+/// exactly the cofactors that are 0. One of at most 512 polynomials is read back, also with blanks behind it.
+pub fn write_cert(alloc: Global, cert: &Cert, names: &Names) -> Result<String, AllocError>
     requires { length names.now ≡ cert.now.arity }
     ensures text { IfOk result (λ text.
         string_bytes text ≡ text_of names.now cert.now.certificate) }
     ensures read_back { let c = cert.now.certificate in IfOk result (λ text.
         length c.basis ≤ most_elements → (blanks : List ℕ) → AreBlanks blanks
         → ReadsAs (cert_in names.now (length c.steps) (string_bytes text ++ blanks)) c) }
-    ensures memory { IfErr result (λ e. e ≡ Memory) }
 {
     let value = cert_value(alloc, cert, names)?;
     let text = value.to_string(alloc)?;

@@ -3,7 +3,7 @@
 
 ghost use Rattle.std.specs.Prelude.{◌≡◌, ◌<◌, ◌+◌, ◌-◌, suc, length, All, IfSome, IfOk, IfErr, IsOk};
 ghost use Rattle.loop_model.specs.View.{program_of};
-ghost use Rattle.loop_runs.specs.Seen.{numbers_of, seen, IsWithin};
+ghost use Rattle.loop_runs.specs.Seen.{numbers_of, states_or_fault, IsWithin};
 ghost use Rattle.loops.specs.Run.{IsStart};
 ghost use Rattle.loop_chain.specs.Parts.{code_in};
 ghost use Rattle.loop_chain.specs.Seen.{chain_in};
@@ -33,7 +33,7 @@ fn with_word(
     requires few { letters < length states.items }
     requires free { length (program_of lp.now).init ≡ 0 }
     requires sizes { All (λ s. length s.items ≡ length (program_of lp.now).names) states.items }
-    ensures states { IfSome (seen result) (λ r. r ≡ with_word (program_of lp.now) letters
+    ensures states { IfSome (states_or_fault result) (λ r. r ≡ with_word (program_of lp.now) letters
         (length states.items - 1) word.now.items (states_of states.items)) }
     ensures count { IfOk result (λ found.
         length found.items ≡ length states.items + length word.now.items) }
@@ -64,7 +64,8 @@ fn with_code(
     requires once { length (program_of code.now).branches ≡ 1 }
     requires free { length (program_of code.now).init ≡ 0 }
     requires sizes { All (λ s. length s.items ≡ length (program_of code.now).names) states.items }
-    ensures states { IfSome (seen result) (λ r. r ≡ with_code (program_of code.now) letters
+    ensures states { IfSome (states_or_fault result)
+        (λ r. r ≡ with_code (program_of code.now) letters
         (length states.items - 1) (code_in code.now) (states_of states.items)) }
     ensures count { IfOk result (λ found.
         length found.items ≡ length states.items + is_code (code_in code.now)) }
@@ -90,7 +91,7 @@ pub fn replay_chain(
     words: &[Vec<u32>],
 ) -> Result<Vec<Vec<Frac>>, RunError>
     requires { length words.now ≡ suc (length (chain_in chain.now).further) }
-    ensures replays { IfSome (seen result) (λ r. r ≡ chain_replay_of (chain_in chain.now)
+    ensures replays { IfSome (states_or_fault result) (λ r. r ≡ chain_replay_of (chain_in chain.now)
         (numbers_of start.now.items) (words_of words.now)) }
     ensures start { IsOk result → IsStart (chain_in chain.now).first (numbers_of start.now.items) }
     ensures states { let c = chain_in chain.now in

@@ -4,7 +4,7 @@
 use Rattle.std.proofs.Common.{◌≡◌, ℕ, List, refl, sym, ap, ◌∙◌, Option, Some, None, Err, option_map}
 use Rattle.std.specs.Option.{IfSome}
 use Rattle.grammars.specs.Embedded.{answer_in}
-use Rattle.grammars.specs.Reader.{Answer, reads, refused, unended, parsed}
+use Rattle.grammars.specs.Reader.{ReadResult, reads, refused, unended, parsed}
 use Rattle.grammars.proofs.Lifted.{lifted_read}
 use Rattle.expr_text.specs.Lexemes.{Lexeme, Placed}
 use Rattle.expr_text.specs.Reasons.{Reason, Fault}
@@ -17,7 +17,7 @@ use Rattle.chain_text.proofs.ChainChecked.{loops_embedded}
 use Rattle.chain_text.proofs.Raised.{up}
 
 module _ (n : ℕ) (before : Earlier) where
-  told_raised : (s : LoopState) (a : Answer Lexeme LoopContext LoopValue Reason)
+  told_raised : (s : LoopState) (a : ReadResult Lexeme LoopContext LoopValue Reason)
       → told (answer_in loops_in_chains a (in_chain n before s)) ≡ told_in_chain n before (told a)
   told_raised s (reads t ts) = refl
   told_raised s (refused x why) = refl

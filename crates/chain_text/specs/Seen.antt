@@ -1,5 +1,5 @@
 -- What readings of chains are seen as.
---   seen result               the chain with its offsets, or the first fault; none where memory failed
+--   chain_or_fault result               the chain with its offsets, or the first fault; none where memory failed
 --   seen_stages program result    these stages over the program, as a chain, or the first fault
 use Rattle.std.specs.Prelude.{ℕ, Option, Some, Result, Ok, Err, option_map}
 use Rattle.std.specs.Global.{Vec}
@@ -14,9 +14,9 @@ use Rattle.loop_chain.specs.declared.chain.Chain.{Chain}
 use Rattle.loop_chain.specs.declared.stage.StageParts.{StageParts}
 use Rattle.chain_text.specs.ChainReader.{of_stages}
 
-abbrev pub seen : Result Chain TextError → Option (Result (spec.Chain (Expr ℕ)) Fault)
-seen (Ok c) = Some (Ok (chain_in c))
-seen (Err e) = option_map Err (fault_of e)
+abbrev pub chain_or_fault : Result Chain TextError → Option (Result (spec.Chain (Expr ℕ)) Fault)
+chain_or_fault (Ok c) = Some (Ok (chain_in c))
+chain_or_fault (Err e) = option_map Err (fault_of e)
 
 abbrev pub seen_stages : Program (Expr ℕ) → Result (Vec StageParts) TextError
     → Option (Result (spec.Chain (Expr ℕ)) Fault)

@@ -3,7 +3,7 @@
 ghost use Rattle.std.specs.Prelude.{◌≡◌, ◌<◌, ◌≤◌, ℕ, [], length, codes, IfOk, IfSome};
 ghost use Rattle.std.specs.Str.{bytes_eq};
 ghost use Rattle.grammars.specs.Grammar.{sequence, many, optional};
-ghost use Rattle.expr_text.specs.CursorView.{rest, left};
+ghost use Rattle.expr_text.specs.CursorView.{rest, bytes_left};
 ghost use Rattle.loop_text.specs.LoopReader.{program_in};
 ghost use Rattle.loop_text.specs.Limited.{Limits};
 ghost use Rattle.loop_text.specs.States.{Inits, IsAll, in_branches, with_init};
@@ -11,8 +11,9 @@ ghost use Rattle.loop_chain.specs.Parts.{statements_in};
 ghost use Rattle.chain_text.specs.ChainReader.{chain_of};
 ghost use Rattle.chain_text.specs.Chains.{ChainState, Earlier, none_before, loop_limit, begin_loop, with_loop, with_code, then_token, code, the_branches, further};
 ghost use Rattle.chain_text.specs.Raising.{in_chain};
-ghost use Rattle.chain_text.specs.Seen.{seen, seen_stages};
+ghost use Rattle.chain_text.specs.Seen.{chain_or_fault, seen_stages};
 ghost use Rattle.chain_text.specs.States.{Goes, Reads, whole};
+ghost use Rattle.loop_model.specs.Limits.{all_names_limit};
 
 use expr_text::{Cursor, Lexeme, TextError};
 use loop_chain::{Chain, StageParts, further_stages};
@@ -48,7 +49,7 @@ fn expect_then(cursor: Cursor<'_>, loops: usize) -> Result<Cursor<'_>, TextError
     ensures goes { (s : ChainState) → s.context.loops ≡ loops → Goes then_token s
         (record { context = begin_loop s.context; value = with_loop s.value })
         cursor.entry result }
-    ensures falls { IfOk result (λ end. left end < left cursor.entry) }
+    ensures falls { IfOk result (λ end. bytes_left end < bytes_left cursor.entry) }
 {
     let Lexeme::Name(word) = cursor.token.lexeme else {
         return Err(syntax_fault(cursor));
@@ -75,7 +76,7 @@ fn read_code<'t>(
     begun: &mut Begun,
 ) -> Result<(Vec<Statement>, Cursor<'t>), TextError>
     requires all { IsAll names.now }
-    requires few { length names.now.all ≤ 24 }
+    requires few { length names.now.all ≤ all_names_limit }
     requires none { begun.old.branches ≡ 0 }
     ensures none { IfOk result (λ _. begun.new.branches ≡ 0) }
     ensures reads { (init : Inits) (n : ℕ) (e : Earlier) → e.code ≡ [] →
@@ -83,7 +84,7 @@ fn read_code<'t>(
         Reads (optional code) (in_chain n e (in_branches vs ls begun.old init []))
         (λ ss. in_chain n (with_code e (statements_in ss.items))
         (in_branches vs ls begun.new init [])) cursor.entry result }
-    ensures falls { IfOk result (λ r. left r.1 ≤ left cursor.entry) }
+    ensures falls { IfOk result (λ r. bytes_left r.1 ≤ bytes_left cursor.entry) }
 {
     let Lexeme::Name(word) = cursor.token.lexeme else {
         return Ok((Vec::new(alloc), cursor));
@@ -104,7 +105,7 @@ fn read_stages(
     names: &LoopNames,
 ) -> Result<Vec<StageParts>, TextError>
     requires all { IsAll names.now }
-    requires few { length names.now.all ≤ 24 }
+    requires few { length names.now.all ≤ all_names_limit }
     ensures stages { (init : Inits) →
         let s = with_init names.now.variables names.now.locals init in
         IfSome (seen_stages (program_in s) result)
@@ -135,7 +136,7 @@ fn read_stages(
 
 /// The chain that the bytes are, or their first fault.
 pub fn read_chain(alloc: Global, bytes: &[u8]) -> Result<Chain, TextError>
-    ensures { IfSome (seen result) (λ r. r ≡ chain_of bytes.now) }
+    ensures { IfSome (chain_or_fault result) (λ r. r ≡ chain_of bytes.now) }
 {
     let (names, behind) = read_names(alloc, Cursor::new(bytes))?;
     let (names, behind) = read_locals(behind, names)?;

@@ -19,12 +19,12 @@ use Rattle.polynomials.proofs.ByValues.{same_by_values}
 use Rattle.polynomials.proofs.Orders.{grevlex_order}
 use Rattle.polynomials.proofs.Same.{Same-refl, Same-trans, same_times}
 use Rattle.polynomials.proofs.ValueAt.{value_at-times, value_at-constant, value_at_same}
-use Rattle.machines.specs.Collect.{scaled}
+use Rattle.machines.specs.Collect.{scale_terms}
 use Rattle.machines.proofs.Monic.{scaled_polynomial}
 use Rattle.poly.specs.Seen.{terms_in}
 use Rattle.poly.specs.Standing.{StandsFor}
 use Rattle.expressions.specs.FracPoly.{FracPoly}
-use Rattle.expressions.specs.Operations.{Operation, product_at, Collected, IsHigh, most_terms, PassesLimit, IsFree}
+use Rattle.expressions.specs.Operations.{Operation, product_at, HoldsCollected, IsHigh, most_terms, PassesLimit, IsFree}
 use Rattle.expressions.specs.Stops.{Forms}
 use Rattle.counter_run.specs.Composition.{product_of, product_operations}
 use Rattle.counter_run.proofs.Composed.{value-product_of, all_of, arity-product_of}
@@ -34,27 +34,28 @@ module _ (d : Fraction) where
   abbrev times_d : List ℕ × Fraction → List ℕ × Fraction
   times_d t = (t.0, ℚ.mul d t.1)
 
-  scaled-map : (p : Terms Fraction) → scaled rationals d p ≡ map times_d p
-  unfolding scaled
+  scaled-map : (p : Terms Fraction) → scale_terms rationals d p ≡ map times_d p
+  unfolding scale_terms
   scaled-map [] = refl
   scaled-map (t ∷ p) = ap (λ q. times_d t ∷ q) (scaled-map p)
 
-  scaled-length : (p : Terms Fraction) → length (scaled rationals d p) ≡ length p
+  scaled-length : (p : Terms Fraction) → length (scale_terms rationals d p) ≡ length p
   scaled-length p = ap length (scaled-map p) ∙ length-map p times_d
 
   scaled-shift : (m : ℕ) (p : Terms Fraction) → Arity m p
-      → shift ℚ (replicate m 0) d p ≡ scaled rationals d p
-  unfolding scaled Algebra.shift Each
+      → shift ℚ (replicate m 0) d p ≡ scale_terms rationals d p
+  unfolding scale_terms Algebra.shift Each
   scaled-shift m [] a = refl
   scaled-shift m (t ∷ p) a =
       ap₂ (λ e q. (e, ℚ.mul d t.1) ∷ q) (zeros-plus m t.0 a.0) (scaled-shift m p a.1)
 
   scaled-times : (m : ℕ) (p : Terms Fraction) → Arity m p
-      → times ℚ (constant m d) p ≡ scaled rationals d p
+      → times ℚ (constant m d) p ≡ scale_terms rationals d p
   unfolding constant Algebra.times
   scaled-times m p a = append-nil (shift ℚ (replicate m 0) d p) ∙ scaled-shift m p a
 
-  scaled_degree : (e : ℕ) (p : Terms Fraction) → IsDegree e p → IsDegree e (scaled rationals d p)
+  scaled_degree : (e : ℕ) (p : Terms Fraction) → IsDegree e p
+      → IsDegree e (scale_terms rationals d p)
   scaled_degree e p h =
       let (k, t, inside, is, s) = h.reached in
       subst (IsDegree e) (sym (scaled-map p)) (record {
@@ -85,9 +86,9 @@ module _ (m : ℕ) (c : Fraction) (n : c ≢ ℚ.zero) where
       ∙ ap (λ x. ℚ.mul x (value_at ℚ p s)) (value_at-constant ℚ_ring m c s)
 
   back : (r r' p : Terms Fraction) → Arity m r → IsPolynomial ℚ grevlex m p → Same ℚ p r'
-      → IsTimes r r' → Same ℚ (scaled rationals d p) r
+      → IsTimes r r' → Same ℚ (scale_terms rationals d p) r
   back r r' p a is same h =
-      same_by_values m (scaled rationals d p) r
+      same_by_values m (scale_terms rationals d p) r
       (scaled_polynomial ℚ_field grevlex grevlex_order m d not_zero p is).arity a
       (λ s l. ap (λ x. value_at ℚ x s) (sym (scaled-times d m p is.arity))
       ∙ value_at-times ℚ_ring (constant m d) p s
@@ -98,21 +99,21 @@ module _ (m : ℕ) (c : Fraction) (n : c ≢ ℚ.zero) where
       ∙ ap (λ x. ℚ.mul x (value_at ℚ r s)) undone ∙ one-mul ℚ_ring (value_at ℚ r s))
 
   unscaled : (P : Terms Fraction → Type 0)
-      → ((p : Terms Fraction) → P p → P (scaled rationals d p)) → (r r' : Terms Fraction)
-      → Arity m r → IsTimes r r' → Collected m P r' → Collected m P r
+      → ((p : Terms Fraction) → P p → P (scale_terms rationals d p)) → (r r' : Terms Fraction)
+      → Arity m r → IsTimes r r' → HoldsCollected m P r' → HoldsCollected m P r
   unscaled P keeps r r' a h k = record {
-    terms = scaled rationals d k.terms;
+    terms = scale_terms rationals d k.terms;
     is = scaled_polynomial ℚ_field grevlex grevlex_order m d not_zero k.terms k.is;
     same = back r r' k.terms a k.is k.same h;
     holds = keeps k.terms k.holds;
   }
 
-  high_unscaled : (p : Terms Fraction) → IsHigh p → IsHigh (scaled rationals d p)
+  high_unscaled : (p : Terms Fraction) → IsHigh p → IsHigh (scale_terms rationals d p)
   high_unscaled p h =
       record { degree = h.degree; is = scaled_degree d h.degree p h.is; high = h.high }
 
   long_unscaled : (p : Terms Fraction) → most_terms < length p
-      → most_terms < length (scaled rationals d p)
+      → most_terms < length (scale_terms rationals d p)
   long_unscaled p h = subst (λ k. most_terms < k) (sym (scaled-length d p)) h
 
   module _ (q q' f : Terms Fraction) (a : Arity m q) (b : Arity m f) (h : IsTimes q q') where

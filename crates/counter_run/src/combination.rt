@@ -14,9 +14,9 @@ use crate::composition::{NO_OFFSET, compose_anew, multiple_of};
 use expressions::{MapError, sum};
 use frac128::Frac;
 use monos::{Grevlex, Mono};
-use poly::{Poly, PolyError, Term};
-use ring_laws::Ring;
-use std::alloc::Global;
+use poly::{Poly, Term};
+use ring_laws::{ArithmeticError, Ring};
+use std::alloc::{AllocError, Global};
 
 /// No more images are kept for one list of images of variables.
 const MOST_IMAGES: usize = 512;
@@ -124,7 +124,7 @@ fn keep(
     known: &mut Vec<MonomialImage>,
     monomial: &Mono,
     image: Poly<Frac, Grevlex>,
-) -> Result<(), MapError>
+) -> Result<(), AllocError>
     requires known { AreMonomialImages arity (terms_each images.now.items) known.old.items }
     requires image { IsPowerProduct arity (terms_each images.now.items) monomial.now image }
     ensures known { AreMonomialImages arity (terms_each images.now.items) known.new.items }
@@ -132,7 +132,7 @@ fn keep(
     if known.len() >= MOST_IMAGES {
         return Ok(());
     }
-    let monomial = copy_of(alloc, monomial)?;
+    let monomial = monomial.copy(alloc)?;
     known.push(MonomialImage { monomial, image })?;
     Ok(())
 }
@@ -149,18 +149,8 @@ fn with_multiple(
 {
     let multiple = match image.scale(alloc, number) {
         Ok(multiple) => multiple,
-        Err(PolyError::Wide) => return Err(MapError::Wide { at: NO_OFFSET }),
-        Err(PolyError::Memory) => return Err(MapError::Memory),
+        Err(ArithmeticError::Wide) => return Err(MapError::Wide { at: NO_OFFSET }),
+        Err(ArithmeticError::Memory) => return Err(MapError::Memory),
     };
     sum(alloc, NO_OFFSET, total, &multiple)
-}
-
-/// The monomial.
-fn copy_of(alloc: Global, monomial: &Mono) -> Result<Mono, MapError>
-    ensures { IfOk result (λ copy. copy ≡ monomial.now) }
-{
-    match monomial.copy(alloc) {
-        Ok(copy) => Ok(copy),
-        Err(_) => Err(MapError::Memory),
-    }
 }

@@ -24,7 +24,7 @@ use Rattle.expr_text.specs.declared.cursor.Cursor.{Cursor}
 use Rattle.expr_text.specs.declared.error.TextError.{TextError}
 use Rattle.expr_text.specs.Sums.{most_depth, SumState, Rule, a_sum, a_factor, sum_language, shallower, with_one, with_two, number_token, name_token, opening, closing, parentheses, atom, operator, exponent, raising, leading_minus, negation, opposite, factor, combine, times, over, next_factor, sign_of, joins, next_product, divisor_token, divisor_fault}
 use Rattle.expr_text.specs.Telling.{reading}
-use Rattle.expr_text.specs.Reads.{used_by, Around, state_in, behind_expr, waiting, inside, with_exponent, with_divisor}
+use Rattle.expr_text.specs.Reads.{used_by, Around, state_in, behind_expr, with_operator, inside, with_exponent, with_divisor}
 use Rattle.expr_text.proofs.SumChecked.{sums_checked}
 use Rattle.expr_text.proofs.Paths.{reading_change, IsFault}
 use Rattle.expr_text.proofs.CursorReads.{genuine_number, genuine_name, fault_at, here, token_read, token_faulty, token_barred, starts, at_left, at_right, at_more, at_none, no_first, fault_told, faulty, amiss}
@@ -239,11 +239,12 @@ module _ (a : Around) (n : ℕ) (k : Cursor) where
   module _ (b : ℕ) (known : IsTrue (is_sign b)) (is : seen_lexeme k.token.lexeme ≡ lexemes.sign
       b) where
     pub operator_read : n < 1024 → (d : Cursor) → tokens_from k.text.now k.token.end ≡ rest d
-        → Ok (state_in (waiting a k.token.at) (n + 1), rest d) ≡ reading sum_language (operator b)
+        → Ok (state_in (with_operator a k.token.at) (n + 1), rest d) ≡ reading sum_language
+        (operator b)
         (state_in a n) (rest k)
     unfolding most_operators
     operator_read few d next =
-        ap (λ m. Ok (state_in (waiting a k.token.at) m, rest d)) (add-one n)
+        ap (λ m. Ok (state_in (with_operator a k.token.at) m, rest d)) (add-one n)
         ∙ token_read sum_language (operator b) refl (state_in a n) k (lexemes.sign b) is
         (a_sign_kind b known) d next (ap (λ t. unless t limit) (le-leb (suc n) 1024 few))
 
@@ -287,11 +288,11 @@ module _ (a : Around) (n : ℕ) (k : Cursor) where
   module _ (is : seen_lexeme k.token.lexeme ≡ lexemes.sign 45) where
     pub minus_read : a.depth < 64 → n < 1024 → (d : Cursor) → tokens_from k.text.now k.token.end
         ≡ rest d
-        → Ok (state_in (inside (waiting a k.token.at)) (n + 1), rest d) ≡ reading sum_language
+        → Ok (state_in (inside (with_operator a k.token.at)) (n + 1), rest d) ≡ reading sum_language
         leading_minus (state_in a n) (rest k)
     unfolding most_depth most_operators
     minus_read room few d next =
-        ap₂ (λ m o. Ok (state_in (record (waiting a k.token.at) { depth = m }) o, rest d))
+        ap₂ (λ m o. Ok (state_in (record (with_operator a k.token.at) { depth = m }) o, rest d))
         (add-one a.depth) (add-one n)
         ∙ token_read sum_language leading_minus refl (state_in a n) k (lexemes.sign 45) is refl d
         next
@@ -347,22 +348,23 @@ module _ (s : SumState) (k : Cursor) where
 -- ---- changes
 module _ (a : Around) (n at : ℕ) where
   pub negation_done : (e : Expr ℕ) (k : Cursor) → Ok (state_in (behind_expr a (neg at e)) n, rest k)
-      ≡ reading sum_language negation (state_in (behind_expr (inside (waiting a at)) e) n) (rest k)
+      ≡ reading sum_language negation (state_in (behind_expr (inside (with_operator a at)) e) n)
+      (rest k)
   unfolding used_by
   negation_done e k =
       ap (λ d. Ok (state_in (behind_expr (record a { depth = d }) (neg at e)) n, rest k))
       (sym (add-sub_cancel a.depth 1))
       ∙ sym (reading_change sum_language shallower (λ c v. with_one neg v)
-      (state_in (behind_expr (inside (waiting a at)) e) n) (here k) (behind k))
+      (state_in (behind_expr (inside (with_operator a at)) e) n) (here k) (behind k))
 
   pub combine_done : (p : Expr ℕ) (f : ℕ → Expr ℕ → Expr ℕ → Expr ℕ) (q : Expr ℕ)
       → used_by (f at p q) a.used ≡ used_by q (used_by p a.used) → (k : Cursor)
       → Ok (state_in (behind_expr a (f at p q)) n, rest k) ≡ reading sum_language (combine f)
-      (state_in (behind_expr (waiting (behind_expr a p) at) q) n) (rest k)
+      (state_in (behind_expr (with_operator (behind_expr a p) at) q) n) (rest k)
   combine_done p f q uses k =
       ap (λ us. Ok (state_in (record (behind_expr a (f at p q)) { used = us }) n, rest k)) uses
       ∙ sym (reading_change sum_language (λ c. c) (λ c v. with_two f v)
-      (state_in (behind_expr (waiting (behind_expr a p) at) q) n) (here k) (behind k))
+      (state_in (behind_expr (with_operator (behind_expr a p) at) q) n) (here k) (behind k))
 
 -- ---- what stands behind a /
 module _ (s : SumState) (k : Cursor) where

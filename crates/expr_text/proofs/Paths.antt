@@ -16,7 +16,7 @@ use Rattle.std.proofs.Common.{◌≡◌, List, ◌∷◌, refl, ap, ◌∙◌, s
 use Rattle.grammars.specs.Kinds.{has}
 use Rattle.grammars.specs.Grammar.{State, change, sequence, either, many, rule, after_change}
 use Rattle.grammars.specs.First.{first, may_be_empty}
-use Rattle.grammars.specs.Reader.{Answer, reads, refused, unended, parsed}
+use Rattle.grammars.specs.Reader.{ReadResult, reads, refused, unended, parsed}
 use Rattle.grammars.specs.Checked.{IsChecked}
 use Rattle.grammars.proofs.Steps.{and_then, parsed_change, parsed_sequence, parsed_either, parsed_many, parsed_rule}
 use Rattle.expr_text.specs.Lexemes.{Lexeme, Placed}
@@ -33,7 +33,7 @@ going_on (Err e) f = Err e
 
 module _ {N C V : Type 0} (L : TextLanguage N C V) where
   abbrev TextAnswer : Type 0
-  TextAnswer = Answer Lexeme C V Reason
+  TextAnswer = ReadResult Lexeme C V Reason
 
   pub told-and_then : (a : TextAnswer) (f : State C V → List Placed → TextAnswer)
       → told (and_then L a f) ≡ going_on (told a) (λ t rest. told (f t rest))

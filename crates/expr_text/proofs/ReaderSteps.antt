@@ -6,7 +6,7 @@
 --   Chains, chain_X         a part, and any number of ways to go on behind it: the first is refused, is read; a way is refused, is taken; there is none more
 use Rattle.std.proofs.Common.{◌≡◌, ℕ, ◌+◌, List, ap, sym, subst, ◌∙◌, Ok, Err, Result, IfSome, IsTrue}
 use Rattle.loops.specs.Program.{Expr}
-use Rattle.expressions.specs.View.{seen}
+use Rattle.expressions.specs.View.{expr_of}
 use Rattle.grammars.specs.Grammar.{sequence, many, rule}
 use Rattle.expr_text.specs.Lexemes as lexemes
 use Rattle.expr_text.specs.Lexemes.{Placed}
@@ -19,13 +19,13 @@ use Rattle.expr_text.specs.declared.sums.Part.{Part}
 use Rattle.expr_text.specs.declared.sums.SumReader.{SumReader}
 use Rattle.expr_text.specs.Sums.{SumContext, SumValue, SumState, Rule, a_factor, sum_language, factor, operator, combine, push, note}
 use Rattle.expr_text.specs.Telling.{Told, reading, answer_by}
-use Rattle.expr_text.specs.Reads.{used_by, Around, around, state_in, state_behind, behind_expr, waiting, Counts, ReadsPart, ReadsBehind}
+use Rattle.expr_text.specs.Reads.{used_by, Around, around, state_in, state_behind, behind_expr, with_operator, Counts, ReadsPart, ReadsBehind}
 use Rattle.expr_text.proofs.SumChecked.{sums_checked}
 use Rattle.expr_text.proofs.Paths.{reading_rule, GivesError, GoesOn, start, on, over, ends, stops}
 use Rattle.expr_text.proofs.PartSteps.{combine_done}
 
 abbrev pub operand : Part → Cursor → Around → Around
-operand p k a = waiting (behind_expr a (seen p.value.value)) k.token.at
+operand p k a = with_operator (behind_expr a (expr_of p.value.value)) k.token.at
 
 module _ (r : SumReader) (depth : ℕ) where
   pub factor_rule : (n : ℕ) (k : Cursor) (result : Result (Part × Cursor) TextError)
@@ -40,7 +40,7 @@ module _ (r : SumReader) (depth : ℕ) where
   module _ (p : Part) (k : Cursor) (b : ℕ) (known : IsTrue (is_sign b))
       (is : seen_lexeme k.token.lexeme ≡ lexemes.sign b) where
     abbrev d : Expr ℕ
-    d = seen p.value.value
+    d = expr_of p.value.value
 
     pub uncounted : (h : Rule) {error : TextError} {result : Result (Part × Cursor) TextError}
         → Counts p.operators k (Err error) → GivesError result error
@@ -70,11 +70,12 @@ module _ (r : SumReader) (depth : ℕ) where
       pub operand_done : ((at : ℕ) (d e : Expr ℕ) (us : List ℕ)
           → used_by (f at d e) us ≡ used_by e (used_by d us)) → (q w : Part) (end : Cursor)
           → ReadsPart r depth h (p.operators + 1) next (Ok (q, end))
-          → seen w.value.value ≡ f k.token.at d (seen q.value.value) → w.operators ≡ q.operators
+          → expr_of w.value.value ≡ f k.token.at d (expr_of q.value.value)
+          → w.operators ≡ q.operators
           → ReadsBehind r depth joins p k (Ok (w, end))
       operand_done uses q w end reads value count = λ us v.
           let a = around r depth us v in
-          let e = seen q.value.value in
+          let e = expr_of q.value.value in
           ap (λ e. Ok (state_in (behind_expr a e) w.operators, rest end)) value
           ∙ ap (λ n. Ok (state_in (behind_expr a (f k.token.at d e)) n, rest end)) count
           ∙ ends (on (behind_operator a) (reads (used_by d us) (note k.token.at (push d v))))

@@ -17,7 +17,7 @@ use Rattle.expressions.specs.Names.{place_of}
 use Rattle.expressions.specs.Uses.{uses}
 use Rattle.grammars.specs.Kinds as kinds
 use Rattle.grammars.specs.Reader as answer
-use Rattle.grammars.specs.Reader.{Answer, parsed}
+use Rattle.grammars.specs.Reader.{ReadResult, parsed}
 use Rattle.grammars.proofs.Reading.{read_is_derived}
 use Rattle.grammars.proofs.Kept.{Keeps, read_kept}
 use Rattle.expr_text.specs.Lexemes as lexemes
@@ -358,7 +358,8 @@ module _ (names : List (List ℕ)) (refused : List ℕ) where
     rules_keep a_factor c = factor_keeps
 
     -- ---- what is read
-    told_reads : (a : Answer Lexeme SumContext SumValue Reason) (t : SumState) (rest : List Placed)
+    told_reads : (a : ReadResult Lexeme SumContext SumValue Reason) (t : SumState)
+        (rest : List Placed)
         → Ok (t, rest) ≡ told a → a ≡ answer.reads t rest
     told_reads (answer.reads u us) t rest e = let same : ◌≡◌ {A = SumState × List Placed} (t, rest)
         (u, us) = cc in ap₂ answer.reads (sym (ap (λ p. p.0) same)) (sym (ap (λ p. p.1) same))

@@ -7,7 +7,7 @@ use Rattle.std.proofs.Common.{◌≡◌, ℕ, List, [], ◌∷◌, ◌++◌, ref
 use Rattle.rings.proofs.Basics.{same_head, same_tail}
 use Rattle.grammars.specs.Grammar.{Placed, State, Grammar, Language, sequence}
 use Rattle.grammars.specs.Derivation.{Mark}
-use Rattle.grammars.specs.Reader.{Answer, reads, refused, unended, read, ended, read_whole, parsed}
+use Rattle.grammars.specs.Reader.{ReadResult, reads, refused, unended, read, at_text_end, read_whole, parsed}
 use Rattle.grammars.specs.Checked.{IsChecked, IsWhole}
 use Rattle.grammars.specs.FirstFault.{symbols_in, lexemes_of, sounds, IsFirstFault}
 use Rattle.grammars.specs.Spelled.{IsRead, AreSpelled, spelled_marks}
@@ -65,11 +65,11 @@ module _ {N C V R : Type 0} (L : Language N Kind Lexeme C V R) (checked : IsChec
   pub outcome : Outcome
   outcome = go (read L gs s (tokens bytes)) refl
     where
-      go : (a : Answer Lexeme C V R) → read L gs s (tokens bytes) ≡ a → Outcome
-      go (reads t []) e = is_read t (ap (ended L) e)
-      go (reads t (x ∷ xs)) e = is_refused x None (ap (ended L) e)
-      go (refused x why) e = is_refused x why (ap (ended L) e)
-      go unended e = absurd (never_unended (ap (ended L) e))
+      go : (a : ReadResult Lexeme C V R) → read L gs s (tokens bytes) ≡ a → Outcome
+      go (reads t []) e = is_read t (ap (at_text_end L) e)
+      go (reads t (x ∷ xs)) e = is_refused x None (ap (at_text_end L) e)
+      go (refused x why) e = is_refused x why (ap (at_text_end L) e)
+      go unended e = absurd (never_unended (ap (at_text_end L) e))
 
 module _ {C V : Type 0} where
   abbrev up_to_end : State C V → List (Placed Lexeme) → Told C V
@@ -81,7 +81,7 @@ module _ {C V : Type 0} where
   whole_told (Err f) = Err f
 
 module _ {N C V : Type 0} (L : TextLanguage N C V) where
-  told-ended : (a : Answer Lexeme C V Reason) → told (ended L a) ≡ whole_told (told a)
+  told-ended : (a : ReadResult Lexeme C V Reason) → told (at_text_end L a) ≡ whole_told (told a)
   told-ended (reads t []) = refl
   told-ended (reads t (x ∷ xs)) = refl
   told-ended (refused x why) = refl
@@ -90,5 +90,5 @@ module _ {N C V : Type 0} (L : TextLanguage N C V) where
   pub whole_reading : (g h : TextRule N C V) (s : State C V) (ts : List (Placed Lexeme))
       → told (read_whole L (g ∷ h ∷ []) s ts) ≡ whole_told (reading L (sequence g h) s ts)
   unfolding reading
-  whole_reading g h s ts = ap (λ a. told (ended L a)) (read_then L (h ∷ []) ts (g ∷ []) s
+  whole_reading g h s ts = ap (λ a. told (at_text_end L a)) (read_then L (h ∷ []) ts (g ∷ []) s
       ∙ sym (parsed_sequence L g h s ts)) ∙ told-ended (parsed L (sequence g h) s ts)

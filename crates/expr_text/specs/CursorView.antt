@@ -2,7 +2,7 @@
 --   rest c          the tokens from its own on
 --   behind c        the tokens behind its own
 --   items c         the tokens from its own on, where it stands in a guard
---   left c          how many bytes are left, with its token's; none at the end
+--   bytes_left c          how many bytes are left, with its token's; none at the end
 use Rattle.std.specs.Prelude.{ℕ, suc, ◌-◌, List, ◌∷◌, length}
 use Rattle.expr_text.specs.Lexemes.{Placed}
 use Rattle.expr_text.specs.NextToken.{seen_lexeme, tokens_behind, items_behind}
@@ -25,5 +25,5 @@ abbrev pub unless_end : Lexeme → ℕ → ℕ
 unless_end read.End n = 0
 unless_end x n = n
 
-abbrev pub left : Cursor → ℕ
-left c = unless_end c.token.lexeme (suc (length c.text.now - c.token.end))
+abbrev pub bytes_left : Cursor → ℕ
+bytes_left c = unless_end c.token.lexeme (suc (length c.text.now - c.token.end))

@@ -2,7 +2,7 @@
 --   used_by e us         the variables us, and before them those of e, the last first
 --   Around               what surrounds the part of a sum that is read: names, refused variables and why they are, depth, variables used, and what waits
 --   around r depth us v  what surrounds a part that the reader r reads
---   waiting a at, inside a     with an operator at the offset at; in parentheses or behind a minus sign
+--   with_operator a at, inside a     with an operator at the offset at; in parentheses or behind a minus sign
 --   state_in a n         the state of a reader there, where n operators were read
 --   state_behind a p     the state behind the part p of a sum; with_exponent s n, with_divisor s n: behind an exponent, behind a divisor
 --   Counts n c result    the operator at the cursor c, behind n others, is read
@@ -10,7 +10,7 @@
 --   ReadsBehind r depth g p c result   it is what g reads behind the part p, with p
 use Rattle.std.specs.Prelude.{◌≡◌, ℕ, ◌+◌, pos, List, ◌∷◌, Result, IsTrue}
 use Rattle.loops.specs.Program.{Expr, number, variable, neg, add, sub, mul, divide, power}
-use Rattle.expressions.specs.View.{seen}
+use Rattle.expressions.specs.View.{expr_of}
 use Rattle.expr_text.specs.Tokens.{is_sign}
 use Rattle.expr_text.specs.Lexemes.{sign}
 use Rattle.expr_text.specs.NextToken.{seen_lexeme}
@@ -51,8 +51,8 @@ around r depth used value = record {
   value = value;
 }
 
-abbrev pub waiting : Around → ℕ → Around
-waiting a at = record a { value = note at a.value }
+abbrev pub with_operator : Around → ℕ → Around
+with_operator a at = record a { value = note at a.value }
 
 abbrev pub inside : Around → Around
 inside a = record a { depth = a.depth + 1 }
@@ -75,7 +75,7 @@ abbrev pub behind_expr : Around → Expr ℕ → Around
 behind_expr a e = record a { used = used_by e a.used; value = push e a.value }
 
 abbrev pub state_behind : Around → Part → SumState
-state_behind a p = state_in (behind_expr a (seen p.value.value)) p.operators
+state_behind a p = state_in (behind_expr a (expr_of p.value.value)) p.operators
 
 abbrev pub with_exponent : SumState → ℕ → SumState
 with_exponent s n = record s { value = with_one (λ at e. power at e n) s.value }
@@ -86,7 +86,8 @@ with_divisor s n = record s { value = with_one (λ at e. divide at e (pos n)) s.
 abbrev pub Counts : ℕ → Cursor → Result Cursor TextError → Type 0
 Counts n c result =
     (a : Around) (byte : ℕ) → IsTrue (is_sign byte) → seen_lexeme c.token.lexeme ≡ sign byte
-    → Goes sum_language (operator byte) (state_in a n) (state_in (waiting a c.token.at) (n + 1))
+    → Goes sum_language (operator byte) (state_in a n) (state_in (with_operator a c.token.at)
+    (n + 1))
     c result
 
 abbrev pub ReadsPart : SumReader → ℕ → Rule → ℕ → Cursor

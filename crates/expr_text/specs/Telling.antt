@@ -9,7 +9,7 @@
 use Rattle.std.specs.Prelude.{◌≡◌, ⊤, List, [], Option, Some, unwrap_or, Result, Ok, Err, option_map, IfSome}
 use Rattle.grammars.specs.Grammar.{State, Grammar, Language}
 use Rattle.grammars.specs.Reader as answer
-use Rattle.grammars.specs.Reader.{Answer, parsed}
+use Rattle.grammars.specs.Reader.{ReadResult, parsed}
 use Rattle.expr_text.specs.Lexemes.{Lexeme, Placed}
 use Rattle.expr_text.specs.Kinds.{Kind}
 use Rattle.expr_text.specs.Reasons.{Reason, syntax, Fault}
@@ -30,7 +30,7 @@ module _ (C V : Type 0) where
   Told = Result (State C V × List Placed) Fault
 
 module _ {C V : Type 0} where
-  abbrev pub told : Answer Lexeme C V Reason → Told C V
+  abbrev pub told : ReadResult Lexeme C V Reason → Told C V
   told (answer.reads t rest) = Ok (t, rest)
   told (answer.refused x why) = Err (record { reason = unwrap_or why syntax; at = x.at })
   told answer.unended = Err (record { reason = syntax; at = 0 })

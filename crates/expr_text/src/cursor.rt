@@ -21,7 +21,7 @@ pub type Read<'t, T> = Result<(T, Cursor<'t>), TextError>;
 impl<'t> Cursor<'t> {
     ghost use Rattle.std.specs.Prelude.{◌≡◌, ◌≢◌, ◌≤◌, ◌<◌, length};
     ghost use Rattle.expr_text.specs.Lexemes.{tokens, tokens_from, guard_from};
-    ghost use Rattle.expr_text.specs.CursorView.{rest, items, left};
+    ghost use Rattle.expr_text.specs.CursorView.{rest, items, bytes_left};
     ghost use Rattle.expr_text.specs.declared.lexemes.Lexeme.{Lexeme};
 
     /// At the first token of the text.
@@ -37,7 +37,8 @@ impl<'t> Cursor<'t> {
     /// At the token behind this one.
     pub fn next(self) -> Cursor<'t>
         ensures tokens { tokens_from self.entry.text.now self.entry.token.end ≡ rest result }
-        ensures falls { self.entry.token.lexeme ≢ Lexeme.End → left result < left self.entry }
+        ensures falls { self.entry.token.lexeme ≢ Lexeme.End
+            → bytes_left result < bytes_left self.entry }
     {
         Cursor {
             text: self.text,
@@ -48,7 +49,8 @@ impl<'t> Cursor<'t> {
     /// At the token behind this one, in a guard: at the next byte of it, or at the `{` that ends it.
     pub fn next_item(self) -> Cursor<'t>
         ensures items { guard_from self.entry.text.now self.entry.token.end ≡ items result }
-        ensures falls { self.entry.token.lexeme ≢ Lexeme.End → left result < left self.entry }
+        ensures falls { self.entry.token.lexeme ≢ Lexeme.End
+            → bytes_left result < bytes_left self.entry }
     {
         Cursor {
             text: self.text,

@@ -5,8 +5,8 @@ ghost use Rattle.std.specs.Option.{option_map};
 ghost use Rattle.loops.specs.Limits.{most_operators};
 ghost use Rattle.expressions.specs.Ascii.{star, minus_sign, slash};
 ghost use Rattle.expressions.specs.Names.{place_of};
-ghost use Rattle.expressions.specs.View.{seen};
-ghost use Rattle.expr_text.specs.CursorView.{left};
+ghost use Rattle.expressions.specs.View.{expr_of};
+ghost use Rattle.expr_text.specs.CursorView.{bytes_left};
 ghost use Rattle.expr_text.specs.Faults.{fault_of, reason_of};
 ghost use Rattle.grammars.specs.Grammar.{Placed, rule};
 ghost use Rattle.expr_text.specs.Lexemes as spec;
@@ -79,9 +79,10 @@ fn no_divisor(byte: u8, at: usize, operators: usize, depth: usize) -> TextError
 }
 
 /// The sum of both, or if it is negative their difference.
-#[tactic(auto, unfolding(expressions::specs::View::seen))]
+#[tactic(auto, unfolding(expressions::specs::View::expr_of))]
 fn joint(negative: bool, at: usize, left: Box<Expr>, right: Box<Expr>) -> Expr
-    ensures { seen result ≡ grammar.joint negative at (seen left.value) (seen right.value) }
+    ensures { expr_of result
+        ≡ grammar.joint negative at (expr_of left.value) (expr_of right.value) }
 {
     if negative {
         Expr::Sub { at, left, right }
@@ -94,7 +95,7 @@ fn joint(negative: bool, at: usize, left: Box<Expr>, right: Box<Expr>) -> Expr
 fn expect_closing<'t>(cursor: Cursor<'t>) -> Result<Cursor<'t>, TextError>
     ensures goes { (a : Around) (n : ℕ) → Goes sum_language grammar.closing
         (state_in (inside a) n) (state_in a n) cursor.entry result }
-    ensures falls { IfOk result (λ end. left end < left cursor.entry) }
+    ensures falls { IfOk result (λ end. bytes_left end < bytes_left cursor.entry) }
 {
     let at = cursor.token.at;
     if cursor.token.lexeme.is_sign(b')') {
@@ -110,7 +111,7 @@ fn count_operator<'t>(cursor: Cursor<'t>, operators: usize) -> Result<Cursor<'t>
     requires { cursor.token.lexeme ≢ Lexeme.End }
     ensures goes { Counts operators cursor.entry result }
     ensures few { IfOk result (λ _. operators < most_operators) }
-    ensures falls { IfOk result (λ end. left end < left cursor.entry) }
+    ensures falls { IfOk result (λ end. bytes_left end < bytes_left cursor.entry) }
 {
     let at = cursor.token.at;
     if operators >= MOST_OPERATORS {
@@ -123,7 +124,7 @@ fn count_operator<'t>(cursor: Cursor<'t>, operators: usize) -> Result<Cursor<'t>
 fn exponent<'t>(cursor: Cursor<'t>) -> Read<'t, u32>
     ensures reads { (s : SumState) →
         Reads sum_language grammar.exponent s (with_exponent s) cursor.entry result }
-    ensures falls { IfOk result (λ r. left r.1 < left cursor.entry) }
+    ensures falls { IfOk result (λ r. bytes_left r.1 < bytes_left cursor.entry) }
 {
     let at = cursor.token.at;
     match cursor.token.lexeme {
@@ -175,7 +176,7 @@ impl SumReader<'_> {
     #[cycle(sum)]
     fn atom<'t>(&self, cursor: Cursor<'t>, operators: usize, depth: usize) -> Read<'t, Part>
         ensures reads { ReadsPart self.now depth grammar.atom operators cursor.entry result }
-        ensures falls { IfOk result (λ r. left r.1 < left cursor.entry) }
+        ensures falls { IfOk result (λ r. bytes_left r.1 < bytes_left cursor.entry) }
     {
         let at = cursor.token.at;
         match cursor.token.lexeme {
@@ -201,7 +202,7 @@ impl SumReader<'_> {
     #[cycle(sum)]
     fn parentheses<'t>(&self, cursor: Cursor<'t>, operators: usize, depth: usize) -> Read<'t, Part>
         ensures reads { ReadsPart self.now depth grammar.parentheses operators cursor.entry result }
-        ensures falls { IfOk result (λ r. left r.1 < left cursor.entry) }
+        ensures falls { IfOk result (λ r. bytes_left r.1 < bytes_left cursor.entry) }
     {
         let at = cursor.token.at;
         if !cursor.token.lexeme.is_sign(b'(') {
@@ -221,7 +222,7 @@ impl SumReader<'_> {
         ensures reads { (a : Around) →
             Reads sum_language grammar.raising (state_behind a atom) (state_behind a) cursor.entry
             result }
-        ensures falls { IfOk result (λ r. left r.1 ≤ left cursor.entry) }
+        ensures falls { IfOk result (λ r. bytes_left r.1 ≤ bytes_left cursor.entry) }
     {
         if !cursor.token.lexeme.is_sign(b'^') {
             return Ok((atom, cursor));
@@ -239,7 +240,7 @@ impl SumReader<'_> {
     #[cycle(sum)]
     fn factor<'t>(&self, cursor: Cursor<'t>, operators: usize, depth: usize) -> Read<'t, Part>
         ensures reads { ReadsPart self.now depth grammar.factor operators cursor.entry result }
-        ensures falls { IfOk result (λ r. left r.1 < left cursor.entry) }
+        ensures falls { IfOk result (λ r. bytes_left r.1 < bytes_left cursor.entry) }
     {
         if cursor.token.lexeme.is_sign(b'-') {
             return self.opposite(cursor, operators, depth);
@@ -253,7 +254,7 @@ impl SumReader<'_> {
     fn opposite<'t>(&self, cursor: Cursor<'t>, operators: usize, depth: usize) -> Read<'t, Part>
         requires { IsTrue (is_sign_of (seen_lexeme cursor.token.lexeme) minus_sign) }
         ensures reads { ReadsPart self.now depth grammar.opposite operators cursor.entry result }
-        ensures falls { IfOk result (λ r. left r.1 < left cursor.entry) }
+        ensures falls { IfOk result (λ r. bytes_left r.1 < bytes_left cursor.entry) }
     {
         let at = cursor.token.at;
         if depth >= MOST_DEPTH || operators >= MOST_OPERATORS {
@@ -273,7 +274,7 @@ impl SumReader<'_> {
             Reads sum_language grammar.divisor_token s (with_divisor s) cursor.entry result }
         ensures some { IfOk result (λ r. r.0 ≢ 0) }
         ensures small { IfOk result (λ r. r.0 < number_limit) }
-        ensures falls { IfOk result (λ r. left r.1 < left cursor.entry) }
+        ensures falls { IfOk result (λ r. bytes_left r.1 < bytes_left cursor.entry) }
     {
         let at = cursor.token.at;
         match cursor.token.lexeme {
@@ -298,7 +299,7 @@ impl SumReader<'_> {
     fn over<'t>(&self, product: Part, cursor: Cursor<'t>, depth: usize) -> Read<'t, Part>
         requires { IsTrue (is_sign_of (seen_lexeme cursor.token.lexeme) slash) }
         ensures reads { ReadsBehind self.now depth grammar.over product cursor.entry result }
-        ensures falls { IfOk result (λ r. left r.1 < left cursor.entry) }
+        ensures falls { IfOk result (λ r. bytes_left r.1 < bytes_left cursor.entry) }
     {
         let at = cursor.token.at;
         let next = count_operator(cursor, product.operators)?;
@@ -316,7 +317,7 @@ impl SumReader<'_> {
     fn times<'t>(&self, product: Part, cursor: Cursor<'t>, depth: usize) -> Read<'t, Part>
         requires { IsTrue (is_sign_of (seen_lexeme cursor.token.lexeme) star) }
         ensures reads { ReadsBehind self.now depth grammar.times product cursor.entry result }
-        ensures falls { IfOk result (λ r. left r.1 < left cursor.entry) }
+        ensures falls { IfOk result (λ r. bytes_left r.1 < bytes_left cursor.entry) }
     {
         let at = cursor.token.at;
         let next = count_operator(cursor, product.operators)?;
@@ -331,7 +332,7 @@ impl SumReader<'_> {
     #[cycle(sum)]
     fn product<'t>(&self, cursor: Cursor<'t>, operators: usize, depth: usize) -> Read<'t, Part>
         ensures reads { ReadsPart self.now depth grammar.product operators cursor.entry result }
-        ensures falls { IfOk result (λ r. left r.1 < left cursor.entry) }
+        ensures falls { IfOk result (λ r. bytes_left r.1 < bytes_left cursor.entry) }
     {
         let (mut product, mut at) = self.factor(cursor, operators, depth)?;
         loop {
@@ -363,7 +364,7 @@ impl SumReader<'_> {
             (grammar.sign_of negative)) }
         ensures reads { ReadsBehind self.now depth
             (grammar.joins negative) sum cursor.entry result }
-        ensures falls { IfOk result (λ r. left r.1 < left cursor.entry) }
+        ensures falls { IfOk result (λ r. bytes_left r.1 < bytes_left cursor.entry) }
     {
         let at = cursor.token.at;
         let next = count_operator(cursor, sum.operators)?;
@@ -378,7 +379,7 @@ impl SumReader<'_> {
     #[cycle(sum)]
     pub fn sum<'t>(&self, cursor: Cursor<'t>, operators: usize, depth: usize) -> Read<'t, Part>
         ensures reads { ReadsPart self.now depth (rule a_sum) operators cursor.entry result }
-        ensures falls { IfOk result (λ r. left r.1 < left cursor.entry) }
+        ensures falls { IfOk result (λ r. bytes_left r.1 < bytes_left cursor.entry) }
     {
         let (mut sum, mut at) = self.product(cursor, operators, depth)?;
         loop {

@@ -9,44 +9,44 @@ use Rattle.loops.specs.WellFormed.{Uses}
 use Rattle.frac128.specs.declared.Whole.{Whole}
 use Rattle.loops.specs.Program as program
 use Rattle.loops.specs.Program.{number, variable, neg, add, sub, mul, divide, power}
-use Rattle.expressions.specs.View.{seen}
+use Rattle.expressions.specs.View.{expr_of}
 use Rattle.expressions.specs.declared.expr.Expr as code
 use Rattle.expressions.specs.declared.expr.Expr.{Expr}
 
 -- ---- what is seen
-pub seen_number : (x : Expr) (v : Whole) → x ≡ code.Number v → seen x ≡ number v.value
-unfolding seen
-seen_number x v h = ap seen h
+pub seen_number : (x : Expr) (v : Whole) → x ≡ code.Number v → expr_of x ≡ number v.value
+unfolding expr_of
+seen_number x v h = ap expr_of h
 
-pub seen_variable : (x : Expr) (i : ℕ) → x ≡ code.Variable i → seen x ≡ variable i
-unfolding seen
-seen_variable x i h = ap seen h
+pub seen_variable : (x : Expr) (i : ℕ) → x ≡ code.Variable i → expr_of x ≡ variable i
+unfolding expr_of
+seen_variable x i h = ap expr_of h
 
 module _ (x : Expr) (at : ℕ) (l : Box Expr Global) (y : Expr) (left : y ≡ l.value) where
-  pub seen_neg : x ≡ code.Neg at l → seen x ≡ neg at (seen y)
-  unfolding seen
-  seen_neg h = ap seen h ∙ ap (λ z. neg at (seen z)) (sym left)
+  pub seen_neg : x ≡ code.Neg at l → expr_of x ≡ neg at (expr_of y)
+  unfolding expr_of
+  seen_neg h = ap expr_of h ∙ ap (λ z. neg at (expr_of z)) (sym left)
 
-  pub seen_divide : (n : Whole) → x ≡ code.Div at l n → seen x ≡ divide at (seen y) n.value
-  unfolding seen
-  seen_divide n h = ap seen h ∙ ap (λ z. divide at (seen z) n.value) (sym left)
+  pub seen_divide : (n : Whole) → x ≡ code.Div at l n → expr_of x ≡ divide at (expr_of y) n.value
+  unfolding expr_of
+  seen_divide n h = ap expr_of h ∙ ap (λ z. divide at (expr_of z) n.value) (sym left)
 
-  pub seen_power : (n : ℕ) → x ≡ code.Power at l n → seen x ≡ power at (seen y) n
-  unfolding seen
-  seen_power n h = ap seen h ∙ ap (λ z. power at (seen z) n) (sym left)
+  pub seen_power : (n : ℕ) → x ≡ code.Power at l n → expr_of x ≡ power at (expr_of y) n
+  unfolding expr_of
+  seen_power n h = ap expr_of h ∙ ap (λ z. power at (expr_of z) n) (sym left)
 
   module _ (r : Box Expr Global) (z : Expr) (right : z ≡ r.value) where
-    pub seen_add : x ≡ code.Add at l r → seen x ≡ add at (seen y) (seen z)
-    unfolding seen
-    seen_add h = ap seen h ∙ ap₂ (λ u v. add at (seen u) (seen v)) (sym left) (sym right)
+    pub seen_add : x ≡ code.Add at l r → expr_of x ≡ add at (expr_of y) (expr_of z)
+    unfolding expr_of
+    seen_add h = ap expr_of h ∙ ap₂ (λ u v. add at (expr_of u) (expr_of v)) (sym left) (sym right)
 
-    pub seen_sub : x ≡ code.Sub at l r → seen x ≡ sub at (seen y) (seen z)
-    unfolding seen
-    seen_sub h = ap seen h ∙ ap₂ (λ u v. sub at (seen u) (seen v)) (sym left) (sym right)
+    pub seen_sub : x ≡ code.Sub at l r → expr_of x ≡ sub at (expr_of y) (expr_of z)
+    unfolding expr_of
+    seen_sub h = ap expr_of h ∙ ap₂ (λ u v. sub at (expr_of u) (expr_of v)) (sym left) (sym right)
 
-    pub seen_mul : x ≡ code.Mul at l r → seen x ≡ mul at (seen y) (seen z)
-    unfolding seen
-    seen_mul h = ap seen h ∙ ap₂ (λ u v. mul at (seen u) (seen v)) (sym left) (sym right)
+    pub seen_mul : x ≡ code.Mul at l r → expr_of x ≡ mul at (expr_of y) (expr_of z)
+    unfolding expr_of
+    seen_mul h = ap expr_of h ∙ ap₂ (λ u v. mul at (expr_of u) (expr_of v)) (sym left) (sym right)
 
 -- ---- sizes
 unfoldable pub size_of : program.Expr ℕ → ℕ

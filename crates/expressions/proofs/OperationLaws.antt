@@ -14,13 +14,13 @@ use Rattle.polynomials.specs.Terms.{Terms, Same}
 use Rattle.polynomials.proofs.Same.{Same-sym, Same-trans}
 use Rattle.poly.specs.Standing.{StandsFor}
 use Rattle.expressions.specs.FracPoly.{FracPoly}
-use Rattle.expressions.specs.Operations.{Kind, summed, multiplied, divided, Operation, Collected, IsHigh, IsTooHighIn, IsTooHigh, PassesLimit, BothPast, IsPastOperation, IsFree, IsFirst}
+use Rattle.expressions.specs.Operations.{Kind, summed, multiplied, divided, Operation, HoldsCollected, IsHigh, IsTooHighIn, IsTooHigh, PassesLimit, BothPast, IsPastOperation, IsFree, IsFirst}
 use Rattle.expressions.specs.Stops.{Stops, Forms, Does}
 use Rattle.expressions.specs.declared.map_error.MapError.{MapError}
 use Rattle.expressions.specs.declared.map_error.MapError.TheVariants.{Limit, Wide, Memory}
 
 pub collected_along : (m : ℕ) (P : Terms Fraction → Type 0) (p q : Terms Fraction) → Same ℚ p q
-    → Collected m P p → Collected m P q
+    → HoldsCollected m P p → HoldsCollected m P q
 collected_along m P p q s c = record {
   terms = c.terms;
   is = c.is;
@@ -78,7 +78,7 @@ module _ (m : ℕ) where
     is = h.is;
     same = Same-trans ℚ h.same s.left;
     holds = collected_along m _ o.right o'.right s.right
-        (subst (λ k. Collected m (λ q. BothPast m k h.terms q) o.right) s.kind h.holds);
+        (subst (λ k. HoldsCollected m (λ q. BothPast m k h.terms q) o.right) s.kind h.holds);
   }
 
   abbrev IsWideOne : Operation → Type 0

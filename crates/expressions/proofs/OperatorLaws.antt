@@ -15,7 +15,7 @@ use Rattle.numbers.specs.Size.{IsPast, product_size}
 use Rattle.numbers.specs.Fraction.{Fraction, ℚ, fractions, whole, inverse}
 use Rattle.numbers.proofs.Fractions.{ℚ_ring, ℚ_field, ℚ_zero_test, fractions_ring, fractions_field}
 use Rattle.numbers.proofs.ProductSizes.{product_comm}
-use Rattle.numbers.proofs.SizeLaws.{fractions_bounded, zero-sum_size}
+use Rattle.numbers.proofs.SizeLaws.{fractions_bounded}
 use Rattle.numbers.proofs.Wholes.{whole_injective}
 use Rattle.polynomials.specs.Algebra as Algebra
 use Rattle.polynomials.specs.Terms.{Terms, Same, constant, times, negate}
@@ -28,28 +28,28 @@ use Rattle.polynomials.proofs.Same.{Same-refl, Same-sym, Same-trans}
 use Rattle.polynomials.proofs.Arity.{length-zeros, arity-times}
 use Rattle.polynomials.proofs.Canonical.{canonical, canonical_is, canonical_same, polynomial_unique}
 use Rattle.polynomials.proofs.TotalDegree.{times_degree}
-use Rattle.polynomials.proofs.Weight.{weight-pos, weight-constant}
+use Rattle.polynomials.proofs.Weight.{weight-constant}
 use Rattle.poly.specs.Seen.{terms_in}
 use Rattle.poly.specs.Standing.{IsOver, StandsFor}
-use Rattle.poly.specs.declared.PolyError.{PolyError}
-use Rattle.poly.specs.declared.PolyError.TheVariants as poly
+use Rattle.ring_laws.specs.declared.ArithmeticError.{ArithmeticError}
+use Rattle.ring_laws.specs.declared.ArithmeticError.TheVariants as arithmetic_error
 use Rattle.poly.proofs.Kept.{polynomial_nil, polynomial_one}
 use Rattle.poly.proofs.Products.{product_turned}
 use Rattle.poly.proofs.Standing.{polynomial_over}
 use Rattle.expressions.specs.FracPoly.{FracPoly}
-use Rattle.expressions.specs.Operations.{Operation, opposite_at, sum_at, difference_at, product_at, quotient_at, Collected, IsHigh, HasHighDegree, IsTooHigh, PassesLimit, IsPastOperation, most_degree, most_terms}
+use Rattle.expressions.specs.Operations.{Operation, opposite_at, sum_at, difference_at, product_at, quotient_at, HoldsCollected, IsHigh, HasHighDegree, IsTooHigh, PassesLimit, IsPastOperation, most_degree, most_terms}
 use Rattle.expressions.specs.Stops.{Does, answer_at}
 use Rattle.expressions.specs.declared.map_error.MapError.TheVariants.{Limit}
 
 -- ---- collected terms
 module _ (m : ℕ) where
   pub itself : (P : Terms Fraction → Type 0) (p : Terms Fraction) → IsPolynomial ℚ grevlex m p → P p
-      → Collected m P p
+      → HoldsCollected m P p
   itself P p is h = record { terms = p; is = is; same = Same-refl ℚ p; holds = h }
 
   -- there is one list of collected terms
   pub only : (P : Terms Fraction → Type 0) (p q : Terms Fraction) → IsPolynomial ℚ grevlex m p
-      → Same ℚ p q → Collected m P q → P p
+      → Same ℚ p q → HoldsCollected m P q → P p
   only P p q is s c = subst P (polynomial_unique grevlex grevlex_order ℚ_ring m m c.terms p c.is is
       (Same-trans ℚ c.same (Same-sym ℚ s))) c.holds
 
@@ -126,8 +126,8 @@ module _ (m : ℕ) (o : Operation) (low : IsTooHigh m o → ⊥) where
       only m (λ u. most_terms < length u) (terms_in p) o.result (polynomial_over m p h.arity) h.same
       long in omega arith
 
-  pub tested_does : (r : Result FracPoly PolyError) → IfOk r (λ p. StandsFor m p o.result)
-      → (IsErrOf r poly.Wide → IsPastOperation m o) → Does m o (answer_at o.at r)
+  pub tested_does : (r : Result FracPoly ArithmeticError) → IfOk r (λ p. StandsFor m p o.result)
+      → (IsErrOf r arithmetic_error.Wide → IsPastOperation m o) → Does m o (answer_at o.at r)
   tested_does (Ok p) h w = go (nat_le (length (terms_in p)) most_terms) refl
     where
       go : (b : Bool) → nat_le (length (terms_in p)) most_terms ≡ b
@@ -151,7 +151,7 @@ module _ (m : ℕ) (o : Operation) (low : IsTooHigh m o → ⊥) where
           holds = leb-false (length (terms_in p)) most_terms e;
         });
       }
-  tested_does (Err poly.Wide) h w = record {
+  tested_does (Err arithmetic_error.Wide) h w = record {
     before = [];
     operation = o;
     behind = [];
@@ -160,7 +160,7 @@ module _ (m : ℕ) (o : Operation) (low : IsTooHigh m o → ⊥) where
     offset = refl;
     holds = (low, w refl);
   }
-  tested_does (Err poly.Memory) h w = tt
+  tested_does (Err arithmetic_error.Memory) h w = tt
 
 -- ---- the operators
 pub constant_stands : {n m : ℕ} {a b : Fraction} (p : FracPoly) → n ≡ m → a ≡ b
@@ -168,28 +168,22 @@ pub constant_stands : {n m : ℕ} {a b : Fraction} (p : FracPoly) → n ≡ m �
 constant_stands {n = n} {b = b} p e f h = subst (λ k. StandsFor k p (constant k b)) e
     (subst (λ c. StandsFor n p (constant n c)) f h)
 
-pub opposite_does : (at : ℕ) (p : FracPoly) (r : Result FracPoly PolyError)
-    → IfOk r (λ s. StandsFor p.arity s (negate ℚ (terms_in p)))
-    → (IsErrOf r poly.Wide → IsPast (weight fractions.size (terms_in p)))
-    → Does p.arity (opposite_at at (terms_in p)) (answer_at at r)
-unfolding weight
-opposite_does at p r h w = tested_does p.arity (opposite_at at (terms_in p)) (λ high. high) r h
-    (λ e. itself p.arity _ [] (polynomial_nil grevlex fractions p.arity [] refl)
-    (itself p.arity _ (terms_in p) p.polynomial
-    (subst IsPast
-    (sym (zero-sum_size (weight fractions.size (terms_in p))
-    (weight-pos ℚ_ring fractions.size fractions_bounded (terms_in p)))) (w e))))
+pub opposite_does : (at : ℕ) (p s : FracPoly) → StandsFor p.arity s (negate ℚ (terms_in p))
+    → Does p.arity (opposite_at at (terms_in p)) (answer_at at (Ok s))
+opposite_does at p s h = tested_does p.arity (opposite_at at (terms_in p)) (λ high. high) (Ok s) h
+    (λ e. absurd (let z : ⊥ = cc in z))
 
-module _ (at : ℕ) (p q : FracPoly) (r : Result FracPoly PolyError) (k : IsOver p.arity q) where
+module _ (at : ℕ) (p q : FracPoly) (r : Result FracPoly ArithmeticError)
+    (k : IsOver p.arity q) where
   pub sum_does : IfOk r (λ s. StandsFor p.arity s (terms_in p ++ terms_in q))
-      → (IsErrOf r poly.Wide → IsPastSum fractions (terms_in p) (terms_in q))
+      → (IsErrOf r arithmetic_error.Wide → IsPastSum fractions (terms_in p) (terms_in q))
       → Does p.arity (sum_at at (terms_in p) (terms_in q)) (answer_at at r)
   sum_does h w = tested_does p.arity (sum_at at (terms_in p) (terms_in q)) (λ high. high) r h
       (λ e. itself p.arity _ (terms_in p) p.polynomial (itself p.arity _ (terms_in q)
       (polynomial_over p.arity q k) (w e)))
 
   pub difference_does : IfOk r (λ s. StandsFor p.arity s (terms_in p ++ negate ℚ (terms_in q)))
-      → (IsErrOf r poly.Wide → IsPastSum fractions (terms_in p) (terms_in q))
+      → (IsErrOf r arithmetic_error.Wide → IsPastSum fractions (terms_in p) (terms_in q))
       → Does p.arity (difference_at at (terms_in p) (terms_in q)) (answer_at at r)
   difference_does h w = tested_does p.arity (difference_at at (terms_in p) (terms_in q)) (λ high.
       high) r h (λ e. itself p.arity _ (terms_in p) p.polynomial (itself p.arity _ (terms_in q)
@@ -197,7 +191,7 @@ module _ (at : ℕ) (p q : FracPoly) (r : Result FracPoly PolyError) (k : IsOver
 
   pub product_does : (HasHighDegree p.arity (times ℚ (terms_in p) (terms_in q)) → ⊥)
       → IfOk r (λ s. StandsFor p.arity s (times ℚ (terms_in p) (terms_in q)))
-      → (IsErrOf r poly.Wide → IsPastProduct fractions (terms_in p) (terms_in q))
+      → (IsErrOf r arithmetic_error.Wide → IsPastProduct fractions (terms_in p) (terms_in q))
       → Does p.arity (product_at at (terms_in p) (terms_in q)) (answer_at at r)
   product_does low h w = tested_does p.arity (product_at at (terms_in p) (terms_in q)) low r h
       (λ e. itself p.arity _ (terms_in p) p.polynomial (itself p.arity _ (terms_in q)
@@ -228,7 +222,7 @@ module _ (m : ℕ) (n : ℤ) where
   by_size : weight fractions.size by ≡ fractions.size (inverse (whole n))
   by_size = weight-constant ℚ_ring fractions.size fractions_bounded m (inverse (whole n))
 
-  turned : (p : FracPoly) → (r : Result FracPoly PolyError)
+  turned : (p : FracPoly) → (r : Result FracPoly ArithmeticError)
       → IfOk r (λ s. StandsFor m s (times ℚ by (terms_in p)))
       → IfOk r (λ s. StandsFor m s (times ℚ (terms_in p) by))
   turned p (Err e) h = tt
@@ -238,10 +232,11 @@ module _ (m : ℕ) (n : ℤ) where
     same = product_turned fractions fractions_ring (terms_in p) by by (terms_in s) refl h.same;
   }
 
-pub quotient_does : (at : ℕ) (p : FracPoly) (n : ℤ) (r : Result FracPoly PolyError) → n ≢ pos 0
+pub quotient_does : (at : ℕ) (p : FracPoly) (n : ℤ) (r : Result FracPoly ArithmeticError)
+    → n ≢ pos 0
     → IfOk r (λ s. StandsFor p.arity s (times ℚ (constant p.arity (inverse (whole n)))
     (terms_in p)))
-    → (IsErrOf r poly.Wide
+    → (IsErrOf r arithmetic_error.Wide
     → IsPast (product_size (fractions.size (inverse (whole n)))
     (weight fractions.size (terms_in p))))
     → Does p.arity (quotient_at p.arity at (terms_in p) n) (answer_at at r)

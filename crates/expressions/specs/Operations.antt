@@ -8,7 +8,7 @@
 --   operations_all m s es    those of some expressions in turn
 --   power_of m q n           the nth power of q
 --   partial_powers m at q n  its partial powers, each the product of q with the one before; the first is the product with 1
---   Collected m P p          P holds of p with like terms collected
+--   HoldsCollected m P p          P holds of p with like terms collected
 --   IsHigh p                 the degree of p is above most_degree
 --   HasHighDegree m p        that of p with like terms collected
 --   IsTooHigh m o            a product or a partial power whose result has a degree above most_degree
@@ -66,7 +66,7 @@ abbrev pub product_at : ℕ → Terms Fraction → Terms Fraction → Operation
 product_at at p q = record { at = at; kind = multiplied; left = p; right = q; result = times ℚ p q }
 
 -- P holds of p with like terms collected
-pub record Collected (m : ℕ) (P : Terms Fraction → Type 0) (p : Terms Fraction) : Type 0 where
+pub record HoldsCollected (m : ℕ) (P : Terms Fraction → Type 0) (p : Terms Fraction) : Type 0 where
   pub terms : Terms Fraction
   pub is : IsPolynomial ℚ grevlex m terms
   pub same : Same ℚ terms p
@@ -110,7 +110,7 @@ module _ (m : ℕ) where
   operations_all s (e ∷ es) = operations s e ++ operations_all s es
 
   abbrev pub HasHighDegree : Terms Fraction → Type 0
-  HasHighDegree p = Collected m IsHigh p
+  HasHighDegree p = HoldsCollected m IsHigh p
 
   abbrev pub IsTooHighIn : Kind → Terms Fraction → Type 0
   IsTooHighIn summed p = ⊥
@@ -121,7 +121,7 @@ module _ (m : ℕ) where
   IsTooHigh o = IsTooHighIn o.kind o.result
 
   abbrev pub IsTooLong : Operation → Type 0
-  IsTooLong o = Collected m (λ p. most_terms < length p) o.result
+  IsTooLong o = HoldsCollected m (λ p. most_terms < length p) o.result
 
   abbrev pub PassesLimit : Operation → Type 0
   PassesLimit o = IsTooHigh o ⊎ IsTooLong o
@@ -132,7 +132,8 @@ module _ (m : ℕ) where
   BothPast divided p q = IsPastProduct fractions p q
 
   abbrev pub IsPastOperation : Operation → Type 0
-  IsPastOperation o = Collected m (λ p. Collected m (λ q. BothPast o.kind p q) o.right) o.left
+  IsPastOperation o = HoldsCollected m (λ p. HoldsCollected m (λ q. BothPast o.kind p q) o.right)
+      o.left
 
   abbrev pub IsFree : List Operation → Type 0
   IsFree os = All (λ o. ¬ (PassesLimit o)) os

@@ -10,8 +10,8 @@ use Rattle.numbers.specs.Fraction.{Fraction}
 use Rattle.polynomials.specs.Terms.{Terms}
 use Rattle.poly.specs.Seen.{terms_in, terms_each, arity_of}
 use Rattle.poly.specs.Standing.{StandsFor}
-use Rattle.poly.specs.declared.PolyError.{PolyError}
-use Rattle.poly.specs.declared.PolyError.TheVariants as poly
+use Rattle.ring_laws.specs.declared.ArithmeticError.{ArithmeticError}
+use Rattle.ring_laws.specs.declared.ArithmeticError.TheVariants as arithmetic_error
 use Rattle.expressions.specs.FracPoly.{FracPoly}
 use Rattle.loops.specs.Program.{Expr}
 use Rattle.expressions.specs.Operations.{Operation, value, operations, IsFree, IsLimit, IsWide, most_terms}
@@ -39,7 +39,7 @@ IsFreeAt ps e = IsFree (arity_of ps) (operations (arity_of ps) (terms_each ps) e
 abbrev pub StopsAt : List FracPoly → Expr ℕ → MapError → Type 0
 StopsAt ps e x = Stops (arity_of ps) (operations (arity_of ps) (terms_each ps) e) x
 
-abbrev pub answer_at : ℕ → Result FracPoly PolyError → Result FracPoly MapError
+abbrev pub answer_at : ℕ → Result FracPoly ArithmeticError → Result FracPoly MapError
 answer_at at (Ok p) = if nat_le (length (terms_in p)) most_terms then Ok p else Err (Limit at)
-answer_at at (Err poly.Wide) = Err (Wide at)
-answer_at at (Err poly.Memory) = Err Memory
+answer_at at (Err arithmetic_error.Wide) = Err (Wide at)
+answer_at at (Err arithmetic_error.Memory) = Err Memory

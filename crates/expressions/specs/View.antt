@@ -1,5 +1,5 @@
 -- What the types of the code are seen as.
---   seen e             an expression; at each operator its offset is noted
+--   expr_of e             an expression; at each operator its offset is noted
 --   seen_keyword k     a keyword
 use Rattle.std.specs.Prelude.{ℕ}
 use Rattle.loops.specs.Program as program
@@ -10,15 +10,15 @@ use Rattle.expressions.specs.declared.expr.Expr.TheVariants.{Number, Variable, N
 use Rattle.expressions.specs.declared.words.Keyword.{Keyword}
 use Rattle.expressions.specs.declared.words.Keyword.TheVariants.{Vars, Init, Branch, When}
 
-unfoldable pub seen : Expr → program.Expr ℕ
-seen (Number value) = program.number value.value
-seen (Variable index) = program.variable index
-seen (Neg' at p e) = program.neg at (seen e)
-seen (Add' at p e q f) = program.add at (seen e) (seen f)
-seen (Sub' at p e q f) = program.sub at (seen e) (seen f)
-seen (Mul' at p e q f) = program.mul at (seen e) (seen f)
-seen (Div' at p e by) = program.divide at (seen e) by.value
-seen (Power' at p e exponent) = program.power at (seen e) exponent
+unfoldable pub expr_of : Expr → program.Expr ℕ
+expr_of (Number value) = program.number value.value
+expr_of (Variable index) = program.variable index
+expr_of (Neg' at p e) = program.neg at (expr_of e)
+expr_of (Add' at p e q f) = program.add at (expr_of e) (expr_of f)
+expr_of (Sub' at p e q f) = program.sub at (expr_of e) (expr_of f)
+expr_of (Mul' at p e q f) = program.mul at (expr_of e) (expr_of f)
+expr_of (Div' at p e by) = program.divide at (expr_of e) by.value
+expr_of (Power' at p e exponent) = program.power at (expr_of e) exponent
 
 abbrev pub seen_keyword : Keyword → words.Keyword
 seen_keyword Vars = vars_word

@@ -47,12 +47,12 @@ pub enum Expr {
 
 impl Expr {
     ghost use Rattle.expressions.specs.Uses.{uses};
-    ghost use Rattle.expressions.specs.View.{seen};
+    ghost use Rattle.expressions.specs.View.{expr_of};
 
     /// Whether the variable at this position stands in the expression.
-    #[tactic(auto, unfolding(crate::specs::View::seen, crate::specs::Uses::uses))]
+    #[tactic(auto, unfolding(crate::specs::View::expr_of, crate::specs::Uses::uses))]
     pub fn uses(&self, index: usize) -> bool
-        ensures { result ≡ uses (seen self.now) index }
+        ensures { result ≡ uses (expr_of self.now) index }
     {
         match self {
             Expr::Number { .. } => false,

@@ -8,7 +8,7 @@ ghost use Rattle.loops.specs.WellFormed.{Uses};
 ghost use Rattle.poly.specs.Seen.{terms_in, terms_each, arity_of};
 ghost use Rattle.poly.specs.Standing.{IsOver};
 ghost use Rattle.monos.specs.Variables.{most_variables};
-ghost use Rattle.expressions.specs.View.{seen};
+ghost use Rattle.expressions.specs.View.{expr_of};
 ghost use Rattle.expressions.specs.Operations.{opposite_at, sum_at, difference_at, product_at, quotient_at, partial_powers, power_of, HasHighDegree};
 ghost use Rattle.expressions.specs.Stops as stops;
 ghost use Rattle.expressions.specs.Stops.{Forms, Does, IsValueAt, IsFreeAt, StopsAt};
@@ -16,7 +16,8 @@ ghost use Rattle.expressions.specs.Stops.{Forms, Does, IsValueAt, IsFreeAt, Stop
 use crate::{Expr, MapError};
 use frac128::{Frac, Whole};
 use monos::Grevlex;
-use poly::{Poly, PolyError};
+use poly::Poly;
+use ring_laws::ArithmeticError;
 use std::alloc::Global;
 
 /// The greatest degree of a product or a partial power.
@@ -34,10 +35,10 @@ pub fn expr_poly(
     state: &Vec<Poly<Frac, Grevlex>>,
 ) -> Result<Poly<Frac, Grevlex>, MapError>
     requires state { All (IsOver (arity_of state.now.items)) state.now.items }
-    requires uses { Uses (λ i. i < length state.now.items) (seen expr.now) }
-    ensures value { IfOk result (IsValueAt state.now.items (seen expr.now)) }
-    ensures free { IfOk result (λ _. IsFreeAt state.now.items (seen expr.now)) }
-    ensures stops { IfErr result (StopsAt state.now.items (seen expr.now)) }
+    requires uses { Uses (λ i. i < length state.now.items) (expr_of expr.now) }
+    ensures value { IfOk result (IsValueAt state.now.items (expr_of expr.now)) }
+    ensures free { IfOk result (λ _. IsFreeAt state.now.items (expr_of expr.now)) }
+    ensures stops { IfErr result (StopsAt state.now.items (expr_of expr.now)) }
 {
     match expr {
         Expr::Number { value } => number(alloc, state, value),
@@ -82,10 +83,7 @@ fn number(
         Forms m [] (constant m (whole value.now.value)) result }
 {
     let arity = state.first().map_or(0, Poly::arity);
-    match Poly::constant(alloc, Grevlex, arity, &Frac::whole(*value)) {
-        Ok(poly) => Ok(poly),
-        Err(_) => Err(MapError::Memory),
-    }
+    Ok(Poly::constant(alloc, Grevlex, arity, &Frac::whole(*value))?)
 }
 
 /// One over the number.
@@ -107,24 +105,21 @@ fn variable(
     ensures { Forms (arity_of state.now.items) [] (get_or (terms_each state.now.items) index [])
         result }
 {
-    match state[index].copy(alloc) {
-        Ok(poly) => Ok(poly),
-        Err(_) => Err(MapError::Memory),
-    }
+    Ok(state[index].copy(alloc)?)
 }
 
 /// The answer of the operator at this offset, whose operation was done.
 fn answer_at(
     at: usize,
-    done: Result<Poly<Frac, Grevlex>, PolyError>,
+    done: Result<Poly<Frac, Grevlex>, ArithmeticError>,
 ) -> Result<Poly<Frac, Grevlex>, MapError>
     ensures { result ≡ stops.answer_at at done }
 {
     match done {
         Ok(poly) if poly.terms().len() <= MOST_TERMS => Ok(poly),
         Ok(_) => Err(MapError::Limit { at }),
-        Err(PolyError::Wide) => Err(MapError::Wide { at }),
-        Err(PolyError::Memory) => Err(MapError::Memory),
+        Err(ArithmeticError::Wide) => Err(MapError::Wide { at }),
+        Err(ArithmeticError::Memory) => Err(MapError::Memory),
     }
 }
 
@@ -135,7 +130,7 @@ fn opposite(
 ) -> Result<Poly<Frac, Grevlex>, MapError>
     ensures { Does of.now.arity (opposite_at at (terms_in of.now)) result }
 {
-    answer_at(at, of.neg(alloc))
+    answer_at(at, Ok(of.neg(alloc)?))
 }
 
 /// The sum of two polynomials of one arity, as the operator at this offset forms it. `Limit` and

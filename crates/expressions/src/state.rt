@@ -1,22 +1,20 @@
 //! The state in which each variable has itself as its value.
 
-ghost use Rattle.std.specs.Prelude.{◌≡◌, ◌<◌, ◌≤◌, IfOk, IfErr, IsSomeAnd, slice_get};
+ghost use Rattle.std.specs.Prelude.{◌<◌, ◌≤◌, IfOk, IsSomeAnd, slice_get};
 ghost use Rattle.numbers.specs.Fraction.{ℚ};
 ghost use Rattle.polynomials.specs.Terms.{variables};
 ghost use Rattle.poly.specs.Standing.{StandsFor, AllStandFor};
 ghost use Rattle.monos.specs.Variables.{most_variables};
 
-use crate::MapError;
 use frac128::Frac;
 use monos::Grevlex;
 use poly::Poly;
-use std::alloc::Global;
+use std::alloc::{AllocError, Global};
 
-/// The variables as polynomials, `arity` of them. Only memory can be wanting.
-pub fn free_state(alloc: Global, arity: usize) -> Result<Vec<Poly<Frac, Grevlex>>, MapError>
+/// The variables as polynomials, `arity` of them.
+pub fn free_state(alloc: Global, arity: usize) -> Result<Vec<Poly<Frac, Grevlex>>, AllocError>
     requires { arity ≤ most_variables }
     ensures variables { IfOk result (λ all. AllStandFor arity all.items (variables ℚ arity)) }
-    ensures memory { IfErr result (λ e. e ≡ MapError.Memory) }
 {
     let mut all = Vec::new(alloc);
     for index in 0..arity {
@@ -26,15 +24,15 @@ pub fn free_state(alloc: Global, arity: usize) -> Result<Vec<Poly<Frac, Grevlex>
 }
 
 /// The variable with this index.
-fn free_variable(alloc: Global, arity: usize, index: usize) -> Result<Poly<Frac, Grevlex>, MapError>
+fn free_variable(
+    alloc: Global,
+    arity: usize,
+    index: usize,
+) -> Result<Poly<Frac, Grevlex>, AllocError>
     requires few { arity ≤ most_variables }
     requires index { index < arity }
     ensures variable { IfOk result
         (λ p. IsSomeAnd (slice_get (variables ℚ arity) index) (StandsFor arity p)) }
-    ensures memory { IfErr result (λ e. e ≡ MapError.Memory) }
 {
-    match Poly::variable(alloc, Grevlex, arity, index) {
-        Ok(poly) => Ok(poly),
-        Err(_) => Err(MapError::Memory),
-    }
+    Poly::variable(alloc, Grevlex, arity, index)
 }

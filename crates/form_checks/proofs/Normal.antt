@@ -2,14 +2,13 @@
 --   own_normal, normal_own      a polynomial that is made normal is its own, exactly where it is normal
 --   kept_as           what is kept of a polynomial that making it normal doesn't change
 --   not_kept          a polynomial that it changes
---   refused_wide      the refusal of an operation
 --   kept_vars         of how many variables it is
 --   normal_same, next_same     what is made normal, and what is had at n + 1
 --   same_tells        whether what two polynomials stand for is the same
 --   variable_stands   a variable
 --   moved_past        where a composition's polynomial is past, the composition is
-use Rattle.std.proofs.Common.{◌≡◌, ◌↔◌, inl, ℕ, ◌+◌, ◌-◌, ◌<◌, ◌≤◌, Bool, true, false, List, [], ◌∷◌, ◌++◌, length, get_or, slice_get, take, drop, take-append-drop, Err, IsTrue, refl, sym, ap, ap₂, subst, subst₂, ◌∙◌, arith, true≢false}
-use Rattle.std.specs.Prelude.{All, IsErrOf, IsSomeAnd}
+use Rattle.std.proofs.Common.{◌≡◌, ◌↔◌, inl, ℕ, ◌+◌, ◌-◌, ◌<◌, ◌≤◌, Bool, true, false, List, [], ◌∷◌, ◌++◌, length, get_or, slice_get, take, drop, take-append-drop, IsTrue, refl, sym, ap, ap₂, subst, subst₂, ◌∙◌, arith, true≢false}
+use Rattle.std.specs.Prelude.{All, IsSomeAnd}
 use Rattle.std.proofs.lemmas.Option.{slice_get-get_or}
 use Rattle.rings.specs.Each.{Each}
 use Rattle.numbers.specs.Fraction.{Fraction, ℚ, rationals, fractions, fraction_size}
@@ -28,23 +27,19 @@ use Rattle.exponentials.specs.Keys.{key_of, top}
 use Rattle.machines.specs.Collect.{collect}
 use Rattle.machines.proofs.Collecting.{collect-is, collect-same}
 use Rattle.loops.proofs.Maps.{length-variables}
-use Rattle.turns.specs.Expo.{normalized, tail, with_key, next_images}
+use Rattle.turns.specs.Expo.{with_normal_keys, tail, with_key, next_images}
 use Rattle.turns.specs.Turns.{width, IsNormal}
 use Rattle.turns.proofs.Retold.{same_normalized}
 use Rattle.poly.specs.Operations.{AreEqual, IsVariable}
 use Rattle.poly.specs.Seen.{terms_in, Is}
 use Rattle.poly.specs.Standing.{IsOver as IsOverMany}
-use Rattle.poly.specs.declared.PolyError.{PolyError}
-use Rattle.poly.specs.declared.PolyError.TheVariants as poly_error
 use Rattle.poly.proofs.Standing.{arity_over, polynomial_over}
 use Rattle.expressions.specs.FracPoly.{FracPoly}
-use Rattle.expo.specs.declared.ExpoError.{ExpoError}
-use Rattle.expo.specs.declared.ExpoError.TheVariants as expo_error
 use Rattle.expo.specs.declared.exponential.Expo.{Expo}
 use Rattle.expo.specs.Operations.{normal_of, vars_of, at_next, IsOver}
 use Rattle.expo.specs.View.{base_of, IsExpo}
 use Rattle.expo.proofs.Normal.{Stays, AllStay, kept_stay, stay_kept, exponents_stay, stay_normal}
-use Rattle.form_checks.specs.Passing.{refused, IsKept}
+use Rattle.form_checks.specs.Passing.{IsKept}
 
 -- ---- normal polynomials
 rejoined : (r : ℕ) (e : List ℕ) → 2 ≤ length e → with_key (top e) (key_of r e) (tail r e) ≡ e
@@ -67,11 +62,11 @@ module _ (bs : List ℕ) (m : ℕ) where
       )
 
   pub own_normal : (p : Terms Fraction) → Arity (width (length bs) m) p → IsNormal bs p
-      → normalized (length bs) p ≡ p
+      → with_normal_keys (length bs) p ≡ p
   own_normal p a h = stay_kept (length bs) p (stays p a h)
 
   pub normal_own : (p : Terms Fraction) → Arity (width (length bs) m) p
-      → normalized (length bs) p ≡ p → IsNormal bs p
+      → with_normal_keys (length bs) p ≡ p → IsNormal bs p
   normal_own p a h = stay_normal bs m p a (kept_stay (length bs) p h)
 
 -- ---- what is kept
@@ -96,8 +91,9 @@ module _ (bs : List ℕ) (p : FracPoly) (e : Expo) (room : width (length bs) 0 �
       let same : terms_in e.body ≡ terms_in p = (tells.0 t).1 in
       record {
         normal = normal_own bs e.vars (terms_in p) over
-            (subst (λ q. normalized (length bs) q ≡ q) same
-            (subst (λ cs. normalized (length cs) (terms_in e.body) ≡ terms_in e.body) is.over_base
+            (subst (λ q. with_normal_keys (length bs) q ≡ q) same
+            (subst (λ cs. with_normal_keys (length cs) (terms_in e.body) ≡ terms_in e.body)
+            is.over_base
             e.normal));
         base = is.over_base;
         vars = vars_are;
@@ -122,22 +118,16 @@ kept_vars bs m ps i p e l is over kept =
     subst (IsOverMany (width (length bs) m)) (sym is) (over i p l) in
     let vars = kept.vars in omega (arith, wide, vars)
 
--- ---- refusals
-pub refused_wide : {T : Type 0} (e : ExpoError) (r : PolyError) → r ≡ refused e
-    → IsErrOf {T = T} (Err r) poly_error.Wide → e ≡ expo_error.Wide
-refused_wide expo_error.Wide r is w = refl
-refused_wide expo_error.Memory r is w = absurd (let z : ⊥ = cc in z)
-
 -- ---- what the operations give
 module _ (bs : List ℕ) where
   pub normal_same : (p : FracPoly) (x : Terms Fraction) (e : Expo)
       → width (length bs) 0 ≤ p.arity
       → IsExpo bs (vars_of bs p.arity) (normal_of bs (terms_in p)) e → Same ℚ (terms_in p) x
-      → (e.body.arity ≡ p.arity) × Same ℚ (terms_in e.body) (normalized (length bs) x)
+      → (e.body.arity ≡ p.arity) × Same ℚ (terms_in e.body) (with_normal_keys (length bs) x)
   normal_same p x e room is same = (
     wide_as bs p e room is,
-    Same-trans ℚ (subst (λ q. Same ℚ q (normalized (length bs) (terms_in p))) (sym is.terms)
-        (collect-same ℚ_field grevlex grevlex_order (normalized (length bs) (terms_in p))))
+    Same-trans ℚ (subst (λ q. Same ℚ q (with_normal_keys (length bs) (terms_in p))) (sym is.terms)
+        (collect-same ℚ_field grevlex grevlex_order (with_normal_keys (length bs) (terms_in p))))
         (same_normalized ℚ_ring (length bs) (terms_in p) x same),
   )
 

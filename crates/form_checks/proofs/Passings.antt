@@ -14,8 +14,8 @@ use Rattle.polynomials.specs.Weight.{weight, IsPastComposition}
 use Rattle.polynomials.proofs.Same.{AllSame-at}
 use Rattle.loops.proofs.Maps.{length-variables}
 use Rattle.turns.specs.Turns.{width, IsNormal}
-use Rattle.turns.specs.Expo.{normalized, next_images, zero_images}
-use Rattle.completeness.specs.FormIdentities.{PassesForm}
+use Rattle.turns.specs.Expo.{with_normal_keys, next_images, zero_images}
+use Rattle.completeness.specs.FormIdentities.{IsRightForm}
 use Rattle.expo.specs.Bases.{IsCoprimeBase}
 use Rattle.form_checks.specs.Passing.{PassesAt, IsPastAt, IsPastForm}
 
@@ -57,7 +57,7 @@ module _ (bs : List ℕ) (images ps : List (Terms Fraction)) (count : length ps 
   w = width (length bs) (length images)
 
   pub passes_all : IsCoprimeBase bs → ((i : ℕ) → i < length ps → PassesAt bs images ps i)
-      → PassesForm images (length images) (record { base = bs; polys = ps; since = 0 })
+      → IsRightForm images (length images) (record { base = bs; polys = ps; since = 0 })
   passes_all base h = record {
     ascending = base.1;
     coprime = base.0;
@@ -68,19 +68,19 @@ module _ (bs : List ℕ) (images ps : List (Terms Fraction)) (count : length ps 
         m)) in omega (arith, l, e)) in
         subst (λ p. Same ℚ p (get_or (variables ℚ m) i []))
         (sym (get_or-map (λ p. compose ℚ m p (zero_images r m)) ps i [] [] k)) (h i k).at_zero);
-    goes_on = same_places ℚ (map (λ q. normalized r (compose ℚ w q ps)) images)
+    goes_on = same_places ℚ (map (λ q. with_normal_keys r (compose ℚ w q ps)) images)
         (map (λ p. compose ℚ w p (next_images bs m)) ps)
-        (length-map images (λ q. normalized r (compose ℚ w q ps)) ∙ sym count
+        (length-map images (λ q. with_normal_keys r (compose ℚ w q ps)) ∙ sym count
         ∙ sym (length-map ps (λ p. compose ℚ w p (next_images bs m))))
-        (λ i l. let k : i < length images = (let e = length-map images (λ q. normalized r
+        (λ i l. let k : i < length images = (let e = length-map images (λ q. with_normal_keys r
         (compose ℚ w q ps)) in omega (arith, l, e)) in
         let n : i < length ps = omega (arith, k, count) in
         subst₂ (Same ℚ)
-        (sym (get_or-map (λ q. normalized r (compose ℚ w q ps)) images i [] [] k))
+        (sym (get_or-map (λ q. with_normal_keys r (compose ℚ w q ps)) images i [] [] k))
         (sym (get_or-map (λ p. compose ℚ w p (next_images bs m)) ps i [] [] n)) (h i n).goes_on);
   }
 
-  pub passes_at : PassesForm images (length images) (record { base = bs; polys = ps; since = 0 })
+  pub passes_at : IsRightForm images (length images) (record { base = bs; polys = ps; since = 0 })
       → (i : ℕ) → i < length ps → PassesAt bs images ps i
   passes_at h i l =
       let k : i < length images = omega (arith, l, count) in
@@ -91,9 +91,9 @@ module _ (bs : List ℕ) (images ps : List (Terms Fraction)) (count : length ps 
             (AllSame-at ℚ (map (λ p. compose ℚ m p (zero_images r m)) ps) (variables ℚ m) h.at_zero
             i);
         goes_on = subst₂ (Same ℚ)
-            (get_or-map (λ q. normalized r (compose ℚ w q ps)) images i [] [] k)
+            (get_or-map (λ q. with_normal_keys r (compose ℚ w q ps)) images i [] [] k)
             (get_or-map (λ p. compose ℚ w p (next_images bs m)) ps i [] [] l)
-            (AllSame-at ℚ (map (λ q. normalized r (compose ℚ w q ps)) images)
+            (AllSame-at ℚ (map (λ q. with_normal_keys r (compose ℚ w q ps)) images)
             (map (λ p. compose ℚ w p (next_images bs m)) ps) h.goes_on i);
       }
 
@@ -128,15 +128,16 @@ module _ (bs : List ℕ) (m : ℕ) where
 
   pub next_tells : (k : ℕ) (ps : List (Terms Fraction)) (image x body q : Terms Fraction)
       (b : Bool) → k ≡ m → image ≡ x → body ≡ q
-      → (IsTrue b ↔ Same ℚ (normalized (length bs) (compose ℚ (width (length bs) k) image ps))
+      → (IsTrue b ↔ Same ℚ (with_normal_keys (length bs) (compose ℚ (width (length bs) k) image ps))
       (compose ℚ (width (length bs) k) body (next_images bs k)))
-      → (IsTrue b ↔ Same ℚ (normalized (length bs) (compose ℚ (width (length bs) m) x ps))
+      → (IsTrue b ↔ Same ℚ (with_normal_keys (length bs) (compose ℚ (width (length bs) m) x ps))
       (compose ℚ (width (length bs) m) q (next_images bs m)))
   next_tells k ps image x body q b e f g tells =
-      subst (λ n. IsTrue b ↔ Same ℚ (normalized (length bs) (compose ℚ (width (length bs) n) x ps))
+      subst (λ n. IsTrue b
+      ↔ Same ℚ (with_normal_keys (length bs) (compose ℚ (width (length bs) n) x ps))
       (compose ℚ (width (length bs) n) q (next_images bs n))) e
       (subst₂ (λ y p. IsTrue b ↔ Same ℚ
-      (normalized (length bs) (compose ℚ (width (length bs) k) y ps))
+      (with_normal_keys (length bs) (compose ℚ (width (length bs) k) y ps))
       (compose ℚ (width (length bs) k) p (next_images bs k))) f g tells)
 
   pub next_past : (k : ℕ) (images ps : List (Terms Fraction)) (i : ℕ) (image body : Terms Fraction)

@@ -1,7 +1,6 @@
 -- Polynomials that pass as the closed form of a map.
---   refused e                     the refusal of an exponential polynomial, as one of polynomials
 --   form_with base polys          the form of these
---   Fits m base polys images      there are m of each, above 0, over the variables that they should be over
+--   FitsForm m base polys images      there are m of each, above 0, over the variables that they should be over
 --   IsKeptAs bs p found           found is p over the base bs, where p is normal, and else nothing
 --   Passes P Q found              P, and what is found has Q; or nothing is found, and not P
 --   PassesAt bs images ps i       p_i is normal, at 0 the variable i, and at n + 1 the image i of what the ps are at n
@@ -14,29 +13,21 @@ use Rattle.numbers.specs.Size.{IsPast}
 use Rattle.polynomials.specs.Terms.{Terms, Same, variables, compose}
 use Rattle.polynomials.specs.Weight.{weight, IsPastComposition}
 use Rattle.turns.specs.Turns.{width, IsNormal}
-use Rattle.turns.specs.Expo.{normalized, next_images, zero_images}
+use Rattle.turns.specs.Expo.{with_normal_keys, next_images, zero_images}
 use Rattle.rounds.specs.Form.{Form}
 use Rattle.frac128.specs.declared.Whole.{Whole}
 use Rattle.monos.specs.Variables.{most_variables}
 use Rattle.poly.specs.Seen.{terms_in, terms_each}
 use Rattle.poly.specs.Standing.{IsOver}
-use Rattle.poly.specs.declared.PolyError as poly
-use Rattle.poly.specs.declared.PolyError.TheVariants as poly_error
 use Rattle.expressions.specs.FracPoly.{FracPoly}
 use Rattle.coprime_base.specs.Sizes.{sizes}
 use Rattle.expo.specs.View.{base_of}
-use Rattle.expo.specs.declared.ExpoError.{ExpoError}
-use Rattle.expo.specs.declared.ExpoError.TheVariants as expo_error
 use Rattle.expo.specs.declared.exponential.Expo.{Expo}
-
-abbrev pub refused : ExpoError → poly.PolyError
-refused expo_error.Wide = poly_error.Wide
-refused expo_error.Memory = poly_error.Memory
 
 abbrev pub form_with : Vec Whole Global → Vec FracPoly Global → Form
 form_with base polys = record { base = sizes base.items; polys = terms_each polys.items; since = 0 }
 
-pub record Fits (m : ℕ) (base : Vec Whole Global) (polys images : Vec FracPoly Global) : Type
+pub record FitsForm (m : ℕ) (base : Vec Whole Global) (polys images : Vec FracPoly Global) : Type
     0 where
   pub some : 0 < m
   pub few : width (length (sizes base.items)) m ≤ most_variables
@@ -65,7 +56,8 @@ module _ (bs : List ℕ) (images ps : List (Terms Fraction)) (i : ℕ) where
         (compose ℚ (length images) (get_or ps i []) (zero_images (length bs) (length images)))
         (get_or (variables ℚ (length images)) i [])
     pub goes_on : Same ℚ
-        (normalized (length bs) (compose ℚ (width (length bs) (length images)) (get_or images i [])
+        (with_normal_keys (length bs) (compose ℚ (width (length bs) (length images))
+        (get_or images i [])
         ps))
         (compose ℚ (width (length bs) (length images)) (get_or ps i [])
         (next_images bs (length images)))

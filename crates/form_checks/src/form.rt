@@ -6,48 +6,37 @@ ghost use Rattle.polynomials.specs.Order.{grevlex};
 ghost use Rattle.polynomials.specs.Terms.{Same, variables, compose};
 ghost use Rattle.polynomials.specs.Weight.{weight, IsPastComposition};
 ghost use Rattle.turns.specs.Turns.{width};
-ghost use Rattle.turns.specs.Expo.{normalized, next_images, zero_images};
-ghost use Rattle.completeness.specs.FormIdentities.{PassesForm};
+ghost use Rattle.turns.specs.Expo.{with_normal_keys, next_images, zero_images};
+ghost use Rattle.completeness.specs.FormIdentities.{IsRightForm};
 ghost use Rattle.rounds.specs.Form.{backward, form_backward};
 ghost use Rattle.monos.specs.Variables.{most_variables};
 ghost use Rattle.poly.specs.Seen.{terms_in, terms_each};
 ghost use Rattle.poly.specs.Standing.{IsOver};
 ghost use Rattle.coprime_base.specs.Sizes.{sizes};
 ghost use Rattle.expo.specs.Bases.{IsCoprimeBase};
-ghost use Rattle.form_checks.specs.Passing.{refused, form_with, Fits, IsKeptAs, Passes, PassesAt, IsPastAt, IsPastForm};
+ghost use Rattle.form_checks.specs.Passing.{form_with, FitsForm, IsKeptAs, Passes, PassesAt, IsPastAt, IsPastForm};
 
 use crate::base::is_base;
-use expo::{Expo, ExpoError};
+use expo::Expo;
 use frac128::{Frac, Whole};
 use monos::Grevlex;
-use poly::{Poly, PolyError};
+use poly::Poly;
+use ring_laws::ArithmeticError;
 use std::alloc::Global;
-
-/// The refusal of an operation, as one of polynomials.
-fn refused(error: ExpoError) -> PolyError
-    ensures { result ≡ refused error }
-{
-    match error {
-        ExpoError::Wide => PolyError::Wide,
-        ExpoError::Memory => PolyError::Memory,
-    }
-}
 
 /// The polynomial as one over this base, where it is normal.
 fn normal_in(
     alloc: Global,
     base: &Vec<Whole>,
     p: &Poly<Frac, Grevlex>,
-) -> Result<Option<Expo>, PolyError>
+) -> Result<Option<Expo>, ArithmeticError>
     requires base { IsCoprimeBase (sizes base.now.items) }
     requires front { width (length (sizes base.now.items)) 0 ≤ p.now.arity }
     ensures normal { IfOk result (λ found. IsKeptAs (sizes base.now.items) p.now found) }
-    ensures wide { IsErrOf result PolyError.Wide → IsPast (weight fraction_size (terms_in p.now)) }
+    ensures wide { IsErrOf result ArithmeticError.Wide
+        → IsPast (weight fraction_size (terms_in p.now)) }
 {
-    let normal = match Expo::normal(alloc, base, p) {
-        Ok(normal) => normal,
-        Err(error) => return Err(refused(error)),
-    };
+    let normal = Expo::normal(alloc, base, p)?;
     if *normal.body() == *p {
         return Ok(Some(normal));
     }
@@ -55,20 +44,17 @@ fn normal_in(
 }
 
 /// Whether it is the variable at this place where n is 0.
-fn starts(alloc: Global, e: &Expo, place: usize) -> Result<bool, PolyError>
+fn starts(alloc: Global, e: &Expo, place: usize) -> Result<bool, ArithmeticError>
     requires few { e.now.vars ≤ most_variables }
     requires place { place < e.now.vars }
     ensures holds { IfOk result (λ holds. IsTrue holds ↔
         Same ℚ (compose ℚ e.now.vars (terms_in e.now.body)
         (zero_images (length (sizes e.now.base.items)) e.now.vars))
         (get_or (variables ℚ e.now.vars) place [])) }
-    ensures wide { IsErrOf result PolyError.Wide → IsPastComposition fractions
+    ensures wide { IsErrOf result ArithmeticError.Wide → IsPastComposition fractions
         (terms_in e.now.body) (zero_images (length (sizes e.now.base.items)) e.now.vars) }
 {
-    let start = match e.at_zero(alloc) {
-        Ok(start) => start,
-        Err(error) => return Err(refused(error)),
-    };
+    let start = e.at_zero(alloc)?;
     let variable = Poly::variable(alloc, Grevlex, e.vars(), place)?;
     Ok(start == variable)
 }
@@ -80,7 +66,7 @@ fn goes_on(
     base: &Vec<Whole>,
     polys: &Vec<Poly<Frac, Grevlex>>,
     image: &Poly<Frac, Grevlex>,
-) -> Result<bool, PolyError>
+) -> Result<bool, ArithmeticError>
     requires base { sizes e.now.base.items ≡ sizes base.now.items }
     requires some { 0 < image.now.arity }
     requires vars { e.now.vars ≡ image.now.arity }
@@ -90,22 +76,18 @@ fn goes_on(
         All (IsOver (width r image.now.arity)) polys.now.items }
     ensures holds { let r = length (sizes base.now.items) in let m = image.now.arity in
         IfOk result (λ holds. IsTrue holds ↔ Same ℚ
-        (normalized r (compose ℚ (width r m) (terms_in image.now) (terms_each polys.now.items)))
+        (with_normal_keys r (compose ℚ (width r m) (terms_in image.now)
+        (terms_each polys.now.items)))
         (compose ℚ (width r m) (terms_in e.now.body) (next_images (sizes base.now.items) m))) }
-    ensures wide { IsErrOf result PolyError.Wide
+    ensures wide { IsErrOf result ArithmeticError.Wide
         → IsPastComposition fractions (terms_in image.now) (terms_each polys.now.items)
         ⊎ IsPastComposition fractions (terms_in e.now.body)
         (next_images (sizes base.now.items) image.now.arity) }
 {
     let moved = image.compose(alloc, polys)?;
-    let normal = match Expo::normal(alloc, base, &moved) {
-        Ok(normal) => normal,
-        Err(error) => return Err(refused(error)),
-    };
-    match e.shift_n(alloc) {
-        Ok(next) => Ok(*normal.body() == *next.body()),
-        Err(error) => Err(refused(error)),
-    }
+    let normal = Expo::normal(alloc, base, &moved)?;
+    let next = e.shift_n(alloc)?;
+    Ok(*normal.body() == *next.body())
 }
 
 /// The polynomial backward, where it passes as that of the variable at this place.
@@ -115,8 +97,8 @@ fn backward_of(
     polys: &Vec<Poly<Frac, Grevlex>>,
     images: &Vec<Poly<Frac, Grevlex>>,
     place: usize,
-) -> Result<Option<Poly<Frac, Grevlex>>, PolyError>
-    requires fits { Fits (length images.now.items) base.now polys.now images.now }
+) -> Result<Option<Poly<Frac, Grevlex>>, ArithmeticError>
+    requires fits { FitsForm (length images.now.items) base.now polys.now images.now }
     requires base { IsCoprimeBase (sizes base.now.items) }
     requires place { place < length images.now.items }
     ensures passes { let r = length (sizes base.now.items) in IfOk result (λ found. Passes
@@ -124,7 +106,7 @@ fn backward_of(
         place)
         (λ q. (terms_in q ≡ backward grevlex r (get_or (terms_each polys.now.items) place []))
         × IsOver (width r (length images.now.items)) q) found) }
-    ensures wide { IsErrOf result PolyError.Wide → IsPastAt (sizes base.now.items)
+    ensures wide { IsErrOf result ArithmeticError.Wide → IsPastAt (sizes base.now.items)
         (terms_each images.now.items) (terms_each polys.now.items) place }
 {
     let Some(e) = normal_in(alloc, base, &polys[place])? else {
@@ -138,10 +120,7 @@ fn backward_of(
     if !follows {
         return Ok(None);
     }
-    match e.backward(alloc) {
-        Ok(back) => Ok(Some(back.into_body())),
-        Err(_) => Err(PolyError::Memory),
-    }
+    Ok(Some(e.backward(alloc)?.into_body()))
 }
 
 /// The polynomials backward, where they are the closed form over this base of the map with these images, by
@@ -153,14 +132,14 @@ pub fn closed_form(
     images: &Vec<Poly<Frac, Grevlex>>,
     base: &Vec<Whole>,
     polys: &Vec<Poly<Frac, Grevlex>>,
-) -> Result<Option<Vec<Poly<Frac, Grevlex>>>, PolyError>
-    requires fits { Fits (length images.now.items) base.now polys.now images.now }
+) -> Result<Option<Vec<Poly<Frac, Grevlex>>>, ArithmeticError>
+    requires fits { FitsForm (length images.now.items) base.now polys.now images.now }
     ensures passes { let f = form_with base.now polys.now in IfOk result (λ found. Passes
-        (PassesForm (terms_each images.now.items) (length images.now.items) f)
+        (IsRightForm (terms_each images.now.items) (length images.now.items) f)
         (λ back. (terms_each back.items ≡ form_backward f)
         × All (IsOver (width (length f.base) (length images.now.items))) back.items
         × IsCoprimeBase f.base) found) }
-    ensures wide { IsErrOf result PolyError.Wide → IsPastForm (terms_each images.now.items)
+    ensures wide { IsErrOf result ArithmeticError.Wide → IsPastForm (terms_each images.now.items)
         (length images.now.items) (form_with base.now polys.now) }
 {
     let proper = is_base(base);

@@ -31,7 +31,7 @@ use Rattle.full_cert.specs.StageParts.{IsPastPlace}
 use Rattle.full_cert.specs.Stops.{IsStop, stop_map}
 use Rattle.full_cert.specs.Wide.{IsPastPart, IsPastBegun}
 use Rattle.full_cert.specs.declared.part.Kind.{Kind}
-use Rattle.full_cert.specs.declared.part.Place.{Place as Found}
+use Rattle.full_cert.specs.declared.part.RowPlace.{RowPlace as Found}
 use Rattle.full_cert.specs.declared.part.Part.{Part as FoundPart}
 use Rattle.full_cert.specs.declared.stop.Stop.{Stop}
 use Rattle.full_cert.proofs.Stopping.{stop_in, stop_mapped, stop_weaker}

@@ -16,7 +16,7 @@ use Rattle.polynomials.specs.Polynomial.{AllArity, IsPolynomial}
 use Rattle.polynomials.specs.Terms.{Terms, AllSame, compose}
 use Rattle.polynomials.proofs.Composition.{same_compose}
 use Rattle.polynomials.proofs.Same.{Same-trans, AllSame-refl, AllSame-sym}
-use Rattle.turns.specs.Expo.{normalized}
+use Rattle.turns.specs.Expo.{with_normal_keys}
 use Rattle.turns.specs.Turns.{width}
 use Rattle.turns.proofs.Retold.{same_normalized}
 use Rattle.loops.specs.Program.{Expr, Program}
@@ -28,9 +28,9 @@ use Rattle.poly.proofs.Standing.{polynomial_over, arities_over, stands_over, sta
 use Rattle.expressions.specs.FracPoly.{FracPoly}
 use Rattle.coprime_base.specs.Sizes.{sizes}
 use Rattle.expo.specs.Bases.{IsCoprimeBase}
-use Rattle.completeness.specs.FormIdentities.{PassesForm}
+use Rattle.completeness.specs.FormIdentities.{IsRightForm}
 use Rattle.completeness.specs.Full.{as_form, form_of}
-use Rattle.form_checks.specs.Passing.{Fits, IsPastForm}
+use Rattle.form_checks.specs.Passing.{FitsForm, IsPastForm}
 use Rattle.full_types.specs.Images.{IsFormOver, IsFullIn}
 use Rattle.full_types.specs.View.{form_in, full_of}
 use Rattle.full_types.specs.declared.parts.FullForm.{FullForm}
@@ -52,7 +52,7 @@ all_trans (p ∷ ps) (q ∷ qs) (r ∷ rs) h k = (Same-trans ℚ h.0 k.0, all_tr
 
 module _ (m : ℕ) (f : Form) (over : AllArity (width (length f.base) m) f.polys) where
   abbrev moved : Terms Fraction → Terms Fraction
-  moved q = normalized (length f.base) (compose ℚ (width (length f.base) m) q f.polys)
+  moved q = with_normal_keys (length f.base) (compose ℚ (width (length f.base) m) q f.polys)
 
   moved_same : (ps qs : List (Terms Fraction)) → AllArity m ps → AllArity m qs → AllSame ℚ ps qs
       → AllSame ℚ (map moved ps) (map moved qs)
@@ -67,7 +67,7 @@ module _ (m : ℕ) (f : Form) (over : AllArity (width (length f.base) m) f.polys
   )
 
   pub passes_along : (ps qs : List (Terms Fraction)) → AllArity m ps → AllArity m qs
-      → AllSame ℚ ps qs → PassesForm ps m f → PassesForm qs m f
+      → AllSame ℚ ps qs → IsRightForm ps m f → IsRightForm qs m f
   passes_along ps qs a b same h = record {
     ascending = h.ascending;
     coprime = h.coprime;
@@ -120,8 +120,8 @@ module _ (program : Program (Expr ℕ)) (cert : FullCert)
       (stands : AllStandFor (length program.names) images.items maps)
       (count : length images.items ≡ length program.names) (some : 0 < length program.names)
       (names : length program.names ≤ 12) (arity : AllArity (length program.names) maps) where
-    pub fits : Fits (length images.items) form.base form.polys images
-    fits = subst (λ n. Fits n form.base form.polys images) (sym count) (record {
+    pub fits : FitsForm (length images.items) form.base form.polys images
+    fits = subst (λ n. FitsForm n form.base form.polys images) (sym count) (record {
       some = some;
       few = omega (arith, few, names);
       count = many;
@@ -135,23 +135,23 @@ module _ (program : Program (Expr ℕ)) (cert : FullCert)
     images_over : AllArity m (terms_each images.items)
     images_over = arities_over m images.items (stands_over m images.items maps stands)
 
-    pub pass_on : PassesForm (terms_each images.items) (length images.items)
+    pub pass_on : IsRightForm (terms_each images.items) (length images.items)
         (as_form (form_in form))
-        → PassesForm maps (length program.names) (form_of (full_of cert) b)
-    pass_on h = subst (PassesForm maps m) form_at
+        → IsRightForm maps (length program.names) (form_of (full_of cert) b)
+    pass_on h = subst (IsRightForm maps m) form_at
         (passes_along m (as_form (form_in form)) polys_over (terms_each images.items) maps
         images_over arity
         (stands_same m images.items maps stands)
-        (subst (λ n. PassesForm (terms_each images.items) n (as_form (form_in form))) count h))
+        (subst (λ n. IsRightForm (terms_each images.items) n (as_form (form_in form))) count h))
 
-    pub pass_back : PassesForm maps (length program.names) (form_of (full_of cert) b)
-        → PassesForm (terms_each images.items) (length images.items) (as_form (form_in form))
-    pass_back h = subst (λ n. PassesForm (terms_each images.items) n (as_form (form_in form)))
+    pub pass_back : IsRightForm maps (length program.names) (form_of (full_of cert) b)
+        → IsRightForm (terms_each images.items) (length images.items) (as_form (form_in form))
+    pass_back h = subst (λ n. IsRightForm (terms_each images.items) n (as_form (form_in form)))
         (sym count)
         (passes_along m (as_form (form_in form)) polys_over maps (terms_each images.items) arity
         images_over
         (AllSame-sym ℚ _ _ (stands_same m images.items maps stands))
-        (subst (PassesForm maps m) (sym form_at) h))
+        (subst (IsRightForm maps m) (sym form_at) h))
 
     pub past_on : IsPastForm (terms_each images.items) (length images.items)
         (as_form (form_in form))

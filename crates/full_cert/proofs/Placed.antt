@@ -7,7 +7,7 @@ use Rattle.rings.specs.Each.{Each}
 use Rattle.rings.proofs.Each.{each-append}
 use Rattle.numbers.specs.Fraction.{Fraction}
 use Rattle.polynomials.specs.Terms.{Terms}
-use Rattle.machines.specs.Elimination.{kept}
+use Rattle.machines.specs.Elimination.{free_part}
 use Rattle.completeness.specs.Representation.{pairs_of}
 use Rattle.completeness.specs.Stage.{Stage, Place, in_list, in_gens, in_pairs, in_links, HoldsAt, below, places}
 use Rattle.full_cert.specs.Parts.{place_of, place_at}
@@ -34,7 +34,7 @@ module _ (k : ℕ) (hs : List (Terms Fraction)) (s : Stage) (begun : ℕ → Typ
   pairs = map in_pairs (below (length (pairs_of (length s.list))))
 
   abbrev links : List Place
-  links = map in_links (below (length (kept k s.list)))
+  links = map in_links (below (length (free_part k s.list)))
 
   module _ (listed : (i : ℕ) → i < length s.list → P (in_list i)) where
     lists_hold : Each P lists
@@ -50,23 +50,23 @@ module _ (k : ℕ) (hs : List (Terms Fraction)) (s : Stage) (begun : ℕ → Typ
             (each-append P gens pairs (numbers_hold P in_gens (length hs) made)
             (numbers_hold P in_pairs (length (pairs_of (length s.list))) paired))
 
-        pub stage_holds : ((i : ℕ) → i < length (kept k s.list) → P (in_links i))
+        pub stage_holds : ((i : ℕ) → i < length (free_part k s.list) → P (in_links i))
             → Each P (places k hs s)
         stage_holds linked = each-append P lists (gens ++ (pairs ++ links)) lists_hold
             (each-append P gens (pairs ++ links) (numbers_hold P in_gens (length hs) made)
             (each-append P pairs links
             (numbers_hold P in_pairs (length (pairs_of (length s.list))) paired)
-            (numbers_hold P in_links (length (kept k s.list)) linked)))
+            (numbers_hold P in_links (length (free_part k s.list)) linked)))
 
         pub links_stop : (e : Stop ℕ) → StopsAt (λ i. P (in_links i)) (λ i. W (in_links i))
-            (length (kept k s.list)) e
+            (length (free_part k s.list)) e
             → IsStop place_of P W (places k hs s) (stop_map (place_at row.Links) e)
         links_stop e h = stop_in place_of P W (places k hs s) (lists ++ (gens ++ pairs)) links []
             (ap (λ ps. lists ++ (gens ++ (pairs ++ ps))) (sym (append-nil links))
             ∙ ap (λ ps. lists ++ ps) (sym (append_assoc gens pairs (links ++ [])))
             ∙ sym (append_assoc lists (gens ++ pairs) (links ++ []))) pairs_hold
             (stop_map (place_at row.Links) e)
-            (numbers_stop place_of P W in_links (length (kept k s.list)) (place_at row.Links)
+            (numbers_stop place_of P W in_links (length (free_part k s.list)) (place_at row.Links)
             (λ i. refl) e h)
 
       pub pairs_stop : (e : Stop ℕ) → StopsAt (λ i. P (in_pairs i)) (λ i. W (in_pairs i))

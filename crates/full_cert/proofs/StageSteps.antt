@@ -22,8 +22,8 @@ use Rattle.monos.specs.declared.order.Order as Order
 use Rattle.poly.specs.declared.Poly.{Poly}
 use Rattle.poly.specs.Seen.{IsImage, terms_in, terms_each}
 use Rattle.poly.specs.Standing.{IsOver}
-use Rattle.poly.specs.declared.PolyError.{PolyError}
-use Rattle.poly.specs.declared.PolyError.TheVariants as poly_error
+use Rattle.ring_laws.specs.declared.ArithmeticError.{ArithmeticError}
+use Rattle.ring_laws.specs.declared.ArithmeticError.TheVariants as arithmetic_error
 use Rattle.full_types.specs.Rows.{rows_of, HaveWidth}
 use Rattle.completeness.specs.Representation.{pairs_of, IsLcmRepresentation}
 use Rattle.list_checks.specs.Past.{IsPastCombination}
@@ -37,15 +37,15 @@ module _ {X : Type 0} (see : X → List (Terms Fraction)) (rows : List X) (i : �
   pub row_is : see row ≡ get_or (map see rows) i []
   row_is = (place_in see rows i within).1 row is
 
-  pub made_holds : (hs gs : List (Terms Fraction)) (found : Result Bool PolyError)
+  pub made_holds : (hs gs : List (Terms Fraction)) (found : Result Bool ArithmeticError)
       → IfOk found (λ b. IsTrue b ↔ Same ℚ (get_or hs i []) (combination ℚ (see row) gs))
       → IfOk found (λ b. IsTrue b ↔ IsMadeAt hs (map see rows) gs i)
   made_holds hs gs found h = subst (λ qs. IfOk found (λ b.
       IsTrue b ↔ Same ℚ (get_or hs i []) (combination ℚ qs gs))) row_is h
 
-  pub made_past : (gs : List (Terms Fraction)) (W : Type 0) (found : Result Bool PolyError)
-      → (IsErrOf found poly_error.Wide → W ⊎ IsPastCombination (see row) gs)
-      → IsErrOf found poly_error.Wide → W ⊎ IsPastMade (map see rows) gs i
+  pub made_past : (gs : List (Terms Fraction)) (W : Type 0) (found : Result Bool ArithmeticError)
+      → (IsErrOf found arithmetic_error.Wide → W ⊎ IsPastCombination (see row) gs)
+      → IsErrOf found arithmetic_error.Wide → W ⊎ IsPastMade (map see rows) gs i
   made_past gs W found h w = subst (λ qs. W ⊎ IsPastCombination qs gs) row_is (h w)
 
 -- ---- polynomials of the code
@@ -69,9 +69,9 @@ monic_each see xs h i d l = monic_some (see (get_or xs i d))
     (subst (λ p. lead_number rationals p ≡ ℚ.one) (get_or-map see xs i d [] l) (h i l))
 
 -- ---- combinations
-pub past_at : (found : Result Bool PolyError) (qs rs gs ks : List (Terms Fraction)) → qs ≡ rs
-    → gs ≡ ks → (IsErrOf found poly_error.Wide → IsPastCombination qs gs)
-    → IsErrOf found poly_error.Wide → IsPastCombination rs ks
+pub past_at : (found : Result Bool ArithmeticError) (qs rs gs ks : List (Terms Fraction)) → qs ≡ rs
+    → gs ≡ ks → (IsErrOf found arithmetic_error.Wide → IsPastCombination qs gs)
+    → IsErrOf found arithmetic_error.Wide → IsPastCombination rs ks
 past_at found qs rs gs ks e f h w = subst₂ IsPastCombination e f (h w)
 
 -- ---- pairs
@@ -82,7 +82,7 @@ pair_is all m n i a is e f l =
     let within : i < length all = (let k = ap length same in omega (arith, l, k)) in
     is ∙ get_or_default all i a (0, 0) within ∙ ap (λ ps. get_or ps i (0, 0)) same
 
-pub pair_tells : (found : Result Bool PolyError) (O : Rank) (gs ks : List (Terms Fraction))
+pub pair_tells : (found : Result Bool ArithmeticError) (O : Rank) (gs ks : List (Terms Fraction))
     (a c : ℕ × ℕ) (qs rs : List (Terms Fraction)) → gs ≡ ks → a ≡ c → qs ≡ rs
     → IfOk found (λ t. IsTrue t ↔ IsLcmRepresentation rationals O gs a qs)
     → IfOk found (λ t. IsTrue t ↔ IsLcmRepresentation rationals O ks c rs)
@@ -90,11 +90,12 @@ pair_tells found O gs ks a c qs rs e f k told =
     subst (λ x. IfOk found (λ t. IsTrue t ↔ IsLcmRepresentation rationals O x c rs)) e
     (subst₂ (λ y z. IfOk found (λ t. IsTrue t ↔ IsLcmRepresentation rationals O gs y z)) f k told)
 
-pub pair_past : (found : Result Bool PolyError) (gs ks : List (Terms Fraction)) (a c : ℕ × ℕ)
+pub pair_past : (found : Result Bool ArithmeticError) (gs ks : List (Terms Fraction)) (a c : ℕ × ℕ)
     (qs rs : List (Terms Fraction)) → gs ≡ ks → a ≡ c → qs ≡ rs
-    → (IsErrOf found poly_error.Wide
+    → (IsErrOf found arithmetic_error.Wide
     → IsPastPair fractions rationals gs a ⊎ IsPastCombination qs gs)
-    → IsErrOf found poly_error.Wide → IsPastPair fractions rationals ks c ⊎ IsPastCombination rs ks
+    → IsErrOf found arithmetic_error.Wide → IsPastPair fractions rationals ks c
+    ⊎ IsPastCombination rs ks
 pair_past found gs ks a c qs rs e f k past wide =
     subst (λ x. IsPastPair fractions rationals x c ⊎ IsPastCombination rs x) e
     (subst₂ (λ y z. IsPastPair fractions rationals gs y ⊎ IsPastCombination z gs) f k (past wide))

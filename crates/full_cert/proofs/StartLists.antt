@@ -1,7 +1,7 @@
 -- The equations of init, in the order of the variables that they set.
 --   starts_few        there are no more polynomials in the start list than equations
 --   start_same        a polynomial of the code's list is that of the start list, collected
-use Rattle.std.proofs.Common.{◌≡◌, ◌<◌, ◌≤◌, ◌+◌, ℕ, zero, suc, Bool, true, false, cond, eqb, List, [], ◌∷◌, ◌++◌, map, filter, get_or, length, refl, sym, ap, ap₂, subst, ◌∙◌, arith}
+use Rattle.std.proofs.Common.{◌≡◌, ◌<◌, ◌≤◌, ◌+◌, ℕ, zero, suc, Bool, true, false, eqb, List, [], ◌∷◌, ◌++◌, map, filter, get_or, length, refl, sym, ap, subst, ◌∙◌, arith}
 use Rattle.std.proofs.lemmas.Bool.{eqb-true}
 use Rattle.std.proofs.lemmas.List.{get_or-map, length-append, length-map}
 use Rattle.numbers.specs.Fraction.{Fraction, ℚ, rationals}
@@ -13,34 +13,9 @@ use Rattle.machines.specs.Collect.{collect}
 use Rattle.machines.proofs.Collecting.{collect-same}
 use Rattle.loops.specs.Program.{Expr, Program, Equation}
 use Rattle.rounds.specs.Start.{start_polynomial, in_order, start_list}
-
-none_in_order : (E : Type 0) (n : ℕ) → length (in_order {E = E} n []) ≡ 0
-unfolding in_order
-none_in_order E zero = refl
-none_in_order E (suc n) = length-append (in_order {E = E} n []) []
-    ∙ (let e = none_in_order E n in omega (arith, e))
+use Rattle.rounds.proofs.StartOrder.{none_in_order, sets, passed, outside}
 
 module _ {E : Type 0} where
-  abbrev sets : ℕ → Equation E → Bool
-  sets n e = eqb e.name n
-
-  passed : (b : Bool) (n : ℕ) (e : Equation E) (es : List (Equation E)) → eqb e.name n ≡ b
-      → filter (sets n) (e ∷ es) ≡ cond b (e ∷ filter (sets n) es) (filter (sets n) es)
-  passed b n e es is = ap (λ a. cond a (e ∷ filter (sets n) es) (filter (sets n) es)) is
-
-  -- an equation behind the first n variables
-  outside : (n : ℕ) (e : Equation E) (es : List (Equation E)) → n ≤ e.name
-      → in_order n (e ∷ es) ≡ in_order n es
-  unfolding in_order
-  outside zero e es l = refl
-  outside (suc n) e es l = go (eqb e.name n) refl (outside n e es (omega (arith, l)))
-    where
-      go : (b : Bool) → eqb e.name n ≡ b → in_order n (e ∷ es) ≡ in_order n es
-          → in_order n (e ∷ es) ++ filter (sets n) (e ∷ es) ≡ in_order n es ++ filter (sets n) es
-      go true is before =
-          let same = eqb-true e.name n is in absurd (omega (arith, l, same))
-      go false is before = ap₂ (λ xs ys. xs ++ ys) before (passed false n e es is)
-
   inside : (n : ℕ) (e : Equation E) (es : List (Equation E))
       → length (in_order n (e ∷ es)) ≤ suc (length (in_order n es))
   unfolding in_order

@@ -12,8 +12,8 @@ use borrow.Author.Count.{below_more}
 use Rattle.rings.specs.Each.{Each}
 use Rattle.rings.proofs.Each.{each-append, each-left, each-map}
 use Rattle.exponentials.specs.Table.{numbers}
-use Rattle.poly.specs.declared.PolyError.{PolyError}
-use Rattle.poly.specs.declared.PolyError.TheVariants as poly_error
+use Rattle.ring_laws.specs.declared.ArithmeticError.{ArithmeticError}
+use Rattle.ring_laws.specs.declared.ArithmeticError.TheVariants as arithmetic_error
 use Rattle.list_checks.proofs.Places.{numbers-push}
 use Rattle.full_cert.specs.Stops.{IsToldAs, Behind, IsStop, AtNumber, StopsAt, stop_map}
 use Rattle.full_cert.specs.declared.stop.Stop.{Stop}
@@ -141,8 +141,8 @@ module _ {Q A : Type 0} (see : Q → A) (P W : A → Type 0) (part : ℕ → A) 
 
 -- ---- the next number
 module _ (P W : ℕ → Type 0) (n i : ℕ) (within : i < n) (before : (j : ℕ) → j < i
-    → P j) (found : Result Bool PolyError) (tells : IfOk found (λ b. IsTrue b ↔ P i))
-    (wide : IsErrOf found poly_error.Wide → W i) where
+    → P j) (found : Result Bool ArithmeticError) (tells : IfOk found (λ b. IsTrue b ↔ P i))
+    (wide : IsErrOf found arithmetic_error.Wide → W i) where
   pub here_stops : (e : Stop ℕ) → IsToldAs i found e → StopsAt P W n e
   here_stops (Fails p) is = subst (λ k. AtNumber P n k (P k → ⊥)) (sym is.0) (record {
     within = within;

@@ -12,7 +12,7 @@ use Rattle.full_cert.specs.declared.part.Row.{Row}
 use Rattle.full_cert.specs.declared.part.Row.TheVariants as row
 use Rattle.full_cert.specs.declared.part.Kind.{Kind}
 use Rattle.full_cert.specs.declared.part.Kind.TheVariants as kind
-use Rattle.full_cert.specs.declared.part.Place.{Place}
+use Rattle.full_cert.specs.declared.part.RowPlace.{RowPlace}
 use Rattle.full_cert.specs.declared.part.Part.{Part}
 use Rattle.full_cert.specs.declared.part.Part.TheVariants as part
 use Rattle.full_cert.specs.declared.stop.Stop.{Stop}
@@ -33,7 +33,7 @@ in_place row.Gens i = stage.in_gens i
 in_place row.Pairs i = stage.in_pairs i
 in_place row.Links i = stage.in_links i
 
-abbrev pub place_of : Place → stage.Place
+abbrev pub place_of : RowPlace → stage.Place
 place_of p = in_place p.row p.index
 
 abbrev pub kind_of : Kind → full.Kind
@@ -48,10 +48,10 @@ part_of (part.Start i) = whole.in_start i
 part_of (part.Stage r b k p) = whole.in_round r b (kind_of k) (place_of p)
 part_of part.End = whole.at_end
 
-abbrev pub place_at : Row → ℕ → Place
+abbrev pub place_at : Row → ℕ → RowPlace
 place_at r i = record { row = r; index = i }
 
-abbrev pub stage_part : ℕ → ℕ → Kind → Place → Part
+abbrev pub stage_part : ℕ → ℕ → Kind → RowPlace → Part
 stage_part r b k p = part.Stage r b k p
 
 abbrev pub in_forms : Stop ℕ → Stop Part

@@ -5,14 +5,14 @@
 --   StopsAt P W n e         so, where the parts are the numbers below n;  stop_map f e: the stop at f of the part
 use Rattle.std.specs.Prelude.{◌≡◌, ℕ, ◌<◌, Bool, false, List, ◌∷◌, ◌++◌, Result, Ok, Err}
 use Rattle.rings.specs.Each.{Each}
-use Rattle.poly.specs.declared.PolyError.{PolyError}
-use Rattle.poly.specs.declared.PolyError.TheVariants as poly_error
+use Rattle.ring_laws.specs.declared.ArithmeticError.{ArithmeticError}
+use Rattle.ring_laws.specs.declared.ArithmeticError.TheVariants as arithmetic_error
 use Rattle.full_cert.specs.declared.stop.Stop.{Stop}
 use Rattle.full_cert.specs.declared.stop.Stop.TheVariants.{Fails, Wide, Memory}
 
-abbrev pub IsToldAs : {P : Type 0} → P → Result Bool PolyError → Stop P → Type 0
+abbrev pub IsToldAs : {P : Type 0} → P → Result Bool ArithmeticError → Stop P → Type 0
 IsToldAs part found (Fails p) = (p ≡ part) × (found ≡ Ok false)
-IsToldAs part found (Wide p) = (p ≡ part) × (found ≡ Err poly_error.Wide)
+IsToldAs part found (Wide p) = (p ≡ part) × (found ≡ Err arithmetic_error.Wide)
 IsToldAs part found Memory = Unit {0}
 
 pub record Behind {A : Type 0} (P : A → Type 0) (ps : List A) (a : A) (W : Type 0) : Type 0 where

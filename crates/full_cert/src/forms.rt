@@ -14,7 +14,7 @@ use crate::stop::Stop;
 use form_checks::closed_form;
 use full_types::{FullCert, Polys};
 use loop_model::Loop;
-use poly::PolyError;
+use ring_laws::ArithmeticError;
 use std::alloc::Global;
 
 /// The forms of the branches, backward, where each is the closed form of its map.
@@ -43,8 +43,8 @@ pub(crate) fn judge_forms(
                 Err(_) => return Err(Stop::Memory),
             },
             Ok(None) => return Err(Stop::Fails(b)),
-            Err(PolyError::Wide) => return Err(Stop::Wide(b)),
-            Err(PolyError::Memory) => return Err(Stop::Memory),
+            Err(ArithmeticError::Wide) => return Err(Stop::Wide(b)),
+            Err(ArithmeticError::Memory) => return Err(Stop::Memory),
         }
     }
     Ok(found)

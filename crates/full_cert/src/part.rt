@@ -19,7 +19,7 @@ pub(crate) enum Row {
 
 /// A place in one of the lists of a stage.
 #[derive(Clone, Copy, Debug, PartialEq, Eq)]
-pub(crate) struct Place {
+pub(crate) struct RowPlace {
     pub(crate) row: Row,
     pub(crate) index: usize,
 }
@@ -38,7 +38,7 @@ pub(crate) enum Part {
     Step(usize, usize),
     Form(usize),
     Start(usize),
-    Stage(usize, usize, Kind, Place),
+    Stage(usize, usize, Kind, RowPlace),
     End,
 }
 
@@ -80,15 +80,15 @@ pub(crate) fn text_of(alloc: Global, part: Part) -> Result<String, AllocError>
 }
 
 /// What is told of places of one list of a stage.
-pub(crate) fn in_row(row: Row, judged: Result<(), Stop<usize>>) -> Result<(), Stop<Place>>
+pub(crate) fn in_row(row: Row, judged: Result<(), Stop<usize>>) -> Result<(), Stop<RowPlace>>
     ensures holds { OnOk result (IsOk judged) }
     ensures stops { IfErr result (λ e.
         IsErrAnd judged (λ s. e ≡ stop_map (parts.place_at row) s)) }
 {
     match judged {
         Ok(()) => Ok(()),
-        Err(Stop::Fails(index)) => Err(Stop::Fails(Place { row, index })),
-        Err(Stop::Wide(index)) => Err(Stop::Wide(Place { row, index })),
+        Err(Stop::Fails(index)) => Err(Stop::Fails(RowPlace { row, index })),
+        Err(Stop::Wide(index)) => Err(Stop::Wide(RowPlace { row, index })),
         Err(Stop::Memory) => Err(Stop::Memory),
     }
 }
@@ -98,7 +98,7 @@ pub(crate) fn in_stage(
     round: usize,
     branch: usize,
     kind: Kind,
-    judged: Result<(), Stop<Place>>,
+    judged: Result<(), Stop<RowPlace>>,
 ) -> Result<(), Stop<Part>>
     ensures holds { OnOk result (IsOk judged) }
     ensures stops { IfErr result (λ e.

@@ -3,7 +3,7 @@ ghost use Rattle.std.specs.Prelude.{◌≡◌, ◌<◌, ◌≤◌, ◌+◌, ◌�
 ghost use Rattle.rings.specs.Each.{Each};
 ghost use Rattle.numbers.specs.Fraction.{ℚ};
 ghost use Rattle.polynomials.specs.Terms.{Same, combination};
-ghost use Rattle.machines.specs.Elimination.{kept};
+ghost use Rattle.machines.specs.Elimination.{free_part};
 ghost use Rattle.monos.specs.Variables.{most_variables};
 ghost use Rattle.poly.specs.Seen.{terms_each};
 ghost use Rattle.full_types.specs.Rows.{rows_of, HaveWidth};
@@ -18,13 +18,14 @@ ghost use Rattle.full_cert.specs.Parts.{place_of};
 ghost use Rattle.full_cert.specs.StageParts.{IsMonicAt, IsMadeAt, IsPastMade, IsRepresentedAt, IsPastPairAt, NeverPast, IsPastPlace};
 ghost use Rattle.full_cert.specs.Stops.{IsStop, StopsAt};
 
-use crate::part::{Place, Row, in_row};
+use crate::part::{Row, RowPlace, in_row};
 use crate::stop::{Stop, told};
 use frac128::Frac;
 use full_types::{BlockPolys, FullStage, Polys};
 use list_checks::{all_pairs, free_elements, is_combination, is_lcm_representation, is_monic};
 use monos::Blocks;
-use poly::{Poly, PolyError};
+use poly::Poly;
+use ring_laws::ArithmeticError;
 use starting_lists::{Starting, element_of};
 use std::alloc::Global;
 
@@ -49,8 +50,8 @@ fn is_made<'a>(
     place: usize,
     cofactors: &BlockPolys,
     list: &BlockPolys,
-) -> Result<bool, PolyError>
-    requires fits { begins.Fits variables begin.now }
+) -> Result<bool, ArithmeticError>
+    requires fits { begins.FitsStart variables begin.now }
     requires place { place < length (begins.starting variables begin.now) }
     requires count { vec_len cofactors.now ≡ vec_len list.now }
     requires cofactors { let k = begins.front_of begin.now in
@@ -59,7 +60,7 @@ fn is_made<'a>(
     ensures holds { IfOk result (λ holds. IsTrue holds ↔
         Same ℚ (get_or (begins.starting variables begin.now) place [])
         (combination ℚ (terms_each cofactors.now.items) (terms_each list.now.items))) }
-    ensures wide { IsErrOf result PolyError.Wide → begins.IsPastAt variables begin.now place
+    ensures wide { IsErrOf result ArithmeticError.Wide → begins.IsPastAt variables begin.now place
         ⊎ IsPastCombination (terms_each cofactors.now.items) (terms_each list.now.items) }
 {
     let p = element_of(alloc, begin, variables, place)?;
@@ -74,7 +75,7 @@ fn judge_gens<'a>(
     gens: &[BlockPolys],
     list: &BlockPolys,
 ) -> Result<(), Stop<usize>>
-    requires fits { begins.Fits variables begin.now }
+    requires fits { begins.FitsStart variables begin.now }
     requires count { length gens.now ≡ length (begins.starting variables begin.now) }
     requires widths { HaveWidth (vec_len list.now) gens.now }
     requires gens { let k = begins.front_of begin.now in
@@ -138,15 +139,15 @@ fn judge_links(
     list: &BlockPolys,
     out: &Polys,
 ) -> Result<(), Stop<usize>>
-    requires count { length links.now ≡ length (kept front (terms_each list.now.items)) }
+    requires count { length links.now ≡ length (free_part front (terms_each list.now.items)) }
     requires widths { HaveWidth (vec_len out.now) links.now }
     requires links { All (ArePolys variables) links.now }
     requires list { AreBlockPolys front (front + variables) list.now }
     requires out { ArePolys variables out.now }
-    ensures holds { let free = kept front (terms_each list.now.items) in
+    ensures holds { let free = free_part front (terms_each list.now.items) in
         OnOk result ((i : ℕ) → i < length free
         → IsMadeAt free (rows_of links.now) (terms_each out.now.items) i) }
-    ensures stops { let free = kept front (terms_each list.now.items) in IfErr result
+    ensures stops { let free = free_part front (terms_each list.now.items) in IfErr result
         (StopsAt (IsMadeAt free (rows_of links.now) (terms_each out.now.items))
         (IsPastMade (rows_of links.now) (terms_each out.now.items)) (length free)) }
 {
@@ -166,8 +167,8 @@ pub(crate) fn judge_stage<'a>(
     front: usize,
     variables: usize,
     stage: &FullStage,
-) -> Result<(), Stop<Place>>
-    requires fits { begins.Fits variables begin.now }
+) -> Result<(), Stop<RowPlace>>
+    requires fits { begins.FitsStart variables begin.now }
     requires front { front ≡ begins.front_of begin.now }
     requires few { front + variables ≤ most_variables }
     requires images { IsStageIn front variables stage.now }

@@ -2,7 +2,7 @@
 ghost use Rattle.std.specs.Prelude.{◌≡◌, Ok, true, OnOk, IfErr};
 ghost use Rattle.full_cert.specs.Stops.{IsToldAs};
 
-use poly::PolyError;
+use ring_laws::ArithmeticError;
 
 /// Why the judging of parts has stopped.
 #[derive(Clone, Copy, Debug, PartialEq, Eq)]
@@ -16,14 +16,14 @@ pub(crate) enum Stop<P> {
 }
 
 /// What is told of a part by whether it holds.
-pub(crate) fn told<P: Copy>(part: P, found: Result<bool, PolyError>) -> Result<(), Stop<P>>
+pub(crate) fn told<P: Copy>(part: P, found: Result<bool, ArithmeticError>) -> Result<(), Stop<P>>
     ensures holds { OnOk result (found ≡ Ok true) }
     ensures stops { IfErr result (IsToldAs part found) }
 {
     match found {
         Ok(true) => Ok(()),
         Ok(false) => Err(Stop::Fails(part)),
-        Err(PolyError::Wide) => Err(Stop::Wide(part)),
-        Err(PolyError::Memory) => Err(Stop::Memory),
+        Err(ArithmeticError::Wide) => Err(Stop::Wide(part)),
+        Err(ArithmeticError::Memory) => Err(Stop::Memory),
     }
 }

@@ -15,7 +15,7 @@ use Rattle.loops.specs.Program.{Expr, Program}
 use Rattle.machines.specs.Collect.{collect}
 use Rattle.rounds.specs.Form.{front, orbit_order, relations, relations_to}
 use Rattle.cert_form.specs.Form.{on, after, part, list_with, shape, not_json, document, has_version, has_names}
-use Rattle.cert_form.specs.Path.{named}
+use Rattle.cert_form.specs.Path.{member_path}
 use Rattle.cert_form.proofs.Readings.{on_ok, after_ok, expect_ok, parts_ok, parts_count}
 use Rattle.raw_polys.specs.Raw.{raw_at}
 use Rattle.raw_polys.specs.Tables.{raws_at, table_at}
@@ -59,9 +59,9 @@ RoundsFollow before fs (row ∷ rows) =
 member_counted : (k m gens : ℕ) (path name : List ℕ) (d : Data) (s : Stage)
     → member_stage k m gens path name d ≡ Ok s → IsStageCounted k gens s
 member_counted k m gens path name d s h =
-    let stage = on_ok (stage_at k m gens (named path name))
-    (ok_or (get name d) (shape (named path name))) s h in
-    stage_counted k m gens (named path name) stage.part s stage.gives
+    let stage = on_ok (stage_at k m gens (member_path path name))
+    (ok_or (get name d) (shape (member_path path name))) s h in
+    stage_counted k m gens (member_path path name) stage.part s stage.gives
 
 branch_follows : (m before : ℕ) (so_far : Option ℕ) (f : WrittenForm) (path : List ℕ) (d : Data)
     (s : BranchStages) → branch_at m before so_far f path d ≡ Ok s → BranchFollows before so_far f s
@@ -304,14 +304,15 @@ square m n path d rows h =
 form_counted : (m : ℕ) (path : List ℕ) (d : Data) (f : WrittenForm) → form_at m path d ≡ Ok f
     → length f.polys ≡ m
 form_counted m path d f h =
-    let b = on_ok (with_base m path d) (base_at (named path (codes "base")) (get (codes "base") d))
+    let b = on_ok (with_base m path d) (base_at (member_path path (codes "base"))
+    (get (codes "base") d))
     f
     (expect_ok (is_some (as_object d)) path _ f h) in
     let p = on_ok _ (polys_at m (length b.part) path d) f b.gives in
     let e = p.gives in
     let same : record { base = b.part; polys = p.part } ≡ f = cc in
     subst (λ (x : WrittenForm). length x.polys ≡ m) same
-    (parts_count (raw_at grevlex (width (length b.part) m)) (named path (codes "polys")) m
+    (parts_count (raw_at grevlex (width (length b.part) m)) (member_path path (codes "polys")) m
     (option_and_then (list_with m) (get (codes "polys") d)) p.part
     (member_count m (get (codes "polys") d)) p.is)
 
@@ -323,11 +324,11 @@ start_counted : (m equations : ℕ) (path : List ℕ) (d : Data) (s : Start)
     → start_at m equations path d ≡ Ok s → IsStart equations s
 start_counted m equations path d s h =
     let o = on_ok (with_start_out m equations path d)
-    (raws_at grevlex m (named path (codes "out")) (get (codes "out") d)) s
+    (raws_at grevlex m (member_path path (codes "out")) (get (codes "out") d)) s
     (expect_ok (is_some (as_object d)) path _ s h) in
-    let l = on_ok _ (table_at equations (length o.part) grevlex m (named path (codes "links"))
+    let l = on_ok _ (table_at equations (length o.part) grevlex m (member_path path (codes "links"))
     (get (codes "links") d)) s o.gives in
-    let t = table_counted equations (length o.part) grevlex m (named path (codes "links"))
+    let t = table_counted equations (length o.part) grevlex m (member_path path (codes "links"))
     (get (codes "links") d) l.part l.is in
     let e = l.gives in
     let same : (o.part, l.part) ≡ s = cc in

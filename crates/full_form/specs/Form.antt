@@ -18,7 +18,7 @@ use Rattle.polynomials.specs.Terms.{Terms}
 use Rattle.loops.specs.Program.{Expr, Program}
 use Rattle.rounds.specs.Form.{front}
 use Rattle.cert_form.specs.Form.{Reading, on, after, part, expect, list_with, is_text, has_version, has_names, not_json, shape, document}
-use Rattle.cert_form.specs.Path.{named}
+use Rattle.cert_form.specs.Path.{member_path}
 use Rattle.raw_polys.specs.Tables.{raws_at}
 use Rattle.completeness.specs.Stage.{Stage}
 use Rattle.completeness.specs.Full.{FullCertificate, WrittenForm, BranchStages}
@@ -26,7 +26,8 @@ use Rattle.full_parts.specs.Form.{object_at, stage_at, Start, start_at, steps_at
 
 abbrev pub member_stage : ℕ → ℕ → ℕ → List ℕ → List ℕ → Data → Reading Stage
 member_stage k m gens path name d =
-    on (stage_at k m gens (named path name)) (ok_or (get name d) (shape (named path name)))
+    on (stage_at k m gens (member_path path name))
+    (ok_or (get name d) (shape (member_path path name)))
 
 -- ---- rounds
 abbrev pub given_bound : ℕ

@@ -10,9 +10,9 @@ use Rattle.serde_json.specs.Find.{get, as_object}
 use Rattle.numbers.specs.Fraction.{Fraction}
 use Rattle.polynomials.specs.Order.{Rank, grevlex}
 use Rattle.polynomials.specs.Terms.{Terms}
-use Rattle.machines.specs.Elimination.{kept}
+use Rattle.machines.specs.Elimination.{free_part}
 use Rattle.cert_form.specs.Form.{count, list_with}
-use Rattle.cert_form.specs.Path.{named}
+use Rattle.cert_form.specs.Path.{member_path}
 use Rattle.cert_form.proofs.Readings.{on_ok, expect_ok, list_count, parts_ok, parts_count}
 use Rattle.raw_polys.specs.Raw.{raw_at}
 use Rattle.raw_polys.specs.Tables.{raws_at, raws_with, table_at}
@@ -50,25 +50,25 @@ pub stage_counted : (k m gens : ℕ) (path : List ℕ) (d : Data) (s : Stage)
     → stage_at k m gens path d ≡ Ok s → IsStageCounted k gens s
 stage_counted k m gens path d s h =
     let l = on_ok (with_list k m path d gens)
-    (raws_at (block_order k) (k + m) (named path (codes "list")) (get (codes "list") d)) s
+    (raws_at (block_order k) (k + m) (member_path path (codes "list")) (get (codes "list") d)) s
     (expect_ok (is_some (as_object d)) path _ s h) in
     let g = on_ok (with_gens k m path d l.part) (table_at gens (length l.part) (block_order k)
     (k + m)
-    (named path (codes "gens")) (get (codes "gens") d)) s l.gives in
+    (member_path path (codes "gens")) (get (codes "gens") d)) s l.gives in
     let p = on_ok (with_pairs k m path d l.part g.part)
     (table_at (length (pairs_of (length l.part))) (length l.part) (block_order k) (k + m)
-    (named path (codes "pairs")) (get (codes "pairs") d)) s g.gives in
+    (member_path path (codes "pairs")) (get (codes "pairs") d)) s g.gives in
     let o = on_ok (with_out k m path d l.part g.part p.part)
-    (raws_at grevlex m (named path (codes "out")) (get (codes "out") d)) s p.gives in
-    let n = on_ok _ (table_at (length (kept k l.part)) (length o.part) grevlex m
-    (named path (codes "links")) (get (codes "links") d)) s o.gives in
+    (raws_at grevlex m (member_path path (codes "out")) (get (codes "out") d)) s p.gives in
+    let n = on_ok _ (table_at (length (free_part k l.part)) (length o.part) grevlex m
+    (member_path path (codes "links")) (get (codes "links") d)) s o.gives in
     let gs = table_counted gens (length l.part) (block_order k) (k + m)
-    (named path (codes "gens")) (get (codes "gens") d) g.part g.is in
+    (member_path path (codes "gens")) (get (codes "gens") d) g.part g.is in
     let ps = table_counted (length (pairs_of (length l.part))) (length l.part) (block_order k)
     (k + m)
-    (named path (codes "pairs")) (get (codes "pairs") d) p.part p.is in
-    let ns = table_counted (length (kept k l.part)) (length o.part) grevlex m
-    (named path (codes "links")) (get (codes "links") d) n.part n.is in
+    (member_path path (codes "pairs")) (get (codes "pairs") d) p.part p.is in
+    let ns = table_counted (length (free_part k l.part)) (length o.part) grevlex m
+    (member_path path (codes "links")) (get (codes "links") d) n.part n.is in
     let e = n.gives in
     let same : record {
       list = l.part;

@@ -15,7 +15,7 @@ use Rattle.polynomials.specs.Exponent.{same}
 use Rattle.polynomials.specs.Terms.{Terms, retold}
 use Rattle.polynomials.proofs.Exponent.{same_refl, same_true}
 use Rattle.exponentials.specs.Table.{numbers}
-use Rattle.machines.specs.Elimination.{free, all_free, kept}
+use Rattle.machines.specs.Elimination.{free, all_free, free_part}
 use Rattle.machines.proofs.Front.{kept-append}
 use Rattle.poly.specs.Front.{IsFreeOfFirst}
 use Rattle.completeness.specs.Representation.{pairs_of}
@@ -44,34 +44,34 @@ module _ {A : Type 0} (k : ℕ) where
       go false e = sym e
 
   one_kept : (g : Terms A) (b : Bool) → all_free k g ≡ b
-      → length (kept k (g ∷ [])) ≡ cond b 1 0
-  unfolding kept
+      → length (free_part k (g ∷ [])) ≡ cond b 1 0
+  unfolding free_part
   one_kept g true e = ap (λ c. length (cond c (retold (drop k) g ∷ []) [])) e
   one_kept g false e = ap (λ c. length (cond c (retold (drop k) g ∷ []) [])) e
 
   free_more : (b : Bool) (gs next : List (Terms A)) (g : Terms A) (n : ℕ) → next ≡ gs ++ g ∷ []
-      → all_free k g ≡ b → n ≡ length (kept k gs) → n + cond b 1 0 ≡ length (kept k next)
+      → all_free k g ≡ b → n ≡ length (free_part k gs) → n + cond b 1 0 ≡ length (free_part k next)
   free_more b gs next g n more is so_far =
       ap₂ ◌+◌ so_far (sym (one_kept g b is))
-      ∙ sym (length-append (kept k gs) (kept k (g ∷ [])))
+      ∙ sym (length-append (free_part k gs) (free_part k (g ∷ [])))
       ∙ ap length (sym (kept-append k gs (g ∷ [])))
-      ∙ ap (λ zs. length (kept k zs)) (sym more)
+      ∙ ap (λ zs. length (free_part k zs)) (sym more)
 
-pub none_kept : (k : ℕ) → 0 ≡ length (kept {A = Fraction} k [])
-unfolding kept
+pub none_kept : (k : ℕ) → 0 ≡ length (free_part {A = Fraction} k [])
+unfolding free_part
 none_kept k = refl
 
 module _ {P A : Type 0} (see : P → Terms A) (k : ℕ) (ps : List P) (i : ℕ) (p : P) (n : ℕ)
     (within : i < length ps) (is : p ≡ get_or ps i p)
-    (so_far : n ≡ length (kept k (map see (take i ps)))) where
+    (so_far : n ≡ length (free_part k (map see (take i ps)))) where
   taken : map see (take (i + 1) ps) ≡ map see (take i ps) ++ see p ∷ []
   taken = ap (map see) (take_more ps i p within ∙ ap (λ x. take i ps ++ x ∷ []) (sym is))
       ∙ map-append see (take i ps) (p ∷ [])
 
-  pub free_in : all_free k (see p) ≡ true → n + 1 ≡ length (kept k (map see (take (i + 1) ps)))
+  pub free_in : all_free k (see p) ≡ true → n + 1 ≡ length (free_part k (map see (take (i + 1) ps)))
   free_in f = free_more k true _ _ (see p) n taken f so_far
 
-  pub free_out : all_free k (see p) ≡ false → n ≡ length (kept k (map see (take (i + 1) ps)))
+  pub free_out : all_free k (see p) ≡ false → n ≡ length (free_part k (map see (take (i + 1) ps)))
   free_out f = let h = free_more k false _ _ (see p) n taken f so_far in omega (arith, h)
 
 -- ---- pairs

@@ -16,11 +16,11 @@ use Rattle.serde_json.specs.Find.{get, as_object, as_array, as_str}
 use Rattle.numbers.specs.Fraction.{Fraction}
 use Rattle.polynomials.specs.Order.{grevlex}
 use Rattle.polynomials.specs.Terms.{Terms}
-use Rattle.machines.specs.Elimination.{kept}
+use Rattle.machines.specs.Elimination.{free_part}
 use Rattle.turns.specs.Turns.{width}
 use Rattle.number_text.specs.Number.{numeral_of}
 use Rattle.cert_form.specs.Form.{Reading, on, expect, count, list_with, parts, shape}
-use Rattle.cert_form.specs.Path.{named}
+use Rattle.cert_form.specs.Path.{member_path}
 use Rattle.raw_polys.specs.Tables.{raws_at, row_at, table_at}
 use Rattle.completeness.specs.Full.{WrittenForm}
 use Rattle.completeness.specs.Representation.{pairs_of}
@@ -45,7 +45,7 @@ base_at path d = parts base_number_at path (option_and_then few (option_and_then
 
 abbrev pub polys_at : ℕ → ℕ → List ℕ → Data → Reading (List (Terms Fraction))
 polys_at m r path d =
-    row_at m grevlex (width r m) (named path (codes "polys")) (get (codes "polys") d)
+    row_at m grevlex (width r m) (member_path path (codes "polys")) (get (codes "polys") d)
 
 abbrev pub with_base : ℕ → List ℕ → Data → List ℕ → Reading WrittenForm
 with_base m path d base =
@@ -54,7 +54,7 @@ with_base m path d base =
 abbrev pub form_at : ℕ → List ℕ → Data → Reading WrittenForm
 form_at m path d =
     object_at path d
-    (on (with_base m path d) (base_at (named path (codes "base")) (get (codes "base") d)))
+    (on (with_base m path d) (base_at (member_path path (codes "base")) (get (codes "base") d)))
 
 -- ---- stages
 module _ (k m : ℕ) (path : List ℕ) (d : Data) where
@@ -68,31 +68,31 @@ module _ (k m : ℕ) (path : List ℕ) (d : Data) where
         out = out;
         links = links;
       }))
-      (table_at (length (kept k list)) (length out) grevlex m
-      (named path (codes "links")) (get (codes "links") d))
+      (table_at (length (free_part k list)) (length out) grevlex m
+      (member_path path (codes "links")) (get (codes "links") d))
 
   abbrev pub with_pairs : List (Terms Fraction) → List (List (Terms Fraction))
       → List (List (Terms Fraction)) → Reading Stage
   with_pairs list gens pairs =
       on (with_out list gens pairs)
-      (raws_at grevlex m (named path (codes "out")) (get (codes "out") d))
+      (raws_at grevlex m (member_path path (codes "out")) (get (codes "out") d))
 
   abbrev pub with_gens : List (Terms Fraction) → List (List (Terms Fraction)) → Reading Stage
   with_gens list gens =
       on (with_pairs list gens)
       (table_at (length (pairs_of (length list))) (length list) (block_order k) (k + m)
-      (named path (codes "pairs")) (get (codes "pairs") d))
+      (member_path path (codes "pairs")) (get (codes "pairs") d))
 
   abbrev pub with_list : ℕ → List (Terms Fraction) → Reading Stage
   with_list gens list =
       on (with_gens list)
       (table_at gens (length list) (block_order k) (k + m)
-      (named path (codes "gens")) (get (codes "gens") d))
+      (member_path path (codes "gens")) (get (codes "gens") d))
 
 abbrev pub stage_at : ℕ → ℕ → ℕ → List ℕ → Data → Reading Stage
 stage_at k m gens path d =
     object_at path d (on (with_list k m path d gens)
-    (raws_at (block_order k) (k + m) (named path (codes "list")) (get (codes "list") d)))
+    (raws_at (block_order k) (k + m) (member_path path (codes "list")) (get (codes "list") d)))
 
 -- ---- starts, and those of all branches
 abbrev pub Start : Type 0
@@ -101,12 +101,13 @@ Start = List (Terms Fraction) × List (List (Terms Fraction))
 abbrev pub with_start_out : ℕ → ℕ → List ℕ → Data → List (Terms Fraction) → Reading Start
 with_start_out m equations path d out =
     on (λ links. Ok (out, links))
-    (table_at equations (length out) grevlex m (named path (codes "links")) (get (codes "links") d))
+    (table_at equations (length out) grevlex m (member_path path (codes "links"))
+    (get (codes "links") d))
 
 abbrev pub start_at : ℕ → ℕ → List ℕ → Data → Reading Start
 start_at m equations path d =
     object_at path d (on (with_start_out m equations path d)
-    (raws_at grevlex m (named path (codes "out")) (get (codes "out") d)))
+    (raws_at grevlex m (member_path path (codes "out")) (get (codes "out") d)))
 
 abbrev pub block_at : ℕ → ℕ → List ℕ → Data → Reading (List (List (Terms Fraction)))
 block_at m n path d = table_at n n grevlex m path (Some d)

@@ -2,7 +2,7 @@
 ghost use Rattle.std.specs.Prelude.{◌≡◌, ◌≤◌, ◌+◌, ◌==◌, Ok, Err, All, length, vec_len, option_and_then, IfOk, IfErr, IfSome};
 ghost use Rattle.std.specs.Option.{option_map};
 ghost use Rattle.serde_json.specs.View.{view, items_view};
-ghost use Rattle.machines.specs.Elimination.{all_free, kept};
+ghost use Rattle.machines.specs.Elimination.{all_free, free_part};
 ghost use Rattle.monos.specs.Variables.{most_variables};
 ghost use Rattle.poly.specs.Seen.{terms_in, terms_each};
 ghost use Rattle.cert_form.specs.Form as form;
@@ -36,7 +36,7 @@ fn is_free(p: &Poly<Frac, Blocks>, front: usize) -> bool
 // How many have none of the first variables.
 fn free_count(list: &[Poly<Frac, Blocks>], front: usize) -> usize
     requires { All (λ p. front ≤ p.arity) list.now }
-    ensures { result ≡ length (kept front (terms_each list.now)) }
+    ensures { result ≡ length (free_part front (terms_each list.now)) }
 {
     let mut count = 0;
     for p in list {

@@ -18,11 +18,11 @@ use Rattle.polynomials.specs.Order.{Rank, IsMonomialOrder, grevlex}
 use Rattle.polynomials.specs.Polynomial.{IsPolynomial}
 use Rattle.polynomials.specs.Terms.{Terms}
 use Rattle.polynomials.proofs.Orders.{grevlex_order}
-use Rattle.machines.specs.Elimination.{kept}
+use Rattle.machines.specs.Elimination.{free_part}
 use Rattle.turns.specs.Turns.{width}
 use Rattle.poly_text.specs.Narrow.{IsNarrow}
 use Rattle.cert_form.specs.Form.{Reading, on, after, part, each, count, list_with, parts, shape}
-use Rattle.cert_form.specs.Path.{named}
+use Rattle.cert_form.specs.Path.{member_path}
 use Rattle.cert_form.specs.Written.{list_data}
 use Rattle.raw_polys.specs.Raw.{raw_at}
 use Rattle.raw_polys.specs.Tables.{raws_at, raws_with, row_at, table_at}
@@ -144,14 +144,17 @@ pub form_reads : (m : ℕ) (path : List ℕ) (f : WrittenForm) → IsFormReadabl
 form_reads m path f h =
     let b : Data = base_data f.base in
     let p : Data = raws_data f.polys in
-    ap (λ x. on (with_base m path (form_data f)) (base_at (named path (codes "base")) x))
+    ap (λ x. on (with_base m path (form_data f)) (base_at (member_path path (codes "base")) x))
     (at_base b p)
-    ∙ ap (on (with_base m path (form_data f))) (base_reads (named path (codes "base")) f.base h.few
+    ∙ ap (on (with_base m path (form_data f))) (base_reads (member_path path (codes "base")) f.base
+    h.few
     h.base)
     ∙ ap (λ x. on (λ polys. Ok (record { base = f.base; polys = polys }))
-    (row_at m grevlex (width (length f.base) m) (named path (codes "polys")) x)) (at_polys b p)
+    (row_at m grevlex (width (length f.base) m) (member_path path (codes "polys")) x))
+    (at_polys b p)
     ∙ ap (on (λ polys. Ok (record { base = f.base; polys = polys })))
-    (row_back grevlex (width (length f.base) m) grevlex_order m (named path (codes "polys")) f.polys
+    (row_back grevlex (width (length f.base) m) grevlex_order m (member_path path (codes "polys"))
+    f.polys
     h.count h.polys)
 
 -- ---- starts
@@ -174,13 +177,13 @@ start_reads m equations path s h =
     let l : Data = rows_data s.1 in
     let o : Data = raws_data s.0 in
     ap (λ x. on (with_start_out m equations path (start_data s))
-    (raws_at grevlex m (named path (codes "out")) x)) (at_start_out l o)
+    (raws_at grevlex m (member_path path (codes "out")) x)) (at_start_out l o)
     ∙ ap (on (with_start_out m equations path (start_data s)))
-    (raws_back grevlex m grevlex_order (named path (codes "out")) s.0 h.out)
+    (raws_back grevlex m grevlex_order (member_path path (codes "out")) s.0 h.out)
     ∙ ap (λ x. on (λ links. Ok (s.0, links)) (table_at equations (length s.0) grevlex m
-    (named path (codes "links")) x)) (at_start_links l o)
+    (member_path path (codes "links")) x)) (at_start_links l o)
     ∙ ap (on (λ links. Ok (s.0, links))) (table_back grevlex m grevlex_order equations
-    (length s.0) (named path (codes "links")) s.1 h.links)
+    (length s.0) (member_path path (codes "links")) s.1 h.links)
 
 -- ---- stages
 pub record IsStageReadable (k m : ℕ) (s : Stage) : Type 0 where
@@ -224,31 +227,32 @@ stage_reads k m n path s o h c =
     let p : Data = rows_data s.pairs in
     let all : Data = stage_data s in
     ap (λ x. on (with_list k m path all n) (raws_at (block_order k) (k + m)
-    (named path (codes "list")) x)) (at_list g l i u p)
+    (member_path path (codes "list")) x)) (at_list g l i u p)
     ∙ ap (on (with_list k m path all n)) (raws_back (block_order k) (k + m) o
-    (named path (codes "list")) s.list h.list)
+    (member_path path (codes "list")) s.list h.list)
     ∙ ap (λ x. on (with_gens k m path all s.list) (table_at n (length s.list) (block_order k)
-    (k + m) (named path (codes "gens")) x)) (at_gens g l i u p)
+    (k + m) (member_path path (codes "gens")) x)) (at_gens g l i u p)
     ∙ ap (on (with_gens k m path all s.list)) (table_back (block_order k) (k + m) o n
-    (length s.list) (named path (codes "gens")) s.gens
+    (length s.list) (member_path path (codes "gens")) s.gens
     (record { height = c.gens; widths = c.gens_widths; are = h.gens }))
     ∙ ap (λ x. on (with_pairs k m path all s.list s.gens)
     (table_at (length (pairs_of (length s.list))) (length s.list) (block_order k) (k + m)
-    (named path (codes "pairs")) x)) (at_pairs g l i u p)
+    (member_path path (codes "pairs")) x)) (at_pairs g l i u p)
     ∙ ap (on (with_pairs k m path all s.list s.gens)) (table_back (block_order k) (k + m) o
-    (length (pairs_of (length s.list))) (length s.list) (named path (codes "pairs")) s.pairs
+    (length (pairs_of (length s.list))) (length s.list) (member_path path (codes "pairs")) s.pairs
     (record { height = c.pairs; widths = c.pairs_widths; are = h.pairs }))
     ∙ ap (λ x. on (with_out k m path all s.list s.gens s.pairs)
-    (raws_at grevlex m (named path (codes "out")) x)) (at_out g l i u p)
+    (raws_at grevlex m (member_path path (codes "out")) x)) (at_out g l i u p)
     ∙ ap (on (with_out k m path all s.list s.gens s.pairs)) (raws_back grevlex m grevlex_order
-    (named path (codes "out")) s.out h.out)
+    (member_path path (codes "out")) s.out h.out)
     ∙ ap (λ x. on (λ links. Ok (record {
       list = s.list;
       gens = s.gens;
       pairs = s.pairs;
       out = s.out;
       links = links;
-    })) (table_at (length (kept k s.list)) (length s.out) grevlex m (named path (codes "links")) x))
+    })) (table_at (length (free_part k s.list)) (length s.out) grevlex m
+    (member_path path (codes "links")) x))
     (at_links g l i u p)
     ∙ ap (on (λ links. Ok (record {
       list = s.list;
@@ -256,8 +260,8 @@ stage_reads k m n path s o h c =
       pairs = s.pairs;
       out = s.out;
       links = links;
-    }))) (table_back grevlex m grevlex_order (length (kept k s.list)) (length s.out)
-    (named path (codes "links")) s.links
+    }))) (table_back grevlex m grevlex_order (length (free_part k s.list)) (length s.out)
+    (member_path path (codes "links")) s.links
     (record { height = c.links; widths = c.links_widths; are = h.links }))
 
 -- ---- of all branches

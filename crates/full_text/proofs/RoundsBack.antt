@@ -17,7 +17,7 @@ use Rattle.machines.specs.Collect.{collect}
 use Rattle.loops.specs.Program.{Expr, Program}
 use Rattle.rounds.specs.Form.{front, orbit_order, relations, relations_to}
 use Rattle.cert_form.specs.Form.{on, after, part, shape}
-use Rattle.cert_form.specs.Path.{named}
+use Rattle.cert_form.specs.Path.{member_path}
 use Rattle.cert_form.specs.Written.{list_data}
 use Rattle.completeness.specs.Stage.{Stage, block_order}
 use Rattle.completeness.specs.Full.{FullCertificate, WrittenForm, BranchStages, orbit, meet, form_of, stage_of, front_of, of_option, so_far, before, starting}
@@ -63,8 +63,9 @@ member_reads : (k m n : ℕ) (path name : List ℕ) (d : Data) (s : Stage)
     → get name d ≡ Some (stage_data s) → IsStageReadable k m s → IsStageCounted k n s
     → member_stage k m n path name d ≡ Ok s
 member_reads k m n path name d s there h c =
-    ap (λ x. on (stage_at k m n (named path name)) (ok_or x (shape (named path name)))) there
-    ∙ stage_reads k m n (named path name) s (block_is_order k) h c
+    ap (λ x. on (stage_at k m n (member_path path name)) (ok_or x (shape (member_path path name))))
+    there
+    ∙ stage_reads k m n (member_path path name) s (block_is_order k) h c
 
 alone_reads : (m before : ℕ) (f : WrittenForm) (path : List ℕ) (o : Stage)
     → IsStageReadable (front (length f.base)) m o

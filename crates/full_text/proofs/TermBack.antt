@@ -23,7 +23,7 @@ use Rattle.polynomials.proofs.Same.{Same-refl}
 use Rattle.expressions.proofs.Places.{bytes_apart}
 use Rattle.poly_text.specs.Flat.{most_power, stands}
 use Rattle.poly_text.specs.Narrow.{IsNarrow}
-use Rattle.raw_polys.specs.Raw.{every, is_number_value, has_term_form, exponent_of, exponents_of, checked, pair_of, term_of, terms_after, raw_at}
+use Rattle.raw_polys.specs.Raw.{every, is_number_value, has_term_form, exponent_of, exponents_of, valid_term, pair_of, term_of, terms_after, raw_at}
 use Rattle.raw_polys.specs.Written.{exponent_data, term_data, raw_data}
 use Rattle.raw_polys.proofs.Polynomials.{raw_is}
 use Rattle.full_text.proofs.NumberBack.{number_back, is_number_back}
@@ -47,7 +47,7 @@ numbers_there (n ∷ e) = numbers_there e
 pub term_back : (m : ℕ) (t : List ℕ × Fraction) → IsNarrow t → length t.0 ≡ m → t.1 ≢ ℚ.zero
     → term_of m (term_data t) ≡ Some t
 term_back m t narrow long nonzero =
-    ap (option_and_then (checked m))
+    ap (option_and_then (valid_term m))
     (ap₂ pair_of (number_back t.1 narrow.numerator narrow.denominator)
     (exponents_back t.0 narrow.exponents))
     ∙ ap₂ (λ a b. if not a && b then Some t else None) (not_zero (is_zero t.1) refl)

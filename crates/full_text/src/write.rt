@@ -1,10 +1,9 @@
 //! Writes full certificates.
-ghost use Rattle.std.specs.Prelude.{◌≡◌, ◌++◌, ℕ, List, Some, string_bytes, IfOk, IfErr};
+ghost use Rattle.std.specs.Prelude.{◌≡◌, ◌++◌, ℕ, List, Some, string_bytes, IfOk};
 ghost use Rattle.serde_json.specs.Data.{string};
 ghost use Rattle.serde_json.specs.View.{view};
 ghost use Rattle.cert_form.specs.Form.{document};
 ghost use Rattle.cert_form.specs.Written.{list_data, AreBlanks, IsWritten};
-ghost use Rattle.cert_form.specs.declared.error.CertError.TheVariants.{Memory};
 ghost use Rattle.full_types.specs.View.{full_of};
 ghost use Rattle.full_text.specs.Narrow.{IsFullNarrow};
 ghost use Rattle.full_text.specs.Written.{full_object, full_data, full_text};
@@ -12,7 +11,6 @@ ghost use Rattle.full_text.specs.Written.{full_object, full_data, full_text};
 use crate::branches::rounds_value;
 use crate::lists::{raws_value, steps_value};
 use crate::parts::{forms_value, start_value};
-use cert_form::CertError;
 use expressions::Names;
 use full_types::FullCert;
 use serde_json::{Map, Value, put};
@@ -73,14 +71,13 @@ fn full_value(alloc: Global, cert: &FullCert, names: &Names) -> Result<Value, Al
     object_of(alloc, basis, forms, rounds, start, steps, vars)
 }
 
-/// The full certificate as the text of a file, over these names: compact JSON. It is read as its document, also with blanks behind it. The only refusal is want of memory.
-pub fn write_full(alloc: Global, cert: &FullCert, names: &Names) -> Result<String, CertError>
+/// The full certificate as the text of a file, over these names: compact JSON. It is read as its document, also with blanks behind it.
+pub fn write_full(alloc: Global, cert: &FullCert, names: &Names) -> Result<String, AllocError>
     ensures text { IfOk result (λ text.
         string_bytes text ≡ full_text names.now (full_of cert.now)) }
     ensures read { IfOk result (λ text. (blanks : List ℕ) → AreBlanks blanks
         → document (string_bytes text ++ blanks) ≡ Some (full_data names.now (full_of cert.now))) }
     ensures narrow { IfOk result (λ text. IsFullNarrow (full_of cert.now)) }
-    ensures memory { IfErr result (λ e. e ≡ Memory) }
 {
     let value = full_value(alloc, cert, names)?;
     let text = value.to_string(alloc)?;

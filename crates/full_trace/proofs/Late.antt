@@ -17,7 +17,7 @@ use Rattle.loops.specs.WellFormed.{IsWellFormed}
 use Rattle.rounds.specs.Form as form
 use Rattle.rounds.specs.Journal.{since_of}
 use Rattle.rounds.proofs.Forms.{forms_are_one}
-use Rattle.invariant_fix.specs.Setting.{form_of, Fits, IsSettingOf}
+use Rattle.invariant_fix.specs.Setting.{form_of, FitsSetting, IsSettingOf}
 use Rattle.invariant_fix.specs.declared.branches.Branch.{Branch}
 use Rattle.invariant_fix.specs.declared.setting.Setting.{Setting}
 use Rattle.invariant_fix.proofs.Following.{are_forms}
@@ -44,7 +44,8 @@ since_at : (cs : List Branch) (b : ℕ) (c : Branch) → b < length cs
 since_at cs b c l = ap (λ (f : form.Form). f.since)
     (get_or-map (λ (c : Branch). form_of c.form) cs b c _ l)
 
-module _ (program : Program (Expr ℕ)) (w : IsWellFormed program) (s : Setting) (fits : Fits s)
+module _ (program : Program (Expr ℕ)) (w : IsWellFormed program) (s : Setting)
+    (fits : FitsSetting s)
     (is : IsSettingOf program s) where
   pub all_at_zero : All BeginsAtZero s.branches.items → AllBeginAtZero program
   all_at_zero a = λ fs are b.

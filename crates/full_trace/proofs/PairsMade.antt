@@ -26,17 +26,17 @@ use Rattle.machines.specs.Past.{IsPastPair}
 use Rattle.machines.specs.Machine.{Refusal, out_of_memory, done, stopped, Stops, Ran}
 use Rattle.machines.specs.Division as division
 use Rattle.machines.specs.Machines as machines
-use Rattle.machines.specs.Work.{Finished}
+use Rattle.machines.specs.Work.{WorkToEnd}
 use Rattle.monos.specs.declared.order.Order as Order
 use Rattle.poly.specs.Seen.{terms_in, terms_each}
-use Rattle.poly.specs.declared.PolyError as poly
-use Rattle.poly.specs.declared.PolyError.TheVariants as poly_error
+use Rattle.ring_laws.specs.declared.ArithmeticError.{ArithmeticError}
+use Rattle.ring_laws.specs.declared.ArithmeticError.TheVariants as arithmetic_error
 use Rattle.journal.specs.declared.MeterError as meter
 use Rattle.journal.specs.declared.MeterError.TheVariants as meter_error
 use Rattle.divide.specs.declared.EngineError.{EngineError}
 use Rattle.divide.specs.Current.{AreDivisors}
 use Rattle.divide.specs.Division.{division_of, HasCofactors}
-use Rattle.divide.specs.Errors.{of_poly, of_meter}
+use Rattle.divide.specs.Errors.{of_arithmetic, of_meter}
 use Rattle.divide.specs.Outcomes.{refusal_of}
 use Rattle.complete.specs.Raising.{raised_to}
 use Rattle.complete.proofs.Coming.{s_polynomial_is, pair_weight}
@@ -133,13 +133,14 @@ module _ {O : Type 0} {k : Order.Ghosts O} {l : PartialEq.Ghosts O} where
 
 module _ (R : Rank) (gs : List (Terms Fraction)) (a : ℕ × ℕ) (before after : Journal)
     (same : after ≡ before) {X : Type 0} where
-  pub unmade : (r : Result X EngineError) (e : poly.PolyError) → IsErrAnd r (λ y. y ≡ of_poly e)
-      → (e ≡ poly_error.Wide → IsPastPair fractions rationals gs a)
+  pub unmade : (r : Result X EngineError) (e : ArithmeticError)
+      → IsErrAnd r (λ y. y ≡ of_arithmetic e)
+      → (e ≡ arithmetic_error.Wide → IsPastPair fractions rationals gs a)
       → IfErr r (λ y. IsPairRefused R gs a before after (refusal_of y))
   unmade (Ok x) e h w = absurd h
-  unmade (Err y) poly_error.Wide h w =
+  unmade (Err y) arithmetic_error.Wide h w =
       subst (λ z. IsPairRefused R gs a before after (refusal_of z)) (sym h) (inl (same, w refl))
-  unmade (Err y) poly_error.Memory h w =
+  unmade (Err y) arithmetic_error.Memory h w =
       subst (λ z. IsPairRefused R gs a before after (refusal_of z)) (sym h) (inl (same, tt))
 
   pub unnoted : (r : Result X EngineError) (e : meter.MeterError)
@@ -174,13 +175,15 @@ module _ {O : Type 0} {k : Order.Ghosts O} {l : PartialEq.Ghosts O} (o : O)
       before.entries after.entries
   pair_ends d ran = record {
     last = ran.to.last;
-    finished = subst (λ es. Finished (division.next rationals (k.order o) (terms_each list))
-        (division.begun (terms_each list) (s_polynomial rationals (k.order o) (terms_each list) a))
+    finished = subst (λ es. WorkToEnd (division.next rationals (k.order o) (terms_each list))
+        (division.initial_state (terms_each list) (s_polynomial rationals (k.order o)
+        (terms_each list) a))
         es after.entries ran.to.last) noted_is
-        (subst (λ ts. Finished (division.next rationals (k.order o) (terms_each list))
-        (division.begun (terms_each list) ts) noted.entries after.entries ran.to.last) is
-        (subst (λ q. Finished (division.next rationals (k.order q) (terms_each list))
-        (division.begun (terms_each list) (terms_in p)) noted.entries after.entries ran.to.last)
+        (subst (λ ts. WorkToEnd (division.next rationals (k.order o) (terms_each list))
+        (division.initial_state (terms_each list) ts) noted.entries after.entries ran.to.last) is
+        (subst (λ q. WorkToEnd (division.next rationals (k.order q) (terms_each list))
+        (division.initial_state (terms_each list) (terms_in p)) noted.entries after.entries
+        ran.to.last)
         order_is ran.to.finished));
     is = ran.to.gives.cofactors;
   }

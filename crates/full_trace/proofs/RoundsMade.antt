@@ -28,7 +28,7 @@ use Rattle.coprime_base.specs.Sizes.{sizes}
 use Rattle.poly.specs.Seen.{terms_each}
 use Rattle.expressions.specs.FracPoly.{FracPoly}
 use Rattle.traces.specs.Coming.{IsGoing, Comes}
-use Rattle.traces.specs.Rounds.{behind, Orbiting, ComesBehind}
+use Rattle.traces.specs.Rounds.{behind, OrbitBegins, ComesBehind}
 use Rattle.traces.specs.Trace.{Results, Step, after_round}
 use Rattle.traces.proofs.Rounds.{round_begins}
 use Rattle.full_types.specs.Images.{IsBranchIn}
@@ -165,11 +165,11 @@ module _ (A : analysis.Setting) (R : ℕ) (start : Vec FracPoly)
   so_far = behind (terms_each start.items) links (map round_in found)
 
   pub round_due : k < R → (es : List Entry) → Behind found k es
-      → Orbiting A R so_far es (k + 1) 0 (terms_each basis.items) []
+      → OrbitBegins A R so_far es (k + 1) 0 (terms_each basis.items) []
   round_due l es c =
       let more : suc k ≡ k + 1 = omega arith in
-      subst (λ n. Orbiting A R so_far es n 0 (terms_each basis.items) []) more
-      (subst (λ (v : Vec FracPoly). Orbiting A R so_far es (suc k) 0 (terms_each v.items) [])
+      subst (λ n. OrbitBegins A R so_far es n 0 (terms_each basis.items) []) more
+      (subst (λ (v : Vec FracPoly). OrbitBegins A R so_far es (suc k) 0 (terms_each v.items) [])
       (sym basis_is) (round_begins A R so_far es k (terms_each (after_rows start found).items) l
       c))
 

@@ -13,7 +13,7 @@ use Rattle.numbers.specs.Fraction.{Fraction, fractions}
 use Rattle.polynomials.specs.Order.{Rank}
 use Rattle.machines.specs.Division as division
 use Rattle.machines.specs.Journal.{Entry, Journal}
-use Rattle.machines.specs.Machine.{Refusal, out_of_memory, done, stopped, Stops, Ended, Ran}
+use Rattle.machines.specs.Machine.{Refusal, out_of_memory, done, stopped, Stops, RanToEnd, Ran}
 use Rattle.machines.specs.Machines as machines
 use Rattle.frac128.specs.declared.fraction.Frac.{Frac}
 use Rattle.frac128.specs.contracts.fraction.FracRing.TheImpl as ring
@@ -59,9 +59,9 @@ module _ {O : Type 0} {k : Order.Ghosts O} {l : PartialEq.Ghosts O} where
     module _ (d : Divided O k l) (ran : Ran (division_of p list) (HasCofactors p.order p.arity)
         before after
         (done d)) where
-      ended : Ended (machines.division fractions (k.order o) (terms_each list) (terms_in p))
+      ended : RanToEnd (machines.division fractions (k.order o) (terms_each list) (terms_in p))
           (HasCofactors p.order p.arity) before after d
-      ended = subst (λ q. Ended (machines.division fractions (k.order q) (terms_each list)
+      ended = subst (λ q. RanToEnd (machines.division fractions (k.order q) (terms_each list)
           (terms_in p)) (HasCofactors p.order p.arity) before after d) like_here.0 ran.to
 
       pub row_made : (news : List (Vec (Polynomial O k l))) → news ≡ rows ++ d.cofactors ∷ []

@@ -16,7 +16,7 @@ use Rattle.polynomials.specs.Order.{grevlex}
 use Rattle.polynomials.specs.Terms.{Terms}
 use Rattle.machines.specs.Basis.{AtPlaces}
 use Rattle.machines.specs.Cut.{lead_number}
-use Rattle.machines.specs.Elimination.{kept}
+use Rattle.machines.specs.Elimination.{free_part}
 use Rattle.machines.specs.Journal.{Journal, units_of}
 use Rattle.machines.specs.Machine.{Refusal, done, Stops, Ran}
 use Rattle.machines.specs.Machines as machines
@@ -63,10 +63,11 @@ module _ (k m : ℕ) (begin : List Blocked) (v : Vec Blocked) (old mid : Journal
     pub list_over : All (λ (p : Blocked). p.arity ≡ k + m) ps
     list_over i d l = (list_divisors i d l).1
 
-    module _ (fs gs : List FracPoly) (kept_is : terms_each fs ≡ kept k (terms_each ps))
+    module _ (fs gs : List FracPoly) (kept_is : terms_each fs ≡ free_part k (terms_each ps))
         (over : All (λ (p : FracPoly). p.arity ≡ m) fs) (same : gs ≡ fs) where
-      pub free_is : terms_each gs ≡ kept k (terms_each v.items)
-      free_is = ap terms_each same ∙ kept_is ∙ ap (λ (qs : List Blocked). kept k (terms_each qs)) is
+      pub free_is : terms_each gs ≡ free_part k (terms_each v.items)
+      free_is = ap terms_each same ∙ kept_is
+          ∙ ap (λ (qs : List Blocked). free_part k (terms_each qs)) is
 
       pub free_divisors : (o : Grevlex) → AreDivisors o m gs
       free_divisors o i d l = (
@@ -150,7 +151,7 @@ module _ (k m : ℕ) (begin : List Blocked) (v : Vec Blocked) (old mid : Journal
         (terms_each qs) ab rows between.entries paired.entries) es_is pairs)
 
     behind_pairs : (after : Journal) (r : Refusal)
-        → Stops (machines.tidying fractions grevlex (kept k list)) paired after r
+        → Stops (machines.tidying fractions grevlex (free_part k list)) paired after r
         ⊎ IsRefusedBehindOut k (terms_each begin) after r list paired.entries
         → IsStageRefused k (terms_each begin) after r old
     behind_pairs after r x = inr (record {
@@ -161,16 +162,11 @@ module _ (k m : ℕ) (begin : List Blocked) (v : Vec Blocked) (old mid : Journal
         gens = gens;
         divided = between.entries;
         made = divided_here;
-        refused = inr (record {
-          pairs = rows;
-          paired = paired;
-          made = paired_here;
-          refused = x;
-        });
+        refused = inr (record { pairs = rows; paired = paired; made = paired_here; refused = x });
       }));
     })
 
-    module _ (o : Grevlex) (fs : List FracPoly) (fs_is : terms_each fs ≡ kept k list) where
+    module _ (o : Grevlex) (fs : List FracPoly) (fs_is : terms_each fs ≡ free_part k list) where
       pub refused_out : (after : Journal) (r : Refusal) → Stops (tidying_of o fs) paired after r
           → IsStageRefused k (terms_each begin) after r old
       refused_out after r x = behind_pairs after r (inl (subst (λ gs.
@@ -188,20 +184,20 @@ module _ (k m : ℕ) (begin : List Blocked) (v : Vec Blocked) (old mid : Journal
             let l : units_of mid.entries ≤ units_of paired.entries = omega (arith, a, d) in
             let f = out_within k (block_order k) (terms_each begin) list (terms_each w.items)
             old.entries mid.entries paired.entries tidied.entries
-            (list_made k m begin v old mid c b) l (kept k list) refl
-            (out_made m o fs w paired tidied t (kept k list) fs_is) in
+            (list_made k m begin v old mid c b) l (free_part k list) refl
+            (out_made m o fs w paired tidied t (free_part k list) fs_is) in
             let g = length-map w.items terms_in in
             let h = ap length same in
             omega (arith, short, units, f, g, h)
 
         pub refused_links : (os : List FracPoly) → os ≡ w.items → (gs : List FracPoly)
-            → terms_each gs ≡ kept k list → (after : Journal) (r : Refusal)
+            → terms_each gs ≡ free_part k list → (after : Journal) (r : Refusal)
             → IsRefusedIn grevlex (terms_each os) (terms_each gs) tidied.entries after r
             → IsStageRefused k (terms_each begin) after r old
         refused_links os same gs gs_is after r x = behind_pairs after r (inr (record {
           out = terms_each w.items;
           tidied = tidied.entries;
-          made = out_made m o fs w paired tidied t (kept k list) fs_is;
+          made = out_made m o fs w paired tidied t (free_part k list) fs_is;
           refused = subst (λ ps. IsRefusedIn grevlex (terms_each w.items) ps tidied.entries after
               r) gs_is (subst (λ (qs : List FracPoly). IsRefusedIn grevlex (terms_each qs)
               (terms_each gs) tidied.entries after r) same x);

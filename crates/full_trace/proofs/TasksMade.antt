@@ -38,8 +38,8 @@ use Rattle.ideal_ops.specs.Blending.{blend_of}
 use Rattle.ideal_ops.specs.Calls.{AreOver}
 use Rattle.traces.specs.Coming.{IsGoing, Comes, IsStopped, Refuses}
 use Rattle.traces.specs.Making.{Eliminates, IsStageMade, IsStartMade, IsStartRefused}
-use Rattle.traces.specs.Rounds.{behind, Orbiting, Orbited, Meeting, Met}
-use Rattle.traces.specs.Trace.{Results, no_results, goes, begun, after_round}
+use Rattle.traces.specs.Rounds.{behind, OrbitBegins, OrbitEnds, MeetBegins, MeetEnds}
+use Rattle.traces.specs.Trace.{Results, no_results, goes, start_of, after_round}
 use Rattle.traces.proofs.Sizes.{stage_few, start_few, stage_units}
 use Rattle.traces.proofs.Staged.{stage_awaits, stage_refused}
 use Rattle.traces.proofs.Starting.{start_awaits, start_refused}
@@ -49,7 +49,7 @@ use Rattle.full_types.specs.Images.{IsStageIn}
 use Rattle.full_types.specs.declared.parts.FullStage.{FullStage}
 use Rattle.invariant_fix.specs.Errors.{in_task}
 use Rattle.invariant_fix.specs.Orbits.{numbers_of, vars_of, unwound_list, IsPastUnwound}
-use Rattle.invariant_fix.specs.Setting.{form_of, Fits}
+use Rattle.invariant_fix.specs.Setting.{form_of, FitsSetting}
 use Rattle.invariant_fix.specs.declared.branches.Branch.{Branch}
 use Rattle.invariant_fix.specs.declared.setting.Setting.{Setting}
 use Rattle.invariant_fix.proofs.Lists.{units_begun}
@@ -69,7 +69,7 @@ entries_with before after e h = ap (λ (j : Journal). j.entries) h
 
 module _ (A : analysis.Setting) (R : ℕ) (d : Results) (w : Work) (k : ℕ)
     (hs : List (Terms Fraction)) (el : Eliminates A w k hs) (es : List Entry)
-    (c : Comes A R es (goes (Begin (task_of_work w)) (begun A d w))) (P : Type 0)
+    (c : Comes A R es (goes (Begin (task_of_work w)) (start_of A d w))) (P : Type 0)
     (past : P → IsPastStarting A w) where
   pub begun_refused : (mid new : Journal) → mid.entries ≡ es ++ Begin (task_of_work w) ∷ []
       → (r : Refusal) → IsBegunRefused P k hs mid new r → Refuses A R (task_of_work w) new r
@@ -84,13 +84,13 @@ module _ (A : analysis.Setting) (R : ℕ) (d : Results) (w : Work) (k : ℕ)
   begun_refused mid new at r (inr s) = stage_refused A R d w k hs el es c mid new at r s
 
 -- ---- the start
-module _ (s : Setting) (fits : Fits s) (ps : List FracPoly) (ps_is : ps ≡ s.starts.items)
+module _ (s : Setting) (fits : FitsSetting s) (ps : List FracPoly) (ps_is : ps ≡ s.starts.items)
     (old mid new : Journal) (begin : mid ≡ with_entry old (Begin journal.Start)) where
   abbrev firsts : List (Terms Fraction)
   firsts = terms_each ps
 
   module _ (A : analysis.Setting) (R : ℕ) (i : IsSettingIn s A)
-      (c : Comes A R old.entries (goes (Begin journal.Start) (begun A no_results starts))) where
+      (c : Comes A R old.entries (goes (Begin journal.Start) (start_of A no_results starts))) where
     starts_are : analysis.starting A starts ≡ terms_each ps
     starts_are = i.starts ∙ sym (ap terms_each ps_is)
 
@@ -125,7 +125,7 @@ module _ (s : Setting) (fits : Fits s) (ps : List FracPoly) (ps_is : ps ≡ s.st
   }
 
 -- ---- an orbit
-module _ (s : Setting) (fits : Fits s) (place : ℕ) (within : place < length s.branches.items)
+module _ (s : Setting) (fits : FitsSetting s) (place : ℕ) (within : place < length s.branches.items)
     (branch : Branch) (is : branch ≡ get_or s.branches.items place branch) where
   pub vars_at : vars_of branch ≡ s.arity
   vars_at = ap (λ (c : Branch). length c.images.items) is
@@ -179,10 +179,10 @@ module _ (s : Setting) (fits : Fits s) (place : ℕ) (within : place < length s.
           ∙ ap (λ j. old.entries ++ Begin (journal.Orbit k j) ∷ []) named
 
       module _ (A : analysis.Setting) (R : ℕ) (d : Results) (hs : List (Terms Fraction))
-          (i : IsSettingIn s A) (c : Orbiting A R d old.entries k place (terms_each gs) hs) where
+          (i : IsSettingIn s A) (c : OrbitBegins A R d old.entries k place (terms_each gs) hs) where
         pub orbit_next : (x : Stage) → IsStageMade (front (numbers_of branch))
             (unwound_list branch gs) x mid.entries new.entries
-            → Orbited A R d new.entries k place (terms_each gs) hs x
+            → OrbitEnds A R d new.entries k place (terms_each gs) hs x
         orbit_next x m = stage_awaits A R d (orbit k place (terms_each gs) hs)
             (front (numbers_of branch)) (unwound_list branch gs) (eliminates A i k hs) old.entries
             c x new.entries (subst (λ es. IsStageMade (front (numbers_of branch))
@@ -247,7 +247,7 @@ module _ (s : Setting) (place : ℕ) (us vs : List FracPoly) (k : ℕ) (old mid 
       ∙ ap (λ j. old.entries ++ Begin (journal.Meet k j) ∷ []) named
 
   module _ (A : analysis.Setting) (R : ℕ) (d : Results) (gs : List (Terms Fraction))
-      (c : Meeting A R d old.entries k place gs (terms_each us) (terms_each vs)) where
+      (c : MeetBegins A R d old.entries k place gs (terms_each us) (terms_each vs)) where
     abbrev W : Work
     W = meet k place gs (terms_each us) (terms_each vs)
 
@@ -261,7 +261,7 @@ module _ (s : Setting) (place : ℕ) (us vs : List FracPoly) (k : ℕ) (old mid 
         (meet_eliminates A k place gs (terms_each us) (terms_each vs))
 
     pub meet_next : (x : Stage) → IsStageMade 1 (blend_of us vs) x mid.entries new.entries
-        → Met A R d new.entries k place gs (terms_each us) (terms_each vs) x
+        → MeetEnds A R d new.entries k place gs (terms_each us) (terms_each vs) x
     meet_next x m = stage_awaits A R d W 1 (blend_of us vs) meet_eliminated old.entries c x
         new.entries (subst (λ es. IsStageMade 1 (blend_of us vs) x es new.entries) meet_entries m)
 

@@ -23,9 +23,9 @@ use Rattle.traces.specs.Coming.{IsGoing, Comes}
 use Rattle.traces.specs.Followed.{Follows}
 use Rattle.traces.specs.Rounds.{behind}
 use Rattle.traces.specs.Trace as trace
-use Rattle.traces.specs.Trace.{State, fresh, no_results, Step, goes, begun, next, moves}
+use Rattle.traces.specs.Trace.{State, fresh, no_results, Step, goes, start_of, next, moves}
 use Rattle.full_types.specs.View.{form_in, start_in, round_in}
-use Rattle.invariant_fix.specs.Setting.{form_of, Fits, IsSettingOf, HoldsOf}
+use Rattle.invariant_fix.specs.Setting.{form_of, FitsSetting, IsSettingOf, HoldsOf}
 use Rattle.invariant_fix.specs.declared.branches.Branch.{Branch}
 use Rattle.invariant_fix.specs.declared.setting.Setting.{Setting}
 use Rattle.invariant_fix.specs.declared.errors.AnalyseError.{AnalyseError}
@@ -38,7 +38,7 @@ use Rattle.full_trace.specs.declared.found.Trace.{Trace}
 use Rattle.full_trace.proofs.RoundsMade.{passed_error}
 
 pub begins : (A : analysis.Setting) (R : ℕ) (es : List Entry) → es ≡ []
-    → Comes A R es (goes (Begin journal.Start) (begun A no_results starts))
+    → Comes A R es (goes (Begin journal.Start) (start_of A no_results starts))
 unfolding next IsRun
 begins A R es e = record {
   state = fresh;
@@ -61,7 +61,8 @@ as_written [] a = refl
 as_written (c ∷ cs) a = ap₂ ◌∷◌ (form_is c (All-head BeginsAtZero c cs a))
     (as_written cs (All-tail BeginsAtZero c cs a))
 
-module _ (program : Program (Expr ℕ)) (w : IsWellFormed program) (s : Setting) (fits : Fits s)
+module _ (program : Program (Expr ℕ)) (w : IsWellFormed program) (s : Setting)
+    (fits : FitsSetting s)
     (is : IsSettingOf program s) (at_zero : All BeginsAtZero s.branches.items) (R : ℕ) where
   abbrev forms_of : List WrittenForm
   forms_of = map (λ (c : Branch). written_of c.form) s.branches.items
@@ -142,11 +143,11 @@ module _ (program : Program (Expr ℕ)) (w : IsWellFormed program) (s : Setting)
   stopped_here after error.Memory h = going_here after.entries h
 
 -- ---- from the start on, of each program of which the setting is
-module _ (s : Setting) (fits : Fits s) (at_zero : All BeginsAtZero s.branches.items) (R : ℕ)
+module _ (s : Setting) (fits : FitsSetting s) (at_zero : All BeginsAtZero s.branches.items) (R : ℕ)
     (old : List Entry) (none : old ≡ []) where
   abbrev pub FromStart : (analysis.Setting → Type 0) → Type 0
   FromStart P = Along s (λ A. Comes A R old (goes (Begin journal.Start)
-      (begun A no_results starts)) → P A)
+      (start_of A no_results starts)) → P A)
 
   from_start : (P : analysis.Setting → Type 0) → FromStart P → (program : Program (Expr ℕ))
       → (w : IsWellFormed program) (is : IsSettingOf program s)

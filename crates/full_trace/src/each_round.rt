@@ -6,10 +6,10 @@ ghost use Rattle.machines.specs.Journal.{units_of};
 ghost use Rattle.completeness.specs.Full.{BranchStages};
 ghost use Rattle.poly.specs.Seen.{terms_each};
 ghost use Rattle.traces.specs.Coming.{Comes};
-ghost use Rattle.traces.specs.Rounds.{behind, Orbiting, ComesBehind};
+ghost use Rattle.traces.specs.Rounds.{behind, OrbitBegins, ComesBehind};
 ghost use Rattle.traces.specs.Trace.{Results, finished, after_round};
 ghost use Rattle.full_types.specs.View.{branch_in, round_in};
-ghost use Rattle.invariant_fix.specs.Setting.{Fits};
+ghost use Rattle.invariant_fix.specs.Setting.{FitsSetting};
 ghost use Rattle.full_trace.specs.Tasks.{Along, Stops, Knows, given_in, after_row, after_rows, fronts_of, IsBranchOver, AreBranchesOver};
 
 use crate::tasks::{meet, orbit};
@@ -42,7 +42,7 @@ fn branch_stages(
     so_far: &[Poly<Frac, Grevlex>],
     meter: &mut Meter,
 ) -> Result<FullBranch, AnalyseError>
-    requires fits { Fits setting.now }
+    requires fits { FitsSetting setting.now }
     requires place { place < length setting.now.branches.items }
     requires behind { 1 ≤ place }
     requires basis { Knows setting.now meter.old basis.now }
@@ -78,11 +78,11 @@ fn round_stages(
     basis: &Polys,
     meter: &mut Meter,
 ) -> Result<Vec<FullBranch>, AnalyseError>
-    requires fits { Fits setting.now }
+    requires fits { FitsSetting setting.now }
     requires basis { Knows setting.now meter.old basis.now.items }
     ensures limit { meter.new.limit ≡ meter.old.limit }
     ensures next { (rounds : ℕ) (d : Results) → Along setting.now (λ A.
-        Orbiting A rounds d meter.old.entries round 0 (terms_each basis.now.items) []
+        OrbitBegins A rounds d meter.old.entries round 0 (terms_each basis.now.items) []
         → IfOk result (λ bs. Comes A rounds meter.new.entries (after_round A rounds
         (behind d.start_out d.start_links (d.rounds ++ round_in bs ∷ [])) round
         (terms_each (after_row basis.now bs.items).items)))) }
@@ -92,7 +92,7 @@ fn round_stages(
     ensures list { IfOk result (λ bs. Knows setting.now meter.new
         (after_row basis.now bs.items).items) }
     ensures refused { (rounds : ℕ) (d : Results) → Along setting.now (λ A.
-        Orbiting A rounds d meter.old.entries round 0 (terms_each basis.now.items) []
+        OrbitBegins A rounds d meter.old.entries round 0 (terms_each basis.now.items) []
         → IfErr result (Stops A rounds meter.new)) }
 {
     let mut done = Vec::new(alloc);
@@ -129,7 +129,7 @@ pub(crate) fn all_rounds(
     start: &Polys,
     meter: &mut Meter,
 ) -> Result<Vec<Vec<FullBranch>>, AnalyseError>
-    requires fits { Fits setting.now }
+    requires fits { FitsSetting setting.now }
     requires start { Knows setting.now meter.old start.now.items }
     ensures limit { meter.new.limit ≡ meter.old.limit }
     ensures next { (links : List (List (Terms Fraction))) → Along setting.now (λ A.

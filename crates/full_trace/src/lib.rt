@@ -3,7 +3,7 @@
 #![tactic(auto)]
 
 ghost use Rattle.std.specs.Prelude.{All, ◌≡◌, [], IfOk, IfErr};
-ghost use Rattle.invariant_fix.specs.Setting.{Fits, HoldsOf};
+ghost use Rattle.invariant_fix.specs.Setting.{FitsSetting, HoldsOf};
 ghost use Rattle.full_trace.specs.Late.{BeginsAtZero};
 ghost use Rattle.full_trace.specs.Traced.{HasFollowed, IsTraceOf, IsTraceIn, IsStopped};
 
@@ -40,7 +40,7 @@ pub fn trace(
     rounds: u32,
     meter: &mut Meter,
 ) -> Result<Trace, AnalyseError>
-    requires fits { Fits setting }
+    requires fits { FitsSetting setting }
     requires at_zero { All BeginsAtZero setting.branches.items }
     requires unbegun { meter.old.entries ≡ [] }
     ensures limit { meter.new.limit ≡ meter.old.limit }

@@ -6,7 +6,7 @@ ghost use Rattle.machines.specs.Past.{IsPastPair};
 ghost use Rattle.poly.specs.Seen.{terms_in, terms_each};
 ghost use Rattle.divide.specs.Current.{AreDivisors};
 ghost use Rattle.divide.specs.Outcomes.{refusal_of};
-ghost use Rattle.reduced_basis.specs.Tidying.{list_limit};
+ghost use Rattle.divide.specs.Limits.{list_limit};
 ghost use Rattle.traces.specs.Rows.{ArePairsDivided, IsRefusedInPairs};
 ghost use Rattle.full_types.specs.Rows.{rows_of};
 ghost use Rattle.complete.specs.Completing.{AreLike};
@@ -17,7 +17,8 @@ use divide::{EngineError, divide, lead_copy};
 use frac128::Frac;
 use journal::{Event, Meter};
 use monos::Order;
-use poly::{Poly, PolyError};
+use poly::Poly;
+use ring_laws::ArithmeticError;
 use std::alloc::Global;
 
 /// The S-polynomial of two elements of a list. `Wide` only where its weight is past.
@@ -28,21 +29,19 @@ fn pair_polynomial<O: Order>(
     list: &[Poly<Frac, O>],
     left: usize,
     right: usize,
-) -> Result<Poly<Frac, O>, PolyError>
+) -> Result<Poly<Frac, O>, ArithmeticError>
     requires divisors { AreDivisors order arity list.now }
     requires inside { (left < length list.now) × (right < length list.now) }
     ensures like { IfOk result (λ p. (p.order ≡ order) × (p.arity ≡ arity)) }
     ensures terms { IfOk result (λ p. terms_in p
         ≡ s_polynomial rationals (O.order order) (terms_each list.now) (left, right)) }
-    ensures wide { IsErrOf result PolyError.Wide
+    ensures wide { IsErrOf result ArithmeticError.Wide
         → IsPastPair fractions rationals (terms_each list.now) (left, right) }
 {
     let (f, g) = (&list[left], &list[right]);
     let first = lead_copy(alloc, f)?;
     let second = lead_copy(alloc, g)?;
-    let Ok(multiple) = first.lcm(alloc, &second) else {
-        return Err(PolyError::Memory);
-    };
+    let multiple = first.lcm(alloc, &second)?;
     s_polynomial(alloc, f, g, &multiple)
 }
 

@@ -3,7 +3,7 @@ ghost use Rattle.std.specs.Prelude.{◌≡◌, ◌≤◌, length, IfOk, IfErr};
 ghost use Rattle.poly.specs.Seen.{terms_each};
 ghost use Rattle.divide.specs.Current.{AreDivisors};
 ghost use Rattle.divide.specs.Outcomes.{refusal_of};
-ghost use Rattle.reduced_basis.specs.Tidying.{list_limit};
+ghost use Rattle.divide.specs.Limits.{list_limit};
 ghost use Rattle.traces.specs.Rows.{AreDivided, IsRefusedIn};
 ghost use Rattle.full_types.specs.Rows.{rows_of};
 ghost use Rattle.complete.specs.Completing.{AreLike};

@@ -4,7 +4,7 @@ ghost use Rattle.std.specs.List.{position};
 ghost use Rattle.loop_model.specs.Maps.{AreFree};
 ghost use Rattle.loop_model.specs.View.{program_of};
 ghost use Rattle.invariant_fix.specs.Refusals.{AllHaveForms};
-ghost use Rattle.invariant_fix.specs.Setting.{Fits, IsSettingOf};
+ghost use Rattle.invariant_fix.specs.Setting.{FitsSetting, IsSettingOf};
 ghost use Rattle.full_trace.specs.Late.{is_late, BeginsAtZero, AllBeginAtZero, IfUntraceable};
 
 use crate::TraceError;
@@ -15,7 +15,7 @@ use std::alloc::Global;
 /// What the traces of a loop are of, where each of its branches begins at 0. Refusals of maps and branches come first,
 /// as those of `analyse`.
 pub fn traceable_setting(alloc: Global, lp: &Loop) -> Result<Setting, TraceError>
-    ensures fits { IfOk result Fits }
+    ensures fits { IfOk result FitsSetting }
     ensures setting { IfOk result (IsSettingOf (program_of lp.now)) }
     ensures at_zero { IfOk result (λ s. All BeginsAtZero s.branches.items) }
 

@@ -3,7 +3,7 @@ ghost use Rattle.std.specs.Prelude.{◌≡◌, ◌≤◌, ◌+◌, length, IfOk,
 ghost use Rattle.monos.specs.Variables.{most_variables};
 ghost use Rattle.poly.specs.Seen.{terms_each};
 ghost use Rattle.divide.specs.Outcomes.{refusal_of};
-ghost use Rattle.reduced_basis.specs.Reduction.{generators_limit};
+ghost use Rattle.complete.specs.Limits.{generators_limit};
 ghost use Rattle.ideal_ops.specs.Eliminating.{HaveBlock};
 ghost use Rattle.full_types.specs.Images.{IsStageIn};
 ghost use Rattle.full_types.specs.View.{stage_in};

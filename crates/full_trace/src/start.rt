@@ -4,15 +4,15 @@ ghost use Rattle.machines.specs.Journal.{Start, Begin};
 ghost use Rattle.poly.specs.Seen.{terms_each};
 ghost use Rattle.divide.specs.Outcomes.{refusal_of};
 ghost use Rattle.ideal_ops.specs.Calls.{AreOver};
-ghost use Rattle.reduced_basis.specs.Reduction.{generators_limit};
+ghost use Rattle.complete.specs.Limits.{generators_limit};
 ghost use Rattle.rounds.specs.Analysis.{starts};
 ghost use Rattle.traces.specs.Coming.{Comes};
 ghost use Rattle.traces.specs.Making.{IsStartMade, IsStartRefused};
 ghost use Rattle.traces.specs.Rounds.{behind};
-ghost use Rattle.traces.specs.Trace.{no_results, goes, begun, after_round};
+ghost use Rattle.traces.specs.Trace.{no_results, goes, start_of, after_round};
 ghost use Rattle.full_types.specs.Images.{ArePolys, AreRows};
 ghost use Rattle.full_types.specs.View.{start_in};
-ghost use Rattle.invariant_fix.specs.Setting.{Fits};
+ghost use Rattle.invariant_fix.specs.Setting.{FitsSetting};
 ghost use Rattle.full_trace.specs.Tasks.{Along, Stops, Knows};
 
 use crate::rows::divide_each;
@@ -60,16 +60,16 @@ pub(crate) fn start(
     setting: &Setting,
     meter: &mut Meter,
 ) -> Result<FullStart, AnalyseError>
-    requires fits { Fits setting.now }
+    requires fits { FitsSetting setting.now }
     ensures limit { meter.new.limit ≡ meter.old.limit }
     ensures next { (rounds : ℕ) → Along setting.now (λ A.
-        Comes A rounds meter.old.entries (goes (Begin Start) (begun A no_results starts))
+        Comes A rounds meter.old.entries (goes (Begin Start) (start_of A no_results starts))
         → IfOk result (λ t. Comes A rounds meter.new.entries
         (after_round A rounds (behind (start_in t).0 (start_in t).1 []) 0 (start_in t).0))) }
     ensures list { IfOk result (λ t. Knows setting.now meter.new t.out.items) }
     ensures links { IfOk result (λ t. AreRows setting.now.arity t.links) }
     ensures refused { (rounds : ℕ) → Along setting.now (λ A.
-        Comes A rounds meter.old.entries (goes (Begin Start) (begun A no_results starts))
+        Comes A rounds meter.old.entries (goes (Begin Start) (start_of A no_results starts))
         → IfErr result (Stops A rounds meter.new)) }
 {
     meter.begin(Task::Start)?;

@@ -11,12 +11,12 @@ ghost use Rattle.divide.specs.Outcomes.{refusal_of};
 ghost use Rattle.ideal_ops.specs.Blending.{blend_of};
 ghost use Rattle.ideal_ops.specs.Calls.{AreOver};
 ghost use Rattle.traces.specs.Making.{IsStageMade};
-ghost use Rattle.traces.specs.Rounds.{Orbiting, Orbited, Meeting, Met};
+ghost use Rattle.traces.specs.Rounds.{OrbitBegins, OrbitEnds, MeetBegins, MeetEnds};
 ghost use Rattle.traces.specs.Trace.{Results};
 ghost use Rattle.full_types.specs.Images.{IsStageIn};
 ghost use Rattle.full_types.specs.View.{stage_in};
 ghost use Rattle.invariant_fix.specs.Orbits.{numbers_of, vars_of, unwound_list, IsPastUnwound};
-ghost use Rattle.invariant_fix.specs.Setting.{Fits, FitsBranch};
+ghost use Rattle.invariant_fix.specs.Setting.{FitsSetting, FitsBranch};
 ghost use Rattle.full_trace.specs.Tasks.{Along, Stops, IsBegunRefused, Knows, most_begun, fronts_of};
 
 use crate::stage::stage;
@@ -88,22 +88,23 @@ pub(crate) fn orbit(
     basis: &[Poly<Frac, Grevlex>],
     meter: &mut Meter,
 ) -> Result<FullStage, AnalyseError>
-    requires fits { Fits setting.now }
+    requires fits { FitsSetting setting.now }
     requires place { place < length setting.now.branches.items }
     requires basis { Knows setting.now meter.old basis.now }
     ensures limit { meter.new.limit ≡ meter.old.limit }
     ensures next { (rounds : ℕ) (d : Results) (hs : List (Terms Fraction))
         → Along setting.now (λ A.
-        Orbiting A rounds d meter.old.entries round place (terms_each basis.now) hs
+        OrbitBegins A rounds d meter.old.entries round place (terms_each basis.now) hs
         → IfOk result (λ s.
-        Orbited A rounds d meter.new.entries round place (terms_each basis.now) hs (stage_in s))) }
+        OrbitEnds A rounds d meter.new.entries round place (terms_each basis.now) hs
+        (stage_in s))) }
     ensures over { IfOk result (IsStageIn (get_or (fronts_of setting.now) place 0)
         setting.now.arity) }
     ensures list { IfOk result (λ s. Knows setting.now meter.new s.out.items) }
     ensures units { IfOk result (λ _. units_of meter.old.entries ≤ units_of meter.new.entries) }
     ensures refused { (rounds : ℕ) (d : Results) (hs : List (Terms Fraction))
         → Along setting.now (λ A.
-        Orbiting A rounds d meter.old.entries round place (terms_each basis.now) hs
+        OrbitBegins A rounds d meter.old.entries round place (terms_each basis.now) hs
         → IfErr result (Stops A rounds meter.new)) }
 {
     // for its contract, which tells the prover that no more units are used than are allowed
@@ -129,21 +130,21 @@ pub(crate) fn meet(
     next: &[Poly<Frac, Grevlex>],
     meter: &mut Meter,
 ) -> Result<FullStage, AnalyseError>
-    requires fits { Fits setting.now }
+    requires fits { FitsSetting setting.now }
     requires place { place < length setting.now.branches.items }
     requires so_far { Knows setting.now meter.old so_far.now }
     requires next { Knows setting.now meter.old next.now }
     ensures limit { meter.new.limit ≡ meter.old.limit }
     ensures met { (rounds : ℕ) (d : Results) (gs : List (Terms Fraction))
-        → Along setting.now (λ A. Meeting A rounds d meter.old.entries round place gs
+        → Along setting.now (λ A. MeetBegins A rounds d meter.old.entries round place gs
         (terms_each so_far.now) (terms_each next.now)
-        → IfOk result (λ s. Met A rounds d meter.new.entries round place gs
+        → IfOk result (λ s. MeetEnds A rounds d meter.new.entries round place gs
         (terms_each so_far.now) (terms_each next.now) (stage_in s))) }
     ensures over { IfOk result (IsStageIn 1 setting.now.arity) }
     ensures list { IfOk result (λ s. Knows setting.now meter.new s.out.items) }
     ensures units { IfOk result (λ _. units_of meter.old.entries ≤ units_of meter.new.entries) }
     ensures refused { (rounds : ℕ) (d : Results) (gs : List (Terms Fraction))
-        → Along setting.now (λ A. Meeting A rounds d meter.old.entries round place gs
+        → Along setting.now (λ A. MeetBegins A rounds d meter.old.entries round place gs
         (terms_each so_far.now) (terms_each next.now)
         → IfErr result (Stops A rounds meter.new)) }
 {

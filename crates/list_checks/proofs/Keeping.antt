@@ -17,32 +17,32 @@ use Rattle.polynomials.specs.Terms.{Terms, Same, retold}
 use Rattle.polynomials.proofs.Canonical.{polynomial_unique}
 use Rattle.polynomials.proofs.Exponent.{same_refl, same_true}
 use Rattle.polynomials.proofs.Orders.{grevlex_order}
-use Rattle.machines.specs.Elimination.{free, all_free, kept}
+use Rattle.machines.specs.Elimination.{free, all_free, free_part}
 use Rattle.machines.proofs.Front.{dropped_polynomial, retold_nothing, kept-append}
 use Rattle.poly.specs.Front.{IsFreeOfFirst}
 
 module _ {A : Type 0} (k : ℕ) where
   kept_one : (g : Terms A) (b : Bool) → all_free k g ≡ b
-      → kept k (g ∷ []) ≡ cond b (retold (drop k) g ∷ []) []
-  unfolding kept
+      → free_part k (g ∷ []) ≡ cond b (retold (drop k) g ∷ []) []
+  unfolding free_part
   kept_one g b e = ap (λ c. cond c (retold (drop k) g ∷ []) []) e
 
-  pub kept_none : (out : List (Terms A)) → out ≡ [] → out ≡ kept k []
-  unfolding kept
+  pub kept_none : (out : List (Terms A)) → out ≡ [] → out ≡ free_part k []
+  unfolding free_part
   kept_none out e = e
 
   pub kept_step_in : (gs gs' out news : List (Terms A)) (g q : Terms A) → gs' ≡ gs ++ g ∷ []
-      → all_free k g ≡ true → news ≡ out ++ q ∷ [] → q ≡ retold (drop k) g → out ≡ kept k gs
-      → news ≡ kept k gs'
+      → all_free k g ≡ true → news ≡ out ++ q ∷ [] → q ≡ retold (drop k) g → out ≡ free_part k gs
+      → news ≡ free_part k gs'
   kept_step_in gs gs' out news g q e f n i h = n ∙ ap₂ (λ zs z. zs ++ z ∷ []) h i
-      ∙ ap (λ zs. kept k gs ++ zs) (sym (kept_one g true f)) ∙ sym (kept-append k gs (g ∷ []))
-      ∙ ap (kept k) (sym e)
+      ∙ ap (λ zs. free_part k gs ++ zs) (sym (kept_one g true f)) ∙ sym (kept-append k gs (g ∷ []))
+      ∙ ap (free_part k) (sym e)
 
   pub kept_step_out : (gs gs' out : List (Terms A)) (g : Terms A) → gs' ≡ gs ++ g ∷ []
-      → all_free k g ≡ false → out ≡ kept k gs → out ≡ kept k gs'
-  kept_step_out gs gs' out g e f h = h ∙ sym (append-nil (kept k gs))
-      ∙ ap (λ zs. kept k gs ++ zs) (sym (kept_one g false f)) ∙ sym (kept-append k gs (g ∷ []))
-      ∙ ap (kept k) (sym e)
+      → all_free k g ≡ false → out ≡ free_part k gs → out ≡ free_part k gs'
+  kept_step_out gs gs' out g e f h = h ∙ sym (append-nil (free_part k gs))
+      ∙ ap (λ zs. free_part k gs ++ zs) (sym (kept_one g false f)) ∙ sym (kept-append k gs (g ∷ []))
+      ∙ ap (free_part k) (sym e)
 
   -- ---- none of the first variables
   pub free_all : (p : Terms A) → IsFreeOfFirst k p → all_free k p ≡ true

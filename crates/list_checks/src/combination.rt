@@ -8,7 +8,8 @@ ghost use Rattle.list_checks.specs.Past.{IsPastCombination};
 
 use frac128::Frac;
 use monos::Order;
-use poly::{Poly, PolyError};
+use poly::Poly;
+use ring_laws::ArithmeticError;
 use std::alloc::Global;
 
 /// The sum of the products of the cofactors with the elements of the list, place by place.
@@ -18,14 +19,14 @@ pub(crate) fn combination<O: Order>(
     arity: usize,
     cofactors: &[Poly<Frac, O>],
     list: &[Poly<Frac, O>],
-) -> Result<Poly<Frac, O>, PolyError>
+) -> Result<Poly<Frac, O>, ArithmeticError>
     requires few { arity ≤ most_variables }
     requires count { length cofactors.now ≡ length list.now }
     requires cofactors { All (IsImage order arity) cofactors.now }
     requires list { All (IsImage order arity) list.now }
     ensures sum { IfOk result (Is order arity
         (combination ℚ (terms_each cofactors.now) (terms_each list.now))) }
-    ensures wide { IsErrOf result PolyError.Wide
+    ensures wide { IsErrOf result ArithmeticError.Wide
         → IsPastCombination (terms_each cofactors.now) (terms_each list.now) }
 {
     let mut sum = Poly::zero(alloc, order, arity);
@@ -42,13 +43,13 @@ pub fn is_combination<O: Order>(
     p: &Poly<Frac, O>,
     cofactors: &[Poly<Frac, O>],
     list: &[Poly<Frac, O>],
-) -> Result<bool, PolyError>
+) -> Result<bool, ArithmeticError>
     requires count { length cofactors.now ≡ length list.now }
     requires cofactors { All (IsImage p.now.order p.now.arity) cofactors.now }
     requires list { All (IsImage p.now.order p.now.arity) list.now }
     ensures holds { IfOk result (λ holds. IsTrue holds ↔
         Same ℚ (terms_in p.now) (combination ℚ (terms_each cofactors.now) (terms_each list.now))) }
-    ensures wide { IsErrOf result PolyError.Wide
+    ensures wide { IsErrOf result ArithmeticError.Wide
         → IsPastCombination (terms_each cofactors.now) (terms_each list.now) }
 {
     let sum = combination(alloc, p.order(), p.arity(), cofactors, list)?;

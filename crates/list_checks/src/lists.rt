@@ -1,17 +1,17 @@
 //! Lists of polynomials: monic elements, those without the first variables, pairs of places, equality.
-ghost use Rattle.std.specs.Prelude.{◌≡◌, ◌<◌, ◌+◌, ◌-◌, ◌↔◌, ◌++◌, suc, map, length, All, IfOk, OnOk, IsErrOf, IsTrue};
+ghost use Rattle.std.specs.Prelude.{◌≡◌, ◌<◌, ◌+◌, ◌-◌, ◌↔◌, ◌++◌, suc, map, length, All, IfOk, OnOk, IsTrue};
 ghost use Rattle.numbers.specs.Fraction.{ℚ, rationals};
 ghost use Rattle.polynomials.specs.Terms.{AllSame};
 ghost use Rattle.exponentials.specs.Table.{numbers};
 ghost use Rattle.machines.specs.Cut.{lead_number};
-ghost use Rattle.machines.specs.Elimination.{kept};
+ghost use Rattle.machines.specs.Elimination.{free_part};
 ghost use Rattle.poly.specs.Seen.{terms_in, terms_each};
 ghost use Rattle.poly.specs.Standing.{IsOver};
 ghost use Rattle.completeness.specs.Representation.{pairs_of};
 
 use frac128::Frac;
 use monos::{Blocks, Grevlex, Order};
-use poly::{Poly, PolyError};
+use poly::Poly;
 use ring_laws::Ring;
 use std::alloc::{AllocError, Global};
 
@@ -32,12 +32,12 @@ pub fn free_elements(
     list: &[Poly<Frac, Blocks>],
     front: usize,
     variables: usize,
-) -> Result<Vec<Poly<Frac, Grevlex>>, PolyError>
+) -> Result<Vec<Poly<Frac, Grevlex>>, AllocError>
     requires blocks { All (λ p. p.order.first ≡ front) list.now }
     requires arity { All (IsOver (front + variables)) list.now }
-    ensures kept { IfOk result (λ free. terms_each free.items ≡ kept front (terms_each list.now)) }
+    ensures kept { IfOk result
+        (λ free. terms_each free.items ≡ free_part front (terms_each list.now)) }
     ensures arity { IfOk result (λ free. All (IsOver variables) free.items) }
-    ensures narrow { ¬ IsErrOf result PolyError.Wide }
 {
     let mut free = Vec::new(alloc);
     for p in list {

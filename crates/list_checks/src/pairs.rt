@@ -13,7 +13,8 @@ use crate::combination::combination;
 use crate::s_polynomial::{multiple_of, s_polynomial};
 use frac128::Frac;
 use monos::{Mono, Order};
-use poly::{Poly, PolyError};
+use poly::Poly;
+use ring_laws::ArithmeticError;
 use std::alloc::Global;
 
 /// Whether the lead of the product is below the monomial.
@@ -22,14 +23,14 @@ fn is_below<O: Order>(
     cofactor: &Poly<Frac, O>,
     element: &Poly<Frac, O>,
     multiple: &Mono,
-) -> Result<bool, PolyError>
+) -> Result<bool, ArithmeticError>
     requires order { cofactor.now.order ≡ element.now.order }
     requires arity { cofactor.now.arity ≡ element.now.arity }
     requires long { length multiple.now ≡ element.now.arity }
     ensures below { IfOk result (λ below. IsTrue below ↔ IsLeadBelow rationals
         (O.order element.now.order) multiple.now
         (times ℚ (terms_in cofactor.now) (terms_in element.now))) }
-    ensures wide { IsErrOf result PolyError.Wide
+    ensures wide { IsErrOf result ArithmeticError.Wide
         → IsPastProduct fractions (terms_in cofactor.now) (terms_in element.now) }
 {
     let product = cofactor.mul(alloc, element)?;
@@ -48,14 +49,14 @@ fn are_below<O: Order>(
     cofactors: &[Poly<Frac, O>],
     list: &[Poly<Frac, O>],
     multiple: &Mono,
-) -> Result<bool, PolyError>
+) -> Result<bool, ArithmeticError>
     requires count { length cofactors.now ≡ length list.now }
     requires cofactors { All (IsImage order arity) cofactors.now }
     requires list { All (IsImage order arity) list.now }
     requires long { length multiple.now ≡ arity }
     ensures below { IfOk result (λ below. IsTrue below ↔ AreBelow rationals (O.order order)
         multiple.now (terms_each cofactors.now) (terms_each list.now)) }
-    ensures wide { IsErrOf result PolyError.Wide
+    ensures wide { IsErrOf result ArithmeticError.Wide
         → IsPastCombination (terms_each cofactors.now) (terms_each list.now) }
 {
     for (i, cofactor) in cofactors.iter().enumerate() {
@@ -78,7 +79,7 @@ pub fn is_lcm_representation<O: Order>(
     left: usize,
     right: usize,
     cofactors: &[Poly<Frac, O>],
-) -> Result<bool, PolyError>
+) -> Result<bool, ArithmeticError>
     requires few { arity ≤ most_variables }
     requires left { left < length list.now }
     requires right { right < length list.now }
@@ -88,7 +89,7 @@ pub fn is_lcm_representation<O: Order>(
     requires nonzero { All (λ p. terms_in p ≢ []) list.now }
     ensures holds { IfOk result (λ holds. IsTrue holds ↔ IsLcmRepresentation rationals
         (O.order order) (terms_each list.now) (left, right) (terms_each cofactors.now)) }
-    ensures wide { IsErrOf result PolyError.Wide
+    ensures wide { IsErrOf result ArithmeticError.Wide
         → IsPastPair fractions rationals (terms_each list.now) (left, right)
         ⊎ IsPastCombination (terms_each cofactors.now) (terms_each list.now) }
 {

@@ -11,8 +11,9 @@ ghost use Rattle.list_checks.specs.Raising.{raised_to};
 
 use frac128::Frac;
 use monos::{Mono, Order};
-use poly::{Poly, PolyError};
-use std::alloc::Global;
+use poly::Poly;
+use ring_laws::ArithmeticError;
+use std::alloc::{AllocError, Global};
 
 /// The S-polynomial of two elements, whose leads have this least common multiple.
 pub(crate) fn s_polynomial<O: Order>(
@@ -20,7 +21,7 @@ pub(crate) fn s_polynomial<O: Order>(
     f: &Poly<Frac, O>,
     g: &Poly<Frac, O>,
     multiple: &Mono,
-) -> Result<Poly<Frac, O>, PolyError>
+) -> Result<Poly<Frac, O>, ArithmeticError>
     requires order { f.now.order ≡ g.now.order }
     requires arity { f.now.arity ≡ g.now.arity }
     requires nonzero { (terms_in f.now ≢ []) × (terms_in g.now ≢ []) }
@@ -28,7 +29,7 @@ pub(crate) fn s_polynomial<O: Order>(
     ensures difference { IfOk result (Is f.now.order f.now.arity
         (raised_to multiple.now (terms_in f.now)
         ++ negate ℚ (raised_to multiple.now (terms_in g.now)))) }
-    ensures wide { IsErrOf result PolyError.Wide
+    ensures wide { IsErrOf result ArithmeticError.Wide
         → IsPastSum fractions (terms_in f.now) (terms_in g.now)
         ⊎ IsPastRaised multiple.now (terms_in f.now)
         ⊎ IsPastRaised multiple.now (terms_in g.now) }
@@ -43,18 +44,17 @@ fn multiple_with_lead<O: Order>(
     alloc: Global,
     f: &Poly<Frac, O>,
     multiple: &Mono,
-) -> Result<Poly<Frac, O>, PolyError>
+) -> Result<Poly<Frac, O>, ArithmeticError>
     requires nonzero { terms_in f.now ≢ [] }
     requires long { length multiple.now ≡ f.now.arity }
     requires divided { Divides (lead_of (terms_in f.now)) multiple.now }
     ensures product { IfOk result (Is f.now.order f.now.arity
         (raised_to multiple.now (terms_in f.now))) }
-    ensures wide { IsErrOf result PolyError.Wide → IsPastRaised multiple.now (terms_in f.now) }
+    ensures wide { IsErrOf result ArithmeticError.Wide
+        → IsPastRaised multiple.now (terms_in f.now) }
 {
-    match multiple.quotient(alloc, lead_monomial(f)) {
-        Ok(factor) => f.shift(alloc, &factor),
-        Err(_) => Err(PolyError::Memory),
-    }
+    let factor = multiple.quotient(alloc, lead_monomial(f))?;
+    f.shift(alloc, &factor)
 }
 
 /// The least common multiple of the leads.
@@ -62,17 +62,13 @@ pub(crate) fn multiple_of<O: Order>(
     alloc: Global,
     f: &Poly<Frac, O>,
     g: &Poly<Frac, O>,
-) -> Result<Mono, PolyError>
+) -> Result<Mono, AllocError>
     requires arity { f.now.arity ≡ g.now.arity }
     requires nonzero { (terms_in f.now ≢ []) × (terms_in g.now ≢ []) }
     ensures multiple { IfOk result (λ e.
         e ≡ lcm (lead_of (terms_in f.now)) (lead_of (terms_in g.now))) }
-    ensures narrow { ¬ IsErrOf result PolyError.Wide }
 {
-    match lead_monomial(f).lcm(alloc, lead_monomial(g)) {
-        Ok(multiple) => Ok(multiple),
-        Err(_) => Err(PolyError::Memory),
-    }
+    lead_monomial(f).lcm(alloc, lead_monomial(g))
 }
 
 /// The lead of a polynomial that isn't 0.

@@ -14,7 +14,7 @@ use Rattle.rings.proofs.Basics.{same_tail}
 use Rattle.grammars.specs.Grammar.{Placed}
 use Rattle.grammars.specs.Derivation.{Derives}
 use Rattle.grammars.specs.FirstFault.{symbols_in, lexemes_of, sounds}
-use Rattle.grammars.specs.Reader.{Answer, reads, read}
+use Rattle.grammars.specs.Reader.{ReadResult, reads, read}
 use Rattle.grammars.specs.Spelled.{IsRead}
 use Rattle.grammars.proofs.Offsets.{marks_at, moved}
 use Rattle.grammars.proofs.Reading.{read_is_derived}
@@ -113,12 +113,12 @@ are_kinds (t ∷ ts) h =
     (same_kind t.lexeme both.0, are_kinds ts both.1)
 
 -- ---- each is read, whatever the base
-abbrev is_all_read : Answer Lexeme LoopContext LoopValue Reason → Bool
+abbrev is_all_read : ReadResult Lexeme LoopContext LoopValue Reason → Bool
 is_all_read (reads s []) = true
 is_all_read a = false
 
-all_read : (a : Answer Lexeme LoopContext LoopValue Reason) → is_all_read a ≡ true
-    → (s : LoopState) × ◌≡◌ {A = Answer Lexeme LoopContext LoopValue Reason} a (reads s [])
+all_read : (a : ReadResult Lexeme LoopContext LoopValue Reason) → is_all_read a ≡ true
+    → (s : LoopState) × ◌≡◌ {A = ReadResult Lexeme LoopContext LoopValue Reason} a (reads s [])
 all_read (reads s []) h = (s, refl)
 all_read a h = absurd (cc)
 
@@ -138,7 +138,7 @@ at_below p (suc n) k all less =
       | inr not ↦ let same : n ≡ k = omega (arith, less, not) in subst (λ j. p j ≡ true) same both.0
     ]
 
-abbrev answer_to : ℕ → ℕ → ℕ → Answer Lexeme LoopContext LoopValue Reason
+abbrev answer_to : ℕ → ℕ → ℕ → ReadResult Lexeme LoopContext LoopValue Reason
 answer_to b i k =
     read (with_kinds loop_language kind_free) whole_loop nothing (at_front (said (pieces b i k)))
 
@@ -170,7 +170,7 @@ Says bytes = (l : Program (Expr ℕ)) × (loop_of bytes ≡ Ok l)
 
 module _ (bytes : List ℕ) (ls : List Lexeme) (s : LoopState) (lexed : lexemes bytes ≡ ls)
     (small : list_all (λ (t : Placed Lexeme). is_small t.lexeme) (at_front ls) ≡ true)
-    (is : ◌≡◌ {A = Answer Lexeme LoopContext LoopValue Reason}
+    (is : ◌≡◌ {A = ReadResult Lexeme LoopContext LoopValue Reason}
     (read (with_kinds loop_language kind_free) whole_loop nothing (at_front ls)) (reads s [])) where
   at_zero : IsRead (with_kinds loop_language kind_free) whole_loop nothing (at_front ls) s
   at_zero =

@@ -11,7 +11,7 @@ use Rattle.poly.specs.Seen.{terms_each, arity_of}
 use Rattle.poly.specs.Standing.{IsOver, AllStandFor}
 use Rattle.poly.proofs.Standing.{stands_all_itself}
 use Rattle.expressions.specs.FracPoly.{FracPoly}
-use Rattle.expressions.specs.View.{seen}
+use Rattle.expressions.specs.View.{expr_of}
 use Rattle.expressions.specs.Operations.{operations_all, value, IsFree}
 use Rattle.expressions.specs.declared.expr.Expr.{Expr}
 use Rattle.loop_model.specs.Parts.{statement_of}
@@ -27,19 +27,20 @@ module _ (ps : List FracPoly) (over : All (IsOver (arity_of ps)) ps) where
   n = length ps
 
   module _ (c : Statement) (ok : IsStatement n (statement_of c)) where
-    pub uses_of : (es : List Expr) → es ≡ c.values.items → All (λ e. Uses (λ i. i < n) (seen e)) es
-    uses_of es same = subst (λ xs. All (λ (e : Expr). Uses (λ i. i < n) (seen e)) xs) (sym same)
-        (λ k d l. subst (Uses (λ i. i < n)) (get_or-map seen c.values.items k d (seen d) l)
-        (ok.values k (seen d) (omega (arith, length-map c.values.items seen))))
+    pub uses_of : (es : List Expr) → es ≡ c.values.items → All (λ e. Uses (λ i. i < n) (expr_of e))
+        es
+    uses_of es same = subst (λ xs. All (λ (e : Expr). Uses (λ i. i < n) (expr_of e)) xs) (sym same)
+        (λ k d l. subst (Uses (λ i. i < n)) (get_or-map expr_of c.values.items k d (expr_of d) l)
+        (ok.values k (expr_of d) (omega (arith, length-map c.values.items expr_of))))
 
     pub after_stands : (targets : List ℕ) (values state : List FracPoly) → targets ≡ c.targets.items
         → Valued m (terms_each ps) c.values.items values → state ≡ store targets values ps
         → AllStandFor m state (after_statement (lists ℚ m) (constant m) (statement_of c)
         (terms_each ps))
-        × IsFree m (operations_all m (terms_each ps) (map seen c.values.items))
+        × IsFree m (operations_all m (terms_each ps) (map expr_of c.values.items))
     unfolding after_statement
     after_stands targets values state t v s =
-        let rights = map (value m (terms_each ps)) (map seen c.values.items) in
+        let rights = map (value m (terms_each ps)) (map expr_of c.values.items) in
         let stored : AllStandFor m (store targets values ps) (store c.targets.items rights
         (terms_each ps)) =
         subst (λ is. AllStandFor m (store targets values ps) (store is rights (terms_each ps))) t

@@ -24,7 +24,7 @@ use Rattle.poly.specs.Seen.{terms_in, terms_each, arity_of}
 use Rattle.poly.specs.Standing.{IsOver, StandsFor, AllStandFor}
 use Rattle.poly.proofs.Standing.{stands_over, stands_length, stands_push, first_arity}
 use Rattle.expressions.specs.FracPoly.{FracPoly}
-use Rattle.expressions.specs.View.{seen}
+use Rattle.expressions.specs.View.{expr_of}
 use Rattle.expressions.specs.Operations.{Operation, operations_all, IsFree, PassesLimit}
 use Rattle.expressions.specs.Stops.{Stops}
 use Rattle.expressions.specs.declared.map_error.MapError.{MapError}
@@ -135,7 +135,7 @@ module _ (m : ℕ) (first : List (Terms Fraction)) where
       (is : c ≡ get_or cs i c) (ps : List FracPoly) (t : Turned (take i cs) ps) (n : ℕ)
       (count : n ≡ m) where
     abbrev rights : List (Expr ℕ)
-    rights = map seen c.values.items
+    rights = map expr_of c.values.items
 
     more : take (i + 1) cs ≡ take i cs ++ c ∷ []
     more = take_more cs i c within ∙ ap (λ (d : Statement). take i cs ++ d ∷ []) (sym is)

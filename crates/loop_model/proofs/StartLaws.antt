@@ -20,7 +20,7 @@ use Rattle.poly.specs.Seen.{terms_each}
 use Rattle.poly.specs.Standing.{StandsFor, AllStandFor}
 use Rattle.poly.proofs.Standing.{stands_set, stands_length}
 use Rattle.expressions.specs.FracPoly.{FracPoly}
-use Rattle.expressions.specs.View.{seen}
+use Rattle.expressions.specs.View.{expr_of}
 use Rattle.expressions.specs.Operations.{Operation, operations, operations_all, value, IsFree, PassesLimit}
 use Rattle.expressions.specs.Stops.{Stops}
 use Rattle.expressions.specs.declared.map_error.MapError.{MapError}
@@ -43,13 +43,13 @@ module _ (m : ℕ) where
   first = variables ℚ m
 
   abbrev pub value_at : Init → Terms Fraction
-  value_at x = value m first (seen x.value)
+  value_at x = value m first (expr_of x.value)
 
   abbrev pub started : List Init → List (Terms Fraction)
   started xs = store (map (λ (x : Init). x.var) xs) (map value_at xs) first
 
   abbrev pub ops : List Init → List Operation
-  ops xs = operations_all m first (map (λ (x : Init). seen x.value) xs)
+  ops xs = operations_all m first (map (λ (x : Init). expr_of x.value) xs)
 
   pub record Begun (xs : List Init) (ps : List FracPoly) : Type 0 where
     pub stands : AllStandFor m ps (started xs)
@@ -82,38 +82,41 @@ module _ (m : ℕ) where
         ∙ store-push (map (λ (y : Init). y.var) (take i xs)) (map value_at (take i xs)) first x.var
         (value_at x) (same_counts (take i xs))
 
-    more_operations : ops (take (i + 1) xs) ≡ ops (take i xs) ++ operations m first (seen x.value)
+    more_operations : ops (take (i + 1) xs) ≡ ops (take i xs) ++ operations m first
+        (expr_of x.value)
     more_operations =
-        ap ops more ∙ ap (operations_all m first) (map_push (λ (y : Init). seen y.value) (take i xs)
+        ap ops more ∙ ap (operations_all m first) (map_push (λ (y : Init). expr_of y.value)
+        (take i xs)
         x)
-        ∙ operations_all-push m first (map (λ (y : Init). seen y.value) (take i xs)) (seen x.value)
+        ∙ operations_all-push m first (map (λ (y : Init). expr_of y.value) (take i xs))
+        (expr_of x.value)
 
     pub begun_more : (ps : List FracPoly) (p : FracPoly) → Begun (take i xs) ps
-        → StandsFor n p (value n (terms_each free) (seen x.value))
-        → IsFree n (operations n (terms_each free) (seen x.value))
+        → StandsFor n p (value n (terms_each free) (expr_of x.value))
+        → IsFree n (operations n (terms_each free) (expr_of x.value))
         → Begun (take (i + 1) xs) (put ps x.var p)
     begun_more ps p b k f = record {
       stands = subst (AllStandFor m (put ps x.var p)) (sym more_started)
           (stands_set m ps (started (take i xs)) x.var p (value_at x) b.stands
-          (formed_value m free first h n arity (seen x.value) p k));
+          (formed_value m free first h n arity (expr_of x.value) p k));
       free = subst (IsFree m) (sym more_operations) (All-append (λ o. ¬ (PassesLimit m o))
-          (ops (take i xs)) (operations m first (seen x.value)) b.free
-          (formed_free m free first h n arity (seen x.value) f));
+          (ops (take i xs)) (operations m first (expr_of x.value)) b.free
+          (formed_free m free first h n arity (expr_of x.value) f));
     }
 
     pub begun_stop : (ps : List FracPoly) (e : MapError) → Begun (take i xs) ps
-        → Stops n (operations n (terms_each free) (seen x.value)) e → Stops m (ops xs) e
+        → Stops n (operations n (terms_each free) (expr_of x.value)) e → Stops m (ops xs) e
     begun_stop ps e b k =
         let here : Stops m (ops (take (i + 1) xs)) e =
         subst (λ os. Stops m os e) (sym more_operations)
-        (stops_behind m (ops (take i xs)) (operations m first (seen x.value)) e b.free
-        (formed_stop m free first h n arity (seen x.value) e k)) in
+        (stops_behind m (ops (take i xs)) (operations m first (expr_of x.value)) e b.free
+        (formed_stop m free first h n arity (expr_of x.value) e k)) in
         let both : ops (take (i + 1) xs) ++ ops (drop (i + 1) xs) ≡ ops xs =
-        sym (operations_all-append m first (map (λ (y : Init). seen y.value) (take (i + 1) xs))
-        (map (λ (y : Init). seen y.value) (drop (i + 1) xs)))
+        sym (operations_all-append m first (map (λ (y : Init). expr_of y.value) (take (i + 1) xs))
+        (map (λ (y : Init). expr_of y.value) (drop (i + 1) xs)))
         ∙ ap (operations_all m first)
-        (sym (map-append (λ (y : Init). seen y.value) (take (i + 1) xs) (drop (i + 1) xs))
-        ∙ ap (map (λ (y : Init). seen y.value)) (take-append-drop (i + 1) xs)) in
+        (sym (map-append (λ (y : Init). expr_of y.value) (take (i + 1) xs) (drop (i + 1) xs))
+        ∙ ap (map (λ (y : Init). expr_of y.value)) (take-append-drop (i + 1) xs)) in
         subst (λ os. Stops m os e) both (stops_front m (ops (take (i + 1) xs))
         (ops (drop (i + 1) xs)) e here)
 
@@ -133,9 +136,9 @@ module _ (m : ℕ) where
   values_of (x ∷ xs) = ap (λ ys. value_at x ∷ ys) (values_of xs)
 
   rights_of : (xs : List Init) → map (λ (e : Equation). e.value) (map equation_of xs)
-      ≡ map (λ (x : Init). seen x.value) xs
+      ≡ map (λ (x : Init). expr_of x.value) xs
   rights_of [] = refl
-  rights_of (x ∷ xs) = ap (λ ys. seen x.value ∷ ys) (rights_of xs)
+  rights_of (x ∷ xs) = ap (λ ys. expr_of x.value ∷ ys) (rights_of xs)
 
   pub started_is : (xs : List Init) (p : program.Program (program.Expr ℕ))
       → p.init ≡ map equation_of xs → start_from (lists ℚ m) (constant m) p first ≡ started xs
@@ -181,9 +184,9 @@ module _ (lp : Loop) (xs : List Init) (same : map equation_of xs ≡ map equatio
     pub equation_var : x.var < count
     equation_var = at_equation (λ e. e.name < count) (formed lp).set
 
-    pub equation_uses : (n : ℕ) → n ≡ count → Uses (λ i. i < n) (seen x.value)
+    pub equation_uses : (n : ℕ) → n ≡ count → Uses (λ i. i < n) (expr_of x.value)
     equation_uses n e = uses_weaker _ (λ i. i < n) (λ i h. let l : i < count = h.0 in omega arith)
-        (seen x.value)
+        (expr_of x.value)
         (at_equation (λ e. Uses (λ i. (i < count)
         × All (λ (f : Equation). i ≢ f.name) (program_of lp).init) e.value)
         (formed lp).free)

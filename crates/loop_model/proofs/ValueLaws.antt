@@ -10,7 +10,7 @@ use Rattle.std.proofs.lemmas.List.{take_more, map_push, map-append}
 use Rattle.std.proofs.lemmas.List.Elements.{All-append}
 use Rattle.numbers.specs.Fraction.{Fraction}
 use Rattle.polynomials.specs.Terms.{Terms}
-use Rattle.expressions.specs.View.{seen}
+use Rattle.expressions.specs.View.{expr_of}
 use Rattle.expressions.specs.declared.expr.Expr.{Expr}
 use Rattle.poly.specs.Standing.{StandsFor, AllStandFor}
 use Rattle.poly.proofs.Standing.{stands_push}
@@ -24,8 +24,8 @@ use Rattle.loop_model.specs.Maps.{FormsAll}
 
 module _ (m : ℕ) (s : List (Terms Fraction)) where
   abbrev pub Valued : List Expr → List FracPoly → Type 0
-  Valued es ps = AllStandFor m ps (map (value m s) (map seen es))
-      × IsFree m (operations_all m s (map seen es))
+  Valued es ps = AllStandFor m ps (map (value m s) (map expr_of es))
+      × IsFree m (operations_all m s (map expr_of es))
 
   pub valued_none : (es : List Expr) (ps : List FracPoly) → ps ≡ [] → Valued (take 0 es) ps
   unfolding operations_all
@@ -36,43 +36,45 @@ module _ (m : ℕ) (s : List (Terms Fraction)) where
     more : take (i + 1) es ≡ take i es ++ e ∷ []
     more = take_more es i e within ∙ ap (λ (x : Expr). take i es ++ x ∷ []) (sym is)
 
-    more_seen : map seen (take (i + 1) es) ≡ map seen (take i es) ++ seen e ∷ []
-    more_seen = ap (map seen) more ∙ map_push seen (take i es) e
+    more_seen : map expr_of (take (i + 1) es) ≡ map expr_of (take i es) ++ expr_of e ∷ []
+    more_seen = ap (map expr_of) more ∙ map_push expr_of (take i es) e
 
-    more_values : map (value m s) (map seen (take (i + 1) es)) ≡ map (value m s)
-        (map seen (take i es)) ++ value m s (seen e) ∷ []
-    more_values = ap (map (value m s)) more_seen ∙ map_push (value m s) (map seen (take i es))
-        (seen e)
+    more_values : map (value m s) (map expr_of (take (i + 1) es)) ≡ map (value m s)
+        (map expr_of (take i es)) ++ value m s (expr_of e) ∷ []
+    more_values = ap (map (value m s)) more_seen ∙ map_push (value m s) (map expr_of (take i es))
+        (expr_of e)
 
-    more_operations : operations_all m s (map seen (take (i + 1) es)) ≡ operations_all m s
-        (map seen (take i es)) ++ operations m s (seen e)
+    more_operations : operations_all m s (map expr_of (take (i + 1) es)) ≡ operations_all m s
+        (map expr_of (take i es)) ++ operations m s (expr_of e)
     more_operations = ap (operations_all m s) more_seen
-        ∙ operations_all-push m s (map seen (take i es)) (seen e)
+        ∙ operations_all-push m s (map expr_of (take i es)) (expr_of e)
 
     pub valued_more : (ps qs : List FracPoly) (p : FracPoly) → Valued (take i es) ps
-        → StandsFor m p (value m s (seen e)) → IsFree m (operations m s (seen e))
+        → StandsFor m p (value m s (expr_of e)) → IsFree m (operations m s (expr_of e))
         → qs ≡ ps ++ p ∷ [] → Valued (take (i + 1) es) qs
     valued_more ps qs p h k f same = (
-      subst₂ (AllStandFor m) (sym same) (sym more_values) (stands_push m ps _ p (value m s (seen e))
+      subst₂ (AllStandFor m) (sym same) (sym more_values)
+          (stands_push m ps _ p (value m s (expr_of e))
           h.0 k),
       subst (IsFree m) (sym more_operations) (All-append (λ o. ¬ (PassesLimit m o))
-          (operations_all m s (map seen (take i es))) (operations m s (seen e)) h.1 f),
+          (operations_all m s (map expr_of (take i es))) (operations m s (expr_of e)) h.1 f),
     )
 
     pub valued_stop : (ps : List FracPoly) (x : MapError) → Valued (take i es) ps
-        → Stops m (operations m s (seen e)) x → Stops m (operations_all m s (map seen es)) x
+        → Stops m (operations m s (expr_of e)) x → Stops m (operations_all m s (map expr_of es)) x
     valued_stop ps x h k =
-        let here : Stops m (operations_all m s (map seen (take (i + 1) es))) x =
+        let here : Stops m (operations_all m s (map expr_of (take (i + 1) es))) x =
         subst (λ os. Stops m os x) (sym more_operations)
-        (stops_behind m (operations_all m s (map seen (take i es))) (operations m s (seen e)) x
+        (stops_behind m (operations_all m s (map expr_of (take i es))) (operations m s (expr_of e))
+        x
         h.1 k) in
-        let all : map seen (take (i + 1) es) ++ map seen (drop (i + 1) es) ≡ map seen es =
-        sym (map-append seen (take (i + 1) es) (drop (i + 1) es))
-        ∙ ap (map seen) (take-append-drop (i + 1) es) in
-        subst (λ os. Stops m os x) (sym (operations_all-append m s (map seen (take (i + 1) es))
-        (map seen (drop (i + 1) es))) ∙ ap (operations_all m s) all)
-        (stops_front m (operations_all m s (map seen (take (i + 1) es)))
-        (operations_all m s (map seen (drop (i + 1) es))) x here)
+        let all : map expr_of (take (i + 1) es) ++ map expr_of (drop (i + 1) es) ≡ map expr_of es =
+        sym (map-append expr_of (take (i + 1) es) (drop (i + 1) es))
+        ∙ ap (map expr_of) (take-append-drop (i + 1) es) in
+        subst (λ os. Stops m os x) (sym (operations_all-append m s (map expr_of (take (i + 1) es))
+        (map expr_of (drop (i + 1) es))) ∙ ap (operations_all m s) all)
+        (stops_front m (operations_all m s (map expr_of (take (i + 1) es)))
+        (operations_all m s (map expr_of (drop (i + 1) es))) x here)
 
 -- the error that `?` hands on
 pub handed_on_all : (m : ℕ) (os : List Operation) (qs : List (Terms Fraction)) (e : MapError)

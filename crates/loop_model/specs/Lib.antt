@@ -1,3 +1,4 @@
+pub mod Limits
 pub mod Parts
 pub mod View
 pub mod Maps

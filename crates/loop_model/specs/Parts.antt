@@ -4,15 +4,15 @@
 use Rattle.std.specs.Prelude.{ℕ, List, map}
 use Rattle.std.specs.Global.{Vec}
 use Rattle.loops.specs.Program as program
-use Rattle.expressions.specs.View.{seen}
+use Rattle.expressions.specs.View.{expr_of}
 use Rattle.loop_model.specs.declared.statement.Init.{Init}
 use Rattle.loop_model.specs.declared.statement.Statement.{Statement}
 
 abbrev pub equation_of : Init → program.Equation (program.Expr ℕ)
-equation_of i = record { name = i.var; value = seen i.value }
+equation_of i = record { name = i.var; value = expr_of i.value }
 
 abbrev pub statement_of : Statement → program.Statement (program.Expr ℕ)
-statement_of s = record { targets = s.targets.items; values = map seen s.values.items }
+statement_of s = record { targets = s.targets.items; values = map expr_of s.values.items }
 
 abbrev pub parts : List (List ℕ) → List (List ℕ) → List Init → List (Vec Statement)
     → program.Program (program.Expr ℕ)

@@ -4,6 +4,7 @@ ghost use Rattle.std.specs.Prelude.{◌≡◌, ◌<◌, ◌≤◌, length, map};
 ghost use Rattle.loops.specs.WellFormed.{IsWellFormed};
 ghost use Rattle.loops.specs.Limits.{IsWithinLimits};
 ghost use Rattle.loop_model.specs.Parts.{parts, equation_of, statement_of};
+ghost use Rattle.loop_model.specs.Limits.{names_limit};
 
 use crate::{Init, Statement};
 use expressions::Names;
@@ -19,8 +20,8 @@ pub struct Loop {
     start: Vec<Init>,
     branches: Vec<Vec<Statement>>,
     pub ghost some_name: { 0 < length names },
-    pub ghost few_names: { length names ≤ 12 },
-    pub ghost few_locals: { length locals ≤ 12 },
+    pub ghost few_names: { length names ≤ names_limit },
+    pub ghost few_locals: { length locals ≤ names_limit },
     pub ghost some_branch: { 0 < length branches.items },
     pub ghost few_branches: { length branches.items ≤ 6 },
     pub ghost well_formed: { ∥ IsWellFormed (parts names locals start.items branches.items) ∥₁ },
@@ -49,7 +50,7 @@ impl Loop {
     pub fn names(&self) -> &Names
         ensures names { result.now ≡ (program_of self.now).names }
         ensures some { 0 < length result.now }
-        ensures few { length result.now ≤ 12 }
+        ensures few { length result.now ≤ names_limit }
     {
         &self.names
     }
@@ -57,7 +58,7 @@ impl Loop {
     /// The local names, in declared order.
     pub fn locals(&self) -> &Names
         ensures locals { result.now ≡ (program_of self.now).locals }
-        ensures few { length result.now ≤ 12 }
+        ensures few { length result.now ≤ names_limit }
     {
         &self.locals
     }

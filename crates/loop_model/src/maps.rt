@@ -1,5 +1,5 @@
 //! The maps of a loop: its effects, computed with polynomials in place of numbers.
-ghost use Rattle.std.specs.Prelude.{◌≡◌, ◌<◌, [], length, map, get_or, All, IfOk, IfErr};
+ghost use Rattle.std.specs.Prelude.{◌<◌, [], length, map, get_or, All, IfOk, IfErr};
 ghost use Rattle.numbers.specs.Fraction.{ℚ};
 ghost use Rattle.polynomials.specs.Terms.{constant, lists};
 ghost use Rattle.loops.specs.Effect.{after_statement};
@@ -7,7 +7,7 @@ ghost use Rattle.loops.specs.Map.{start_map, branch_map};
 ghost use Rattle.loops.specs.WellFormed.{Uses, IsStatement};
 ghost use Rattle.poly.specs.Seen.{terms_each, arity_of};
 ghost use Rattle.poly.specs.Standing.{IsOver, AllStandFor};
-ghost use Rattle.expressions.specs.View.{seen};
+ghost use Rattle.expressions.specs.View.{expr_of};
 ghost use Rattle.expressions.specs.Operations.{IsFree, value, operations_all};
 ghost use Rattle.expressions.specs.Stops.{Stops};
 ghost use Rattle.loop_model.specs.Parts.{statement_of};
@@ -19,7 +19,7 @@ use expressions::{Expr, expr_poly, free_state};
 use frac128::Frac;
 use monos::Grevlex;
 use poly::Poly;
-use std::alloc::Global;
+use std::alloc::{AllocError, Global};
 
 impl Loop {
     /// The values at a start, as polynomials in the values of the free variables: one for each variable. A free variable is itself.
@@ -40,11 +40,10 @@ impl Loop {
         Ok(state)
     }
 
-    /// What the names stand for at the entry of a branch: the variables for themselves, the local names for 0. Only memory can be wanting.
-    fn entry(&self, alloc: Global) -> Result<Vec<Poly<Frac, Grevlex>>, MapError>
+    /// What the names stand for at the entry of a branch: the variables for themselves, the local names for 0.
+    fn entry(&self, alloc: Global) -> Result<Vec<Poly<Frac, Grevlex>>, AllocError>
         ensures entry { let program = program_of self.now in
             IfOk result (λ state. AllStandFor (length program.names) state.items (entry program)) }
-        ensures memory { IfErr result (λ e. e ≡ MapError.Memory) }
     {
         let arity = self.names().len();
         let mut state = free_state(alloc, arity)?;
@@ -106,7 +105,7 @@ fn after(
     requires state { All (IsOver (arity_of state.items)) state.items }
     requires statement { IsStatement (length state.items) (statement_of statement.now) }
     ensures { let m = arity_of state.items in let s = terms_each state.items in
-        FormsAll m (operations_all m s (map seen statement.now.values.items))
+        FormsAll m (operations_all m s (map expr_of statement.now.values.items))
         (after_statement (lists ℚ m) (constant m) (statement_of statement.now) s) result }
 {
     let values = values_at(alloc, &statement.values, &state)?;
@@ -124,9 +123,9 @@ fn values_at(
     state: &Vec<Poly<Frac, Grevlex>>,
 ) -> Result<Vec<Poly<Frac, Grevlex>>, MapError>
     requires state { All (IsOver (arity_of state.now.items)) state.now.items }
-    requires uses { All (λ e. Uses (λ i. i < length state.now.items) (seen e)) exprs.now }
+    requires uses { All (λ e. Uses (λ i. i < length state.now.items) (expr_of e)) exprs.now }
     ensures { let m = arity_of state.now.items in let s = terms_each state.now.items in
-        let es = map seen exprs.now in
+        let es = map expr_of exprs.now in
         FormsAll m (operations_all m s es) (map (value m s) es) result }
 {
     let mut values = Vec::new(alloc);

@@ -17,7 +17,7 @@ use Rattle.std.specs.Global.{Vec}
 use Rattle.frac128.specs.declared.fraction.Frac.{Frac}
 use Rattle.loop_model.specs.View.{program_of}
 use Rattle.loop_model.specs.declared.loop_.Loop.{Loop}
-use Rattle.loop_runs.specs.Seen.{numbers_of, seen}
+use Rattle.loop_runs.specs.Seen.{numbers_of, states_or_fault}
 use Rattle.loop_runs.specs.declared.error.RunError.{RunError}
 use Rattle.loop_runs.specs.Checked.{all_fit, number_if, checked_value}
 use Rattle.loop_runs.specs.Replay.{RunFault, count, start, no_branch, wide, same_number, and_then, start_fault, values, statement_end, branch_end, turn_end, states_from, replay_of}
@@ -309,7 +309,8 @@ module _ {At : Type 0} (program : Program (Expr At)) where
 -- ---- the answer of the code
 pub answer_starts : (lp : Loop) (xs : List Frac) (word : List ℕ)
     (r : Result (Vec (Vec Frac)) RunError)
-    → IfSome (seen r) (λ q. q ≡ replay_of (program_of lp) (numbers_of xs) word) → is_ok r ≡ true
+    → IfSome (states_or_fault r) (λ q. q ≡ replay_of (program_of lp) (numbers_of xs) word)
+    → is_ok r ≡ true
     → IsStart (program_of lp) (numbers_of xs)
 answer_starts lp xs word (Ok found) h ok = replay_start (program_of lp) (numbers_of xs) word _
     (sym h)
@@ -317,7 +318,7 @@ answer_starts lp xs word (Err e) h ok = absurd (cc)
 
 pub answer_states : (lp : Loop) (xs : List Frac) (word : List ℕ)
     (r : Result (Vec (Vec Frac)) RunError)
-    → IfSome (seen r) (λ q. q ≡ replay_of (program_of lp) (numbers_of xs) word)
+    → IfSome (states_or_fault r) (λ q. q ≡ replay_of (program_of lp) (numbers_of xs) word)
     → IfOk r (λ found. map (λ s. numbers_of s.items) found.items ≡ states (program_of lp) word
     (numbers_of xs))
 answer_states lp xs word (Ok found) h = replay_states (program_of lp) (numbers_of xs) word _ (sym h)

@@ -1,13 +1,13 @@
 -- One turn of each loop of a replay: what was found so far is kept apart from what is left.
-use Rattle.std.proofs.Common.{◌≡◌, ◌∙◌, sym, ap, ap₂, refl, ℕ, zero, suc, ◌+◌, ◌≤◌, add-one, ◌<◌, Bool, true, false, not, ◌&&◌, drop, take, All, arith, List, [], ◌∷◌, ◌++◌, length, get_or, map, set, replicate, Option, Some, None, Result, Ok, Err, ⊎_elim, ◌⊎◌, ◌≢◌, eq-eqb}
+use Rattle.std.proofs.Common.{◌≡◌, ◌∙◌, sym, ap, ap₂, refl, ℕ, zero, suc, ◌+◌, ◌≤◌, add-one, ◌<◌, Bool, true, false, not, ◌&&◌, drop, take, All, arith, List, [], ◌∷◌, ◌++◌, length, get_or, map, replicate, Option, Some, None, Result, Ok, Err, ⊎_elim, ◌⊎◌, ◌≢◌, eq-eqb}
 use Rattle.std.specs.Prelude.{ok_or}
 use Rattle.std.proofs.lemmas.Bool.{eqb-true, and_parts, and_from, false_from_ne_true}
 use Rattle.std.specs.Prelude.{◌==◌, option_map, IfSome, Decides, if◌then◌else◌}
 use Rattle.std.specs.Option.{option_map_or}
 use Rattle.std.proofs.lemmas.Bool.Decides.{Decides-int_eq, Decides-eqb}
 use Rattle.std.specs.Ordering.{int_eq}
-use Rattle.std.proofs.lemmas.List.{append_assoc, append-nil, map-append, map-set, take-map, drop_more, drop_all, take_all}
-use Rattle.expressions.specs.View.{seen}
+use Rattle.std.proofs.lemmas.List.{append_assoc, append-nil, map-append, take-map, drop_more, drop_all, take_all}
+use Rattle.expressions.specs.View.{expr_of}
 use Rattle.expressions.specs.declared.expr.Expr as code
 use Rattle.numbers.specs.Ratio.{ratio}
 use Rattle.numbers.specs.Fraction.{Fraction, ℚ}
@@ -24,6 +24,7 @@ use Rattle.loop_runs.specs.declared.error.RunError.{RunError}
 use Rattle.loop_runs.specs.declared.error.RunError.TheVariants as run_error
 use Rattle.loop_runs.specs.Replay.{RunFault, wide, start, count, no_branch, states_from, replay_of, and_then, same_number, start_fault, values, statement_end, branch_end, turn_end}
 use Rattle.loop_runs.proofs.Fits.{all_unmapped}
+use Rattle.loops.proofs.Substitution.{map_store}
 
 -- a value that was found, before those that are left
 pushed : {A : Type 0} (ys : List A) (x : A) (r : Result (List A) RunFault)
@@ -70,14 +71,6 @@ unfolding store
 store_end [] xs s e = refl
 store_end (v ∷ vs) [] s e = refl
 store_end (v ∷ vs) (x ∷ xs) s e = absurd (⊎_elim (λ q. cc) (λ q. cc) e)
-
-pub map-store : {A B : Type 0} (f : A → B) (vs : List ℕ) (xs s : List A)
-    → map f (store vs xs s) ≡ store vs (map f xs) (map f s)
-unfolding store
-map-store f [] xs s = refl
-map-store f (v ∷ vs) [] s = refl
-map-store f (v ∷ vs) (x ∷ xs) s = map-store f vs xs (set s v x)
-    ∙ ap (store vs (map f xs)) (map-set f s v x)
 
 -- ---- equations of a start, one after another
 pub same_number_decides : (p q : Fraction) → Decides (same_number p q) (p ≡ q)
@@ -189,9 +182,9 @@ passes_on {A} {B} e x y h k = go (fault_of e) h
     go (Some f) h = k f h
 
 -- ---- right sides of a statement
-pub all_sides : (P : Expr ℕ → Type 0) (es : List code.Expr) → All P (map seen es)
-    → All (λ e. P (seen e)) es
-all_sides P es h = all_unmapped P seen es h
+pub all_sides : (P : Expr ℕ → Type 0) (es : List code.Expr) → All P (map expr_of es)
+    → All (λ e. P (expr_of e)) es
+all_sides P es h = all_unmapped P expr_of es h
 
 -- what a borrowed list leaves in its owner
 pub written_back : {A : Type 0} (n : ℕ) (xs ys : List A) → length xs ≡ n → length ys ≡ n
@@ -205,7 +198,7 @@ pub after_store : {At : Type 0} (n i : ℕ) (vs : List ℕ) (es : List (Expr At)
     (record { targets = vs; values = es }) (numbers_of s)
 after_store n i vs es xs s t l v e =
     ap (λ u. Ok (numbers_of u)) (written_back n t s (ap length e ∙ length-store vs xs s ∙ l) l ∙ e)
-    ∙ ap Ok (map-store fraction_of vs xs s) ∙ ap (and_then (λ ys. Ok (store vs ys (numbers_of s))))
+    ∙ ap Ok (map_store fraction_of vs xs s) ∙ ap (and_then (λ ys. Ok (store vs ys (numbers_of s))))
     v
 
 -- ---- letters of a word, one after another

@@ -4,7 +4,7 @@
 --   IsWithin m e            the variable or the local name that it names is one of m
 --   seen_start result       the fault of the start; none where it holds
 --   seen_state result       the state's numbers, or the fault
---   seen result             the states' numbers, or the fault
+--   states_or_fault result             the states' numbers, or the fault
 use Rattle.std.specs.Prelude.{ℕ, ◌<◌, ⊤, List, map, Option, Some, None, Result, Ok, Err, option_map}
 use Rattle.std.specs.Global.{Vec}
 use Rattle.numbers.specs.Fraction.{Fraction}
@@ -40,6 +40,7 @@ abbrev pub seen_state : Result (Vec Frac) RunError → Option (Result (List Frac
 seen_state (Ok state) = Some (Ok (numbers_of state.items))
 seen_state (Err e) = option_map Err (fault_of e)
 
-abbrev pub seen : Result (Vec (Vec Frac)) RunError → Option (Result (List (List Fraction)) RunFault)
-seen (Ok states) = Some (Ok (map (λ s. numbers_of s.items) states.items))
-seen (Err e) = option_map Err (fault_of e)
+abbrev pub states_or_fault : Result (Vec (Vec Frac)) RunError
+    → Option (Result (List (List Fraction)) RunFault)
+states_or_fault (Ok states) = Some (Ok (map (λ s. numbers_of s.items) states.items))
+states_or_fault (Err e) = option_map Err (fault_of e)

@@ -8,7 +8,7 @@ ghost use Rattle.loops.specs.WellFormed.{IsStatement};
 ghost use Rattle.loop_model.specs.Parts.{statement_of};
 ghost use Rattle.loop_model.specs.View.{program_of};
 ghost use Rattle.loop_runs.specs.Replay.{replay_of, states_from};
-ghost use Rattle.loop_runs.specs.Seen.{numbers_of, seen, IsWithin};
+ghost use Rattle.loop_runs.specs.Seen.{numbers_of, states_or_fault, IsWithin};
 
 mod error;
 pub mod laws;
@@ -46,7 +46,7 @@ fn follow(
     word: &[u32],
 ) -> Result<Vec<Vec<Frac>>, RunError>
     requires { length start.now.items ≡ length (program_of lp.now).names }
-    ensures follows { IfSome (seen result)
+    ensures follows { IfSome (states_or_fault result)
         (λ r. r ≡ states_from (program_of lp.now) 0 word.now (numbers_of start.now.items)) }
     ensures sizes { let m = length (program_of lp.now).names in
         IfOk result (λ answer. All (λ s. length s.items ≡ m) answer.items) }
@@ -73,7 +73,7 @@ pub fn replay(
     start: &Vec<Frac>,
     word: &Vec<u32>,
 ) -> Result<Vec<Vec<Frac>>, RunError>
-    ensures replays { IfSome (seen result)
+    ensures replays { IfSome (states_or_fault result)
         (λ r. r ≡ replay_of (program_of lp.now) (numbers_of start.now.items) word.now.items) }
     ensures start { IsOk result → run.IsStart (program_of lp.now) (numbers_of start.now.items) }
     ensures states { IfOk result (λ answer. map (λ s. numbers_of s.items) answer.items

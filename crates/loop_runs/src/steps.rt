@@ -4,10 +4,11 @@ ghost use Rattle.std.specs.Prelude.{◌≡◌, ◌<◌, ◌≤◌, ◌+◌, leng
 ghost use Rattle.std.specs.List.{All};
 ghost use Rattle.loops.specs.Effect.{store as stored};
 ghost use Rattle.loops.specs.WellFormed.{Uses, IsStatement};
-ghost use Rattle.expressions.specs.View.{seen as expression};
+ghost use Rattle.expressions.specs.View.{expr_of as expression};
 ghost use Rattle.loop_model.specs.Parts.{statement_of};
 ghost use Rattle.loop_runs.specs.Replay.{values, statement_end, branch_end, turn_end};
 ghost use Rattle.loop_runs.specs.Seen.{numbers_of, seen_state, IsWithin};
+ghost use Rattle.loop_model.specs.Limits.{all_names_limit};
 
 use crate::RunError;
 use crate::values::value_at;
@@ -99,7 +100,7 @@ pub fn after_turn(
     locals: usize,
     step: usize,
 ) -> Result<Vec<Frac>, RunError>
-    requires few { length state.items + locals ≤ 24 }
+    requires few { length state.items + locals ≤ all_names_limit }
     requires statements { All
         (λ s. IsStatement (length state.items + locals) (statement_of s)) branch.now }
     ensures end { IfSome (seen_state result)

@@ -26,7 +26,7 @@ use Rattle.expr_text.specs.Sums.{SumValue, place}
 use Rattle.expr_text.proofs.AllowedNames.{has_push, Allowed, uses_apart}
 use Rattle.expr_text.proofs.SumKept.{Fits, Safe, none_safe, number_fits, at_most, no_first, no_second}
 use Rattle.expr_text.specs.Sums as sums
-use Rattle.loop_text.specs.Loops.{LoopContext, LoopState, no_sum, in_scope, no_sum_value, nothing, length_fault, new_fault, declared_fault, local_fault, name_fault, set_fault, branch_fault, declare, declare_local, set, end_equation, end_sum, begin_branch, end_branch, top, first_target, with_equation, with_branch, sums_in_loops, names, locals, init, targets, values, branch}
+use Rattle.loop_text.specs.Loops.{LoopContext, LoopState, no_sum, in_scope, no_sum_value, nothing, length_fault, new_fault, declared_fault, local_fault, name_fault, set_fault, branch_fault, declare, declare_local, set_variable, end_equation, end_sum, begin_branch, end_branch, top, first_target, with_equation, with_branch, sums_in_loops, names, locals, init, targets, values, branch}
 use Rattle.loop_text.proofs.LocalPlaces.{unset_behind, unset_none, sets_none}
 
 pub data Place : Type 0 where
@@ -323,7 +323,7 @@ still_free names refused i e none u =
 
 pub set_step : (s : LoopState) (w : List ℕ) → Holds starting s
     → name_fault s.context w (set_fault s.context) ≡ None
-    → Holds setting (record s { context = set s.context w })
+    → Holds setting (record s { context = set_variable s.context w })
 set_step s w h e =
     let names = s.context.names in
     let refused = s.context.sum.refused in
@@ -355,7 +355,7 @@ set_step s w h e =
         h.about.5,
         h.about.6,
       );
-      sum = none_safe (set s.context w).sum s.value.sum h.about.4
+      sum = none_safe (set_variable s.context w).sum s.value.sum h.about.4
           h.sum.limited;
     }
 

@@ -4,7 +4,7 @@
 use Rattle.std.proofs.Common.{◌≡◌, ℕ, List, length, refl, ap, sym, ◌∙◌, nat_lt, Option, Some, Result, Ok, Err, ◌↔◌}
 use Rattle.loops.specs.Program.{Program, Expr}
 use Rattle.grammars.specs.Grammar.{Placed}
-use Rattle.grammars.specs.Reader.{Answer}
+use Rattle.grammars.specs.Reader.{ReadResult}
 use Rattle.grammars.specs.FirstFault.{IsFirstFault}
 use Rattle.grammars.specs.Spelled.{IsRead, AreSpelled, spelled_marks}
 use Rattle.grammars.proofs.Automata.{leads}
@@ -34,7 +34,8 @@ loops_spelled : AreSpelled loop_language whole_loop nothing tokens
 loops_spelled = texts_spelled loop_language (λ n. sum_leads) kinds_exact (λ x. refl) rules_lead
     whole_loop refl nothing
 
-abbrev program_told : Answer Lexeme LoopContext LoopValue Reason → Result (Program (Expr ℕ)) Fault
+abbrev program_told : ReadResult Lexeme LoopContext LoopValue Reason
+    → Result (Program (Expr ℕ)) Fault
 program_told a = program_or_fault (told a)
 
 module _ (bytes : List ℕ) where

@@ -9,10 +9,10 @@ use Rattle.std.proofs.lemmas.List.{length_push}
 use Rattle.std.proofs.lemmas.List.Sums.{fold-append}
 use Rattle.loops.specs.Program.{Expr, number, variable, neg, add, sub, mul, divide, power, Equation}
 use Rattle.expressions.specs.Uses.{uses}
-use Rattle.expressions.specs.View.{seen}
+use Rattle.expressions.specs.View.{expr_of}
 use Rattle.grammars.specs.Grammar.{change, sequence, rule}
 use Rattle.grammars.specs.Reader as answer
-use Rattle.grammars.specs.Reader.{Answer, parsed}
+use Rattle.grammars.specs.Reader.{ReadResult, parsed}
 use Rattle.grammars.specs.Embedded.{part, with_part, answer_in}
 use Rattle.grammars.proofs.Lifted.{lifted_read}
 use Rattle.expr_text.specs.Lexemes.{Lexeme, Placed}
@@ -41,7 +41,7 @@ module _ (s : LoopState) (ts : List Placed) where
   in_loop (Ok r) = Ok (with_part sums_in_loops r.0 s, r.1)
   in_loop (Err f) = Err f
 
-  told_in : (a : Answer Lexeme SumContext SumValue Reason) → told (answer_in sums_in_loops a s)
+  told_in : (a : ReadResult Lexeme SumContext SumValue Reason) → told (answer_in sums_in_loops a s)
       ≡ in_loop (told a)
   told_in (answer.reads t rest) = refl
   told_in (answer.refused x why) = refl
@@ -81,17 +81,17 @@ has_used_by (divide at e n) us i = has_used_by e us i
 has_used_by (power at e n) us i = has_used_by e us i
 
 pub has_used : (start : List Init) (i : ℕ) → has (used_in (map equation_of start)) i ≡ list_any
-    (λ (e : Init). uses (seen e.value) i) start
-has_used start i = go start [] ∙ or-false (list_any (λ (e : Init). uses (seen e.value) i) start)
+    (λ (e : Init). uses (expr_of e.value) i) start
+has_used start i = go start [] ∙ or-false (list_any (λ (e : Init). uses (expr_of e.value) i) start)
   where
     go : (es : List Init) (us : List ℕ)
         → has (fold (λ us (e : Equation (Expr ℕ)). used_by e.value us) us (map equation_of es)) i
-        ≡ (list_any (λ (e : Init). uses (seen e.value) i) es || has us i)
+        ≡ (list_any (λ (e : Init). uses (expr_of e.value) i) es || has us i)
     go [] us = refl
-    go (e ∷ es) us = go es (used_by (seen e.value) us)
-        ∙ ap (λ b. list_any (λ (e : Init). uses (seen e.value) i) es || b)
-        (has_used_by (seen e.value) us i)
-        ∙ swapped (uses (seen e.value) i) (list_any (λ (e : Init). uses (seen e.value) i) es)
+    go (e ∷ es) us = go es (used_by (expr_of e.value) us)
+        ∙ ap (λ b. list_any (λ (e : Init). uses (expr_of e.value) i) es || b)
+        (has_used_by (expr_of e.value) us i)
+        ∙ swapped (uses (expr_of e.value) i) (list_any (λ (e : Init). uses (expr_of e.value) i) es)
         (has us i)
 
 -- ---- right sides

@@ -24,7 +24,7 @@ use Rattle.expr_text.proofs.SumKept.{Fits, Safe, none_safe, at_most, no_first, n
 use Rattle.expr_text.specs.Lexemes.{tokens}
 use Rattle.expr_text.specs.Kinds.{word_in}
 use Rattle.expr_text.specs.Sums as sums
-use Rattle.loop_text.specs.Loops.{LoopContext, LoopState, no_sum, no_sum_value, nothing, name_fault, target_fault, statement_fault, aim, set, end_value, begin_statement, end_statement, top, with_value, with_statement, sums_in_loops, LoopRule, Rule, of_sums, more_values, loop_language, whole_loop, more_if, names, locals, start, init, right_side, single, targets, values, several, another_value, head, block, branch, loop}
+use Rattle.loop_text.specs.Loops.{LoopContext, LoopState, no_sum, no_sum_value, nothing, name_fault, target_fault, statement_fault, aim, set_variable, end_value, begin_statement, end_statement, top, with_value, with_statement, sums_in_loops, LoopRule, Rule, of_sums, more_values, loop_language, whole_loop, more_if, names, locals, start, init, right_side, single, targets, values, several, another_value, head, block, branch, loop}
 use Rattle.loop_text.specs.LoopReader.{program_in, loop_of}
 use Rattle.loop_text.proofs.LoopLaws.{loop_read}
 use Rattle.loop_text.proofs.LocalPlaces.{unset_behind, unset_push, sets_push}
@@ -133,12 +133,13 @@ with_side s k scoped p =
     let over : Uses (λ i. i < n) e = uses_weaker (Allowed names refused) (λ i. i < n) (λ i a.
     let l : i < length names = a.within in omega (arith, l, size)) e
     (right_side_fits s p).over in
-    let set : Uses (λ i. is_among (unset_in s) i ≡ false) e = uses_weaker (Allowed names refused)
+    let set_variable : Uses (λ i. is_among (unset_in s) i ≡ false) e =
+    uses_weaker (Allowed names refused)
     (λ i. is_among (unset_in s) i ≡ false) (λ i a. subst (λ us. is_among us i ≡ false)
     scoped.unset a.free) e (right_side_fits s p).over in
     let all = All-push (Uses (λ i. i < n)) s.value.values e k.4.over over in
     let sets = All-push (Uses (λ i. is_among (unset_in s) i ≡ false)) s.value.values e k.4.set
-    set in (
+    set_variable in (
       k.0,
       k.1,
       k.2,

@@ -21,7 +21,7 @@ use Rattle.loops.specs.WellFormed.{local_places, still_unset}
 use Rattle.expressions.specs.Ascii.{left_parenthesis, right_parenthesis, star, plus_sign, comma, minus_sign, slash, semicolon, equal_sign, left_brace, right_brace}
 use Rattle.expressions.specs.Names.{place_of}
 use Rattle.expressions.specs.Words.{Keyword, vars_word, init_word, branch_word, when_word}
-use Rattle.grammars.specs.Grammar.{State, Grammar, Language, token, change, sequence, either, many, rule, optional, some, joined, plain}
+use Rattle.grammars.specs.Grammar.{State, Grammar, Language, token, change, sequence, either, many, rule, optional, some, separated, plain}
 use Rattle.grammars.specs.Embedded.{Embedding, lift}
 use Rattle.expr_text.specs.Lexemes.{Lexeme}
 use Rattle.expr_text.specs.Kinds.{Kind, a_name, an_item, an_end, a_sign, a_keyword, same, kind_of, sample, word_in}
@@ -136,8 +136,11 @@ declare_local c w = record c { locals = c.locals ++ w ∷ [] }
 abbrev pub aim : LoopContext → List ℕ → LoopContext
 aim c w = record c { targets = c.targets ++ place c.sum w ∷ [] }
 
-abbrev pub set : LoopContext → List ℕ → LoopContext
-set c w = with_sum (aim c w) (record c.sum { refused = c.sum.refused ++ place c.sum w ∷ [] })
+abbrev pub set_variable : LoopContext → List ℕ → LoopContext
+set_variable c w = with_sum (aim c w) (record c.sum {
+  refused = c.sum.refused ++ place c.sum w
+      ∷ [];
+})
 
 abbrev pub end_equation : LoopContext → LoopContext
 end_equation c = record c { sum = record c.sum { operators = 0 }; targets = [] }
@@ -231,7 +234,8 @@ abbrev pub declared_name : Rule
 declared_name = word declared_fault declare
 
 abbrev pub names : Rule
-names = sequence (keyword vars_word) (sequence (joined (sign comma) declared_name) (sign semicolon))
+names = sequence (keyword vars_word) (sequence (separated (sign comma) declared_name)
+    (sign semicolon))
 
 -- locals
 abbrev pub word_locals : Rule
@@ -241,11 +245,11 @@ abbrev pub local_name : Rule
 local_name = word local_fault declare_local
 
 abbrev pub locals : Rule
-locals = sequence word_locals (sequence (joined (sign comma) local_name) (sign semicolon))
+locals = sequence word_locals (sequence (separated (sign comma) local_name) (sign semicolon))
 
 -- init
 abbrev pub set_name : Rule
-set_name = word (λ c w. name_fault c w (set_fault c)) set
+set_name = word (λ c w. name_fault c w (set_fault c)) set_variable
 
 abbrev pub start : Rule
 start =
@@ -256,7 +260,7 @@ abbrev pub init_end : Rule
 init_end = token_of (a_sign semicolon) (λ c. None) end_sum keep
 
 abbrev pub init : Rule
-init = sequence (keyword init_word) (sequence (joined (sign comma) start) init_end)
+init = sequence (keyword init_word) (sequence (separated (sign comma) start) init_end)
 
 -- statements
 abbrev pub right_side : Rule
@@ -282,7 +286,7 @@ target = word (λ c w. name_fault c w (target_fault c)) aim
 abbrev pub targets : Rule
 targets =
     sequence target
-    (sequence (sign comma) (sequence (joined (sign comma) target) (sign right_parenthesis)))
+    (sequence (sign comma) (sequence (separated (sign comma) target) (sign right_parenthesis)))
 
 abbrev pub value_list : Rule
 value_list = sequence right_side (sequence (rule more_values) (sign right_parenthesis))

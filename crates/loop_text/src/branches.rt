@@ -2,7 +2,7 @@
 
 ghost use Rattle.std.specs.Prelude.{◌≡◌, ◌<◌, ◌≤◌, ◌∷◌, ◌++◌, [], length, map, IfOk, IsTrue};
 ghost use Rattle.grammars.specs.Grammar.{sequence, some};
-ghost use Rattle.expr_text.specs.CursorView.{left};
+ghost use Rattle.expr_text.specs.CursorView.{bytes_left};
 ghost use Rattle.expr_text.specs.NextToken.{seen_lexeme};
 ghost use Rattle.expressions.specs.Ascii.{left_brace};
 ghost use Rattle.expressions.specs.Words.{when_word};
@@ -11,6 +11,7 @@ ghost use Rattle.loop_text.specs.Loops.{LoopState};
 ghost use Rattle.loop_model.specs.Parts.{statement_of};
 ghost use Rattle.loops.specs.WellFormed.{local_places};
 ghost use Rattle.loop_text.specs.States.{Goes, Reads, Inits, IsAll, Before, behind, between, in_branches, branches_of, is_keyword_of};
+ghost use Rattle.loop_model.specs.Limits.{all_names_limit};
 
 use crate::begun::Begun;
 use crate::names::LoopNames;
@@ -27,7 +28,7 @@ fn read_guard(cursor: Cursor<'_>) -> Result<Cursor<'_>, TextError>
     requires { IsTrue (is_keyword_of (seen_lexeme cursor.token.lexeme) when_word) }
     ensures goes { (s : LoopState) → Goes (sequence grammar.guard (grammar.sign left_brace)) s s
         cursor.entry result }
-    ensures falls { IfOk result (λ end. left end < left cursor.entry) }
+    ensures falls { IfOk result (λ end. bytes_left end < bytes_left cursor.entry) }
 {
     let mut at = cursor.next_item();
     loop {
@@ -44,7 +45,7 @@ fn read_guard(cursor: Cursor<'_>) -> Result<Cursor<'_>, TextError>
 /// Goes on behind what stands between `branch` and the first statement.
 fn read_head(cursor: Cursor<'_>) -> Result<Cursor<'_>, TextError>
     ensures goes { (s : LoopState) → Goes grammar.head s s cursor.entry result }
-    ensures falls { IfOk result (λ end. left end < left cursor.entry) }
+    ensures falls { IfOk result (λ end. bytes_left end < bytes_left cursor.entry) }
 {
     if is_keyword(&cursor.token.lexeme, Keyword::When) {
         read_guard(cursor)
@@ -62,13 +63,13 @@ fn read_branch<'t>(
     branches: &mut Vec<Vec<Statement>>,
 ) -> Result<Cursor<'t>, TextError>
     requires all { IsAll names.now }
-    requires few { length names.now.all ≤ 24 }
+    requires few { length names.now.all ≤ all_names_limit }
     ensures goes { (init : Inits) → Goes grammar.branch
         (in_branches names.now.variables names.now.locals begun.old init
         (branches_of branches.old.items))
         (in_branches names.now.variables names.now.locals begun.new init
         (branches_of branches.new.items)) cursor.entry result }
-    ensures falls { IfOk result (λ end. left end < left cursor.entry) }
+    ensures falls { IfOk result (λ end. bytes_left end < bytes_left cursor.entry) }
 {
     if !is_keyword(&cursor.token.lexeme, Keyword::Branch) {
         return Err(syntax_fault(cursor));
@@ -89,14 +90,14 @@ pub fn read_block<'t>(
     begun: &mut Begun,
 ) -> Result<(Vec<Statement>, Cursor<'t>), TextError>
     requires all { IsAll names.now }
-    requires few { length names.now.all ≤ 24 }
+    requires few { length names.now.all ≤ all_names_limit }
     ensures reads { (b : Before) → b.names ≡ names.now.variables → b.locals ≡ names.now.locals
         → Reads grammar.block
         (between names.now.all (local_places (length b.names) (length b.locals)) begun.old
         (behind b []))
         (λ ss. in_branches b.names b.locals begun.new b.init
         (b.branches ++ map statement_of ss.items ∷ [])) cursor.entry result }
-    ensures falls { IfOk result (λ r. left r.1 < left cursor.entry) }
+    ensures falls { IfOk result (λ r. bytes_left r.1 < bytes_left cursor.entry) }
 {
     let first = expect_sign(cursor, b'{')?;
     let places = local_places(alloc, names.variables.len(), names.locals.len())?;
@@ -111,12 +112,12 @@ pub fn read_branches<'t>(
     begun: &mut Begun,
 ) -> Result<(Vec<Vec<Statement>>, Cursor<'t>), TextError>
     requires all { IsAll names.now }
-    requires few { length names.now.all ≤ 24 }
+    requires few { length names.now.all ≤ all_names_limit }
     ensures reads { (init : Inits) → Reads (some grammar.branch)
         (in_branches names.now.variables names.now.locals begun.old init [])
         (λ bs. in_branches names.now.variables names.now.locals begun.new init
         (branches_of bs.items)) cursor.entry result }
-    ensures falls { IfOk result (λ r. left r.1 < left cursor.entry) }
+    ensures falls { IfOk result (λ r. bytes_left r.1 < bytes_left cursor.entry) }
 {
     let mut branches = Vec::new(alloc);
     let mut at = cursor;

@@ -1,8 +1,8 @@
 //! Reads what a start meets.
 
 ghost use Rattle.std.specs.Prelude.{◌<◌, [], map, IfOk};
-ghost use Rattle.grammars.specs.Grammar.{sequence, joined, optional};
-ghost use Rattle.expr_text.specs.CursorView.{left};
+ghost use Rattle.grammars.specs.Grammar.{sequence, separated, optional};
+ghost use Rattle.expr_text.specs.CursorView.{bytes_left};
 ghost use Rattle.loop_model.specs.Parts.{equation_of};
 ghost use Rattle.loop_text.specs.Loops as grammar;
 ghost use Rattle.loop_text.specs.States.{Goes, Reads, in_init, with_init, with_names};
@@ -29,7 +29,7 @@ fn read_equation<'t>(
         (in_init names.now.variables names.now.locals set.new.items
         (map equation_of start.new.items) [])
         cursor.entry result }
-    ensures falls { IfOk result (λ end. left end < left cursor.entry) }
+    ensures falls { IfOk result (λ end. bytes_left end < bytes_left cursor.entry) }
 {
     let (var, behind) = read_left(cursor, &names.variables, set, start)?;
     set.push(var)?;
@@ -52,7 +52,7 @@ fn read_equations<'t>(
     cursor: Cursor<'t>,
     names: &LoopNames,
 ) -> Result<(Vec<Init>, Cursor<'t>), TextError>
-    ensures { Reads (sequence (joined (grammar.sign comma) grammar.start) grammar.init_end)
+    ensures { Reads (sequence (separated (grammar.sign comma) grammar.start) grammar.init_end)
         (with_names names.now.variables names.now.locals)
         (λ start. with_init names.now.variables names.now.locals (map equation_of start.items))
         cursor.entry result }

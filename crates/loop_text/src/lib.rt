@@ -3,7 +3,7 @@
 
 ghost use Rattle.std.specs.Prelude.{◌≡◌, IfSome};
 ghost use Rattle.loop_text.specs.LoopReader.{loop_of};
-ghost use Rattle.loop_text.specs.Seen.{seen};
+ghost use Rattle.loop_text.specs.Seen.{loop_or_fault};
 
 mod begun;
 mod branches;
@@ -25,7 +25,7 @@ pub use tokens::{is_end, syntax_fault};
 
 /// The loop that the bytes are, or their first fault.
 pub fn read_loop(alloc: Global, bytes: &[u8]) -> Result<Loop, TextError>
-    ensures { IfSome (seen result) (λ r. r ≡ loop_of bytes.now) }
+    ensures { IfSome (loop_or_fault result) (λ r. r ≡ loop_of bytes.now) }
 {
     let (names, behind) = read_names(alloc, Cursor::new(bytes))?;
     let (names, behind) = read_locals(behind, names)?;

@@ -2,17 +2,18 @@
 
 ghost use Rattle.std.specs.Prelude.{◌≡◌, ◌<◌, ◌≤◌, ◌++◌, [], ℕ, List, Option, None, length, map, IfOk, OnOk};
 ghost use Rattle.std.specs.List.{list_any};
-ghost use Rattle.expr_text.specs.CursorView.{left};
+ghost use Rattle.expr_text.specs.CursorView.{bytes_left};
 ghost use Rattle.expr_text.specs.Reasons.{Reason};
 ghost use Rattle.expressions.specs.Names.{place_of};
 ghost use Rattle.expressions.specs.Uses.{uses};
-ghost use Rattle.expressions.specs.View.{seen};
+ghost use Rattle.expressions.specs.View.{expr_of};
 ghost use Rattle.loop_model.specs.Parts.{equation_of};
 ghost use Rattle.loop_text.specs.Loops as grammar;
-ghost use Rattle.grammars.specs.Grammar.{sequence, joined, optional};
+ghost use Rattle.grammars.specs.Grammar.{sequence, separated, optional};
 ghost use Rattle.expressions.specs.Ascii.{comma, semicolon};
 ghost use Rattle.loop_text.specs.Loops.{LoopContext, LoopState, nothing, locals_word, word as name_token};
 ghost use Rattle.loop_text.specs.States.{Goes, Reads, IsLeft, IsNew, IsAll, used_in, with_names};
+ghost use Rattle.loop_model.specs.Limits.{names_limit, all_names_limit};
 
 use crate::tokens::{expect_sign, is_keyword, syntax_fault};
 use expr_text::{Cursor, Lexeme, TextError};
@@ -38,7 +39,7 @@ fn read_name<'t>(
     all: &mut Names,
 ) -> Result<Cursor<'t>, TextError>
     requires among { (w : List ℕ) → place_of all.old w ≡ None → place_of names.old w ≡ None }
-    requires few { length all.old ≤ 24 }
+    requires few { length all.old ≤ all_names_limit }
     ensures goes { (fault : LoopContext → List ℕ → Option Reason)
         (next : LoopContext → List ℕ → LoopContext) (s : LoopState)
         (after : List (List ℕ) → LoopState) →
@@ -46,8 +47,8 @@ fn read_name<'t>(
         Goes (name_token fault next) s (after names.new) cursor.entry result }
     ensures all { (before : List (List ℕ)) → all.old ≡ before ++ names.old
         → OnOk result (all.new ≡ before ++ names.new) }
-    ensures few { OnOk result (length names.new ≤ 12) }
-    ensures falls { IfOk result (λ end. left end < left cursor.entry) }
+    ensures few { OnOk result (length names.new ≤ names_limit) }
+    ensures falls { IfOk result (λ end. bytes_left end < bytes_left cursor.entry) }
 {
     let at = cursor.token.at;
     let Lexeme::Name(word) = cursor.token.lexeme else {
@@ -70,7 +71,7 @@ pub fn read_names(alloc: Global, cursor: Cursor<'_>) -> Result<(LoopNames, Curso
         result }
     ensures all { IfOk result (λ r. IsAll r.0) }
     ensures none { IfOk result (λ r. r.0.locals ≡ []) }
-    ensures few { IfOk result (λ r. length r.0.variables ≤ 12) }
+    ensures few { IfOk result (λ r. length r.0.variables ≤ names_limit) }
 {
     if !is_keyword(&cursor.token.lexeme, Keyword::Vars) {
         return Err(syntax_fault(cursor));
@@ -103,13 +104,13 @@ fn read_local_names(
 ) -> Result<(LoopNames, Cursor<'_>), TextError>
     requires all { IsAll names }
     requires none { names.locals ≡ [] }
-    requires few { length names.variables ≤ 12 }
-    ensures reads { Reads (sequence (joined (grammar.sign comma) grammar.local_name)
+    requires few { length names.variables ≤ names_limit }
+    ensures reads { Reads (sequence (separated (grammar.sign comma) grammar.local_name)
         (grammar.sign semicolon)) (with_names names.variables [])
         (λ ns. with_names names.variables ns.locals) cursor.entry result }
     ensures all { IfOk result (λ r. IsAll r.0) }
     ensures variables { IfOk result (λ r. r.0.variables ≡ names.variables) }
-    ensures few { IfOk result (λ r. length r.0.locals ≤ 12) }
+    ensures few { IfOk result (λ r. length r.0.locals ≤ names_limit) }
 {
     let mut names = names;
     let mut at = cursor;
@@ -137,12 +138,12 @@ pub fn read_locals(
 ) -> Result<(LoopNames, Cursor<'_>), TextError>
     requires all { IsAll names }
     requires none { names.locals ≡ [] }
-    requires few { length names.variables ≤ 12 }
+    requires few { length names.variables ≤ names_limit }
     ensures reads { Reads (optional grammar.locals) (with_names names.variables [])
         (λ ns. with_names names.variables ns.locals) cursor.entry result }
     ensures all { IfOk result (λ r. IsAll r.0) }
     ensures variables { IfOk result (λ r. r.0.variables ≡ names.variables) }
-    ensures few { IfOk result (λ r. length r.0.locals ≤ 12) }
+    ensures few { IfOk result (λ r. length r.0.locals ≤ names_limit) }
 {
     let Lexeme::Name(word) = cursor.token.lexeme else {
         return Ok((names, cursor));
@@ -155,7 +156,7 @@ pub fn read_locals(
 
 /// Whether the variable stands in a right side.
 fn is_used(start: &[Init], var: usize) -> bool
-    ensures { result ≡ list_any (λ i. uses (seen i.value) var) start.now }
+    ensures { result ≡ list_any (λ i. uses (expr_of i.value) var) start.now }
 {
     start.iter().any(|equation| equation.value.uses(var))
 }
@@ -173,7 +174,7 @@ pub fn read_left<'t>(
         let used = used_in (map equation_of start.now) in
         IsLeft names.now taken.now used fault next s after →
         Reads (name_token fault next) s after cursor.entry result }
-    ensures falls { IfOk result (λ r. left r.1 < left cursor.entry) }
+    ensures falls { IfOk result (λ r. bytes_left r.1 < bytes_left cursor.entry) }
 {
     let at = cursor.token.at;
     let Lexeme::Name(word) = cursor.token.lexeme else {

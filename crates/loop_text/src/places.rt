@@ -2,12 +2,13 @@
 
 ghost use Rattle.std.specs.Prelude.{◌≡◌, ◌≤◌, ◌+◌, IfOk};
 ghost use Rattle.loops.specs.WellFormed as spec;
+ghost use Rattle.loop_text.specs.Limited.{most_places};
 
 use std::alloc::{AllocError, Global};
 
 /// The places of so many local names behind so many variables.
 pub fn local_places(alloc: Global, variables: usize, count: usize) -> Result<Vec<usize>, AllocError>
-    requires { variables + count ≤ 4096 }
+    requires { variables + count ≤ most_places }
     ensures { IfOk result (λ found. found.items ≡ spec.local_places variables count) }
 {
     let mut found = Vec::new(alloc);

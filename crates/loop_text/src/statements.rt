@@ -1,11 +1,11 @@
 //! Reads statements.
 
 ghost use Rattle.std.specs.Prelude.{◌≡◌, ◌<◌, ◌++◌, ◌∷◌, ℕ, List, [], length, map, IfOk, IsTrue};
-ghost use Rattle.expr_text.specs.CursorView.{left};
+ghost use Rattle.expr_text.specs.CursorView.{bytes_left};
 ghost use Rattle.expr_text.specs.Lexemes.{is_sign_of};
 ghost use Rattle.expr_text.specs.NextToken.{seen_lexeme};
 ghost use Rattle.expressions.specs.Ascii.{left_parenthesis};
-ghost use Rattle.expressions.specs.View.{seen};
+ghost use Rattle.expressions.specs.View.{expr_of};
 ghost use Rattle.loop_model.specs.Parts.{statement_of};
 ghost use Rattle.loop_text.specs.declared.begun.Begun.{Begun};
 ghost use Rattle.loop_text.specs.Loops as grammar;
@@ -30,10 +30,10 @@ fn read_value<'t>(
 ) -> Result<Cursor<'t>, TextError>
     ensures goes { (n : Begun) (b : Before) (is : List ℕ) →
         Goes grammar.right_side
-        (in_statement names.now unset.now n b is (map seen values.old.items))
-        (in_statement names.now unset.now n b is (map seen values.new.items))
+        (in_statement names.now unset.now n b is (map expr_of values.old.items))
+        (in_statement names.now unset.now n b is (map expr_of values.new.items))
         cursor.entry result }
-    ensures falls { IfOk result (λ end. left end < left cursor.entry) }
+    ensures falls { IfOk result (λ end. bytes_left end < bytes_left cursor.entry) }
 {
     let sums = SumReader {
         alloc,
@@ -56,9 +56,9 @@ fn read_values<'t>(
 ) -> Result<(Vec<Expr>, Cursor<'t>), TextError>
     ensures reads { (n : Begun) (b : Before) (is : List ℕ) → length is ≡ count →
         Reads grammar.values (in_statement names.now unset.now n b is [])
-        (λ values. in_statement names.now unset.now n b is (map seen values.items))
+        (λ values. in_statement names.now unset.now n b is (map expr_of values.items))
         cursor.entry result }
-    ensures falls { IfOk result (λ r. left r.1 < left cursor.entry) }
+    ensures falls { IfOk result (λ r. bytes_left r.1 < bytes_left cursor.entry) }
 {
     let opening = expect_sign(cursor, b'=')?;
     let mut at = expect_sign(opening, b'(')?;
@@ -82,7 +82,7 @@ fn read_target<'t>(
     ensures goes { (us : List ℕ) (n : Begun) (b : Before) → Goes grammar.target
         (in_statement names.now us n b targets.old.items [])
         (in_statement names.now us n b targets.new.items []) cursor.entry result }
-    ensures falls { IfOk result (λ end. left end < left cursor.entry) }
+    ensures falls { IfOk result (λ end. bytes_left end < bytes_left cursor.entry) }
 {
     let (target, end) = read_left(cursor, names, targets, &[])?;
     targets.push(target)?;
@@ -98,7 +98,7 @@ fn read_targets<'t>(
     ensures reads { (us : List ℕ) (n : Begun) (b : Before) →
         Reads grammar.targets (between names.now us n b)
         (λ targets. in_statement names.now us n b targets.items []) cursor.entry result }
-    ensures falls { IfOk result (λ r. left r.1 < left cursor.entry) }
+    ensures falls { IfOk result (λ r. bytes_left r.1 < bytes_left cursor.entry) }
 {
     let mut targets = Vec::new(alloc);
     let behind = read_target(cursor, names, &mut targets)?;
@@ -128,7 +128,7 @@ fn read_list<'t>(
         (behind b (map statement_of statements.old.items)))
         (between names.now unset.new.items begun.new
         (behind b (map statement_of statements.new.items))) cursor.entry result }
-    ensures falls { IfOk result (λ end. left end < left cursor.entry) }
+    ensures falls { IfOk result (λ end. bytes_left end < bytes_left cursor.entry) }
 {
     begun.begin_statement(cursor.token.at)?;
     let (targets, behind) = read_targets(alloc, cursor.next(), names)?;
@@ -154,7 +154,7 @@ fn read_single<'t>(
         (behind b (map statement_of statements.old.items)))
         (between names.now unset.new.items begun.new
         (behind b (map statement_of statements.new.items))) cursor.entry result }
-    ensures falls { IfOk result (λ end. left end < left cursor.entry) }
+    ensures falls { IfOk result (λ end. bytes_left end < bytes_left cursor.entry) }
 {
     let Lexeme::Name(_) = cursor.token.lexeme else {
         return Err(syntax_fault(cursor));
@@ -186,7 +186,7 @@ fn read_statement<'t>(
         (behind b (map statement_of statements.old.items)))
         (between names.now unset.new.items begun.new
         (behind b (map statement_of statements.new.items))) cursor.entry result }
-    ensures falls { IfOk result (λ end. left end < left cursor.entry) }
+    ensures falls { IfOk result (λ end. bytes_left end < bytes_left cursor.entry) }
 {
     if cursor.token.lexeme.is_sign(b'(') {
         read_list(alloc, cursor, names, unset, begun, statements)
@@ -207,7 +207,7 @@ pub fn read_statements<'t>(
         (between names.now unset.items begun.old (behind b []))
         (λ ss. in_branches b.names b.locals begun.new b.init
         (b.branches ++ map statement_of ss.items ∷ [])) cursor.entry result }
-    ensures falls { IfOk result (λ r. left r.1 < left cursor.entry) }
+    ensures falls { IfOk result (λ r. bytes_left r.1 < bytes_left cursor.entry) }
 {
     let mut statements = Vec::new(alloc);
     let mut unset = unset;

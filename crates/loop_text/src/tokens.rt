@@ -2,7 +2,7 @@
 
 ghost use Rattle.std.specs.Prelude.{◌≡◌, ◌<◌, None, IfOk, IsTrue};
 ghost use Rattle.grammars.specs.Grammar.{after_change};
-ghost use Rattle.expr_text.specs.CursorView.{left};
+ghost use Rattle.expr_text.specs.CursorView.{bytes_left};
 ghost use Rattle.expr_text.specs.Kinds.{a_sign};
 ghost use Rattle.expr_text.specs.NextToken.{seen_lexeme};
 ghost use Rattle.expr_text.specs.Tokens.{is_sign};
@@ -45,7 +45,7 @@ pub fn expect_sign<'t>(cursor: Cursor<'t>, sign: u8) -> Result<Cursor<'t>, TextE
     ensures goes { (next : LoopContext → LoopContext) (build : LoopContext → LoopValue → LoopValue)
         (s : LoopState) → Goes (token_of (a_sign sign) (λ c. None) next build) s
         (after_change next build s) cursor.entry result }
-    ensures falls { IfOk result (λ end. left end < left cursor.entry) }
+    ensures falls { IfOk result (λ end. bytes_left end < bytes_left cursor.entry) }
 {
     if cursor.token.lexeme.is_sign(sign) {
         Ok(cursor.next())

@@ -94,7 +94,7 @@ pub fn read_number(text: &[u8]) -> Option<Frac>
 {
     match text {
         [] => None,
-        [b'-', rest @ ..] => amount(rest)?.neg().ok(),
+        [b'-', rest @ ..] => Some(amount(rest)?.neg()),
         [_, ..] => amount(text),
     }
 }

@@ -10,7 +10,7 @@ use Rattle.loops.specs.Program.{Expr, sub}
 use Rattle.loops.specs.WellFormed.{Uses}
 use Rattle.loops.proofs.Starts.{uses_weaker}
 use Rattle.grammars.specs.Grammar.{sequence, rule}
-use Rattle.expressions.specs.View.{seen}
+use Rattle.expressions.specs.View.{expr_of}
 use Rattle.expressions.specs.declared.expr.Expr as code
 use Rattle.expr_text.specs.Lexemes.{Placed, sign, is_sign_of, tokens_from}
 use Rattle.expr_text.specs.NextToken.{seen_lexeme}
@@ -19,7 +19,7 @@ use Rattle.expr_text.specs.Faults.{fault_of}
 use Rattle.expr_text.specs.Sums.{SumContext, SumValue, SumState, Rule, a_sum, sum_language, equals, combine, the_end, start, equation, note}
 use Rattle.expr_text.specs.Telling.{Told, reading}
 use Rattle.expr_text.specs.CursorView.{rest}
-use Rattle.expr_text.specs.Reads.{used_by, Around, state_in, state_behind, behind_expr, waiting}
+use Rattle.expr_text.specs.Reads.{used_by, Around, state_in, state_behind, behind_expr, with_operator}
 use Rattle.expr_text.specs.declared.cursor.Cursor.{Cursor}
 use Rattle.expr_text.specs.declared.error.TextError.{TextError}
 use Rattle.expr_text.specs.declared.sums.Part.{Part}
@@ -29,7 +29,7 @@ use Rattle.expr_text.proofs.CursorReads.{sign_here, token_read}
 use Rattle.expr_text.proofs.PartSteps.{combine_done}
 use Rattle.expr_text.proofs.Paths.{IsFault, fault_passes, then_on, stopped, in_parts, GivesError}
 use Rattle.expr_text.proofs.WholeTexts.{whole_told, whole_reading}
-use Rattle.poly_text.specs.Equations.{said, sum_of, equation_of, tells}
+use Rattle.poly_text.specs.Equations.{sum_or_fault, sum_of, equation_of, tells}
 
 abbrev pub SumTold : Type 0
 SumTold = Told SumContext SumValue
@@ -38,7 +38,7 @@ abbrev pub read : Rule → SumState → List Placed → SumTold
 read g s ts = reading sum_language g s ts
 
 abbrev pub said_told : SumTold → Result (Expr ℕ) Fault
-said_told r = said (whole_told r)
+said_told r = sum_or_fault (whole_told r)
 
 -- y is said by what g reads up to the end
 pub record Says (y : Result (Expr ℕ) Fault) (g : Rule) (s : SumState) (ts : List Placed) : Type
@@ -79,7 +79,7 @@ module _ (names : List (List ℕ)) (ts : List Placed) (k : Cursor) (same : rest 
   unfolding sum_of
   sum_begins =
       record {
-        same = ap said (whole_reading sum_language (rule a_sum) the_end (start names []) ts)
+        same = ap sum_or_fault (whole_reading sum_language (rule a_sum) the_end (start names []) ts)
             ∙ ap (λ ts. said_told (read (sequence (rule a_sum) the_end) (start names []) ts))
             (sym same);
       }
@@ -91,7 +91,7 @@ module _ (names : List (List ℕ)) (ts : List Placed) (k : Cursor) (same : rest 
   equation_begins =
       in_order (record {
         same =
-            ap said (whole_reading sum_language equation the_end (start names []) ts)
+            ap sum_or_fault (whole_reading sum_language equation the_end (start names []) ts)
             ∙ ap (λ ts. said_told (read (sequence equation the_end) (start names []) ts))
             (sym same);
       })
@@ -117,39 +117,40 @@ module _ (names : List (List ℕ)) (ts : List Placed) (k : Cursor) (same : rest 
 
       pub behind_right : (right : Part) (end : Cursor)
           → Ok (
-            state_behind (waiting (behind_expr (outside names) (seen left.value.value))
+            state_behind (with_operator (behind_expr (outside names) (expr_of left.value.value))
                 middle.token.at) right,
             rest end,
           ) ≡ read (rule a_sum)
           (equaled (state_behind (outside names) left) middle.token.at) (rest next)
           → Says (equation_of names ts) the_end
-          (state_in (behind_expr (outside names) (sub middle.token.at (seen left.value.value)
-          (seen right.value.value))) right.operators) (rest end)
+          (state_in (behind_expr (outside names) (sub middle.token.at (expr_of left.value.value)
+          (expr_of right.value.value))) right.operators) (rest end)
       unfolding used_by
       behind_right right end right_read = on (on behind_equals right_read)
-          (combine_done (outside names) right.operators middle.token.at (seen left.value.value) sub
-          (seen right.value.value) refl end)
+          (combine_done (outside names) right.operators middle.token.at (expr_of left.value.value)
+          sub
+          (expr_of right.value.value) refl end)
 
 -- ---- a part that is refused
 module _ {y : Result (Expr ℕ) Fault} {e : TextError} {result : Result code.Expr TextError} where
   pub refused_last : {g : Rule} {s : SumState} {ts : List Placed} → Says y g s ts
-      → IsFault e (read g s ts) → GivesError result e → IfSome (tells seen result) (λ r. r ≡ y)
+      → IsFault e (read g s ts) → GivesError result e → IfSome (tells expr_of result) (λ r. r ≡ y)
   refused_last {g} {s} {ts} k h is =
-      subst (λ r. IfSome (tells seen r) (λ (s : Result (Expr ℕ) Fault). s ≡ y))
+      subst (λ r. IfSome (tells expr_of r) (λ (s : Result (Expr ℕ) Fault). s ≡ y))
       (sym (is.1 ∙ ap Err is.2)) (fault_passes (fault_of e) (read g s ts) y (λ f told.
       sym (k.same ∙ ap said_told (sym told))) h)
 
   pub refused : {g h : Rule} {s : SumState} {ts : List Placed} → Says y (sequence g h) s ts
-      → IsFault e (read g s ts) → GivesError result e → IfSome (tells seen result) (λ r. r ≡ y)
+      → IsFault e (read g s ts) → GivesError result e → IfSome (tells expr_of result) (λ r. r ≡ y)
   refused {g} {h} {s} {ts} k p is = refused_last k (stopped sum_language g h s ts e p) is
 
 -- ---- variables
 pub uses_part : (names : List (List ℕ)) (p : Part) (ts us : List Placed)
     → Ok (state_behind (outside names) p, us) ≡ read (rule a_sum) (start names []) ts
-    → Uses (λ i. i < length names) (seen p.value.value)
+    → Uses (λ i. i < length names) (expr_of p.value.value)
 uses_part names p ts us e =
     let safe = reading_safe names [] [] (rule a_sum) tt (start names [])
     (state_behind (outside names) p) ts us e (none_safe (start names []).context
     (start names []).value refl (omega arith)) in
-    uses_weaker (Allowed names []) (λ i. i < length names) (λ i b. b.within) (seen p.value.value)
-    (safe.each 0 (seen p.value.value) (omega arith)).over
+    uses_weaker (Allowed names []) (λ i. i < length names) (λ i b. b.within) (expr_of p.value.value)
+    (safe.each 0 (expr_of p.value.value) (omega arith)).over

@@ -9,7 +9,7 @@ use Rattle.polynomials.specs.Terms.{Terms}
 use Rattle.rings.specs.Each.{Each}
 use Rattle.polynomials.specs.Polynomial.{Arity}
 use Rattle.polynomials.proofs.Arity.{arity-append, length-zeros}
-use Rattle.grammars.specs.Reader.{Answer, read, ended, reads}
+use Rattle.grammars.specs.Reader.{ReadResult, read, at_text_end, reads}
 use Rattle.grammars.specs.Spelled.{IsRead}
 use Rattle.grammars.proofs.Kept.{Keeps, KeepAll, read_kept}
 use Rattle.expr_text.specs.Lexemes.{Lexeme, tokens}
@@ -24,12 +24,13 @@ module _ (names : List (List ℕ)) (bytes : List ℕ) (p : Terms Fraction) where
   unfolding flat_of
   flat_is e = go (read flat_language whole_flat (start names) (tokens bytes)) refl e
     where
-      go : (a : Answer Lexeme FlatContext ⊤ Reason) → read flat_language whole_flat (start names)
-          (tokens bytes) ≡ a → terms_told (told (ended flat_language a)) ≡ Some p
+      go : (a : ReadResult Lexeme FlatContext ⊤ Reason)
+          → read flat_language whole_flat (start names)
+          (tokens bytes) ≡ a → terms_told (told (at_text_end flat_language a)) ≡ Some p
           → (end : FlatState) × IsRead flat_language whole_flat (start names) (tokens bytes) end
           × (end.context.found ≡ p)
       go (reads t []) h e =
-          (t, (flat_read (tokens bytes) (start names) t).0 (ap (ended flat_language) h), cc)
+          (t, (flat_read (tokens bytes) (start names) t).0 (ap (at_text_end flat_language) h), cc)
       go a h e = absurd (cc)
 
   pub flat_from : (end : FlatState) → IsRead flat_language whole_flat (start names) (tokens bytes)

@@ -28,7 +28,7 @@ use Rattle.grammars.specs.Derivation.{Mark, Derives, derives_token, derives_chan
 use Rattle.expr_text.specs.Lexemes.{Lexeme, Placed, name, number, sign}
 use Rattle.expr_text.specs.Kinds.{Kind, a_name, a_number, a_sign, same, kind_of}
 use Rattle.expr_text.specs.Reasons.{Reason, limit, unknown, divisor, unless}
-use Rattle.poly_text.specs.Flat.{FlatContext, FlatState, Rule, an_exponent, takes, fits, raise, signed, signed_over, with_item, at_item, raising, power, factor, coefficient, item, flat_language}
+use Rattle.poly_text.specs.Flat.{FlatContext, FlatState, Rule, an_exponent, takes, fits, raise, negate_if, signed_over, with_item, at_item, raising, power, factor, coefficient, item, flat_language}
 use Rattle.poly_text.specs.FlatReads.{state_of}
 use Rattle.poly_text.specs.Printed.{fraction_text, power_text, powers, is_bare, product_text, term_text}
 use Rattle.poly_text.specs.PrintedParts.{joined_behind}
@@ -227,9 +227,9 @@ module _ (names : List (List ℕ)) (differ : AllPairs (λ (v w : List ℕ). v �
           (λ bare. absurd (cc)))
 
 -- ---- numbers
-sign_put : (z : ℤ) → signed (is_negative z) (pos (unsigned_abs z)) ≡ z
+sign_put : (z : ℤ) → negate_if (is_negative z) (pos (unsigned_abs z)) ≡ z
 sign_put (pos n) = let no : ltb n 0 ≡ false = grind (arith, nat_tests) in
-    ap (λ b. signed b (pos n)) no
+    ap (λ b. negate_if b (pos n)) no
 sign_put (negsuc n) = refl
 
 number_put : (a : Fraction) → signed_over (is_negative a.num) (unsigned_abs a.num) a.den ≡ a

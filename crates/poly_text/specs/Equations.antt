@@ -1,10 +1,10 @@
 -- What a text says that is a sum, or an equation of two sums.
---   said r                   the sum that was read last, or the first fault
+--   sum_or_fault r                   the sum that was read last, or the first fault
 --   sum_of names ts          the sum that the tokens are up to the end, or their first fault
 --   equation_of names ts     the same of an equation; it is its left side minus its right side, by an operator at the offset of the =
 --   tells view r             what the answer r of a reader says, by the view of it: what it read, or the fault; nothing where memory failed
 --   free_state m             the variables, each with itself as its value
---   Answers m said r         r is the polynomial that is said, and no operation that forms it passes a limit; or the text's first fault; or the operation that stops; want of memory says nothing
+--   Answers m sum_or_fault r         r is the polynomial that is said, and no operation that forms it passes a limit; or the text's first fault; or the operation that stops; want of memory says nothing
 use Rattle.std.specs.Prelude.{◌≡◌, ◌≢◌, ⊤, ℕ, List, [], ◌∷◌, Option, Some, Result, Ok, Err, option_map, IsSomeAnd, IsOkAnd}
 use Rattle.numbers.specs.Fraction.{Fraction, ℚ}
 use Rattle.polynomials.specs.Terms.{Terms, variables}
@@ -30,15 +30,16 @@ abbrev pub last_value : List (Expr ℕ) → Result (Expr ℕ) Fault
 last_value [] = Err (record { reason = syntax; at = 0 })
 last_value (e ∷ es) = Ok e
 
-abbrev pub said : Told SumContext SumValue → Result (Expr ℕ) Fault
-said (Ok r) = last_value r.0.value.values
-said (Err f) = Err f
+abbrev pub sum_or_fault : Told SumContext SumValue → Result (Expr ℕ) Fault
+sum_or_fault (Ok r) = last_value r.0.value.values
+sum_or_fault (Err f) = Err f
 
 unfoldable pub sum_of : List (List ℕ) → List Placed → Result (Expr ℕ) Fault
-sum_of names ts = said (told (read_whole sum_language whole_sum (start names []) ts))
+sum_of names ts = sum_or_fault (told (read_whole sum_language whole_sum (start names []) ts))
 
 unfoldable pub equation_of : List (List ℕ) → List Placed → Result (Expr ℕ) Fault
-equation_of names ts = said (told (read_whole sum_language whole_equation (start names []) ts))
+equation_of names ts =
+    sum_or_fault (told (read_whole sum_language whole_equation (start names []) ts))
 
 abbrev pub free_state : ℕ → List (Terms Fraction)
 free_state m = variables ℚ m
@@ -56,10 +57,10 @@ map_refusal map_error.Memory = refusal.Memory
 map_refusal e = refusal.Map e
 
 abbrev pub Answers : ℕ → Result (Expr ℕ) Fault → Result FracPoly PolyTextError → Type 0
-Answers m said (Ok p) =
-    IsOkAnd said
+Answers m sum_or_fault (Ok p) =
+    IsOkAnd sum_or_fault
     (λ e. StandsFor m p (value m (free_state m) e) × IsFree m (operations m (free_state m) e))
-Answers m said (Err (refusal.Text e)) = IsSomeAnd (fault_of e) (λ f. said ≡ Err f)
-Answers m said (Err (refusal.Map e)) =
-    IsOkAnd said (λ x. Stops m (operations m (free_state m) x) e) × (e ≢ map_error.Memory)
-Answers m said (Err refusal.Memory) = ⊤
+Answers m sum_or_fault (Err (refusal.Text e)) = IsSomeAnd (fault_of e) (λ f. sum_or_fault ≡ Err f)
+Answers m sum_or_fault (Err (refusal.Map e)) =
+    IsOkAnd sum_or_fault (λ x. Stops m (operations m (free_state m) x) e) × (e ≢ map_error.Memory)
+Answers m sum_or_fault (Err refusal.Memory) = ⊤

@@ -65,11 +65,11 @@ raise e i n = set e i (slice_index e i + n)
 abbrev pub with_power : FlatContext → ℕ → FlatContext
 with_power c n = record c { exponents = raise c.exponents c.place n; place = 0 }
 
-abbrev pub signed : Bool → ℤ → ℤ
-signed negative n = if negative then neg_ℤ n else n
+abbrev pub negate_if : Bool → ℤ → ℤ
+negate_if negative n = if negative then neg_ℤ n else n
 
 abbrev pub signed_over : Bool → ℕ → ℕ → Fraction
-signed_over negative n d = over (signed negative (pos n)) d
+signed_over negative n d = over (negate_if negative (pos n)) d
 
 abbrev pub with_item : FlatContext → FlatContext
 with_item c =

@@ -6,7 +6,7 @@ ghost use Rattle.expr_text.specs.Lexemes.{tokens};
 ghost use Rattle.expr_text.specs.Sums as grammar;
 ghost use Rattle.expr_text.specs.Sums.{SumState, sum_language};
 ghost use Rattle.expr_text.specs.Telling.{Ends};
-ghost use Rattle.expressions.specs.View.{seen};
+ghost use Rattle.expressions.specs.View.{expr_of};
 ghost use Rattle.expressions.specs.Operations.{value, operations};
 ghost use Rattle.expressions.specs.Stops.{Forms};
 ghost use Rattle.poly_text.specs.Equations.{sum_of, equation_of, free_state, tells, text_refusal, map_refusal, Answers};
@@ -73,8 +73,8 @@ fn expect_end(cursor: Cursor<'_>) -> Result<(), TextError>
 
 /// The sum that the text is, or its first fault.
 pub fn read_sum(alloc: Global, text: &[u8], names: &Names) -> Result<Expr, TextError>
-    ensures reads { IfSome (tells seen result) (λ r. r ≡ sum_of names.now (tokens text.now)) }
-    ensures uses { IfOk result (λ e. Uses (λ i. i < length names.now) (seen e)) }
+    ensures reads { IfSome (tells expr_of result) (λ r. r ≡ sum_of names.now (tokens text.now)) }
+    ensures uses { IfOk result (λ e. Uses (λ i. i < length names.now) (expr_of e)) }
 {
     let reader = SumReader {
         alloc,
@@ -88,10 +88,11 @@ pub fn read_sum(alloc: Global, text: &[u8], names: &Names) -> Result<Expr, TextE
 }
 
 /// The equation that the text is, as its left side minus its right side.
-#[tactic(auto, unfolding(expressions::specs::View::seen))]
+#[tactic(auto, unfolding(expressions::specs::View::expr_of))]
 fn read_difference(alloc: Global, text: &[u8], names: &Names) -> Result<Expr, TextError>
-    ensures reads { IfSome (tells seen result) (λ r. r ≡ equation_of names.now (tokens text.now)) }
-    ensures uses { IfOk result (λ e. Uses (λ i. i < length names.now) (seen e)) }
+    ensures reads { IfSome (tells expr_of result)
+        (λ r. r ≡ equation_of names.now (tokens text.now)) }
+    ensures uses { IfOk result (λ e. Uses (λ i. i < length names.now) (expr_of e)) }
 {
     let reader = SumReader {
         alloc,
@@ -137,8 +138,8 @@ fn poly_answer(
     expr: &Expr,
     names: &Names,
 ) -> Result<Poly<Frac, Grevlex>, PolyTextError>
-    requires { Uses (λ i. i < length names.now) (seen expr.now) }
-    ensures { Answers (length names.now) (Ok (seen expr.now)) result }
+    requires { Uses (λ i. i < length names.now) (expr_of expr.now) }
+    ensures { Answers (length names.now) (Ok (expr_of expr.now)) result }
 {
     match poly_of(alloc, expr, names) {
         Ok(poly) => Ok(poly),
@@ -147,9 +148,9 @@ fn poly_answer(
 }
 
 fn poly_of(alloc: Global, expr: &Expr, names: &Names) -> Result<Poly<Frac, Grevlex>, MapError>
-    requires { Uses (λ i. i < length names.now) (seen expr.now) }
+    requires { Uses (λ i. i < length names.now) (expr_of expr.now) }
     ensures { let m = length names.now in let s = free_state m in
-        Forms m (operations m s (seen expr.now)) (value m s (seen expr.now)) result }
+        Forms m (operations m s (expr_of expr.now)) (value m s (expr_of expr.now)) result }
 {
     let state = free_state(alloc, names.len())?;
     expr_poly(alloc, expr, &state)

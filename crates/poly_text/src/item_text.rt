@@ -5,7 +5,7 @@ ghost use Rattle.numbers.specs.Fraction.{Fraction};
 ghost use Rattle.polynomials.specs.Terms.{Terms};
 ghost use Rattle.grammars.specs.Grammar.{many, rule};
 ghost use Rattle.monos.specs.Variables.{most_variables};
-ghost use Rattle.expr_text.specs.CursorView.{left};
+ghost use Rattle.expr_text.specs.CursorView.{bytes_left};
 ghost use Rattle.expr_text.specs.Telling.{Reads};
 ghost use Rattle.expr_text.specs.Tokens.{number_limit};
 ghost use Rattle.poly_text.specs.Flat as grammar;
@@ -47,7 +47,7 @@ fn read_raising<'t>(
         (rule grammar.an_exponent) (at_power c ns exponents.items place)
         (λ e. at_power c ns e.items 0) cursor.entry result }
     ensures len { IfOk result (λ r. vec_len r.0 ≡ vec_len exponents) }
-    ensures falls { IfOk result (λ r. left r.1 ≤ left cursor.entry) }
+    ensures falls { IfOk result (λ r. bytes_left r.1 ≤ bytes_left cursor.entry) }
 {
     if !cursor.token.lexeme.is_sign(b'^') {
         let at = cursor.token.at;
@@ -78,7 +78,7 @@ fn read_power<'t>(
         (at_power c names.now exponents.items 0) (λ e. at_power c names.now e.items 0)
         cursor.entry result }
     ensures len { IfOk result (λ r. vec_len r.0 ≡ length names.now) }
-    ensures falls { IfOk result (λ r. left r.1 < left cursor.entry) }
+    ensures falls { IfOk result (λ r. bytes_left r.1 < bytes_left cursor.entry) }
 {
     let at = cursor.token.at;
     match cursor.token.lexeme {
@@ -101,7 +101,7 @@ fn read_factors<'t>(
         (at_power c names.now exponents.items 0) (λ e. at_power c names.now e.items 0)
         cursor.entry result }
     ensures len { IfOk result (λ r. vec_len r.0 ≡ length names.now) }
-    ensures falls { IfOk result (λ r. left r.1 ≤ left cursor.entry) }
+    ensures falls { IfOk result (λ r. bytes_left r.1 ≤ bytes_left cursor.entry) }
 {
     let mut found = exponents;
     let mut at = cursor;
@@ -121,7 +121,7 @@ fn read_division<'t>(cursor: Cursor<'t>) -> Result<(u128, Cursor<'t>), TextError
         (divided_by c) cursor.entry result }
     ensures some { IfOk result (λ r. 0 < r.0) }
     ensures small { IfOk result (λ r. r.0 < number_limit) }
-    ensures falls { IfOk result (λ r. left r.1 ≤ left cursor.entry) }
+    ensures falls { IfOk result (λ r. bytes_left r.1 ≤ bytes_left cursor.entry) }
 {
     if !cursor.token.lexeme.is_sign(b'/') {
         return Ok((1, cursor));
@@ -150,7 +150,7 @@ fn read_first<'t>(
         grammar.first_part (state_of (grammar.at_item names.now found negative))
         (behind_item names.now found negative) cursor.entry result }
     ensures len { IfOk result (λ r. vec_len r.0.exponents ≡ length names.now) }
-    ensures falls { IfOk result (λ r. left r.1 < left cursor.entry) }
+    ensures falls { IfOk result (λ r. bytes_left r.1 < bytes_left cursor.entry) }
 {
     match cursor.token.lexeme {
         Lexeme::Number(numerator) => {
@@ -190,7 +190,7 @@ pub fn read_item<'t>(
         cursor.entry result }
     ensures len { IfOk result (λ r. vec_len r.0.exponents ≡ length names.now) }
     ensures few { IfOk result (λ r. vec_len r.0.exponents ≤ most_variables) }
-    ensures falls { IfOk result (λ r. left r.1 < left cursor.entry) }
+    ensures falls { IfOk result (λ r. bytes_left r.1 < bytes_left cursor.entry) }
 {
     let none = vec![in alloc; 0; names.len()]?;
     let (first, end) = read_first(names, none, cursor)?;

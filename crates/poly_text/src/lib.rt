@@ -18,8 +18,8 @@ use expr_text::TextError;
 use expressions::Names;
 use frac128::Frac;
 use monos::Grevlex;
-use poly::{Poly, PolyError};
-pub use printing::{PrintError, print_poly};
+use poly::Poly;
+pub use printing::print_poly;
 use std::alloc::Global;
 use thiserror::Error;
 
@@ -50,9 +50,8 @@ pub fn read_flat(
         Err(TextError::Memory) => return Err(FlatError::Memory),
         Err(_) => return Err(FlatError::NotFlat),
     };
-    match Poly::from_terms(alloc, Grevlex, names.len(), terms) {
+    match Poly::from_distinct(alloc, Grevlex, names.len(), terms) {
         Ok(p) => Ok(p),
-        Err(PolyError::Wide) => unreachable!(),
-        Err(PolyError::Memory) => Err(FlatError::Memory),
+        Err(_) => Err(FlatError::Memory),
     }
 }

@@ -18,20 +18,6 @@ use itoa::Buffer;
 use monos::Grevlex;
 use poly::{Poly, Term};
 use std::alloc::{AllocError, Global};
-use thiserror::Error;
-
-/// Why a polynomial was not printed.
-#[derive(Clone, Copy, Debug, Error)]
-pub enum PrintError {
-    #[error("out of memory")]
-    Memory,
-}
-
-impl From<AllocError> for PrintError {
-    fn from(_: AllocError) -> Self {
-        PrintError::Memory
-    }
-}
 
 /// The text of the polynomial: its terms in falling order, each a coefficient and powers of the names joined by `*`.
 /// A coefficient 1 is left out before a power, and an exponent 1 behind a name.
@@ -39,7 +25,7 @@ pub fn print_poly(
     alloc: Global,
     p: &Poly<Frac, Grevlex>,
     names: &Names,
-) -> Result<String, PrintError>
+) -> Result<String, AllocError>
     requires { length names.now ≡ p.now.arity }
     ensures text { IfOk result (λ text. string_bytes text
         ≡ text_of.polynomial_text names.now (terms_in p.now)) }

@@ -53,8 +53,8 @@ exponents_of no_items = Some []
 exponents_of (item d ds) =
     option_and_then (λ n. option_map (λ e. n ∷ e) (exponents_of ds)) (exponent_of d)
 
-abbrev pub checked : ℕ → List ℕ × Fraction → Option (List ℕ × Fraction)
-checked m t = if not (is_zero t.1) && (length t.0 == m) then Some t else None
+abbrev pub valid_term : ℕ → List ℕ × Fraction → Option (List ℕ × Fraction)
+valid_term m t = if not (is_zero t.1) && (length t.0 == m) then Some t else None
 
 abbrev pub pair_of : Option Fraction → Option (List ℕ) → Option (List ℕ × Fraction)
 pair_of None e = None
@@ -66,7 +66,7 @@ term_parts ds = pair_of (option_and_then number_of (as_str (entry 0 ds)))
     (option_and_then exponents_of (as_array (entry 1 ds)))
 
 abbrev pub term_of : ℕ → Data → Option (List ℕ × Fraction)
-term_of m d = option_and_then (checked m) (option_and_then term_parts (list_with 2 d))
+term_of m d = option_and_then (valid_term m) (option_and_then term_parts (list_with 2 d))
 
 abbrev pub terms_after : ℕ → Terms Fraction → Items → Option (Terms Fraction)
 terms_after m found no_items = Some found

@@ -12,7 +12,7 @@ use crate::terms;
 use cert_form::{CertError, Path, polynomial_at, shape_at};
 use frac128::Frac;
 use monos::Order;
-use poly::{Poly, PolyError};
+use poly::Poly;
 use serde_json::Value;
 use std::alloc::Global;
 
@@ -37,11 +37,7 @@ fn read_list<'a, O: Order>(
     let Some(terms) = terms::all_terms(alloc, list, arity)? else {
         return Err(polynomial_at(alloc, path));
     };
-    match Poly::from_terms(alloc, order, arity, terms) {
-        Ok(p) => Ok(p),
-        Err(PolyError::Wide) => unreachable!(),
-        Err(PolyError::Memory) => Err(CertError::Memory),
-    }
+    Ok(Poly::from_distinct(alloc, order, arity, terms)?)
 }
 
 /// The polynomial in `arity` variables that the value is: a list of terms, each a list of the text

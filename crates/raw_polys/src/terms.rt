@@ -100,7 +100,7 @@ fn is_zero(coef: &Frac) -> bool
 // The exponents and the number, where there are as many exponents as variables and the number isn't 0.
 fn checked(arity: usize, exponents: Vec<u16>, coef: Frac) -> Option<(Vec<u16>, Frac)>
     ensures same { option_map exponents_and_number result
-        ≡ spec.checked arity (exponents.items, fraction_of coef) }
+        ≡ spec.valid_term arity (exponents.items, fraction_of coef) }
     ensures arity { IfSome result (λ term. vec_len term.0 ≡ arity) }
 {
     if !is_zero(&coef) && exponents.len() == arity {

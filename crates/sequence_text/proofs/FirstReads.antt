@@ -13,7 +13,7 @@ use Rattle.rings.proofs.Each.{each-append}
 use Rattle.loops.specs.Limits.{most_names}
 use Rattle.loops.specs.Program.{Expr}
 use Rattle.expressions.specs.Names.{place_of}
-use Rattle.expressions.specs.View.{seen}
+use Rattle.expressions.specs.View.{expr_of}
 use Rattle.expressions.proofs.Places.{bytes_eq-refl, no_place}
 use Rattle.expr_text.specs.Kinds.{word_in}
 use Rattle.expr_text.specs.NextToken.{seen_lexeme}
@@ -24,7 +24,7 @@ use Rattle.loop_model.specs.Parts.{equation_of}
 use Rattle.loop_model.specs.declared.statement.Init.{Init}
 use Rattle.recurrences.specs.Turning.{equations}
 use Rattle.sequence_grammar.specs.Seqs.{is_sequences, is_seqname, most_seqname, variable_name, last, value}
-use Rattle.sequence_grammar.specs.Names.{named, made, IsSeqName, AreReady}
+use Rattle.sequence_grammar.specs.Names.{sequence_variables, all_variables, IsSeqName, AreReady}
 use Rattle.sequence_grammar.specs.LoopLayout.{total, IsGiven}
 use Rattle.sequence_grammar.proofs.LoopLayout.{total_more}
 use Rattle.sequence_grammar.proofs.Named.{named_more, made_more}
@@ -51,9 +51,9 @@ module _ (k : Cursor) (w : _) (is : k.token.lexeme ≡ code_lexeme.Name w)
   pub declared_so : after ≡ ws ++ w.now ∷ [] → is_seqname w.now ≡ true → length w.now ≤ 24
       → is_some (place_of ws w.now) ≡ false
       → IsDeclared (word_in (seen_lexeme k.token.lexeme)) ws after
-  declared_so more named short new =
+  declared_so more sequence_variables short new =
       let bare = (and_parts (not (is_sequences w.now))
-      (not (list_any (λ c. c == 95) w.now)) named).1 in
+      (not (list_any (λ c. c == 95) w.now)) sequence_variables).1 in
       subst (λ v. IsDeclared v ws after) (sym (word_here k w is)) (record {
         is = more;
         good = record {
@@ -66,14 +66,14 @@ module _ (k : Cursor) (w : _) (is : k.token.lexeme ≡ code_lexeme.Name w)
 
 -- ---- values
 abbrev value_of : Init → Expr ℕ
-value_of i = seen i.value
+value_of i = expr_of i.value
 
 pub nothing_made : (f : Firsts) → f.sequences ≡ [] → f.variables ≡ [] → f.start.items ≡ []
     → f.orders.items ≡ [] → AreMade f
-unfolding Each made total equations
+unfolding Each all_variables total equations
 nothing_made f a b c d = record {
   good = subst (Each IsSeqName) (sym a) tt;
-  names = b ∙ sym (ap₂ made a d);
+  names = b ∙ sym (ap₂ all_variables a d);
   count = ap length d ∙ sym (ap length a);
   values = record {
     some = subst (Each (λ r. 0 < r)) (sym d) tt;
@@ -108,12 +108,12 @@ module _ (f : Firsts) (i : ℕ) (w : List ℕ) (open_ : IsOpen f i w)
   module _ (vs : List (List ℕ)) (st : Vec Init Global) (e : Init)
       (more : vs ≡ f.variables ++ variable_name w i ∷ [])
       (push : st.items ≡ f.start.items ++ e ∷ []) (var : e.var ≡ length f.variables)
-      (given : IsGiven (seen e.value)) where
-    values_more : map value_of st.items ≡ values_in f ++ seen e.value ∷ []
+      (given : IsGiven (expr_of e.value)) where
+    values_more : map value_of st.items ≡ values_in f ++ expr_of e.value ∷ []
     values_more = ap (map value_of) push ∙ map-append value_of f.start.items (e ∷ [])
 
     count_more : length (map value_of st.items) ≡ suc (length (values_in f))
-    count_more = ap length values_more ∙ length_push (values_in f) (seen e.value) ∙ omega arith
+    count_more = ap length values_more ∙ length_push (values_in f) (expr_of e.value) ∙ omega arith
 
     here : e.var ≡ 0 + length (values_in f)
     here = let a = open_.long in omega (arith, var, a)
@@ -132,18 +132,19 @@ module _ (f : Firsts) (i : ℕ) (w : List ℕ) (open_ : IsOpen f i w)
       name = open_.name;
       apart = open_.apart;
       names = more ∙ ap (λ l. l ++ variable_name w i ∷ []) open_.names
-          ∙ append_assoc (made open_.before f.orders.items) (named w i) (variable_name w i ∷ [])
-          ∙ ap (λ l. made open_.before f.orders.items ++ l) (sym (named_more w i));
+          ∙ append_assoc (all_variables open_.before f.orders.items) (sequence_variables w i)
+          (variable_name w i ∷ [])
+          ∙ ap (λ l. all_variables open_.before f.orders.items ++ l) (sym (named_more w i));
       count = open_.count;
       some = open_.some;
       total = let a = open_.total in omega (arith, a, count_more);
       few = let a = open_.long in omega (arith, a, count_more, room);
       given = subst (Each IsGiven) (sym values_more)
-          (each-append IsGiven (values_in f) (seen e.value ∷ []) open_.given (given, tt));
+          (each-append IsGiven (values_in f) (expr_of e.value ∷ []) open_.given (given, tt));
       start = ap (map equation_of) push ∙ map-append equation_of f.start.items (e ∷ [])
-          ∙ ap₂ (λ l n. l ++ record { name = n; value = seen e.value } ∷ []) open_.start
+          ∙ ap₂ (λ l n. l ++ record { name = n; value = expr_of e.value } ∷ []) open_.start
           here
-          ∙ equations_more 0 (values_in f) (seen e.value)
+          ∙ equations_more 0 (values_in f) (expr_of e.value)
           ∙ ap (equations 0) (sym values_more);
       long = let a = ap length more ∙ length_push f.variables (variable_name w i) in
           let b = open_.long in omega (arith, a, b, count_more);
@@ -171,14 +172,14 @@ module _ (f : Firsts) (m : AreMade f) (w : List ℕ) (ws : List (List ℕ))
     start = f.start;
     orders = f.orders;
   }) 0 w
-  unfolding named
+  unfolding sequence_variables
   opened_first = record {
     before = f.sequences;
     is = d.is;
     good = m.good;
     name = d.good;
     apart = each_apart f.sequences w d.other;
-    names = m.names ∙ sym (append-nil (made f.sequences f.orders.items));
+    names = m.names ∙ sym (append-nil (all_variables f.sequences f.orders.items));
     count = m.count;
     some = m.values.some;
     total = let a = m.values.count in omega (arith, a);
@@ -212,7 +213,7 @@ module _ (f : Firsts) (i : ℕ) (w : List ℕ) (open_ : IsOpen f i w) (some : 0 
     good = subst (Each IsSeqName) (sym open_.is)
         (each-append IsSeqName open_.before (w ∷ []) open_.good (open_.name, tt));
     names = open_.names ∙ sym (made_more open_.before f.orders.items w i (sym open_.count))
-        ∙ sym (ap₂ made open_.is push);
+        ∙ sym (ap₂ all_variables open_.is push);
     count = ap length push ∙ length_push f.orders.items i
         ∙ ap (λ n. n + 1) open_.count ∙ sym (length_push open_.before w)
         ∙ sym (ap length open_.is);

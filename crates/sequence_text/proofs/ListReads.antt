@@ -3,7 +3,7 @@
 --   due                        the next one, or what ends them, where the token tells
 use Rattle.std.proofs.Common.{◌≡◌, List, [], ◌∷◌, refl, ap, sym, ◌∙◌, Bool, true, false, not, Ok, Err}
 use Rattle.grammars.specs.Kinds.{has}
-use Rattle.grammars.specs.Grammar.{sequence, many, some, joined}
+use Rattle.grammars.specs.Grammar.{sequence, many, some, separated}
 use Rattle.grammars.specs.First.{first, may_be_empty}
 use Rattle.expr_text.specs.Lexemes.{Placed, tokens_from, is_sign_of}
 use Rattle.expr_text.specs.NextToken.{seen_lexeme}
@@ -22,7 +22,7 @@ use Rattle.sequence_text.proofs.TokenReads.{sign_read}
 -- ---- with commas
 module _ (g : Rule) where
   abbrev pub comma_list : Rule
-  comma_list = joined (sign 44) g
+  comma_list = separated (sign 44) g
 
   abbrev pub another : Rule
   another = sequence (sign 44) g

@@ -11,7 +11,7 @@ use Rattle.rings.specs.Each.{Each}
 use Rattle.rings.proofs.Each.{each-append}
 use Rattle.loops.specs.Limits.{most_names}
 use Rattle.loops.specs.Program.{Expr, variable}
-use Rattle.expressions.specs.View.{seen}
+use Rattle.expressions.specs.View.{expr_of}
 use Rattle.expressions.specs.declared.expr.Expr as code
 use Rattle.expressions.specs.declared.expr.Expr.TheVariants as code_expr
 use Rattle.grammars.specs.Grammar.{rule, sequence}
@@ -30,7 +30,7 @@ use Rattle.sequence_grammar.proofs.LoopLayout.{turns_more, total_more}
 use Rattle.sequence_grammar.proofs.SeqChecked.{seqs_checked, nexts_embedded}
 use Rattle.sequence_text.specs.declared.firsts.Firsts.{Firsts}
 use Rattle.sequence_text.specs.Firsts.{values_in, behind_all, AreMade}
-use Rattle.sequence_text.specs.Seen.{ReadsTurn, IsTurned}
+use Rattle.sequence_text.specs.Seen.{ReadsTurn, HasReadTurn}
 use Rattle.sequence_text.specs.States.{reading, IsFault}
 use Rattle.sequence_text.proofs.SumReads.{sum_read}
 use Rattle.sequence_text.proofs.ValueReads.{in_sum, ReadsSum}
@@ -89,8 +89,8 @@ module _ (first : ℕ) (ts : List (Expr ℕ)) where
       let k : var - suc first ≡ pred order = omega (arith, some, low, high, end) in
       ap (λ n. ts ++ variables_from (suc first) n) k
 
-pub seen_variable : (i : ℕ) → seen (code_expr.Variable i) ≡ variable i
-unfolding seen
+pub seen_variable : (i : ℕ) → expr_of (code_expr.Variable i) ≡ variable i
+unfolding expr_of
 seen_variable i = refl
 
 pub record IsGoing (f : Firsts) (c : Cursor) (i : ℕ) (ts : List code.Expr)
@@ -98,7 +98,7 @@ pub record IsGoing (f : Firsts) (c : Cursor) (i : ℕ) (ts : List code.Expr)
   pub nexts : List (Expr ℕ)
   pub count : length nexts ≡ i
   pub over : Each (IsOver (length (values_in f))) nexts
-  pub turn : map seen ts ≡ turns 0 (take i f.orders.items) nexts
+  pub turn : map expr_of ts ≡ turns 0 (take i f.orders.items) nexts
   pub same : reading (rule more_nexts) (behind_all f []) (rest c)
       ≡ reading (rule more_nexts) (behind_all f nexts) (rest k)
 
@@ -112,7 +112,7 @@ module _ (f : Firsts) (c : Cursor) where
     nexts = [];
     count = refl;
     over = tt;
-    turn = ap (map seen) none;
+    turn = ap (map expr_of) none;
     same = refl;
   }
 
@@ -140,34 +140,35 @@ module _ (f : Firsts) (c : Cursor) where
         (stopped seq_language next (rule more_nexts) (behind_all f g.nexts) (rest k) e h))
 
     pub more_going : i < length f.orders.items → (e : code.Expr) (us : List code.Expr) (d : Cursor)
-        → Ok (behind_all f (g.nexts ++ seen e ∷ []), rest d)
+        → Ok (behind_all f (g.nexts ++ expr_of e ∷ []), rest d)
         ≡ reading next (behind_all f g.nexts) (rest k)
-        → IsOver (length f.variables) (seen e)
-        → map seen us ≡ map seen ts ++ (variables_from (suc (total (take i f.orders.items)))
-        (pred (get_or f.orders.items i 0)) ++ seen e ∷ [])
+        → IsOver (length f.variables) (expr_of e)
+        → map expr_of us ≡ map expr_of ts ++ (variables_from (suc (total (take i f.orders.items)))
+        (pred (get_or f.orders.items i 0)) ++ expr_of e ∷ [])
         → IsGoing f c (i + 1) us d
     unfolding Each
     more_going l e us d read over turn = record {
-      nexts = g.nexts ++ seen e ∷ [];
-      count = length_push g.nexts (seen e) ∙ ap (λ n. n + 1) g.count;
-      over = each-append (IsOver (length (values_in f))) g.nexts (seen e ∷ []) g.over
-          (subst (λ n. IsOver n (seen e)) m.long over, tt);
+      nexts = g.nexts ++ expr_of e ∷ [];
+      count = length_push g.nexts (expr_of e) ∙ ap (λ n. n + 1) g.count;
+      over = each-append (IsOver (length (values_in f))) g.nexts (expr_of e ∷ []) g.over
+          (subst (λ n. IsOver n (expr_of e)) m.long over, tt);
       turn = turn
           ∙ ap (λ l. l ++ (variables_from (suc (total (take i f.orders.items)))
-          (pred (get_or f.orders.items i 0)) ++ seen e ∷ [])) g.turn
+          (pred (get_or f.orders.items i 0)) ++ expr_of e ∷ [])) g.turn
           ∙ ap (λ k. turns 0 (take i f.orders.items) g.nexts ++ (variables_from (suc k)
-          (pred (get_or f.orders.items i 0)) ++ seen e ∷ []))
+          (pred (get_or f.orders.items i 0)) ++ expr_of e ∷ []))
           (none_before (total (take i f.orders.items)))
-          ∙ sym (turns_more 0 (take i f.orders.items) g.nexts (get_or f.orders.items i 0) (seen e)
+          ∙ sym (turns_more 0 (take i f.orders.items) g.nexts (get_or f.orders.items i 0)
+          (expr_of e)
           (length-take-le i f.orders.items (let x = l in omega (arith, x)) ∙ sym g.count))
-          ∙ ap (λ l. turns 0 l (g.nexts ++ seen e ∷ [])) (sym (take_more f.orders.items i 0 l));
+          ∙ ap (λ l. turns 0 l (g.nexts ++ expr_of e ∷ [])) (sym (take_more f.orders.items i 0 l));
       same = at_next l
           ∙ then_on seq_language next (rule more_nexts) (behind_all f g.nexts) (rest k)
-          (behind_all f (g.nexts ++ seen e ∷ [])) (rest d) read;
+          (behind_all f (g.nexts ++ expr_of e ∷ [])) (rest d) read;
     }
 
     pub ends_going : length f.orders.items ≤ i → i ≤ length f.orders.items
-        → (r : Vec code.Expr Global) → r.items ≡ ts → IsTurned f c (r, k)
+        → (r : Vec code.Expr Global) → r.items ≡ ts → HasReadTurn f c (r, k)
     ends_going l h r is =
         let a = g.count in let b = m.count in
         let test : nat_lt (length g.nexts) (length f.sequences) ≡ false
@@ -177,7 +178,7 @@ module _ (f : Firsts) (c : Cursor) where
           turn = record {
             count = omega (arith, a, b, l, h);
             over = g.over;
-            is = ap (map seen) is ∙ g.turn
+            is = ap (map expr_of) is ∙ g.turn
                 ∙ ap (λ l. turns 0 l g.nexts) (take_all i f.orders.items l);
           };
           goes = sym (g.same ∙ at_rule
@@ -222,12 +223,12 @@ order_fits n h = omega (arith, h)
 module _ (f : Firsts) (i first order : ℕ) (first_is : first ≡ total (take i f.orders.items))
     (order_is : order ≡ get_or f.orders.items i 0) where
   pub turn_of : (ts later us : List code.Expr) (e : code.Expr)
-      → map seen later ≡ map seen ts ++ variables_from (suc first) (pred order)
+      → map expr_of later ≡ map expr_of ts ++ variables_from (suc first) (pred order)
       → us ≡ later ++ e ∷ []
-      → map seen us ≡ map seen ts ++ (variables_from (suc (total (take i f.orders.items)))
-      (pred (get_or f.orders.items i 0)) ++ seen e ∷ [])
+      → map expr_of us ≡ map expr_of ts ++ (variables_from (suc (total (take i f.orders.items)))
+      (pred (get_or f.orders.items i 0)) ++ expr_of e ∷ [])
   turn_of ts later us e a b =
-      ap (map seen) b ∙ map_push seen later e ∙ ap (λ l. l ++ seen e ∷ []) a
-      ∙ append_assoc (map seen ts) (variables_from (suc first) (pred order)) (seen e ∷ [])
-      ∙ ap₂ (λ n r. map seen ts ++ (variables_from (suc n) (pred r) ++ seen e ∷ []))
+      ap (map expr_of) b ∙ map_push expr_of later e ∙ ap (λ l. l ++ expr_of e ∷ []) a
+      ∙ append_assoc (map expr_of ts) (variables_from (suc first) (pred order)) (expr_of e ∷ [])
+      ∙ ap₂ (λ n r. map expr_of ts ++ (variables_from (suc n) (pred r) ++ expr_of e ∷ []))
       first_is order_is

@@ -10,7 +10,7 @@ use Rattle.rings.proofs.Basics.{same_head, same_tail}
 use Rattle.grammars.specs.Grammar.{token, change, sequence, either, many, rule, after_change}
 use Rattle.grammars.specs.Kinds.{has}
 use Rattle.grammars.specs.First.{first}
-use Rattle.grammars.specs.Reader.{Move, takes, leaves, refuses, Opening, Answer, reads, refused, unended, on, closed, opened, move, by_move, read, parsed}
+use Rattle.grammars.specs.Reader.{Move, takes, leaves, refuses, Opening, ReadResult, reads, refused, unended, on, closed, opened, move, by_move, read, parsed}
 use Rattle.expressions.specs.Ascii.{hash, line_feed}
 use Rattle.expressions.specs.Words.{when_word, is_word}
 use Rattle.expr_text.specs.Lexemes as lexemes
@@ -127,7 +127,7 @@ module _ (text : List ℕ) where
     there : IsThere x
     behind : opens x.lexeme ≡ false → AreTokens text xs
 
-  abbrev pub Found : Answer Lexeme SeqContext SeqValue Reason → Type 0
+  abbrev pub Found : ReadResult Lexeme SeqContext SeqValue Reason → Type 0
   Found (reads t rest) = AreTokens text rest
   Found (refused x why) = IsThere x
   Found unended = Unit {0}
@@ -294,7 +294,7 @@ module _ (text : List ℕ) (g : Rule) (open_none : no_guard g ≡ true) (s : Seq
   unfolding telling.reading
   left_tokens t us e = go (parsed seq_language g s ts) parsed_found e
     where
-      go : (a : Answer Lexeme SeqContext SeqValue Reason) → Found text a → Ok (t, us) ≡ told a
+      go : (a : ReadResult Lexeme SeqContext SeqValue Reason) → Found text a → Ok (t, us) ≡ told a
           → AreTokens text us
       go (reads u vs) h e =
           let same : ◌≡◌ {A = SeqState × List Placed} (t, us) (u, vs) = cc in

@@ -4,7 +4,7 @@
 use Rattle.std.proofs.Common.{◌≡◌, ◌≤◌, ℕ, List, length, refl, sym, ap, subst, ◌∙◌, Option, Some, None, option_map, unwrap_or, arith, Ok, Err, IfSome}
 use Rattle.grammars.specs.Grammar.{rule}
 use Rattle.grammars.specs.Embedded.{Embedding, IsEmbedded, part, with_part, answer_in}
-use Rattle.grammars.specs.Reader.{Answer, reads, refused, unended, parsed}
+use Rattle.grammars.specs.Reader.{ReadResult, reads, refused, unended, parsed}
 use Rattle.grammars.proofs.Lifted.{lifted_read}
 use Rattle.expr_text.specs.Lexemes.{Lexeme, Placed}
 use Rattle.expr_text.specs.Reasons.{Reason, syntax, Fault}
@@ -26,7 +26,7 @@ module _ (r : Lexeme → Reason → Reason) (keeps : (x : Lexeme) → r x syntax
     (E : Embedding SumRule SeqRule SeqContext SumContext SeqValue SumValue)
     (embedded : IsEmbedded E (retold_language r sum_language) seq_language)
     (s : SeqState) (ts : List Placed) where
-  abbrev sum_answer : Answer Lexeme SumContext SumValue Reason
+  abbrev sum_answer : ReadResult Lexeme SumContext SumValue Reason
   sum_answer = parsed sum_language (rule a_sum) (part E s) ts
 
   abbrev sum_told : Told SumContext SumValue
@@ -46,7 +46,7 @@ module _ (r : Lexeme → Reason → Reason) (keeps : (x : Lexeme) → r x syntax
   unfolding telling.reading
   sum_read t us e = go sum_answer e ∙ ap told (sym answer_is)
     where
-      go : (a : Answer Lexeme SumContext SumValue Reason) → Ok (t, us) ≡ told a
+      go : (a : ReadResult Lexeme SumContext SumValue Reason) → Ok (t, us) ≡ told a
           → Ok (with_part E t s, us) ≡ told (answer_in E (retold_answer r a) s)
       go (reads u vs) e =
           let same : ◌≡◌ {A = SumState × List Placed} (t, us) (u, vs) = cc in
@@ -66,7 +66,7 @@ module _ (r : Lexeme → Reason → Reason) (keeps : (x : Lexeme) → r x syntax
     reason x None h = sym (keeps (next_in text x.at))
     reason x (Some w) h = ap (λ l. r l w) (sym h.lexeme)
 
-    retold_there : (a : Answer Lexeme SumContext SumValue Reason) → sum_answer ≡ a → (f : Fault)
+    retold_there : (a : ReadResult Lexeme SumContext SumValue Reason) → sum_answer ≡ a → (f : Fault)
         → Err f ≡ told a
         → (Err (retold_fault r text f) ≡ told (answer_in E (retold_answer r a) s))
         × (f.at ≤ length text)

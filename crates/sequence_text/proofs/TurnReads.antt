@@ -9,7 +9,7 @@ use Rattle.loops.specs.Limits.{most_bytes, IsWithinLimits}
 use Rattle.loops.specs.Program.{Expr}
 use Rattle.loops.specs.WellFormed.{IsWellFormed}
 use Rattle.expressions.specs.Names.{AreNames}
-use Rattle.expressions.specs.View.{seen}
+use Rattle.expressions.specs.View.{expr_of}
 use Rattle.expressions.specs.declared.expr.Expr as code
 use Rattle.loop_model.specs.Parts.{equation_of, statement_of, parts}
 use Rattle.loop_model.specs.View.{program_of}
@@ -99,8 +99,8 @@ module _ (f : Firsts) (m : AreMade f) (some : 0 < length f.sequences) (ns : List
           let targets_same : s.targets.items ≡ places 0 (size qs) =
           targets ∙ ap (places 0) (m.long
           ∙ sym (size_is ws f.orders.items (values_in f) ns laid)) in
-          let values_same : map seen s.values.items ≡ turning.turn 0 qs =
-          ap (map seen) values ∙ t.is ∙ sym (turn_is ws f.orders.items (values_in f) ns laid) in
+          let values_same : map expr_of s.values.items ≡ turning.turn 0 qs =
+          ap (map expr_of) values ∙ t.is ∙ sym (turn_is ws f.orders.items (values_in f) ns laid) in
           let body : map statement_of statements.items ≡ turning.step qs ∷ [] =
           ap (map statement_of) one ∙ (λ i. (record {
             targets = targets_same i;

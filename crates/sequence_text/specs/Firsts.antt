@@ -10,18 +10,18 @@ use Rattle.rings.specs.Each.{Each}
 use Rattle.loops.specs.Limits.{most_names}
 use Rattle.loops.specs.Program.{Expr}
 use Rattle.expressions.specs.Names.{place_of}
-use Rattle.expressions.specs.View.{seen}
+use Rattle.expressions.specs.View.{expr_of}
 use Rattle.loop_model.specs.Parts.{equation_of}
 use Rattle.loop_model.specs.declared.statement.Init.{Init}
 use Rattle.recurrences.specs.Turning.{equations}
 use Rattle.sequence_grammar.specs.Seqs.{SeqState}
-use Rattle.sequence_grammar.specs.Names.{named, made, IsSeqName}
+use Rattle.sequence_grammar.specs.Names.{sequence_variables, all_variables, IsSeqName}
 use Rattle.sequence_grammar.specs.LoopLayout.{total, IsGiven, AreGiven}
 use Rattle.sequence_text.specs.declared.firsts.Firsts.{Firsts}
 use Rattle.sequence_text.specs.States.{in_first, behind_firsts}
 
 abbrev pub values_in : Firsts → List (Expr ℕ)
-values_in f = map (λ (i : Init). seen i.value) f.start.items
+values_in f = map (λ (i : Init). expr_of i.value) f.start.items
 
 abbrev pub opened : Firsts → ℕ → SeqState
 opened f i = in_first f.sequences f.variables f.orders.items (values_in f) i
@@ -39,7 +39,7 @@ pub record IsDeclared (w : List ℕ) (before after : List (List ℕ)) : Type 0 w
 
 pub record AreMade (f : Firsts) : Type 0 where
   pub good : Each IsSeqName f.sequences
-  pub names : f.variables ≡ made f.sequences f.orders.items
+  pub names : f.variables ≡ all_variables f.sequences f.orders.items
   pub count : length f.orders.items ≡ length f.sequences
   pub values : AreGiven f.orders.items (values_in f)
   pub start : map equation_of f.start.items ≡ equations 0 (values_in f)
@@ -51,7 +51,7 @@ pub record IsOpen (f : Firsts) (i : ℕ) (w : List ℕ) : Type 0 where
   pub good : Each IsSeqName before
   pub name : IsSeqName w
   pub apart : Each (λ v. v ≢ w) before
-  pub names : f.variables ≡ made before f.orders.items ++ named w i
+  pub names : f.variables ≡ all_variables before f.orders.items ++ sequence_variables w i
   pub count : length f.orders.items ≡ length before
   pub some : Each (λ r. 0 < r) f.orders.items
   pub total : total f.orders.items + i ≡ length (values_in f)

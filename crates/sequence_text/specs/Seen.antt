@@ -1,6 +1,6 @@
 -- What the answer of the reader of sequences says.
 --   IsTurn f ns ts         where the recurrences are ns, the variables become ts in a turn
---   IsTurned f c r         a recurrence was read for each sequence, and the variables become these
+--   HasReadTurn f c r         a recurrence was read for each sequence, and the variables become these
 --   ReadsTurn f c result   they were read from the cursor c on, or its first fault
 --   HasTurn f ts           the sequences f have recurrences with which the variables become ts
 --   IsLoopOf s qs          the loop of the sequences qs, their places, and their names
@@ -9,7 +9,7 @@ use Rattle.std.specs.Prelude.{◌≡◌, ◌<◌, length, map, ℕ, List, [], Re
 use Rattle.std.specs.Global.{Vec}
 use Rattle.rings.specs.Each.{Each}
 use Rattle.loops.specs.Program.{Expr}
-use Rattle.expressions.specs.View.{seen}
+use Rattle.expressions.specs.View.{expr_of}
 use Rattle.expressions.specs.declared.expr.Expr as code
 use Rattle.grammars.specs.Grammar.{rule}
 use Rattle.expr_text.specs.CursorView.{rest}
@@ -20,7 +20,7 @@ use Rattle.expr_text.specs.declared.error.TextError.{TextError}
 use Rattle.loop_model.specs.View.{program_of}
 use Rattle.recurrences.specs.Sequences.{Sequence, sequence_names, AreFormed}
 use Rattle.recurrences.specs.Turning as turning
-use Rattle.recurrences.specs.Turning.{shown}
+use Rattle.recurrences.specs.Turning.{first_places}
 use Rattle.sequence_grammar.specs.Seqs.{more_nexts}
 use Rattle.sequence_grammar.specs.LoopLayout.{turns, IsOver}
 use Rattle.sequence_text.specs.declared.Seqs.{Seqs}
@@ -31,16 +31,16 @@ use Rattle.sequence_text.specs.Firsts.{values_in, behind_all, AreMade}
 pub record IsTurn (f : Firsts) (ns : List (Expr ℕ)) (ts : List code.Expr) : Type 0 where
   pub count : length ns ≡ length f.sequences
   pub over : Each (IsOver (length (values_in f))) ns
-  pub is : map seen ts ≡ turns 0 f.orders.items ns
+  pub is : map expr_of ts ≡ turns 0 f.orders.items ns
 
-pub record IsTurned (f : Firsts) (c : Cursor) (r : Vec code.Expr × Cursor) : Type 0 where
+pub record HasReadTurn (f : Firsts) (c : Cursor) (r : Vec code.Expr × Cursor) : Type 0 where
   pub nexts : List (Expr ℕ)
   pub turn : IsTurn f nexts r.0.items
   pub goes : Ok (behind_all f nexts, rest r.1)
       ≡ reading (rule more_nexts) (behind_all f []) (rest c)
 
 abbrev pub ReadsTurn : Firsts → Cursor → Result (Vec code.Expr × Cursor) TextError → Type 0
-ReadsTurn f c (Ok r) = IsTurned f c r
+ReadsTurn f c (Ok r) = HasReadTurn f c r
 ReadsTurn f c (Err e) = IfSome (option_map Err (fault_of e))
     (λ r. r ≡ reading (rule more_nexts) (behind_all f []) (rest c))
 
@@ -52,7 +52,7 @@ pub record HasTurn (f : Firsts) (ts : List code.Expr) : Type 0 where
 
 pub record IsLoopOf (s : Seqs) (qs : List (Sequence (Expr ℕ))) : Type 0 where
   pub is : program_of s.lp ≡ turning.program_of qs
-  pub places : s.shown.items ≡ shown 0 qs
+  pub places : s.shown.items ≡ first_places 0 qs
   pub names : s.names ≡ sequence_names qs
   pub formed : AreFormed qs
 

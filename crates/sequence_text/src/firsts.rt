@@ -3,10 +3,10 @@
 ghost use Rattle.std.specs.Prelude.{◌≡◌, ◌<◌, ◌≤◌, ◌++◌, ◌∷◌, ℕ, suc, List, [], length, IfOk, OnOk};
 ghost use Rattle.loops.specs.Limits.{most_names};
 ghost use Rattle.loops.specs.Program as loops;
-ghost use Rattle.expr_text.specs.CursorView.{left, rest};
+ghost use Rattle.expr_text.specs.CursorView.{bytes_left, rest};
 ghost use Rattle.expr_text.specs.Kinds.{word_in};
 ghost use Rattle.expr_text.specs.NextToken.{seen_lexeme};
-ghost use Rattle.expressions.specs.View.{seen};
+ghost use Rattle.expressions.specs.View.{expr_of};
 ghost use Rattle.sequence_grammar.specs.Seqs as grammar;
 ghost use Rattle.sequence_grammar.specs.Seqs.{SeqState, nothing, last, variable_name};
 ghost use Rattle.sequence_grammar.specs.LoopLayout.{IsGiven};
@@ -32,7 +32,7 @@ const MOST_NAMES: usize = 12;
 /// Reads the first word of a text.
 pub fn read_opening(cursor: Cursor<'_>) -> Result<Cursor<'_>, TextError>
     ensures goes { (s : SeqState) → Goes grammar.opening s s cursor.entry result }
-    ensures falls { IfOk result (λ end. left end < left cursor.entry) }
+    ensures falls { IfOk result (λ end. bytes_left end < bytes_left cursor.entry) }
 {
     let Lexeme::Name(word) = cursor.token.lexeme else {
         return Err(syntax_fault(cursor));
@@ -52,7 +52,7 @@ fn read_name<'t>(cursor: Cursor<'t>, sequences: &mut Names) -> Result<Cursor<'t>
         cursor.entry result }
     ensures declared { let w = word_in (seen_lexeme cursor.entry.token.lexeme) in
         IfOk result (λ _. IsDeclared w sequences.old sequences.new) }
-    ensures falls { IfOk result (λ end. left end < left cursor.entry) }
+    ensures falls { IfOk result (λ end. bytes_left end < bytes_left cursor.entry) }
 {
     let at = cursor.token.at;
     let Lexeme::Name(word) = cursor.token.lexeme else {
@@ -107,11 +107,12 @@ fn read_value<'t>(
     requires tokens { AreTokens text.now (rest cursor) }
     ensures reads { (ws vs : List (List ℕ)) (rs : List ℕ) (es : List (loops.Expr ℕ)) (own : ℕ) →
         length vs ≡ variables → Reads grammar.value (in_first ws vs rs es own)
-        (λ e. in_first ws (vs ++ variable_name (last ws) own ∷ []) rs (es ++ seen e ∷ []) (suc own))
+        (λ e. in_first ws (vs ++ variable_name (last ws) own ∷ []) rs (es ++ expr_of e ∷ [])
+        (suc own))
         cursor.entry result }
-    ensures given { IfOk result (λ r. IsGiven (seen r.0)) }
+    ensures given { IfOk result (λ r. IsGiven (expr_of r.0)) }
     ensures room { IfOk result (λ _. variables < most_names) }
-    ensures falls { IfOk result (λ r. left r.1 < left cursor.entry) }
+    ensures falls { IfOk result (λ r. bytes_left r.1 < bytes_left cursor.entry) }
 {
     if variables >= MOST_NAMES {
         return Err(too_many(cursor));
@@ -180,10 +181,10 @@ impl Firsts {
     ) -> Result<(), AllocError>
         requires open { IsOpen self.old index name.now }
         requires room { length self.old.variables < most_names }
-        requires given { IsGiven (seen value) }
+        requires given { IsGiven (expr_of value) }
         ensures state { OnOk result (opened self.new (suc index)
             ≡ in_first self.old.sequences (self.old.variables ++ variable_name name.now index ∷ [])
-            self.old.orders.items (values_in self.old ++ seen value ∷ []) (suc index)) }
+            self.old.orders.items (values_in self.old ++ expr_of value ∷ []) (suc index)) }
         ensures open { OnOk result (IsOpen self.new (suc index) name.now) }
     {
         let variable = variable_name(alloc, name, index)?;
@@ -206,7 +207,7 @@ fn read_first<'t>(
     ensures goes { Goes grammar.first (behind firsts.old) (behind firsts.new) cursor.entry result }
     ensures made { IfOk result (λ _. AreMade firsts.new) }
     ensures some { IfOk result (λ _. 0 < length firsts.new.sequences) }
-    ensures falls { IfOk result (λ end. left end < left cursor.entry) }
+    ensures falls { IfOk result (λ end. bytes_left end < bytes_left cursor.entry) }
 {
     let Lexeme::Name(name) = cursor.token.lexeme else {
         return Err(syntax_fault(cursor));

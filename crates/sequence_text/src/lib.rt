@@ -14,7 +14,7 @@ ghost use Rattle.sequence_text.specs.Seen.{Says};
 use crate::firsts::{read_firsts, read_opening};
 use crate::nexts::read_nexts;
 use crate::tokens::expect_end;
-use crate::turning::turned;
+use crate::turning::with_turn;
 use expr_text::{Cursor, TextError};
 use expressions::Names;
 use loop_model::Loop;
@@ -36,7 +36,7 @@ pub fn read_seqs(alloc: Global, bytes: &[u8]) -> Result<Seqs, TextError>
     let (firsts, behind) = read_firsts(alloc, bytes, opened)?;
     let (turn, end) = read_nexts(alloc, bytes, behind, &firsts)?;
     expect_end(end)?;
-    match turned(alloc, firsts, turn) {
+    match with_turn(alloc, firsts, turn) {
         Ok(seqs) => Ok(seqs),
         Err(_) => Err(TextError::Memory),
     }

@@ -3,8 +3,8 @@
 ghost use Rattle.std.specs.Prelude.{◌≡◌, ◌<◌, ◌≤◌, ◌+◌, ◌++◌, ◌∷◌, ℕ, suc, pred, List, [], length, map, IfOk, OnOk};
 ghost use Rattle.loops.specs.Limits.{most_names};
 ghost use Rattle.loops.specs.Program as loops;
-ghost use Rattle.expr_text.specs.CursorView.{left, rest};
-ghost use Rattle.expressions.specs.View.{seen};
+ghost use Rattle.expr_text.specs.CursorView.{bytes_left, rest};
+ghost use Rattle.expressions.specs.View.{expr_of};
 ghost use Rattle.recurrences.specs.Turning.{variables_from};
 ghost use Rattle.sequence_grammar.specs.Seqs as grammar;
 ghost use Rattle.sequence_grammar.specs.LoopLayout.{IsOver};
@@ -31,7 +31,7 @@ fn expect_due<'t>(
     ensures goes { (ns : List (loops.Expr ℕ)) → length ns ≡ index →
         Goes grammar.due_name (behind_all firsts.now ns) (behind_all firsts.now ns)
         cursor.entry result }
-    ensures falls { IfOk result (λ end. left end < left cursor.entry) }
+    ensures falls { IfOk result (λ end. bytes_left end < bytes_left cursor.entry) }
 {
     let at = cursor.token.at;
     let Lexeme::Name(word) = cursor.token.lexeme else {
@@ -58,9 +58,9 @@ fn read_next<'t>(
     requires due { index < length firsts.now.sequences }
     ensures reads { (ns : List (loops.Expr ℕ)) → length ns ≡ index →
         Reads grammar.next (behind_all firsts.now ns)
-        (λ e. behind_all firsts.now (ns ++ seen e ∷ [])) cursor.entry result }
-    ensures over { IfOk result (λ r. IsOver (length firsts.now.variables) (seen r.0)) }
-    ensures falls { IfOk result (λ r. left r.1 < left cursor.entry) }
+        (λ e. behind_all firsts.now (ns ++ expr_of e ∷ [])) cursor.entry result }
+    ensures over { IfOk result (λ r. IsOver (length firsts.now.variables) (expr_of r.0)) }
+    ensures falls { IfOk result (λ r. bytes_left r.1 < bytes_left cursor.entry) }
 {
     let named = expect_due(cursor, firsts, index)?;
     let right = expect_sign(named, b'=')?;
@@ -84,8 +84,8 @@ fn read_next<'t>(
 fn push_later(turn: &mut Vec<Expr>, first: usize, order: usize) -> Result<(), AllocError>
     requires some { 0 < order }
     requires few { first + order ≤ most_names }
-    ensures { OnOk result (map seen turn.new.items
-        ≡ map seen turn.old.items ++ variables_from (suc first) (pred order)) }
+    ensures { OnOk result (map expr_of turn.new.items
+        ≡ map expr_of turn.old.items ++ variables_from (suc first) (pred order)) }
 {
     for var in first + 1..first + order {
         turn.push(Expr::Variable { index: var })?;

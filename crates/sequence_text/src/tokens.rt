@@ -2,7 +2,7 @@
 
 ghost use Rattle.std.specs.Prelude.{◌≡◌, ◌<◌, [], Ok, Err, IfOk, IfErr, OnOk, IfSome, option_map, IsTrue};
 ghost use Rattle.grammars.specs.Grammar.{after_change};
-ghost use Rattle.expr_text.specs.CursorView.{left, rest};
+ghost use Rattle.expr_text.specs.CursorView.{bytes_left, rest};
 ghost use Rattle.expr_text.specs.Faults.{fault_of};
 ghost use Rattle.expr_text.specs.Kinds.{a_sign};
 ghost use Rattle.expr_text.specs.Tokens.{is_sign};
@@ -26,7 +26,7 @@ pub fn expect_sign<'t>(cursor: Cursor<'t>, sign: u8) -> Result<Cursor<'t>, TextE
     ensures goes { (next : SeqContext → SeqContext) (build : SeqContext → SeqValue → SeqValue)
         (s : SeqState) → Goes (token_of (a_sign sign) next build) s
         (after_change next build s) cursor.entry result }
-    ensures falls { IfOk result (λ end. left end < left cursor.entry) }
+    ensures falls { IfOk result (λ end. bytes_left end < bytes_left cursor.entry) }
 {
     if cursor.token.lexeme.is_sign(sign) {
         Ok(cursor.next())

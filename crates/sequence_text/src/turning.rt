@@ -42,7 +42,7 @@ fn first_places(alloc: Global, orders: &[usize]) -> Result<Vec<usize>, AllocErro
 }
 
 /// The loop of the sequences: at the start the variables have the values that are given, and in a turn they become these.
-pub fn turned(alloc: Global, firsts: Firsts, turn: Vec<Expr>) -> Result<Seqs, AllocError>
+pub fn with_turn(alloc: Global, firsts: Firsts, turn: Vec<Expr>) -> Result<Seqs, AllocError>
     requires { HasTurn firsts turn.items }
     ensures { (ns : List (loops.Expr ℕ)) → IsTurn firsts ns turn.items →
         IfOk result (λ s. IsLoopOf s (sequences_in (behind_all firsts ns))) }

@@ -4,7 +4,7 @@ use Rattle.std.proofs.lemmas.Bool.Decides.{nat_tests}
 use Rattle.std.proofs.lemmas.Result.{IfOk-weaker}
 use Rattle.loop_model.specs.View.{program_of}
 use Rattle.loop_chain.specs.Parts.{code_in}
-use Rattle.loop_runs.specs.Seen.{seen}
+use Rattle.loop_runs.specs.Seen.{states_or_fault}
 use Rattle.chain_runs.specs.Replay.{with_word}
 use Rattle.chain_runs.specs.Seen.{states_of}
 use Rattle.chain_runs.proofs.Following.{code_length, code_as_word, no_code, no_step, one_step}
@@ -41,7 +41,7 @@ returns-clause-states c =
     let program = program_of c.args.code.now in
     let ss = states_of c.args.states.items in
     let steps = length c.args.states.items - 1 in
-    subst (λ x. IfSome (seen c.with_word.result) (λ r. r ≡ x))
+    subst (λ x. IfSome (states_or_fault c.with_word.result) (λ r. r ≡ x))
     (ap (λ w. with_word program c.args.letters steps w ss) c.in_ok-once.ensures.items
     ∙ code_as_word c.args.code.now ss c.args.letters steps c.requires.once c.requires.free
     (some (goal.at-returns-clause-states c).Else-is_empty))

@@ -3,13 +3,13 @@ use Rattle.std.proofs.lemmas.Int.{to_z-of_z}
 use Rattle.std.specs.Fmt.{signed_decimal}
 use mir.Syntax.{w32, w128}
 use mir.Val.{to_z, of_z}
-use Rattle.analysis_text.specs.Texts.{listed}
+use Rattle.analysis_text.specs.Texts.{names_at}
 use Rattle.analysis_text.proofs.Pushing.{retold}
 use Rattle.analysis_text.proofs.refusals.split_text.Goals as goal
 
 pub returns : goal.returns
 returns c =
-    let list : string_bytes c.in_ok-list.list ≡ listed c.args.names.now c.args.class.now =
+    let list : string_bytes c.in_ok-list.list ≡ names_at c.args.names.now c.args.class.now =
     c.in_ok-list.ensures in
     let wide : to_z w128 (of_z w128 c.from.result) ≡ c.from.result = search rules in
     let candidate : string_bytes c.in_ok-candidate.candidate ≡ signed_decimal c.args.candidate =

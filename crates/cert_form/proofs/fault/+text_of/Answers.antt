@@ -2,7 +2,7 @@ use Rattle.std.proofs.Common.{◌≡◌, string_bytes, sym, ap, ◌∙◌, arith
 use Rattle.std.proofs.lemmas.Grind.{common_steps}
 use Rattle.std.proofs.lemmas.Result.{IfOk-weaker}
 use Rattle.cert_form.specs.Form.{part}
-use Rattle.cert_form.specs.Path.{path_bytes, named}
+use Rattle.cert_form.specs.Path.{path_bytes, member_path}
 use Rattle.cert_form.proofs.Paths.{member_is, place_is}
 use Rattle.cert_form.proofs.fault.+text_of.Goals as goal
 
@@ -11,10 +11,10 @@ returns-in_ok-object-in-Member t c =
     let object : string_bytes c.in_ok-object-in-Member.object ≡ path_bytes c.in-Member.object.now =
     c.in_ok-object-in-Member.ensures in
     let name = c.in-Member.name.now in
-    let whole : path_bytes c.args.path.now ≡ named (path_bytes c.in-Member.object.now) name =
+    let whole : path_bytes c.args.path.now ≡ member_path (path_bytes c.in-Member.object.now) name =
     ap path_bytes c.in-Member.is ∙ member_is c.in-Member.object c.in-Member.name in
     IfOk-weaker c.format.result _ _ (λ text is.
-    let said : string_bytes text ≡ named (path_bytes c.in-Member.object.now) name =
+    let said : string_bytes text ≡ member_path (path_bytes c.in-Member.object.now) name =
     grind (arith, common_steps) in said ∙ sym whole) c.format.ensures.ok
 
 pub returns-in_ok-list-in-Place : goal.returns-in_ok-list-in-Place

@@ -1,6 +1,6 @@
 use Rattle.std.proofs.Common.{suc, length, []}
 use Rattle.grammars.specs.Grammar.{sequence, many}
-use Rattle.expr_text.specs.CursorView.{rest, left}
+use Rattle.expr_text.specs.CursorView.{rest, bytes_left}
 use Rattle.expr_text.proofs.Paths.{GoesOn}
 use Rattle.loop_text.specs.States.{Inits, in_branches, with_init}
 use Rattle.chain_text.specs.Chains.{none_before, the_branches, further, chain_end, chain_language}
@@ -18,4 +18,4 @@ invariant-loop-stages l = (init : Inits)
     (in_branches l.names.variables l.names.locals l.begun init [])) (rest l.at)
 
 abbrev pub decreases-loop-stages : goal.decreases-loop-stages
-decreases-loop-stages l = left l.at
+decreases-loop-stages l = bytes_left l.at

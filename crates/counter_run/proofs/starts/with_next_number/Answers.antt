@@ -1,9 +1,9 @@
-use Rattle.std.proofs.Common.{◌≡◌, ◌∷◌, ◌++◌, [], length, vec_len, rules, refl, sym, subst, ◌∙◌}
+use Rattle.std.proofs.Common.{◌≡◌, length, vec_len, rules, refl, sym, subst, ◌∙◌}
 use Rattle.poly.specs.Seen.{terms_in}
 use Rattle.loop_model.specs.View.{program_of}
 use Rattle.counters.specs.Point.{IsFirstPrefix}
 use Rattle.counter_run.specs.Starts.{IsPastNext}
-use Rattle.counter_run.proofs.Starting.{fixed_prefix, free_variable, set_variable, ok_numbers}
+use Rattle.counter_run.proofs.Starting.{fixed_prefix, free_variable, set_variable}
 use Rattle.counter_run.proofs.starts.with_next_number.Goals as goal
 
 pub returns-then-is_set-clause-prefix : goal.returns-then-is_set-clause-prefix
@@ -12,8 +12,7 @@ returns-then-is_set-clause-prefix c =
     let m = length program.names in
     let q = terms_in c.args.image.now in
     let long : length c.args.numbers.items ≡ vec_len c.args.numbers = search rules in
-    ok_numbers c.with_last.result (IsFirstPrefix m q)
-    (c.args.numbers.items ++ 0 ∷ []) c.with_last.ensures.numbers
+    subst (IsFirstPrefix m q) (sym c.in_ok-with_last.ensures.numbers)
     (fixed_prefix m q c.args.numbers.items c.requires.within c.requires.prefix program refl
     c.requires.fixed
     (set_variable program c.start.result.now c.start.ensures c.len.result

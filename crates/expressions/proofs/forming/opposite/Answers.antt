@@ -7,5 +7,5 @@ use Rattle.expressions.proofs.forming.opposite.Goals as goal
 
 pub returns : goal.returns
 returns c = subst (Does c.args.of.now.arity (opposite_at c.args.at (terms_in c.args.of.now)))
-    (sym c.answer_at.ensures) (opposite_does c.args.at c.args.of.now c.neg.result
-    c.neg.ensures.opposite (λ w. absurd (c.neg.ensures.narrow w)))
+    (sym c.answer_at.ensures) (opposite_does c.args.at c.args.of.now c.in_ok-neg.field-0
+    c.in_ok-neg.ensures.opposite)

@@ -9,6 +9,8 @@ loop-index-preserved c = variables_more c.args.arity c.loop-index.index c.loop-i
     c.push.new.self.items c.in_ok-free_variable.field-0
     c.loop-index.invariant c.in_ok-free_variable.ensures.variable c.in_ok-push.ensures.items
 
-pub returns-clause-variables : goal.returns-clause-variables
-returns-clause-variables c = variables_all c.args.arity c.loop-index.index c.loop-index.all.items
-    c.loop-index-test.false c.loop-index.invariant
+pub returns : goal.returns
+returns c = record {
+  variables = variables_all c.args.arity c.loop-index.index c.loop-index.all.items
+      c.loop-index-test.false c.loop-index.invariant;
+}

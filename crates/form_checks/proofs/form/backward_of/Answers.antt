@@ -4,7 +4,7 @@ use Rattle.std.proofs.lemmas.Result.{err_from_is_err_and}
 use Rattle.numbers.specs.Fraction.{rationals}
 use Rattle.polynomials.specs.Order.{grevlex}
 use Rattle.machines.specs.Collect.{collect}
-use Rattle.turns.specs.Expo.{turned_back}
+use Rattle.turns.specs.Expo.{backward_terms}
 use Rattle.turns.specs.Turns.{width, IsNormal}
 use Rattle.poly.specs.Seen.{terms_in, terms_each}
 use Rattle.poly.specs.Standing.{IsOver}
@@ -69,9 +69,9 @@ returns-then-not-follows-clause-passes c =
     c.index-2.ensures) (body at) c.in_ok-follows.ensures.holds in
     λ h. true≢false (sym (tells.1 h.goes_on) ∙ c.if-not-follows.true)
 
-pub returns-in-Ok-clause-passes : goal.returns-in-Ok-clause-passes
-returns-in-Ok-clause-passes c =
-    let at = (goal.at.returns-in-Ok-clause-passes c).In-Some in
+pub returns-clause-passes : goal.returns-clause-passes
+returns-clause-passes c =
+    let at = (goal.at.returns-clause-passes c).In-Some in
     let bs = sizes c.args.base.now.items in
     let m = length (terms_each c.args.images.now.items) in
     let starts = start_tells bs m c.in-Some.e.vars (sizes c.in-Some.e.base.items)
@@ -84,7 +84,7 @@ returns-in-Ok-clause-passes c =
     ∙ sym (length-map c.args.images.now.items terms_in))
     (seen_at terms_in c.args.images.now.items c.args.place c.index-2.result.now c.requires.place
     c.index-2.ensures) (body at) c.in_ok-follows.ensures.holds in
-    let is = c.in-Ok.ensures.backward in (
+    let is = c.in_ok-backward.ensures.backward in (
       record {
         normal = subst (IsNormal bs) (sym (kept at).terms ∙ body at) (kept at).normal;
         at_zero = starts.0 c.if-not-begins.false;
@@ -93,8 +93,8 @@ returns-in-Ok-clause-passes c =
       (
         ap terms_in c.into_body.ensures ∙ is.terms
             ∙ ap (collect rationals grevlex)
-            (ap₂ (λ (cs : List ℕ) p. turned_back (length cs) p) (kept at).base (body at)),
-        ap (λ p. p.arity) c.into_body.ensures ∙ c.in-Ok.back.arity
+            (ap₂ (λ (cs : List ℕ) p. backward_terms (length cs) p) (kept at).base (body at)),
+        ap (λ p. p.arity) c.into_body.ensures ∙ c.in_ok-backward.field-0.arity
             ∙ ap₂ (λ (cs : List ℕ) n. width (length cs) n) (is.over_base ∙ (kept at).base)
             (is.over_vars ∙ vars at ∙ length-map c.args.images.now.items terms_in),
       ),

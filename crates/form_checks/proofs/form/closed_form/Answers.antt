@@ -8,7 +8,7 @@ use Rattle.rings.proofs.Lists.{take_next, have_more}
 use Rattle.polynomials.specs.Order.{grevlex}
 use Rattle.turns.specs.Turns.{width}
 use Rattle.rounds.specs.Form.{backward}
-use Rattle.completeness.specs.FormIdentities.{PassesForm}
+use Rattle.completeness.specs.FormIdentities.{IsRightForm}
 use Rattle.poly.specs.Seen.{terms_in, terms_each}
 use Rattle.poly.specs.Standing.{IsOver}
 use Rattle.coprime_base.specs.Sizes.{sizes}
@@ -63,7 +63,7 @@ returns-in-None-clause-passes c =
     omega (arith, c.loop-place-test.true, size, many) in
     let no = subst (Passes (PassesAt bs images ps c.loop-place.place) _) c.in-None.is
     c.in_ok-next.ensures.passes in
-    λ h. no (passes_at bs images ps count (subst (λ k. PassesForm images k
+    λ h. no (passes_at bs images ps count (subst (λ k. IsRightForm images k
     (form_with c.args.base.now c.args.polys.now)) (sym few) h) c.loop-place.place inside)
 
 pub loop-place-preserved : goal.loop-place-preserved
@@ -106,7 +106,7 @@ returns-clause-passes c =
     omega (arith, c.loop-place-test.false, size, many) in
     let base = subst (λ ws. IsCoprimeBase (sizes ws)) c.deref.ensures.value
     (c.is_base-proper.ensures.0 c.if-not-proper.false) in (
-      subst (λ k. PassesForm images k (form_with c.args.base.now c.args.polys.now)) few
+      subst (λ k. IsRightForm images k (form_with c.args.base.now c.args.polys.now)) few
           (passes_all bs images ps count base
           (λ j l. c.loop-place.invariant.passes j (omega (arith, l, last)))),
       (

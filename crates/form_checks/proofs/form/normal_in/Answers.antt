@@ -6,14 +6,14 @@ use Rattle.form_checks.proofs.form.normal_in.Goals as goal
 
 pub returns-then-eq-clause-normal : goal.returns-then-eq-clause-normal
 returns-then-eq-clause-normal c =
-    kept_as (sizes c.args.base.now.items) c.args.p.now c.in-Ok.normal c.requires.front
-    c.in-Ok.ensures.normal c.eq.result
+    kept_as (sizes c.args.base.now.items) c.args.p.now c.in_ok-normal.normal c.requires.front
+    c.in_ok-normal.ensures.normal c.eq.result
     (subst (λ q. IsTrue c.eq.result ↔ AreEqual q c.args.p.now) c.body.ensures c.eq.ensures.same)
     c.if-eq.true
 
 pub returns-clause-normal : goal.returns-clause-normal
 returns-clause-normal c =
-    not_kept (sizes c.args.base.now.items) c.args.p.now c.in-Ok.normal c.requires.front
-    c.in-Ok.ensures.normal c.eq.result
+    not_kept (sizes c.args.base.now.items) c.args.p.now c.in_ok-normal.normal c.requires.front
+    c.in_ok-normal.ensures.normal c.eq.result
     (subst (λ q. IsTrue c.eq.result ↔ AreEqual q c.args.p.now) c.body.ensures c.eq.ensures.same)
     c.if-eq.false

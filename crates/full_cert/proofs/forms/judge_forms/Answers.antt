@@ -8,7 +8,7 @@ use Rattle.loop_model.specs.Maps.{IsBranchMap}
 use Rattle.loop_model.specs.View.{program_of}
 use Rattle.loop_model.proofs.BranchMaps.{maps_count}
 use Rattle.expressions.specs.FracPoly.{FracPoly}
-use Rattle.completeness.specs.FormIdentities.{PassesForm}
+use Rattle.completeness.specs.FormIdentities.{IsRightForm}
 use Rattle.completeness.specs.Parts.{Holds, in_forms}
 use Rattle.cert_checker.proofs.MapsLaws.{branch_here, map_here}
 use Rattle.cert_checker.proofs.VerdictLaws.{branch_count}
@@ -59,7 +59,7 @@ pub returns-in-Ok-None-clause-stops : goal.returns-in-Ok-None-clause-stops
 returns-in-Ok-None-clause-stops c =
     let e = (goal.at.returns-in-Ok-None-clause-stops c).After-index-form in
     let images = c.images-item.result in
-    let no = subst (Passes (PassesForm (terms_each images.items) (length images.items)
+    let no = subst (Passes (IsRightForm (terms_each images.items) (length images.items)
     (as_form (form_in c.index-form.result.now))) _) c.in-Ok-None.field-0-is
     c.in-Ok-None.ensures.passes in
     record {
@@ -93,7 +93,7 @@ loop-b-preserved c =
     let images = c.images-item.result in
     let maps = branch_map (program e) (branch e) in
     let arity = arity-branch_map (program e) (branch e) in
-    let yes = subst (Passes (PassesForm (terms_each images.items) (length images.items)
+    let yes = subst (Passes (IsRightForm (terms_each images.items) (length images.items)
     (as_form (form_in form))) _) c.in-Ok-Some.field-0-is c.in-Ok-Some.ensures.passes in
     let items = c.in-Ok.ensures.items in
     record {

@@ -4,8 +4,8 @@ use Rattle.std.proofs.lemmas.List.{length-map}
 use Rattle.std.proofs.lemmas.Result.{err_from_is_err_and}
 use Rattle.numbers.specs.Fraction.{Fraction, ℚ}
 use Rattle.polynomials.specs.Terms.{Terms}
-use Rattle.machines.specs.Elimination.{kept}
-use Rattle.poly.specs.declared.PolyError.TheVariants as poly_error
+use Rattle.machines.specs.Elimination.{free_part}
+use Rattle.ring_laws.specs.declared.ArithmeticError.TheVariants as arithmetic_error
 use Rattle.poly.specs.Seen.{terms_in, terms_each}
 use Rattle.poly.proofs.IsLaws.{same_equal}
 use Rattle.full_types.specs.Rows.{rows_of}
@@ -20,7 +20,7 @@ use Rattle.full_cert.proofs.stage.judge_links.Goals.{After-is_combination}
 -- what is told of the row of an element that is kept
 module _ (c : After-is_combination) where
   abbrev elements : List (Terms Fraction)
-  elements = kept c.args.front (terms_each c.args.list.now.items)
+  elements = free_part c.args.front (terms_each c.args.list.now.items)
 
   abbrev rows : List (List (Terms Fraction))
   rows = rows_of c.args.links.now
@@ -34,7 +34,7 @@ module _ (c : After-is_combination) where
   element : terms_in c.index.result.now ≡ get_or elements c.loop-i.i []
   element =
       let is : terms_each c.in-Ok.free.items ≡ elements = c.in-Ok.ensures.kept
-      ∙ ap (λ xs. kept c.args.front (terms_each xs)) c.deref.ensures.value in
+      ∙ ap (λ xs. free_part c.args.front (terms_each xs)) c.deref.ensures.value in
       let inside : c.loop-i.i < length c.in-Ok.free.items =
       (let a = ap length is in let n = length-map c.in-Ok.free.items terms_in in
       omega (arith, within, a, n)) in
@@ -55,7 +55,7 @@ module _ (c : After-is_combination) where
       (same_equal ℚ (terms_in c.index.result.now) (get_or elements c.loop-i.i []) element) row
       out_is c.is_combination.ensures.holds
 
-  wide : IsErrOf c.is_combination.result poly_error.Wide → IsPastMade rows out c.loop-i.i
+  wide : IsErrOf c.is_combination.result arithmetic_error.Wide → IsPastMade rows out c.loop-i.i
   wide = past_at c.is_combination.result _ (get_or rows c.loop-i.i []) _ out row out_is
       c.is_combination.ensures.wide
 

@@ -1,11 +1,11 @@
 use Rattle.std.proofs.Common.{ℕ, ◌<◌}
-use Rattle.machines.specs.Elimination.{kept}
+use Rattle.machines.specs.Elimination.{free_part}
 use Rattle.poly.specs.Seen.{terms_each}
 use Rattle.full_types.specs.Rows.{rows_of}
 use Rattle.full_cert.specs.StageParts.{IsMadeAt}
 use Rattle.full_cert.proofs.stage.judge_links.Given as goal
 
 abbrev pub invariant-loop-i : goal.invariant-loop-i
-invariant-loop-i l = (j : ℕ) → j < l.i → IsMadeAt (kept l.front (terms_each l.list.items))
+invariant-loop-i l = (j : ℕ) → j < l.i → IsMadeAt (free_part l.front (terms_each l.list.items))
     (rows_of l.links)
     (terms_each l.out.items) j

@@ -4,7 +4,7 @@ use Rattle.std.proofs.lemmas.List.{length-map}
 use Rattle.std.proofs.lemmas.Result.{err_from_is_err_and}
 use Rattle.numbers.specs.Fraction.{Fraction}
 use Rattle.polynomials.specs.Terms.{Terms}
-use Rattle.poly.specs.declared.PolyError.TheVariants as poly_error
+use Rattle.ring_laws.specs.declared.ArithmeticError.TheVariants as arithmetic_error
 use Rattle.poly.specs.Seen.{terms_in, terms_each}
 use Rattle.full_types.specs.Rows.{rows_of}
 use Rattle.completeness.specs.Representation.{pairs_of}
@@ -81,7 +81,8 @@ module _ (c : After-is_lcm_representation) where
       c.index.result.now (pair_of gs c.loop-i.i) _ (get_or rows c.loop-i.i [])
       (ap terms_each c.deref.ensures.value) pair row c.is_lcm_representation.ensures.holds
 
-  wide : IsErrOf c.is_lcm_representation.result poly_error.Wide → IsPastPairAt gs rows c.loop-i.i
+  wide : IsErrOf c.is_lcm_representation.result arithmetic_error.Wide
+      → IsPastPairAt gs rows c.loop-i.i
   wide = pair_past c.is_lcm_representation.result _ gs c.index.result.now (pair_of gs c.loop-i.i) _
       (get_or rows c.loop-i.i []) (ap terms_each c.deref.ensures.value) pair row
       c.is_lcm_representation.ensures.wide

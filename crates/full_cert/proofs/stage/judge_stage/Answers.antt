@@ -2,7 +2,7 @@ use Rattle.std.proofs.Common.{◌≡◌, ◌<◌, ℕ, length, sym, subst, ◌�
 use Rattle.std.specs.Prelude.{◌⊎◌, vec_len}
 use Rattle.std.proofs.lemmas.List.{length-map}
 use Rattle.std.proofs.lemmas.Result.{err_from_is_err_and, on_ok_weaker, IfErr-weaker}
-use Rattle.machines.specs.Elimination.{kept}
+use Rattle.machines.specs.Elimination.{free_part}
 use Rattle.poly.specs.Seen.{terms_in, terms_each}
 use Rattle.full_types.specs.Rows.{rows_of, HaveWidth}
 use Rattle.completeness.specs.Representation.{pairs_of}
@@ -146,7 +146,7 @@ returns-clause-holds c =
     let hs = starting c.args.variables c.args.begin.now in
     let s = stage_in c.args.stage.now in
     let begun = IsPastAt c.args.variables c.args.begin.now in
-    let free = kept k s.list in
+    let free = free_part k s.list in
     let at = (goal.at.returns-clause-holds c).In_ok-in_row in
     let also = (goal.at.returns-clause-holds c).In_ok-in_row-2 in
     let last = (goal.at.returns-clause-holds c).In_ok-in_row-3 in
@@ -161,7 +161,7 @@ returns-clause-stops c =
     let hs = starting c.args.variables c.args.begin.now in
     let s = stage_in c.args.stage.now in
     let begun = IsPastAt c.args.variables c.args.begin.now in
-    let free = kept k s.list in
+    let free = free_part k s.list in
     let at = (goal.at.returns-clause-stops c).In_ok-in_row in
     let also = (goal.at.returns-clause-stops c).In_ok-in_row-2 in
     let last = (goal.at.returns-clause-stops c).In_ok-in_row-3 in

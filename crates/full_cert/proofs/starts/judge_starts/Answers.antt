@@ -7,7 +7,7 @@ use Rattle.numbers.specs.Fraction.{Fraction, ℚ}
 use Rattle.polynomials.specs.Terms.{Terms, Same}
 use Rattle.loop_model.specs.View.{program_of}
 use Rattle.rounds.specs.Start.{start_list}
-use Rattle.poly.specs.declared.PolyError.TheVariants as poly_error
+use Rattle.ring_laws.specs.declared.ArithmeticError.TheVariants as arithmetic_error
 use Rattle.poly.specs.Seen.{IsImage, terms_in, terms_each}
 use Rattle.poly.specs.Standing.{IsOver}
 use Rattle.expressions.specs.FracPoly.{FracPoly}
@@ -83,7 +83,7 @@ module _ (c : After-is_combination) where
       (get_or (starting item) c.loop-i.i []) _ (get_or rows c.loop-i.i []) _ out (same item) row
       out_is c.is_combination.ensures.holds
 
-  wide : IsErrOf c.is_combination.result poly_error.Wide → IsPastMade rows out c.loop-i.i
+  wide : IsErrOf c.is_combination.result arithmetic_error.Wide → IsPastMade rows out c.loop-i.i
   wide = past_at c.is_combination.result _ (get_or rows c.loop-i.i []) _ out row out_is
       c.is_combination.ensures.wide
 

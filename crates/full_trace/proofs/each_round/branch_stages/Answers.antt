@@ -2,7 +2,7 @@ use Rattle.std.proofs.Common.{sym, subst}
 use Rattle.std.proofs.lemmas.Result.{err_from_is_err_and}
 use Rattle.poly.specs.Seen.{terms_each}
 use Rattle.full_types.specs.View.{stage_in}
-use Rattle.traces.specs.Rounds.{within, Meeting}
+use Rattle.traces.specs.Rounds.{within, MeetBegins}
 use Rattle.traces.proofs.Rounds.{orbit_at, meet_at, met_at}
 use Rattle.full_trace.proofs.RoundsMade.{place_inside, knows_later}
 use Rattle.full_trace.proofs.each_round.branch_stages.Goals as goal
@@ -31,7 +31,7 @@ returns-in_err-met-clause-refused c = λ R d bs A i a.
     c.args.meter.now.entries c.args.round gs c.args.place bs hs a
     (place_inside c.args.setting.now A i c.args.place c.requires.place)) in
     rw (p.1, p.2) (c.in_err-met.ensures.refused R (within d bs s) gs A i
-    (subst (λ vs. Meeting A R (within d bs s) c.orbit.new.meter.entries c.args.round c.args.place
+    (subst (λ vs. MeetBegins A R (within d bs s) c.orbit.new.meter.entries c.args.round c.args.place
     gs hs (terms_each vs)) (sym c.deref.ensures.value)
     (meet_at A R d c.orbit.new.meter.entries c.args.round gs c.args.place c.requires.behind bs hs
     a.stage s o)))
@@ -47,7 +47,7 @@ returns-clause-next c = λ R d bs A i a.
     met_at A R d c.meet.new.meter.entries c.args.round gs c.args.place bs hs
     (terms_each c.deref.result.now) s (stage_in c.in_ok-met.met)
     (c.in_ok-met.ensures.met R (within d bs s) gs A i
-    (subst (λ vs. Meeting A R (within d bs s) c.orbit.new.meter.entries c.args.round c.args.place
+    (subst (λ vs. MeetBegins A R (within d bs s) c.orbit.new.meter.entries c.args.round c.args.place
     gs hs (terms_each vs)) (sym c.deref.ensures.value)
     (meet_at A R d c.orbit.new.meter.entries c.args.round gs c.args.place c.requires.behind bs hs
     a.stage s o)))

@@ -3,7 +3,7 @@ use Rattle.std.proofs.lemmas.List.{length-append}
 use Rattle.poly.specs.Seen.{terms_each}
 use Rattle.full_types.specs.View.{stage_in, branch_in}
 use Rattle.full_types.specs.declared.parts.FullBranch.{FullBranch}
-use Rattle.traces.specs.Rounds.{Orbiting}
+use Rattle.traces.specs.Rounds.{OrbitBegins}
 use Rattle.traces.proofs.Rounds.{first_at, round_at}
 use Rattle.full_trace.specs.Tasks.{Stops, Knows, given_in, after_row, fronts_of, AreBranchesOver}
 use Rattle.full_trace.proofs.RoundsMade.{row_last, branch_pushed, fronts_count, none_left, knows_later, passed_error, lost, first_done, branch_done, known_row, branch_due, borrowed}
@@ -13,7 +13,7 @@ pub returns-in_err-first-clause-refused : goal.returns-in_err-first-clause-refus
 returns-in_err-first-clause-refused c = λ R d A i a.
     passed_error (Stops A R c.orbit.new.meter) c.from_residual.result _ c.from_residual.ensures.1
     (c.in_err-first.ensures.refused R d [] A i
-    (subst (λ ps. Orbiting A R d c.args.meter.now.entries c.args.round 0 (terms_each ps) [])
+    (subst (λ ps. OrbitBegins A R d c.args.meter.now.entries c.args.round 0 (terms_each ps) [])
     (sym c.deref.ensures.value) a))
 
 pub returns-in_err-push-clause-refused : goal.returns-in_err-push-clause-refused
@@ -21,7 +21,7 @@ returns-in_err-push-clause-refused c = λ R d A i a.
     passed_error (Stops A R c.orbit.new.meter) c.from_residual-in_err-push.result _
     c.from_residual-in_err-push.ensures.1 (lost A R c.orbit.new.meter.entries _
     (c.in_ok-first.ensures.next R d [] A i
-    (subst (λ ps. Orbiting A R d c.args.meter.now.entries c.args.round 0 (terms_each ps) [])
+    (subst (λ ps. OrbitBegins A R d c.args.meter.now.entries c.args.round 0 (terms_each ps) [])
     (sym c.deref.ensures.value) a)))
 
 pub loop-place-init : goal.loop-place-init
@@ -52,7 +52,8 @@ loop-place-init c =
           (terms_each (given_in b).items)
           (first_at A R d c.orbit.new.meter.entries c.args.round (terms_each c.deref.result.now)
           (stage_in c.in_ok-first.first) (c.in_ok-first.ensures.next R d [] A i
-          (subst (λ ps. Orbiting A R d c.args.meter.now.entries c.args.round 0 (terms_each ps) [])
+          (subst (λ ps. OrbitBegins A R d c.args.meter.now.entries c.args.round 0 (terms_each ps)
+          [])
           (sym c.deref.ensures.value) a))));
     }
 

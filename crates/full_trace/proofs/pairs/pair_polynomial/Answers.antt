@@ -24,14 +24,14 @@ returns-clause-terms g c =
     if_ok _ _ c.s_polynomial.result
     (λ p h. is_pair c.args.order c.args.arity c.args.list.now c.requires.divisors
     (c.args.left, c.args.right) c.requires.inside c.index-list-left.result
-    c.index-list-right.result c.index-list-left.is c.index-list-right.is c.in-Ok.multiple
-    (c.in-Ok.ensures.ok ∙ ap₂ lcm c.in_ok-first.ensures.lead c.in_ok-second.ensures.lead)
+    c.index-list-right.result c.index-list-left.is c.index-list-right.is c.in_ok-multiple.multiple
+    (c.in_ok-multiple.ensures.ok ∙ ap₂ lcm c.in_ok-first.ensures.lead c.in_ok-second.ensures.lead)
     (terms_in p) h) c.s_polynomial.ensures.terms
 
 pub returns-clause-wide : goal.returns-clause-wide
 returns-clause-wide g c =
     λ w. past_pair c.args.order c.args.arity c.args.list.now c.requires.divisors
     (c.args.left, c.args.right) c.requires.inside c.index-list-left.result
-    c.index-list-right.result c.index-list-left.is c.index-list-right.is c.in-Ok.multiple
-    (c.in-Ok.ensures.ok ∙ ap₂ lcm c.in_ok-first.ensures.lead c.in_ok-second.ensures.lead)
+    c.index-list-right.result c.index-list-left.is c.index-list-right.is c.in_ok-multiple.multiple
+    (c.in_ok-multiple.ensures.ok ∙ ap₂ lcm c.in_ok-first.ensures.lead c.in_ok-second.ensures.lead)
     (c.s_polynomial.ensures.wide w)

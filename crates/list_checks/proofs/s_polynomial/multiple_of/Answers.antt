@@ -1,4 +1,5 @@
 use Rattle.std.proofs.Common.{length, sym, ap, ap₂, ◌∙◌}
+use Rattle.std.proofs.lemmas.Result.{IfOk-weaker}
 use Rattle.polynomials.specs.Exponent.{lcm}
 use Rattle.poly.specs.Seen.{terms_in}
 use Rattle.list_checks.proofs.Raised.{lead_length}
@@ -13,6 +14,8 @@ lcm-requires g c =
     c.args.g.now.polynomial.arity)
     ∙ ap length (sym c.lead_monomial-2.ensures)
 
-pub returns-in-Ok-clause-multiple : goal.returns-in-Ok-clause-multiple
-returns-in-Ok-clause-multiple g c =
-    c.in-Ok.ensures.ok ∙ ap₂ lcm c.lead_monomial.ensures c.lead_monomial-2.ensures
+pub returns : goal.returns
+returns g c = record {
+  multiple = IfOk-weaker c.lcm.result _ _ (λ e is. is
+      ∙ ap₂ lcm c.lead_monomial.ensures c.lead_monomial-2.ensures) c.lcm.ensures.ok;
+}

@@ -1,6 +1,6 @@
 use Rattle.std.proofs.Common.{◌≡◌, ◌⊎◌, ◌<◌, length, map, All, sym, ap, ◌∙◌, inl, inr, arith, subst}
 use Rattle.poly.specs.Seen.{terms_each, arity_of}
-use Rattle.expressions.specs.View.{seen}
+use Rattle.expressions.specs.View.{expr_of}
 use Rattle.poly.specs.Standing.{}
 use Rattle.expressions.specs.Operations.{operations_all}
 use Rattle.expressions.specs.Stops.{Stops}
@@ -74,5 +74,5 @@ pub returns-in_err-values : goal.returns-in_err-values
 returns-in_err-values c = handed_on_all _ _ _ c.in_err-values.field-0.0 c.from_residual.result
     c.from_residual.ensures.1
     (subst (λ es. Stops (arity_of c.args.state.items) (operations_all (arity_of c.args.state.items)
-    (terms_each c.args.state.items) (map seen es)) c.in_err-values.field-0.0)
+    (terms_each c.args.state.items) (map expr_of es)) c.in_err-values.field-0.0)
     c.deref.ensures.value c.in_err-values.ensures)

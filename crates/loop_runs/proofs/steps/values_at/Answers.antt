@@ -1,7 +1,7 @@
 use Rattle.std.proofs.Common.{map, arith, ap, ⊎_elim, inl, inr}
 use Rattle.std.proofs.lemmas.List.{map-append, length-append}
 use Rattle.std.proofs.lemmas.Slice.Zip.{Zip-more, either_empty_from_Zip}
-use Rattle.expressions.specs.View.{seen}
+use Rattle.expressions.specs.View.{expr_of}
 use Rattle.loop_runs.specs.Seen.{numbers_of}
 use Rattle.loop_runs.proofs.steps.values_at.Goals as goal
 use Rattle.loop_runs.proofs.Turns.{values_more, values_wide, values_end}
@@ -35,4 +35,4 @@ returns-clause-values c =
     let e = either_empty_from_Zip c.loop-target.target-iterator c.next.new.self c.next.result
     c.in-None.is c.next.ensures.steps in
     values_end c.args.step (numbers_of c.args.state.now) _ _ _ _ c.loop-target.invariant.left
-    (⊎_elim inl (λ q. inr (ap (map seen) q)) e)
+    (⊎_elim inl (λ q. inr (ap (map expr_of) q)) e)

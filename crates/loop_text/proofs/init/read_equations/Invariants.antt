@@ -1,6 +1,6 @@
 use Rattle.std.proofs.Common.{[], map}
 use Rattle.loop_text.specs.Loops.{start}
-use Rattle.loop_text.proofs.Answering.{sequence, rest, left, GoesOn, equation_of, comma_list, init_end, loop_language, in_init, with_names}
+use Rattle.loop_text.proofs.Answering.{sequence, rest, bytes_left, GoesOn, equation_of, comma_list, init_end, loop_language, in_init, with_names}
 use Rattle.loop_text.proofs.init.read_equations.Given as goal
 
 abbrev pub invariant-loop-set : goal.invariant-loop-set
@@ -10,4 +10,4 @@ invariant-loop-set l = GoesOn loop_language (sequence (comma_list start) init_en
     (map equation_of l.start.items) []) (rest l.at)
 
 abbrev pub decreases-loop-set : goal.decreases-loop-set
-decreases-loop-set l = left l.at
+decreases-loop-set l = bytes_left l.at

@@ -1,6 +1,6 @@
 use Rattle.std.proofs.Common.{◌≡◌, ◌≤◌, [], ◌++◌, length}
 use Rattle.loop_text.specs.Loops.{local_name}
-use Rattle.loop_text.proofs.Answering.{sequence, rest, left, GoesOn, comma_list, sign, loop_language, with_names}
+use Rattle.loop_text.proofs.Answering.{sequence, rest, bytes_left, GoesOn, comma_list, sign, loop_language, with_names}
 use Rattle.loop_text.proofs.names.read_local_names.Given as goal
 
 abbrev pub invariant-loop-names : goal.invariant-loop-names
@@ -14,4 +14,4 @@ invariant-loop-names l = record {
 }
 
 abbrev pub decreases-loop-names : goal.decreases-loop-names
-decreases-loop-names l = left l.at
+decreases-loop-names l = bytes_left l.at

@@ -1,5 +1,5 @@
 use Rattle.std.proofs.Common.{◌≡◌, ◌≤◌, [], length}
-use Rattle.loop_text.proofs.Answering.{sequence, rest, left, GoesOn, comma_list, declared_name, names, nothing, sign, loop_language, with_names}
+use Rattle.loop_text.proofs.Answering.{sequence, rest, bytes_left, GoesOn, comma_list, declared_name, names, nothing, sign, loop_language, with_names}
 use Rattle.loop_text.proofs.names.read_names.Given as goal
 
 abbrev pub invariant-loop-all : goal.invariant-loop-all
@@ -11,4 +11,4 @@ invariant-loop-all l = record {
 }
 
 abbrev pub decreases-loop-all : goal.decreases-loop-all
-decreases-loop-all l = left l.at
+decreases-loop-all l = bytes_left l.at

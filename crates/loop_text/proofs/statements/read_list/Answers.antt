@@ -1,5 +1,5 @@
 use Rattle.std.proofs.Common.{◌≡◌, ℕ, suc, true, List, [], ◌∷◌, ◌++◌, refl, ap, sym, subst, ◌∙◌, map, Ok, None, arith}
-use Rattle.loop_text.proofs.Answering.{seen, map_push, err_from_is_err_and, sequence, rest, tokens_from, is_sign_of, seen_lexeme, limit, Cursor, statement_of, GoesOn, start, on, ends, stops_going, stops_last_going, sign_read, sign_at_fault, Begun, keep, statement_fault, begin_statement, end_statement, with_statement, targets, values, statement_end, several, loop_language, Before, between, behind, in_statement, statement_limit}
+use Rattle.loop_text.proofs.Answering.{expr_of, map_push, err_from_is_err_and, sequence, rest, tokens_from, is_sign_of, seen_lexeme, limit, Cursor, statement_of, GoesOn, start, on, ends, stops_going, stops_last_going, sign_read, sign_at_fault, Begun, keep, statement_fault, begin_statement, end_statement, with_statement, targets, values, statement_end, several, loop_language, Before, between, behind, in_statement, statement_limit}
 use Rattle.loop_text.proofs.statements.read_list.Goals as goal
 use Rattle.loop_text.proofs.statements.read_list.Goals.{In_ok-targets}
 
@@ -86,7 +86,7 @@ returns-clause-goes c = λ b.
       between names us n (behind b (map statement_of c.args.statements.now.items
           ++ record {
             targets = c.in_ok-targets.targets.items;
-            values = map seen c.in_ok-values.values.items;
+            values = map expr_of c.in_ok-values.values.items;
           } ∷ [])),
       end,
     )) left

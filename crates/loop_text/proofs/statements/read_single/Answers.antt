@@ -2,7 +2,7 @@ use Rattle.std.proofs.Common.{◌≡◌, ℕ, suc, List, ap, sym, ◌∷◌, [],
 use Rattle.expressions.specs.Names.{place_of}
 use Rattle.expr_text.specs.Kinds.{word_in}
 use Rattle.loop_text.proofs.WordReads.{named_here, no_name_here, word_barred, word_fails}
-use Rattle.loop_text.proofs.Answering.{map_push, err_from_is_err_and, seen, sequence, rest, seen_lexeme, Reason, or_else, limit, no_first, GoesOn, start, on, ends, stops_going, stops_last_going, statement_of, Begun, LoopContext, keep, statement_fault, name_fault, target_fault, begin_statement, aim, end_statement, with_statement, only_target, right_side, statement_end, sign, single, loop_language, Before, between, behind, in_statement, IsLeft, left_fault, statement_limit}
+use Rattle.loop_text.proofs.Answering.{map_push, err_from_is_err_and, expr_of, sequence, rest, seen_lexeme, Reason, or_else, limit, no_first, GoesOn, start, on, ends, stops_going, stops_last_going, statement_of, Begun, LoopContext, keep, statement_fault, name_fault, target_fault, begin_statement, aim, end_statement, with_statement, only_target, right_side, statement_end, sign, single, loop_language, Before, between, behind, in_statement, IsLeft, left_fault, statement_limit}
 use Rattle.loop_text.proofs.statements.read_single.Goals as goal
 use Rattle.loop_text.proofs.statements.read_single.Goals.{In_ok-target}
 
@@ -106,7 +106,7 @@ returns-clause-goes c = λ b.
     let n = c.begin_statement.new.self in
     let old = map statement_of c.args.statements.now.items in
     let is = c.in_ok-target.target ∷ [] in
-    let values = map seen c.read_value.new.values.items in
+    let values = map expr_of c.read_value.new.values.items in
     let end = rest c.in_ok-end.end in
     let right = on (named (goal.at-returns-clause-goes c).In_ok-target (behind b old))
     (c.in_ok-right.ensures.goes (λ c. c) keep _) in

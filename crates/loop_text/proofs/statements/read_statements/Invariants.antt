@@ -1,14 +1,14 @@
 use Rattle.std.proofs.Common.{◌≤◌, [], map}
-use Rattle.loop_text.proofs.Answering.{rest, left, statement_of, GoesOn, statements, loop_language, Before, between, behind}
+use Rattle.loop_text.proofs.Answering.{rest, bytes_left, statement_of, GoesOn, statements, loop_language, Before, between, behind}
 use Rattle.loop_text.proofs.statements.read_statements.Given as goal
 
 abbrev pub invariant-loop-alloc : goal.invariant-loop-alloc
 invariant-loop-alloc l = record {
-  falls : left l.at ≤ left l.fn.cursor;
+  falls : bytes_left l.at ≤ bytes_left l.fn.cursor;
   goes : (b : Before) → GoesOn loop_language statements (between l.names l.fn.unset.items l.fn.begun
       (behind b [])) (rest l.fn.cursor) statements (between l.names l.unset.items l.begun
       (behind b (map statement_of l.statements.items))) (rest l.at);
 }
 
 abbrev pub decreases-loop-alloc : goal.decreases-loop-alloc
-decreases-loop-alloc l = left l.at
+decreases-loop-alloc l = bytes_left l.at

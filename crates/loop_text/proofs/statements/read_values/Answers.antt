@@ -1,6 +1,6 @@
 use Rattle.std.proofs.Common.{map, arith}
 use Rattle.loop_text.proofs.ValueReads.{more_values_due, no_values_due}
-use Rattle.loop_text.proofs.Answering.{length-map, err_from_is_err_and, seen, rest, start, on, over, ends, stops, stops_last, keep, loop_language, in_statement, in_parts, rule, right_side, more_values, sign}
+use Rattle.loop_text.proofs.Answering.{length-map, err_from_is_err_and, expr_of, rest, start, on, over, ends, stops, stops_last, keep, loop_language, in_statement, in_parts, rule, right_side, more_values, sign}
 use Rattle.loop_text.proofs.statements.read_values.Goals as goal
 
 pub returns-in_err-opening-clause-reads : goal.returns-in_err-opening-clause-reads
@@ -32,10 +32,10 @@ pub returns-in_err-end-clause-reads : goal.returns-in_err-end-clause-reads
 returns-in_err-end-clause-reads c = λ n b is e.
     let vs = c.read_value.new.values in
     let value = on (c.loop-values.invariant.goes n b is e) (c.in_ok-at-2.ensures.goes n b is) in
-    stops_last (no_values_due c.args.names.now c.args.unset.now n b is (map seen vs.items)
+    stops_last (no_values_due c.args.names.now c.args.unset.now n b is (map expr_of vs.items)
     c.in_ok-at-2.at value (omega (
       arith,
-      length-map vs.items seen,
+      length-map vs.items expr_of,
       vs.ok,
       e,
       c.len.ensures,
@@ -48,10 +48,11 @@ pub returns-then-len-count-clause-reads : goal.returns-then-len-count-clause-rea
 returns-then-len-count-clause-reads c = λ n b is e.
     let vs = c.read_value.new.values in
     let value = on (c.loop-values.invariant.goes n b is e) (c.in_ok-at-2.ensures.goes n b is) in
-    ends (no_values_due c.args.names.now c.args.unset.now n b is (map seen vs.items) c.in_ok-at-2.at
+    ends (no_values_due c.args.names.now c.args.unset.now n b is (map expr_of vs.items)
+    c.in_ok-at-2.at
     value (omega (
       arith,
-      length-map vs.items seen,
+      length-map vs.items expr_of,
       vs.ok,
       e,
       c.len.ensures,
@@ -62,10 +63,10 @@ pub returns-in_err-at-3-clause-reads : goal.returns-in_err-at-3-clause-reads
 returns-in_err-at-3-clause-reads c = λ n b is e.
     let vs = c.read_value.new.values in
     let value = on (c.loop-values.invariant.goes n b is e) (c.in_ok-at-2.ensures.goes n b is) in
-    stops (more_values_due c.args.names.now c.args.unset.now n b is (map seen vs.items)
+    stops (more_values_due c.args.names.now c.args.unset.now n b is (map expr_of vs.items)
     c.in_ok-at-2.at value (omega (
       arith,
-      length-map vs.items seen,
+      length-map vs.items expr_of,
       vs.ok,
       e,
       c.len.ensures,
@@ -85,10 +86,10 @@ loop-values-preserved c = record {
   goes = λ n b is e.
       let vs = c.read_value.new.values in
       let value = on (c.loop-values.invariant.goes n b is e) (c.in_ok-at-2.ensures.goes n b is) in
-      let due = more_values_due c.args.names.now c.args.unset.now n b is (map seen vs.items)
+      let due = more_values_due c.args.names.now c.args.unset.now n b is (map expr_of vs.items)
       c.in_ok-at-2.at value (omega (
         arith,
-        length-map vs.items seen,
+        length-map vs.items expr_of,
         vs.ok,
         e,
         c.len.ensures,
@@ -96,5 +97,5 @@ loop-values-preserved c = record {
       )) in
       over (on due (c.in_ok-at-3.ensures.goes (λ c. c) keep _)) _ _ _
       (in_parts loop_language right_side (rule more_values) (in_statement c.args.names.now
-      c.args.unset.now n b is (map seen vs.items)) (rest c.in_ok-at-3.at) (sign 41));
+      c.args.unset.now n b is (map expr_of vs.items)) (rest c.in_ok-at-3.at) (sign 41));
 }

@@ -1,6 +1,6 @@
 use Rattle.std.proofs.Common.{◌≡◌, ◌<◌, length, sym, subst}
 use Rattle.loops.specs.WellFormed.{Uses}
-use Rattle.expressions.specs.View.{seen}
+use Rattle.expressions.specs.View.{expr_of}
 use Rattle.expressions.proofs.StateLaws.{formed_at}
 use Rattle.expressions.proofs.Variables.{made_stand, made_length, made_arity, made_over}
 use Rattle.poly_text.specs.Equations.{free_state}
@@ -15,7 +15,7 @@ expr_poly-requires-clause-uses c =
     let long : length c.in_ok-state.state.items ≡ length c.args.names.now =
     made_length _ _ c.len.ensures.len c.in_ok-state.state.items
     c.in_ok-state.ensures.variables in
-    subst (λ n. Uses (λ i. i < n) (seen c.args.expr.now)) (sym long) c.requires
+    subst (λ n. Uses (λ i. i < n) (expr_of c.args.expr.now)) (sym long) c.requires
 
 pub returns : goal.returns
 returns c =
@@ -23,5 +23,5 @@ returns c =
     let ps = c.in_ok-state.state.items in
     let made = c.in_ok-state.ensures.variables in
     formed_at m ps (free_state m) (made_stand _ m c.len.ensures.len ps made)
-    (made_arity _ m c.len.ensures.len ps made) (seen c.args.expr.now) c.expr_poly.result
+    (made_arity _ m c.len.ensures.len ps made) (expr_of c.args.expr.now) c.expr_poly.result
     c.expr_poly.ensures.value c.expr_poly.ensures.free c.expr_poly.ensures.stops

@@ -1,7 +1,7 @@
 use Rattle.std.proofs.Common.{refl, ap, sym, ◌∙◌}
 use Rattle.std.proofs.lemmas.Result.{err_from_is_err_and}
 use Rattle.loops.specs.WellFormed.{Uses}
-use Rattle.expressions.specs.View.{seen}
+use Rattle.expressions.specs.View.{expr_of}
 use Rattle.expr_text.specs.Lexemes.{tokens}
 use Rattle.expr_text.specs.CursorView.{rest}
 use Rattle.expr_text.specs.Sums.{sum_language, equals}
@@ -45,7 +45,7 @@ returns-in_err-expect_end-clause-reads c =
     c.from_residual-in_err-expect_end.ensures.1)
 
 pub returns-clause-reads : goal.returns-clause-reads
-unfolding seen
+unfolding expr_of
 returns-clause-reads c =
     ap said_told (c.in_ok-expect_end.ensures _)
     ∙ sym (behind_right c.args.names.now (tokens c.args.text.now) c.new.result c.new.ensures
@@ -54,7 +54,7 @@ returns-clause-reads c =
     c.in_ok-right.right c.in_ok-right.end (c.in_ok-right.ensures.reads _ _)).same
 
 pub returns-clause-uses : goal.returns-clause-uses
-unfolding seen Uses
+unfolding expr_of Uses
 returns-clause-uses c = (
   uses_part c.args.names.now c.in_ok-left.left (rest c.new.result) (rest c.in_ok-left.middle)
       (c.in_ok-left.ensures.reads _ _),

@@ -1,5 +1,5 @@
 use Rattle.std.proofs.Common.{◌≡◌, length}
-use Rattle.expr_text.specs.CursorView.{rest, left}
+use Rattle.expr_text.specs.CursorView.{rest, bytes_left}
 use Rattle.poly_text.specs.Flat.{flat_of}
 use Rattle.poly_text.specs.Seen.{read_terms, HasRead}
 use Rattle.poly_text.proofs.ItemSteps.{from_item}
@@ -13,4 +13,4 @@ invariant-loop-seen l = record {
 }
 
 abbrev pub decreases-loop-seen : goal.decreases-loop-seen
-decreases-loop-seen l = left l.cursor
+decreases-loop-seen l = bytes_left l.cursor

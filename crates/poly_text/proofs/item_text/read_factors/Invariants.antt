@@ -1,6 +1,6 @@
 use Rattle.std.proofs.Common.{◌≡◌, ◌≤◌, length, vec_len}
 use Rattle.grammars.specs.Grammar.{many}
-use Rattle.expr_text.specs.CursorView.{rest, left}
+use Rattle.expr_text.specs.CursorView.{rest, bytes_left}
 use Rattle.expr_text.specs.Telling.{reading}
 use Rattle.poly_text.specs.Flat.{FlatContext, factor, flat_language}
 use Rattle.poly_text.specs.FlatReads.{at_power}
@@ -9,7 +9,7 @@ use Rattle.poly_text.proofs.item_text.read_factors.Given as goal
 -- the factors that follow are read behind those that were read
 abbrev pub invariant-loop-found : goal.invariant-loop-found
 invariant-loop-found l = record {
-  falls : left l.at ≤ left l.fn.cursor;
+  falls : bytes_left l.at ≤ bytes_left l.fn.cursor;
   len : vec_len l.found ≡ length l.names;
   same : (c : FlatContext) → reading flat_language (many factor) (at_power c l.names l.found.items
       0) (rest l.at)
@@ -18,4 +18,4 @@ invariant-loop-found l = record {
 }
 
 abbrev pub decreases-loop-found : goal.decreases-loop-found
-decreases-loop-found l = left l.at
+decreases-loop-found l = bytes_left l.at

@@ -12,20 +12,25 @@ use Rattle.raw_polys.specs.Raw as spec
 use Rattle.raw_polys.proofs.Polynomials.{arity_of_read, raw_is}
 use Rattle.raw_polys.proofs.raw.read_list.Goals as goal
 
-pub returns-in-Ok-clause-ok : goal.returns-in-Ok-clause-ok
-returns-in-Ok-clause-ok g c =
+pub returns-clause-ok : goal.returns-clause-ok
+returns-clause-ok g c =
     let ts = read_terms c.in-Some.terms.items in
-    let is : Is c.args.order c.args.arity (read_terms c.in-Some.terms.items) c.in-Ok.p =
-    c.in-Ok.ensures.sum in
-    let falls : IsPolynomial ℚ (g.O.Order.order c.args.order) c.args.arity (terms_in c.in-Ok.p) =
-    subst (λ n. IsPolynomial ℚ (g.O.Order.order c.args.order) n (terms_in c.in-Ok.p)) is.arity
-    (subst (λ o. IsPolynomial ℚ (g.O.Order.order o) c.in-Ok.p.arity (terms_in c.in-Ok.p)) is.order
-    c.in-Ok.p.polynomial) in
+    let is : Is c.args.order c.args.arity (read_terms c.in-Some.terms.items)
+    c.in_ok-from_distinct.field-0 =
+    c.in_ok-from_distinct.ensures in
+    let falls : IsPolynomial ℚ (g.O.Order.order c.args.order) c.args.arity
+    (terms_in c.in_ok-from_distinct.field-0) =
+    subst (λ n. IsPolynomial ℚ (g.O.Order.order c.args.order) n
+    (terms_in c.in_ok-from_distinct.field-0)) is.arity
+    (subst (λ o. IsPolynomial ℚ (g.O.Order.order o) c.in_ok-from_distinct.field-0.arity
+    (terms_in c.in_ok-from_distinct.field-0)) is.order
+    c.in_ok-from_distinct.field-0.polynomial) in
     let same : Some (read_terms c.in-Some.terms.items)
     ≡ spec.terms_of c.args.arity (items_view c.args.list.now) = search rules in
     let long : All (λ (t : Term Frac). length t.mono ≡ c.args.arity) c.in-Some.terms.items =
     search rules in
     raw_is (g.O.Order.order c.args.order) c.args.arity (path_bytes c.args.path.now)
     (items_view c.args.list.now) (g.met.O.Order.is_order c.args.order)
-    (sym c.have_term_form.ensures ∙ c.if-not-have_term_form.false) ts (terms_in c.in-Ok.p) same
+    (sym c.have_term_form.ensures ∙ c.if-not-have_term_form.false) ts
+    (terms_in c.in_ok-from_distinct.field-0) same
     (arity_of_read c.args.arity c.in-Some.terms.items long) falls is.same

@@ -1,6 +1,6 @@
 use Rattle.std.proofs.Common.{◌≡◌, ◌+◌, refl, sym, ap, subst, ◌∙◌, arith, Ok}
 use Rattle.std.proofs.lemmas.Result.{err_from_is_err_and}
-use Rattle.expressions.specs.View.{seen}
+use Rattle.expressions.specs.View.{expr_of}
 use Rattle.grammars.specs.Grammar.{sequence}
 use Rattle.expr_text.specs.CursorView.{rest}
 use Rattle.expr_text.proofs.CursorReads.{no_first}
@@ -104,7 +104,7 @@ read : (c : In_ok-push_value) → Ok (
 read c =
     let f = c.loop-value.firsts in
     value_on f c.push_value.new.self c.loop-value.order c.in-Name.name.now
-    c.loop-value.invariant.opens (seen c.in_ok-value.value) (rest c.loop-value.at)
+    c.loop-value.invariant.opens (expr_of c.in_ok-value.value) (rest c.loop-value.at)
     (rest c.in_ok-value.end)
     (c.in_ok-value.ensures.reads f.sequences f.variables f.orders.items (values_in f)
     c.loop-value.order (sym c.len.ensures.len)) c.in_ok-push_value.ensures.state

@@ -1,6 +1,6 @@
 use Rattle.std.proofs.Common.{◌<◌}
 use Rattle.grammars.specs.Grammar.{sequence}
-use Rattle.expr_text.specs.CursorView.{rest, left}
+use Rattle.expr_text.specs.CursorView.{rest, bytes_left}
 use Rattle.expr_text.proofs.Paths.{GoesOn}
 use Rattle.sequence_grammar.specs.Seqs.{first, value, first_end, seq_language}
 use Rattle.sequence_text.specs.Firsts.{behind, opened, IsOpen}
@@ -14,8 +14,8 @@ invariant-loop-value l = record {
       (sequence (comma_list value) first_end) (opened l.firsts l.order) (rest l.at);
   opens : IsOpen l.firsts l.order l.name;
   tokens : AreTokens l.text (rest l.at);
-  falls : left l.at < left l.fn.cursor;
+  falls : bytes_left l.at < bytes_left l.fn.cursor;
 }
 
 abbrev pub decreases-loop-value : goal.decreases-loop-value
-decreases-loop-value l = left l.at
+decreases-loop-value l = bytes_left l.at

@@ -1,5 +1,5 @@
 use Rattle.grammars.specs.Grammar.{sequence}
-use Rattle.expr_text.specs.CursorView.{rest, left}
+use Rattle.expr_text.specs.CursorView.{rest, bytes_left}
 use Rattle.expr_text.proofs.Paths.{GoesOn}
 use Rattle.sequence_grammar.specs.Seqs.{firsts, first, firsts_end, nothing, seq_language}
 use Rattle.sequence_text.specs.Firsts.{behind, AreMade}
@@ -16,4 +16,4 @@ invariant-loop-firsts l = record {
 }
 
 abbrev pub decreases-loop-firsts : goal.decreases-loop-firsts
-decreases-loop-firsts l = left l.at
+decreases-loop-firsts l = bytes_left l.at

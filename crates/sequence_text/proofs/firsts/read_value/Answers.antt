@@ -1,5 +1,5 @@
 use Rattle.std.proofs.Common.{◌++◌, [], ◌∷◌, suc, ap, refl, ◌∙◌, Ok}
-use Rattle.expressions.specs.View.{seen}
+use Rattle.expressions.specs.View.{expr_of}
 use Rattle.expr_text.specs.CursorView.{rest}
 use Rattle.sequence_grammar.specs.Seqs.{in_values, sums_in_values, no_sum_value, variable_name, last}
 use Rattle.sequence_grammar.proofs.SeqChecked.{values_embedded}
@@ -17,17 +17,19 @@ returns-then-variables-ge-MOST_NAMES-clause-reads c = λ ws vs rs es own e.
 pub returns-in-Ok-clause-reads : goal.returns-in-Ok-clause-reads
 returns-in-Ok-clause-reads c = λ ws vs rs es own l.
     ap (λ e. Ok (
-      in_first ws (vs ++ variable_name (last ws) own ∷ []) rs (es ++ seen e ∷ [])
+      in_first ws (vs ++ variable_name (last ws) own ∷ []) rs (es ++ expr_of e ∷ [])
           (suc own),
       rest c.in-Ok.end,
     )) c.into_inner.ensures
-    ∙ value_goes ws vs rs es own (seen c.in-Ok.sum.value.value) c.in-Ok.sum.operators c.args.cursor
+    ∙ value_goes ws vs rs es own (expr_of c.in-Ok.sum.value.value) c.in-Ok.sum.operators
+    c.args.cursor
     c.in-Ok.end (room_here _ c.args.variables l c.if-variables-ge-MOST_NAMES.false)
     (rw c.empty-none.ensures at c.in-Ok.ensures.reads [] no_sum_value)
 
 pub returns-in-Ok-clause-given : goal.returns-in-Ok-clause-given
 returns-in-Ok-clause-given c = rw c.into_inner.ensures
-    (value_given [] (seen c.in-Ok.sum.value.value) c.in-Ok.sum.operators c.args.cursor c.in-Ok.end
+    (value_given [] (expr_of c.in-Ok.sum.value.value) c.in-Ok.sum.operators c.args.cursor
+    c.in-Ok.end
     refl (rw c.empty-none.ensures at c.in-Ok.ensures.reads [] no_sum_value))
 
 pub in_values-requires : goal.in_values-requires

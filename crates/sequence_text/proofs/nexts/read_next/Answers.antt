@@ -2,7 +2,7 @@ use Rattle.std.proofs.Common.{◌≡◌, ℕ, suc, List, [], ◌∷◌, ◌++◌
 use Rattle.std.proofs.lemmas.Result.{err_from_is_err_and}
 use Rattle.std.proofs.lemmas.List.{length_push}
 use Rattle.loops.specs.Program.{Expr}
-use Rattle.expressions.specs.View.{seen}
+use Rattle.expressions.specs.View.{expr_of}
 use Rattle.expr_text.specs.CursorView.{rest}
 use Rattle.expr_text.proofs.Paths.{GoesOn, start, on, ends, stops, stops_last, stopped}
 use Rattle.grammars.specs.Grammar.{sequence, rule}
@@ -59,7 +59,7 @@ returns-in_err-right-clause-reads c = λ ns e.
 pub returns-in_err-end-in-Ok-clause-reads : goal.returns-in_err-end-in-Ok-clause-reads
 returns-in_err-end-in-Ok-clause-reads c = λ ns e.
     let f = c.args.firsts.now in
-    let d = seen c.in-Ok.sum.value.value in
+    let d = expr_of c.in-Ok.sum.value.value in
     stops_last (on (equalled ns (goal.at-returns-in_err-end-in-Ok-clause-reads c).In_ok-right e)
     (next_sum f ns d c.in-Ok.sum.operators c.in_ok-right.right c.in-Ok.end
     (c.in-Ok.ensures.reads [] no_sum_value))) _
@@ -77,11 +77,11 @@ in_nexts-requires c =
 pub returns-in_ok-end-in-Ok-clause-reads : goal.returns-in_ok-end-in-Ok-clause-reads
 returns-in_ok-end-in-Ok-clause-reads c = λ ns e.
     let f = c.args.firsts.now in
-    let d = seen c.in-Ok.sum.value.value in
+    let d = expr_of c.in-Ok.sum.value.value in
     let more : length (ns ++ d ∷ []) ≡ suc (length ns) = length_push ns d ∙ omega arith in
     let t = behind_all f (ns ++ d ∷ []) in
     let end = rest c.in_ok-end-in-Ok.end in
-    ap (λ e. Ok (behind_all f (ns ++ seen e ∷ []), end)) c.into_inner.ensures
+    ap (λ e. Ok (behind_all f (ns ++ expr_of e ∷ []), end)) c.into_inner.ensures
     ∙ ap (λ k. Ok (record { context = record t.context { nexts = k }; value = t.value }, end)) more
     ∙ ends (on (equalled ns (goal.at-returns-in_ok-end-in-Ok-clause-reads c).In_ok-right e)
     (next_sum f ns d c.in-Ok.sum.operators c.in_ok-right.right c.in-Ok.end
@@ -90,7 +90,7 @@ returns-in_ok-end-in-Ok-clause-reads c = λ ns e.
 
 pub returns-in_ok-end-in-Ok-clause-over : goal.returns-in_ok-end-in-Ok-clause-over
 returns-in_ok-end-in-Ok-clause-over c = rw c.into_inner.ensures
-    (right_over c.args.firsts.now.variables (seen c.in-Ok.sum.value.value) c.in-Ok.sum.operators
+    (right_over c.args.firsts.now.variables (expr_of c.in-Ok.sum.value.value) c.in-Ok.sum.operators
     c.in_ok-right.right c.in-Ok.end (c.in-Ok.ensures.reads [] no_sum_value))
 
 pub returns-in-Err-clause-reads : goal.returns-in-Err-clause-reads

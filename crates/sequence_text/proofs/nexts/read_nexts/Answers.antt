@@ -2,7 +2,7 @@ use Rattle.std.proofs.Common.{◌≡◌, ◌<◌, ◌≤◌, ◌+◌, ◌++◌, 
 use Rattle.std.proofs.lemmas.Result.{err_from_is_err_and}
 use Rattle.std.proofs.lemmas.List.{get_or_default}
 use Rattle.loops.specs.Limits.{most_names}
-use Rattle.expressions.specs.View.{seen}
+use Rattle.expressions.specs.View.{expr_of}
 use Rattle.expr_text.specs.CursorView.{rest}
 use Rattle.sequence_grammar.specs.Seqs.{next}
 use Rattle.sequence_grammar.specs.LoopLayout.{total}
@@ -98,7 +98,7 @@ loop-index-preserved c =
       within = omega (arith, l);
       tokens = left_tokens c.args.text.now next refl (behind_all f g.nexts)
           (rest c.loop-index.at) c.loop-index.invariant.tokens
-          (behind_all f (g.nexts ++ seen e ∷ [])) (rest c.in_ok-next.end) read;
+          (behind_all f (g.nexts ++ expr_of e ∷ [])) (rest c.in_ok-next.end) read;
     }
 
 pub returns : goal.returns

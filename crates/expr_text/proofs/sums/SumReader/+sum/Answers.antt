@@ -1,15 +1,15 @@
 use Rattle.std.proofs.Common.{◌≡◌, ◌<◌, ◌+◌, ◌*◌, refl, ap, sym, subst, ◌∙◌, Ok, Err, arith, inl, inr, Bool, true, false, IsTrue, List, ℕ}
 use Rattle.std.proofs.lemmas.Result.{err_from_is_err_and}
 use Rattle.loops.specs.Program.{Expr, number, variable, neg, mul}
-use Rattle.expressions.specs.View.{seen}
+use Rattle.expressions.specs.View.{expr_of}
 use Rattle.grammars.specs.Grammar.{sequence, rule}
 use Rattle.expr_text.specs.Tokens.{is_sign}
 use Rattle.expr_text.specs.Lexemes.{is_sign_of, tokens_from}
 use Rattle.expr_text.specs.NextToken.{seen_lexeme}
 use Rattle.expr_text.specs.declared.cursor.Cursor.{Cursor}
-use Rattle.expr_text.specs.CursorView.{rest, left}
+use Rattle.expr_text.specs.CursorView.{rest, bytes_left}
 use Rattle.expr_text.specs.Sums.{SumState, a_sum, a_factor, sum_language, atom, parentheses, closing, factor, raising, opposite, negation, times, over, combine, next_factor, product, joint, sign_of, joins, next_product, note}
-use Rattle.expr_text.specs.Reads.{used_by, Around, around, state_in, state_behind, behind_expr, waiting, inside}
+use Rattle.expr_text.specs.Reads.{used_by, Around, around, state_in, state_behind, behind_expr, with_operator, inside}
 use Rattle.expr_text.proofs.SumChecked.{sums_checked}
 use Rattle.expr_text.proofs.Paths.{reading_rule, continued, GoesOn, start, on, over as instead, ends, stops, stops_last}
 use Rattle.expr_text.proofs.CursorReads.{sign_here}
@@ -44,7 +44,7 @@ opened a n k is room d next = on (start sum_language parentheses (state_in a n) 
 behind_minus : (a : Around) (n : ℕ) (k : Cursor) → is_sign_of (seen_lexeme k.token.lexeme) 45 ≡ true
     → a.depth < 64 → n < 1024 → (d : Cursor) → tokens_from k.text.now k.token.end ≡ rest d
     → GoesOn sum_language opposite (state_in a n) (rest k) (sequence (rule a_factor) negation)
-    (state_in (inside (waiting a k.token.at)) (n + 1)) (rest d)
+    (state_in (inside (with_operator a k.token.at)) (n + 1)) (rest d)
 behind_minus a n k is room few d next = on (start sum_language opposite (state_in a n) (rest k))
     (minus_read a n k (sign_here k 45 is) room few d next)
 
@@ -56,11 +56,11 @@ by_atom s k is = instead (start sum_language factor s (rest k)) (sequence atom r
 -- ---- atoms
 pub atom-returns-in_ok-value-in-Number-clause-reads :
     goal.atom-returns-in_ok-value-in-Number-clause-reads
-unfolding seen
+unfolding expr_of
 atom-returns-in_ok-value-in-Number-clause-reads t c = λ us v.
     atom_number (around c.args.self.now c.args.depth us v) c.args.operators c.args.cursor
     c.in-Number.value c.in-Number.is c.next.result c.next.ensures.tokens _
-    (ap seen c.in_ok-value-in-Number.ensures.ok ∙ ap number c.whole-value.ensures)
+    (ap expr_of c.in_ok-value-in-Number.ensures.ok ∙ ap number c.whole-value.ensures)
 
 pub atom-returns-in-Large-clause-reads : goal.atom-returns-in-Large-clause-reads
 atom-returns-in-Large-clause-reads t c = λ us v.
@@ -68,12 +68,12 @@ atom-returns-in-Large-clause-reads t c = λ us v.
     c.in-Large.is
 
 pub atom-returns-in_ok-value-in-Ok-clause-reads : goal.atom-returns-in_ok-value-in-Ok-clause-reads
-unfolding seen
+unfolding expr_of
 atom-returns-in_ok-value-in-Ok-clause-reads t c = λ us v.
     atom_name (around c.args.self.now c.args.depth us v) c.args.operators c.args.cursor
     c.in-Name.word c.in-Name.is c.in-Ok.ensures.free c.next-in-Ok.result
     c.next-in-Ok.ensures.tokens _
-    (ap seen c.in_ok-value-in-Ok.ensures.ok ∙ ap variable c.in-Ok.ensures.ok)
+    (ap expr_of c.in_ok-value-in-Ok.ensures.ok ∙ ap variable c.in-Ok.ensures.ok)
 
 pub atom-returns-in-Err-clause-reads : goal.atom-returns-in-Err-clause-reads
 atom-returns-in-Err-clause-reads t c = λ us v.
@@ -122,7 +122,7 @@ parentheses-returns-in_err-end-clause-reads t c = λ us v.
     c.if-depth-ge-MOST_DEPTH.false c.next.result c.next.ensures.tokens)
     (c.in_ok-sum.ensures.reads us v)) (state_behind a)
     (err_from_is_err_and c.from_residual-in_err-end.result c.from_residual-in_err-end.ensures.1)
-    (c.in_err-end.ensures.goes (behind_expr a (seen c.in_ok-sum.sum.value.value))
+    (c.in_err-end.ensures.goes (behind_expr a (expr_of c.in_ok-sum.sum.value.value))
     c.in_ok-sum.sum.operators)
 
 pub parentheses-returns-clause-reads : goal.parentheses-returns-clause-reads
@@ -131,7 +131,7 @@ parentheses-returns-clause-reads t c = λ us v.
     ends (on (opened a c.args.operators c.args.cursor (sym c.if-not-is_sign.ensures)
     c.if-depth-ge-MOST_DEPTH.false c.next.result c.next.ensures.tokens)
     (c.in_ok-sum.ensures.reads us v))
-    (c.in_ok-end.ensures.goes (behind_expr a (seen c.in_ok-sum.sum.value.value))
+    (c.in_ok-end.ensures.goes (behind_expr a (expr_of c.in_ok-sum.sum.value.value))
     c.in_ok-sum.sum.operators)
 
 -- ---- factors
@@ -181,20 +181,20 @@ opposite-returns-in_err-factor-clause-reads t c = λ us v.
     c.in_err-factor.ensures.reads us (note c.args.cursor.token.at v))
 
 pub opposite-returns-clause-reads : goal.opposite-returns-clause-reads
-unfolding seen
+unfolding expr_of
 opposite-returns-clause-reads t c = λ us v.
     let a = around c.args.self.now c.args.depth us v in
     let k = c.args.cursor in
     let q = c.in_ok-factor.factor in
     let end = c.in_ok-factor.end in
-    let value : seen c.in_ok-value.value.value ≡ neg k.token.at (seen q.value.value) =
-    ap seen c.in_ok-value.ensures.ok in
+    let value : expr_of c.in_ok-value.value.value ≡ neg k.token.at (expr_of q.value.value) =
+    ap expr_of c.in_ok-value.ensures.ok in
     ap (λ e. Ok (state_in (behind_expr a e) q.operators, rest end)) value
     ∙ ends (on (behind_minus a c.args.operators k c.requires c.if-depth-ge-MOST_DEPTH.false
     c.if-operators-ge-MOST_OPERATORS.false c.next.result c.next.ensures.tokens)
     (factor_rule c.args.self.now (c.args.depth + 1) (c.args.operators + 1) c.next.result
     (Ok (q, end)) c.in_ok-factor.ensures.reads us (note k.token.at v)))
-    (negation_done a q.operators k.token.at (seen q.value.value) end)
+    (negation_done a q.operators k.token.at (expr_of q.value.value) end)
 
 -- ---- products
 pub times-returns-in_err-next-clause-reads : goal.times-returns-in_err-next-clause-reads
@@ -215,7 +215,7 @@ times-returns-in_err-factor-clause-reads t c =
     c.from_residual-in_err-factor.ensures.1)
 
 pub times-returns-clause-reads : goal.times-returns-clause-reads
-unfolding seen
+unfolding expr_of
 times-returns-clause-reads t c =
     let q = c.in_ok-factor.factor in
     operand_done c.args.self.now c.args.depth c.args.product c.args.cursor 42 refl
@@ -224,7 +224,7 @@ times-returns-clause-reads t c =
     (record { value = c.in_ok-value.value; operators = q.operators }) c.in_ok-factor.end
     (factor_rule c.args.self.now c.args.depth (c.args.product.operators + 1) c.in_ok-next.next
     (Ok (q, c.in_ok-factor.end)) c.in_ok-factor.ensures.reads)
-    (ap seen c.in_ok-value.ensures.ok) refl
+    (ap expr_of c.in_ok-value.ensures.ok) refl
 
 pub product-returns-in_err-product-clause-reads : goal.product-returns-in_err-product-clause-reads
 product-returns-in_err-product-clause-reads t c = chain_fails c.args.self.now c.args.depth
@@ -283,7 +283,7 @@ product-loop-product-preserved t c = (
 pub product-times-requires : goal.product-times-requires
 product-times-requires t c =
     let room = c.loop-product.invariant.0 in (
-      subst (λ n. 8 * left c.loop-product.at < n) c.decreases (omega (arith, room)),
+      subst (λ n. 8 * bytes_left c.loop-product.at < n) c.decreases (omega (arith, room)),
       sym c.if-is_sign.ensures,
     )
 
@@ -323,7 +323,7 @@ addition-returns-clause-reads t c =
     (sign_here c.args.cursor (sign_of b) c.requires) product (joint b) c.in_ok-next.next
     c.in_ok-next.ensures.goes (joint_uses b) q
     (record { value = c.in_ok-value.value; operators = q.operators }) c.in_ok-product.end
-    c.in_ok-product.ensures.reads (ap seen c.in_ok-value.ensures.ok ∙ c.joint-joint.ensures)
+    c.in_ok-product.ensures.reads (ap expr_of c.in_ok-value.ensures.ok ∙ c.joint-joint.ensures)
     refl
 
 pub sum-returns-in_err-sum-clause-reads : goal.sum-returns-in_err-sum-clause-reads
@@ -397,6 +397,6 @@ sum-returns-else-is_sign-2-clause-falls t c = c.loop-sum.invariant.0
 pub sum-addition-requires : goal.sum-addition-requires
 sum-addition-requires t c =
     let room = c.loop-sum.invariant.0 in (
-      subst (λ n. 8 * left c.loop-sum.at < n) c.decreases (omega (arith, room)),
+      subst (λ n. 8 * bytes_left c.loop-sum.at < n) c.decreases (omega (arith, room)),
       sym c.if-is_sign.ensures,
     )

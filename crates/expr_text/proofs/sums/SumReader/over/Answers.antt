@@ -1,6 +1,6 @@
 use Rattle.std.proofs.Common.{◌≡◌, ◌+◌, refl, ap, ◌∙◌, Ok, pos}
 use Rattle.std.proofs.lemmas.Result.{err_from_is_err_and}
-use Rattle.expressions.specs.View.{seen}
+use Rattle.expressions.specs.View.{expr_of}
 use Rattle.loops.specs.Program.{divide}
 use Rattle.expr_text.specs.CursorView.{rest}
 use Rattle.expr_text.specs.Sums.{sum_language, over, divisor_token, note, push}
@@ -19,7 +19,7 @@ returns-in_err-next-clause-reads c = uncounted c.args.self.now c.args.depth c.ar
 pub returns-in_err-divisor-clause-reads : goal.returns-in_err-divisor-clause-reads
 returns-in_err-divisor-clause-reads c = λ us v.
     let a = around c.args.self.now c.args.depth us v in
-    let p = seen c.args.product.value.value in
+    let p = expr_of c.args.product.value.value in
     let k = c.args.cursor in
     stops_last (on (start sum_language over (state_behind a c.args.product) (rest k))
     (c.in_ok-next.ensures.goes (behind_expr a p) 47 refl (sign_here k 47 c.requires)))
@@ -29,15 +29,16 @@ returns-in_err-divisor-clause-reads c = λ us v.
     (note k.token.at (push p v)))
 
 pub returns-clause-reads : goal.returns-clause-reads
-unfolding seen used_by
+unfolding expr_of used_by
 returns-clause-reads c = λ us v.
     let a = around c.args.self.now c.args.depth us v in
-    let p = seen c.args.product.value.value in
+    let p = expr_of c.args.product.value.value in
     let k = c.args.cursor in
     let n = c.args.product.operators + 1 in
     let end = c.in_ok-divisor.end in
-    let value : seen c.in_ok-value.value.value ≡ divide k.token.at p (pos c.in_ok-divisor.divisor) =
-    ap seen c.in_ok-value.ensures.ok ∙ ap (divide k.token.at p) c.whole-by.ensures in
+    let value : expr_of c.in_ok-value.value.value ≡ divide k.token.at p
+    (pos c.in_ok-divisor.divisor) =
+    ap expr_of c.in_ok-value.ensures.ok ∙ ap (divide k.token.at p) c.whole-by.ensures in
     ap (λ e. Ok (state_in (behind_expr a e) n, rest end)) value
     ∙ ends (on (start sum_language over (state_behind a c.args.product) (rest k))
     (c.in_ok-next.ensures.goes (behind_expr a p) 47 refl (sign_here k 47 c.requires)))

@@ -1,6 +1,6 @@
 use Rattle.std.proofs.Common.{◌≡◌, ◌+◌, refl, ap, sym, ◌∙◌, Ok, true}
 use Rattle.std.proofs.lemmas.Result.{err_from_is_err_and}
-use Rattle.expressions.specs.View.{seen}
+use Rattle.expressions.specs.View.{expr_of}
 use Rattle.loops.specs.Program.{power}
 use Rattle.grammars.specs.Grammar.{sequence}
 use Rattle.expr_text.specs.CursorView.{rest}
@@ -29,7 +29,7 @@ returns-in_err-next-clause-reads c = λ a.
     let is = sym c.if-not-is_sign.ensures in
     stops (raises (state_behind a c.args.atom) c.args.cursor is) (state_behind a)
     (err_from_is_err_and c.from_residual.result c.from_residual.ensures.1)
-    (c.in_err-next.ensures.goes (behind_expr a (seen c.args.atom.value.value)) 94 refl
+    (c.in_err-next.ensures.goes (behind_expr a (expr_of c.args.atom.value.value)) 94 refl
     (sign_here c.args.cursor 94 is))
 
 pub returns-in_err-exponent-clause-reads : goal.returns-in_err-exponent-clause-reads
@@ -37,23 +37,23 @@ returns-in_err-exponent-clause-reads c = λ a.
     let k = c.args.cursor in
     let is = sym c.if-not-is_sign.ensures in
     stops_last (on (raises (state_behind a c.args.atom) k is)
-    (c.in_ok-next.ensures.goes (behind_expr a (seen c.args.atom.value.value)) 94 refl
+    (c.in_ok-next.ensures.goes (behind_expr a (expr_of c.args.atom.value.value)) 94 refl
     (sign_here k 94 is))) (state_behind a)
     (err_from_is_err_and c.from_residual-in_err-exponent.result
     c.from_residual-in_err-exponent.ensures.1) (c.in_err-exponent.ensures.reads
     (state_in (operand c.args.atom k a) (c.args.atom.operators + 1)))
 
 pub returns-clause-reads : goal.returns-clause-reads
-unfolding seen used_by
+unfolding expr_of used_by
 returns-clause-reads c = λ a.
-    let p = seen c.args.atom.value.value in
+    let p = expr_of c.args.atom.value.value in
     let k = c.args.cursor in
     let n = c.args.atom.operators + 1 in
     let m = c.in_ok-exponent.exponent in
     let end = c.in_ok-exponent.end in
     let is = sym c.if-not-is_sign.ensures in
-    let value : seen c.in_ok-value.value.value ≡ power k.token.at p m =
-    ap seen c.in_ok-value.ensures.ok in
+    let value : expr_of c.in_ok-value.value.value ≡ power k.token.at p m =
+    ap expr_of c.in_ok-value.ensures.ok in
     ap (λ e. Ok (state_in (behind_expr a e) n, rest end)) value
     ∙ ends (on (raises (state_behind a c.args.atom) k is)
     (c.in_ok-next.ensures.goes (behind_expr a p) 94 refl (sign_here k 94 is)))

@@ -3,7 +3,7 @@ use Rattle.loop_model.specs.declared.statement.Statement.{Statement}
 use Rattle.recurrences.specs.Turning.{places}
 use Rattle.sequence_grammar.specs.LoopLayout.{starts}
 use Rattle.sequence_text.proofs.TurnReads.{some_variable, loop_formed, loop_within, is_loop_of}
-use Rattle.sequence_text.proofs.turning.turned.Goals as goal
+use Rattle.sequence_text.proofs.turning.with_turn.Goals as goal
 
 pub new-lp-requires-clause-some_name : goal.new-lp-requires-clause-some_name
 new-lp-requires-clause-some_name c =
