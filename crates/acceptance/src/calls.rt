@@ -159,9 +159,7 @@ pub(crate) fn outcome(
     let words = words_of(alloc, words)?;
     let mut files = two_files(alloc, given, given.faults.read)?;
     let writes = list_of(alloc, given.faults.write)?;
-    let Ok(mut sink) = MemSink::new(alloc, ROOM, given.faults.most, writes) else {
-        return Err(AllocError);
-    };
+    let mut sink = MemSink::new(alloc, ROOM, given.faults.most, writes)?;
     let mut meter = Meter::new(alloc);
     let status = invar(alloc, &words, &mut files, &mut sink, &mut meter);
     Ok(CallOutcome {

@@ -99,9 +99,7 @@ pub(crate) fn writes(alloc: Global, values: &[&str]) -> Result<String, AllocErro
     let [first, second, third] = values else {
         return no_such_row(alloc);
     };
-    let Ok(mut sink) = MemSink::new(alloc, 4, 3, Vec::new(alloc)) else {
-        return Err(AllocError);
-    };
+    let mut sink = MemSink::new(alloc, 4, 3, Vec::new(alloc))?;
     let first = sink.write(first.as_bytes());
     let second = sink.write(second.as_bytes());
     let third = sink.write(third.as_bytes());

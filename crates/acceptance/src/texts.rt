@@ -8,7 +8,7 @@ use expressions::{Expr, Names, NamesError, expr_poly};
 use frac128::Frac;
 use monos::Grevlex;
 use poly::Poly;
-use poly_text::{PrintError, print_poly, read_equation, read_flat, read_poly, read_sum};
+use poly_text::{print_poly, read_equation, read_flat, read_poly, read_sum};
 use std::alloc::{AllocError, Global};
 use worked_rows::push_item;
 
@@ -99,10 +99,7 @@ pub(crate) fn text_of(
 ) -> Result<String, AllocError>
     requires { length names.now ≡ poly.now.arity }
 {
-    match print_poly(alloc, poly, names) {
-        Ok(text) => Ok(text),
-        Err(PrintError::Memory) => Err(AllocError),
-    }
+    print_poly(alloc, poly, names)
 }
 
 fn flat(alloc: Global, text: &str, names: &Names) -> Result<String, AllocError> {
@@ -138,10 +135,7 @@ fn written(alloc: Global, text: &str, names: &Names) -> Result<String, AllocErro
         Ok(cert) => cert,
         Err(error) => return error.to_string(alloc),
     };
-    match write_cert(alloc, &cert, names) {
-        Ok(text) => Ok(text),
-        Err(_) => Err(AllocError),
-    }
+    write_cert(alloc, &cert, names)
 }
 
 /// The polynomial of a sum in `x` where `x` is a polynomial in `x` itself.

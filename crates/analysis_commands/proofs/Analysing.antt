@@ -39,7 +39,7 @@ use Rattle.courses.specs.Texts.{Answer, line, with_text}
 use Rattle.analysis_commands.specs.Texts.{found_answer, refusal_answer, branch_answer}
 use Rattle.loop_file.specs.Texts.{loop_refusal}
 use Rattle.analysis_commands.specs.Headline.{ShowsAnalysis}
-use Rattle.analysis_commands.specs.Analyses.{opened, Ending, found, refused, EndsWith, answer_of, Analyses}
+use Rattle.analysis_commands.specs.Analyses.{empty_journal, Ending, found, refused, EndsWith, answer_of, Analyses}
 use Rattle.analysis_commands.specs.Completeness.{AllSplit}
 use Rattle.analysis_commands.specs.Causes.{HasFinished, IsSpent, IsNeverRefused, IsWithinBudget, IsExact, IsUnanalysed}
 use Rattle.courses.proofs.OfStatuses.{status_of, text_of, no_answer}
@@ -101,8 +101,8 @@ module _ (kind : Kind) (l : Program (Expr ℕ)) (budget : ℕ) (m : Journal) (a 
         absurd (let x : status.Yes ≡ status.Budget = status_of (found_same c says) ∙ h in cc)
     out (refused e) ends says h =
         let same : e ≡ error.Budget = spent_is e a.status (refused_kind e says) h in
-        let cause : IsRefused l (opened budget) m error.Budget =
-        subst (IsRefused l (opened budget) m) same ends.1 in
+        let cause : IsRefused l (empty_journal budget) m error.Budget =
+        subst (IsRefused l (empty_journal budget) m) same ends.1 in
         record {
           loop = l;
           is_loop = is;
@@ -202,7 +202,7 @@ module _ (kind : Kind) (l : Program (Expr ℕ)) (budget : ℕ) (m : Journal) (a 
   unformed free not (found c) ends says = absurd (not ends.1.forms)
   unformed free not (refused e) ends says =
       at_fault_or_wide e (refused_kind e says)
-      (λ same. not (subst (IsRefused l (opened budget) m) same ends.1).1)
+      (λ same. not (subst (IsRefused l (empty_journal budget) m) same ends.1).1)
 
   completed : IsNeverRefused l → IsWithinBudget l budget → (e : Ending)
       → EndsWith l budget m kind e → answer_of kind l.names budget e ≡ Some a

@@ -27,10 +27,11 @@ use Rattle.analysis_commands.specs.declared.kind.Kind.{Kind}
 use Rattle.analysis_commands.specs.Headline.{IsToldBack}
 use Rattle.analysis_commands.specs.Texts.{found_answer, refusal_answer}
 use Rattle.courses.specs.Views.{answer_view}
-use Rattle.analysis_commands.specs.Analyses.{opened, HasFound, found, refused, Analyses, HasAnalysed}
+use Rattle.analysis_commands.specs.Analyses.{empty_journal, HasFound, found, refused, Analyses, HasAnalysed}
 
 -- the meter is opened before the analysis, and its limit kept
-module _ (l : Program (Expr ℕ)) (budget : ℕ) (before m : Journal) (is : before ≡ opened budget)
+module _ (l : Program (Expr ℕ)) (budget : ℕ) (before m : Journal)
+    (is : before ≡ empty_journal budget)
     (kept : m.limit ≡ before.limit) where
   limit : m.limit ≡ budget
   limit = kept ∙ ap (λ (j : Journal). j.limit) is

@@ -1,157 +1,78 @@
 -- What `basis` and `cert` promise, from the outcome of their course.
 --   settled      their answers are settled
 --   finds        the clauses
-use Rattle.std.proofs.Common.{◌≡◌, ◌≢◌, ℕ, List, refl, sym, ap, subst, ◌∙◌, Result, Ok, Err, inl, inr}
-use Rattle.std.specs.Prelude.{◌⊎◌}
+use Rattle.std.proofs.Common.{ℕ, refl}
+use Rattle.machines.specs.Journal.{Journal}
 use Rattle.expr_text.specs.Reasons.{Fault, limit}
 use Rattle.loops.specs.Program.{Expr, Program}
-use Rattle.loop_text.specs.LoopReader.{loop_of}
-use Rattle.courses.specs.declared.answer.Status.{Status}
-use Rattle.courses.specs.declared.answer.Status.TheVariants as status
-use Rattle.courses.specs.Texts.{with_text}
 use Rattle.courses.specs.Settled.{IsSettled}
-use Rattle.courses.specs.Course.{Course, ends, LeftBy, EachAnswer}
+use Rattle.courses.specs.Course.{EachAnswer}
 use Rattle.courses.specs.Outcome.{Call, IsCarriedOut}
-use Rattle.courses.specs.Clauses.{Wrote, IfTold}
-use Rattle.courses.proofs.Outcomes.{Said, if_told, yes_said, said_with, written, or_wide, or_fault, or_yes, ends_so, never, meter_left}
-use Rattle.courses.proofs.Outside.{too_long_told}
+use Rattle.courses.proofs.Outcomes.{or_wide, or_fault, or_yes}
+use Rattle.courses.proofs.OneFile as one_file
+use Rattle.courses.proofs.OneFile.{OneFile, concludes_yes, concludes_no, concludes_spent, answered, ends_at_fault, tells, writes, refused, never_ends, not_ended, left, long}
 use Rattle.loop_file.specs.Texts.{loop_refusal}
-use Rattle.loop_file.specs.Reading.{loop_at, by_loop, IsLoopFault, ReadsLoop}
-use Rattle.loop_file.proofs.LoopCourses.{loop_each, at_loop, at_fault, on_loop, loop_refuses}
+use Rattle.loop_file.proofs.LoopCourses.{reading_loop}
 use Rattle.analysis_commands.specs.Analyses.{Analyses, HasAnalysed}
 use Rattle.analysis_commands.specs.Texts.{branch_answer}
 use Rattle.analysis_commands.specs.Headline.{ShowsAnalysis}
-use Rattle.analysis_commands.specs.Causes.{HasFinished, IsSpent, IsAnalysed, IsUnanalysed, IsWithinBudget}
+use Rattle.analysis_commands.specs.Causes.{HasFinished, IsSpent, IsAnalysed, IsUnanalysed}
 use Rattle.analysis_commands.proofs.Settling.{analyses_settled, analyses_not_no}
 use Rattle.analysis_commands.proofs.Analysing.{found_shown, out_shown, unanalysed, limit_analysed, formed_analysed, unformed_analysed, all_analysed, branch_analysed}
 use Rattle.analysis_commands.proofs.Endings.{or_found, not_spent}
 use Rattle.analysis_commands.specs.BasisWords.{Request}
 use Rattle.analysis_commands.specs.BasisCourse.{course}
-use Rattle.analysis_commands.specs.BasisClauses.{Refuses, Finds}
+use Rattle.analysis_commands.specs.BasisClauses.{Finds}
 
 module _ (request : Request) where
-  abbrev goes : Program (Expr ℕ) → Course
-  goes l = ends (HasAnalysed l request.budget) (Analyses request.kind l request.budget)
+  abbrev path : OneFile (Program (Expr ℕ)) Fault
+  path = reading_loop request.file (λ l. HasAnalysed l request.budget)
+      (λ l. Analyses request.kind l request.budget)
 
   pub settled : EachAnswer (λ a. IsSettled a.status) (course request)
-  settled = loop_each goes (λ a. IsSettled a.status) request.file
-      (λ fault a h. (loop_refuses fault a h).plain.settled)
+  settled = one_file.settled path
       (λ l m a h. analyses_settled request.kind l request.budget a m h)
 
-  never_no : EachAnswer (λ a. a.status ≢ status.No) (course request)
-  never_no = loop_each goes (λ a. a.status ≢ status.No) request.file
-      (λ fault a h. (loop_refuses fault a h).no_not)
-      (λ l m a h. analyses_not_no request.kind l request.budget a m h)
-
   module _ (call : Call) (f : IsCarriedOut (course request) call) where
-    -- what holds of each loop that is told
-    on_told : (P : List ℕ → Type 0) (s : Said (course request) call)
-        → ((text : List ℕ) → IsLoopFault text s.answer → P text)
-        → ((text : List ℕ) (l : Program (Expr ℕ)) → loop_of text ≡ Ok l
-        → Analyses request.kind l request.budget call.meter.after s.answer → P text)
-        → IfTold call.files.before request.file P
-    on_told P s fault loop =
-        on_loop call request.file goes call.meter.after s.answer s.is P fault loop
-
-    analysed : (l : Program (Expr ℕ)) → ReadsLoop call request.file (Ok l)
-        → (s : Said (course request) call)
-        → Analyses request.kind l request.budget call.meter.after s.answer
-    analysed l r s = at_loop call request.file goes call.meter.after s.answer s.is l r
-
-    shown : (is : call.status ≡ status.Yes) → let s = yes_said (course request) call f is in
-        IfTold call.files.before request.file
-        (λ text. ShowsAnalysis request.kind text s.answer.text × HasFinished text request.budget
-        call.meter.after)
-    shown is =
-        let s = yes_said (course request) call f is in
-        let yes : s.answer.status ≡ status.Yes = sym s.same ∙ is in
-        on_told (λ text. ShowsAnalysis request.kind text s.answer.text × HasFinished text
-        request.budget call.meter.after) s
-        (λ text h. absurd ((loop_refuses h.fault s.answer h.says).yes_not yes))
-        (λ text l e h. found_shown request.kind text l request.budget call.meter.after s.answer e h
-        yes)
-
-    budget_said : call.status ≡ status.Budget → Said (course request) call
-    budget_said is = said_with (course request) call f status.Budget is (λ h. cc) (λ h. cc)
-        (λ h. cc)
-
-    spent_shown : (is : call.status ≡ status.Budget)
-        → IfTold call.files.before request.file
-        (λ text. Wrote call.sink (IsSpent text request.budget call.meter.after))
-    spent_shown is =
-        let s = budget_said is in
-        let spent : s.answer.status ≡ status.Budget = sym s.same ∙ is in
-        on_told (λ text. Wrote call.sink (IsSpent text request.budget call.meter.after)) s
-        (λ text h. absurd ((loop_refuses h.fault s.answer h.says).plain.budget_not spent))
-        (λ text l e h. written (course request) call f
-        (IsSpent text request.budget call.meter.after) s
-        (out_shown request.kind text l request.budget call.meter.after s.answer e h spent))
-
-    refused : (t : Status) → call.status ≡ t → t ≢ status.Yes → Said (course request) call
-        → Wrote call.sink (λ said. Refuses call request (with_text t said))
-    refused t is yes_not s =
-        let same : s.answer.status ≡ t = sym s.same ∙ is in
-        record {
-          text = s.answer.text;
-          whole = s.whole;
-          is = subst (λ a. Refuses call request a) (ap (λ x. with_text x s.answer.text) same)
-              (on_told (λ text. IsLoopFault text s.answer
-              ⊎ IsUnanalysed text request.budget call.meter.after s.answer) s
-              (λ text h. inl h)
-              (λ text l e h. inr (unanalysed request.kind text l request.budget call.meter.after
-              s.answer e h (λ y. yes_not (sym same ∙ y)))));
-        }
-
-    opened : (text : List ℕ) (reading : Result (Program (Expr ℕ)) Fault) → loop_of text ≡ reading
-        → LeftBy call.files.before.told (by_loop reading goes) call.meter.after
-        → IsAnalysed text request.budget call.meter.after
-    opened text (Ok l) e h = record { loop = l; is_loop = e; analysed = h }
-    opened text (Err fault) e h = absurd h
-
-    enough : (l : Program (Expr ℕ)) → ReadsLoop call request.file (Ok l)
-        → IsWithinBudget l request.budget → call.status ≢ status.Budget
-    enough l r within is =
-        let s = budget_said is in
-        not_spent r.text l request.budget call.meter.after s.answer.text r.reads within
-        (out_shown request.kind r.text l request.budget call.meter.after s.answer r.reads
-        (analysed l r s) (sym s.same ∙ is))
+    abbrev m : Journal
+    m = call.meter.after
 
     pub finds : Finds request call
     finds = record {
-      basis = λ is. if_told (call.files.before.told request.file) _ _
-          (λ text h. written (course request) call f (ShowsAnalysis request.kind text)
-          (yes_said (course request) call f is) h.0) (shown is);
-      finished = λ is. if_told (call.files.before.told request.file) _ _ (λ text h. h.1) (shown is);
-      fault = λ is. refused status.Fault is (λ h. cc)
-          (said_with (course request) call f status.Fault is (λ h. cc) (λ h. cc) (λ h. cc));
-      wide = λ is. refused status.Wide is (λ h. cc)
-          (said_with (course request) call f status.Wide is (λ h. cc) (λ h. cc) (λ h. cc));
-      spent = spent_shown;
-      no = never (course request) call f status.No (λ h. cc) (λ h. cc) (λ h. cc) never_no;
-      journal = elim (meter_left (course request) call f) [
-        | inl kept ↦ inl kept
-        | inr left ↦ inr (if_told (call.files.before.told request.file) _ _
-            (λ text h. opened text (loop_of text) refl h) left)
-      ];
-      loop_fault = λ fault r. ends_so (course request) call f (loop_refusal fault)
-          (λ s. at_fault call request.file goes call.meter.after s.answer s.is fault r);
+      basis = writes path call f concludes_yes (ShowsAnalysis request.kind)
+          (λ text l a e h yes. (found_shown request.kind text l request.budget m a e h yes).0);
+      finished = tells path call f concludes_yes (λ text. HasFinished text request.budget m)
+          (λ text l a e h yes. (found_shown request.kind text l request.budget m a e h yes).1);
+      why = λ is. refused path call f call.status is
+          (λ text a. IsUnanalysed text request.budget m a)
+          (λ text l a e h same refusing.
+          unanalysed request.kind text l request.budget m a e h refusing.yes_not) refl;
+      spent = writes path call f concludes_spent (λ text. IsSpent text request.budget m)
+          (λ text l a e h out. out_shown request.kind text l request.budget m a e h out);
+      no = never_ends path call f concludes_no
+          (λ l j a h. analyses_not_no request.kind l request.budget a j h);
+      journal = left path call f (λ text. IsAnalysed text request.budget m)
+          (λ text l e h. record { loop = l; is_loop = e; analysed = h });
+      loop_fault = ends_at_fault path call f;
       limit_met = λ l at r first. or_wide (course request) call f
           (loop_refusal (record { reason = limit; at = at }))
-          (λ s. limit_analysed request.kind l request.budget at call.meter.after s.answer first
-          (analysed l r s));
+          (λ s. limit_analysed request.kind l request.budget at m s.answer first
+          (answered path call f l r s));
       branch_refused = λ l b x r free exact first. or_wide (course request) call f
           (branch_answer l.names b x)
-          (λ s. branch_analysed request.kind l request.budget call.meter.after s.answer free b x
-          exact first (analysed l r s));
+          (λ s. branch_analysed request.kind l request.budget m s.answer free b x exact first
+          (answered path call f l r s));
       unformed = λ l r free not. or_fault (course request) call f
-          (λ s. unformed_analysed request.kind l request.budget call.meter.after s.answer free not
-          (analysed l r s));
+          (λ s. unformed_analysed request.kind l request.budget m s.answer free not
+          (answered path call f l r s));
       found = λ l r free forms. or_found (course request) call f
-          (λ s. formed_analysed request.kind l request.budget call.meter.after s.answer free forms
-          (analysed l r s));
-      enough = enough;
+          (λ s. formed_analysed request.kind l request.budget m s.answer free forms
+          (answered path call f l r s));
+      enough = λ l r within. not_ended path call f concludes_spent l r
+          (λ a h out. not_spent r.text l request.budget m a.text r.reads within
+          (out_shown request.kind r.text l request.budget m a r.reads h out));
       completes = λ l r never_refused within. or_yes (course request) call f
-          (λ s. all_analysed request.kind l request.budget call.meter.after s.answer never_refused
-          within (analysed l r s));
-      long = λ long. too_long_told (course request) call f (loop_at request.file) (inl refl) long;
+          (λ s. all_analysed request.kind l request.budget m s.answer never_refused within
+          (answered path call f l r s));
+      long = long path call f;
     }

@@ -1,22 +1,21 @@
 -- What `gen` of n loops promises, from the outcome of its course.
 --   settled      its answers are settled
 --   tallies      the clauses
-use Rattle.std.proofs.Common.{◌≡◌, ◌≢◌, ℕ, suc, List, sym, ap, subst, ◌∙◌, inl, inr}
+use Rattle.std.proofs.Common.{◌≡◌, ◌≢◌, ℕ, suc, List, refl, sym, ◌∙◌, inl, inr}
 use Rattle.std.specs.Prelude.{◌⊎◌}
 use Rattle.machines.specs.Journal.{Journal}
 use Rattle.loops.specs.Program.{Expr, Program}
 use Rattle.loop_model.specs.Maps.{AreFree}
 use Rattle.loop_family.specs.Family.{loop_text}
 use Rattle.word_numbers.specs.Numerals.{usual_budget}
-use Rattle.courses.specs.declared.answer.Status.{Status}
 use Rattle.courses.specs.declared.answer.Status.TheVariants as status
-use Rattle.courses.specs.Texts.{Answer, with_text}
+use Rattle.courses.specs.Texts.{Answer}
 use Rattle.courses.specs.Settled.{IsSettled}
 use Rattle.courses.specs.Course.{EachAnswer}
 use Rattle.courses.specs.Outcome.{Call, IsCarriedOut}
 use Rattle.courses.specs.Clauses.{Wrote}
 use Rattle.courses.proofs.OfStatuses.{settled_yes}
-use Rattle.courses.proofs.Outcomes.{Said, yes_said, said_with, written, or_yes, never, meter_left}
+use Rattle.courses.proofs.Outcomes.{Said, yes_said, said_with, refusal_told, written, or_yes, never, meter_left}
 use Rattle.analysis_commands.specs.declared.kind.Kind.TheVariants.{Basis}
 use Rattle.analysis_commands.specs.Analyses.{refused, Analyses}
 use Rattle.analysis_commands.specs.Completeness.{AllSplit}
@@ -121,17 +120,6 @@ module _ (n : ℕ) where
     abbrev left : Journal
     left = call.meter.after
 
-    refused_with : (t : Status) → call.status ≡ t → t ≢ status.Yes → Said (course n) call
-        → Wrote call.sink (λ said. StopsAt n left (with_text t said))
-    refused_with t is yes_not s =
-        let same : s.answer.status ≡ t = sym s.same ∙ is in
-        record {
-          text = s.answer.text;
-          whole = s.whole;
-          is = subst (λ x. StopsAt n left x) (ap (λ x. with_text x s.answer.text) same)
-              (stopped left s.answer s.is (λ y. yes_not (sym same ∙ y)));
-        }
-
     budget_said : call.status ≡ status.Budget → Said (course n) call
     budget_said is = said_with (course n) call f status.Budget is (λ h. cc) (λ h. cc) (λ h. cc)
 
@@ -149,10 +137,8 @@ module _ (n : ℕ) where
           let s = yes_said (course n) call f is in
           written (course n) call f (ShowsCounts n left) s
           (shown left s.answer s.is (sym s.same ∙ is));
-      fault = λ is. refused_with status.Fault is (λ h. cc)
-          (said_with (course n) call f status.Fault is (λ h. cc) (λ h. cc) (λ h. cc));
-      wide = λ is. refused_with status.Wide is (λ h. cc)
-          (said_with (course n) call f status.Wide is (λ h. cc) (λ h. cc) (λ h. cc));
+      why = λ is. refusal_told (course n) call f call.status is (StopsAt n left)
+          (λ s same refusing. stopped left s.answer s.is refusing.yes_not) refl;
       spent = spent_shown;
       no = never (course n) call f status.No (λ h. cc) (λ h. cc) (λ h. cc) each_not_no;
       journal = meter_left (course n) call f;

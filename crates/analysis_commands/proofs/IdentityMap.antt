@@ -44,7 +44,7 @@ use Rattle.rings.proofs.Each.{each_weaker}
 use Rattle.polynomials.proofs.Orders.{grevlex_order}
 use Rattle.exponentials.specs.Base.{IsTheBase}
 use Rattle.turns.specs.Classes.{class_matrix, IsClass, Passes, IsEigenvalue, IsFormBase, sizes_of}
-use Rattle.turns.specs.Turned.{form_at, IsTurnedForm}
+use Rattle.turns.specs.AfterTurns.{form_at, IsFormAfterTurns}
 use Rattle.turns.specs.Turns.{IsNormalForm, point, turns, values_at}
 use Rattle.turns.proofs.Numbers.{one_form}
 use Rattle.turns.proofs.OneForm.{all_values}
@@ -283,7 +283,7 @@ same_values n (x ∷ []) l = ap (form_at (one ∷ []) (0 ∷ [])) (turns_still n
 same_values n (x ∷ y ∷ s) l = absurd (omega (arith, l))
 
 pub still_turned : (k : ℕ) (y : Terms Fraction) → IsNormalForm [] grevlex 1 y
-    → IsTurnedForm [] still k (0 ∷ []) (one ∷ []) y → y ≡ turned
+    → IsFormAfterTurns [] still k (0 ∷ []) (one ∷ []) y → y ≡ turned
 still_turned k y normal t =
     one_form [] tt grevlex grevlex_order 1 y turned normal.polynomial turned_normal.polynomial
     normal.normal turned_normal.normal (λ n s l. all_values [] tt 1 k y turned s l

@@ -13,7 +13,7 @@ use Rattle.numbers.proofs.Fractions.{ℚ_field}
 use Rattle.polynomials.specs.Order.{grevlex}
 use Rattle.polynomials.specs.Terms.{Terms, evaluate, sum_of_products}
 use Rattle.polynomials.specs.Weight.{weight, composition_weight, composition_degrees, IsPastSum}
-use Rattle.machines.specs.Collect.{collect, insert, scaled}
+use Rattle.machines.specs.Collect.{collect, insert, scale_terms}
 use Rattle.vectors.specs.Adding.{IsEchelonOf, IsPastTarget, IsPastRow as IsPastAdded}
 use Rattle.vectors.specs.Causes.{row_at}
 use Rattle.vectors.specs.Lists.{entries}
@@ -22,7 +22,7 @@ use Rattle.frac128.specs.Sums.{left_past, right_past, parts_past, den_past}
 use Rattle.turns.specs.Classes.{class_matrix}
 use Rattle.turns.specs.Inverse.{IsProduct, numbers_at, unit_list, beside}
 use Rattle.chains.specs.Uses.{unit}
-use Rattle.turns.specs.Expo.{normalized, power_key, with_key}
+use Rattle.turns.specs.Expo.{with_normal_keys, power_key, with_key}
 use Rattle.turns.specs.Turns.{IsNormalForm}
 use Rattle.linear.specs.Rows.{fractions_of, rows_of}
 use Rattle.linear.proofs.Echelon.{echelon_none}
@@ -36,8 +36,8 @@ use Rattle.closed_forms.specs.States.{zeros_in}
 use Rattle.closed_forms.specs.Values.{values_in}
 use Rattle.closed_forms.specs.Products.{IsPastDot, IsPastRow}
 use Rattle.closed_forms.specs.Refusal.{Refusal, not_solvable, eigenvalues, range, wide_split, wide_form, IfRefused, IsWideForm, state_past, class_past, turn_past}
-use Rattle.closed_forms.specs.Solved.{growing, IsWhole, IsPastSolved, term as term_past, sum as whole_past, normal as made_past}
-use Rattle.closed_forms.specs.Sources.{collected, part, both, moved, IsSource, IsPastMoved, IsPastBefore, turned as turned_past, back as back_past, before, IsPastSource, moved_past, before_past, sum_past, normal_past}
+use Rattle.closed_forms.specs.Solved.{homogeneous_part, IsWhole, IsPastSolved, term as term_past, sum as whole_past, normal as made_past}
+use Rattle.closed_forms.specs.Sources.{collect_terms, part, both, part_by_forms, IsSource, IsPastMoved, IsPastBefore, turned as turned_past, back as back_past, before, IsPastSource, moved_past, before_past, sum_past, normal_past}
 use Rattle.closed_forms.specs.Sums.{mix, IsPastScaled, IsPastMix}
 use Rattle.analysis_commands.proofs.IdentityMap.{one, one_some, still, still_class, still_is, still_class_of, still_solvable, still_matrix, still_splits, still_base, echelons_one, still_behind, turned, still_turned}
 
@@ -98,24 +98,24 @@ abbrev nothing : List (Terms Fraction)
 nothing = [] ∷ []
 
 part_none : part (one ∷ []) nothing ≡ []
-unfolding collect scaled
+unfolding collect scale_terms
 part_none = refl
 
 part_of_none : (by : List Fraction) → part by [] ≡ []
 unfolding collect
-part_of_none by = ap collected (nothing_mixed by)
+part_of_none by = ap collect_terms (nothing_mixed by)
 
 sum_none : IsPastSum fractions [] [] → ⊥
 unfolding weight lcm gcd
 sum_none p = fits (size 0 1) (omega arith) (omega arith) p
 
 module _ (polys : List (Terms Fraction)) where
-  moved_none : moved [] 1 (one ∷ []) nothing polys ≡ []
-  unfolding collect scaled evaluate sum_over
+  moved_none : part_by_forms [] 1 (one ∷ []) nothing polys ≡ []
+  unfolding collect scale_terms evaluate sum_over
   moved_none = refl
 
   moved_fits : IsPastMoved (one ∷ []) nothing polys → ⊥
-  unfolding collect scaled evaluate sum_over composition_weight composition_degrees weight
+  unfolding collect scale_terms evaluate sum_over composition_weight composition_degrees weight
   moved_fits (inl (inl (inl s))) = s.within
   moved_fits (inl (inl (inr h))) = h
   moved_fits (inl (inr p)) = fits (size 0 1) (omega arith) (omega arith) p
@@ -124,19 +124,21 @@ module _ (polys : List (Terms Fraction)) where
 
   both_none : (by : List Fraction) → both [] 1 (one ∷ []) nothing polys by [] ≡ []
   unfolding collect
-  both_none by = ap (λ p. collected (p ++ part by [])) moved_none ∙ ap collected (part_of_none by)
+  both_none by = ap (λ p. collect_terms (p ++ part by [])) moved_none
+      ∙ ap collect_terms (part_of_none by)
 
   source_none : (q : Terms Fraction) → IsSource [] 1 (one ∷ []) nothing polys rows rows [] q
       → q ≡ []
   unfolding collect
-  source_none q s = s.terms ∙ ap (λ p. collected (normalized 0 p)) (both_none s.by)
+  source_none q s = s.terms ∙ ap (λ p. collect_terms (with_normal_keys 0 p)) (both_none s.by)
 
   source_fits : IsPastSource [] 1 (one ∷ []) nothing polys rows rows [] → ⊥
   source_fits (moved_past p) = moved_fits p
   source_fits (before_past p) = before_fits p
   source_fits (sum_past by is p) =
       sum_none (subst (λ x. IsPastSum fractions x []) moved_none
-      (subst (IsPastSum fractions (moved [] 1 (one ∷ []) nothing polys)) (part_of_none by) p))
+      (subst (IsPastSum fractions (part_by_forms [] 1 (one ∷ []) nothing polys)) (part_of_none by)
+      p))
   source_fits (normal_past by is p) =
       weight_none (subst (λ x. IsPast (weight fraction_size x)) (both_none by) p)
 
@@ -144,14 +146,17 @@ module _ (polys : List (Terms Fraction)) where
   whole_is : (p : Terms Fraction) → IsWhole [] 1 (one ∷ []) (0 ∷ []) one [] p
       → (e : List ℕ) × (p ≡ (e, one) ∷ [])
   whole_is p w =
-      let x = power_key w.negative w.exponents in
-      (with_key 0 x (unit 1 0), w.terms ∙ ap (λ s. growing 1 x (one ∷ []) (0 ∷ []) ++ s) w.are)
+      let x = power_key w.negative w.exponents in (
+        with_key 0 x (unit 1 0),
+        w.terms ∙ ap (λ s. homogeneous_part 1 x (one ∷ []) (0 ∷ []) ++ s)
+            w.are,
+      )
 
   single_fits : (e : List ℕ) → IsPast (weight fraction_size ((e, one) ∷ [])) → ⊥
   unfolding weight fraction is_lowest gcd lcm
   single_fits e p = fits (size 1 1) (omega arith) (omega arith) p
 
-  single_collected : (e : List ℕ) → collected ((e, one) ∷ []) ≡ (e, one) ∷ []
+  single_collected : (e : List ℕ) → collect_terms ((e, one) ∷ []) ≡ (e, one) ∷ []
   unfolding collect insert fraction is_lowest gcd
   single_collected e = refl
 
@@ -163,7 +168,7 @@ module _ (polys : List (Terms Fraction)) where
   solved_fits (made_past p w past) =
       let is = whole_is p w in
       single_fits is.0
-      (subst (λ x. IsPast (weight fraction_size x)) (ap collected is.1
+      (subst (λ x. IsPast (weight fraction_size x)) (ap collect_terms is.1
       ∙ single_collected is.0) past)
 
   from_fits : (q : Terms Fraction) → q ≡ [] → IsPastFrom [] 1 (one ∷ []) (0 ∷ []) one at_start q → ⊥
@@ -208,11 +213,11 @@ unfolding fraction Fraction.product is_lowest reduce gcd
 number_fits p = fits (size 1 1) (omega arith) (omega arith) p
 
 mixed_fits : IsPast (weight fraction_size (mix (one ∷ []) (turned ∷ []))) → ⊥
-unfolding scaled weight fraction Fraction.product is_lowest reduce gcd lcm
+unfolding scale_terms weight fraction Fraction.product is_lowest reduce gcd lcm
 mixed_fits p = fits (size 1 1) (omega arith) (omega arith) p
 
 part_fits : IsPast (weight fraction_size (part (one ∷ []) (turned ∷ []))) → ⊥
-unfolding collect insert scaled weight fraction Fraction.product is_lowest reduce gcd lcm
+unfolding collect insert scale_terms weight fraction Fraction.product is_lowest reduce gcd lcm
 part_fits p = fits (size 1 1) (omega arith) (omega arith) p
 
 normal_first : (y : Terms Fraction) → Each (IsNormalForm [] grevlex 1) (y ∷ [])

@@ -184,7 +184,8 @@ zero_asked = record {
 }
 
 pub some_asked : (t : List ℕ × Fraction) (p : Terms Fraction)
-    → IsAnswered one_loop (t ∷ p) (Begin Start ∷ Begin Member ∷ []) 0 [] (division.begun [] (t ∷ p))
+    → IsAnswered one_loop (t ∷ p) (Begin Start ∷ Begin Member ∷ []) 0 []
+    (division.initial_state [] (t ∷ p))
 some_asked t p = record {
   state = _;
   follows = record {

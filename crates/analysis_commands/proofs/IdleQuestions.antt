@@ -23,7 +23,7 @@ use Rattle.machines.specs.Collect.{collect, insert, place}
 use Rattle.machines.proofs.Collecting.{collect-same}
 use Rattle.loops.specs.Effect.{value_of}
 use Rattle.loops.specs.Program.{Expr, sub, variable, number}
-use Rattle.expressions.specs.Operations.{Operation, Collected, difference_at, operations, value, most_terms, PassesLimit, IsPastOperation, IsFree, IsWide}
+use Rattle.expressions.specs.Operations.{Operation, HoldsCollected, difference_at, operations, value, most_terms, PassesLimit, IsPastOperation, IsFree, IsWide}
 use Rattle.expressions.proofs.OperatorLaws.{only}
 use Rattle.analysis_commands.proofs.IdentityMap.{one}
 use Rattle.analysis_commands.proofs.IdentityUnrefused.{fits}
@@ -87,7 +87,7 @@ unfolding collect insert place compare grevlex fraction is_lowest reduce gcd
 nought_same = collect-same ℚ_field grevlex grevlex_order nought
 
 short : (p q : Terms Fraction) → IsPolynomial ℚ grevlex 1 p → Same ℚ p q → length p < 2
-    → Collected 1 (λ r. most_terms < length r) q → ⊥
+    → HoldsCollected 1 (λ r. most_terms < length r) q → ⊥
 short p q is s l c = let more = only 1 (λ r. most_terms < length r) p q is s c in
     omega (arith, l, more)
 
@@ -124,7 +124,7 @@ module _ (at : ℕ) where
       → IsPastOperation 1 (difference_at at left right) → IsPastSum fractions p q
   past_sides left right p q a s b t h =
       only 1 (λ q. IsPastSum fractions p q) q right b t
-      (only 1 (λ p. Collected 1 (λ q. IsPastSum fractions p q) right) p left a s h)
+      (only 1 (λ p. HoldsCollected 1 (λ q. IsPastSum fractions p q) right) p left a s h)
 
   alone : (o : Operation) (before behind : List Operation) (operation : Operation)
       → o ∷ [] ≡ before ++ operation ∷ behind → o ≡ operation

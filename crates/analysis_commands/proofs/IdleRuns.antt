@@ -10,18 +10,18 @@ use Rattle.numbers.specs.Fraction.{Fraction, fractions, rationals}
 use Rattle.polynomials.specs.Order.{grevlex}
 use Rattle.polynomials.specs.Terms.{Terms}
 use Rattle.machines.specs.Completion as completion
-use Rattle.machines.specs.Completion.{acting, taking}
+use Rattle.machines.specs.Completion.{next_completion, next_pair}
 use Rattle.machines.specs.Division as division
-use Rattle.machines.specs.Division.{dividing, divided}
+use Rattle.machines.specs.Division.{next_division, next_cut}
 use Rattle.machines.specs.Cut.{find_cut, cut_by, all_places}
 use Rattle.machines.specs.Elimination as elimination
-use Rattle.machines.specs.Elimination.{kept}
+use Rattle.machines.specs.Elimination.{free_part}
 use Rattle.machines.specs.Journal.{Entry, Begin, Did, Start, Member}
 use Rattle.machines.specs.Event.{Event, Zero}
-use Rattle.machines.specs.Pairs.{settled}
+use Rattle.machines.specs.Pairs.{skip_covered}
 use Rattle.machines.specs.Past as past
 use Rattle.machines.specs.Tidying as tidying
-use Rattle.machines.specs.Tidying.{tailing, dropping, drop_from, tail_from, by_lead}
+use Rattle.machines.specs.Tidying.{next_tail, next_drop, drop_from, tail_from, by_lead}
 use Rattle.machines.specs.Run.{IsRun}
 use Rattle.loops.specs.Program.{Expr, Program, Statement}
 use Rattle.rounds.specs.Analysis as analysis
@@ -35,7 +35,7 @@ abbrev pub x_loop : List (List (Statement (Expr ℕ))) → Program (Expr ℕ)
 x_loop branches = record { names = (120 ∷ []) ∷ []; locals = []; init = []; branches = branches }
 
 abbrev begun : State
-begun = working starts (elimination.begun rationals grevlex [])
+begun = working starts (elimination.initial_state rationals grevlex [])
 
 -- nothing is left of 0
 abbrev pub nothing_left : division.State Fraction
@@ -54,16 +54,18 @@ module _ (branches : List (List (Statement (Expr ℕ)))) (forms : List Form) whe
   first p = refl
 
   ends : next (A None) begun ≡ finished 0 []
-  unfolding next elimination.next completion.next acting settled kept block tidying.next dropping
-      drop_from tailing
-      tail_from by_lead analysis.after closing_from completion.with_elements taking
+  unfolding next elimination.next completion.next next_completion skip_covered free_part block
+      tidying.next next_drop
+      drop_from next_tail
+      tail_from by_lead analysis.after closing_from completion.with_elements next_pair
   ends = refl
 
   asks : (p : Terms Fraction)
-      → next (A (Some p)) begun ≡ goes (Begin Member) (asking 0 [] (division.begun [] p))
-  unfolding next elimination.next completion.next acting settled kept block tidying.next dropping
-      drop_from tailing
-      tail_from by_lead analysis.after closing_from completion.with_elements taking
+      → next (A (Some p)) begun ≡ goes (Begin Member) (asking 0 [] (division.initial_state [] p))
+  unfolding next elimination.next completion.next next_completion skip_covered free_part block
+      tidying.next next_drop
+      drop_from next_tail
+      tail_from by_lead analysis.after closing_from completion.with_elements next_pair
   asks p = refl
 
   fits_fresh : (p : Option (Terms Fraction)) → IsPast (A p) fresh → ⊥
@@ -77,7 +79,7 @@ module _ (branches : List (List (Statement (Expr ℕ)))) (forms : List Form) whe
       go place e = cc
 
   fits_begun : (p : Option (Terms Fraction)) → IsPast (A p) begun → ⊥
-  unfolding starting start_list in_order settled kept block drop_from tail_from
+  unfolding starting start_list in_order skip_covered free_part block drop_from tail_from
       completion.with_elements
   fits_begun p (inl s) = no_start s
   fits_begun p (inr (inl h)) = h
@@ -94,7 +96,7 @@ module _ (branches : List (List (Statement (Expr ℕ)))) (forms : List Form) whe
     where
       go : (u : State) → begun ≡ u → moves (A None) u ≡ Some (f, r.2.0) → ⊥
       go u e is =
-          let none = subst (λ v. moves (A None) v ≡ None) e (ap (analysis.moved (A None)) ends) in
+          let none = subst (λ v. moves (A None) v ≡ None) e (ap (analysis.move_of (A None)) ends) in
           let z : ◌≡◌ {A = Option (Entry × State)} None (Some (f, r.2.0)) = sym none ∙ is in
           cc
 
@@ -116,7 +118,7 @@ module _ (branches : List (List (Statement (Expr ℕ)))) (forms : List Form) whe
   asking_on p s e u is = go (division.next rationals grevlex [] s) is
     where
       go : (o : Option (Event × division.State Fraction))
-          → analysis.moved (A (Some p)) (analysis.asked_by (A (Some p)) 0 [] s o) ≡ Some (e, u)
+          → analysis.move_of (A (Some p)) (analysis.asked_by (A (Some p)) 0 [] s o) ≡ Some (e, u)
           → (t : division.State Fraction) × (u ≡ asking 0 [] t)
       go None h = absurd (cc)
       go (Some (f, t)) h = (t, ap state_of (sym h))
@@ -137,11 +139,11 @@ module _ (branches : List (List (Statement (Expr ℕ)))) (forms : List Form) whe
       fits_begun (Some p) (subst (IsPast (A (Some p)))
       (sym (ap state_of (sym (first (Some p)) ∙ r.1) ∙ r.2)) h)
   never_past_asked p (e ∷ f ∷ es) s r h =
-      let on : r.2.0 ≡ asking 0 [] (division.begun [] p) = sym (ap state_of
-      (sym (ap (analysis.moved (A (Some p))) (asks p))
+      let on : r.2.0 ≡ asking 0 [] (division.initial_state [] p) = sym (ap state_of
+      (sym (ap (analysis.move_of (A (Some p))) (asks p))
       ∙ subst (λ v. moves (A (Some p)) v ≡ Some (f, r.2.0))
       (sym (ap state_of (sym (first (Some p)) ∙ r.1))) r.2.1)) in
-      asking_run p es (division.begun [] p) r.2.0 s on r.2.2 h
+      asking_run p es (division.initial_state [] p) r.2.0 s on r.2.2 h
 
   -- ---- journals
   pub x_run : IsRun (moves (A None)) fresh (Begin Start ∷ []) begun
@@ -153,35 +155,35 @@ module _ (branches : List (List (Statement (Expr ℕ)))) (forms : List Form) whe
 
   pub asked_run : (p : Terms Fraction)
       → IsRun (moves (A (Some p))) fresh (Begin Start ∷ Begin Member ∷ [])
-      (asking 0 [] (division.begun [] p))
+      (asking 0 [] (division.initial_state [] p))
   unfolding IsRun
   asked_run p = (
     begun,
     first (Some p),
-    (asking 0 [] (division.begun [] p), ap (analysis.moved (A (Some p))) (asks p), refl),
+    (asking 0 [] (division.initial_state [] p), ap (analysis.move_of (A (Some p))) (asks p), refl),
   )
 
   pub zero_run : IsRun (moves (A (Some []))) fresh (Begin Start ∷ Begin Member ∷ Did Zero ∷ [])
       (asking 0 [] nothing_left)
-  unfolding IsRun next division.next dividing divided find_cut
+  unfolding IsRun next division.next next_division next_cut find_cut
   zero_run = (
     begun,
     first (Some []),
     (
-      asking 0 [] (division.begun [] []),
-      ap (analysis.moved (A (Some []))) (asks []),
+      asking 0 [] (division.initial_state [] []),
+      ap (analysis.move_of (A (Some []))) (asks []),
       (asking 0 [] nothing_left, refl, refl),
     ),
   )
 
   pub zero_answered : next (A (Some [])) (asking 0 [] nothing_left) ≡ answered 0 [] nothing_left
-  unfolding next division.next dividing
+  unfolding next division.next next_division
   zero_answered = refl
 
   pub some_answered : (t : List ℕ × Fraction) (p : Terms Fraction)
-      → next (A (Some (t ∷ p))) (asking 0 [] (division.begun [] (t ∷ p))) ≡ answered 0 []
-      (division.begun [] (t ∷ p))
-  unfolding next division.next dividing divided
+      → next (A (Some (t ∷ p))) (asking 0 [] (division.initial_state [] (t ∷ p))) ≡ answered 0 []
+      (division.initial_state [] (t ∷ p))
+  unfolding next division.next next_division next_cut
   some_answered t p = ap
-      (λ o. analysis.asked_by (A (Some (t ∷ p))) 0 [] (division.begun [] (t ∷ p))
-      (divided rationals grevlex [] (t ∷ p) [] o)) (no_cut (t ∷ p))
+      (λ o. analysis.asked_by (A (Some (t ∷ p))) 0 [] (division.initial_state [] (t ∷ p))
+      (next_cut rationals grevlex [] (t ∷ p) [] o)) (no_cut (t ∷ p))

@@ -24,8 +24,8 @@ use Rattle.divide.specs.declared.EngineError.TheVariants as engine_error
 use Rattle.invariant_fix.specs.Membership.{SaysYes, HasAsked as HasWorked, Answers, HasAnswered, HasCofactorsOver, HasSum, IsWideAsking, IsAskingOutOfUnits}
 use Rattle.invariant_fix.specs.Refusals.{HasFollowed, IsRefused}
 use Rattle.invariant_fix.specs.declared.errors.AnalyseError.{AnalyseError}
-use Rattle.invariant_fix.specs.declared.membership.Answer as declared
-use Rattle.invariant_fix.specs.declared.membership.Answer.TheVariants as membership
+use Rattle.invariant_fix.specs.declared.membership.Membership as declared
+use Rattle.invariant_fix.specs.declared.membership.Membership.TheVariants as membership
 use Rattle.expr_text.specs.Reasons.{Fault}
 use Rattle.courses.specs.declared.answer.Answer as made
 use Rattle.courses.specs.Texts.{Answer}
@@ -35,7 +35,7 @@ use Rattle.courses.specs.Change.{Change, ◌⟶◌}
 use Rattle.courses.specs.Outcome.{Says}
 use Rattle.courses.proofs.Going.{at_end, replied}
 use Rattle.io_edge.specs.Outside.{FilesView}
-use Rattle.analysis_commands.specs.Analyses.{opened, HasFound, HasAnalysed}
+use Rattle.analysis_commands.specs.Analyses.{empty_journal, HasFound, HasAnalysed}
 use Rattle.equation_word.specs.Equations.{equation_in}
 use Rattle.analysis_commands.specs.MemberCourse.{HasAskedFor, AnswersEquation, by_equation, with_question}
 use Rattle.analysis_commands.specs.Questions.{unanalysed, undivided, yes, no, Divides, IsUndivided, Asks, IsFollowingAsked, HasAsked, undivided_answer, membership_answer}
@@ -51,7 +51,8 @@ basis_arity l m gs n same f =
     subst (λ k. All (λ (p : FracPoly). p.arity ≡ k) gs) (sym same)
     (elements_over (length l.names) gs (Inv l) f.basis)
 
-pub cofactors_arity : (l : Program (Expr ℕ)) (n : ℕ) (names : List (List ℕ)) (a : declared.Answer)
+pub cofactors_arity : (l : Program (Expr ℕ)) (n : ℕ) (names : List (List ℕ))
+    (a : declared.Membership)
     → n ≡ length l.names → names ≡ l.names → HasCofactorsOver n a
     → HasCofactorsOver (length names) a
 cofactors_arity l n names a size same h =
@@ -64,10 +65,10 @@ module _ (l : Program (Expr ℕ)) (p : Terms Fraction) (budget : ℕ) (before af
   limit = kept ∙ opened_with
 
   module _ (gs : List FracPoly) (f : HasFound l before (terms_each gs)) where
-    abbrev HasDone : declared.Answer → Type 0
+    abbrev HasDone : declared.Membership → Type 0
     HasDone a = HasAnswered l p f.rounds (terms_each gs) after.entries a
 
-    abbrev divides : (a : declared.Answer) → HasDone a → Divides l p after (terms_each gs)
+    abbrev divides : (a : declared.Membership) → HasDone a → Divides l p after (terms_each gs)
     divides a h = record {
       free = f.free;
       forms = f.forms;
@@ -89,7 +90,8 @@ module _ (l : Program (Expr ℕ)) (p : Terms Fraction) (budget : ℕ) (before af
       IsAnswered = IfOk r (λ x. Asks l p budget after (answer_view x))
 
       module _ (names : List (List ℕ)) (same : names ≡ l.names) where
-        pub told_said : (a : declared.Answer) → HasDone a → Answers (terms_each gs) p before after a
+        pub told_said : (a : declared.Membership) → HasDone a
+            → Answers (terms_each gs) p before after a
             → HasSum (terms_each gs) p a → (SaysYes a ↔ Inv l p)
             → IfOk r (λ x. answer_view x ≡ membership_answer names a) → IsAnswered
         told_said (membership.Yes qs) h t sum is told =
@@ -171,7 +173,7 @@ module _ (l : Program (Expr ℕ)) (p : Terms Fraction) (budget : ℕ) (before af
 
 -- ---- behind an analysis that has none
 pub unanalysed_said : (l : Program (Expr ℕ)) (p : Terms Fraction) (budget : ℕ) (before m : Journal)
-    → before ≡ opened budget → m.limit ≡ before.limit
+    → before ≡ empty_journal budget → m.limit ≡ before.limit
     → (r : Result made.Answer AllocError) (names : List (List ℕ)) → names ≡ l.names
     → (e : AnalyseError) → IsRefused l before m e
     → IfOk r (λ x. refusal_answer names budget e ≡ Some (answer_view x))

@@ -40,7 +40,7 @@ use Rattle.courses.specs.Texts.{Answer, line}
 use Rattle.courses.proofs.OfStatuses.{status_of, text_of, no_answer, some_answer}
 use Rattle.loop_file.proofs.MapLimits.{not_free}
 use Rattle.analysis_commands.specs.declared.kind.Kind.TheVariants as kinds
-use Rattle.analysis_commands.specs.Analyses.{opened, refused, Analyses}
+use Rattle.analysis_commands.specs.Analyses.{empty_journal, refused, Analyses}
 use Rattle.analysis_commands.specs.Causes.{IsNeverRefused, IsExact}
 use Rattle.analysis_commands.specs.Completeness.{AllSplit}
 use Rattle.equation_word.specs.Equations.{equation_in, operations_of, polynomial_of}
@@ -221,8 +221,8 @@ module _ (l : Program (Expr ℕ)) (e : Expr ℕ) (budget : ℕ) (m : Journal) (a
   spent_decided (unanalysed x) ends says h =
       let parts = refusal_parts l.names budget x a says in
       let same : x ≡ error.Budget = spent_is x a.status (refusal_kind x a.status parts.0) h in
-      let cause : IsRefused l (opened budget) m error.Budget =
-      subst (IsRefused l (opened budget) m) same ends.1 in
+      let cause : IsRefused l (empty_journal budget) m error.Budget =
+      subst (IsRefused l (empty_journal budget) m) same ends.1 in
       let told = subst (λ y. refusal_answer l.names budget y ≡ Some a) same says in
       record {
         free = cause.0;

@@ -17,7 +17,7 @@ use Rattle.machines.specs.Past.{IsPastDivision}
 use Rattle.machines.specs.Run.{IsRun}
 use Rattle.machines.specs.Work.{Work, IsSpent, PastAfter}
 use Rattle.loops.specs.Program.{Expr, Program}
-use Rattle.rounds.specs.Analysis.{State, fresh, asking, goes, asked_by, next, moved, moves}
+use Rattle.rounds.specs.Analysis.{State, fresh, asking, goes, asked_by, next, move_of, moves}
 use Rattle.rounds.specs.Journal.{setting_of, Follows, IsFinished, IsAnswered, IsOut}
 use Rattle.rounds.proofs.Asked.{goes_on, next_asked, run_asked}
 use Rattle.rounds.proofs.Forms.{forms_are_one}
@@ -58,7 +58,7 @@ module _ (l : Program (Expr ℕ)) (p : Terms Fraction) where
     step d = division.next rationals grevlex gs d
 
     abbrev first : division.State Fraction
-    first = division.begun gs p
+    first = division.initial_state gs p
 
     abbrev Works : division.State Fraction → Type 0
     Works t = Work step first (asks before.entries) after.entries t
@@ -128,6 +128,6 @@ module _ (l : Program (Expr ℕ)) (p : Terms Fraction) where
       same c.is in
       let less =
       spent_is_more S es fs done.state c.state out.state out.entry done.follows.run
-      (ap (moved S) done.is) run (ap (moved S) next_is) out.unit in
+      (ap (move_of S) done.is) run (ap (move_of S) next_is) out.unit in
       let spent = out.spent in
       omega (arith, less, few, spent)

@@ -1,7 +1,7 @@
 -- What `member` promises, from the outcome of its course.
 --   settled      its answers are settled
 --   decides      the clauses
-use Rattle.std.proofs.Common.{◌≡◌, ◌≢◌, ◌≤◌, ℕ, List, length, refl, sym, ap, subst, ◌∙◌, Result, Ok, Err, inl, inr}
+use Rattle.std.proofs.Common.{◌≡◌, ◌≢◌, ◌≤◌, ℕ, List, length, refl, sym, subst, ◌∙◌, Result, Ok, Err, inl, inr}
 use Rattle.std.specs.Prelude.{◌⊎◌, Option, Some, None, IfSome}
 use Rattle.numbers.specs.Fraction.{Fraction}
 use Rattle.polynomials.specs.Terms.{Terms}
@@ -17,16 +17,17 @@ use Rattle.closed_forms.specs.Refusal.{Refusal}
 use Rattle.invariant_fix.specs.Refusals.{AllHaveForms, IsRefusedBranch}
 use Rattle.courses.specs.declared.answer.Status.{Status}
 use Rattle.courses.specs.declared.answer.Status.TheVariants as status
-use Rattle.courses.specs.Texts.{Answer, with_text}
+use Rattle.courses.specs.Texts.{Answer}
 use Rattle.courses.specs.Settled.{IsSettled, IsRefusing}
 use Rattle.courses.specs.Course.{Course, ends, Outcome, LeftBy, EachAnswer}
 use Rattle.courses.specs.Outcome.{Call, IsCarriedOut}
 use Rattle.courses.specs.Clauses.{Wrote, IsExcused, EndsOrWide, EndsAtFault}
-use Rattle.courses.proofs.Outcomes.{Said, at_some, if_told, yes_said, said_with, written, or_excused, or_wide, or_fault, ends_so, meter_left}
+use Rattle.courses.proofs.Outcomes.{Said, at_some, if_told, yes_said, said_with, refusal_told, written, or_excused, or_wide, or_fault, ends_so, meter_left}
 use Rattle.courses.proofs.Outside.{too_long_told}
+use Rattle.courses.proofs.Readings.{each_answer, at_something, at_fault}
 use Rattle.loop_file.specs.Texts.{loop_refusal}
 use Rattle.loop_file.specs.Reading.{loop_at, by_loop}
-use Rattle.loop_file.proofs.LoopCourses.{loop_each, at_loop, at_fault, loop_refuses}
+use Rattle.loop_file.proofs.LoopCourses.{loop_refuses}
 use Rattle.loop_file.proofs.MapLimits.{not_free}
 use Rattle.analysis_commands.specs.Causes.{IsNeverRefused, IsExact}
 use Rattle.analysis_commands.specs.Completeness.{AllSplit}
@@ -72,7 +73,7 @@ module _ (before : Journal) (request : Request) where
 
   pub settled : EachAnswer (λ a. IsSettled a.status) (course before request)
   settled =
-      loop_each goes (λ a. IsSettled a.status) request.file
+      each_answer loop_of loop_refusal goes (λ a. IsSettled a.status) (loop_at request.file)
       (λ fault a h. (loop_refuses fault a h).plain.settled)
       (λ l. question_settled l (equation_in l.names request.equation))
 
@@ -166,17 +167,6 @@ module _ (request : Request) (call : Call)
         told_question P s
         (λ text h k. absurd (not _ (nothing_refuses text request.equation s.answer h) has)) some
 
-    refused : Wrote call.sink (λ said. Refuses call request (with_text t said))
-    refused = record {
-      text = s.answer.text;
-      whole = s.whole;
-      is = subst (λ a. Refuses call request a) (ap (λ x. with_text x s.answer.text) has)
-          (told_question _ s (λ text h k. inl (h, k)) (λ text l e i j asks. inr (record {
-            asking = record { loop = l; is_loop = i; difference = e; is_equation = j };
-            asks = asks;
-          })));
-    }
-
   yes_here : call.status ≡ status.Yes → Said path call
   yes_here is = yes_said path call f is
 
@@ -247,7 +237,8 @@ module _ (request : Request) (call : Call)
       → Told (by_equation said (question l)) s.answer
   at_question l said r s =
       subst (λ x. Told (by_equation x (question l)) s.answer) r.reads
-      (at_loop call request.file next m s.answer s.is l r.loop)
+      (at_something loop_of loop_refusal call (loop_at request.file) next m s.answer s.is l
+      r.loop)
 
   abbrev IsDecided : Program (Expr ℕ) → Expr ℕ → Answer → Type 0
   IsDecided l e a = EndsDecided a.status l e
@@ -356,10 +347,12 @@ module _ (request : Request) (call : Call)
         (λ text h. written path call f (ShowsNo text request.equation) (no_here is) h.0)
         (no_shown is);
     denied = λ is. if_told content _ _ (λ text h. h.1) (no_shown is);
-    fault = λ is. refused status.Fault is
-        (said_with path call f status.Fault is (λ h. cc) (λ h. cc) (λ h. cc));
-    wide = λ is. refused status.Wide is
-        (said_with path call f status.Wide is (λ h. cc) (λ h. cc) (λ h. cc));
+    why = λ is. refusal_told path call f call.status is (Refuses call request)
+        (λ s same refusing. told_question _ s (λ text h k. inl (h, k))
+        (λ text l e i j asks. inr (record {
+          asking = record { loop = l; is_loop = i; difference = e; is_equation = j };
+          asks = asks;
+        }))) refl;
     spent = spent_shown;
     journal = elim (meter_left path call f) [
       | inl kept ↦ inl kept
@@ -367,7 +360,8 @@ module _ (request : Request) (call : Call)
     ];
     kept = kept_at;
     loop_fault = λ fault r. ends_so path call f (loop_refusal fault)
-        (λ s. at_fault call request.file next m s.answer s.is fault r);
+        (λ s. at_fault loop_of loop_refusal call (loop_at request.file) next m s.answer s.is fault
+        r);
     equation_fault = λ l fault r. ends_so path call f (equation_refusal fault)
         (λ s. at_question l (Err fault) r s);
     equation_limit = equation_limit;

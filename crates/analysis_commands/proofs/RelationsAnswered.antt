@@ -18,7 +18,7 @@ use Rattle.invariant_fix.specs.Refusals.{AllHaveForms}
 use Rattle.invariant_fix.proofs.Options.{if_ok_two}
 use Rattle.recurrences.specs.Sequences.{Sequence, sequence_names}
 use Rattle.recurrences.specs.Turning as turning
-use Rattle.recurrences.specs.Turning.{names, shown}
+use Rattle.recurrences.specs.Turning.{names, first_places}
 use Rattle.recurrences.proofs.Relations.{length-shown}
 use Rattle.recurrences.proofs.Starts.{length-names}
 use Rattle.relations.specs.Order.{visible}
@@ -33,15 +33,15 @@ use Rattle.sequence_text.specs.Seen.{IsLoopOf}
 use Rattle.analysis_text.specs.ReadBack.{IsReadBack}
 use Rattle.courses.specs.declared.answer.Answer as made
 use Rattle.courses.specs.Views.{answer_view}
-use Rattle.analysis_commands.specs.Analyses.{opened}
+use Rattle.analysis_commands.specs.Analyses.{empty_journal}
 use Rattle.analysis_commands.specs.RelationsTexts.{found_answer, relations_refusal}
 use Rattle.analysis_commands.specs.RelationsAnswers.{related, refused, Relates, HasRelated}
 use Rattle.analysis_commands.specs.RelationsViews.{AreNamedBy}
 use Rattle.analysis_commands.proofs.BasisAnswers as basis_answers
 
 pub shown_count : (qs : List (Sequence (Expr ℕ)))
-    → length (visible (length (names qs)) (shown 0 qs)) ≡ length (sequence_names qs)
-shown_count qs = ap (λ n. length (visible n (shown 0 qs))) (length-names qs)
+    → length (visible (length (names qs)) (first_places 0 qs)) ≡ length (sequence_names qs)
+shown_count qs = ap (λ n. length (visible n (first_places 0 qs))) (length-names qs)
     ∙ ap length (visible_shown qs) ∙ length-shown 0 qs
     ∙ sym (length-map qs (λ (q : Sequence (Expr ℕ)). q.name))
 
@@ -49,7 +49,7 @@ module _ (s : Seqs) (places : List ℕ) (same : places ≡ s.shown.items)
     (qs : List (Sequence (Expr ℕ))) (is : IsLoopOf s qs) where
   -- what is told of the loop at the places is told of the sequences' own
   along : (P : Program (Expr ℕ) → List ℕ → Type 0) → P (program_of s.lp) places
-      → P (turning.program_of qs) (shown 0 qs)
+      → P (turning.program_of qs) (first_places 0 qs)
   along P h = subst (λ js. P (turning.program_of qs) js) (same ∙ is.places)
       (subst (λ l. P l places) is.is h)
 
@@ -59,7 +59,7 @@ module _ (s : Seqs) (places : List ℕ) (same : places ≡ s.shown.items)
       ∙ sym (ap (λ js. length (visible (length (names qs)) js)) (same ∙ is.places))
       ∙ sym (ap (λ (l : Program (Expr ℕ)). length (visible (length l.names) places)) is.is)
 
-  module _ (budget : ℕ) (before m : Journal) (begun : before ≡ opened budget)
+  module _ (budget : ℕ) (before m : Journal) (begun : before ≡ empty_journal budget)
       (kept : m.limit ≡ before.limit) where
     limit : m.limit ≡ budget
     limit = kept ∙ ap (λ (j : Journal). j.limit) begun
@@ -105,7 +105,7 @@ module _ (s : Seqs) (places : List ℕ) (same : places ≡ s.shown.items)
             ending = refused e;
             ends = (
               limit,
-              along (λ l js. IsRefused l js (opened budget) m e)
+              along (λ l js. IsRefused l js (empty_journal budget) m e)
                   (subst (λ j. IsRefused (program_of s.lp) places j m e) begun cause),
             );
             says = subst (λ xs. relations_refusal xs budget e ≡ Some (answer_view a)) all says;

@@ -24,7 +24,7 @@ use Rattle.invariant_fix.specs.Refusals.{AllHaveForms, IsRefusedBranch}
 use Rattle.invariant_fix.specs.declared.errors.AnalyseError.{AnalyseError}
 use Rattle.invariant_fix.specs.declared.errors.AnalyseError.TheVariants as error
 use Rattle.recurrences.specs.Sequences.{Sequence, sequence_names}
-use Rattle.recurrences.specs.Turning.{names, program_of, shown}
+use Rattle.recurrences.specs.Turning.{names, program_of, first_places}
 use Rattle.relations.specs.Journal.{IsOut}
 use Rattle.relations.proofs.Budgets.{enough_budget}
 use Rattle.sequence_grammar.specs.SeqReader.{sequences_of}
@@ -149,7 +149,7 @@ module _ (qs : List (Sequence (Expr ℕ))) (budget : ℕ) (m : Journal) (a : Ans
   record IsOutOf : Type 0 where
     free : AreFree (program_of qs)
     forms : AllHaveForms (program_of qs)
-    out : IsOut (program_of qs) (shown 0 qs) budget m.entries
+    out : IsOut (program_of qs) (first_places 0 qs) budget m.entries
 
   out_of : (e : RelationsError) → EndsWith qs budget m (refused e)
       → (e ≡ relating.Budget) ⊎ (e ≡ relating.Analysis error.Budget) → IsOutOf
@@ -159,7 +159,7 @@ module _ (qs : List (Sequence (Expr ℕ))) (budget : ℕ) (m : Journal) (a : Ans
       record {
         free = h.1.0;
         forms = h.1.1;
-        out = subst (λ n. IsOut (program_of qs) (shown 0 qs) n m.entries) h.0 h.1.2;
+        out = subst (λ n. IsOut (program_of qs) (first_places 0 qs) n m.entries) h.0 h.1.2;
       }
   out_of e ends (inr is) =
       let h : EndsWith qs budget m (refused (relating.Analysis error.Budget)) =
@@ -167,7 +167,7 @@ module _ (qs : List (Sequence (Expr ℕ))) (budget : ℕ) (m : Journal) (a : Ans
       record {
         free = h.1.0;
         forms = h.1.1;
-        out = subst (λ n. IsOut (program_of qs) (shown 0 qs) n m.entries) h.0 (inl h.1.2);
+        out = subst (λ n. IsOut (program_of qs) (first_places 0 qs) n m.entries) h.0 (inl h.1.2);
       }
 
   module _ (text : List ℕ) (is : sequences_of text ≡ Ok qs) where
@@ -376,6 +376,6 @@ pub related_within : (text : List ℕ) (qs : List (Sequence (Expr ℕ))) (budget
 related_within text qs budget m said is within out =
     let same : out.sequences ≡ qs =
     (let x : Ok out.sequences ≡ Ok qs = sym out.are_sequences ∙ is in cc) in
-    enough_budget (program_of qs) (shown 0 qs) within.entries m.entries budget within.list
+    enough_budget (program_of qs) (first_places 0 qs) within.entries m.entries budget within.list
     within.ended within.few
-    (subst (λ ps. IsOut (program_of ps) (shown 0 ps) budget m.entries) same out.out)
+    (subst (λ ps. IsOut (program_of ps) (first_places 0 ps) budget m.entries) same out.out)

@@ -23,12 +23,12 @@ use Rattle.courses.specs.Texts.{Answer, with_text}
 use Rattle.courses.specs.Views.{answer_view}
 use Rattle.courses.proofs.OfStatuses.{status_of, text_of}
 use Rattle.analysis_commands.specs.Texts.{refusal_answer}
-use Rattle.analysis_commands.specs.Analyses.{opened, AnswersRefusal}
+use Rattle.analysis_commands.specs.Analyses.{empty_journal, AnswersRefusal}
 use Rattle.analysis_commands.specs.Causes.{IsUnanalysed}
 use Rattle.analysis_commands.specs.Counting.{IsCounted, IsNext, AreCounted, HasOpenedFor, HasCounted, AnswersFamily}
 
 pub refusal_given : (l : Program (Expr ℕ)) (budget : ℕ) (before m : Journal) (names : List (List ℕ))
-    (e : AnalyseError) (a : Answer) → budget ≡ usual_budget → before ≡ opened budget
+    (e : AnalyseError) (a : Answer) → budget ≡ usual_budget → before ≡ empty_journal budget
     → m.limit ≡ before.limit → names ≡ l.names → IsRefused l before m e
     → refusal_answer names budget e ≡ Some a → AnswersRefusal l usual_budget m a
 refusal_given l budget before m names e a usual is kept same cause says =

@@ -130,9 +130,9 @@ module _ (at : ℕ) where
 
   -- with x left
   pub no_answered : IsAnswered one_loop (polynomial_of one_loop (no_question at)) no_entries 0 []
-      (division.begun [] x)
+      (division.initial_state [] x)
   no_answered =
-      subst (λ p. IsAnswered one_loop p no_entries 0 [] (division.begun [] x))
+      subst (λ p. IsAnswered one_loop p no_entries 0 [] (division.initial_state [] x))
       (sym (no_polynomial at)) (some_asked (1 ∷ [], one) [])
 
   pub yes_units : (budget : ℕ) → units_of yes_entries ≤ budget

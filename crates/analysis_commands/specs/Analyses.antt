@@ -1,5 +1,5 @@
 -- How the analysis of a loop ends, and what `basis` and `cert` answer then.
---   opened budget            the meter with which an analysis begins
+--   empty_journal budget            the meter with which an analysis begins
 --   HasFound l m gs             the journal m is that of the finished analysis of l, which ended with the list gs: the reduced basis of the invariants of l, after as few rounds as have them all
 --   IsUnfound l budget m e   the analysis of l with this budget has no basis for this reason, and leaves the journal m
 --   Ending                   found: a certificate with the list; refused: why there is none
@@ -24,8 +24,8 @@ use Rattle.analysis_commands.specs.Headline.{IsBasisOf, IsToldBack}
 use Rattle.courses.specs.Texts.{Answer}
 use Rattle.analysis_commands.specs.Texts.{found_answer, refusal_answer}
 
-abbrev pub opened : ℕ → Journal
-opened budget = record { limit = budget; entries = [] }
+abbrev pub empty_journal : ℕ → Journal
+empty_journal budget = record { limit = budget; entries = [] }
 
 pub record HasFound (l : Program (Expr ℕ)) (m : Journal) (gs : List (Terms Fraction)) : Type 0 where
   pub free : AreFree l
@@ -41,7 +41,7 @@ pub data Ending : Type 0 where
 
 module _ (l : Program (Expr ℕ)) (budget : ℕ) (m : Journal) where
   abbrev pub IsUnfound : AnalyseError → Type 0
-  IsUnfound e = (m.limit ≡ budget) × IsRefused l (opened budget) m e
+  IsUnfound e = (m.limit ≡ budget) × IsRefused l (empty_journal budget) m e
 
   abbrev pub EndsWith : Kind → Ending → Type 0
   EndsWith kind (found c) =

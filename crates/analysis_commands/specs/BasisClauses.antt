@@ -9,9 +9,9 @@ use Rattle.loop_model.specs.Maps.{maps_operations, AreFree}
 use Rattle.closed_forms.specs.Refusal.{Refusal}
 use Rattle.invariant_fix.specs.Refusals.{AllHaveForms, IsRefusedBranch}
 use Rattle.courses.specs.declared.answer.Status.TheVariants as status
-use Rattle.courses.specs.Texts.{Answer, with_text}
+use Rattle.courses.specs.Texts.{Answer}
 use Rattle.courses.specs.Outcome.{Call}
-use Rattle.courses.specs.Clauses.{Wrote, IfTold, IsExcused, Ends, EndsOrWide, EndsAtFault, EndsTooLong, IsLonger}
+use Rattle.courses.specs.Clauses.{Wrote, TellsWhy, IfTold, IsExcused, Ends, EndsOrWide, EndsAtFault, EndsTooLong, IsLonger}
 use Rattle.loop_file.specs.Texts.{loop_refusal}
 use Rattle.loop_file.specs.Reading.{loop_at, IsLoopFault, ReadsLoop}
 use Rattle.analysis_commands.specs.Texts.{branch_answer}
@@ -33,10 +33,7 @@ pub record Finds (request : Request) (call : Call) : Type 0 where
       (λ text. HasFinished text request.budget call.meter.after)
   -- a fault, or a number that doesn't fit: the text tells the first fault of LOOP, or why the
   -- analysis has no basis
-  pub fault : call.status ≡ status.Fault
-      → Wrote call.sink (λ said. Refuses call request (with_text status.Fault said))
-  pub wide : call.status ≡ status.Wide
-      → Wrote call.sink (λ said. Refuses call request (with_text status.Wide said))
+  pub why : TellsWhy call (Refuses call request)
   -- a spent budget: as many entries are units as the budget, and what comes next is a unit
   pub spent : call.status ≡ status.Budget → IfTold call.files.before request.file
       (λ text. Wrote call.sink (IsSpent text request.budget call.meter.after))

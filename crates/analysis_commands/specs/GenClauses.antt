@@ -4,9 +4,8 @@ use Rattle.std.specs.Prelude.{◌≡◌, ◌≢◌, ◌⊎◌, ℕ}
 use Rattle.loop_model.specs.Maps.{AreFree}
 use Rattle.word_numbers.specs.Numerals.{usual_budget}
 use Rattle.courses.specs.declared.answer.Status.TheVariants as status
-use Rattle.courses.specs.Texts.{with_text}
 use Rattle.courses.specs.Outcome.{Call}
-use Rattle.courses.specs.Clauses.{Wrote, IsExcused}
+use Rattle.courses.specs.Clauses.{Wrote, TellsWhy, IsExcused}
 use Rattle.analysis_commands.specs.Completeness.{AllSplit, EndsFound}
 use Rattle.analysis_commands.specs.Causes.{IsNeverRefused, IsWithinBudget}
 use Rattle.analysis_commands.specs.Counting.{ShowsCounts, StopsAt, IsSpentAt, HasCounted, IsFamily}
@@ -17,10 +16,7 @@ pub record Tallies (n : ℕ) (call : Call) : Type 0 where
   pub counts : call.status ≡ status.Yes → Wrote call.sink (ShowsCounts n call.meter.after)
   -- a fault, or a number that doesn't fit: the text tells why the first loop that has no basis has
   -- none
-  pub fault : call.status ≡ status.Fault
-      → Wrote call.sink (λ said. StopsAt n call.meter.after (with_text status.Fault said))
-  pub wide : call.status ≡ status.Wide
-      → Wrote call.sink (λ said. StopsAt n call.meter.after (with_text status.Wide said))
+  pub why : TellsWhy call (StopsAt n call.meter.after)
   -- a spent budget, of the first loop that has no basis
   pub spent : call.status ≡ status.Budget → Wrote call.sink (IsSpentAt n call.meter.after)
   -- never no

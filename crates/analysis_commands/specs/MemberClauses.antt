@@ -29,9 +29,9 @@ use Rattle.closed_forms.specs.Refusal.{Refusal}
 use Rattle.invariant_fix.specs.Refusals.{AllHaveForms, IsRefusedBranch}
 use Rattle.courses.specs.declared.answer.Status.{Status}
 use Rattle.courses.specs.declared.answer.Status.TheVariants as status
-use Rattle.courses.specs.Texts.{Answer, with_text}
+use Rattle.courses.specs.Texts.{Answer}
 use Rattle.courses.specs.Outcome.{Call}
-use Rattle.courses.specs.Clauses.{Wrote, IfTold, IsExcused, Ends, EndsOrWide, EndsAtFault, EndsTooLong, IsLonger}
+use Rattle.courses.specs.Clauses.{Wrote, TellsWhy, IfTold, IsExcused, Ends, EndsOrWide, EndsAtFault, EndsTooLong, IsLonger}
 use Rattle.loop_file.specs.Texts.{loop_refusal}
 use Rattle.loop_file.specs.Reading.{loop_at, IsLoopFault, ReadsLoop}
 use Rattle.analysis_commands.specs.Texts.{branch_answer}
@@ -90,10 +90,7 @@ pub record Decides (request : Request) (call : Call) : Type 0 where
   -- a fault, or a number that doesn't fit: the text tells the first fault of LOOP or of EQUATION,
   -- or an operation of its polynomial, and the meter is as it was; or why the analysis or the
   -- division has no answer
-  pub fault : call.status ≡ status.Fault
-      → Wrote call.sink (λ said. Refuses call request (with_text status.Fault said))
-  pub wide : call.status ≡ status.Wide
-      → Wrote call.sink (λ said. Refuses call request (with_text status.Wide said))
+  pub why : TellsWhy call (Refuses call request)
   -- a spent budget: as many entries are units as the budget, and what comes next is a unit
   pub spent : call.status ≡ status.Budget → IfTold call.files.before request.file
       (λ text.

@@ -21,7 +21,7 @@ use Rattle.analysis_commands.specs.Headline.{IsBasisOf}
 
 pub record AreCofactors (gs : List (Terms Fraction)) (p : Terms Fraction)
     (qs : List (Terms Fraction)) : Type 0 where
-  pub ends : Ends (division.next rationals grevlex gs) (division.begun gs p)
+  pub ends : Ends (division.next rationals grevlex gs) (division.initial_state gs p)
   pub gone : ends.last.current ≡ None
   pub are : qs ≡ ends.last.cofactors
 

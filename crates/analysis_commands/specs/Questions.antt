@@ -37,13 +37,13 @@ use Rattle.divide.specs.declared.EngineError.TheVariants as engine_error
 use Rattle.invariant_fix.specs.Answers.{IsLeastLevel}
 use Rattle.invariant_fix.specs.Refusals.{AllHaveForms, IsRefused}
 use Rattle.invariant_fix.specs.declared.errors.AnalyseError.{AnalyseError}
-use Rattle.invariant_fix.specs.declared.membership.Answer as declared
-use Rattle.invariant_fix.specs.declared.membership.Answer.TheVariants as membership
+use Rattle.invariant_fix.specs.declared.membership.Membership as declared
+use Rattle.invariant_fix.specs.declared.membership.Membership.TheVariants as membership
 use Rattle.analysis_text.specs.Texts.{yes_text, member_text}
 use Rattle.courses.specs.declared.answer.Status.{Status}
 use Rattle.courses.specs.declared.answer.Status.TheVariants as status
 use Rattle.courses.specs.Texts.{Answer, with_text, answer}
-use Rattle.analysis_commands.specs.Analyses.{opened}
+use Rattle.analysis_commands.specs.Analyses.{empty_journal}
 use Rattle.analysis_commands.specs.Headline.{IsBasisOf}
 use Rattle.analysis_commands.specs.MemberHeadline.{AreCofactors}
 use Rattle.analysis_commands.specs.Texts.{refusal_answer}
@@ -95,7 +95,7 @@ module _ (l : Program (Expr ℕ)) (p : Terms Fraction) where
   IsUndivided budget m engine_error.Memory = Unit {0}
 
   abbrev pub DecidesWith : ℕ → Journal → Decision → Type 0
-  DecidesWith budget m (unanalysed x) = (m.limit ≡ budget) × IsRefused l (opened budget) m x
+  DecidesWith budget m (unanalysed x) = (m.limit ≡ budget) × IsRefused l (empty_journal budget) m x
   DecidesWith budget m (undivided x) = (m.limit ≡ budget) × IsUndivided budget m x
   DecidesWith budget m (yes qs) = (m.limit ≡ budget) × AnswersYes m qs
   DecidesWith budget m no = (m.limit ≡ budget) × AnswersNo m
@@ -120,7 +120,7 @@ decision_answer names budget (undivided x) = undivided_answer budget x
 decision_answer names budget (yes qs) = Some (positive_answer names qs)
 decision_answer names budget no = Some negative_answer
 
-abbrev pub membership_answer : List (List ℕ) → declared.Answer → Answer
+abbrev pub membership_answer : List (List ℕ) → declared.Membership → Answer
 membership_answer names (membership.Yes qs) = positive_answer names (terms_each qs.items)
 membership_answer names membership.No = negative_answer
 

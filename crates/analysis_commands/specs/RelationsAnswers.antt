@@ -20,7 +20,7 @@ use Rattle.loops.specs.Program.{Expr}
 use Rattle.loop_model.specs.Maps.{AreFree}
 use Rattle.invariant_fix.specs.Refusals.{AllHaveForms}
 use Rattle.recurrences.specs.Sequences.{Sequence, sequence_names, AreFormed}
-use Rattle.recurrences.specs.Turning.{names, program_of, shown}
+use Rattle.recurrences.specs.Turning.{names, program_of, first_places}
 use Rattle.recurrences.specs.Relations.{IsRelation}
 use Rattle.relations.specs.Journal.{IsEnded, HasFollowed}
 use Rattle.sequence_text.specs.declared.Seqs.{Seqs}
@@ -28,7 +28,7 @@ use Rattle.sequence_text.specs.Seen.{IsLoopOf}
 use Rattle.loop_relations.specs.Refusals.{IsRefused}
 use Rattle.loop_relations.specs.declared.errors.RelationsError.{RelationsError}
 use Rattle.analysis_text.specs.ReadBack.{IsReadBack}
-use Rattle.analysis_commands.specs.Analyses.{opened}
+use Rattle.analysis_commands.specs.Analyses.{empty_journal}
 use Rattle.analysis_commands.specs.RelationsTexts.{found_answer, relations_refusal}
 use Rattle.courses.specs.Texts.{Answer}
 
@@ -48,7 +48,7 @@ module _ (qs : List (Sequence (Expr ℕ))) where
     pub formed : AreFormed qs
     pub free : AreFree (program_of qs)
     pub forms : AllHaveForms (program_of qs)
-    pub ended : IsEnded (program_of qs) (shown 0 qs) m.entries gs
+    pub ended : IsEnded (program_of qs) (first_places 0 qs) m.entries gs
     pub basis : IsReducedFor rationals grevlex (length qs) gs (IsRelation qs)
     pub generates : Generate (length qs) gs (IsRelation qs)
 
@@ -56,7 +56,7 @@ module _ (qs : List (Sequence (Expr ℕ))) where
   EndsWith budget m (related gs) =
       (m.limit ≡ budget) × HasRelations m gs × IsReadBack (sequence_names qs) gs
   EndsWith budget m (refused e) =
-      (m.limit ≡ budget) × IsRefused (program_of qs) (shown 0 qs) (opened budget) m e
+      (m.limit ≡ budget) × IsRefused (program_of qs) (first_places 0 qs) (empty_journal budget) m e
 
   abbrev pub answer_of : ℕ → Ending → Option Answer
   answer_of budget (related gs) = Some (found_answer (sequence_names qs) gs)
@@ -69,7 +69,7 @@ module _ (qs : List (Sequence (Expr ℕ))) where
 
   pub record HasRelated (budget : ℕ) (m : Journal) : Type 0 where
     pub limit : m.limit ≡ budget
-    pub follows : HasFollowed (program_of qs) (shown 0 qs) m.entries
+    pub follows : HasFollowed (program_of qs) (first_places 0 qs) m.entries
 
   -- a tells why there are none
   pub record AnswersUnrelated (budget : ℕ) (m : Journal) (a : Answer) : Type 0 where

@@ -20,7 +20,7 @@ use Rattle.loop_model.specs.Maps.{maps_operations, AreFree}
 use Rattle.closed_forms.specs.Refusal.{Refusal}
 use Rattle.invariant_fix.specs.Refusals.{AllHaveForms, IsRefusedBranch}
 use Rattle.recurrences.specs.Sequences.{Sequence, sequence_names, AreFormed}
-use Rattle.recurrences.specs.Turning.{names, program_of, shown}
+use Rattle.recurrences.specs.Turning.{names, program_of, first_places}
 use Rattle.recurrences.specs.Relations.{IsRelation}
 use Rattle.relations.specs.Journal.{IsEnded, IsOut}
 use Rattle.sequence_grammar.specs.SeqReader.{sequences_of}
@@ -34,9 +34,9 @@ use Rattle.analysis_commands.specs.RelationsTexts.{sequences_refusal}
 use Rattle.analysis_commands.specs.RelationsReading.{IsSequencesFault, ReadsSequences}
 use Rattle.word_numbers.specs.FileRequests.{FileRequest}
 use Rattle.courses.specs.declared.answer.Status.TheVariants as status
-use Rattle.courses.specs.Texts.{Answer, with_text, line}
+use Rattle.courses.specs.Texts.{Answer, line}
 use Rattle.courses.specs.Outcome.{Call}
-use Rattle.courses.specs.Clauses.{Wrote, IfTold, Ends, EndsOrWide, EndsAtFault, EndsTooLong, IsLonger}
+use Rattle.courses.specs.Clauses.{Wrote, TellsWhy, IfTold, Ends, EndsOrWide, EndsAtFault, EndsTooLong, IsLonger}
 use Rattle.loop_file.specs.Reading.{loop_at}
 
 pub record ShowsRelations (text said : List ℕ) : Type 0 where
@@ -55,7 +55,7 @@ pub record HasEnded (text : List ℕ) (budget : ℕ) (m : Journal) : Type 0 wher
   pub free : AreFree (program_of sequences)
   pub limit : m.limit ≡ budget
   pub list : List (Terms Fraction)
-  pub ended : IsEnded (program_of sequences) (shown 0 sequences) m.entries list
+  pub ended : IsEnded (program_of sequences) (first_places 0 sequences) m.entries list
 
 pub record IsSpentRelating (text : List ℕ) (budget : ℕ) (m : Journal) (said : List ℕ) : Type 0 where
   pub sequences : List (Sequence (Expr ℕ))
@@ -63,7 +63,7 @@ pub record IsSpentRelating (text : List ℕ) (budget : ℕ) (m : Journal) (said 
   pub free : AreFree (program_of sequences)
   pub forms : AllHaveForms (program_of sequences)
   pub limit : m.limit ≡ budget
-  pub out : IsOut (program_of sequences) (shown 0 sequences) budget m.entries
+  pub out : IsOut (program_of sequences) (first_places 0 sequences) budget m.entries
   pub says : said ≡ line (codes "budget: " ++ decimal budget)
 
 pub record IsUnrelated (text : List ℕ) (budget : ℕ) (m : Journal) (a : Answer) : Type 0 where
@@ -79,7 +79,7 @@ pub record IsRelating (text : List ℕ) (budget : ℕ) (m : Journal) : Type 0 wh
 pub record IsRelatedWithin (qs : List (Sequence (Expr ℕ))) (budget : ℕ) : Type 0 where
   pub entries : List Made
   pub list : List (Terms Fraction)
-  pub ended : IsEnded (program_of qs) (shown 0 qs) entries list
+  pub ended : IsEnded (program_of qs) (first_places 0 qs) entries list
   pub few : units_of entries ≤ budget
 
 abbrev pub Refuses : Call → FileRequest → Answer → Type 0
@@ -95,10 +95,7 @@ pub record FindsRelations (request : FileRequest) (call : Call) : Type 0 where
       (λ text. HasEnded text request.budget call.meter.after)
   -- a fault, or a number that doesn't fit: the text tells the first fault of FILE, or why there are
   -- no relations
-  pub fault : call.status ≡ status.Fault
-      → Wrote call.sink (λ said. Refuses call request (with_text status.Fault said))
-  pub wide : call.status ≡ status.Wide
-      → Wrote call.sink (λ said. Refuses call request (with_text status.Wide said))
+  pub why : TellsWhy call (Refuses call request)
   -- a spent budget: as many entries are units as the budget, and what comes next is a unit
   pub spent : call.status ≡ status.Budget → IfTold call.files.before request.file
       (λ text. Wrote call.sink (IsSpentRelating text request.budget call.meter.after))

@@ -20,7 +20,7 @@ use divide::EngineError;
 use equation_word::read_polynomial;
 use expressions::Names;
 use frac128::Frac;
-use invariant_fix::{Analysis, Answer as Membership, analyse, member};
+use invariant_fix::{Analysis, Membership, analyse, member};
 use journal::Meter;
 use loop_model::Loop;
 use monos::Grevlex;

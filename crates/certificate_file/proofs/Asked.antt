@@ -1,26 +1,34 @@
 -- What commands on certificates promise, from the outcome of their course.
---   settled, silent_course, never_spent     of their answers
---   told_certificate      the answer is by what CERT is
+--   Checker C             how CERT is read and judged, and how long it may be
+--   settled, never_spent, kept     of their answers, and of the meter
+--   told_certificate, loop_fault   the answer is by what CERT is, or LOOP
 --   shown                 what is written where the answer is a yes or a no
 --   refused               what is written where it is a fault, or a number doesn't fit
 --   FreelyDecides, decided      yes or no, where the maps pass no limit
---   comes_to_certificate  the course comes to CERT
-use Rattle.std.proofs.Common.{◌≡◌, ◌≢◌, ◌≤◌, ℕ, List, length, refl, sym, ap, subst, ◌∙◌, Ok, Err, inl, inr}
+--   long, long_certificate      a file is too long
+use Rattle.std.proofs.Common.{◌≡◌, ◌≢◌, ◌≤◌, ℕ, List, length, refl, sym, subst, ◌∙◌, Ok, Err, inl, inr}
 use Rattle.std.specs.Prelude.{◌⊎◌, Some}
 use Rattle.std.proofs.lemmas.Bool.{cases_lt}
 use Rattle.loops.specs.Program.{Expr, Program}
+use Rattle.expr_text.specs.Reasons.{Fault}
 use Rattle.loop_text.specs.LoopReader.{loop_of}
+use Rattle.cert_form.specs.Form as form
 use Rattle.cert_form.specs.Form.{Reading}
 use Rattle.courses.specs.declared.answer.Status.{Status}
 use Rattle.courses.specs.declared.answer.Status.TheVariants as status
-use Rattle.courses.specs.Texts.{Answer, with_text}
-use Rattle.courses.specs.Settled.{IsSettled, IsPlain, IsRefusing}
-use Rattle.courses.specs.Course.{File, Course, reads, silent, ComesTo, IsSilent, EachAnswer}
+use Rattle.courses.specs.Texts.{Answer}
+use Rattle.courses.specs.Settled.{IsSettled, IsPlain}
+use Rattle.courses.specs.Course.{File, Course, reads, silent, ComesTo, EachAnswer}
 use Rattle.courses.specs.Outcome.{Call, IsCarriedOut}
-use Rattle.courses.specs.Clauses.{Wrote, IfTold, IsLonger}
-use Rattle.courses.proofs.Outcomes.{Said, at_some, if_told, written, or_excused}
+use Rattle.courses.specs.Clauses.{Wrote, IfTold, TellsWhy, Ends, EndsTooLong, IsLonger}
+use Rattle.courses.proofs.Outcomes.{Said, at_some, if_told, said_with, refusal_told, written, or_excused, ends_so, never, meter_kept}
+use Rattle.courses.proofs.Outside.{too_long_told}
+use Rattle.courses.proofs.Readings.{each_answer, is_silent, at_something, at_fault, on_reading}
+use Rattle.courses.proofs.OneFile.{Concludes}
+use Rattle.loop_file.specs.Texts.{loop_refusal}
 use Rattle.loop_file.specs.Reading.{loop_at, by_loop, IsLoopFault, ReadsLoop}
-use Rattle.loop_file.proofs.LoopCourses.{loop_each, loop_silent, at_loop, on_loop, loop_refuses}
+use Rattle.loop_file.proofs.LoopCourses.{loop_refuses}
+use Rattle.certificate_file.specs.Texts.{certificate_refusal}
 use Rattle.certificate_file.specs.Words.{Request}
 use Rattle.certificate_file.specs.Asking.{AnswersCertificate, certificate_course, IsQuestion, IsCertificateFault, IsStopped, Refuses, ReadsCertificate, Decides}
 use Rattle.certificate_file.proofs.Refusals.{certificate_refuses}
@@ -30,111 +38,125 @@ abbrev pub FreelyDecides : {C : Type 0} → (Program (Expr ℕ) → C → Type 0
 FreelyDecides holds s l c =
     ((s ≡ status.Yes) × holds l c) ⊎ (((s ≡ status.No) × ¬ (holds l c)) ⊎ (s ≡ status.Wide))
 
-module _ {C : Type 0} (reading : Program (Expr ℕ) → List ℕ → Reading C)
-    (judges : Program (Expr ℕ) → C → Answer → Type 0) (most : ℕ)
-    (plain : (l : Program (Expr ℕ)) (c : C) (a : Answer) → judges l c a → IsPlain a.status)
-    (request : Request) where
+pub record Checker (C : Type 0) : Type 1 where
+  pub reading : Program (Expr ℕ) → List ℕ → Reading C
+  pub judges : Program (Expr ℕ) → C → Answer → Type 0
+  pub most : ℕ
+  pub plain : (l : Program (Expr ℕ)) (c : C) (a : Answer) → judges l c a → IsPlain a.status
+
+module _ {C : Type 0} (k : Checker C) (request : Request) where
   abbrev course : Course
-  course = certificate_course reading judges most request
+  course = certificate_course k.reading k.judges k.most request
 
   abbrev certificate : File
-  certificate = record { name = request.certificate; limit = most }
+  certificate = record { name = request.certificate; limit = k.most }
 
-  abbrev pub goes : Program (Expr ℕ) → Course
+  abbrev goes : Program (Expr ℕ) → Course
   goes l = reads certificate (λ bytes.
-      silent (λ a. AnswersCertificate judges l (reading l bytes) a))
+      silent (λ a. AnswersCertificate k.judges l (k.reading l bytes) a))
 
   certificate_plain : (l : Program (Expr ℕ)) (r : Reading C) (a : Answer)
-      → AnswersCertificate judges l r a → IsPlain a.status
+      → AnswersCertificate k.judges l r a → IsPlain a.status
   certificate_plain l (Err fault) a h = (certificate_refuses fault a h).plain
-  certificate_plain l (Ok c) a h = plain l c a h
+  certificate_plain l (Ok c) a h = k.plain l c a h
 
   pub settled : EachAnswer (λ a. IsSettled a.status) course
-  settled = loop_each goes (λ a. IsSettled a.status) request.file
+  settled = each_answer loop_of loop_refusal goes (λ a. IsSettled a.status) (loop_at request.file)
       (λ fault a h. (loop_refuses fault a h).plain.settled)
-      (λ l bytes m a h. (certificate_plain l (reading l bytes) a h).settled)
-
-  pub silent_course : IsSilent course
-  silent_course = loop_silent goes request.file (λ l bytes m h. h)
-
-  pub never_spent : EachAnswer (λ a. a.status ≢ status.Budget) course
-  never_spent = loop_each goes (λ a. a.status ≢ status.Budget) request.file
-      (λ fault a h. (loop_refuses fault a h).plain.budget_not)
-      (λ l bytes m a h. (certificate_plain l (reading l bytes) a h).budget_not)
+      (λ l bytes m a h. (certificate_plain l (k.reading l bytes) a h).settled)
 
   module _ (call : Call) (f : IsCarriedOut course call) where
-    pub told_certificate : (l : Program (Expr ℕ)) (r : Reading C)
-        → ReadsCertificate reading call request l r → (s : Said course call)
-        → AnswersCertificate judges l r s.answer
-    told_certificate l r told s =
-        subst (λ x. AnswersCertificate judges l x s.answer) told.reads
-        (at_some (call.files.before.told request.certificate) told.certificate
-        (λ bytes. AnswersCertificate judges l (reading l bytes) s.answer)
-        told.is_told
-        (at_loop call request.file goes call.meter.after s.answer s.is l told.loop))
+    pub kept : call.meter.after ≡ call.meter.before
+    kept = meter_kept course call f
+        (is_silent loop_of loop_refusal goes (loop_at request.file) (λ l bytes m h. h))
 
-    -- a judgement with this status, which no refusal has
-    module _ (t : Status) (not : (u : Status) → IsRefusing u → u ≢ t)
-        (P : List ℕ → List ℕ → List ℕ → Type 0)
+    pub never_spent : call.status ≢ status.Budget
+    never_spent = never course call f status.Budget (λ h. cc) (λ h. cc) (λ h. cc)
+        (each_answer loop_of loop_refusal goes (λ a. a.status ≢ status.Budget)
+        (loop_at request.file) (λ fault a h. (loop_refuses fault a h).plain.budget_not)
+        (λ l bytes m a h. (certificate_plain l (k.reading l bytes) a h).budget_not))
+
+    pub loop_fault : (fault : Fault) → ReadsLoop call request.file (Err fault)
+        → Ends call (loop_refusal fault)
+    loop_fault fault r = ends_so course call f (loop_refusal fault)
+        (λ s. at_fault loop_of loop_refusal call (loop_at request.file) goes call.meter.after
+        s.answer s.is fault r)
+
+    pub told_certificate : (l : Program (Expr ℕ)) (r : Reading C)
+        → ReadsCertificate k.reading call request l r → (s : Said course call)
+        → AnswersCertificate k.judges l r s.answer
+    told_certificate l r told s =
+        subst (λ x. AnswersCertificate k.judges l x s.answer) told.reads
+        (at_some (call.files.before.told request.certificate) told.certificate
+        (λ bytes. AnswersCertificate k.judges l (k.reading l bytes) s.answer)
+        told.is_told
+        (at_something loop_of loop_refusal call (loop_at request.file) goes call.meter.after
+        s.answer s.is l told.loop))
+
+    pub certificate_fault : (l : Program (Expr ℕ)) (fault : form.Fault)
+        → ReadsCertificate k.reading call request l (Err fault)
+        → Ends call (certificate_refusal fault)
+    certificate_fault l fault r = ends_so course call f (certificate_refusal fault)
+        (λ s. told_certificate l (Err fault) r s)
+
+    -- a judgement with a status that no refusal has
+    module _ {t : Status} (is : Concludes t) (P : List ℕ → List ℕ → List ℕ → Type 0)
         (tells : (text certificate : List ℕ) (l : Program (Expr ℕ)) (c : C) (a : Answer)
-        → IsQuestion reading text certificate l c → judges l c a → a.status ≡ t
+        → IsQuestion k.reading text certificate l c → k.judges l c a → a.status ≡ t
         → P text certificate a.text) where
       told_so : (text certificate : List ℕ) (l : Program (Expr ℕ)) (a : Answer)
-          → loop_of text ≡ Ok l → (r : Reading C) → reading l certificate ≡ r
-          → AnswersCertificate judges l r a → a.status ≡ t → P text certificate a.text
-      told_so text certificate l a is (Err fault) e k h =
-          absurd (not a.status (certificate_refuses fault a k) h)
-      told_so text certificate l a is (Ok c) e k h =
-          tells text certificate l c a (record { is_loop = is; is_certificate = e }) k h
+          → loop_of text ≡ Ok l → (r : Reading C) → k.reading l certificate ≡ r
+          → AnswersCertificate k.judges l r a → a.status ≡ t → P text certificate a.text
+      told_so text certificate l a loop (Err fault) e j h =
+          absurd (is.no_refusal a.status (certificate_refuses fault a j) h)
+      told_so text certificate l a loop (Ok c) e j h =
+          tells text certificate l c a (record { is_loop = loop; is_certificate = e }) j h
 
-      pub shown : (s : Said course call) → call.status ≡ t
+      pub shown : call.status ≡ t
           → IfTold call.files.before request.file
           (λ text. IfTold call.files.before request.certificate
           (λ certificate. Wrote call.sink (P text certificate)))
-      shown s is =
-          let same : s.answer.status ≡ t = sym s.same ∙ is in
-          on_loop call request.file goes call.meter.after s.answer s.is
+      shown h =
+          let s = said_with course call f t h is.settled.memory_not is.settled.read_not
+          is.settled.write_not in
+          let same : s.answer.status ≡ t = sym s.same ∙ h in
+          on_reading loop_of loop_refusal call (loop_at request.file) goes call.meter.after s.answer
+          s.is
           (λ text. IfTold call.files.before request.certificate
           (λ certificate. Wrote call.sink (P text certificate)))
-          (λ text h. absurd (not s.answer.status (loop_refuses h.fault s.answer h.says) same))
-          (λ text l e h. if_told (call.files.before.told request.certificate) _
+          (λ text j. absurd (is.no_refusal _ (loop_refuses j.fault s.answer j.says) same))
+          (λ text l e j. if_told (call.files.before.told request.certificate) _
           (λ certificate. Wrote call.sink (P text certificate))
-          (λ certificate k. written course call f (P text certificate) s
-          (told_so text certificate l s.answer e (reading l certificate) refl k same)) h)
+          (λ certificate i. written course call f (P text certificate) s
+          (told_so text certificate l s.answer e (k.reading l certificate) refl i same)) j)
 
     fails_so : (text certificate : List ℕ) (l : Program (Expr ℕ)) (a : Answer)
-        → loop_of text ≡ Ok l → (r : Reading C) → reading l certificate ≡ r
-        → AnswersCertificate judges l r a → IsCertificateFault reading text certificate a
-        ⊎ IsStopped reading judges text certificate a
-    fails_so text certificate l a is (Err fault) e k =
-        inl (record { loop = l; is_loop = is; fault = fault; is = e; says = k })
-    fails_so text certificate l a is (Ok c) e k =
+        → loop_of text ≡ Ok l → (r : Reading C) → k.reading l certificate ≡ r
+        → AnswersCertificate k.judges l r a → IsCertificateFault k.reading text certificate a
+        ⊎ IsStopped k.reading k.judges text certificate a
+    fails_so text certificate l a is (Err fault) e j =
+        inl (record { loop = l; is_loop = is; fault = fault; is = e; says = j })
+    fails_so text certificate l a is (Ok c) e j =
         inr (record {
           loop = l;
           listed = c;
           question = record { is_loop = is; is_certificate = e };
-          judged = k;
+          judged = j;
         })
 
-    pub refused : (t : Status) → call.status ≡ t → Said course call
-        → Wrote call.sink (λ said. Refuses reading judges call request (with_text t said))
-    refused t is s =
-        let same : s.answer.status ≡ t = sym s.same ∙ is in
-        record {
-          text = s.answer.text;
-          whole = s.whole;
-          is = subst (λ a. Refuses reading judges call request a)
-              (ap (λ x. with_text x s.answer.text) same)
-              (on_loop call request.file goes call.meter.after s.answer s.is
-              (λ text. IsLoopFault text s.answer
-              ⊎ IfTold call.files.before request.certificate
-              (λ certificate. IsCertificateFault reading text certificate s.answer
-              ⊎ IsStopped reading judges text certificate s.answer))
-              (λ text h. inl h)
-              (λ text l e h. inr (if_told (call.files.before.told request.certificate) _ _
-              (λ certificate k. fails_so text certificate l s.answer e
-              (reading l certificate) refl k) h)));
-        }
+    pub refused : TellsWhy call (Refuses k.reading k.judges call request)
+    refused is =
+        refusal_told course call f call.status is (Refuses k.reading k.judges call request)
+        (λ s same refusing. on_reading loop_of loop_refusal call (loop_at request.file) goes
+        call.meter.after s.answer s.is
+        (λ text. IsLoopFault text s.answer
+        ⊎ IfTold call.files.before request.certificate
+        (λ certificate. IsCertificateFault k.reading text certificate s.answer
+        ⊎ IsStopped k.reading k.judges text certificate s.answer))
+        (λ text h. inl h)
+        (λ text l e h. inr (if_told (call.files.before.told request.certificate) _ _
+        (λ certificate i. fails_so text certificate l s.answer e
+        (k.reading l certificate) refl i) h))) refl
 
     module _ (holds : Program (Expr ℕ) → C → Type 0) (l : Program (Expr ℕ)) (c : C) where
       decides : (s : Said course call) → FreelyDecides holds s.answer.status l c
@@ -143,8 +165,8 @@ module _ {C : Type 0} (reading : Program (Expr ℕ) → List ℕ → Reading C)
       decides s (inr (inl (says, h))) = inr (inl (s.same ∙ says, h))
       decides s (inr (inr says)) = inr (inr (inl (s.same ∙ says)))
 
-      pub decided : ((a : Answer) → judges l c a → FreelyDecides holds a.status l c)
-          → ReadsCertificate reading call request l (Ok c) → Decides holds call.status l c
+      pub decided : ((a : Answer) → k.judges l c a → FreelyDecides holds a.status l c)
+          → ReadsCertificate k.reading call request l (Ok c) → Decides holds call.status l c
       decided free told =
           elim (or_excused course call f
           (λ s. decides s (free s.answer (told_certificate l (Ok c) told s)))) [
@@ -160,7 +182,7 @@ module _ {C : Type 0} (reading : Program (Expr ℕ) → List ℕ → Reading C)
       | inr few ↦ few
     ]
 
-    pub comes_to_certificate : (l : Program (Expr ℕ)) → ReadsLoop call request.file (Ok l)
+    comes_to_certificate : (l : Program (Expr ℕ)) → ReadsLoop call request.file (Ok l)
         → ¬ (IsLonger call.files.before (loop_at request.file))
         → ComesTo call.files.before.told course certificate
     comes_to_certificate l r short =
@@ -171,3 +193,12 @@ module _ {C : Type 0} (reading : Program (Expr ℕ) → List ℕ → Reading C)
           subst (λ x. ComesTo call.files.before.told (by_loop x goes)
               certificate) (sym r.reads) (inl refl),
         )
+
+    pub long : IsLonger call.files.before (loop_at request.file) → EndsTooLong call request.file
+    long h = too_long_told course call f (loop_at request.file) (inl refl) h
+
+    pub long_certificate : (l : Program (Expr ℕ)) → ReadsLoop call request.file (Ok l)
+        → ¬ (IsLonger call.files.before (loop_at request.file))
+        → IsLonger call.files.before certificate → EndsTooLong call request.certificate
+    long_certificate l r short h =
+        too_long_told course call f certificate (comes_to_certificate l r short) h

@@ -130,7 +130,7 @@ module _ (c : Chain (Expr ℕ)) (budget : ℕ) (m : Journal) (j : ℕ) (x : Answ
       absurd (no_answer x says)
   formed_refusal free split (loop_error.Analysis (error.Branch b y)) r says =
       elim (wide_or_spent (error.Branch b y) says
-      (formed kinds.Basis p budget (alone.opened budget) x (free_loop free) split
+      (formed kinds.Basis p budget (alone.empty_journal budget) x (free_loop free) split
       (alone.refused (error.Branch b y)) (refl, (refl, (free_loop free, r.1.1))) says)) [
         | inl wide ↦ inl wide
         | inr spent ↦ absurd (let z : error.Branch b y ≡ error.Budget = spent in cc)
@@ -172,7 +172,8 @@ module _ (c : Chain (Expr ℕ)) (budget : ℕ) (m : Journal) (j : ℕ) (x : Answ
   branch_at free b y exact first (loop_error.Analysis (error.Map map_error.Memory)) r says =
       absurd (no_answer x says)
   branch_at free b y exact first (loop_error.Analysis (error.Branch d z)) r says =
-      branch_told kinds.Basis p budget (alone.opened budget) x (free_loop free) b y exact first
+      branch_told kinds.Basis p budget (alone.empty_journal budget) x (free_loop free) b y exact
+      first
       (alone.refused (error.Branch d z)) (refl, (refl, (free_loop free, r.1.1))) says
   branch_at free b y exact first (loop_error.Analysis (error.Wide task)) r says =
       inr (told_wide (error.Wide task) refl says)

@@ -24,7 +24,7 @@ use Rattle.invariant_fix.proofs.Options.{if_ok_two}
 use Rattle.analysis_text.proofs.Naming.{named}
 use Rattle.expressions.specs.Operations.{PassesLimit, IsFree}
 use Rattle.loop_model.specs.Maps.{maps_operations}
-use Rattle.chain_bases.specs.Bases.{opened, Reaches, code_operations, operations_at, InLoop, InCode, AreBases, IsLast, HasWorked, IsRefusedAt, IsRefusedIn}
+use Rattle.chain_bases.specs.Bases.{empty_journal, Reaches, code_operations, operations_at, InLoop, InCode, AreBases, IsLast, HasWorked, IsRefusedAt, IsRefusedIn}
 use Rattle.chain_bases.specs.declared.refused.LoopError.{LoopError}
 use Rattle.chain_bases.specs.declared.refused.LoopError.TheVariants as loop_error
 use Rattle.chain_bases.specs.declared.refused.Refused.{Refused}
@@ -142,7 +142,7 @@ module _ (c : Chain (Expr ℕ)) (budget : ℕ) (m : Journal) (bases : List (Vec 
 -- ---- a refusal
 module _ (c : Chain (Expr ℕ)) (budget : ℕ) (m : Journal) (j : ℕ) where
   -- nothing is done yet
-  nothing_yet : (i : ℕ) → Reaches c budget i → m ≡ opened budget → HasWorked c budget m i
+  nothing_yet : (i : ℕ) → Reaches c budget i → m ≡ empty_journal budget → HasWorked c budget m i
   nothing_yet zero reached e = inl (record {
     left = budget;
     given = None;
@@ -184,7 +184,7 @@ module _ (c : Chain (Expr ℕ)) (budget : ℕ) (m : Journal) (j : ℕ) where
       e
   named_at (loop_error.Analysis (error.Map e)) r = tt
   named_at (loop_error.Analysis (error.Branch b e)) r =
-      named (loop_at c j) (opened budget) (opened budget) (error.Branch b e) (
+      named (loop_at c j) (empty_journal budget) (empty_journal budget) (error.Branch b e) (
         refl,
         (
           subst (λ n. IsFree n (maps_operations (loop_at c j))) (sym (ap length (names_at j)))

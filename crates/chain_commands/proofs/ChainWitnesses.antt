@@ -82,7 +82,7 @@ module _ (program : Program (Expr ℕ)) (forms : List Form) where
   only_fresh [] s r = r
   only_fresh (e ∷ es) s (u, n, r) =
       let z : ◌≡◌ {A = Option (Entry × State)} None (Some (e, u)) =
-      sym (ap (analysis.moved (setting_from program (Some []) forms None)) ends) ∙ n in
+      sym (ap (analysis.move_of (setting_from program (Some []) forms None)) ends) ∙ n in
       absurd (let q : ⊥ = cc in q)
 
   never_past_from : (es : List Entry) (s : State)

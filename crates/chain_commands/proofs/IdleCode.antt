@@ -17,20 +17,20 @@ use Rattle.polynomials.specs.Exponent as exponents
 use Rattle.polynomials.specs.Exponent.{unit_exponents}
 use Rattle.polynomials.specs.Order.{compare, grevlex, blocks}
 use Rattle.polynomials.specs.Terms.{Terms, constant, variables, evaluate, monomial_at}
-use Rattle.polynomials.specs.Weight.{weight, degrees, composition_weight, composition_degrees, Fits, IsPastComposition, IsPastSum}
-use Rattle.machines.specs.Collect.{collect, insert, place, scaled}
+use Rattle.polynomials.specs.Weight.{weight, degrees, composition_weight, composition_degrees, FitsMonomial, IsPastComposition, IsPastSum}
+use Rattle.machines.specs.Collect.{collect, insert, place, scale_terms}
 use Rattle.machines.specs.Completion as completion
-use Rattle.machines.specs.Completion.{acting, taking, with_element, with_elements}
+use Rattle.machines.specs.Completion.{next_completion, next_pair, with_element, with_elements}
 use Rattle.machines.specs.Cut.{lead_of, lead_number, monic}
 use Rattle.machines.specs.Elimination as elimination
-use Rattle.machines.specs.Elimination.{all_free, kept}
+use Rattle.machines.specs.Elimination.{all_free, free_part}
 use Rattle.machines.specs.Event.{Event}
 use Rattle.machines.specs.Journal.{Entry}
-use Rattle.machines.specs.Pairs.{settled, with_new}
+use Rattle.machines.specs.Pairs.{skip_covered, with_new}
 use Rattle.machines.specs.Past.{IsPastStart, IsPastMonic, IsPastElimination}
 use Rattle.machines.specs.Run.{IsRun, HasEnded}
 use Rattle.machines.specs.Tidying as tidying
-use Rattle.machines.specs.Tidying.{tailing, dropping, drop_from, tail_from, by_lead}
+use Rattle.machines.specs.Tidying.{next_tail, next_drop, drop_from, tail_from, by_lead}
 use Rattle.machines.proofs.Working.{work_begun}
 use Rattle.loops.specs.Effect.{after_branch, after_statement, store, value_of}
 use Rattle.loops.specs.Map.{branch_map}
@@ -58,17 +58,20 @@ fits : (a : Size) → a.size < 1000 → a.den < 1000 → IsPast a → ⊥
 fits a s d (inl l) = omega (arith, s, l)
 fits a s d (inr l) = omega (arith, d, l)
 
-ended_here : HasEnded (elimination.next rationals (blocks 1 grevlex grevlex) grevlex (kept 1))
-    (elimination.begun rationals (blocks 1 grevlex grevlex) (element ∷ []))
-unfolding elimination.next completion.next acting taking with_elements with_element with_new settled
-    tidying.next dropping drop_from tailing tail_from kept all_free lead_of lead_number monic scaled
+ended_here : HasEnded (elimination.next rationals (blocks 1 grevlex grevlex) grevlex (free_part 1))
+    (elimination.initial_state rationals (blocks 1 grevlex grevlex) (element ∷ []))
+unfolding elimination.next completion.next next_completion next_pair with_elements with_element
+    with_new skip_covered
+    tidying.next next_drop drop_from next_tail tail_from free_part all_free lead_of lead_number
+    monic scale_terms
     exponents.same fraction fraction_words.product fraction_words.opposite fraction_words.inverse
     is_lowest reduce gcd
 ended_here = refl
 
-nothing_kept : [] ≡ elimination.list_of grevlex (kept 1)
-    (elimination.begun rationals (blocks 1 grevlex grevlex) (element ∷ []))
-unfolding with_elements with_element kept all_free lead_of lead_number monic scaled by_lead
+nothing_kept : [] ≡ elimination.list_of grevlex (free_part 1)
+    (elimination.initial_state rationals (blocks 1 grevlex grevlex) (element ∷ []))
+unfolding with_elements with_element free_part all_free lead_of lead_number monic scale_terms
+    by_lead
     exponents.same fraction fraction_words.product fraction_words.opposite fraction_words.inverse
     is_lowest reduce gcd
 nothing_kept = refl
@@ -88,9 +91,10 @@ start_fits s = go s.place s.element s.at s.past
         monic_fits (subst (IsPastMonic fractions rationals) (sym same) past))
     go (suc n) e at past = cc
 
-next_fits : IsPastElimination fractions rationals (blocks 1 grevlex grevlex) (kept 1)
-    (elimination.begun rationals (blocks 1 grevlex grevlex) (element ∷ [])) → ⊥
-unfolding with_elements with_element with_new settled kept all_free lead_of lead_number monic scaled
+next_fits : IsPastElimination fractions rationals (blocks 1 grevlex grevlex) (free_part 1)
+    (elimination.initial_state rationals (blocks 1 grevlex grevlex) (element ∷ [])) → ⊥
+unfolding with_elements with_element with_new skip_covered free_part all_free lead_of lead_number
+    monic scale_terms
     drop_from tail_from exponents.same fraction fraction_words.product fraction_words.opposite
     fraction_words.inverse is_lowest reduce gcd
 next_fits (inl h) = h
@@ -99,7 +103,7 @@ next_fits (inr h) = h.1
 abbrev copy : Terms Fraction
 copy = ((1 ∷ 0 ∷ []), one) ∷ []
 
-fits_exponents : Fits (1 ∷ 0 ∷ [])
+fits_exponents : FitsMonomial (1 ∷ 0 ∷ [])
 fits_exponents zero l = omega arith
 fits_exponents (suc zero) l = omega arith
 fits_exponents (suc (suc i)) l = absurd (omega (arith, l))
@@ -161,7 +165,8 @@ module _ (bs : List (List (Statement (Expr ℕ)))) where
   ended : HasEnded (between (x_program bs) idle_code []).next
       (between (x_program bs) idle_code []).start
   ended = subst (λ l. HasEnded (elimination.next rationals (blocks 1 grevlex grevlex) grevlex
-      (kept 1)) (elimination.begun rationals (blocks 1 grevlex grevlex) l)) (sym list_is) ended_here
+      (free_part 1)) (elimination.initial_state rationals (blocks 1 grevlex grevlex) l))
+      (sym list_is) ended_here
 
   pub idle_led : IsLed (x_program bs) idle_code [] [] []
   idle_led = record {
@@ -171,8 +176,9 @@ module _ (bs : List (List (Statement (Expr ℕ)))) where
           (between (x_program bs) idle_code []).start [];
       ended = ended;
     };
-    list = subst (λ l. [] ≡ elimination.list_of grevlex (kept 1)
-        (elimination.begun rationals (blocks 1 grevlex grevlex) l)) (sym list_is) nothing_kept;
+    list = subst (λ l. [] ≡ elimination.list_of grevlex (free_part 1)
+        (elimination.initial_state rationals (blocks 1 grevlex grevlex) l)) (sym list_is)
+        nothing_kept;
   }
 
   -- nothing has been done in it
@@ -189,8 +195,8 @@ module _ (bs : List (List (Statement (Expr ℕ)))) where
   pub idle_fits : (es : List Entry) → IsPastLeading (x_program bs) idle_code [] es → ⊥
   idle_fits es (inl p) =
       next_fits (subst (λ l. IsPastElimination fractions rationals (blocks 1 grevlex grevlex)
-      (kept 1) (elimination.begun rationals (blocks 1 grevlex grevlex) l)) list_is
-      (subst (IsPastElimination fractions rationals (blocks 1 grevlex grevlex) (kept 1))
+      (free_part 1) (elimination.initial_state rationals (blocks 1 grevlex grevlex) l)) list_is
+      (subst (IsPastElimination fractions rationals (blocks 1 grevlex grevlex) (free_part 1))
       (sym (only_start p.work.events p.at p.work.run)) p.past))
   idle_fits es (inr (none, inl p)) = making_fits p
   idle_fits es (inr (none, inr p)) = start_fits (subst (IsPastStart fractions rationals) list_is p)

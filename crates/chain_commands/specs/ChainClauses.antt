@@ -10,9 +10,9 @@ use Rattle.chain_bases.specs.Bases.{Reaches, operations_at}
 use Rattle.closed_forms.specs.Refusal.{Refusal}
 use Rattle.invariant_fix.specs.Refusals.{IsRefusedBranch}
 use Rattle.courses.specs.declared.answer.Status.TheVariants as status
-use Rattle.courses.specs.Texts.{Answer, with_text}
+use Rattle.courses.specs.Texts.{Answer}
 use Rattle.courses.specs.Outcome.{Call}
-use Rattle.courses.specs.Clauses.{Wrote, IfTold, IsExcused, Ends, EndsOrWide, EndsTooLong, IsLonger}
+use Rattle.courses.specs.Clauses.{Wrote, TellsWhy, IfTold, IsExcused, Ends, EndsOrWide, EndsTooLong, IsLonger}
 use Rattle.loop_file.specs.Texts.{loop_refusal}
 use Rattle.loop_file.specs.Reading.{loop_at as chain_at}
 use Rattle.analysis_commands.specs.Texts.{branch_answer}
@@ -37,10 +37,7 @@ pub record FindsEach (request : FileRequest) (call : Call) : Type 0 where
       (λ text. HasFinished text request.budget call.meter.after)
   -- a fault, or a number that doesn't fit: the text tells the first fault of CHAIN, or why the
   -- analysis of a loop has no basis, said of this loop
-  pub fault : call.status ≡ status.Fault
-      → Wrote call.sink (λ said. Refuses call request (with_text status.Fault said))
-  pub wide : call.status ≡ status.Wide
-      → Wrote call.sink (λ said. Refuses call request (with_text status.Wide said))
+  pub why : TellsWhy call (Refuses call request)
   -- a spent budget: of a loop, as many entries are units as the budget, and what comes next is one
   pub spent : call.status ≡ status.Budget → IfTold call.files.before request.file
       (λ text. Wrote call.sink (IsSpent text request.budget call.meter.after))

@@ -12,9 +12,9 @@ use Rattle.chain_text.specs.ChainReader.{chain_of}
 use Rattle.loop_runs.specs.Replay.{RunFault}
 use Rattle.chain_runs.specs.Replay.{chain_replay_of}
 use Rattle.courses.specs.declared.answer.Status.TheVariants as status
-use Rattle.courses.specs.Texts.{Answer, with_text}
+use Rattle.courses.specs.Texts.{Answer}
 use Rattle.courses.specs.Outcome.{Call}
-use Rattle.courses.specs.Clauses.{Wrote, IfTold, Ends, EndsTooLong, IsLonger}
+use Rattle.courses.specs.Clauses.{Wrote, TellsWhy, IfTold, Ends, EndsTooLong, IsLonger}
 use Rattle.loop_file.specs.Texts.{loop_refusal}
 use Rattle.loop_file.specs.Reading.{loop_at as chain_at}
 use Rattle.chain_file.specs.Reading.{IsChainFault, ReadsChain}
@@ -57,10 +57,7 @@ pub record ReplaysChain (request : Request) (call : Call) : Type 0 where
       (λ text. Wrote call.sink (ShowsChainRun text request))
   -- a fault, or a number that doesn't fit: the text tells the first fault of CHAIN, that there
   -- isn't a word for each loop, or the first refusal of the run
-  pub fault : call.status ≡ status.Fault
-      → Wrote call.sink (λ said. Refuses call request (with_text status.Fault said))
-  pub wide : call.status ≡ status.Wide
-      → Wrote call.sink (λ said. Refuses call request (with_text status.Wide said))
+  pub why : TellsWhy call (Refuses call request)
   -- never no, nor a spent budget; and the meter is left alone
   pub no : call.status ≢ status.No
   pub spent : call.status ≢ status.Budget

@@ -1,7 +1,7 @@
 -- What `checkfull` promises, from the outcome of its course.
 --   settled      its answers are settled
 --   checks       the clauses
-use Rattle.std.proofs.Common.{◌≡◌, ℕ, List, ◌∷◌, length, refl, sym, ap, subst, ◌∙◌, Ok, Err, inl, inr}
+use Rattle.std.proofs.Common.{◌≡◌, ℕ, List, ◌∷◌, length, refl, sym, ap, subst, ◌∙◌, Ok, inl, inr}
 use Rattle.std.specs.Prelude.{◌⊎◌, codes}
 use Rattle.rings.specs.Each.{Each}
 use Rattle.rings.proofs.Each.{each-right}
@@ -13,31 +13,25 @@ use Rattle.completeness.specs.Parts.{Part, Holds, AllHold, IsFirst}
 use Rattle.expr_text.specs.Reasons.{limit, wide}
 use Rattle.expressions.specs.Operations.{IsLimit}
 use Rattle.loop_model.specs.Maps.{maps_operations, AreFree}
-use Rattle.cert_form.specs.Form as form
-use Rattle.cert_form.specs.Form.{Reading}
 use Rattle.full_form.specs.Form.{full_in}
-use Rattle.courses.specs.declared.answer.Status.{Status}
 use Rattle.courses.specs.declared.answer.Status.TheVariants as status
-use Rattle.courses.specs.Texts.{Answer, with_text}
+use Rattle.courses.specs.Texts.{Answer}
 use Rattle.courses.specs.Settled.{IsSettled, IsPlain, IsRefusing}
-use Rattle.courses.specs.Course.{Course, EachAnswer}
+use Rattle.courses.specs.Course.{EachAnswer}
 use Rattle.courses.specs.Outcome.{Call, IsCarriedOut}
-use Rattle.courses.specs.Clauses.{Wrote}
 use Rattle.courses.proofs.OfStatuses.{status_of, text_of, plain_yes, plain_no, refusing_fault, refusing_wide}
-use Rattle.courses.proofs.Outcomes.{Said, yes_said, said_with, or_wide, ends_so, never, meter_kept}
-use Rattle.courses.proofs.Outside.{too_long_told}
+use Rattle.courses.proofs.Outcomes.{or_wide}
+use Rattle.courses.proofs.OneFile.{concludes_yes, concludes_no}
 use Rattle.loop_file.specs.Texts.{loop_refusal}
-use Rattle.loop_file.specs.Reading.{loop_at}
-use Rattle.loop_file.proofs.LoopCourses.{at_fault, loop_refuses}
+use Rattle.loop_file.proofs.LoopCourses.{loop_refuses}
 use Rattle.loop_file.proofs.MapLimits.{limit_same, not_free}
-use Rattle.certificate_file.specs.Texts.{certificate_refusal}
 use Rattle.certificate_file.specs.Words.{Request}
-use Rattle.certificate_file.specs.Asking.{AnswersCertificate, IsQuestion, Refuses, ReadsCertificate}
+use Rattle.certificate_file.specs.Asking.{IsQuestion}
 use Rattle.certificate_file.proofs.Asked as asked
-use Rattle.certificate_file.proofs.Asked.{FreelyDecides}
+use Rattle.certificate_file.proofs.Asked.{Checker, FreelyDecides}
 use Rattle.checkfull_command.specs.Texts.{Judgement, complete, fails, map_limit, map_wide, wide_part, judgement_answer}
 use Rattle.checkfull_command.specs.Judging.{FailsFirst, IsJudgement, Judges}
-use Rattle.checkfull_command.specs.Words.{most_certificate_bytes, certificate_at}
+use Rattle.checkfull_command.specs.Words.{most_certificate_bytes}
 use Rattle.checkfull_command.specs.Course.{course}
 use Rattle.checkfull_command.specs.Clauses.{ShowsComplete, IsRefuted, ChecksFull}
 
@@ -158,53 +152,34 @@ free_decides : (l : Program (Expr ℕ)) (c : FullCertificate) (a : Answer) → A
 free_decides l c a free judges = by_free l c a free judges.judgement judges.is judges.says
 
 -- ---- the clauses
+abbrev checker : Checker FullCertificate
+checker = record {
+  reading = full_in;
+  judges = Judges;
+  most = most_certificate_bytes;
+  plain = judges_plain;
+}
+
 module _ (request : Request) where
   pub settled : EachAnswer (λ a. IsSettled a.status) (course request)
-  settled = asked.settled full_in Judges most_certificate_bytes judges_plain request
+  settled = asked.settled checker request
 
   module _ (call : Call) (f : IsCarriedOut (course request) call) where
-    answered : (l : Program (Expr ℕ)) (reading : Reading FullCertificate)
-        → ReadsCertificate full_in call request l reading → (s : Said (course request) call)
-        → AnswersCertificate Judges l reading s.answer
-    answered = asked.told_certificate full_in Judges most_certificate_bytes judges_plain request
-        call f
-
-    refused : (t : Status) → call.status ≡ t → Said (course request) call
-        → Wrote call.sink (λ said. Refuses full_in Judges call request (with_text t said))
-    refused = asked.refused full_in Judges most_certificate_bytes judges_plain request call f
-
     pub checks : ChecksFull request call
     checks = record {
-      complete = λ is. asked.shown full_in Judges most_certificate_bytes judges_plain request call f
-          status.Yes (λ u r. r.yes_not) ShowsComplete complete_at
-          (yes_said (course request) call f is) is;
-      refuted = λ is. asked.shown full_in Judges most_certificate_bytes judges_plain request call f
-          status.No (λ u r. r.no_not) IsRefuted refuted_at
-          (said_with (course request) call f status.No is (λ h. cc) (λ h. cc) (λ h. cc)) is;
-      fault = λ is. refused status.Fault is
-          (said_with (course request) call f status.Fault is (λ h. cc) (λ h. cc) (λ h. cc));
-      wide = λ is. refused status.Wide is
-          (said_with (course request) call f status.Wide is (λ h. cc) (λ h. cc) (λ h. cc));
-      spent = never (course request) call f status.Budget (λ h. cc) (λ h. cc) (λ h. cc)
-          (asked.never_spent full_in Judges most_certificate_bytes judges_plain request);
-      journal = meter_kept (course request) call f
-          (asked.silent_course full_in Judges most_certificate_bytes judges_plain request);
-      loop_fault = λ fault r. ends_so (course request) call f (loop_refusal fault)
-          (λ s. at_fault call request.file (asked.goes full_in Judges most_certificate_bytes
-          judges_plain
-          request) call.meter.after s.answer s.is fault r);
-      certificate_fault = λ l fault r. ends_so (course request) call f (certificate_refusal fault)
-          (λ s. answered l (Err fault) r s);
-      map_limit = λ l c at r first. or_wide (course request) call f
+      complete = asked.shown checker request call f concludes_yes ShowsComplete complete_at;
+      refuted = asked.shown checker request call f concludes_no IsRefuted refuted_at;
+      why = asked.refused checker request call f;
+      spent = asked.never_spent checker request call f;
+      journal = asked.kept checker request call f;
+      loop_fault = asked.loop_fault checker request call f;
+      certificate_fault = asked.certificate_fault checker request call f;
+      map_limit = λ l listed at r first. or_wide (course request) call f
           (loop_refusal (record { reason = limit; at = at }))
-          (λ s. limit_decides l c at s.answer first (answered l (Ok c) r s));
-      decided = λ l c r free. asked.decided full_in Judges most_certificate_bytes judges_plain
-          request
-          call f AllHold l c (λ a judged. free_decides l c a free judged) r;
-      long = λ long. too_long_told (course request) call f (loop_at request.file) (inl refl) long;
-      long_certificate = λ l r short long. too_long_told (course request) call f
-          (certificate_at request.certificate)
-          (asked.comes_to_certificate full_in Judges most_certificate_bytes judges_plain request
-          call f l r
-          short) long;
+          (λ s. limit_decides l listed at s.answer first
+          (asked.told_certificate checker request call f l (Ok listed) r s));
+      decided = λ l listed r free. asked.decided checker request call f AllHold l listed
+          (λ a judged. free_decides l listed a free judged) r;
+      long = asked.long checker request call f;
+      long_certificate = asked.long_certificate checker request call f;
     }

@@ -12,13 +12,10 @@ use Rattle.expr_text.specs.Reasons.{Fault, limit}
 use Rattle.expressions.specs.Operations.{IsLimit}
 use Rattle.loop_model.specs.Maps.{maps_operations, AreFree}
 use Rattle.cert_form.specs.Form as form
-use Rattle.cert_form.specs.Form.{Reading}
 use Rattle.full_form.specs.Form.{full_in}
-use Rattle.courses.specs.declared.answer.Status.{Status}
 use Rattle.courses.specs.declared.answer.Status.TheVariants as status
-use Rattle.courses.specs.Texts.{with_text}
 use Rattle.courses.specs.Outcome.{Call}
-use Rattle.courses.specs.Clauses.{Wrote, IfTold, Ends, EndsOrWide, EndsTooLong, IsLonger}
+use Rattle.courses.specs.Clauses.{Wrote, TellsWhy, IfTold, Ends, EndsOrWide, EndsTooLong, IsLonger}
 use Rattle.loop_file.specs.Texts.{loop_refusal}
 use Rattle.loop_file.specs.Reading.{loop_at, ReadsLoop}
 use Rattle.certificate_file.specs.Texts.{certificate_refusal}
@@ -57,10 +54,7 @@ pub record ChecksFull (request : Request) (call : Call) : Type 0 where
       Wrote call.sink (IsRefuted text certificate)))
   -- a fault, or a number that doesn't fit: the text tells the first fault of LOOP or of CERT, or
   -- what stopped the judge
-  pub fault : call.status ≡ status.Fault
-      → Wrote call.sink (λ said. Refuses full_in Judges call request (with_text status.Fault said))
-  pub wide : call.status ≡ status.Wide
-      → Wrote call.sink (λ said. Refuses full_in Judges call request (with_text status.Wide said))
+  pub why : TellsWhy call (Refuses full_in Judges call request)
   -- never a spent budget; and the meter is left alone
   pub spent : call.status ≢ status.Budget
   pub journal : call.meter.after ≡ call.meter.before

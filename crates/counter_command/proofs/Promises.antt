@@ -1,7 +1,7 @@
 -- What `counter` promises, from the outcome of its course.
 --   settled       its answers are settled
 --   counters      the clauses
-use Rattle.std.proofs.Common.{◌≡◌, ◌≢◌, ℕ, List, length, refl, sym, ap, subst, ◌∙◌, inl, inr, Result, Ok, Err}
+use Rattle.std.proofs.Common.{◌≡◌, ◌≢◌, ℕ, List, length, refl, sym, subst, ◌∙◌, inl, inr, Result, Ok, Err}
 use Rattle.std.specs.Prelude.{◌⊎◌}
 use Rattle.loops.specs.Program.{Expr, Program}
 use Rattle.expr_text.specs.Reasons.{Fault, limit}
@@ -11,17 +11,17 @@ use Rattle.loop_text.specs.LoopReader.{loop_of}
 use Rattle.counters.specs.Counter.{IsFirstWord}
 use Rattle.courses.specs.declared.answer.Status.{Status}
 use Rattle.courses.specs.declared.answer.Status.TheVariants as status
-use Rattle.courses.specs.Texts.{Answer, with_text}
-use Rattle.courses.specs.Settled.{IsSettled}
-use Rattle.courses.specs.Course.{Course, silent, IsSilent, EachAnswer}
+use Rattle.courses.specs.Texts.{Answer}
+use Rattle.courses.specs.Settled.{IsSettled, IsPlain}
+use Rattle.courses.specs.Course.{EachAnswer}
 use Rattle.courses.specs.Outcome.{Call, IsCarriedOut}
-use Rattle.courses.specs.Clauses.{Wrote, IfTold, IsExcused}
-use Rattle.courses.proofs.Outcomes.{Said, yes_said, said_with, written, or_excused, or_wide, ends_so, never, meter_kept}
-use Rattle.courses.proofs.Outside.{too_long_told}
+use Rattle.courses.specs.Clauses.{IsExcused}
+use Rattle.courses.proofs.Outcomes.{Said, or_excused, or_wide, ends_so}
+use Rattle.courses.proofs.OneFile as one_file
+use Rattle.courses.proofs.OneFile.{OneFile, concludes_yes, concludes_no, concludes_spent, answered, ends_at_fault, writes, refused, never_ends, kept, long}
 use Rattle.loop_file.specs.Texts.{loop_refusal}
-use Rattle.loop_file.specs.Reading.{loop_at, IsLoopFault}
 use Rattle.loop_file.proofs.MapLimits.{not_free}
-use Rattle.loop_file.proofs.LoopCourses.{loop_each, loop_silent, at_loop, at_fault, on_loop, loop_refuses}
+use Rattle.loop_file.proofs.LoopCourses.{reading_loop}
 use Rattle.equation_word.specs.Equations.{equation_in, operations_of, polynomial_of, FormsFreely}
 use Rattle.equation_word.specs.Reading.{equation_refusal}
 use Rattle.equation_word.proofs.Refusals.{equation_refuses, unformed_refuses, stopped_limit}
@@ -29,7 +29,7 @@ use Rattle.counter_command.specs.Seeking.{Answers}
 use Rattle.counter_command.specs.Texts.{none_answer, limit_answer}
 use Rattle.counter_command.specs.Words.{Request}
 use Rattle.counter_command.specs.Course.{course}
-use Rattle.counter_command.specs.Clauses.{IsQuestion, ShowsCounterRun, ShowsNoneUpTo, IsEquationFault, StopsSearch, Refuses, ReadsEquation, IsWithin, EndsSeeking, Counters}
+use Rattle.counter_command.specs.Clauses.{IsQuestion, ShowsCounterRun, ShowsNoneUpTo, IsEquationFault, StopsSearch, ReadsEquation, IsWithin, EndsSeeking, Counters}
 use Rattle.counter_command.proofs.Shown.{answers_plain, run_when_no, none_when_yes, stop_when_refusing}
 use Rattle.counter_command.proofs.Decided.{map_limit_told, complete, first_found, none_found, limit_told}
 
@@ -85,81 +85,23 @@ ends_along s t l e n same h = subst (λ x. EndsSeeking x l e n) (sym same) h
 
 -- ---- the clauses
 module _ (request : Request) where
-  abbrev goes : Program (Expr ℕ) → Course
-  goes l = silent (λ a. Answers l (equation_in l.names request.equation) request.most a)
+  abbrev path : OneFile (Program (Expr ℕ)) Fault
+  path = reading_loop request.file (λ l m. ⊥)
+      (λ l m a. Answers l (equation_in l.names request.equation) request.most a)
+
+  answer_plain : (l : Program (Expr ℕ)) (a : Answer)
+      → Answers l (equation_in l.names request.equation) request.most a → IsPlain a.status
+  answer_plain l a h = answers_plain l (equation_in l.names request.equation) request.most a h
 
   pub settled : EachAnswer (λ a. IsSettled a.status) (course request)
-  settled =
-      loop_each goes (λ a. IsSettled a.status) request.file
-      (λ fault a h. (loop_refuses fault a h).plain.settled)
-      (λ l m a h. (answers_plain l (equation_in l.names request.equation) request.most a h).settled)
-
-  silent_course : IsSilent (course request)
-  silent_course = loop_silent goes request.file (λ l m h. h)
-
-  never_spent : EachAnswer (λ a. a.status ≢ status.Budget) (course request)
-  never_spent =
-      loop_each goes (λ a. a.status ≢ status.Budget) request.file
-      (λ fault a h. (loop_refuses fault a h).plain.budget_not)
-      (λ l m a h.
-      (answers_plain l (equation_in l.names request.equation) request.most a h).budget_not)
+  settled = one_file.settled path (λ l m a h. (answer_plain l a h).settled)
 
   module _ (call : Call) (f : IsCarriedOut (course request) call) where
     answers_told : (l : Program (Expr ℕ)) (reading : Result (Expr ℕ) Fault)
         → ReadsEquation call request l reading → (s : Said (course request) call)
         → Answers l reading request.most s.answer
     answers_told l reading r s =
-        subst (λ x. Answers l x request.most s.answer) r.reads
-        (at_loop call request.file goes call.meter.after s.answer s.is l r.loop)
-
-    countered : call.status ≡ status.No
-        → IfTold call.files.before request.file
-        (λ text. Wrote call.sink (ShowsCounterRun text request.equation request.most))
-    countered is =
-        let s = said_with (course request) call f status.No is (λ h. cc) (λ h. cc) (λ h. cc) in
-        let is_no : s.answer.status ≡ status.No = sym s.same ∙ is in
-        on_loop call request.file goes call.meter.after s.answer s.is
-        (λ text. Wrote call.sink (ShowsCounterRun text request.equation request.most))
-        (λ text h. absurd ((loop_refuses h.fault s.answer h.says).no_not is_no))
-        (λ text l e h.
-        written (course request) call f (ShowsCounterRun text request.equation request.most) s
-        (run_at text request.equation request.most l s.answer e
-        (equation_in l.names request.equation) refl h is_no))
-
-    none_up_to : call.status ≡ status.Yes
-        → IfTold call.files.before request.file
-        (λ text. Wrote call.sink (ShowsNoneUpTo text request.equation request.most))
-    none_up_to is =
-        let s = yes_said (course request) call f is in
-        let is_yes : s.answer.status ≡ status.Yes = sym s.same ∙ is in
-        on_loop call request.file goes call.meter.after s.answer s.is
-        (λ text. Wrote call.sink (ShowsNoneUpTo text request.equation request.most))
-        (λ text h. absurd ((loop_refuses h.fault s.answer h.says).yes_not is_yes))
-        (λ text l e h.
-        written (course request) call f (ShowsNoneUpTo text request.equation request.most) s
-        (none_at text request.equation request.most l s.answer e
-        (equation_in l.names request.equation) refl h is_yes))
-
-    refused : (t : Status) → call.status ≡ t → t ≢ status.No → t ≢ status.Yes
-        → Said (course request) call
-        → Wrote call.sink (λ said. Refuses call request (with_text t said))
-    refused t is not_no not_yes s =
-        let same : s.answer.status ≡ t = sym s.same ∙ is in
-        record {
-          text = s.answer.text;
-          whole = s.whole;
-          is =
-              subst (λ a. Refuses call request a) (ap (λ x. with_text x s.answer.text) same)
-              (on_loop call request.file goes call.meter.after s.answer s.is
-              (λ text. IsLoopFault text s.answer
-              ⊎ (IsEquationFault text request.equation s.answer
-              ⊎ StopsSearch text request.equation request.most s.answer))
-              (λ text h. inl h)
-              (λ text l e h.
-              inr (refusal_at text request.equation request.most l s.answer e
-              (equation_in l.names request.equation) refl h (λ x. not_no (sym same ∙ x))
-              (λ x. not_yes (sym same ∙ x)))));
-        }
+        subst (λ x. Answers l x request.most s.answer) r.reads (answered path call f l r.loop s)
 
     first : (l : Program (Expr ℕ)) (e : Expr ℕ) (w : List ℕ) → ReadsEquation call request l (Ok e)
         → FormsFreely l e → AreFree l → IsFirstWord l (polynomial_of l e) w
@@ -188,19 +130,22 @@ module _ (request : Request) where
 
     pub counters : Counters request call
     counters = record {
-      countered = countered;
-      none_up_to = none_up_to;
-      fault = λ is.
-          refused status.Fault is (λ h. cc) (λ h. cc)
-          (said_with (course request) call f status.Fault is (λ h. cc) (λ h. cc) (λ h. cc));
-      wide = λ is.
-          refused status.Wide is (λ h. cc) (λ h. cc)
-          (said_with (course request) call f status.Wide is (λ h. cc) (λ h. cc) (λ h. cc));
-      spent = never (course request) call f status.Budget (λ h. cc) (λ h. cc) (λ h. cc) never_spent;
-      journal = meter_kept (course request) call f silent_course;
-      loop_fault = λ fault r.
-          ends_so (course request) call f (loop_refusal fault)
-          (λ s. at_fault call request.file goes call.meter.after s.answer s.is fault r);
+      countered = writes path call f concludes_no
+          (λ text. ShowsCounterRun text request.equation request.most)
+          (λ text l a e h is_no. run_at text request.equation request.most l a e
+          (equation_in l.names request.equation) refl h is_no);
+      none_up_to = writes path call f concludes_yes
+          (λ text. ShowsNoneUpTo text request.equation request.most)
+          (λ text l a e h is_yes. none_at text request.equation request.most l a e
+          (equation_in l.names request.equation) refl h is_yes);
+      why = λ is. refused path call f call.status is
+          (λ text a. IsEquationFault text request.equation a
+          ⊎ StopsSearch text request.equation request.most a)
+          (λ text l a e h same refusing. refusal_at text request.equation request.most l a e
+          (equation_in l.names request.equation) refl h refusing.no_not refusing.yes_not) refl;
+      spent = never_ends path call f concludes_spent (λ l m a h. (answer_plain l a h).budget_not);
+      journal = kept path call f (λ l m h. h);
+      loop_fault = ends_at_fault path call f;
       equation_fault = λ l fault r.
           ends_so (course request) call f (equation_refusal fault)
           (λ s. answers_told l (Err fault) r s);
@@ -222,6 +167,5 @@ module _ (request : Request) where
           (λ s. limit_told l e request.most s.answer (answers_told l (Ok e) r s) formed maps w
           reached is);
       completes = completes;
-      long = λ long.
-          too_long_told (course request) call f (loop_at request.file) (inl refl) long;
+      long = long path call f;
     }

@@ -44,9 +44,9 @@ use Rattle.counter_run.specs.Causes.{IsReached, IsLimitWord}
 use Rattle.counter_run.specs.Answers.{IsWideCause, StopsAtWord}
 use Rattle.courses.specs.declared.answer.Status.{Status}
 use Rattle.courses.specs.declared.answer.Status.TheVariants as status
-use Rattle.courses.specs.Texts.{Answer, with_text}
+use Rattle.courses.specs.Texts.{Answer}
 use Rattle.courses.specs.Outcome.{Call}
-use Rattle.courses.specs.Clauses.{Wrote, IfTold, IsExcused, Ends, EndsOrWide, EndsTooLong, IsLonger}
+use Rattle.courses.specs.Clauses.{Wrote, TellsWhy, IfTold, IsExcused, Ends, EndsOrWide, EndsTooLong, IsLonger}
 use Rattle.loop_file.specs.Texts.{loop_refusal}
 use Rattle.loop_file.specs.Reading.{loop_at, IsLoopFault, ReadsLoop}
 use Rattle.equation_word.specs.Equations.{equation_in, operations_of, polynomial_of, HoldsAfter, FormsFreely}
@@ -146,10 +146,7 @@ pub record Counters (request : Request) (call : Call) : Type 0 where
   -- the
   -- first operation that forms the equation's polynomial or a map of the loop and can't be done, or
   -- the word at which the search stopped
-  pub fault : call.status ≡ status.Fault
-      → Wrote call.sink (λ said. Refuses call request (with_text status.Fault said))
-  pub wide : call.status ≡ status.Wide
-      → Wrote call.sink (λ said. Refuses call request (with_text status.Wide said))
+  pub why : TellsWhy call (Refuses call request)
   -- never a spent budget; and the meter is left alone
   pub spent : call.status ≢ status.Budget
   pub journal : call.meter.after ≡ call.meter.before

@@ -1,8 +1,8 @@
 -- Refusals of an equation, and the first operation of its polynomial that can't be done.
 --   equation_refuses, unformed_refuses     their statuses
 --   stopped_limit, stopped_wide            where an operation passes a limit, and where none does
-use Rattle.std.proofs.Common.{◌≡◌, ℕ, length, refl, sym, ap, subst, ◌∙◌, inl, inr}
-use Rattle.std.specs.Prelude.{◌⊎◌, Some}
+use Rattle.std.proofs.Common.{◌≡◌, ℕ, length, ap, ◌∙◌, inl, inr}
+use Rattle.std.specs.Prelude.{◌⊎◌, Some, codes}
 use Rattle.loops.specs.Program.{Expr, Program}
 use Rattle.expr_text.specs.Reasons.{Fault, limit, wide}
 use Rattle.expressions.specs.Operations.{IsLimit}
@@ -13,16 +13,14 @@ use Rattle.courses.specs.Texts.{Answer}
 use Rattle.courses.specs.Settled.{IsRefusing}
 use Rattle.courses.specs.declared.answer.Status.TheVariants as status
 use Rattle.courses.proofs.OfStatuses.{status_of, no_answer, some_answer, refusing_fault, refusing_wide}
-use Rattle.loop_file.specs.Texts.{loop_refusal}
-use Rattle.loop_file.proofs.LoopCourses.{loop_refuses}
+use Rattle.loop_file.proofs.LoopCourses.{text_refuses}
 use Rattle.loop_file.proofs.MapLimits.{limit_same, not_free}
 use Rattle.equation_word.specs.Equations.{operations_of, FormsFreely}
 use Rattle.equation_word.specs.Reading.{equation_refusal, stop_answer, IsUnformed}
 
 pub equation_refuses : (fault : Fault) (a : Answer) → a ≡ equation_refusal fault
     → IsRefusing a.status
-equation_refuses fault a e =
-    subst IsRefusing (sym (status_of e)) (loop_refuses fault (loop_refusal fault) refl)
+equation_refuses = text_refuses (codes "equation: ")
 
 module _ (l : Program (Expr ℕ)) (e : Expr ℕ) (a : Answer) where
   abbrev pub limit_at : ℕ → Answer

@@ -22,7 +22,7 @@ use Rattle.expressions.specs.Operations.{IsLimit}
 use Rattle.loop_model.specs.Maps.{maps_operations, AreFree}
 use Rattle.loop_text.specs.LoopReader.{loop_of}
 use Rattle.loop_text.proofs.WellFormed.{loop_well}
-use Rattle.rounds.specs.Analysis.{Setting, fresh, finished, next, moved, moves}
+use Rattle.rounds.specs.Analysis.{Setting, fresh, finished, next, move_of, moves}
 use Rattle.rounds.specs.Journal as journal
 use Rattle.rounds.specs.Journal.{setting_from}
 use Rattle.rounds.proofs.Forms.{forms_are_one, enough_budget}
@@ -71,8 +71,8 @@ rounds_are_one l es fs k j gs hs x y =
     y.follows.run in
     let is = subst (λ forms. next (setting_from l None forms None) y.state ≡ finished j hs) same
     y.is in
-    let one = ended_unique (moves A) fresh x.state y.state es fs x.follows.run (ap (moved A) x.is)
-    run (ap (moved A) is) in
+    let one = ended_unique (moves A) fresh x.state y.state es fs x.follows.run (ap (move_of A) x.is)
+    run (ap (move_of A) is) in
     same_rounds (sym x.is ∙ ap (next A) one.1 ∙ is)
   where
     same_rounds : finished k gs ≡ finished j hs → k ≡ j

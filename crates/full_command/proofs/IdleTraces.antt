@@ -5,25 +5,25 @@ use Rattle.std.proofs.Common.{◌≡◌, inl, inr, ℕ, List, [], ◌∷◌, sli
 use Rattle.numbers.specs.Fraction.{fractions, rationals}
 use Rattle.polynomials.specs.Order.{grevlex}
 use Rattle.machines.specs.Completion as completion
-use Rattle.machines.specs.Completion.{acting, taking}
-use Rattle.machines.specs.Elimination.{kept}
+use Rattle.machines.specs.Completion.{next_completion, next_pair}
+use Rattle.machines.specs.Elimination.{free_part}
 use Rattle.machines.specs.Journal.{Entry, Begin, Start}
-use Rattle.machines.specs.Pairs.{settled}
+use Rattle.machines.specs.Pairs.{skip_covered}
 use Rattle.machines.specs.Past as past
 use Rattle.machines.specs.Run.{IsRun}
 use Rattle.machines.specs.Tidying as tidying
-use Rattle.machines.specs.Tidying.{tailing, dropping, drop_from, tail_from, by_lead}
+use Rattle.machines.specs.Tidying.{next_tail, next_drop, drop_from, tail_from, by_lead}
 use Rattle.loops.specs.Program.{Expr, Statement}
 use Rattle.rounds.specs.Analysis.{Setting, starts, block, starting}
 use Rattle.rounds.specs.Form.{Form}
 use Rattle.rounds.specs.Journal.{setting_of}
 use Rattle.rounds.specs.Start.{start_list, in_order}
 use Rattle.traces.specs.Followed.{IsPast, IsPastDividends}
-use Rattle.traces.specs.Trace.{State, fresh, completing, no_results, finished, next, moved, moves, list_dividends, link_dividends, stage_of, after, link_from, divide_from}
+use Rattle.traces.specs.Trace.{State, fresh, completing, no_results, finished, next, move_of, moves, list_dividends, link_dividends, stage_of, after, link_from, divide_from}
 use Rattle.analysis_commands.proofs.IdleRuns.{x_loop}
 
 abbrev begun : State
-begun = completing no_results starts (completion.begun rationals grevlex [])
+begun = completing no_results starts (completion.initial_state rationals grevlex [])
 
 state_of : Option (Entry × State) → State
 state_of None = fresh
@@ -38,8 +38,9 @@ module _ (branches : List (List (Statement (Expr ℕ)))) (forms : List Form) whe
   first = refl
 
   ends : next A 0 begun ≡ finished no_results
-  unfolding next completion.next acting settled kept block tidying.next dropping drop_from tailing
-      tail_from by_lead completion.with_elements taking divide_from list_dividends link_from
+  unfolding next completion.next next_completion skip_covered free_part block tidying.next next_drop
+      drop_from next_tail
+      tail_from by_lead completion.with_elements next_pair divide_from list_dividends link_from
       link_dividends stage_of after starting start_list in_order
   ends = refl
 
@@ -54,7 +55,7 @@ module _ (branches : List (List (Statement (Expr ℕ)))) (forms : List Form) whe
       go place e = cc
 
   fits_begun : IsPast A begun → ⊥
-  unfolding starting start_list in_order settled kept block drop_from tail_from
+  unfolding starting start_list in_order skip_covered free_part block drop_from tail_from
       completion.with_elements list_dividends link_dividends IsPastDividends
   fits_begun (inl s) = no_start s
   fits_begun (inr (inl h)) = h
@@ -70,7 +71,7 @@ module _ (branches : List (List (Statement (Expr ℕ)))) (forms : List Form) whe
     where
       go : (u : State) → begun ≡ u → moves A 0 u ≡ Some (f, r.2.0) → ⊥
       go u e is =
-          let none = subst (λ v. moves A 0 v ≡ None) e (ap (moved A 0) ends) in
+          let none = subst (λ v. moves A 0 v ≡ None) e (ap (move_of A 0) ends) in
           let z : ◌≡◌ {A = Option (Entry × State)} None (Some (f, r.2.0)) = sym none ∙ is in
           cc
 

@@ -53,7 +53,7 @@ use Rattle.full_trace.specs.declared.found.Trace.{Trace}
 use Rattle.courses.specs.declared.answer.Answer as made
 use Rattle.courses.specs.Texts.{Answer}
 use Rattle.courses.specs.Views.{answer_view}
-use Rattle.analysis_commands.specs.Analyses.{opened}
+use Rattle.analysis_commands.specs.Analyses.{empty_journal}
 use Rattle.analysis_commands.specs.Headline.{IsBasisOf}
 use Rattle.analysis_commands.specs.Texts.{refusal_answer}
 use Rattle.full_command.specs.Certified.{IsAnalysed, certified, first_late, unanalysed, untraced, Certifies, HasWorked}
@@ -190,7 +190,8 @@ module _ (l : Program (Expr ℕ)) (budget : ℕ) (a : Analysis) (found : IsFound
         traced.given) (sym steps)
 
 -- ---- what an analysis has found
-pub found_by : (l : Program (Expr ℕ)) (budget : ℕ) (before m : Journal) → before ≡ opened budget
+pub found_by : (l : Program (Expr ℕ)) (budget : ℕ) (before m : Journal)
+    → before ≡ empty_journal budget
     → m.limit ≡ before.limit → (a : Analysis) → AreFree l → AllHaveForms l
     → IsClosedBy l a m.entries → (n : ℕ) → n ≡ units_of m.entries → n ≤ m.limit
     → IsLeastLevel l a.rounds → IsBasisOf l (terms_each a.basis.items)
@@ -214,7 +215,7 @@ found_by l budget before m is kept a free forms closed n used within least basis
     }
 
 -- ---- answers
-module _ (lp : Loop) (budget : ℕ) (before m : Journal) (is : before ≡ opened budget)
+module _ (lp : Loop) (budget : ℕ) (before m : Journal) (is : before ≡ empty_journal budget)
     (kept : m.limit ≡ before.limit) where
   abbrev l : Program (Expr ℕ)
   l = program_of lp
@@ -291,16 +292,12 @@ module _ (lp : Loop) (budget : ℕ) (before m : Journal) (is : before ≡ opened
         → IfOk r (λ x. Certifies (program_of lp) budget m (answer_view x))
     untraced_said a found e cause told = IfOk-weaker r _ _ (λ x says. record {
       ending = untraced e;
-      ends = record {
-        analysed = analysed l budget a found;
-        limit = limit;
-        stopped = cause;
-      };
+      ends = record { analysed = analysed l budget a found; limit = limit; stopped = cause };
       says = subst (λ ns. refusal_answer ns budget e ≡ Some (answer_view x)) same says;
     }) told
 
 -- ---- before the analysis
-module _ (lp : Loop) (budget : ℕ) (m : Journal) (is : m ≡ opened budget) where
+module _ (lp : Loop) (budget : ℕ) (m : Journal) (is : m ≡ empty_journal budget) where
   pub has_opened : HasWorked (program_of lp) budget m
   has_opened = record {
     limit = ap (λ (j : Journal). j.limit) is;
@@ -308,7 +305,7 @@ module _ (lp : Loop) (budget : ℕ) (m : Journal) (is : m ≡ opened budget) whe
   }
 
   refused_so : (e : AnalyseError) → IfUnformedLoop (program_of lp) e
-      → IsRefused (program_of lp) (opened budget) m e
+      → IsRefused (program_of lp) (empty_journal budget) m e
   refused_so (error.Map e) h = (is, h)
   refused_so (error.Branch b e) h = (is, h)
   refused_so (error.Wide task) h = absurd h

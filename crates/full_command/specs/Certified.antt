@@ -30,7 +30,7 @@ use Rattle.full_form.specs.Form.{full_in}
 use Rattle.full_trace.specs.Late.{AllBeginAtZero, IsFirstLate}
 use Rattle.full_trace.specs.Traced as trace
 use Rattle.courses.specs.Texts.{Answer}
-use Rattle.analysis_commands.specs.Analyses.{opened, IsUnfound}
+use Rattle.analysis_commands.specs.Analyses.{empty_journal, IsUnfound}
 use Rattle.analysis_commands.specs.Headline.{IsBasisOf}
 use Rattle.analysis_commands.specs.Texts.{refusal_answer}
 use Rattle.full_command.specs.Texts.{certificate_answer, late_answer}
@@ -70,7 +70,7 @@ pub record IsLate (l : Program (Expr ℕ)) (budget : ℕ) (m : Journal) (b : ℕ
   pub free : AreFree l
   pub forms : AllHaveForms l
   pub first : IsFirstLate l b
-  pub unbegun : m ≡ opened budget
+  pub unbegun : m ≡ empty_journal budget
 
 pub data Ending : Type 0 where
   certified : FullCertificate → Ending

@@ -2,8 +2,8 @@
 ghost use Rattle.std.specs.Prelude.{◌≡◌, All, IfOk};
 ghost use Rattle.loop_model.specs.View.{program_of};
 ghost use Rattle.courses.specs.Views.{answer_view};
-ghost use Rattle.analysis_commands.specs.Analyses.{opened};
-ghost use Rattle.invariant_fix.specs.Setting.{Fits, IsSettingOf};
+ghost use Rattle.analysis_commands.specs.Analyses.{empty_journal};
+ghost use Rattle.invariant_fix.specs.Setting.{FitsSetting, IsSettingOf};
 ghost use Rattle.full_trace.specs.Late.{BeginsAtZero};
 ghost use Rattle.full_command.specs.Certified.{Certifies, HasWorked};
 ghost use Rattle.full_command.specs.Made.{IsFoundBy};
@@ -48,8 +48,8 @@ fn answer_to_analysis(
     setting: Setting,
     meter: &mut Meter,
 ) -> Result<Answer, AllocError>
-    requires opened { meter.old ≡ opened budget.units }
-    requires fits { Fits setting }
+    requires opened { meter.old ≡ empty_journal budget.units }
+    requires fits { FitsSetting setting }
     requires setting { IsSettingOf (program_of lp.now) setting }
     requires at_zero { All BeginsAtZero setting.branches.items }
     ensures answer { IfOk result (λ a.
@@ -75,7 +75,7 @@ fn answer_to_trace(
     found: Analysis,
     meter: &mut Meter,
 ) -> Result<Answer, AllocError>
-    requires fits { Fits setting }
+    requires fits { FitsSetting setting }
     requires setting { IsSettingOf (program_of lp.now) setting }
     requires at_zero { All BeginsAtZero setting.branches.items }
     requires found { IsFoundBy (program_of lp.now) budget.units found }

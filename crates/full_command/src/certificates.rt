@@ -32,8 +32,6 @@ pub(crate) fn found_answer(
 ) -> Result<Answer, AllocError>
     ensures { IfOk result (λ a. IsToldAs names.now cert.now (answer_view a)) }
 {
-    match write_full(alloc, cert, names) {
-        Ok(text) => line(alloc, Status::Yes, "", text.as_str()),
-        Err(_) => Err(AllocError),
-    }
+    let text = write_full(alloc, cert, names)?;
+    line(alloc, Status::Yes, "", text.as_str())
 }

@@ -1,14 +1,18 @@
 use Rattle.std.proofs.Common.{refl, inl}
 use Rattle.loop_chain.specs.Seen.{chain_in}
+use Rattle.chain_text.specs.ChainReader.{chain_of}
 use Rattle.courses.specs.Change.{◌⟶◌}
 use Rattle.courses.proofs.Going.{replied, at_end}
-use Rattle.chain_file.proofs.ChainCourses.{refused_says, chain_ends}
+use Rattle.courses.proofs.Readings.{refused_says, reading_ends}
+use Rattle.loop_file.specs.Texts.{loop_refusal}
 use Rattle.chainrun_command.proofs.answer_to.Goals as goal
 
 pub returns-in-Ok : goal.returns-in-Ok
 returns-in-Ok g c m =
-    chain_ends _ _ _ _ (chain_in c.in-Ok.chain) (m ⟶ m) _ c.in-Ok.ensures.read
+    reading_ends chain_of loop_refusal _ _ _ _ (chain_in c.in-Ok.chain) (m ⟶ m) _
+    c.in-Ok.ensures.read
     (at_end _ _ _ m m _ refl refl (inl refl) (replied c.answer_of.result _ c.answer_of.ensures))
 
 pub returns-in-Err : goal.returns-in-Err
-returns-in-Err g c m = refused_says _ _ _ _ m c.in-Err.refusal c.in-Err.ensures.read
+returns-in-Err g c m = refused_says chain_of loop_refusal _ _ _ _ m c.in-Err.refusal
+    c.in-Err.ensures.read

@@ -2,25 +2,28 @@ use Rattle.std.proofs.Common.{refl, inl, subst, string_bytes, List, ℕ}
 use Rattle.std.proofs.lemmas.Result.{IfOk-weaker}
 use Rattle.loop_model.specs.View.{program_of}
 use Rattle.full_form.specs.Form.{full_in}
+use Rattle.loop_text.specs.LoopReader.{loop_of}
 use Rattle.courses.specs.Change.{◌⟶◌}
 use Rattle.courses.specs.Texts.{Answer}
 use Rattle.courses.specs.Views.{answer_view}
 use Rattle.courses.proofs.Going.{replied, at_end, reads_on, stops_at, refused, read_told}
-use Rattle.loop_file.proofs.LoopCourses.{refused_says, loop_says}
+use Rattle.courses.proofs.Readings.{refused_says, reading_says}
+use Rattle.loop_file.specs.Texts.{loop_refusal}
 use Rattle.certificate_file.specs.Asking.{AnswersCertificate}
 use Rattle.checkfull_command.specs.Judging.{Judges}
 use Rattle.checkfull_command.specs.Words.{certificate_at}
 use Rattle.checkfull_command.proofs.answer_to.Goals as goal
 
 pub returns-in-Err : goal.returns-in-Err
-returns-in-Err g c m = refused_says _ _ _ _ m c.in-Err.refusal c.in-Err.ensures.read
+returns-in-Err g c m = refused_says loop_of loop_refusal _ _ _ _ m c.in-Err.refusal
+    c.in-Err.ensures.read
 
 pub returns-in-Ok-read_file : goal.returns-in-Ok-read_file
 returns-in-Ok-read_file g c m =
     let l = program_of c.in-Ok.lp in
     let P : List ℕ → Answer → Type 0 =
     λ bytes a. AnswersCertificate Judges l (full_in l bytes) a in
-    loop_says _ _ _ _ _ l (m ⟶ m) _ c.in-Ok.ensures.read
+    reading_says loop_of loop_refusal _ _ _ _ _ l (m ⟶ m) _ c.in-Ok.ensures.read
     (reads_on (certificate_at (string_bytes c.args.request.certificate.now)) _
     c.in-Ok-read_file.bytes.items _ _ _ (m ⟶ m) _
     (read_told _ _ _ _ _ c.in-Ok.ensures.told c.in-Ok-read_file.ensures.read)
@@ -32,7 +35,7 @@ pub returns : goal.returns
 returns g c m =
     let l = program_of c.in-Ok.lp in
     let unread = c.in-Err-read_file.ensures.read in
-    loop_says _ _ _ _ _ l (m ⟶ m) _ c.in-Ok.ensures.read
+    reading_says loop_of loop_refusal _ _ _ _ _ l (m ⟶ m) _ c.in-Ok.ensures.read
     (stops_at _ (certificate_at (string_bytes c.args.request.certificate.now)) _ unread.0 m _
     (read_told _ _ _ _ _ c.in-Ok.ensures.told unread.1)
     (refused c.in-Err-read_file.refusal _ unread.2))

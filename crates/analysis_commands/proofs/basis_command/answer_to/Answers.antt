@@ -1,17 +1,21 @@
 use Rattle.std.proofs.Common.{refl, inr}
 use Rattle.loop_model.specs.View.{program_of}
+use Rattle.loop_text.specs.LoopReader.{loop_of}
 use Rattle.courses.specs.Change.{◌⟶◌}
 use Rattle.courses.proofs.Going.{replied, at_end}
-use Rattle.loop_file.proofs.LoopCourses.{refused_says, loop_ends}
+use Rattle.courses.proofs.Readings.{refused_says, reading_ends}
+use Rattle.loop_file.specs.Texts.{loop_refusal}
 use Rattle.analysis_commands.proofs.basis_command.answer_to.Goals as goal
 
 pub returns-in-Ok : goal.returns-in-Ok
 returns-in-Ok g c =
     let before = c.args.meter.now in
     let after = c.answer_to_analysis.new.meter in
-    loop_ends _ _ _ _ (program_of c.in-Ok.lp) (before ⟶ after) _ c.in-Ok.ensures.read
+    reading_ends loop_of loop_refusal _ _ _ _ (program_of c.in-Ok.lp) (before ⟶ after) _
+    c.in-Ok.ensures.read
     (at_end _ _ _ before after _ refl refl (inr c.answer_to_analysis.ensures.analysed)
     (replied c.answer_to_analysis.result _ c.answer_to_analysis.ensures.answer))
 
 pub returns-in-Err : goal.returns-in-Err
-returns-in-Err g c = refused_says _ _ _ _ c.args.meter.now c.in-Err.refusal c.in-Err.ensures.read
+returns-in-Err g c = refused_says loop_of loop_refusal _ _ _ _ c.args.meter.now c.in-Err.refusal
+    c.in-Err.ensures.read

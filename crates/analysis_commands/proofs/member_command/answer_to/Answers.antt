@@ -1,8 +1,10 @@
 use Rattle.std.proofs.Common.{refl}
+use Rattle.loop_text.specs.LoopReader.{loop_of}
 use Rattle.courses.specs.Change.{◌⟶◌}
 use Rattle.loop_model.specs.View.{program_of}
 use Rattle.loop_text.proofs.WellFormed.{loop_well}
-use Rattle.loop_file.proofs.LoopCourses.{refused_says, loop_ends}
+use Rattle.courses.proofs.Readings.{refused_says, reading_ends}
+use Rattle.loop_file.specs.Texts.{loop_refusal}
 use Rattle.analysis_commands.proofs.member_command.answer_to.Goals as goal
 
 pub answer_to_equation-requires : goal.answer_to_equation-requires
@@ -12,9 +14,10 @@ answer_to_equation-requires g c =
 
 pub returns-in-Ok : goal.returns-in-Ok
 returns-in-Ok g c =
-    loop_ends _ _ _ _ (program_of c.in-Ok.lp)
+    reading_ends loop_of loop_refusal _ _ _ _ (program_of c.in-Ok.lp)
     (c.args.meter.now ⟶ c.answer_to_equation.new.meter) _ c.in-Ok.ensures.read
     (c.answer_to_equation.ensures _ refl refl)
 
 pub returns-in-Err : goal.returns-in-Err
-returns-in-Err g c = refused_says _ _ _ _ c.args.meter.now c.in-Err.refusal c.in-Err.ensures.read
+returns-in-Err g c = refused_says loop_of loop_refusal _ _ _ _ c.args.meter.now c.in-Err.refusal
+    c.in-Err.ensures.read

@@ -1,7 +1,9 @@
 use Rattle.std.proofs.Common.{refl, inr}
+use Rattle.sequence_grammar.specs.SeqReader.{sequences_of}
 use Rattle.courses.specs.Change.{◌⟶◌}
 use Rattle.courses.proofs.Going.{replied, at_end}
-use Rattle.analysis_commands.proofs.SequenceCourses.{refused_says, sequences_end}
+use Rattle.courses.proofs.Readings.{refused_says, reading_ends}
+use Rattle.analysis_commands.specs.RelationsTexts.{sequences_refusal}
 use Rattle.analysis_commands.proofs.relations_command.answer_to.Goals as goal
 
 pub answer_to_sequences-requires : goal.answer_to_sequences-requires
@@ -15,11 +17,12 @@ returns-in-Ok g c =
     let before = c.args.meter.now in
     let after = c.answer_to_sequences.new.meter in
     let h = c.in-Ok.ensures in
-    sequences_end _ _ _ _ c.in-Ok.seqs (before ⟶ after) _ h
+    reading_ends sequences_of sequences_refusal _ _ _ _ h.sequences (before ⟶ after) _ h.read
     (at_end _ _ _ before after _ refl refl
     (inr (c.answer_to_sequences.ensures.related h.sequences h.is))
     (replied c.answer_to_sequences.result _
     (c.answer_to_sequences.ensures.answer h.sequences h.is)))
 
 pub returns-in-Err : goal.returns-in-Err
-returns-in-Err g c = refused_says _ _ _ _ c.args.meter.now c.in-Err.refusal c.in-Err.ensures
+returns-in-Err g c = refused_says sequences_of sequences_refusal _ _ _ _ c.args.meter.now
+    c.in-Err.refusal c.in-Err.ensures

@@ -2,7 +2,10 @@ use Rattle.std.proofs.Common.{rules, inr}
 use Rattle.std.proofs.lemmas.Result.{IfOk-weaker}
 use Rattle.expr_text.specs.Faults.{fault_of}
 use Rattle.courses.specs.Views.{answer_view}
-use Rattle.analysis_commands.proofs.SequenceCourses.{sequences_fault_is, sequences_are}
+use Rattle.sequence_grammar.specs.SeqReader.{sequences_of}
+use Rattle.courses.proofs.Readings.{fault_is}
+use Rattle.analysis_commands.specs.RelationsTexts.{sequences_refusal}
+use Rattle.analysis_commands.proofs.SequenceCourses.{sequences_are}
 use Rattle.analysis_commands.proofs.relations_command.read_sequences.Goals as goal
 
 pub returns-in-Ok-read_seqs : goal.returns-in-Ok-read_seqs
@@ -15,6 +18,7 @@ returns g c =
       c.in-Ok.bytes.items,
       c.in-Ok.ensures.read,
       IfOk-weaker c.sequences_refusal.result _ _
-          (λ a told. sequences_fault_is (fault_of c.in-Err-read_seqs.why) c.in-Ok.bytes.items
+          (λ a told. fault_is sequences_of sequences_refusal (fault_of c.in-Err-read_seqs.why)
+          c.in-Ok.bytes.items
           (answer_view a) (search rules) told) c.sequences_refusal.ensures,
     )
