@@ -1,17 +1,22 @@
 -- Two short monomials of as many variables, each in its word, seen as their exponents.
-use Rattle.std.proofs.Common.{◌≡◌, ◌<◌, ◌≤◌, ◌↔◌, ℕ, suc, ◌+◌, ◌-◌, ◌*◌, ◌%◌, ◌^◌, List, length, sum, sym, ap, ap₂, ◌∙◌, subst, add-one, arith, nat_cmp}
+use Rattle.std.proofs.Common.{◌≡◌, ◌<◌, ◌≤◌, ◌↔◌, ℕ, suc, ◌+◌, ◌-◌, ◌*◌, ◌/◌, ◌%◌, ◌^◌, List, length, sum, sym, ap, ap₂, ◌∙◌, subst, add-one, arith, nat_cmp}
 use Rattle.std.specs.Int.Bits.{bit_and}
 use Rattle.std.specs.Ordering.{ordering_then}
-use Rattle.polynomials.specs.Exponent.{plus, Divides}
+use Rattle.polynomials.specs.Exponent.{plus, lcm, Divides}
+use Rattle.polynomials.proofs.Exponent.{length-lcm}
 use Rattle.polynomials.specs.Order.{compare, lex, grevlex, blocks}
 use Rattle.polynomials.proofs.Orders.{compare_lex}
 use Rattle.std.specs.Cmp.Lexicographic.{slice_cmp}
 use Rattle.monos.specs.Products.{ProductFits}
+use Rattle.monos.specs.Coprime.{IsCoprime}
 use Rattle.std.proofs.Math.Nat.{pow-le-pow_right}
 use Rattle.monos.specs.Lanes.{AreSmall, IsShort, IsInLanes, lane_room, lane_count, lanes, word, guards}
 use Rattle.monos.proofs.ShortWords.{room_small}
 use Rattle.monos.proofs.Words.{length-lanes}
 use Rattle.monos.proofs.ShortWords as words
+use Rattle.monos.proofs.LaneSteps.{word_fits}
+use Rattle.monos.proofs.Maxima.{Marks, marks, small-lcm, coprime_is as coprime_of}
+use Rattle.std.proofs.lemmas.Nat.{shl-shr}
 
 pub bits_are : (n k r : ℕ) → r ≡ lane_room n → (r + 1) * k ≡ suc (lane_room n) * k
 bits_are n k r is = ap (λ j. j * k) (add-one r ∙ ap suc is)
@@ -36,6 +41,26 @@ module _ (n d w : ℕ) (a : List ℕ) (p : IsInLanes n d w) (is : lanes (lane_ro
       let x = subst (AreSmall (lane_room n)) is p.small i 0 h in
       let y = subst (AreSmall (lane_room m)) js q.small i 0 (subst (λ k. i < k) same h) in
       omega (arith, x, y, top, top_other)
+
+  -- the guards above its own word
+  pub above_fits : w + guards (lane_room n) (lane_count n) < 2 ^ 128
+  above_fits = words.guards_fit n d w d w p p
+
+  room_is : lane_room n ≡ lane_room (length a)
+  room_is = ap lane_room count_is
+
+  -- the greater exponents
+  pub lcm_is : (b : List ℕ) (g z : ℕ) → length a ≡ length b
+      → AreSmall (lane_room (length a)) (lcm a b)
+      → z ≡ word (lane_room (length a)) (lcm a b) → g ≡ sum (lanes (lane_room n) n z)
+      → IsInLanes n g z × (lanes (lane_room n) n z ≡ lcm a b)
+  lcm_is b g z same small at degree =
+      let here : z ≡ word (lane_room n) (lcm a b) = at
+      ∙ ap (λ k. word k (lcm a b)) (sym room_is) in
+      let all = words.word_in_lanes n (lcm a b) (length-lcm a b same ∙ sym count_is) p.few
+      (subst (λ k. AreSmall k (lcm a b)) (sym room_is) small) in
+      let lanes_of : lanes (lane_room n) n z ≡ lcm a b = ap (lanes (lane_room n) n) here ∙ all.1 in
+      (rw (sym here, sym (degree ∙ ap sum lanes_of)) at all.0, lanes_of)
 
 -- the word of a list of small exponents
 pub of_list : (n d w : ℕ) (e : List ℕ) → n ≡ length e → n ≤ 16 → AreSmall (lane_room n) e
@@ -73,6 +98,9 @@ module _ (n m d f w v : ℕ) (a b : List ℕ) (p : IsInLanes n d w) (q : IsInLan
 
   pub below_guards : w ≤ v + guards (lane_room n) (lane_count n)
   below_guards = words.below_guards n d w f v p in_lanes
+
+  pub other_below : v ≤ w + guards (lane_room n) (lane_count n)
+  other_below = words.below_guards n f v d w in_lanes p
 
   pub divides_is : bit_and (v + guards (lane_room n) (lane_count n) - w)
       (guards (lane_room n) (lane_count n))
@@ -125,6 +153,55 @@ module _ (n m d f w v : ℕ) (a b : List ℕ) (p : IsInLanes n d w) (q : IsInLan
   pub same_lanes : a ≡ b → w ≡ v
   same_lanes e = words.same_lanes n d w f v p in_lanes (is ∙ e ∙ sym lanes_are)
 
+  -- the greater exponents
+  room : lane_room n ≡ lane_room (length a)
+  room = room_is n d w a p is
+
+  small : AreSmall (lane_room n) a
+  small = subst (AreSmall (lane_room n)) is p.small
+
+  small_other : AreSmall (lane_room n) b
+  small_other = subst (AreSmall (lane_room n)) lanes_are in_lanes.small
+
+  word_is : word (lane_room n) a ≡ w
+  word_is = ap (word (lane_room n)) (sym is) ∙ words.word_is n d w p
+
+  word_other : word (lane_room n) b ≡ v
+  word_other = ap (word (lane_room n)) (sym lanes_are) ∙ words.word_is n f v in_lanes
+
+  greater : Marks (lane_room n) (guards (lane_room n) (lane_count n)) w v
+      (word (lane_room n) (lcm a b))
+  greater = rw (word_is, word_other) at (marks (lane_room n) (lane_count n) a b same
+      (subst (λ k. k ≤ lane_count n) (count_is n d w a p is) (words.few_lanes n p.few))
+      small small_other)
+
+  pub word_of_lcm : (r g u t : ℕ) → r ≡ lane_room n → g ≡ guards (lane_room n) (lane_count n)
+      → u ≡ w + g - v → t ≡ bit_and u g
+      → v + bit_and u (t - t / 2 ^ r) ≡ word (lane_room (length a)) (lcm a b)
+  word_of_lcm r g u t bits at above mark =
+      let over : u ≡ w + guards (lane_room n) (lane_count n) - v = above
+      ∙ ap (λ k. w + k - v) at in
+      let is_mark : t ≡ greater.mark * 2 ^ lane_room n = mark ∙ ap₂ bit_and over at
+      ∙ greater.tests in
+      let half : t / 2 ^ r ≡ greater.mark = ap₂ (λ k j. k / 2 ^ j) is_mark bits
+      ∙ shl-shr greater.mark (lane_room n) in
+      ap₂ (λ k j. v + bit_and k j) over (ap₂ ◌-◌ is_mark half) ∙ greater.most
+      ∙ ap (λ k. word k (lcm a b)) room
+
+  pub small_greater : AreSmall (lane_room (length a)) (lcm a b)
+  small_greater = subst (λ k. AreSmall k (lcm a b)) room
+      (small-lcm (lane_room n) a b small small_other)
+
+  pub lcm_fits : word (lane_room (length a)) (lcm a b) < 2 ^ 128
+  lcm_fits = word_fits (lane_room (length a)) (lcm a b)
+      (subst (λ k. suc (lane_room (length a)) * k ≤ 128) (sym (length-lcm a b same))
+      (words.room_fits (length a) (subst (λ k. k ≤ 16) (count_is n d w a p is) p.few)))
+      small_greater
+
+  pub coprime_is : word (lane_room (length a)) (lcm a b) ≡ w + v ↔ IsCoprime a b
+  coprime_is = rw (sym room, sym word_is, sym word_other)
+      (coprime_of (lane_room n) a b same small small_other)
+
   module _ (k : ℕ) (less : k < n) (j : ℕ) (bits : j ≡ suc (lane_room n) * k) where
     pub first_same : w % 2 ^ j ≡ v % 2 ^ j
         → compare grevlex a b ≡ compare (blocks k grevlex grevlex) a b
@@ -145,6 +222,9 @@ module _ (n m d f w v : ℕ) (a b : List ℕ) (p : IsInLanes n d w) (q : IsInLan
         ∙ words.first_apart n d w f v p in_lanes k (omega (arith, less))
         (λ e. apart (here ∙ e ∙ sym there))
         ∙ ap₂ (compare (blocks k grevlex grevlex)) is lanes_are
+
+  pub other_fits : (r k : ℕ) → r ≡ lane_room n → k ≡ n → v < 2 ^ (suc r * k)
+  other_fits r k room all = rw (room, all) in_lanes.all
 
   pub by_first : (r k : ℕ) → r ≡ lane_room n → k ≡ n → slice_cmp nat_cmp (lanes r k w) (lanes r k v)
       ≡ compare lex a b

@@ -212,17 +212,17 @@ lane_test b k l s t = (
         let q = guard_clear b (l + 2 ^ b - k) (omega (arith, lt, s)) in omega (arith, p, q, set))
 
 -- what is left of the guards, lane by lane
-left_of_guards : (b n k l x y : ℕ) → x ≤ y + guards b n → k ≤ l + 2 ^ b
-    → (y * 2 ^ suc b + l) + (guards b n * 2 ^ suc b + 2 ^ b) - (x * 2 ^ suc b + k)
-    ≡ (y + guards b n - x) * 2 ^ suc b + (l + 2 ^ b - k)
-left_of_guards b n k l x y h g =
-    let z = y + guards b n - x in
-    let e : x + z ≡ y + guards b n = omega (arith, h) in
-    let both : x * 2 ^ suc b + z * 2 ^ suc b ≡ y * 2 ^ suc b + guards b n * 2 ^ suc b
+pub left_of_guards : (b g k l x y : ℕ) → x ≤ y + g → k ≤ l + 2 ^ b
+    → (y * 2 ^ suc b + l) + (g * 2 ^ suc b + 2 ^ b) - (x * 2 ^ suc b + k)
+    ≡ (y + g - x) * 2 ^ suc b + (l + 2 ^ b - k)
+left_of_guards b g k l x y h guard =
+    let z = y + g - x in
+    let e : x + z ≡ y + g = omega (arith, h) in
+    let both : x * 2 ^ suc b + z * 2 ^ suc b ≡ y * 2 ^ suc b + g * 2 ^ suc b
     = sym (add-mul x z (2 ^ suc b)) ∙ ap (λ q. q * 2 ^ suc b) e
-    ∙ add-mul y (guards b n) (2 ^ suc b) in
-    take_off (x * 2 ^ suc b) (z * 2 ^ suc b) (y * 2 ^ suc b) (guards b n * 2 ^ suc b) l (2 ^ b) k
-    both g
+    ∙ add-mul y g (2 ^ suc b) in
+    take_off (x * 2 ^ suc b) (z * 2 ^ suc b) (y * 2 ^ suc b) (g * 2 ^ suc b) l (2 ^ b) k
+    both guard
   where
     take_off : (p q r s l g k : ℕ) → p + q ≡ r + s → k ≤ l + g → (r + l) + (s + g) - (p + k) ≡ q
         + (l + g - k)
@@ -246,7 +246,8 @@ test_of_divides b (suc n) (x ∷ d) (y ∷ e) h l s t div =
     let first : x ≤ y = div 0 (omega arith) in
     let rest : Divides d e = (λ i k. div (suc i) (omega arith)) in
     ap (λ q. bit_and q (guards b n * 2 ^ suc b + 2 ^ b))
-    (left_of_guards b n x y (word b d) (word b e) (omega (arith, g)) (omega (arith, small_x)))
+    (left_of_guards b (guards b n) x y (word b d) (word b e) (omega (arith, g))
+    (omega (arith, small_x)))
     ∙ and_block (suc b) (word b e + guards b n - word b d) (guards b n) (y + 2 ^ b - x) (2 ^ b)
     (omega (arith, u, small_y, first)) (omega (arith, u, p))
     ∙ ap₂ (λ q r. q * 2 ^ suc b + r)
@@ -273,7 +274,8 @@ divides_of_test b (suc n) (x ∷ d) (y ∷ e) h l s t test =
     (y + 2 ^ b - x) (2 ^ b)
     within (omega (arith, u, p)))
     ∙ sym (ap (λ q. bit_and q (guards b n * 2 ^ suc b + 2 ^ b))
-    (left_of_guards b n x y (word b d) (word b e) (omega (arith, g)) (omega (arith, small_x))))
+    (left_of_guards b (guards b n) x y (word b d) (word b e) (omega (arith, g))
+    (omega (arith, small_x))))
     ∙ test in
     let both = same_from_place (bit_and (word b e + guards b n - word b d) (guards b n))
     (bit_and (y + 2 ^ b - x) (2 ^ b))

@@ -1,11 +1,14 @@
 //! The two forms of a monomial, and what is computed on lists.
-ghost use Rattle.std.specs.Prelude.{◌≡◌, ◌≤◌, ◌↔◌, length, IfOk, IfSome, IsErrOf, IsOk, IsSome};
-ghost use Rattle.polynomials.specs.Exponent.{plus, Divides};
+//! The ways by lists are never part of a caller's loop, which goes the short way and would make their lists in each turn.
+ghost use Rattle.std.specs.Prelude.{◌≡◌, ◌≤◌, ◌↔◌, length, nat_eq, IsTrue, IfOk, IfSome, IsErrOf, IsOk, IsSome};
+ghost use Rattle.std.specs.Cmp.Lexicographic.{pointwise};
+ghost use Rattle.polynomials.specs.Exponent.{plus, Divides, lcm};
 ghost use Rattle.monos.specs.Lanes.{IsShort};
 ghost use Rattle.monos.specs.Products.{ProductFits};
+ghost use Rattle.monos.specs.Coprime.{IsCoprime};
 ghost use Rattle.monos.specs.Variables.{most_variables};
 
-use crate::lists::{differences, sums, sums_fit};
+use crate::lists::{coprime_each, differences, divides_each, maxima, sums, sums_fit};
 use crate::short_mono::ShortMono;
 use crate::{Form, Mono};
 use ring_laws::ArithmeticError;
@@ -21,12 +24,7 @@ impl Mono {
         ensures short { IsSome result ↔ IsShort self.now }
     {
         match &self.form {
-            Form::Short {
-                arity,
-                degree,
-                low,
-                high,
-            } => Some(ShortMono::of_halves(*arity, *degree, *low, *high)),
+            Form::Short { head, low, high } => Some(ShortMono::of_halves(*head, *low, *high)),
             Form::Long(_) => None,
         }
     }
@@ -39,8 +37,7 @@ impl Mono {
         let word = short.word;
         Mono {
             form: Form::Short {
-                arity: short.arity,
-                degree: short.degree,
+                head: short.degree * 32 + u32::from(short.arity),
                 low: (word % 0x1_0000_0000_0000_0000) as u64,
                 high: (word >> 64) as u64,
             },
@@ -64,7 +61,34 @@ impl Mono {
         }
     }
 
+    /// Whether the lists are the same.
+    #[inline(never)]
+    pub(crate) fn is_same_list(&self, other: &Mono) -> bool
+        ensures { result ≡ pointwise nat_eq self.now other.now }
+    {
+        self.exponents().as_slice() == other.exponents().as_slice()
+    }
+
+    /// Whether `other` is a multiple of this monomial, by lists.
+    #[inline(never)]
+    pub(crate) fn divides_list(&self, other: &Mono) -> bool
+        requires { length self.now ≡ length other.now }
+        ensures { IsTrue result ↔ Divides self.now other.now }
+    {
+        divides_each(self.exponents().as_slice(), other.exponents().as_slice())
+    }
+
+    /// Whether no variable is in both lists.
+    #[inline(never)]
+    pub(crate) fn is_coprime_list(&self, other: &Mono) -> bool
+        requires { length self.now ≡ length other.now }
+        ensures { IsTrue result ↔ IsCoprime self.now other.now }
+    {
+        coprime_each(self.exponents().as_slice(), other.exponents().as_slice())
+    }
+
     /// The copy of a list.
+    #[inline(never)]
     pub(crate) fn copy_of_list(&self, alloc: Global) -> Result<Mono, AllocError>
         ensures ok { IfOk result (λ mono. mono ≡ self.now) }
         ensures short { IsShort self.now → IsOk result }
@@ -89,6 +113,7 @@ impl Mono {
     }
 
     /// The product by lists.
+    #[inline(never)]
     pub(crate) fn product_of_lists(
         &self,
         alloc: Global,
@@ -109,6 +134,7 @@ impl Mono {
     }
 
     /// The quotient by lists.
+    #[inline(never)]
     #[tactic(auto, using(crate::proofs::Shorts::short_part))]
     pub(crate) fn quotient_of_lists(&self, alloc: Global, other: &Mono) -> Result<Mono, AllocError>
         requires arity { length self.now ≡ length other.now }
@@ -122,5 +148,16 @@ impl Mono {
             alloc,
             differences(alloc, these.as_slice(), others.as_slice())?,
         )
+    }
+
+    /// The least common multiple by lists.
+    #[inline(never)]
+    pub(crate) fn lcm_of_lists(&self, alloc: Global, other: &Mono) -> Result<Mono, AllocError>
+        requires { length self.now ≡ length other.now }
+        ensures ok { IfOk result (λ multiple. multiple ≡ lcm self.now other.now) }
+        ensures short { IsShort (lcm self.now other.now) → IsOk result }
+    {
+        let (left, right) = (self.exponents(), other.exponents());
+        Mono::of_list(alloc, maxima(alloc, left.as_slice(), right.as_slice())?)
     }
 }

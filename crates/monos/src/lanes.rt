@@ -1,5 +1,5 @@
 //! Exponents in the lanes of one word, the first in the lowest.
-ghost use Rattle.std.specs.Prelude.{◌≡◌, ◌≤◌, ◌<◌, ◌*◌, ◌^◌, ◌%◌, ◌↔◌, suc, length, sum, take, IsTrue};
+ghost use Rattle.std.specs.Prelude.{◌≡◌, ◌≤◌, ◌<◌, ◌*◌, ◌/◌, ◌^◌, ◌%◌, ◌↔◌, suc, length, sum, take, IsTrue};
 ghost use Rattle.std.specs.Cmp.Lexicographic.{slice_cmp};
 ghost use Rattle.std.specs.Ordering.{nat_cmp};
 ghost use Rattle.monos.specs.Lanes.{AreSmall, lane_room, lane_count, lanes, word, guards, most_room, word_bits};
@@ -94,16 +94,30 @@ pub(crate) fn degree_in(word: u128, room: u32, count: usize) -> u32
 }
 
 /// Where the exponents in the lanes of one word stand to those in the lanes of another, from the first on.
+/// The lowest bit in which the words differ lies in the first lane that decides.
 pub(crate) fn compare_lanes(left: u128, right: u128, room: u32, count: usize) -> Ordering
-    requires { room ≤ most_room }
+    requires room { room ≤ most_room }
+    requires left_fits { left < 2 ^ (suc room * count) }
+    requires right_fits { right < 2 ^ (suc room * count) }
     ensures { result ≡ slice_cmp nat_cmp (lanes room count left) (lanes room count right) }
 {
-    if count == 0 {
+    if left == right {
         return Ordering::Equal;
     }
-    let (one, other) = (lowest_bits(left, room + 1), lowest_bits(right, room + 1));
-    if one != other {
-        return one.cmp(&other);
+    let at = lane_start((left ^ right).trailing_zeros(), room);
+    lowest_bits(left >> at, room + 1).cmp(&lowest_bits(right >> at, room + 1))
+}
+
+/// The lowest bit of the lane that has this bit.
+#[inline(always)]
+fn lane_start(bit: u32, room: u32) -> u32
+    requires { room ≤ most_room }
+    ensures { result ≡ bit / suc room * suc room }
+{
+    // a division by a number that is known is a shift
+    if room == 15 {
+        bit / 16 * 16
+    } else {
+        bit / (room + 1) * (room + 1)
     }
-    compare_lanes(left >> (room + 1), right >> (room + 1), room, count - 1)
 }

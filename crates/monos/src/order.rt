@@ -37,7 +37,7 @@ impl Order for Lex {
     {
         match (a.short_form(), b.short_form()) {
             (Some(left), Some(right)) => left.compare_by_first(&right),
-            _ => compare_from_first(a.exponents().as_slice(), b.exponents().as_slice()),
+            _ => compare_lists_from_first(a, b),
         }
     }
 
@@ -59,7 +59,7 @@ impl Order for Grevlex {
     {
         match (a.short_form(), b.short_form()) {
             (Some(left), Some(right)) => left.compare(&right),
-            _ => compare_grevlex(a.exponents().as_slice(), b.exponents().as_slice()),
+            _ => compare_lists_grevlex(a, b),
         }
     }
 
@@ -84,15 +84,35 @@ impl Order for Blocks {
     {
         match (a.short_form(), b.short_form()) {
             (Some(left), Some(right)) => left.compare_by_blocks(&right, self.first),
-            _ => {
-                let (left, right) = (a.exponents(), b.exponents());
-                compare_blocks(left.as_slice(), right.as_slice(), self.first)
-            }
+            _ => compare_lists_blocks(a, b, self.first),
         }
     }
 
     ghost is_order = { λ blocks.
         blocks_order blocks.first grevlex grevlex grevlex_order grevlex_order };
+}
+
+#[inline(never)]
+fn compare_lists_from_first(a: &Mono, b: &Mono) -> Ordering
+    ensures { result ≡ compare lex a.now b.now }
+{
+    compare_from_first(a.exponents().as_slice(), b.exponents().as_slice())
+}
+
+#[inline(never)]
+fn compare_lists_grevlex(a: &Mono, b: &Mono) -> Ordering
+    requires { length a.now ≡ length b.now }
+    ensures { result ≡ compare grevlex a.now b.now }
+{
+    compare_grevlex(a.exponents().as_slice(), b.exponents().as_slice())
+}
+
+#[inline(never)]
+fn compare_lists_blocks(a: &Mono, b: &Mono, first: usize) -> Ordering
+    requires { length a.now ≡ length b.now }
+    ensures { result ≡ compare (blocks_of first grevlex grevlex) a.now b.now }
+{
+    compare_blocks(a.exponents().as_slice(), b.exponents().as_slice(), first)
 }
 
 fn compare_from_first(left: &[u16], right: &[u16]) -> Ordering

@@ -1,9 +1,11 @@
 //! Short monomials: at most 16 small exponents in one word.
-ghost use Rattle.std.specs.Prelude.{◌≡◌, ◌≤◌, ◌*◌, ◌+◌, ◌^◌, ◌↔◌, length, take, IsTrue, IfSome, IsSome};
-ghost use Rattle.polynomials.specs.Exponent.{plus, Divides};
+ghost use Rattle.std.specs.Prelude.{◌≡◌, ◌≤◌, ◌↔◌, length, take, IsTrue, IfSome, IsSome};
+ghost use Rattle.polynomials.specs.Exponent.{plus, Divides, lcm};
 ghost use Rattle.polynomials.specs.Order.{compare, lex, grevlex, blocks};
-ghost use Rattle.monos.specs.Lanes.{IsShort, IsInLanes, lane_room, lanes, half_bits};
+ghost use Rattle.monos.specs.Lanes.{AreSmall, IsShort, IsInLanes, lane_room, lanes, word};
+ghost use Rattle.monos.specs.Parts.{arity_of, degree_of, whole_word};
 ghost use Rattle.monos.specs.Products.{ProductFits};
+ghost use Rattle.monos.specs.Coprime.{IsCoprime};
 ghost use Rattle.monos.specs.Variables.{most_inline};
 
 use crate::lanes::{
@@ -54,15 +56,15 @@ impl ShortMono {
         })
     }
 
-    /// The monomial with its word in two halves.
+    /// The monomial with this head, and with its word in two halves.
     #[inline(always)]
-    pub(crate) fn of_halves(arity: u8, degree: u32, low: u64, high: u64) -> ShortMono
-        requires { IsInLanes arity degree (high * 2 ^ half_bits + low) }
-        ensures { result ≡ lanes (lane_room arity) arity (high * 2 ^ half_bits + low) }
+    pub(crate) fn of_halves(head: u32, low: u64, high: u64) -> ShortMono
+        requires { IsInLanes (arity_of head) (degree_of head) (whole_word low high) }
+        ensures { result ≡ lanes (lane_room (arity_of head)) (arity_of head) (whole_word low high) }
     {
         ShortMono {
-            arity,
-            degree,
+            arity: (head % 32) as u8,
+            degree: head / 32,
             word: u128::from(high) * 0x1_0000_0000_0000_0000 + u128::from(low),
         }
     }
@@ -133,6 +135,42 @@ impl ShortMono {
             degree: self.degree - other.degree,
             word: self.word - other.word,
         }
+    }
+
+    /// Whether no variable is in both.
+    pub(crate) fn is_coprime(&self, other: &ShortMono) -> bool
+        requires { length self.now ≡ length other.now }
+        ensures { IsTrue result ↔ IsCoprime self.now other.now }
+    {
+        self.word_of_lcm(other) == self.word + other.word
+    }
+
+    /// The least common multiple of this monomial and `other`.
+    pub(crate) fn lcm(&self, other: &ShortMono) -> ShortMono
+        requires { length self.now ≡ length other.now }
+        ensures { result ≡ lcm self.now other.now }
+    {
+        let word = self.word_of_lcm(other);
+        let count = usize::from(self.arity);
+        ShortMono {
+            arity: self.arity,
+            degree: degree_in(word, room_of(self.arity), count),
+            word,
+        }
+    }
+
+    /// The word of the least common multiple: in each lane what the other has, and what this one has above it.
+    /// A lane with its guard set, less the other's, keeps the guard exactly where it has no less.
+    #[inline(always)]
+    pub(crate) fn word_of_lcm(&self, other: &ShortMono) -> u128
+        requires { length self.now ≡ length other.now }
+        ensures word { result ≡ word (lane_room (length self.now)) (lcm self.now other.now) }
+        ensures small { AreSmall (lane_room (length self.now)) (lcm self.now other.now) }
+    {
+        let guards = guards_of(self.arity);
+        let above = self.word + guards - other.word;
+        let marks = above & guards;
+        other.word + (above & (marks - (marks >> room_of(self.arity))))
     }
 
     /// Where it stands to `other` in graded reverse lexicographic order.
