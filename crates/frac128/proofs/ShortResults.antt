@@ -3,7 +3,9 @@
 --   short_multiple_means     a product with a whole number from its parts; product_turned: from the factors turned round
 --   short_product_means      a product from its parts; product_low: a product of denominators is above zero
 --   short_sum_means          a sum from its parts; short_sum_fits: it is not past
-use Rattle.std.proofs.Common.{◌≡◌, ◌∙◌, Option, Some, None, IfSome, SFits, sym, ap, ap₂, subst, refl, ℕ, ◌*◌, ◌/◌, ◌<◌, ◌^◌, ℤ, pos, negsuc, ◌+ℤ◌, ◌*ℤ◌, unsigned_abs, arith}
+--   equal_sum_means          a sum over equal denominators is that of the numerators over it; equal_sum_fits: it is not past
+--   one_multiple             a product with a whole number that is 1
+use Rattle.std.proofs.Common.{◌≡◌, ◌∙◌, Option, Some, None, IfSome, SFits, sym, ap, ap₂, subst, refl, ℕ, ◌*◌, ◌/◌, ◌<◌, ◌≤◌, ◌^◌, ℤ, pos, negsuc, ◌+ℤ◌, ◌*ℤ◌, unsigned_abs, arith}
 use mir.Syntax.{w64}
 use native.Mathlib.Nat as N
 use lib.Signed.{◌≤ℤ◌}
@@ -12,12 +14,13 @@ use Rattle.rings.proofs.IntRing.{ℤ_ring}
 use Rattle.numbers.specs.Gcd.{gcd}
 use Rattle.numbers.specs.Ratio.{ratio, ratios, exact, reduce}
 use Rattle.numbers.specs.Fraction as T
-use Rattle.numbers.proofs.RatioLaws.{reduce-value, mul-pos, exact_whole}
-use Rattle.numbers.proofs.Fractions.{ratio-fraction, fractions_ring}
+use Rattle.numbers.proofs.RatioLaws.{reduce-value, mul-pos, exact_whole, nat_abs-exact}
+use Rattle.numbers.proofs.Fractions.{ratio-fraction, fractions_ring, same_fraction}
 use Rattle.frac128.specs.declared.fraction.Frac.{Frac}
-use Rattle.frac128.specs.FracMeaning.{fraction_of}
+use Rattle.frac128.specs.FracMeaning.{fraction_of, frac_meaning}
 use Rattle.frac128.specs.Sums.{SumIsPast, over}
-use Rattle.frac128.proofs.FracResults.{Means, means, IsSum, product_means, sum_means, sum_fits}
+use Rattle.frac128.proofs.FracResults.{Means, means, IsSum, product_means, sum_means, sum_fits, whole_at}
+use Rattle.frac128.proofs.Halving.{gcd_same}
 use Rattle.frac128.proofs.WholeNumbers.{gcd-one}
 
 reduce_exact : (n : ℤ) (d : ℕ) → reduce (ratio n d) ≡ ratio (exact n (gcd (unsigned_abs n) d))
@@ -106,3 +109,67 @@ pub short_sum_fits : (p q : T.Fraction) (l r t n m : ℤ) → IsSum p q l r n m 
     → SFits w64 l → SFits w64 r → SFits w64 t → SFits w64 m → SumIsPast p q → ⊥
 short_sum_fits p q l r t n m s e hl hr ht hm = sum_fits p q l r n m s (short_size l hl)
     (short_size r hr) (subst (λ z. unsigned_abs z < 2 ^ 127) e (short_size t ht)) (short_size m hm)
+
+-- ---- equal denominators
+self_gcd : (d : ℤ) → pos 1 ≤ℤ d → d ≡ pos (gcd (unsigned_abs d) (unsigned_abs d))
+self_gcd (pos d) low = ap pos (sym (gcd_same d))
+self_gcd (negsuc d) low = absurd (omega (arith, ints))
+
+self_exact : (d : ℤ) → pos 1 ≤ℤ d → pos 1 ≡ exact d (unsigned_abs d)
+self_exact (pos d) low =
+    let some : 0 < d = omega (arith, ints) in
+    ap pos (sym (N.div_self some))
+self_exact (negsuc d) low = absurd (omega (arith, ints))
+
+abbrev shared : Frac → ℤ → ℤ
+shared p t = pos (gcd (unsigned_abs t) (unsigned_abs p.den.value))
+
+equal_sum : (p q : Frac) (t : ℤ) → p.den.value ≡ q.den.value → t ≡ p.num.value +ℤ q.num.value
+    → IsSum (fraction_of p) (fraction_of q) p.num.value q.num.value
+    (exact t (unsigned_abs (shared p t))) (exact p.den.value (unsigned_abs (shared p t)))
+equal_sum p q t same et =
+    let d = p.den.value in
+    let k = shared p t in
+    let one : pos 1 ≡ exact d (unsigned_abs d) = self_exact d p.den_low in
+    sum_means p q d (pos 1) (pos 1) p.num.value q.num.value t k (exact t (unsigned_abs k)) (pos 1)
+    (exact d (unsigned_abs k)) (exact d (unsigned_abs k))
+    (self_gcd d p.den_low ∙ ap (λ z. pos (gcd (unsigned_abs d) (unsigned_abs z))) same)
+    (one ∙ ap (λ z. exact z (unsigned_abs d)) same)
+    (sym (ℤ_ring.mul-one p.num.value))
+    one
+    (sym (ℤ_ring.mul-one q.num.value))
+    et refl one
+    (ap (λ z. exact z (unsigned_abs k)) same)
+    (sym (ℤ_ring.mul_comm (pos 1) (exact d (unsigned_abs k))
+    ∙ ℤ_ring.mul-one (exact d (unsigned_abs k))))
+    refl
+
+pub equal_sum_means : (p q : Frac) (t d : ℤ) → d ≡ p.den.value → d ≡ q.den.value
+    → t ≡ p.num.value +ℤ q.num.value → over t d ≡ T.sum (fraction_of p) (fraction_of q)
+equal_sum_means p q t d ep eq et =
+    ap (over t) ep
+    ∙ same_fraction _ _ (sym (lowered_means t p.den.value (shared p t) _ _ p.den_low refl refl
+    refl).is ∙ (equal_sum p q t (sym ep ∙ eq) et).means_sum.is)
+
+pub equal_sum_fits : (p q : Frac) (a b t d : ℤ) → a ≡ p.num.value → b ≡ q.num.value
+    → d ≡ p.den.value → d ≡ q.den.value → t ≡ a +ℤ b → SFits w64 a → SFits w64 b → SFits w64 t
+    → SFits w64 d → SumIsPast (fraction_of p) (fraction_of q) → ⊥
+equal_sum_fits p q a b t d ea eb ep eq et ha hb ht hd =
+    let sum : t ≡ p.num.value +ℤ q.num.value = et ∙ ap₂ ◌+ℤ◌ ea eb in
+    let k = unsigned_abs (shared p t) in
+    let most : unsigned_abs (exact p.den.value k) ≤ unsigned_abs p.den.value =
+    subst (λ n. n ≤ unsigned_abs p.den.value) (sym (nat_abs-exact p.den.value k))
+    (N.div-le_self (unsigned_abs p.den.value) k) in
+    sum_fits _ _ _ _ _ _ (equal_sum p q t (sym ep ∙ eq) sum)
+    (subst (λ z. unsigned_abs z < 2 ^ 127) ea (short_size a ha))
+    (subst (λ z. unsigned_abs z < 2 ^ 127) eb (short_size b hb))
+    (subst (λ z. unsigned_abs z < 2 ^ 127) sum (short_size t ht))
+    (N.lt_of_le_of_lt most (subst (λ z. unsigned_abs z < 2 ^ 127) ep (short_size d hd)))
+
+pub one_multiple : (p q : Frac) (c : ℤ) → q.den.value ≡ pos 1 → c ≡ q.num.value → c ≡ pos 1
+    → fraction_of p ≡ T.product (fraction_of p) (fraction_of q)
+one_multiple p q c one ec e =
+    let meaning : frac_meaning q ≡ ratio (pos 1) 1 = ap₂ (λ n d. ratio n (unsigned_abs d))
+    (sym ec ∙ e) one in
+    sym (fractions_ring.mul-one (fraction_of p))
+    ∙ ap (T.product (fraction_of p)) (sym (whole_at (pos 1) q meaning))

@@ -150,6 +150,10 @@ impl Frac {
     {
         let (num, den) = self.short()?;
         let (other_num, other_den) = other.short()?;
+        if den == other_den {
+            let sum = num.checked_add(other_num)?;
+            return Some(Frac::small_in_lowest_terms(sum, den));
+        }
         let common = divisor(den, other_den);
         let factor = quotient(other_den, common);
         let other_factor = quotient(den, common);
@@ -169,6 +173,9 @@ impl Frac {
     {
         let (num, den) = self.short()?;
         let (number, _) = factor.short()?;
+        if number == 1 {
+            return Some(*self);
+        }
         let common = divisor(number, den);
         let top = num.checked_mul(quotient(number, common))?;
         Some(Frac::coprime(top, quotient(den, common)))

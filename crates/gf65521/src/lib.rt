@@ -46,6 +46,21 @@ impl Gf {
             value: (number % PRIME) as u16,
         }
     }
+
+    /// What a number below twice the prime leaves, with no division.
+    fn short_rest(number: u32) -> Gf
+        requires { number < 2 * prime }
+        ensures { result.value ≡ number % prime }
+    {
+        let value = if number < PRIME {
+            number
+        } else {
+            number - PRIME
+        };
+        Gf {
+            value: value as u16,
+        }
+    }
 }
 
 /// The inverse modulo the prime, by Euclid's algorithm.
@@ -90,7 +105,7 @@ impl Ring for Gf {
     fn add(&self, other: &Gf) -> Result<Gf, Wide>
         ensures { IsOkAnd result (λ sum. sum.value ≡ (self.now.value + other.now.value) % prime) }
     {
-        Ok(Gf::rest(u32::from(self.value) + u32::from(other.value)))
+        Ok(Gf::short_rest(u32::from(self.value) + u32::from(other.value)))
     }
 
     /// The difference, never `Wide`.
@@ -98,7 +113,7 @@ impl Ring for Gf {
         ensures { IsOkAnd result (λ rest. rest.value
             ≡ (self.now.value + (prime - other.now.value)) % prime) }
     {
-        Ok(Gf::rest(u32::from(self.value) + (PRIME - u32::from(other.value))))
+        Ok(Gf::short_rest(u32::from(self.value) + (PRIME - u32::from(other.value))))
     }
 
     /// The product, never `Wide`.
@@ -113,7 +128,7 @@ impl Ring for Gf {
     fn neg(&self) -> Gf
         ensures { result.value ≡ (prime - self.now.value) % prime }
     {
-        Gf::rest(PRIME - u32::from(self.value))
+        Gf::short_rest(PRIME - u32::from(self.value))
     }
 
     ghost ring = { residues_ring prime tt };

@@ -17,7 +17,7 @@ fn is_ratio(answer: Result<Frac, Wide>, num: i128, den: i128) -> bool {
     }
 }
 
-fn fractions() -> [bool; 14] {
+fn fractions() -> [bool; 17] {
     [
         Frac::new(6, -4) == Ok(ratio(-3, 2)),
         Frac::new(1, 0) == Err(FracError::ZeroDenominator),
@@ -34,14 +34,18 @@ fn fractions() -> [bool; 14] {
             1,
         ),
         is_ratio(ratio(6, 35).mul(&ratio(-14, 9)), -4, 15),
-        // A whole factor on either side, also where the product leaves 64 bits, and equal denominators.
+        // A whole factor on either side, also where it is 1 and where the product leaves 64 bits.
         is_ratio(ratio(-9, 1).mul(&ratio(5, 6)), -15, 2),
         is_ratio(
             ratio((1 << 63) - 1, 3).mul(&ratio(9, 1)),
             3 * ((1 << 63) - 1),
             1,
         ),
+        is_ratio(ratio(-5, 6).mul(&ratio(1, 1)), -5, 6),
+        // Equal denominators, also where the sum is whole and where it is zero.
         is_ratio(ratio(7, 10).sub(&ratio(1, 10)), 3, 5),
+        is_ratio(ratio(-5, 6).add(&ratio(-7, 6)), -2, 1),
+        is_ratio(ratio(5, 6).add(&ratio(-5, 6)), 0, 1),
         Frac::unit(-6) == Some((ratio(-6, 1), ratio(-1, 6))),
     ]
 }
@@ -108,7 +112,7 @@ fn remainder(value: u16) -> Gf {
     Gf::new(value).unwrap_or(Gf::zero())
 }
 
-fn rings_and_fields() -> [bool; 11] {
+fn rings_and_fields() -> [bool; 14] {
     let half = ratio(1, 2);
     [
         is_of_ring(&half) == Ok(true),
@@ -117,6 +121,9 @@ fn rings_and_fields() -> [bool; 11] {
         is_above_zero(&half),
         is_above_zero(&Whole::one()),
         remainder(65520).add(&Gf::one()) == Ok(Gf::zero()),
+        remainder(65520).add(&remainder(65520)) == Ok(remainder(65519)),
+        Gf::zero().sub(&Gf::one()) == Ok(remainder(65520)),
+        remainder(2).sub(&Gf::one()) == Ok(Gf::one()),
         quotient_of_field_is(&Gf::one(), &remainder(2), &remainder(32761)) == Ok(true),
         quotient_of_field_is(&half, &half, &Frac::one()) == Ok(true),
         clears_by_six::<Frac>(),

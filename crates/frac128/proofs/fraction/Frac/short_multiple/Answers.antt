@@ -1,10 +1,11 @@
-use Rattle.std.proofs.Common.{SFits, ◌∙◌, rules}
+use Rattle.std.proofs.Common.{SFits, ◌∙◌, ap, rules}
 use mir.Syntax.{w64}
+use mir.Val.{to_z}
 use Rattle.std.proofs.lemmas.Int.{to_z-of_z}
 use Rattle.numbers.specs.Fraction.{product}
 use Rattle.frac128.specs.FracMeaning.{fraction_of}
 use Rattle.frac128.proofs.FracResults.{Means, means_fraction}
-use Rattle.frac128.proofs.ShortResults.{short_multiple_means}
+use Rattle.frac128.proofs.ShortResults.{short_multiple_means, one_multiple}
 use Rattle.frac128.proofs.fraction.Frac.short_multiple.Goals.{After-quotient-2}
 use Rattle.frac128.proofs.fraction.Frac.short_multiple.Goals as goal
 
@@ -39,3 +40,9 @@ returns c =
     let bottom : SFits w64 c.quotient-2.result = search rules in
     simp to_z-of_z at c.coprime.ensures
     ∙ means_fraction _ _ _ (lowest (goal.at.returns c).After-quotient-2)
+
+pub returns-then-number-eq1 : goal.returns-then-number-eq1
+returns-then-number-eq1 c =
+    let number : SFits w64 c.in_ok-number.number = search rules in
+    one_multiple c.args.self.now c.args.factor.now _ c.requires c.in_ok-number.ensures.0
+    (simp to_z-of_z at (ap (to_z w64) c.if-number-eq1.true))
