@@ -1,4 +1,5 @@
 pub mod Kept
+mod Parted
 mod Peeked
 pub mod Steps
 mod Merging

@@ -3,6 +3,7 @@
 --   begin                   nothing is merged yet
 --   take_left, take_right, take_both     one step
 --   finish_left, finish_right            the rest is one list
+--   lead_cancels                        a term and its opposite around others
 --   heads_past, heads_shared             where the sum of the next two terms is past
 use Rattle.std.proofs.Common.{◌≡◌, ◌≢◌, ℕ, List, [], ◌∷◌, ◌++◌, length, refl, sym, ap, ap₂, subst, ◌∙◌, ◌⊎◌, inl, inr, Less, Equal, Greater, append_assoc, arith}
 use Rattle.std.specs.List.{Contains}
@@ -48,6 +49,12 @@ module _ {A : Type 0} (R : CommRing A) where
   both_cancel o s t l q h = ap (λ z. z ⊕ (l ⊕ q)) (sym (R.add-zero o) ∙ ap (λ z. o ⊕ z) (sym h))
       ∙ both_move o s t l q
 
+  moved_last : (s q t : A) → s ⊕ q ⊕ t ≡ s ⊕ t ⊕ q
+  moved_last s q t = ring R (s ∷ q ∷ t ∷ []) (search ring_rules depth 40) refl
+
+  first_cancels : (s q t : A) → s ⊕ t ≡ 𝟘 → q ≡ s ⊕ q ⊕ t
+  first_cancels s q t h = sym (moved_last s q t ∙ ap (λ z. z ⊕ q) h ∙ zero-add R q)
+
 module _ (S : Scalars) (r : IsRing S.arithmetic) (O : Rank) (law : IsMonomialOrder O) (m : ℕ) where
   abbrev pub P : CommRing (Algebra exponents (ring_of S.arithmetic r))
   P = algebra_ring exponents exponents_monoid (ring_of S.arithmetic r)
@@ -88,6 +95,15 @@ module _ (S : Scalars) (r : IsRing S.arithmetic) (O : Rank) (law : IsMonomialOrd
 
   next : (t : List ℕ × S.Elem) (p : Terms S.Elem) → poly (t ∷ p) ≡ poly (t ∷ []) ⊕ poly p
   next t p = algebra-append exponents exponents_monoid (ring_of S.arithmetic r) (t ∷ []) p
+
+  pub lead_cancels : (e : List ℕ) (a b : S.Elem) (rest : Terms S.Elem) → S.add a b ≡ S.zero
+      → Same S.arithmetic rest ((e, a) ∷ rest ++ (e, b) ∷ [])
+  lead_cancels e a b rest h = same_of_algebra exponents exponents_monoid (ring_of S.arithmetic r)
+      rest ((e, a) ∷ rest ++ (e, b) ∷ [])
+      (first_cancels P (poly ((e, a) ∷ [])) (poly rest) (poly ((e, b) ∷ [])) (cancels e a b h)
+      ∙ ap (λ z. z ⊕ poly ((e, b) ∷ [])) (sym (next (e, a) rest))
+      ∙ sym (algebra-append exponents exponents_monoid (ring_of S.arithmetic r) ((e, a) ∷ rest)
+      ((e, b) ∷ [])))
 
   further : (t : List ℕ × S.Elem) (ts zs : Terms S.Elem)
       → ((fs : Terms S.Elem) × (zs ≡ fs ++ t ∷ ts)) → (fs : Terms S.Elem) × (zs ≡ fs ++ ts)

@@ -6,14 +6,15 @@
 --   like_number                the number of the term whose monomial is there
 --   exceeds_next               the first part is above the next product
 --   put_X                      the same, as the code has the lists
---   Raising, begin_raising, step_raising, next_above     one product after another
+--   Raising, begin_raising, begin_cancelled, step_raising, next_above     one product after another
+--   lead_multiple, first_and_rest   the leads that cancel
 --   images, drop_next, cut_next     what a list's image is
-use Rattle.std.proofs.Common.{◌≡◌, ◌≢◌, inl, inr, ℕ, Bool, true, false, List, [], ◌∷◌, ◌++◌, length, map, take, drop, take-append-drop, get_or, ◌<◌, ◌+◌, append_assoc, refl, sym, ap, ap₂, subst, ◌∙◌, Ordering, Less, Equal, Greater}
+use Rattle.std.proofs.Common.{◌≡◌, ◌≢◌, inl, inr, ℕ, Bool, true, false, Some, IsSomeAnd, slice_get, List, [], ◌∷◌, ◌++◌, length, map, take, drop, take-append-drop, get_or, ◌<◌, ◌+◌, append_assoc, refl, sym, ap, ap₂, subst, ◌∙◌, Ordering, Less, Equal, Greater}
 use Rattle.std.proofs.lemmas.List.{append-nil, map-append, drop_more}
 use Rattle.rings.specs.Each.{Each}
 use Rattle.rings.proofs.Each.{each-append, each-left, each-right, each_weaker, each_of}
 use Rattle.rings.specs.Ring.{IsRing, ring as ring_of}
-use Rattle.rings.proofs.RingLaws.{zero-add}
+use Rattle.rings.proofs.RingLaws.{zero-add, neg-mul}
 use Rattle.numbers.specs.Scalars.{Scalars, IsPastAdd}
 use Rattle.polynomials.specs.Exponent.{exponents, plus}
 use Rattle.polynomials.specs.Order.{Rank, IsMonomialOrder, compare}
@@ -244,12 +245,14 @@ module _ (S : Scalars) (r : IsRing S.arithmetic) (O : Rank) (law : IsMonomialOrd
         (raised_less front back e a whole x n (subst (λ z. Begins O e z back) f begins)))
 
     pub put_equal : (b : Bool) (news rest : Terms S.Elem) (t : List ℕ × S.Elem) → a ≢ S.zero
-        → b ≡ true → Begins O e b back → back ≡ t ∷ rest → Takes S e (S.add t.1 a) front news
+        → b ≡ true → Begins O e b back → back ≡ t ∷ rest → Takes S t.0 (S.add t.1 a) front news
         → IsRaised S O e a olds news rest
     put_equal b news rest t n f begins k takes =
+        let first = subst (λ z. Begins O e z back) f begins in
+        let like : t.0 ≡ e = compare_equal O law t.0 e (subst (Begins O e true) k first) in
         subst (λ (q : Terms S.Elem). IsRaised S O e a q news rest) is
-        (raised_equal front back e a whole x news rest t n k (subst (λ z. Begins O e z back) f
-        begins) takes)
+        (raised_equal front back e a whole x news rest t n k first
+        (subst (λ (d : List ℕ). Takes S d (S.add t.1 a) front news) like takes))
 
     pub put_past : (b : Bool) (rest : Terms S.Elem) (t : List ℕ × S.Elem) → b ≡ true
         → Begins O e b back → back ≡ t ∷ rest → IsPastAdd S t.1 a
@@ -285,6 +288,45 @@ begin_raising S O m d c p left front back f b h =
       above = each_of (λ (t : List ℕ × S.Elem). Exceeds O {A = S.Elem} (plus d t.0) []) (λ t. tt)
           left;
     }))
+
+-- where the first product is the opposite of the first term, and neither is there
+pub begin_cancelled : (S : Scalars) (r : IsRing S.arithmetic) (O : Rank) (law : IsMonomialOrder O)
+    (m : ℕ) (d : List ℕ) (c f : S.Elem) (p rest left front back : Terms S.Elem)
+    (t x : List ℕ × S.Elem) → c ≡ S.neg f → x ≡ (plus d t.0, S.mul f t.1) → p ≡ x ∷ rest
+    → front ≡ [] → back ≡ rest → IsPolynomial S.arithmetic O m p
+    → Raising S O m d c p (t ∷ []) left front back
+unfolding Algebra.shift Each
+begin_cancelled S r O law m d c f p rest left front back t x e is parts none same h =
+    subst (λ (q : Terms S.Elem). Raising S O m d c p (t ∷ []) left q back) (sym none)
+    (subst (λ (q : Terms S.Elem). Raising S O m d c p (t ∷ []) left [] q) (sym same)
+    (record {
+      falling = polynomial_tail O S m x rest (subst (IsPolynomial S.arithmetic O m) parts h);
+      sum = subst (λ (q : Terms S.Elem). Same S.arithmetic rest (q ++ shift S.arithmetic d c
+          (t ∷ []))) (sym (parts ∙ ap (λ (y : List ℕ × S.Elem). y ∷ rest) is))
+          (merging.lead_cancels S r O law m (plus d t.0) (S.mul f t.1)
+          (S.mul c t.1) rest opposite);
+      above = each_of (λ (u : List ℕ × S.Elem). Exceeds O {A = S.Elem} (plus d u.0) []) (λ u. tt)
+          left;
+    }))
+  where
+    opposite : S.add (S.mul f t.1) (S.mul c t.1) ≡ S.zero
+    opposite = ap (S.add (S.mul f t.1)) (ap (λ a. S.mul a t.1) e
+        ∙ neg-mul (ring_of S.arithmetic r) f t.1) ∙ r.add-neg (S.mul f t.1)
+
+-- the lead of p, where it is a multiple of the lead of q
+pub lead_multiple : (S : Scalars) (p q ps qs : Terms S.Elem) (x t : List ℕ × S.Elem) (d : List ℕ)
+    (f : S.Elem) → p ≡ x ∷ ps → q ≡ t ∷ qs → IsSomeAnd (slice_get q 0)
+    (λ u. slice_get p 0 ≡ Some (plus d u.0, S.mul f u.1)) → x ≡ (plus d t.0, S.mul f t.1)
+lead_multiple S p q ps qs x t d f hp hq h = go (subst (λ (z : Terms S.Elem).
+    slice_get z 0 ≡ Some (plus d t.0, S.mul f t.1)) hp (subst (λ (z : Terms S.Elem).
+    IsSomeAnd (slice_get z 0) (λ u. slice_get p 0 ≡ Some (plus d u.0, S.mul f u.1))) hq h))
+  where
+    go : {y : List ℕ × S.Elem} → Some x ≡ Some y → x ≡ y
+    go e = cc
+
+pub first_and_rest : {X : Type 0} (ts rest : List X) (t : X) → ts ≡ t ∷ rest
+    → take 1 ts ++ rest ≡ ts
+first_and_rest ts rest t e = ap (λ l. take 1 l ++ rest) e ∙ sym e
 
 module _ (S : Scalars) (r : IsRing S.arithmetic) (O : Rank) (law : IsMonomialOrder O) (m : ℕ)
     (d : List ℕ) (c : S.Elem) (l : length d ≡ m) where

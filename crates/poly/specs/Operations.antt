@@ -3,7 +3,7 @@
 --   IsVariable o m i p   p is the i-th of m variables;  IsLeadOf p t: t is p's greatest term
 --   opposite p, difference p q, product p q, power p n     the operations' lists of terms
 --   multiple c p         c times p;  quotient c p: p over c;  shift_by e p: the monomial e times p
---   less_multiple p t q  p less t times q;  lead_number p: the number of p's lead
+--   less_multiple p t q  p less t times q;  LeadIsMultiple p t q: p's lead is t times q's;  lead_number p: the number of p's lead
 --   IsComposition p qs r     r is p with qs in place of its variables;  value p s: the value of p at the point s
 --   XIsPast              the weight of X is past, or an exponent that it forms doesn't fit
 --   ShareMonomial p q    some monomial is in both;  AreSame p q: both are the same polynomial;  AreEqual p q: the same arity and terms
@@ -59,6 +59,10 @@ module _ {K O : Type 0} {g : Ring.Ghosts K} {h : PartialEq.Ghosts K} {k : Order.
   abbrev pub less_multiple : Poly K O g h k l → Term K → Poly K O g h k l → Terms g.scalars.Elem
   less_multiple p t q = terms_in p ++ negate g.scalars.arithmetic (shift g.scalars.arithmetic t.mono
       (g.meaning t.coef) (terms_in q))
+
+  abbrev pub LeadIsMultiple : Poly K O g h k l → Term K → Poly K O g h k l → Type 0
+  LeadIsMultiple p t q = IsSomeAnd (slice_get (terms_in q) 0)
+      (λ u. slice_get (terms_in p) 0 ≡ Some (plus t.mono u.0, g.scalars.mul (g.meaning t.coef) u.1))
 
   abbrev pub lead_number : Poly K O g h k l → g.scalars.Elem
   lead_number p = lead_coefficient g.scalars.arithmetic (terms_in p)

@@ -72,7 +72,7 @@ fn terms_behind<K: Ring>(
     for term in terms {
         let mono = front.concat(alloc, &term.mono)?;
         let coef = term.coef;
-        out.push(Term { mono, coef })?;
+        out.push_reserved(Term { mono, coef });
     }
     Ok(out)
 }
@@ -91,7 +91,7 @@ fn terms_without_first<K: Ring>(
     for term in terms {
         let mono = term.mono.without_first(alloc, count)?;
         let coef = term.coef;
-        out.push(Term { mono, coef })?;
+        out.push_reserved(Term { mono, coef });
     }
     Ok(out)
 }

@@ -4,13 +4,13 @@ ghost use Rattle.numbers.specs.Scalars.{IsPastAdd};
 ghost use Rattle.polynomials.specs.Exponent.{plus};
 ghost use Rattle.polynomials.specs.Polynomial.{IsPolynomial};
 ghost use Rattle.polynomials.specs.Terms.{coefficient};
-ghost use Rattle.poly.specs.Operations.{IsLike, less_multiple, quotient, lead_number, LessMultipleIsPast, SumIsPast, ShiftIsPast, QuotientIsPast};
+ghost use Rattle.poly.specs.Operations.{IsLike, LeadIsMultiple, less_multiple, quotient, lead_number, LessMultipleIsPast, SumIsPast, ShiftIsPast, QuotientIsPast};
 ghost use Rattle.poly.specs.Raised.{Exceeds, Begins, IsRaised, IsPastRaise};
 ghost use Rattle.poly.specs.Seen.{terms_in};
 ghost use Rattle.poly.specs.View.{term_of, terms_of};
 
 use crate::product::product;
-use crate::sums::{push_nonzero, put_nonzero};
+use crate::sums::put_nonzero;
 use crate::{Poly, Term};
 use monos::{Mono, Order};
 use ring_laws::{ArithmeticError, Field, Ring};
@@ -64,6 +64,61 @@ impl<K: Ring, O: Order> Poly<K, O> {
             terms: front,
         })
     }
+
+    /// The difference with a term times another polynomial, where both have the same lead, and the list that its own terms left.
+    /// The leads cancel each other: they are let go, neither multiplied nor compared. The difference is made on the list `spare`, whose terms are dropped. So a polynomial is reduced step by step on two lists, and no step asks for a new one while there is room.
+    /// `Wide` only where the sum of the polynomial and the number times the other is past, or an exponent of the multiple is above 65,535.
+    pub fn cancel_lead(
+        self,
+        alloc: Global,
+        factor: &Term<K>,
+        other: &Poly<K, O>,
+        spare: Vec<Term<K>>,
+    ) -> Result<(Poly<K, O>, Vec<Term<K>>), ArithmeticError>
+        requires order { self.order ≡ other.now.order }
+        requires arity { self.arity ≡ other.now.arity }
+        requires factor { length factor.now.mono ≡ self.arity }
+        requires lead { LeadIsMultiple self factor.now other.now }
+        ensures difference { IfOk result
+            (λ left. IsLike self (less_multiple self factor.now other.now) left.0) }
+        ensures wide { IsErrOf result ArithmeticError.Wide
+            → LessMultipleIsPast self factor.now other.now }
+    {
+        let (order, arity) = (self.order, self.arity);
+        let opposite = factor.coef.neg();
+        let Some((_, others)) = other.terms.split_first() else {
+            unreachable!()
+        };
+        let Some(room) = self.terms.len().checked_add(others.len()) else {
+            return Err(ArithmeticError::Memory);
+        };
+        let mut front = spare;
+        front.clear();
+        front.reserve(room)?;
+        let mut back = VecDeque::from_vec(self.terms);
+        let Some(_) = back.pop_front() else {
+            unreachable!()
+        };
+        for term in others {
+            put_product(
+                alloc,
+                order,
+                &mut front,
+                &mut back,
+                &factor.mono,
+                &opposite,
+                term,
+            )?;
+        }
+        let mut rest = back.into_vec();
+        front.append(&mut rest)?;
+        let left = Poly {
+            order,
+            arity,
+            terms: front,
+        };
+        Ok((left, rest))
+    }
 }
 
 impl<K: Field, O: Order> Poly<K, O> {
@@ -97,7 +152,7 @@ impl<K: Field, O: Order> Poly<K, O> {
         let mut out = Vec::with_capacity(alloc, self.terms.len())?;
         for term in &self.terms {
             let coef = term.coef.div(by)?;
-            push_nonzero(&mut out, term.mono.copy(alloc)?, coef)?;
+            put_nonzero(&mut out, term.mono.copy(alloc)?, coef);
         }
         Ok(Poly {
             order: self.order,
@@ -108,6 +163,7 @@ impl<K: Field, O: Order> Poly<K, O> {
 }
 
 /// Puts the product of a term with a monomial and a number into a polynomial that stands in two parts, where it is below all of the first part.
+#[inline(always)]
 fn put_product<K: Ring, O: Order>(
     alloc: Global,
     order: O,
@@ -143,6 +199,7 @@ fn put_product<K: Ring, O: Order>(
 }
 
 /// Puts a term that isn't zero into a polynomial that stands in two parts, where it is below all of the first part. The greater terms of the second go there first.
+#[inline(always)]
 fn put<K: Ring, O: Order>(
     order: O,
     front: &mut Vec<Term<K>>,
@@ -174,11 +231,12 @@ fn put<K: Ring, O: Order>(
         unreachable!()
     };
     let sum = like.coef.add(&coef)?;
-    put_nonzero(front, mono, sum);
+    put_nonzero(front, like.mono, sum);
     Ok(())
 }
 
 /// Moves the terms above a monomial from the second part of a polynomial to the first, which has room for them. Whether the next has that monomial.
+#[inline(always)]
 fn pass_greater<K: Ring, O: Order>(
     order: O,
     front: &mut Vec<Term<K>>,

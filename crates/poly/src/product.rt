@@ -187,10 +187,10 @@ fn shift_terms<K: Ring>(
     let mut out = Vec::with_capacity(alloc, terms.len())?;
     for term in terms {
         let mono = product(alloc, by, &term.mono)?;
-        out.push(Term {
+        out.push_reserved(Term {
             mono,
             coef: term.coef,
-        })?;
+        });
     }
     Ok(out)
 }

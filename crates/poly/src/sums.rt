@@ -1,5 +1,5 @@
 //! Sums of polynomials.
-ghost use Rattle.std.specs.Prelude.{◌≡◌, ◌<◌, ◌≤◌, ◌+◌, [], ◌∷◌, ◌++◌, length, vec_capacity, IfOk, OnOk, IsErrOf};
+ghost use Rattle.std.specs.Prelude.{◌≡◌, ◌<◌, ◌≤◌, ◌+◌, ◌++◌, length, vec_capacity, IfOk, OnOk, IsErrOf};
 ghost use Rattle.polynomials.specs.Terms.{negate};
 ghost use Rattle.polynomials.specs.Polynomial.{IsPolynomial};
 ghost use Rattle.polynomials.specs.Weight.{weight, IsPastSum};
@@ -25,12 +25,10 @@ impl<K: Ring, O: Order> Poly<K, O> {
         ensures arity { IfOk result (λ p. p.arity ≡ self.now.arity) }
         ensures terms { IfOk result (λ p. terms_in p ≡ terms_in self.now) }
     {
-        let mut terms = Vec::new(alloc);
-        push_copies(alloc, &mut terms, &self.terms)?;
         Ok(Poly {
             order: self.order,
             arity: self.arity,
-            terms,
+            terms: copies(alloc, &self.terms)?,
         })
     }
 
@@ -61,6 +59,26 @@ impl<K: Ring, O: Order> Poly<K, O> {
         let left = VecDeque::from_vec(self.terms);
         let right = VecDeque::from_vec(other.terms);
         merge(alloc, self.order, self.arity, left, right)
+    }
+
+    /// The same polynomial, in no more memory than its terms take.
+    pub(crate) fn without_spare_room(self) -> Poly<K, O>
+        ensures order { result.order ≡ self.order }
+        ensures arity { result.arity ≡ self.arity }
+        ensures terms { terms_in result ≡ terms_in self }
+    {
+        let Poly {
+            order,
+            arity,
+            mut terms,
+            ..
+        } = self;
+        terms.shrink_to_fit();
+        Poly {
+            order,
+            arity,
+            terms,
+        }
     }
 
     /// The difference. `Wide` only where the weight of the sum is past.
@@ -113,25 +131,29 @@ fn merge<K: Ring, O: Order, L: Source<K>, R: Source<K>>(
     ensures shared { IsErrOf result ArithmeticError.Wide
         → Share (terms_of K.meaning (L.items left)) (terms_of K.meaning (R.items right)) }
 {
-    let mut terms = Vec::with_capacity(alloc, left.count().saturating_add(right.count()))?;
+    // room for all terms, so that none needs a test whether there is some
+    let Some(room) = left.count().checked_add(right.count()) else {
+        return Err(ArithmeticError::Memory);
+    };
+    let mut terms = Vec::with_capacity(alloc, room)?;
     let (mut lefts, mut rights) = (left, right);
     while let Some(x) = lefts.peek() {
         let Some(y) = rights.peek() else {
             break;
         };
         match order.compare(&x.mono, &y.mono) {
-            Ordering::Greater => terms.push(lefts.take(alloc)?)?,
-            Ordering::Less => terms.push(rights.take(alloc)?)?,
+            Ordering::Greater => terms.push_reserved(lefts.take(alloc)?),
+            Ordering::Less => terms.push_reserved(rights.take(alloc)?),
             Ordering::Equal => {
                 let coef = x.coef.add(&y.coef)?;
                 let mono = lefts.take(alloc)?.mono;
                 rights.skip();
-                push_nonzero(&mut terms, mono, coef)?;
+                put_nonzero(&mut terms, mono, coef);
             }
         }
     }
-    push_rest(alloc, &mut terms, lefts)?;
-    push_rest(alloc, &mut terms, rights)?;
+    put_rest(alloc, &mut terms, lefts)?;
+    put_rest(alloc, &mut terms, rights)?;
     Ok(Poly {
         order,
         arity,
@@ -139,48 +161,33 @@ fn merge<K: Ring, O: Order, L: Source<K>, R: Source<K>>(
     })
 }
 
-/// Puts what is left of a source behind the others.
-pub(crate) fn push_rest<K: Ring, S: Source<K>>(
+/// Puts what is left of a source at the end of a list that has room for it.
+fn put_rest<K: Ring, S: Source<K>>(
     alloc: Global,
     out: &mut Vec<Term<K>>,
     mut rest: S,
 ) -> Result<(), AllocError>
+    requires room { length out.old.items + length (S.items rest) ≤ vec_capacity out.old }
     ensures ok { OnOk result (out.new.items ≡ out.old.items ++ S.items rest) }
+    ensures room { OnOk result (vec_capacity out.new ≡ vec_capacity out.old) }
 {
     while rest.peek().is_some() {
-        out.push(rest.take(alloc)?)?;
+        out.push_reserved(rest.take(alloc)?);
     }
     Ok(())
 }
 
-/// Puts a copy of the term behind the others.
-pub(crate) fn push_copy<K: Ring>(
-    alloc: Global,
-    out: &mut Vec<Term<K>>,
-    term: &Term<K>,
-) -> Result<(), AllocError>
-    ensures ok { OnOk result (out.new.items ≡ out.old.items ++ term.now ∷ []) }
+/// Copies of the terms.
+fn copies<K: Ring>(alloc: Global, terms: &[Term<K>]) -> Result<Vec<Term<K>>, AllocError>
+    ensures ok { IfOk result (λ out. out.items ≡ terms.now) }
 {
-    let mono = term.mono.copy(alloc)?;
-    out.push(Term {
-        mono,
-        coef: term.coef,
-    })?;
-    Ok(())
-}
-
-/// Puts copies of all the terms behind the others.
-pub(crate) fn push_copies<K: Ring>(
-    alloc: Global,
-    out: &mut Vec<Term<K>>,
-    terms: &[Term<K>],
-) -> Result<(), AllocError>
-    ensures ok { OnOk result (out.new.items ≡ out.old.items ++ terms.now) }
-{
+    let mut out = Vec::with_capacity(alloc, terms.len())?;
     for term in terms {
-        push_copy(alloc, out, term)?;
+        let mono = term.mono.copy(alloc)?;
+        let coef = term.coef;
+        out.push_reserved(Term { mono, coef });
     }
-    Ok(())
+    Ok(out)
 }
 
 /// Puts a term behind the others, unless its coefficient is zero.
@@ -217,11 +224,11 @@ fn opposites<K: Ring>(alloc: Global, terms: &[Term<K>]) -> Result<Vec<Term<K>>, 
     ensures ok { IfOk result (λ out. terms_of K.meaning out.items
         ≡ negate K.scalars.arithmetic (terms_of K.meaning terms.now)) }
 {
-    let mut out = Vec::new(alloc);
+    let mut out = Vec::with_capacity(alloc, terms.len())?;
     for term in terms {
         let coef = term.coef.neg();
         let mono = term.mono.copy(alloc)?;
-        out.push(Term { mono, coef })?;
+        out.push_reserved(Term { mono, coef });
     }
     Ok(out)
 }

@@ -1,4 +1,4 @@
-use Rattle.std.proofs.Common.{refl, sym, ap, map, replicate, subst, ◌∙◌}
+use Rattle.std.proofs.Common.{◌≡◌, length, arith, refl, sym, ap, map, replicate, subst, ◌∙◌}
 use Rattle.std.proofs.lemmas.List.{take_all, length-replicate}
 use Rattle.numbers.specs.Size.{IsPast, quotient_size}
 use Rattle.polynomials.specs.Polynomial.{IsPolynomial}
@@ -12,8 +12,16 @@ use Rattle.poly.proofs.Shifting.{begin_shifting, step_shifting, scaled_at, takes
 use Rattle.poly.proofs.Poly.divide_by.Goals as goal
 
 pub loop-term-init : goal.loop-term-init
-loop-term-init g c = begin_shifting _ g.met.K.Ring.ring _ _ _ _ _ _ _ refl
-    (ap (map (term_of g.K.Ring.meaning)) c.in_ok-out.ensures.items)
+loop-term-init g c =
+    let none : length c.in_ok-out.out.items ≡ 0 = ap length c.in_ok-out.ensures.items in
+    let all = ap length c.deref-term-items.ensures.value in
+    let room = c.in_ok-out.ensures.capacity in
+    let count = c.len.ensures in
+    let long = c.args.self.now.terms.ok.0 in (
+      begin_shifting _ g.met.K.Ring.ring _ _ _ _ _ _ _ refl
+          (ap (map (term_of g.K.Ring.meaning)) c.in_ok-out.ensures.items),
+      omega (arith, none, all, room, count, long),
+    )
 
 pub loop-term-preserved : goal.loop-term-preserved
 loop-term-preserved g c =
@@ -23,13 +31,19 @@ loop-term-preserved g c =
     let kept : IsPolynomial g.K.Ring.scalars.arithmetic (g.O.Order.order c.args.self.now.order) m
     (map t c.deref-term-items.result.now) = rw c.deref-term-items.ensures.value
     c.args.self.now.polynomial in
-    step_shifting g.K.Ring.scalars g.met.K.Ring.ring _ _ m (replicate m 0) _
-    (map t c.deref-term-items.result.now) _ _ _ _ _ _ (length-replicate m 0) kept at
-    (take_next t _ _ _ c.loop-term-test.true c.term-item.is)
-    (takes_as g.K.Ring.scalars _ _ _ _ _ _ (c.in_ok-copy.ensures.ok
-    ∙ sym (zeros-plus m _ (arity_at m _ _ _ _ kept.arity at)))
-    (quotient_number g.K.Ring.scalars g.met.K.Ring.ring g.met.K.Field.field _ _ _ c.requires
-    c.in_ok-coef.ensures.ok) c.in_ok-push_nonzero.ensures.ok) c.loop-term.invariant
+    let fits = c.loop-term.invariant.1 in
+    let more = c.loop-term-test.true in
+    let count = c.put_nonzero.ensures.count in
+    let room = c.put_nonzero.ensures.room in (
+      step_shifting g.K.Ring.scalars g.met.K.Ring.ring _ _ m (replicate m 0) _
+          (map t c.deref-term-items.result.now) _ _ _ _ _ _ (length-replicate m 0) kept at
+          (take_next t _ _ _ c.loop-term-test.true c.term-item.is)
+          (takes_as g.K.Ring.scalars _ _ _ _ _ _ (c.in_ok-copy.ensures.ok
+          ∙ sym (zeros-plus m _ (arity_at m _ _ _ _ kept.arity at)))
+          (quotient_number g.K.Ring.scalars g.met.K.Ring.ring g.met.K.Field.field _ _ _ c.requires
+          c.in_ok-coef.ensures.ok) c.put_nonzero.ensures.term) c.loop-term.invariant.0,
+      omega (arith, fits, more, count, room),
+    )
 
 pub returns-in_err-coef-clause-wide : goal.returns-in_err-coef-clause-wide
 returns-in_err-coef-clause-wide g c =
@@ -49,11 +63,11 @@ returns-clause-quotient g c =
       order = refl;
       arity = refl;
       same = scaled_at g.K.Ring.scalars g.met.K.Ring.ring _ _ _ _
-          _ _ _ _ refl whole c.loop-term.invariant;
+          _ _ _ _ refl whole c.loop-term.invariant.0;
     }
 
 pub invariant_of-result : goal.invariant_of-result
 invariant_of-result g c = record {
   few = c.args.self.now.few;
-  polynomial = c.loop-term.invariant.is;
+  polynomial = c.loop-term.invariant.0.is;
 }

@@ -1,13 +1,12 @@
-use Rattle.std.proofs.Common.{sym, ap, subst, ◌∙◌}
+use Rattle.std.proofs.Common.{◌++◌, sym, ap, subst, ◌∙◌}
 use Rattle.std.specs.Result.{IfOk}
 use Rattle.std.proofs.lemmas.Result.{err_from_is_err_and}
-use Rattle.polynomials.specs.Terms.{compose}
+use Rattle.polynomials.specs.Terms.{Terms, Same, compose}
 use Rattle.polynomials.specs.Weight.{IsPastComposition}
 use Rattle.rings.proofs.Lists.{nil_from_length, one_from_length}
-use Rattle.poly.specs.Seen.{Is, terms_each}
+use Rattle.poly.specs.Seen.{Is, terms_in, terms_each}
 use Rattle.poly.specs.View.{term_of, terms_of}
 use Rattle.poly.proofs.Halves.{parts}
-use Rattle.poly.proofs.IsLaws.{is_as}
 use Rattle.poly.proofs.Composing.{nothing_composed, halves_composed, wide_front, wide_back, wide_halves}
 use Rattle.poly.proofs.composition.+compose_terms.Goals as goal
 
@@ -55,21 +54,29 @@ plus-requires g t c =
     let right = c.in_ok-right-in_default.ensures.composition in
     record { order = left.order ∙ sym right.order; arity = left.arity ∙ sym right.arity }
 
-pub returns-in_ok-right-in_default-clause-composition :
-    goal.returns-in_ok-right-in_default-clause-composition
-returns-in_ok-right-in_default-clause-composition g t c =
+pub returns-in_ok-sum-in_default-clause-composition :
+    goal.returns-in_ok-sum-in_default-clause-composition
+returns-in_ok-sum-in_default-clause-composition g t c =
     let left = c.in_ok-left-in_default.ensures.composition in
-    is_as c.plus.result _ _ _ _ _ _ left.order left.arity
-    (λ p sum. halves_composed g.met.K.Ring.ring c.args.order c.args.arity c.args.images.now _ _ _ _
-    _ _ (parts (term_of g.K.Ring.meaning) _ _ _ c.split_at.ensures.front
-    c.split_at.ensures.back) left.same c.in_ok-right-in_default.ensures.composition.same
-    sum)
-    c.plus.ensures.sum
+    let sum = c.in_ok-sum-in_default.ensures.sum in
+    let v = c.without_spare_room.ensures in
+    record {
+      order = v.order ∙ sum.order ∙ left.order;
+      arity = v.arity ∙ sum.arity ∙ left.arity;
+      same = halves_composed g.met.K.Ring.ring c.args.order c.args.arity c.args.images.now _ _ _ _
+          _ _ (parts (term_of g.K.Ring.meaning) _ _ _ c.split_at.ensures.front
+          c.split_at.ensures.back) left.same c.in_ok-right-in_default.ensures.composition.same
+          (subst (λ (z : Terms g.K.Ring.scalars.Elem).
+          Same g.K.Ring.scalars.arithmetic z (terms_in c.in_ok-left-in_default.left
+          ++ terms_in c.in_ok-right-in_default.right)) (sym v.terms) sum.same);
+    }
 
-pub returns-in_ok-right-in_default-clause-wide : goal.returns-in_ok-right-in_default-clause-wide
-returns-in_ok-right-in_default-clause-wide g t c =
+pub returns-in_err-sum-in_default-clause-wide : goal.returns-in_err-sum-in_default-clause-wide
+returns-in_err-sum-in_default-clause-wide g t c =
+    let p = err_from_is_err_and c.from_residual-in_err-sum-in_default.result
+    c.from_residual-in_err-sum-in_default.ensures.1 in
     λ w. wide_halves g.met.K.Ring.ring c.args.order c.args.arity g.met.K.Ring.bounded
     (g.met.O.Order.is_order c.args.order) c.args.images.now _ _ _ _ _
     (parts (term_of g.K.Ring.meaning) _ _ _ c.split_at.ensures.front c.split_at.ensures.back)
     c.in_ok-left-in_default.ensures.composition c.in_ok-right-in_default.ensures.composition
-    (c.plus.ensures.wide w)
+    (c.in_err-sum-in_default.ensures.wide (cc (p.1, p.2)))

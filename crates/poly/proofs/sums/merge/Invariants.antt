@@ -1,4 +1,5 @@
-use Rattle.std.proofs.Common.{◌+◌, length}
+use Rattle.std.proofs.Common.{◌≤◌, ◌+◌, length}
+use Rattle.std.specs.Vec.{vec_capacity}
 use Rattle.poly.specs.View.{terms_of}
 use Rattle.poly.proofs.Merging.{Merging}
 use Rattle.poly.proofs.sums.merge.Given as goal
@@ -10,6 +11,8 @@ invariant-loop-x g l =
     (g.met.O.Order.is_order l.order) l.arity (k (g.L.Source.items l.fn.left))
     (k (g.R.Source.items l.fn.right)) (k l.terms.items) (k (g.L.Source.items l.lefts))
     (k (g.R.Source.items l.rights))
+    × (length l.terms.items + (length (g.L.Source.items l.lefts)
+    + length (g.R.Source.items l.rights)) ≤ vec_capacity l.terms)
 
 abbrev pub decreases-loop-x : goal.decreases-loop-x
 decreases-loop-x g l = length (g.L.Source.items l.lefts) + length (g.R.Source.items l.rights)
