@@ -1,5 +1,4 @@
 -- What holds where a division has ended, as the program sees it.
---   begin_at                   what is said of an order and a state, of equal ones
 --   places_of, all_of          of each element of the program's list, and at each place of what it stands for
 --   rest_is                    what is left, as the rest
 --   sum_of, falling_of     the laws of machines for this division
@@ -21,10 +20,6 @@ use Rattle.machines.specs.Work.{WorkToEnd}
 use Rattle.machines.proofs.Cofactors.{cofactors_fall}
 use Rattle.machines.proofs.Dividing.{division_sum}
 use Rattle.divide.proofs.Divided.{state}
-
-pub begin_at : {O T : Type 0} (P : O → T → Type 0) (a b : O) (s t : T) → a ≡ b → s ≡ t → P a s
-    → P b t
-begin_at P a b s t e i h = subst (P b) i (subst (λ x. P x s) e h)
 
 module _ {X A : Type 0} (seen : X → A) (P : A → Type 0) where
   pub places_of : (xs : List X) → All (λ x. P (seen x)) xs → AtPlaces P (map seen xs)

@@ -3,11 +3,12 @@
 --   term_long, lead_long    terms and leads have an exponent for each variable
 --   lead_is, number_of      the lead of a list, by its first term
 --   factor_is, number_is    the factor of a cancellation
+--   term_is, lead_multiple       its product with the lead is the term, and the first term where that is the term
 --   cuts                    what a cancellation is
 --   past_division, past_rest     where a part of it is past
 --   leads_long                   the leads of divisors have an exponent for each variable
---   found_is, past_found, after_any     at the places that are found
-use Rattle.std.proofs.Common.{◌≡◌, ◌≢◌, ◌↔◌, ℕ, zero, suc, ◌<◌, true, List, [], ◌∷◌, ◌++◌, length, map, slice_index_or, get_or, Some, inl, inr, refl, sym, ap, ap₂, subst, ◌∙◌, arith}
+--   after_any     at the places that are found
+use Rattle.std.proofs.Common.{◌≡◌, ◌≢◌, ◌↔◌, ℕ, zero, suc, ◌<◌, true, List, [], ◌∷◌, ◌++◌, length, map, slice_index_or, get_or, slice_get, IsSomeAnd, Some, inl, inr, refl, sym, ap, ap₂, subst, ◌∙◌, arith}
 use Rattle.std.specs.List.{All}
 use Rattle.std.proofs.lemmas.List.{get_or-map, length-map}
 use Rattle.std.proofs.lemmas.List.Elements.{All-nil, All-cons, All-head, All-tail}
@@ -21,14 +22,15 @@ use Rattle.polynomials.specs.Exponent.{plus, over}
 use Rattle.polynomials.specs.Terms.{Terms, Same, shift, negate}
 use Rattle.polynomials.specs.Order.{Rank, IsMonomialOrder}
 use Rattle.polynomials.specs.Polynomial.{Arity, IsPolynomial}
+use Rattle.polynomials.proofs.Exponent.{plus_comm}
 use Rattle.polynomials.proofs.Arity.{arity-append, arity-negate, arity-shift}
-use Rattle.machines.specs.Cut.{lead_of, lead_number, after_cut, find_cut, all_places}
+use Rattle.machines.specs.Cut.{lead_of, lead_number, after_cut}
 use Rattle.machines.specs.Collect.{collect}
-use Rattle.machines.specs.Past.{IsPastCut, IsPastReduction}
+use Rattle.machines.specs.Past.{IsPastCut}
 use Rattle.machines.proofs.Collecting.{collect-is}
 use Rattle.poly.specs.Multiple.{IsPastMultiple}
 use Rattle.poly.proofs.Multiples.{quotient_number}
-use Rattle.divide.specs.Cutting.{term_at, cutting_of, FoundAt, Cuts}
+use Rattle.divide.specs.Cutting.{term_at, cutting_of, Cuts}
 
 pub seen_at : {X Y : Type 0} (h : X → Y) (items : List X) (i : ℕ) (x : X) (d : Y)
     → i < length (map h items) → x ≡ slice_index_or items i x → get_or (map h items) i d ≡ h x
@@ -87,6 +89,12 @@ module _ (S : Scalars) (p g rest : Terms S.Elem) (t u v : List ℕ × S.Elem) (l
       ∙ ap₂ (λ a b. S.mul a (S.inverse b)) (sym (ap (λ x. x.1) at))
       (sym (number_of F g rest u lead))
 
+  pub term_is : (by : List ℕ) (c : S.Elem) → plus u.0 by ≡ v.0 → S.mul c u.1 ≡ v.1
+      → t ≡ (plus by (lead_of g), S.mul c (lead_number F g))
+  term_is by c e n = at ∙ ap₂ (λ (d : List ℕ) (a : S.Elem). (d, a))
+      (sym e ∙ plus_comm u.0 by ∙ ap (plus by) (sym (lead_is g rest u lead)))
+      (sym n ∙ ap (S.mul c) (sym (number_of F g rest u lead)))
+
   pub past_division : IsPast (quotient_size (S.size v.1) (S.size u.1))
       → IsPastCut S F p (cutting_of S 0 t g)
   past_division past =
@@ -95,11 +103,21 @@ module _ (S : Scalars) (p g rest : Terms S.Elem) (t u v : List ℕ × S.Elem) (l
       (subst (λ b. IsPast (quotient_size (S.size v.1) (S.size b))) (sym (number_of F g rest u lead))
       past))
 
-  pub past_rest : (by : List ℕ) (c : S.Elem) → by ≡ over t.0 (lead_of g)
-      → c ≡ S.mul t.1 (S.inverse (lead_number F g)) → IsPastMultiple S p by c g
-      → IsPastCut S F p (cutting_of S 0 t g)
-  past_rest by c b n past = inr (subst (λ d. IsPastMultiple S p d (cutting_of S 0 t g).number g) b
-      (subst (λ a. IsPastMultiple S p by a g) n past))
+pub past_rest : (S : Scalars) (p g : Terms S.Elem) (t : List ℕ × S.Elem) (by : List ℕ) (c : S.Elem)
+    → by ≡ over t.0 (lead_of g) → c ≡ S.mul t.1 (S.inverse (lead_number (field S) g))
+    → IsPastMultiple S p by c g → IsPastCut S (field S) p (cutting_of S 0 t g)
+past_rest S p g t by c b n past = inr
+    (subst (λ d. IsPastMultiple S p d (cutting_of S 0 t g).number g) b
+    (subst (λ a. IsPastMultiple S p by a g) n past))
+
+-- a term that is a multiple of the lead
+pub lead_multiple : (S : Scalars) (p g : Terms S.Elem) (by : List ℕ) (c : S.Elem) → 0 < length p
+    → g ≢ [] → term_at S p 0 ≡ (plus by (lead_of g), S.mul c (lead_number (field S) g))
+    → IsSomeAnd (slice_get g 0) (λ u. slice_get p 0 ≡ Some (plus by u.0, S.mul c u.1))
+unfolding lead_of lead_number
+lead_multiple S [] g by c some n e = absurd (omega arith)
+lead_multiple S (t ∷ p) [] by c some n e = absurd (n refl)
+lead_multiple S (t ∷ p) (u ∷ g) by c some n e = ap Some e
 
 module _ (S : Scalars) (r : IsRing S.arithmetic) (f : IsFieldOf S.arithmetic S.inverse)
     (z : (a : S.Elem) → (S.is_zero a ≡ true) ↔ (a ≡ S.zero)) (O : Rank) (o : IsMonomialOrder O)
@@ -139,19 +157,6 @@ leads_long {X} {A} terms m xs ls e h = subst (All (λ d. length d ≡ m)) (sym e
         All-cons (λ d. length d ≡ m) (lead_of (terms x)) (map lead_of (map terms xs))
         (lead_long m (terms x) one.0 one.1)
         (go xs (All-tail (λ y. (terms y ≢ []) × Arity m (terms y)) x xs h))
-
-module _ (S : Scalars) (gs : List (Terms S.Elem)) (p g : Terms S.Elem) (i k : ℕ)
-    (f : FoundAt S gs p i k) (is : get_or gs k [] ≡ g) where
-  pub found_is : find_cut (field S) all_places gs p ≡ Some (cutting_of S k (term_at S p i) g)
-  found_is = f.is ∙ ap (λ q. Some (cutting_of S k (term_at S p i) q)) is
-
-  pub past_found : IsPastCut S (field S) p (cutting_of S 0 (term_at S p i) g)
-      → IsPastReduction S (field S) gs p
-  past_found past = record {
-    cutting = cutting_of S k (term_at S p i) g;
-    found = found_is;
-    past = past;
-  }
 
 -- the element's place has no part in what a cutting leaves
 pub after_any : (S : Scalars) (O : Rank) (p g : Terms S.Elem) (t : List ℕ × S.Elem) (j k : ℕ)

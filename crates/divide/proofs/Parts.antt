@@ -10,7 +10,7 @@
 --   none_left              neither part has a term where there is none
 --   zero_of, some_left     whether nothing is left
 --   moved_X                the cancellation that is found, behind terms that went there
-use Rattle.std.proofs.Common.{◌≡◌, ◌≢◌, ◌↔◌, inl, inr, ℕ, zero, ◌<◌, Bool, true, false, IsTrue, cond, List, [], ◌∷◌, ◌++◌, length, map, take, drop, position, get_or, ◌+◌, ◌-◌, Some, None, append_assoc, take-append-drop, refl, sym, ap, ap₂, subst, ◌∙◌, Ordering, Less, Equal, Greater, arith}
+use Rattle.std.proofs.Common.{◌≡◌, ◌≢◌, ◌↔◌, inl, inr, ℕ, ◌<◌, Bool, true, false, IsTrue, cond, List, [], ◌∷◌, ◌++◌, length, map, take, drop, position, get_or, ◌+◌, ◌-◌, Some, None, append_assoc, take-append-drop, refl, sym, ap, ap₂, subst, ◌∙◌, Ordering, Less, Equal, Greater, arith}
 use Rattle.std.proofs.lemmas.List.{get_or-drop, length-drop, map-append}
 use Rattle.rings.specs.Each.{Each}
 use Rattle.rings.proofs.Lists.{take_one}

@@ -1,8 +1,9 @@
 //! The current polynomial of a division.
 ghost use Rattle.std.specs.Prelude.{◌≡◌, ◌≢◌, ◌<◌, ◌≤◌, ℕ, List, [], ◌++◌, true, length, map, take, drop, position, All, IfOk, OnOk, IfSome, IsErrOf, IsTrue, ◌↔◌};
 ghost use Rattle.numbers.specs.Scalars.{field};
+ghost use Rattle.polynomials.specs.Exponent.{plus};
 ghost use Rattle.polynomials.specs.Polynomial.{IsPolynomial};
-ghost use Rattle.machines.specs.Cut.{lead_of, divides};
+ghost use Rattle.machines.specs.Cut.{lead_of, lead_number, divides};
 ghost use Rattle.machines.specs.Past.{IsPastCut, IsPastReduction};
 ghost use Rattle.poly.specs.Seen.{terms_in, terms_each};
 ghost use Rattle.divide.specs.Current.{done_of, left_of, AreUndivided, IsCurrent, IsLike, AreDivisors, IsNextCut, CutsFirst};
@@ -15,11 +16,13 @@ use ring_laws::{ArithmeticError, Field, Ring};
 use std::alloc::{AllocError, Global};
 use std::mem;
 
-/// What is left of a polynomial on its way through a division: its first terms, which no lead divides, and the others.
+/// What is left of a polynomial on its way through a division: its first terms, which no lead divides, and the others. A list is kept beside them for its
+/// room: each cancellation writes what it leaves there, and leaves the list that it read.
 #[derive(Drop)]
 pub struct Current<K: Ring, O: Order> {
     done: Vec<Term<K>>,
     rest: Poly<K, O>,
+    spare: Vec<Term<K>>,
 }
 
 /// One cancellation: the factor that the element was multiplied by, and the element's place.
@@ -47,6 +50,7 @@ impl<K: Ring, O: Order> Current<K, O> {
         Current {
             done: Vec::new(alloc),
             rest: poly,
+            spare: Vec::new(alloc),
         }
     }
 
@@ -159,8 +163,10 @@ impl<K: Field, O: Order> Current<K, O> {
     {
         let zero = Poly::zero(alloc, self.rest.order(), self.rest.arity());
         let rest = mem::replace(&mut self.rest, zero);
-        let (left, factor) = cancel(alloc, rest, 0, g)?;
+        let spare = mem::replace(&mut self.spare, Vec::new(alloc));
+        let (left, factor, spare) = cancel_lead(alloc, rest, g, spare)?;
         self.rest = left;
+        self.spare = spare;
         Ok(factor)
     }
 }
@@ -188,15 +194,75 @@ pub fn cancel<K: Field, O: Order>(
         → IsPastCut K.scalars (field K.scalars) (terms_in p)
         (cutting_of K.scalars 0 (term_at K.scalars (terms_in p) at) (terms_in g.now)) }
 {
+    let factor = factor_at(alloc, &p, at, g)?;
+    let poly = p.sub_multiple(alloc, &factor, g)?;
+    Ok((poly, factor))
+}
+
+/// The polynomial less the multiple of `g` that has its first term, with the factor of `g` and a list that is left. What is left is written into the list that is given.
+/// `Wide` only where the weight of that is past.
+fn cancel_lead<K: Field, O: Order>(
+    alloc: Global,
+    p: Poly<K, O>,
+    g: &Poly<K, O>,
+    spare: Vec<Term<K>>,
+) -> Result<(Poly<K, O>, Term<K>, Vec<Term<K>>), ArithmeticError>
+    requires order { g.now.order ≡ p.order }
+    requires arity { g.now.arity ≡ p.arity }
+    requires nonzero { terms_in g.now ≢ [] }
+    requires first { 0 < length (terms_in p) }
+    requires divided { divides (lead_of (terms_in g.now))
+        (term_at K.scalars (terms_in p) 0).0 ≡ true }
+    ensures order { IfOk result (λ c. c.0.order ≡ p.order) }
+    ensures arity { IfOk result (λ c. c.0.arity ≡ p.arity) }
+    ensures cutting { IfOk result (λ c. Cuts K.scalars (O.order p.order) (terms_in p)
+        (term_at K.scalars (terms_in p) 0) (terms_in g.now)
+        c.1.mono (K.meaning c.1.coef) (terms_in c.0)) }
+    ensures wide { IsErrOf result ArithmeticError.Wide
+        → IsPastCut K.scalars (field K.scalars) (terms_in p)
+        (cutting_of K.scalars 0 (term_at K.scalars (terms_in p) 0) (terms_in g.now)) }
+{
+    let factor = factor_at(alloc, &p, 0, g)?;
+    let (poly, rest) = p.cancel_lead(alloc, &factor, g, spare)?;
+    Ok((poly, factor, rest))
+}
+
+/// The factor of `g` whose multiple has the term at this place of the polynomial as its first.
+/// `Wide` only where the weight of the quotient of both numbers is past.
+fn factor_at<K: Field, O: Order>(
+    alloc: Global,
+    p: &Poly<K, O>,
+    at: usize,
+    g: &Poly<K, O>,
+) -> Result<Term<K>, ArithmeticError>
+    requires arity { g.now.arity ≡ p.now.arity }
+    requires nonzero { terms_in g.now ≢ [] }
+    requires at { at < length (terms_in p.now) }
+    requires divided { divides (lead_of (terms_in g.now))
+        (term_at K.scalars (terms_in p.now) at).0 ≡ true }
+    ensures long { IfOk result (λ f. length f.mono ≡ p.now.arity) }
+    ensures by { IfOk result (λ f. f.mono
+        ≡ (cutting_of K.scalars 0 (term_at K.scalars (terms_in p.now) at) (terms_in g.now)).by) }
+    ensures number { IfOk result (λ f. K.meaning f.coef
+        ≡ (cutting_of K.scalars 0 (term_at K.scalars (terms_in p.now) at)
+        (terms_in g.now)).number) }
+    ensures term { IfOk result (λ f. term_at K.scalars (terms_in p.now) at
+        ≡ (
+          plus f.mono (lead_of (terms_in g.now)),
+          K.scalars.mul (K.meaning f.coef)
+              (lead_number (field K.scalars) (terms_in g.now)),
+        )) }
+    ensures wide { IsErrOf result ArithmeticError.Wide
+        → IsPastCut K.scalars (field K.scalars) (terms_in p.now)
+        (cutting_of K.scalars 0 (term_at K.scalars (terms_in p.now) at) (terms_in g.now)) }
+{
     let term = &p.terms()[at];
     let Some(lead) = g.terms().first() else {
         unreachable!()
     };
     let coef = term.coef.div(&lead.coef)?;
     let mono = term.mono.quotient(alloc, &lead.mono)?;
-    let factor = Term { mono, coef };
-    let poly = p.sub_multiple(alloc, &factor, g)?;
-    Ok((poly, factor))
+    Ok(Term { mono, coef })
 }
 
 /// The place of the first lead that divides the monomial.

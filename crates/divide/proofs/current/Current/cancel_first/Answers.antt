@@ -12,14 +12,14 @@ use Rattle.divide.proofs.current.Current.cancel_first.Given.{Over}
 use Rattle.divide.proofs.current.Current.cancel_first.Goals.{In_ok-left}
 use Rattle.divide.proofs.current.Current.cancel_first.Goals as goal
 
-pub cancel-requires : goal.cancel-requires
-cancel-requires g c =
+pub cancel_lead-requires : goal.cancel_lead-requires
+cancel_lead-requires g c =
     let was = sym c.replace-rest.ensures.value in
     record {
       order = subst (λ r. c.args.g.now.order ≡ r.order) was c.requires.order;
       arity = subst (λ r. c.args.g.now.arity ≡ r.arity) was c.requires.arity;
       nonzero = c.requires.nonzero;
-      at = subst (λ r. 0 < length (terms_in r)) was c.requires.first;
+      first = subst (λ r. 0 < length (terms_in r)) was c.requires.first;
       divided = subst (λ r. divides (lead_of (terms_in c.args.g.now))
           (term_at g.K.Ring.scalars (terms_in r) 0).0 ≡ true) was c.requires.divided;
     }
