@@ -17,4 +17,4 @@ pub use error::CertError;
 pub use fault::{Path, polynomial_at, shape_at};
 pub use parts::list_with;
 pub use read::{has_names, has_version, read_cert};
-pub use write::write_cert;
+pub use write::{names_value, write_cert};

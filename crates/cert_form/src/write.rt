@@ -142,8 +142,8 @@ fn steps_value(
     Ok(Value::from(blocks))
 }
 
-// The names, in order.
-fn names_value(alloc: Global, names: &Names) -> Result<Value, AllocError>
+/// The names, in order, as a list of texts.
+pub fn names_value(alloc: Global, names: &Names) -> Result<Value, AllocError>
     ensures { IfOk result (λ v. view v ≡ list_data string names.now) }
 {
     let mut texts = Vec::new(alloc);

@@ -14,19 +14,16 @@ use Rattle.expr_text.specs.CursorView.{rest, behind}
 use Rattle.expr_text.specs.Faults.{fault_of}
 use Rattle.expr_text.specs.Kinds.{an_end, a_name, same, kind_of, word_in}
 use Rattle.expr_text.specs.Lexemes as lexemes
-use Rattle.expr_text.specs.Lexemes.{Lexeme, Placed, tokens_from}
+use Rattle.expr_text.specs.Lexemes.{Lexeme, Placed, tokens_from, is_end_of}
 use Rattle.expr_text.specs.NextToken.{seen_lexeme, tokens_behind}
 use Rattle.expr_text.specs.Reasons.{Reason, syntax, limit, unless, Fault}
 use Rattle.expr_text.specs.declared.cursor.Cursor.{Cursor}
 use Rattle.expr_text.specs.declared.error.TextError.{TextError}
 use Rattle.expr_text.specs.declared.lexemes.Lexeme.TheVariants as code_lexeme
-use Rattle.expr_text.proofs.CursorReads.{fault_at, here, taken, token_read, token_faulty, token_barred, no_first}
-use Rattle.expr_text.proofs.KindTests.{by_shape}
+use Rattle.expr_text.proofs.CursorReads.{fault_at, here, taken, token_read, token_faulty, token_barred, no_first, named_here, word_here, no_name_here, behind_name}
+use Rattle.expr_text.proofs.KindTests.{by_shape, end_is, no_end}
 use Rattle.expr_text.proofs.Paths.{IsFault, fault_passes, stopped, GoesOn, start, on, over, reading_sequence, reading_change, reading_left, reading_right, reading_more, reading_none, then_on, in_first, in_parts}
 use Rattle.expr_text.proofs.WholeTexts.{whole_told, whole_reading}
-use Rattle.loop_text.specs.States.{is_name, is_end_of}
-use Rattle.loop_text.proofs.WordReads.{named_here, word_here, no_name_here}
-use Rattle.loop_text.proofs.TokenReads.{end_is, no_end}
 use Rattle.loop_chains.specs.Chain.{Chain, Stage}
 use Rattle.chain_text.specs.Chains.{ChainState, Rule, loop_limit, then_fault, do_fault, begin_loop, begin_code, end_code, with_loop, taken_code, then_token, do_token, code, code_end, stage, further, chain_end, chain_language}
 use Rattle.chain_text.specs.ChainReader.{of_stages, chain_in, chain_or_fault}
@@ -34,13 +31,6 @@ use Rattle.chain_text.specs.States.{reading, whole}
 use Rattle.chain_text.proofs.ChainChecked.{chains_checked}
 use Rattle.chain_text.proofs.Raised.{up}
 use Rattle.loop_text.specs.Loops.{block}
-
--- behind a name stands what tokens say
-behind_name : (text : List ℕ) (x : Lexeme) (end : ℕ) → is_name x ≡ true → tokens_behind text x end
-    ≡ tokens_from text end
-behind_name text (lexemes.keyword k) end e = absurd (cc)
-behind_name text lexemes.the_end end e = absurd (cc)
-behind_name text x end e = refl
 
 -- ---- `then`
 module _ (s : ChainState) (c : Cursor) where

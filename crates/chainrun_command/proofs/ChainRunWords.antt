@@ -4,22 +4,19 @@
 --   words_few, words_many          the words in a text of few letters, and of more
 --   words_more                     what some parts and one more are
 --   with_words, no_words           by what was found of its words
-use Rattle.std.proofs.Common.{◌≡◌, ◌∙◌, sym, ap, ap₂, refl, subst, ℕ, ◌+◌, ◌-◌, ◌^◌, ◌≤◌, Bool, true, false, List, [], ◌∷◌, ◌++◌, length, map, Bor, min, arith, sum_by, nat_le, Result}
-use Rattle.std.specs.Prelude.{◌&&◌, Option, Some, None, is_some, if◌then◌else◌, Vec}
+use Rattle.std.proofs.Common.{◌≡◌, ◌∙◌, sym, ap, refl, subst, ℕ, ◌+◌, ◌-◌, ◌^◌, ◌≤◌, Bool, true, false, List, [], ◌∷◌, ◌++◌, length, map, Bor, min, arith, sum_by, nat_le, Result}
+use Rattle.std.specs.Prelude.{Option, Some, None, if◌then◌else◌, Vec}
 use Rattle.std.specs.declared.alloc.AllocError.{AllocError}
 use Rattle.std.specs.declared.alloc.Global.{Global}
-use Rattle.std.specs.List.{list_all, filter_map, cons_option}
 use Rattle.std.proofs.lemmas.Bool.Decides.{nat_tests}
 use Rattle.std.proofs.lemmas.List.{map-append}
 use Rattle.std.proofs.lemmas.List.Sums.{sum_by_push}
-use Rattle.std.proofs.lemmas.List.Elements.{filter_map-append}
-use Rattle.std.proofs.lemmas.List.Folds.{list_all-append}
 use Rattle.numbers.specs.Fraction.{Fraction}
-use Rattle.word_numbers.specs.Lookup.{IsFound}
+use Rattle.word_numbers.specs.Lookup.{IsFound, list_with}
 use Rattle.word_numbers.specs.Numerals.{most_letters, parts, each_of, letters_of}
+use Rattle.word_numbers.proofs.Growing.{each_more}
 use Rattle.chain_runs.specs.Seen.{words_of}
 use Rattle.chainrun_command.specs.declared.words.Request as made
-use Rattle.chainrun_command.specs.Lists.{list_with}
 use Rattle.chainrun_command.specs.Views.{view}
 use Rattle.chainrun_command.specs.Words.{word_parts, letter_count, words_in, request_of}
 
@@ -71,21 +68,6 @@ words_many text n is many =
     refl).1 many))
 
 -- ---- words
-each_more : {A : Type 0} (f : List ℕ → Option A) (parts : List (List ℕ)) (part : List ℕ)
-    → list_with (each_of f parts) (f part) ≡ each_of f (parts ++ part ∷ [])
-each_more {A} f parts part =
-    go (list_all (λ p. is_some (f p)) parts) (f part) (filter_map f parts)
-    ∙ sym (ap₂ (λ b xs. if b then Some xs else None)
-    (list_all-append (λ p. is_some (f p)) parts (part ∷ []))
-    (filter_map-append f parts (part ∷ [])))
-  where
-    go : (b : Bool) (o : Option A) (xs : List A)
-        → list_with (if b then Some xs else None) o
-        ≡ (if b && (is_some o && true) then Some (xs ++ cons_option o []) else None)
-    go true None xs = refl
-    go true (Some x) xs = refl
-    go false o xs = refl
-
 pub words_more : (found : Result (Option (Vec (Vec ℕ Global) Global)) AllocError)
     (yielded : List (Bor (List ℕ))) (part : Bor (List ℕ))
     → IsFound (λ (v : Vec (Vec ℕ Global) Global). words_of v.items) found

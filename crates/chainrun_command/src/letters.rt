@@ -1,10 +1,9 @@
 // The words of a run: letters with commas between them, and slashes between the words.
 ghost use Rattle.std.specs.Prelude.{◌≡◌, ℕ, List, Option, sum_by, min};
-ghost use Rattle.word_numbers.specs.Lookup.{IsFound};
+ghost use Rattle.word_numbers.specs.Lookup.{IsFound, list_with};
 ghost use Rattle.word_numbers.specs.Numerals.{each_of, letters_of};
 ghost use Rattle.chain_runs.specs.Seen.{words_of};
 ghost use Rattle.chainrun_command.specs.Words as words;
-ghost use Rattle.chainrun_command.specs.Lists.{list_with};
 
 use std::alloc::{AllocError, Global};
 use word_numbers::read_letters;

@@ -2,6 +2,7 @@
 --   at_token       what holds whatever comes behind the token holds of what the cursor reads
 --   sign_here      a sign is itself
 --   genuine_X      what a cursor keeps of its lexeme
+--   named_here, no_name_here    whether a cursor stands at a name; word_here: which one; behind_name: what stands behind it
 --   fault_in g c y      why the lexeme y is at fault by the token g in the context c; after g s x: the state behind the token x
 --   token_read          a token is taken; token_faulty: it is at fault; token_barred: it can't stand there
 --                       taken, faulty, amiss: the same of a list of tokens
@@ -9,14 +10,15 @@
 --   no_first            a sequence whose first part is refused
 --   passed_on           an error is passed on
 --   fault_told          an error that says what a token's fault is
-use Rattle.std.proofs.Common.{◌≡◌, ℕ, ◌<◌, ◌^◌, List, ◌∷◌, sym, subst, arith, refl, ap, ap₂, ◌∙◌, true, nat_lt, IsTrue, Bool, false, not, if◌then◌else◌, Option, Some, None, Result, Ok, Err, IfSome, option_map}
+use Rattle.std.proofs.Common.{◌≡◌, ℕ, ◌<◌, ◌^◌, List, ◌∷◌, sym, subst, arith, refl, ap, ap₂, ◌∙◌, true, nat_lt, IsTrue, Bool, false, not, if◌then◌else◌, Option, Some, None, Result, Ok, Err, IfSome, option_map, []}
 use Rattle.std.proofs.lemmas.Bool.Decides.{nat_tests}
 use Rattle.expressions.specs.Words.{is_plain_word}
-use Rattle.expr_text.specs.Lexemes.{Placed, is_sign_of, Lexeme}
+use Rattle.expr_text.specs.Lexemes.{Placed, is_sign_of, Lexeme, tokens_from}
+use Rattle.expr_text.specs.Kinds.{a_name, no_kind, same, word_in, is_name}
 use Rattle.expr_text.specs.NextToken.{seen_lexeme, tokens_behind, is_genuine}
 use Rattle.expr_text.specs.declared.cursor.Cursor.{Cursor}
 use Rattle.expr_text.specs.CursorView.{rest, behind}
-use Rattle.expr_text.proofs.KindTests.{sign_is}
+use Rattle.expr_text.proofs.KindTests.{sign_is, unlike}
 use Rattle.grammars.specs.Kinds.{has}
 use Rattle.grammars.specs.Grammar.{State, token, sequence, either, many, after_token}
 use Rattle.grammars.specs.First.{first, may_be_empty}
@@ -52,6 +54,25 @@ module _ (c : Cursor) where
 
   pub genuine_name : (w : _) → c.token.lexeme ≡ code_lexeme.Name w → IsTrue (is_plain_word w.now)
   genuine_name w is = subst (λ l. IsTrue (is_genuine l)) is c.genuine
+
+  pub named_here : (w : _) → c.token.lexeme ≡ code_lexeme.Name w
+      → is_name (seen_lexeme c.token.lexeme) ≡ true
+  named_here w e = ap (λ l. is_name (seen_lexeme l)) e
+      ∙ ap (λ t. has same (a_name ∷ []) (if t then a_name else no_kind)) (genuine_name w e)
+
+  pub word_here : (w : _) → c.token.lexeme ≡ code_lexeme.Name w
+      → word_in (seen_lexeme c.token.lexeme) ≡ w.now
+  word_here w e = ap (λ l. word_in (seen_lexeme l)) e
+
+  pub no_name_here : ((w : _) → c.token.lexeme ≡ code_lexeme.Name w → ⊥)
+      → is_name (seen_lexeme c.token.lexeme) ≡ false
+  no_name_here other = unlike (a_name ∷ []) c.token.lexeme refl (other, tt)
+
+pub behind_name : (text : List ℕ) (x : Lexeme) (end : ℕ) → is_name x ≡ true
+    → tokens_behind text x end ≡ tokens_from text end
+behind_name text (lexemes.keyword k) end e = absurd (cc)
+behind_name text lexemes.the_end end e = absurd (cc)
+behind_name text x end e = refl
 
 abbrev pub fault_at : {C V : Type 0} → Reason → ℕ → Told C V
 fault_at why at = Err (record { reason = why; at = at })

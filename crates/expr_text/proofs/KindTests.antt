@@ -3,14 +3,15 @@
 --   by_shape           a set of kinds without no_kind has the kind of x only where it has its shape
 --   Unlike l ks, unlike     a lexeme that is of none of the kinds ks by its variant, and by its kind
 --   sign_is, no_sign, a_sign_kind     whether a lexeme is a sign is told by its kind
-use Rattle.std.proofs.Common.{◌≡◌, ℕ, List, [], ◌∷◌, refl, ap, ap₂, sym, ◌∙◌, Bool, true, false, ◌||◌, ◌==◌, ◌^◌, nat_lt, if◌then◌else◌, IsTrue}
+--   end_is, no_end     whether it is the end;  sign_no_end: a sign isn't
+use Rattle.std.proofs.Common.{◌≡◌, ℕ, List, [], ◌∷◌, refl, ap, ap₂, sym, ◌∙◌, Bool, true, false, ◌||◌, ◌==◌, ◌^◌, nat_lt, if◌then◌else◌, IsTrue, ◌≢◌, true≢false}
 use Rattle.std.proofs.lemmas.Bool.{eqb-true, eqb-false, ne_eqb}
 use Rattle.rings.proofs.Basics.{eqb_same}
 use Rattle.std.proofs.Math.Bool.{or-false}
 use Rattle.expressions.specs.Words.{is_plain_word}
 use Rattle.grammars.specs.Kinds.{has}
 use Rattle.expr_text.specs.Tokens as tokens
-use Rattle.expr_text.specs.Lexemes.{Lexeme, name, keyword, number, large, sign, item, bad, the_end, is_item, is_sign_of}
+use Rattle.expr_text.specs.Lexemes.{Lexeme, name, keyword, number, large, sign, item, bad, the_end, is_item, is_sign_of, is_end_of}
 use Rattle.expr_text.specs.NextToken.{seen_lexeme}
 use Rattle.expr_text.specs.declared.lexemes.Lexeme as code
 use Rattle.expr_text.specs.declared.lexemes.Lexeme.TheVariants as code_lexeme
@@ -94,3 +95,16 @@ pub a_sign_kind : (b : ℕ) → IsTrue (tokens.is_sign b) → has same (a_sign b
     ≡ true
 a_sign_kind b is = ap (λ t. has same (a_sign b ∷ []) (if t then a_sign b else no_kind)) is
     ∙ or-false (b == b) ∙ eqb_same b
+
+-- ---- the end
+pub end_is : (x : Lexeme) → is_end_of x ≡ true → x ≡ the_end
+end_is the_end e = refl
+end_is x e = absurd (cc)
+
+pub no_end : (x : Lexeme) → is_end_of x ≡ false → has same (an_end ∷ []) (shape x) ≡ false
+no_end the_end e = absurd (cc)
+no_end x e = refl
+
+pub sign_no_end : (l : code.Lexeme) (b : ℕ) → is_sign_of (seen_lexeme l) b ≡ true
+    → l ≢ code_lexeme.End
+sign_no_end l b e h = true≢false (sym e ∙ ap (λ l. is_sign_of (seen_lexeme l) b) h)

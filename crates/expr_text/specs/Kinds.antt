@@ -1,12 +1,13 @@
 -- The kinds of lexemes. What bytes can't spell is of a kind that no grammar names.
 --   Kind               a name, a number or a larger one, a byte of a guard, the end, a sign by its byte, a keyword; or no_kind
 --   same j k           whether the kinds are the same
---   kind_of x          the kind of a lexeme
+--   kind_of x          the kind of a lexeme;  is_name x: whether it is a name's
 --   sample k           a lexeme of the kind k
 --   word_in, number_in what a lexeme says: a word, a number; a large number says none
-use Rattle.std.specs.Prelude.{ℕ, Bool, true, false, if◌then◌else◌, nat_lt, ◌==◌, List, [], Option, Some, None, codes}
+use Rattle.std.specs.Prelude.{ℕ, Bool, true, false, if◌then◌else◌, nat_lt, ◌==◌, List, [], ◌∷◌, Option, Some, None, codes}
 use Rattle.expressions.specs.Ascii.{exclamation_mark}
 use Rattle.expressions.specs.Words.{Keyword, vars_word, init_word, branch_word, when_word, is_plain_word}
+use Rattle.grammars.specs.Kinds.{has}
 use Rattle.expr_text.specs.Tokens.{is_sign, number_limit}
 use Rattle.expr_text.specs.Lexemes.{Lexeme, name, keyword, number, large, sign, item, bad, the_end, is_item}
 
@@ -42,6 +43,9 @@ kind_of (sign c) = if is_sign c then a_sign c else no_kind
 kind_of (item c) = if is_item c then an_item else no_kind
 kind_of bad = no_kind
 kind_of the_end = an_end
+
+abbrev pub is_name : Lexeme → Bool
+is_name x = has same (a_name ∷ []) (kind_of x)
 
 abbrev pub sample : Kind → Lexeme
 sample a_name = name (codes "a")

@@ -172,7 +172,7 @@ last_is : (before : ℕ) (s : BranchStages) (ss : List BranchStages)
 last_is before s [] = refl
 last_is before s (t ∷ ss) = last_is (given_by s) t ss
 
-last_of : (before : ℕ) (ss : List BranchStages) → 0 < length ss
+pub last_of : (before : ℕ) (ss : List BranchStages) → 0 < length ss
     → last_given before ss ≡ given_by (get_or ss (pred (length ss)) no_branch)
 last_of before [] l = absurd (omega arith)
 last_of before (s ∷ ss) l = last_is before s ss
@@ -202,7 +202,7 @@ none_gives : (k : ℕ) (o : Option Stage) → o ≡ None
 none_gives k o e = sym (ap (λ x. option_map_or (λ (s : Stage). length s.out) x k) e)
 
 -- ---- how many polynomials stages begin with
-length-relations_to : (r w n : ℕ) → length (relations_to r w n) ≡ n
+pub length-relations_to : (r w n : ℕ) → length (relations_to r w n) ≡ n
 unfolding relations_to
 length-relations_to r w zero = refl
 length-relations_to r w (suc n) =

@@ -1,12 +1,12 @@
 -- The branches of a round, read one after another, each by its form and by what was given before it.
 --   BranchesSoFar     the branches are read as those found, and behind them those from place i on
---   branches_start, branches_more, branches_fault, branches_end     the steps of such a loop
+--   branches_start, branches_more, branches_fault     the steps of such a loop
 --   branches_none, branches_in     none that were found, and those found and one more, have the variables that they should have
-use Rattle.std.proofs.Common.{◌≡◌, ℕ, suc, ◌+◌, ◌<◌, ◌≤◌, List, [], ◌∷◌, ◌++◌, Ok, Err, map, length, get_or, drop, sym, ap, subst, ◌∙◌, add-one}
+use Rattle.std.proofs.Common.{◌≡◌, ℕ, suc, ◌+◌, ◌<◌, List, [], ◌∷◌, ◌++◌, Ok, Err, map, length, get_or, drop, sym, ap, subst, ◌∙◌, add-one}
 use Rattle.std.specs.Prelude.{Option, Some, None, take}
 use Rattle.std.specs.List.{AllZip}
 use Rattle.std.proofs.Math.Seq.{drop-cons}
-use Rattle.std.proofs.lemmas.List.{drop_all, map-append, append-nil}
+use Rattle.std.proofs.lemmas.List.{map-append}
 use Rattle.serde_json.specs.View.{view, items_view}
 use Rattle.serde_json.specs.declared.value.Value.{Value}
 use Rattle.cert_form.specs.declared.error.CertError.{CertError}
@@ -40,13 +40,6 @@ module _ {A P : Type 0} (see : A → BranchStages) (form : P → WrittenForm) (m
       (sym none)
 
   module _ (so_far : Option ℕ) (i : ℕ) (found : List A) (prior : BranchesSoFar so_far i found) where
-    pub branches_end : length fs ≤ i
-        → branches_at m before None (map form fs) path 0 (items_view vs) ≡ Ok (map see found)
-    branches_end ends =
-        prior ∙ ap (λ xs. after (map see found) (branches_at m before so_far (map form xs) path i
-        (items_view (drop i vs)))) (drop_all i fs ends)
-        ∙ ap Ok (append-nil (map see found))
-
     module _ (here : List ℕ) (v : Value) (p : P) (within : i < length vs) (inside : i < length fs)
         (is : v ≡ get_or vs i v) (its : p ≡ get_or fs i p) (at : here ≡ part path i) where
       abbrev behind : BranchStages → Reading (List BranchStages)

@@ -1,15 +1,15 @@
 -- The rounds, read one after another, each by how many polynomials the list before it has.
 --   RoundsSoFar     the rounds are read as those found, and behind them those from place i on
---   rounds_start, rounds_more, rounds_fault, rounds_end     the steps of such a loop
-use Rattle.std.proofs.Common.{◌≡◌, ℕ, suc, ◌+◌, ◌<◌, ◌≤◌, List, [], ◌∷◌, ◌++◌, Ok, Err, map, length, get_or, drop, sym, ap, ◌∙◌, add-one}
+--   rounds_more, rounds_fault     the steps of such a loop
+use Rattle.std.proofs.Common.{◌≡◌, ℕ, suc, ◌+◌, ◌<◌, List, [], ◌∷◌, ◌++◌, Ok, Err, map, length, get_or, drop, sym, ap, ◌∙◌, add-one}
 use Rattle.std.proofs.Math.Seq.{drop-cons}
-use Rattle.std.proofs.lemmas.List.{drop_all, map-append, append-nil}
+use Rattle.std.proofs.lemmas.List.{map-append}
 use Rattle.serde_json.specs.View.{view, items_view}
 use Rattle.serde_json.specs.declared.value.Value.{Value}
 use Rattle.cert_form.specs.declared.error.CertError.{CertError}
 use Rattle.cert_form.specs.Form.{Reading, on, after, part}
 use Rattle.cert_form.specs.Faults.{IfFault}
-use Rattle.cert_form.proofs.Each.{IfFault-map, after-after, after-nil}
+use Rattle.cert_form.proofs.Each.{IfFault-map, after-after}
 use Rattle.completeness.specs.Full.{WrittenForm, BranchStages}
 use Rattle.full_form.specs.Form.{last_given, round_at, rounds_at}
 
@@ -21,18 +21,7 @@ module _ {A : Type 0} (see : A → List BranchStages) (m before : ℕ) (fs : Lis
       rounds_at m before fs path 0 (items_view vs)
       ≡ after (map see found) (rounds_at m count fs path i (items_view (drop i vs)))
 
-  pub rounds_start : (found : List A) → found ≡ [] → RoundsSoFar before 0 found
-  rounds_start found none =
-      after-nil (rounds_at m before fs path 0 (items_view vs))
-      ∙ ap (λ xs. after (map see xs) (rounds_at m before fs path 0 (items_view vs))) (sym none)
-
   module _ (count i : ℕ) (found : List A) (prior : RoundsSoFar count i found) where
-    pub rounds_end : length vs ≤ i → rounds_at m before fs path 0 (items_view vs)
-        ≡ Ok (map see found)
-    rounds_end ends =
-        prior ∙ ap (λ xs. after (map see found) (rounds_at m count fs path i (items_view xs)))
-        (drop_all i vs ends) ∙ ap Ok (append-nil (map see found))
-
     module _ (here : List ℕ) (v : Value) (within : i < length vs) (is : v ≡ get_or vs i v)
         (at : here ≡ part path i) where
       abbrev behind : List BranchStages → Reading (List (List BranchStages))

@@ -15,7 +15,7 @@ use Rattle.polynomials.specs.Terms.{Terms}
 use Rattle.polynomials.proofs.Orders.{grevlex_order, blocks_order}
 use Rattle.machines.specs.Collect.{collect}
 use Rattle.loops.specs.Program.{Expr, Program}
-use Rattle.rounds.specs.Form.{front, orbit_order, relations, relations_to}
+use Rattle.rounds.specs.Form.{front, orbit_order, relations}
 use Rattle.cert_form.specs.Form.{on, after, part, shape}
 use Rattle.cert_form.specs.Path.{member_path}
 use Rattle.cert_form.specs.Written.{list_data}
@@ -24,6 +24,7 @@ use Rattle.completeness.specs.Full.{FullCertificate, WrittenForm, BranchStages, 
 use Rattle.completeness.specs.Counts.{IsStageCounted, no_branch, IsCounted}
 use Rattle.full_parts.specs.Form.{stage_at}
 use Rattle.full_form.specs.Form.{member_stage, alone, with_orbit, branch_at, given_by, branches_at, last_given, rounds_at, rounds_in}
+use Rattle.full_form.proofs.Counted.{last_of, length-relations_to}
 use Rattle.full_text.specs.Written.{stage_data, orbit_object, meet_object, branch_data, round_data}
 use Rattle.full_text.proofs.PartsBack.{IsStageReadable, stage_reads, with_count}
 
@@ -184,24 +185,6 @@ rounds_from m told fs (row ∷ rows) each next = (
       (λ r l. next (suc r) (omega (arith, l)))),
 )
 
-last_is : (before : ℕ) (s : BranchStages) (ss : List BranchStages)
-    → last_given before (s ∷ ss) ≡ given_by (get_or (s ∷ ss) (length ss) no_branch)
-last_is before s [] = refl
-last_is before s (t ∷ ss) = last_is (given_by s) t ss
-
-last_of : (before : ℕ) (ss : List BranchStages) → 0 < length ss
-    → last_given before ss ≡ given_by (get_or ss (pred (length ss)) no_branch)
-last_of before [] l = absurd (omega (arith, l))
-last_of before (s ∷ ss) l = last_is before s ss
-
--- ---- how many polynomials stages begin with
-relations_many : (r w n : ℕ) → length (relations_to r w n) ≡ n
-unfolding relations_to
-relations_many r w zero = refl
-relations_many r w (suc n) =
-    length-append (relations_to r w n) (_ ∷ [])
-    ∙ (let h = relations_many r w n in omega (arith, h))
-
 -- ---- the certificate
 module _ {At : Type 0} (program : Program (Expr At)) (c : FullCertificate) where
   abbrev m : ℕ
@@ -225,7 +208,8 @@ module _ {At : Type 0} (program : Program (Expr At)) (c : FullCertificate) where
       (map told (relations (length (form_of c b).base) m))
       ∙ ap₂ ◌+◌ (length-map (before program c r) _)
       (length-map (relations (length (form_of c b).base) m) told
-      ∙ ap suc (relations_many (length (form_of c b).base) (front (length (form_of c b).base) + m)
+      ∙ ap suc (length-relations_to (length (form_of c b).base) (front (length (form_of c b).base)
+      + m)
       (length (form_of c b).base)))
 
   meet_begins : (r b : ℕ) → length (starting program c r (suc b) meet)

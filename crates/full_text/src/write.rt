@@ -1,9 +1,8 @@
 //! Writes full certificates.
 ghost use Rattle.std.specs.Prelude.{◌≡◌, ◌++◌, ℕ, List, Some, string_bytes, IfOk};
-ghost use Rattle.serde_json.specs.Data.{string};
 ghost use Rattle.serde_json.specs.View.{view};
 ghost use Rattle.cert_form.specs.Form.{document};
-ghost use Rattle.cert_form.specs.Written.{list_data, AreBlanks, IsWritten};
+ghost use Rattle.cert_form.specs.Written.{AreBlanks, IsWritten};
 ghost use Rattle.full_types.specs.View.{full_of};
 ghost use Rattle.full_text.specs.Narrow.{IsFullNarrow};
 ghost use Rattle.full_text.specs.Written.{full_object, full_data, full_text};
@@ -11,23 +10,13 @@ ghost use Rattle.full_text.specs.Written.{full_object, full_data, full_text};
 use crate::branches::rounds_value;
 use crate::lists::{raws_value, steps_value};
 use crate::parts::{forms_value, start_value};
+use cert_form::names_value;
 use expressions::Names;
 use full_types::FullCert;
 use serde_json::{Map, Value, put};
 use std::alloc::{AllocError, Global};
 
 const VERSION: u64 = 1;
-
-// The names, in order.
-fn names_value(alloc: Global, names: &Names) -> Result<Value, AllocError>
-    ensures { IfOk result (λ v. view v ≡ list_data string names.now) }
-{
-    let mut texts = Vec::new(alloc);
-    for index in 0..names.len() {
-        texts.push(Value::try_from_str(alloc, names.name(index).as_str())?)?;
-    }
-    Ok(Value::from(texts))
-}
 
 // The object of these members.
 fn object_of(

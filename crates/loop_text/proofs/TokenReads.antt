@@ -7,7 +7,7 @@ use Rattle.expressions.specs.Words.{Keyword}
 use Rattle.grammars.specs.Kinds.{has}
 use Rattle.grammars.specs.Grammar.{after_change}
 use Rattle.expr_text.specs.Lexemes as lexemes
-use Rattle.expr_text.specs.Lexemes.{Lexeme, Placed, tokens_from, is_sign_of}
+use Rattle.expr_text.specs.Lexemes.{Lexeme, Placed, tokens_from, is_sign_of, is_end_of}
 use Rattle.expr_text.specs.NextToken.{seen_lexeme, tokens_behind}
 use Rattle.expr_text.specs.Kinds.{an_end, a_sign, a_keyword, same, kind_of}
 use Rattle.expr_text.specs.Reasons.{Reason, syntax}
@@ -17,10 +17,11 @@ use Rattle.expr_text.specs.declared.lexemes.Lexeme as code
 use Rattle.expr_text.specs.declared.lexemes.Lexeme.TheVariants as code_lexeme
 use Rattle.expr_text.specs.declared.cursor.Cursor.{Cursor}
 use Rattle.expr_text.proofs.KindTests.{by_shape, shape, no_sign, a_sign_kind}
+pub use Rattle.expr_text.proofs.KindTests.{end_is, no_end, sign_no_end}
 use Rattle.expr_text.proofs.CursorReads.{fault_at, here, taken, faulty, token_read, token_faulty, token_barred, sign_here}
 use Rattle.expr_text.proofs.SumChecked.{kinds_exact}
 use Rattle.loop_text.specs.Loops.{LoopContext, LoopValue, LoopState, Rule, token_of, the_end, loop_language}
-use Rattle.loop_text.specs.States.{reading, is_keyword_of, is_end_of}
+use Rattle.loop_text.specs.States.{reading, is_keyword_of}
 
 module _ (b : ℕ) (fault : LoopContext → Option Reason) (next : LoopContext → LoopContext)
     (build : LoopContext → LoopValue → LoopValue) (s : LoopState) (c : Cursor) where
@@ -91,14 +92,6 @@ module _ (k : Keyword) (c : Cursor) (fault : LoopContext → Option Reason) (nex
       (no_keyword_kind k (seen_lexeme c.token.lexeme) other)
 
 -- ---- the end
-pub end_is : (x : Lexeme) → is_end_of x ≡ true → x ≡ lexemes.the_end
-end_is lexemes.the_end e = refl
-end_is x e = absurd (cc)
-
-pub no_end : (x : Lexeme) → is_end_of x ≡ false → has same (an_end ∷ []) (shape x) ≡ false
-no_end lexemes.the_end e = absurd (cc)
-no_end x e = refl
-
 pub end_read : (s : LoopState) (c : Cursor) → is_end_of (seen_lexeme c.token.lexeme) ≡ true
     → Ok (s, []) ≡ reading the_end s (rest c)
 end_read s c e =
@@ -114,10 +107,6 @@ end_barred s c e = token_barred loop_language the_end refl s c
     e))
 
 -- ---- what isn't the end
-pub sign_no_end : (l : code.Lexeme) (b : ℕ) → is_sign_of (seen_lexeme l) b ≡ true
-    → l ≢ code_lexeme.End
-sign_no_end l b e h = true≢false (sym e ∙ ap (λ l. is_sign_of (seen_lexeme l) b) h)
-
 pub keyword_no_end : (l : code.Lexeme) (k : Keyword) → is_keyword_of (seen_lexeme l) k ≡ true
     → l ≢ code_lexeme.End
 keyword_no_end l k e h = true≢false (sym e ∙ ap (λ l. is_keyword_of (seen_lexeme l) k) h)

@@ -1,6 +1,5 @@
 -- Names in a loop's text.
 --   word_goes, word_fails, word_barred     a name that is taken, that is at fault, and another token
---   named_here, no_name_here    whether a cursor stands at a name; word_here: which one
 --   left_X                      what a name on a left side is at fault for; left_fails, left_reads: so it is read
 --   new_X                       what a name that is declared is at fault for; new_fails, new_reads: so it is read; none_behind: a new one among all names is one among the last
 use Rattle.std.proofs.Common.{◌≡◌, ℕ, suc, ◌<◌, ◌≤◌, ◌⊎◌, inl, inr, List, [], ◌∷◌, ◌++◌, length, refl, ap, ap₂, sym, ◌∙◌, le-leb, Bool, true, false, nat_le, if◌then◌else◌, Option, Some, None, unwrap_or, Ok, arith}
@@ -14,27 +13,18 @@ use Rattle.std.proofs.lemmas.List.Folds.{list_any-append, list_any_at}
 use Rattle.std.proofs.lemmas.List.Quantifiers.{position-Some}
 use Rattle.expressions.proofs.Places.{no_place}
 use Rattle.expressions.specs.Names.{place_of}
-use Rattle.grammars.specs.Kinds as kinds
-use Rattle.expr_text.specs.Lexemes as lexemes
-use Rattle.expr_text.specs.Lexemes.{Lexeme, tokens_from}
-use Rattle.expr_text.specs.NextToken.{seen_lexeme, tokens_behind}
-use Rattle.expr_text.specs.Kinds.{a_name, no_kind, same, word_in}
+use Rattle.expr_text.specs.Lexemes.{tokens_from}
+use Rattle.expr_text.specs.NextToken.{seen_lexeme}
+use Rattle.expr_text.specs.Kinds.{word_in, is_name}
 use Rattle.expr_text.specs.NameFaults.{has}
 use Rattle.expr_text.specs.Reasons.{Reason, syntax, limit, twice, unknown, init_uses, unless, or_else}
 use Rattle.expr_text.specs.CursorView.{rest}
 use Rattle.expr_text.specs.declared.cursor.Cursor.{Cursor}
 use Rattle.expr_text.specs.declared.lexemes.Lexeme.TheVariants as code_lexeme
-use Rattle.expr_text.proofs.KindTests.{unlike}
-use Rattle.expr_text.proofs.CursorReads.{genuine_name, fault_at, token_read, token_faulty, token_barred}
+use Rattle.expr_text.proofs.CursorReads.{fault_at, token_read, token_faulty, token_barred, behind_name}
+pub use Rattle.expr_text.proofs.CursorReads.{named_here, word_here, no_name_here}
 use Rattle.loop_text.specs.Loops.{LoopContext, LoopState, new_fault, word, loop_language}
-use Rattle.loop_text.specs.States.{reading, is_name, left_fault, IsLeft, IsNew}
-
--- behind a name stands what tokens say
-behind_name : (text : List ℕ) (x : Lexeme) (end : ℕ) → is_name x ≡ true → tokens_behind text x end
-    ≡ tokens_from text end
-behind_name text (lexemes.keyword k) end e = absurd (cc)
-behind_name text lexemes.the_end end e = absurd (cc)
-behind_name text x end e = refl
+use Rattle.loop_text.specs.States.{reading, left_fault, IsLeft, IsNew}
 
 module _ (fault : LoopContext → List ℕ → Option Reason) (next : LoopContext → List ℕ → LoopContext)
     (s : LoopState) (c : Cursor) where
@@ -58,21 +48,6 @@ module _ (fault : LoopContext → List ℕ → Option Reason) (next : LoopContex
   pub word_barred : is_name (seen_lexeme c.token.lexeme) ≡ false → fault_at syntax c.token.at
       ≡ reading (word fault next) s (rest c)
   word_barred other = token_barred loop_language (word fault next) refl s c other
-
--- ---- the token of a cursor
-module _ (c : Cursor) where
-  pub named_here : (w : _) → c.token.lexeme ≡ code_lexeme.Name w
-      → is_name (seen_lexeme c.token.lexeme) ≡ true
-  named_here w e = ap (λ l. is_name (seen_lexeme l)) e
-      ∙ ap (λ t. kinds.has same (a_name ∷ []) (if t then a_name else no_kind)) (genuine_name c w e)
-
-  pub word_here : (w : _) → c.token.lexeme ≡ code_lexeme.Name w
-      → word_in (seen_lexeme c.token.lexeme) ≡ w.now
-  word_here w e = ap (λ l. word_in (seen_lexeme l)) e
-
-  pub no_name_here : ((w : _) → c.token.lexeme ≡ code_lexeme.Name w → ⊥)
-      → is_name (seen_lexeme c.token.lexeme) ≡ false
-  no_name_here other = unlike (a_name ∷ []) c.token.lexeme refl (other, tt)
 
 -- ---- names on left sides
 module _ (names : List (List ℕ)) (taken used w : List ℕ) where

@@ -14,8 +14,8 @@
 --   left_fault names taken used w   why a name can't stand on a left side where these variables are taken and used
 --   IsLeft names taken used fault next s after     so a token's fault is in the state s, and its variable makes the state behind it
 --   IsNew others known fault next s after     so a name that is declared is at fault in the state s, and makes the state behind it
---   is_keyword_of x k, is_end_of x  tests of lexemes
-use Rattle.std.specs.Prelude.{◌≡◌, ℕ, Bool, true, false, if◌then◌else◌, List, [], ◌∷◌, ◌++◌, length, map, Option, Some, None, unwrap_or, Result}
+--   is_keyword_of x k               whether a lexeme is the keyword k
+use Rattle.std.specs.Prelude.{◌≡◌, ℕ, Bool, false, if◌then◌else◌, List, [], ◌∷◌, ◌++◌, length, map, Option, Some, None, unwrap_or, Result}
 use Rattle.std.specs.Global.{Vec}
 use Rattle.std.specs.List.{fold}
 use Rattle.std.specs.Option.{option_map_or}
@@ -26,7 +26,7 @@ use Rattle.grammars.specs.Kinds.{has}
 use Rattle.grammars.specs.Reader.{read_whole}
 use Rattle.expr_text.specs.Lexemes as lexemes
 use Rattle.expr_text.specs.Lexemes.{Lexeme, Placed}
-use Rattle.expr_text.specs.Kinds.{a_name, same, same_keyword, kind_of}
+use Rattle.expr_text.specs.Kinds.{same_keyword}
 use Rattle.expr_text.specs.NameFaults as positions
 use Rattle.expr_text.specs.Reasons.{Reason, twice, unknown, init_uses, or_else, Fault}
 use Rattle.expr_text.specs.Reads.{used_by}
@@ -148,9 +148,6 @@ branches_of bs = map (λ b. map statement_of b.items) bs
 abbrev pub IsAll : LoopNames → Type 0
 IsAll ns = ns.all ≡ ns.variables ++ ns.locals
 
-abbrev pub is_name : Lexeme → Bool
-is_name x = has same (a_name ∷ []) (kind_of x)
-
 abbrev pub left_fault : List (List ℕ) → List ℕ → List ℕ → List ℕ → Option Reason
 left_fault names taken used w =
     or_else (length_fault w)
@@ -173,11 +170,6 @@ pub record IsNew (others known : List (List ℕ))
   pub goes : (w : List ℕ) → record { context = next s.context w; value = s.value }
       ≡ after (others ++ w ∷ [])
 
--- ---- tests of lexemes
 abbrev pub is_keyword_of : Lexeme → Keyword → Bool
 is_keyword_of (lexemes.keyword j) k = same_keyword k j
 is_keyword_of x k = false
-
-abbrev pub is_end_of : Lexeme → Bool
-is_end_of lexemes.the_end = true
-is_end_of x = false

@@ -8,7 +8,8 @@ ghost use Rattle.expr_text.specs.NextToken.{seen_lexeme};
 ghost use Rattle.expr_text.specs.Tokens.{is_sign};
 ghost use Rattle.expressions.specs.View.{seen_keyword};
 ghost use Rattle.loop_text.specs.Loops.{LoopContext, LoopValue, LoopState, token_of};
-ghost use Rattle.loop_text.specs.States.{Goes, is_keyword_of, is_end_of};
+ghost use Rattle.expr_text.specs.Lexemes.{is_end_of};
+ghost use Rattle.loop_text.specs.States.{Goes, is_keyword_of};
 
 use expr_text::{Cursor, Lexeme, TextError};
 use expressions::Keyword;

@@ -1,18 +1,15 @@
 -- Parts that stand any number of times.
 --   each, next_one, last_one   with commas between them: one is due; behind it one more, or what ends them
---   due                        the next one, or what ends them, where the token tells
-use Rattle.std.proofs.Common.{◌≡◌, List, [], ◌∷◌, refl, ap, sym, ◌∙◌, Bool, true, false, not, Ok, Err}
+use Rattle.std.proofs.Common.{◌≡◌, List, [], ◌∷◌, refl, ap, sym, ◌∙◌, true, false, Ok}
 use Rattle.grammars.specs.Kinds.{has}
-use Rattle.grammars.specs.Grammar.{sequence, many, some, separated}
-use Rattle.grammars.specs.First.{first, may_be_empty}
+use Rattle.grammars.specs.Grammar.{sequence, many, separated}
 use Rattle.expr_text.specs.Lexemes.{Placed, tokens_from, is_sign_of}
 use Rattle.expr_text.specs.NextToken.{seen_lexeme}
 use Rattle.expr_text.specs.Kinds.{a_sign, same, kind_of}
-use Rattle.expr_text.specs.Reasons.{Fault}
 use Rattle.expr_text.specs.CursorView.{rest, behind}
 use Rattle.expr_text.specs.declared.cursor.Cursor.{Cursor}
 use Rattle.expr_text.proofs.KindTests.{no_sign}
-use Rattle.expr_text.proofs.Paths.{going_on, reading_sequence, reading_more, reading_none, then_on, in_first, in_parts, GoesOn, on, over}
+use Rattle.expr_text.proofs.Paths.{reading_sequence, reading_more, reading_none, then_on, in_first, in_parts, GoesOn, on, over}
 use Rattle.expr_text.proofs.CursorReads.{sign_here, here}
 use Rattle.sequence_grammar.specs.Seqs.{SeqState, Rule, keep, sign, seq_language}
 use Rattle.sequence_text.specs.States.{reading}
@@ -56,36 +53,3 @@ module _ {f g h : Rule} {r s : SeqState} {os ts : List Placed}
         ∙ in_parts seq_language (sign 44) g t (rest c) (many (another g))
         ∙ then_on seq_language (sign 44) (comma_list g) t (rest c) t (rest d)
         (sign_read 44 (λ c. c) keep t c refl comma d next)))
-
--- ---- parts up to another one
-module _ (g h : Rule) (full : not (may_be_empty seq_language g) ≡ true) (s : SeqState) (x : Placed)
-    (ts : List Placed) where
-  abbrev up_to : Rule
-  up_to = sequence (many g) h
-
-  pub more_due : has same (first seq_language g) (kind_of x.lexeme) ≡ true
-      → reading up_to s (x ∷ ts) ≡ reading (sequence (some g) h) s (x ∷ ts)
-  more_due e = in_first seq_language (many g) h s (x ∷ ts) (some g) s (x ∷ ts)
-      (reading_more seq_language seqs_checked g full s x ts e
-      ∙ sym (reading_sequence seq_language g (many g) s (x ∷ ts)))
-
-  pub none_due : has same (first seq_language g) (kind_of x.lexeme) ≡ false
-      → reading up_to s (x ∷ ts) ≡ reading h s (x ∷ ts)
-  none_due e = then_on seq_language (many g) h s (x ∷ ts) s (x ∷ ts)
-      (sym (reading_none seq_language seqs_checked g full s x ts e))
-
-  -- what can't stand there can't stand in the next part either
-  pub due : (f : Fault)
-      → (has same (first seq_language g) (kind_of x.lexeme) ≡ false → reading g s (x ∷ ts) ≡ Err f)
-      → reading h s (x ∷ ts) ≡ Err f
-      → reading up_to s (x ∷ ts) ≡ reading (sequence (some g) h) s (x ∷ ts)
-  due f barred ended = go (has same (first seq_language g) (kind_of x.lexeme)) refl
-    where
-      go : (b : Bool) → has same (first seq_language g) (kind_of x.lexeme) ≡ b
-          → reading up_to s (x ∷ ts) ≡ reading (sequence (some g) h) s (x ∷ ts)
-      go true e = more_due e
-      go false e =
-          none_due e ∙ ended
-          ∙ sym (in_parts seq_language g (many g) s (x ∷ ts) h
-          ∙ reading_sequence seq_language g up_to s (x ∷ ts)
-          ∙ ap (λ r. going_on r (λ t rest. reading up_to t rest)) (barred e))

@@ -1,11 +1,11 @@
 -- One token of a text of sequences.
 --   sign_read, sign_barred       a sign is taken, or another token stands there
 --   end_read, end_barred         the end of the text;  sign_no_end: what isn't it
-use Rattle.std.proofs.Common.{◌≡◌, ◌≢◌, ℕ, [], ◌∷◌, refl, ap, sym, ◌∙◌, true, false, true≢false, IsTrue, Ok}
+use Rattle.std.proofs.Common.{◌≡◌, ℕ, [], ◌∷◌, refl, ap, sym, ◌∙◌, true, false, IsTrue, Ok}
 use Rattle.grammars.specs.Kinds.{has}
 use Rattle.grammars.specs.Grammar.{after_change}
 use Rattle.expr_text.specs.Lexemes as lexemes
-use Rattle.expr_text.specs.Lexemes.{Lexeme, tokens_from, is_sign_of}
+use Rattle.expr_text.specs.Lexemes.{Lexeme, tokens_from, is_sign_of, is_end_of}
 use Rattle.expr_text.specs.NextToken.{seen_lexeme, tokens_behind}
 use Rattle.expr_text.specs.Kinds.{an_end, a_sign, same, kind_of}
 use Rattle.expr_text.specs.Reasons.{syntax}
@@ -14,10 +14,11 @@ use Rattle.expr_text.specs.CursorView.{rest, behind}
 use Rattle.expr_text.specs.declared.lexemes.Lexeme as code
 use Rattle.expr_text.specs.declared.lexemes.Lexeme.TheVariants as code_lexeme
 use Rattle.expr_text.specs.declared.cursor.Cursor.{Cursor}
-use Rattle.expr_text.proofs.KindTests.{by_shape, shape, no_sign, a_sign_kind}
+use Rattle.expr_text.proofs.KindTests.{by_shape, no_sign, a_sign_kind, end_is, no_end}
+pub use Rattle.expr_text.proofs.KindTests.{sign_no_end}
 use Rattle.expr_text.proofs.CursorReads.{fault_at, here, taken, token_read, token_barred, sign_here}
 use Rattle.sequence_grammar.specs.Seqs.{SeqContext, SeqValue, SeqState, Rule, token_of, the_end, seq_language}
-use Rattle.sequence_text.specs.States.{reading, is_end_of}
+use Rattle.sequence_text.specs.States.{reading}
 
 module _ (b : ℕ) (next : SeqContext → SeqContext) (build : SeqContext → SeqValue → SeqValue)
     (s : SeqState) (c : Cursor) where
@@ -37,14 +38,6 @@ module _ (b : ℕ) (next : SeqContext → SeqContext) (build : SeqContext → Se
       (no_sign b (seen_lexeme c.token.lexeme) other)
 
 -- ---- the end
-pub end_is : (x : Lexeme) → is_end_of x ≡ true → x ≡ lexemes.the_end
-end_is lexemes.the_end e = refl
-end_is x e = absurd (cc)
-
-no_end : (x : Lexeme) → is_end_of x ≡ false → has same (an_end ∷ []) (shape x) ≡ false
-no_end lexemes.the_end e = absurd (cc)
-no_end x e = refl
-
 pub end_read : (s : SeqState) (c : Cursor) → is_end_of (seen_lexeme c.token.lexeme) ≡ true
     → Ok (s, []) ≡ reading the_end s (rest c)
 end_read s c e =
@@ -58,10 +51,6 @@ pub end_barred : (s : SeqState) (c : Cursor) → is_end_of (seen_lexeme c.token.
 end_barred s c e = token_barred seq_language the_end refl s c
     (by_shape (an_end ∷ []) (seen_lexeme c.token.lexeme) refl
     (no_end (seen_lexeme c.token.lexeme) e))
-
-pub sign_no_end : (l : code.Lexeme) (b : ℕ) → is_sign_of (seen_lexeme l) b ≡ true
-    → l ≢ code_lexeme.End
-sign_no_end l b e h = true≢false (sym e ∙ ap (λ l. is_sign_of (seen_lexeme l) b) h)
 
 pub not_end : (l : code.Lexeme) → (l ≡ code_lexeme.End → ⊥) → is_end_of (seen_lexeme l) ≡ false
 not_end code_lexeme.End other = absurd (other refl)

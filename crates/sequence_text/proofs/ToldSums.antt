@@ -1,8 +1,7 @@
 -- Faults of sums, as they are told in a text of sequences.
---   untold                 a fault of syntax, and no memory
 --   told_so                a fault at an offset, told with another reason;  told_same: with its own
 --   values_X, nexts_X      which reason it is
-use Rattle.std.proofs.Common.{◌≡◌, ◌≤◌, ◌<◌, le-leb, ℕ, List, length, Bool, true, false, if◌then◌else◌, nat_le, Option, Some, None, refl, sym, ap, ◌∙◌}
+use Rattle.std.proofs.Common.{◌≡◌, ◌≤◌, ◌<◌, le-leb, ℕ, List, length, Bool, true, false, if◌then◌else◌, nat_le, Option, Some, refl, sym, ap, ◌∙◌}
 use Rattle.std.specs.Option.{option_map}
 use Rattle.loops.specs.Limits.{most_bytes}
 use Rattle.expr_text.specs.Lexemes.{Lexeme}
@@ -65,17 +64,6 @@ told_reason Memory at e = absurd (cc)
 
 module _ (r : Lexeme → Reason → Reason) (keeps : (x : Lexeme) → r x syntax ≡ syntax)
     (text : List ℕ) where
-  pub untold : (e : TextError) → told_at e ≡ None → Retells r text e e
-  untold (Syntax a) h = ap (λ w. Some (fault w a)) (sym (keeps (next_in text a)))
-  untold Memory h = refl
-  untold (Limit a) h = absurd (cc)
-  untold (Wide a) h = absurd (cc)
-  untold (Twice a) h = absurd (cc)
-  untold (Unknown a) h = absurd (cc)
-  untold (InitUses a) h = absurd (cc)
-  untold (Unset a) h = absurd (cc)
-  untold (Divisor a) h = absurd (cc)
-
   module _ (e : TextError) (at : ℕ) (h : told_at e ≡ Some at) where
     pub told_so : (result : TextError) (to : Reason) → fault_of result ≡ Some (fault to at)
         → ((why : Reason) → is_syntax why ≡ false → r (next_in text at) why ≡ to)

@@ -2,7 +2,6 @@
 --   whole_read      so it is, where all is read
 --   whole_fails     an error
 --   whole_fails_last     an error at the last part
---   whole_through   what is read up to the end by its last part
 use Rattle.std.proofs.Common.{◌≡◌, ℕ, List, [], ap, sym, subst, ◌∙◌, Result, Ok, Err, IfSome, option_map}
 use Rattle.loops.specs.Program.{Expr}
 use Rattle.recurrences.specs.Sequences.{Sequence}
@@ -34,12 +33,6 @@ module _ (g : Rule) (s : SeqState) (ts : List Placed) where
         fault_passes (fault_of e) (reading (sequence g the_end) s ts) (whole g s ts)
         (λ f h. ap (λ r. sequences_or_fault (whole_told r)) h ∙ sym whole_is)
         (subst (IsFault e) (sym path.same) (stopped seq_language f h t us e p))
-
-  pub whole_through : (h : Rule) (t : SeqState) (us : List Placed)
-      → GoesOn seq_language (sequence g the_end) s ts (sequence h the_end) t us
-      → whole h t us ≡ whole g s ts
-  whole_through h t us path = ap sequences_or_fault (whole_reading seq_language h the_end t us)
-      ∙ ap (λ r. sequences_or_fault (whole_told r)) (sym path.same) ∙ sym whole_is
 
   pub whole_fails_last : {f : Rule} {t : SeqState} {us : List Placed}
       → GoesOn seq_language (sequence g the_end) s ts f t us → (e : TextError)

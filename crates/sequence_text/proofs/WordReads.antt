@@ -1,30 +1,19 @@
 -- Names in a text of sequences.
 --   word_goes, word_fails, word_barred     a name that is taken, that is at fault, and another token
 --   declared_X                  what a name of a sequence is at fault for
---   named_here, no_name_here    whether a cursor stands at a name; word_here: which one
-use Rattle.std.proofs.Common.{◌≡◌, ℕ, ◌<◌, ◌≤◌, List, [], ◌∷◌, length, refl, ap, ap₂, ◌∙◌, le-leb, Bool, true, false, nat_le, is_some, if◌then◌else◌, Option, Some, None, Ok}
+use Rattle.std.proofs.Common.{◌≡◌, ℕ, ◌<◌, ◌≤◌, List, length, refl, ap, ap₂, ◌∙◌, le-leb, Bool, true, false, nat_le, is_some, if◌then◌else◌, Option, Some, None, Ok}
 use Rattle.std.proofs.lemmas.Bool.{lt-leb}
 use Rattle.expressions.specs.Names.{place_of}
-use Rattle.grammars.specs.Kinds as kinds
-use Rattle.expr_text.specs.Lexemes as lexemes
-use Rattle.expr_text.specs.Lexemes.{Lexeme, tokens_from}
-use Rattle.expr_text.specs.NextToken.{seen_lexeme, tokens_behind}
-use Rattle.expr_text.specs.Kinds.{a_name, no_kind, same, word_in}
+use Rattle.expr_text.specs.Lexemes.{tokens_from}
+use Rattle.expr_text.specs.NextToken.{seen_lexeme}
+use Rattle.expr_text.specs.Kinds.{word_in, is_name}
 use Rattle.expr_text.specs.Reasons.{Reason, syntax, limit, twice, unless, or_else}
 use Rattle.expr_text.specs.CursorView.{rest}
 use Rattle.expr_text.specs.declared.cursor.Cursor.{Cursor}
-use Rattle.expr_text.specs.declared.lexemes.Lexeme.TheVariants as code_lexeme
-use Rattle.expr_text.proofs.KindTests.{unlike}
-use Rattle.expr_text.proofs.CursorReads.{genuine_name, fault_at, token_read, token_faulty, token_barred}
+use Rattle.expr_text.proofs.CursorReads.{fault_at, token_read, token_faulty, token_barred, behind_name}
+pub use Rattle.expr_text.proofs.CursorReads.{named_here, word_here, no_name_here}
 use Rattle.sequence_grammar.specs.Seqs.{SeqContext, SeqState, word, is_seqname, most_seqname, declared_fault, seq_language}
-use Rattle.sequence_text.specs.States.{reading, is_name}
-
--- behind a name stands what tokens say
-behind_name : (text : List ℕ) (x : Lexeme) (end : ℕ) → is_name x ≡ true
-    → tokens_behind text x end ≡ tokens_from text end
-behind_name text (lexemes.keyword k) end e = absurd (cc)
-behind_name text lexemes.the_end end e = absurd (cc)
-behind_name text x end e = refl
+use Rattle.sequence_text.specs.States.{reading}
 
 module _ (fault : SeqContext → List ℕ → Option Reason) (next : SeqContext → List ℕ → SeqContext)
     (s : SeqState) (c : Cursor) where
@@ -49,21 +38,6 @@ module _ (fault : SeqContext → List ℕ → Option Reason) (next : SeqContext 
   pub word_barred : is_name (seen_lexeme c.token.lexeme) ≡ false
       → fault_at syntax c.token.at ≡ reading (word fault next) s (rest c)
   word_barred other = token_barred seq_language (word fault next) refl s c other
-
--- ---- the token of a cursor
-module _ (c : Cursor) where
-  pub named_here : (w : _) → c.token.lexeme ≡ code_lexeme.Name w
-      → is_name (seen_lexeme c.token.lexeme) ≡ true
-  named_here w e = ap (λ l. is_name (seen_lexeme l)) e
-      ∙ ap (λ t. kinds.has same (a_name ∷ []) (if t then a_name else no_kind)) (genuine_name c w e)
-
-  pub word_here : (w : _) → c.token.lexeme ≡ code_lexeme.Name w
-      → word_in (seen_lexeme c.token.lexeme) ≡ w.now
-  word_here w e = ap (λ l. word_in (seen_lexeme l)) e
-
-  pub no_name_here : ((w : _) → c.token.lexeme ≡ code_lexeme.Name w → ⊥)
-      → is_name (seen_lexeme c.token.lexeme) ≡ false
-  no_name_here other = unlike (a_name ∷ []) c.token.lexeme refl (other, tt)
 
 -- ---- names of sequences
 module _ (c : SeqContext) (w : List ℕ) where

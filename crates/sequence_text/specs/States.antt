@@ -5,14 +5,11 @@
 --   in_first ws vs rs es own         these sequences are declared and make these variables, the finished ones are of these orders, these values are given, and so many are of the open one
 --   between ws vs rs es              no sequence is open
 --   behind_firsts ws vs rs es ns     behind the values: these recurrences were read
---   is_name x, is_end_of x           tests of lexemes
-use Rattle.std.specs.Prelude.{◌≡◌, ℕ, Bool, true, false, List, [], ◌∷◌, length, Result, Err, IfSome, option_map}
+use Rattle.std.specs.Prelude.{◌≡◌, ℕ, List, [], ◌∷◌, length, Result, Err, IfSome, option_map}
 use Rattle.loops.specs.Program.{Expr}
-use Rattle.grammars.specs.Kinds.{has}
 use Rattle.grammars.specs.Reader.{read_whole}
 use Rattle.expr_text.specs.Lexemes as lexemes
-use Rattle.expr_text.specs.Lexemes.{Lexeme, Placed}
-use Rattle.expr_text.specs.Kinds.{a_name, same, kind_of}
+use Rattle.expr_text.specs.Lexemes.{Placed}
 use Rattle.expr_text.specs.Faults.{fault_of}
 use Rattle.expr_text.specs.Reasons.{Fault}
 use Rattle.expr_text.specs.Telling as telling
@@ -55,11 +52,3 @@ behind_firsts ws vs rs es ns = record {
   context = record { sum = no_sum vs; sequences = ws; variables = vs; own = 0; nexts = length ns };
   value = record { values = es; orders = rs; nexts = ns; sum = no_sum_value };
 }
-
--- ---- tests of lexemes
-abbrev pub is_name : Lexeme → Bool
-is_name x = has same (a_name ∷ []) (kind_of x)
-
-abbrev pub is_end_of : Lexeme → Bool
-is_end_of lexemes.the_end = true
-is_end_of x = false

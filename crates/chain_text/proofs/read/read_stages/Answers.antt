@@ -6,7 +6,7 @@ use Rattle.loops.specs.Program.{Expr, Statement}
 use Rattle.grammars.specs.Grammar.{sequence, many, optional, some}
 use Rattle.expr_text.specs.CursorView.{rest}
 use Rattle.expr_text.specs.Faults.{fault_of}
-use Rattle.expr_text.specs.Lexemes.{Placed}
+use Rattle.expr_text.specs.Lexemes.{Placed, is_end_of}
 use Rattle.expr_text.specs.NextToken.{seen_lexeme}
 use Rattle.expr_text.specs.declared.cursor.Cursor.{Cursor}
 use Rattle.expr_text.proofs.Paths.{GoesOn, start, on, over, ends, in_parts}
@@ -14,7 +14,7 @@ use Rattle.loop_model.specs.declared.statement.Statement as code
 use Rattle.loop_text.specs.Loops.{branch}
 use Rattle.loop_text.specs.LoopReader.{program_in}
 use Rattle.loop_text.specs.States as loops
-use Rattle.loop_text.specs.States.{Inits, in_branches, with_init, branches_of, is_end_of}
+use Rattle.loop_text.specs.States.{Inits, in_branches, with_init, branches_of}
 use Rattle.loop_text.specs.declared.begun.Begun.{Begun}
 use Rattle.chain_text.specs.ChainReader.{of_stages}
 use Rattle.chain_text.specs.Chains.{Earlier, ChainState, Rule, none_before, begin_loop, with_loop, with_stage, with_code, then_token, code as code_rule, stage, the_branches, further, chain_end, chain_language}

@@ -1,6 +1,6 @@
 use Rattle.std.proofs.Common.{ap}
+use Rattle.expr_text.specs.Lexemes.{is_end_of}
 use Rattle.expr_text.specs.NextToken.{seen_lexeme}
-use Rattle.sequence_text.specs.States.{is_end_of}
 use Rattle.sequence_text.proofs.TokenReads.{end_read, end_barred, not_end}
 use Rattle.sequence_text.proofs.tokens.expect_end.Goals as goal
 
