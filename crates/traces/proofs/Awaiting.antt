@@ -9,7 +9,6 @@
 --   s_polynomial_awaits, s_polynomial_refused      and behind that the others
 --   out_awaits, out_refused        behind the tidying the divisions by what is given
 --   link_awaits, link_refused      behind each of these the others
---   forgotten                      what is awaited comes
 use Rattle.std.proofs.Common.{◌≡◌, ◌⊎◌, inl, inr, ℕ, List, [], ◌∷◌, ◌++◌, map, Some, None, refl, sym, ap, subst, ◌∙◌, append-nil, append_assoc}
 use Rattle.numbers.specs.Fraction.{Fraction, fractions, rationals}
 use Rattle.polynomials.specs.Order.{grevlex}
@@ -33,10 +32,6 @@ use Rattle.traces.specs.Followed.{IsPastDividends, IsPastDivided, IsPastEvent, t
 use Rattle.traces.specs.Trace.{Dividend, CompletedList, Results, State, fresh, completing, dividing, tidying_up, linking, Step, goes, next_or, start_of, list_dividends, link_dividends, link_from, divide_from, next, move_of, moves}
 
 module _ (A : Setting) (rounds : ℕ) where
-  pub forgotten : (es : List Entry) (task : Task) (step : Step) (P : Type 0)
-      → Awaits A rounds es task step P → Comes A rounds es step
-  forgotten es task step P a = record { state = a.state; run = a.run; is = a.is }
-
   -- ---- a computation in a task
   module _ {S : Type 0} (M : Machine S) (task : Task) (at : S → State) (later : S → Step)
       (past_later : S → Type 0)

@@ -456,12 +456,6 @@ module _ {At : Type 0} (program : Program (Expr At)) (w : IsWellFormed program)
       stages = λ r b kind. each_over r b kind (side r R) (side b (length forms));
     }
 
-    -- its last list is that of an analysis with so many rounds
-    pub last_reduced : IsReducedList (length program.names) ended.last
-    last_reduced =
-        (rounds_sound program w written are d.start_out (started_sound program w written are d
-        ended.in_round.started) d.rounds R ended.last ended.in_round.rounds).reduced
-
     pub last_is : (gs : List (Terms Fraction)) → IsReducedList (length program.names) gs
         → Generates (length program.names) gs (Stays program (IsZeroAtStarts program) (AtMost R))
         → ended.last ≡ gs

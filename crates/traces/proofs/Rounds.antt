@@ -2,7 +2,7 @@
 --   first_at                      behind the first orbit one branch has ended
 --   orbit_at, meet_at, met_at     the next orbit, its intersection, and what has ended behind that
 --   round_at                      behind the last branch the round has ended
---   round_begins, rounds_end      behind a round the next one, or the end
+--   round_begins      behind a round the next one
 use Rattle.std.proofs.Common.{ℕ, zero, suc, ◌+◌, ◌<◌, ◌≤◌, List, [], ◌∷◌, ◌++◌, length, refl, subst, arith}
 use Rattle.numbers.specs.Fraction.{Fraction}
 use Rattle.polynomials.specs.Terms.{Terms}
@@ -11,9 +11,9 @@ use Rattle.rounds.specs.Analysis.{Setting}
 use Rattle.completeness.specs.Stage.{Stage}
 use Rattle.completeness.specs.Full.{BranchStages}
 use Rattle.traces.specs.Coming.{Comes}
-use Rattle.traces.specs.Trace.{Results, finished, after_round}
+use Rattle.traces.specs.Trace.{Results, after_round}
 use Rattle.traces.specs.Rounds.{behind, within, alone, both, OrbitBegins, OrbitEnds, MeetBegins, MeetEnds, ComesBehind}
-use Rattle.traces.proofs.Tasks.{after_first, after_orbit, after_meet, branch_next, branch_last, round_next, round_last}
+use Rattle.traces.proofs.Tasks.{after_first, after_orbit, after_meet, branch_next, branch_last, round_next}
 
 module _ (A : Setting) (R : ℕ) (d : Results) (es : List Entry) (k : ℕ)
     (gs : List (Terms Fraction)) where
@@ -61,6 +61,3 @@ module _ (A : Setting) (R : ℕ) (d : Results) (es : List Entry) (k : ℕ)
   pub round_begins : k < R → Comes A R es (after_round A R d k gs)
       → OrbitBegins A R d es (suc k) 0 gs []
   round_begins l c = subst (Comes A R es) (round_next A R d k gs l) c
-
-  pub rounds_end : R ≤ k → Comes A R es (after_round A R d k gs) → Comes A R es (finished d)
-  rounds_end l c = subst (Comes A R es) (round_last A R d k gs l) c

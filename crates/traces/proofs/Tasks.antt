@@ -3,7 +3,7 @@
 --   task_stopped, task_lost      behind its beginning: where the weight of making what it begins with is past, and where memory is wanting
 --   after_start, after_first, after_orbit, after_meet     what follows a task, by its kind
 --   branch_next, branch_last     the next branch, or the end of the round
---   round_next, round_last       the next round, or the end
+--   round_next       the next round
 use Rattle.std.proofs.Common.{◌≡◌, ℕ, zero, suc, ◌<◌, ◌≤◌, Bool, true, false, cond, ltb, ltb-true, List, [], ◌∷◌, ◌++◌, length, inl, refl, ap, arith}
 use Rattle.std.proofs.lemmas.Bool.{lt-ltb}
 use Rattle.numbers.specs.Fraction.{Fraction}
@@ -113,8 +113,3 @@ module _ (A : Setting) (rounds : ℕ) (done : Results) where
     round_next l =
         ap (λ z. cond z (begin_orbit A rounds done (suc k) 0 gs []) (finished done))
         (lt-ltb k rounds l)
-
-    pub round_last : rounds ≤ k → after_round A rounds done k gs ≡ finished done
-    round_last l =
-        ap (λ z. cond z (begin_orbit A rounds done (suc k) 0 gs []) (finished done))
-        (not_below k rounds l)

@@ -3,7 +3,6 @@
 --   IsCompleted O hs gs    a completion of hs has ended with the list gs
 --   IsTidied gs out        a tidying of gs has ended with out
 --   IsTraced k hs s        the stage s tells how k variables are eliminated from hs: the completion, the divisions of hs and of the S-polynomials of all pairs by its list, what is given, and the divisions of what is kept by that
---   IsStartTraced hs out links   the same of the start, by whose tidied list hs alone are divided
 use Rattle.std.specs.Prelude.{◌≡◌, ℕ, ◌<◌, List, [], get_or, length}
 use Rattle.numbers.specs.Fraction.{Fraction, rationals}
 use Rattle.polynomials.specs.Terms.{Terms}
@@ -41,11 +40,3 @@ pub record IsTraced (k : ℕ) (hs : List (Terms Fraction)) (s : Stage) : Type 0 
   pub out : IsTidied (free_part k s.list) s.out
   pub links : (i : ℕ) → i < length (free_part k s.list)
       → IsDivided grevlex s.out (get_or (free_part k s.list) i []) (get_or s.links i [])
-
-pub record IsStartTraced (hs out : List (Terms Fraction))
-    (links : List (List (Terms Fraction))) : Type 0 where
-  pub list : List (Terms Fraction)
-  pub completes : IsCompleted grevlex hs list
-  pub tidies : IsTidied list out
-  pub divides : (i : ℕ) → i < length hs
-      → IsDivided grevlex out (get_or hs i []) (get_or links i [])

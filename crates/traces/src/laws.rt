@@ -80,9 +80,9 @@ pub fn finished_traces_give_as_many<At>()
         → IsCounted program (full_from gs steps t.follows.forms d) }
 {}
 
-/// A closed form that is normal, over a base that ascends and is coprime, passes the identities of
-/// forms.
-pub fn closed_forms_pass()
+/// A closed form that is normal, over a base that ascends and is coprime, is a right form: the
+/// identities of forms hold.
+pub fn closed_forms_are_right()
     ensures { (images : List (Terms Fraction)) (m : ℕ) → length images ≡ m → (f : Form)
         → Coprime f.base → Ascending f.base → IsClosedForm f.base images f.polys
         → Each (IsNormal f.base) f.polys → IsRightForm images m f }
