@@ -1,6 +1,6 @@
 -- The elements of a reduced basis have its variables.
---   elements_over      each has as many as the basis;  basis_over: at names and elements that are the same
-use Rattle.std.proofs.Common.{◌≡◌, ◌≢◌, ℕ, List, [], ◌∷◌, length, refl, sym, ap, subst, ◌∙◌, inl, inr}
+--   elements_over      each has as many as the basis
+use Rattle.std.proofs.Common.{◌≡◌, ◌≢◌, ℕ, List, [], ◌∷◌, refl, sym, ◌∙◌, inl, inr}
 use Rattle.std.specs.Prelude.{All}
 use Rattle.std.proofs.lemmas.List.Elements.{All-nil, All-cons}
 use Rattle.rings.specs.In.{In}
@@ -34,12 +34,3 @@ module _ (m : ℕ) where
   pub elements_over : (gs : List FracPoly) (I : Terms Fraction → Type 0)
       → IsReducedFor rationals grevlex m (terms_each gs) I → All (λ (p : FracPoly). p.arity ≡ m) gs
   elements_over gs I r = each_over gs (λ g h. (r.polynomials g h, r.nonzero g h))
-
-pub basis_over : (names names' : List (List ℕ)) (gs basis : List FracPoly) (I : Terms Fraction
-    → Type 0) → names' ≡ names → basis ≡ gs
-    → IsReducedFor rationals grevlex (length names) (terms_each gs) I
-    → All (λ (p : FracPoly). p.arity ≡ length names') basis
-basis_over names names' gs basis I same are r =
-    subst (λ ps. All (λ (p : FracPoly). p.arity ≡ length names') ps) (sym are)
-    (subst (λ n. All (λ (p : FracPoly). p.arity ≡ n) gs) (ap length (sym same))
-    (elements_over (length names) gs I r))

@@ -1,5 +1,4 @@
 -- FILE, as `relations` reads it.
---   by_sequences said next        a course by what a text says: the first fault ends it, sequences go on
 --   with_sequences name next      FILE is read, and so it goes on
 --   IsSequencesFault text a       a tells the first fault of the text
 --   HasReadSequences name s files     FILE was read, and s is its sequences as a loop
@@ -19,13 +18,9 @@ use Rattle.courses.specs.Texts.{Answer}
 use Rattle.courses.specs.Course.{Course}
 use Rattle.courses.specs.Change.{Change}
 use Rattle.courses.specs.Outcome.{Call}
-use Rattle.courses.specs.Reading.{by_reading, with_file, IsFaultOf, HasReadAs, IsRefusedAt, SaysOf}
+use Rattle.courses.specs.Reading.{with_file, IsFaultOf, HasReadAs, IsRefusedAt, SaysOf}
 use Rattle.loop_file.specs.Reading.{loop_at}
 use Rattle.analysis_commands.specs.RelationsTexts.{sequences_refusal}
-
-abbrev pub by_sequences : Result (List (Sequence (Expr ℕ))) Fault
-    → (List (Sequence (Expr ℕ)) → Course) → Course
-by_sequences said next = by_reading sequences_of sequences_refusal said next
 
 abbrev pub with_sequences : List ℕ → (List (Sequence (Expr ℕ)) → Course) → Course
 with_sequences name next = with_file sequences_of sequences_refusal (loop_at name) next

@@ -1,21 +1,10 @@
 -- What is written of a certificate.
---   same_itself     a certificate has its own polynomials
---   same_in_file    and so has the one that its file is read as
-use Rattle.std.proofs.Common.{◌≡◌, ℕ, List, ◌++◌, length, refl, sym, subst, ◌∙◌}
-use Rattle.numbers.specs.Fraction.{ℚ}
-use Rattle.polynomials.proofs.Same.{AllSame-refl}
-use Rattle.loops.specs.Certificate.{Certificate, SameCertificate, cofactors}
+--   same_in_file    the certificate that its file is read as has its own polynomials
+use Rattle.std.proofs.Common.{◌≡◌, ℕ, List, ◌++◌, length, sym, subst, ◌∙◌}
+use Rattle.loops.specs.Certificate.{Certificate, SameCertificate}
 use Rattle.cert_form.specs.Form.{cert_in, ReadsAs}
 use Rattle.cert_form.specs.Written.{AreBlanks}
 use Rattle.cert_form.proofs.ReadingBack.{without_blanks, told_so, same_again}
-
-pub same_itself : (c : Certificate) → SameCertificate c c
-same_itself c = record {
-  basis = AllSame-refl ℚ c.basis;
-  branches = refl;
-  elements = λ b. refl;
-  steps = λ b i. AllSame-refl ℚ (cofactors c b i);
-}
 
 pub same_in_file : (names ns ms : List (List ℕ)) (n : ℕ) (text bytes : List ℕ)
     (kept c : Certificate) → ns ≡ names → ms ≡ names → length c.steps ≡ n → bytes ≡ text

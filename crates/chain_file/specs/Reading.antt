@@ -1,5 +1,4 @@
 -- Commands that begin by reading CHAIN.
---   by_chain said next        a course by what a text says: the first fault ends it, a chain goes on
 --   with_chain name next      CHAIN is read, a file as LOOP is, and so it goes on
 --   IsChainFault text a       a tells the first fault of the text
 --   HasReadChain name c files       CHAIN was read, and it is the chain c
@@ -18,13 +17,10 @@ use Rattle.courses.specs.Texts.{Answer}
 use Rattle.courses.specs.Course.{Course}
 use Rattle.courses.specs.Change.{Change}
 use Rattle.courses.specs.Outcome.{Call}
-use Rattle.courses.specs.Reading.{by_reading, with_file, IsFaultOf, HasReadAs, IsRefusedAt, SaysOf}
+use Rattle.courses.specs.Reading.{with_file, IsFaultOf, HasReadAs, IsRefusedAt, SaysOf}
 use Rattle.io_edge.specs.Outside.{FilesView}
 use Rattle.loop_file.specs.Texts.{loop_refusal}
 use Rattle.loop_file.specs.Reading.{loop_at}
-
-abbrev pub by_chain : Result (Chain (Expr ℕ)) Fault → (Chain (Expr ℕ) → Course) → Course
-by_chain said next = by_reading chain_of loop_refusal said next
 
 abbrev pub with_chain : List ℕ → (Chain (Expr ℕ) → Course) → Course
 with_chain name next = with_file chain_of loop_refusal (loop_at name) next

@@ -1,5 +1,5 @@
 -- The branch after a number of turns, by its values, and the forms that are made from their values there.
---   after_values, after_count, after_arity     the variables' polynomials after n turns
+--   after_values, after_count     the variables' polynomials after n turns
 --   ahead_value         the form of what is ahead is the form of the variables after so many turns
 --   later_recurs, later_there     a form by its value after some turns: it has the recurrence, and that value
 --   one_later_recurs    one that is its source one turn later, where its value is zero
@@ -14,9 +14,8 @@ use Rattle.rings.proofs.RingSolver.{ring_rules, ring}
 use Rattle.numbers.specs.Fraction.{Fraction, ℚ, inverse, is_zero}
 use Rattle.numbers.proofs.Fractions.{ℚ_ring, ℚ_field, zero_is}
 use Rattle.polynomials.specs.Exponent.{unit_exponents}
-use Rattle.polynomials.specs.Polynomial.{AllArity}
 use Rattle.polynomials.specs.Terms.{Terms, variables, compose, value_at, sum_of_products}
-use Rattle.polynomials.proofs.Arity.{arity-compose, arity-variables, length-units}
+use Rattle.polynomials.proofs.Arity.{length-units}
 use Rattle.polynomials.proofs.ValueAt.{value_at-compose, value_at-variables}
 use Rattle.chains.specs.Uses.{poly_at}
 use Rattle.vectors.specs.Lists.{entries}
@@ -31,7 +30,7 @@ use Rattle.closed_forms.specs.Later.{IsLaterForm, IsOneLater}
 use Rattle.closed_forms.specs.Sources.{collect_terms, part}
 use Rattle.closed_forms.specs.States.{zeros_in, next_of, after}
 use Rattle.closed_forms.specs.Values.{values_in}
-use Rattle.closed_forms.proofs.Recurring.{collected_value, collected-arity, part_value}
+use Rattle.closed_forms.proofs.Recurring.{collected_value, part_value}
 
 abbrev R : CommRing Fraction
 R = ℚ_ring
@@ -42,15 +41,6 @@ next_values : (m : ℕ) (images state : List (Terms Fraction)) (s : List Fractio
 next_values m [] state s = refl
 next_values m (p ∷ images) state s = ap₂ ◌∷◌ (collected_value (compose ℚ m p state) s
     ∙ value_at-compose R m p state s) (next_values m images state s)
-
-next-arity : (m : ℕ) (images state : List (Terms Fraction)) → AllArity m state
-    → AllArity m (next_of m images state)
-unfolding Each
-next-arity m [] state a = tt
-next-arity m (p ∷ images) state a = (
-  collected-arity m (compose ℚ m p state) (arity-compose m ℚ p state a),
-  next-arity m images state a,
-)
 
 module _ (images : List (Terms Fraction)) where
   abbrev m : ℕ
@@ -66,10 +56,6 @@ module _ (images : List (Terms Fraction)) where
   unfolding variables
   after_count zero = length-map (unit_exponents m) _ ∙ length-units m
   after_count (suc n) = length-map images (λ p. collect_terms (compose ℚ m p (after images n)))
-
-  pub after_arity : (n : ℕ) → AllArity m (after images n)
-  after_arity zero = arity-variables m ℚ
-  after_arity (suc n) = next-arity m images (after images n) (after_arity n)
 
   pub after_entry : (n i : ℕ) → i < m → (s : List Fraction) → length s ≡ m
       → value_at ℚ (poly_at (after images n) i) s ≡ entries ℚ_field (turns images n s) i

@@ -1,6 +1,6 @@
 -- A form from the source of its recurrence, as the code makes it.
 --   one_later_over, one_later_is, one_later_past     one turn later, where its value is zero
---   at_once_is, at_once_past     from its start, where no value is zero
+--   at_once_past     from its start, where no value is zero
 use Rattle.std.proofs.Common.{◌≡◌, ◌≢◌, ℕ, suc, List, length, sym, ap, subst, ◌∙◌}
 use Rattle.numbers.specs.Fraction.{Fraction, ℚ, fractions, rationals}
 use Rattle.polynomials.specs.Order.{grevlex}
@@ -13,8 +13,8 @@ use Rattle.expo.specs.View.{base_of, value_of}
 use Rattle.expo.specs.declared.exponential.Expo.{Expo}
 use Rattle.turns.specs.Expo.{next_images, backward_terms}
 use Rattle.turns.specs.Turns.{point}
-use Rattle.closed_forms.specs.Later.{Ahead, IsOneLater, IsFormFrom, IsPastFrom, IsPastOneLater, at_once, one_later, at_once_past as once_past, one_later_past as zero_past}
-use Rattle.closed_forms.specs.Solved.{IsSolvedForm, IsPastSolved}
+use Rattle.closed_forms.specs.Later.{Ahead, IsOneLater, IsFormFrom, IsPastFrom, IsPastOneLater, one_later, at_once_past as once_past, one_later_past as zero_past}
+use Rattle.closed_forms.specs.Solved.{IsPastSolved}
 use Rattle.closed_forms.specs.Values.{IsExpoOver}
 
 module _ (base : List ℕ) (m : ℕ) (source : Expo) (over : IsExpoOver base m source) where
@@ -47,10 +47,6 @@ module _ (base : List ℕ) (m : ℕ) (source : Expo) (over : IsExpoOver base m s
 
 module _ (base : List ℕ) (m : ℕ) (w : List Fraction) (g : List ℕ) (l x : Fraction) (a : Ahead)
     (q : Terms Fraction) (some : l ≢ ℚ.zero) (own : x ≡ l) where
-  pub at_once_is : a.turns ≡ 0 → (y : Terms Fraction) → IsSolvedForm base m w g x q y
-      → IsFormFrom base m w g l a q y
-  at_once_is none y h = at_once some none (subst (λ n. IsSolvedForm base m w g n q y) own h)
-
   pub at_once_past : a.turns ≡ 0 → IsPastSolved base m w g x q → IsPastFrom base m w g l a q
   at_once_past none h = once_past some none
       (subst (λ n. IsPastSolved base m w g n q) own h)

@@ -2,10 +2,10 @@
 --   ok_both                    two things that are said of a result
 --   at-arity                   how many exponents a polynomial at a number of turns has
 --   solved_all, sum_is         the sum of what solves the terms of a source
---   both_over, start_is, start_lists     its difference from what is there, times a power of the value
+--   start_is, start_lists     its difference from what is there, times a power of the value
 --   grown_none, grown_next     a polynomial of the variables times a power, term by term;  grown_value: its values
 --   together-arity, joined_is     the two together
-use Rattle.std.proofs.Common.{◌≡◌, ℕ, zero, suc, ℤ, pos, Bool, ◌+◌, ◌<◌, get_or, List, [], ◌∷◌, ◌++◌, map, length, All, Result, Ok, Err, refl, sym, ap, ap₂, subst, ◌∙◌, arith, append-nil}
+use Rattle.std.proofs.Common.{◌≡◌, ℕ, zero, suc, ℤ, pos, Bool, ◌+◌, List, [], ◌∷◌, ◌++◌, map, length, Result, Ok, Err, refl, sym, ap, ap₂, subst, ◌∙◌, arith, append-nil}
 use Rattle.std.proofs.lemmas.List.{length-append}
 use Rattle.std.specs.Result.{IfOk}
 use Rattle.rings.specs.Arithmetic.{power}
@@ -100,14 +100,6 @@ module _ (base : List ℕ) (m : ℕ) (l : Fraction) (z : ℕ) (there at p : Frac
     (are : numbers ≡ k ∷ o ∷ []) (both : polys ≡ there ∷ at ∷ []) where
   numbers_are : numbers ≡ power ℚ (inverse l) z ∷ ℚ.neg (power ℚ (inverse l) z) ∷ []
   numbers_are = are ∙ ap₂ (λ a b. a ∷ b ∷ []) factor (opposite ∙ ap ℚ.neg factor)
-
-  pub both_over : there.arity ≡ m → at.arity ≡ m → All (λ (q : FracPoly). q.arity ≡ m) polys
-  both_over h g = subst (All (λ (q : FracPoly). q.arity ≡ m)) (sym both) (λ i d l. each i d l)
-    where
-      each : (i : ℕ) (d : FracPoly) → i < 2 → (get_or (there ∷ at ∷ []) i d).arity ≡ m
-      each zero d l = h
-      each (suc zero) d l = g
-      each (suc (suc i)) d l = absurd (omega (arith, l))
 
   pub start_is : p.arity ≡ m
       → ((s : List Fraction) → length s ≡ m

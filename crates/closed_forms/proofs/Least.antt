@@ -1,6 +1,5 @@
 -- The least number of turns from which on polynomials are the state, and which variables pass.
 --   entry_get               an entry of a list
---   settled_none            none is less than zero
 --   settled_here            at one turn less some polynomial isn't the state
 --   settling_before, settled_before     at one turn less all are
 --   wide_here, wide_before  what one of them is there is past
@@ -133,13 +132,6 @@ module _ (images : List (Terms Fraction)) (base : List ℕ) (groups : List (List
 
   in_group : (i : ℕ) → i < length images → (g : List ℕ) × In g groups × In i g
   in_group i l = elim (covered images [] groups h.classes i l) [ inl e ↦ absurd e | inr r ↦ r ]
-
-  pub settled_none : since ≡ 0 → IsSettled images base es since 0
-  settled_none e = record {
-    closed = subst (λ n. IsClosedFormFrom base images n (bodies_of es)) e h.closed;
-    least = λ d k. omega arith;
-    low = omega arith;
-  }
 
   module _ (n : ℕ) (one : since ≡ suc n) (state : List (Terms Fraction))
       (is : state ≡ after images n) (marks : List Bool) (count : length marks ≡ length es)

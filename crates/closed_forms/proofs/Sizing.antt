@@ -1,6 +1,6 @@
 -- Sizes of numerators and denominators.
 --   values_none      the values of splittings, one splitting after another
---   some-append, some_none, some_skip, some_next, some_more     those that aren't zero, one after another;  some_nonzero, some_few: none is zero, and there are no more than all
+--   some-append, some_skip, some_next, some_more     those that aren't zero, one after another;  some_nonzero, some_few: none is zero, and there are no more than all
 --   behind_none, behind_next                   sizes of values, one value after another
 --   sizes-push
 --   num_fits, den_fits, num_passed, den_passed, num_some, den_some      numerators and denominators fit, and are not zero
@@ -43,11 +43,6 @@ some-append (x ∷ xs) ys = go (is_zero x) (some-append xs ys)
         ≡ cond b (some_of xs) (x ∷ some_of xs) ++ some_of ys
     go true h = h
     go false h = ap (λ l. x ∷ l) h
-
-pub some_none : (old : List Fraction) (values : List Frac) → length values ≡ 0
-    → old ≡ old ++ some_of (fractions_of values)
-some_none old [] e = sym (append-nil old)
-some_none old (v ∷ values) e = absurd (omega (arith, e))
 
 pub some_skip : {E : Type 0} (r : Result Unit E) (old new : List Fraction)
     (values rest : List Frac) (v : Frac) → values ≡ v ∷ rest → fraction_of v ≡ ℚ.zero

@@ -6,12 +6,12 @@
 --   all_enter, all_enters          what holds for each of them
 --   in_order_enter, in_order_enters    the list stays in its order
 --   enters_enter                   one more may be put among the others first, if none is like it
---   IsOnItsWay, begun, step, done  the last of them is put in, and what is behind it set aside
+--   IsOnItsWay, step, done         the last of them is put in, and what is behind it set aside
 use Rattle.std.proofs.Common.{◌≡◌, ◌≢◌, ℕ, zero, suc, ◌+◌, ◌≤◌, Bool, true, false, not, cond, List, [], ◌∷◌, ◌++◌, take, drop, length, get_or, reverse, refl, sym, ap, subst, ◌∙◌, arith, Ordering, Less, Equal, Greater}
 use Rattle.std.specs.Cmp.{IsTotalOrder}
 use Rattle.std.specs.List.{All, insert}
 use Rattle.std.specs.Ordering.{is_lt, is_gt, ordering_reverse}
-use Rattle.std.proofs.lemmas.List.{append-nil, append_assoc, take-append-le, drop-append-le, drop-take, length-take-le, reverse-append, reverse-reverse}
+use Rattle.std.proofs.lemmas.List.{append_assoc, take-append-le, drop-append-le, drop-take, length-take-le, reverse-append, reverse-reverse}
 use Rattle.std.proofs.lemmas.List.Edits.{insert-append_left}
 use Rattle.std.proofs.lemmas.List.Elements.{All-nil, All-cons, All-append, All-push, All-take, All-drop}
 use Rattle.std.proofs.Math.Seq.{take-append_seam, drop-append_seam}
@@ -208,15 +208,6 @@ module _ {X : Type 0} (R : X → X → Ordering) where
             ∙ sym (enter_comm a b (h 0 b (omega arith)) (enters R news xs))
 
     -- ---- one after another, from the last
-    pub begun : (given old : List X) → InOrder R given → InOrder R old
-        → IsOnItsWay given old given old []
-    begun given old h k = record {
-      news_in_order = h;
-      list_in_order = subst (InOrder R) (sym (append-nil old)) k;
-      above = λ n d l. All-nil (λ b. is_lt (R (get_or given n d) b) ≡ true);
-      whole = ap (enters R given) (append-nil old);
-    }
-
     pub step : (given old all news front later : List X) (a : X) (p : ℕ) → all ≡ news ++ a ∷ []
         → p ≤ length front → All (λ b. is_lt (R a b) ≡ false) (take p front)
         → All (λ b. is_lt (R a b) ≡ true) (drop p front) → IsOnItsWay given old all front later

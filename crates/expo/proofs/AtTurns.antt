@@ -2,10 +2,10 @@
 --   power_none, power_next, power_past      no factor, and one more
 --   sign_next                   one sign more
 --   constant_is, number_is, power_nonzero, sign_nonzero     constants
---   powers_none, powers_next, past_here, past_later     the powers, number by number
+--   powers_next, past_later     the powers, number by number
 --   images_made, images_count   all images
 --   turn_same, turn_values      the polynomial with them for its variables
-use Rattle.std.proofs.Common.{◌≡◌, ◌≢◌, ◌⊎◌, inl, inr, ℕ, zero, suc, pos, negsuc, ◌+◌, ◌<◌, Bool, true, false, List, [], ◌∷◌, ◌++◌, map, length, replicate, unsigned_abs, Result, Ok, Err, refl, sym, ap, ap₂, subst, ◌∙◌, arith, append_assoc, append-nil}
+use Rattle.std.proofs.Common.{◌≡◌, ◌≢◌, inr, ℕ, zero, suc, pos, negsuc, ◌+◌, ◌<◌, Bool, true, false, List, [], ◌∷◌, ◌++◌, map, length, replicate, unsigned_abs, Result, Ok, Err, refl, sym, ap, ap₂, subst, ◌∙◌, arith, append_assoc}
 use Rattle.std.proofs.lemmas.List.{length-map, length-append, map-append}
 use Rattle.std.specs.Result.{OnOk}
 use Rattle.rings.specs.Arithmetic.{power}
@@ -115,11 +115,6 @@ module _ (inverted : Bool) (n m : ℕ) where
   abbrev images_by : List Whole → List (Terms Fraction)
   images_by ws = map (constant m) (powers_by inverted (sizes ws) n)
 
-  pub powers_none : (ws : List Whole) (old : List (Terms Fraction)) → length ws ≡ 0
-      → old ≡ old ++ images_by ws
-  powers_none [] old e = sym (append-nil old)
-  powers_none (w ∷ ws) old e = absurd (omega (arith, e))
-
   pub powers_next : {E : Type 0} (r : Result Unit E) (ws rest : List Whole) (w : Whole)
       (old mid new : List (Terms Fraction)) (p : Terms Fraction) (x : Fraction) → ws ≡ w ∷ rest
       → x ≡ power ℚ (factor inverted (unsigned_abs w.value)) n → 0 < unsigned_abs w.value
@@ -133,21 +128,6 @@ module _ (inverted : Bool) (n m : ℕ) where
       f ∙ ap (λ l. l ++ images_by rest) k ∙ append_assoc old (p ∷ []) (images_by rest)
       ∙ ap (λ q. old ++ q ∷ images_by rest) own ∙ ap (λ l. old ++ images_by l) (sym is)
   powers_next (Err u) ws rest w old mid new p x is e l h s k f = tt
-
-past_factor : (inverted : Bool) (b n : ℕ) → IsPastPower (factor inverted b) n
-    → IsPastPower (whole (pos b)) n ⊎ IsPastPower (inverse (whole (pos b))) n
-past_factor true b n h = inr h
-past_factor false b n h = inl h
-
-pub past_here : (inverted : Bool) (n : ℕ) (ws rest : List Whole) (w : Whole) (x : Fraction)
-    → ws ≡ w ∷ rest → x ≡ factor inverted (unsigned_abs w.value) → IsPastPower x n
-    → IsPastPoint (sizes ws) n
-past_here inverted n ws rest w x is e h = subst (λ l. IsPastPoint (sizes l) n) (sym is)
-    (record {
-      number = unsigned_abs w.value;
-      within = inl refl;
-      past = past_factor inverted (unsigned_abs w.value) n (subst (λ y. IsPastPower y n) e h);
-    })
 
 pub past_later : (n : ℕ) (ws rest : List Whole) (w : Whole) → ws ≡ w ∷ rest
     → IsPastPoint (sizes rest) n → IsPastPoint (sizes ws) n

@@ -5,11 +5,9 @@
 --   kept_vars         of how many variables it is
 --   normal_same, next_same     what is made normal, and what is had at n + 1
 --   same_tells        whether what two polynomials stand for is the same
---   variable_stands   a variable
 --   moved_past        where a composition's polynomial is past, the composition is
-use Rattle.std.proofs.Common.{◌≡◌, ◌↔◌, inl, ℕ, ◌+◌, ◌-◌, ◌<◌, ◌≤◌, Bool, true, false, List, [], ◌∷◌, ◌++◌, length, get_or, slice_get, take, drop, take-append-drop, IsTrue, refl, sym, ap, ap₂, subst, subst₂, ◌∙◌, arith, true≢false}
-use Rattle.std.specs.Prelude.{All, IsSomeAnd}
-use Rattle.std.proofs.lemmas.Option.{slice_get-get_or}
+use Rattle.std.proofs.Common.{◌≡◌, ◌↔◌, inl, ℕ, ◌+◌, ◌-◌, ◌<◌, ◌≤◌, Bool, true, false, List, [], ◌∷◌, ◌++◌, length, get_or, take, drop, take-append-drop, IsTrue, refl, sym, ap, ap₂, subst, subst₂, ◌∙◌, arith, true≢false}
+use Rattle.std.specs.Prelude.{All}
 use Rattle.rings.specs.Each.{Each}
 use Rattle.numbers.specs.Fraction.{Fraction, ℚ, rationals, fractions, fraction_size}
 use Rattle.numbers.specs.Size.{IsPast}
@@ -26,11 +24,10 @@ use Rattle.polynomials.proofs.Weight.{composition-pos}
 use Rattle.exponentials.specs.Keys.{key_of, top}
 use Rattle.machines.specs.Collect.{collect}
 use Rattle.machines.proofs.Collecting.{collect-is, collect-same}
-use Rattle.loops.proofs.Maps.{length-variables}
 use Rattle.turns.specs.Expo.{with_normal_keys, tail, with_key, next_images}
 use Rattle.turns.specs.Turns.{width, IsNormal}
 use Rattle.turns.proofs.Retold.{same_normalized}
-use Rattle.poly.specs.Operations.{AreEqual, IsVariable}
+use Rattle.poly.specs.Operations.{AreEqual}
 use Rattle.poly.specs.Seen.{terms_in, Is}
 use Rattle.poly.specs.Standing.{IsOver as IsOverMany}
 use Rattle.poly.proofs.Standing.{arity_over, polynomial_over}
@@ -151,15 +148,6 @@ same_tells p q x y b tells s t = (
   λ yes. Same-trans ℚ (Same-sym ℚ s) (Same-trans ℚ (tells.0 yes) t),
   λ h. tells.1 (Same-trans ℚ s (Same-trans ℚ h (Same-sym ℚ t))),
 )
-
-pub variable_stands : (m n i : ℕ) (p : FracPoly) → n ≡ m → i < m → IsVariable p.order n i p
-    → (p.arity ≡ m) × Same ℚ (terms_in p) (get_or (variables ℚ m) i [])
-variable_stands m n i p e l h =
-    let is : Is p.order m (get_or (variables ℚ m) i []) p =
-    subst (λ o. IsSomeAnd o (λ x. Is p.order m x p))
-    (slice_get-get_or (variables ℚ m) i [] (let k = length-variables m in omega (arith, l, k)))
-    (subst (λ k. IsSomeAnd (slice_get (variables ℚ k) i) (λ x. Is p.order k x p)) e h) in
-    (is.arity, is.same)
 
 pub moved_past : (w : ℕ) (g : Terms Fraction) (back : List (Terms Fraction)) (moved : FracPoly)
     → Is moved.order w (compose ℚ w g back) moved → IsPast (weight fraction_size (terms_in moved))

@@ -159,14 +159,6 @@ module _ (program : Program (Expr ℕ)) (c : FullCertificate) where
       wide_refused (path_of (in_steps b i)) r h.0 (step_wide b i h.1) is
   refusal check_error.Memory r h is = subst (IfRefused program c) (sym is) tt
 
--- a branch behind the start
-pub earlier_branch : (branch i : ℕ) (r : FullError) → 0 < branch
-    → IsWideAt (path_of (in_steps (branch - 1) i)) r → IsRefusalOf (check_error.Wide branch i) r
-earlier_branch zero i r l w = absurd (omega arith)
-earlier_branch (suc b) i r l w =
-    let e : suc b - 1 ≡ b = omega arith in
-    subst (λ a. IsWideAt (path_of (in_steps a i)) r) e w
-
 -- the verdict on a part
 pub failing_verdict : (program : Program (Expr ℕ)) (c : FullCertificate) (part : Part)
     → IsFirst program c part → (v : FullVerdict) → IsFailing (path_of part) v

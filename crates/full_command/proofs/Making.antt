@@ -77,9 +77,6 @@ module _ (l : Program (Expr ℕ)) (budget : ℕ) (a : Analysis) (found : IsFound
     least = found.least;
   }
 
-  gs : List (Terms Fraction)
-  gs = terms_each a.basis.items
-
   steps_count : length (seen_steps a.steps.items) ≡ length l.branches
   steps_count = found.closed.steps.count ∙ found.closed.finished.follows.are_forms.count
 
@@ -109,10 +106,6 @@ module _ (l : Program (Expr ℕ)) (budget : ℕ) (a : Analysis) (found : IsFound
 
   module _ (w : IsWellFormed l) (m : Journal) (t : Trace) (cert : FullCert)
       (traced : IsTraceOf l a.rounds m.entries t) (is_made : IsMadeOf a t cert) where
-    whole : FullCertificate
-    whole = full_from (terms_each a.basis.items) (seen_steps a.steps.items)
-        traced.finished.follows.forms traced.given
-
     pub is_whole : full_of cert ≡ full_from (terms_each a.basis.items) (seen_steps a.steps.items)
         traced.finished.follows.forms traced.given
     is_whole =

@@ -1,7 +1,6 @@
 -- The parts of a stage as the code makes them.
 --   list_made                                  the completion
---   list_divisors, list_blocks, list_over      its list has its variables and its order, and none is 0
---   free_is, free_divisors, free_short         so has what is kept of it, and that is no more
+--   free_is, free_divisors, free_short         what is kept of it has its variables and its order, and is no more
 --   pairs_inside                               the places of pairs
 --   out_made                                   the tidying
 --   refused_pairs, refused_out, refused_links  refusals behind the completion;  out_few: how many are given
@@ -54,15 +53,6 @@ module _ (k m : ℕ) (begin : List Blocked) (v : Vec Blocked) (old mid : Journal
   }
 
   module _ (ps : List Blocked) (is : ps ≡ v.items) where
-    pub list_divisors : AreDivisors (in_blocks k) (k + m) ps
-    list_divisors = subst (AreDivisors (in_blocks k) (k + m)) (sym is) r.to.gives.elements
-
-    pub list_blocks : All (λ (p : Blocked). p.order.first ≡ k) ps
-    list_blocks i d l = ap (λ (o : Blocks). o.first) (list_divisors i d l).0
-
-    pub list_over : All (λ (p : Blocked). p.arity ≡ k + m) ps
-    list_over i d l = (list_divisors i d l).1
-
     module _ (fs gs : List FracPoly) (kept_is : terms_each fs ≡ free_part k (terms_each ps))
         (over : All (λ (p : FracPoly). p.arity ≡ m) fs) (same : gs ≡ fs) where
       pub free_is : terms_each gs ≡ free_part k (terms_each v.items)

@@ -7,7 +7,7 @@
 --   images_are                   what stands for the variables of a form
 --   less_none, differences_next, past_difference_here, past_difference_next     each variable less its form
 --   images_count, graph_rest, past_graph     the whole list
---   before_none, copy_next, told_next     what the variables were
+--   copy_next, told_next     what the variables were
 use Rattle.std.proofs.Common.{◌≡◌, ◌⊎◌, inl, inr, ℕ, suc, ◌+◌, ◌-◌, ◌<◌, ◌≤◌, true, false, Bool, List, [], ◌∷◌, ◌++◌, map, take, drop, length, All, arith, refl, sym, ap, ap₂, subst, ◌∙◌, drop-cons, append_assoc}
 use Rattle.std.specs.List.{Any}
 use Rattle.std.proofs.lemmas.List.{append-nil, length-append, length-map, length-take}
@@ -228,17 +228,6 @@ module _ (k t m : ℕ) (images before : List (Terms Fraction))
 
 -- ---- what the variables were
 module _ (w k : ℕ) (wide : Terms Fraction → Terms Fraction) where
-  pub before_none : (bs : List Bool) (j : ℕ) (ps : List FracPoly) → length ps ≡ 0
-      → before_in w k bs j (map wide (terms_each ps)) ≡ []
-  before_none [] j ps e = refl
-  before_none (b ∷ bs) j [] e = refl
-  before_none (b ∷ bs) j (p ∷ ps) e = absurd (omega (arith, e))
-
-  pub before_nobody : (bs : List Bool) (j : ℕ) (ps : List FracPoly) → length bs ≡ 0
-      → before_in w k bs j (map wide (terms_each ps)) ≡ []
-  before_nobody [] j ps e = refl
-  before_nobody (b ∷ bs) j ps e = absurd (omega (arith, e))
-
   module _ (bs others : List Bool) (b : Bool) (is : bs ≡ b ∷ others) (ps rest : List FracPoly)
       (p : FracPoly) (are : ps ≡ p ∷ rest) (j i : ℕ) (news : List FracPoly)
       (qs : List (Terms Fraction)) where

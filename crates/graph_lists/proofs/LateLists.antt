@@ -135,11 +135,6 @@ collected_list w (p ∷ ps) (q ∷ qs) a h =
     ap₂ ◌∷◌ (collect-is ℚ_field grevlex grevlex_order w q (terms_in p) a.0
     (polynomial_over w p h.0.arity) h.0.same) (collected_list w ps qs a.1 h.1)
 
-pub all_collected : (qs : List (Terms Fraction)) → AllSame ℚ (map (collect rationals grevlex) qs) qs
-unfolding AllSame
-all_collected [] = tt
-all_collected (q ∷ qs) = (collect-same ℚ_field grevlex grevlex_order q, all_collected qs)
-
 -- ---- the list of a graph
 less-arities : (w : ℕ) (xs ys : List (Terms Fraction)) → AllArity w xs → AllArity w ys
     → AllArity w (less xs ys)
@@ -234,9 +229,6 @@ module _ (k t m : ℕ) where
       other (alike_itself (take k (variables ℚ (k + t + m)))) h)) fs)) (alike_itself []))
 
 -- ---- what is too heavy
-abbrev IsHeavy : Terms Fraction → Type 0
-IsHeavy p = IsPast (weight fraction_size p)
-
 heavy_composed : (w : ℕ) (p g : Terms Fraction) (images : List (Terms Fraction))
     → IsPolynomial ℚ grevlex w p → Same ℚ p (compose ℚ w g images) → IsPast (weight fraction_size p)
     → IsPastComposition fractions g images
@@ -328,10 +320,6 @@ module _ (f : LateForm) (fits : FitsForm f) (k : ℕ) (s : Shape) (is : HasShape
       before (before_in (width_of s) s.front f.passing.now.items 0
       (map (with_room_for s.front s.copies
       s.variables) told))) where
-    abbrev what : List (Terms Fraction)
-    what = before_by (k + copies_in f + vars_in f) k (which f) 0 0
-        (map (with_room_for k (copies_in f) (vars_in f)) meant)
-
     stands_here : AllStandFor (k + copies_in f + vars_in f) before (before_by
         (k + copies_in f + vars_in f) k (which f) 0 0
         (map (with_room_for k (copies_in f) (vars_in f))

@@ -47,9 +47,6 @@ module _ (f : LateForm) (s : Shape) where
         (before_arity k (copies_in f) (vars_in f) (which f)
         (map (backward_terms (numbers_in f)) (form_in f).polys) 0 0))
 
-    abbrev N : Terms Fraction → Terms Fraction
-    N = normal (blocks (front (numbers_in f) + copies_in f) grevlex grevlex) (numbers_in f)
-
     parts : (us : List (Terms Fraction)) → map (normal (blocks (front (numbers_in f) + copies_in f)
         grevlex grevlex) (numbers_in f)) (orbit_graph_of f gs) ++ us
         ≡ map (normal (blocks (front (numbers_in f) + copies_in f) grevlex grevlex) (numbers_in f))

@@ -150,9 +150,6 @@ past_back e back over (inr p) =
 
 -- ---- polynomial by polynomial
 module _ (bs : List ℕ) (m : ℕ) (es rest : List Expo) (e : Expo) (is : es ≡ e ∷ rest) where
-  abbrev at_one : Terms Fraction → Terms Fraction
-  at_one p = at_minus_one (form_over bs) m p
-
   pub over_here : All (IsExpoOver bs m) es → IsExpoOver bs m e
   over_here all = subst (λ l. All (IsExpoOver bs m) l) is all 0 e (omega arith)
 

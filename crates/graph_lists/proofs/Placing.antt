@@ -1,12 +1,12 @@
 -- Polynomials in the order that eliminates the first variables, one after another.
---   pushed_next, pushed_none        one more
+--   pushed_next        one more
 --   normal_is, placed_is            an element
 --   relation_placed, relations_none, relations_more      the relations
---   past_here, past_later           what is past
-use Rattle.std.proofs.Common.{◌≡◌, ℕ, suc, ◌+◌, ◌-◌, ◌<◌, ◌≤◌, List, [], ◌∷◌, ◌++◌, map, length, Result, refl, sym, ap, ap₂, subst, ◌∙◌, arith, append_assoc}
+--   past_later         what is past
+use Rattle.std.proofs.Common.{◌≡◌, ℕ, suc, ◌+◌, ◌-◌, ◌<◌, ◌≤◌, List, [], ◌∷◌, ◌++◌, map, Result, refl, sym, ap, ap₂, subst, ◌∙◌, arith, append_assoc}
 use Rattle.std.specs.List.{Any}
 use Rattle.std.specs.Result.{OnOk}
-use Rattle.std.proofs.lemmas.List.{append-nil, map-append}
+use Rattle.std.proofs.lemmas.List.{map-append}
 use Rattle.std.proofs.lemmas.Result.{on_ok_weaker}
 use Rattle.rings.specs.Each.{Each}
 use Rattle.numbers.specs.Fraction.{Fraction, ℚ, rationals, fraction_size}
@@ -34,12 +34,6 @@ use Rattle.starting_lists.proofs.TwoTerms.{block_polynomial}
 
 -- ---- one more
 module _ (w : ℕ) (f : Terms Fraction → Terms Fraction) where
-  pub pushed_none : (list : List FracPoly) (qs : List (Terms Fraction)) (gens : List Blocked)
-      → length list ≡ 0 → AllStandFor w list qs → terms_each gens ≡ terms_each gens ++ map f qs
-  pushed_none [] [] gens e a = sym (append-nil (terms_each gens))
-  pushed_none [] (q ∷ qs) gens e a = absurd a
-  pushed_none (p ∷ list) qs gens e a = absurd (omega (arith, e))
-
   module _ {T E : Type 0} (r : Result T E) (olds mids news : List Blocked) (b : Blocked)
       (are : mids ≡ olds ++ b ∷ []) (p : FracPoly)
       (element : (q : Terms Fraction) → StandsFor w p q → Arity w q → terms_in b ≡ f q)
@@ -130,14 +124,6 @@ module _ (f : Terms Fraction → Terms Fraction) (r w : ℕ) (olds : List (Terms
 
 -- ---- what is past
 module _ (list rest : List FracPoly) (p : FracPoly) (is : list ≡ p ∷ rest) where
-  abbrev IsHeavy : Terms Fraction → Type 0
-  IsHeavy t = IsPast (weight fraction_size t)
-
-  pub past_here : IsPast (weight fraction_size (terms_in p))
-      → Any (λ t. IsPast (weight fraction_size t)) (terms_each list)
-  past_here h = subst (λ l. Any (λ t. IsPast (weight fraction_size t)) (terms_each l)) (sym is)
-      (0, terms_in p, omega arith, refl, h)
-
   pub past_later : Any (λ t. IsPast (weight fraction_size t)) (terms_each rest)
       → Any (λ t. IsPast (weight fraction_size t)) (terms_each list)
   past_later (i, t, l, e, h) = subst (λ l. Any (λ t. IsPast (weight fraction_size t))

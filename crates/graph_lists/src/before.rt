@@ -60,8 +60,9 @@ fn push_before(
     requires over { All (IsOver (shape.front + shape.variables)) told.now }
     ensures before { let wide = with_room_for shape.front shape.copies shape.variables in
         (qs : List (Terms Fraction)) → AllStandFor (width_of shape) out.old.items qs
-        → OnOk result (AllStandFor (width_of shape) out.new.items (qs
-        ++ before_in (width_of shape) shape.front passing.now copy (map wide (terms_each told.now)))) }
+        → OnOk result (AllStandFor (width_of shape) out.new.items
+        (qs ++ before_in (width_of shape) shape.front passing.now copy
+        (map wide (terms_each told.now)))) }
 {
     let (Some((passes, passing)), Some((poly, told))) = (passing.split_first(), told.split_first())
     else {

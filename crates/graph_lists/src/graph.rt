@@ -1,5 +1,5 @@
 //! The list of a graph of what was and what is.
-ghost use Rattle.std.specs.Prelude.{◌≡◌, ◌⊎◌, ◌≤◌, ◌<◌, ◌+◌, ◌++◌, List, [], length, map, take, drop, All, Any, IfOk, OnOk, IsErrOf};
+ghost use Rattle.std.specs.Prelude.{◌≡◌, ◌⊎◌, ◌≤◌, ◌<◌, ◌+◌, ◌++◌, List, [], length, map, drop, All, Any, IfOk, OnOk, IsErrOf};
 ghost use Rattle.numbers.specs.Fraction.{Fraction, ℚ, fractions, rationals};
 ghost use Rattle.polynomials.specs.Order.{grevlex};
 ghost use Rattle.polynomials.specs.Terms.{Terms, variables, compose, negate};
@@ -9,7 +9,7 @@ ghost use Rattle.monos.specs.Variables.{most_variables};
 ghost use Rattle.poly.specs.Seen.{terms_in, terms_each};
 ghost use Rattle.poly.specs.Standing.{IsOver, StandsFor, AllStandFor};
 ghost use Rattle.rounds.specs.Form.{variable_at};
-ghost use Rattle.rounds.specs.Graph.{images_behind, less, at_before, graph_list};
+ghost use Rattle.rounds.specs.Graph.{images_behind, less, graph_list};
 ghost use Rattle.rounds.specs.Past.{IsPastLess, IsPastGraph};
 ghost use Rattle.graph_lists.specs.Shapes.{width_of};
 

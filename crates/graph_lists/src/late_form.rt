@@ -1,5 +1,5 @@
 //! The lists of a closed form that isn't the state from the start on.
-ghost use Rattle.std.specs.Prelude.{◌≡◌, ◌≤◌, ◌<◌, ◌+◌, ◌++◌, ℕ, List, [], length, map, All, Any, IfOk, OnOk, IsErrOf};
+ghost use Rattle.std.specs.Prelude.{◌≡◌, ◌<◌, ◌+◌, ◌++◌, ℕ, List, length, map, All, Any, IfOk, OnOk, IsErrOf};
 ghost use Rattle.numbers.specs.Fraction.{Fraction, fractions, fraction_size};
 ghost use Rattle.numbers.specs.Size.{IsPast};
 ghost use Rattle.polynomials.specs.Order.{grevlex};

@@ -1,10 +1,9 @@
 -- What the operations end with.
 --   basis_along       a reduced basis of a set is one of each set with the same polynomials
---   kept_monic        what is kept of a Gröbner basis is monic, so a tidying begins with it
 --   eliminated_of     the tidying of what is kept gives the elimination
 --   met_of            of a blend, the intersection
 --   added_of          a reduced basis of two lists together is one of the sum
-use Rattle.std.proofs.Common.{◌≡◌, ◌↔◌, ℕ, ◌+◌, List, ◌++◌, map}
+use Rattle.std.proofs.Common.{◌↔◌, ℕ, ◌+◌, List, ◌++◌}
 use Rattle.rings.specs.Arithmetic.{Arithmetic}
 use Rattle.rings.specs.Each.{Each}
 use Rattle.rings.specs.FieldArithmetic.{calculus}
@@ -17,11 +16,10 @@ use Rattle.polynomials.proofs.Orders.{blocks_order}
 use Rattle.ideals.specs.Members.{IsMember, IsSumOf}
 use Rattle.ideals.proofs.Members.{member_sum, sum_member}
 use Rattle.machines.specs.Basis.{AtPlaces, IsBasisOf}
-use Rattle.machines.specs.Cut.{monic}
 use Rattle.machines.specs.Elimination.{free_part, in_front, blend}
 use Rattle.machines.specs.Reduced.{IsReducedBasis}
 use Rattle.machines.proofs.Eliminating.{kept_basis, kept_members}
-use Rattle.machines.proofs.Ends.{reduced_along, monic_list}
+use Rattle.machines.proofs.Ends.{reduced_along}
 use Rattle.machines.proofs.Meeting.{blend_members}
 
 joined : {X Y Z : Type 0} → X ↔ Y → Y ↔ Z → X ↔ Z
@@ -63,9 +61,6 @@ module _ {A : Type 0} (K : Field A) (k m : ℕ) (P Q : Rank) (p : IsMonomialOrde
       (b : IsBasisOf (calculus K) (blocks k P Q) (k + m) basis hs) where
     pub kept_itself : IsBasisOf (calculus K) Q m (free_part k basis) (free_part k basis)
     kept_itself = kept_basis K k m P Q p q basis hs ph b
-
-    pub kept_monic : map (monic (calculus K)) (free_part k basis) ≡ free_part k basis
-    kept_monic = monic_list K Q q m (free_part k basis) kept_itself.monic
 
     -- ELIMINATION
     pub eliminated_of : (gs : List (Terms A))

@@ -2,7 +2,7 @@
 --   round_begun            the first branch
 --   turn_due, orbit_due, meet_due, met_done, turns_go_on     what follows in a branch
 --   branch_at, closing_at  what follows it, by the number of the next branch
-use Rattle.std.proofs.Common.{◌≡◌, ◌⊎◌, inl, inr, ℕ, zero, suc, pred, ◌+◌, ◌<◌, ◌≤◌, cond, List, [], length, get_or, refl, sym, ap, subst, ◌∙◌, arith}
+use Rattle.std.proofs.Common.{◌≡◌, ◌⊎◌, inl, inr, ℕ, zero, suc, pred, ◌+◌, ◌<◌, ◌≤◌, cond, List, length, refl, ap, subst, arith}
 use Rattle.std.proofs.lemmas.Bool.{lt-ltb, le-ltb}
 use Rattle.std.proofs.lemmas.List.{length-map}
 use Rattle.numbers.specs.Fraction.{Fraction}

@@ -4,7 +4,7 @@
 --   way_is                        what is done
 --   over_of, reduced_of           what it gives
 --   whole_length, late_length, orbit_length, turn_length     how many there are
-use Rattle.std.proofs.Common.{◌≡◌, ℕ, zero, suc, ◌+◌, ◌-◌, ◌<◌, ◌≤◌, ◌^◌, List, [], ◌∷◌, ◌++◌, map, drop, length, refl, ap, ap₂, subst, arith}
+use Rattle.std.proofs.Common.{◌≡◌, ℕ, zero, suc, ◌+◌, ◌-◌, ◌<◌, ◌≤◌, List, [], ◌∷◌, ◌++◌, map, drop, length, refl, ap, ap₂, subst, arith}
 use Rattle.std.proofs.lemmas.List.{length-map, length-append, length-drop}
 use Rattle.std.proofs.lemmas.List.Elements.{All-head}
 use Rattle.numbers.specs.Fraction.{Fraction, ℚ, rationals, fractions}

@@ -1,13 +1,11 @@
 -- The form of a branch as that of lists from graphs, where it isn't the state from the start on.
---   fits_late                       its parts fit
 --   late_front, late_list, late_past       an orbit
 --   turn_front_is, turn_list_is, turn_past_is      a turn
 --   whole_front, whole_list, whole_past    an orbit where the form is the state from the start on
-use Rattle.std.proofs.Common.{◌≡◌, ◌⊎◌, ℕ, zero, suc, ◌+◌, ◌<◌, ◌≤◌, Bool, false, List, [], ◌∷◌, map, get_or, length, All, refl, sym, ap, ap₂, subst, ◌∙◌, arith}
+use Rattle.std.proofs.Common.{◌≡◌, ◌⊎◌, ℕ, zero, suc, ◌+◌, ◌<◌, Bool, false, List, [], map, get_or, length, refl, sym, ap, subst, ◌∙◌}
 use mathlib.Core.Path.{fun_ext}
 use Rattle.std.specs.Global.{Vec}
 use Rattle.std.specs.List.{Any}
-use Rattle.std.proofs.lemmas.List.{length-map}
 use Rattle.numbers.specs.Fraction.{Fraction, fractions, rationals}
 use Rattle.polynomials.specs.Order.{grevlex, blocks}
 use Rattle.polynomials.specs.Terms.{Terms}
@@ -15,15 +13,13 @@ use Rattle.polynomials.specs.Weight.{IsPastComposition}
 use Rattle.machines.specs.Collect.{collect}
 use Rattle.frac128.specs.declared.Whole.{Whole}
 use Rattle.poly.specs.Seen.{terms_each}
-use Rattle.poly.specs.Standing.{IsOver}
 use Rattle.coprime_base.specs.Sizes.{sizes}
-use Rattle.expo.specs.Bases.{IsCoprimeBase}
 use Rattle.expo.specs.declared.exponential.Expo.{Expo}
 use Rattle.expressions.specs.FracPoly.{FracPoly}
 use Rattle.closed_forms.specs.Values as values
-use Rattle.rounds.specs.Form.{Form, front, backward, form_backward, passes, passing, form_before, front_since, list_since, late_orbit_list, turn_before, turn_graph}
+use Rattle.rounds.specs.Form.{Form, front, form_backward, passes, passing, form_before, front_since, list_since, late_orbit_list, turn_before, turn_graph}
 use Rattle.rounds.specs.Past.{IsPastGraph, IsPastOrbitSince, turn_images}
-use Rattle.graph_lists.specs.Late.{IsExpoOver, FitsForm, bodies_in, numbers_in, copies_in, front_in, orbit_of, turn_of, IsPastOrbitOf, IsPastTurnOf, vars_in, which, form_in}
+use Rattle.graph_lists.specs.Late.{bodies_in, copies_in, front_in, orbit_of, turn_of, IsPastOrbitOf, IsPastTurnOf, vars_in, which, form_in}
 use Rattle.graph_lists.specs.declared.late_form.LateForm.{LateForm}
 use Rattle.invariant_fix.specs.Orbits.{numbers_of, vars_of, orbit_front_of, orbit_list_of, turn_front_of, turn_list_of, unwound_list, IsPastUnwinding, IsPastTurning, IsPastUnwound}
 use Rattle.invariant_fix.specs.Setting.{form_of, FitsBranch}
@@ -81,39 +77,6 @@ module _ (b : Branch) (fits : FitsBranch (vars_of b) b) (some : 0 < vars_of b) (
         = 0;
   }
   form_is = λ i. record { base = base_is i; polys = polys_are i; since = 0 }
-
-  each_over : (bs : List ℕ) (n : ℕ) (es : List Expo) → values.AreOver bs n es
-      → All (IsExpoOver bs n) es
-  each_over bs n es all k d l = let o = all k d l in
-      record { over_base = o.over_base; over_vars = o.over_vars }
-
-  over_is : All (IsExpoOver (sizes f.base.now.items) (vars_in f)) f.polys.now.items
-  over_is =
-      subst (λ bs. All (IsExpoOver bs (vars_in f)) f.polys.now.items) (sym base_is)
-      (subst (λ n. All (IsExpoOver (sizes b.form.base.items) n) f.polys.now.items) (sym vars_are)
-      (subst (λ (v : Vec Expo). All (IsExpoOver (sizes b.form.base.items) (vars_of b)) v.items)
-      (sym polys)
-      (each_over (sizes b.form.base.items) (vars_of b) b.form.polys.items fits.form_over)))
-
-  back_over : All (IsOver (front (numbers_in f) + vars_in f)) f.back.now.items
-  back_over =
-      subst (λ bs. All (IsOver (front (length bs) + vars_in f)) f.back.now.items) (sym base_is)
-      (subst (λ n. All (IsOver (front (numbers_of b) + n)) f.back.now.items) (sym vars_are)
-      (subst (λ (v : Vec FracPoly). All (IsOver (front (numbers_of b) + vars_of b)) v.items)
-      (sym back) fits.back_arity))
-
-  pub fits_late : FitsForm f
-  fits_late = record {
-    some = subst (λ n. 0 < n) (sym vars_are) some;
-    base = subst IsCoprimeBase (sym base_is) fits.base;
-    few = subst (λ bs. front (length bs) + vars_in f + vars_in f ≤ 4096) (sym base_is)
-        (subst (λ n. front (numbers_of b) + n + n ≤ 4096) (sym vars_are) fits.few);
-    count = ap (λ (v : Vec Expo). length v.items) polys ∙ fits.form_count ∙ sym vars_are;
-    over = over_is;
-    back_arity = back_over;
-    back = ap (λ (v : Vec FracPoly). terms_each v.items) back ∙ fits.back
-        ∙ ap₂ (λ bs ps. map (backward grevlex (length bs)) ps) (sym base_is) (sym polys_are);
-  }
 
   -- the form, as its lists see it
   seen_so : {T : Type 0} (of : Form → ℕ → (ℕ → Bool) → T) → of (form_in f) (vars_in f) (which f)

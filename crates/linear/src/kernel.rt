@@ -1,6 +1,5 @@
 //! The kernel of an echelon list.
 ghost use Rattle.std.specs.Prelude.{◌≡◌, ◌<◌, All, length, IfOk};
-ghost use Rattle.numbers.specs.Fraction.{ℚ};
 ghost use Rattle.frac128.specs.FracMeaning.{fraction_of};
 ghost use Rattle.linear.specs.Rows.{fractions_of, rows_of};
 ghost use Rattle.linear.specs.Parts.{is_free, kernel_entry, kernel_row, kernel_rows};

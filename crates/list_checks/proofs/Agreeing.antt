@@ -1,6 +1,6 @@
 -- Lists of polynomials compared place by place.
 --   AgreesFrom i            whether the lists are the same depends on the places from i on alone
---   agrees_start, agrees_more, agrees_end     from the first place, from the next, and behind the last
+--   agrees_more, agrees_end     from the next place, and behind the last
 --   agrees_not              where a place differs
 use Rattle.std.proofs.Common.{◌≡◌, ◌↔◌, ℕ, suc, ◌+◌, ◌<◌, ◌≤◌, List, [], ◌∷◌, get_or, drop, length, sym, ap, subst, subst₂, ◌∙◌, add-one}
 use Rattle.std.proofs.Math.Seq.{drop-cons}
@@ -11,9 +11,6 @@ use Rattle.polynomials.specs.Terms.{Terms, Same, AllSame}
 module _ {A : Type 0} (N : Arithmetic A) (ps qs : List (Terms A)) where
   abbrev pub AgreesFrom : ℕ → Type 0
   AgreesFrom i = AllSame N ps qs ↔ AllSame N (drop i ps) (drop i qs)
-
-  pub agrees_start : AgreesFrom 0
-  agrees_start = (λ h. h, λ h. h)
 
   pub agrees_end : (i : ℕ) → length ps ≤ i → length qs ≤ i → AgreesFrom i → AllSame N ps qs
   unfolding AllSame

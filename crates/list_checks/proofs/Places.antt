@@ -1,11 +1,11 @@
 -- Pairs of places, so far.
 --   numbers-push     so many numbers, and one more
 --   pairs_from n i   the pairs of places below n whose first is i
---   none_from, one_from      below the next place there is none, and with n one more
+--   one_from         with n one more
 --   pairs_to n i     those whose first is below i
---   pairs_more       those whose first is i behind them;  pairs_all: all of them
+--   pairs_more       those whose first is i behind them
 --   pairs_within     both places of each are below n
-use Rattle.std.proofs.Common.{◌≡◌, ◌≤◌, ◌<◌, ℕ, zero, suc, ◌+◌, ◌-◌, List, [], ◌∷◌, ◌++◌, map, get_or, length, refl, sym, ap, ◌∙◌, add-one, arith}
+use Rattle.std.proofs.Common.{◌≡◌, ◌≤◌, ◌<◌, ℕ, zero, suc, ◌+◌, ◌-◌, List, [], ◌∷◌, ◌++◌, map, get_or, length, sym, ap, ◌∙◌, add-one, arith}
 use Rattle.std.specs.Prelude.{flat_map}
 use Rattle.std.proofs.lemmas.List.{append-nil, map-append}
 use Rattle.std.proofs.lemmas.Grind.{flat_map-append}
@@ -29,10 +29,6 @@ pairs_from n i = map (λ j. (i, j)) (numbers (suc i) (n - suc i))
 abbrev pub pairs_to : ℕ → ℕ → List (ℕ × ℕ)
 pairs_to n i = flat_map (pairs_from n) (numbers 0 i)
 
-pub none_from : (i : ℕ) → pairs_from (i + 1) i ≡ []
-none_from i = let e : i + 1 - suc i ≡ 0 = omega arith in
-    ap (λ n. map (λ j. (i, j)) (numbers (suc i) n)) e
-
 pub one_from : (n i : ℕ) → suc i ≤ n → pairs_from (n + 1) i ≡ pairs_from n i ++ (i, n) ∷ []
 one_from n i l =
     let e : n + 1 - suc i ≡ suc (n - suc i) = omega (arith, l) in
@@ -49,10 +45,6 @@ pairs_more n i =
     ∙ ap (λ (k : ℕ). numbers 0 i ++ k ∷ []) e)
     ∙ flat_map-append (pairs_from n) (numbers 0 i) (i ∷ [])
     ∙ ap (λ ks. pairs_to n i ++ ks) (append-nil (pairs_from n i)))
-
-pub pairs_all : (n : ℕ) → pairs_to n n ≡ pairs_of n
-unfolding pairs_of
-pairs_all n = refl
 
 -- ---- what holds of each
 each_number : (P : ℕ → Type 0) (lo n : ℕ) → ((j : ℕ) → lo ≤ j → j < lo + n → P j)

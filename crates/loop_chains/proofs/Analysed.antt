@@ -1,7 +1,6 @@
 -- A chain that is analysed loop by loop ends with the reduced basis of its invariants.
 --   Knows c gs           gs generate the invariants of the chain c, and are their reduced basis
 --   analysed_known       so does the list of each loop's finished journal
---   led_from             what the code behind it makes of that is a reduced basis
 --   analysed_one         and there is no other reduced basis
 use Rattle.std.proofs.Common.{◌≡◌, ◌↔◌, ℕ, suc, ◌<◌, List, get_or, length, arith, sym, subst}
 use Rattle.std.proofs.Math.Seq.{take-suc}
@@ -117,14 +116,6 @@ module _ {At : Type 0} (c : Chain (Expr At)) (w : IsChain c) (budget : ℕ) wher
       known_next j l hs
       (known_further (up_to j c) gs (analysed_known j gs before) (get_or c.further j no_stage)
       (w.formed (suc j) (omega (arith, l))).some_branch fs ks led es k hs done)
-
-  -- what is given to a further loop
-  pub led_from : (j : ℕ) (gs : List (Terms Fraction)) → Analysed c budget j gs
-      → j < length c.further → (fs : List Entry) (ks : List (Terms Fraction))
-      → IsLed c.first (get_or c.further j no_stage).code gs fs ks
-      → IsReducedList (length c.first.names) ks
-  led_from j gs a l fs ks led = given_reduced (up_to j c) gs (analysed_known j gs a)
-      (get_or c.further j no_stage) (w.formed (suc j) (omega (arith, l))).some_branch fs ks led
 
   pub analysed_basis : (j : ℕ) (gs : List (Terms Fraction)) → Analysed c budget j gs
       → IsBasisOfChain (up_to j c) gs

@@ -35,9 +35,6 @@ module _ (t m : ℕ) (copied before fs gs ds : List (Terms Fraction)) where
   abbrev pub put : Terms Fraction → Terms Fraction
   put p = compose ℚ (t + m) p before
 
-  abbrev pub list : List (Terms Fraction)
-  list = map put gs ++ ds
-
   -- the copies at a state, and what is behind it
   abbrev pub led : List Fraction → List Fraction
   led s = map (λ c. at c s) copied ++ map (λ f. at f s) fs

@@ -20,6 +20,7 @@ pub fn loop_text(alloc: Global, number: u32) -> Result<String, AllocError>
     let first = 1 + place % 8;
     let second = 1 + place / 8 % 8;
     format!(in alloc;
-        "vars x, y, z, w; init x=1, y=1, z=0, w=0; branch {{ x={base}^{first}*x; y={base}^{second}*y; w=w+z; z=z+1; }}"
+        "vars x, y, z, w; init x=1, y=1, z=0, w=0; \
+         branch {{ x={base}^{first}*x; y={base}^{second}*y; w=w+z; z=z+1; }}"
     )
 }

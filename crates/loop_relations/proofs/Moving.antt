@@ -1,6 +1,6 @@
 -- The images of a loop's variables, one after another.
---   no_images, more_images, all_images
-use Rattle.std.proofs.Common.{◌≡◌, ◌≤◌, ◌+◌, ℕ, List, [], ◌∷◌, ◌++◌, map, arith, ap₂, length, get_or, sym, ap, ◌∙◌}
+--   no_images, more_images
+use Rattle.std.proofs.Common.{◌≡◌, ◌+◌, ℕ, List, [], ◌∷◌, ◌++◌, map, arith, ap₂, length, get_or, sym, ap, ◌∙◌}
 use Rattle.std.proofs.lemmas.List.{map-append}
 use Rattle.numbers.specs.Fraction.{Fraction, ℚ}
 use Rattle.polynomials.specs.Terms.{Terms, variables}
@@ -31,7 +31,3 @@ module _ (m : ℕ) (is : List ℕ) where
       here : terms_in p ≡ image_at m is i
       here = e ∙ ap (λ l. get_or (variables ℚ (length l)) (place_in l i) []) o
           ∙ ap (λ n. get_or (variables ℚ n) (place_in (order m is) i) []) (order_all m is)
-
-  pub all_images : (i : ℕ) (ps : List FracPoly) → i ≤ m → m ≤ i
-      → terms_each ps ≡ map (image_at m is) (places 0 i) → terms_each ps ≡ images m is
-  all_images i ps a b h = h ∙ ap (λ k. map (image_at m is) (places 0 k)) (omega (arith, a, b))

@@ -2,9 +2,9 @@
 --   Keeps N M of on R      R stands between the results of operations where it stands between what they are computed from
 --   value-kept, branch-kept, ..     then it stands between the values of an expression, the states after a branch, ..
 --   Closed N of P          P holds of results where it holds of what they are computed from
---   value_in, branch_in, ..         then it holds of values and of the elements of states
+--   value_in, ..                    then it holds of values and of the elements of states
 --   Carries N M of on f    f takes results to results
---   to-value_of, map-branch, ..     then it takes values to values and states to states
+--   to-value_of, ..                 then it takes values to values and states to states
 --   turn-kept, turn_in, map-turn, length-turn     the same of the variables after a branch, whose local names are 0 before it
 --   length-branch, ..      a state's length stays
 --   store-push, branch-push     one more target, one more statement
@@ -157,10 +157,6 @@ module _ {A : Type 0} (N : Arithmetic A) (of : Fraction → A) (P : A → Type 0
     pub value_in : {At : Type 0} → (s : List A) → Each P s → (e : Expr At) → P (value_of N of s e)
     value_in s h e = value-kept N N of of _ kept_in s s (same_all P s h) e
 
-    pub branch_in : {At : Type 0} → (cs : List (Statement (Expr At))) (s : List A) → Each P s
-        → Each P (after_branch N of cs s)
-    branch_in cs s h = all_left P _ _ (branch-kept N N of of _ kept_in cs s s (same_all P s h))
-
     pub turn_in : {At : Type 0} → (program : Program (Expr At)) (cs : List (Statement (Expr At)))
         (s : List A) → Each P s → Each P (after_turn N of program cs s)
     turn_in program cs s h = all_left P _ _ (turn-kept N N of of
@@ -210,11 +206,6 @@ module _ {A B : Type 0} (N : Arithmetic A) (M : Arithmetic B) (of : Fraction →
     pub to-value_of : {At : Type 0} → (s : List A) (e : Expr At)
         → f (value_of N of s e) ≡ value_of M on (map f s) e
     to-value_of s e = value-kept N M of on _ kept_along s (map f s) (along_map f s) e
-
-    pub map-branch : {At : Type 0} → (cs : List (Statement (Expr At))) (s : List A)
-        → map f (after_branch N of cs s) ≡ after_branch M on cs (map f s)
-    map-branch cs s = map_along f _ _ (branch-kept N M of on _ kept_along cs s (map f s)
-        (along_map f s))
 
     pub map-turn : {At : Type 0} → (program : Program (Expr At)) (cs : List (Statement (Expr At)))
         (s : List A) → map f (after_turn N of program cs s) ≡ after_turn M on program cs (map f s)

@@ -15,6 +15,7 @@ use Rattle.std.proofs.lemmas.List.{set-append_right}
 use Rattle.std.proofs.lemmas.List.Folds.{list_any_at}
 use Rattle.std.proofs.lemmas.List.Elements.{All-head, All-tail}
 use Rattle.std.proofs.lemmas.List.Sums.{sum_by-cons}
+use Rattle.frac128.specs.Sums.{negate_if}
 use Rattle.numbers.specs.Fraction.{Fraction, fraction, over}
 use Rattle.numbers.proofs.RatioLaws.{reduce_value_is}
 use Rattle.numbers.proofs.Fractions.{facts, some, fraction-ratio}
@@ -28,7 +29,7 @@ use Rattle.grammars.specs.Derivation.{Mark, Derives, derives_token, derives_chan
 use Rattle.expr_text.specs.Lexemes.{Lexeme, Placed, name, number, sign}
 use Rattle.expr_text.specs.Kinds.{Kind, a_name, a_number, a_sign, same, kind_of}
 use Rattle.expr_text.specs.Reasons.{Reason, limit, unknown, divisor, unless}
-use Rattle.poly_text.specs.Flat.{FlatContext, FlatState, Rule, an_exponent, takes, fits, raise, negate_if, signed_over, with_item, at_item, raising, power, factor, coefficient, item, flat_language}
+use Rattle.poly_text.specs.Flat.{FlatContext, FlatState, Rule, an_exponent, takes, fits, raise, signed_over, with_item, at_item, raising, power, factor, coefficient, item, flat_language}
 use Rattle.poly_text.specs.FlatReads.{state_of}
 use Rattle.poly_text.specs.Printed.{fraction_text, power_text, powers, is_bare, product_text, term_text}
 use Rattle.poly_text.specs.PrintedParts.{joined_behind}

@@ -12,10 +12,11 @@
 --   flat_language        what its rule says: an exponent must follow a name if one more is too many
 --   whole_flat           up to the end of the text
 --   flat_of names bytes  the terms in the order of the text, each with one exponent a name; an item with the number 0 is a term too. None where the bytes are no text
-use Rattle.std.specs.Prelude.{⊤, ℕ, ℤ, pos, neg_ℤ, ◌+◌, Bool, true, false, nat_le, if◌then◌else◌, List, [], ◌∷◌, ◌++◌, length, replicate, slice_index, set, Option, Some, None, Ok, Err, unwrap_or, is_some}
+use Rattle.std.specs.Prelude.{⊤, ℕ, pos, ◌+◌, Bool, true, false, nat_le, if◌then◌else◌, List, [], ◌∷◌, ◌++◌, length, replicate, slice_index, set, Option, Some, None, Ok, Err, unwrap_or, is_some}
 use Rattle.std.specs.List.{list_any}
 use Rattle.std.specs.Str.{bytes_eq}
 use Rattle.numbers.specs.Fraction.{Fraction, over}
+use Rattle.frac128.specs.Sums.{negate_if}
 use Rattle.polynomials.specs.Terms.{Terms}
 use Rattle.expressions.specs.Ascii.{star, plus_sign, minus_sign, slash, caret}
 use Rattle.expressions.specs.Names.{place_of}
@@ -64,9 +65,6 @@ raise e i n = set e i (slice_index e i + n)
 
 abbrev pub with_power : FlatContext → ℕ → FlatContext
 with_power c n = record c { exponents = raise c.exponents c.place n; place = 0 }
-
-abbrev pub negate_if : Bool → ℤ → ℤ
-negate_if negative n = if negative then neg_ℤ n else n
 
 abbrev pub signed_over : Bool → ℕ → ℕ → Fraction
 signed_over negative n d = over (negate_if negative (pos n)) d

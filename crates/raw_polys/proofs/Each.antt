@@ -1,16 +1,16 @@
 -- The parts of a list, read one after another.
 --   EachSoFar see f path vs i found     the values vs are read by f as what is seen of those found, and behind them those from place i on
---   each_start, each_more, each_fault, each_end     the steps of such a loop
-use Rattle.std.proofs.Common.{◌≡◌, ℕ, suc, ◌+◌, ◌<◌, ◌≤◌, List, [], ◌∷◌, ◌++◌, Ok, Err, map, length, get_or, drop, sym, ap, ◌∙◌, add-one}
+--   each_more, each_fault     the steps of such a loop
+use Rattle.std.proofs.Common.{◌≡◌, ℕ, suc, ◌+◌, ◌<◌, List, [], ◌∷◌, ◌++◌, Ok, Err, map, length, get_or, drop, sym, ap, ◌∙◌, add-one}
 use Rattle.std.proofs.Math.Seq.{drop-cons}
-use Rattle.std.proofs.lemmas.List.{drop_all, map-append, append-nil}
+use Rattle.std.proofs.lemmas.List.{map-append}
 use Rattle.serde_json.specs.Data.{Data}
 use Rattle.serde_json.specs.View.{view, items_view}
 use Rattle.serde_json.specs.declared.value.Value.{Value}
 use Rattle.cert_form.specs.declared.error.CertError.{CertError}
 use Rattle.cert_form.specs.Form.{Reading, on, after, part, each}
 use Rattle.cert_form.specs.Faults.{IfFault}
-use Rattle.cert_form.proofs.Each.{IfFault-map, after-after, after-nil}
+use Rattle.cert_form.proofs.Each.{IfFault-map, after-after}
 
 module _ {A B : Type 0} (see : A → B) (f : List ℕ → Data → Reading B) (path : List ℕ)
     (vs : List Value) where
@@ -18,18 +18,7 @@ module _ {A B : Type 0} (see : A → B) (f : List ℕ → Data → Reading B) (p
   EachSoFar i found =
       each f path 0 (items_view vs) ≡ after (map see found) (each f path i (items_view (drop i vs)))
 
-  pub each_start : (found : List A) → found ≡ [] → EachSoFar 0 found
-  each_start found none =
-      after-nil (each f path 0 (items_view vs))
-      ∙ ap (λ xs. after (map see xs) (each f path 0 (items_view vs))) (sym none)
-
   module _ (i : ℕ) (found : List A) (before : EachSoFar i found) where
-    pub each_end : length vs ≤ i → each f path 0 (items_view vs) ≡ Ok (map see found)
-    each_end ends =
-        before ∙ ap (λ xs. after (map see found) (each f path i (items_view xs)))
-        (drop_all i vs ends)
-        ∙ ap Ok (append-nil (map see found))
-
     module _ (here : List ℕ) (v : Value) (within : i < length vs) (is : v ≡ get_or vs i v)
         (at : here ≡ part path i) where
       abbrev rest : Reading (List B)

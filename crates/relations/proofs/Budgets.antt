@@ -55,12 +55,6 @@ module _ {S : Type 0} (step : S → Option (Event × S)) (s : S) (before after o
           let k = out.spent in
           omega (arith, a, b, c, d, e, i, j, k)
 
-  pub no_more : units_of before ≤ units_of after
-  no_more =
-      let a = ap units_of done.work.entries in
-      let b = units-append before (map Did done.work.events) in
-      omega (arith, a, b)
-
 step_or : List (Terms Fraction) → Step → List (Terms Fraction)
 step_or gs (finished k hs) = hs
 step_or gs s = gs

@@ -2,7 +2,7 @@
 --   whole_few      of an orbit whose form is the state from 0 on: no more than the list has
 --   orbit_few      of any: as many as variables more
 --   turn_few       so of a turn
-use Rattle.std.proofs.Common.{◌≡◌, ℕ, zero, suc, ◌+◌, ◌≤◌, List, [], ◌∷◌, ◌++◌, map, drop, length, arith, refl, sym, ap, subst, ◌∙◌, append_assoc}
+use Rattle.std.proofs.Common.{◌≡◌, ℕ, zero, suc, ◌+◌, ◌≤◌, List, [], ◌∷◌, ◌++◌, map, drop, length, arith, sym, ap, subst, ◌∙◌, append_assoc}
 use Rattle.std.proofs.lemmas.List.{length-map, length-append, append-nil}
 use Rattle.numbers.specs.Fraction.{Fraction, ℚ, rationals}
 use Rattle.polynomials.specs.Order.{grevlex, blocks}

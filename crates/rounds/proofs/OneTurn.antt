@@ -1,5 +1,4 @@
 -- One turn of a branch: with no variables in front, the branch's map is the form, and the form at -1 tells what was.
---   turn_orbit      the graph of one turn gives what is a member after it
 use Rattle.std.proofs.Common.{◌≡◌, ℕ, ◌+◌, ◌<◌, Bool, false, List, [], ◌∷◌, ◌++◌, map, get_or, length, refl, arith, sym, ap, ap₂, subst, ◌∙◌}
 use Rattle.std.proofs.lemmas.List.{length-map, map-append, get_or-map}
 use Rattle.std.proofs.lemmas.List.Elements.{All-nil}
@@ -162,10 +161,3 @@ module _ {At : Type 0} (program : Program (Expr At)) (b since : ℕ) (f : Form)
   turn_graph_arity fs at_fs gs ga =
       graph_arity program b 0 t no_point no_points (λ n. 1) told (turn_before f m passes) fs [] []
       at_fs turn_before_is no_relations gs ga
-
-  pub turn_orbit : (gs ks : List (Terms Fraction)) → AllArity (length program.names) gs
-      → IsEliminated (0 + passing (length program.names) passes) (length program.names)
-      (turn_graph f (length program.names) passes (branch_map program (branch_of program b)) gs)
-      ks
-      → IsOrbitAt program gs b (λ n. 1) ks
-  turn_orbit gs ks ga eliminated = turn_orbit_by (bm program b) map_at gs ks ga eliminated

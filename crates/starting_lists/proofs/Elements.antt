@@ -1,5 +1,5 @@
 -- The polynomials of the lists that stages begin with, place by place.
---   relation_first, relation_later     those of the relations
+--   relation_later     those of the relations
 --   orbit_count, meet_count            how many there are
 --   positive                           a place that isn't the first
 --   seen_at                            an image, at its place
@@ -39,9 +39,6 @@ module _ (r w : ℕ) where
           (let e = relations_length n in omega (arith, k, e)) ∙ before k
       go (inr e) before = get_or_push (relations_to r w n) _ [] j (relations_length n ∙ e)
           ∙ ap (λ k. relation w (suc (suc k)) (suc (suc (r + k)))) e
-
-pub relation_first : (r m : ℕ) → get_or (relations_of r m) 0 [] ≡ relation_of r m 1 1
-relation_first r m = refl
 
 pub relation_later : (r m place : ℕ) → 1 ≤ place → place ≤ r
     → relation_of r m (1 + place) (1 + place + r) ≡ get_or (relations_of r m) place []

@@ -2,8 +2,7 @@
 --   sequences R X            their space
 --   times_matrix R y rows    y times the matrix
 --   column_sum rows j        the sum of the absolute values of a column of whole numbers
---   less_diagonal p k rows   the matrix less p on its diagonal, for rows from the k-th on
-use Rattle.std.specs.Prelude.{ℕ, suc, ◌+◌, ℤ, ◌+ℤ◌, neg_ℤ, List, [], ◌∷◌, cond, eqb}
+use Rattle.std.specs.Prelude.{ℕ, ◌+◌, ℤ, List, [], ◌∷◌}
 use mathlib.Core.Path.{fun_ext}
 use lib.IntN.{nat_abs}
 use Rattle.rings.specs.Ring.{CommRing}
@@ -35,9 +34,3 @@ times_matrix R y rows = combine (sequences R ℕ) y rows
 abbrev pub column_sum : List (ℕ → ℤ) → ℕ → ℕ
 column_sum [] j = 0
 column_sum (r ∷ rows) j = nat_abs (r j) + column_sum rows j
-
--- the matrix less p on the diagonal, for rows from the k-th on
-abbrev pub less_diagonal : ℤ → ℕ → List (ℕ → ℤ) → List (ℕ → ℤ)
-less_diagonal p k [] = []
-less_diagonal p k (r ∷ rows) =
-    (λ j. cond (eqb k j) (r j +ℤ neg_ℤ p) (r j)) ∷ less_diagonal p (suc k) rows

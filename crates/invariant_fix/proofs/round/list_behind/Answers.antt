@@ -1,4 +1,4 @@
-use Rattle.std.proofs.Common.{◌≡◌, ◌<◌, ap, arith}
+use Rattle.std.proofs.Common.{ap, arith}
 use Rattle.rounds.specs.Form.{Form}
 use Rattle.invariant_fix.proofs.Works.{form_at}
 use Rattle.invariant_fix.proofs.Branching.{orbit_due}

@@ -1,5 +1,4 @@
 use Rattle.std.proofs.Common.{◌+◌, inl, sym, ap, subst, ◌∙◌, arith}
-use Rattle.std.proofs.lemmas.Result.{err_from_is_err_and}
 use Rattle.machines.specs.Journal.{Journal}
 use Rattle.poly.specs.Seen.{terms_each}
 use Rattle.invariant_fix.specs.Steps.{Awaits, Knows, branching}

@@ -1,14 +1,14 @@
-use Rattle.std.proofs.Common.{◌≡◌, ◌≤◌, ◌<◌, ◌+◌, suc, sym, ap, subst, ◌∙◌, arith}
+use Rattle.std.proofs.Common.{◌≡◌, ◌+◌, suc, sym, ap, subst, ◌∙◌, arith}
 use Rattle.std.proofs.lemmas.Result.{err_from_is_err_and}
 use Rattle.poly.specs.Seen.{terms_each}
 use Rattle.rounds.specs.Form.{Form}
 use Rattle.rounds.specs.Analysis.{form_of}
 use Rattle.invariant_fix.specs.Setting.{setting_of}
-use Rattle.invariant_fix.specs.Steps.{Awaits, Knows, KnowsTurns, turn_begins, turn_meets, turn_met}
+use Rattle.invariant_fix.specs.Steps.{Awaits, KnowsTurns, turn_begins, turn_meets, turn_met}
 use Rattle.invariant_fix.proofs.Lists.{known_later}
 use Rattle.invariant_fix.proofs.Works.{form_at}
 use Rattle.invariant_fix.proofs.Branching.{IsTaken, turn_due, turn_meet_due, turns_go_on, next_turn, turns_end}
-use Rattle.invariant_fix.proofs.turn_tasks.turns.Goals.{Start, After-index, After-deref, In_ok-so_far, After-deref-in-loop-taken, After-deref-in-loop-taken-3, In_ok-so_far-2}
+use Rattle.invariant_fix.proofs.turn_tasks.turns.Goals.{Start, After-index, After-deref, After-deref-in-loop-taken, After-deref-in-loop-taken-3}
 use Rattle.invariant_fix.proofs.turn_tasks.turns.Goals as goal
 
 -- ---- the first turn

@@ -9,7 +9,7 @@ use Rattle.graph_lists.specs.Late.{HasShape, numbers_in, vars_in, orbit_graph_of
 use Rattle.graph_lists.specs.Shapes.{width_of}
 use Rattle.graph_lists.proofs.LateLists.{shape_few}
 use Rattle.graph_lists.proofs.Lists.{numbers_are, orbit_arities, orbit_list_is}
-use Rattle.graph_lists.proofs.late_form.LateForm.orbit_list.Goals.{Start, After-shape-shape, In_ok-graph, In_ok-push_normal}
+use Rattle.graph_lists.proofs.late_form.LateForm.orbit_list.Goals.{After-shape-shape, In_ok-graph}
 use Rattle.graph_lists.proofs.late_form.LateForm.orbit_list.Goals as goal
 
 counted : (c : After-shape-shape) → c.len-numbers.result ≡ numbers_in c.args.self.now
