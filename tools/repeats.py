@@ -5,13 +5,14 @@ Usage: tools/repeats.py [--since REVISION] [--most NUMBER]
 
   same statement   lemmas and definitions whose types are the same up to the names of their bound variables
   same body        runs of six or more lines that stand in two places, up to white space
-  cited nowhere    names of definitions and lemmas that no other line has
+  cited nowhere    definitions and lemmas that neither code, nor an answer, nor a worked example leads to
 
 With --since, only what has a part in a file that changed since that revision; with --most, so many rows of each. A row is a place to look,
 not a verdict.
 """
 import argparse
 import collections
+import itertools
 import re
 import subprocess
 from dataclasses import dataclass
@@ -24,7 +25,10 @@ BROKEN = 4          # columns by which a line that was broken goes on further in
 MOST_PLACES = 8     # of a body: what stands in more is a form that the language asks for
 MODIFIERS = r"(?:(?:abbrev|unfoldable|pub|opaque|private)\s+)*"
 DECLARED = re.compile(r"^\s*" + MODIFIERS + rf"([^\s:(){{}}|=]+)\s+:\s+(.{{{SHORTEST_TYPE},}})$")
-NAMED = re.compile(r"^\s{0,2}" + MODIFIERS + r"([\w\-→'₁₂ₚ₊]+)\s+:\s")
+BEGINS = re.compile(r"^\s*" + MODIFIERS + r"(?:(?:record|data)\s+(?P<type>[^\s:(){}]+)|(?P<name>[^\s:(){}|=λ◌,;.\[\]]+)\s+:(?:\s|$))")
+IMPORT = re.compile(r"^\s*(?P<how>(?:pub\s+|ghost\s+)*)use\s+(?P<module>Rattle\.[^\s;{]*?)(?:\.\{[^}]*\}|\s+as\s+\S+)?;?\s*$")
+# files whose lemmas are there for themselves: worked examples, and inputs that meet the premises of others
+WORKED = re.compile(r"/(?:Examples|Squares\w*|Formed|Branches|Powers|Resets|\w*Witnesses|Idle\w*|Identity\w*|PassedLimits|ReadTexts|\w+Map|LateLoop|AsciiCodes)\.antt$")
 WORD = re.compile(r"[^\s(){}\[\],;.λ∷:=|⟨⟩]+")
 IS_IMPORT_OR_COMMENT = ("--", "//", "use ", "ghost use ", "pub use ")
 
@@ -145,27 +149,90 @@ def same_bodies(files: Files) -> list[Row]:
     return [row for _, row in sorted(rows, key=lambda pair: -pair[0])]
 
 
-def words_of(lines: list[str]) -> collections.Counter[str]:
-    """In how many lines each word stands."""
-    return collections.Counter(word for line in lines if not is_comment(line) for word in set(WORD.findall(line)))
+@dataclass(eq=False)
+class Block:
+    """A definition or a lemma: its type and its clauses, with what stands further in."""
+    path: str
+    name: str
+    first: int
+    behind: int
+
+
+def blocks_in(path: str, lines: list[str]) -> list[Block]:
+    blocks = []
+    k = 0
+    while k < len(lines):
+        found = None if is_comment(lines[k]) else BEGINS.match(lines[k])
+        k += 1
+        if found:
+            name, indent = found["type"] or found["name"], width(lines[k - 1])
+            goes_on = re.compile(rf"\s{{{indent}}}(?:unfolding\b|[)}}\]]|{re.escape(name)}(?:\s|$)(?!\s*:\s))")
+            first = k - 1
+            while k < len(lines) and (not lines[k].strip() or width(lines[k]) > indent or goes_on.match(lines[k])):
+                k += 1
+            blocks.append(Block(path, name, first, k))
+    return blocks
+
+
+def module_of(path: str) -> str:
+    return "Rattle." + path.removeprefix("crates/").removesuffix(".antt").replace("/", ".")
+
+
+def modules_told(path: str, line: str) -> list[str]:
+    """The modules whose lemmas and definitions an attribute of code names, as `crate::proofs::Each::count_is`."""
+    told = re.findall(r"(\w+)::((?:proofs|specs)(?:::\w+)+)", line) if path.endswith(".rt") else []
+    return [".".join(["Rattle", path.split("/")[1] if crate == "crate" else crate, *inside.split("::")]) for crate, inside in told]
+
+
+def seen_from(files: Files) -> dict[str, set[str]]:
+    """Of each file those whose names it may have: itself, those that it imports, and those that these pass on."""
+    by_module = {module_of(path): path for path in files if path.endswith(".antt")}
+    imported, passed = collections.defaultdict(set), collections.defaultdict(set)
+    for path, lines in files.items():
+        opens = any(line.lstrip().startswith("pub open") for line in lines)
+        found = [(match["module"], opens or "pub" in match["how"]) for match in map(IMPORT.match, lines) if match]
+        found += [(module, False) for line in lines for module in modules_told(path, line)]
+        for module, is_passed in found:
+            while module and module not in by_module:
+                module = module.rpartition(".")[0]
+            if module:
+                imported[path].add(by_module[module])
+                if is_passed:
+                    passed[path].add(by_module[module])
+    seen = {}
+    for path in files:
+        seen[path], waiting = {path}, set(imported[path])
+        while waiting:
+            seen[path] |= waiting
+            waiting = {behind for one in waiting for behind in passed[one]} - seen[path]
+    return seen
 
 
 def cited_nowhere(files: Files) -> list[Row]:
-    own = {path: words_of(lines) for path, lines in files.items()}
-    everywhere = sum(own.values(), collections.Counter())
-    rows = []
-    for path in filter(is_theory, files):
-        for number, line in enumerate(files[path], 1):
-            found = None if is_comment(line) else NAMED.match(line)
-            if not found:
-                continue
-            name = found[1]
-            # a clause of the name stands where its declaration does; what begins with it further in cites it
-            indent = line[:len(line) - len(line.lstrip())]
-            head = re.compile(indent + MODIFIERS + re.escape(name) + r"(?:\s|$)")
-            if everywhere[name] == own[path][name] <= sum(1 for other in files[path] if head.match(other)):
-                rows.append(Row(frozenset([path]), f"{path}:{number} {name}"))
-    return rows
+    """What neither code, nor an answer, nor what is worked out for itself leads to."""
+    seen = seen_from(files)
+    blocks = {path: blocks_in(path, lines) if is_theory(path) else [] for path, lines in files.items()}
+    named = collections.defaultdict(list)
+    for block in itertools.chain(*blocks.values()):
+        named[block.name].append(block)
+    cites = collections.defaultdict(set)
+    for path, lines in files.items():
+        owner = {k: block for block in blocks[path] for k in range(block.first, block.behind)}
+        renamed = {new: old for line in lines if IMPORT.match(line) for old, new in re.findall(r"(\S+) as ([^\s,}]+)", line)}
+        for k, line in enumerate(lines):
+            if not IMPORT.match(line) and not line.lstrip().startswith(IS_IMPORT_OR_COMMENT):
+                words = set(WORD.findall(line))
+                for word in words | {renamed[word] for word in words & renamed.keys()}:
+                    cites[owner.get(k)] |= {block for block in named[word] if block.path in seen[path] and block is not owner.get(k)}
+    kept = {block for block in itertools.chain(*blocks.values()) if WORKED.search(block.path)}
+    waiting = cites[None] | kept
+    while waiting:
+        kept |= waiting
+        waiting = {other for block in waiting for other in cites[block]} - kept
+    return [
+        Row(frozenset([path]), f"{path}:{block.first + 1} {block.name}")
+        for path in files for block in blocks[path] if block not in kept
+    ]
 
 
 def main() -> None:
