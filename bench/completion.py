@@ -9,9 +9,9 @@ Usage: bench/completion.py [SYSTEM ..]         times the systems of bench/system
 
 Beside Singular each system is taken over the remainders modulo 65,521 and over fractions, in graded reverse lexicographic order and in
 lexicographic order. What is timed is a process that computes the system many times over, by the processor time that it spends outside the system's
-calls, less that of a process that computes nothing; the least of several such times counts. The program's has reading the system and printing the
-basis in it, Singular's is `std` with `option(redSB)` alone. A system is left out, by its name, where its numbers are too wide for the program, and
-where one computation takes one of both longer than LIMIT.
+calls, less that of a process that only reads: the program reads the system as many times, and divides 0 by it, Singular reads it once. Of each the least
+of several times counts. The program's has printing the basis in it, Singular's is `std` with `option(redSB)` alone. A system is left out, by its name,
+where its numbers are too wide for the program, and where one computation takes one of both longer than LIMIT.
 """
 import fractions
 import math
@@ -32,6 +32,7 @@ MOST_UNITS = 1 << 28
 LIMIT = 5
 RUNS = 3
 SECONDS = 0.3
+TICK = 0.001
 MOST_TIMES = 20_000
 GOALS = {("gf", "grevlex"): 1.5, ("frac", "grevlex"): 1.6}
 SMALL = ("cyclic-4", "cyclic-5", "cyclic-6", "katsura-4", "katsura-5", "katsura-6")
@@ -101,15 +102,16 @@ def spent(command, folder=None, text="", seconds=None):
     return said, usage.ru_utime, usage.ru_maxrss / 1024
 
 
-def timed(run):
-    """What a run of one computation says, and the time of one in a process that computes for SECONDS at least."""
+def timed(run, read):
+    """What a run of one computation says, and the time of one in a process that computes for SECONDS at least, less what it takes to read as much."""
     said, _, _ = run(1, LIMIT)
-    start = min(run(0)[1] for _ in range(RUNS))
-    times, taken = 1, run(1)[1] - start
+    least = lambda do, times: min(do(times)[1] for _ in range(RUNS))
+    taken_by = lambda times: max(least(run, times) - least(read, times), TICK)
+    times, taken = 1, taken_by(1)
     while taken < SECONDS and times < MOST_TIMES:
-        times = min(MOST_TIMES, times * max(2, min(20, math.ceil(1.2 * SECONDS / max(taken, 0.001)))))
-        taken = run(times)[1] - start
-    return said, min(taken, *(run(times)[1] - start for _ in range(RUNS - 1))) / times
+        times = min(MOST_TIMES, times * max(2, min(20, math.ceil(1.2 * SECONDS / taken))))
+        taken = taken_by(times)
+    return said, taken / times
 
 
 # ---- the three programs
@@ -136,7 +138,9 @@ def of_rows(line):
 
 def of_program(numbers, order, names, system):
     """The time, the basis and the units."""
-    ((text, units), *_), taken = timed(of_rows(row("reduced_basis", numbers, order, names, "; ".join(flat(p, names) for p in system))))
+    polynomials = "; ".join(flat(p, names) for p in system)
+    line = lambda call, *values: of_rows(row(call, numbers, order, names, *values))
+    ((text, units), *_), taken = timed(line("reduced_basis", polynomials), line("divide", "0", polynomials))
     if text == "wide":
         raise LeftOut(f"wide behind {int(units):,} units")
     return taken, basis(text.split("; "), names, numbers, order), int(units)
@@ -151,7 +155,7 @@ def of_singular(numbers, order, names, system):
         loop = f"for (the_time = 1; the_time <= {times}; the_time++) {{ the_basis = std(the_system); }}\n"
         return spent(["Singular", "-q"], text=given + loop + ("the_basis;\n" if times == 1 else "") + "quit;\n", seconds=seconds)
 
-    said, taken = timed(run)
+    said, taken = timed(run, lambda _: run(0))
     return taken, basis((line.split("=")[1] for line in said.split("\n") if "=" in line), names, numbers, order)
 
 

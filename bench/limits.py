@@ -92,6 +92,9 @@ LONG_ANALYSES = {
     "branch { d=d+g; e=e+h; f=f+i; } branch { g=g+a; h=h+b; i=i+c; }",
 }
 
+# Sums of seven variables, whose sixth powers have 924 terms each, and are composed with one another.
+SIXTH_POWERS = "vars a, b, c, d, e, f, g, h, p, q, r; init p=0, q=0, r=0; branch { p=p+(b+c+d+e+f+g+h)^6; q=q+(a+c+d+e+f+g+h)^6; r=r+(a+b+d+e+f+g+h)^6; }"
+
 
 def main():
     with tempfile.TemporaryDirectory() as folder:
@@ -111,6 +114,8 @@ def main():
         for name, text in LONG_ANALYSES.items():
             pathlib.Path("long.loop").write_text(text)
             row(f"basis of {name}, up to the usual budget", ["basis", "long.loop"], 5, 60, 100, 1)
+        pathlib.Path("long.loop").write_text(SIXTH_POWERS)
+        row("basis of three sums of sixth powers of seven variables", ["basis", "long.loop"], 0, 24, 200, 1)
     sys.exit(1 if failed else 0)
 
 

@@ -166,7 +166,7 @@ def written_equations():
 
 
 def written_certificates():
-    """The certificates of the repository, each with its loop."""
+    """The certificates of the repository that aren't full ones, each with its loop."""
     found = []
     for path in sorted((TOP / "examples").glob("*.json")):
         loop = next(loop for loop in sorted((TOP / "examples").glob("*.loop"), key=lambda p: -len(p.stem)) if path.stem.startswith(loop.stem))
@@ -177,7 +177,7 @@ def written_certificates():
             loop = row[1].replace("~", "\n")
         elif row[0] == "CERT" and len(row) == 2 and row[1].startswith("{") and row[1].endswith("}"):
             found.append((loop, row[1]))
-    return list(dict.fromkeys(found))
+    return [(loop, text) for loop, text in dict.fromkeys(found) if '"kind"' not in text]
 
 
 # ---- changes of a text
