@@ -1,9 +1,8 @@
 // Loops as texts, and their maps.
 use crate::rows::no_such_row;
 use crate::texts::text_of;
-use expressions::Names;
 use frac128::Frac;
-use loop_model::{Loop, MapError};
+use loop_model::{Loop, MapError, Names};
 use loop_text::read_loop;
 use monos::Grevlex;
 use poly::Poly;

@@ -3,12 +3,13 @@ ghost use Rattle.std.specs.Prelude.{◌≡◌, length};
 
 use crate::rows::no_such_row;
 use cert_form::{read_cert, write_cert};
-use expr_text::{Cursor, Refusal, SumReader};
-use expressions::{Expr, Names, NamesError, expr_poly};
 use frac128::Frac;
+use loop_model::{Expr, Names, NamesError, expr_poly};
 use monos::Grevlex;
 use poly::Poly;
-use poly_text::{print_poly, read_equation, read_flat, read_poly, read_sum};
+use poly_text::{
+    Cursor, Refusal, SumReader, print_poly, read_equation, read_flat, read_poly, read_sum,
+};
 use std::alloc::{AllocError, Global};
 use worked_rows::push_item;
 

@@ -13,9 +13,9 @@ use Rattle.std.proofs.lemmas.Bool.{cases_lt}
 use Rattle.machines.specs.Journal.{Journal}
 use Rattle.loops.specs.Certificate.{Certificate}
 use Rattle.loops.specs.Program.{Expr, Program}
-use Rattle.expr_text.specs.Reasons.{limit}
-use Rattle.expressions.specs.Operations.{IsLimit}
-use Rattle.expressions.specs.declared.map_error.MapError.TheVariants as map_error
+use Rattle.poly_text.specs.Reasons.{limit}
+use Rattle.loop_model.specs.Operations.{IsLimit}
+use Rattle.loop_model.specs.declared.map_error.MapError.TheVariants as map_error
 use Rattle.loop_model.specs.Maps.{maps_operations, AreFree}
 use Rattle.loop_text.specs.LoopReader.{loop_of}
 use Rattle.rounds.specs.BranchMap.{map_of}
@@ -28,23 +28,23 @@ use Rattle.solvable.specs.Refusal.{IsSolvable}
 use Rattle.closed_forms.specs.Refusal.{AllPass, Refusal, not_solvable, eigenvalues, range, wide_split, wide_form, IfRefused, refusal_in}
 use Rattle.closed_forms.specs.declared.errors.FormsError.{FormsError}
 use Rattle.invariant_fix.specs.Refusals.{AllHaveForms, HasForm, IsRefusedBranch, TellsBranch, IsRefused}
-use Rattle.analysis_text.specs.Texts.{cause_or_memory}
+use Rattle.analysis_commands.specs.AnalysisTexts.{cause_or_memory}
 use Rattle.invariant_fix.specs.declared.errors.AnalyseError.{AnalyseError}
 use Rattle.invariant_fix.specs.declared.errors.AnalyseError.TheVariants as error
 use Rattle.analysis_commands.specs.declared.kind.Kind.{Kind}
-use Rattle.courses.specs.declared.answer.Status.{Status}
-use Rattle.courses.specs.declared.answer.Status.TheVariants as status
+use Rattle.io_edge.specs.declared.answer.Status.{Status}
+use Rattle.io_edge.specs.declared.answer.Status.TheVariants as status
 use Rattle.analysis_commands.specs.Statuses.{cause_status, refusal_status}
-use Rattle.courses.specs.Texts.{Answer, line, with_text}
+use Rattle.io_edge.specs.Texts.{Answer, line, with_text}
 use Rattle.analysis_commands.specs.Texts.{found_answer, refusal_answer, branch_answer}
-use Rattle.loop_file.specs.Texts.{loop_refusal}
+use Rattle.command_parts.specs.FaultTexts.{loop_refusal}
 use Rattle.analysis_commands.specs.Headline.{ShowsAnalysis}
 use Rattle.analysis_commands.specs.Analyses.{empty_journal, Ending, found, refused, EndsWith, answer_of, Analyses}
 use Rattle.analysis_commands.specs.Completeness.{AllSplit}
 use Rattle.analysis_commands.specs.Causes.{HasFinished, IsSpent, IsNeverRefused, IsWithinBudget, IsExact, IsUnanalysed}
-use Rattle.courses.proofs.OfStatuses.{status_of, text_of, no_answer}
+use Rattle.io_edge.proofs.OfStatuses.{status_of, text_of, no_answer}
 use Rattle.analysis_commands.proofs.Refused.{refusal_parts, refusal_kind, Refused, at_fault, too_wide, spent}
-use Rattle.loop_file.proofs.MapLimits.{limit_same, not_free}
+use Rattle.command_parts.proofs.MapLimits.{limit_same, not_free}
 use Rattle.analysis_commands.proofs.BranchRefusals.{no_form, refusal_one, some_told}
 
 pub refused_not_yes : (e : AnalyseError) (s : Status) → Refused e s → s ≢ status.Yes

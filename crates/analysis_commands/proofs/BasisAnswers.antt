@@ -6,7 +6,7 @@ use Rattle.std.proofs.Common.{◌≡◌, ℕ, List, length, sym, ap, subst, ◌�
 use Rattle.std.specs.Prelude.{Some, IfOk}
 use Rattle.std.specs.declared.alloc.AllocError.{AllocError}
 use Rattle.std.proofs.lemmas.Result.{IfOk-weaker}
-use Rattle.numbers.specs.Fraction.{rationals}
+use Rattle.algebra.specs.Fraction.{rationals}
 use Rattle.polynomials.specs.Order.{grevlex}
 use Rattle.machines.specs.Journal.{Journal}
 use Rattle.machines.specs.Reduced.{IsReducedFor}
@@ -19,14 +19,14 @@ use Rattle.invariant_fix.specs.Answers.{certificate_of, IsClosedBy, IsLeastLevel
 use Rattle.invariant_fix.specs.Refusals.{AllHaveForms, HasFollowed, IsRefused}
 use Rattle.invariant_fix.specs.declared.errors.AnalyseError.{AnalyseError}
 use Rattle.invariant_fix.specs.declared.found.Analysis.{Analysis}
-use Rattle.analysis_text.specs.Naming.{AreNamed}
+use Rattle.analysis_commands.specs.Naming.{AreNamed}
 use Rattle.invariant_fix.proofs.Options.{if_ok_two}
-use Rattle.analysis_text.proofs.Naming.{named}
-use Rattle.courses.specs.declared.answer.Answer as made
+use Rattle.analysis_commands.proofs.Naming.{named}
+use Rattle.io_edge.specs.declared.answer.Answer as made
 use Rattle.analysis_commands.specs.declared.kind.Kind.{Kind}
 use Rattle.analysis_commands.specs.Headline.{IsToldBack}
 use Rattle.analysis_commands.specs.Texts.{found_answer, refusal_answer}
-use Rattle.courses.specs.Views.{answer_view}
+use Rattle.io_edge.specs.Views.{answer_view}
 use Rattle.analysis_commands.specs.Analyses.{empty_journal, HasFound, found, refused, Analyses, HasAnalysed}
 
 -- the meter is opened before the analysis, and its limit kept

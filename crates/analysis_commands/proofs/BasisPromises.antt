@@ -3,16 +3,16 @@
 --   finds        the clauses
 use Rattle.std.proofs.Common.{ℕ, refl}
 use Rattle.machines.specs.Journal.{Journal}
-use Rattle.expr_text.specs.Reasons.{Fault, limit}
+use Rattle.poly_text.specs.Reasons.{Fault, limit}
 use Rattle.loops.specs.Program.{Expr, Program}
-use Rattle.courses.specs.Settled.{IsSettled}
-use Rattle.courses.specs.Course.{EachAnswer}
-use Rattle.courses.specs.Outcome.{Call, IsCarriedOut}
-use Rattle.courses.proofs.Outcomes.{or_wide, or_fault, or_yes}
-use Rattle.courses.proofs.OneFile as one_file
-use Rattle.courses.proofs.OneFile.{OneFile, concludes_yes, concludes_no, concludes_spent, answered, ends_at_fault, tells, writes, refused, never_ends, not_ended, left, long}
-use Rattle.loop_file.specs.Texts.{loop_refusal}
-use Rattle.loop_file.proofs.LoopCourses.{reading_loop}
+use Rattle.io_edge.specs.Settled.{IsSettled}
+use Rattle.io_edge.specs.Course.{EachAnswer}
+use Rattle.io_edge.specs.Outcome.{Call, IsCarriedOut}
+use Rattle.io_edge.proofs.Outcomes.{or_wide, or_fault, or_yes}
+use Rattle.io_edge.proofs.OneFile as one_file
+use Rattle.io_edge.proofs.OneFile.{OneFile, concludes_yes, concludes_no, concludes_spent, answered, ends_at_fault, tells, writes, refused, never_ends, not_ended, left, long}
+use Rattle.command_parts.specs.FaultTexts.{loop_refusal}
+use Rattle.command_parts.proofs.LoopCourses.{reading_loop}
 use Rattle.analysis_commands.specs.Analyses.{Analyses, HasAnalysed}
 use Rattle.analysis_commands.specs.Texts.{branch_answer}
 use Rattle.analysis_commands.specs.Headline.{ShowsAnalysis}

@@ -6,14 +6,14 @@
 use Rattle.std.proofs.Common.{◌≡◌, inl, inr, ℕ, ℤ, pos, List, length, refl, sym, ap, ap₂, subst, ◌∙◌, arith}
 use Rattle.std.specs.Prelude.{◌⊎◌, Option, Some, None, IsSomeAnd}
 use Rattle.std.proofs.lemmas.Bool.{cases_lt}
-use Rattle.numbers.specs.Fraction.{Fraction}
+use Rattle.algebra.specs.Fraction.{Fraction}
 use Rattle.polynomials.specs.Terms.{Terms}
-use Rattle.chains.specs.Chain.{IsChain, IsLeastChain}
-use Rattle.chains.specs.Uses.{uses, strongly, IsMap}
-use Rattle.chains.proofs.Chains.{chain_one}
+use Rattle.solvable_maps.specs.Chain.{IsChain, IsLeastChain}
+use Rattle.solvable_maps.specs.Uses.{uses, strongly, IsMap}
+use Rattle.solvable_maps.proofs.Chains.{chain_one}
 use Rattle.vectors.specs.Matrices.{greatest_sum}
 use Rattle.vectors.specs.Causes.{IsTooWide}
-use Rattle.turns.specs.Classes.{class_matrix, Passes, first_of, IsReachedClass}
+use Rattle.solvable_maps.specs.Classes.{class_matrix, Passes, first_of, IsReachedClass}
 use Rattle.loops.specs.Program.{Expr, Program}
 use Rattle.rounds.specs.BranchMap.{map_of}
 use Rattle.eigen_split.specs.Refusal.{IsPastRow}
@@ -22,7 +22,7 @@ use Rattle.closed_forms.specs.Refusal.{Refusal, not_solvable, eigenvalues, range
 use Rattle.closed_forms.specs.Splits.{IfRefusedMatrix}
 use Rattle.closed_forms.proofs.Splitting.{same_first}
 use Rattle.invariant_fix.specs.Refusals.{HasForm}
-use Rattle.courses.specs.declared.answer.Status.TheVariants as status
+use Rattle.io_edge.specs.declared.answer.Status.TheVariants as status
 use Rattle.analysis_commands.specs.Statuses.{cause_status}
 use Rattle.analysis_commands.specs.Causes.{IsExact}
 

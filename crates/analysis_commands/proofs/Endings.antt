@@ -8,11 +8,11 @@ use Rattle.loops.specs.Program.{Expr, Program}
 use Rattle.loop_text.specs.LoopReader.{loop_of}
 use Rattle.rounds.specs.Journal.{IsOut}
 use Rattle.rounds.proofs.Forms.{enough_budget}
-use Rattle.courses.specs.declared.answer.Status.{Status}
-use Rattle.courses.specs.declared.answer.Status.TheVariants as status
-use Rattle.courses.specs.Course.{Course}
-use Rattle.courses.specs.Outcome.{Call, IsCarriedOut}
-use Rattle.courses.proofs.Outcomes.{Said, or_excused}
+use Rattle.io_edge.specs.declared.answer.Status.{Status}
+use Rattle.io_edge.specs.declared.answer.Status.TheVariants as status
+use Rattle.io_edge.specs.Course.{Course}
+use Rattle.io_edge.specs.Outcome.{Call, IsCarriedOut}
+use Rattle.io_edge.proofs.Outcomes.{Said, or_excused}
 use Rattle.analysis_commands.specs.Completeness.{EndsFound}
 use Rattle.analysis_commands.specs.Causes.{IsSpent, IsWithinBudget}
 

@@ -3,9 +3,9 @@
 --   equal_bases        so are the texts
 use Rattle.std.proofs.Common.{◌≡◌, ◌↔◌, ℕ, List, length, sym, ap, subst, ◌∙◌}
 use Rattle.std.specs.Prelude.{All}
-use Rattle.rings.proofs.In.{in_get}
-use Rattle.numbers.specs.Fraction.{Fraction, ℚ, rationals}
-use Rattle.numbers.proofs.Fractions.{ℚ_field}
+use Rattle.algebra.proofs.In.{in_get}
+use Rattle.algebra.specs.Fraction.{Fraction, ℚ, rationals}
+use Rattle.algebra.proofs.Fractions.{ℚ_field}
 use Rattle.polynomials.specs.Order.{grevlex}
 use Rattle.polynomials.specs.Polynomial.{Arity, IsPolynomial}
 use Rattle.polynomials.specs.Terms.{Terms}
@@ -18,9 +18,9 @@ use Rattle.loops.specs.Inv.{Inv}
 use Rattle.loops.specs.Program.{Expr, Program}
 use Rattle.rounds.specs.Generate.{Generates}
 use Rattle.rounds.proofs.Invariants.{reduced_for}
-use Rattle.analysis_text.specs.ReadBack.{ReadsBack}
-use Rattle.analysis_text.specs.Texts.{basis_text}
-use Rattle.analysis_text.proofs.BasisTexts.{same_bases}
+use Rattle.analysis_commands.specs.ReadBack.{ReadsBack}
+use Rattle.analysis_commands.specs.AnalysisTexts.{basis_text}
+use Rattle.analysis_commands.proofs.BasisTexts.{same_bases}
 use Rattle.analysis_commands.specs.declared.kind.Kind.TheVariants as kinds
 use Rattle.analysis_commands.specs.Headline.{IsBasisOf, HaveSameInvariants, ShowsAnalysis}
 

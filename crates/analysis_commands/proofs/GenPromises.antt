@@ -6,16 +6,16 @@ use Rattle.std.specs.Prelude.{◌⊎◌}
 use Rattle.machines.specs.Journal.{Journal}
 use Rattle.loops.specs.Program.{Expr, Program}
 use Rattle.loop_model.specs.Maps.{AreFree}
-use Rattle.loop_family.specs.Family.{loop_text}
-use Rattle.word_numbers.specs.Numerals.{usual_budget}
-use Rattle.courses.specs.declared.answer.Status.TheVariants as status
-use Rattle.courses.specs.Texts.{Answer}
-use Rattle.courses.specs.Settled.{IsSettled}
-use Rattle.courses.specs.Course.{EachAnswer}
-use Rattle.courses.specs.Outcome.{Call, IsCarriedOut}
-use Rattle.courses.specs.Clauses.{Wrote}
-use Rattle.courses.proofs.OfStatuses.{settled_yes}
-use Rattle.courses.proofs.Outcomes.{Said, yes_said, said_with, refusal_told, written, or_yes, never, meter_left}
+use Rattle.loop_text.specs.Family.{loop_text}
+use Rattle.command_parts.specs.Numerals.{usual_budget}
+use Rattle.io_edge.specs.declared.answer.Status.TheVariants as status
+use Rattle.io_edge.specs.Texts.{Answer}
+use Rattle.io_edge.specs.Settled.{IsSettled}
+use Rattle.io_edge.specs.Course.{EachAnswer}
+use Rattle.io_edge.specs.Outcome.{Call, IsCarriedOut}
+use Rattle.io_edge.specs.Clauses.{Wrote}
+use Rattle.io_edge.proofs.OfStatuses.{settled_yes}
+use Rattle.io_edge.proofs.Outcomes.{Said, yes_said, said_with, refusal_told, written, or_yes, never, meter_left}
 use Rattle.analysis_commands.specs.declared.kind.Kind.TheVariants.{Basis}
 use Rattle.analysis_commands.specs.Analyses.{refused, Analyses}
 use Rattle.analysis_commands.specs.Completeness.{AllSplit}

@@ -9,27 +9,27 @@
 use Rattle.std.proofs.Common.{◌≡◌, ◌≢◌, inl, inr, ℕ, zero, suc, ◌+◌, ◌<◌, pos, List, [], ◌∷◌, ◌++◌, map, length, drop, T, refl, sym, ap, ap₂, subst, ◌∙◌, arith}
 use Rattle.std.specs.Prelude.{unsigned_abs, ◌⊎◌}
 use Prim.Native.Nat.{◌∣◌}
-use Rattle.rings.specs.Arithmetic.{power}
-use Rattle.rings.specs.Each.{Each}
-use Rattle.rings.specs.In.{In}
-use Rattle.rings.specs.Ring.{CommRing}
-use Rattle.rings.specs.Sum.{sum_over}
-use Rattle.rings.proofs.RingSolver.{ring_rules, ring}
-use Rattle.numbers.specs.Gcd.{gcd}
-use Rattle.numbers.specs.Ratio.{is_lowest, reduce}
-use Rattle.numbers.specs.Fraction as Fraction
-use Rattle.numbers.specs.Fraction.{Fraction, fraction, whole, ℚ}
-use Rattle.numbers.proofs.Coprime.{common_one}
-use Rattle.numbers.proofs.Fractions.{ℚ_ring, ℚ_field}
+use Rattle.algebra.specs.Arithmetic.{power}
+use Rattle.algebra.specs.Each.{Each}
+use Rattle.algebra.specs.In.{In}
+use Rattle.algebra.specs.Ring.{CommRing}
+use Rattle.algebra.specs.Sum.{sum_over}
+use Rattle.algebra.proofs.RingSolver.{ring_rules, ring}
+use Rattle.algebra.specs.Gcd.{gcd}
+use Rattle.algebra.specs.Ratio.{is_lowest, reduce}
+use Rattle.algebra.specs.Fraction as Fraction
+use Rattle.algebra.specs.Fraction.{Fraction, fraction, whole, ℚ}
+use Rattle.algebra.proofs.Coprime.{common_one}
+use Rattle.algebra.proofs.Fractions.{ℚ_ring, ℚ_field}
 use Rattle.polynomials.specs.Algebra as Algebra
 use Rattle.polynomials.specs.Exponent.{same}
 use Rattle.polynomials.specs.Order.{grevlex}
 use Rattle.polynomials.specs.Polynomial.{Falls}
 use Rattle.polynomials.specs.Terms.{Terms, evaluate, monomial_at, value_at, sum_of_products}
-use Rattle.chains.specs.Chain.{IsChain}
-use Rattle.chains.specs.Class.{IsClassOf}
-use Rattle.chains.specs.Uses.{uses, strongly}
-use Rattle.chains.proofs.Classes.{class_one}
+use Rattle.solvable_maps.specs.Chain.{IsChain}
+use Rattle.solvable_maps.specs.Class.{IsClassOf}
+use Rattle.solvable_maps.specs.Uses.{uses, strongly}
+use Rattle.solvable_maps.proofs.Classes.{class_one}
 use Rattle.vectors.specs.Adding.{IsEchelonOf}
 use Rattle.vectors.specs.Matrices.{SplitsAt}
 use Rattle.vectors.specs.Space.{IsCombination}
@@ -39,15 +39,15 @@ use Rattle.vectors.specs.Echelon.{Pivots, rows_in, IsRref}
 use Rattle.vectors.proofs.Combinations as C
 use Rattle.vectors.proofs.EchelonLaws.{same_pivots}
 use Rattle.vectors.proofs.ListLaws.{same_entries}
-use Rattle.rings.proofs.Basics.{same_head, same_tail}
-use Rattle.rings.proofs.Each.{each_weaker}
+use Rattle.algebra.proofs.Basics.{same_head, same_tail}
+use Rattle.algebra.proofs.Each.{each_weaker}
 use Rattle.polynomials.proofs.Orders.{grevlex_order}
 use Rattle.exponentials.specs.Base.{IsTheBase}
-use Rattle.turns.specs.Classes.{class_matrix, IsClass, Passes, IsEigenvalue, IsFormBase, sizes_of}
-use Rattle.turns.specs.AfterTurns.{form_at, IsFormAfterTurns}
-use Rattle.turns.specs.Turns.{IsNormalForm, point, turns, values_at}
-use Rattle.turns.proofs.Numbers.{one_form}
-use Rattle.turns.proofs.OneForm.{all_values}
+use Rattle.solvable_maps.specs.Classes.{class_matrix, IsClass, Passes, IsEigenvalue, IsFormBase, sizes_of}
+use Rattle.solvable_maps.specs.AfterTurns.{form_at, IsFormAfterTurns}
+use Rattle.solvable_maps.specs.Turns.{IsNormalForm, point, turns, values_at}
+use Rattle.solvable_maps.proofs.Numbers.{one_form}
+use Rattle.solvable_maps.proofs.OneForm.{all_values}
 use Rattle.linear.proofs.Echelon.{echelon_none, echelon_added}
 use Rattle.eigen_split.specs.Refusal.{IsSingle}
 use Rattle.eigen_split.proofs.OneNumber.{single_splits}

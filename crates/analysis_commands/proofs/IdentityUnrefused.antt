@@ -2,14 +2,14 @@
 --   still_unrefused     so it is
 use Rattle.std.proofs.Common.{Option, None, Some, ◌≡◌, inl, inr, ℕ, zero, suc, ◌<◌, ◌≤◌, List, [], ◌∷◌, ◌++◌, take, length, refl, sym, ap, subst, ◌∙◌, arith}
 use Rattle.std.proofs.lemmas.List.{append-nil}
-use Rattle.rings.specs.Each.{Each}
-use Rattle.rings.specs.Sum.{sum_over}
-use Rattle.numbers.specs.Gcd.{gcd, lcm}
-use Rattle.numbers.specs.Ratio.{is_lowest, reduce}
-use Rattle.numbers.specs.Size.{Size, size, IsPast}
-use Rattle.numbers.specs.Fraction as Fraction
-use Rattle.numbers.specs.Fraction.{Fraction, fraction, fraction_size, fractions, ℚ}
-use Rattle.numbers.proofs.Fractions.{ℚ_field}
+use Rattle.algebra.specs.Each.{Each}
+use Rattle.algebra.specs.Sum.{sum_over}
+use Rattle.algebra.specs.Gcd.{gcd, lcm}
+use Rattle.algebra.specs.Ratio.{is_lowest, reduce}
+use Rattle.algebra.specs.Size.{Size, size, IsPast}
+use Rattle.algebra.specs.Fraction as Fraction
+use Rattle.algebra.specs.Fraction.{Fraction, fraction, fraction_size, fractions, ℚ}
+use Rattle.algebra.proofs.Fractions.{ℚ_field}
 use Rattle.polynomials.specs.Order.{grevlex}
 use Rattle.polynomials.specs.Terms.{Terms, evaluate, sum_of_products}
 use Rattle.polynomials.specs.Weight.{weight, composition_weight, composition_degrees, IsPastSum}
@@ -19,11 +19,11 @@ use Rattle.vectors.specs.Causes.{row_at}
 use Rattle.vectors.specs.Lists.{entries}
 use Rattle.vectors.specs.Matrices.{SplitsAt}
 use Rattle.frac128.specs.Sums.{left_past, right_past, parts_past, den_past}
-use Rattle.turns.specs.Classes.{class_matrix}
-use Rattle.turns.specs.Inverse.{IsProduct, numbers_at, unit_list, beside}
-use Rattle.chains.specs.Uses.{unit}
-use Rattle.turns.specs.Expo.{with_normal_keys, power_key, with_key}
-use Rattle.turns.specs.Turns.{IsNormalForm}
+use Rattle.solvable_maps.specs.Classes.{class_matrix}
+use Rattle.solvable_maps.specs.Inverse.{IsProduct, numbers_at, unit_list, beside}
+use Rattle.solvable_maps.specs.Uses.{unit}
+use Rattle.solvable_maps.specs.Expo.{with_normal_keys, power_key, with_key}
+use Rattle.solvable_maps.specs.Turns.{IsNormalForm}
 use Rattle.linear.specs.Rows.{fractions_of, rows_of}
 use Rattle.linear.proofs.Echelon.{echelon_none}
 use Rattle.eigen_split.specs.Refusal.{IsSplitInto}

@@ -7,10 +7,10 @@
 --   zero_asked, some_asked  the answered journals of the first: where 0 is asked for, nothing is
 --                           left; where a polynomial with a term is, it is left
 use Rattle.std.proofs.Common.{◌≡◌, ℕ, zero, suc, ◌<◌, List, [], ◌∷◌, ◌++◌, length, get_or, refl, sym, ap, subst, ◌∙◌, arith, All}
-use Rattle.rings.specs.Each.{Each}
-use Rattle.numbers.specs.Gcd.{gcd}
-use Rattle.numbers.specs.Ratio.{is_lowest}
-use Rattle.numbers.specs.Fraction.{Fraction, fraction}
+use Rattle.algebra.specs.Each.{Each}
+use Rattle.algebra.specs.Gcd.{gcd}
+use Rattle.algebra.specs.Ratio.{is_lowest}
+use Rattle.algebra.specs.Fraction.{Fraction, fraction}
 use Rattle.polynomials.specs.Exponent.{unit_exponents}
 use Rattle.polynomials.specs.Order.{compare, grevlex}
 use Rattle.polynomials.specs.Terms.{Terms, constant, variables}
@@ -21,13 +21,13 @@ use Rattle.machines.specs.Event.{Zero}
 use Rattle.loops.specs.Effect.{after_branch}
 use Rattle.loops.specs.Map.{branch_map}
 use Rattle.loops.specs.Program.{Expr, Program}
-use Rattle.turns.specs.Classes.{IsFormBase}
+use Rattle.solvable_maps.specs.Classes.{IsFormBase}
 use Rattle.rounds.specs.BranchMap.{map_of}
 use Rattle.rounds.specs.Form.{Form, IsClosedForm}
 use Rattle.rounds.specs.Journal.{AreForms, IsFinished, IsAnswered}
-use Rattle.expressions.specs.Operations.{IsWide, PassesLimit}
+use Rattle.loop_model.specs.Operations.{IsWide, PassesLimit}
 use Rattle.loop_model.specs.Maps.{maps_operations, AreFree, statements_operations}
-use Rattle.expressions.specs.Operations.{operations_all}
+use Rattle.loop_model.specs.Operations.{operations_all}
 use Rattle.solvable.specs.Refusal.{IsSolvable}
 use Rattle.closed_forms.specs.Refusal.{AllPass, Refusal, IfRefused}
 use Rattle.analysis_commands.proofs.IdentityMap.{still, still_solvable, still_passes, turned, turned_normal, still_base_is, same_turns}

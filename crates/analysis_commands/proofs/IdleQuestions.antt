@@ -3,14 +3,14 @@
 --   yes_stops, no_stops     no operation of their polynomials passes a limit or is past
 use Rattle.std.proofs.Common.{◌≡◌, inl, inr, ℕ, ◌<◌, pos, List, [], ◌∷◌, ◌++◌, length, refl, sym, ap, subst, ◌∙◌, arith, All}
 use Rattle.std.proofs.lemmas.List.Elements.{All-nil, All-cons}
-use Rattle.rings.specs.Each.{Each}
-use Rattle.rings.proofs.Basics.{same_head}
-use Rattle.numbers.specs.Gcd.{gcd, lcm}
-use Rattle.numbers.specs.Ratio.{is_lowest, reduce}
-use Rattle.numbers.specs.Size.{size}
-use Rattle.numbers.specs.Fraction as Fraction
-use Rattle.numbers.specs.Fraction.{Fraction, fraction, fractions, rationals, whole, ℚ}
-use Rattle.numbers.proofs.Fractions.{ℚ_field}
+use Rattle.algebra.specs.Each.{Each}
+use Rattle.algebra.proofs.Basics.{same_head}
+use Rattle.algebra.specs.Gcd.{gcd, lcm}
+use Rattle.algebra.specs.Ratio.{is_lowest, reduce}
+use Rattle.algebra.specs.Size.{size}
+use Rattle.algebra.specs.Fraction as Fraction
+use Rattle.algebra.specs.Fraction.{Fraction, fraction, fractions, rationals, whole, ℚ}
+use Rattle.algebra.proofs.Fractions.{ℚ_field}
 use Rattle.polynomials.specs.Algebra as Algebra
 use Rattle.polynomials.specs.Exponent.{unit_exponents}
 use Rattle.polynomials.specs.Order.{compare, grevlex}
@@ -23,8 +23,8 @@ use Rattle.machines.specs.Collect.{collect, insert, place}
 use Rattle.machines.proofs.Collecting.{collect-same}
 use Rattle.loops.specs.Effect.{value_of}
 use Rattle.loops.specs.Program.{Expr, sub, variable, number}
-use Rattle.expressions.specs.Operations.{Operation, HoldsCollected, difference_at, operations, value, most_terms, PassesLimit, IsPastOperation, IsFree, IsWide}
-use Rattle.expressions.proofs.OperatorLaws.{only}
+use Rattle.loop_model.specs.Operations.{Operation, HoldsCollected, difference_at, operations, value, most_terms, PassesLimit, IsPastOperation, IsFree, IsWide}
+use Rattle.loop_model.proofs.OperatorLaws.{only}
 use Rattle.analysis_commands.proofs.IdentityMap.{one}
 use Rattle.analysis_commands.proofs.IdentityUnrefused.{fits}
 

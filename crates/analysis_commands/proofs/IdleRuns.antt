@@ -6,7 +6,7 @@
 --   asked_run, some_answered     and with a question: what has a term is left as it is
 --   zero_run, zero_answered      of 0 nothing is left
 use Rattle.std.proofs.Common.{◌≡◌, inl, inr, ℕ, List, [], ◌∷◌, slice_get, refl, sym, ap, subst, ◌∙◌, Option, Some, None}
-use Rattle.numbers.specs.Fraction.{Fraction, fractions, rationals}
+use Rattle.algebra.specs.Fraction.{Fraction, fractions, rationals}
 use Rattle.polynomials.specs.Order.{grevlex}
 use Rattle.polynomials.specs.Terms.{Terms}
 use Rattle.machines.specs.Completion as completion

@@ -1,3 +1,7 @@
+pub mod Naming
+pub mod Pushing
+pub mod LineFeeds
+pub mod BasisTexts
 pub mod Refused
 pub mod BranchRefusals
 pub mod Analysing
@@ -29,3 +33,10 @@ pub mod SquareMap
 pub mod PassedLimits
 pub mod ReadTexts
 pub mod Witnesses
+pub mod ChainAnswers
+pub mod FewUnits
+pub mod BasesPushing
+pub mod ChainAnalysing
+pub mod ChainPromises
+pub mod IdleCode
+pub mod ChainWitnesses

@@ -11,14 +11,14 @@ use Rattle.std.proofs.Common.{◌≡◌, ◌↔◌, ℕ, List, [], length, refl,
 use Rattle.std.specs.Prelude.{◌⊎◌, All, Some, IfOk}
 use Rattle.std.specs.declared.alloc.AllocError.{AllocError}
 use Rattle.std.proofs.lemmas.Result.{IfOk-weaker}
-use Rattle.numbers.specs.Fraction.{Fraction}
+use Rattle.algebra.specs.Fraction.{Fraction}
 use Rattle.polynomials.specs.Terms.{Terms}
 use Rattle.machines.specs.Journal.{Journal}
 use Rattle.loops.specs.Inv.{Inv}
 use Rattle.loops.specs.Program.{Expr, Program}
 use Rattle.rounds.specs.Journal.{IsOut}
 use Rattle.poly.specs.Seen.{terms_in, terms_each}
-use Rattle.expressions.specs.FracPoly.{FracPoly}
+use Rattle.loop_model.specs.FracPoly.{FracPoly}
 use Rattle.divide.specs.declared.EngineError.{EngineError}
 use Rattle.divide.specs.declared.EngineError.TheVariants as engine_error
 use Rattle.invariant_fix.specs.Membership.{SaysYes, HasAsked as HasWorked, Answers, HasAnswered, HasCofactorsOver, HasSum, IsWideAsking, IsAskingOutOfUnits}
@@ -26,23 +26,23 @@ use Rattle.invariant_fix.specs.Refusals.{HasFollowed, IsRefused}
 use Rattle.invariant_fix.specs.declared.errors.AnalyseError.{AnalyseError}
 use Rattle.invariant_fix.specs.declared.membership.Membership as declared
 use Rattle.invariant_fix.specs.declared.membership.Membership.TheVariants as membership
-use Rattle.expr_text.specs.Reasons.{Fault}
-use Rattle.courses.specs.declared.answer.Answer as made
-use Rattle.courses.specs.Texts.{Answer}
-use Rattle.courses.specs.Views.{answer_view, seen_answer}
-use Rattle.courses.specs.Course.{ends}
-use Rattle.courses.specs.Change.{Change, ◌⟶◌}
-use Rattle.courses.specs.Outcome.{Says}
-use Rattle.courses.proofs.Going.{at_end, replied}
+use Rattle.poly_text.specs.Reasons.{Fault}
+use Rattle.io_edge.specs.declared.answer.Answer as made
+use Rattle.io_edge.specs.Texts.{Answer}
+use Rattle.io_edge.specs.Views.{answer_view, seen_answer}
+use Rattle.io_edge.specs.Course.{ends}
+use Rattle.io_edge.specs.Change.{Change, ◌⟶◌}
+use Rattle.io_edge.specs.Outcome.{Says}
+use Rattle.io_edge.proofs.Going.{at_end, replied}
 use Rattle.io_edge.specs.Outside.{FilesView}
 use Rattle.analysis_commands.specs.Analyses.{empty_journal, HasFound, HasAnalysed}
-use Rattle.equation_word.specs.Equations.{equation_in}
+use Rattle.command_parts.specs.Equations.{equation_in}
 use Rattle.analysis_commands.specs.MemberCourse.{HasAskedFor, AnswersEquation, by_equation, with_question}
 use Rattle.analysis_commands.specs.Questions.{unanalysed, undivided, yes, no, Divides, IsUndivided, Asks, IsFollowingAsked, HasAsked, undivided_answer, membership_answer}
 use Rattle.analysis_commands.specs.Texts.{refusal_answer}
 use Rattle.analysis_commands.proofs.BasisElements.{elements_over}
 use Rattle.analysis_commands.proofs.MemberJournals.{follows_asked, asking_stopped, asking_out, asking_worked}
-use Rattle.equation_word.specs.Reading.{equation_refusal, IsPolynomialOf, IsUnread}
+use Rattle.command_parts.specs.EquationReading.{equation_refusal, IsPolynomialOf, IsUnread}
 
 pub basis_arity : (l : Program (Expr ℕ)) (m : Journal) (gs : List FracPoly) (n : ℕ)
     → n ≡ length l.names → HasFound l m (terms_each gs)

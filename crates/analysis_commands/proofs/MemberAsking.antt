@@ -16,15 +16,15 @@
 --                       yes or no
 use Rattle.std.proofs.Common.{◌≡◌, ◌≢◌, ℕ, suc, ◌≤◌, List, length, sym, subst, ◌∙◌, Ok, inl, inr}
 use Rattle.std.specs.Prelude.{◌⊎◌, ◌++◌, Some, None, codes, decimal}
-use Rattle.numbers.specs.Fraction.{Fraction}
+use Rattle.algebra.specs.Fraction.{Fraction}
 use Rattle.polynomials.specs.Terms.{Terms}
 use Rattle.machines.specs.Division as division
 use Rattle.machines.specs.Journal.{Journal, Entry, units_of}
 use Rattle.loops.specs.Program.{Expr, Program}
-use Rattle.expressions.specs.Operations.{IsLimit}
-use Rattle.expressions.specs.Stops.{Stops}
-use Rattle.expressions.specs.declared.map_error.MapError.{MapError}
-use Rattle.expressions.specs.declared.map_error.MapError.TheVariants as map_error
+use Rattle.loop_model.specs.Operations.{IsLimit}
+use Rattle.loop_model.specs.Stops.{Stops}
+use Rattle.loop_model.specs.declared.map_error.MapError.{MapError}
+use Rattle.loop_model.specs.declared.map_error.MapError.TheVariants as map_error
 use Rattle.loop_model.specs.Maps.{maps_operations, AreFree}
 use Rattle.loop_text.specs.LoopReader.{loop_of}
 use Rattle.rounds.specs.Journal.{IsAnswered, IsOut}
@@ -34,16 +34,16 @@ use Rattle.divide.specs.declared.EngineError.TheVariants as engine_error
 use Rattle.invariant_fix.specs.Refusals.{AllHaveForms, IsRefusedBranch, IsRefused}
 use Rattle.invariant_fix.specs.declared.errors.AnalyseError.{AnalyseError}
 use Rattle.invariant_fix.specs.declared.errors.AnalyseError.TheVariants as error
-use Rattle.courses.specs.declared.answer.Status.{Status}
-use Rattle.courses.specs.declared.answer.Status.TheVariants as status
-use Rattle.courses.specs.Texts.{Answer, line}
-use Rattle.courses.proofs.OfStatuses.{status_of, text_of, no_answer, some_answer}
-use Rattle.loop_file.proofs.MapLimits.{not_free}
+use Rattle.io_edge.specs.declared.answer.Status.{Status}
+use Rattle.io_edge.specs.declared.answer.Status.TheVariants as status
+use Rattle.io_edge.specs.Texts.{Answer, line}
+use Rattle.io_edge.proofs.OfStatuses.{status_of, text_of, no_answer, some_answer}
+use Rattle.command_parts.proofs.MapLimits.{not_free}
 use Rattle.analysis_commands.specs.declared.kind.Kind.TheVariants as kinds
 use Rattle.analysis_commands.specs.Analyses.{empty_journal, refused, Analyses}
 use Rattle.analysis_commands.specs.Causes.{IsNeverRefused, IsExact}
 use Rattle.analysis_commands.specs.Completeness.{AllSplit}
-use Rattle.equation_word.specs.Equations.{equation_in, operations_of, polynomial_of}
+use Rattle.command_parts.specs.Equations.{equation_in, operations_of, polynomial_of}
 use Rattle.analysis_commands.specs.MemberCauses.{IsAsking, HasAffirmed, HasDenied, IsSpentAsking, NeverStops, NeverPast}
 use Rattle.analysis_commands.specs.MemberClauses.{EndsDecided, limit_of_loop}
 use Rattle.analysis_commands.specs.MemberHeadline.{ShowsYes, ShowsNo}
@@ -51,11 +51,11 @@ use Rattle.analysis_commands.specs.Questions.{Decision, unanalysed, undivided, y
 use Rattle.analysis_commands.specs.Texts.{refusal_answer, branch_answer}
 use Rattle.analysis_commands.proofs.Analysing.{refused_not_yes, spent_is, limit_analysed, formed_analysed, unformed_analysed, branch_analysed}
 use Rattle.analysis_commands.proofs.BranchRefusals.{no_form, some_told}
-use Rattle.equation_word.proofs.Polynomials.{holds_invariant}
+use Rattle.command_parts.proofs.Polynomials.{holds_invariant}
 use Rattle.analysis_commands.proofs.MemberJournals.{out_asked, enough_asked}
 use Rattle.analysis_commands.proofs.MemberStatuses.{Undivided, too_wide_to_divide, spent_dividing, division_parts, division_kind}
 use Rattle.analysis_commands.proofs.Refused.{refusal_parts, refusal_kind, refused_not_no}
-use Rattle.equation_word.specs.Reading.{IsUnformed, stop_answer}
+use Rattle.command_parts.specs.EquationReading.{IsUnformed, stop_answer}
 
 -- ---- an equation that has no polynomial
 module _ (l : Program (Expr ℕ)) (e : Expr ℕ) (a : Answer) where

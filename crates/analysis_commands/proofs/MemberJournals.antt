@@ -7,7 +7,7 @@
 --   enough_asked         where an answered journal has at most as many units as the limit, none is
 --                        out of it
 use Rattle.std.proofs.Common.{◌≡◌, inl, inr, ℕ, ◌≤◌, List, arith, refl, sym, ap, subst, ◌∙◌, Option, Some, None}
-use Rattle.numbers.specs.Fraction.{Fraction, rationals, fractions}
+use Rattle.algebra.specs.Fraction.{Fraction, rationals, fractions}
 use Rattle.polynomials.specs.Order.{grevlex}
 use Rattle.polynomials.specs.Terms.{Terms}
 use Rattle.machines.specs.Division as division

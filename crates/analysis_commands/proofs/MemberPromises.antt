@@ -3,35 +3,35 @@
 --   decides      the clauses
 use Rattle.std.proofs.Common.{◌≡◌, ◌≢◌, ◌≤◌, ℕ, List, length, refl, sym, subst, ◌∙◌, Result, Ok, Err, inl, inr}
 use Rattle.std.specs.Prelude.{◌⊎◌, Option, Some, None, IfSome}
-use Rattle.numbers.specs.Fraction.{Fraction}
+use Rattle.algebra.specs.Fraction.{Fraction}
 use Rattle.polynomials.specs.Terms.{Terms}
 use Rattle.machines.specs.Division as division
 use Rattle.machines.specs.Journal.{Journal, Entry, units_of}
-use Rattle.expr_text.specs.Reasons.{Fault}
-use Rattle.expressions.specs.Operations.{IsLimit}
+use Rattle.poly_text.specs.Reasons.{Fault}
+use Rattle.loop_model.specs.Operations.{IsLimit}
 use Rattle.loops.specs.Program.{Expr, Program}
 use Rattle.loop_model.specs.Maps.{maps_operations, AreFree}
 use Rattle.loop_text.specs.LoopReader.{loop_of}
 use Rattle.rounds.specs.Journal.{IsAnswered}
 use Rattle.closed_forms.specs.Refusal.{Refusal}
 use Rattle.invariant_fix.specs.Refusals.{AllHaveForms, IsRefusedBranch}
-use Rattle.courses.specs.declared.answer.Status.{Status}
-use Rattle.courses.specs.declared.answer.Status.TheVariants as status
-use Rattle.courses.specs.Texts.{Answer}
-use Rattle.courses.specs.Settled.{IsSettled, IsRefusing}
-use Rattle.courses.specs.Course.{Course, ends, Outcome, LeftBy, EachAnswer}
-use Rattle.courses.specs.Outcome.{Call, IsCarriedOut}
-use Rattle.courses.specs.Clauses.{Wrote, IsExcused, EndsOrWide, EndsAtFault}
-use Rattle.courses.proofs.Outcomes.{Said, at_some, if_told, yes_said, said_with, refusal_told, written, or_excused, or_wide, or_fault, ends_so, meter_left}
-use Rattle.courses.proofs.Outside.{too_long_told}
-use Rattle.courses.proofs.Readings.{each_answer, at_something, at_fault}
-use Rattle.loop_file.specs.Texts.{loop_refusal}
-use Rattle.loop_file.specs.Reading.{loop_at, by_loop}
-use Rattle.loop_file.proofs.LoopCourses.{loop_refuses}
-use Rattle.loop_file.proofs.MapLimits.{not_free}
+use Rattle.io_edge.specs.declared.answer.Status.{Status}
+use Rattle.io_edge.specs.declared.answer.Status.TheVariants as status
+use Rattle.io_edge.specs.Texts.{Answer}
+use Rattle.io_edge.specs.Settled.{IsSettled, IsRefusing}
+use Rattle.io_edge.specs.Course.{Course, ends, Outcome, LeftBy, EachAnswer}
+use Rattle.io_edge.specs.Outcome.{Call, IsCarriedOut}
+use Rattle.io_edge.specs.Clauses.{Wrote, IsExcused, EndsOrWide, EndsAtFault}
+use Rattle.io_edge.proofs.Outcomes.{Said, at_some, if_told, yes_said, said_with, refusal_told, written, or_excused, or_wide, or_fault, ends_so, meter_left}
+use Rattle.io_edge.proofs.Outside.{too_long_told}
+use Rattle.io_edge.proofs.Readings.{each_answer, at_something, at_fault}
+use Rattle.command_parts.specs.FaultTexts.{loop_refusal}
+use Rattle.command_parts.specs.LoopReading.{loop_at, by_loop}
+use Rattle.command_parts.proofs.LoopCourses.{loop_refuses}
+use Rattle.command_parts.proofs.MapLimits.{not_free}
 use Rattle.analysis_commands.specs.Causes.{IsNeverRefused, IsExact}
 use Rattle.analysis_commands.specs.Completeness.{AllSplit}
-use Rattle.equation_word.specs.Equations.{equation_in, operations_of, polynomial_of}
+use Rattle.command_parts.specs.Equations.{equation_in, operations_of, polynomial_of}
 use Rattle.analysis_commands.specs.MemberCauses.{IsAsking, IsEquationFault, HasAffirmed, HasDenied, IsSpentAsking, IsAsked, NeverStops, NeverPast}
 use Rattle.analysis_commands.specs.MemberClauses.{AsksNothing, ReadsEquation, AsksOf, Refuses, EndsDecided, EndsAsked, limit_of_loop, limit_of_equation, Decides}
 use Rattle.analysis_commands.specs.MemberCourse.{HasAskedFor, AnswersEquation, by_equation, with_question, course}
@@ -42,8 +42,8 @@ use Rattle.analysis_commands.specs.Texts.{branch_answer}
 use Rattle.analysis_commands.proofs.MemberAsking.{never_stopped, yes_asking, no_asking, spent_asking, spent_out, limit_asking, decided_asking, unformed_asking, branch_asking, completed_asking}
 use Rattle.analysis_commands.proofs.MemberJournals.{enough_asked}
 use Rattle.analysis_commands.proofs.MemberStatuses.{equation_settled}
-use Rattle.equation_word.specs.Reading.{equation_refusal}
-use Rattle.equation_word.proofs.Refusals.{equation_refuses, unformed_refuses, stopped_limit, stopped_wide}
+use Rattle.command_parts.specs.EquationReading.{equation_refusal}
+use Rattle.command_parts.proofs.Refusals.{equation_refuses, unformed_refuses, stopped_limit, stopped_wide}
 
 -- both of what is told, where the second may be something else
 both : (x : Option (List ℕ)) (A B P : List ℕ → Type 0) (K : Type 0)

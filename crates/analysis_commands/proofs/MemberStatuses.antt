@@ -9,16 +9,16 @@ use Rattle.machines.specs.Journal.{Journal}
 use Rattle.loops.specs.Program.{Expr, Program}
 use Rattle.divide.specs.declared.EngineError.{EngineError}
 use Rattle.divide.specs.declared.EngineError.TheVariants as engine_error
-use Rattle.analysis_text.specs.Texts.{member_text}
-use Rattle.courses.specs.declared.answer.Status.{Status}
-use Rattle.courses.specs.declared.answer.Status.TheVariants as status
-use Rattle.courses.specs.Texts.{Answer}
-use Rattle.courses.specs.Settled.{IsSettled}
-use Rattle.courses.proofs.OfStatuses.{status_of, some_answer, some_status, settled_yes, settled_no, settled_budget, refusing_wide}
+use Rattle.analysis_commands.specs.AnalysisTexts.{member_text}
+use Rattle.io_edge.specs.declared.answer.Status.{Status}
+use Rattle.io_edge.specs.declared.answer.Status.TheVariants as status
+use Rattle.io_edge.specs.Texts.{Answer}
+use Rattle.io_edge.specs.Settled.{IsSettled}
+use Rattle.io_edge.proofs.OfStatuses.{status_of, some_answer, some_status, settled_yes, settled_no, settled_budget, refusing_wide}
 use Rattle.analysis_commands.specs.MemberCourse.{AnswersEquation}
 use Rattle.analysis_commands.specs.Questions.{Decision, unanalysed, undivided, yes, no, division_status, undivided_answer, positive_answer, negative_answer, decision_answer}
 use Rattle.analysis_commands.proofs.Refused.{by_status, refusal_parts, refusal_kind, refused_settled}
-use Rattle.equation_word.proofs.Refusals.{unformed_refuses}
+use Rattle.command_parts.proofs.Refusals.{unformed_refuses}
 
 -- ---- a refused division
 pub data Undivided (x : EngineError) (s : Status) : Type 0 where

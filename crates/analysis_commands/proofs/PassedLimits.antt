@@ -9,13 +9,13 @@
 --                                   question, and of the maps of the loop
 use Rattle.std.proofs.Common.{◌≡◌, inl, inr, ℕ, zero, suc, ◌+◌, ◌<◌, ◌≤◌, pos, List, [], ◌∷◌, ◌++◌, length, refl, sym, ap, subst, ◌∙◌, arith, append_assoc, append-nil, get_or, sum}
 use Rattle.std.proofs.lemmas.List.Elements.{All-nil, All-cons, All-append}
-use Rattle.rings.specs.Arithmetic.{power as times_itself}
-use Rattle.rings.specs.Each.{Each}
-use Rattle.numbers.specs.Gcd.{gcd}
-use Rattle.numbers.specs.Ratio.{is_lowest, reduce}
-use Rattle.numbers.specs.Fraction as Fraction
-use Rattle.numbers.specs.Fraction.{Fraction, fraction, ℚ}
-use Rattle.numbers.proofs.Fractions.{ℚ_field}
+use Rattle.algebra.specs.Arithmetic.{power as times_itself}
+use Rattle.algebra.specs.Each.{Each}
+use Rattle.algebra.specs.Gcd.{gcd}
+use Rattle.algebra.specs.Ratio.{is_lowest, reduce}
+use Rattle.algebra.specs.Fraction as Fraction
+use Rattle.algebra.specs.Fraction.{Fraction, fraction, ℚ}
+use Rattle.algebra.proofs.Fractions.{ℚ_field}
 use Rattle.polynomials.specs.Algebra as Algebra
 use Rattle.polynomials.specs.Exponent.{plus, unit_exponents}
 use Rattle.polynomials.specs.Order.{grevlex}
@@ -24,8 +24,8 @@ use Rattle.polynomials.specs.Terms.{Terms, Same, constant, times, variables}
 use Rattle.polynomials.proofs.Same.{Same-refl}
 use Rattle.loops.specs.Effect.{value_of}
 use Rattle.loops.specs.Program.{Expr, Program, sub, variable, number, power}
-use Rattle.expressions.specs.Operations.{Operation, product_at, difference_at, partial_powers, power_of, operations, operations_all, value, most_terms, PassesLimit, IsFree, IsLimit, IsHigh, HasHighDegree}
-use Rattle.expressions.proofs.OperatorLaws.{only}
+use Rattle.loop_model.specs.Operations.{Operation, product_at, difference_at, partial_powers, power_of, operations, operations_all, value, most_terms, PassesLimit, IsFree, IsLimit, IsHigh, HasHighDegree}
+use Rattle.loop_model.proofs.OperatorLaws.{only}
 use Rattle.loop_model.specs.Maps.{maps_operations, statements_operations}
 use Rattle.analysis_commands.proofs.IdentityMap.{one}
 use Rattle.analysis_commands.proofs.IdleRuns.{x_loop}

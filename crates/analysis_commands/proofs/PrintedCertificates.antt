@@ -2,9 +2,9 @@
 --   valid_again        certificates with the same polynomials are valid together
 --   printed_valid      so what was printed is valid
 use Rattle.std.proofs.Common.{◌≡◌, ℕ, ◌<◌, ◌≤◌, List, length, refl, sym, subst, Ok, arith}
-use Rattle.rings.proofs.In.{each_from}
-use Rattle.numbers.specs.Fraction.{Fraction, ℚ}
-use Rattle.numbers.proofs.Fractions.{ℚ_ring}
+use Rattle.algebra.proofs.In.{each_from}
+use Rattle.algebra.specs.Fraction.{Fraction, ℚ}
+use Rattle.algebra.proofs.Fractions.{ℚ_ring}
 use Rattle.polynomials.specs.Terms.{Terms}
 use Rattle.polynomials.specs.Polynomial.{AllArity}
 use Rattle.polynomials.proofs.Same.{Same-trans, AllSame-refl, AllSame-length, same_combination}

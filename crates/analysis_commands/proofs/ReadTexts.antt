@@ -9,14 +9,14 @@ use Rattle.grammars.specs.Reader.{read}
 use Rattle.loops.specs.Limits.{most_names, most_bytes, most_branches, most_statements, most_operators, most_exponent}
 use Rattle.loops.specs.Program.{Expr, Statement}
 use Rattle.loops.specs.WellFormed.{local_places}
-use Rattle.expressions.specs.Words.{keyword_of}
-use Rattle.expr_text.specs.Lexemes.{lexeme_at, placed_behind}
-use Rattle.expr_text.specs.Reasons.{Fault, syntax}
-use Rattle.expr_text.specs.Sums.{most_depth}
+use Rattle.loop_model.specs.Words.{keyword_of}
+use Rattle.poly_text.specs.Lexemes.{lexeme_at, placed_behind}
+use Rattle.poly_text.specs.Reasons.{Fault, syntax}
+use Rattle.poly_text.specs.Sums.{most_depth}
 use Rattle.poly_text.specs.Equations.{equation_of}
 use Rattle.loop_text.specs.LoopReader.{loop_of}
-use Rattle.courses.specs.Outcome.{Call}
-use Rattle.equation_word.specs.Equations.{equation_in}
+use Rattle.io_edge.specs.Outcome.{Call}
+use Rattle.command_parts.specs.Equations.{equation_in}
 use Rattle.analysis_commands.specs.MemberWords.{Request}
 use Rattle.analysis_commands.specs.MemberClauses.{AsksOf}
 use Rattle.analysis_commands.proofs.IdleRuns.{x_loop}

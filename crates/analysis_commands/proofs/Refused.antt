@@ -4,20 +4,20 @@
 --   refused_settled, refused_not_no     its status is settled, and no no
 use Rattle.std.proofs.Common.{◌≡◌, ◌≢◌, ℕ, List, refl, sym, ap}
 use Rattle.std.specs.Prelude.{Option, Some, None, option_map}
-use Rattle.expressions.specs.declared.map_error.MapError.{MapError}
-use Rattle.expressions.specs.declared.map_error.MapError.TheVariants as map_error
+use Rattle.loop_model.specs.declared.map_error.MapError.{MapError}
+use Rattle.loop_model.specs.declared.map_error.MapError.TheVariants as map_error
 use Rattle.closed_forms.specs.declared.errors.FormsError.{FormsError}
 use Rattle.closed_forms.specs.declared.errors.FormsError.TheVariants as forms_error
 use Rattle.invariant_fix.specs.declared.errors.AnalyseError.{AnalyseError}
 use Rattle.invariant_fix.specs.declared.errors.AnalyseError.TheVariants as error
-use Rattle.analysis_text.specs.Texts.{refusal_text}
-use Rattle.courses.specs.declared.answer.Status.{Status}
-use Rattle.courses.specs.declared.answer.Status.TheVariants as status
+use Rattle.analysis_commands.specs.AnalysisTexts.{refusal_text}
+use Rattle.io_edge.specs.declared.answer.Status.{Status}
+use Rattle.io_edge.specs.declared.answer.Status.TheVariants as status
 use Rattle.analysis_commands.specs.Statuses.{map_status, forms_status, refusal_status}
-use Rattle.courses.specs.Texts.{Answer, with_text}
+use Rattle.io_edge.specs.Texts.{Answer, with_text}
 use Rattle.analysis_commands.specs.Texts.{refusal_answer}
-use Rattle.courses.specs.Settled.{IsSettled}
-use Rattle.courses.proofs.OfStatuses.{status_of, text_of, some_status, refusing_fault, refusing_wide, settled_budget}
+use Rattle.io_edge.specs.Settled.{IsSettled}
+use Rattle.io_edge.proofs.OfStatuses.{status_of, text_of, some_status, refusing_fault, refusing_wide, settled_budget}
 
 pub by_status : (s : Option Status) (text : List ℕ) (a : Answer)
     → option_map (λ t. with_text t text) s ≡ Some a → (s ≡ Some a.status) × (a.text ≡ text)

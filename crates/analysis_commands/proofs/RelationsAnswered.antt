@@ -12,27 +12,27 @@ use Rattle.machines.specs.Journal.{Journal}
 use Rattle.loops.specs.Program.{Expr, Program}
 use Rattle.loop_model.specs.Maps.{AreFree}
 use Rattle.loop_model.specs.View.{program_of}
-use Rattle.expressions.specs.FracPoly.{FracPoly}
+use Rattle.loop_model.specs.FracPoly.{FracPoly}
 use Rattle.poly.specs.Seen.{terms_each}
 use Rattle.invariant_fix.specs.Refusals.{AllHaveForms}
 use Rattle.invariant_fix.proofs.Options.{if_ok_two}
-use Rattle.recurrences.specs.Sequences.{Sequence, sequence_names}
-use Rattle.recurrences.specs.Turning as turning
-use Rattle.recurrences.specs.Turning.{names, first_places}
-use Rattle.recurrences.proofs.Relations.{length-shown}
-use Rattle.recurrences.proofs.Starts.{length-names}
-use Rattle.relations.specs.Order.{visible}
-use Rattle.relations.specs.Journal.{IsEnded, HasFollowed}
-use Rattle.relations.proofs.Ended.{relations_basis, relations_generate}
-use Rattle.relations.proofs.Shown.{visible_shown}
-use Rattle.loop_relations.specs.Refusals.{IsRefused}
-use Rattle.loop_relations.specs.declared.errors.RelationsError.{RelationsError}
-use Rattle.loop_relations.specs.declared.errors.RelationsError.TheVariants.{Analysis, Wide, Budget, Memory}
-use Rattle.sequence_text.specs.declared.Seqs.{Seqs}
-use Rattle.sequence_text.specs.Seen.{IsLoopOf}
-use Rattle.analysis_text.specs.ReadBack.{IsReadBack}
-use Rattle.courses.specs.declared.answer.Answer as made
-use Rattle.courses.specs.Views.{answer_view}
+use Rattle.loops.specs.Sequences.{Sequence, sequence_names}
+use Rattle.loops.specs.Turning as turning
+use Rattle.loops.specs.Turning.{names, first_places}
+use Rattle.loops.proofs.Relations.{length-shown}
+use Rattle.loops.proofs.RecurrenceStarts.{length-names}
+use Rattle.corollaries.specs.Order.{visible}
+use Rattle.corollaries.specs.Journal.{IsEnded, HasFollowed}
+use Rattle.corollaries.proofs.Ended.{relations_basis, relations_generate}
+use Rattle.corollaries.proofs.Shown.{visible_shown}
+use Rattle.invariant_fix.specs.RelationsRefusals.{IsRefused}
+use Rattle.invariant_fix.specs.declared.relations_error.RelationsError.{RelationsError}
+use Rattle.invariant_fix.specs.declared.relations_error.RelationsError.TheVariants.{Analysis, Wide, Budget, Memory}
+use Rattle.loop_text.specs.declared.sequences.Seqs.{Seqs}
+use Rattle.loop_text.specs.SequenceSeen.{IsLoopOf}
+use Rattle.analysis_commands.specs.ReadBack.{IsReadBack}
+use Rattle.io_edge.specs.declared.answer.Answer as made
+use Rattle.io_edge.specs.Views.{answer_view}
 use Rattle.analysis_commands.specs.Analyses.{empty_journal}
 use Rattle.analysis_commands.specs.RelationsTexts.{found_answer, relations_refusal}
 use Rattle.analysis_commands.specs.RelationsAnswers.{related, refused, Relates, HasRelated}

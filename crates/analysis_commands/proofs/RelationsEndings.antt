@@ -10,31 +10,31 @@
 --   related_within     no budget is spent where some journal that has ended is within it
 use Rattle.std.proofs.Common.{◌≡◌, ◌≢◌, ℕ, suc, List, length, refl, sym, ap, subst, ◌∙◌, Ok, inl, inr}
 use Rattle.std.specs.Prelude.{◌⊎◌, Some, ◌++◌, codes, decimal}
-use Rattle.numbers.specs.Fraction.{Fraction}
+use Rattle.algebra.specs.Fraction.{Fraction}
 use Rattle.polynomials.specs.Terms.{Terms}
 use Rattle.machines.specs.Journal.{Journal}
 use Rattle.loops.specs.Program.{Expr}
-use Rattle.expr_text.specs.Reasons.{limit, wide}
-use Rattle.expressions.specs.Operations.{IsLimit}
-use Rattle.expressions.specs.declared.map_error.MapError.{MapError}
-use Rattle.expressions.specs.declared.map_error.MapError.TheVariants as map_error
+use Rattle.poly_text.specs.Reasons.{limit, wide}
+use Rattle.loop_model.specs.Operations.{IsLimit}
+use Rattle.loop_model.specs.declared.map_error.MapError.{MapError}
+use Rattle.loop_model.specs.declared.map_error.MapError.TheVariants as map_error
 use Rattle.loop_model.specs.Maps.{maps_operations, AreFree}
 use Rattle.closed_forms.specs.Refusal.{Refusal}
 use Rattle.invariant_fix.specs.Refusals.{AllHaveForms, IsRefusedBranch}
 use Rattle.invariant_fix.specs.declared.errors.AnalyseError.{AnalyseError}
 use Rattle.invariant_fix.specs.declared.errors.AnalyseError.TheVariants as error
-use Rattle.recurrences.specs.Sequences.{Sequence, sequence_names}
-use Rattle.recurrences.specs.Turning.{names, program_of, first_places}
-use Rattle.relations.specs.Journal.{IsOut}
-use Rattle.relations.proofs.Budgets.{enough_budget}
-use Rattle.sequence_grammar.specs.SeqReader.{sequences_of}
-use Rattle.loop_relations.specs.declared.errors.RelationsError.{RelationsError}
-use Rattle.loop_relations.specs.declared.errors.RelationsError.TheVariants as relating
-use Rattle.loop_file.proofs.MapLimits.{limit_same, not_free}
-use Rattle.courses.specs.declared.answer.Status.TheVariants as status
-use Rattle.courses.specs.Texts.{Answer, line}
-use Rattle.courses.specs.Settled.{IsSettled}
-use Rattle.courses.proofs.OfStatuses.{status_of, text_of, some_status, no_answer, settled_yes, settled_budget, refusing_fault, refusing_wide}
+use Rattle.loops.specs.Sequences.{Sequence, sequence_names}
+use Rattle.loops.specs.Turning.{names, program_of, first_places}
+use Rattle.corollaries.specs.Journal.{IsOut}
+use Rattle.corollaries.proofs.Budgets.{enough_budget}
+use Rattle.loop_text.specs.SeqReader.{sequences_of}
+use Rattle.invariant_fix.specs.declared.relations_error.RelationsError.{RelationsError}
+use Rattle.invariant_fix.specs.declared.relations_error.RelationsError.TheVariants as relating
+use Rattle.command_parts.proofs.MapLimits.{limit_same, not_free}
+use Rattle.io_edge.specs.declared.answer.Status.TheVariants as status
+use Rattle.io_edge.specs.Texts.{Answer, line}
+use Rattle.io_edge.specs.Settled.{IsSettled}
+use Rattle.io_edge.proofs.OfStatuses.{status_of, text_of, some_status, no_answer, settled_yes, settled_budget, refusing_fault, refusing_wide}
 use Rattle.analysis_commands.specs.declared.kind.Kind.TheVariants as kinds
 use Rattle.analysis_commands.specs.Analyses as analysing
 use Rattle.analysis_commands.specs.Analyses.{Analyses}

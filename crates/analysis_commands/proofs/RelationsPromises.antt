@@ -3,20 +3,20 @@
 --   finds_relations    the clauses
 use Rattle.std.proofs.Common.{ℕ, List, refl}
 use Rattle.machines.specs.Journal.{Journal}
-use Rattle.expr_text.specs.Reasons.{Fault, limit}
+use Rattle.poly_text.specs.Reasons.{Fault, limit}
 use Rattle.loops.specs.Program.{Expr}
-use Rattle.recurrences.specs.Sequences.{Sequence}
-use Rattle.recurrences.specs.Turning.{names}
-use Rattle.courses.specs.Settled.{IsSettled}
-use Rattle.courses.specs.Course.{EachAnswer}
-use Rattle.courses.specs.Outcome.{Call, IsCarriedOut}
-use Rattle.courses.proofs.Outcomes.{or_wide, or_fault}
-use Rattle.courses.proofs.OneFile as one_file
-use Rattle.courses.proofs.OneFile.{OneFile, concludes_yes, concludes_no, concludes_spent, answered, ends_at_fault, tells, writes, refused, never_ends, not_ended, left, long}
+use Rattle.loops.specs.Sequences.{Sequence}
+use Rattle.loops.specs.Turning.{names}
+use Rattle.io_edge.specs.Settled.{IsSettled}
+use Rattle.io_edge.specs.Course.{EachAnswer}
+use Rattle.io_edge.specs.Outcome.{Call, IsCarriedOut}
+use Rattle.io_edge.proofs.Outcomes.{or_wide, or_fault}
+use Rattle.io_edge.proofs.OneFile as one_file
+use Rattle.io_edge.proofs.OneFile.{OneFile, concludes_yes, concludes_no, concludes_spent, answered, ends_at_fault, tells, writes, refused, never_ends, not_ended, left, long}
 use Rattle.analysis_commands.specs.Texts.{branch_answer}
 use Rattle.analysis_commands.specs.RelationsTexts.{sequences_refusal}
 use Rattle.analysis_commands.specs.RelationsAnswers.{Relates, HasRelated}
-use Rattle.word_numbers.specs.FileRequests.{FileRequest}
+use Rattle.command_parts.specs.FileRequests.{FileRequest}
 use Rattle.analysis_commands.specs.RelationsCourse.{course}
 use Rattle.analysis_commands.specs.RelationsClauses.{ShowsRelations, HasEnded, IsSpentRelating, IsUnrelated, IsRelating, FindsRelations}
 use Rattle.analysis_commands.proofs.Endings.{or_found}

@@ -5,25 +5,25 @@
 --   reset_splits       its branch is solvable, and each of its classes splits
 use Rattle.std.proofs.Common.{◌≡◌, inl, inr, ℕ, zero, suc, ◌<◌, pos, List, [], ◌∷◌, T, refl, sym, subst, arith, All}
 use Rattle.std.proofs.lemmas.List.Elements.{All-nil}
-use Rattle.rings.specs.Sum.{sum_over}
-use Rattle.numbers.specs.Gcd.{gcd}
-use Rattle.numbers.specs.Ratio.{is_lowest}
-use Rattle.numbers.specs.Fraction.{Fraction, fraction, ℚ}
+use Rattle.algebra.specs.Sum.{sum_over}
+use Rattle.algebra.specs.Gcd.{gcd}
+use Rattle.algebra.specs.Ratio.{is_lowest}
+use Rattle.algebra.specs.Fraction.{Fraction, fraction, ℚ}
 use Rattle.polynomials.specs.Algebra as Algebra
 use Rattle.polynomials.specs.Exponent.{unit_exponents}
 use Rattle.polynomials.specs.Order.{compare, grevlex}
 use Rattle.polynomials.specs.Terms.{Terms, constant, variables}
 use Rattle.machines.specs.Collect.{collect, insert, place}
-use Rattle.chains.specs.Chain.{IsChain}
-use Rattle.chains.specs.Class.{IsClassOf}
-use Rattle.chains.specs.Uses.{uses, strongly}
-use Rattle.chains.proofs.Classes.{class_one}
+use Rattle.solvable_maps.specs.Chain.{IsChain}
+use Rattle.solvable_maps.specs.Class.{IsClassOf}
+use Rattle.solvable_maps.specs.Uses.{uses, strongly}
+use Rattle.solvable_maps.proofs.Classes.{class_one}
 use Rattle.loops.specs.Effect.{after_branch, after_statement, store, value_of}
 use Rattle.loops.specs.Map.{branch_map}
 use Rattle.loops.specs.Program.{Expr, Program, number}
-use Rattle.turns.specs.Classes.{class_matrix, IsClass, Passes}
+use Rattle.solvable_maps.specs.Classes.{class_matrix, IsClass, Passes}
 use Rattle.rounds.specs.BranchMap.{map_of}
-use Rattle.expressions.specs.Operations.{operations, operations_all, PassesLimit}
+use Rattle.loop_model.specs.Operations.{operations, operations_all, PassesLimit}
 use Rattle.loop_model.specs.Maps.{maps_operations, statements_operations, AreFree}
 use Rattle.solvable.specs.Refusal.{IsSolvable}
 use Rattle.closed_forms.specs.Refusal.{AllPass}

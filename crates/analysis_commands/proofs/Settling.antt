@@ -5,10 +5,10 @@ use Rattle.std.specs.Prelude.{Some}
 use Rattle.machines.specs.Journal.{Journal}
 use Rattle.loops.specs.Certificate.{Certificate}
 use Rattle.loops.specs.Program.{Expr, Program}
-use Rattle.courses.specs.declared.answer.Status.TheVariants as status
-use Rattle.courses.specs.Texts.{Answer}
-use Rattle.courses.specs.Settled.{IsSettled}
-use Rattle.courses.proofs.OfStatuses.{status_of, some_answer, settled_yes}
+use Rattle.io_edge.specs.declared.answer.Status.TheVariants as status
+use Rattle.io_edge.specs.Texts.{Answer}
+use Rattle.io_edge.specs.Settled.{IsSettled}
+use Rattle.io_edge.proofs.OfStatuses.{status_of, some_answer, settled_yes}
 use Rattle.analysis_commands.specs.declared.kind.Kind.{Kind}
 use Rattle.analysis_commands.specs.Texts.{found_answer}
 use Rattle.analysis_commands.specs.Analyses.{Ending, found, refused, answer_of, Analyses}

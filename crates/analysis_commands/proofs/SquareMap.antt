@@ -6,22 +6,22 @@
 --   square_unformed    so not all of its branches have closed forms
 use Rattle.std.proofs.Common.{◌≡◌, inl, inr, ℕ, zero, suc, List, [], ◌∷◌, refl, sym, subst, arith, All}
 use Rattle.std.proofs.lemmas.List.Elements.{All-nil, All-cons}
-use Rattle.numbers.specs.Gcd.{gcd}
-use Rattle.numbers.specs.Ratio.{is_lowest, reduce}
-use Rattle.numbers.specs.Fraction as Fraction
-use Rattle.numbers.specs.Fraction.{Fraction, fraction}
+use Rattle.algebra.specs.Gcd.{gcd}
+use Rattle.algebra.specs.Ratio.{is_lowest, reduce}
+use Rattle.algebra.specs.Fraction as Fraction
+use Rattle.algebra.specs.Fraction.{Fraction, fraction}
 use Rattle.polynomials.specs.Algebra as Algebra
 use Rattle.polynomials.specs.Exponent.{plus, unit_exponents}
 use Rattle.polynomials.specs.Order.{compare, grevlex}
 use Rattle.polynomials.specs.Terms.{Terms, variables, constant}
 use Rattle.machines.specs.Collect.{collect, insert, place}
-use Rattle.chains.specs.Chain.{AtMost, Least, IsChain, IsLeastChain}
-use Rattle.chains.specs.Uses.{uses, strongly}
+use Rattle.solvable_maps.specs.Chain.{AtMost, Least, IsChain, IsLeastChain}
+use Rattle.solvable_maps.specs.Uses.{uses, strongly}
 use Rattle.loops.specs.Effect.{after_branch, after_statement, store, value_of}
 use Rattle.loops.specs.Map.{branch_map}
 use Rattle.loops.specs.Program.{Expr, Program, mul, variable}
 use Rattle.rounds.specs.BranchMap.{map_of}
-use Rattle.expressions.specs.Operations.{Operation, operations, operations_all, product_at, PassesLimit}
+use Rattle.loop_model.specs.Operations.{Operation, operations, operations_all, product_at, PassesLimit}
 use Rattle.loop_model.specs.Maps.{maps_operations, statements_operations, AreFree}
 use Rattle.closed_forms.specs.Refusal.{not_solvable, IfRefused}
 use Rattle.invariant_fix.specs.Refusals.{AllHaveForms, IsRefusedBranch}

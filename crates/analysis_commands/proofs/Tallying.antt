@@ -13,15 +13,15 @@ use Rattle.std.specs.declared.alloc.AllocError.{AllocError}
 use Rattle.machines.specs.Journal.{Journal}
 use Rattle.loops.specs.Program.{Expr, Program}
 use Rattle.loop_text.specs.LoopReader.{loop_of}
-use Rattle.loop_family.specs.Family.{Counts, loop_text, summary, most_loops}
+use Rattle.loop_text.specs.Family.{Counts, loop_text, summary, most_loops}
 use Rattle.invariant_fix.specs.Refusals.{IsRefused}
 use Rattle.invariant_fix.specs.declared.errors.AnalyseError.{AnalyseError}
-use Rattle.word_numbers.specs.Numerals.{usual_budget}
-use Rattle.courses.specs.declared.answer.Answer as made
-use Rattle.courses.specs.declared.answer.Status.TheVariants as status
-use Rattle.courses.specs.Texts.{Answer, with_text}
-use Rattle.courses.specs.Views.{answer_view}
-use Rattle.courses.proofs.OfStatuses.{status_of, text_of}
+use Rattle.command_parts.specs.Numerals.{usual_budget}
+use Rattle.io_edge.specs.declared.answer.Answer as made
+use Rattle.io_edge.specs.declared.answer.Status.TheVariants as status
+use Rattle.io_edge.specs.Texts.{Answer, with_text}
+use Rattle.io_edge.specs.Views.{answer_view}
+use Rattle.io_edge.proofs.OfStatuses.{status_of, text_of}
 use Rattle.analysis_commands.specs.Texts.{refusal_answer}
 use Rattle.analysis_commands.specs.Analyses.{empty_journal, AnswersRefusal}
 use Rattle.analysis_commands.specs.Causes.{IsUnanalysed}

@@ -27,17 +27,17 @@
 --   branch that changes a variable
 --   a branch that is refused for another exact cause than that it isn't solvable
 use Rattle.std.proofs.Common.{ℕ, ◌≤◌, List, [], ◌∷◌, sym, subst, arith}
-use Rattle.numbers.specs.Fraction.{Fraction}
+use Rattle.algebra.specs.Fraction.{Fraction}
 use Rattle.polynomials.specs.Terms.{Terms}
 use Rattle.machines.specs.Division as division
 use Rattle.machines.specs.Event.{Zero}
 use Rattle.machines.specs.Journal.{Entry, Begin, Did, Start, Member, units_of}
-use Rattle.expressions.specs.Operations.{IsLimit}
+use Rattle.loop_model.specs.Operations.{IsLimit}
 use Rattle.loop_model.specs.Maps.{maps_operations, AreFree}
 use Rattle.rounds.specs.Journal.{IsAnswered}
 use Rattle.closed_forms.specs.Refusal.{not_solvable}
 use Rattle.invariant_fix.specs.Refusals.{AllHaveForms, IsRefusedBranch}
-use Rattle.equation_word.specs.Equations.{operations_of, polynomial_of}
+use Rattle.command_parts.specs.Equations.{operations_of, polynomial_of}
 use Rattle.analysis_commands.specs.Causes.{IsNeverRefused, IsWithinBudget, IsExact}
 use Rattle.analysis_commands.specs.Completeness.{AllSplit}
 use Rattle.analysis_commands.specs.MemberCauses.{NeverStops, NeverPast}

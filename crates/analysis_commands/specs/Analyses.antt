@@ -9,7 +9,7 @@
 --   AnswersRefusal l budget m a   a tells why the analysis of l, which left m, has no basis
 --   HasAnalysed l budget m   the meter was opened with this budget, and its entries are none or follow the analysis of l
 use Rattle.std.specs.Prelude.{◌≡◌, ℕ, List, [], length, Option, Some}
-use Rattle.numbers.specs.Fraction.{Fraction}
+use Rattle.algebra.specs.Fraction.{Fraction}
 use Rattle.polynomials.specs.Terms.{Terms}
 use Rattle.machines.specs.Journal.{Journal}
 use Rattle.loops.specs.Certificate.{Certificate, IsValid}
@@ -21,7 +21,7 @@ use Rattle.invariant_fix.specs.Refusals.{AllHaveForms, HasFollowed, IsRefused}
 use Rattle.invariant_fix.specs.declared.errors.AnalyseError.{AnalyseError}
 use Rattle.analysis_commands.specs.declared.kind.Kind.{Kind}
 use Rattle.analysis_commands.specs.Headline.{IsBasisOf, IsToldBack}
-use Rattle.courses.specs.Texts.{Answer}
+use Rattle.io_edge.specs.Texts.{Answer}
 use Rattle.analysis_commands.specs.Texts.{found_answer, refusal_answer}
 
 abbrev pub empty_journal : ℕ → Journal

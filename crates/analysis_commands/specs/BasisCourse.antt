@@ -1,7 +1,7 @@
 -- The course of `basis` and `cert`: LOOP is read, the meter is opened for the analysis of the loop, and the answer is one to how it ends.
 use Rattle.analysis_commands.specs.Analyses.{Analyses, HasAnalysed}
-use Rattle.courses.specs.Course.{Course, ends}
-use Rattle.loop_file.specs.Reading.{with_loop}
+use Rattle.io_edge.specs.Course.{Course, ends}
+use Rattle.command_parts.specs.LoopReading.{with_loop}
 use Rattle.analysis_commands.specs.BasisWords.{Request}
 
 abbrev pub course : Request → Course

@@ -7,11 +7,11 @@
 --   IsWithinBudget l budget          some finished journal of the loop has at most as many units as the budget
 --   IsExact r                        the refusal r of a branch has a cause that is no weight: a chain, a class that doesn't split, one whose sums are out of range, or one that is too wide before its splitting
 use Rattle.std.specs.Prelude.{◌≡◌, ◌<◌, ◌≤◌, ⊤, ℕ, suc, List, ◌++◌, length, None, Ok, codes, decimal}
-use Rattle.numbers.specs.Fraction.{Fraction}
+use Rattle.algebra.specs.Fraction.{Fraction}
 use Rattle.polynomials.specs.Terms.{Terms}
 use Rattle.machines.specs.Journal.{Journal, Entry as Made, units_of}
 use Rattle.loops.specs.Program.{Expr, Program}
-use Rattle.expressions.specs.Operations.{IsWide}
+use Rattle.loop_model.specs.Operations.{IsWide}
 use Rattle.loop_model.specs.Maps.{maps_operations, AreFree}
 use Rattle.loop_text.specs.LoopReader.{loop_of}
 use Rattle.rounds.specs.Analysis.{State}
@@ -21,7 +21,7 @@ use Rattle.rounds.specs.Past.{IsPast}
 use Rattle.closed_forms.specs.Refusal.{Refusal, not_solvable, eigenvalues, range, wide_split, wide_form, IfRefused}
 use Rattle.invariant_fix.specs.Answers.{IsLeastLevel}
 use Rattle.invariant_fix.specs.Refusals.{AllHaveForms}
-use Rattle.courses.specs.Texts.{Answer, line}
+use Rattle.io_edge.specs.Texts.{Answer, line}
 use Rattle.analysis_commands.specs.Analyses.{AnswersRefusal, HasAnalysed}
 
 pub record HasFinished (text : List ℕ) (budget : ℕ) (m : Journal) : Type 0 where

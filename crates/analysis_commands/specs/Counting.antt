@@ -10,15 +10,15 @@
 --   HasCounted n m               so, for one of the first n loops
 --   IsFamily n P                 P of each of the first n loops
 use Rattle.std.specs.Prelude.{◌≡◌, ◌⊎◌, ◌<◌, ◌≤◌, ℕ, zero, suc, List, Ok}
-use Rattle.numbers.specs.Fraction.{Fraction}
+use Rattle.algebra.specs.Fraction.{Fraction}
 use Rattle.polynomials.specs.Terms.{Terms}
 use Rattle.machines.specs.Journal.{Journal, units_of}
 use Rattle.loops.specs.Program.{Expr, Program}
 use Rattle.loop_text.specs.LoopReader.{loop_of}
-use Rattle.loop_family.specs.Family.{Counts, loop_text, nothing, with_basis, summary}
-use Rattle.word_numbers.specs.Numerals.{usual_budget}
-use Rattle.courses.specs.declared.answer.Status.TheVariants.{Yes}
-use Rattle.courses.specs.Texts.{Answer}
+use Rattle.loop_text.specs.Family.{Counts, loop_text, nothing, with_basis, summary}
+use Rattle.command_parts.specs.Numerals.{usual_budget}
+use Rattle.io_edge.specs.declared.answer.Status.TheVariants.{Yes}
+use Rattle.io_edge.specs.Texts.{Answer}
 use Rattle.analysis_commands.specs.Analyses.{HasFound, HasAnalysed}
 use Rattle.analysis_commands.specs.Causes.{IsSpent, IsUnanalysed}
 

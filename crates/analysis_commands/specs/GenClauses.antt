@@ -2,10 +2,10 @@
 --   Tallies n call       the clauses
 use Rattle.std.specs.Prelude.{◌≡◌, ◌≢◌, ◌⊎◌, ℕ}
 use Rattle.loop_model.specs.Maps.{AreFree}
-use Rattle.word_numbers.specs.Numerals.{usual_budget}
-use Rattle.courses.specs.declared.answer.Status.TheVariants as status
-use Rattle.courses.specs.Outcome.{Call}
-use Rattle.courses.specs.Clauses.{Wrote, TellsWhy, IsExcused}
+use Rattle.command_parts.specs.Numerals.{usual_budget}
+use Rattle.io_edge.specs.declared.answer.Status.TheVariants as status
+use Rattle.io_edge.specs.Outcome.{Call}
+use Rattle.io_edge.specs.Clauses.{Wrote, TellsWhy, IsExcused}
 use Rattle.analysis_commands.specs.Completeness.{AllSplit, EndsFound}
 use Rattle.analysis_commands.specs.Causes.{IsNeverRefused, IsWithinBudget}
 use Rattle.analysis_commands.specs.Counting.{ShowsCounts, StopsAt, IsSpentAt, HasCounted, IsFamily}

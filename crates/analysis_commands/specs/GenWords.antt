@@ -1,7 +1,7 @@
 -- `gen NUMBER`, by the words behind `gen`.
 --   request_in words       how many loops of the family the words ask for, if they are such words
 use Rattle.std.specs.Prelude.{ℕ, List, [], ◌∷◌, Option, None}
-use Rattle.word_numbers.specs.Numerals.{count_of}
+use Rattle.command_parts.specs.Numerals.{count_of}
 
 abbrev pub request_in : List (List ℕ) → Option ℕ
 request_in [] = None

@@ -4,7 +4,7 @@
 --   IsToldBack kind names n c            the basis, or the certificate c with the cofactors of n branches, can be read back from its text; a certificate where it has at most as many polynomials as a file may have
 --   ShowsAnalysis kind text said         the bytes are a loop, and of a certificate whose identities hold, and whose polynomials are the reduced basis of its invariants and generate them all, the basis is said, an equation a line, or for the other kind the certificate; it can be read back from what is said
 use Rattle.std.specs.Prelude.{◌≡◌, ◌↔◌, ℕ, ◌≤◌, List, length, Ok}
-use Rattle.numbers.specs.Fraction.{Fraction, rationals}
+use Rattle.algebra.specs.Fraction.{Fraction, rationals}
 use Rattle.polynomials.specs.Order.{grevlex}
 use Rattle.polynomials.specs.Terms.{Terms}
 use Rattle.machines.specs.Reduced.{IsReducedFor}
@@ -14,8 +14,8 @@ use Rattle.loops.specs.Program.{Expr, Program}
 use Rattle.loop_text.specs.LoopReader.{loop_of}
 use Rattle.rounds.specs.Generate.{Generates}
 use Rattle.cert_form.specs.Form.{cert_in, most_elements, ReadsAs}
-use Rattle.analysis_text.specs.ReadBack.{IsReadBack}
-use Rattle.analysis_text.specs.Certificates.{certificate_text}
+use Rattle.analysis_commands.specs.ReadBack.{IsReadBack}
+use Rattle.analysis_commands.specs.Certificates.{certificate_text}
 use Rattle.analysis_commands.specs.declared.kind.Kind.{Kind}
 use Rattle.analysis_commands.specs.declared.kind.Kind.TheVariants as kinds
 use Rattle.analysis_commands.specs.Texts.{found_text}

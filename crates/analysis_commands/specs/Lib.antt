@@ -1,3 +1,7 @@
+pub mod Certificates
+pub mod Naming
+pub mod ReadBack
+pub mod AnalysisTexts
 pub mod Statuses
 pub mod Texts
 pub mod Headline
@@ -25,3 +29,10 @@ pub mod RelationsAnswers
 pub mod RelationsReading
 pub mod RelationsCourse
 pub mod RelationsClauses
+pub mod Lists
+pub mod ChainTexts
+pub mod ChainHeadline
+pub mod ChainAnalyses
+pub mod ChainCauses
+pub mod ChainCourse
+pub mod ChainClauses

@@ -27,23 +27,23 @@
 --   NeverPast l p                          no state of the analysis of l, and of the division of p
 --                                          behind it, is past
 use Rattle.std.specs.Prelude.{◌≡◌, ℕ, List, ◌++◌, length, Some, None, is_some, true, Ok, Err, codes, decimal}
-use Rattle.numbers.specs.Fraction.{Fraction}
+use Rattle.algebra.specs.Fraction.{Fraction}
 use Rattle.polynomials.specs.Terms.{Terms}
 use Rattle.machines.specs.Journal.{Journal, Entry}
 use Rattle.loops.specs.Program.{Expr, Program}
-use Rattle.expressions.specs.Operations.{IsWide}
+use Rattle.loop_model.specs.Operations.{IsWide}
 use Rattle.loop_model.specs.Maps.{AreFree}
 use Rattle.loop_text.specs.LoopReader.{loop_of}
 use Rattle.rounds.specs.Analysis.{State}
 use Rattle.rounds.specs.Journal.{setting_of, Follows, IsOut}
 use Rattle.rounds.specs.Past.{IsPast}
-use Rattle.expr_text.specs.Reasons.{Fault}
+use Rattle.poly_text.specs.Reasons.{Fault}
 use Rattle.invariant_fix.specs.Refusals.{AllHaveForms}
-use Rattle.courses.specs.Texts.{Answer, line}
-use Rattle.equation_word.specs.Equations.{equation_in, operations_of, polynomial_of, FormsFreely}
+use Rattle.io_edge.specs.Texts.{Answer, line}
+use Rattle.command_parts.specs.Equations.{equation_in, operations_of, polynomial_of, FormsFreely}
 use Rattle.analysis_commands.specs.MemberCourse.{HasAskedFor}
 use Rattle.analysis_commands.specs.Questions.{Asks, Divides}
-use Rattle.equation_word.specs.Reading.{IsUnformed, equation_refusal}
+use Rattle.command_parts.specs.EquationReading.{IsUnformed, equation_refusal}
 
 pub record IsEquationFault (text equation : List ℕ) (a : Answer) : Type 0 where
   pub loop : Program (Expr ℕ)

@@ -14,14 +14,14 @@
 use Rattle.std.specs.Prelude.{◌≡◌, ◌⊎◌, ℕ, List, Result, Ok, Err}
 use Rattle.machines.specs.Journal.{Journal}
 use Rattle.loops.specs.Program.{Expr, Program}
-use Rattle.expr_text.specs.Reasons.{Fault}
-use Rattle.courses.specs.Texts.{Answer}
-use Rattle.courses.specs.Course.{Course, ends, silent}
-use Rattle.loop_file.specs.Reading.{with_loop}
-use Rattle.equation_word.specs.Equations.{equation_in, polynomial_of, FormsFreely}
+use Rattle.poly_text.specs.Reasons.{Fault}
+use Rattle.io_edge.specs.Texts.{Answer}
+use Rattle.io_edge.specs.Course.{Course, ends, silent}
+use Rattle.command_parts.specs.LoopReading.{with_loop}
+use Rattle.command_parts.specs.Equations.{equation_in, polynomial_of, FormsFreely}
 use Rattle.analysis_commands.specs.MemberWords.{Request}
 use Rattle.analysis_commands.specs.Questions.{Asks, HasAsked}
-use Rattle.equation_word.specs.Reading.{equation_refusal, IsUnformed}
+use Rattle.command_parts.specs.EquationReading.{equation_refusal, IsUnformed}
 
 module _ (l : Program (Expr ℕ)) (e : Expr ℕ) where
   abbrev pub HasAskedFor : ℕ → Journal → Type 0

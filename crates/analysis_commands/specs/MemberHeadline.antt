@@ -8,15 +8,15 @@
 --   ShowsNo text equation said      they are a loop and an equation that doesn't hold at the end of
 --                                   every run, and `no` is said
 use Rattle.std.specs.Prelude.{◌≡◌, ℕ, List, None, Ok, codes}
-use Rattle.numbers.specs.Fraction.{Fraction, ℚ, rationals}
+use Rattle.algebra.specs.Fraction.{Fraction, ℚ, rationals}
 use Rattle.polynomials.specs.Order.{grevlex}
 use Rattle.polynomials.specs.Terms.{Terms, Same, combination}
 use Rattle.machines.specs.Division as division
 use Rattle.machines.specs.Run.{Ends}
 use Rattle.loops.specs.Program.{Expr, Program}
 use Rattle.loop_text.specs.LoopReader.{loop_of}
-use Rattle.analysis_text.specs.Texts.{yes_text}
-use Rattle.equation_word.specs.Equations.{equation_in, polynomial_of, Holds}
+use Rattle.analysis_commands.specs.AnalysisTexts.{yes_text}
+use Rattle.command_parts.specs.Equations.{equation_in, polynomial_of, Holds}
 use Rattle.analysis_commands.specs.Headline.{IsBasisOf}
 
 pub record AreCofactors (gs : List (Terms Fraction)) (p : Terms Fraction)

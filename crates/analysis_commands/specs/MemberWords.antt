@@ -4,8 +4,8 @@
 --   request_in words                  what the words ask for, if they are such words
 use Rattle.std.specs.Prelude.{ℕ, List, [], ◌∷◌, Option, Some, None, ◌&&◌, codes, if◌then◌else◌}
 use Rattle.std.specs.Str.{bytes_eq}
-use Rattle.word_numbers.specs.Numerals.{usual_budget, budget_of}
-use Rattle.courses.specs.Words.{is_file}
+use Rattle.command_parts.specs.Numerals.{usual_budget, budget_of}
+use Rattle.io_edge.specs.Words.{is_file}
 
 pub record Request : Type 0 where
   pub budget : ℕ

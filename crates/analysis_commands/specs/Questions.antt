@@ -20,7 +20,7 @@
 --   HasAsked l p budget m           the meter was opened with this budget, and its entries are
 --                                   none or follow the analysis of l and the division
 use Rattle.std.specs.Prelude.{◌≡◌, ◌⊎◌, ℕ, List, [], Option, Some, None, option_map, is_some, true, codes}
-use Rattle.numbers.specs.Fraction.{Fraction, ℚ}
+use Rattle.algebra.specs.Fraction.{Fraction, ℚ}
 use Rattle.polynomials.specs.Terms.{Terms, Same, combination}
 use Rattle.machines.specs.Division as division
 use Rattle.machines.specs.Journal as journal
@@ -39,10 +39,10 @@ use Rattle.invariant_fix.specs.Refusals.{AllHaveForms, IsRefused}
 use Rattle.invariant_fix.specs.declared.errors.AnalyseError.{AnalyseError}
 use Rattle.invariant_fix.specs.declared.membership.Membership as declared
 use Rattle.invariant_fix.specs.declared.membership.Membership.TheVariants as membership
-use Rattle.analysis_text.specs.Texts.{yes_text, member_text}
-use Rattle.courses.specs.declared.answer.Status.{Status}
-use Rattle.courses.specs.declared.answer.Status.TheVariants as status
-use Rattle.courses.specs.Texts.{Answer, with_text, answer}
+use Rattle.analysis_commands.specs.AnalysisTexts.{yes_text, member_text}
+use Rattle.io_edge.specs.declared.answer.Status.{Status}
+use Rattle.io_edge.specs.declared.answer.Status.TheVariants as status
+use Rattle.io_edge.specs.Texts.{Answer, with_text, answer}
 use Rattle.analysis_commands.specs.Analyses.{empty_journal}
 use Rattle.analysis_commands.specs.Headline.{IsBasisOf}
 use Rattle.analysis_commands.specs.MemberHeadline.{AreCofactors}

@@ -9,7 +9,7 @@
 --   AnswersUnrelated qs budget m a     a tells why the journal with this budget, which is m, has no relations
 --   HasRelated qs budget m     the meter was opened with this budget, and its entries are a beginning of the journal
 use Rattle.std.specs.Prelude.{◌≡◌, ◌↔◌, ℕ, List, length, Option, Some}
-use Rattle.numbers.specs.Fraction.{Fraction, rationals, ℚ}
+use Rattle.algebra.specs.Fraction.{Fraction, rationals, ℚ}
 use Rattle.polynomials.specs.Order.{grevlex}
 use Rattle.polynomials.specs.Terms.{Terms}
 use Rattle.polynomials.specs.Polynomial.{IsPolynomial}
@@ -19,18 +19,18 @@ use Rattle.machines.specs.Reduced.{IsReducedFor}
 use Rattle.loops.specs.Program.{Expr}
 use Rattle.loop_model.specs.Maps.{AreFree}
 use Rattle.invariant_fix.specs.Refusals.{AllHaveForms}
-use Rattle.recurrences.specs.Sequences.{Sequence, sequence_names, AreFormed}
-use Rattle.recurrences.specs.Turning.{names, program_of, first_places}
-use Rattle.recurrences.specs.Relations.{IsRelation}
-use Rattle.relations.specs.Journal.{IsEnded, HasFollowed}
-use Rattle.sequence_text.specs.declared.Seqs.{Seqs}
-use Rattle.sequence_text.specs.Seen.{IsLoopOf}
-use Rattle.loop_relations.specs.Refusals.{IsRefused}
-use Rattle.loop_relations.specs.declared.errors.RelationsError.{RelationsError}
-use Rattle.analysis_text.specs.ReadBack.{IsReadBack}
+use Rattle.loops.specs.Sequences.{Sequence, sequence_names, AreFormed}
+use Rattle.loops.specs.Turning.{names, program_of, first_places}
+use Rattle.loops.specs.Relations.{IsRelation}
+use Rattle.corollaries.specs.Journal.{IsEnded, HasFollowed}
+use Rattle.loop_text.specs.declared.sequences.Seqs.{Seqs}
+use Rattle.loop_text.specs.SequenceSeen.{IsLoopOf}
+use Rattle.invariant_fix.specs.RelationsRefusals.{IsRefused}
+use Rattle.invariant_fix.specs.declared.relations_error.RelationsError.{RelationsError}
+use Rattle.analysis_commands.specs.ReadBack.{IsReadBack}
 use Rattle.analysis_commands.specs.Analyses.{empty_journal}
 use Rattle.analysis_commands.specs.RelationsTexts.{found_answer, relations_refusal}
-use Rattle.courses.specs.Texts.{Answer}
+use Rattle.io_edge.specs.Texts.{Answer}
 
 pub record AreSequences (s : Seqs) : Type 0 where
   pub sequences : List (Sequence (Expr ℕ))

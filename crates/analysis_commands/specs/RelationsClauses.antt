@@ -8,36 +8,36 @@
 --   Refuses call request a        a tells the first fault of FILE, or why the journal that left the meter so has no relations
 --   FindsRelations request call   the clauses
 use Rattle.std.specs.Prelude.{◌≡◌, ◌≢◌, ◌⊎◌, ℕ, ◌≤◌, List, length, Ok, Err, codes, ◌++◌, decimal}
-use Rattle.numbers.specs.Fraction.{Fraction, rationals}
+use Rattle.algebra.specs.Fraction.{Fraction, rationals}
 use Rattle.polynomials.specs.Order.{grevlex}
 use Rattle.polynomials.specs.Terms.{Terms}
 use Rattle.machines.specs.Journal.{Journal, Entry as Made, units_of}
 use Rattle.machines.specs.Reduced.{IsReducedFor}
 use Rattle.loops.specs.Program.{Expr}
-use Rattle.expr_text.specs.Reasons.{Fault, limit}
-use Rattle.expressions.specs.Operations.{IsLimit}
+use Rattle.poly_text.specs.Reasons.{Fault, limit}
+use Rattle.loop_model.specs.Operations.{IsLimit}
 use Rattle.loop_model.specs.Maps.{maps_operations, AreFree}
 use Rattle.closed_forms.specs.Refusal.{Refusal}
 use Rattle.invariant_fix.specs.Refusals.{AllHaveForms, IsRefusedBranch}
-use Rattle.recurrences.specs.Sequences.{Sequence, sequence_names, AreFormed}
-use Rattle.recurrences.specs.Turning.{names, program_of, first_places}
-use Rattle.recurrences.specs.Relations.{IsRelation}
-use Rattle.relations.specs.Journal.{IsEnded, IsOut}
-use Rattle.sequence_grammar.specs.SeqReader.{sequences_of}
-use Rattle.analysis_text.specs.ReadBack.{IsReadBack}
-use Rattle.analysis_text.specs.Texts.{basis_text}
+use Rattle.loops.specs.Sequences.{Sequence, sequence_names, AreFormed}
+use Rattle.loops.specs.Turning.{names, program_of, first_places}
+use Rattle.loops.specs.Relations.{IsRelation}
+use Rattle.corollaries.specs.Journal.{IsEnded, IsOut}
+use Rattle.loop_text.specs.SeqReader.{sequences_of}
+use Rattle.analysis_commands.specs.ReadBack.{IsReadBack}
+use Rattle.analysis_commands.specs.AnalysisTexts.{basis_text}
 use Rattle.analysis_commands.specs.Texts.{branch_answer}
 use Rattle.analysis_commands.specs.Completeness.{AllSplit, EndsFound}
 use Rattle.analysis_commands.specs.Causes.{IsExact}
 use Rattle.analysis_commands.specs.RelationsAnswers.{Generate, HasRelated, AnswersUnrelated}
 use Rattle.analysis_commands.specs.RelationsTexts.{sequences_refusal}
 use Rattle.analysis_commands.specs.RelationsReading.{IsSequencesFault, ReadsSequences}
-use Rattle.word_numbers.specs.FileRequests.{FileRequest}
-use Rattle.courses.specs.declared.answer.Status.TheVariants as status
-use Rattle.courses.specs.Texts.{Answer, line}
-use Rattle.courses.specs.Outcome.{Call}
-use Rattle.courses.specs.Clauses.{Wrote, TellsWhy, IfTold, Ends, EndsOrWide, EndsAtFault, EndsTooLong, IsLonger}
-use Rattle.loop_file.specs.Reading.{loop_at}
+use Rattle.command_parts.specs.FileRequests.{FileRequest}
+use Rattle.io_edge.specs.declared.answer.Status.TheVariants as status
+use Rattle.io_edge.specs.Texts.{Answer, line}
+use Rattle.io_edge.specs.Outcome.{Call}
+use Rattle.io_edge.specs.Clauses.{Wrote, TellsWhy, IfTold, Ends, EndsOrWide, EndsAtFault, EndsTooLong, IsLonger}
+use Rattle.command_parts.specs.LoopReading.{loop_at}
 
 pub record ShowsRelations (text said : List ℕ) : Type 0 where
   pub sequences : List (Sequence (Expr ℕ))

@@ -8,18 +8,18 @@ use Rattle.std.specs.Prelude.{ℕ, List, Result, Ok, Err}
 use Rattle.std.specs.declared.alloc.AllocError.{AllocError}
 use Rattle.io_edge.specs.Outside.{FilesView}
 use Rattle.loops.specs.Program.{Expr}
-use Rattle.expr_text.specs.Reasons.{Fault}
-use Rattle.recurrences.specs.Sequences.{Sequence}
-use Rattle.sequence_grammar.specs.SeqReader.{sequences_of}
-use Rattle.sequence_text.specs.declared.Seqs.{Seqs}
-use Rattle.sequence_text.specs.Seen.{IsLoopOf}
-use Rattle.courses.specs.declared.answer.Answer as made
-use Rattle.courses.specs.Texts.{Answer}
-use Rattle.courses.specs.Course.{Course}
-use Rattle.courses.specs.Change.{Change}
-use Rattle.courses.specs.Outcome.{Call}
-use Rattle.courses.specs.Reading.{with_file, IsFaultOf, HasReadAs, IsRefusedAt, SaysOf}
-use Rattle.loop_file.specs.Reading.{loop_at}
+use Rattle.poly_text.specs.Reasons.{Fault}
+use Rattle.loops.specs.Sequences.{Sequence}
+use Rattle.loop_text.specs.SeqReader.{sequences_of}
+use Rattle.loop_text.specs.declared.sequences.Seqs.{Seqs}
+use Rattle.loop_text.specs.SequenceSeen.{IsLoopOf}
+use Rattle.io_edge.specs.declared.answer.Answer as made
+use Rattle.io_edge.specs.Texts.{Answer}
+use Rattle.io_edge.specs.Course.{Course}
+use Rattle.io_edge.specs.Change.{Change}
+use Rattle.io_edge.specs.Outcome.{Call}
+use Rattle.io_edge.specs.Reading.{with_file, IsFaultOf, HasReadAs, IsRefusedAt, SaysOf}
+use Rattle.command_parts.specs.LoopReading.{loop_at}
 use Rattle.analysis_commands.specs.RelationsTexts.{sequences_refusal}
 
 abbrev pub with_sequences : List ℕ → (List (Sequence (Expr ℕ)) → Course) → Course

@@ -5,19 +5,19 @@
 --   wide_answer              the elimination doesn't fit
 --   relations_refusal names budget e     why there are none, where these are the names of the loop's variables; to want of memory nothing is
 use Rattle.std.specs.Prelude.{ℕ, List, Option, Some, None, codes}
-use Rattle.numbers.specs.Fraction.{Fraction}
+use Rattle.algebra.specs.Fraction.{Fraction}
 use Rattle.polynomials.specs.Terms.{Terms}
-use Rattle.expr_text.specs.Reasons.{limit, wide, Fault}
-use Rattle.expressions.specs.declared.map_error.MapError.{MapError}
-use Rattle.expressions.specs.declared.map_error.MapError.TheVariants as map_error
+use Rattle.poly_text.specs.Reasons.{limit, wide, Fault}
+use Rattle.loop_model.specs.declared.map_error.MapError.{MapError}
+use Rattle.loop_model.specs.declared.map_error.MapError.TheVariants as map_error
 use Rattle.invariant_fix.specs.declared.errors.AnalyseError.TheVariants as analysis
-use Rattle.loop_relations.specs.declared.errors.RelationsError.{RelationsError}
-use Rattle.loop_relations.specs.declared.errors.RelationsError.TheVariants as error
-use Rattle.analysis_text.specs.Texts.{basis_text}
+use Rattle.invariant_fix.specs.declared.relations_error.RelationsError.{RelationsError}
+use Rattle.invariant_fix.specs.declared.relations_error.RelationsError.TheVariants as error
+use Rattle.analysis_commands.specs.AnalysisTexts.{basis_text}
 use Rattle.analysis_commands.specs.Texts.{refusal_answer}
-use Rattle.courses.specs.declared.answer.Status.TheVariants as status
-use Rattle.courses.specs.Texts.{Answer, with_text, answer}
-use Rattle.loop_file.specs.Texts.{text_refusal}
+use Rattle.io_edge.specs.declared.answer.Status.TheVariants as status
+use Rattle.io_edge.specs.Texts.{Answer, with_text, answer}
+use Rattle.command_parts.specs.FaultTexts.{text_refusal}
 
 abbrev pub sequences_refusal : Fault → Answer
 sequences_refusal f = text_refusal (codes "sequences: ") f

@@ -6,13 +6,13 @@ use Rattle.std.specs.Prelude.{ℕ, ◌+◌, List, ◌++◌, Option, option_map, 
 use Rattle.loops.specs.Certificate.{Certificate}
 use Rattle.closed_forms.specs.Refusal.{Refusal}
 use Rattle.invariant_fix.specs.declared.errors.AnalyseError.{AnalyseError}
-use Rattle.analysis_text.specs.Certificates.{certificate_text}
-use Rattle.analysis_text.specs.Texts.{basis_text, cause_text, refusal_text}
+use Rattle.analysis_commands.specs.Certificates.{certificate_text}
+use Rattle.analysis_commands.specs.AnalysisTexts.{basis_text, cause_text, refusal_text}
 use Rattle.analysis_commands.specs.Statuses.{cause_status, refusal_status}
 use Rattle.analysis_commands.specs.declared.kind.Kind.{Kind}
 use Rattle.analysis_commands.specs.declared.kind.Kind.TheVariants as kinds
-use Rattle.courses.specs.declared.answer.Status.TheVariants as status
-use Rattle.courses.specs.Texts.{Answer, with_text, answer}
+use Rattle.io_edge.specs.declared.answer.Status.TheVariants as status
+use Rattle.io_edge.specs.Texts.{Answer, with_text, answer}
 
 abbrev pub found_text : Kind → List (List ℕ) → Certificate → List ℕ
 found_text kinds.Basis names c = basis_text names c.basis

@@ -4,23 +4,22 @@ ghost use Rattle.loop_model.specs.View.{program_of};
 ghost use Rattle.ideal_ops.specs.Calls.{AreOver};
 ghost use Rattle.invariant_fix.specs.Answers.{certificate_of};
 ghost use Rattle.invariant_fix.specs.Closing.{IsSquare};
-ghost use Rattle.analysis_text.specs.Naming.{AreNamed};
+ghost use Rattle.analysis_commands.specs.Naming.{AreNamed};
 ghost use Rattle.analysis_commands.specs.Statuses as statuses;
-ghost use Rattle.courses.specs.Views.{answer_view};
+ghost use Rattle.io_edge.specs.Views.{answer_view};
 ghost use Rattle.analysis_commands.specs.Headline.{IsToldBack};
 ghost use Rattle.analysis_commands.specs.Analyses.{Analyses, HasAnalysed};
 ghost use Rattle.analysis_commands.specs.Texts as texts;
 
 use crate::kind::Kind;
-use analysis_text::{basis_text, certificate_text, refusal_text};
+use crate::{basis_text, certificate_text, refusal_text};
 use closed_forms::FormsError;
-use courses::{Answer, Status};
-use expressions::Names;
+use command_parts::Budget;
 use invariant_fix::{AnalyseError, Analysis, analyse};
+use io_edge::{Answer, Status};
 use journal::Meter;
-use loop_model::{Loop, MapError};
+use loop_model::{Loop, MapError, Names};
 use std::alloc::{AllocError, Global};
-use word_numbers::Budget;
 
 /// The answer to the analysis of a loop with this budget.
 pub(crate) fn answer_to_analysis(

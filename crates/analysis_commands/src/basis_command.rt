@@ -1,9 +1,9 @@
 // `basis [--budget N] LOOP` and `cert [--budget N] LOOP`: the reduced basis of the loop's invariants, or a
 // certificate that has it.
 ghost use Rattle.std.specs.Prelude.{map, string_bytes};
-ghost use Rattle.courses.specs.Change.{◌⟶◌};
-ghost use Rattle.courses.specs.Views.{seen_answer};
-ghost use Rattle.courses.specs.Outcome.{Says, Obeys};
+ghost use Rattle.io_edge.specs.Change.{◌⟶◌};
+ghost use Rattle.io_edge.specs.Views.{seen_answer};
+ghost use Rattle.io_edge.specs.Outcome.{Says, Obeys};
 ghost use Rattle.analysis_commands.specs.BasisWords.{request_in};
 ghost use Rattle.analysis_commands.specs.BasisCourse.{course};
 ghost use Rattle.analysis_commands.specs.BasisViews.{view};
@@ -11,10 +11,9 @@ ghost use Rattle.analysis_commands.specs.BasisViews.{view};
 use crate::analysis::answer_to_analysis;
 use crate::basis_words::{Request, read_words};
 use crate::kind::Kind;
-use courses::{Answer, reply};
-use io_edge::Files;
+use command_parts::read_program;
+use io_edge::{Answer, Files, reply};
 use journal::Meter;
-use loop_file::read_program;
 use std::alloc::{AllocError, Global};
 
 /// What `basis` or `cert` answers to the words behind it; none where they ask for no analysis.

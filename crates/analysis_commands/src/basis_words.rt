@@ -1,12 +1,12 @@
 // The words behind `basis` and `cert`.
 ghost use Rattle.std.specs.Prelude.{◌≡◌, map, string_bytes, option_map};
-ghost use Rattle.word_numbers.specs.Budgets.{units_of};
+ghost use Rattle.command_parts.specs.Budgets.{units_of};
 ghost use Rattle.analysis_commands.specs.BasisWords.{request_in, request_within};
 ghost use Rattle.analysis_commands.specs.BasisViews.{view};
 
 use crate::kind::Kind;
-use courses::names_a_file;
-use word_numbers::{Budget, read_budget};
+use command_parts::{Budget, read_budget};
+use io_edge::names_a_file;
 
 /// An analysis of a file with this budget, and what is to be told of it.
 #[derive(Clone, Copy)]

@@ -1,12 +1,12 @@
 // `gen NUMBER`: what is counted over the bases of the first loops of a family.
 ghost use Rattle.std.specs.Prelude.{◌≡◌, ◌⊎◌, ◌<◌, IfOk, IfSome, IsNone, map, string_bytes};
 ghost use Rattle.loop_model.specs.View.{program_of};
-ghost use Rattle.loop_family.specs.Family.{loop_text as text_of, most_loops};
-ghost use Rattle.word_numbers.specs.Numerals.{usual_budget};
+ghost use Rattle.loop_text.specs.Family.{loop_text as text_of, most_loops};
+ghost use Rattle.command_parts.specs.Numerals.{usual_budget};
 ghost use Rattle.io_edge.specs.Outside.{FilesView};
-ghost use Rattle.courses.specs.Change.{◌⟶◌};
-ghost use Rattle.courses.specs.Views.{answer_view};
-ghost use Rattle.courses.specs.Outcome.{Obeys};
+ghost use Rattle.io_edge.specs.Change.{◌⟶◌};
+ghost use Rattle.io_edge.specs.Views.{answer_view};
+ghost use Rattle.io_edge.specs.Outcome.{Obeys};
 ghost use Rattle.analysis_commands.specs.Analyses.{AnswersRefusal, HasAnalysed};
 ghost use Rattle.analysis_commands.specs.Causes.{IsUnanalysed};
 ghost use Rattle.analysis_commands.specs.Counting.{IsCounted, IsNext, HasOpenedFor, HasCounted, AnswersFamily};
@@ -15,14 +15,13 @@ ghost use Rattle.analysis_commands.specs.GenCourse.{course};
 
 use crate::analysis::answer_to_refusal;
 use crate::gen_words::read_words;
-use courses::{Answer, Status, reply};
+use command_parts::Budget;
 use invariant_fix::analyse;
+use io_edge::{Answer, Status, reply};
 use journal::Meter;
-use loop_family::{Counts, loop_text};
 use loop_model::Loop;
-use loop_text::read_loop;
+use loop_text::{Counts, loop_text, read_loop};
 use std::alloc::{AllocError, Global};
-use word_numbers::Budget;
 
 /// What `gen` answers to the words behind it; none where they ask for no loops. It reads no file.
 pub fn tally(

@@ -2,7 +2,7 @@
 ghost use Rattle.std.specs.Prelude.{◌≡◌, map, string_bytes};
 ghost use Rattle.analysis_commands.specs.GenWords.{request_in};
 
-use word_numbers::read_count;
+use command_parts::read_count;
 
 /// How many loops of the family the words ask for, or none.
 pub(crate) fn read_words(words: &[String]) -> Option<u32>

@@ -1,10 +1,18 @@
-//! The commands that analyse a loop: `basis` with `cert`, `member`, `gen` and `relations`; a module each, over what all of them answer to an
-//! analysis.
+//! The commands that analyse: `basis` with `cert`, `member`, `gen`, `relations` and `chain`, a module each, over the texts of what an
+//! analysis answers.
+//!
+//! Proved: the text is the reduced basis of exactly the invariants, or its certificate; `member` says yes exactly where the equation holds;
+//! two loops over the same variables print equal bases exactly where they have the same invariants. Each refusal has its cause.
 #![tactic(auto)]
 
 mod analysis;
+mod answers;
+mod bases;
 mod basis_command;
 mod basis_words;
+mod certificates;
+mod chain_analysis;
+mod chain_command;
 mod gen_command;
 mod gen_words;
 mod kind;
@@ -12,11 +20,17 @@ pub mod laws;
 mod member_command;
 mod member_words;
 mod questions;
+mod refusals;
 mod relations_command;
+pub mod text_laws;
 
 pub use analysis::answer_to_refusal;
+pub use answers::{basis_text, yes_text};
 pub use basis_command::basis;
+pub use certificates::certificate_text;
+pub use chain_command::chain;
 pub use gen_command::tally;
 pub use kind::Kind;
 pub use member_command::member;
+pub use refusals::{member_text, refusal_text};
 pub use relations_command::relate;

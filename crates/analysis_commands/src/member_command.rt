@@ -1,18 +1,17 @@
 // `member [--budget N] LOOP EQUATION`: whether the equation holds at the end of every run of LOOP.
 ghost use Rattle.std.specs.Prelude.{map, string_bytes};
-ghost use Rattle.courses.specs.Change.{◌⟶◌};
-ghost use Rattle.courses.specs.Views.{seen_answer};
-ghost use Rattle.courses.specs.Outcome.{Says, Obeys};
+ghost use Rattle.io_edge.specs.Change.{◌⟶◌};
+ghost use Rattle.io_edge.specs.Views.{seen_answer};
+ghost use Rattle.io_edge.specs.Outcome.{Says, Obeys};
 ghost use Rattle.analysis_commands.specs.MemberWords.{request_in};
 ghost use Rattle.analysis_commands.specs.MemberCourse.{course};
 ghost use Rattle.analysis_commands.specs.MemberViews.{view};
 
 use crate::member_words::{Request, read_words};
 use crate::questions::answer_to_equation;
-use courses::{Answer, reply};
-use io_edge::Files;
+use command_parts::read_program;
+use io_edge::{Answer, Files, reply};
 use journal::Meter;
-use loop_file::read_program;
 use std::alloc::{AllocError, Global};
 
 /// What `member` answers to the words behind it; none where they ask no question.

@@ -1,11 +1,11 @@
 // The words behind `member`.
 ghost use Rattle.std.specs.Prelude.{◌≡◌, map, string_bytes, option_map};
-ghost use Rattle.word_numbers.specs.Budgets.{units_of};
+ghost use Rattle.command_parts.specs.Budgets.{units_of};
 ghost use Rattle.analysis_commands.specs.MemberWords.{request_in, request_within};
 ghost use Rattle.analysis_commands.specs.MemberViews.{view};
 
-use courses::names_a_file;
-use word_numbers::{Budget, read_budget};
+use command_parts::{Budget, read_budget};
+use io_edge::names_a_file;
 
 /// A question to a file with this budget: whether the equation holds at the end of every run.
 #[derive(Clone, Copy)]

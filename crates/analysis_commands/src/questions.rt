@@ -4,29 +4,27 @@ ghost use Rattle.loops.specs.WellFormed.{IsWellFormed};
 ghost use Rattle.loop_model.specs.View.{program_of};
 ghost use Rattle.poly.specs.Seen.{terms_in, terms_each};
 ghost use Rattle.invariant_fix.specs.Membership.{HasCofactorsOver};
-ghost use Rattle.courses.specs.Views.{answer_view, seen_answer};
+ghost use Rattle.io_edge.specs.Views.{answer_view, seen_answer};
 ghost use Rattle.io_edge.specs.Outside.{FilesView};
-ghost use Rattle.courses.specs.Change.{Change, ◌⟶◌};
-ghost use Rattle.courses.specs.Outcome.{Says};
+ghost use Rattle.io_edge.specs.Change.{Change, ◌⟶◌};
+ghost use Rattle.io_edge.specs.Outcome.{Says};
 ghost use Rattle.analysis_commands.specs.Analyses.{HasFound};
 ghost use Rattle.analysis_commands.specs.Questions.{Asks, HasAsked, undivided_answer};
 ghost use Rattle.analysis_commands.specs.Questions as answers;
 ghost use Rattle.analysis_commands.specs.MemberCourse.{with_question};
 
 use crate::analysis::answer_to_refusal;
-use analysis_text::{member_text, yes_text};
-use courses::{Answer, Status, line};
+use crate::{member_text, yes_text};
+use command_parts::{Budget, read_polynomial};
 use divide::EngineError;
-use equation_word::read_polynomial;
-use expressions::Names;
 use frac128::Frac;
 use invariant_fix::{Analysis, Membership, analyse, member};
+use io_edge::{Answer, Status, line};
 use journal::Meter;
-use loop_model::Loop;
+use loop_model::{Loop, Names};
 use monos::Grevlex;
 use poly::Poly;
 use std::alloc::{AllocError, Global};
-use word_numbers::Budget;
 
 /// The answer to the question whether this equation holds at the end of every run.
 ///

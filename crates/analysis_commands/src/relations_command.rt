@@ -1,40 +1,36 @@
 // `relations [--budget N] FILE`: all polynomial relations of sequences that are given by recurrences.
 ghost use Rattle.std.specs.Prelude.{◌≡◌, ℕ, List, Some, map, length, string_bytes, IfOk, option_map};
 ghost use Rattle.loops.specs.Program.{Expr};
-ghost use Rattle.expr_text.specs.Faults.{fault_of};
-ghost use Rattle.recurrences.specs.Sequences.{Sequence};
-ghost use Rattle.sequence_text.specs.Seen.{IsLoopOf};
+ghost use Rattle.poly_text.specs.Faults.{fault_of};
+ghost use Rattle.loops.specs.Sequences.{Sequence};
+ghost use Rattle.loop_text.specs.SequenceSeen.{IsLoopOf};
 ghost use Rattle.poly.specs.Seen.{terms_each};
 ghost use Rattle.ideal_ops.specs.Calls.{AreOver};
-ghost use Rattle.analysis_text.specs.ReadBack.{IsReadBack};
-ghost use Rattle.courses.specs.Change.{◌⟶◌};
-ghost use Rattle.courses.specs.Views.{answer_view, seen_answer};
-ghost use Rattle.courses.specs.Outcome.{Says, Obeys};
+ghost use Rattle.analysis_commands.specs.ReadBack.{IsReadBack};
+ghost use Rattle.io_edge.specs.Change.{◌⟶◌};
+ghost use Rattle.io_edge.specs.Views.{answer_view, seen_answer};
+ghost use Rattle.io_edge.specs.Outcome.{Says, Obeys};
 ghost use Rattle.analysis_commands.specs.RelationsAnswers.{AreSequences, Relates, HasRelated};
 ghost use Rattle.analysis_commands.specs.RelationsTexts as texts;
 ghost use Rattle.analysis_commands.specs.RelationsReading.{AreSequencesOr};
-ghost use Rattle.word_numbers.specs.FileRequests.{request_in};
+ghost use Rattle.command_parts.specs.FileRequests.{request_in};
 ghost use Rattle.analysis_commands.specs.RelationsCourse.{course};
-ghost use Rattle.word_numbers.specs.FileViews.{view};
+ghost use Rattle.command_parts.specs.FileViews.{view};
 ghost use Rattle.analysis_commands.specs.RelationsViews.{AreNamedBy};
 
 use crate::analysis::answer_to_refusal;
-use analysis_text::basis_text;
-use courses::{Answer, Refusal, Status, read_file, reply};
-use expr_text::TextError;
-use expressions::Names;
+use crate::basis_text;
+use command_parts::{Budget, FileRequest, fault_line, read_file_request, text_refusal};
 use frac128::Frac;
-use invariant_fix::AnalyseError;
-use io_edge::Files;
+use invariant_fix::{AnalyseError, RelationsError, relations};
+use io_edge::{Answer, Files, Refusal, Status, read_file, reply};
 use journal::Meter;
-use loop_file::{fault_line, text_refusal};
-use loop_model::MapError;
-use loop_relations::{RelationsError, relations};
+use loop_model::{MapError, Names};
+use loop_text::{Seqs, read_seqs};
 use monos::Grevlex;
 use poly::Poly;
-use sequence_text::{Seqs, read_seqs};
+use poly_text::TextError;
 use std::alloc::{AllocError, Global};
-use word_numbers::{Budget, FileRequest, read_file_request};
 
 const FILE_LIMIT: usize = 65_536;
 

@@ -4,11 +4,11 @@
 use Rattle.std.proofs.Common.{ℕ, List, length}
 use Rattle.loops.specs.Program.{Expr, Program}
 use Rattle.loops.specs.Certificate.{Certificate}
-use Rattle.expressions.specs.Operations.{Operation, IsFree}
-use Rattle.expressions.specs.Stops.{Stops}
-use Rattle.expressions.specs.declared.map_error.MapError.{MapError}
-use Rattle.expressions.specs.declared.map_error.MapError.TheVariants as map_error
-use Rattle.expressions.proofs.OperationLaws.{stops_behind}
+use Rattle.loop_model.specs.Operations.{Operation, IsFree}
+use Rattle.loop_model.specs.Stops.{Stops}
+use Rattle.loop_model.specs.declared.map_error.MapError.{MapError}
+use Rattle.loop_model.specs.declared.map_error.MapError.TheVariants as map_error
+use Rattle.loop_model.proofs.OperationLaws.{stops_behind}
 use Rattle.loop_model.specs.Maps.{start_operations, branches_operations}
 use Rattle.cert_checker.specs.declared.error.CheckError.{CheckError}
 use Rattle.cert_checker.specs.declared.error.CheckError.TheVariants.{Map, Wide, Memory}

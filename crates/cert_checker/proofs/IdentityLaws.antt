@@ -4,7 +4,7 @@
 use Rattle.std.proofs.Common.{◌≡◌, ◌<◌, ◌↔◌, Bool, Result, List, length, All, IsTrue, refl, sym, subst, subst₂, ◌∙◌}
 use Rattle.std.specs.Prelude.{IfOk}
 use Rattle.std.proofs.lemmas.Result.{IfOk-weaker}
-use Rattle.numbers.specs.Fraction.{Fraction, ℚ}
+use Rattle.algebra.specs.Fraction.{Fraction, ℚ}
 use Rattle.polynomials.specs.Terms.{Terms, Same, combination, compose}
 use Rattle.polynomials.proofs.Same.{Same-sym, Same-trans}
 use Rattle.monos.specs.declared.order.Grevlex.{Grevlex}
@@ -12,7 +12,7 @@ use Rattle.ring_laws.specs.declared.ArithmeticError.{ArithmeticError}
 use Rattle.poly.specs.Seen.{Is, terms_in, terms_each, arity_of}
 use Rattle.poly.specs.Standing.{IsOver, StandsFor}
 use Rattle.poly.proofs.Standing.{first_arity}
-use Rattle.expressions.specs.FracPoly.{FracPoly}
+use Rattle.loop_model.specs.FracPoly.{FracPoly}
 
 pub composed_arities : (images : List FracPoly) → 0 < length images
     → All (IsOver (length images)) images → All (IsOver (arity_of images)) images

@@ -5,3 +5,18 @@ pub mod MapsLaws
 pub mod RowLaws
 pub mod VerdictLaws
 pub mod FileLaws
+pub mod Walks
+pub mod Bases
+pub mod Normal
+pub mod Passings
+pub mod Stopping
+pub mod StageSteps
+pub mod Placed
+pub mod Branches
+pub mod Behind
+pub mod Whole
+pub mod FormsAlong
+pub mod Begun
+pub mod StartLists
+pub mod Kept
+mod FullOver

@@ -2,7 +2,7 @@
 --   branch_here, map_here    the branch is there, and the item is its map
 use Rattle.std.proofs.Common.{◌≡◌, ℕ, ◌<◌, List, [], length, get_or, arith, Vec, Global}
 use Rattle.loops.specs.Program.{Expr, Program}
-use Rattle.expressions.specs.FracPoly.{FracPoly}
+use Rattle.loop_model.specs.FracPoly.{FracPoly}
 use Rattle.loop_model.specs.Maps.{IsBranchMap, AreBranchMaps}
 use Rattle.loop_model.proofs.BranchMaps.{maps_count, map_at}
 use Rattle.loop_model.proofs.Items.{in_list, item_of}

@@ -4,15 +4,15 @@
 use Rattle.std.proofs.Common.{◌≡◌, ◌↔◌, ◌⊎◌, inl, inr, ℕ, ◌<◌, ◌≤◌, ◌+◌, Bool, true, false, List, [], get_or, length, IsTrue, arith, sym, ap, subst, ◌∙◌, true≢false, Vec, Global, vec_len}
 use Rattle.std.proofs.lemmas.List.{get_or-map}
 use borrow.Author.Count.{below_more}
-use Rattle.numbers.specs.Fraction.{ℚ, fractions}
+use Rattle.algebra.specs.Fraction.{ℚ, fractions}
 use Rattle.polynomials.specs.Terms.{Same, combination, compose}
 use Rattle.polynomials.specs.Weight.{IsPastComposition}
 use Rattle.poly.specs.Seen.{terms_in, terms_each}
 use Rattle.loops.specs.First.{IsFirstFailure}
-use Rattle.expressions.specs.FracPoly.{FracPoly}
+use Rattle.loop_model.specs.FracPoly.{FracPoly}
 use Rattle.loop_model.proofs.Items.{in_list, item_of}
 use Rattle.cert_form.specs.Cert.{Polys, polys_in, rows_in}
-use Rattle.list_checks.specs.Past.{IsPastCombination}
+use Rattle.task_lists.specs.Past.{IsPastCombination}
 use Rattle.cert_checker.specs.Identities.{StartHolds, StepHolds, StartIsPast, StepIsPast}
 
 -- ---- the identity of the element that a loop over the basis has

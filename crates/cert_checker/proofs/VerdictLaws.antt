@@ -11,8 +11,8 @@ use Rattle.std.specs.Prelude.{All, Option, Some, None}
 use borrow.Author.Count.{below_more}
 use Rattle.std.proofs.lemmas.List.{length-map}
 use Rattle.std.proofs.lemmas.List.Elements.{All-map, All-weaker}
-use Rattle.numbers.specs.Fraction.{Fraction, ℚ}
-use Rattle.numbers.proofs.Fractions.{ℚ_ring}
+use Rattle.algebra.specs.Fraction.{Fraction, ℚ}
+use Rattle.algebra.proofs.Fractions.{ℚ_ring}
 use Rattle.polynomials.specs.Terms.{Terms, Same, compose}
 use Rattle.polynomials.specs.Polynomial.{AllArity, IsPolynomial}
 use Rattle.polynomials.specs.Order.{grevlex}
@@ -26,7 +26,7 @@ use Rattle.loops.proofs.Maps.{arity-start_map, length-start_map, arity-branch_ma
 use Rattle.poly.specs.Seen.{terms_in, terms_each}
 use Rattle.poly.specs.Standing.{IsOver as IsPolyOver, AllStandFor}
 use Rattle.poly.proofs.Standing.{polynomial_over, arities_over, stands_over, stands_same, stands_length}
-use Rattle.expressions.specs.FracPoly.{FracPoly}
+use Rattle.loop_model.specs.FracPoly.{FracPoly}
 use Rattle.loop_model.specs.Maps.{AreFree}
 use Rattle.loop_model.specs.View.{program_of}
 use Rattle.loop_model.specs.declared.loop_.Loop.{Loop}

@@ -2,9 +2,9 @@
 --   refused_map e                  its answer to the refusal e of a map
 --   IfUnformed m os e              e is one of the operations os, in m variables, that can't be done, with none before it that passes a limit; want of memory is free
 use Rattle.std.specs.Prelude.{ℕ, List}
-use Rattle.expressions.specs.Operations.{Operation, IsLimit, IsWide}
-use Rattle.expressions.specs.declared.map_error.MapError.{MapError}
-use Rattle.expressions.specs.declared.map_error.MapError.TheVariants as map_error
+use Rattle.loop_model.specs.Operations.{Operation, IsLimit, IsWide}
+use Rattle.loop_model.specs.declared.map_error.MapError.{MapError}
+use Rattle.loop_model.specs.declared.map_error.MapError.TheVariants as map_error
 use Rattle.cert_checker.specs.declared.error.CheckError.{CheckError}
 use Rattle.cert_checker.specs.declared.error.CheckError.TheVariants.{Map, Wide, Memory}
 

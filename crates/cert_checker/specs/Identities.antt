@@ -5,11 +5,11 @@
 --   StepIsPast basis images rows i   that weight is, or one of the combination
 --   FirstFailure P n o               o is the first number below n at which P fails, or none where there is none
 use Rattle.std.specs.Prelude.{◌⊎◌, ℕ, ◌<◌, List, [], get_or, Option, Some, None}
-use Rattle.numbers.specs.Fraction.{Fraction, ℚ, fractions}
+use Rattle.algebra.specs.Fraction.{Fraction, ℚ, fractions}
 use Rattle.polynomials.specs.Terms.{Terms, Same, combination, compose}
 use Rattle.polynomials.specs.Weight.{IsPastComposition}
 use Rattle.loops.specs.First.{IsFirstFailure}
-use Rattle.list_checks.specs.Past.{IsPastCombination}
+use Rattle.task_lists.specs.Past.{IsPastCombination}
 
 module _ (m : ℕ) (basis images : List (Terms Fraction)) where
   abbrev pub StartHolds : ℕ → Type 0

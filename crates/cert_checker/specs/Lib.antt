@@ -3,3 +3,12 @@ pub mod Identities
 pub mod Stops
 pub mod Forming
 pub mod Wide
+pub mod Passing
+pub mod FullStops
+pub mod Parts
+pub mod Paths
+pub mod StageParts
+pub mod FullWide
+pub mod Verdicts
+pub mod Backward
+pub mod Further

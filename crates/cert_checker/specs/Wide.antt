@@ -3,7 +3,7 @@
 --   WideIdentity program c branch i         all identities before it hold, and the weight of an operation of it is past: of element i, and of the branch, counted from 1, or of the start where it is 0
 --   IfRefused program c e                   the cause of the refusal e: a map of the loop can't be formed, or all can and an identity is too wide; want of memory is free
 use Rattle.std.specs.Prelude.{ℕ, zero, suc, ◌<◌, List, [], get_or, length, All}
-use Rattle.numbers.specs.Fraction.{Fraction, ℚ}
+use Rattle.algebra.specs.Fraction.{Fraction, ℚ}
 use Rattle.polynomials.specs.Terms.{Terms, AllSame}
 use Rattle.polynomials.specs.Polynomial.{IsPolynomial}
 use Rattle.polynomials.specs.Order.{grevlex}

@@ -7,7 +7,7 @@ use loop_model::MapError;
 use std::alloc::{AllocError, AllocFailed};
 
 /// Why a certificate was not judged.
-#[derive(Clone, Copy, Debug, PartialEq, Eq)]
+#[derive(Clone, Copy, PartialEq, Eq)]
 pub enum CheckError {
     /// A map of the loop can't be formed. The maps are formed before any identity is looked at, the start's first and then the
     /// branches' in order. This is never want of memory.

@@ -1,19 +1,19 @@
 //! One identity of a certificate.
 ghost use Rattle.std.specs.Prelude.{◌≡◌, ◌<◌, ◌↔◌, ◌⊎◌, [], length, All, IfOk, IsErrOf, IsTrue};
-ghost use Rattle.numbers.specs.Fraction.{ℚ, fractions};
+ghost use Rattle.algebra.specs.Fraction.{ℚ, fractions};
 ghost use Rattle.polynomials.specs.Terms.{Same, combination, compose};
 ghost use Rattle.polynomials.specs.Weight.{IsPastComposition};
 ghost use Rattle.poly.specs.Seen.{terms_in};
 ghost use Rattle.poly.specs.Standing.{IsOver};
 ghost use Rattle.cert_form.specs.Cert.{HaveArity, polys_in};
-ghost use Rattle.list_checks.specs.Past.{IsPastCombination};
+ghost use Rattle.task_lists.specs.Past.{IsPastCombination};
 
 use frac128::Frac;
-use list_checks::is_combination;
 use monos::Grevlex;
 use poly::Poly;
 use ring_laws::ArithmeticError;
 use std::alloc::Global;
+use task_lists::is_combination;
 
 /// Whether the element composed with the start map is 0.
 pub(crate) fn start_holds(

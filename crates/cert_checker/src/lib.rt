@@ -1,4 +1,10 @@
-//! Certificates judged: the layer above loops and certificates as values.
+//! Judges certificates (`check`) and full certificates (`check_full`), by identities of polynomials alone: it stands on no crate that
+//! completes lists or finds closed forms.
+//!
+//! Proved: there is one verdict. `check`: valid, or the first identity that is false. `check_full`: complete, and then the polynomials
+//! generate all invariants, or the path of the first part that doesn't hold. Each refusal has its cause.
+//!
+//! Notion: certificates; lcm representations, 2.9.
 #![tactic(auto)]
 
 ghost use Rattle.std.specs.Prelude.{◌≡◌, ◌<◌, ℕ, length, IfOk, IfErr};
@@ -10,14 +16,28 @@ ghost use Rattle.cert_form.specs.Cert.{IsKept, certificate_of};
 ghost use Rattle.cert_checker.specs.Views.{verdict_of, IsNumbered};
 ghost use Rattle.cert_checker.specs.Wide.{IfRefused};
 
+mod base;
 mod error;
+mod form_check;
+mod full_error;
+mod full_forms;
+mod full_further;
+mod full_part;
+mod full_round;
+mod full_stage;
+mod full_starts;
+mod full_stop;
+mod full_verdict;
 mod identity;
 pub mod laws;
 mod search;
 
 use cert_form::Cert;
 pub use error::CheckError;
+pub use form_check::closed_form;
 use frac128::Frac;
+pub use full_error::FullError;
+pub use full_verdict::{FullVerdict, check_full};
 use loop_model::Loop;
 use monos::Grevlex;
 use poly::Poly;
@@ -25,7 +45,7 @@ use search::{first_failing_start, first_failing_step};
 use std::alloc::Global;
 
 /// What a certificate is worth. Elements count from 0, and branches from 1.
-#[derive(Clone, Copy, Debug, PartialEq, Eq)]
+#[derive(Clone, Copy, PartialEq, Eq)]
 pub enum Verdict {
     /// Each of its polynomials is an invariant.
     Valid,

@@ -14,10 +14,10 @@ use Rattle.std.proofs.lemmas.List.Elements.{All-nil, All-push, All-map}
 use Rattle.serde_json.specs.Data.{Data, array, string, number, unsigned, item, no_items}
 use Rattle.serde_json.specs.View.{view, items_of, items_view}
 use Rattle.serde_json.specs.declared.value.Value.{Value}
-use Rattle.numbers.specs.Fraction.{Fraction}
+use Rattle.algebra.specs.Fraction.{Fraction}
 use Rattle.polynomials.specs.Terms.{Terms}
 use Rattle.poly.specs.Seen.{terms_in, terms_each}
-use Rattle.expressions.specs.FracPoly.{FracPoly}
+use Rattle.loop_model.specs.FracPoly.{FracPoly}
 use Rattle.cert_form.specs.Written.{poly_data, list_data, pair_data, pair_of, pairs, row_data, IsReadBack, IsWritten}
 
 unfoldable pub listed : {A : Type 0} → (ℕ → A → List Data) → ℕ → List A → List Data

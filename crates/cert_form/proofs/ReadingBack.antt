@@ -19,13 +19,13 @@ use Rattle.serde_json.specs.Find.{get}
 use Rattle.serde_json.proofs.OnLiterals.{serde_json_on_literals}
 use Rattle.json.specs.Lex.{tokens}
 use Rattle.json.specs.Print.{print}
-use Rattle.numbers.specs.Fraction.{Fraction, ℚ, fractions}
+use Rattle.algebra.specs.Fraction.{Fraction, ℚ, fractions}
 use Rattle.polynomials.specs.Terms.{Terms, Same, AllSame}
 use Rattle.polynomials.proofs.Same.{Same-refl, Same-sym, Same-trans, AllSame-sym}
 use Rattle.polynomials.specs.Polynomial.{IsPolynomial}
 use Rattle.polynomials.specs.Order.{grevlex}
 use Rattle.poly.proofs.Kept.{polynomial_nil}
-use Rattle.expressions.specs.Names.{AreNames}
+use Rattle.loop_model.specs.Names.{AreNames}
 use Rattle.loops.specs.Certificate.{Certificate, SameCertificate}
 use Rattle.poly_text.specs.Narrow.{IsNarrow}
 use Rattle.poly_text.proofs.PrintedSays.{printed_reads}

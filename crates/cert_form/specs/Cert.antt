@@ -14,13 +14,13 @@
 use Rattle.std.specs.Prelude.{◌≡◌, ℕ, List, All, map, length, vec_len, Vec}
 use Rattle.std.specs.List.{AllZip}
 use Rattle.std.specs.declared.alloc.Global.{Global}
-use Rattle.numbers.specs.Fraction.{Fraction, ℚ}
+use Rattle.algebra.specs.Fraction.{Fraction, ℚ}
 use Rattle.polynomials.specs.Terms.{Terms}
 use Rattle.polynomials.specs.Polynomial.{IsPolynomial}
 use Rattle.polynomials.specs.Order.{grevlex}
 use Rattle.poly.specs.Seen.{terms_each}
 use Rattle.poly.specs.Standing.{IsOver, StandsFor, AllStandFor}
-use Rattle.expressions.specs.FracPoly.{FracPoly}
+use Rattle.loop_model.specs.FracPoly.{FracPoly}
 use Rattle.loops.specs.Certificate.{Certificate, SameCertificate, AreOver, cofactors}
 
 pub record OverVariables : Type 0 where

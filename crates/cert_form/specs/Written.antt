@@ -16,12 +16,12 @@ use Rattle.serde_json.specs.Data.{Data, number, string, array, object, unsigned,
 use Rattle.serde_json.specs.View.{view, items_of}
 use Rattle.serde_json.specs.Written.{compact_text}
 use Rattle.serde_json.specs.declared.value.Value.{Value}
-use Rattle.numbers.specs.Fraction.{Fraction, ℚ}
+use Rattle.algebra.specs.Fraction.{Fraction, ℚ}
 use Rattle.polynomials.specs.Terms.{Terms, Same}
 use Rattle.loops.specs.Certificate.{Certificate}
 use Rattle.poly_text.specs.Flat.{flat_of}
 use Rattle.poly_text.specs.Printed.{polynomial_text}
-use Rattle.expressions.specs.Ascii.{line_feed, blank}
+use Rattle.loop_model.specs.Ascii.{line_feed, blank}
 
 abbrev pub poly_data : List (List ℕ) → Terms Fraction → Data
 poly_data names p = string (polynomial_text names p)

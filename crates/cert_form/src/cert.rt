@@ -1,3 +1,5 @@
+//! Certificates as values.
+
 ghost use Rattle.std.specs.Prelude.{◌≡◌, All, length};
 ghost use Rattle.loops.specs.Certificate.{AreOver};
 ghost use Rattle.cert_form.specs.Cert.{OverVariables, certificate_of, polys_in, blocks_in, HaveArity, IsSquare, IsKept};

@@ -1,3 +1,5 @@
+//! Why a certificate was not read.
+
 ghost use Rattle.std.specs.Prelude.{◌≡◌};
 ghost use Rattle.cert_form.specs.declared.error.CertError.TheVariants.{Memory};
 

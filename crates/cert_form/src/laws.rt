@@ -5,7 +5,7 @@ ghost use Rattle.cert_form.specs.Form.{most_elements};
 ghost use Rattle.cert_form.specs.declared.error.CertError.TheVariants.{Memory};
 
 use crate::{Cert, CertError, read_cert, write_cert};
-use expressions::Names;
+use loop_model::Names;
 use std::alloc::Global;
 
 /// A certificate of at most 512 polynomials that is written is read as the same certificate, and refused for want of memory alone.

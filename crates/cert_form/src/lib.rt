@@ -1,6 +1,10 @@
-//! Certificates as files: the layer between polynomials as texts and the checker. A certificate file is a JSON object
-//! with a version, the names of the variables, a list of polynomials, and for each branch of a loop the cofactors of
-//! each of them. Versions 1 and 2 are read, and version 2 is written.
+//! Certificates as files: a JSON object with a version, the names of the variables, a list of polynomials, and for each branch of a loop
+//! the cofactors of each of them. Versions 1 and 2 are read, and version 2 is written.
+//!
+//! Proved: `read_cert` gives the certificate, or the first fault with its path; one of at most 512 polynomials that is written is read as
+//! itself.
+//!
+//! Notion: certificates.
 #![tactic(auto)]
 
 mod cert;

@@ -1,7 +1,7 @@
 //! Lists of cofactors with version 2: pairs of a position and a polynomial.
 ghost use Rattle.std.specs.Prelude.{◌≡◌, ◌<◌, ◌≤◌, ◌-◌, ◌++◌, Err, List, length, vec_len, IfOk, IfErr, OnOk};
 ghost use Rattle.serde_json.specs.View.{view, items_view};
-ghost use Rattle.numbers.specs.Fraction.{Fraction};
+ghost use Rattle.algebra.specs.Fraction.{Fraction};
 ghost use Rattle.polynomials.specs.Terms.{Terms};
 ghost use Rattle.monos.specs.Variables.{most_variables};
 ghost use Rattle.cert_form.specs.Form as form;
@@ -14,8 +14,8 @@ ghost use Rattle.cert_form.specs.declared.error.CertError.TheVariants.{Memory};
 use crate::CertError;
 use crate::fault::{Path, shape_at};
 use crate::parts::{list_with, read_poly};
-use expressions::Names;
 use frac128::Frac;
+use loop_model::Names;
 use monos::Grevlex;
 use poly::Poly;
 use serde_json::Value;

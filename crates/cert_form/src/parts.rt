@@ -11,8 +11,8 @@ ghost use Rattle.cert_form.specs.Cert.{ArePolysOf, IsRowOf, AreRowsOf, IsBlockOf
 use crate::CertError;
 use crate::fault::{Path, polynomial_at, shape_at};
 use crate::pairs::read_sparse_row;
-use expressions::Names;
 use frac128::Frac;
+use loop_model::Names;
 use monos::Grevlex;
 use poly::Poly;
 use poly_text::{FlatError, read_flat};

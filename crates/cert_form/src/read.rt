@@ -1,3 +1,5 @@
+//! Reads certificates.
+
 ghost use Rattle.std.specs.Prelude.{◌≡◌, Err, length, string_bytes, IfOk, IfErr};
 ghost use Rattle.std.specs.Option.{option_map};
 ghost use Rattle.serde_json.specs.View.{view, items_view};
@@ -10,8 +12,8 @@ ghost use Rattle.cert_form.specs.Cert.{ArePolysOf, AreStepsOf, IsCertOf, IsCompl
 use crate::fault::{Path, shape_at};
 use crate::parts::{list_with, list_within, read_blocks, read_polys};
 use crate::{Cert, CertError};
-use expressions::Names;
 use frac128::Frac;
+use loop_model::Names;
 use monos::Grevlex;
 use poly::Poly;
 use serde_json::Value;

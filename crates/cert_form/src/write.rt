@@ -10,8 +10,8 @@ ghost use Rattle.cert_form.specs.Written.{poly_data, list_data, pair_data, pair_
 
 use crate::Cert;
 use crate::read::SPARSE_VERSION;
-use expressions::Names;
 use frac128::Frac;
+use loop_model::Names;
 use monos::Grevlex;
 use poly::Poly;
 use poly_text::print_poly;

@@ -7,25 +7,25 @@
 --   zeros_none, zeros_one, zeros_next, zeros_part     how many values are zero, one after another
 use Rattle.std.proofs.Common.{◌≡◌, ◌≢◌, ℕ, zero, suc, ◌+◌, ◌^◌, ◌<◌, ◌≤◌, Option, Some, Bool, true, false, cond, List, [], ◌∷◌, ◌++◌, map, length, take, refl, sym, ap, ap₂, ◌∙◌, arith}
 use Rattle.std.proofs.lemmas.List.{length-map}
-use Rattle.rings.specs.Arithmetic.{power}
-use Rattle.rings.specs.Each.{Each}
-use Rattle.rings.specs.Ring.{CommRing}
-use Rattle.rings.proofs.RingSolver.{ring_rules, ring}
-use Rattle.numbers.specs.Fraction.{Fraction, ℚ, inverse, is_zero}
-use Rattle.numbers.proofs.Fractions.{ℚ_ring, ℚ_field, zero_is}
+use Rattle.algebra.specs.Arithmetic.{power}
+use Rattle.algebra.specs.Each.{Each}
+use Rattle.algebra.specs.Ring.{CommRing}
+use Rattle.algebra.proofs.RingSolver.{ring_rules, ring}
+use Rattle.algebra.specs.Fraction.{Fraction, ℚ, inverse, is_zero}
+use Rattle.algebra.proofs.Fractions.{ℚ_ring, ℚ_field, zero_is}
 use Rattle.polynomials.specs.Exponent.{unit_exponents}
 use Rattle.polynomials.specs.Terms.{Terms, variables, compose, value_at, sum_of_products}
 use Rattle.polynomials.proofs.Arity.{length-units}
 use Rattle.polynomials.proofs.ValueAt.{value_at-compose, value_at-variables}
-use Rattle.chains.specs.Uses.{poly_at}
+use Rattle.solvable_maps.specs.Uses.{poly_at}
 use Rattle.vectors.specs.Lists.{entries}
 use Rattle.eigen_split.specs.declared.splitting.Split.{Split}
 use Rattle.frac128.specs.declared.fraction.Frac.{Frac}
 use Rattle.frac128.specs.FracMeaning.{fraction_of}
 use Rattle.linear.specs.Rows.{fractions_of}
-use Rattle.turns.specs.AfterTurns.{form_at, HasRecurrence}
-use Rattle.turns.specs.Turns.{point, turns, values_at}
-use Rattle.turns.proofs.ClassSteps.{values-entry}
+use Rattle.solvable_maps.specs.AfterTurns.{form_at, HasRecurrence}
+use Rattle.solvable_maps.specs.Turns.{point, turns, values_at}
+use Rattle.solvable_maps.proofs.ClassSteps.{values-entry}
 use Rattle.closed_forms.specs.Later.{IsLaterForm, IsOneLater}
 use Rattle.closed_forms.specs.Sources.{collect_terms, part}
 use Rattle.closed_forms.specs.States.{zeros_in, next_of, after}

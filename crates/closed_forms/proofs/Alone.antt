@@ -1,17 +1,17 @@
 -- The number of a variable alone in a polynomial, and lists made place by place.
 use Rattle.std.proofs.Common.{◌≡◌, ◌≢◌, ◌⊎◌, inl, inr, ◌<◌, ℕ, zero, suc, ◌+◌, true, false, List, [], ◌∷◌, ◌++◌, map, take, sum, replicate, get_or, length, All, Vec, Global, IsTrue, refl, sym, ap, ap₂, subst, ◌∙◌, arith}
 use Rattle.std.proofs.lemmas.List.{take_more, map-append, length-map}
-use Rattle.numbers.specs.Fraction.{Fraction, ℚ}
-use Rattle.numbers.proofs.Fractions.{ℚ_ring}
+use Rattle.algebra.specs.Fraction.{Fraction, ℚ}
+use Rattle.algebra.proofs.Fractions.{ℚ_ring}
 use Rattle.polynomials.specs.Exponent.{same, exponents}
 use Rattle.polynomials.specs.Polynomial.{IsDistinct}
 use Rattle.polynomials.specs.Terms.{Terms, coefficient}
 use Rattle.polynomials.proofs.Algebra.{coefficient-nil}
 use Rattle.polynomials.proofs.Distinct.{coefficient_first, coefficient_rest}
 use Rattle.polynomials.proofs.Exponent.{same_cases}
-use Rattle.chains.proofs.Exponents.{exponent-get, degree-sum}
-use Rattle.chains.proofs.Linear.{degree_one}
-use Rattle.chains.specs.Uses.{exponent, degree, poly_at, unit}
+use Rattle.solvable_maps.proofs.Exponents.{exponent-get, degree-sum}
+use Rattle.solvable_maps.proofs.Linear.{degree_one}
+use Rattle.solvable_maps.specs.Uses.{exponent, degree, poly_at, unit}
 use Rattle.frac128.specs.FracMeaning.{fraction_of}
 use Rattle.frac128.specs.declared.fraction.Frac.{Frac}
 use Rattle.linear.specs.Rows.{fractions_of, rows_of}

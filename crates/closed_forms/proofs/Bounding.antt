@@ -7,11 +7,11 @@
 use Rattle.std.proofs.Common.{◌≡◌, ◌≢◌, ◌⊎◌, inl, inr, ◌<◌, ◌*◌, ◌^◌, ℕ, zero, suc, ℤ, pos, negsuc, neg_ℤ, ◌-ℤ◌, ◌<ℤ◌, ◌≤ℤ◌, Bool, true, false, List, [], ◌∷◌, length, All, unsigned_abs, refl, sym, ap, subst, ◌∙◌, arith}
 use borrow.Author.Differences.{ints}
 use native.Mathlib.Nat as N
-use Rattle.rings.specs.Ring.{CommRing}
-use Rattle.rings.proofs.RingLaws as L
-use Rattle.numbers.specs.Fraction.{Fraction, ℚ, whole}
-use Rattle.numbers.specs.Ratio.{Ratio}
-use Rattle.numbers.proofs.Fractions.{ℚ_ring, some, ratio-opposite, top_zero}
+use Rattle.algebra.specs.Ring.{CommRing}
+use Rattle.algebra.proofs.RingLaws as L
+use Rattle.algebra.specs.Fraction.{Fraction, ℚ, whole}
+use Rattle.algebra.specs.Ratio.{Ratio}
+use Rattle.algebra.proofs.Fractions.{ℚ_ring, some, ratio-opposite, top_zero}
 use Rattle.vectors.proofs.FractionEigen.{times_bottom}
 use Rattle.exponentials.specs.Base.{Coprime, SameLength, IsProductOf, product}
 use Rattle.exponentials.specs.Powers.{number, integer_power, negate_if}
@@ -21,7 +21,7 @@ use Rattle.frac128.specs.declared.fraction.Frac.{Frac}
 use Rattle.frac128.proofs.FracResults.{frac_fits}
 use Rattle.coprime_base.specs.Parts.{IsQuotient}
 use Rattle.coprime_base.proofs.Quotients.{raised_is, quotient_product, same_quotient}
-use Rattle.turns.specs.Expo.{differences}
+use Rattle.solvable_maps.specs.Expo.{differences}
 use Rattle.expo.proofs.Ratios.{exponents_few}
 use Rattle.closed_forms.specs.Solved.{IsMade}
 

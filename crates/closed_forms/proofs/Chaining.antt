@@ -6,14 +6,14 @@
 --   variables_next, row_past, map-at      polynomials of variables
 use Rattle.std.proofs.Common.{◌≡◌, ◌<◌, ℕ, zero, suc, ◌+◌, List, [], ◌∷◌, ◌++◌, map, take, length, get_or, Vec, Global, refl, sym, ap, ap₂, subst, ◌∙◌, arith, below_more}
 use Rattle.std.proofs.lemmas.List.{length-map, length_push, map_push, take_at, take-append-le}
-use Rattle.rings.specs.Each.{Each}
-use Rattle.rings.proofs.Each.{each-append}
-use Rattle.rings.proofs.Lists.{take_next}
-use Rattle.numbers.specs.Fraction.{Fraction}
-use Rattle.numbers.proofs.Fractions.{ℚ_field}
+use Rattle.algebra.specs.Each.{Each}
+use Rattle.algebra.proofs.Each.{each-append}
+use Rattle.algebra.proofs.Lists.{take_next}
+use Rattle.algebra.specs.Fraction.{Fraction}
+use Rattle.algebra.proofs.Fractions.{ℚ_field}
 use Rattle.polynomials.specs.Order.{grevlex}
 use Rattle.polynomials.specs.Terms.{Terms}
-use Rattle.chains.specs.Uses.{poly_at}
+use Rattle.solvable_maps.specs.Uses.{poly_at}
 use Rattle.frac128.specs.FracMeaning.{fraction_of}
 use Rattle.frac128.specs.declared.fraction.Frac.{Frac}
 use Rattle.linear.specs.Rows.{fractions_of, rows_of}
@@ -21,7 +21,7 @@ use Rattle.vectors.specs.Causes.{row_at}
 use Rattle.vectors.specs.Lists.{entries}
 use Rattle.poly.specs.Seen.{terms_in, terms_each}
 use Rattle.solvable.proofs.Using.{FracPoly, length_each}
-use Rattle.turns.specs.Turns.{IsNormalForm}
+use Rattle.solvable_maps.specs.Turns.{IsNormalForm}
 use Rattle.eigen_split.specs.declared.splitting.Split.{Split}
 use Rattle.expo.specs.declared.exponential.Expo.{Expo}
 use Rattle.closed_forms.specs.declared.sources.ClassSetting.{ClassSetting}

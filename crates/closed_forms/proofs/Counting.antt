@@ -7,26 +7,26 @@ use native.Mathlib.Nat as N
 use Rattle.std.proofs.Math.Nat.{mul-le-mul}
 use Rattle.std.proofs.lemmas.Bool.{cases_lt}
 use Rattle.std.proofs.lemmas.List.{length-append}
-use Rattle.rings.specs.Each.{Each}
-use Rattle.rings.specs.In.{In}
-use Rattle.rings.proofs.Each.{each-append, each_weaker}
-use Rattle.rings.proofs.In.{in_either, each_from}
-use Rattle.numbers.specs.Gcd.{gcd}
-use Rattle.numbers.proofs.Coprime.{coprime_from, coprime-mul}
-use Rattle.numbers.proofs.GcdLaws.{dvd_from_coprime}
-use Rattle.numbers.proofs.RatioLaws.{mul-pos}
+use Rattle.algebra.specs.Each.{Each}
+use Rattle.algebra.specs.In.{In}
+use Rattle.algebra.proofs.Each.{each-append, each_weaker}
+use Rattle.algebra.proofs.In.{in_either, each_from}
+use Rattle.algebra.specs.Gcd.{gcd}
+use Rattle.algebra.proofs.Coprime.{coprime_from, coprime-mul}
+use Rattle.algebra.proofs.GcdLaws.{dvd_from_coprime}
+use Rattle.algebra.proofs.RatioLaws.{mul-pos}
 use Rattle.exponentials.specs.Base.{Coprime, Ascending, Divides, IsTheBase}
 use Rattle.polynomials.specs.Terms.{Terms}
-use Rattle.numbers.specs.Fraction.{Fraction}
-use Rattle.chains.specs.Class.{Above, Ascends}
-use Rattle.chains.specs.Uses.{IsMap}
-use Rattle.chains.proofs.Chains.{Once, once_short}
+use Rattle.algebra.specs.Fraction.{Fraction}
+use Rattle.solvable_maps.specs.Class.{Above, Ascends}
+use Rattle.solvable_maps.specs.Uses.{IsMap}
+use Rattle.solvable_maps.proofs.Chains.{Once, once_short}
 use Rattle.linear.specs.Rows.{fractions_of}
 use Rattle.poly.specs.Seen.{terms_each}
 use Rattle.solvable.proofs.Using.{FracPoly, length_each}
 use Rattle.eigen_split.specs.declared.splitting.Split.{Split}
-use Rattle.turns.specs.Classes.{IsClass, first_of}
-use Rattle.turns.proofs.Classwise.{class_shared}
+use Rattle.solvable_maps.specs.Classes.{IsClass, first_of}
+use Rattle.solvable_maps.proofs.Classwise.{class_shared}
 use Rattle.closed_forms.specs.Splits.{IsSplitAt, AreSplits}
 use Rattle.closed_forms.specs.Values.{values_in}
 use Rattle.closed_forms.proofs.Splitting.{map_of}

@@ -1,15 +1,15 @@
 -- Sums of products of a row with a column, number by number.
 use Rattle.std.proofs.Common.{◌≡◌, ◌⊎◌, inl, inr, ℕ, suc, ◌<◌, List, [], ◌∷◌, get_or, length, All, Vec, Global, sym, ap, ap₂, subst, ◌∙◌, arith}
-use Rattle.numbers.specs.Fraction.{Fraction, ℚ, fraction_size}
-use Rattle.numbers.specs.Size.{IsPast}
-use Rattle.numbers.proofs.Fractions.{ℚ_field}
+use Rattle.algebra.specs.Fraction.{Fraction, ℚ, fraction_size}
+use Rattle.algebra.specs.Size.{IsPast}
+use Rattle.algebra.proofs.Fractions.{ℚ_field}
 use Rattle.polynomials.specs.Terms.{sum_of_products}
 use Rattle.frac128.specs.FracMeaning.{fraction_of}
 use Rattle.frac128.specs.Sums.{SumIsPast}
 use Rattle.frac128.specs.declared.fraction.Frac.{Frac}
 use Rattle.linear.specs.Rows.{fractions_of, rows_of}
 use Rattle.vectors.specs.Lists.{entries}
-use Rattle.turns.specs.Inverse.{numbers_at}
+use Rattle.solvable_maps.specs.Inverse.{numbers_at}
 use Rattle.closed_forms.specs.Products.{IsPastDot}
 use Rattle.closed_forms.proofs.Rows.{entry_at}
 

@@ -6,23 +6,23 @@
 use Rattle.std.proofs.Common.{◌≡◌, inl, inr, ◌<◌, ◌≤◌, ℕ, zero, suc, List, [], ◌∷◌, length, replicate, get_or, All, Option, Some, None, Result, Ok, Err, refl, sym, ap, ap₂, subst, ◌∙◌, arith}
 use Rattle.std.specs.Result.{IfErr, IsErrAnd}
 use Rattle.std.proofs.lemmas.List.{length-map}
-use Rattle.rings.specs.Each.{Each}
-use Rattle.rings.specs.In.{In}
-use Rattle.rings.proofs.In.{in_either, in_left, in_right}
-use Rattle.numbers.specs.Fraction.{Fraction, ℚ}
+use Rattle.algebra.specs.Each.{Each}
+use Rattle.algebra.specs.In.{In}
+use Rattle.algebra.proofs.In.{in_either, in_left, in_right}
+use Rattle.algebra.specs.Fraction.{Fraction, ℚ}
 use Rattle.polynomials.specs.Polynomial.{Arity, AllArity}
 use Rattle.polynomials.specs.Terms.{Terms}
-use Rattle.chains.specs.Uses.{IsMap}
+use Rattle.solvable_maps.specs.Uses.{IsMap}
 use Rattle.exponentials.specs.Base.{IsTheBase}
 use Rattle.linear.specs.Rows.{fractions_of, rows_of}
 use Rattle.eigen_split.specs.declared.splitting.Split.{Split}
 use Rattle.poly.specs.Seen.{terms_in, terms_each}
 use Rattle.solvable.proofs.Using.{FracPoly, length_each}
 use Rattle.solvable.specs.Refusal.{IsSolvable}
-use Rattle.turns.specs.Classes.{IsFormBase, IsReachedClass, first_of, sizes_of}
-use Rattle.turns.specs.Turns.{width, IsClosedFormFrom}
-use Rattle.turns.proofs.Values.{turns-length}
-use Rattle.turns.proofs.Classwise.{form_base}
+use Rattle.solvable_maps.specs.Classes.{IsFormBase, IsReachedClass, first_of, sizes_of}
+use Rattle.solvable_maps.specs.Turns.{width, IsClosedFormFrom}
+use Rattle.solvable_maps.proofs.Values.{turns-length}
+use Rattle.solvable_maps.proofs.Classwise.{form_base}
 use Rattle.expo.specs.declared.exponential.Expo.{Expo}
 use Rattle.closed_forms.specs.declared.errors.FormsError.{FormsError}
 use Rattle.closed_forms.specs.declared.errors.FormsError.TheVariants.{NotSolvable, Eigen, Range, WideSplit, WideForm, Memory}

@@ -5,22 +5,22 @@
 --   values_made, values_at               values whose sizes, but of zero, have a base are made of it;  those of one of the splittings
 --   wide_class                           what its refusal tells
 use Rattle.std.proofs.Common.{◌≡◌, ◌≢◌, inl, inr, ◌<◌, ◌+◌, ℕ, zero, suc, Bool, true, false, cond, List, [], ◌∷◌, map, length, unsigned_abs, get_or, All, Vec, Global, Option, Some, None, refl, sym, ap, subst, ◌∙◌, arith}
-use Rattle.rings.specs.Each.{Each}
-use Rattle.rings.proofs.Each.{each-left, each-right}
-use Rattle.rings.specs.In.{In}
-use Rattle.rings.proofs.Basics.{not_both}
-use Rattle.rings.proofs.In.{in_get, each_in, each_from}
-use Rattle.numbers.specs.Fraction.{Fraction, ℚ, is_zero}
-use Rattle.numbers.proofs.Fractions.{zero_is}
+use Rattle.algebra.specs.Each.{Each}
+use Rattle.algebra.proofs.Each.{each-left, each-right}
+use Rattle.algebra.specs.In.{In}
+use Rattle.algebra.proofs.Basics.{not_both}
+use Rattle.algebra.proofs.In.{in_get, each_in, each_from}
+use Rattle.algebra.specs.Fraction.{Fraction, ℚ, is_zero}
+use Rattle.algebra.proofs.Fractions.{zero_is}
 use Rattle.polynomials.specs.Terms.{Terms}
 use Rattle.exponentials.specs.Base.{IsTheBase, IsProductOf}
 use Rattle.linear.specs.Rows.{fractions_of, rows_of}
 use Rattle.eigen_split.specs.declared.splitting.Split.{Split}
-use Rattle.turns.specs.Classes.{IsClass, first_of, sizes_of}
-use Rattle.turns.proofs.Classwise.{next_is_class}
+use Rattle.solvable_maps.specs.Classes.{IsClass, first_of, sizes_of}
+use Rattle.solvable_maps.proofs.Classwise.{next_is_class}
 use Rattle.expo.specs.declared.exponential.Expo.{Expo}
-use Rattle.chains.specs.Class.{AreClasses}
-use Rattle.chains.specs.Uses.{uses}
+use Rattle.solvable_maps.specs.Class.{AreClasses}
+use Rattle.solvable_maps.specs.Uses.{uses}
 use Rattle.closed_forms.specs.ClassForms.{zeros_of, AreVariablesOf, IsPastClassOf}
 use Rattle.closed_forms.specs.Known.{AreKnown, IsReady, IsWideClass}
 use Rattle.closed_forms.specs.Put.{IsPutTo}

@@ -5,12 +5,12 @@
 --   form_is             the closed form
 use Rattle.std.proofs.Common.{◌≡◌, ℕ, zero, suc, ◌<◌, ◌≤◌, List, [], ◌∷◌, length, get_or, All, Vec, Global, refl, sym, ap, subst, ◌∙◌, arith}
 use Rattle.std.proofs.lemmas.List.{length-map}
-use Rattle.rings.specs.Each.{Each}
+use Rattle.algebra.specs.Each.{Each}
 use Rattle.poly.specs.Seen.{terms_each}
 use Rattle.solvable.specs.Refusal.{AreClassesOf}
 use Rattle.solvable.proofs.Using.{FracPoly, length_each}
-use Rattle.turns.specs.Classes.{IsClass, IsFormBase}
-use Rattle.turns.specs.Turns.{width, IsClosedFormFrom}
+use Rattle.solvable_maps.specs.Classes.{IsClass, IsFormBase}
+use Rattle.solvable_maps.specs.Turns.{width, IsClosedFormFrom}
 use Rattle.expo.specs.declared.exponential.Expo.{Expo}
 use Rattle.closed_forms.specs.Settling.{AreAlike, IsSettling, IsSettled}
 use Rattle.closed_forms.specs.Splits.{groups_in}

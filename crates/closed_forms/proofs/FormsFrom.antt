@@ -2,7 +2,7 @@
 --   one_later_over, one_later_is, one_later_past     one turn later, where its value is zero
 --   at_once_past     from its start, where no value is zero
 use Rattle.std.proofs.Common.{◌≡◌, ◌≢◌, ℕ, suc, List, length, sym, ap, subst, ◌∙◌}
-use Rattle.numbers.specs.Fraction.{Fraction, ℚ, fractions, rationals}
+use Rattle.algebra.specs.Fraction.{Fraction, ℚ, fractions, rationals}
 use Rattle.polynomials.specs.Order.{grevlex}
 use Rattle.polynomials.specs.Terms.{Terms, value_at}
 use Rattle.polynomials.specs.Weight.{IsPastComposition}
@@ -11,8 +11,8 @@ use Rattle.poly.specs.Seen.{terms_in}
 use Rattle.expo.specs.Operations.{before_of, IsOver, IsPastBefore}
 use Rattle.expo.specs.View.{base_of, value_of}
 use Rattle.expo.specs.declared.exponential.Expo.{Expo}
-use Rattle.turns.specs.Expo.{next_images, backward_terms}
-use Rattle.turns.specs.Turns.{point}
+use Rattle.solvable_maps.specs.Expo.{next_images, backward_terms}
+use Rattle.solvable_maps.specs.Turns.{point}
 use Rattle.closed_forms.specs.Later.{Ahead, IsOneLater, IsFormFrom, IsPastFrom, IsPastOneLater, one_later, at_once_past as once_past, one_later_past as zero_past}
 use Rattle.closed_forms.specs.Solved.{IsPastSolved}
 use Rattle.closed_forms.specs.Values.{IsExpoOver}

@@ -5,21 +5,21 @@
 --   differences_next       differences of exponents
 --   cut_key, cut_count     the number whose n-th power the exponents of a monomial are, from these cut in parts
 --   growing_none, growing_next   a form's growing terms
---   solved_none, solved_next, among_here, among_later    the solutions of terms;  head_normal, tail_normal: which are normal
+--   solved_none, solved_next, past_term_at    the solutions of terms;  normal_at: each of them is normal
 --   still_made             the exponents that do not change with n
 --   key_solution, term_past, product_past      the solution for the powers in a term
 --   all_one                one of a list
 --   whole_is, form_is, normal_past     the growing form and the solutions of all terms, made normal
 use Rattle.std.proofs.Common.{◌≡◌, ◌⊎◌, inl, inr, ◌<◌, ℕ, zero, suc, ◌+◌, ℤ, pos, ◌-ℤ◌, Bool, true, false, cond, eqb, List, [], ◌∷◌, ◌++◌, map, take, drop, get_or, replicate, length, All, refl, sym, ap, ap₂, subst, ◌∙◌, arith, append_assoc}
 use Rattle.std.proofs.lemmas.List.{append-nil, length-append, length-map}
-use Rattle.rings.specs.Each.{Each}
-use Rattle.numbers.specs.Fraction.{Fraction, ℚ, fractions, fraction_size}
-use Rattle.numbers.specs.Size.{IsPast}
+use Rattle.algebra.proofs.In.{each_in}
+use Rattle.algebra.specs.Fraction.{Fraction, ℚ, fractions, fraction_size}
+use Rattle.algebra.specs.Size.{IsPast}
 use Rattle.polynomials.specs.Order.{grevlex}
 use Rattle.polynomials.specs.Polynomial.{IsPolynomial}
 use Rattle.polynomials.specs.Terms.{Terms}
 use Rattle.polynomials.specs.Weight.{weight, IsPastProduct}
-use Rattle.chains.specs.Uses.{unit}
+use Rattle.solvable_maps.specs.Uses.{unit}
 use Rattle.exponentials.specs.Keys.{Key, IsNormalKey, key_of, top, rest}
 use Rattle.frac128.specs.FracMeaning.{fraction_of}
 use Rattle.frac128.specs.declared.fraction.Frac.{Frac}
@@ -27,10 +27,10 @@ use Rattle.linear.specs.Rows.{fractions_of}
 use Rattle.poly.specs.Seen.{terms_in}
 use Rattle.poly.specs.View.{term_of}
 use Rattle.poly.specs.declared.Term.{Term}
-use Rattle.turns.specs.Expo.{with_normal_keys, power_key, with_key, IsSolution, differences}
-use Rattle.turns.specs.Turns.{width, IsNormal, IsNormalForm}
-use Rattle.turns.proofs.Keys.{differences-length, key_is_power}
-use Rattle.turns.proofs.Operations.{normalized-normal}
+use Rattle.solvable_maps.specs.Expo.{with_normal_keys, power_key, with_key, IsSolution, differences}
+use Rattle.solvable_maps.specs.Turns.{width, IsNormal, IsNormalForm}
+use Rattle.solvable_maps.proofs.Keys.{differences-length, key_is_power}
+use Rattle.solvable_maps.proofs.Operations.{normalized-normal}
 use Rattle.expo.specs.declared.exponential.Expo.{Expo}
 use Rattle.expo.specs.declared.powers.Power.{Power}
 use Rattle.expo.specs.Powers.{number_of, key_of_power, side_of}
@@ -42,7 +42,7 @@ use Rattle.closed_forms.specs.Solved as Solved
 use Rattle.closed_forms.specs.Solved.{still, steady, homogeneous_part, IsKeySolution, IsSolvedTerm, AreSolvedBehind, IsWhole, IsSolvedForm, IsPastSolving, IsPastTerm, IsPastAmong, IsPastSolved}
 use Rattle.closed_forms.specs.Sources.{collect_terms}
 use Rattle.closed_forms.specs.Values.{IsExpoOver}
-use Rattle.closed_forms.proofs.Mixing.{tell, terms-push, more_behind}
+use Rattle.closed_forms.proofs.Mixing.{tell, term_within, terms-push, more_behind}
 
 -- ---- exponential polynomials
 module _ (base : List ℕ) (m : ℕ) (e : Expo) (over : IsExpoOver base m e) where
@@ -167,23 +167,29 @@ module _ (bs : List ℕ) (e others up more down : List ℕ) (r : ℕ) (k : r ≡
       ∙ differences-length bs x.1 x.2 h.1 h.2
 
 -- ---- growing terms
-pub growing_none : (m : ℕ) (x : Key) (old : Terms Fraction) (cs : List Frac) (g : List ℕ)
-    → (length cs ≡ 0) ⊎ (length g ≡ 0) → old ≡ old ++ homogeneous_part m x (fractions_of cs) g
-growing_none m x old [] g h = sym (append-nil old)
-growing_none m x old (c ∷ cs) [] h = sym (append-nil old)
-growing_none m x old (c ∷ cs) (j ∷ g) (inl h) = absurd (omega (arith, h))
-growing_none m x old (c ∷ cs) (j ∷ g) (inr h) = absurd (omega (arith, h))
+module _ (m : ℕ) (x : Key) where
+  nothing_grows : (cs : List Frac) (g : List ℕ) → (cs ≡ []) ⊎ (g ≡ [])
+      → homogeneous_part m x (fractions_of cs) g ≡ []
+  nothing_grows [] g h = refl
+  nothing_grows (c ∷ cs) [] h = refl
+  nothing_grows (c ∷ cs) (j ∷ g) (inl h) = absurd (let f : ⊥ = cc in f)
+  nothing_grows (c ∷ cs) (j ∷ g) (inr h) = absurd (let f : ⊥ = cc in f)
 
-pub growing_next : (m : ℕ) (x : Key) (cs cs' : List Frac) (c : Frac) (g g' : List ℕ) (j : ℕ)
-    (old mid new : List (Term Frac)) (u : Term Frac) → cs ≡ c ∷ cs' → g ≡ j ∷ g'
-    → mid ≡ old ++ u ∷ [] → u.mono ≡ with_key 0 x (unit m j) → u.coef ≡ c
-    → tell new ≡ tell mid ++ homogeneous_part m x (fractions_of cs') g'
-    → tell new ≡ tell old ++ homogeneous_part m x (fractions_of cs) g
-growing_next m x cs cs' c g g' j old mid new u e f k n o h =
-    more_behind (tell old) (tell mid) (tell new) (u.mono, fraction_of u.coef)
-    (homogeneous_part m x (fractions_of cs') g') (terms-push old mid u k) h
-    ∙ ap₂ (λ a b. tell old ++ (a, fraction_of b) ∷ homogeneous_part m x (fractions_of cs') g') n o
-    ∙ ap₂ (λ a b. tell old ++ homogeneous_part m x (fractions_of a) b) (sym e) (sym f)
+  pub growing_none : (cs : List Frac) (g : List ℕ) (old all : Terms Fraction)
+      → (cs ≡ []) ⊎ (g ≡ []) → old ++ homogeneous_part m x (fractions_of cs) g ≡ all → old ≡ all
+  growing_none cs g old all h e = sym (append-nil old)
+      ∙ ap (λ p. old ++ p) (sym (nothing_grows cs g h)) ∙ e
+
+  pub growing_next : (cs cs' : List Frac) (c : Frac) (g g' : List ℕ) (j : ℕ)
+      (old mid : List (Term Frac)) (u : Term Frac) (all : Terms Fraction) → cs ≡ c ∷ cs'
+      → g ≡ j ∷ g' → mid ≡ old ++ u ∷ [] → u.mono ≡ with_key 0 x (unit m j) → u.coef ≡ c
+      → tell old ++ homogeneous_part m x (fractions_of cs) g ≡ all
+      → tell mid ++ homogeneous_part m x (fractions_of cs') g' ≡ all
+  growing_next cs cs' c g g' j old mid u all e f k n o h =
+      more_behind (tell old) (tell mid) _ (u.mono, fraction_of u.coef)
+      (homogeneous_part m x (fractions_of cs') g') (terms-push old mid u k) refl
+      ∙ ap₂ (λ a b. tell old ++ (a, fraction_of b) ∷ homogeneous_part m x (fractions_of cs') g') n o
+      ∙ ap₂ (λ a b. tell old ++ homogeneous_part m x (fractions_of a) b) (sym e) (sym f) ∙ h
 
 -- ---- solutions of terms
 module _ (base : List ℕ) (m : ℕ) (l : Fraction) where
@@ -203,25 +209,20 @@ module _ (base : List ℕ) (m : ℕ) (l : Fraction) where
             ∙ append_assoc old p more_solved.solved;
       })
 
-  pub among_here : (ts rest : List (Term Frac)) (t : Term Frac) → ts ≡ t ∷ rest
-      → IsPastTerm base m l (term_of fraction_of t) → IsPastAmong base m l (tell ts)
-  among_here ts rest t e h = subst (λ x. IsPastAmong base m l (tell x)) (sym e)
-      (record { term = term_of fraction_of t; within = inl refl; past = h })
+  pub past_term_at : (ts : List (Term Frac)) (i : ℕ) (t : Term Frac) → i < length ts
+      → t ≡ get_or ts i t → IsPastTerm base m l (term_of fraction_of t)
+      → IsPastAmong base m l (tell ts)
+  past_term_at ts i t b is h = record {
+    term = term_of fraction_of t;
+    within = term_within ts i t b is;
+    past = h;
+  }
 
-  pub among_later : (ts rest : List (Term Frac)) (t : Term Frac) → ts ≡ t ∷ rest
-      → IsPastAmong base m l (tell rest) → IsPastAmong base m l (tell ts)
-  among_later ts rest t e h = subst (λ x. IsPastAmong base m l (tell x)) (sym e)
-      (record { term = h.term; within = inr h.within; past = h.past })
-
-  pub head_normal : (ts others : List (Term Frac)) (t : Term Frac) → ts ≡ t ∷ others
-      → IsNormal base (tell ts) → IsNormalKey base (key_of (length base) t.mono)
-  unfolding Each
-  head_normal ts others t e h = (subst (λ x. IsNormal base (tell x)) e h).0
-
-  pub tail_normal : (ts others : List (Term Frac)) (t : Term Frac) → ts ≡ t ∷ others
-      → IsNormal base (tell ts) → IsNormal base (tell others)
-  unfolding Each
-  tail_normal ts others t e h = (subst (λ x. IsNormal base (tell x)) e h).1
+  pub normal_at : (ts : List (Term Frac)) (i : ℕ) (t : Term Frac) → i < length ts
+      → t ≡ get_or ts i t → IsNormal base (tell ts)
+      → IsNormalKey base (key_of (length base) t.mono)
+  normal_at ts i t b is h = each_in (λ u. IsNormalKey base (key_of (length base) u.0)) (tell ts)
+      (term_of fraction_of t) h (term_within ts i t b is)
 
 -- ---- the solution of a term
 pub still_made : (r first : ℕ) (e one others mono : List ℕ) → first ≡ width r 0

@@ -3,19 +3,19 @@
 --   at-arity                   how many exponents a polynomial at a number of turns has
 --   solved_all, sum_is         the sum of what solves the terms of a source
 --   start_is, start_lists     its difference from what is there, times a power of the value
---   grown_none, grown_next     a polynomial of the variables times a power, term by term;  grown_value: its values
+--   grown_next             a polynomial of the variables times a power, term by term;  grown_value: its values
 --   together-arity, joined_is     the two together
-use Rattle.std.proofs.Common.{◌≡◌, ℕ, zero, suc, ℤ, pos, Bool, ◌+◌, List, [], ◌∷◌, ◌++◌, map, length, Result, Ok, Err, refl, sym, ap, ap₂, subst, ◌∙◌, arith, append-nil}
+use Rattle.std.proofs.Common.{◌≡◌, ℕ, suc, ℤ, pos, Bool, ◌+◌, List, [], ◌∷◌, ◌++◌, map, length, Result, Ok, Err, refl, sym, ap, ap₂, subst, ◌∙◌}
 use Rattle.std.proofs.lemmas.List.{length-append}
 use Rattle.std.specs.Result.{IfOk}
-use Rattle.rings.specs.Arithmetic.{power}
-use Rattle.rings.specs.Each.{Each}
-use Rattle.rings.specs.Ring.{CommRing}
-use Rattle.rings.proofs.Each.{each-append}
-use Rattle.rings.proofs.RingLaws as L
-use Rattle.rings.proofs.RingSolver.{ring_rules, ring}
-use Rattle.numbers.specs.Fraction.{Fraction, ℚ, inverse, whole}
-use Rattle.numbers.proofs.Fractions.{ℚ_ring}
+use Rattle.algebra.specs.Arithmetic.{power}
+use Rattle.algebra.specs.Each.{Each}
+use Rattle.algebra.specs.Ring.{CommRing}
+use Rattle.algebra.proofs.Each.{each-append}
+use Rattle.algebra.proofs.RingLaws as L
+use Rattle.algebra.proofs.RingSolver.{ring_rules, ring}
+use Rattle.algebra.specs.Fraction.{Fraction, ℚ, inverse, whole}
+use Rattle.algebra.proofs.Fractions.{ℚ_ring}
 use Rattle.polynomials.specs.Order.{grevlex}
 use Rattle.polynomials.specs.Polynomial.{Arity, IsPolynomial}
 use Rattle.polynomials.specs.Terms.{Terms, constant, variables, value_at, monomial_at, sum_of_products}
@@ -29,14 +29,14 @@ use Rattle.frac128.specs.declared.fraction.Frac.{Frac}
 use Rattle.poly.specs.Seen.{terms_in, terms_each}
 use Rattle.poly.specs.declared.Term.{Term}
 use Rattle.solvable.proofs.Using.{FracPoly}
-use Rattle.turns.specs.Expo.{at_turn, with_normal_keys, power_key, with_key, up_part, down_part}
-use Rattle.turns.specs.Turns.{point, width}
-use Rattle.turns.proofs.Operations.{key_with, tail_with, normal-value}
-use Rattle.turns.proofs.Recurrences.{one_value, no_value, term_value, recurrence_same}
+use Rattle.solvable_maps.specs.Expo.{at_turn, with_normal_keys, power_key, with_key, up_part, down_part}
+use Rattle.solvable_maps.specs.Turns.{point, width}
+use Rattle.solvable_maps.proofs.Operations.{key_with, tail_with, normal-value}
+use Rattle.solvable_maps.proofs.Recurrences.{one_value, no_value, term_value, recurrence_same}
 use Rattle.expo.specs.View.{IsExpo}
 use Rattle.expo.specs.declared.exponential.Expo.{Expo}
-use Rattle.expo.proofs.Normal.{fits_map}
-use Rattle.turns.proofs.Realized.{lengths_agree}
+use Rattle.solvable_maps.proofs.Normal.{fits_map}
+use Rattle.solvable_maps.proofs.Realized.{lengths_agree}
 use Rattle.closed_forms.specs.Later.{with_powers, IsSumOf, IsStart, IsJoined}
 use Rattle.closed_forms.specs.Solved.{AreSolved, AreSolvedBehind}
 use Rattle.closed_forms.specs.Sources.{collect_terms, part}
@@ -126,21 +126,15 @@ module _ (base : List ℕ) (m : ℕ) (l : Fraction) (z : ℕ) (there at p : Frac
       (subst (λ (ps : List FracPoly). P numbers (terms_each ps)) both h)
 
 -- ---- a polynomial of the variables times a power
-pub grown_none : (x : Key) (old : Terms Fraction) (ts : List (Term Frac)) → length ts ≡ 0
-    → old ≡ old ++ with_powers x (tell ts)
-grown_none x old [] h = sym (append-nil old)
-grown_none x old (t ∷ ts) h = absurd (omega (arith, h))
-
 pub grown_next : (x : Key) (ts rest : List (Term Frac)) (t u : Term Frac)
-    (old mid new : List (Term Frac)) → ts ≡ t ∷ rest → mid ≡ old ++ u ∷ []
-    → u.mono ≡ with_key 0 x t.mono → u.coef ≡ t.coef
-    → tell new ≡ tell mid ++ with_powers x (tell rest)
-    → tell new ≡ tell old ++ with_powers x (tell ts)
-grown_next x ts rest t u old mid new e k n o h =
-    more_behind (tell old) (tell mid) (tell new) (u.mono, fraction_of u.coef)
-    (with_powers x (tell rest)) (terms-push old mid u k) h
+    (old mid : List (Term Frac)) (all : Terms Fraction) → ts ≡ t ∷ rest → mid ≡ old ++ u ∷ []
+    → u.mono ≡ with_key 0 x t.mono → u.coef ≡ t.coef → tell old ++ with_powers x (tell ts) ≡ all
+    → tell mid ++ with_powers x (tell rest) ≡ all
+grown_next x ts rest t u old mid all e k n o h =
+    more_behind (tell old) (tell mid) _ (u.mono, fraction_of u.coef)
+    (with_powers x (tell rest)) (terms-push old mid u k) refl
     ∙ ap₂ (λ a b. tell old ++ (a, fraction_of b) ∷ with_powers x (tell rest)) n o
-    ∙ ap (λ l. tell old ++ with_powers x (tell l)) (sym e)
+    ∙ ap (λ l. tell old ++ with_powers x (tell l)) (sym e) ∙ h
 
 module _ (base : List ℕ) (c : Coprime base) (m : ℕ) (negative : Bool) (e : List ℤ)
     (k : length e ≡ length base) where

@@ -7,23 +7,23 @@
 use Rattle.std.proofs.Common.{◌≡◌, inl, inr, ℕ, zero, suc, ◌<◌, ◌≤◌, Bool, true, false, List, [], ◌∷◌, length, get_or, refl, sym, ap, subst, ◌∙◌, arith}
 use Rattle.std.proofs.lemmas.Bool.{cases_lt}
 use Rattle.std.proofs.lemmas.List.{length-map}
-use Rattle.rings.specs.In.{In}
-use Rattle.rings.proofs.Basics.{not_both}
-use Rattle.rings.proofs.In.{each_in}
-use Rattle.numbers.specs.Fraction.{Fraction, ℚ}
-use Rattle.numbers.proofs.Fractions.{ℚ_field}
+use Rattle.algebra.specs.In.{In}
+use Rattle.algebra.proofs.Basics.{not_both}
+use Rattle.algebra.proofs.In.{each_in}
+use Rattle.algebra.specs.Fraction.{Fraction, ℚ}
+use Rattle.algebra.proofs.Fractions.{ℚ_field}
 use Rattle.polynomials.specs.Terms.{Terms, value_at}
-use Rattle.chains.specs.Uses.{poly_at}
+use Rattle.solvable_maps.specs.Uses.{poly_at}
 use Rattle.vectors.specs.Lists.{entries}
 use Rattle.vectors.proofs.ListLaws.{entries-past, same_entries}
 use Rattle.poly.specs.Seen.{terms_in}
 use Rattle.expo.specs.View.{base_of, value_of}
 use Rattle.expo.specs.declared.exponential.Expo.{Expo}
-use Rattle.turns.specs.Classes.{IsClass}
-use Rattle.turns.specs.Turns.{point, turns, values_at, IsClosedFormFrom, IsItself}
-use Rattle.turns.proofs.ClassSteps.{values-entry}
-use Rattle.turns.proofs.OneForm.{on_from}
-use Rattle.turns.proofs.Values.{turns-length}
+use Rattle.solvable_maps.specs.Classes.{IsClass}
+use Rattle.solvable_maps.specs.Turns.{point, turns, values_at, IsClosedFormFrom, IsItself}
+use Rattle.solvable_maps.proofs.ClassSteps.{values-entry}
+use Rattle.solvable_maps.proofs.OneForm.{on_from}
+use Rattle.solvable_maps.proofs.Values.{turns-length}
 use Rattle.closed_forms.specs.Known.{IsWideTurn}
 use Rattle.closed_forms.specs.Later.{IsPastAt}
 use Rattle.closed_forms.specs.Settling.{IsAtPlace, IsMarked, AreAllMarked, IsPastOfClass, IsSettling, IsSettled}

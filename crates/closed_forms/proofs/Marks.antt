@@ -12,9 +12,9 @@ use mathlib.Core.Bool.{not}
 use Rattle.std.proofs.lemmas.Bool.{cases_eq}
 use Rattle.std.proofs.lemmas.List.{get_or-set_same, get_or-set_other}
 use Rattle.std.specs.Result.{OnOk}
-use Rattle.rings.specs.In.{In}
-use Rattle.numbers.specs.Fraction.{Fraction, ℚ}
-use Rattle.numbers.proofs.Fractions.{ℚ_ring}
+use Rattle.algebra.specs.In.{In}
+use Rattle.algebra.specs.Fraction.{Fraction, ℚ}
+use Rattle.algebra.proofs.Fractions.{ℚ_ring}
 use Rattle.polynomials.specs.Order.{grevlex}
 use Rattle.polynomials.specs.Polynomial.{IsPolynomial}
 use Rattle.polynomials.specs.Terms.{Terms, value_at}
@@ -22,12 +22,12 @@ use Rattle.polynomials.proofs.ByValues.{same_by_values}
 use Rattle.polynomials.proofs.Canonical.{polynomial_unique}
 use Rattle.polynomials.proofs.Orders.{grevlex_order}
 use Rattle.poly.specs.Seen.{terms_in, terms_each}
-use Rattle.chains.specs.Uses.{poly_at}
+use Rattle.solvable_maps.specs.Uses.{poly_at}
 use Rattle.solvable.proofs.Using.{FracPoly, poly_at-is}
 use Rattle.expo.specs.Operations.{IsPastTurn}
 use Rattle.expo.specs.View.{value_of}
 use Rattle.expo.specs.declared.exponential.Expo.{Expo}
-use Rattle.turns.specs.Classes.{first_of}
+use Rattle.solvable_maps.specs.Classes.{first_of}
 use Rattle.closed_forms.specs.Settling.{IsAt, IsAtPlace, IsMarked, AreMarked, AreAllMarked, KeptMarks, IsPastPlace, IsPastOfClass}
 
 pub off : {P : Type 0} (b : Bool) → b ≡ false → (P → b ≡ true) → P → ⊥

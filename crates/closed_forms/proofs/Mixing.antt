@@ -1,14 +1,16 @@
 -- Sums of polynomials, each times a number, term by term.
-use Rattle.std.proofs.Common.{◌≡◌, inl, inr, ◌≢◌, ◌<◌, ◌≤◌, ℕ, suc, Bool, true, false, cond, ◌||◌, T, List, [], ◌∷◌, ◌++◌, get_or, length, All, append_assoc, Result, Ok, Err, OnOk, IfOk, lt→ltb, ltb→lt, refl, sym, ap, ap₂, subst, ◌∙◌, arith}
-use Rattle.std.proofs.lemmas.List.{append-nil}
-use Rattle.rings.specs.Each.{Each}
-use Rattle.rings.proofs.Each.{each-append}
-use Rattle.numbers.specs.Fraction.{Fraction, ℚ, rationals, fraction_size}
-use Rattle.numbers.specs.Size.{IsPast}
-use Rattle.rings.specs.Arithmetic.{Arithmetic}
-use Rattle.chains.specs.Uses.{exponent, has}
-use Rattle.chains.proofs.Exponents.{exponent-get}
-use Rattle.chains.proofs.Reach.{or_left}
+use Rattle.std.proofs.Common.{◌≡◌, ◌≢◌, ◌<◌, ◌≤◌, ℕ, suc, ◌+◌, Bool, true, false, cond, ◌||◌, T, List, [], ◌∷◌, ◌++◌, drop, get_or, length, All, append_assoc, Result, Ok, Err, OnOk, IfOk, lt→ltb, ltb→lt, refl, sym, ap, ap₂, subst, ◌∙◌, arith}
+use Rattle.std.proofs.lemmas.List.{append-nil, drop_all, drop_more}
+use Rattle.algebra.specs.Each.{Each}
+use Rattle.algebra.specs.In.{In}
+use Rattle.algebra.proofs.In.{in_get, map-in}
+use Rattle.algebra.proofs.Each.{each-append}
+use Rattle.algebra.specs.Fraction.{Fraction, ℚ, rationals, fraction_size}
+use Rattle.algebra.specs.Size.{IsPast}
+use Rattle.algebra.specs.Arithmetic.{Arithmetic}
+use Rattle.solvable_maps.specs.Uses.{exponent, has}
+use Rattle.solvable_maps.proofs.Exponents.{exponent-get}
+use Rattle.solvable_maps.proofs.Reach.{or_left}
 use Rattle.polynomials.specs.Order.{Rank}
 use Rattle.polynomials.specs.Polynomial.{Arity, Below, Falls, IsPolynomial}
 use Rattle.polynomials.specs.Terms.{Terms}
@@ -18,9 +20,9 @@ use Rattle.frac128.specs.declared.fraction.Frac.{Frac}
 use Rattle.poly.proofs.Steps as steps
 use Rattle.poly.specs.Seen.{terms_in, terms_each}
 use Rattle.solvable.proofs.Using.{FracPoly, to_false}
-use Rattle.poly.specs.View.{terms_of}
+use Rattle.poly.specs.View.{term_of, terms_of}
 use Rattle.poly.specs.declared.Term.{Term}
-use Rattle.turns.specs.AfterTurns.{mine, rest_of}
+use Rattle.solvable_maps.specs.AfterTurns.{mine, rest_of}
 use Rattle.closed_forms.specs.Sums.{mix, IsPastScaled}
 
 abbrev pub tell : List (Term Frac) → Terms Fraction
@@ -35,31 +37,58 @@ terms-push ts more t e = ap tell e ∙ of ts
     of [] = refl
     of (u ∷ ts) = ap (λ r. (u.mono, fraction_of u.coef) ∷ r) (of ts)
 
+-- what is left of a list at an index, and a term there
+pub left_at : {X : Type 0} (xs : List X) (i : ℕ) (x : X) → i < length xs → x ≡ get_or xs i x
+    → drop i xs ≡ x ∷ drop (i + 1) xs
+left_at xs i x l is = drop_more xs i x l ∙ ap (λ y. y ∷ drop (i + 1) xs) (sym is)
+
+pub term_within : (ts : List (Term Frac)) (i : ℕ) (t : Term Frac) → i < length ts
+    → t ≡ get_or ts i t → In (term_of fraction_of t) (tell ts)
+term_within ts i t l is = map-in (term_of fraction_of) ts t (subst (λ u. In u ts) (sym is)
+    (in_get ts i t l))
+
 -- one term more, and then the others
 pub more_behind : (old mid new : Terms Fraction) (t : List ℕ × Fraction) (rest : Terms Fraction)
     → mid ≡ old ++ t ∷ [] → new ≡ mid ++ rest → new ≡ old ++ t ∷ rest
 more_behind old mid new t rest e h = h ∙ ap (λ r. r ++ rest) e ∙ append_assoc old (t ∷ []) rest
 
 module _ (ts rest : List (Term Frac)) (t : Term Frac) (is : ts ≡ t ∷ rest) where
-  pub scaled_next : (c : Fraction) (old mid new : List (Term Frac)) (u : Term Frac)
-      → u.mono ≡ t.mono → fraction_of u.coef ≡ ℚ.mul c (fraction_of t.coef) → mid ≡ old ++ u ∷ []
-      → tell new ≡ tell mid ++ scale_terms rationals c (tell rest)
-      → tell new ≡ tell old ++ scale_terms rationals c (tell ts)
+  pub scaled_next : (c : Fraction) (old mid : List (Term Frac)) (u : Term Frac)
+      (all : Terms Fraction) → u.mono ≡ t.mono → fraction_of u.coef ≡ ℚ.mul c (fraction_of t.coef)
+      → mid ≡ old ++ u ∷ [] → tell old ++ scale_terms rationals c (tell ts) ≡ all
+      → tell mid ++ scale_terms rationals c (tell rest) ≡ all
   unfolding scale_terms
-  scaled_next c old mid new u m k e h =
-      more_behind (tell old) (tell mid) (tell new) (u.mono, fraction_of u.coef)
-      (scale_terms rationals c (tell rest)) (terms-push old mid u e) h
+  scaled_next c old mid u all m k e h =
+      more_behind (tell old) (tell mid) _ (u.mono, fraction_of u.coef)
+      (scale_terms rationals c (tell rest)) (terms-push old mid u e) refl
       ∙ ap₂ (λ x y. tell old ++ (x, y) ∷ scale_terms rationals c (tell rest)) m k
-      ∙ ap (λ l. tell old ++ scale_terms rationals c (tell l)) (sym is)
+      ∙ ap (λ l. tell old ++ scale_terms rationals c (tell l)) (sym is) ∙ h
 
-  pub past_scaled_here : (c : Fraction) → IsPast (fraction_size (ℚ.mul c (fraction_of t.coef)))
-      → IsPastScaled c (tell ts)
-  past_scaled_here c past = subst (λ l. IsPastScaled c (tell l)) (sym is)
-      (record { exponents = t.mono; number = fraction_of t.coef; within = inl refl; past = past })
+  pub rest_skipped : (g : List ℕ) (old all : Terms Fraction) → true ≡ mine g t.mono
+      → old ++ rest_of g (tell ts) ≡ all → old ++ rest_of g (tell rest) ≡ all
+  rest_skipped g old all has h =
+      ap (λ b. old ++ cond b (rest_of g (tell rest)) ((t.mono, fraction_of t.coef)
+      ∷ rest_of g (tell rest))) has ∙ ap (λ l. old ++ rest_of g (tell l)) (sym is) ∙ h
 
-  pub past_scaled_later : (c : Fraction) → IsPastScaled c (tell rest) → IsPastScaled c (tell ts)
-  past_scaled_later c p = subst (λ l. IsPastScaled c (tell l)) (sym is)
-      (record { exponents = p.exponents; number = p.number; within = inr p.within; past = p.past })
+  pub rest_next : (g : List ℕ) (old mid : List (Term Frac)) (u : Term Frac) (all : Terms Fraction)
+      → false ≡ mine g t.mono → u.mono ≡ t.mono → u.coef ≡ t.coef → mid ≡ old ++ u ∷ []
+      → tell old ++ rest_of g (tell ts) ≡ all → tell mid ++ rest_of g (tell rest) ≡ all
+  rest_next g old mid u all none m k e h =
+      more_behind (tell old) (tell mid) _ (u.mono, fraction_of u.coef) (rest_of g (tell rest))
+      (terms-push old mid u e) refl
+      ∙ ap₂ (λ x y. tell old ++ (x, fraction_of y) ∷ rest_of g (tell rest)) m k
+      ∙ ap (λ b. tell old ++ cond b (rest_of g (tell rest)) ((t.mono, fraction_of t.coef)
+      ∷ rest_of g (tell rest))) none ∙ ap (λ l. tell old ++ rest_of g (tell l)) (sym is) ∙ h
+
+pub past_scaled_at : (ts : List (Term Frac)) (i : ℕ) (t : Term Frac) (c : Fraction)
+    → i < length ts → t ≡ get_or ts i t → IsPast (fraction_size (ℚ.mul c (fraction_of t.coef)))
+    → IsPastScaled c (tell ts)
+past_scaled_at ts i t c l is past = record {
+  exponents = t.mono;
+  number = fraction_of t.coef;
+  within = term_within ts i t l is;
+  past = past;
+}
 
 -- ---- arities
 scaled-arity : (m : ℕ) (c : Fraction) (p : Terms Fraction) → Arity m p
@@ -97,11 +126,15 @@ pub if_ok_where : {A E : Type 0} (r : Result A E) (P Q : A → Type 0) → ((a :
 if_ok_where (Ok a) P Q h k = h a k
 if_ok_where (Err e) P Q h k = tt
 
-pub scaled_none : (old : Terms Fraction) (c : Fraction) (ts : List (Term Frac)) → length ts ≡ 0
-    → old ≡ old ++ scale_terms rationals c (tell ts)
+pub scaled_none : (c : Fraction) → scale_terms rationals c [] ≡ []
 unfolding scale_terms
-scaled_none old c [] e = sym (append-nil old)
-scaled_none old c (t ∷ ts) e = absurd (omega (arith, e))
+scaled_none c = refl
+
+-- nothing is left
+pub none_left : (f : List (Term Frac) → Terms Fraction) → f [] ≡ [] → (ts : List (Term Frac))
+    (i : ℕ) (out all : Terms Fraction) → length ts ≤ i → out ++ f (drop i ts) ≡ all → out ≡ all
+none_left f none ts i out all l h =
+    sym (append-nil out) ∙ ap (λ q. out ++ q) (sym (ap f (drop_all i ts l) ∙ none)) ∙ h
 
 pub head_all : {A : Type 0} (P : A → Type 0) (ts rest : List A) (t : A) → ts ≡ t ∷ rest → All P ts
     → P t

@@ -7,22 +7,22 @@
 use Rattle.std.proofs.Common.{◌≡◌, ◌≢◌, ◌⊎◌, inl, inr, ◌<◌, ◌≤◌, ℕ, zero, suc, ◌+◌, List, [], ◌∷◌, ◌++◌, length, get_or, set, Option, Some, None, refl, sym, ap, subst, ◌∙◌, arith, below_more}
 use Rattle.std.proofs.lemmas.List.{length-map, length-set, length_push, get_or-set_same, get_or-set_other, get_or_append_left, get_or_push}
 use Rattle.std.proofs.lemmas.Bool.{cases_eq, cases_lt}
-use Rattle.rings.specs.Each.{Each}
-use Rattle.rings.specs.In.{In}
-use Rattle.rings.proofs.In.{in_get, in_place, in_left, in_right}
-use Rattle.numbers.specs.Fraction.{Fraction}
+use Rattle.algebra.specs.Each.{Each}
+use Rattle.algebra.specs.In.{In}
+use Rattle.algebra.proofs.In.{in_get, in_place, in_left, in_right}
+use Rattle.algebra.specs.Fraction.{Fraction}
 use Rattle.polynomials.specs.Order.{grevlex}
 use Rattle.polynomials.specs.Polynomial.{AllArity}
 use Rattle.polynomials.specs.Terms.{Terms}
-use Rattle.chains.specs.Class.{AreClasses, Above, Ascends}
-use Rattle.chains.specs.Uses.{uses, poly_at}
+use Rattle.solvable_maps.specs.Class.{AreClasses, Above, Ascends}
+use Rattle.solvable_maps.specs.Uses.{uses, poly_at}
 use Rattle.linear.specs.Rows.{fractions_of}
 use Rattle.eigen_split.specs.declared.splitting.Split.{Split}
 use Rattle.poly.specs.Seen.{terms_in}
-use Rattle.turns.specs.Classes.{first_of}
-use Rattle.turns.specs.AfterTurns.{place, IsAfterTurns}
-use Rattle.turns.specs.Turns.{width, IsNormalForm, IsClosedFormFrom}
-use Rattle.turns.proofs.Classwise.{whole_more, next_apart, next_is_class, later_turned, turned_none, turned_more, turned_all}
+use Rattle.solvable_maps.specs.Classes.{first_of}
+use Rattle.solvable_maps.specs.AfterTurns.{place, IsAfterTurns}
+use Rattle.solvable_maps.specs.Turns.{width, IsNormalForm, IsClosedFormFrom}
+use Rattle.solvable_maps.proofs.Classwise.{whole_more, next_apart, next_is_class, later_turned, turned_none, turned_more, turned_all}
 use Rattle.expo.specs.declared.exponential.Expo.{Expo}
 use Rattle.closed_forms.specs.ClassForms.{AreVariablesOf}
 use Rattle.closed_forms.specs.Known.{AreKnown, IsReady}

@@ -7,14 +7,14 @@
 --   still_long, growing-arity, solved-arity, whole-arity      as many exponents
 use Rattle.std.proofs.Common.{◌≡◌, ℕ, zero, suc, ◌+◌, ◌-◌, ◌<◌, ◌≤◌, ℤ, pos, Bool, false, List, [], ◌∷◌, ◌++◌, map, length, take, drop, replicate, refl, sym, ap, ap₂, subst, ◌∙◌, arith}
 use Rattle.std.proofs.lemmas.List.{length-append, length-replicate, length-drop, drop-drop}
-use Rattle.rings.specs.Arithmetic.{power}
-use Rattle.rings.specs.Each.{Each}
-use Rattle.rings.specs.Ring.{CommRing}
-use Rattle.rings.proofs.Each.{each-append}
-use Rattle.rings.proofs.RingLaws as L
-use Rattle.rings.proofs.RingSolver.{ring_rules, ring}
-use Rattle.numbers.specs.Fraction.{Fraction, ℚ, rationals, whole}
-use Rattle.numbers.proofs.Fractions.{ℚ_ring, ℚ_field}
+use Rattle.algebra.specs.Arithmetic.{power}
+use Rattle.algebra.specs.Each.{Each}
+use Rattle.algebra.specs.Ring.{CommRing}
+use Rattle.algebra.proofs.Each.{each-append}
+use Rattle.algebra.proofs.RingLaws as L
+use Rattle.algebra.proofs.RingSolver.{ring_rules, ring}
+use Rattle.algebra.specs.Fraction.{Fraction, ℚ, rationals, whole}
+use Rattle.algebra.proofs.Fractions.{ℚ_ring, ℚ_field}
 use Rattle.polynomials.specs.Order.{grevlex}
 use Rattle.polynomials.specs.Polynomial.{Arity}
 use Rattle.polynomials.specs.Terms.{Terms, times, value_at, monomial_at, sum_of_products}
@@ -23,20 +23,20 @@ use Rattle.polynomials.proofs.Orders.{grevlex_order}
 use Rattle.polynomials.proofs.ValueAt.{value_at-append, value_at-times, value_at_same}
 use Rattle.machines.specs.Collect.{scale_terms}
 use Rattle.machines.proofs.Collecting.{collect-same, collect-polynomial}
-use Rattle.chains.proofs.Exponents.{length-unit}
-use Rattle.chains.specs.Uses.{unit}
+use Rattle.solvable_maps.proofs.Exponents.{length-unit}
+use Rattle.solvable_maps.specs.Uses.{unit}
 use Rattle.exponentials.specs.Base.{Coprime, SameLength}
 use Rattle.exponentials.specs.Keys.{Key, key_of, normal_key, top}
 use Rattle.exponentials.specs.Powers.{number, negate_if}
 use Rattle.vectors.specs.Lists.{entries}
-use Rattle.turns.specs.Expo.{with_normal_keys, tail, power_key, with_key, up_part, down_part}
-use Rattle.turns.specs.AfterTurns.{form_at, HasRecurrence}
-use Rattle.turns.specs.Turns.{point, width}
-use Rattle.turns.proofs.Operations.{key_with, tail_with, normal-value}
-use Rattle.turns.proofs.Recurrences.{one_value, no_value, recurrence_more, recurrence_same, term_value, term_solved, growing_solved}
+use Rattle.solvable_maps.specs.Expo.{with_normal_keys, tail, power_key, with_key, up_part, down_part}
+use Rattle.solvable_maps.specs.AfterTurns.{form_at, HasRecurrence}
+use Rattle.solvable_maps.specs.Turns.{point, width}
+use Rattle.solvable_maps.proofs.Operations.{key_with, tail_with, normal-value}
+use Rattle.solvable_maps.proofs.Recurrences.{one_value, no_value, recurrence_more, recurrence_same, term_value, term_solved, growing_solved}
 use Rattle.exponentials.proofs.Units.{room_long, normal_good}
-use Rattle.expo.proofs.Normal.{fits_map}
-use Rattle.turns.proofs.Realized.{lengths_agree}
+use Rattle.solvable_maps.proofs.Normal.{fits_map}
+use Rattle.solvable_maps.proofs.Realized.{lengths_agree}
 use Rattle.closed_forms.specs.Sums.{mix}
 use Rattle.closed_forms.specs.Sources.{collect_terms, part}
 use Rattle.closed_forms.specs.Solved.{still, steady, homogeneous_part, IsSolvedTerm, AreSolved, IsWhole, IsSolvedForm}

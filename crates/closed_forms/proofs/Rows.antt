@@ -8,8 +8,8 @@
 use Rattle.std.proofs.Common.{◌≡◌, ◌⊎◌, inl, inr, ℕ, zero, suc, ◌+◌, ◌<◌, ◌≤◌, Bool, true, false, cond, eqb, List, [], ◌∷◌, ◌++◌, take, get_or, length, All, Vec, Global, refl, sym, ap, ap₂, subst, ◌∙◌, arith, append_assoc, add-one, T, eqb→eq}
 use lib.Dec.{eqb_refl}
 use Rattle.std.proofs.lemmas.List.{length-append, length-take-le, take_all}
-use Rattle.numbers.specs.Fraction.{Fraction, ℚ}
-use Rattle.numbers.proofs.Fractions.{ℚ_field}
+use Rattle.algebra.specs.Fraction.{Fraction, ℚ}
+use Rattle.algebra.proofs.Fractions.{ℚ_field}
 use Rattle.polynomials.specs.Terms.{sum_of_products}
 use Rattle.frac128.specs.FracMeaning.{fraction_of}
 use Rattle.frac128.specs.declared.fraction.Frac.{Frac}
@@ -17,13 +17,13 @@ use Rattle.linear.specs.Rows.{fractions_of, rows_of}
 use Rattle.linear.proofs.Clearing.{rows-length}
 use Rattle.linear.proofs.Lists.{fractions-length}
 use Rattle.eigen_split.proofs.Reading.{list_row}
-use Rattle.rings.specs.Each.{Each}
+use Rattle.algebra.specs.Each.{Each}
 use Rattle.vectors.specs.Adding.{IsEchelonOf, IsPastTarget}
 use Rattle.closed_forms.specs.Inverses.{IsPastInverse}
 use Rattle.closed_forms.specs.Products.{IsPastRow}
 use Rattle.vectors.specs.Lists.{entries}
-use Rattle.turns.specs.Inverse.{unit_list, beside, numbers_at, IsProduct}
-use Rattle.turns.proofs.Inverses.{unit-own, unit-other, unit-length}
+use Rattle.solvable_maps.specs.Inverse.{unit_list, beside, numbers_at, IsProduct}
+use Rattle.solvable_maps.proofs.Inverses.{unit-own, unit-other, unit-length}
 
 pub entries-before : (xs : List Fraction) (x : Fraction) (i : ℕ) → i < length xs
     → entries ℚ_field (xs ++ x ∷ []) i ≡ entries ℚ_field xs i

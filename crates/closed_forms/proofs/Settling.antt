@@ -10,11 +10,11 @@
 --   past_forms, past_rows            what is past in making them
 use Rattle.std.proofs.Common.{◌≡◌, ◌<◌, ◌≤◌, ℕ, ◌+◌, List, [], ◌∷◌, ◌++◌, map, take, drop, length, get_or, All, Vec, Global, refl, sym, ap, ap₂, subst, ◌∙◌, arith}
 use Rattle.std.proofs.lemmas.List.{length-map, map_push}
-use Rattle.rings.proofs.Lists.{take_next}
-use Rattle.numbers.specs.Fraction.{Fraction}
+use Rattle.algebra.proofs.Lists.{take_next}
+use Rattle.algebra.specs.Fraction.{Fraction}
 use Rattle.polynomials.specs.Polynomial.{AllArity}
 use Rattle.polynomials.specs.Terms.{Terms}
-use Rattle.chains.specs.Uses.{poly_at, IsMap}
+use Rattle.solvable_maps.specs.Uses.{poly_at, IsMap}
 use Rattle.exponentials.specs.Base.{Coprime}
 use Rattle.frac128.specs.declared.Whole.{Whole}
 use Rattle.frac128.specs.declared.fraction.Frac.{Frac}
@@ -26,11 +26,11 @@ use Rattle.poly.specs.declared.Term.{Term}
 use Rattle.eigen_split.specs.declared.splitting.Split.{Split}
 use Rattle.solvable.proofs.Using.{FracPoly, length_each}
 use Rattle.solvable.specs.Refusal.{IsSolvable}
-use Rattle.turns.specs.Classes.{class_matrix, IsClass}
-use Rattle.turns.specs.Inverse.{beside, IsInverse}
-use Rattle.turns.specs.Turns.{width, IsNormal}
-use Rattle.turns.proofs.Classwise.{class_few}
-use Rattle.turns.proofs.FormSplits.{forms_inverse}
+use Rattle.solvable_maps.specs.Classes.{class_matrix, IsClass}
+use Rattle.solvable_maps.specs.Inverse.{beside, IsInverse}
+use Rattle.solvable_maps.specs.Turns.{width, IsNormal}
+use Rattle.solvable_maps.proofs.Classwise.{class_few}
+use Rattle.solvable_maps.proofs.FormSplits.{forms_inverse}
 use Rattle.expo.specs.declared.exponential.Expo.{Expo}
 use Rattle.closed_forms.specs.declared.sources.ClassSetting.{ClassSetting}
 use Rattle.closed_forms.specs.Later.{ahead_of}

@@ -11,11 +11,11 @@ use borrow.Author.Differences.{ints}
 use mir.Syntax.{w128}
 use mir.Val.{to_z, of_z}
 use Rattle.std.proofs.lemmas.Int.{to_z-of_z, fits_signed_from_abs}
-use Rattle.rings.specs.Each.{Each}
+use Rattle.algebra.specs.Each.{Each}
 use Rattle.std.specs.Result.{OnOk}
-use Rattle.rings.proofs.Basics.{not_both}
-use Rattle.numbers.specs.Fraction.{Fraction, ℚ, is_zero}
-use Rattle.numbers.proofs.Fractions.{facts, top_zero, zero_is}
+use Rattle.algebra.proofs.Basics.{not_both}
+use Rattle.algebra.specs.Fraction.{Fraction, ℚ, is_zero}
+use Rattle.algebra.proofs.Fractions.{facts, top_zero, zero_is}
 use Rattle.exponentials.specs.Base.{IsTheBase}
 use Rattle.frac128.specs.FracMeaning.{fraction_of}
 use Rattle.frac128.specs.declared.Whole.{Whole}
@@ -23,7 +23,7 @@ use Rattle.frac128.specs.declared.fraction.Frac.{Frac}
 use Rattle.linear.specs.Rows.{fractions_of}
 use Rattle.coprime_base.specs.Sizes.{sizes, ArePositive}
 use Rattle.eigen_split.specs.declared.splitting.Split.{Split}
-use Rattle.turns.specs.Classes.{sizes_of}
+use Rattle.solvable_maps.specs.Classes.{sizes_of}
 use Rattle.closed_forms.specs.States.{some_of}
 use Rattle.closed_forms.specs.Values.{values_in}
 use Rattle.closed_forms.proofs.Counting.{base_few}

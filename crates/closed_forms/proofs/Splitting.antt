@@ -11,13 +11,13 @@
 --   splits_pass          no class is refused where each has split
 use Rattle.std.proofs.Common.{◌≡◌, ◌≢◌, ◌⊎◌, inl, inr, ◌<◌, ◌≤◌, ℕ, zero, suc, ◌+◌, List, [], ◌∷◌, ◌++◌, map, length, get_or, All, Vec, Global, Option, Some, None, refl, sym, ap, subst, ◌∙◌, arith}
 use Rattle.std.proofs.lemmas.List.{length-map, length-append}
-use Rattle.rings.specs.Each.{Each}
-use Rattle.rings.specs.In.{In}
-use Rattle.rings.proofs.In.{in_either, each_in}
-use Rattle.numbers.specs.Fraction.{Fraction, ℚ}
+use Rattle.algebra.specs.Each.{Each}
+use Rattle.algebra.specs.In.{In}
+use Rattle.algebra.proofs.In.{in_either, each_in}
+use Rattle.algebra.specs.Fraction.{Fraction, ℚ}
 use Rattle.polynomials.specs.Terms.{Terms, coefficient}
-use Rattle.chains.specs.Class.{AreClasses}
-use Rattle.chains.specs.Uses.{uses, poly_at, IsMap, unit}
+use Rattle.solvable_maps.specs.Class.{AreClasses}
+use Rattle.solvable_maps.specs.Uses.{uses, poly_at, IsMap, unit}
 use Rattle.frac128.specs.declared.fraction.Frac.{Frac}
 use Rattle.linear.specs.Rows.{fractions_of, rows_of}
 use Rattle.vectors.specs.Matrices.{AreForms, SplitsAt}
@@ -27,8 +27,8 @@ use Rattle.solvable.specs.Refusal.{IsSolvable}
 use Rattle.eigen_split.specs.Refusal as eigen
 use Rattle.eigen_split.specs.declared.EigenError.{EigenError}
 use Rattle.eigen_split.specs.declared.splitting.Split.{Split}
-use Rattle.turns.specs.Classes.{class_matrix, IsClass, first_of, IsReachedClass}
-use Rattle.turns.proofs.Classwise.{class_shared, next_is_class}
+use Rattle.solvable_maps.specs.Classes.{class_matrix, IsClass, first_of, IsReachedClass}
+use Rattle.solvable_maps.proofs.Classwise.{class_shared, next_is_class}
 use Rattle.closed_forms.specs.declared.errors.FormsError.{FormsError}
 use Rattle.closed_forms.specs.declared.errors.FormsError.TheVariants.{NotSolvable, Eigen, Range, WideSplit, WideForm, Memory}
 use Rattle.closed_forms.specs.Refusal.{AllPass}

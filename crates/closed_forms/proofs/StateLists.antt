@@ -8,11 +8,11 @@ use Rattle.std.proofs.lemmas.Bool.{cases_lt}
 use Rattle.std.specs.Option.{IsSomeAnd, option_map}
 use Rattle.std.proofs.lemmas.List.{length-map, length_push, map_push, get_or-map, get_or_append_left, get_or_push}
 use Rattle.std.proofs.lemmas.Option.{slice_get-map}
-use Rattle.rings.specs.Each.{Each}
-use Rattle.rings.proofs.Lists.{take_next}
-use Rattle.numbers.specs.Fraction.{Fraction, ℚ, fractions}
+use Rattle.algebra.specs.Each.{Each}
+use Rattle.algebra.proofs.Lists.{take_next}
+use Rattle.algebra.specs.Fraction.{Fraction, ℚ, fractions}
 use Rattle.polynomials.specs.Weight.{IsPastComposition}
-use Rattle.numbers.proofs.Fractions.{ℚ_ring, ℚ_field}
+use Rattle.algebra.proofs.Fractions.{ℚ_ring, ℚ_field}
 use Rattle.polynomials.specs.Exponent.{unit_exponents}
 use Rattle.polynomials.specs.Order.{grevlex}
 use Rattle.polynomials.specs.Polynomial.{IsPolynomial, Falls}
@@ -20,8 +20,8 @@ use Rattle.polynomials.specs.Terms.{Terms, Same, variables, compose}
 use Rattle.polynomials.proofs.Arity.{arity-compose, length-units}
 use Rattle.polynomials.proofs.Canonical.{polynomial_unique}
 use Rattle.polynomials.proofs.Orders.{grevlex_order}
-use Rattle.chains.specs.Uses.{unit}
-use Rattle.chains.proofs.Exponents.{length-unit, unit_get}
+use Rattle.solvable_maps.specs.Uses.{unit}
+use Rattle.solvable_maps.proofs.Exponents.{length-unit, unit_get}
 use Rattle.monos.specs.declared.order.Grevlex.{Grevlex}
 use Rattle.poly.specs.Seen.{terms_in, terms_each, arity_of, Is}
 use Rattle.solvable.proofs.Using.{FracPoly, length_each, poly_at-is}

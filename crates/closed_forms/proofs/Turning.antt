@@ -7,31 +7,31 @@
 use Rattle.std.proofs.Common.{◌≡◌, ◌≢◌, ℕ, zero, suc, ◌+◌, ◌-◌, ◌<◌, ◌≤◌, List, [], ◌∷◌, ◌++◌, map, length, take, refl, sym, ap, ap₂, subst, ◌∙◌, arith, below_more}
 use Rattle.std.proofs.lemmas.List.{length-take-le, take_all}
 use Rattle.std.proofs.lemmas.Simd.{map-map}
-use Rattle.rings.specs.Each.{Each}
-use Rattle.rings.proofs.Each.{each-append}
-use Rattle.rings.proofs.In.{each_from}
-use Rattle.numbers.specs.Fraction.{Fraction, ℚ}
-use Rattle.numbers.proofs.Fractions.{ℚ_ring, ℚ_field}
+use Rattle.algebra.specs.Each.{Each}
+use Rattle.algebra.proofs.Each.{each-append}
+use Rattle.algebra.proofs.In.{each_from}
+use Rattle.algebra.specs.Fraction.{Fraction, ℚ}
+use Rattle.algebra.proofs.Fractions.{ℚ_ring, ℚ_field}
 use Rattle.polynomials.specs.Order.{grevlex}
 use Rattle.polynomials.specs.Polynomial.{Arity, AllArity}
 use Rattle.polynomials.specs.Terms.{Terms, value_at, compose, sum_of_products}
 use Rattle.polynomials.proofs.Arity.{arity-compose}
 use Rattle.polynomials.proofs.ValueAt.{value_at-append}
-use Rattle.chains.specs.Chain.{IsChain}
-use Rattle.chains.specs.Uses.{uses, strongly, poly_at, IsMap}
+use Rattle.solvable_maps.specs.Chain.{IsChain}
+use Rattle.solvable_maps.specs.Uses.{uses, strongly, poly_at, IsMap}
 use Rattle.exponentials.specs.Base.{Coprime}
 use Rattle.vectors.specs.Causes.{row_at}
 use Rattle.vectors.specs.Lists.{entries}
 use Rattle.vectors.specs.Matrices.{AreForms}
-use Rattle.turns.specs.Classes.{class_matrix, IsClass}
-use Rattle.turns.specs.Expo.{with_normal_keys}
-use Rattle.turns.specs.Inverse.{IsInverse, IsProduct}
-use Rattle.turns.specs.AfterTurns.{rest_of, place, rests_at, form_at, IsAfterTurns, IsFormAfterTurns, HasValueAfter}
-use Rattle.turns.specs.Turns.{point, turns, width, IsNormalForm}
-use Rattle.turns.proofs.ClassSteps.{rests_turned}
-use Rattle.turns.proofs.Classwise.{later_form as lift_form}
-use Rattle.turns.proofs.NextForm.{next_form, later_form, zero_form, variable_of}
-use Rattle.turns.proofs.Operations.{normal-value}
+use Rattle.solvable_maps.specs.Classes.{class_matrix, IsClass}
+use Rattle.solvable_maps.specs.Expo.{with_normal_keys}
+use Rattle.solvable_maps.specs.Inverse.{IsInverse, IsProduct}
+use Rattle.solvable_maps.specs.AfterTurns.{rest_of, place, rests_at, form_at, IsAfterTurns, IsFormAfterTurns, HasValueAfter}
+use Rattle.solvable_maps.specs.Turns.{point, turns, width, IsNormalForm}
+use Rattle.solvable_maps.proofs.ClassSteps.{rests_turned}
+use Rattle.solvable_maps.proofs.Classwise.{later_form as lift_form}
+use Rattle.solvable_maps.proofs.NextForm.{next_form, later_form, zero_form, variable_of}
+use Rattle.solvable_maps.proofs.Operations.{normal-value}
 use Rattle.closed_forms.specs.Later.{Ahead, ahead_of, IsFormFrom, at_once, later, one_later, IsLaterForm, IsOneLater}
 use Rattle.closed_forms.specs.Solved.{IsSolvedForm}
 use Rattle.closed_forms.specs.States.{zeros_in}

@@ -9,17 +9,17 @@
 --   zeros_of split                  how many of the values are zero
 --   IsPastClassOf base images z g split ps     making these is past, where ps are the closed forms of all variables, as far as they are known
 use Rattle.std.specs.Prelude.{◌≡◌, ◌<◌, ℕ, List, map, length, All}
-use Rattle.numbers.specs.Fraction.{Fraction}
+use Rattle.algebra.specs.Fraction.{Fraction}
 use Rattle.polynomials.specs.Order.{grevlex}
 use Rattle.polynomials.specs.Terms.{Terms}
-use Rattle.chains.specs.Uses.{poly_at}
+use Rattle.solvable_maps.specs.Uses.{poly_at}
 use Rattle.linear.specs.Rows.{fractions_of, rows_of}
 use Rattle.poly.specs.Seen.{terms_each}
 use Rattle.eigen_split.specs.declared.splitting.Split.{Split}
 use Rattle.expo.specs.declared.exponential.Expo.{Expo}
-use Rattle.turns.specs.Classes.{class_matrix}
-use Rattle.turns.specs.AfterTurns.{place, IsAfterTurns}
-use Rattle.turns.specs.Turns.{IsNormalForm}
+use Rattle.solvable_maps.specs.Classes.{class_matrix}
+use Rattle.solvable_maps.specs.AfterTurns.{place, IsAfterTurns}
+use Rattle.solvable_maps.specs.Turns.{IsNormalForm}
 use Rattle.closed_forms.specs.Inverses.{IsBehind}
 use Rattle.closed_forms.specs.Known.{rests_in, IsNextForm, AreNextForms, IsPastForm, IsPastNext, IsPastClass}
 use Rattle.closed_forms.specs.Later.{Ahead}

@@ -5,11 +5,11 @@
 --   IsBeforeOf w s done p   p is the combination of earlier forms for the form w;  IsPastBeforeOf w s done: making it is past
 --   IsSourceOf base w s done q     q is the source of the recurrence of the form w;  IsPastSourceOf base w s done: making it is past
 use Rattle.std.specs.Prelude.{◌≡◌, ℕ, List, length, All}
-use Rattle.numbers.specs.Fraction.{Fraction}
+use Rattle.algebra.specs.Fraction.{Fraction}
 use Rattle.polynomials.specs.Terms.{Terms}
 use Rattle.linear.specs.Rows.{rows_of}
 use Rattle.poly.specs.Seen.{terms_each}
-use Rattle.turns.specs.Turns.{width}
+use Rattle.solvable_maps.specs.Turns.{width}
 use Rattle.closed_forms.specs.Sources.{part_by_forms, IsBefore, IsSource, IsPastMoved, IsPastBefore, IsPastSource}
 use Rattle.closed_forms.specs.declared.sources.ClassSetting.{ClassSetting}
 

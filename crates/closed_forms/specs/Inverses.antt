@@ -2,10 +2,10 @@
 --   IsBehind forms back     back stands behind the identity in the echelon list of the forms beside the identity
 --   IsPastInverse forms     adding a form, with its row of the identity behind it, to the echelon list of those before it is past
 use Rattle.std.specs.Prelude.{◌≡◌, ◌+◌, ◌<◌, ℕ, List, ◌++◌, take, drop, map, length}
-use Rattle.numbers.specs.Fraction.{Fraction}
+use Rattle.algebra.specs.Fraction.{Fraction}
 use Rattle.vectors.specs.Adding.{IsEchelonOf, IsPastTarget}
 use Rattle.vectors.specs.Causes.{row_at}
-use Rattle.turns.specs.Inverse.{unit_list, beside}
+use Rattle.solvable_maps.specs.Inverse.{unit_list, beside}
 
 pub record IsBehind (forms back : List (List Fraction)) : Type 0 where
   pub echelon : List (List Fraction)

@@ -11,22 +11,22 @@
 --                             is split into, once the closed forms of the classes before it are known
 --   IsWideTurn base images z v      what all variables are at a number of turns below z is past for one of that class, where from one more turn on it is the state
 use Rattle.std.specs.Prelude.{◌≡◌, ◌⊎◌, ◌<◌, ◌≤◌, ◌+◌, ℕ, List, Option, map, take, length, get_or}
-use Rattle.rings.specs.Each.{Each}
-use Rattle.rings.specs.In.{In}
-use Rattle.numbers.specs.Fraction.{Fraction, fraction_size}
-use Rattle.numbers.specs.Size.{IsPast}
-use Rattle.numbers.proofs.Fractions.{ℚ_field}
+use Rattle.algebra.specs.Each.{Each}
+use Rattle.algebra.specs.In.{In}
+use Rattle.algebra.specs.Fraction.{Fraction, fraction_size}
+use Rattle.algebra.specs.Size.{IsPast}
+use Rattle.algebra.proofs.Fractions.{ℚ_field}
 use Rattle.polynomials.specs.Order.{grevlex}
 use Rattle.polynomials.specs.Terms.{Terms}
 use Rattle.polynomials.specs.Weight.{weight}
-use Rattle.chains.specs.Class.{IsNext, IsClassOf, AreClasses, AreWhole}
-use Rattle.chains.specs.Uses.{uses, poly_at}
+use Rattle.solvable_maps.specs.Class.{IsNext, IsClassOf, AreClasses, AreWhole}
+use Rattle.solvable_maps.specs.Uses.{uses, poly_at}
 use Rattle.vectors.specs.Causes.{row_at}
 use Rattle.vectors.specs.Lists.{entries}
-use Rattle.turns.specs.Classes.{class_matrix, first_of, IsClass}
-use Rattle.turns.specs.Expo.{with_normal_keys}
-use Rattle.turns.specs.AfterTurns.{rest_of, AreAfterTurns, IsFormAfterTurns}
-use Rattle.turns.specs.Turns.{IsNormalForm, IsClosedFormFrom}
+use Rattle.solvable_maps.specs.Classes.{class_matrix, first_of, IsClass}
+use Rattle.solvable_maps.specs.Expo.{with_normal_keys}
+use Rattle.solvable_maps.specs.AfterTurns.{rest_of, AreAfterTurns, IsFormAfterTurns}
+use Rattle.solvable_maps.specs.Turns.{IsNormalForm, IsClosedFormFrom}
 use Rattle.eigen_split.specs.Refusal.{IsSplitInto}
 use Rattle.eigen_split.specs.declared.splitting.Split.{Split}
 use Rattle.closed_forms.specs.Inverses.{IsBehind, IsPastInverse}

@@ -10,18 +10,18 @@
 --                             by its value after as many turns as there are zeros; one turn later, where its own is
 --   IsPastX                   a number or a weight on the way is past
 use Rattle.std.specs.Prelude.{◌≡◌, ◌≢◌, ◌⊎◌, ℕ, suc, ℤ, Bool, List, [], ◌∷◌, ◌++◌, map, length}
-use Rattle.rings.specs.Arithmetic.{power}
-use Rattle.numbers.specs.Fraction.{Fraction, ℚ, fractions, fraction_size, inverse}
-use Rattle.numbers.specs.Size.{IsPast}
+use Rattle.algebra.specs.Arithmetic.{power}
+use Rattle.algebra.specs.Fraction.{Fraction, ℚ, fractions, fraction_size, inverse}
+use Rattle.algebra.specs.Size.{IsPast}
 use Rattle.polynomials.specs.Order.{grevlex}
 use Rattle.polynomials.specs.Polynomial.{IsPolynomial}
 use Rattle.polynomials.specs.Terms.{Terms, value_at}
 use Rattle.polynomials.specs.Weight.{weight, IsPastComposition}
-use Rattle.chains.specs.Uses.{poly_at}
+use Rattle.solvable_maps.specs.Uses.{poly_at}
 use Rattle.exponentials.specs.Keys.{Key}
-use Rattle.turns.specs.Expo.{at_turn, next_images, power_key, backward_terms, with_key}
-use Rattle.turns.specs.AfterTurns.{HasRecurrence}
-use Rattle.turns.specs.Turns.{point, IsNormalForm}
+use Rattle.solvable_maps.specs.Expo.{at_turn, next_images, power_key, backward_terms, with_key}
+use Rattle.solvable_maps.specs.AfterTurns.{HasRecurrence}
+use Rattle.solvable_maps.specs.Turns.{point, IsNormalForm}
 use Rattle.expo.specs.Points.{turn_images, IsPastPower, IsPastPoint}
 use Rattle.closed_forms.specs.Solved.{AreSolved, IsPower, IsPastAmong, IsSolvedForm, IsPastSolved}
 use Rattle.closed_forms.specs.Sources.{collect_terms, part}

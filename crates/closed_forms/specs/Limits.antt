@@ -3,7 +3,7 @@
 --   most_in_base    a base has at most so many numbers
 --   IsLow z, AreLow zs     exponents as those of a number that fits, which is below 2^127
 use Rattle.std.specs.Prelude.{ℕ, ℤ, ◌<◌, List, All, unsigned_abs}
-use Rattle.numbers.specs.Limits.{word_bits}
+use Rattle.algebra.specs.Limits.{word_bits}
 use Rattle.eigen_split.specs.Ints.{most_rows}
 
 abbrev pub most_images : ℕ

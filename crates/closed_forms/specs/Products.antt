@@ -2,10 +2,10 @@
 --   IsPastDot xs ys         a product of numbers of the two rows, or its sum with those behind it, does not fit
 --   IsPastRow n row rows    that is so of the row with a column of the matrix, of width n
 use Rattle.std.specs.Prelude.{◌⊎◌, ◌<◌, ℕ, List, [], ◌∷◌}
-use Rattle.numbers.specs.Fraction.{Fraction, ℚ, fraction_size}
-use Rattle.numbers.specs.Size.{IsPast}
+use Rattle.algebra.specs.Fraction.{Fraction, ℚ, fraction_size}
+use Rattle.algebra.specs.Size.{IsPast}
 use Rattle.polynomials.specs.Terms.{sum_of_products}
-use Rattle.turns.specs.Inverse.{numbers_at}
+use Rattle.solvable_maps.specs.Inverse.{numbers_at}
 use Rattle.frac128.specs.Sums.{SumIsPast}
 
 abbrev pub IsPastDot : List Fraction → List Fraction → Type 0

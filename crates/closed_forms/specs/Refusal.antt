@@ -11,12 +11,12 @@
 --                           its matrix isn't split; or all classes split, and the closed forms of that class are past
 --   refusal_in e            the refusal that an error tells; want of memory tells none;  IfRefusedBy images e: it has its cause
 use Rattle.std.specs.Prelude.{◌≡◌, ℕ, ℤ, List, length, Option, Some, None, IfSome}
-use Rattle.numbers.specs.Fraction.{Fraction}
+use Rattle.algebra.specs.Fraction.{Fraction}
 use Rattle.polynomials.specs.Terms.{Terms}
-use Rattle.chains.specs.Chain.{IsLeastChain}
-use Rattle.chains.specs.Uses.{uses, strongly}
+use Rattle.solvable_maps.specs.Chain.{IsLeastChain}
+use Rattle.solvable_maps.specs.Uses.{uses, strongly}
 use Rattle.solvable.specs.Refusal.{IsSolvable}
-use Rattle.turns.specs.Classes.{class_matrix, IsClass, Passes, IsFormBase, IsReachedClass}
+use Rattle.solvable_maps.specs.Classes.{class_matrix, IsClass, Passes, IsFormBase, IsReachedClass}
 use Rattle.eigen_split.specs.Refusal as eigen
 use Rattle.closed_forms.specs.Known.{IsWideClass, IsWideTurn}
 use Rattle.closed_forms.specs.States.{AreZeros, IsPastState}

@@ -9,18 +9,18 @@
 --   IsSettling images base groups states es since     es are a closed form from `since` on, and the states those after each number of turns
 --   IsSettled images base es since d     they are one from d on, which is at most `since`, and from no smaller number on
 use Rattle.std.specs.Prelude.{◌≡◌, ◌≤◌, ◌<◌, ◌↔◌, ℕ, Bool, false, List, [], length, get_or}
-use Rattle.rings.specs.In.{In}
-use Rattle.numbers.specs.Fraction.{Fraction, ℚ}
+use Rattle.algebra.specs.In.{In}
+use Rattle.algebra.specs.Fraction.{Fraction, ℚ}
 use Rattle.polynomials.specs.Terms.{Terms, value_at}
-use Rattle.chains.specs.Class.{AreClasses}
-use Rattle.chains.specs.Uses.{uses, poly_at, IsMap}
+use Rattle.solvable_maps.specs.Class.{AreClasses}
+use Rattle.solvable_maps.specs.Uses.{uses, poly_at, IsMap}
 use Rattle.exponentials.specs.Base.{Coprime}
 use Rattle.std.specs.declared.cmp.PartialEq as PartialEq
 use Rattle.ring_laws.specs.declared.Ring as Ring
 use Rattle.monos.specs.declared.order.Order as Order
 use Rattle.poly.specs.declared.Poly.{Poly}
-use Rattle.turns.specs.Classes.{first_of}
-use Rattle.turns.specs.Turns.{IsClosedFormFrom}
+use Rattle.solvable_maps.specs.Classes.{first_of}
+use Rattle.solvable_maps.specs.Turns.{IsClosedFormFrom}
 use Rattle.expo.specs.Operations.{IsPastTurn}
 use Rattle.expo.specs.View.{value_of}
 use Rattle.expo.specs.declared.exponential.Expo.{Expo}

@@ -9,19 +9,19 @@
 --   IsSolvedForm base m w g l q y     y has the growing form and what solves the terms of q, made normal
 --   IsPastTerm, IsPastSolved  a number or a weight on the way is past
 use Rattle.std.specs.Prelude.{◌≡◌, ◌≢◌, ◌<◌, ℕ, ℤ, Bool, List, [], ◌∷◌, ◌++◌, length, drop, replicate, unsigned_abs}
-use Rattle.rings.specs.In.{In}
-use Rattle.numbers.specs.Fraction.{Fraction, ℚ, fractions, fraction_size}
-use Rattle.numbers.specs.Size.{IsPast}
+use Rattle.algebra.specs.In.{In}
+use Rattle.algebra.specs.Fraction.{Fraction, ℚ, fractions, fraction_size}
+use Rattle.algebra.specs.Size.{IsPast}
 use Rattle.expo.specs.Solutions.{most_degree}
 use Rattle.polynomials.specs.Order.{grevlex}
 use Rattle.polynomials.specs.Terms.{Terms, times}
 use Rattle.polynomials.specs.Weight.{weight, IsPastProduct}
-use Rattle.chains.specs.Uses.{unit}
+use Rattle.solvable_maps.specs.Uses.{unit}
 use Rattle.exponentials.specs.Base.{IsProductOf}
 use Rattle.exponentials.specs.Keys.{Key, key_of, top}
 use Rattle.exponentials.specs.Powers.{number, negate_if}
-use Rattle.turns.specs.Expo.{with_normal_keys, power_key, with_key, IsSolution}
-use Rattle.turns.specs.Turns.{width, IsNormalForm}
+use Rattle.solvable_maps.specs.Expo.{with_normal_keys, power_key, with_key, IsSolution}
+use Rattle.solvable_maps.specs.Turns.{width, IsNormalForm}
 use Rattle.expo.specs.Rows.{IsPastOther, IsPastEqual}
 use Rattle.closed_forms.specs.Sources.{collect_terms}
 

@@ -8,15 +8,15 @@
 --   IsSource base m w rests ps matrix back done q     q is that
 --   IsPastSource base m w rests ps matrix back done     a number or a weight on the way is past
 use Rattle.std.specs.Prelude.{◌≡◌, ◌⊎◌, ℕ, List, ◌++◌, length}
-use Rattle.numbers.specs.Fraction.{Fraction, ℚ, rationals, fractions, fraction_size}
-use Rattle.numbers.specs.Size.{IsPast}
+use Rattle.algebra.specs.Fraction.{Fraction, ℚ, rationals, fractions, fraction_size}
+use Rattle.algebra.specs.Size.{IsPast}
 use Rattle.polynomials.specs.Order.{grevlex}
 use Rattle.polynomials.specs.Terms.{Terms, compose}
 use Rattle.polynomials.specs.Weight.{weight, IsPastSum, IsPastComposition}
 use Rattle.machines.specs.Collect.{collect}
-use Rattle.turns.specs.Expo.{with_normal_keys}
-use Rattle.turns.specs.Inverse.{IsProduct}
-use Rattle.turns.specs.Turns.{width}
+use Rattle.solvable_maps.specs.Expo.{with_normal_keys}
+use Rattle.solvable_maps.specs.Inverse.{IsProduct}
+use Rattle.solvable_maps.specs.Turns.{width}
 use Rattle.closed_forms.specs.Products.{IsPastRow}
 use Rattle.closed_forms.specs.Sums.{mix, IsPastMix}
 

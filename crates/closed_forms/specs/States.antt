@@ -7,10 +7,10 @@
 --   IsPastState images n         that is so of one of those up to n
 --   AreZeros images z            the values of all classes' forms have so many zeros
 use Rattle.std.specs.Prelude.{◌≡◌, ◌<◌, ℕ, zero, suc, List, [], ◌∷◌, ◌++◌, map, cond, length, Option}
-use Rattle.numbers.specs.Fraction.{Fraction, ℚ, fractions, is_zero}
+use Rattle.algebra.specs.Fraction.{Fraction, ℚ, fractions, is_zero}
 use Rattle.polynomials.specs.Terms.{Terms, variables, compose}
 use Rattle.polynomials.specs.Weight.{IsPastComposition}
-use Rattle.chains.specs.Uses.{poly_at}
+use Rattle.solvable_maps.specs.Uses.{poly_at}
 use Rattle.eigen_split.specs.declared.splitting.Split.{Split}
 use Rattle.closed_forms.specs.Sources.{collect_terms}
 use Rattle.closed_forms.specs.Splits.{AreSplits}

@@ -4,9 +4,9 @@
 --   IsPastProducts cs ps    that is so of one of the ps with its number
 --   IsPastMix cs ps         or the weight of the sum is past
 use Rattle.std.specs.Prelude.{◌⊎◌, ℕ, List, [], ◌∷◌, ◌++◌}
-use Rattle.rings.specs.In.{In}
-use Rattle.numbers.specs.Fraction.{Fraction, ℚ, rationals, fraction_size}
-use Rattle.numbers.specs.Size.{IsPast}
+use Rattle.algebra.specs.In.{In}
+use Rattle.algebra.specs.Fraction.{Fraction, ℚ, rationals, fraction_size}
+use Rattle.algebra.specs.Size.{IsPast}
 use Rattle.polynomials.specs.Terms.{Terms}
 use Rattle.polynomials.specs.Weight.{weight}
 use Rattle.machines.specs.Collect.{scale_terms}

@@ -3,7 +3,7 @@
 --   bodies_of es           the polynomials themselves
 --   AreOver base m es      each is over this base and m variables
 use Rattle.std.specs.Prelude.{◌≡◌, ℕ, List, [], ◌∷◌, ◌++◌, map, All, Option, Some, None}
-use Rattle.numbers.specs.Fraction.{Fraction}
+use Rattle.algebra.specs.Fraction.{Fraction}
 use Rattle.polynomials.specs.Terms.{Terms}
 use Rattle.linear.specs.Rows.{fractions_of}
 use Rattle.poly.specs.Seen.{terms_in}

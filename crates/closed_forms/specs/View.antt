@@ -5,13 +5,13 @@
 --   ArePassing base m ps passing    it tells of each variable whether it isn't itself at n = 0
 --   IsFormOf images form            form is the closed form of the map
 use Rattle.std.specs.Prelude.{◌≡◌, ◌≤◌, ◌<◌, ◌↔◌, ℕ, Bool, false, List, length, get_or}
-use Rattle.rings.specs.Each.{Each}
-use Rattle.numbers.specs.Fraction.{Fraction}
+use Rattle.algebra.specs.Each.{Each}
+use Rattle.algebra.specs.Fraction.{Fraction}
 use Rattle.polynomials.specs.Order.{grevlex}
 use Rattle.polynomials.specs.Terms.{Terms}
 use Rattle.coprime_base.specs.Sizes.{sizes}
-use Rattle.turns.specs.Classes.{IsFormBase}
-use Rattle.turns.specs.Turns.{width, IsNormalForm, IsClosedFormFrom, IsItself}
+use Rattle.solvable_maps.specs.Classes.{IsFormBase}
+use Rattle.solvable_maps.specs.Turns.{width, IsNormalForm, IsClosedFormFrom, IsItself}
 use Rattle.monos.specs.Variables.{most_variables}
 use Rattle.closed_forms.specs.Limits.{most_images, most_in_base}
 use Rattle.closed_forms.specs.Values.{bodies_of, AreOver}

@@ -1,12 +1,12 @@
 //! The base of all eigenvalues.
 ghost use Rattle.std.specs.Prelude.{◌≡◌, ◌≢◌, ◌<◌, ◌≤◌, ◌<ℤ◌, ◌++◌, pos, length, map, unsigned_abs, IfOk, OnOk};
-ghost use Rattle.rings.specs.Each.{Each};
-ghost use Rattle.numbers.specs.Fraction.{Fraction, ℚ};
-ghost use Rattle.numbers.specs.Limits.{number_limit};
+ghost use Rattle.algebra.specs.Each.{Each};
+ghost use Rattle.algebra.specs.Fraction.{Fraction, ℚ};
+ghost use Rattle.algebra.specs.Limits.{number_limit};
 ghost use Rattle.exponentials.specs.Base.{IsTheBase};
 ghost use Rattle.linear.specs.Rows.{fractions_of};
 ghost use Rattle.coprime_base.specs.Sizes.{sizes, ArePositive};
-ghost use Rattle.turns.specs.Classes.{sizes_of};
+ghost use Rattle.solvable_maps.specs.Classes.{sizes_of};
 ghost use Rattle.closed_forms.specs.Limits.{most_images, most_in_base};
 ghost use Rattle.closed_forms.specs.States.{some_of};
 ghost use Rattle.closed_forms.specs.Values.{values_in};

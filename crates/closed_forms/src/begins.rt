@@ -1,9 +1,9 @@
 //! From which number of turns on polynomials are the state, and which aren't it at a number of turns.
 ghost use Rattle.std.specs.Prelude.{◌≡◌, ◌≢◌, ◌<◌, ℕ, List, true, false, All, length, map, get_or, IfOk, OnOk, IfErr, IsErrOf, ◌↔◌};
-ghost use Rattle.numbers.specs.Fraction.{Fraction};
+ghost use Rattle.algebra.specs.Fraction.{Fraction};
 ghost use Rattle.polynomials.specs.Terms.{Terms};
 ghost use Rattle.poly.specs.Seen.{terms_in, terms_each};
-ghost use Rattle.turns.specs.Classes.{first_of};
+ghost use Rattle.solvable_maps.specs.Classes.{first_of};
 ghost use Rattle.expo.specs.Operations.{IsPastTurn};
 ghost use Rattle.closed_forms.specs.Refusal.{IfOfClass, IfWideTurn};
 ghost use Rattle.closed_forms.specs.Settling.{IsAt, AreAlike, KeptMarks, AreMarked, AreAllMarked, IsPastPlace, IsPastOfClass, IsSettling, IsSettled};

@@ -1,15 +1,15 @@
 //! The closed forms of a class, from those of earlier classes.
 ghost use Rattle.std.specs.Prelude.{◌≡◌, ◌≢◌, ◌≤◌, ◌<◌, ◌+◌, ℕ, All, length, map, IfOk, IsErrOf};
-ghost use Rattle.rings.specs.Each.{Each};
-ghost use Rattle.numbers.specs.Fraction.{ℚ};
+ghost use Rattle.algebra.specs.Each.{Each};
+ghost use Rattle.algebra.specs.Fraction.{ℚ};
 ghost use Rattle.frac128.specs.FracMeaning.{fraction_of};
 ghost use Rattle.linear.specs.Rows.{fractions_of, rows_of};
 ghost use Rattle.poly.specs.Seen.{terms_in, terms_each};
 ghost use Rattle.coprime_base.specs.Sizes.{sizes};
 ghost use Rattle.solvable.specs.Refusal.{IsSolvable};
-ghost use Rattle.chains.specs.Uses.{poly_at};
-ghost use Rattle.turns.specs.Classes.{IsClass};
-ghost use Rattle.turns.specs.Turns.{width};
+ghost use Rattle.solvable_maps.specs.Uses.{poly_at};
+ghost use Rattle.solvable_maps.specs.Classes.{IsClass};
+ghost use Rattle.solvable_maps.specs.Turns.{width};
 ghost use Rattle.monos.specs.Variables.{most_variables};
 ghost use Rattle.expo.specs.Bases.{IsCoprimeBase};
 ghost use Rattle.closed_forms.specs.ClassForms.{IsSettingOf, ahead_in, zeros_of, IsNormalOver, IsNextOf, IsPastFormOf, AreNextOf, IsPastNextOf, AreVariablesOf, IsPastClassOf};

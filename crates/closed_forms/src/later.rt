@@ -1,12 +1,12 @@
 //! The closed form of one linear form of a class's variables, by its value after some turns.
 ghost use Rattle.std.specs.Prelude.{◌≡◌, ◌≢◌, ◌≤◌, ◌++◌, All, length, IfOk, OnOk, IsErrOf};
-ghost use Rattle.numbers.specs.Fraction.{ℚ};
+ghost use Rattle.algebra.specs.Fraction.{ℚ};
 ghost use Rattle.exponentials.specs.Powers.{number};
 ghost use Rattle.frac128.specs.FracMeaning.{fraction_of};
 ghost use Rattle.poly.specs.Seen.{terms_in};
 ghost use Rattle.poly.specs.View.{terms_of};
 ghost use Rattle.coprime_base.specs.Sizes.{sizes};
-ghost use Rattle.turns.specs.Turns.{width, IsNormal};
+ghost use Rattle.solvable_maps.specs.Turns.{width, IsNormal};
 ghost use Rattle.monos.specs.Variables.{most_variables};
 ghost use Rattle.expo.specs.Bases.{IsCoprimeBase};
 ghost use Rattle.expo.specs.Powers.{key_of_power, number_of};
@@ -156,13 +156,12 @@ fn push_grown(
         ≡ terms_of fraction_of out.old.items
         ++ with_powers (key_of_power own.now) (terms_of fraction_of terms.now)) }
 {
-    let Some((term, terms)) = terms.split_first() else {
-        return Ok(());
-    };
-    let mono = behind_power(alloc, own, &term.mono)?;
-    out.push(Term {
-        mono,
-        coef: term.coef,
-    })?;
-    push_grown(alloc, out, own, terms)
+    for term in terms {
+        let mono = behind_power(alloc, own, &term.mono)?;
+        out.push(Term {
+            mono,
+            coef: term.coef,
+        })?;
+    }
+    Ok(())
 }

@@ -1,15 +1,15 @@
 //! The linear part of the polynomials of a class in its own variables, and what they have beside it.
 ghost use Rattle.std.specs.Prelude.{◌≡◌, ◌<◌, ℕ, All, length, map, IfOk, IsTrue, ◌↔◌};
-ghost use Rattle.numbers.specs.Fraction.{ℚ};
+ghost use Rattle.algebra.specs.Fraction.{ℚ};
 ghost use Rattle.polynomials.specs.Polynomial.{IsDistinct};
 ghost use Rattle.polynomials.specs.Terms.{coefficient};
-ghost use Rattle.chains.specs.Uses.{poly_at, unit};
+ghost use Rattle.solvable_maps.specs.Uses.{poly_at, unit};
 ghost use Rattle.frac128.specs.FracMeaning.{fraction_of};
 ghost use Rattle.linear.specs.Rows.{fractions_of, rows_of};
 ghost use Rattle.poly.specs.Seen.{terms_in, terms_each};
 ghost use Rattle.poly.specs.View.{terms_of};
-ghost use Rattle.turns.specs.Classes.{class_matrix as matrix_of};
-ghost use Rattle.turns.specs.AfterTurns.{rest_of as without};
+ghost use Rattle.solvable_maps.specs.Classes.{class_matrix as matrix_of};
+ghost use Rattle.solvable_maps.specs.AfterTurns.{rest_of as without};
 
 use crate::sums::rest_of;
 use frac128::Frac;
@@ -60,13 +60,12 @@ fn number_of(terms: &[Term<Frac>], variable: usize) -> Frac
     ensures { (m : ℕ) → All (λ t. length t.mono ≡ m) terms.now
         → fraction_of result ≡ coefficient ℚ (terms_of fraction_of terms.now) (unit m variable) }
 {
-    let Some((term, terms)) = terms.split_first() else {
-        return Frac::zero();
-    };
-    if is_alone(&term.mono, variable) {
-        return term.coef;
+    for term in terms {
+        if is_alone(&term.mono, variable) {
+            return term.coef;
+        }
     }
-    number_of(terms, variable)
+    Frac::zero()
 }
 
 /// Whether a monomial is the variable.

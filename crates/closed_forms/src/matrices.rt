@@ -1,10 +1,10 @@
 //! The inverse of a matrix of forms.
 ghost use Rattle.std.specs.Prelude.{◌≡◌, ◌≤◌, ◌+◌, ◌++◌, All, length, map, drop, eqb, cond, IfOk, IsErrOf};
-ghost use Rattle.numbers.specs.Fraction.{ℚ};
+ghost use Rattle.algebra.specs.Fraction.{ℚ};
 ghost use Rattle.frac128.specs.FracMeaning.{fraction_of};
 ghost use Rattle.linear.specs.Rows.{fractions_of, rows_of};
 ghost use Rattle.vectors.specs.Adding.{IsEchelonOf};
-ghost use Rattle.turns.specs.Inverse.{unit_list, beside as all_beside};
+ghost use Rattle.solvable_maps.specs.Inverse.{unit_list, beside as all_beside};
 ghost use Rattle.eigen_split.specs.Ints.{most_rows};
 ghost use Rattle.closed_forms.specs.Inverses.{IsBehind, IsPastInverse};
 

@@ -1,13 +1,13 @@
 //! Numbers as signed products of powers of a base, and their n-th powers.
 ghost use Rattle.std.specs.Prelude.{◌≡◌, ◌≢◌, ◌≤◌, ◌<◌, ◌<ℤ◌, ◌-ℤ◌, ◌++◌, pos, length, map, IfOk, OnOk};
-ghost use Rattle.numbers.specs.Fraction.{ℚ};
-ghost use Rattle.chains.specs.Uses.{unit};
+ghost use Rattle.algebra.specs.Fraction.{ℚ};
+ghost use Rattle.solvable_maps.specs.Uses.{unit};
 ghost use Rattle.exponentials.specs.Keys.{key_of, IsNormalKey};
 ghost use Rattle.exponentials.specs.Powers.{negate_if};
 ghost use Rattle.frac128.specs.FracMeaning.{fraction_of};
 ghost use Rattle.coprime_base.specs.Sizes.{sizes};
-ghost use Rattle.turns.specs.Expo.{with_key, differences};
-ghost use Rattle.turns.specs.Turns.{width};
+ghost use Rattle.solvable_maps.specs.Expo.{with_key, differences};
+ghost use Rattle.solvable_maps.specs.Turns.{width};
 ghost use Rattle.monos.specs.Variables.{most_variables};
 ghost use Rattle.expo.specs.Bases.{IsCoprimeBase};
 ghost use Rattle.expo.specs.Powers.{key_of_power, side_of};

@@ -1,10 +1,10 @@
 //! Products of rows and matrices of fractions.
 ghost use Rattle.std.specs.Prelude.{◌≡◌, ◌<◌, All, length, IfOk, IsErr, IsErrOf};
-ghost use Rattle.numbers.specs.Fraction.{ℚ};
+ghost use Rattle.algebra.specs.Fraction.{ℚ};
 ghost use Rattle.polynomials.specs.Terms.{sum_of_products};
 ghost use Rattle.frac128.specs.FracMeaning.{fraction_of};
 ghost use Rattle.linear.specs.Rows.{fractions_of, rows_of};
-ghost use Rattle.turns.specs.Inverse.{numbers_at, IsProduct};
+ghost use Rattle.solvable_maps.specs.Inverse.{numbers_at, IsProduct};
 ghost use Rattle.closed_forms.specs.Products.{IsPastDot, IsPastRow};
 
 use frac128::Frac;

@@ -6,7 +6,7 @@ ghost use Rattle.linear.specs.Rows.{fractions_of};
 ghost use Rattle.poly.specs.Seen.{terms_in};
 ghost use Rattle.poly.specs.View.{term_of, terms_of};
 ghost use Rattle.coprime_base.specs.Sizes.{sizes};
-ghost use Rattle.turns.specs.Turns.{width, IsNormal};
+ghost use Rattle.solvable_maps.specs.Turns.{width, IsNormal};
 ghost use Rattle.monos.specs.Variables.{most_variables};
 ghost use Rattle.expo.specs.Bases.{IsCoprimeBase};
 ghost use Rattle.expo.specs.Powers.{key_of_power, number_of};
@@ -73,16 +73,14 @@ fn push_growing(
         OnOk result (terms_of fraction_of out.new.items
         ≡ terms_of fraction_of out.old.items ++ homogeneous_part vars x w group.now) }
 {
-    let (Some((number, form)), Some((variable, group))) = (form.split_first(), group.split_first())
-    else {
-        return Ok(());
-    };
-    let mono = growing_monomial(alloc, vars, *variable, own)?;
-    out.push(Term {
-        mono,
-        coef: *number,
-    })?;
-    push_growing(alloc, out, vars, form, group, own)
+    for (number, variable) in form.iter().zip(group) {
+        let mono = growing_monomial(alloc, vars, *variable, own)?;
+        out.push(Term {
+            mono,
+            coef: *number,
+        })?;
+    }
+    Ok(())
 }
 
 /// What solves the recurrences of the terms goes behind the others.
@@ -107,12 +105,11 @@ pub(crate) fn push_solved(
         IsErrOf result ArithmeticError.Wide
         → IsPastAmong b vars l (terms_of fraction_of terms.now) }
 {
-    let Some((term, terms)) = terms.split_first() else {
-        return Ok(());
-    };
-    let solution = term_solved(alloc, base, vars, term, own)?;
-    push_copies(alloc, out, solution.terms())?;
-    push_solved(alloc, out, base, vars, terms, own)
+    for term in terms {
+        let solution = term_solved(alloc, base, vars, term, own)?;
+        push_copies(alloc, out, solution.terms())?;
+    }
+    Ok(())
 }
 
 /// What solves the recurrence of one term of the source.

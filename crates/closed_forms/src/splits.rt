@@ -1,12 +1,12 @@
 //! The splittings of all classes.
 ghost use Rattle.std.specs.Prelude.{◌≡◌, ◌≤◌, List, All, length, IfOk, OnOk, IfErr};
-ghost use Rattle.numbers.specs.Fraction.{Fraction};
+ghost use Rattle.algebra.specs.Fraction.{Fraction};
 ghost use Rattle.polynomials.specs.Terms.{Terms};
-ghost use Rattle.rings.specs.Each.{Each};
-ghost use Rattle.rings.specs.In.{In};
+ghost use Rattle.algebra.specs.Each.{Each};
+ghost use Rattle.algebra.specs.In.{In};
 ghost use Rattle.poly.specs.Seen.{terms_each};
 ghost use Rattle.solvable.specs.Refusal.{AreClassesOf, IsSolvable};
-ghost use Rattle.turns.specs.Classes.{IsClass, IsReachedClass, first_of};
+ghost use Rattle.solvable_maps.specs.Classes.{IsClass, IsReachedClass, first_of};
 ghost use Rattle.closed_forms.specs.Limits.{most_images};
 ghost use Rattle.closed_forms.specs.Splits.{groups_in, AreSplits, AreSplitsTo, IsSplitAmong, IsSplitOf, IfRefusedAt, IfRefusedMatrix};
 

@@ -1,6 +1,6 @@
 //! The branch after a number of turns, as polynomials of the variables before.
 ghost use Rattle.std.specs.Prelude.{◌≡◌, ◌≤◌, ◌<◌, All, length, map, IfOk, IsErrOf};
-ghost use Rattle.numbers.specs.Fraction.{ℚ};
+ghost use Rattle.algebra.specs.Fraction.{ℚ};
 ghost use Rattle.polynomials.specs.Terms.{variables as variables_of};
 ghost use Rattle.poly.specs.Seen.{terms_each};
 ghost use Rattle.linear.specs.Rows.{fractions_of};

@@ -1,12 +1,12 @@
 //! Sums of polynomials, each times a number.
 ghost use Rattle.std.specs.Prelude.{◌≡◌, ◌≤◌, ◌<◌, ◌++◌, All, length, IfOk, OnOk, IsErrOf};
-ghost use Rattle.numbers.specs.Fraction.{rationals};
+ghost use Rattle.algebra.specs.Fraction.{rationals};
 ghost use Rattle.frac128.specs.FracMeaning.{fraction_of};
 ghost use Rattle.linear.specs.Rows.{fractions_of};
 ghost use Rattle.machines.specs.Collect.{scale_terms};
 ghost use Rattle.poly.specs.Seen.{terms_in, terms_each};
 ghost use Rattle.poly.specs.View.{terms_of};
-ghost use Rattle.turns.specs.AfterTurns.{mine, rest_of as without};
+ghost use Rattle.solvable_maps.specs.AfterTurns.{mine, rest_of as without};
 ghost use Rattle.monos.specs.Variables.{most_variables};
 ghost use Rattle.closed_forms.specs.Sources.{part};
 ghost use Rattle.closed_forms.specs.Sums.{mix, IsPastScaled, IsPastProducts, IsPastMix};
@@ -74,13 +74,12 @@ fn push_scaled(
     ensures wide { IsErrOf result ArithmeticError.Wide
         → IsPastScaled (fraction_of number.now) (terms_of fraction_of terms.now) }
 {
-    let Some((term, terms)) = terms.split_first() else {
-        return Ok(());
-    };
-    let mono = term.mono.copy(alloc)?;
-    let coef = number.mul(&term.coef)?;
-    out.push(Term { mono, coef })?;
-    push_scaled(alloc, out, number, terms)
+    for term in terms {
+        let mono = term.mono.copy(alloc)?;
+        let coef = number.mul(&term.coef)?;
+        out.push(Term { mono, coef })?;
+    }
+    Ok(())
 }
 
 /// Puts copies of the terms behind the others.
@@ -92,15 +91,14 @@ pub(crate) fn push_copies(
     ensures terms { OnOk result (terms_of fraction_of out.new.items
         ≡ terms_of fraction_of out.old.items ++ terms_of fraction_of terms.now) }
 {
-    let Some((term, terms)) = terms.split_first() else {
-        return Ok(());
-    };
-    let mono = term.mono.copy(alloc)?;
-    out.push(Term {
-        mono,
-        coef: term.coef,
-    })?;
-    push_copies(alloc, out, terms)
+    for term in terms {
+        let mono = term.mono.copy(alloc)?;
+        out.push(Term {
+            mono,
+            coef: term.coef,
+        })?;
+    }
+    Ok(())
 }
 
 /// The terms of a polynomial that have no variable of a class.
@@ -130,18 +128,17 @@ fn push_rest(
         ≡ terms_of fraction_of out.old.items
         ++ without group.now (terms_of fraction_of terms.now)) }
 {
-    let Some((term, terms)) = terms.split_first() else {
-        return Ok(());
-    };
-    if has_any(term, group) {
-        return push_rest(alloc, out, terms, group);
+    for term in terms {
+        if has_any(term, group) {
+            continue;
+        }
+        let mono = term.mono.copy(alloc)?;
+        out.push(Term {
+            mono,
+            coef: term.coef,
+        })?;
     }
-    let mono = term.mono.copy(alloc)?;
-    out.push(Term {
-        mono,
-        coef: term.coef,
-    })?;
-    push_rest(alloc, out, terms, group)
+    Ok(())
 }
 
 /// Whether a term has some variable of a class.

@@ -2,7 +2,7 @@
 --   leads_more, element_is     its leads and its state after it
 use Rattle.std.proofs.Common.{◌≡◌, ℕ, List, [], ◌∷◌, ◌++◌, map, length, Option, None, refl, sym, ap, ap₂, ◌∙◌}
 use Rattle.std.proofs.lemmas.List.{length-map, map-append}
-use Rattle.rings.specs.FieldArithmetic.{FieldArithmetic}
+use Rattle.algebra.specs.FieldArithmetic.{FieldArithmetic}
 use Rattle.polynomials.specs.Order.{Rank}
 use Rattle.polynomials.specs.Terms.{Terms}
 use Rattle.machines.specs.Completion.{State, with_element}

@@ -19,8 +19,8 @@ use Rattle.polynomials.specs.Degree.{IsDegree}
 use Rattle.std.specs.Prelude.{option_map}
 use Rattle.std.proofs.lemmas.List.{length_push}
 use Rattle.std.proofs.lemmas.Option.{slice_get-map, slice_get_read}
-use Rattle.rings.specs.FieldArithmetic.{FieldArithmetic}
-use Rattle.numbers.specs.Scalars.{Scalars, field}
+use Rattle.algebra.specs.FieldArithmetic.{FieldArithmetic}
+use Rattle.algebra.specs.Scalars.{Scalars, field}
 use Rattle.polynomials.specs.Exponent.{plus, over}
 use Rattle.polynomials.specs.Order.{Rank}
 use Rattle.polynomials.specs.Terms.{Terms, shift, negate}

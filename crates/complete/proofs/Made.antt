@@ -7,14 +7,14 @@
 --   pair_made                 the difference is the S-polynomial
 use Rattle.std.proofs.Common.{◌≡◌, ◌≢◌, ◌↔◌, ◌⊎◌, inl, inr, ℕ, true, List, [], ◌∷◌, ◌++◌, replicate, Result, Ok, Err, IfOk, refl, sym, ap, ap₂, subst, ◌∙◌}
 use Rattle.std.proofs.lemmas.List.{append-nil}
-use Rattle.rings.specs.Each.{Each}
-use Rattle.rings.specs.FieldArithmetic.{field_of}
-use Rattle.rings.specs.Ring.{CommRing, Field, IsRing, IsFieldOf, ring as ring_of}
-use Rattle.numbers.specs.Scalars.{Scalars, IsBounded, field}
-use Rattle.numbers.specs.Size.{Size, IsUnder, sum_size}
-use Rattle.numbers.proofs.LcmLaws.{lcm-pos}
-use Rattle.numbers.proofs.ScalarFields.{is_field}
-use Rattle.numbers.proofs.SizeLaws.{under_refl, under_trans, under-sum, past_under}
+use Rattle.algebra.specs.Each.{Each}
+use Rattle.algebra.specs.FieldArithmetic.{field_of}
+use Rattle.algebra.specs.Ring.{CommRing, Field, IsRing, IsFieldOf, ring as ring_of}
+use Rattle.algebra.specs.Scalars.{Scalars, IsBounded, field}
+use Rattle.algebra.specs.Size.{Size, IsUnder, sum_size}
+use Rattle.algebra.proofs.LcmLaws.{lcm-pos}
+use Rattle.algebra.proofs.ScalarFields.{is_field}
+use Rattle.algebra.proofs.SizeLaws.{under_refl, under_trans, under-sum, past_under}
 use Rattle.polynomials.specs.Algebra as Algebra
 use Rattle.polynomials.specs.Exponent.{plus}
 use Rattle.polynomials.specs.Order.{Rank, IsMonomialOrder}

@@ -17,7 +17,7 @@
 use Rattle.std.specs.Prelude.{◌≡◌, ◌<◌, ◌≤◌, ◌+◌, ◌*◌, ◌^◌, ℕ, Bool, List, [], ◌∷◌, length, map, All, Option, Some, None, IfSome}
 use Rattle.std.specs.Global.{Vec}
 use Rattle.std.specs.declared.cmp.PartialEq as PartialEq
-use Rattle.numbers.specs.Scalars.{field}
+use Rattle.algebra.specs.Scalars.{field}
 use Rattle.polynomials.specs.Terms.{Terms}
 use Rattle.machines.specs.Basis.{IsBasisOf}
 use Rattle.machines.specs.Completion as completion

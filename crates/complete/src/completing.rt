@@ -1,6 +1,6 @@
 //! Completion of a list to a Gröbner basis.
 ghost use Rattle.std.specs.Prelude.{◌≡◌, ◌≤◌, length, None, true, IfOk, OnOk, OnErr, IsErrOf};
-ghost use Rattle.numbers.specs.Scalars.{field};
+ghost use Rattle.algebra.specs.Scalars.{field};
 ghost use Rattle.machines.specs.Completion as completion;
 ghost use Rattle.machines.specs.Machine.{Ran};
 ghost use Rattle.machines.specs.Past.{IsPastMonic, IsPastStart};

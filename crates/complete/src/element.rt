@@ -1,6 +1,6 @@
 //! A completion on its way, and what is put into it.
 ghost use Rattle.std.specs.Prelude.{◌≡◌, ◌≢◌, ◌≤◌, ◌+◌, [], ◌++◌, length, IfOk, OnOk, IsErrOf, ◌⊎◌};
-ghost use Rattle.numbers.specs.Scalars.{field};
+ghost use Rattle.algebra.specs.Scalars.{field};
 ghost use Rattle.polynomials.specs.Exponent.{lcm, over, Divides};
 ghost use Rattle.polynomials.specs.Terms.{negate};
 ghost use Rattle.polynomials.specs.Weight.{IsPastSum};

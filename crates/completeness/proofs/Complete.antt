@@ -2,10 +2,10 @@
 --   covers_level           the list before a round has the invariants of that level
 --   full_generates         its polynomials generate the invariants
 use Rattle.std.proofs.Common.{ℕ, zero, suc, pred, ◌<◌, ◌≤◌, ◌+◌, List, [], ◌∷◌, replicate, get_or, length, arith}
-use Rattle.rings.specs.Each.{Each}
-use Rattle.rings.proofs.Each.{each_weaker}
-use Rattle.numbers.specs.Fraction.{Fraction, ℚ}
-use Rattle.numbers.proofs.Fractions.{ℚ_ring, ℚ_field}
+use Rattle.algebra.specs.Each.{Each}
+use Rattle.algebra.proofs.Each.{each_weaker}
+use Rattle.algebra.specs.Fraction.{Fraction, ℚ}
+use Rattle.algebra.proofs.Fractions.{ℚ_ring, ℚ_field}
 use Rattle.polynomials.specs.Terms.{Terms, AllSame, combination, compose}
 use Rattle.polynomials.specs.Order.{grevlex}
 use Rattle.polynomials.specs.Polynomial.{Arity, AllArity, IsPolynomial}
@@ -13,7 +13,7 @@ use Rattle.polynomials.proofs.Arity.{arity-compose}
 use Rattle.polynomials.proofs.Orders.{grevlex_order, blocks_order}
 use Rattle.polynomials.proofs.Same.{Same-sym, Same-trans, AllSame-refl, same_combination}
 use Rattle.exponentials.specs.Base.{Coprime}
-use Rattle.turns.specs.Turns as turns
+use Rattle.solvable_maps.specs.Turns as turns
 use Rattle.ideals.specs.Members.{IsMember}
 use Rattle.ideals.proofs.FractionMembers.{member_same, member_members}
 use Rattle.machines.specs.Elimination.{in_front}

@@ -2,9 +2,9 @@
 --   is_valid                   the certificate in it is valid
 --   form_holds, start_holds, orbit_holds, meet_holds, end_holds     its forms, its start, its stages, its end
 use Rattle.std.proofs.Common.{ℕ, zero, suc, ◌<◌, List, [], ◌∷◌, ◌++◌, map, flat_map, length}
-use Rattle.rings.specs.Each.{Each}
-use Rattle.rings.proofs.Each.{each-left, each-right}
-use Rattle.numbers.specs.Fraction.{Fraction}
+use Rattle.algebra.specs.Each.{Each}
+use Rattle.algebra.proofs.Each.{each-left, each-right}
+use Rattle.algebra.specs.Fraction.{Fraction}
 use Rattle.polynomials.specs.Terms.{Terms}
 use Rattle.machines.specs.Elimination.{free_part}
 use Rattle.loops.specs.Program.{Expr, Program}

@@ -2,15 +2,15 @@
 --   same_values            lists of the same polynomials have the same values
 --   passing_is_closed      its values at n are n turns of the map
 use Rattle.std.proofs.Common.{◌≡◌, ℕ, zero, suc, List, [], ◌∷◌, map, length, refl, sym, ap, ap₂, subst, ◌∙◌}
-use Rattle.numbers.specs.Fraction.{Fraction, ℚ}
-use Rattle.numbers.proofs.Fractions.{ℚ_ring}
+use Rattle.algebra.specs.Fraction.{Fraction, ℚ}
+use Rattle.algebra.proofs.Fractions.{ℚ_ring}
 use Rattle.polynomials.specs.Terms.{Terms, AllSame, compose}
 use Rattle.polynomials.specs.Polynomial.{AllArity}
 use Rattle.polynomials.proofs.Arity.{arity-compose}
 use Rattle.polynomials.proofs.ValueAt.{value_at_same, value_at-compose, value_at-variables}
-use Rattle.turns.specs.Turns.{point, width, values_at, turns, IsClosedForm}
-use Rattle.turns.specs.Expo.{with_normal_keys, next_images, zero_images}
-use Rattle.turns.proofs.Operations.{zero-value, next-value, normal-value}
+use Rattle.solvable_maps.specs.Turns.{point, width, values_at, turns, IsClosedForm}
+use Rattle.solvable_maps.specs.Expo.{with_normal_keys, next_images, zero_images}
+use Rattle.solvable_maps.proofs.Operations.{zero-value, next-value, normal-value}
 use Rattle.rounds.specs.Form.{Form}
 use Rattle.completeness.specs.FormIdentities.{IsRightForm}
 

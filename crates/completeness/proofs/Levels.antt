@@ -2,7 +2,7 @@
 --   covers_starts, covers_orbit, covers_meet, covers_level      from one list to the next
 use Rattle.std.proofs.Common.{◌≤◌, ℕ, suc, List, [], replicate, length, arith, refl}
 use Rattle.std.proofs.lemmas.List.Elements.{All-nil}
-use Rattle.numbers.specs.Fraction.{Fraction, ℚ}
+use Rattle.algebra.specs.Fraction.{Fraction, ℚ}
 use Rattle.polynomials.specs.Terms.{Terms}
 use Rattle.polynomials.specs.Polynomial.{Arity, AllArity}
 use Rattle.ideals.specs.Members.{IsMember}

@@ -5,10 +5,10 @@
 --   each_place                 what stands at a place, or in its stead
 --   in_pairs_of                each pair of places below n, the lower one first, is among the pairs
 use Rattle.std.proofs.Common.{◌≡◌, ◌⊎◌, inl, inr, ℕ, zero, suc, ◌<◌, ◌≤◌, ◌+◌, ◌-◌, List, [], ◌∷◌, map, flat_map, get_or, arith, sym, subst}
-use Rattle.rings.specs.Each.{Each}
-use Rattle.rings.specs.In.{In}
-use Rattle.rings.proofs.Each.{each-left, each-right}
-use Rattle.rings.proofs.In.{each_in, in_left, in_right, map-in}
+use Rattle.algebra.specs.Each.{Each}
+use Rattle.algebra.specs.In.{In}
+use Rattle.algebra.proofs.Each.{each-left, each-right}
+use Rattle.algebra.proofs.In.{each_in, in_left, in_right, map-in}
 use Rattle.exponentials.specs.Table.{numbers}
 use Rattle.completeness.specs.Representation.{pairs_of}
 

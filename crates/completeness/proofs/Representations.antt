@@ -6,11 +6,11 @@
 --   but_coprime_represented     a monic list of whose pairs all have such sums, but those with coprime leads, is a Gröbner basis of its own ideal
 --   all_represented             so is one of whose pairs all have
 use Rattle.std.proofs.Common.{◌≡◌, ◌≢◌, ◌⊎◌, inl, inr, ℕ, zero, suc, ◌<◌, Bool, true, false, List, [], ◌∷◌, length, slice_get, get_or, Some, refl, sym, ap, ap₂, subst, ◌∙◌, arith, Less}
-use Rattle.rings.specs.Arithmetic.{Arithmetic}
-use Rattle.rings.specs.Each.{Each}
-use Rattle.rings.specs.FieldArithmetic.{FieldArithmetic, calculus}
-use Rattle.rings.proofs.FieldLaws.{product-ne-zero}
-use Rattle.rings.specs.Ring.{CommRing, Field, HasNoZeroDivisors, operations}
+use Rattle.algebra.specs.Arithmetic.{Arithmetic}
+use Rattle.algebra.specs.Each.{Each}
+use Rattle.algebra.specs.FieldArithmetic.{FieldArithmetic, calculus}
+use Rattle.algebra.proofs.FieldLaws.{product-ne-zero}
+use Rattle.algebra.specs.Ring.{CommRing, Field, HasNoZeroDivisors, operations}
 use Rattle.polynomials.specs.Algebra as Algebra
 use Rattle.polynomials.specs.Algebra.{IsMonoid, Ordered, Lcm}
 use Rattle.polynomials.specs.Exponent.{plus}

@@ -2,12 +2,12 @@
 --   stage_eliminates
 use Rattle.std.proofs.Common.{◌≡◌, ℕ, ◌+◌, ◌<◌, List, [], length, get_or, sym, subst, ◌∙◌}
 use Rattle.std.proofs.lemmas.Option.{get_or_from_slice_get}
-use Rattle.rings.specs.Each.{Each}
-use Rattle.rings.proofs.Each.{each_weaker}
-use Rattle.rings.proofs.In.{in_place}
-use Rattle.numbers.specs.Fraction.{Fraction, ℚ, rationals}
-use Rattle.numbers.proofs.Fractions.{ℚ_field}
-use Rattle.numbers.proofs.Fractions.{ℚ_ring}
+use Rattle.algebra.specs.Each.{Each}
+use Rattle.algebra.proofs.Each.{each_weaker}
+use Rattle.algebra.proofs.In.{in_place}
+use Rattle.algebra.specs.Fraction.{Fraction, ℚ, rationals}
+use Rattle.algebra.proofs.Fractions.{ℚ_field}
+use Rattle.algebra.proofs.Fractions.{ℚ_ring}
 use Rattle.polynomials.specs.Terms.{Terms, Same}
 use Rattle.polynomials.specs.Order.{IsMonomialOrder, grevlex}
 use Rattle.polynomials.specs.Polynomial.{Arity, AllArity, IsPolynomial}

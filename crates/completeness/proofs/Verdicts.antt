@@ -1,13 +1,13 @@
 -- Each part of a full certificate holds or doesn't (specs/Parts), so there is exactly one verdict.
 --   verdict_exists, verdict_unique
 use Rattle.std.proofs.Common.{◌≡◌, ◌⊎◌, inl, inr, ℕ, zero, suc, ◌+◌, ◌<◌, ◌≤◌, Bool, true, false, List, [], ◌∷◌, ◌++◌, get_or, length, refl, sym, ap, subst, ◌∙◌, arith, Ordering, Less, Equal, Greater}
-use Rattle.rings.specs.Each.{Each}
-use Rattle.rings.proofs.Basics.{equal_or_not, same_head, same_tail}
-use Rattle.rings.proofs.Each.{each-right}
-use Rattle.numbers.specs.Fraction.{Fraction, ℚ, rationals}
-use Rattle.numbers.specs.Gcd.{gcd}
-use Rattle.numbers.proofs.Fractions.{ℚ_ring, ℚ_field, fraction_eq, fraction_eq_refl, fraction_eq_true}
-use Rattle.rings.specs.Sum.{sum_over}
+use Rattle.algebra.specs.Each.{Each}
+use Rattle.algebra.proofs.Basics.{equal_or_not, same_head, same_tail}
+use Rattle.algebra.proofs.Each.{each-right}
+use Rattle.algebra.specs.Fraction.{Fraction, ℚ, rationals}
+use Rattle.algebra.specs.Gcd.{gcd}
+use Rattle.algebra.proofs.Fractions.{ℚ_ring, ℚ_field, fraction_eq, fraction_eq_refl, fraction_eq_true}
+use Rattle.algebra.specs.Sum.{sum_over}
 use Rattle.polynomials.specs.Algebra as Algebra
 use Rattle.polynomials.specs.Terms.{Terms, Same, AllSame, coefficient, times}
 use Rattle.polynomials.specs.Order.{Rank, IsMonomialOrder, compare, grevlex}
@@ -20,7 +20,7 @@ use Rattle.polynomials.proofs.Same.{Same-sym}
 use Rattle.polynomials.proofs.SameDecided.{decide_same}
 use Rattle.exponentials.specs.Base.{Coprime, Ascending, Disjoint, SameLength}
 use Rattle.exponentials.specs.Keys.{Key, IsNormalKey, key_of}
-use Rattle.turns.specs.Turns.{IsNormal}
+use Rattle.solvable_maps.specs.Turns.{IsNormal}
 use Rattle.machines.specs.Collect.{collect}
 use Rattle.machines.specs.Completion.{leads}
 use Rattle.machines.specs.Pairs.{multiple}

@@ -5,7 +5,7 @@
 --   IsCounted program c      the full certificate c has as many of all as it must for the program: in each round an entry for each branch, with an
 --                            intersection for each but the first
 use Rattle.std.specs.Prelude.{◌≡◌, ℕ, ◌<◌, List, [], All, get_or, length, None, is_some, true}
-use Rattle.numbers.specs.Fraction.{Fraction}
+use Rattle.algebra.specs.Fraction.{Fraction}
 use Rattle.polynomials.specs.Terms.{Terms}
 use Rattle.machines.specs.Elimination.{free_part}
 use Rattle.loops.specs.Program.{Expr, Program}

@@ -3,12 +3,12 @@
 --   GoesOn images m f          the map with the form for its variables, made normal, is the form at n + 1
 --   IsRightForm images m f      both, and the base ascends, is above 1 and pairwise coprime, and no monomial has s s or both u and v of one b
 use Rattle.std.specs.Prelude.{ℕ, List, map, length}
-use Rattle.rings.specs.Each.{Each}
-use Rattle.numbers.specs.Fraction.{Fraction, ℚ}
+use Rattle.algebra.specs.Each.{Each}
+use Rattle.algebra.specs.Fraction.{Fraction, ℚ}
 use Rattle.polynomials.specs.Terms.{Terms, AllSame, variables, compose}
 use Rattle.exponentials.specs.Base.{Coprime, Ascending}
-use Rattle.turns.specs.Turns.{width, IsNormal}
-use Rattle.turns.specs.Expo.{with_normal_keys, next_images, zero_images}
+use Rattle.solvable_maps.specs.Turns.{width, IsNormal}
+use Rattle.solvable_maps.specs.Expo.{with_normal_keys, next_images, zero_images}
 use Rattle.rounds.specs.Form.{Form}
 
 module _ (images : List (Terms Fraction)) (m : ℕ) (f : Form) where

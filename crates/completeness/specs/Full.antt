@@ -12,12 +12,12 @@
 --   starting program c r b kind   the list that the stage begins with
 --   IsFullOver program c   the polynomials of c have the variables that they should have
 use Rattle.std.specs.Prelude.{ℕ, zero, suc, pred, List, [], get_or, length, Option, Some, None}
-use Rattle.rings.specs.Each.{Each}
-use Rattle.numbers.specs.Fraction.{Fraction, ℚ, rationals}
+use Rattle.algebra.specs.Each.{Each}
+use Rattle.algebra.specs.Fraction.{Fraction, ℚ, rationals}
 use Rattle.polynomials.specs.Terms.{Terms}
 use Rattle.polynomials.specs.Order.{grevlex}
 use Rattle.polynomials.specs.Polynomial.{AllArity, IsPolynomial}
-use Rattle.turns.specs.Turns.{width}
+use Rattle.solvable_maps.specs.Turns.{width}
 use Rattle.machines.specs.Elimination.{blend}
 use Rattle.loops.specs.Program.{Expr, Program}
 use Rattle.loops.specs.Certificate.{Certificate, AreOver}

@@ -5,3 +5,11 @@ pub mod FormIdentities
 pub mod Full
 pub mod Parts
 pub mod Counts
+pub mod Traced
+pub mod Trace
+pub mod Followed
+pub mod Coming
+pub mod Rows
+pub mod Certified
+pub mod Making
+pub mod Rounds

@@ -6,8 +6,8 @@
 --   IsFirst program c part   it doesn't hold, and those before it do
 --   Verdict; IsVerdict program c v     complete, or the first part that doesn't hold
 use Rattle.std.specs.Prelude.{◌≡◌, ℕ, zero, suc, List, [], ◌∷◌, ◌++◌, map, flat_map, get_or, length}
-use Rattle.rings.specs.Each.{Each}
-use Rattle.numbers.specs.Fraction.{ℚ}
+use Rattle.algebra.specs.Each.{Each}
+use Rattle.algebra.specs.Fraction.{ℚ}
 use Rattle.polynomials.specs.Terms.{Same, AllSame, combination}
 use Rattle.loops.specs.Program.{Expr, Program}
 use Rattle.loops.specs.Map.{branch_map}

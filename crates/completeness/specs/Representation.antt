@@ -7,7 +7,7 @@
 --                          below the least common multiple of the pair's leads
 use Rattle.std.specs.Prelude.{◌≡◌, ℕ, suc, ◌-◌, List, [], ◌∷◌, map, flat_map}
 use Rattle.std.specs.declared.cmp.Ordering.TheVariants.{Less}
-use Rattle.rings.specs.FieldArithmetic.{FieldArithmetic}
+use Rattle.algebra.specs.FieldArithmetic.{FieldArithmetic}
 use Rattle.polynomials.specs.Terms.{Terms, Same, times, combination}
 use Rattle.polynomials.specs.Order.{Rank, compare}
 use Rattle.polynomials.specs.Degree.{IsLead}

@@ -1,9 +1,9 @@
 //! The laws of full certificates, each as the contract of a function that does nothing.
 
 ghost use Rattle.std.specs.Prelude.{◌≡◌, ℕ, ◌+◌, ◌<◌, ◌≤◌, false, List, [], get_or, length};
-ghost use Rattle.rings.specs.Each.{Each};
-ghost use Rattle.rings.specs.FieldArithmetic.{FieldArithmetic, IsField};
-ghost use Rattle.numbers.specs.Fraction.{Fraction, ℚ};
+ghost use Rattle.algebra.specs.Each.{Each};
+ghost use Rattle.algebra.specs.FieldArithmetic.{FieldArithmetic, IsField};
+ghost use Rattle.algebra.specs.Fraction.{Fraction, ℚ};
 ghost use Rattle.polynomials.specs.Terms.{Terms};
 ghost use Rattle.polynomials.specs.Order.{Rank, IsMonomialOrder};
 ghost use Rattle.polynomials.specs.Polynomial.{Arity, AllArity, IsPolynomial};
@@ -15,7 +15,7 @@ ghost use Rattle.machines.specs.Pairs.{coprime};
 ghost use Rattle.loops.specs.Program.{Expr, Program};
 ghost use Rattle.loops.specs.Inv.{Inv};
 ghost use Rattle.loops.specs.WellFormed.{IsWellFormed};
-ghost use Rattle.turns.specs.Turns.{width, IsClosedForm};
+ghost use Rattle.solvable_maps.specs.Turns.{width, IsClosedForm};
 ghost use Rattle.rounds.specs.Form.{Form};
 ghost use Rattle.rounds.specs.Generate.{Generates};
 ghost use Rattle.rounds.specs.Word.{AtMost, Stays, IsZeroAtStarts};

@@ -8,7 +8,7 @@
 use Rattle.std.proofs.Common.{◌≡◌, ◌≤◌, ℕ, List, [], ◌∷◌, ◌++◌, sym, ap, ◌∙◌, arith}
 use Rattle.std.proofs.lemmas.List.Elements.{All-nil, All-head, All-append}
 use Rattle.std.specs.declared.cmp.PartialEq as PartialEq
-use Rattle.numbers.specs.Scalars.{field}
+use Rattle.algebra.specs.Scalars.{field}
 use Rattle.polynomials.specs.Terms.{Terms}
 use Rattle.machines.specs.Basis.{IsBasisOf}
 use Rattle.ring_laws.specs.declared.Ring as Ring

@@ -7,8 +7,8 @@ ghost use Rattle.computation_rows.specs.RowLimits.{most_polynomials};
 
 use crate::number::Number;
 use crate::row_error::RowError;
-use expressions::Names;
 use frac128::Frac;
+use loop_model::Names;
 use monos::{Grevlex, Mono, Order};
 use poly::{Poly, Term};
 use poly_text::{print_poly, read_flat};

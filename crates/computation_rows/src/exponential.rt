@@ -1,7 +1,7 @@
 // Exponential polynomials as texts: the names of n, s, the u and the v, and those of the variables; numbers whose coarsest base is taken; and polynomials in these names.
 ghost use Rattle.std.specs.Prelude.{◌≡◌, length, IfOk, IfSome};
 ghost use Rattle.coprime_base.specs.Sizes.{sizes};
-ghost use Rattle.turns.specs.Turns.{width};
+ghost use Rattle.solvable_maps.specs.Turns.{width};
 ghost use Rattle.expo.specs.Bases.{IsCoprimeBase};
 ghost use Rattle.expo.specs.Operations.{vars_of};
 ghost use Rattle.expo.specs.View.{base_of};
@@ -10,8 +10,8 @@ use crate::bases::coarsest_of;
 use crate::columns::{fractional_of, names_of, text_of_poly};
 use crate::row_error::RowError;
 use expo::{Expo, Power, solve_term};
-use expressions::Names;
 use frac128::Whole;
+use loop_model::Names;
 use std::alloc::Global;
 
 /// What a call on exponential polynomials answers: the text of its polynomial.

@@ -2,6 +2,8 @@
 //! completion, tidying, the operations on ideals and the meter do (`data/ideals.txt`). The wanted answers were computed by hand, by other
 //! systems, or by `bench/branch_rows.py` and `bench/ideal_rows.py`, which go other ways or follow the rules word by word.
 //!
+//! Proved: that it is safe and ends; the gate compares what it prints.
+//!
 //! Each line of these files, or of those that are named, has columns between tabs: what is called, what it is given, and the answer that is
 //! wanted; the heads of the files say what each call has. The program tells each row that has another answer, and behind each file how many
 //! rows agree. With the words `print FILE` it prints the answers to the rows of a file.
@@ -11,6 +13,7 @@ mod bases;
 mod calls;
 mod columns;
 mod combinations;
+mod dense;
 mod exponential;
 mod forms;
 mod maps;

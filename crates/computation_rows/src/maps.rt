@@ -3,8 +3,8 @@ ghost use Rattle.std.specs.Prelude.{◌≡◌, All, length, IfOk};
 
 use crate::columns::{fractional_of, names_of};
 use crate::row_error::RowError;
-use expressions::Names;
 use frac128::Frac;
+use loop_model::Names;
 use monos::Grevlex;
 use poly::Poly;
 use solvable::{Classes, SolvableError, classes};

@@ -3,18 +3,18 @@ use crate::bases::{base_answer, exponents_answer};
 use crate::calls::compute;
 use crate::columns::names_of;
 use crate::combinations::{compute_by_blocks, compute_by_degrees};
+use crate::dense::dense_answer;
 use crate::exponential::exponential_answer;
 use crate::forms::forms_answer;
 use crate::maps::classes_answer;
 use crate::matrices::{echelon_answer, split_answer};
 use crate::meters::answers;
-use crate::number::Number;
 use crate::row_error::RowError;
-use expressions::Names;
 use frac128::Frac;
 use gf65521::Gf;
 use journal::Meter;
-use monos::Lex;
+use loop_model::Names;
+use monos::{Grevlex, Lex};
 use std::alloc::{AllocError, Global};
 
 /// What a row's call answers to its values.
@@ -32,6 +32,7 @@ pub(crate) fn answer(alloc: Global, call: &str, values: &[&str]) -> Result<Strin
         | "at_zero"
         | "at_turn"
         | "solve_term" => { text_or_error(alloc, exponential_answer(alloc, call, values)) }
+        "dense" => text_or_error(alloc, dense_answer(alloc, values)),
         _ => metered_answer(alloc, call, values),
     }
 }
@@ -85,16 +86,16 @@ fn compute_row(
     match (call, values) {
         ("meter", _) => answers(alloc, values, meter),
         (_, ["frac", order, names, values @ ..]) => {
-            compute_over::<Frac>(alloc, order, &names_of(alloc, names)?, call, values, meter)
+            compute_over_fractions(alloc, order, &names_of(alloc, names)?, call, values, meter)
         }
         (_, ["gf", order, names, values @ ..]) => {
-            compute_over::<Gf>(alloc, order, &names_of(alloc, names)?, call, values, meter)
+            compute_over_remainders(alloc, order, &names_of(alloc, names)?, call, values, meter)
         }
         _ => Err(RowError::Unreadable),
     }
 }
 
-fn compute_over<K: Number>(
+fn compute_over_fractions(
     alloc: Global,
     order: &str,
     names: &Names,
@@ -103,14 +104,29 @@ fn compute_over<K: Number>(
     meter: &mut Meter,
 ) -> Result<String, RowError> {
     match order.split_once(' ') {
-        None if order == "lex" => compute::<K, Lex>(alloc, Lex, names, call, values, meter),
-        None if order == "grevlex" => { compute_by_degrees::<K>(alloc, names, call, values, meter) }
+        None if order == "lex" => compute::<Frac, Lex>(alloc, Lex, names, call, values, meter),
+        None if order == "grevlex" => compute_by_degrees(alloc, names, call, values, meter),
         Some(("blocks", first)) => {
             let Ok(first) = first.parse() else {
                 return Err(RowError::Unreadable);
             };
-            compute_by_blocks::<K>(alloc, first, names, call, values, meter)
+            compute_by_blocks(alloc, first, names, call, values, meter)
         }
+        _ => Err(RowError::Unreadable),
+    }
+}
+
+fn compute_over_remainders(
+    alloc: Global,
+    order: &str,
+    names: &Names,
+    call: &str,
+    values: &[&str],
+    meter: &mut Meter,
+) -> Result<String, RowError> {
+    match order {
+        "lex" => compute::<Gf, Lex>(alloc, Lex, names, call, values, meter),
+        "grevlex" => compute::<Gf, Grevlex>(alloc, Grevlex, names, call, values, meter),
         _ => Err(RowError::Unreadable),
     }
 }

@@ -11,12 +11,12 @@ use Rattle.std.proofs.lemmas.Grind.{pow_more}
 use Rattle.std.proofs.lemmas.Nat.Gcd.{mod-eq-zero_of_dvd, dvd_of_mod-eq-zero}
 use Rattle.std.proofs.lemmas.Bool.{cases_lt}
 use Rattle.std.proofs.lemmas.List.{append-nil}
-use Rattle.rings.specs.Ring.{CommRing}
-use Rattle.rings.proofs.RingLaws as L
-use Rattle.numbers.specs.Gcd.{gcd}
-use Rattle.numbers.specs.Fraction.{Fraction, whole}
-use Rattle.numbers.proofs.Fractions.{ℚ_ring}
-use Rattle.numbers.proofs.Wholes.{whole_injective}
+use Rattle.algebra.specs.Ring.{CommRing}
+use Rattle.algebra.proofs.RingLaws as L
+use Rattle.algebra.specs.Gcd.{gcd}
+use Rattle.algebra.specs.Fraction.{Fraction, whole}
+use Rattle.algebra.proofs.Fractions.{ℚ_ring}
+use Rattle.algebra.proofs.Wholes.{whole_injective}
 use Rattle.exponentials.specs.Base.{Coprime, product}
 use Rattle.exponentials.specs.Powers.{integer_power, number}
 use Rattle.exponentials.proofs.Coprimes as C

@@ -1,8 +1,8 @@
 -- What the division by the numbers of a base does, over what its calls return.
 use Rattle.std.proofs.Common.{◌≡◌, ◌≢◌, ℕ, suc, ◌+◌, ◌*◌, ◌^◌, ◌%◌, ◌<◌, ℤ, pos, ◌-ℤ◌, ◌<ℤ◌, List, [], ◌∷◌, ◌++◌, length, get_or, drop, unsigned_abs, sym, ap, subst, ◌∙◌, arith, drop-cons, add-one, length-append}
 use borrow.Author.Differences.{ints}
-use Rattle.numbers.specs.Fraction.{Fraction, whole}
-use Rattle.numbers.proofs.Fractions.{ℚ_ring, facts}
+use Rattle.algebra.specs.Fraction.{Fraction, whole}
+use Rattle.algebra.proofs.Fractions.{ℚ_ring, facts}
 use Rattle.vectors.proofs.FractionEigen.{times_bottom}
 use Rattle.exponentials.specs.Base.{Coprime}
 use Rattle.exponentials.specs.Powers.{number}

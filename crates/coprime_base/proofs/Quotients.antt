@@ -6,15 +6,15 @@
 --   quotient_parts          where that product is n over d in lowest terms, n and d are those two products
 use Rattle.std.proofs.Common.{◌≡◌, ◌≢◌, inl, inr, ℕ, zero, suc, ◌*◌, ◌^◌, ◌<◌, ℤ, pos, negsuc, List, [], ◌∷◌, map, refl, sym, ap, ap₂, ◌∙◌, arith}
 use native.Mathlib.Nat as N
-use Rattle.rings.specs.Arithmetic.{power}
-use Rattle.rings.specs.Ring.{CommRing}
-use Rattle.rings.proofs.RingLaws as L
-use Rattle.rings.proofs.FieldLaws as FL
-use Rattle.numbers.specs.Gcd.{gcd}
-use Rattle.numbers.specs.Fraction.{Fraction, ℚ, whole, inverse}
-use Rattle.numbers.proofs.Fractions.{ℚ_ring, ℚ_field}
-use Rattle.numbers.proofs.Wholes.{whole_injective, product-whole}
-use Rattle.rings.proofs.RingSolver.{ring_rules, ring}
+use Rattle.algebra.specs.Arithmetic.{power}
+use Rattle.algebra.specs.Ring.{CommRing}
+use Rattle.algebra.proofs.RingLaws as L
+use Rattle.algebra.proofs.FieldLaws as FL
+use Rattle.algebra.specs.Gcd.{gcd}
+use Rattle.algebra.specs.Fraction.{Fraction, ℚ, whole, inverse}
+use Rattle.algebra.proofs.Fractions.{ℚ_ring, ℚ_field}
+use Rattle.algebra.proofs.Wholes.{whole_injective, product-whole}
+use Rattle.algebra.proofs.RingSolver.{ring_rules, ring}
 use Rattle.exponentials.specs.Base.{Coprime, Disjoint, product}
 use Rattle.exponentials.specs.Powers.{integer_power, number}
 use Rattle.exponentials.proofs.Factoring.{fraction_made}

@@ -1,10 +1,10 @@
 -- The sizes of checked whole numbers, and of the numbers of their base.
 use Rattle.std.proofs.Common.{◌<◌, ◌≤◌, ◌^◌, ℕ, ℤ, pos, ◌<ℤ◌, List, [], ◌∷◌, unsigned_abs, All, arith}
-use Rattle.rings.specs.Each.{Each}
+use Rattle.algebra.specs.Each.{Each}
 use Rattle.exponentials.specs.Base.{Divides, IsTheBase}
 use borrow.Author.Differences.{ints}
 use native.Mathlib.Nat as N
-use Rattle.rings.proofs.In.{each_in}
+use Rattle.algebra.proofs.In.{each_in}
 use Rattle.exponentials.proofs.Lists.{each_map}
 use Rattle.exponentials.proofs.Orders.{all-each, each-all}
 use Rattle.frac128.specs.declared.Whole.{Whole}

@@ -1,14 +1,14 @@
 -- What the loop's edits of its two lists mean.
 use Rattle.std.proofs.Common.{◌≡◌, ◌≢◌, ◌⊎◌, inl, inr, ◌<◌, ◌≤◌, ◌/◌, ℕ, zero, suc, List, [], ◌∷◌, ◌++◌, All, length, get_or, refl, sym, ap, subst, ◌∙◌, arith}
-use Rattle.rings.specs.Each.{Each}
+use Rattle.algebra.specs.Each.{Each}
 use Rattle.exponentials.specs.Base.{Ascending, Coprime, Divides, IsTheBase}
 use Rattle.std.specs.Prelude.{remove}
 use Rattle.std.specs.List.Sorted.{IsPermutation, IsNonDecreasingBy, IsSorted}
 use Rattle.std.specs.Ordering.{nat_cmp}
 use Rattle.std.proofs.lemmas.List.Sorted.{IsNonDecreasingBy-from_sort}
 use native.Mathlib.Nat as N
-use Rattle.numbers.specs.Gcd.{gcd}
-use Rattle.numbers.proofs.GcdLaws as G
+use Rattle.algebra.specs.Gcd.{gcd}
+use Rattle.algebra.proofs.GcdLaws as G
 use Rattle.exponentials.proofs.Lists.{each_both}
 use Rattle.exponentials.proofs.Refine.{Picked, picked-each}
 use Rattle.exponentials.proofs.Orders.{picked-push, picked-remove, coarsest-permuted, each-permuted, all-each, not_self}

@@ -2,8 +2,8 @@
 --   IsQuotient x n d            x is n over d: x times d is n
 --   Begun base n d rest e m k   what a division by the numbers of a base has found on the way: the exponents e, with m over k and the numbers of rest left of n over d
 use Rattle.std.specs.Prelude.{◌≡◌, ℕ, ◌<◌, ℤ, pos, List, ◌++◌}
-use Rattle.numbers.specs.Gcd.{gcd}
-use Rattle.numbers.specs.Fraction.{Fraction, ℚ, whole}
+use Rattle.algebra.specs.Gcd.{gcd}
+use Rattle.algebra.specs.Fraction.{Fraction, ℚ, whole}
 use Rattle.exponentials.specs.Powers.{number}
 
 abbrev pub IsQuotient : Fraction → ℕ → ℕ → Type 0

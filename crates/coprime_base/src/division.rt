@@ -1,6 +1,6 @@
 //! The exponents of a fraction over a base, by division alone.
 ghost use Rattle.std.specs.Prelude.{◌≡◌, ◌≢◌, ◌<◌, ◌^◌, ◌*◌, ◌%◌, pos, ◌-ℤ◌};
-ghost use Rattle.numbers.specs.Limits.{word_bits};
+ghost use Rattle.algebra.specs.Limits.{word_bits};
 
 /// How often `by` goes into the number, and what is left.
 pub(crate) fn taken_out(number: u128, by: u128) -> (u8, u128)

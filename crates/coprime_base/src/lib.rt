@@ -1,8 +1,12 @@
-//! Bases of pairwise coprime numbers, by greatest common divisors alone: a layer above numbers.
+//! Finds the coarsest base of pairwise coprime numbers for a list of numbers, by greatest common divisors alone.
+//!
+//! Proved: `base` gives that base, and `exponents` the one list of exponents of a fraction over it.
+//!
+//! Notion: coprime bases: Bach, Driscoll and Shallit, *Factor refinement* (1993).
 #![tactic(auto)]
 
 ghost use Rattle.std.specs.Prelude.{◌≡◌, ◌<◌, ◌<ℤ◌, pos, ℤ, List, IfOk, IsErrOf, All, length, unsigned_abs};
-ghost use Rattle.numbers.specs.Limits.{number_limit};
+ghost use Rattle.algebra.specs.Limits.{number_limit};
 ghost use Rattle.exponentials.specs.Base.{Coprime, IsTheBase};
 ghost use Rattle.frac128.specs.FracMeaning.{fraction_of};
 ghost use Rattle.coprime_base.specs.Sizes.{sizes, ArePositive, Makes};

@@ -1,7 +1,7 @@
 //! The coarsest base: numbers with a common divisor are taken apart until none are left.
 ghost use Rattle.std.specs.Prelude.{◌≡◌, ◌≢◌, ◌<◌, IfSome, IfNone, IfOk, OnOk, All, length, get_or};
 ghost use Rattle.exponentials.specs.Base.{IsTheBase};
-ghost use Rattle.numbers.specs.Gcd.{gcd as gcd_of};
+ghost use Rattle.algebra.specs.Gcd.{gcd as gcd_of};
 ghost use Rattle.exponentials.proofs.Refining.{Settles};
 
 use ring_laws::gcd;

@@ -5,16 +5,16 @@
 --   known_at           the images in as many variables
 --   each_item          what holds of each holds of the item at a place
 use Rattle.std.proofs.Common.{◌≡◌, ◌≢◌, ℕ, zero, suc, ◌<◌, List, [], ◌∷◌, map, length, get_or, refl, sym, subst, arith, All, Any, IfOk, Result, Ok, Err}
-use Rattle.rings.specs.Each.{Each}
-use Rattle.numbers.specs.Fraction.{Fraction, ℚ}
+use Rattle.algebra.specs.Each.{Each}
+use Rattle.algebra.specs.Fraction.{Fraction, ℚ}
 use Rattle.polynomials.specs.Terms.{Terms, constant, times}
 use Rattle.poly.specs.Seen.{Is, terms_in, terms_each}
 use Rattle.poly.specs.Standing.{IsOver}
 use Rattle.poly.proofs.Standing.{arities_over}
-use Rattle.expressions.specs.FracPoly.{FracPoly}
-use Rattle.expressions.specs.Operations.{sum_at}
-use Rattle.expressions.specs.Stops.{Does}
-use Rattle.expressions.specs.declared.map_error.MapError.{MapError}
+use Rattle.loop_model.specs.FracPoly.{FracPoly}
+use Rattle.loop_model.specs.Operations.{sum_at}
+use Rattle.loop_model.specs.Stops.{Does}
+use Rattle.loop_model.specs.declared.map_error.MapError.{MapError}
 use Rattle.counter_run.specs.Composition.{factors}
 use Rattle.counter_run.specs.Combination.{IsPowerProduct, AreMonomialImages, AddsMultiple, Adds}
 use Rattle.counter_run.specs.declared.combination.MonomialImage.{MonomialImage}

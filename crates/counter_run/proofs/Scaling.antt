@@ -4,11 +4,11 @@
 use Rattle.std.proofs.Common.{◌≡◌, ◌≢◌, inl, inr, ℕ, ◌<◌, ◌≤◌, List, [], ◌∷◌, map, length, replicate, sum, refl, sym, ap, ap₂, subst, ◌∙◌, Ok}
 use Rattle.std.proofs.lemmas.List.{append-nil, length-map}
 use Rattle.std.proofs.lemmas.List.Elements.{All-nil, All-cons, All-head, All-tail, All-map}
-use Rattle.rings.specs.Each.{Each}
-use Rattle.rings.proofs.Growing.{any_mapped}
-use Rattle.rings.proofs.RingLaws.{mul-zero, one-mul}
-use Rattle.numbers.specs.Fraction.{Fraction, ℚ, rationals}
-use Rattle.numbers.proofs.Fractions.{ℚ_ring, ℚ_field}
+use Rattle.algebra.specs.Each.{Each}
+use Rattle.algebra.proofs.Growing.{any_mapped}
+use Rattle.algebra.proofs.RingLaws.{mul-zero, one-mul}
+use Rattle.algebra.specs.Fraction.{Fraction, ℚ, rationals}
+use Rattle.algebra.proofs.Fractions.{ℚ_ring, ℚ_field}
 use Rattle.polynomials.specs.Algebra as Algebra
 use Rattle.polynomials.specs.Degree.{IsDegree}
 use Rattle.polynomials.specs.Order.{grevlex}
@@ -23,9 +23,9 @@ use Rattle.machines.specs.Collect.{scale_terms}
 use Rattle.machines.proofs.Monic.{scaled_polynomial}
 use Rattle.poly.specs.Seen.{terms_in}
 use Rattle.poly.specs.Standing.{StandsFor}
-use Rattle.expressions.specs.FracPoly.{FracPoly}
-use Rattle.expressions.specs.Operations.{Operation, product_at, HoldsCollected, IsHigh, most_terms, PassesLimit, IsFree}
-use Rattle.expressions.specs.Stops.{Forms}
+use Rattle.loop_model.specs.FracPoly.{FracPoly}
+use Rattle.loop_model.specs.Operations.{Operation, product_at, HoldsCollected, IsHigh, most_terms, PassesLimit, IsFree}
+use Rattle.loop_model.specs.Stops.{Forms}
 use Rattle.counter_run.specs.Composition.{product_of, product_operations}
 use Rattle.counter_run.proofs.Composed.{value-product_of, all_of, arity-product_of}
 

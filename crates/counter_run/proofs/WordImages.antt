@@ -7,8 +7,8 @@
 --   image_zero, image_found, image_stop               its image
 use Rattle.std.proofs.Common.{◌≡◌, ℕ, List, [], ◌∷◌, ◌++◌, length, refl, sym, ap, subst, ◌∙◌, All, Bool, true, false, IsTrue, ◌↔◌, Result, Ok, Err}
 use Rattle.std.proofs.lemmas.List.Elements.{All-nil, All-cons, All-head, All-tail, All-append}
-use Rattle.numbers.specs.Fraction.{Fraction, ℚ, rationals}
-use Rattle.numbers.proofs.Fractions.{ℚ_ring, ℚ_field, fractions_ring}
+use Rattle.algebra.specs.Fraction.{Fraction, ℚ, rationals}
+use Rattle.algebra.proofs.Fractions.{ℚ_ring, ℚ_field, fractions_ring}
 use Rattle.polynomials.specs.Terms.{Terms, Same, AllSame, constant, times, compose}
 use Rattle.polynomials.specs.Polynomial.{Arity, AllArity}
 use Rattle.polynomials.specs.Order.{grevlex}
@@ -25,13 +25,13 @@ use Rattle.rounds.proofs.Word.{arity-after_word}
 use Rattle.poly.specs.Seen.{terms_in, terms_each}
 use Rattle.poly.specs.Standing.{IsOver, StandsFor, AllStandFor}
 use Rattle.poly.proofs.Standing.{polynomial_over, arity_over, zero_tells, stands_same, stands_over, arities_over}
-use Rattle.expressions.specs.FracPoly.{FracPoly}
-use Rattle.expressions.specs.Operations.{Operation, IsFree, PassesLimit, IsFirst}
-use Rattle.expressions.specs.Stops.{Stops, Forms}
-use Rattle.expressions.specs.declared.map_error.MapError.{MapError}
-use Rattle.expressions.specs.declared.map_error.MapError.TheVariants as map_error
-use Rattle.expressions.proofs.OperationLaws.{AllSameOperations, same_forms, stops_behind, stops_front}
-use Rattle.counters.specs.Image.{image}
+use Rattle.loop_model.specs.FracPoly.{FracPoly}
+use Rattle.loop_model.specs.Operations.{Operation, IsFree, PassesLimit, IsFirst}
+use Rattle.loop_model.specs.Stops.{Stops, Forms}
+use Rattle.loop_model.specs.declared.map_error.MapError.{MapError}
+use Rattle.loop_model.specs.declared.map_error.MapError.TheVariants as map_error
+use Rattle.loop_model.proofs.OperationLaws.{AllSameOperations, same_forms, stops_behind, stops_front}
+use Rattle.corollaries.specs.Image.{image}
 use Rattle.counter_run.specs.Composition.{factors, product_operations, term_product, composition_onto, composition_operations}
 use Rattle.counter_run.specs.Causes.{IsLimitWord, IsWideWord}
 use Rattle.counter_run.specs.Search.{IsComposedWord, HasZeroImage, HasNonzeroImage}

@@ -4,9 +4,9 @@
 --   zero_none                  no word counters it
 use Rattle.std.proofs.Common.{◌≡◌, ℕ, List, [], ◌∷◌, ◌++◌, length, refl, sym, ap, ap₂, subst, ◌∙◌, inl, inr}
 use Rattle.std.proofs.lemmas.List.Elements.{All-nil}
-use Rattle.numbers.specs.Fraction.{rationals}
-use Rattle.numbers.proofs.Fractions.{ℚ_ring}
-use Rattle.rings.specs.Sum.{sum_over}
+use Rattle.algebra.specs.Fraction.{rationals}
+use Rattle.algebra.proofs.Fractions.{ℚ_ring}
+use Rattle.algebra.specs.Sum.{sum_over}
 use Rattle.polynomials.specs.Terms.{evaluate}
 use Rattle.polynomials.specs.Order.{grevlex}
 use Rattle.polynomials.proofs.ValueAt.{value_at-nil}
@@ -14,8 +14,8 @@ use Rattle.machines.specs.Collect.{collect}
 use Rattle.loops.specs.Program.{Expr, Program}
 use Rattle.loops.specs.Map.{start_map, branch_map, composition}
 use Rattle.rounds.specs.Word.{branch_of, after_word}
-use Rattle.expressions.specs.Operations.{Operation, IsFirst, IsFree, PassesLimit}
-use Rattle.counters.specs.Counter.{Counters}
+use Rattle.loop_model.specs.Operations.{Operation, IsFirst, IsFree, PassesLimit}
+use Rattle.corollaries.specs.Counter.{Counters}
 use Rattle.counter_run.specs.Composition.{composition_operations}
 use Rattle.counter_run.specs.Images.{word_operations, image_operations}
 use Rattle.counter_run.specs.Causes.{IsLimitWord}

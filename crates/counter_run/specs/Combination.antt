@@ -6,13 +6,13 @@
 --   Adds m images t s r              r is s and the term t composed with the images, within the limits
 use Rattle.std.specs.Prelude.{ℕ, List, [], Ok}
 use Rattle.std.specs.List.{All}
-use Rattle.numbers.specs.Fraction.{Fraction, ℚ}
+use Rattle.algebra.specs.Fraction.{Fraction, ℚ}
 use Rattle.polynomials.specs.Terms.{Terms, constant, times}
 use Rattle.poly.specs.Seen.{terms_in}
 use Rattle.poly.specs.Standing.{StandsFor}
-use Rattle.expressions.specs.FracPoly.{FracPoly}
-use Rattle.expressions.specs.Operations.{sum_at}
-use Rattle.expressions.specs.Stops.{Forms, Does}
+use Rattle.loop_model.specs.FracPoly.{FracPoly}
+use Rattle.loop_model.specs.Operations.{sum_at}
+use Rattle.loop_model.specs.Stops.{Forms, Does}
 use Rattle.counter_run.specs.Composition.{factors, product_of, product_operations, term_product, composition_onto, composition_operations}
 use Rattle.counter_run.specs.declared.combination.MonomialImage.{MonomialImage}
 

@@ -1,18 +1,18 @@
 //! Compositions of many polynomials with the same images: the image of a monomial is formed once.
 ghost use Rattle.std.specs.Prelude.{◌≡◌, ◌≢◌, ◌≤◌, [], All, Any, IfOk, IfSome};
-ghost use Rattle.numbers.specs.Fraction.{ℚ};
+ghost use Rattle.algebra.specs.Fraction.{ℚ};
 ghost use Rattle.frac128.specs.FracMeaning.{fraction_of};
 ghost use Rattle.monos.specs.Variables.{most_variables};
 ghost use Rattle.poly.specs.Seen.{terms_in, terms_each};
 ghost use Rattle.poly.specs.Standing.{IsOver};
 ghost use Rattle.poly.specs.View.{term_of};
-ghost use Rattle.expressions.specs.Stops.{Forms};
+ghost use Rattle.loop_model.specs.Stops.{Forms};
 ghost use Rattle.counter_run.specs.Composition.{composition_onto, composition_operations};
 ghost use Rattle.counter_run.specs.Combination.{IsPowerProduct, AreMonomialImages, IsComposed, Adds, AddsMultiple};
 
 use crate::composition::{NO_OFFSET, compose_anew, multiple_of};
-use expressions::{MapError, sum};
 use frac128::Frac;
+use loop_model::{MapError, sum};
 use monos::{Grevlex, Mono};
 use poly::{Poly, Term};
 use ring_laws::{ArithmeticError, Ring};

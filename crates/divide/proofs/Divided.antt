@@ -11,8 +11,8 @@
 use Rattle.std.proofs.Common.{◌≡◌, ◌≢◌, ℕ, zero, suc, ◌<◌, ◌≤◌, Bool, true, false, cond, List, [], ◌∷◌, ◌++◌, map, replicate, length, set, slice_index_or, Option, Some, None, Result, Ok, Err, IsErrOf, refl, sym, ap, ap₂, ◌∙◌, arith}
 use Rattle.std.specs.Result.{IsErrAnd}
 use Rattle.std.proofs.lemmas.List.{map-append}
-use Rattle.numbers.specs.Scalars.{Scalars, field}
-use Rattle.rings.specs.FieldArithmetic.{FieldArithmetic}
+use Rattle.algebra.specs.Scalars.{Scalars, field}
+use Rattle.algebra.specs.FieldArithmetic.{FieldArithmetic}
 use Rattle.polynomials.specs.Terms.{Terms}
 use Rattle.polynomials.specs.Order.{Rank}
 use Rattle.machines.specs.Cut.{Cutting, find_cut, after_cut, all_places}

@@ -6,10 +6,10 @@ use Rattle.std.proofs.Common.{◌≡◌, ◌≢◌, ◌↔◌, ℕ, zero, suc, B
 use Rattle.std.specs.List.{All}
 use Rattle.std.proofs.lemmas.List.Elements.{All-nil, All-cons, All-map}
 use Rattle.std.proofs.lemmas.Option.{slice_get_within, get_or_from_slice_get}
-use Rattle.rings.specs.Ring.{Field, IsRing, IsFieldOf}
-use Rattle.rings.specs.FieldArithmetic.{field_of}
-use Rattle.numbers.specs.Scalars.{Scalars, field}
-use Rattle.numbers.proofs.ScalarFields.{is_field}
+use Rattle.algebra.specs.Ring.{Field, IsRing, IsFieldOf}
+use Rattle.algebra.specs.FieldArithmetic.{field_of}
+use Rattle.algebra.specs.Scalars.{Scalars, field}
+use Rattle.algebra.proofs.ScalarFields.{is_field}
 use Rattle.polynomials.specs.Terms.{Terms, Same, combination}
 use Rattle.polynomials.specs.Order.{Rank, IsMonomialOrder}
 use Rattle.polynomials.specs.Polynomial.{IsPolynomial}

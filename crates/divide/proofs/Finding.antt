@@ -9,8 +9,8 @@ use Rattle.std.proofs.lemmas.List.{drop_more, drop_all}
 use Rattle.std.proofs.lemmas.List.Quantifiers.{position-Some}
 use Rattle.std.proofs.lemmas.List.Sums.{fails_before_first}
 use Rattle.std.proofs.lemmas.Grind.{common_steps}
-use Rattle.numbers.specs.Scalars.{Scalars, field}
-use Rattle.rings.specs.FieldArithmetic.{FieldArithmetic}
+use Rattle.algebra.specs.Scalars.{Scalars, field}
+use Rattle.algebra.specs.FieldArithmetic.{FieldArithmetic}
 use Rattle.polynomials.specs.Terms.{Terms}
 use Rattle.machines.specs.Cut.{lead_of, divides, Cutting, first_of, cut_by, find_cut, all_places}
 use Rattle.machines.proofs.Cuts.{found_cut}

@@ -12,12 +12,12 @@ use Rattle.std.proofs.Common.{◌≡◌, ◌≢◌, ◌↔◌, ℕ, zero, suc, �
 use Rattle.std.specs.List.{All}
 use Rattle.std.proofs.lemmas.List.{get_or-map, length-map}
 use Rattle.std.proofs.lemmas.List.Elements.{All-nil, All-cons, All-head, All-tail}
-use Rattle.rings.specs.Each.{Each}
-use Rattle.rings.specs.Ring.{Field, IsRing, IsFieldOf}
-use Rattle.rings.specs.FieldArithmetic.{FieldArithmetic, field_of}
-use Rattle.numbers.specs.Scalars.{Scalars, field}
-use Rattle.numbers.specs.Size.{IsPast, quotient_size}
-use Rattle.numbers.proofs.ScalarFields.{is_field}
+use Rattle.algebra.specs.Each.{Each}
+use Rattle.algebra.specs.Ring.{Field, IsRing, IsFieldOf}
+use Rattle.algebra.specs.FieldArithmetic.{FieldArithmetic, field_of}
+use Rattle.algebra.specs.Scalars.{Scalars, field}
+use Rattle.algebra.specs.Size.{IsPast, quotient_size}
+use Rattle.algebra.proofs.ScalarFields.{is_field}
 use Rattle.polynomials.specs.Exponent.{plus, over}
 use Rattle.polynomials.specs.Terms.{Terms, Same, shift, negate}
 use Rattle.polynomials.specs.Order.{Rank, IsMonomialOrder}

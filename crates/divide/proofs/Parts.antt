@@ -12,17 +12,17 @@
 --   moved_X                the cancellation that is found, behind terms that went there
 use Rattle.std.proofs.Common.{◌≡◌, ◌≢◌, ◌↔◌, inl, inr, ℕ, ◌<◌, Bool, true, false, IsTrue, cond, List, [], ◌∷◌, ◌++◌, length, map, take, drop, position, get_or, ◌+◌, ◌-◌, Some, None, append_assoc, take-append-drop, refl, sym, ap, ap₂, subst, ◌∙◌, Ordering, Less, Equal, Greater, arith}
 use Rattle.std.proofs.lemmas.List.{get_or-drop, length-drop, map-append}
-use Rattle.rings.specs.Each.{Each}
-use Rattle.rings.proofs.Lists.{take_one}
-use Rattle.rings.proofs.Each.{each-append}
-use Rattle.rings.specs.FieldArithmetic.{FieldArithmetic, field_of}
-use Rattle.rings.specs.Ring.{Field, IsRing, IsFieldOf, ring as ring_of}
-use Rattle.numbers.specs.Scalars.{Scalars, IsBounded, field}
-use Rattle.numbers.specs.Size.{product_size, sum_size}
-use Rattle.numbers.proofs.LcmLaws.{lcm-pos}
-use Rattle.numbers.proofs.ProductSizes.{product_den-pos}
-use Rattle.numbers.proofs.ScalarFields.{is_field}
-use Rattle.numbers.proofs.SizeLaws.{past_under, under-sum, under_refl}
+use Rattle.algebra.specs.Each.{Each}
+use Rattle.algebra.proofs.Lists.{take_one}
+use Rattle.algebra.proofs.Each.{each-append}
+use Rattle.algebra.specs.FieldArithmetic.{FieldArithmetic, field_of}
+use Rattle.algebra.specs.Ring.{Field, IsRing, IsFieldOf, ring as ring_of}
+use Rattle.algebra.specs.Scalars.{Scalars, IsBounded, field}
+use Rattle.algebra.specs.Size.{product_size, sum_size}
+use Rattle.algebra.proofs.LcmLaws.{lcm-pos}
+use Rattle.algebra.proofs.ProductSizes.{product_den-pos}
+use Rattle.algebra.proofs.ScalarFields.{is_field}
+use Rattle.algebra.proofs.SizeLaws.{past_under, under-sum, under_refl}
 use Rattle.polynomials.specs.Algebra as Algebra
 use Rattle.polynomials.specs.Exponent.{plus}
 use Rattle.polynomials.specs.Order.{Rank, IsMonomialOrder, compare}

@@ -9,8 +9,8 @@
 --   CutsFirst S c g f d    f is the factor of the cancellation of the first term of c that isn't done by g, and d is what it leaves
 use Rattle.std.specs.Prelude.{◌≡◌, ◌≢◌, ℕ, List, [], ◌++◌, position, All, Option, Some, None, MatchOption}
 use Rattle.std.specs.declared.cmp.PartialEq as PartialEq
-use Rattle.rings.specs.Each.{Each}
-use Rattle.numbers.specs.Scalars.{field}
+use Rattle.algebra.specs.Each.{Each}
+use Rattle.algebra.specs.Scalars.{field}
 use Rattle.polynomials.specs.Polynomial.{IsPolynomial}
 use Rattle.polynomials.specs.Terms.{Terms}
 use Rattle.machines.specs.Cut.{Cutting, divides, find_cut, after_cut, all_places}

@@ -5,7 +5,7 @@
 --   FindsTerm S ls p o         o is where it cancels a term of p, if it does, by elements with the leads ls
 --   Cuts S O p t g by c left   `by` and c are the factor of the cutting of the term t of p by g, and left is what it leaves
 use Rattle.std.specs.Prelude.{◌≡◌, ◌<◌, ℕ, true, List, [], length, map, get_or, Option, Some, None, MatchOption}
-use Rattle.numbers.specs.Scalars.{Scalars, field}
+use Rattle.algebra.specs.Scalars.{Scalars, field}
 use Rattle.polynomials.specs.Terms.{Terms}
 use Rattle.polynomials.specs.Order.{Rank}
 use Rattle.polynomials.specs.Exponent.{over}

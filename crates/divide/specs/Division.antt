@@ -11,7 +11,7 @@
 --   IsStopped gs s journal             the next event is a unit, and the units equal the limit
 use Rattle.std.specs.Prelude.{◌≡◌, ℕ, Bool, true, false, cond, List, [], length, map, replicate, All, Some, None}
 use Rattle.std.specs.declared.cmp.PartialEq as PartialEq
-use Rattle.numbers.specs.Scalars.{field}
+use Rattle.algebra.specs.Scalars.{field}
 use Rattle.machines.specs.Division as division
 use Rattle.machines.specs.Journal.{Journal}
 use Rattle.machines.specs.Machine.{Machine}

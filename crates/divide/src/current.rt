@@ -1,6 +1,6 @@
 //! The current polynomial of a division.
 ghost use Rattle.std.specs.Prelude.{◌≡◌, ◌≢◌, ◌<◌, ◌≤◌, ℕ, List, [], ◌++◌, true, length, map, take, drop, position, All, IfOk, OnOk, IfSome, IsErrOf, IsTrue, ◌↔◌};
-ghost use Rattle.numbers.specs.Scalars.{field};
+ghost use Rattle.algebra.specs.Scalars.{field};
 ghost use Rattle.polynomials.specs.Exponent.{plus};
 ghost use Rattle.polynomials.specs.Polynomial.{IsPolynomial};
 ghost use Rattle.machines.specs.Cut.{lead_of, lead_number, divides};
@@ -33,7 +33,7 @@ pub struct Cut<K: Ring> {
 }
 
 /// The place of a term, and of an element whose lead divides it.
-#[derive(Clone, Copy, Debug, PartialEq, Eq)]
+#[derive(Clone, Copy, PartialEq, Eq)]
 struct CutPlace {
     term: usize,
     element: usize,

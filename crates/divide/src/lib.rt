@@ -1,4 +1,8 @@
-//! Division of a polynomial by a list, with cofactors, under a meter: a layer above polynomials and the meter.
+//! Divides a polynomial by a list, with cofactors, under a meter.
+//!
+//! Proved: the entries are a run of the machine; where it has ended, the cofactors and the rest are those of the division rule.
+//!
+//! Notion: division, 2.3.
 #![tactic(auto)]
 
 mod current;

@@ -8,21 +8,21 @@ use native.Mathlib.Nat as N
 use lib.IntN.{nat_abs}
 use Rattle.std.proofs.lemmas.Bool.{cases_lt}
 use Rattle.std.proofs.lemmas.Nat.Gcd.{dvd_of_mod-eq-zero}
-use Rattle.rings.specs.Arithmetic.{Arithmetic}
-use Rattle.rings.specs.Each.{Each}
-use Rattle.rings.specs.FieldArithmetic.{field_of}
-use Rattle.rings.specs.Integers.{natural_in, integer_in}
-use Rattle.rings.specs.Ring.{Field, operations}
-use Rattle.rings.proofs.FieldLaws as FL
-use Rattle.rings.proofs.RingLaws as L
-use Rattle.rings.proofs.OfInt.{of_int, of_int-add, of_int-neg}
-use Rattle.numbers.specs.Fraction.{Fraction, ℚ, whole, over}
-use Rattle.numbers.specs.Residue.{Residue, residue, residues}
-use Rattle.numbers.specs.Scalars.{field}
-use Rattle.numbers.proofs.Fractions.{ℚ_ring, ℚ_field}
-use Rattle.numbers.proofs.ResidueLaws.{same_residue, rest-residue, residues_ring, residues_field, residue_zero_is, prime_65521}
-use Rattle.numbers.proofs.ScalarFields.{is_field}
-use Rattle.numbers.proofs.Wholes.{whole_injective, whole-some, of_int-whole}
+use Rattle.algebra.specs.Arithmetic.{Arithmetic}
+use Rattle.algebra.specs.Each.{Each}
+use Rattle.algebra.specs.FieldArithmetic.{field_of}
+use Rattle.algebra.specs.Integers.{natural_in, integer_in}
+use Rattle.algebra.specs.Ring.{Field, operations}
+use Rattle.algebra.proofs.FieldLaws as FL
+use Rattle.algebra.proofs.RingLaws as L
+use Rattle.algebra.proofs.OfInt.{of_int, of_int-add, of_int-neg}
+use Rattle.algebra.specs.Fraction.{Fraction, ℚ, whole, over}
+use Rattle.algebra.specs.Residue.{Residue, residue, residues}
+use Rattle.algebra.specs.Scalars.{field}
+use Rattle.algebra.proofs.Fractions.{ℚ_ring, ℚ_field}
+use Rattle.algebra.proofs.ResidueLaws.{same_residue, rest-residue, residues_ring, residues_field, residue_zero_is, prime_65521}
+use Rattle.algebra.proofs.ScalarFields.{is_field}
+use Rattle.algebra.proofs.Wholes.{whole_injective, whole-some, of_int-whole}
 use Rattle.vectors.specs.Adding.{entry}
 use Rattle.vectors.specs.Causes.{row_at, numbers_to}
 use Rattle.vectors.specs.Echelon.{total}

@@ -8,11 +8,11 @@ use Rattle.std.proofs.lemmas.Int.{ints}
 use Rattle.std.proofs.lemmas.Bool.{cases_lt}
 use Rattle.std.proofs.lemmas.List.{length-map}
 use Rattle.std.proofs.lemmas.List.Elements.{All-head, All-tail}
-use Rattle.rings.specs.Each.{Each}
+use Rattle.algebra.specs.Each.{Each}
 use Rattle.frac128.specs.FracMeaning.{fraction_of}
 use Rattle.frac128.specs.declared.fraction.Frac.{Frac}
 use Rattle.linear.specs.Rows.{fractions_of, rows_of}
-use Rattle.numbers.specs.Fraction.{Fraction, over}
+use Rattle.algebra.specs.Fraction.{Fraction, over}
 use Rattle.vectors.specs.Matrices.{denominator, sum_of_column, greatest_of, greatest_sum, SplitsAt, AreForms, AreSearched}
 use Rattle.vectors.specs.Causes.{limit, IsTooWide, denominator_past, entry_past, sum_past}
 use Rattle.eigen_split.specs.Ints.{IsReady}

@@ -6,15 +6,15 @@
 use Rattle.std.proofs.Common.{◌≡◌, inl, inr, ℕ, zero, suc, ◌<◌, ◌≤◌, ℤ, pos, ◌*ℤ◌, List, [], ◌∷◌, ◌++◌, length, refl, sym, ap, subst, ◌∙◌, arith, append_assoc}
 use Rattle.std.proofs.lemmas.List.{append-nil}
 use native.Mathlib.Nat as N
-use Rattle.rings.specs.Each.{Each}
-use Rattle.rings.proofs.Each.{each-append, each_weaker}
-use Rattle.numbers.specs.Ratio.{Ratio, ratio, product_of, reduce}
-use Rattle.numbers.specs.Fraction.{Fraction, ℚ, whole, over}
-use Rattle.numbers.proofs.RatioLaws as Q
-use Rattle.numbers.proofs.RatioLaws.{Alike}
-use Rattle.numbers.proofs.Fractions.{same_from_alike, ratio-product, ratio-fraction, ℚ_ring, ℚ_field}
-use Rattle.numbers.proofs.Wholes.{ratio-whole, whole-some}
-use Rattle.rings.proofs.IntRing.{ℤ_ring}
+use Rattle.algebra.specs.Each.{Each}
+use Rattle.algebra.proofs.Each.{each-append, each_weaker}
+use Rattle.algebra.specs.Ratio.{Ratio, ratio, product_of, reduce}
+use Rattle.algebra.specs.Fraction.{Fraction, ℚ, whole, over}
+use Rattle.algebra.proofs.RatioLaws as Q
+use Rattle.algebra.proofs.RatioLaws.{Alike}
+use Rattle.algebra.proofs.Fractions.{same_from_alike, ratio-product, ratio-fraction, ℚ_ring, ℚ_field}
+use Rattle.algebra.proofs.Wholes.{ratio-whole, whole-some}
+use Rattle.algebra.proofs.IntRing.{ℤ_ring}
 use Rattle.vectors.specs.Lists.{row_of, matrix_of, tables}
 use Rattle.vectors.specs.Rows.{Row, rows_of}
 use Rattle.vectors.specs.Space.{Space, IsCombination}

@@ -5,7 +5,7 @@
 --   going_stop                 where a kernel has not grown
 --   column_past, vector_past   the refusals
 use Rattle.std.proofs.Common.{◌≡◌, ◌≢◌, inl, inr, ℕ, zero, suc, ◌+◌, ◌-◌, ◌≤◌, ℤ, List, [], length, refl, sym, ap, ap₂, subst, ◌∙◌, arith, add-one, All, Vec, Global}
-use Rattle.numbers.specs.Fraction.{Fraction}
+use Rattle.algebra.specs.Fraction.{Fraction}
 use Rattle.frac128.specs.declared.Whole.{Whole}
 use Rattle.frac128.specs.declared.fraction.Frac.{Frac}
 use Rattle.linear.specs.Rows.{rows_of}

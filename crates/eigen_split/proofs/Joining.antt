@@ -2,8 +2,8 @@
 use Rattle.std.proofs.Common.{◌≡◌, ℕ, ◌^◌, ◌<◌, ◌≤◌, Option, None, subst}
 use native.Mathlib.Nat as N
 use Rattle.std.proofs.Math.Nat.{le_of_dvd}
-use Rattle.numbers.specs.Gcd.{lcm}
-use Rattle.numbers.proofs.LcmLaws.{lcm-left, lcm-right, lcm-pos}
+use Rattle.algebra.specs.Gcd.{lcm}
+use Rattle.algebra.proofs.LcmLaws.{lcm-left, lcm-right, lcm-pos}
 use Rattle.eigen_split.specs.Fitting.{Fitting}
 
 pub fitting_none : (o : Option ℕ) (x : ℕ) → o ≡ None → Fitting o x → 2 ^ 127 ≤ x

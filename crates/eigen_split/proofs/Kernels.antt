@@ -5,12 +5,12 @@
 --   stopped              where two of them have as many vectors, later powers kill no more
 use Rattle.std.proofs.Common.{◌≡◌, ◌≢◌, inl, inr, ℕ, zero, suc, ◌+◌, ◌-◌, ◌<◌, ◌≤◌, ℤ, pos, List, [], ◌∷◌, map, length, refl, sym, ap, ap₂, subst, ◌∙◌, arith}
 use mathlib.Core.Path.{fun_ext}
-use Rattle.rings.specs.Each.{Each}
-use Rattle.rings.proofs.Each.{each_weaker}
-use Rattle.rings.proofs.FieldLaws as FL
-use Rattle.rings.proofs.RingLaws as L
-use Rattle.numbers.specs.Fraction.{Fraction, ℚ, whole}
-use Rattle.numbers.proofs.Fractions.{ℚ_ring, ℚ_field}
+use Rattle.algebra.specs.Each.{Each}
+use Rattle.algebra.proofs.Each.{each_weaker}
+use Rattle.algebra.proofs.FieldLaws as FL
+use Rattle.algebra.proofs.RingLaws as L
+use Rattle.algebra.specs.Fraction.{Fraction, ℚ, whole}
+use Rattle.algebra.proofs.Fractions.{ℚ_ring, ℚ_field}
 use Rattle.vectors.specs.Echelon.{IsKernel, AreKernelVectors, free_from}
 use Rattle.vectors.specs.Echelon as E
 use Rattle.vectors.specs.Lists.{entries, tables, row_of, matrix_of}

@@ -13,19 +13,19 @@ use Rattle.std.proofs.Math.Facts.{leb_yes}
 use Rattle.std.proofs.lemmas.Bool.{ne_eqb}
 use Rattle.std.proofs.lemmas.Int.{unsigned_abs-mul}
 use Rattle.std.proofs.lemmas.Simd.{map-map}
-use Rattle.rings.specs.Each.{Each}
-use Rattle.rings.proofs.Basics.{eqb_same, equal_or_not}
-use Rattle.rings.proofs.Each.{each_weaker, each-map}
-use Rattle.rings.proofs.IntRing.{ℤ_ring}
-use Rattle.numbers.specs.Fraction.{Fraction, ℚ, whole}
-use Rattle.numbers.proofs.LcmLaws.{lcm-left, lcm-right}
-use Rattle.numbers.proofs.Fractions.{some}
-use Rattle.numbers.proofs.RatioLaws.{nat_abs-neg_ℤ}
-use Rattle.numbers.proofs.Wholes.{sum-whole, product-whole, opposite-whole}
+use Rattle.algebra.specs.Each.{Each}
+use Rattle.algebra.proofs.Basics.{eqb_same, equal_or_not}
+use Rattle.algebra.proofs.Each.{each_weaker, each-map}
+use Rattle.algebra.proofs.IntRing.{ℤ_ring}
+use Rattle.algebra.specs.Fraction.{Fraction, ℚ, whole}
+use Rattle.algebra.proofs.LcmLaws.{lcm-left, lcm-right}
+use Rattle.algebra.proofs.Fractions.{some}
+use Rattle.algebra.proofs.RatioLaws.{nat_abs-neg_ℤ}
+use Rattle.algebra.proofs.Wholes.{sum-whole, product-whole, opposite-whole}
 use Rattle.vectors.specs.Adding.{entry}
 use Rattle.vectors.specs.Matrices.{row_denominator, denominator, whole_number, sum_of_column, greatest_sum}
 use Rattle.vectors.specs.Causes.{limit, row_at, dot, column, numbers_to, on_diagonal, matrix_less, product, power}
-use Rattle.numbers.proofs.Wholes.{of_int-whole}
+use Rattle.algebra.proofs.Wholes.{of_int-whole}
 use Rattle.vectors.proofs.SplitDecided.{row_some, zero-den, denominator_some, whole_number-is, at_most_greatest}
 use Rattle.vectors.proofs.WholeEigen.{nat_abs-add}
 use Rattle.linear.proofs.Echelon.{entry-is}

@@ -3,10 +3,10 @@
 --   clause_within, clause_found     from the answer to a larger one to the clauses
 use Rattle.std.proofs.Common.{◌≡◌, ◌≤◌, ℕ, zero, suc, List, [], ◌∷◌, length, refl, sym, ap, subst, ◌∙◌, arith, true, false, Result, Ok, Err, IfOk, IsOk, All, get_or, Vec, Global}
 use mathlib.Core.Path.{fun_ext}
-use Rattle.rings.specs.Each.{Each}
-use Rattle.rings.specs.Ring.{CommRing}
-use Rattle.numbers.specs.Fraction.{Fraction, ℚ}
-use Rattle.numbers.proofs.Fractions.{ℚ_ring, ℚ_field}
+use Rattle.algebra.specs.Each.{Each}
+use Rattle.algebra.specs.Ring.{CommRing}
+use Rattle.algebra.specs.Fraction.{Fraction, ℚ}
+use Rattle.algebra.proofs.Fractions.{ℚ_ring, ℚ_field}
 use Rattle.vectors.specs.Lists.{row_of}
 use Rattle.vectors.specs.Rows.{Row, same_row}
 use Rattle.vectors.specs.Rows.{rows_of as row_space}

@@ -7,13 +7,13 @@ use Rattle.std.proofs.Common.{◌≡◌, inl, inr, ℕ, zero, suc, ◌^◌, ◌<
 use Rattle.std.proofs.Math.Nat.{div-le_self}
 use lib.IntN.{nat_abs}
 use Rattle.std.proofs.lemmas.List.{length-map}
-use Rattle.rings.specs.Each.{Each}
-use Rattle.numbers.specs.Fraction.{Fraction, over, fraction_size}
-use Rattle.numbers.specs.Gcd.{gcd}
-use Rattle.numbers.specs.Ratio.{Ratio, ratio, reduce}
-use Rattle.numbers.specs.Size.{IsPast}
-use Rattle.numbers.proofs.RatioLaws as Q
-use Rattle.numbers.proofs.Fractions.{ratio-fraction}
+use Rattle.algebra.specs.Each.{Each}
+use Rattle.algebra.specs.Fraction.{Fraction, over, fraction_size}
+use Rattle.algebra.specs.Gcd.{gcd}
+use Rattle.algebra.specs.Ratio.{Ratio, ratio, reduce}
+use Rattle.algebra.specs.Size.{IsPast}
+use Rattle.algebra.proofs.RatioLaws as Q
+use Rattle.algebra.proofs.Fractions.{ratio-fraction}
 use Rattle.frac128.specs.Sums as Sums
 use Rattle.frac128.specs.declared.fraction.FracError.{FracError}
 use Rattle.frac128.specs.declared.fraction.FracError.TheVariants.{ZeroDenominator, Wide}

@@ -6,14 +6,14 @@ use Rattle.std.proofs.Common.{◌≡◌, ◌≢◌, inl, inr, ℕ, zero, suc, �
 use Rattle.std.specs.Int.Signed.{◌<ℤ◌, lt_z_yes}
 use Rattle.std.specs.Ordering.{int_cmp}
 use Rattle.std.proofs.lemmas.Int.{ints}
-use Rattle.rings.specs.Each.{Each}
-use Rattle.rings.proofs.Each.{each-append, each_of, each_weaker}
-use Rattle.rings.proofs.FieldLaws as FL
-use Rattle.rings.proofs.RingLaws as L
-use Rattle.rings.proofs.IntRing.{int_less_in, int_less_out}
-use Rattle.numbers.specs.Fraction.{Fraction, ℚ, whole, over, fraction_order}
-use Rattle.numbers.proofs.Fractions.{ℚ_ring, ℚ_field, fractions_ordered}
-use Rattle.numbers.proofs.Wholes.{order-whole, whole_injective, whole-some}
+use Rattle.algebra.specs.Each.{Each}
+use Rattle.algebra.proofs.Each.{each-append, each_of, each_weaker}
+use Rattle.algebra.proofs.FieldLaws as FL
+use Rattle.algebra.proofs.RingLaws as L
+use Rattle.algebra.proofs.IntRing.{int_less_in, int_less_out}
+use Rattle.algebra.specs.Fraction.{Fraction, ℚ, whole, over, fraction_order}
+use Rattle.algebra.proofs.Fractions.{ℚ_ring, ℚ_field, fractions_ordered}
+use Rattle.algebra.proofs.Wholes.{order-whole, whole_injective, whole-some}
 use Rattle.vectors.specs.Matrices.{denominator}
 use Rattle.vectors.proofs.SearchLaws.{below_more, below_next}
 use Rattle.vectors.proofs.SplitDecided.{denominator_some}

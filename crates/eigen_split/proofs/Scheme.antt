@@ -6,11 +6,11 @@
 --   remainder              what a number leaves
 use Rattle.std.proofs.Common.{◌≡◌, ℕ, zero, suc, ◌%◌, ◌<◌, List, [], ◌∷◌, ◌++◌, map, length, get_or, All, refl, sym, ap, ap₂, ◌∙◌, arith, Vec, Global}
 use Rattle.std.proofs.lemmas.List.Elements.{All-head, All-tail}
-use Rattle.rings.specs.Arithmetic.{Arithmetic}
-use Rattle.rings.specs.Integers.{natural_in}
-use Rattle.numbers.specs.Fraction.{Fraction}
-use Rattle.numbers.specs.Residue.{Residue}
-use Rattle.numbers.proofs.ResidueLaws.{same_residue, rest-residue}
+use Rattle.algebra.specs.Arithmetic.{Arithmetic}
+use Rattle.algebra.specs.Integers.{natural_in}
+use Rattle.algebra.specs.Fraction.{Fraction}
+use Rattle.algebra.specs.Residue.{Residue}
+use Rattle.algebra.proofs.ResidueLaws.{same_residue, rest-residue}
 use Rattle.gf65521.specs.declared.Gf.{Gf}
 use Rattle.gf65521.specs.GfMeaning.{residue_of, residue_rest}
 use Rattle.vectors.specs.Causes.{numbers_to}

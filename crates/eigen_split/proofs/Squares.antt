@@ -5,10 +5,10 @@ use Rattle.std.proofs.lemmas.List.Elements.{All-nil, All-cons}
 use lib.IntN.{nat_abs}
 use native.Mathlib.Nat as N
 use Rattle.std.proofs.lemmas.Int.{unsigned_abs-mul}
-use Rattle.rings.specs.Each.{Each}
-use Rattle.rings.proofs.Each.{each-map, each_of, each_weaker}
-use Rattle.rings.proofs.Lists.{take_one}
-use Rattle.numbers.specs.Fraction.{Fraction, whole}
+use Rattle.algebra.specs.Each.{Each}
+use Rattle.algebra.proofs.Each.{each-map, each_of, each_weaker}
+use Rattle.algebra.proofs.Lists.{take_one}
+use Rattle.algebra.specs.Fraction.{Fraction, whole}
 use Rattle.frac128.specs.FracMeaning.{fraction_of}
 use Rattle.frac128.specs.declared.fraction.Frac.{Frac}
 use Rattle.linear.specs.Rows.{fractions_of}

@@ -7,10 +7,10 @@
 use Rattle.std.proofs.Common.{◌≡◌, inl, inr, ℕ, zero, suc, ◌+◌, ◌<◌, ◌≤◌, Bool, true, false, cond, List, [], ◌∷◌, ◌++◌, map, length, refl, sym, ap, subst, ◌∙◌, arith, append_assoc, add-one, take, get_or, ℤ, All, Vec, Global}
 use Rattle.std.proofs.lemmas.List.{append-nil, length-map, take-map}
 use Rattle.std.proofs.lemmas.List.Elements.{All-nil, All-cons, All-head, All-tail}
-use Rattle.rings.specs.Each.{Each}
-use Rattle.rings.proofs.Each.{each-left, each-append}
-use Rattle.numbers.specs.Fraction.{Fraction}
-use Rattle.numbers.proofs.Fractions.{ℚ_ring, ℚ_field}
+use Rattle.algebra.specs.Each.{Each}
+use Rattle.algebra.proofs.Each.{each-left, each-append}
+use Rattle.algebra.specs.Fraction.{Fraction}
+use Rattle.algebra.proofs.Fractions.{ℚ_ring, ℚ_field}
 use Rattle.vectors.specs.Echelon.{Pivots, AreKernelVectors, free_from, leads_at}
 use Rattle.vectors.specs.Echelon as E
 use Rattle.vectors.specs.Lists.{entries, tables}

@@ -6,17 +6,17 @@
 use Rattle.std.proofs.Common.{◌≡◌, inl, inr, nat_abs, ℕ, zero, suc, ◌+◌, ◌≤◌, ℤ, pos, ◌+ℤ◌, neg_ℤ, List, [], ◌∷◌, ◌++◌, length, refl, sym, ap, ap₂, subst, ◌∙◌, arith, length-append}
 use Rattle.std.proofs.lemmas.List.{append-nil}
 use Rattle.std.proofs.lemmas.Int.{ints}
-use Rattle.rings.specs.Each.{Each}
-use Rattle.rings.proofs.Each.{each-append, each_of}
-use Rattle.numbers.specs.Fraction.{Fraction, ℚ, over}
-use Rattle.numbers.proofs.Fractions.{ℚ_ring, ℚ_field}
+use Rattle.algebra.specs.Each.{Each}
+use Rattle.algebra.proofs.Each.{each-append, each_of}
+use Rattle.algebra.specs.Fraction.{Fraction, ℚ, over}
+use Rattle.algebra.proofs.Fractions.{ℚ_ring, ℚ_field}
 use Rattle.vectors.specs.Lists.{row_of, matrix_of}
 use Rattle.vectors.specs.Rows.{Row, rows_of}
 use Rattle.vectors.specs.Space.{Space, IsCombination}
 use Rattle.vectors.specs.SplitForms as F
 use Rattle.vectors.specs.Splitting.{shift, IsKilled, IsLevel, vectors_of}
 use Rattle.vectors.specs.Matrices.{rows_in, times_matrix, denominator, greatest_sum, with_values, AreForms, AreSearched, SplitsAt}
-use Rattle.numbers.proofs.Wholes.{of_int-whole}
+use Rattle.algebra.proofs.Wholes.{of_int-whole}
 use Rattle.vectors.proofs.FractionEigen.{ℚ_fractions}
 use Rattle.vectors.proofs.Forms as FO
 use Rattle.vectors.proofs.Independence as I

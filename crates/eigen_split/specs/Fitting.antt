@@ -1,7 +1,7 @@
 -- Numbers that may not fit.
 --   Fitting result n, FittingWhole result z     the number, or none where it is above 2^127 - 1 in absolute value
 use Rattle.std.specs.Prelude.{◌≡◌, ℕ, ◌<◌, ◌≤◌, ℤ, Option, MatchOption}
-use Rattle.numbers.specs.Limits.{number_limit}
+use Rattle.algebra.specs.Limits.{number_limit}
 use lib.IntN.{nat_abs}
 use Rattle.frac128.specs.declared.Whole.{Whole}
 

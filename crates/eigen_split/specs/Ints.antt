@@ -16,9 +16,9 @@ use Rattle.std.specs.declared.alloc.Global.{Global}
 use Rattle.std.specs.declared.vec.Vec.{Vec}
 use lib.IntN.{nat_abs}
 use Rattle.frac128.specs.declared.Whole.{Whole}
-use Rattle.rings.specs.Each.{Each}
-use Rattle.numbers.specs.Fraction.{Fraction, whole}
-use Rattle.numbers.specs.Limits.{number_limit}
+use Rattle.algebra.specs.Each.{Each}
+use Rattle.algebra.specs.Fraction.{Fraction, whole}
+use Rattle.algebra.specs.Limits.{number_limit}
 use Rattle.vectors.specs.Adding.{entry}
 use Rattle.vectors.specs.Matrices.{denominator, whole_number, greatest_sum}
 use Rattle.vectors.specs.Causes.{limit, row_at, numbers_to}

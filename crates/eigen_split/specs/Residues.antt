@@ -12,10 +12,10 @@
 use Rattle.std.specs.Prelude.{◌≡◌, ℕ, ◌<◌, List, [], ◌∷◌, map, cond, eqb, get_or}
 use Rattle.std.specs.declared.alloc.Global.{Global}
 use Rattle.std.specs.declared.vec.Vec.{Vec}
-use Rattle.rings.specs.Arithmetic.{Arithmetic}
-use Rattle.rings.specs.Integers.{integer_in}
-use Rattle.numbers.specs.Fraction.{Fraction}
-use Rattle.numbers.specs.Residue.{Residue, residues, prime}
+use Rattle.algebra.specs.Arithmetic.{Arithmetic}
+use Rattle.algebra.specs.Integers.{integer_in}
+use Rattle.algebra.specs.Fraction.{Fraction}
+use Rattle.algebra.specs.Residue.{Residue, residues, prime}
 use Rattle.gf65521.specs.declared.Gf.{Gf}
 use Rattle.gf65521.specs.GfMeaning.{residue_of}
 use Rattle.vectors.specs.Adding.{entry}

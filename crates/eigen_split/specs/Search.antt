@@ -14,8 +14,8 @@
 --   IsWholeSearch n rows bound f   the same, and of 0 where these have fewer forms than there are rows
 --   IsMissing n rows               they have fewer forms, so 0 is a candidate
 use Rattle.std.specs.Prelude.{◌≡◌, ◌≢◌, ◌⊎◌, ℕ, zero, suc, ◌<◌, ◌≤◌, ◌+◌, ◌*◌, ℤ, pos, ◌+ℤ◌, neg_ℤ, List, [], ◌∷◌, ◌++◌, map, length}
-use Rattle.numbers.specs.Fraction.{Fraction, over}
-use Rattle.numbers.proofs.Fractions.{ℚ_field}
+use Rattle.algebra.specs.Fraction.{Fraction, over}
+use Rattle.algebra.proofs.Fractions.{ℚ_field}
 use Rattle.vectors.specs.Rows.{Row, rows_of}
 use Rattle.vectors.specs.Splitting.{shift}
 use Rattle.vectors.specs.Adding.{IsEchelonOf, IsCombinationOf, AreKernel}

@@ -1,6 +1,6 @@
 //! A polynomial modulo 65,521 of which the matrix is a root: where it is not zero at a candidate, that is no eigenvalue.
 ghost use Rattle.std.specs.Prelude.{◌≡◌, ◌≢◌, ◌<◌, All, length, map, cond, eqb, pos, IfOk, IsTrue};
-ghost use Rattle.rings.specs.Integers.{integer_in, natural_in};
+ghost use Rattle.algebra.specs.Integers.{integer_in, natural_in};
 ghost use Rattle.gf65521.specs.GfMeaning.{residue_of};
 ghost use Rattle.linear.specs.Rows.{rows_of};
 ghost use Rattle.eigen_split.specs.Ints.{IsReady};

@@ -1,8 +1,13 @@
-//! Splitting of square matrices of fractions into forms with values: a layer above echelon lists.
+//! Splits a square matrix of fractions: `split` finds left eigenvectors (*forms*) with their eigenvalues.
+//!
+//! Proved: as many forms as rows, each with its eigenvalue, the values ascending but for zeros, which stand last; or that the matrix
+//! doesn't split over the fractions, that a sum of a column is out of range, or that a number is too wide, each by its cause.
+//!
+//! Notion: eigenvalues; the characteristic polynomial by Faddeev's method: Gantmacher, *The Theory of Matrices*, IV.5.
 #![tactic(auto)]
 
 ghost use Rattle.std.specs.Prelude.{◌≡◌, ◌<◌, ◌≤◌, pos, All, length, IsOk, IfOk, IfErr};
-ghost use Rattle.numbers.specs.Limits.{number_limit};
+ghost use Rattle.algebra.specs.Limits.{number_limit};
 ghost use Rattle.frac128.specs.FracMeaning.{fraction_of};
 ghost use Rattle.linear.specs.Rows.{fractions_of, rows_of};
 ghost use Rattle.vectors.specs.Matrices.{AreForms, AreSearched, SplitsAt, denominator as denominator_in, greatest_sum as greatest_of};

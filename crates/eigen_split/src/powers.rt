@@ -1,6 +1,6 @@
 //! The powers of a matrix of whole numbers.
 ghost use Rattle.std.specs.Prelude.{◌≡◌, ◌<◌, ◌≤◌, All, length, IfOk, map, unsigned_abs, pos, ◌+ℤ◌, ◌*ℤ◌, neg_ℤ};
-ghost use Rattle.numbers.specs.Limits.{number_limit};
+ghost use Rattle.algebra.specs.Limits.{number_limit};
 ghost use Rattle.linear.specs.Rows.{fractions_of, rows_of};
 ghost use Rattle.vectors.specs.Adding.{entry as entry_in};
 ghost use Rattle.vectors.specs.Matrices.{whole_number as whole_of};

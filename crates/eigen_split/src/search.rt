@@ -1,7 +1,7 @@
 //! The search among the candidates.
 ghost use Rattle.std.specs.Prelude.{◌≡◌, ◌<◌, ◌≤◌, ◌+◌, ◌*◌, ◌+ℤ◌, neg_ℤ, ◌++◌, length, pos, IfOk, IfErr, OnOk, unsigned_abs};
-ghost use Rattle.numbers.specs.Fraction.{over};
-ghost use Rattle.numbers.specs.Limits.{number_limit};
+ghost use Rattle.algebra.specs.Fraction.{over};
+ghost use Rattle.algebra.specs.Limits.{number_limit};
 ghost use Rattle.frac128.specs.FracMeaning.{fraction_of};
 ghost use Rattle.linear.specs.Rows.{fractions_of, rows_of};
 ghost use Rattle.vectors.specs.Matrices.{greatest_sum};

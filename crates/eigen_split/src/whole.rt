@@ -1,7 +1,7 @@
 //! A matrix of fractions times its least common denominator.
 ghost use Rattle.std.specs.Prelude.{◌≡◌, ◌<◌, ◌+◌, ℕ, ℤ, All, length, unsigned_abs, pos, ◌*ℤ◌};
-ghost use Rattle.numbers.specs.Gcd.{lcm};
-ghost use Rattle.numbers.specs.Limits.{number_limit};
+ghost use Rattle.algebra.specs.Gcd.{lcm};
+ghost use Rattle.algebra.specs.Limits.{number_limit};
 ghost use Rattle.frac128.specs.FracMeaning.{fraction_of};
 ghost use Rattle.linear.specs.Rows.{fractions_of, rows_of};
 ghost use Rattle.vectors.specs.Matrices.{denominator, row_denominator as denominator_in, whole_number as whole_of, sum_of_column, greatest_of};
@@ -14,7 +14,7 @@ use ring_laws::{Ring, gcd};
 const END: u128 = 1 << 127;
 
 /// The least common multiple. None exactly where it is above 2^127 - 1.
-#[tactic(auto, unfolding(numbers::specs::Gcd::lcm))]
+#[tactic(auto, unfolding(algebra::specs::Gcd::lcm))]
 fn common_multiple(a: u128, b: u128) -> Option<u128>
     requires { 0 < b }
     ensures { Fitting result (lcm a b) }

@@ -8,15 +8,15 @@
 use Rattle.std.proofs.Common.{◌≡◌, ◌≢◌, inr, ℕ, zero, suc, pos, negsuc, ◌+◌, ◌<◌, Bool, true, false, List, [], ◌∷◌, ◌++◌, map, length, replicate, unsigned_abs, Result, Ok, Err, refl, sym, ap, ap₂, subst, ◌∙◌, arith, append_assoc}
 use Rattle.std.proofs.lemmas.List.{length-map, length-append, map-append}
 use Rattle.std.specs.Result.{OnOk}
-use Rattle.rings.specs.Arithmetic.{power}
-use Rattle.rings.specs.Ring.{CommRing}
-use Rattle.rings.proofs.FieldLaws as FL
-use Rattle.rings.proofs.RingLaws as L
-use Rattle.rings.proofs.RingSolver.{ring_rules, ring}
-use Rattle.numbers.specs.Fraction.{Fraction, ℚ, fraction_size, whole, inverse}
-use Rattle.numbers.specs.Size.{IsPast}
-use Rattle.numbers.proofs.Fractions.{ℚ_ring, ℚ_field}
-use Rattle.numbers.proofs.Wholes.{of_int-whole}
+use Rattle.algebra.specs.Arithmetic.{power}
+use Rattle.algebra.specs.Ring.{CommRing}
+use Rattle.algebra.proofs.FieldLaws as FL
+use Rattle.algebra.proofs.RingLaws as L
+use Rattle.algebra.proofs.RingSolver.{ring_rules, ring}
+use Rattle.algebra.specs.Fraction.{Fraction, ℚ, fraction_size, whole, inverse}
+use Rattle.algebra.specs.Size.{IsPast}
+use Rattle.algebra.proofs.Fractions.{ℚ_ring, ℚ_field}
+use Rattle.algebra.proofs.Wholes.{of_int-whole}
 use Rattle.polynomials.specs.Exponent.{unit_exponents}
 use Rattle.polynomials.specs.Order.{grevlex}
 use Rattle.polynomials.specs.Polynomial.{Arity, IsPolynomial, AllArity, Falls}
@@ -26,15 +26,15 @@ use Rattle.polynomials.proofs.Canonical.{polynomial_unique}
 use Rattle.polynomials.proofs.ByValues.{same_by_values, zero_by_values}
 use Rattle.polynomials.proofs.Same.{Same-trans}
 use Rattle.polynomials.proofs.ValueAt.{value_at_same, value_at-nil, value_at-constant, value_at-compose, value_at-variables, values_at-constants}
-use Rattle.rings.proofs.Each.{each-append}
-use Rattle.rings.specs.Each.{Each}
+use Rattle.algebra.proofs.Each.{each-append}
+use Rattle.algebra.specs.Each.{Each}
 use Rattle.polynomials.proofs.Orders.{grevlex_order}
 use Rattle.exponentials.specs.Base.{Coprime}
 use Rattle.frac128.specs.declared.Whole.{Whole}
 use Rattle.coprime_base.specs.Sizes.{sizes}
-use Rattle.turns.specs.Expo.{at_turn}
-use Rattle.turns.specs.Turns.{point, powers, inverses, sign, width}
-use Rattle.turns.proofs.Operations.{turn-value}
+use Rattle.solvable_maps.specs.Expo.{at_turn}
+use Rattle.solvable_maps.specs.Turns.{point, powers, inverses, sign, width}
+use Rattle.solvable_maps.proofs.Operations.{turn-value}
 use Rattle.expo.specs.Images.{factor}
 use Rattle.expo.specs.Points.{number_image, powers_by, turn_images, IsPastPower, IsPastPoint}
 use Rattle.expo.proofs.Binomials.{some_natural}

@@ -3,16 +3,16 @@
 --   quotient_fits        such a quotient fits
 use Rattle.std.proofs.Common.{◌≡◌, ◌≢◌, inl, inr, ℕ, zero, suc, ◌+◌, ◌-◌, ◌*◌, ◌^◌, ◌<◌, ◌≤◌, pos, [], ◌∷◌, refl, sym, ap, ap₂, subst, ◌∙◌, arith}
 use native.Mathlib.Nat as N
-use Rattle.rings.proofs.FieldLaws as FL
-use Rattle.rings.proofs.RingSolver.{ring_rules, ring}
-use Rattle.rings.specs.Ring.{CommRing}
-use Rattle.numbers.specs.Fraction.{Fraction, ℚ, fraction_size, whole, inverse}
-use Rattle.numbers.specs.Ratio.{ratio_size}
-use Rattle.numbers.specs.Size.{IsPast, size, quotient_size}
-use Rattle.numbers.proofs.Fractions.{ℚ_ring, ℚ_field}
-use Rattle.numbers.proofs.ProductSizes.{fraction_quotients_bounded, product_den-pos}
-use Rattle.numbers.proofs.SizeLaws.{past_under}
-use Rattle.numbers.proofs.Wholes.{whole_injective, ratio-whole}
+use Rattle.algebra.proofs.FieldLaws as FL
+use Rattle.algebra.proofs.RingSolver.{ring_rules, ring}
+use Rattle.algebra.specs.Ring.{CommRing}
+use Rattle.algebra.specs.Fraction.{Fraction, ℚ, fraction_size, whole, inverse}
+use Rattle.algebra.specs.Ratio.{ratio_size}
+use Rattle.algebra.specs.Size.{IsPast, size, quotient_size}
+use Rattle.algebra.proofs.Fractions.{ℚ_ring, ℚ_field}
+use Rattle.algebra.proofs.ProductSizes.{fraction_quotients_bounded, product_den-pos}
+use Rattle.algebra.proofs.SizeLaws.{past_under}
+use Rattle.algebra.proofs.Wholes.{whole_injective, ratio-whole}
 use Rattle.exponentials.specs.Table.{choose}
 use Rattle.coprime_base.proofs.Quotients.{whole_product}
 use Rattle.expo.specs.Rows.{binomial}

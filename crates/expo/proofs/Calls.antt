@@ -9,10 +9,10 @@ use Rattle.std.proofs.Common.{◌≡◌, ◌<◌, ◌≤◌, ℕ, ◌-◌, List,
 use Rattle.std.specs.List.{All}
 use Rattle.std.proofs.lemmas.List.{length-map}
 use Rattle.std.proofs.lemmas.List.Elements.{All-head, All-tail, All-weaker}
-use Rattle.rings.specs.Each.{Each}
-use Rattle.rings.proofs.Each.{each-append}
-use Rattle.numbers.specs.Fraction.{Fraction, ℚ}
-use Rattle.numbers.proofs.Fractions.{ℚ_ring}
+use Rattle.algebra.specs.Each.{Each}
+use Rattle.algebra.proofs.Each.{each-append}
+use Rattle.algebra.specs.Fraction.{Fraction, ℚ}
+use Rattle.algebra.proofs.Fractions.{ℚ_ring}
 use Rattle.polynomials.specs.Order.{grevlex}
 use Rattle.polynomials.specs.Polynomial.{Arity, AllArity, IsPolynomial}
 use Rattle.polynomials.specs.Terms.{Terms, Same, compose, value_at}
@@ -27,19 +27,19 @@ use Rattle.poly.specs.Operations.{AreDistinct}
 use Rattle.poly.specs.Seen.{terms_in}
 use Rattle.poly.specs.View.{terms_of}
 use Rattle.poly.proofs.Steps.{all_arity}
-use Rattle.turns.specs.Expo.{with_normal_keys, next_images, zero_images}
-use Rattle.turns.specs.Turns.{width}
-use Rattle.turns.proofs.Operations.{zero-value}
+use Rattle.solvable_maps.specs.Expo.{with_normal_keys, next_images, zero_images}
+use Rattle.solvable_maps.specs.Turns.{width}
+use Rattle.solvable_maps.proofs.Operations.{zero-value}
 use Rattle.expo.specs.declared.exponential.Expo.{Expo}
 use Rattle.expo.specs.Images.{LikeIn}
 use Rattle.expo.specs.Operations.{sum_of, backward_of, at_next, at_zero}
 use Rattle.expo.specs.View.{base_of, value_of}
 use Rattle.expo.proofs.Distinct.{pairs_of, differ_falls, differ_turned}
 use Rattle.expo.proofs.ImageLists.{like_count, zero_count}
-use Rattle.turns.proofs.Lengths.{arity-normalized, arity-turned_back}
-use Rattle.expo.proofs.Normal.{Stays, AllStay, kept_stay, normal_stay, turned_stay}
+use Rattle.solvable_maps.proofs.Lengths.{arity-normalized, arity-turned_back}
+use Rattle.solvable_maps.proofs.Normal.{Stays, AllStay, kept_stay, normal_stay, turned_stay}
 use Rattle.expo.proofs.Results.{IsNormalList, normal_list, width_back, images_same, expo_arity, other_arity}
-use Rattle.expo.proofs.Shifted.{compose_stay, arity-next}
+use Rattle.solvable_maps.proofs.Shifted.{compose_stay, arity-next}
 
 module _ (bs : List ℕ) (w : ℕ) (front : width (length bs) 0 ≤ w) where
   abbrev m : ℕ

@@ -8,9 +8,9 @@ use Rattle.std.proofs.Common.{◌≡◌, ◌≢◌, ℕ, zero, suc, ◌≤◌, �
 use Rattle.std.specs.List.{All, AllPairs}
 use Rattle.std.proofs.lemmas.List.Elements.{All-nil, All-cons}
 use Rattle.std.proofs.lemmas.List.Kept.{AllPairs-cons}
-use Rattle.rings.specs.Each.{Each}
-use Rattle.rings.proofs.Each.{each-append, each_weaker}
-use Rattle.numbers.specs.Fraction.{Fraction}
+use Rattle.algebra.specs.Each.{Each}
+use Rattle.algebra.proofs.Each.{each-append, each_weaker}
+use Rattle.algebra.specs.Fraction.{Fraction}
 use Rattle.polynomials.specs.Order.{Rank, IsMonomialOrder, compare}
 use Rattle.polynomials.specs.Polynomial.{Arity, Falls}
 use Rattle.polynomials.specs.Terms.{Terms}
@@ -22,11 +22,11 @@ use Rattle.frac128.specs.declared.fraction.Frac.{Frac}
 use Rattle.frac128.specs.FracMeaning.{fraction_of}
 use Rattle.poly.specs.declared.Term.{Term}
 use Rattle.poly.specs.View.{terms_of}
-use Rattle.turns.specs.Expo.{tail, with_key, backward_terms, power_key, up_part, down_part, power_terms}
-use Rattle.turns.specs.Turns.{width}
-use Rattle.turns.proofs.Operations.{key_with, tail_with}
+use Rattle.solvable_maps.specs.Expo.{tail, with_key, backward_terms, power_key, up_part, down_part, power_terms}
+use Rattle.solvable_maps.specs.Turns.{width}
+use Rattle.solvable_maps.proofs.Operations.{key_with, tail_with}
 use Rattle.exponentials.proofs.Units.{Room, room_long}
-use Rattle.expo.specs.Exponents.{backward_exponents}
+use Rattle.solvable_maps.specs.NormalExponents.{backward_exponents}
 
 abbrev pub Differ : {A : Type 0} → Terms A → Type 0
 Differ [] = Unit {0}

@@ -10,11 +10,11 @@ use Rattle.std.specs.List.{slice_get}
 use Rattle.std.proofs.lemmas.List.{drop-map, length-map, length-append, length-replicate, map-append, replicate_more}
 use Rattle.std.proofs.lemmas.Option.{none-some, same_Some}
 use Rattle.std.proofs.Math.Seq.{drop-length}
-use Rattle.rings.specs.Each.{Each}
-use Rattle.rings.specs.Ring.{CommRing}
-use Rattle.numbers.specs.Fraction.{Fraction, ℚ, fraction_size, whole, inverse}
-use Rattle.numbers.proofs.Fractions.{ℚ_ring}
-use Rattle.rings.proofs.RingSolver.{ring_rules, ring}
+use Rattle.algebra.specs.Each.{Each}
+use Rattle.algebra.specs.Ring.{CommRing}
+use Rattle.algebra.specs.Fraction.{Fraction, ℚ, fraction_size, whole, inverse}
+use Rattle.algebra.proofs.Fractions.{ℚ_ring}
+use Rattle.algebra.proofs.RingSolver.{ring_rules, ring}
 use Rattle.polynomials.specs.Algebra as Algebra
 use Rattle.polynomials.specs.Exponent.{exponents, unit_exponents, lcm}
 use Rattle.polynomials.specs.Terms.{Terms, Same, AllSame, constant, variables, times, negate, lists}
@@ -22,9 +22,9 @@ use Rattle.polynomials.specs.Weight.{weight, degrees}
 use Rattle.polynomials.proofs.Arity.{AllLong, unit_exponents_long, length-units, zeros-plus}
 use Rattle.polynomials.proofs.Algebra.{coefficient-cons}
 use Rattle.polynomials.proofs.Same.{Same-refl, AllSame-refl}
-use Rattle.turns.specs.Expo.{next_images, zero_images}
-use Rattle.turns.specs.Shifts.{over}
-use Rattle.turns.specs.Turns.{width}
+use Rattle.solvable_maps.specs.Expo.{next_images, zero_images}
+use Rattle.solvable_maps.specs.Shifts.{over}
+use Rattle.solvable_maps.specs.Turns.{width}
 use Rattle.expo.specs.Images.{IsMultiple, LikeIn, more, multiples}
 
 abbrev R : CommRing Fraction

@@ -3,18 +3,18 @@
 --   one_expo           one for its values
 --   members_of_expo    the coefficients are in an ideal;  expo_vanishes: they are zero at a state
 use Rattle.std.proofs.Common.{◌≡◌, ℕ, List, length, sym, ap, subst, ◌∙◌}
-use Rattle.numbers.specs.Fraction.{Fraction, ℚ}
+use Rattle.algebra.specs.Fraction.{Fraction, ℚ}
 use Rattle.polynomials.specs.Order.{grevlex}
 use Rattle.polynomials.specs.Polynomial.{AllArity, IsPolynomial}
 use Rattle.polynomials.specs.Terms.{Terms, value_at}
 use Rattle.polynomials.proofs.Orders.{grevlex_order}
 use Rattle.ideals.specs.Members.{IsMember}
 use Rattle.poly.specs.Seen.{terms_in}
-use Rattle.turns.specs.Turns.{point, width, IsNormal}
-use Rattle.turns.proofs.Numbers.{one_form, members_of_parts, parts_vanish}
+use Rattle.solvable_maps.specs.Turns.{point, width, IsNormal}
+use Rattle.solvable_maps.proofs.Numbers.{one_form, members_of_parts, parts_vanish}
 use Rattle.expo.specs.declared.exponential.Expo.{Expo}
 use Rattle.expo.specs.View.{base_of, value_of, count_of, part_of, turn_of, HasValues}
-use Rattle.expo.proofs.Normal.{kept_stay, stay_normal}
+use Rattle.solvable_maps.proofs.Normal.{kept_stay, stay_normal}
 use Rattle.expo.proofs.Results.{expo_arity}
 
 pub expo_polynomial : (e : Expo) → IsPolynomial ℚ grevlex (width (length (base_of e)) e.vars)

@@ -1,5 +1,3 @@
-pub mod Normal
-pub mod Shifted
 pub mod Ratios
 pub mod Powering
 pub mod Sides

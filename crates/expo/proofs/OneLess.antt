@@ -2,10 +2,10 @@
 --   before_values      its values
 --   before_is          it has the terms of the definition
 use Rattle.std.proofs.Common.{◌≡◌, ℕ, suc, pos, ◌+◌, List, ◌∷◌, ◌++◌, length, sym, ap, ap₂, subst, ◌∙◌, arith}
-use Rattle.rings.specs.Arithmetic.{power}
-use Rattle.rings.proofs.RingLaws as L
-use Rattle.numbers.specs.Fraction.{Fraction, ℚ, whole, opposite, inverse, rationals}
-use Rattle.numbers.proofs.Fractions.{ℚ_ring, ℚ_field}
+use Rattle.algebra.specs.Arithmetic.{power}
+use Rattle.algebra.proofs.RingLaws as L
+use Rattle.algebra.specs.Fraction.{Fraction, ℚ, whole, opposite, inverse, rationals}
+use Rattle.algebra.proofs.Fractions.{ℚ_ring, ℚ_field}
 use Rattle.polynomials.specs.Order.{grevlex}
 use Rattle.polynomials.specs.Polynomial.{Arity, IsPolynomial}
 use Rattle.polynomials.specs.Terms.{Terms, value_at, compose}
@@ -14,19 +14,19 @@ use Rattle.polynomials.proofs.Orders.{grevlex_order}
 use Rattle.machines.specs.Collect.{collect}
 use Rattle.machines.proofs.Collecting.{collect-polynomial}
 use Rattle.poly.specs.Seen.{terms_in}
-use Rattle.turns.specs.Expo.{next_images, backward_terms, one_before}
-use Rattle.turns.specs.Turns.{powers, inverses, sign, point, back_point, width, IsNormal}
-use Rattle.turns.proofs.Lengths.{arity-turned_back}
-use Rattle.turns.proofs.Numbers.{one_form}
-use Rattle.turns.proofs.OneForm.{next_back_value, before-value, all_values}
-use Rattle.turns.proofs.Operations.{turned_value, back-value}
+use Rattle.solvable_maps.specs.Expo.{next_images, backward_terms, one_before}
+use Rattle.solvable_maps.specs.Turns.{powers, inverses, sign, point, back_point, width, IsNormal}
+use Rattle.solvable_maps.proofs.Lengths.{arity-turned_back}
+use Rattle.solvable_maps.proofs.Numbers.{one_form}
+use Rattle.solvable_maps.proofs.OneForm.{next_back_value, before-value, all_values}
+use Rattle.solvable_maps.proofs.Operations.{turned_value, back-value}
 use Rattle.expo.specs.declared.exponential.Expo.{Expo}
 use Rattle.expo.specs.Operations.{at_next, backward_of, before_of, IsOver}
 use Rattle.expo.specs.View.{base_of, value_of}
 use Rattle.expo.proofs.Independence.{expo_polynomial, expo_normal}
-use Rattle.expo.proofs.Normal.{AllStay, collect_stay, kept_stay, stay_normal, turned_stay}
+use Rattle.solvable_maps.proofs.Normal.{AllStay, collect_stay, kept_stay, stay_normal, turned_stay}
 use Rattle.expo.proofs.Results.{expo_arity}
-use Rattle.expo.proofs.Shifted.{arity-next, compose_stay}
+use Rattle.solvable_maps.proofs.Shifted.{arity-next, compose_stay}
 use Rattle.expo.proofs.Values.{collected}
 
 module _ (e b f g : Expo) (one : IsOver e (backward_of e) b) (two : IsOver b (at_next b) f)

@@ -3,7 +3,7 @@
 use Rattle.std.proofs.Common.{◌≡◌, ℕ, ◌+◌, ◌*◌, ◌^◌, ◌<◌, ◌≤◌, sym, ap, subst, ◌∙◌, arith}
 use native.Mathlib.Nat as N
 use Rattle.std.proofs.lemmas.Grind.{pow_more}
-use Rattle.numbers.proofs.RatioLaws.{mul-pos}
+use Rattle.algebra.proofs.RatioLaws.{mul-pos}
 use Rattle.coprime_base.proofs.Dividing.{few_times}
 
 pub record Raised (by number times found : ℕ) : Type 0 where

@@ -10,14 +10,14 @@ use Rattle.std.proofs.Common.{◌≡◌, ◌≢◌, ◌⊎◌, inl, inr, ℕ, ze
 use Rattle.std.specs.Result.{IsErrOf}
 use native.Mathlib.Nat as N
 use Rattle.std.proofs.lemmas.Bool.{cases_lt}
-use Rattle.rings.specs.Each.{Each}
-use Rattle.numbers.specs.Gcd.{gcd}
-use Rattle.numbers.specs.Ratio.{Ratio, ratio, ratio_size, IsLowest}
-use Rattle.numbers.specs.Fraction.{Fraction, ℚ, fraction, fraction_size, whole}
-use Rattle.numbers.specs.Size.{Size, IsPast}
-use Rattle.numbers.proofs.Fractions.{ℚ_ring, ratio-fraction}
-use Rattle.numbers.proofs.RatioLaws.{mul-pos, reduce_value_is}
-use Rattle.numbers.proofs.SizeLaws.{fractions_bounded}
+use Rattle.algebra.specs.Each.{Each}
+use Rattle.algebra.specs.Gcd.{gcd}
+use Rattle.algebra.specs.Ratio.{Ratio, ratio, ratio_size, IsLowest}
+use Rattle.algebra.specs.Fraction.{Fraction, ℚ, fraction, fraction_size, whole}
+use Rattle.algebra.specs.Size.{Size, IsPast}
+use Rattle.algebra.proofs.Fractions.{ℚ_ring, ratio-fraction}
+use Rattle.algebra.proofs.RatioLaws.{mul-pos, reduce_value_is}
+use Rattle.algebra.proofs.SizeLaws.{fractions_bounded}
 use Rattle.vectors.proofs.FractionEigen.{times_bottom}
 use Rattle.exponentials.specs.Base.{Coprime, product}
 use Rattle.exponentials.specs.Powers.{number, negate_if}

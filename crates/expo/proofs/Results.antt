@@ -6,10 +6,10 @@
 --   expo_arity, other_arity          how many exponents the terms have;  mul_is: the product
 use Rattle.std.proofs.Common.{◌≡◌, inl, inr, ◌≤◌, ℕ, ◌-◌, List, [], ◌∷◌, length, Result, Ok, Err, refl, sym, ap, ap₂, subst, ◌∙◌, arith}
 use Rattle.std.specs.Result.{IfOk}
-use Rattle.numbers.specs.Fraction.{Fraction, ℚ, fractions, fraction_size, rationals}
-use Rattle.numbers.specs.Size.{IsPast, sizes, sum_size}
-use Rattle.numbers.proofs.Fractions.{ℚ_ring, ℚ_field, fractions_ring}
-use Rattle.numbers.proofs.SizeLaws.{fractions_bounded, past_under}
+use Rattle.algebra.specs.Fraction.{Fraction, ℚ, fractions, fraction_size, rationals}
+use Rattle.algebra.specs.Size.{IsPast, sizes, sum_size}
+use Rattle.algebra.proofs.Fractions.{ℚ_ring, ℚ_field, fractions_ring}
+use Rattle.algebra.proofs.SizeLaws.{fractions_bounded, past_under}
 use Rattle.polynomials.specs.Order.{grevlex}
 use Rattle.polynomials.specs.Polynomial.{Arity, AllArity, IsPolynomial}
 use Rattle.polynomials.specs.Terms.{Terms, Same, times, evaluate, compose}
@@ -23,16 +23,16 @@ use Rattle.polynomials.proofs.Weight.{weight-pos, weight_of_polynomial}
 use Rattle.machines.specs.Collect.{collect}
 use Rattle.machines.proofs.Collecting.{collect-same, collect-polynomial, collect-is}
 use Rattle.poly.specs.Seen.{terms_in}
-use Rattle.turns.specs.Expo.{with_normal_keys, next_images}
-use Rattle.turns.specs.Turns.{width}
+use Rattle.solvable_maps.specs.Expo.{with_normal_keys, next_images}
+use Rattle.solvable_maps.specs.Turns.{width}
 use Rattle.expo.specs.declared.exponential.Expo.{Expo}
 use Rattle.expo.specs.Images.{LikeIn}
 use Rattle.expo.specs.Operations.{normal_of, vars_of, product_of, IsOver}
 use Rattle.expo.specs.View.{base_of, IsExpo}
-use Rattle.expo.proofs.Normal.{AllStay, collect_stay}
-use Rattle.turns.proofs.Lengths.{arity-normalized}
-use Rattle.turns.proofs.Retold.{same_normalized}
-use Rattle.expo.proofs.Shifted.{arity-next}
+use Rattle.solvable_maps.proofs.Normal.{AllStay, collect_stay}
+use Rattle.solvable_maps.proofs.Lengths.{arity-normalized}
+use Rattle.solvable_maps.proofs.Retold.{same_normalized}
+use Rattle.solvable_maps.proofs.Shifted.{arity-next}
 
 pub collected_is : (w : ℕ) (q ts : Terms Fraction) → Arity w ts → IsPolynomial ℚ grevlex w q
     → Same ℚ q ts → q ≡ collect rationals grevlex ts

@@ -5,16 +5,16 @@
 --   other_row_is, equal_row_is   a row has no more than the numbers above it
 --   delta_same, delta_less   where the power of n stands
 use Rattle.std.proofs.Common.{◌≡◌, ℕ, zero, suc, ◌+◌, ◌-◌, ◌<◌, ◌≤◌, pos, Bool, true, false, cond, List, [], ◌∷◌, ◌++◌, refl, sym, ap, ap₂, subst, ◌∙◌, arith}
-use Rattle.rings.specs.Ring.{CommRing, operations, of_nat}
-use Rattle.rings.specs.Sum.{sum_over}
-use Rattle.rings.proofs.Sums as Sums
-use Rattle.numbers.specs.Fraction.{Fraction, ℚ, fraction_size, whole, inverse}
-use Rattle.numbers.specs.Size.{Size, size, sizes, sum_size, product_size, IsPast, IsUnder}
-use Rattle.numbers.proofs.Fractions.{ℚ_ring}
-use Rattle.numbers.proofs.LcmLaws.{lcm-pos}
-use Rattle.numbers.proofs.SizeLaws.{fractions_bounded, under_refl, under_trans, under-sum, sum-left, sum_size_assoc, zero-sum_size, past_under}
-use Rattle.numbers.proofs.ProductSizes.{product_within, product_den-pos}
-use Rattle.numbers.proofs.Wholes.{of_nat-whole}
+use Rattle.algebra.specs.Ring.{CommRing, operations, of_nat}
+use Rattle.algebra.specs.Sum.{sum_over}
+use Rattle.algebra.proofs.Sums as Sums
+use Rattle.algebra.specs.Fraction.{Fraction, ℚ, fraction_size, whole, inverse}
+use Rattle.algebra.specs.Size.{Size, size, sizes, sum_size, product_size, IsPast, IsUnder}
+use Rattle.algebra.proofs.Fractions.{ℚ_ring}
+use Rattle.algebra.proofs.LcmLaws.{lcm-pos}
+use Rattle.algebra.proofs.SizeLaws.{fractions_bounded, under_refl, under_trans, under-sum, sum-left, sum_size_assoc, zero-sum_size, past_under}
+use Rattle.algebra.proofs.ProductSizes.{product_within, product_den-pos}
+use Rattle.algebra.proofs.Wholes.{of_nat-whole}
 use Rattle.exponentials.specs.Table.{alike, choose, numbers, sum_numbers, delta, binomial_term}
 use Rattle.exponentials.proofs.Lists.{sum_same, sum_alike}
 use Rattle.exponentials.proofs.Table.{each_number}

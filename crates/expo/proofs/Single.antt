@@ -9,11 +9,11 @@ use Rattle.polynomials.specs.Exponent.{unit_exponents}
 use Rattle.std.specs.Ordering.{nat_cmp, ordering_then}
 use Rattle.std.specs.Cmp.Lexicographic.{slice_cmp}
 use Rattle.std.proofs.lemmas.Option.{same_Some}
-use Rattle.rings.proofs.Lists.{sum_zeros}
-use Rattle.rings.specs.Each.{Each}
-use Rattle.rings.proofs.RingLaws.{neg-neg, neg-zero}
-use Rattle.numbers.specs.Fraction.{Fraction, ℚ}
-use Rattle.numbers.proofs.Fractions.{ℚ_ring}
+use Rattle.algebra.proofs.Lists.{sum_zeros}
+use Rattle.algebra.specs.Each.{Each}
+use Rattle.algebra.proofs.RingLaws.{neg-neg, neg-zero}
+use Rattle.algebra.specs.Fraction.{Fraction, ℚ}
+use Rattle.algebra.proofs.Fractions.{ℚ_ring}
 use Rattle.polynomials.specs.Order.{compare, grevlex}
 use Rattle.polynomials.specs.Polynomial.{IsPolynomial, Falls}
 use Rattle.polynomials.specs.Terms.{Terms, Same, constant}

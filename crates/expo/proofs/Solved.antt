@@ -12,18 +12,18 @@ use Rattle.std.proofs.Common.{◌≡◌, ◌≢◌, inl, inr, ℕ, zero, suc, �
 use Rattle.std.specs.Ordering.{int_eq}
 use Rattle.std.specs.Result.{IsErrOf, IsErrAnd}
 use Rattle.std.proofs.lemmas.List.{length-append, length-replicate}
-use Rattle.rings.specs.Each.{Each}
-use Rattle.rings.proofs.Each.{each-append}
-use Rattle.numbers.specs.Fraction.{Fraction, ℚ, opposite}
+use Rattle.algebra.specs.Each.{Each}
+use Rattle.algebra.proofs.Each.{each-append}
+use Rattle.algebra.specs.Fraction.{Fraction, ℚ, opposite}
 use Rattle.polynomials.specs.Polynomial.{Arity}
 use Rattle.polynomials.specs.Terms.{Terms}
 use Rattle.exponentials.specs.Base.{Coprime}
 use Rattle.frac128.specs.declared.fraction.Frac.{Frac}
 use Rattle.frac128.specs.FracMeaning.{fraction_of, fraction_decides, frac_eq_is}
 use Rattle.exponentials.specs.Keys.{Key, IsNormalKey}
-use Rattle.turns.specs.Expo.{with_key, power_terms, other_terms, equal_terms, IsSolution}
-use Rattle.turns.specs.Turns.{width}
-use Rattle.turns.proofs.Solving.{other_solution, equal_solution}
+use Rattle.solvable_maps.specs.Expo.{with_key, power_terms, other_terms, equal_terms, IsSolution}
+use Rattle.solvable_maps.specs.Turns.{width}
+use Rattle.solvable_maps.proofs.Solving.{other_solution, equal_solution}
 use Rattle.ring_laws.specs.declared.ArithmeticError.{ArithmeticError}
 use Rattle.ring_laws.specs.declared.ArithmeticError.TheVariants.{Wide}
 use Rattle.expo.specs.declared.exponential.Expo.{Expo}
@@ -32,9 +32,9 @@ use Rattle.expo.specs.Powers.{number_of, key_of_power}
 use Rattle.expo.specs.Solutions.{AreTabled, different, same, IsPastTable, IsTabled, IsPastSolution, other, equal}
 use Rattle.expo.specs.View.{IsExpo}
 use Rattle.expo.proofs.Distinct.{Differ, differ_powers, differ_other, keys_apart}
-use Rattle.expo.proofs.Normal.{Stays, AllStay, exponents_stay, power_stay, power_key_normal}
+use Rattle.solvable_maps.proofs.Normal.{Stays, AllStay, exponents_stay, power_stay, power_key_normal}
 use Rattle.expo.proofs.Ratios.{number_nonzero}
-use Rattle.turns.proofs.Realized.{lengths_agree}
+use Rattle.solvable_maps.proofs.Realized.{lengths_agree}
 
 pub record AreParts (bs : List ℕ) (m : ℕ) (ts : Terms Fraction) : Type 0 where
   pub arity : Arity (width (length bs) m) ts

@@ -5,15 +5,15 @@
 --   normal_parts                 exponents cut where n, s, the u and the v end;  normal_long: as many made normal
 --   even_sign, odd_sign          the sign at -n, of the exponent of n
 use Rattle.std.proofs.Common.{◌≡◌, ◌≢◌, ℕ, zero, suc, ◌-◌, ◌%◌, ◌≤◌, List, [], ◌∷◌, ◌++◌, length, take, drop, get_or, refl, sym, ap, ap₂, ◌∙◌, arith, append_assoc}
-use Rattle.rings.proofs.RingLaws.{neg-neg}
-use Rattle.numbers.specs.Fraction.{Fraction, opposite}
-use Rattle.numbers.proofs.Fractions.{ℚ_ring}
+use Rattle.algebra.proofs.RingLaws.{neg-neg}
+use Rattle.algebra.specs.Fraction.{Fraction, opposite}
+use Rattle.algebra.proofs.Fractions.{ℚ_ring}
 use Rattle.polynomials.specs.Terms.{Terms}
 use Rattle.exponentials.specs.Keys.{excess, parity, rest, top, key_of}
-use Rattle.turns.specs.Expo.{with_normal_keys, backward_terms, backward_sign, tail}
-use Rattle.expo.specs.Exponents.{normal_exponents, backward_exponents}
-use Rattle.turns.specs.Turns.{width}
-use Rattle.expo.proofs.Normal.{normalized-push, turned-push, normal-length}
+use Rattle.solvable_maps.specs.Expo.{with_normal_keys, backward_terms, backward_sign, tail}
+use Rattle.solvable_maps.specs.NormalExponents.{normal_exponents, backward_exponents}
+use Rattle.solvable_maps.specs.Turns.{width}
+use Rattle.solvable_maps.proofs.Normal.{normalized-push, turned-push, normal-length}
 
 pub step_normal : (r : ℕ) (p p' out news : Terms Fraction) (t u : List ℕ × Fraction)
     → p' ≡ p ++ t ∷ [] → news ≡ out ++ u ∷ [] → u.0 ≡ normal_exponents r t.0 → u.1 ≡ t.1

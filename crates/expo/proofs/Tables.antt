@@ -6,13 +6,13 @@
 --   other_step, equal_step               one row more
 use Rattle.std.proofs.Common.{◌≡◌, ◌≢◌, ◌⊎◌, inl, inr, ℕ, zero, suc, ◌+◌, ◌-◌, ◌<◌, ◌≤◌, pos, List, map, get_or, length, replicate, set, refl, sym, ap, ap₂, subst, ◌∙◌, arith}
 use Rattle.std.proofs.lemmas.List.{get_or-map, get_or-set_same, get_or-set_other, length-set, map-set}
-use Rattle.numbers.specs.Fraction.{Fraction, ℚ, fraction_size, whole, inverse}
-use Rattle.numbers.proofs.Fractions.{ℚ_ring, ℚ_field}
-use Rattle.numbers.proofs.Wholes.{of_nat-whole}
-use Rattle.rings.proofs.RingLaws.{one-mul, zero-mul, eq_of_sub}
+use Rattle.algebra.specs.Fraction.{Fraction, ℚ, fraction_size, whole, inverse}
+use Rattle.algebra.proofs.Fractions.{ℚ_ring, ℚ_field}
+use Rattle.algebra.proofs.Wholes.{of_nat-whole}
+use Rattle.algebra.proofs.RingLaws.{one-mul, zero-mul, eq_of_sub}
 use Rattle.exponentials.specs.Table.{sum_numbers, binomial_term, above, delta, IsOther, IsEqual}
 use Rattle.exponentials.proofs.Table.{choose_same, choose_next}
-use Rattle.numbers.specs.Size.{IsPast, sum_size, quotient_size}
+use Rattle.algebra.specs.Size.{IsPast, sum_size, quotient_size}
 use Rattle.frac128.specs.declared.fraction.Frac.{Frac}
 use Rattle.frac128.specs.FracMeaning.{fraction_of}
 use Rattle.frac128.specs.Sums.{SumIsPast}

@@ -3,9 +3,9 @@
 --   normal_values, product_values, shifted_values, turned_values, sum_values     of the operations
 --   solution_is          a solution's terms, collected
 use Rattle.std.proofs.Common.{◌≡◌, ℕ, suc, pos, List, ◌++◌, length, sym, ap, ap₂, subst, ◌∙◌}
-use Rattle.rings.specs.Arithmetic.{power}
-use Rattle.numbers.specs.Fraction.{Fraction, ℚ, rationals, whole}
-use Rattle.numbers.proofs.Fractions.{ℚ_ring, ℚ_field}
+use Rattle.algebra.specs.Arithmetic.{power}
+use Rattle.algebra.specs.Fraction.{Fraction, ℚ, rationals, whole}
+use Rattle.algebra.proofs.Fractions.{ℚ_ring, ℚ_field}
 use Rattle.polynomials.specs.Order.{grevlex}
 use Rattle.polynomials.specs.Polynomial.{Arity}
 use Rattle.polynomials.specs.Terms.{Terms, times, compose, value_at}
@@ -15,9 +15,9 @@ use Rattle.polynomials.proofs.ValueAt.{value_at_same, value_at-append, value_at-
 use Rattle.machines.specs.Collect.{collect}
 use Rattle.machines.proofs.Collecting.{collect-same}
 use Rattle.exponentials.specs.Base.{Coprime}
-use Rattle.turns.specs.Expo.{with_normal_keys, backward_terms, next_images, IsSolution}
-use Rattle.turns.specs.Turns.{point, back_point, width}
-use Rattle.turns.proofs.Operations.{normal-value, next-value, back-value}
+use Rattle.solvable_maps.specs.Expo.{with_normal_keys, backward_terms, next_images, IsSolution}
+use Rattle.solvable_maps.specs.Turns.{point, back_point, width}
+use Rattle.solvable_maps.proofs.Operations.{normal-value, next-value, back-value}
 use Rattle.expo.specs.declared.exponential.Expo.{Expo}
 use Rattle.expo.specs.View.{value_of, HasValues, IsExpo}
 

@@ -4,9 +4,9 @@
 --   numbers_count                as many as there are
 use Rattle.std.proofs.Common.{◌≡◌, ◌≢◌, ◌<◌, ℕ, zero, suc, pos, Bool, true, false, List, [], ◌∷◌, map, length, drop, get_or, unsigned_abs, refl, sym, ap, subst, ◌∙◌, arith}
 use Rattle.std.proofs.lemmas.List.{length-map}
-use Rattle.rings.proofs.FieldLaws as FL
-use Rattle.numbers.specs.Fraction.{Fraction, ℚ, whole}
-use Rattle.numbers.proofs.Fractions.{ℚ_field}
+use Rattle.algebra.proofs.FieldLaws as FL
+use Rattle.algebra.specs.Fraction.{Fraction, ℚ, whole}
+use Rattle.algebra.proofs.Fractions.{ℚ_field}
 use Rattle.exponentials.specs.Base.{Coprime}
 use Rattle.frac128.specs.declared.Whole.{Whole}
 use Rattle.coprime_base.specs.Sizes.{sizes}

@@ -5,13 +5,13 @@ use Rattle.std.proofs.Common.{◌≡◌, ℕ, ◌<◌, List, [], ◌∷◌, leng
 use Rattle.std.specs.Coded.{le_prop}
 use mathlib.Core.List
 use native.Mathlib.Nat.{ℕ_set}
-use Rattle.rings.proofs.Each.{each_prop}
-use Rattle.numbers.specs.Fraction.{Fraction}
-use Rattle.numbers.specs.Gcd.{gcd}
-use Rattle.numbers.proofs.Fractions.{ℚ_ring}
+use Rattle.algebra.proofs.Each.{each_prop}
+use Rattle.algebra.specs.Fraction.{Fraction}
+use Rattle.algebra.specs.Gcd.{gcd}
+use Rattle.algebra.proofs.Fractions.{ℚ_ring}
 use Rattle.polynomials.specs.Terms.{Terms}
 use Rattle.exponentials.specs.Base.{Coprime, Ascending}
-use Rattle.turns.specs.Expo.{with_normal_keys}
+use Rattle.solvable_maps.specs.Expo.{with_normal_keys}
 
 abbrev pub IsCoprimeBase : List ℕ → Type 0
 IsCoprimeBase bs = Coprime bs × Ascending bs

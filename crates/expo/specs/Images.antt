@@ -5,7 +5,7 @@
 --   multiples m cs ps      each of ps, in m variables, times its number of cs
 --   factor inverted b       the number b, or its inverse;  factors_of inverted bs: those of a base
 use Rattle.std.specs.Prelude.{◌≡◌, ℕ, zero, suc, pos, Bool, cond, List, [], ◌∷◌, map, replicate, slice_get, Some}
-use Rattle.numbers.specs.Fraction.{Fraction, ℚ, fraction_size, whole, inverse}
+use Rattle.algebra.specs.Fraction.{Fraction, ℚ, fraction_size, whole, inverse}
 use Rattle.polynomials.specs.Exponent.{unit_exponents}
 use Rattle.polynomials.specs.Terms.{Terms, AllSame, constant, times}
 use Rattle.polynomials.specs.Weight.{weight, degrees}

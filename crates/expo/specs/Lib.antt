@@ -1,5 +1,4 @@
 pub mod Bases
-pub mod Exponents
 pub mod Images
 pub mod Numbers
 pub mod Operations

@@ -1,7 +1,7 @@
 -- Numbers in a list.
 --   number_at xs j     the number at the place j, and zero behind the last
 use Rattle.std.specs.Prelude.{ℕ, List, map, get_or}
-use Rattle.numbers.specs.Fraction.{Fraction, ℚ}
+use Rattle.algebra.specs.Fraction.{Fraction, ℚ}
 use Rattle.frac128.specs.declared.fraction.Frac.{Frac}
 use Rattle.frac128.specs.FracMeaning.{fraction_of}
 

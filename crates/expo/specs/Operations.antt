@@ -8,13 +8,13 @@
 --   IsPastProductOf e f, IsPastSumOf e f, IsPastNext e, IsPastZero e     what is past in making them
 --   IsPastBefore e, IsPastTurn e n  the same at n - 1, and at n turns
 use Rattle.std.specs.Prelude.{◌⊎◌, ℕ, ◌-◌, List, ◌++◌, length}
-use Rattle.numbers.specs.Fraction.{Fraction, ℚ, fractions, rationals}
+use Rattle.algebra.specs.Fraction.{Fraction, ℚ, fractions, rationals}
 use Rattle.polynomials.specs.Order.{grevlex}
 use Rattle.polynomials.specs.Terms.{Terms, times, compose}
 use Rattle.polynomials.specs.Weight.{IsPastSum, IsPastProduct, IsPastComposition}
 use Rattle.machines.specs.Collect.{collect}
-use Rattle.turns.specs.Expo.{with_normal_keys, backward_terms, next_images, zero_images, one_before}
-use Rattle.turns.specs.Turns.{width}
+use Rattle.solvable_maps.specs.Expo.{with_normal_keys, backward_terms, next_images, zero_images, one_before}
+use Rattle.solvable_maps.specs.Turns.{width}
 use Rattle.poly.specs.Seen.{terms_in}
 use Rattle.expo.specs.declared.exponential.Expo.{Expo}
 use Rattle.expo.specs.Points.{turn_images, IsPastPoint}

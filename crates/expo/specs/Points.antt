@@ -5,13 +5,13 @@
 --   IsPastPower x n         a power of x, up to the n-th, does not fit
 --   IsPastPoint base n      that is so of a number of the base, or of its inverse
 use Rattle.std.specs.Prelude.{◌⊎◌, ◌≤◌, ℕ, zero, suc, pos, Bool, List, [], ◌∷◌, ◌++◌, map}
-use Rattle.rings.specs.Arithmetic.{power}
-use Rattle.rings.specs.In.{In}
-use Rattle.numbers.specs.Fraction.{Fraction, ℚ, fraction_size, whole, inverse}
-use Rattle.numbers.specs.Size.{IsPast}
+use Rattle.algebra.specs.Arithmetic.{power}
+use Rattle.algebra.specs.In.{In}
+use Rattle.algebra.specs.Fraction.{Fraction, ℚ, fraction_size, whole, inverse}
+use Rattle.algebra.specs.Size.{IsPast}
 use Rattle.polynomials.specs.Terms.{Terms, constant, variables}
 use Rattle.expo.specs.Images.{factor}
-use Rattle.turns.specs.Turns.{powers, inverses, sign}
+use Rattle.solvable_maps.specs.Turns.{powers, inverses, sign}
 
 abbrev pub number_image : ℕ → ℕ → Terms Fraction
 number_image m zero = []

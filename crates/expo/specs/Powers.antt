@@ -6,12 +6,12 @@
 --   side_product base below e    the product of the powers on that side
 --   key_in k                exponents of s, u and v;  arity_with k m: how many exponents stand in a monomial with them and m variables
 use Rattle.std.specs.Prelude.{ℕ, ◌+◌, ℤ, Bool, List, cond, map, length}
-use Rattle.numbers.specs.Fraction.{Fraction, fraction_size}
-use Rattle.numbers.specs.Size.{IsPast}
+use Rattle.algebra.specs.Fraction.{Fraction, fraction_size}
+use Rattle.algebra.specs.Size.{IsPast}
 use Rattle.exponentials.specs.Base.{product}
 use Rattle.exponentials.specs.Keys as keys
 use Rattle.exponentials.specs.Powers.{number, negate_if}
-use Rattle.turns.specs.Expo.{power_key, up_part, down_part}
+use Rattle.solvable_maps.specs.Expo.{power_key, up_part, down_part}
 use Rattle.expo.specs.declared.powers.Key.{Key}
 use Rattle.expo.specs.declared.powers.Power.{Power}
 

@@ -7,10 +7,10 @@
 --   IsPastBehind q i j n      the same of a sum behind a place
 --   IsPastOther σ l a, IsPastEqual l a      an operation of a row is past, where the rows above it are known
 use Rattle.std.specs.Prelude.{◌≡◌, ◌⊎◌, ℕ, suc, ◌+◌, ◌-◌, ◌<◌, ◌≤◌, pos}
-use Rattle.rings.specs.Sum.{sum_over}
-use Rattle.numbers.specs.Fraction.{Fraction, ℚ, fraction_size, whole, inverse}
-use Rattle.numbers.specs.Size.{sizes, sum_size, product_size, quotient_size, IsPast}
-use Rattle.numbers.proofs.Fractions.{ℚ_ring}
+use Rattle.algebra.specs.Sum.{sum_over}
+use Rattle.algebra.specs.Fraction.{Fraction, ℚ, fraction_size, whole, inverse}
+use Rattle.algebra.specs.Size.{sizes, sum_size, product_size, quotient_size, IsPast}
+use Rattle.algebra.proofs.Fractions.{ℚ_ring}
 use Rattle.exponentials.specs.Table.{choose, numbers, delta, binomial_term, above, sum_numbers}
 
 abbrev pub binomial : ℕ → ℕ → Fraction

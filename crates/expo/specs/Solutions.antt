@@ -8,13 +8,13 @@
 --   IsTabled base m a source own e      e has the terms that the table gives for the numbers of source and own
 --   IsPastSolution base a source own    one of these numbers does not fit, or an operation of the table is past
 use Rattle.std.specs.Prelude.{◌≡◌, ◌≢◌, ◌⊎◌, ℕ, List}
-use Rattle.numbers.specs.Fraction.{Fraction}
-use Rattle.numbers.proofs.Fractions.{ℚ_field}
+use Rattle.algebra.specs.Fraction.{Fraction}
+use Rattle.algebra.proofs.Fractions.{ℚ_field}
 use Rattle.polynomials.specs.Terms.{Terms}
 use Rattle.exponentials.specs.Keys.{Key}
 use Rattle.exponentials.specs.Table.{IsOther, IsEqual}
 use Rattle.poly.specs.Seen.{terms_in}
-use Rattle.turns.specs.Expo.{other_terms, equal_terms, IsSolution}
+use Rattle.solvable_maps.specs.Expo.{other_terms, equal_terms, IsSolution}
 use Rattle.expo.specs.declared.exponential.Expo.{Expo}
 use Rattle.expo.specs.declared.powers.Power.{Power}
 use Rattle.expo.specs.Powers.{number_of, key_of_power, IsPastNumber}

@@ -7,12 +7,12 @@
 --   turn_of e n            it at n turns: a polynomial in the variables
 --   IsExpo base m ts e     e is the polynomial ts over this base and m variables: its terms are these, collected
 use Rattle.std.specs.Prelude.{◌≡◌, ℕ, List, length}
-use Rattle.numbers.specs.Fraction.{Fraction, ℚ, rationals}
+use Rattle.algebra.specs.Fraction.{Fraction, ℚ, rationals}
 use Rattle.polynomials.specs.Order.{grevlex}
 use Rattle.polynomials.specs.Terms.{Terms, value_at}
 use Rattle.machines.specs.Collect.{collect}
-use Rattle.turns.specs.Expo.{at_turn, part}
-use Rattle.turns.specs.Turns.{point, width}
+use Rattle.solvable_maps.specs.Expo.{at_turn, part}
+use Rattle.solvable_maps.specs.Turns.{point, width}
 use Rattle.poly.specs.Seen.{terms_in}
 use Rattle.coprime_base.specs.Sizes.{sizes}
 use Rattle.expo.specs.declared.exponential.Expo.{Expo}

@@ -3,7 +3,7 @@ ghost use Rattle.std.specs.Prelude.{◌≡◌, ◌≤◌, [], length};
 ghost use Rattle.monos.specs.Variables.{most_variables};
 ghost use Rattle.poly.specs.Seen.{terms_in};
 ghost use Rattle.coprime_base.specs.Sizes.{sizes};
-ghost use Rattle.turns.specs.Turns.{width};
+ghost use Rattle.solvable_maps.specs.Turns.{width};
 ghost use Rattle.expo.specs.Bases.{IsCoprimeBase, IsOwnNormal, coprime_base_prop, own_normal_prop};
 
 use frac128::{Frac, Whole};

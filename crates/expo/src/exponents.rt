@@ -1,8 +1,8 @@
 //! The exponents of n, s, u, v and the variables in a monomial.
 ghost use Rattle.std.specs.Prelude.{◌≡◌, ◌≤◌, ◌++◌, length, IfOk, OnOk};
 ghost use Rattle.exponentials.specs.Keys.{excess};
-ghost use Rattle.turns.specs.Turns.{width};
-ghost use Rattle.expo.specs.Exponents.{normal_exponents, backward_exponents};
+ghost use Rattle.solvable_maps.specs.Turns.{width};
+ghost use Rattle.solvable_maps.specs.NormalExponents.{normal_exponents, backward_exponents};
 
 use monos::Mono;
 use std::alloc::{AllocError, Global};

@@ -1,13 +1,13 @@
 //! What stands for n, s, u, v and the variables at n + 1 and at 0.
 ghost use Rattle.std.specs.Prelude.{◌≡◌, ◌≢◌, ◌≤◌, ◌<◌, ◌+◌, ◌++◌, pos, All, drop, length, unsigned_abs, IfOk, OnOk};
-ghost use Rattle.numbers.specs.Fraction.{ℚ, whole};
+ghost use Rattle.algebra.specs.Fraction.{ℚ, whole};
 ghost use Rattle.polynomials.specs.Terms.{variables};
 ghost use Rattle.exponentials.specs.Base.{Coprime};
 ghost use Rattle.frac128.specs.FracMeaning.{fraction_of};
 ghost use Rattle.poly.specs.Seen.{terms_in, terms_each};
 ghost use Rattle.coprime_base.specs.Sizes.{sizes};
-ghost use Rattle.turns.specs.Expo.{next_images, zero_images};
-ghost use Rattle.turns.specs.Turns.{width};
+ghost use Rattle.solvable_maps.specs.Expo.{next_images, zero_images};
+ghost use Rattle.solvable_maps.specs.Turns.{width};
 ghost use Rattle.monos.specs.Variables.{most_variables};
 ghost use Rattle.expo.specs.Bases.{IsCoprimeBase};
 ghost use Rattle.expo.specs.Images.{IsMultiple, LikeIn, more, multiples, factor, factors_of};

@@ -1,7 +1,7 @@
 //! The laws of exponential polynomials, one function each.
 
 ghost use Rattle.std.specs.Prelude.{◌≡◌, ℕ, List, length};
-ghost use Rattle.numbers.specs.Fraction.{Fraction, ℚ};
+ghost use Rattle.algebra.specs.Fraction.{Fraction, ℚ};
 ghost use Rattle.polynomials.specs.Terms.{Terms, value_at};
 ghost use Rattle.polynomials.specs.Polynomial.{AllArity};
 ghost use Rattle.ideals.specs.Members.{IsMember};

@@ -1,4 +1,10 @@
-//! Polynomials in the number of turns, powers of a base and variables, and the recurrences that they solve: a layer above polynomials and bases.
+//! `Expo`: polynomials in the number of turns n, powers of a coprime base, a sign and variables; and the recurrences that they solve.
+//!
+//! Proved: each operation gives the normal list of the definition's, and with it its value at every n; over one base there is one `Expo`
+//! with given values; `solve_term` gives the solution of y(n+1) = λ y(n) + n^a σ^n with y(0) = 0; an ideal that has an `Expo` at each n has
+//! its coefficients.
+//!
+//! Notion: exponential polynomials and their recurrences.
 #![tactic(auto)]
 
 mod exponential;

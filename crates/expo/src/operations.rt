@@ -1,7 +1,7 @@
 //! Operations on exponential polynomials.
 ghost use Rattle.std.specs.Prelude.{◌≡◌, ◌≤◌, ◌<◌, ℕ, suc, List, All, length, IfOk, IsErrOf};
-ghost use Rattle.numbers.specs.Fraction.{Fraction, ℚ, fraction_size};
-ghost use Rattle.numbers.specs.Size.{IsPast};
+ghost use Rattle.algebra.specs.Fraction.{Fraction, ℚ, fraction_size};
+ghost use Rattle.algebra.specs.Size.{IsPast};
 ghost use Rattle.polynomials.specs.Terms.{value_at};
 ghost use Rattle.polynomials.specs.Weight.{weight};
 ghost use Rattle.exponentials.specs.Keys.{top};
@@ -10,8 +10,8 @@ ghost use Rattle.poly.specs.Seen.{terms_in};
 ghost use Rattle.poly.specs.Standing.{StandsFor};
 ghost use Rattle.poly.specs.View.{terms_of};
 ghost use Rattle.coprime_base.specs.Sizes.{sizes};
-ghost use Rattle.turns.specs.Expo.{with_normal_keys, backward_terms, backward_sign};
-ghost use Rattle.turns.specs.Turns.{back_point, point, width};
+ghost use Rattle.solvable_maps.specs.Expo.{with_normal_keys, backward_terms, backward_sign};
+ghost use Rattle.solvable_maps.specs.Turns.{back_point, point, width};
 ghost use Rattle.expo.specs.Bases.{IsCoprimeBase};
 
 use crate::Expo;

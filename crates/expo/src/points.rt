@@ -1,13 +1,13 @@
 //! What stands for n, s, u, v and the variables at a number of turns.
 ghost use Rattle.std.specs.Prelude.{◌≡◌, ◌<◌, ◌≤◌, ◌++◌, All, length, map, IfOk, OnOk, IsErr, IsErrOf};
-ghost use Rattle.rings.specs.Arithmetic.{power as power_in};
-ghost use Rattle.numbers.specs.Fraction.{ℚ};
+ghost use Rattle.algebra.specs.Arithmetic.{power as power_in};
+ghost use Rattle.algebra.specs.Fraction.{ℚ};
 ghost use Rattle.polynomials.specs.Terms.{constant};
 ghost use Rattle.exponentials.specs.Base.{Coprime};
 ghost use Rattle.frac128.specs.FracMeaning.{fraction_of};
 ghost use Rattle.poly.specs.Seen.{terms_in, terms_each};
 ghost use Rattle.coprime_base.specs.Sizes.{sizes};
-ghost use Rattle.turns.specs.Turns.{width, sign as sign_at};
+ghost use Rattle.solvable_maps.specs.Turns.{width, sign as sign_at};
 ghost use Rattle.monos.specs.Variables.{most_variables};
 ghost use Rattle.expo.specs.Points.{number_image, turn_images, powers_by, IsPastPower, IsPastPoint};
 

@@ -1,13 +1,13 @@
 //! Signed products of powers of a base.
 ghost use Rattle.std.specs.Prelude.{◌≡◌, ◌<◌, ◌≤◌, ◌*◌, ◌^◌, ◌⊎◌, pos, All, length, map, replicate, IfOk, IsErr, IsErrOf};
-ghost use Rattle.numbers.specs.Gcd.{gcd};
-ghost use Rattle.numbers.specs.Limits.{number_limit, word_limit, word_bits};
+ghost use Rattle.algebra.specs.Gcd.{gcd};
+ghost use Rattle.algebra.specs.Limits.{number_limit, word_limit, word_bits};
 ghost use Rattle.exponentials.specs.Base.{Coprime};
 ghost use Rattle.exponentials.specs.Powers.{negate_if};
 ghost use Rattle.frac128.specs.FracMeaning.{fraction_of};
 ghost use Rattle.frac128.specs.Sums.{over};
 ghost use Rattle.coprime_base.specs.Sizes.{sizes};
-ghost use Rattle.turns.specs.Expo.{with_key};
+ghost use Rattle.solvable_maps.specs.Expo.{with_key};
 ghost use Rattle.monos.specs.Variables.{most_variables};
 ghost use Rattle.expo.specs.Powers.{number_of, key_of_power, key_in, arity_with, IsPastNumber, side_of, side_product};
 
@@ -17,7 +17,7 @@ use ring_laws::{ArithmeticError, Ring, Wide};
 use std::alloc::{AllocError, Global};
 
 /// A product of whole powers of a base, with a sign: its exponents, one for each number of the base.
-#[derive(Debug, Drop)]
+#[derive(Drop)]
 pub struct Power {
     pub negative: bool,
     pub exponents: Vec<i32>,

@@ -1,8 +1,8 @@
 //! The numbers of the table that solves y(n+1) = λ y(n) + n^a σ^n.
 ghost use Rattle.std.specs.Prelude.{◌≡◌, ◌≢◌, ◌<◌, ◌≤◌, ◌+◌, ◌-◌, pos, length, IfOk, IsErr, IsErrOf};
-ghost use Rattle.numbers.specs.Fraction.{ℚ, fraction_size, whole};
-ghost use Rattle.numbers.specs.Size.{IsPast};
-ghost use Rattle.numbers.proofs.Fractions.{ℚ_field};
+ghost use Rattle.algebra.specs.Fraction.{ℚ, fraction_size, whole};
+ghost use Rattle.algebra.specs.Size.{IsPast};
+ghost use Rattle.algebra.proofs.Fractions.{ℚ_field};
 ghost use Rattle.expo.specs.Solutions.{most_degree, most_numbers};
 ghost use Rattle.frac128.specs.FracMeaning.{fraction_of};
 ghost use Rattle.exponentials.specs.Table.{IsOther, IsEqual};

@@ -1,13 +1,13 @@
 -- The coarsest coprime base of a list: there is exactly one, and refining gives it.
 use Rattle.std.proofs.Common.{◌≡◌, ◌≢◌, ◌⊎◌, inl, inr, Bool, true, false, cond, ltb, ℕ, zero, suc, ◌*◌, ◌^◌, ◌<◌, ◌≤◌, List, [], ◌∷◌, refl, sym, ap, ap₂, subst, ◌∙◌, arith}
-use Rattle.rings.specs.Each.{Each}
-use Rattle.rings.specs.In.{In}
+use Rattle.algebra.specs.Each.{Each}
+use Rattle.algebra.specs.In.{In}
 use Rattle.exponentials.specs.Base.{Ascending, Coprime, Divides, IsCoarsest, IsTheBase, IsProductOf, product}
 use Prim.Native.Nat.{◌∣◌}
 use native.Mathlib.Nat as N
-use Rattle.numbers.specs.Gcd.{gcd}
-use Rattle.numbers.proofs.GcdLaws as G
-use Rattle.rings.proofs.In.{each_in, each_from}
+use Rattle.algebra.specs.Gcd.{gcd}
+use Rattle.algebra.proofs.GcdLaws as G
+use Rattle.algebra.proofs.In.{each_in, each_from}
 use Rattle.exponentials.proofs.Lists.{each_map}
 use Rattle.exponentials.proofs.Coprimes as C
 use Rattle.exponentials.proofs.PowerProducts.{Split, made_one, made_mul, made_in, made_split, made_trans}

@@ -1,10 +1,10 @@
 -- Numbers with no common divisor above 1, from the laws of gcd alone.
 use Rattle.std.proofs.Common.{◌≡◌, ℕ, zero, suc, ◌*◌, ◌^◌, sym, ap, subst, ◌∙◌}
-use Rattle.numbers.proofs.Coprime.{coprime-mul, coprime_divisors}
+use Rattle.algebra.proofs.Coprime.{coprime-mul, coprime_divisors}
 use Prim.Native.Nat.{◌∣◌}
 use native.Mathlib.Nat as N
-use Rattle.numbers.specs.Gcd.{gcd}
-use Rattle.numbers.proofs.GcdLaws as G
+use Rattle.algebra.specs.Gcd.{gcd}
+use Rattle.algebra.proofs.GcdLaws as G
 
 pub dvd-gcd : (a b d : ℕ) → d ∣ a → d ∣ b → d ∣ gcd a b
 dvd-gcd a b d p q = subst (λ x. d ∣ x) (N.one-mul (gcd a b))

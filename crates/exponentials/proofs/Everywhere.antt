@@ -1,15 +1,15 @@
 -- Two bodies with the same values at every natural number have the same values at every other point too, as at the negative numbers.
 use Rattle.std.proofs.Common.{◌≡◌, ◌≢◌, Bool, true, false, cond, ℕ, List, ◌++◌, map, refl, sym, ap, ap₂, ◌∙◌}
-use Rattle.rings.specs.Each.{Each}
-use Rattle.rings.proofs.Each.{each-append, each-map}
-use Rattle.rings.specs.In.{In}
+use Rattle.algebra.specs.Each.{Each}
+use Rattle.algebra.proofs.Each.{each-append, each-map}
+use Rattle.algebra.specs.In.{In}
 use Rattle.exponentials.specs.Base.{Coprime}
-use Rattle.rings.specs.Ring.{CommRing, Field, Hom, operations}
-use Rattle.rings.specs.Sum.{sum_over}
-use Rattle.rings.proofs.RingLaws as L
-use Rattle.rings.proofs.Sums as Sums
-use Rattle.rings.proofs.In.{each_in, each_from, map-in, in_left, in_right}
-use Rattle.rings.proofs.Basics.{cond_both}
+use Rattle.algebra.specs.Ring.{CommRing, Field, Hom, operations}
+use Rattle.algebra.specs.Sum.{sum_over}
+use Rattle.algebra.proofs.RingLaws as L
+use Rattle.algebra.proofs.Sums as Sums
+use Rattle.algebra.proofs.In.{each_in, each_from, map-in, in_left, in_right}
+use Rattle.algebra.proofs.Basics.{cond_both}
 use Rattle.exponentials.proofs.Lists.{Distinct, Test, each_map, sum_same, sum_alike, pick, once, once-distinct, once-in, once-out, same_false}
 use Rattle.exponentials.specs.Table.{alike}
 use Rattle.exponentials.proofs.Terms.{alike_true, alike_refl}

@@ -1,18 +1,18 @@
 -- Independence: an exponential polynomial whose value at every N lies in an ideal has its coefficients there.
 use Rattle.std.proofs.Common.{◌≡◌, ◌≢◌, inl, inr, cond, ℕ, zero, suc, ◌+◌, ◌*◌, ◌<◌, List, [], ◌∷◌, map, refl, sym, ap, ap₂, subst, ◌∙◌, arith}
-use Rattle.rings.specs.Each.{Each}
-use Rattle.rings.specs.In.{In}
+use Rattle.algebra.specs.Each.{Each}
+use Rattle.algebra.specs.In.{In}
 use Rattle.exponentials.specs.Base.{Coprime, product}
-use Rattle.rings.specs.Arithmetic.{power}
-use Rattle.rings.specs.Ring.{Hom, CommRing, Field, operations, of_nat}
-use Rattle.rings.specs.Sum.{sum_over}
-use Rattle.rings.proofs.RingLaws as L
-use Rattle.rings.proofs.FieldLaws as FL
+use Rattle.algebra.specs.Arithmetic.{power}
+use Rattle.algebra.specs.Ring.{Hom, CommRing, Field, operations, of_nat}
+use Rattle.algebra.specs.Sum.{sum_over}
+use Rattle.algebra.proofs.RingLaws as L
+use Rattle.algebra.proofs.FieldLaws as FL
 use native.Mathlib.Nat as N
-use Rattle.rings.proofs.OfInt.{of_nat-mul, of_nat-add}
-use Rattle.rings.proofs.RingSolver.{ring_rules, ring, from_one}
-use Rattle.rings.proofs.Each.{each-map}
-use Rattle.rings.proofs.In.{each_in, each_from, map-in}
+use Rattle.algebra.proofs.OfInt.{of_nat-mul, of_nat-add}
+use Rattle.algebra.proofs.RingSolver.{ring_rules, ring, from_one}
+use Rattle.algebra.proofs.Each.{each-map}
+use Rattle.algebra.proofs.In.{each_in, each_from, map-in}
 use Rattle.exponentials.proofs.Lists.{Test, sum_alike}
 use Rattle.exponentials.proofs.Flat.{IsIdeal, Cancels, Within}
 use Rattle.exponentials.proofs.Flat as Flat
@@ -22,7 +22,7 @@ use Rattle.polynomials.specs.Exponent.{plus}
 use Rattle.exponentials.proofs.Powers.{exponents_same, product-plus, product-pos, plus-fits, disjoint_same}
 use Rattle.polynomials.specs.Terms.{monomial_at}
 use Rattle.exponentials.proofs.Monomial.{monomial-powers, of_nat-product, to-monomial, to-nat, power-mul, power-one, power-power, power_inverse}
-use Rattle.rings.proofs.Homs.{to-neg as to_neg, to-power}
+use Rattle.algebra.proofs.Homs.{to-neg as to_neg, to-power}
 use Rattle.polynomials.specs.Algebra.{Monomials, IsMonoid}
 use Rattle.polynomials.specs.Exponent.{exponents}
 use Rattle.polynomials.proofs.Exponent.{exponents_monoid}

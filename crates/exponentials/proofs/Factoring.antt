@@ -4,8 +4,8 @@ use Rattle.exponentials.proofs.Coprimes.{power_none, power_apart}
 use Rattle.exponentials.specs.Base.{Coprime, Disjoint, product}
 use Prim.Native.Nat.{◌∣◌}
 use native.Mathlib.Nat as N
-use Rattle.numbers.specs.Gcd.{gcd}
-use Rattle.numbers.proofs.GcdLaws as G
+use Rattle.algebra.specs.Gcd.{gcd}
+use Rattle.algebra.proofs.GcdLaws as G
 use Rattle.exponentials.proofs.Coprimes as C
 use Rattle.exponentials.proofs.PowerProducts.{coprime_product}
 

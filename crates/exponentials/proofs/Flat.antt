@@ -1,12 +1,12 @@
 -- Functions of a natural number modulo an ideal: those that the difference operator takes into the ideal after so many turns, and
 -- sums of such functions times powers of different numbers.
 use Rattle.std.proofs.Common.{◌≡◌, ℕ, zero, suc, ◌≤◌, List, [], ◌∷◌, refl, ap, ap₂, subst, arith}
-use Rattle.rings.specs.Each.{Each}
-use Rattle.rings.specs.Arithmetic.{power}
-use Rattle.rings.proofs.RingLaws as L
-use Rattle.rings.specs.Ring.{CommRing, operations}
-use Rattle.rings.specs.Sum.{sum_over}
-use Rattle.rings.proofs.RingSolver.{ring_rules, ring, from}
+use Rattle.algebra.specs.Each.{Each}
+use Rattle.algebra.specs.Arithmetic.{power}
+use Rattle.algebra.proofs.RingLaws as L
+use Rattle.algebra.specs.Ring.{CommRing, operations}
+use Rattle.algebra.specs.Sum.{sum_over}
+use Rattle.algebra.proofs.RingSolver.{ring_rules, ring, from}
 use Rattle.exponentials.proofs.Lists.{each_both}
 
 pub record IsIdeal {A : Type 0} (R : CommRing A) (S : A → Type 0) : Type 0 where

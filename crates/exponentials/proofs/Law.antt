@@ -1,11 +1,11 @@
 -- Independence, of a body that is one list of terms in n, u, v and the variables.
 use Rattle.std.proofs.lemmas.List.{length-map}
 use Rattle.std.proofs.Common.{cond, ◌≡◌, ℕ, List, ◌∷◌, ◌++◌, map, length, take, drop, sym, ap₂, ◌∙◌}
-use Rattle.rings.specs.Each.{Each}
+use Rattle.algebra.specs.Each.{Each}
 use Rattle.exponentials.specs.Base.{Coprime}
-use Rattle.rings.specs.Arithmetic.{power}
-use Rattle.rings.specs.Ring.{Hom, CommRing, Field, operations, of_nat}
-use Rattle.rings.specs.Sum.{sum_over}
+use Rattle.algebra.specs.Arithmetic.{power}
+use Rattle.algebra.specs.Ring.{Hom, CommRing, Field, operations, of_nat}
+use Rattle.algebra.specs.Sum.{sum_over}
 use Rattle.exponentials.proofs.Lists.{sum_alike}
 use Rattle.exponentials.proofs.Flat.{IsIdeal}
 use Rattle.exponentials.proofs.Flat as Flat

@@ -1,13 +1,13 @@
 -- Facts on each element of a list, by recursion, and sums that have one term.
 use Rattle.std.proofs.Common.{◌≡◌, ◌≢◌, inl, inr, Bool, true, false, cond, List, [], ◌∷◌, refl, sym, ap, ap₂, subst, ◌∙◌}
-use Rattle.rings.specs.Each.{Each}
-use Rattle.rings.specs.In.{In}
-use Rattle.rings.specs.Ring.{CommRing, operations}
-use Rattle.rings.specs.Sum.{sum_over}
-use Rattle.rings.proofs.RingLaws as L
-use Rattle.rings.proofs.Sums as Sums
-use Rattle.rings.proofs.Each.{each_weaker}
-use Rattle.rings.proofs.In.{each_in}
+use Rattle.algebra.specs.Each.{Each}
+use Rattle.algebra.specs.In.{In}
+use Rattle.algebra.specs.Ring.{CommRing, operations}
+use Rattle.algebra.specs.Sum.{sum_over}
+use Rattle.algebra.proofs.RingLaws as L
+use Rattle.algebra.proofs.Sums as Sums
+use Rattle.algebra.proofs.Each.{each_weaker}
+use Rattle.algebra.proofs.In.{each_in}
 
 -- no two elements have the same f
 abbrev pub Distinct : {X Y : Type 0} → (X → Y) → List X → Type 0

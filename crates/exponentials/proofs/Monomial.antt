@@ -2,12 +2,12 @@
 use Rattle.std.proofs.Common.{◌≡◌, ℕ, zero, suc, ◌^◌, List, [], ◌∷◌, map, refl, sym, ap, ap₂, ◌∙◌}
 use Rattle.exponentials.specs.Base.{product}
 use native.Mathlib.Nat as N
-use Rattle.rings.specs.Ring.{CommRing, Hom, operations, of_nat}
-use Rattle.rings.specs.Arithmetic.{power}
+use Rattle.algebra.specs.Ring.{CommRing, Hom, operations, of_nat}
+use Rattle.algebra.specs.Arithmetic.{power}
 use Rattle.polynomials.specs.Terms.{monomial_at}
-use Rattle.rings.proofs.Homs.{to-zero, to-power}
-use Rattle.rings.proofs.RingLaws as L
-use Rattle.rings.proofs.OfInt.{of_nat-mul}
+use Rattle.algebra.proofs.Homs.{to-zero, to-power}
+use Rattle.algebra.proofs.RingLaws as L
+use Rattle.algebra.proofs.OfInt.{of_nat-mul}
 
 module _ {A : Type 0} (R : CommRing A) where
   open R use {zero as 𝟘, one as 𝟙, add, mul, neg}

@@ -1,7 +1,7 @@
 -- Lists in another order: what holds of each element, coprime lists, and what a loop's edits do.
 use Rattle.std.proofs.Common.{◌≡◌, ◌⊎◌, inl, inr, Bool, true, false, cond, ℕ, zero, suc, ◌+◌, ◌<◌, ◌≤◌, List, [], ◌∷◌, ◌++◌, length, get_or, refl, sym, ap, subst, ◌∙◌, arith}
-use Rattle.rings.specs.Each.{Each}
-use Rattle.rings.specs.In.{In}
+use Rattle.algebra.specs.Each.{Each}
+use Rattle.algebra.specs.In.{In}
 use Rattle.exponentials.specs.Base.{Coprime, IsCoarsest, IsProductOf}
 use Rattle.std.specs.Prelude.{All, sum_by, remove}
 use Rattle.std.specs.List.Sorted.{IsPermutation}
@@ -9,8 +9,8 @@ use Rattle.std.proofs.lemmas.List.Sorted.{All-permutation, sum_by-IsPermutation,
 use Rattle.std.proofs.lemmas.List.Elements.{All-cons, All-nil}
 use Rattle.std.proofs.lemmas.List.Sums.{sum_by-cons}
 use native.Mathlib.Nat as N
-use Rattle.numbers.specs.Gcd.{gcd}
-use Rattle.rings.proofs.In.{each_in, each_from}
+use Rattle.algebra.specs.Gcd.{gcd}
+use Rattle.algebra.proofs.In.{each_in, each_from}
 use Rattle.exponentials.proofs.Lists.{each_map}
 use Rattle.exponentials.specs.Table.{alike}
 use Rattle.exponentials.proofs.Terms.{alike_true, alike_refl}

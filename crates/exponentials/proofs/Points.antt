@@ -1,11 +1,11 @@
 -- A term of one list of exponents, by its parts; and what is left of two lists without what they have in common.
 use Rattle.std.proofs.Common.{◌≡◌, ℕ, List, [], ◌∷◌, ◌++◌, length, take, drop, refl, sym, ap, ◌∙◌}
 use Rattle.exponentials.specs.Base.{Disjoint}
-use Rattle.rings.specs.Ring.{CommRing, operations}
-use Rattle.rings.specs.Arithmetic.{power}
-use Rattle.rings.proofs.RingLaws as L
-use Rattle.rings.proofs.RingSolver.{ring_rules, ring}
-use Rattle.rings.proofs.Basics.{one_is_zero}
+use Rattle.algebra.specs.Ring.{CommRing, operations}
+use Rattle.algebra.specs.Arithmetic.{power}
+use Rattle.algebra.proofs.RingLaws as L
+use Rattle.algebra.proofs.RingSolver.{ring_rules, ring}
+use Rattle.algebra.proofs.Basics.{one_is_zero}
 use Rattle.polynomials.proofs.Value.{monomial-nil}
 use Rattle.exponentials.specs.Keys.{excess, rest, top}
 use Rattle.polynomials.specs.Terms.{monomial_at}

@@ -1,13 +1,13 @@
 -- Numbers that are products of powers of a list's numbers.
 use Rattle.std.proofs.Common.{◌≡◌, ◌⊎◌, inl, inr, ℕ, zero, suc, ◌-◌, ◌*◌, ◌^◌, ◌<◌, min, List, [], ◌∷◌, refl, sym, ap, ap₂, subst, ◌∙◌, arith}
-use Rattle.rings.specs.Each.{Each}
-use Rattle.rings.specs.In.{In}
-use Rattle.rings.proofs.Basics.{one_is_zero}
+use Rattle.algebra.specs.Each.{Each}
+use Rattle.algebra.specs.In.{In}
+use Rattle.algebra.proofs.Basics.{one_is_zero}
 use Rattle.exponentials.proofs.Coprimes.{power_none, power_apart}
-use Rattle.numbers.proofs.Coprime.{coprime-mul}
+use Rattle.algebra.proofs.Coprime.{coprime-mul}
 use Rattle.exponentials.specs.Base.{Coprime, SameLength, IsProductOf, product}
 use native.Mathlib.Nat as N
-use Rattle.numbers.specs.Gcd.{gcd}
+use Rattle.algebra.specs.Gcd.{gcd}
 use Rattle.polynomials.specs.Exponent.{plus}
 use Rattle.exponentials.proofs.Powers.{product-plus, plus-fits}
 use Rattle.exponentials.proofs.Coprimes as C

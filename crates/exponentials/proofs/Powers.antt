@@ -1,14 +1,14 @@
 -- Products of powers of numbers that are pairwise coprime and above 1.
 use Rattle.std.proofs.Common.{◌≡◌, ◌⊎◌, ℕ, zero, suc, ◌+◌, ◌*◌, ◌^◌, ◌<◌, List, [], ◌∷◌, refl, sym, ap, ap₂, subst, ◌∙◌, arith}
 use Rattle.std.proofs.lemmas.Nat.{pow-add}
-use Rattle.rings.specs.Each.{Each}
+use Rattle.algebra.specs.Each.{Each}
 use Rattle.exponentials.specs.Base.{Coprime, Disjoint, SameLength, product}
 use Prim.Native.Nat.{◌∣◌}
 use native.Mathlib.Nat as N
-use Rattle.numbers.specs.Gcd.{gcd}
+use Rattle.algebra.specs.Gcd.{gcd}
 use Rattle.polynomials.specs.Exponent.{plus}
-use Rattle.numbers.proofs.GcdLaws as G
-use Rattle.numbers.proofs.RatioLaws.{mul-pos}
+use Rattle.algebra.proofs.GcdLaws as G
+use Rattle.algebra.proofs.RatioLaws.{mul-pos}
 
 pub power-pos : (b n : ℕ) → 0 < b → 0 < b ^ n
 power-pos b zero h = subst (λ x. 0 < x) (sym (N.pow-zero b)) (omega arith)

@@ -1,11 +1,11 @@
 -- A coprime base by gcd alone: two numbers that are not coprime are taken apart, until all are.
 use Rattle.std.proofs.Common.{◌≡◌, ◌≢◌, Bool, true, false, cond, ℕ, zero, suc, ◌+◌, ◌*◌, ◌/◌, ◌<◌, List, [], ◌∷◌, length, refl, sym, ap, ap₂, subst, ◌∙◌, arith}
-use Rattle.rings.specs.Each.{Each}
+use Rattle.algebra.specs.Each.{Each}
 use Rattle.exponentials.specs.Base.{Coprime}
 use native.Mathlib.Nat as N
-use Rattle.numbers.specs.Gcd.{gcd}
-use Rattle.numbers.proofs.GcdLaws as G
-use Rattle.numbers.proofs.RatioLaws.{mul-pos}
+use Rattle.algebra.specs.Gcd.{gcd}
+use Rattle.algebra.proofs.GcdLaws as G
+use Rattle.algebra.proofs.RatioLaws.{mul-pos}
 use Rattle.exponentials.proofs.Lists.{each_map}
 use Rattle.exponentials.specs.Table.{alike}
 use Rattle.exponentials.proofs.Terms.{alike_true}

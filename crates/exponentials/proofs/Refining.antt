@@ -1,13 +1,13 @@
 -- What a loop keeps that refines a list: the waiting numbers ws and the base bs, by its steps.
 use Rattle.std.proofs.Common.{◌≡◌, ◌≢◌, ℕ, suc, ◌+◌, ◌*◌, ◌/◌, ◌<◌, List, [], ◌∷◌, ◌++◌, length, refl, sym, ap, ap₂, subst, ◌∙◌, arith}
-use Rattle.rings.specs.Each.{Each}
-use Rattle.rings.proofs.Each.{each-append, each-left, each-right}
+use Rattle.algebra.specs.Each.{Each}
+use Rattle.algebra.proofs.Each.{each-append, each-left, each-right}
 use Rattle.exponentials.specs.Base.{Coprime, Divides, IsBase, IsCoarsest, IsProductOf}
 use native.Mathlib.Nat as N
-use Rattle.numbers.specs.Gcd.{gcd}
-use Rattle.numbers.proofs.GcdLaws as G
-use Rattle.numbers.proofs.RatioLaws.{mul-pos}
-use Rattle.rings.proofs.In.{each_from}
+use Rattle.algebra.specs.Gcd.{gcd}
+use Rattle.algebra.proofs.GcdLaws as G
+use Rattle.algebra.proofs.RatioLaws.{mul-pos}
+use Rattle.algebra.proofs.In.{each_from}
 use Rattle.exponentials.proofs.Lists.{each_map}
 use Rattle.exponentials.proofs.PowerProducts.{Split, pos_left, made_one, made_mul, made_in, made_split, made_trans}
 use Rattle.exponentials.proofs.Refine.{size, shrink, all-pos, all as every, picked-all, here, there, Picked, picked-each, each-picked, picked-coprime, coprime-above, above_one, pos_right, regroup}

@@ -1,14 +1,14 @@
 -- The recurrence y(n+1) = λ y(n) + n^a σ^n with y(0) = 0, solved by a triangular system of equations.
 use Rattle.std.proofs.Common.{◌≡◌, ◌≢◌, Bool, true, false, cond, ℕ, zero, suc, ◌+◌, ◌-◌, ◌<◌, ◌≤◌, [], ◌∷◌, refl, sym, ap, ap₂, ◌∙◌, arith}
-use Rattle.rings.specs.Each.{Each}
+use Rattle.algebra.specs.Each.{Each}
 use native.Mathlib.Nat as N
-use Rattle.rings.specs.Arithmetic.{power}
-use Rattle.rings.specs.Ring.{CommRing, Field, operations, of_nat}
-use Rattle.rings.specs.Sum.{sum_over}
-use Rattle.rings.proofs.RingLaws as L
-use Rattle.rings.proofs.OfInt.{of_nat-add}
-use Rattle.rings.proofs.RingSolver.{ring_rules, ring, from_one, from_two}
-use Rattle.rings.proofs.Sums as Sums
+use Rattle.algebra.specs.Arithmetic.{power}
+use Rattle.algebra.specs.Ring.{CommRing, Field, operations, of_nat}
+use Rattle.algebra.specs.Sum.{sum_over}
+use Rattle.algebra.proofs.RingLaws as L
+use Rattle.algebra.proofs.OfInt.{of_nat-add}
+use Rattle.algebra.proofs.RingSolver.{ring_rules, ring, from_one, from_two}
+use Rattle.algebra.proofs.Sums as Sums
 use Rattle.exponentials.proofs.Lists.{sum_same, sum_alike, sum_none}
 use Rattle.exponentials.proofs.Terms.{alike_true, alike_refl}
 use Rattle.exponentials.proofs.Expo.{IsChar0}

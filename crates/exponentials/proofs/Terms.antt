@@ -1,13 +1,13 @@
 -- Sums of terms c n^a ρ^n: where all values lie in an ideal, so does the sum of the coefficients at each degree and number.
 use Rattle.std.proofs.Common.{◌≡◌, ◌≢◌, inl, inr, true, cond, ℕ, zero, suc, ◌+◌, List, [], ◌∷◌, refl, sym, ap, ◌∙◌, arith}
-use Rattle.rings.specs.Each.{Each}
-use Rattle.rings.specs.In.{In}
-use Rattle.rings.specs.Arithmetic.{power}
-use Rattle.rings.specs.Ring.{CommRing, operations, of_nat}
-use Rattle.rings.specs.Sum.{sum_over}
-use Rattle.rings.proofs.RingSolver.{ring_rules, ring, from}
-use Rattle.rings.proofs.Sums as Sums
-use Rattle.rings.proofs.In.{each_in, each_from}
+use Rattle.algebra.specs.Each.{Each}
+use Rattle.algebra.specs.In.{In}
+use Rattle.algebra.specs.Arithmetic.{power}
+use Rattle.algebra.specs.Ring.{CommRing, operations, of_nat}
+use Rattle.algebra.specs.Sum.{sum_over}
+use Rattle.algebra.proofs.RingSolver.{ring_rules, ring, from}
+use Rattle.algebra.proofs.Sums as Sums
+use Rattle.algebra.proofs.In.{each_in, each_from}
 use Rattle.exponentials.proofs.Lists.{Distinct, Test, each_map, sum_same, sum_alike, pick, once, once-distinct, once-in, once-out, same_false}
 use Rattle.exponentials.proofs.Flat.{IsIdeal, Cancels, Within, Flat, Apart, step, total}
 use Rattle.exponentials.proofs.Flat as F

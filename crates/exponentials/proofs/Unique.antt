@@ -1,16 +1,16 @@
 -- What follows from independence: two exponential polynomials with the same values have the same coefficients; the point as one list;
 -- and the rationals have characteristic 0.
 use Rattle.std.proofs.Common.{pos, ◌≡◌, Bool, true, false, cond, ℕ, suc, List, [], ◌∷◌, ◌++◌, map, length, take, drop, refl, sym, ap, ap₂, ◌∙◌}
-use Rattle.rings.specs.Each.{Each}
+use Rattle.algebra.specs.Each.{Each}
 use Rattle.exponentials.specs.Base.{Coprime}
-use Rattle.rings.specs.Arithmetic.{power}
-use Rattle.rings.specs.Ring.{Hom, CommRing, Field, operations, of_nat}
-use Rattle.rings.specs.Sum.{sum_over}
-use Rattle.rings.proofs.RingLaws as L
-use Rattle.rings.proofs.Sums as Sums
+use Rattle.algebra.specs.Arithmetic.{power}
+use Rattle.algebra.specs.Ring.{Hom, CommRing, Field, operations, of_nat}
+use Rattle.algebra.specs.Sum.{sum_over}
+use Rattle.algebra.proofs.RingLaws as L
+use Rattle.algebra.proofs.Sums as Sums
 use Rattle.polynomials.proofs.Value.{monomial-nil}
 use Rattle.vectors.proofs.FractionEigen.{ℚ_fractions}
-use Rattle.numbers.proofs.Fractions.{ℚ_field}
+use Rattle.algebra.proofs.Fractions.{ℚ_field}
 use Rattle.exponentials.proofs.Lists.{sum_alike}
 use Rattle.exponentials.proofs.Flat.{IsIdeal}
 use Rattle.exponentials.specs.Table.{alike}

@@ -7,12 +7,12 @@
 --   same_at_units        the theorem
 use Rattle.std.proofs.lemmas.List.{length-map}
 use Rattle.std.proofs.Common.{◌≡◌, ℕ, zero, suc, ◌+◌, ◌<◌, ◌≤◌, List, [], ◌∷◌, ◌++◌, map, length, take, drop, refl, sym, ap, ap₂, ◌∙◌, arith}
-use Rattle.rings.specs.Each.{Each}
+use Rattle.algebra.specs.Each.{Each}
 use Rattle.exponentials.specs.Base.{Coprime, SameLength}
-use Rattle.rings.specs.Ring.{Hom, CommRing, Field, operations, of_nat}
-use Rattle.rings.specs.Sum.{sum_over}
-use Rattle.rings.proofs.RingLaws as L
-use Rattle.rings.specs.Arithmetic.{power}
+use Rattle.algebra.specs.Ring.{Hom, CommRing, Field, operations, of_nat}
+use Rattle.algebra.specs.Sum.{sum_over}
+use Rattle.algebra.proofs.RingLaws as L
+use Rattle.algebra.specs.Arithmetic.{power}
 use Rattle.exponentials.proofs.Lists.{sum_same, each_map}
 use Rattle.polynomials.specs.Exponent.{plus}
 use Rattle.exponentials.specs.Keys.{IsNormalKey, Key, excess, normal_key, parity, rest, top}

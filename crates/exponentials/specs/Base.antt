@@ -11,9 +11,9 @@
 --   IsTheBase list bs      the coarsest base, ascending, each of which divides one of the list
 use Rattle.std.specs.Prelude.{◌≡◌, ◌⊎◌, ℕ, ◌*◌, ◌^◌, ◌<◌, List, [], ◌∷◌}
 use Prim.Native.Nat.{◌∣◌}
-use Rattle.rings.specs.Each.{Each}
-use Rattle.rings.specs.In.{In}
-use Rattle.numbers.specs.Gcd.{gcd}
+use Rattle.algebra.specs.Each.{Each}
+use Rattle.algebra.specs.In.{In}
+use Rattle.algebra.specs.Gcd.{gcd}
 
 abbrev pub product : List ℕ → List ℕ → ℕ
 product [] e = 1

@@ -8,9 +8,9 @@
 --   IsEqual l a q            those where σ is l; equal_form: the solution
 --   Solves σ l a y           what is asked of y
 use Rattle.std.specs.Prelude.{◌≡◌, ◌≤◌, ℕ, zero, suc, ◌+◌, ◌-◌, Bool, true, false, cond, List, [], ◌∷◌}
-use Rattle.rings.specs.Arithmetic.{power}
-use Rattle.rings.specs.Ring.{CommRing, Field, operations, of_nat}
-use Rattle.rings.specs.Sum.{sum_over}
+use Rattle.algebra.specs.Arithmetic.{power}
+use Rattle.algebra.specs.Ring.{CommRing, Field, operations, of_nat}
+use Rattle.algebra.specs.Sum.{sum_over}
 
 -- whether two numbers are the same, by recursion
 abbrev pub alike : ℕ → ℕ → Bool

@@ -1,7 +1,7 @@
 //! The laws of bases and of independence, one function each.
 
 ghost use Rattle.std.specs.Prelude.{◌≡◌, ◌<◌, ℕ, List};
-ghost use Rattle.rings.specs.Each.{Each};
+ghost use Rattle.algebra.specs.Each.{Each};
 ghost use Rattle.exponentials.specs.Base.{Coprime, SameLength, IsTheBase, product};
 
 /// Each list of numbers above zero has just one base, and over it a number has just one list of exponents.

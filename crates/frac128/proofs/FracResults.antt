@@ -12,20 +12,20 @@ use Rattle.std.proofs.Common.{◌≡◌, ◌≢◌, ◌↔◌, ◌⊎◌, Option
 use lib.Signed.{◌≤ℤ◌, ◌<ℤ◌}
 use native.Mathlib.Nat as N
 use Rattle.std.proofs.lemmas.Int.{ints, unsigned_abs-mul}
-use Rattle.numbers.specs.Gcd.{gcd, lcm}
-use Rattle.numbers.specs.Ratio.{Ratio, ratio, ratio_size, IsLowest}
-use Rattle.numbers.specs.Ratio.{ratios, exact, reduce, inverse_of}
-use Rattle.numbers.specs.Size.{size, sum_size, product_size, quotient_size, IsPast}
-use Rattle.numbers.proofs.GcdLaws.{gcd_comm, gcd-zero}
-use Rattle.numbers.proofs.LcmLaws.{lcm-pos, lcm_comm}
-use Rattle.numbers.proofs.SizeLaws.{past_under, abs-add, abs-neg, fractions_bounded}
-use Rattle.numbers.proofs.RatioLaws.{product-value, sum-value, inverse-value, reduce-value}
-use Rattle.numbers.proofs.ProductSizes.{product_within, product_den-pos, fraction_quotients_bounded}
-use Rattle.rings.specs.Integers.{integer_in}
-use Rattle.numbers.proofs.Wholes.{ratio-whole, whole_injective, of_int-whole}
-use Rattle.numbers.proofs.RatioParts.{product_parts, sum_parts}
-use Rattle.numbers.specs.Fraction as T
-use Rattle.numbers.proofs.Fractions.{same_fraction, some, top_zero, fractions_ring, fractions_field, ratio-fraction, fraction-ratio, ratio-sum, ratio-product, ratio-opposite, ratio-inverse}
+use Rattle.algebra.specs.Gcd.{gcd, lcm}
+use Rattle.algebra.specs.Ratio.{Ratio, ratio, ratio_size, IsLowest}
+use Rattle.algebra.specs.Ratio.{ratios, exact, reduce, inverse_of}
+use Rattle.algebra.specs.Size.{size, sum_size, product_size, quotient_size, IsPast}
+use Rattle.algebra.proofs.GcdLaws.{gcd_comm, gcd-zero}
+use Rattle.algebra.proofs.LcmLaws.{lcm-pos, lcm_comm}
+use Rattle.algebra.proofs.SizeLaws.{past_under, abs-add, abs-neg, fractions_bounded}
+use Rattle.algebra.proofs.RatioLaws.{product-value, sum-value, inverse-value, reduce-value}
+use Rattle.algebra.proofs.ProductSizes.{product_within, product_den-pos, fraction_quotients_bounded}
+use Rattle.algebra.specs.Integers.{integer_in}
+use Rattle.algebra.proofs.Wholes.{ratio-whole, whole_injective, of_int-whole}
+use Rattle.algebra.proofs.RatioParts.{product_parts, sum_parts}
+use Rattle.algebra.specs.Fraction as T
+use Rattle.algebra.proofs.Fractions.{same_fraction, some, top_zero, fractions_ring, fractions_field, ratio-fraction, fraction-ratio, ratio-sum, ratio-product, ratio-opposite, ratio-inverse}
 use Rattle.frac128.specs.Sums.{part, negate_if, SumIsPast, left_past, right_past, parts_past, den_past}
 use Rattle.frac128.specs.FracMeaning.{frac_meaning, fraction_of, is_in_lowest_terms}
 use Rattle.frac128.specs.declared.fraction.Frac.{Frac}

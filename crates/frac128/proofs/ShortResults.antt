@@ -10,12 +10,12 @@ use mir.Syntax.{w64}
 use native.Mathlib.Nat as N
 use lib.Signed.{◌≤ℤ◌}
 use Rattle.std.proofs.lemmas.Int.{ints}
-use Rattle.rings.proofs.IntRing.{ℤ_ring}
-use Rattle.numbers.specs.Gcd.{gcd}
-use Rattle.numbers.specs.Ratio.{ratio, ratios, exact, reduce}
-use Rattle.numbers.specs.Fraction as T
-use Rattle.numbers.proofs.RatioLaws.{reduce-value, mul-pos, exact_whole, nat_abs-exact}
-use Rattle.numbers.proofs.Fractions.{ratio-fraction, fractions_ring, same_fraction}
+use Rattle.algebra.proofs.IntRing.{ℤ_ring}
+use Rattle.algebra.specs.Gcd.{gcd}
+use Rattle.algebra.specs.Ratio.{ratio, ratios, exact, reduce}
+use Rattle.algebra.specs.Fraction as T
+use Rattle.algebra.proofs.RatioLaws.{reduce-value, mul-pos, exact_whole, nat_abs-exact}
+use Rattle.algebra.proofs.Fractions.{ratio-fraction, fractions_ring, same_fraction}
 use Rattle.frac128.specs.declared.fraction.Frac.{Frac}
 use Rattle.frac128.specs.FracMeaning.{fraction_of, frac_meaning}
 use Rattle.frac128.specs.Sums.{SumIsPast, over}

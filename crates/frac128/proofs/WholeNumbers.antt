@@ -5,13 +5,13 @@
 --   whole_product_past, whole_product_fits    where a product is past
 use Rattle.std.proofs.Common.{ℕ, ◌≡◌, ◌∙◌, sym, ap, ap₂, subst, refl, ◌/◌, ◌<◌, ◌≤◌, ◌^◌, ℤ, pos, ◌+ℤ◌, ◌*ℤ◌, unsigned_abs, inl, inr, arith}
 use native.Mathlib.Nat as N
-use Rattle.numbers.specs.Gcd.{gcd}
-use Rattle.numbers.specs.Ratio.{Ratio, ratio, ratio_size}
-use Rattle.numbers.specs.Fraction.{Fraction, fraction_size, whole, sum, product}
-use Rattle.numbers.specs.Size.{IsPast}
-use Rattle.numbers.proofs.GcdLaws.{gcd-right}
-use Rattle.rings.proofs.IntRing.{ℤ_ring}
-use Rattle.numbers.proofs.Wholes.{ratio-whole, sum-whole, product-whole}
+use Rattle.algebra.specs.Gcd.{gcd}
+use Rattle.algebra.specs.Ratio.{Ratio, ratio, ratio_size}
+use Rattle.algebra.specs.Fraction.{Fraction, fraction_size, whole, sum, product}
+use Rattle.algebra.specs.Size.{IsPast}
+use Rattle.algebra.proofs.GcdLaws.{gcd-right}
+use Rattle.algebra.proofs.IntRing.{ℤ_ring}
+use Rattle.algebra.proofs.Wholes.{ratio-whole, sum-whole, product-whole}
 use Rattle.frac128.specs.Sums.{part, SumIsPast, left_past, right_past, parts_past, den_past}
 
 pub gcd-one : (a : ℕ) → gcd a 1 ≡ 1

@@ -10,11 +10,11 @@ use Rattle.std.proofs.lemmas.Bool.{and_parts}
 use native.Mathlib.Nat.{ℕ_set}
 use lib.Dec.{T, T_prop}
 use lib.Signed.{le_z}
-use Rattle.numbers.specs.Gcd.{gcd}
-use Rattle.numbers.specs.Ratio.{Ratio, ratio, IsLowest}
-use Rattle.numbers.proofs.SizeLaws.{abs-pos, same_abs}
-use Rattle.numbers.proofs.RatioLaws.{is_lowest-in}
-use Rattle.numbers.specs.Fraction.{Fraction}
+use Rattle.algebra.specs.Gcd.{gcd}
+use Rattle.algebra.specs.Ratio.{Ratio, ratio, IsLowest}
+use Rattle.algebra.proofs.SizeLaws.{abs-pos, same_abs}
+use Rattle.algebra.proofs.RatioLaws.{is_lowest-in}
+use Rattle.algebra.specs.Fraction.{Fraction}
 use Rattle.frac128.specs.WholeMeaning.{whole_meaning_decides, whole_eq_is}
 use Rattle.frac128.specs.declared.Whole.{Whole}
 use Rattle.frac128.specs.declared.fraction.Frac.{Frac}

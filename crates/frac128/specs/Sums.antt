@@ -4,11 +4,11 @@
 --   DoesNotFit p     its numerator or its denominator is above 2^127 - 1
 --   SumIsPast p q      one of the two parts of p + q over the least common denominator, their sum, or the denominator of p + q is above 2^127 - 1
 use Rattle.std.specs.Prelude.{◌/◌, ◌≤◌, ℤ, pos, negsuc, suc, ◌+ℤ◌, ◌*ℤ◌, neg_ℤ, unsigned_abs, Bool, true, false}
-use Rattle.numbers.specs.Gcd.{gcd}
-use Rattle.numbers.specs.Fraction as fractions
-use Rattle.numbers.specs.Fraction.{Fraction, sum, fraction_size}
-use Rattle.numbers.specs.Size.{IsPast}
-use Rattle.numbers.specs.Limits.{number_limit}
+use Rattle.algebra.specs.Gcd.{gcd}
+use Rattle.algebra.specs.Fraction as fractions
+use Rattle.algebra.specs.Fraction.{Fraction, sum, fraction_size}
+use Rattle.algebra.specs.Size.{IsPast}
+use Rattle.algebra.specs.Limits.{number_limit}
 
 abbrev pub over : ℤ → ℤ → Fraction
 over n (pos d) = fractions.over n d

@@ -1,9 +1,9 @@
 //! Fractions of 128 bits.
 ghost use Rattle.std.specs.Prelude.{◌≡◌, ◌≢◌, pos, ◌≤ℤ◌, ◌<◌, true, unsigned_abs, IsErr, IfOk, IfSome, IsSome, IsNone, IsErrOf, neg_ℤ, ◌^◌, ◌↔◌, ◌⊎◌};
-ghost use Rattle.numbers.specs.Gcd.{gcd as gcd_of};
-ghost use Rattle.numbers.specs.Ratio.{ratio};
-ghost use Rattle.numbers.specs.Fraction.{fraction, fractions, whole};
-ghost use Rattle.numbers.specs.Limits.{number_limit};
+ghost use Rattle.algebra.specs.Gcd.{gcd as gcd_of};
+ghost use Rattle.algebra.specs.Ratio.{ratio};
+ghost use Rattle.algebra.specs.Fraction.{fraction, fractions, whole};
+ghost use Rattle.algebra.specs.Limits.{number_limit};
 ghost use Rattle.frac128.specs.Sums.{over, negate_if, DoesNotFit, SumIsPast};
 
 use crate::Whole;
@@ -25,7 +25,7 @@ pub enum FracError {
 }
 
 /// A fraction in lowest terms, with a numerator from -(2^127 - 1) to 2^127 - 1 and a denominator from 1 to 2^127 - 1.
-#[derive(Clone, Copy, Debug, PartialEq, Eq)]
+#[derive(Clone, Copy, PartialEq, Eq)]
 pub struct Frac {
     num: Whole,
     den: Whole,
@@ -218,8 +218,8 @@ impl Frac {
 }
 
 impl Ring for Frac {
-    ghost use Rattle.numbers.proofs.Fractions.{fractions_ring, zero_is};
-    ghost use Rattle.numbers.proofs.SizeLaws.{fractions_bounded};
+    ghost use Rattle.algebra.proofs.Fractions.{fractions_ring, zero_is};
+    ghost use Rattle.algebra.proofs.SizeLaws.{fractions_bounded};
     ghost use Rattle.frac128.specs.FracMeaning.{fraction_of, fraction_decides, frac_eq_is};
 
     ghost scalars = { fractions };
@@ -234,7 +234,7 @@ impl Ring for Frac {
         }
     }
 
-    #[tactic(auto, unfolding(numbers::specs::Gcd::gcd))]
+    #[tactic(auto, unfolding(algebra::specs::Gcd::gcd))]
     fn zero() -> Frac {
         Frac {
             num: Whole { value: 0 },
@@ -242,7 +242,7 @@ impl Ring for Frac {
         }
     }
 
-    #[tactic(auto, unfolding(numbers::specs::Gcd::gcd))]
+    #[tactic(auto, unfolding(algebra::specs::Gcd::gcd))]
     fn one() -> Frac {
         Frac {
             num: Whole { value: 1 },
@@ -344,7 +344,7 @@ impl Ring for Frac {
 }
 
 impl OrderedRing for Frac {
-    ghost use Rattle.numbers.proofs.Fractions.{fractions_ordered};
+    ghost use Rattle.algebra.proofs.Fractions.{fractions_ordered};
 
     #[tactic(auto, unfolding(crate::specs::FracMeaning::fraction_of))]
     fn compare(&self, other: &Frac) -> Ordering {
@@ -358,7 +358,7 @@ impl OrderedRing for Frac {
         }
     }
 
-    #[tactic(auto, unfolding(crate::specs::FracMeaning::fraction_of, crate::specs::WholeMeaning::whole_of, numbers::specs::Fraction::fraction, numbers::specs::Ratio::is_lowest, numbers::specs::Gcd::gcd))]
+    #[tactic(auto, unfolding(crate::specs::FracMeaning::fraction_of, crate::specs::WholeMeaning::whole_of, algebra::specs::Fraction::fraction, algebra::specs::Ratio::is_lowest, algebra::specs::Gcd::gcd))]
     fn sign(&self) -> i8 {
         self.num.sign()
     }
@@ -367,8 +367,8 @@ impl OrderedRing for Frac {
 }
 
 impl Field for Frac {
-    ghost use Rattle.numbers.proofs.Fractions.{fractions_field};
-    ghost use Rattle.numbers.proofs.ProductSizes.{fraction_quotients_bounded};
+    ghost use Rattle.algebra.proofs.Fractions.{fractions_field};
+    ghost use Rattle.algebra.proofs.ProductSizes.{fraction_quotients_bounded};
     ghost use Rattle.frac128.specs.FracMeaning.{fraction_of};
 
     /// The quotient. `Wide` exactly where it does not fit in lowest terms.

@@ -1,10 +1,13 @@
-//! Numbers of 128 bits: whole numbers and fractions, both as elements of the fractions.
+//! Numbers of 128 bits: `Whole`, and `Frac`, a fraction in lowest terms. Both mean elements of the field of fractions.
+//!
+//! Proved: results are exact; `Wide` comes exactly where the result doesn't fit, and for a sum of fractions also where one of its two parts
+//! over the least common denominator, or their sum, doesn't.
 #![tactic(auto)]
 
 ghost use Rattle.std.specs.Prelude.{◌≡◌, pos, ◌<◌, ◌≤◌, ◌+ℤ◌, ◌-ℤ◌, ◌*ℤ◌, neg_ℤ, unsigned_abs, MatchOption, IfSome, IsNone, ◌↔◌, IsErr, IfOk, ◌<ℤ◌};
-ghost use Rattle.numbers.specs.Gcd.{gcd as gcd_of};
-ghost use Rattle.numbers.specs.Ratio.{exact};
-ghost use Rattle.numbers.specs.Limits.{number_limit};
+ghost use Rattle.algebra.specs.Gcd.{gcd as gcd_of};
+ghost use Rattle.algebra.specs.Ratio.{exact};
+ghost use Rattle.algebra.specs.Limits.{number_limit};
 ghost use Rattle.frac128.specs.Sums.{negate_if};
 
 mod fraction;
@@ -18,7 +21,7 @@ use short::{common_divisor, quotient};
 use std::cmp::Ordering;
 
 /// A whole number from -(2^127 - 1) to 2^127 - 1, which means the fraction over 1.
-#[derive(Clone, Copy, Debug, PartialEq, Eq)]
+#[derive(Clone, Copy, PartialEq, Eq)]
 pub struct Whole {
     value: i128,
     pub ghost in_range: { unsigned_abs value < number_limit },
@@ -123,9 +126,9 @@ fn whole_or_wide(value: Option<i128>) -> Result<Whole, Wide>
 }
 
 impl Ring for Whole {
-    ghost use Rattle.numbers.specs.Fraction.{fractions};
-    ghost use Rattle.numbers.proofs.Fractions.{fractions_ring, zero_is};
-    ghost use Rattle.numbers.proofs.SizeLaws.{fractions_bounded};
+    ghost use Rattle.algebra.specs.Fraction.{fractions};
+    ghost use Rattle.algebra.proofs.Fractions.{fractions_ring, zero_is};
+    ghost use Rattle.algebra.proofs.SizeLaws.{fractions_bounded};
     ghost use Rattle.frac128.specs.WholeMeaning.{whole_of, whole_decides, whole_eq_is};
 
     ghost scalars = { fractions };
@@ -204,14 +207,14 @@ impl Ring for Whole {
 }
 
 impl OrderedRing for Whole {
-    ghost use Rattle.numbers.proofs.Fractions.{fractions_ordered};
+    ghost use Rattle.algebra.proofs.Fractions.{fractions_ordered};
 
     #[tactic(auto, unfolding(crate::specs::WholeMeaning::whole_of))]
     fn compare(&self, other: &Whole) -> Ordering {
         self.value.cmp(&other.value)
     }
 
-    #[tactic(auto, unfolding(crate::specs::WholeMeaning::whole_of, numbers::specs::Fraction::fraction, numbers::specs::Ratio::is_lowest, numbers::specs::Gcd::gcd))]
+    #[tactic(auto, unfolding(crate::specs::WholeMeaning::whole_of, algebra::specs::Fraction::fraction, algebra::specs::Ratio::is_lowest, algebra::specs::Gcd::gcd))]
     fn sign(&self) -> i8 {
         match self.value.cmp(&0) {
             Ordering::Less => -1,

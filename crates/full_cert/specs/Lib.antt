@@ -1,8 +1,9 @@
-pub mod Stops
-pub mod Parts
-pub mod Paths
-pub mod StageParts
-pub mod Wide
-pub mod Verdicts
-pub mod Backward
-pub mod Further
+pub mod Raw
+pub mod Term
+pub mod RawWritten
+pub mod Tables
+pub mod PartsForm
+pub mod Form
+pub mod Seen
+pub mod Narrow
+pub mod Written

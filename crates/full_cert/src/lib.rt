@@ -1,108 +1,31 @@
-//! Full certificates judged: the first part that doesn't hold, or that the polynomials listed generate all
-//! invariants. No crate of completions or closed forms is below.
+//! Full certificates as files: read from JSON, and written.
+//!
+//! Proved: `read_full` gives the full certificate, over its loop and with as many parts of each kind as it must have, or the first fault
+//! with its path; what `write_full` writes is read as what was written.
+//!
+//! Notion: certificates.
 #![tactic(auto)]
 
-ghost use Rattle.std.specs.Prelude.{◌≡◌, length, IfOk, IfErr};
-ghost use Rattle.loops.specs.Inv.{Inv};
-ghost use Rattle.loop_model.specs.Maps.{AreFree};
-ghost use Rattle.loop_model.specs.View.{program_of};
-ghost use Rattle.rounds.specs.Generate.{Generates};
-ghost use Rattle.full_types.specs.Images.{IsFullIn};
-ghost use Rattle.full_types.specs.View.{full_of};
-ghost use Rattle.completeness.specs.Counts.{IsCounted};
-ghost use Rattle.full_cert.specs.Parts.{part_of};
-ghost use Rattle.full_cert.specs.Paths.{path_of};
-ghost use Rattle.full_cert.specs.Verdicts.{IsFailing, IsVerdictOf};
-ghost use Rattle.full_cert.specs.Wide.{IfRefused, IsRefusalOf, IsWideAt};
-
-mod error;
-mod forms;
-mod further;
-mod part;
+mod all_rounds;
+mod branches;
+mod form;
+pub mod laws;
+mod list_texts;
+mod lists;
+mod parts;
+mod poly_values;
+mod raw;
+mod raw_form;
+mod read;
 mod round;
 mod stage;
-mod starts;
-mod stop;
+mod start;
+mod terms;
+mod write;
 
-use cert_checker::{CheckError, Verdict, judge};
-pub use error::FullError;
-use full_types::FullCert;
-use further::judge_behind;
-use loop_model::Loop;
-use part::{Part, text_of};
-use std::alloc::Global;
-use stop::Stop;
-
-/// What a full certificate is worth.
-#[derive(Debug, Drop)]
-pub enum FullVerdict {
-    /// Its polynomials generate all invariants.
-    Complete,
-    /// The part with this path is the first that doesn't hold.
-    Fails { path: String },
-}
-
-/// Judges a full certificate of the loop: complete, or the path of the first part that doesn't hold. Where it
-/// is complete, its polynomials generate the invariants: each of them is one, and each invariant is a sum of
-/// products with them.
-///
-/// `Wide` only where the parts before hold, and the weight of a composition, a product, a sum or a difference of the
-/// named part is past.
-pub fn check_full(alloc: Global, lp: &Loop, cert: &FullCert) -> Result<FullVerdict, FullError>
-    requires images { IsFullIn (length (program_of lp.now).names) cert.now }
-    requires counted { IsCounted (program_of lp.now) (full_of cert.now) }
-    ensures verdict { IfOk result (IsVerdictOf (program_of lp.now) (full_of cert.now)) }
-    ensures complete { let program = program_of lp.now in let c = full_of cert.now in
-        IfOk result (λ v. v ≡ FullVerdict.Complete
-        → Generates (length program.names) c.basis (Inv program)) }
-    ensures free { IfOk result (λ v. AreFree (program_of lp.now)) }
-    ensures refused { IfErr result (IfRefused (program_of lp.now) (full_of cert.now)) }
-{
-    match judge(alloc, lp, &cert.basis, &cert.steps) {
-        Ok(Verdict::Valid) => {}
-        Ok(Verdict::StartFails { element }) => return fails(alloc, Part::Basis(element)),
-        Ok(Verdict::StepFails { branch, element }) => {
-            return fails(alloc, Part::Step(branch - 1, element));
-        }
-        Err(error) => return Err(refused(alloc, error)),
-    }
-    match judge_behind(alloc, lp, cert) {
-        Ok(()) => Ok(FullVerdict::Complete),
-        Err(Stop::Fails(part)) => fails(alloc, part),
-        Err(Stop::Wide(part)) => Err(wide(alloc, part)),
-        Err(Stop::Memory) => Err(FullError::Memory),
-    }
-}
-
-/// The verdict that this part doesn't hold.
-fn fails(alloc: Global, part: Part) -> Result<FullVerdict, FullError>
-    ensures fails { IfOk result (IsFailing (path_of (part_of part))) }
-    ensures memory { IfErr result (λ e. e ≡ FullError.Memory) }
-{
-    match text_of(alloc, part) {
-        Ok(path) => Ok(FullVerdict::Fails { path }),
-        Err(_) => Err(FullError::Memory),
-    }
-}
-
-/// The refusal of a part that is too wide.
-fn wide(alloc: Global, part: Part) -> FullError
-    ensures { IsWideAt (path_of (part_of part)) result }
-{
-    match text_of(alloc, part) {
-        Ok(path) => FullError::Wide { path },
-        Err(_) => FullError::Memory,
-    }
-}
-
-/// The refusal of the certificate's first parts. The branch 0 is the start.
-fn refused(alloc: Global, error: CheckError) -> FullError
-    ensures { IsRefusalOf error result }
-{
-    match error {
-        CheckError::Map(error) => FullError::Map(error),
-        CheckError::Wide { branch: 0, element } => wide(alloc, Part::Basis(element)),
-        CheckError::Wide { branch, element } => wide(alloc, Part::Step(branch - 1, element)),
-        CheckError::Memory => FullError::Memory,
-    }
-}
+pub use lists::{list_in, list_of, read_raws, read_row, read_rows, read_table};
+pub use raw::read_raw;
+pub use read::read_full;
+pub use stage::read_stage;
+pub use start::{read_forms, read_start, read_steps};
+pub use write::write_full;

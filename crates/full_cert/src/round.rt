@@ -1,179 +1,242 @@
-//! The stages of branches and rounds, judged.
-ghost use Rattle.std.specs.Prelude.{◌≡◌, ◌<◌, ◌≤◌, ℕ, length, OnOk, IfErr};
-ghost use Rattle.rings.specs.Each.{Each};
-ghost use Rattle.std.specs.List.{flat_map};
-ghost use Rattle.loop_model.specs.View.{program_of};
-ghost use Rattle.poly.specs.Seen.{terms_each};
-ghost use Rattle.completeness.specs.Full.{orbit, meet, before};
-ghost use Rattle.completeness.specs.Parts.{Holds, stage_parts, branch_parts, round_parts};
-ghost use Rattle.completeness.specs.Stage.{below};
-ghost use Rattle.full_types.specs.Images.{ArePolys, IsFullIn};
-ghost use Rattle.full_types.specs.View.{branch_in, full_of};
-ghost use Rattle.full_cert.specs.Backward.{given_list, IsGivenOver, AreBackward};
-ghost use Rattle.completeness.specs.Counts.{IsCounted};
-ghost use Rattle.full_cert.specs.Parts.{part_of};
-ghost use Rattle.full_cert.specs.Stops.{IsStop};
-ghost use Rattle.full_cert.specs.Wide.{IsPastPart};
+//! The stages of branches and rounds, read.
+ghost use Rattle.std.specs.Prelude.{◌≡◌, ◌≤◌, ◌<◌, ◌+◌, Ok, Err, Some, None, All, length, vec_len, map, IfOk, IfErr, IfSome};
+ghost use Rattle.serde_json.specs.View.{view, items_view};
+ghost use Rattle.rounds.specs.Form.{front};
+ghost use Rattle.cert_form.specs.Faults.{IfFault};
+ghost use Rattle.cert_form.specs.Path.{path_bytes};
+ghost use Rattle.full_cert.specs.PartsForm.{most_loop_variables};
+ghost use Rattle.task_lists.specs.Images.{most_bases, IsFormOver, IsStageIn, IsBranchIn, AreBranchesIn};
+ghost use Rattle.full_cert.specs.Form as spec;
+ghost use Rattle.monos.specs.Variables.{most_variables};
+ghost use Rattle.full_cert.specs.Form.{given_bound};
+ghost use Rattle.task_lists.specs.View.{stage_in, form_in, branch_in};
 
-use crate::part::{Kind, Part, in_stage};
-use crate::stage::judge_stage;
-use crate::stop::Stop;
-use full_types::{FullBranch, FullCert, Polys};
-use loop_model::Loop;
-use starting_lists::{Starting, front};
+use crate::read_stage;
+use cert_form::{CertError, Path, list_with, shape_at};
+use serde_json::Value;
 use std::alloc::Global;
+use task_lists::{FullBranch, FullForm, FullStage};
 
-/// The list behind the branch with these stages.
-fn list_of(branch: &FullBranch) -> &Polys
-    ensures given { terms_each result.now.items ≡ given_list (branch_in branch.now) }
-    ensures over { (m : ℕ) → IsGivenOver m branch.now → ArePolys m result.now }
+// The stage that is the member of this name.
+fn read_member<'a>(
+    alloc: Global,
+    path: &'a Path<'a>,
+    value: &Value,
+    name: &'a str,
+    front: usize,
+    variables: usize,
+    gens: usize,
+) -> Result<FullStage, CertError>
+    requires few { front + variables ≤ most_variables }
+    ensures images { IfOk result (IsStageIn front variables) }
+    ensures ok { IfOk result (λ s. spec.member_stage front variables gens (path_bytes path.now)
+        name.now (view value.now) ≡ Ok (stage_in s)) }
+    ensures fault { IfErr result (λ e. IfFault e (λ f. spec.member_stage front variables gens
+        (path_bytes path.now) name.now (view value.now) ≡ Err f)) }
+{
+    let path = Path::Member(path, name);
+    match value.get(name) {
+        Some(stage) => read_stage(alloc, &path, stage, front, variables, gens),
+        None => Err(shape_at(alloc, &path)),
+    }
+}
+
+// The orbit of a branch with this form, where the list before the round has so many polynomials.
+fn read_orbit<'a>(
+    alloc: Global,
+    path: &'a Path<'a>,
+    value: &Value,
+    variables: usize,
+    before: usize,
+    form: &FullForm,
+) -> Result<FullStage, CertError>
+    requires variables { variables ≤ most_loop_variables }
+    requires few { vec_len form.now.base ≤ most_bases }
+    requires short { before < given_bound }
+    ensures images { IfOk result (IsStageIn (front (vec_len form.now.base)) variables) }
+    ensures ok { IfOk result (λ s. spec.orbit_at variables before (form_in form.now)
+        (path_bytes path.now) (view value.now) ≡ Ok (stage_in s)) }
+    ensures fault { IfErr result (λ e. IfFault e (λ f. spec.orbit_at variables before
+        (form_in form.now) (path_bytes path.now) (view value.now) ≡ Err f)) }
+{
+    let numbers = form.base.len();
+    let front = 2 + (numbers + numbers);
+    read_member(
+        alloc,
+        path,
+        value,
+        "orbit",
+        front,
+        variables,
+        before + (1 + numbers),
+    )
+}
+
+// The stages of the first branch, which has no intersection.
+fn read_first<'a>(
+    alloc: Global,
+    path: &'a Path<'a>,
+    value: &Value,
+    variables: usize,
+    before: usize,
+    form: &FullForm,
+) -> Result<FullBranch, CertError>
+    requires variables { variables ≤ most_loop_variables }
+    requires few { vec_len form.now.base ≤ most_bases }
+    requires short { before < given_bound }
+    ensures images { IfOk result (IsBranchIn variables form.now) }
+    ensures ok { IfOk result (λ b. spec.branch_at variables before None (form_in form.now)
+        (path_bytes path.now) (view value.now) ≡ Ok (branch_in b)) }
+    ensures fault { IfErr result (λ e. IfFault e (λ f. spec.branch_at variables before None
+        (form_in form.now) (path_bytes path.now) (view value.now) ≡ Err f)) }
+{
+    if !value.is_object() {
+        return Err(shape_at(alloc, path));
+    }
+    let orbit = read_orbit(alloc, path, value, variables, before, form)?;
+    Ok(FullBranch { orbit, meet: None })
+}
+
+// The stages of a branch with this orbit, where the list so far has so many polynomials.
+fn with_orbit<'a>(
+    alloc: Global,
+    path: &'a Path<'a>,
+    value: &Value,
+    variables: usize,
+    so_far: usize,
+    orbit: FullStage,
+) -> Result<FullBranch, CertError>
+    requires variables { variables ≤ most_loop_variables }
+    requires short { so_far < given_bound }
+    ensures orbit { IfOk result (λ b. b.orbit ≡ orbit) }
+    ensures meet { IfOk result (λ b. IfSome b.meet (IsStageIn 1 variables)) }
+    ensures ok { IfOk result (λ b. spec.with_orbit variables so_far (path_bytes path.now)
+        (view value.now) (stage_in orbit) ≡ Ok (branch_in b)) }
+    ensures fault { IfErr result (λ e. IfFault e (λ f. spec.with_orbit variables so_far
+        (path_bytes path.now) (view value.now) (stage_in orbit) ≡ Err f)) }
+{
+    let gens = so_far + orbit.out.len();
+    let meet = read_member(alloc, path, value, "meet", 1, variables, gens)?;
+    Ok(FullBranch {
+        orbit,
+        meet: Some(meet),
+    })
+}
+
+// The stages of a further branch.
+fn read_further<'a>(
+    alloc: Global,
+    path: &'a Path<'a>,
+    value: &Value,
+    variables: usize,
+    before: usize,
+    so_far: usize,
+    form: &FullForm,
+) -> Result<FullBranch, CertError>
+    requires variables { variables ≤ most_loop_variables }
+    requires few { vec_len form.now.base ≤ most_bases }
+    requires short { before < given_bound }
+    requires short_so_far { so_far < given_bound }
+    ensures images { IfOk result (IsBranchIn variables form.now) }
+    ensures ok { IfOk result (λ b. spec.branch_at variables before (Some so_far)
+        (form_in form.now) (path_bytes path.now) (view value.now) ≡ Ok (branch_in b)) }
+    ensures fault { IfErr result (λ e. IfFault e (λ f. spec.branch_at variables before
+        (Some so_far) (form_in form.now) (path_bytes path.now) (view value.now) ≡ Err f)) }
+{
+    if !value.is_object() {
+        return Err(shape_at(alloc, path));
+    }
+    let orbit = read_orbit(alloc, path, value, variables, before, form)?;
+    with_orbit(alloc, path, value, variables, so_far, orbit)
+}
+
+// The stages of a branch: a further one where there is a list so far.
+fn read_branch<'a>(
+    alloc: Global,
+    path: &'a Path<'a>,
+    value: &Value,
+    variables: usize,
+    before: usize,
+    so_far: Option<usize>,
+    form: &FullForm,
+) -> Result<FullBranch, CertError>
+    requires variables { variables ≤ most_loop_variables }
+    requires few { vec_len form.now.base ≤ most_bases }
+    requires short { before < given_bound }
+    requires short_so_far { IfSome so_far (λ n. n < given_bound) }
+    ensures images { IfOk result (IsBranchIn variables form.now) }
+    ensures ok { IfOk result (λ b. spec.branch_at variables before so_far (form_in form.now)
+        (path_bytes path.now) (view value.now) ≡ Ok (branch_in b)) }
+    ensures fault { IfErr result (λ e. IfFault e (λ f. spec.branch_at variables before so_far
+        (form_in form.now) (path_bytes path.now) (view value.now) ≡ Err f)) }
+{
+    match so_far {
+        None => read_first(alloc, path, value, variables, before, form),
+        Some(count) => read_further(alloc, path, value, variables, before, count, form),
+    }
+}
+
+// How many polynomials the list so far has behind these stages.
+pub(crate) fn given(branch: &FullBranch) -> usize
+    ensures given { result ≡ spec.given_by (branch_in branch.now) }
+    ensures short { result < given_bound }
 {
     match &branch.meet {
-        Some(meet) => &meet.out,
-        None => &branch.orbit.out,
+        Some(meet) => meet.out.len(),
+        None => branch.orbit.out.len(),
     }
 }
 
-/// The list before this round.
-pub(crate) fn list_before<'c>(lp: &Loop, cert: &'c FullCert, round: usize) -> &'c Polys
-    requires images { IsFullIn (length (program_of lp.now).names) cert.now }
-    requires counted { IsCounted (program_of lp.now) (full_of cert.now) }
-    requires round { round ≤ length (full_of cert.now).rounds }
-    ensures before { terms_each result.now.items
-        ≡ before (program_of lp.now) (full_of cert.now) round }
-    ensures over { ArePolys (length (program_of lp.now).names) result.now }
+// The stages of the branches, one for each form.
+fn read_branches<'a>(
+    alloc: Global,
+    path: &'a Path<'a>,
+    list: &[Value],
+    variables: usize,
+    before: usize,
+    forms: &[FullForm],
+) -> Result<Vec<FullBranch>, CertError>
+    requires variables { variables ≤ most_loop_variables }
+    requires short { before < given_bound }
+    requires count { length list.now ≡ length forms.now }
+    requires forms { All (IsFormOver variables) forms.now }
+    ensures images { IfOk result (AreBranchesIn variables forms.now) }
+    ensures ok { IfOk result (λ bs. spec.branches_at variables before None (map form_in forms.now)
+        (path_bytes path.now) 0 (items_view list.now) ≡ Ok (map branch_in bs.items)) }
+    ensures fault { IfErr result (λ e. IfFault e (λ f. spec.branches_at variables before None
+        (map form_in forms.now) (path_bytes path.now) 0 (items_view list.now) ≡ Err f)) }
 {
-    if round == 0 {
-        return &cert.start.out;
+    let mut found = Vec::new(alloc);
+    let mut so_far = None;
+    for (i, value) in list.iter().enumerate() {
+        let place = Path::Place(path, i);
+        let branch = read_branch(alloc, &place, value, variables, before, so_far, &forms[i])?;
+        so_far = Some(given(&branch));
+        found.push(branch)?;
     }
-    list_of(&cert.rounds[round - 1][lp.branches().len() - 1])
+    Ok(found)
 }
 
-/// Whether the orbit of this branch holds. `back` has the forms of the branches, backward.
-fn judge_orbit(
+// The stages of a round.
+pub(crate) fn read_round<'a>(
     alloc: Global,
-    lp: &Loop,
-    cert: &FullCert,
-    back: &Vec<Polys>,
-    round: usize,
-    branch: usize,
-) -> Result<(), Stop<Part>>
-    requires images { IsFullIn (length (program_of lp.now).names) cert.now }
-    requires counted { IsCounted (program_of lp.now) (full_of cert.now) }
-    requires back { AreBackward (program_of lp.now) cert.now back.now }
-    requires round { round < length (full_of cert.now).rounds }
-    requires branch { branch < length (program_of lp.now).branches }
-    ensures holds { let program = program_of lp.now in let c = full_of cert.now in
-        OnOk result (Each (Holds program c) (stage_parts program c round branch orbit)) }
-    ensures stops { let program = program_of lp.now in let c = full_of cert.now in IfErr result
-        (IsStop part_of (Holds program c) (IsPastPart program c)
-        (stage_parts program c round branch orbit)) }
+    path: &'a Path<'a>,
+    value: &Value,
+    variables: usize,
+    before: usize,
+    forms: &[FullForm],
+) -> Result<Vec<FullBranch>, CertError>
+    requires variables { variables ≤ most_loop_variables }
+    requires short { before < given_bound }
+    requires forms { All (IsFormOver variables) forms.now }
+    ensures images { IfOk result (AreBranchesIn variables forms.now) }
+    ensures ok { IfOk result (λ bs. spec.round_at variables before (map form_in forms.now)
+        (path_bytes path.now) (view value.now) ≡ Ok (map branch_in bs.items)) }
+    ensures fault { IfErr result (λ e. IfFault e (λ f. spec.round_at variables before
+        (map form_in forms.now) (path_bytes path.now) (view value.now) ≡ Err f)) }
 {
-    let (base, list) = (&cert.forms[branch].base, list_before(lp, cert, round));
-    let begin = Starting::Orbit(base, &back[branch], list);
-    let front = front(base.len());
-    let stage = &cert.rounds[round][branch].orbit;
-    let judged = judge_stage(alloc, &begin, front, lp.names().len(), stage);
-    in_stage(round, branch, Kind::Orbit, judged)
-}
-
-/// Whether the intersection of this branch, which isn't the first, holds.
-fn judge_meet(
-    alloc: Global,
-    lp: &Loop,
-    cert: &FullCert,
-    round: usize,
-    branch: usize,
-) -> Result<(), Stop<Part>>
-    requires images { IsFullIn (length (program_of lp.now).names) cert.now }
-    requires counted { IsCounted (program_of lp.now) (full_of cert.now) }
-    requires round { round < length (full_of cert.now).rounds }
-    requires branch { branch < length (program_of lp.now).branches }
-    requires behind { 0 < branch }
-    ensures holds { let program = program_of lp.now in let c = full_of cert.now in
-        OnOk result (Each (Holds program c) (stage_parts program c round branch meet)) }
-    ensures stops { let program = program_of lp.now in let c = full_of cert.now in IfErr result
-        (IsStop part_of (Holds program c) (IsPastPart program c)
-        (stage_parts program c round branch meet)) }
-{
-    let stages = &cert.rounds[round][branch];
-    let Some(stage) = &stages.meet else {
-        unreachable!()
+    let Some(list) = list_with(value, forms.len()) else {
+        return Err(shape_at(alloc, path));
     };
-    let begin = Starting::Meet(list_of(&cert.rounds[round][branch - 1]), &stages.orbit.out);
-    let judged = judge_stage(alloc, &begin, 1, lp.names().len(), stage);
-    in_stage(round, branch, Kind::Meet, judged)
-}
-
-/// Whether the stages of this branch hold.
-fn judge_branch(
-    alloc: Global,
-    lp: &Loop,
-    cert: &FullCert,
-    back: &Vec<Polys>,
-    round: usize,
-    branch: usize,
-) -> Result<(), Stop<Part>>
-    requires images { IsFullIn (length (program_of lp.now).names) cert.now }
-    requires counted { IsCounted (program_of lp.now) (full_of cert.now) }
-    requires back { AreBackward (program_of lp.now) cert.now back.now }
-    requires round { round < length (full_of cert.now).rounds }
-    requires branch { branch < length (program_of lp.now).branches }
-    ensures holds { let program = program_of lp.now in let c = full_of cert.now in
-        OnOk result (Each (Holds program c) (branch_parts program c round branch)) }
-    ensures stops { let program = program_of lp.now in let c = full_of cert.now in IfErr result
-        (IsStop part_of (Holds program c) (IsPastPart program c)
-        (branch_parts program c round branch)) }
-{
-    judge_orbit(alloc, lp, cert, back, round, branch)?;
-    if branch == 0 {
-        return Ok(());
-    }
-    judge_meet(alloc, lp, cert, round, branch)
-}
-
-/// Whether the stages of this round hold.
-fn judge_round(
-    alloc: Global,
-    lp: &Loop,
-    cert: &FullCert,
-    back: &Vec<Polys>,
-    round: usize,
-) -> Result<(), Stop<Part>>
-    requires images { IsFullIn (length (program_of lp.now).names) cert.now }
-    requires counted { IsCounted (program_of lp.now) (full_of cert.now) }
-    requires back { AreBackward (program_of lp.now) cert.now back.now }
-    requires round { round < length (full_of cert.now).rounds }
-    ensures holds { let program = program_of lp.now in let c = full_of cert.now in OnOk result
-        (Each (Holds program c)
-        (flat_map (branch_parts program c round) (below (length program.branches)))) }
-    ensures stops { let program = program_of lp.now in let c = full_of cert.now in IfErr result
-        (IsStop part_of (Holds program c) (IsPastPart program c)
-        (flat_map (branch_parts program c round) (below (length program.branches)))) }
-{
-    for branch in 0..lp.branches().len() {
-        judge_branch(alloc, lp, cert, back, round, branch)?;
-    }
-    Ok(())
-}
-
-/// Whether the stages of all rounds hold.
-pub(crate) fn judge_rounds(
-    alloc: Global,
-    lp: &Loop,
-    cert: &FullCert,
-    back: &Vec<Polys>,
-) -> Result<(), Stop<Part>>
-    requires images { IsFullIn (length (program_of lp.now).names) cert.now }
-    requires counted { IsCounted (program_of lp.now) (full_of cert.now) }
-    requires back { AreBackward (program_of lp.now) cert.now back.now }
-    ensures holds { let program = program_of lp.now in let c = full_of cert.now in
-        OnOk result (Each (Holds program c) (round_parts program c)) }
-    ensures stops { let program = program_of lp.now in let c = full_of cert.now in IfErr result
-        (IsStop part_of (Holds program c) (IsPastPart program c) (round_parts program c)) }
-{
-    for round in 0..cert.rounds.len() {
-        judge_round(alloc, lp, cert, back, round)?;
-    }
-    Ok(())
+    read_branches(alloc, path, list, variables, before, forms)
 }

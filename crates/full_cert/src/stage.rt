@@ -1,198 +1,257 @@
-//! One stage, judged.
-ghost use Rattle.std.specs.Prelude.{◌≡◌, ◌<◌, ◌≤◌, ◌+◌, ◌⊎◌, ℕ, [], length, get_or, vec_len, All, OnOk, IfOk, IfErr, IsErrOf, IsTrue, ◌↔◌};
-ghost use Rattle.rings.specs.Each.{Each};
-ghost use Rattle.numbers.specs.Fraction.{ℚ};
-ghost use Rattle.polynomials.specs.Terms.{Same, combination};
-ghost use Rattle.machines.specs.Elimination.{free_part};
+//! Stages, read.
+ghost use Rattle.std.specs.Prelude.{◌≡◌, ◌≤◌, ◌+◌, ◌==◌, Ok, Err, All, length, vec_len, option_and_then, IfOk, IfErr, IfSome};
+ghost use Rattle.std.specs.Option.{option_map};
+ghost use Rattle.serde_json.specs.View.{view, items_view};
+ghost use Rattle.machines.specs.Elimination.{all_free, free_part};
 ghost use Rattle.monos.specs.Variables.{most_variables};
-ghost use Rattle.poly.specs.Seen.{terms_each};
-ghost use Rattle.full_types.specs.Rows.{rows_of, HaveWidth};
+ghost use Rattle.poly.specs.Seen.{terms_in, terms_each};
+ghost use Rattle.cert_form.specs.Form as form;
+ghost use Rattle.cert_form.specs.Faults.{IfFault};
 ghost use Rattle.completeness.specs.Representation.{pairs_of};
-ghost use Rattle.completeness.specs.Stage.{HoldsAt, places};
-ghost use Rattle.full_types.specs.Images.{AreBlockPolys, ArePolys, IsStageIn};
-ghost use Rattle.full_types.specs.View.{stage_in};
-ghost use Rattle.list_checks.specs.Past.{IsPastCombination};
-ghost use Rattle.starting_lists.specs.Starting as begins;
-ghost use Rattle.completeness.specs.Counts.{IsStageCounted};
-ghost use Rattle.full_cert.specs.Parts.{place_of};
-ghost use Rattle.full_cert.specs.StageParts.{IsMonicAt, IsMadeAt, IsPastMade, IsRepresentedAt, IsPastPairAt, NeverPast, IsPastPlace};
-ghost use Rattle.full_cert.specs.Stops.{IsStop, StopsAt};
+ghost use Rattle.completeness.specs.Stage.{block_order};
+ghost use Rattle.cert_form.specs.Path.{path_bytes};
+ghost use Rattle.full_cert.specs.Tables.{table_at};
+ghost use Rattle.task_lists.specs.Rows.{rows_of};
+ghost use Rattle.full_cert.specs.PartsForm as spec;
+ghost use Rattle.task_lists.specs.Images.{AreBlockPolys, AreBlockRows, ArePolys, IsStageIn};
+ghost use Rattle.task_lists.specs.View.{stage_in};
 
-use crate::part::{Row, RowPlace, in_row};
-use crate::stop::{Stop, told};
+use crate::{list_in, read_raws, read_rows, read_table};
+use cert_form::{CertError, Path, shape_at};
 use frac128::Frac;
-use full_types::{BlockPolys, FullStage, Polys};
-use list_checks::{all_pairs, free_elements, is_combination, is_lcm_representation, is_monic};
-use monos::Blocks;
+use monos::{Blocks, Grevlex};
 use poly::Poly;
-use ring_laws::ArithmeticError;
-use starting_lists::{Starting, element_of};
+use serde_json::Value;
 use std::alloc::Global;
+use task_lists::{BlockPolys, FullStage, Polys};
 
-/// Whether each element is monic.
-fn judge_list(list: &[Poly<Frac, Blocks>]) -> Result<(), Stop<usize>>
-    ensures holds { OnOk result ((i : ℕ) → i < length list.now
-        → IsMonicAt (terms_each list.now) i) }
-    ensures stops { IfErr result
-        (StopsAt (IsMonicAt (terms_each list.now)) NeverPast (length list.now)) }
+// Whether none of the first variables is in it.
+fn is_free(p: &Poly<Frac, Blocks>, front: usize) -> bool
+    requires { front ≤ p.now.arity }
+    ensures { result ≡ all_free front (terms_in p.now) }
 {
-    for (i, p) in list.iter().enumerate() {
-        told(i, Ok(is_monic(p)))?;
+    p.is_free_of_first(front)
+}
+
+// How many have none of the first variables.
+fn free_count(list: &[Poly<Frac, Blocks>], front: usize) -> usize
+    requires { All (λ p. front ≤ p.arity) list.now }
+    ensures { result ≡ length (free_part front (terms_each list.now)) }
+{
+    let mut count = 0;
+    for p in list {
+        if is_free(p, front) {
+            count += 1;
+        }
     }
-    Ok(())
+    count
 }
 
-/// Whether the polynomial at this place of what the stage begins with is made of the list by these cofactors.
-fn is_made<'a>(
-    alloc: Global,
-    begin: &Starting<'a>,
-    variables: usize,
-    place: usize,
-    cofactors: &BlockPolys,
-    list: &BlockPolys,
-) -> Result<bool, ArithmeticError>
-    requires fits { begins.FitsStart variables begin.now }
-    requires place { place < length (begins.starting variables begin.now) }
-    requires count { vec_len cofactors.now ≡ vec_len list.now }
-    requires cofactors { let k = begins.front_of begin.now in
-        AreBlockPolys k (k + variables) cofactors.now }
-    requires list { let k = begins.front_of begin.now in AreBlockPolys k (k + variables) list.now }
-    ensures holds { IfOk result (λ holds. IsTrue holds ↔
-        Same ℚ (get_or (begins.starting variables begin.now) place [])
-        (combination ℚ (terms_each cofactors.now.items) (terms_each list.now.items))) }
-    ensures wide { IsErrOf result ArithmeticError.Wide → begins.IsPastAt variables begin.now place
-        ⊎ IsPastCombination (terms_each cofactors.now.items) (terms_each list.now.items) }
+// Whether so many are the pairs of a list of `count`.
+fn are_pairs(pairs: usize, count: usize) -> bool
+    ensures { result ≡ (pairs == length (pairs_of count)) }
 {
-    let p = element_of(alloc, begin, variables, place)?;
-    is_combination(alloc, &p, cofactors, list)
+    let (pairs, count) = (pairs as u128, count as u128);
+    pairs + pairs + count == count * count
 }
 
-/// Whether each polynomial that the stage begins with is made of the list.
-fn judge_gens<'a>(
-    alloc: Global,
-    begin: &Starting<'a>,
-    variables: usize,
-    gens: &[BlockPolys],
-    list: &BlockPolys,
-) -> Result<(), Stop<usize>>
-    requires fits { begins.FitsStart variables begin.now }
-    requires count { length gens.now ≡ length (begins.starting variables begin.now) }
-    requires widths { HaveWidth (vec_len list.now) gens.now }
-    requires gens { let k = begins.front_of begin.now in
-        All (AreBlockPolys k (k + variables)) gens.now }
-    requires list { let k = begins.front_of begin.now in AreBlockPolys k (k + variables) list.now }
-    ensures holds { let hs = begins.starting variables begin.now in
-        OnOk result ((i : ℕ) → i < length hs
-        → IsMadeAt hs (rows_of gens.now) (terms_each list.now.items) i) }
-    ensures stops { let hs = begins.starting variables begin.now in IfErr result
-        (StopsAt (IsMadeAt hs (rows_of gens.now) (terms_each list.now.items))
-        (λ i. begins.IsPastAt variables begin.now i
-        ⊎ IsPastMade (rows_of gens.now) (terms_each list.now.items) i) (length hs)) }
+// The list that the value is, where it has an entry for each pair of a list of `count`.
+#[tactic(auto, using(cert_form::proofs::Each::count_is))]
+fn list_of_pairs(value: Option<&Value>, count: usize) -> Option<&Vec<Value>>
+    ensures list { option_map (λ list. items_view list.now.items) result ≡ option_and_then
+        (form.list_with (length (pairs_of count))) (option_map (λ v. view v.now) value.entry) }
+    ensures count { IfSome result (λ list. vec_len list.now ≡ length (pairs_of count)) }
 {
-    for (i, row) in gens.iter().enumerate() {
-        told(i, is_made(alloc, begin, variables, i, row, list))?;
+    let list = list_in(value)?;
+    if are_pairs(list.len(), count) {
+        Some(list)
+    } else {
+        None
     }
-    Ok(())
 }
 
-/// Whether the S-polynomial of each pair is made of the list below the least common multiple of the leads.
-fn judge_pairs(
+// The cofactors of the pairs of a list of `count`.
+fn read_pairs<'a>(
     alloc: Global,
+    path: &'a Path<'a>,
+    value: Option<&Value>,
+    count: usize,
     front: usize,
     arity: usize,
-    pairs: &[BlockPolys],
-    list: &BlockPolys,
-) -> Result<(), Stop<usize>>
+) -> Result<Vec<BlockPolys>, CertError>
     requires few { arity ≤ most_variables }
-    requires count { length pairs.now ≡ length (pairs_of (vec_len list.now)) }
-    requires widths { HaveWidth (vec_len list.now) pairs.now }
-    requires pairs { All (AreBlockPolys front arity) pairs.now }
-    requires list { AreBlockPolys front arity list.now }
-    requires monic { (i : ℕ) → i < vec_len list.now → IsMonicAt (terms_each list.now.items) i }
-    ensures holds { OnOk result ((i : ℕ) → i < length (pairs_of (vec_len list.now))
-        → IsRepresentedAt front (terms_each list.now.items) (rows_of pairs.now) i) }
-    ensures stops { IfErr result
-        (StopsAt (IsRepresentedAt front (terms_each list.now.items) (rows_of pairs.now))
-        (IsPastPairAt (terms_each list.now.items) (rows_of pairs.now))
-        (length (pairs_of (vec_len list.now)))) }
+    ensures images { IfOk result (AreBlockRows front arity) }
+    ensures ok { IfOk result (λ pairs. table_at (length (pairs_of count)) count (block_order front)
+        arity (path_bytes path.now) (option_map (λ v. view v.now) value.entry)
+        ≡ Ok (rows_of pairs.items)) }
+    ensures fault { IfErr result (λ e. IfFault e (λ f. table_at (length (pairs_of count)) count
+        (block_order front) arity (path_bytes path.now)
+        (option_map (λ v. view v.now) value.entry) ≡ Err f)) }
 {
-    let Ok(all) = all_pairs(alloc, list.len()) else {
-        return Err(Stop::Memory);
+    let Some(list) = list_of_pairs(value, count) else {
+        return Err(shape_at(alloc, path));
     };
-    let order = Blocks { first: front };
-    for (i, row) in pairs.iter().enumerate() {
-        let (left, right) = all[i];
-        told(
-            i,
-            is_lcm_representation(alloc, order, arity, list, left, right, row),
-        )?;
-    }
-    Ok(())
+    read_rows(alloc, path, list, count, Blocks { first: front }, arity)
 }
 
-/// Whether each element without the variables in front is made of what the stage gives.
-fn judge_links(
+// The stage of these parts, with its links.
+fn with_out<'a>(
     alloc: Global,
+    path: &'a Path<'a>,
+    value: &Value,
     front: usize,
     variables: usize,
-    links: &[Polys],
-    list: &BlockPolys,
-    out: &Polys,
-) -> Result<(), Stop<usize>>
-    requires count { length links.now ≡ length (free_part front (terms_each list.now.items)) }
-    requires widths { HaveWidth (vec_len out.now) links.now }
-    requires links { All (ArePolys variables) links.now }
-    requires list { AreBlockPolys front (front + variables) list.now }
-    requires out { ArePolys variables out.now }
-    ensures holds { let free = free_part front (terms_each list.now.items) in
-        OnOk result ((i : ℕ) → i < length free
-        → IsMadeAt free (rows_of links.now) (terms_each out.now.items) i) }
-    ensures stops { let free = free_part front (terms_each list.now.items) in IfErr result
-        (StopsAt (IsMadeAt free (rows_of links.now) (terms_each out.now.items))
-        (IsPastMade (rows_of links.now) (terms_each out.now.items)) (length free)) }
-{
-    let Ok(free) = free_elements(alloc, list, front, variables) else {
-        return Err(Stop::Memory);
-    };
-    for (i, row) in links.iter().enumerate() {
-        told(i, is_combination(alloc, &free[i], row, out))?;
-    }
-    Ok(())
-}
-
-/// Whether the parts of a stage hold.
-pub(crate) fn judge_stage<'a>(
-    alloc: Global,
-    begin: &Starting<'a>,
-    front: usize,
-    variables: usize,
-    stage: &FullStage,
-) -> Result<(), Stop<RowPlace>>
-    requires fits { begins.FitsStart variables begin.now }
-    requires front { front ≡ begins.front_of begin.now }
+    list: BlockPolys,
+    gens: Vec<BlockPolys>,
+    pairs: Vec<BlockPolys>,
+    out: Polys,
+) -> Result<FullStage, CertError>
     requires few { front + variables ≤ most_variables }
-    requires images { IsStageIn front variables stage.now }
-    requires counts { IsStageCounted front (length (begins.starting variables begin.now))
-        (stage_in stage.now) }
-    ensures holds { let hs = begins.starting variables begin.now in OnOk result
-        (Each (HoldsAt front hs (stage_in stage.now)) (places front hs (stage_in stage.now))) }
-    ensures stops { let hs = begins.starting variables begin.now in IfErr result
-        (IsStop place_of (HoldsAt front hs (stage_in stage.now))
-        (IsPastPlace (begins.IsPastAt variables begin.now) (stage_in stage.now))
-        (places front hs (stage_in stage.now))) }
+    requires list { AreBlockPolys front (front + variables) list }
+    requires gens { AreBlockRows front (front + variables) gens }
+    requires pairs { AreBlockRows front (front + variables) pairs }
+    requires out { ArePolys variables out }
+    ensures images { IfOk result (IsStageIn front variables) }
+    ensures ok { IfOk result (λ s. spec.with_out front variables (path_bytes path.now)
+        (view value.now) (terms_each list.items) (rows_of gens.items) (rows_of pairs.items)
+        (terms_each out.items) ≡ Ok (stage_in s)) }
+    ensures fault { IfErr result (λ e. IfFault e (λ f. spec.with_out front variables
+        (path_bytes path.now) (view value.now) (terms_each list.items) (rows_of gens.items)
+        (rows_of pairs.items) (terms_each out.items) ≡ Err f)) }
 {
-    in_row(Row::List, judge_list(&stage.list))?;
-    let gens = judge_gens(alloc, begin, variables, &stage.gens, &stage.list);
-    in_row(Row::Gens, gens)?;
-    let pairs = judge_pairs(alloc, front, front + variables, &stage.pairs, &stage.list);
-    in_row(Row::Pairs, pairs)?;
-    let links = judge_links(
+    let place = Path::Member(path, "links");
+    let free = free_count(&list, front);
+    let links = read_table(
         alloc,
-        front,
+        &place,
+        value.get("links"),
+        free,
+        out.len(),
+        Grevlex,
         variables,
-        &stage.links,
-        &stage.list,
-        &stage.out,
-    );
-    in_row(Row::Links, links)
+    )?;
+    Ok(FullStage {
+        list,
+        gens,
+        pairs,
+        out,
+        links,
+    })
+}
+
+// The stage of these parts, with what it gives and its links.
+fn with_pairs<'a>(
+    alloc: Global,
+    path: &'a Path<'a>,
+    value: &Value,
+    front: usize,
+    variables: usize,
+    list: BlockPolys,
+    gens: Vec<BlockPolys>,
+    pairs: Vec<BlockPolys>,
+) -> Result<FullStage, CertError>
+    requires few { front + variables ≤ most_variables }
+    requires list { AreBlockPolys front (front + variables) list }
+    requires gens { AreBlockRows front (front + variables) gens }
+    requires pairs { AreBlockRows front (front + variables) pairs }
+    ensures images { IfOk result (IsStageIn front variables) }
+    ensures ok { IfOk result (λ s. spec.with_pairs front variables (path_bytes path.now)
+        (view value.now) (terms_each list.items) (rows_of gens.items) (rows_of pairs.items)
+        ≡ Ok (stage_in s)) }
+    ensures fault { IfErr result (λ e. IfFault e (λ f. spec.with_pairs front variables
+        (path_bytes path.now) (view value.now) (terms_each list.items) (rows_of gens.items)
+        (rows_of pairs.items) ≡ Err f)) }
+{
+    let place = Path::Member(path, "out");
+    let out = read_raws(alloc, &place, value.get("out"), Grevlex, variables)?;
+    with_out(alloc, path, value, front, variables, list, gens, pairs, out)
+}
+
+// The stage of these parts, with its pairs and what follows.
+fn with_gens<'a>(
+    alloc: Global,
+    path: &'a Path<'a>,
+    value: &Value,
+    front: usize,
+    variables: usize,
+    list: BlockPolys,
+    gens: Vec<BlockPolys>,
+) -> Result<FullStage, CertError>
+    requires few { front + variables ≤ most_variables }
+    requires list { AreBlockPolys front (front + variables) list }
+    requires gens { AreBlockRows front (front + variables) gens }
+    ensures images { IfOk result (IsStageIn front variables) }
+    ensures ok { IfOk result (λ s. spec.with_gens front variables (path_bytes path.now)
+        (view value.now) (terms_each list.items) (rows_of gens.items) ≡ Ok (stage_in s)) }
+    ensures fault { IfErr result (λ e. IfFault e (λ f. spec.with_gens front variables
+        (path_bytes path.now) (view value.now) (terms_each list.items) (rows_of gens.items)
+        ≡ Err f)) }
+{
+    let place = Path::Member(path, "pairs");
+    let pairs = read_pairs(
+        alloc,
+        &place,
+        value.get("pairs"),
+        list.len(),
+        front,
+        front + variables,
+    )?;
+    with_pairs(alloc, path, value, front, variables, list, gens, pairs)
+}
+
+// The stage of this list, with its other parts.
+fn with_list<'a>(
+    alloc: Global,
+    path: &'a Path<'a>,
+    value: &Value,
+    front: usize,
+    variables: usize,
+    gens: usize,
+    list: BlockPolys,
+) -> Result<FullStage, CertError>
+    requires few { front + variables ≤ most_variables }
+    requires list { AreBlockPolys front (front + variables) list }
+    ensures images { IfOk result (IsStageIn front variables) }
+    ensures ok { IfOk result (λ s. spec.with_list front variables (path_bytes path.now)
+        (view value.now) gens (terms_each list.items) ≡ Ok (stage_in s)) }
+    ensures fault { IfErr result (λ e. IfFault e (λ f. spec.with_list front variables
+        (path_bytes path.now) (view value.now) gens (terms_each list.items) ≡ Err f)) }
+{
+    let place = Path::Member(path, "gens");
+    let order = Blocks { first: front };
+    let gens = read_table(
+        alloc,
+        &place,
+        value.get("gens"),
+        gens,
+        list.len(),
+        order,
+        front + variables,
+    )?;
+    with_gens(alloc, path, value, front, variables, list, gens)
+}
+
+/// The stage that eliminates the first variables and begins with so many polynomials.
+pub fn read_stage<'a>(
+    alloc: Global,
+    path: &'a Path<'a>,
+    value: &Value,
+    front: usize,
+    variables: usize,
+    gens: usize,
+) -> Result<FullStage, CertError>
+    requires few { front + variables ≤ most_variables }
+    ensures images { IfOk result (IsStageIn front variables) }
+    ensures ok { IfOk result (λ s. spec.stage_at front variables gens (path_bytes path.now)
+        (view value.now) ≡ Ok (stage_in s)) }
+    ensures fault { IfErr result (λ e. IfFault e (λ f. spec.stage_at front variables gens
+        (path_bytes path.now) (view value.now) ≡ Err f)) }
+{
+    if !value.is_object() {
+        return Err(shape_at(alloc, path));
+    }
+    let place = Path::Member(path, "list");
+    let order = Blocks { first: front };
+    let list = read_raws(alloc, &place, value.get("list"), order, front + variables)?;
+    with_list(alloc, path, value, front, variables, gens, list)
 }

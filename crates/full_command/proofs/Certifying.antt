@@ -11,14 +11,14 @@
 --   settled, not_no        which statuses the answers have
 use Rattle.std.proofs.Common.{◌≡◌, ◌≢◌, ℕ, List, length, sym, ap, subst, ◌∙◌, Ok, inl, inr}
 use Rattle.std.specs.Prelude.{◌⊎◌, Some, None}
-use Rattle.numbers.specs.Fraction.{Fraction}
+use Rattle.algebra.specs.Fraction.{Fraction}
 use Rattle.polynomials.specs.Terms.{Terms}
 use Rattle.machines.specs.Journal.{Journal, Entry}
 use Rattle.machines.specs.Run.{IsRun}
 use Rattle.machines.proofs.Runs.{ended_unique}
 use Rattle.loops.specs.Program.{Expr, Program}
-use Rattle.expr_text.specs.Reasons.{limit}
-use Rattle.expressions.specs.Operations.{IsLimit}
+use Rattle.poly_text.specs.Reasons.{limit}
+use Rattle.loop_model.specs.Operations.{IsLimit}
 use Rattle.loop_model.specs.Maps.{maps_operations, AreFree}
 use Rattle.loop_text.specs.LoopReader.{loop_of}
 use Rattle.loop_text.proofs.WellFormed.{loop_well}
@@ -33,17 +33,17 @@ use Rattle.invariant_fix.specs.Refusals.{AllHaveForms, IsRefusedBranch}
 use Rattle.invariant_fix.specs.declared.errors.AnalyseError.{AnalyseError}
 use Rattle.invariant_fix.specs.declared.errors.AnalyseError.TheVariants as error
 use Rattle.completeness.specs.Full.{FullCertificate}
-use Rattle.traces.specs.Followed.{IsFinished, IsOut}
-use Rattle.traces.proofs.One as traces
-use Rattle.full_form.specs.Form.{full_in}
+use Rattle.completeness.specs.Followed.{IsFinished, IsOut}
+use Rattle.completeness.proofs.One as traces
+use Rattle.full_cert.specs.Form.{full_in}
 use Rattle.full_trace.specs.Late.{AllBeginAtZero, IsFirstLate}
 use Rattle.full_trace.specs.Traced as trace
-use Rattle.courses.specs.declared.answer.Status.TheVariants as status
-use Rattle.courses.specs.Settled.{IsSettled}
-use Rattle.courses.specs.Texts.{Answer}
-use Rattle.courses.proofs.OfStatuses.{status_of, text_of, some_answer, settled_yes, settled_fault, no_answer}
-use Rattle.loop_file.specs.Texts.{loop_refusal}
-use Rattle.loop_file.proofs.MapLimits.{not_free}
+use Rattle.io_edge.specs.declared.answer.Status.TheVariants as status
+use Rattle.io_edge.specs.Settled.{IsSettled}
+use Rattle.io_edge.specs.Texts.{Answer}
+use Rattle.io_edge.proofs.OfStatuses.{status_of, text_of, some_answer, settled_yes, settled_fault, no_answer}
+use Rattle.command_parts.specs.FaultTexts.{loop_refusal}
+use Rattle.command_parts.proofs.MapLimits.{not_free}
 use Rattle.analysis_commands.specs.declared.kind.Kind.TheVariants as kinds
 use Rattle.analysis_commands.specs.Analyses.{IsUnfound, Analyses}
 use Rattle.analysis_commands.specs.Causes.{IsUnanalysed, IsExact}

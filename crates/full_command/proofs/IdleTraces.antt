@@ -2,7 +2,7 @@
 --   never_past         no state of it is past
 --   x_run, x_ends      the trace
 use Rattle.std.proofs.Common.{◌≡◌, inl, inr, ℕ, List, [], ◌∷◌, slice_get, refl, sym, ap, subst, ◌∙◌, Option, Some, None}
-use Rattle.numbers.specs.Fraction.{fractions, rationals}
+use Rattle.algebra.specs.Fraction.{fractions, rationals}
 use Rattle.polynomials.specs.Order.{grevlex}
 use Rattle.machines.specs.Completion as completion
 use Rattle.machines.specs.Completion.{next_completion, next_pair}
@@ -18,8 +18,8 @@ use Rattle.rounds.specs.Analysis.{Setting, starts, block, starting}
 use Rattle.rounds.specs.Form.{Form}
 use Rattle.rounds.specs.Journal.{setting_of}
 use Rattle.rounds.specs.Start.{start_list, in_order}
-use Rattle.traces.specs.Followed.{IsPast, IsPastDividends}
-use Rattle.traces.specs.Trace.{State, fresh, completing, no_results, finished, next, move_of, moves, list_dividends, link_dividends, stage_of, after, link_from, divide_from}
+use Rattle.completeness.specs.Followed.{IsPast, IsPastDividends}
+use Rattle.completeness.specs.Trace.{State, fresh, completing, no_results, finished, next, move_of, moves, list_dividends, link_dividends, stage_of, after, link_from, divide_from}
 use Rattle.analysis_commands.proofs.IdleRuns.{x_loop}
 
 abbrev begun : State

@@ -6,8 +6,8 @@ use Rattle.loops.specs.Program.{Expr, Program}
 use Rattle.rounds.specs.Journal.{since_of}
 use Rattle.rounds.proofs.Forms.{forms_are_one}
 use Rattle.completeness.specs.Full.{WrittenForm, as_form}
-use Rattle.traces.specs.Trace.{State}
-use Rattle.traces.specs.Followed.{Follows}
+use Rattle.completeness.specs.Trace.{State}
+use Rattle.completeness.specs.Followed.{Follows}
 use Rattle.full_trace.specs.Late.{AllBeginAtZero}
 
 written_at_zero : (fs : List WrittenForm) (b : ℕ) → since_of (map as_form fs) b ≡ 0

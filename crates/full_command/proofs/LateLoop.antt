@@ -3,16 +3,16 @@
 --   reset_forms        its closed form
 --   reset_have_forms   so each branch has one;  reset_late: it is the first branch that begins late
 use Rattle.std.proofs.Common.{◌≡◌, ℕ, zero, suc, ◌<◌, ◌≤◌, List, [], ◌∷◌, length, get_or, refl, sym, ap, subst, ◌∙◌, arith}
-use Rattle.rings.specs.Each.{Each}
-use Rattle.rings.specs.Ring.{CommRing}
-use Rattle.rings.specs.Sum.{sum_over}
-use Rattle.rings.proofs.Basics.{same_head}
-use Rattle.rings.proofs.RingSolver.{ring_rules, ring}
-use Rattle.numbers.specs.Gcd.{gcd}
-use Rattle.numbers.specs.Ratio.{is_lowest, reduce}
-use Rattle.numbers.specs.Fraction as Fraction
-use Rattle.numbers.specs.Fraction.{Fraction, fraction, ℚ}
-use Rattle.numbers.proofs.Fractions.{ℚ_ring, ℚ_field}
+use Rattle.algebra.specs.Each.{Each}
+use Rattle.algebra.specs.Ring.{CommRing}
+use Rattle.algebra.specs.Sum.{sum_over}
+use Rattle.algebra.proofs.Basics.{same_head}
+use Rattle.algebra.proofs.RingSolver.{ring_rules, ring}
+use Rattle.algebra.specs.Gcd.{gcd}
+use Rattle.algebra.specs.Ratio.{is_lowest, reduce}
+use Rattle.algebra.specs.Fraction as Fraction
+use Rattle.algebra.specs.Fraction.{Fraction, fraction, ℚ}
+use Rattle.algebra.proofs.Fractions.{ℚ_ring, ℚ_field}
 use Rattle.polynomials.specs.Algebra as Algebra
 use Rattle.polynomials.specs.Exponent.{same, unit_exponents}
 use Rattle.polynomials.specs.Order.{compare, grevlex}
@@ -21,8 +21,8 @@ use Rattle.polynomials.specs.Terms.{constant, variables, evaluate, monomial_at}
 use Rattle.machines.specs.Collect.{collect, insert, place}
 use Rattle.loops.specs.Effect.{after_branch, after_statement, store, value_of}
 use Rattle.loops.specs.Map.{branch_map}
-use Rattle.turns.specs.Classes.{IsEigenvalue, IsFormBase}
-use Rattle.turns.specs.Turns.{IsClosedFormFrom, point, turns, values_at}
+use Rattle.solvable_maps.specs.Classes.{IsEigenvalue, IsFormBase}
+use Rattle.solvable_maps.specs.Turns.{IsClosedFormFrom, point, turns, values_at}
 use Rattle.rounds.specs.BranchMap.{map_of}
 use Rattle.rounds.specs.Word.{branch_of}
 use Rattle.rounds.specs.Form.{Form, IsClosedForm}

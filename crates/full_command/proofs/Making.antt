@@ -11,7 +11,7 @@ use Rattle.std.specs.declared.alloc.Global.{Global}
 use Rattle.std.proofs.lemmas.List.{length-map}
 use Rattle.std.proofs.lemmas.List.Elements.{All-map, All-weaker}
 use Rattle.std.proofs.lemmas.Result.{IfOk-weaker}
-use Rattle.numbers.specs.Fraction.{Fraction}
+use Rattle.algebra.specs.Fraction.{Fraction}
 use Rattle.polynomials.specs.Terms.{Terms}
 use Rattle.machines.specs.Journal.{Journal, units_of}
 use Rattle.loops.specs.Certificate.{IsValid}
@@ -22,7 +22,7 @@ use Rattle.loop_model.specs.Maps.{AreFree}
 use Rattle.loop_model.specs.View.{program_of}
 use Rattle.loop_model.specs.declared.loop_.Loop.{Loop}
 use Rattle.poly.specs.Seen.{terms_each}
-use Rattle.expressions.specs.FracPoly.{FracPoly}
+use Rattle.loop_model.specs.FracPoly.{FracPoly}
 use Rattle.ideal_ops.specs.Calls.{AreOver}
 use Rattle.invariant_fix.specs.Closing.{IsSquare, seen_steps, seen_branch_steps}
 use Rattle.invariant_fix.specs.Answers.{certificate_of, IsClosedBy, IsLeastLevel}
@@ -34,25 +34,25 @@ use Rattle.completeness.specs.Counts as counts
 use Rattle.completeness.specs.Counts.{IsCounted}
 use Rattle.completeness.specs.Full.{FullCertificate}
 use Rattle.completeness.specs.Parts.{AllHold}
-use Rattle.traces.specs.Certified.{full_from}
-use Rattle.traces.proofs.Certified.{finished_full}
-use Rattle.traces.proofs.Counted.{finished_counted}
-use Rattle.full_types.specs.Images.{ArePolys, AreRows, AreBranchesIn, IsFormOver, IsFullIn}
-use Rattle.full_types.specs.View.{form_in, start_in, round_in, full_of}
-use Rattle.full_types.specs.declared.parts.FullBranch.{FullBranch}
-use Rattle.full_types.specs.declared.parts.FullCert.{FullCert}
-use Rattle.full_types.specs.declared.parts.FullForm.{FullForm}
-use Rattle.full_types.specs.declared.parts.FullStart.{FullStart}
-use Rattle.full_form.specs.Form.{full_in}
-use Rattle.full_text.proofs.TextBack.{text_back}
+use Rattle.completeness.specs.Certified.{full_from}
+use Rattle.completeness.proofs.Certified.{finished_full}
+use Rattle.completeness.proofs.Counted.{finished_counted}
+use Rattle.task_lists.specs.Images.{ArePolys, AreRows, AreBranchesIn, IsFormOver, IsFullIn}
+use Rattle.task_lists.specs.View.{form_in, start_in, round_in, full_of}
+use Rattle.task_lists.specs.declared.parts.FullBranch.{FullBranch}
+use Rattle.task_lists.specs.declared.parts.FullCert.{FullCert}
+use Rattle.task_lists.specs.declared.parts.FullForm.{FullForm}
+use Rattle.task_lists.specs.declared.parts.FullStart.{FullStart}
+use Rattle.full_cert.specs.Form.{full_in}
+use Rattle.full_cert.proofs.TextBack.{text_back}
 use Rattle.full_trace.specs.Late.{AllBeginAtZero, IfUntraceable}
 use Rattle.full_trace.specs.declared.errors.TraceError.TheVariants as trace_error
 use Rattle.full_trace.specs.Traced as trace
 use Rattle.full_trace.specs.Traced.{IsTraceOf, IsTraceIn}
 use Rattle.full_trace.specs.declared.found.Trace.{Trace}
-use Rattle.courses.specs.declared.answer.Answer as made
-use Rattle.courses.specs.Texts.{Answer}
-use Rattle.courses.specs.Views.{answer_view}
+use Rattle.io_edge.specs.declared.answer.Answer as made
+use Rattle.io_edge.specs.Texts.{Answer}
+use Rattle.io_edge.specs.Views.{answer_view}
 use Rattle.analysis_commands.specs.Analyses.{empty_journal}
 use Rattle.analysis_commands.specs.Headline.{IsBasisOf}
 use Rattle.analysis_commands.specs.Texts.{refusal_answer}

@@ -11,17 +11,17 @@ use Rattle.loop_model.specs.Maps.{AreFree}
 use Rattle.invariant_fix.specs.Refusals.{AllHaveForms, IfUnformedLoop}
 use Rattle.invariant_fix.specs.declared.errors.AnalyseError.{AnalyseError}
 use Rattle.invariant_fix.specs.declared.errors.AnalyseError.TheVariants as error
-use Rattle.analysis_text.specs.Naming.{AreNamed}
-use Rattle.analysis_text.proofs.Naming.{named}
+use Rattle.analysis_commands.specs.Naming.{AreNamed}
+use Rattle.analysis_commands.proofs.Naming.{named}
 use Rattle.full_trace.specs.Traced as trace
-use Rattle.courses.specs.declared.answer.Status.{Status}
-use Rattle.courses.specs.declared.answer.Status.TheVariants as status
-use Rattle.courses.specs.Texts.{Answer}
+use Rattle.io_edge.specs.declared.answer.Status.{Status}
+use Rattle.io_edge.specs.declared.answer.Status.TheVariants as status
+use Rattle.io_edge.specs.Texts.{Answer}
 use Rattle.analysis_commands.specs.declared.kind.Kind.TheVariants as kinds
 use Rattle.analysis_commands.specs.Analyses.{refused, IsUnfound, Analyses}
 use Rattle.analysis_commands.specs.Statuses.{refusal_status}
 use Rattle.analysis_commands.specs.Texts.{refusal_answer}
-use Rattle.courses.proofs.OfStatuses.{no_answer}
+use Rattle.io_edge.proofs.OfStatuses.{no_answer}
 use Rattle.analysis_commands.proofs.Analysing.{formed_analysed, status_told}
 use Rattle.analysis_commands.proofs.Refused.{refusal_parts, refusal_kind, Refused, at_fault, too_wide, spent}
 use Rattle.full_command.specs.Certified.{IsUntraced}

@@ -9,8 +9,8 @@
 use Rattle.std.proofs.Common.{ℕ, [], ◌∷◌, map, arith}
 use Rattle.machines.specs.Journal.{Begin, Start, units_of}
 use Rattle.completeness.specs.Full.{WrittenForm, as_form}
-use Rattle.traces.specs.Trace.{no_results}
-use Rattle.traces.specs.Followed.{IsFinished}
+use Rattle.completeness.specs.Trace.{no_results}
+use Rattle.completeness.specs.Followed.{IsFinished}
 use Rattle.analysis_commands.proofs.IdleLoops.{one_loop, two_loop, x_form, x_forms, two_forms, x_finished, two_finished}
 use Rattle.analysis_commands.proofs.Witnesses as idle
 use Rattle.analysis_commands.proofs.IdentityMap.{turned}

@@ -19,9 +19,9 @@ use Rattle.invariant_fix.specs.Answers.{IsLeastLevel}
 use Rattle.invariant_fix.specs.Refusals.{AllHaveForms}
 use Rattle.invariant_fix.specs.declared.errors.AnalyseError.{AnalyseError}
 use Rattle.completeness.specs.Full.{as_form}
-use Rattle.traces.specs.Trace.{Results, State}
-use Rattle.traces.specs.Followed.{Follows, IsFinished, IsOut, IsPast}
-use Rattle.courses.specs.Texts.{Answer, line}
+use Rattle.completeness.specs.Trace.{Results, State}
+use Rattle.completeness.specs.Followed.{Follows, IsFinished, IsOut, IsPast}
+use Rattle.io_edge.specs.Texts.{Answer, line}
 use Rattle.analysis_commands.specs.Causes as causes
 use Rattle.analysis_commands.specs.Texts.{refusal_answer}
 use Rattle.full_command.specs.Certified.{IsAnalysed, IsLate, IsUntraced, HasWorked}

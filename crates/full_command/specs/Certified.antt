@@ -12,7 +12,7 @@
 --   IsTracing l budget m        the analysis has ended within the budget, and the entries of m are none or follow the trace behind it
 --   HasWorked l budget m        the meter was opened for the analysis of l, or behind an analysis that has ended for the trace, and its entries are none or follow it
 use Rattle.std.specs.Prelude.{◌≡◌, ◌⊎◌, ℕ, ◌≤◌, List, Option, Some, Ok}
-use Rattle.numbers.specs.Fraction.{Fraction}
+use Rattle.algebra.specs.Fraction.{Fraction}
 use Rattle.polynomials.specs.Terms.{Terms}
 use Rattle.machines.specs.Journal.{Journal, Entry, units_of}
 use Rattle.loops.specs.Program.{Expr, Program}
@@ -23,13 +23,13 @@ use Rattle.invariant_fix.specs.Refusals.{AllHaveForms, HasFollowed, IfUnformedLo
 use Rattle.invariant_fix.specs.declared.errors.AnalyseError.{AnalyseError}
 use Rattle.completeness.specs.Full.{FullCertificate}
 use Rattle.completeness.specs.Parts.{AllHold}
-use Rattle.traces.specs.Trace.{Results}
-use Rattle.traces.specs.Followed.{IsFinished}
-use Rattle.traces.specs.Certified.{full_from}
-use Rattle.full_form.specs.Form.{full_in}
+use Rattle.completeness.specs.Trace.{Results}
+use Rattle.completeness.specs.Followed.{IsFinished}
+use Rattle.completeness.specs.Certified.{full_from}
+use Rattle.full_cert.specs.Form.{full_in}
 use Rattle.full_trace.specs.Late.{AllBeginAtZero, IsFirstLate}
 use Rattle.full_trace.specs.Traced as trace
-use Rattle.courses.specs.Texts.{Answer}
+use Rattle.io_edge.specs.Texts.{Answer}
 use Rattle.analysis_commands.specs.Analyses.{empty_journal, IsUnfound}
 use Rattle.analysis_commands.specs.Headline.{IsBasisOf}
 use Rattle.analysis_commands.specs.Texts.{refusal_answer}

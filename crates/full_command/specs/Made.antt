@@ -14,12 +14,12 @@ use Rattle.invariant_fix.specs.Closing.{IsSquare}
 use Rattle.invariant_fix.specs.Refusals.{AllHaveForms}
 use Rattle.invariant_fix.specs.declared.found.Analysis.{Analysis}
 use Rattle.cert_form.specs.Form.{document}
-use Rattle.full_types.specs.View.{full_of}
-use Rattle.full_types.specs.declared.parts.FullCert.{FullCert}
-use Rattle.full_text.specs.Narrow.{IsFullNarrow}
-use Rattle.full_text.specs.Written.{full_data}
+use Rattle.task_lists.specs.View.{full_of}
+use Rattle.task_lists.specs.declared.parts.FullCert.{FullCert}
+use Rattle.full_cert.specs.Narrow.{IsFullNarrow}
+use Rattle.full_cert.specs.Written.{full_data}
 use Rattle.full_trace.specs.declared.found.Trace.{Trace}
-use Rattle.courses.specs.Texts.{Answer}
+use Rattle.io_edge.specs.Texts.{Answer}
 use Rattle.analysis_commands.specs.Headline.{IsBasisOf}
 use Rattle.full_command.specs.Texts.{certificate_answer}
 

@@ -3,9 +3,9 @@
 --   late_answer b                  that the branch b, which counts from 0, is the first that begins late
 use Rattle.std.specs.Prelude.{ℕ, ◌+◌, List, ◌++◌, codes, decimal}
 use Rattle.completeness.specs.Full.{FullCertificate}
-use Rattle.courses.specs.declared.answer.Status.TheVariants as status
-use Rattle.courses.specs.Texts.{Answer, answer}
-use Rattle.full_text.specs.Written.{full_text}
+use Rattle.io_edge.specs.declared.answer.Status.TheVariants as status
+use Rattle.io_edge.specs.Texts.{Answer, answer}
+use Rattle.full_cert.specs.Written.{full_text}
 
 abbrev pub certificate_answer : List (List ℕ) → FullCertificate → Answer
 certificate_answer names c = answer status.Yes (full_text names c)

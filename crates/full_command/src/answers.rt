@@ -1,7 +1,7 @@
 // The analysis of a loop, the trace behind it, and what is answered to them.
 ghost use Rattle.std.specs.Prelude.{◌≡◌, All, IfOk};
 ghost use Rattle.loop_model.specs.View.{program_of};
-ghost use Rattle.courses.specs.Views.{answer_view};
+ghost use Rattle.io_edge.specs.Views.{answer_view};
 ghost use Rattle.analysis_commands.specs.Analyses.{empty_journal};
 ghost use Rattle.invariant_fix.specs.Setting.{FitsSetting, IsSettingOf};
 ghost use Rattle.full_trace.specs.Late.{BeginsAtZero};
@@ -11,13 +11,13 @@ ghost use Rattle.full_command.specs.Texts as texts;
 
 use crate::certificates::{certificate_of, found_answer};
 use analysis_commands::answer_to_refusal;
-use courses::{Answer, Status};
+use command_parts::Budget;
 use full_trace::{TraceError, trace, traceable_setting};
 use invariant_fix::{Analysis, Setting, analyse};
+use io_edge::{Answer, Status};
 use journal::Meter;
 use loop_model::Loop;
 use std::alloc::{AllocError, Global};
-use word_numbers::Budget;
 
 /// The answer to a loop, whose analysis and whose trace have this budget each.
 pub(crate) fn answer_to_loop(

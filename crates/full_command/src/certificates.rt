@@ -1,15 +1,15 @@
 // The full certificate of an analysis and a trace, and its text.
 ghost use Rattle.std.specs.Prelude.{IfOk};
-ghost use Rattle.courses.specs.Views.{answer_view};
+ghost use Rattle.io_edge.specs.Views.{answer_view};
 ghost use Rattle.full_command.specs.Made.{IsMadeOf, IsToldAs};
 
-use courses::{Answer, Status, line};
-use expressions::Names;
-use full_text::write_full;
+use full_cert::write_full;
 use full_trace::Trace;
-use full_types::FullCert;
 use invariant_fix::Analysis;
+use io_edge::{Answer, Status, line};
+use loop_model::Names;
 use std::alloc::{AllocError, Global};
+use task_lists::FullCert;
 
 /// The full certificate of an analysis and the trace of as many rounds.
 pub(crate) fn certificate_of(found: Analysis, told: Trace) -> FullCert

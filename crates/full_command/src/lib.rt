@@ -1,24 +1,25 @@
-//! `full [--budget N] LOOP`: a full certificate of the reduced basis of a loop's invariants.
+//! The command `full [--budget N] LOOP`: a full certificate of the reduced basis of a loop's invariants.
+//!
+//! Proved: all parts of the certificate hold, its polynomials are the reduced basis of exactly the invariants, and its text is read as
+//! itself. Each refusal has its cause.
 #![tactic(auto)]
 
 ghost use Rattle.std.specs.Prelude.{map, string_bytes};
-ghost use Rattle.courses.specs.Change.{◌⟶◌};
-ghost use Rattle.courses.specs.Views.{seen_answer};
-ghost use Rattle.courses.specs.Outcome.{Says, Obeys};
-ghost use Rattle.word_numbers.specs.FileRequests.{request_in};
-ghost use Rattle.word_numbers.specs.FileViews.{view};
+ghost use Rattle.io_edge.specs.Change.{◌⟶◌};
+ghost use Rattle.io_edge.specs.Views.{seen_answer};
+ghost use Rattle.io_edge.specs.Outcome.{Says, Obeys};
+ghost use Rattle.command_parts.specs.FileRequests.{request_in};
+ghost use Rattle.command_parts.specs.FileViews.{view};
 ghost use Rattle.full_command.specs.Course.{course};
 
 mod answers;
 mod certificates;
 
 use answers::answer_to_loop;
-use courses::{Answer, reply};
-use io_edge::Files;
+use command_parts::{FileRequest, read_file_request, read_program};
+use io_edge::{Answer, Files, reply};
 use journal::Meter;
-use loop_file::read_program;
 use std::alloc::{AllocError, Global};
-use word_numbers::{FileRequest, read_file_request};
 
 /// What `full` answers to the words behind it; none where they ask for no certificate.
 pub fn full<F: Files>(

@@ -9,15 +9,15 @@ use Rattle.std.specs.List.{All}
 use Rattle.std.specs.Prelude.{vec_len, unsigned_abs}
 use Rattle.std.proofs.lemmas.List.{length-map}
 use Rattle.std.proofs.lemmas.List.Elements.{All-nil, All-cons, All-head, All-tail}
-use Rattle.turns.specs.Turns.{width}
+use Rattle.solvable_maps.specs.Turns.{width}
 use Rattle.frac128.specs.declared.Whole.{Whole}
 use Rattle.poly.specs.Seen.{terms_in, terms_each}
 use Rattle.coprime_base.specs.Sizes.{sizes}
-use Rattle.expressions.specs.FracPoly.{FracPoly}
+use Rattle.loop_model.specs.FracPoly.{FracPoly}
 use Rattle.expo.specs.declared.exponential.Expo.{Expo}
 use Rattle.closed_forms.specs.Values.{bodies_of, IsExpoOver, AreOver}
-use Rattle.full_types.specs.Images.{ArePolys, IsFormOver}
-use Rattle.full_types.specs.declared.parts.FullForm.{FullForm}
+use Rattle.task_lists.specs.Images.{ArePolys, IsFormOver}
+use Rattle.task_lists.specs.declared.parts.FullForm.{FullForm}
 use Rattle.invariant_fix.specs.Setting.{FitsBranch}
 use Rattle.invariant_fix.specs.declared.branches.Branch.{Branch}
 

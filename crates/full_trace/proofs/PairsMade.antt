@@ -11,8 +11,8 @@ use Rattle.std.specs.Global.{Vec}
 use Rattle.std.specs.Result.{IsErrAnd}
 use Rattle.std.specs.declared.cmp.PartialEq as PartialEq
 use Rattle.std.proofs.lemmas.List.{map-append}
-use Rattle.rings.proofs.Lists.{take_one}
-use Rattle.numbers.specs.Fraction.{Fraction, ℚ, fractions, rationals}
+use Rattle.algebra.proofs.Lists.{take_one}
+use Rattle.algebra.specs.Fraction.{Fraction, ℚ, fractions, rationals}
 use Rattle.polynomials.specs.Exponent.{lcm}
 use Rattle.polynomials.specs.Order.{Rank}
 use Rattle.polynomials.specs.Terms.{Terms, negate}
@@ -41,9 +41,9 @@ use Rattle.divide.specs.Outcomes.{refusal_of}
 use Rattle.complete.specs.Raising.{raised_to}
 use Rattle.complete.proofs.Coming.{s_polynomial_is, pair_weight}
 use Rattle.complete.proofs.Drawn.{got, lead_got}
-use Rattle.traces.specs.Rows.{with_pair, ArePairsDivided, IsRefusedInPairs}
-use Rattle.traces.proofs.AwaitingRows.{pair_divided_behind}
-use Rattle.full_types.specs.Rows.{rows_of}
+use Rattle.completeness.specs.Rows.{with_pair, ArePairsDivided, IsRefusedInPairs}
+use Rattle.completeness.proofs.AwaitingRows.{pair_divided_behind}
+use Rattle.task_lists.specs.Rows.{rows_of}
 use Rattle.full_trace.specs.Rows.{IsPairDivided, IsPairRefused}
 use Rattle.full_trace.proofs.RowsMade.{Polynomial, Divided}
 

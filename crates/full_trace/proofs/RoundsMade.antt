@@ -18,7 +18,7 @@ use Rattle.std.specs.Global.{Vec}
 use Rattle.std.specs.List.{AllZip}
 use Rattle.std.proofs.lemmas.List.{length-map, map-append}
 use Rattle.std.proofs.lemmas.Simd.{map-map}
-use Rattle.numbers.specs.Fraction.{Fraction}
+use Rattle.algebra.specs.Fraction.{Fraction}
 use Rattle.polynomials.specs.Terms.{Terms}
 use Rattle.machines.specs.Journal.{Entry, Journal, units_of}
 use Rattle.rounds.specs.Analysis as analysis
@@ -26,15 +26,15 @@ use Rattle.rounds.specs.Form.{front}
 use Rattle.completeness.specs.Full.{WrittenForm, as_form, BranchStages}
 use Rattle.coprime_base.specs.Sizes.{sizes}
 use Rattle.poly.specs.Seen.{terms_each}
-use Rattle.expressions.specs.FracPoly.{FracPoly}
-use Rattle.traces.specs.Coming.{IsGoing, Comes}
-use Rattle.traces.specs.Rounds.{behind, OrbitBegins, ComesBehind}
-use Rattle.traces.specs.Trace.{Results, Step, after_round}
-use Rattle.traces.proofs.Rounds.{round_begins}
-use Rattle.full_types.specs.Images.{IsBranchIn}
-use Rattle.full_types.specs.View.{form_in, branch_in, round_in}
-use Rattle.full_types.specs.declared.parts.FullBranch.{FullBranch}
-use Rattle.full_types.specs.declared.parts.FullForm.{FullForm}
+use Rattle.loop_model.specs.FracPoly.{FracPoly}
+use Rattle.completeness.specs.Coming.{IsGoing, Comes}
+use Rattle.completeness.specs.Rounds.{behind, OrbitBegins, ComesBehind}
+use Rattle.completeness.specs.Trace.{Results, Step, after_round}
+use Rattle.completeness.proofs.Rounds.{round_begins}
+use Rattle.task_lists.specs.Images.{IsBranchIn}
+use Rattle.task_lists.specs.View.{form_in, branch_in, round_in}
+use Rattle.task_lists.specs.declared.parts.FullBranch.{FullBranch}
+use Rattle.task_lists.specs.declared.parts.FullForm.{FullForm}
 use Rattle.std.specs.Prelude.{vec_len}
 use Rattle.invariant_fix.specs.declared.branches.Branch.{Branch}
 use Rattle.invariant_fix.specs.declared.errors.AnalyseError.{AnalyseError}

@@ -8,8 +8,8 @@ use Rattle.std.specs.Prelude.{IfErr}
 use Rattle.std.specs.Result.{IsErrAnd}
 use Rattle.std.specs.declared.cmp.PartialEq as PartialEq
 use Rattle.std.proofs.lemmas.List.{map-append}
-use Rattle.rings.proofs.Lists.{at_index, take_next}
-use Rattle.numbers.specs.Fraction.{Fraction, fractions}
+use Rattle.algebra.proofs.Lists.{at_index, take_next}
+use Rattle.algebra.specs.Fraction.{Fraction, fractions}
 use Rattle.polynomials.specs.Order.{Rank}
 use Rattle.machines.specs.Division as division
 use Rattle.machines.specs.Journal.{Entry, Journal}
@@ -25,9 +25,9 @@ use Rattle.divide.specs.Division.{division_of, HasCofactors}
 use Rattle.divide.specs.Outcomes.{refusal_of}
 use Rattle.divide.specs.declared.EngineError.{EngineError}
 use Rattle.divide.specs.declared.dividing.Division.{Division}
-use Rattle.traces.specs.Rows.{AreDivided, IsRefusedIn}
-use Rattle.traces.proofs.AwaitingRows.{divided_behind}
-use Rattle.full_types.specs.Rows.{rows_of}
+use Rattle.completeness.specs.Rows.{AreDivided, IsRefusedIn}
+use Rattle.completeness.proofs.AwaitingRows.{divided_behind}
+use Rattle.task_lists.specs.Rows.{rows_of}
 use Rattle.complete.specs.Completing.{AreLike}
 
 pub passed : {X : Type 0} (P : Refusal → Type 0) (r : Result X EngineError) (e : EngineError)

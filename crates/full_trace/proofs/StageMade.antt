@@ -10,7 +10,7 @@ use Rattle.std.specs.List.{All}
 use Rattle.std.specs.Global.{Vec}
 use Rattle.std.proofs.lemmas.List.{length-map, get_or_default}
 use Rattle.std.proofs.lemmas.Option.{slice_get-get_or}
-use Rattle.numbers.specs.Fraction.{Fraction, ℚ, fractions, rationals}
+use Rattle.algebra.specs.Fraction.{Fraction, ℚ, fractions, rationals}
 use Rattle.polynomials.specs.Order.{grevlex}
 use Rattle.polynomials.specs.Terms.{Terms}
 use Rattle.machines.specs.Basis.{AtPlaces}
@@ -30,14 +30,14 @@ use Rattle.poly.specs.Seen.{terms_in, terms_each}
 use Rattle.divide.specs.Current.{AreDivisors}
 use Rattle.complete.specs.Completing.{completion_of, HasElements, IsBasis}
 use Rattle.reduced_basis.specs.Tidying.{tidying_of, HasSorted}
-use Rattle.list_checks.proofs.Monic.{monic_some}
-use Rattle.list_checks.proofs.Places.{pairs_within}
-use Rattle.starting_lists.specs.Blocks.{Blocked, in_blocks}
-use Rattle.expressions.specs.FracPoly.{FracPoly}
-use Rattle.traces.specs.Making.{IsListMade, IsOutMade, IsRefusedBehindOut, IsStageRefused, IsStartRefused}
-use Rattle.traces.specs.Rows.{AreDivided, IsRefusedIn, ArePairsDivided, IsRefusedInPairs}
-use Rattle.traces.proofs.Sizes.{rows_units, pair_rows_units, out_within}
-use Rattle.traces.proofs.Staged.{kept_ones}
+use Rattle.task_lists.proofs.Monic.{monic_some}
+use Rattle.task_lists.proofs.Places.{pairs_within}
+use Rattle.task_lists.specs.Blocks.{Blocked, in_blocks}
+use Rattle.loop_model.specs.FracPoly.{FracPoly}
+use Rattle.completeness.specs.Making.{IsListMade, IsOutMade, IsRefusedBehindOut, IsStageRefused, IsStartRefused}
+use Rattle.completeness.specs.Rows.{AreDivided, IsRefusedIn, ArePairsDivided, IsRefusedInPairs}
+use Rattle.completeness.proofs.Sizes.{rows_units, pair_rows_units, out_within}
+use Rattle.completeness.proofs.Staged.{kept_ones}
 
 -- ---- the completion
 module _ (k m : ℕ) (begin : List Blocked) (v : Vec Blocked) (old mid : Journal)

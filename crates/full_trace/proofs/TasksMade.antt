@@ -7,8 +7,8 @@
 use Rattle.std.proofs.Common.{◌≡◌, inl, inr, ℕ, suc, ◌<◌, ◌≤◌, List, [], ◌∷◌, ◌++◌, map, length, get_or, refl, sym, ap, ap₂, subst, ◌∙◌, arith}
 use Rattle.std.proofs.lemmas.List.{get_or-map, length-map}
 use Rattle.std.proofs.lemmas.List.Elements.{All-head, All-tail}
-use Rattle.rings.specs.Each.{Each}
-use Rattle.numbers.specs.Fraction.{Fraction, ℚ, rationals}
+use Rattle.algebra.specs.Each.{Each}
+use Rattle.algebra.specs.Fraction.{Fraction, ℚ, rationals}
 use Rattle.polynomials.specs.Order.{grevlex, blocks}
 use Rattle.polynomials.specs.Polynomial.{IsPolynomial}
 use Rattle.polynomials.specs.Terms.{Terms}
@@ -33,20 +33,20 @@ use Rattle.journal.specs.declared.Task as declared_task
 use Rattle.divide.specs.Outcomes.{refusal_of}
 use Rattle.divide.specs.declared.EngineError as engine
 use Rattle.divide.specs.declared.EngineError.TheVariants as engine_error
-use Rattle.expressions.specs.FracPoly.{FracPoly}
+use Rattle.loop_model.specs.FracPoly.{FracPoly}
 use Rattle.ideal_ops.specs.Blending.{blend_of}
 use Rattle.ideal_ops.specs.Calls.{AreOver}
-use Rattle.traces.specs.Coming.{IsGoing, Comes, IsStopped, Refuses}
-use Rattle.traces.specs.Making.{Eliminates, IsStageMade, IsStartMade, IsStartRefused}
-use Rattle.traces.specs.Rounds.{behind, OrbitBegins, OrbitEnds, MeetBegins, MeetEnds}
-use Rattle.traces.specs.Trace.{Results, no_results, goes, start_of, after_round}
-use Rattle.traces.proofs.Sizes.{stage_few, start_few, stage_units}
-use Rattle.traces.proofs.Staged.{stage_awaits, stage_refused}
-use Rattle.traces.proofs.Starting.{start_awaits, start_refused}
-use Rattle.traces.proofs.Tasks.{orbit_eliminates, meet_eliminates, task_stopped, task_lost, after_start}
+use Rattle.completeness.specs.Coming.{IsGoing, Comes, IsStopped, Refuses}
+use Rattle.completeness.specs.Making.{Eliminates, IsStageMade, IsStartMade, IsStartRefused}
+use Rattle.completeness.specs.Rounds.{behind, OrbitBegins, OrbitEnds, MeetBegins, MeetEnds}
+use Rattle.completeness.specs.Trace.{Results, no_results, goes, start_of, after_round}
+use Rattle.completeness.proofs.Sizes.{stage_few, start_few, stage_units}
+use Rattle.completeness.proofs.Staged.{stage_awaits, stage_refused}
+use Rattle.completeness.proofs.Starting.{start_awaits, start_refused}
+use Rattle.completeness.proofs.Tasks.{orbit_eliminates, meet_eliminates, task_stopped, task_lost, after_start}
 use Rattle.coprime_base.specs.Sizes.{sizes}
-use Rattle.full_types.specs.Images.{IsStageIn}
-use Rattle.full_types.specs.declared.parts.FullStage.{FullStage}
+use Rattle.task_lists.specs.Images.{IsStageIn}
+use Rattle.task_lists.specs.declared.parts.FullStage.{FullStage}
 use Rattle.invariant_fix.specs.Errors.{in_task}
 use Rattle.invariant_fix.specs.Orbits.{numbers_of, vars_of, unwound_list, IsPastUnwound}
 use Rattle.invariant_fix.specs.Setting.{form_of, FitsSetting}

@@ -6,7 +6,7 @@
 use Rattle.std.specs.Prelude.{◌≡◌, ◌⊎◌, ℕ, List, All}
 use Rattle.std.specs.Global.{Vec}
 use Rattle.std.specs.declared.cmp.PartialEq as PartialEq
-use Rattle.numbers.specs.Fraction.{Fraction, fractions, rationals}
+use Rattle.algebra.specs.Fraction.{Fraction, fractions, rationals}
 use Rattle.polynomials.specs.Order.{Rank}
 use Rattle.polynomials.specs.Terms.{Terms}
 use Rattle.machines.specs.Completion.{s_polynomial}
@@ -17,7 +17,7 @@ use Rattle.ring_laws.specs.declared.Ring as Ring
 use Rattle.monos.specs.declared.order.Order as Order
 use Rattle.poly.specs.declared.Poly.{Poly}
 use Rattle.complete.specs.Completing.{AreLike}
-use Rattle.traces.specs.Rows.{IsDividedIn, with_pair, IsRefusedAt}
+use Rattle.completeness.specs.Rows.{IsDividedIn, with_pair, IsRefusedAt}
 
 module _ {K O : Type 0} {g : Ring.Ghosts K} {h : PartialEq.Ghosts K} {k : Order.Ghosts O}
     {l : PartialEq.Ghosts O} where

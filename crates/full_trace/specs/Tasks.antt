@@ -13,7 +13,7 @@
 use Rattle.std.specs.Prelude.{◌≡◌, ◌⊎◌, ◌≤◌, ◌+◌, ◌^◌, ℕ, List, [], ◌∷◌, IfSome, length, map, Option, Some, None, Vec}
 use Rattle.std.specs.List.{AllZip}
 use Rattle.std.specs.declared.alloc.Global.{Global}
-use Rattle.numbers.specs.Fraction.{Fraction}
+use Rattle.algebra.specs.Fraction.{Fraction}
 use Rattle.polynomials.specs.Terms.{Terms}
 use Rattle.machines.specs.Journal.{Journal, units_of}
 use Rattle.machines.specs.Machine.{Refusal, too_wide, out_of_units, out_of_memory}
@@ -24,14 +24,14 @@ use Rattle.coprime_base.specs.Sizes.{sizes}
 use Rattle.closed_forms.specs.Values.{bodies_of}
 use Rattle.closed_forms.specs.declared.Form.{Form}
 use Rattle.completeness.specs.Full.{WrittenForm, as_form}
-use Rattle.expressions.specs.FracPoly.{FracPoly}
+use Rattle.loop_model.specs.FracPoly.{FracPoly}
 use Rattle.journal.specs.View as view
 use Rattle.ideal_ops.specs.Calls.{AreOver}
-use Rattle.traces.specs.Coming.{IsGoing, IsStopped, IsOutOf}
-use Rattle.traces.specs.Making.{IsStageRefused}
-use Rattle.full_types.specs.Images.{IsStageIn}
-use Rattle.full_types.specs.declared.parts.FullStage.{FullStage}
-use Rattle.full_types.specs.declared.parts.FullBranch.{FullBranch}
+use Rattle.completeness.specs.Coming.{IsGoing, IsStopped, IsOutOf}
+use Rattle.completeness.specs.Making.{IsStageRefused}
+use Rattle.task_lists.specs.Images.{IsStageIn}
+use Rattle.task_lists.specs.declared.parts.FullStage.{FullStage}
+use Rattle.task_lists.specs.declared.parts.FullBranch.{FullBranch}
 use Rattle.invariant_fix.specs.declared.branches.Branch.{Branch}
 use Rattle.invariant_fix.specs.declared.setting.Setting.{Setting}
 use Rattle.invariant_fix.specs.declared.errors.AnalyseError.{AnalyseError}

@@ -10,12 +10,12 @@ use Rattle.loops.specs.Program.{Expr, Program}
 use Rattle.rounds.specs.Journal.{setting_of}
 use Rattle.journal.specs.View as view
 use Rattle.completeness.specs.Full.{as_form}
-use Rattle.traces.specs.Trace.{State, Results}
-use Rattle.traces.specs.Followed.{Follows, IsFinished, IsOut, IsPast, task_of}
-use Rattle.full_types.specs.Images.{ArePolys, AreRows, IsFormOver}
-use Rattle.full_types.specs.View.{form_in, start_in}
-use Rattle.full_types.specs.Images.{AreBranchesIn}
-use Rattle.full_types.specs.View.{round_in}
+use Rattle.completeness.specs.Trace.{State, Results}
+use Rattle.completeness.specs.Followed.{Follows, IsFinished, IsOut, IsPast, task_of}
+use Rattle.task_lists.specs.Images.{ArePolys, AreRows, IsFormOver}
+use Rattle.task_lists.specs.View.{form_in, start_in}
+use Rattle.task_lists.specs.Images.{AreBranchesIn}
+use Rattle.task_lists.specs.View.{round_in}
 use Rattle.invariant_fix.specs.declared.errors.AnalyseError.{AnalyseError}
 use Rattle.invariant_fix.specs.declared.errors.AnalyseError.TheVariants.{Map, Branch, Wide, Budget, Memory}
 use Rattle.full_trace.specs.declared.found.Trace.{Trace}

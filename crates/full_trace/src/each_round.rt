@@ -1,25 +1,25 @@
 //! The rounds of a trace.
 ghost use Rattle.std.specs.Prelude.{◌≡◌, ◌<◌, ◌≤◌, ◌+◌, ◌∷◌, ◌++◌, [], ℕ, List, All, map, length, get_or, IfOk, IfErr};
-ghost use Rattle.numbers.specs.Fraction.{Fraction};
+ghost use Rattle.algebra.specs.Fraction.{Fraction};
 ghost use Rattle.polynomials.specs.Terms.{Terms};
 ghost use Rattle.machines.specs.Journal.{units_of};
 ghost use Rattle.completeness.specs.Full.{BranchStages};
 ghost use Rattle.poly.specs.Seen.{terms_each};
-ghost use Rattle.traces.specs.Coming.{Comes};
-ghost use Rattle.traces.specs.Rounds.{behind, OrbitBegins, ComesBehind};
-ghost use Rattle.traces.specs.Trace.{Results, finished, after_round};
-ghost use Rattle.full_types.specs.View.{branch_in, round_in};
+ghost use Rattle.completeness.specs.Coming.{Comes};
+ghost use Rattle.completeness.specs.Rounds.{behind, OrbitBegins, ComesBehind};
+ghost use Rattle.completeness.specs.Trace.{Results, finished, after_round};
+ghost use Rattle.task_lists.specs.View.{branch_in, round_in};
 ghost use Rattle.invariant_fix.specs.Setting.{FitsSetting};
 ghost use Rattle.full_trace.specs.Tasks.{Along, Stops, Knows, given_in, after_row, after_rows, fronts_of, IsBranchOver, AreBranchesOver};
 
 use crate::tasks::{meet, orbit};
 use frac128::Frac;
-use full_types::{FullBranch, Polys};
 use invariant_fix::{AnalyseError, Setting};
 use journal::Meter;
 use monos::Grevlex;
 use poly::Poly;
 use std::alloc::Global;
+use task_lists::{FullBranch, Polys};
 
 /// The list behind the branch with these stages.
 fn given(branch: &FullBranch) -> &Polys

@@ -2,16 +2,16 @@
 ghost use Rattle.std.specs.Prelude.{◌≡◌, ℕ, List, All, map, length, IfOk};
 ghost use Rattle.poly.specs.Seen.{terms_each};
 ghost use Rattle.closed_forms.specs.Values.{bodies_of, AreOver};
-ghost use Rattle.full_types.specs.Images.{ArePolys, IsFormOver};
-ghost use Rattle.full_types.specs.View.{form_in};
-ghost use Rattle.turns.specs.Turns.{width};
+ghost use Rattle.task_lists.specs.Images.{ArePolys, IsFormOver};
+ghost use Rattle.task_lists.specs.View.{form_in};
+ghost use Rattle.solvable_maps.specs.Turns.{width};
 ghost use Rattle.invariant_fix.specs.Setting.{FitsBranch};
 ghost use Rattle.full_trace.specs.Tasks.{written_of};
 
 use expo::Expo;
-use full_types::{FullForm, Polys};
 use invariant_fix::Branch;
 use std::alloc::{AllocError, Global};
+use task_lists::{FullForm, Polys};
 
 /// The polynomials in n, s, u, v and the variables.
 fn bodies(alloc: Global, polys: Vec<Expo>) -> Result<Polys, AllocError>

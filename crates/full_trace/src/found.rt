@@ -1,5 +1,5 @@
 //! What a trace gives.
-use full_types::{FullBranch, FullForm, FullStart};
+use task_lists::{FullBranch, FullForm, FullStart};
 
 /// The forms of the branches, in order; what the variables that `init` sets, each less its value, are
 /// made of; and for each round what it has of each branch.

@@ -1,5 +1,10 @@
-//! The lists and cofactors of a full certificate of a loop, found under a meter: a layer above the
-//! analysis.
+//! Finds the lists and cofactors of a full certificate, under a meter, behind an analysis.
+//!
+//! Proved: `traceable_setting` gives the setting of a loop all of whose branches begin at 0, or why it has none; `trace` gives the forms,
+//! the start and the stages of the finished trace, which with an analysis of as many rounds are a valid full certificate. Each refusal has
+//! its cause.
+//!
+//! Notion: certificates of completeness.
 #![tactic(auto)]
 
 ghost use Rattle.std.specs.Prelude.{All, ◌≡◌, [], IfOk, IfErr};

@@ -1,14 +1,14 @@
 //! S-polynomials of the pairs of a list, divided by it one after another, with their cofactors.
 ghost use Rattle.std.specs.Prelude.{◌≡◌, ◌<◌, ◌≤◌, length, All, IfOk, IfErr, IsErrOf};
-ghost use Rattle.numbers.specs.Fraction.{fractions, rationals};
+ghost use Rattle.algebra.specs.Fraction.{fractions, rationals};
 ghost use Rattle.machines.specs.Completion.{s_polynomial};
 ghost use Rattle.machines.specs.Past.{IsPastPair};
 ghost use Rattle.poly.specs.Seen.{terms_in, terms_each};
 ghost use Rattle.divide.specs.Current.{AreDivisors};
 ghost use Rattle.divide.specs.Outcomes.{refusal_of};
 ghost use Rattle.divide.specs.Limits.{list_limit};
-ghost use Rattle.traces.specs.Rows.{ArePairsDivided, IsRefusedInPairs};
-ghost use Rattle.full_types.specs.Rows.{rows_of};
+ghost use Rattle.completeness.specs.Rows.{ArePairsDivided, IsRefusedInPairs};
+ghost use Rattle.task_lists.specs.Rows.{rows_of};
 ghost use Rattle.complete.specs.Completing.{AreLike};
 ghost use Rattle.full_trace.specs.Rows.{AreRowsLike, IsPairDivided, IsPairRefused};
 

@@ -5,22 +5,21 @@ ghost use Rattle.poly.specs.Seen.{terms_each};
 ghost use Rattle.divide.specs.Outcomes.{refusal_of};
 ghost use Rattle.complete.specs.Limits.{generators_limit};
 ghost use Rattle.ideal_ops.specs.Eliminating.{HaveBlock};
-ghost use Rattle.full_types.specs.Images.{IsStageIn};
-ghost use Rattle.full_types.specs.View.{stage_in};
-ghost use Rattle.traces.specs.Making.{IsStageMade, IsStageRefused};
+ghost use Rattle.task_lists.specs.Images.{IsStageIn};
+ghost use Rattle.task_lists.specs.View.{stage_in};
+ghost use Rattle.completeness.specs.Making.{IsStageMade, IsStageRefused};
 
 use crate::pairs::divide_pairs;
 use crate::rows::divide_each;
 use complete::complete_in;
 use divide::EngineError;
 use frac128::Frac;
-use full_types::FullStage;
 use journal::Meter;
-use list_checks::{all_pairs, free_elements};
 use monos::{Blocks, Grevlex};
 use poly::Poly;
 use reduced_basis::tidy_in;
 use std::alloc::Global;
+use task_lists::{FullStage, all_pairs, free_elements};
 
 /// Eliminates the `front` first variables from a list, and gives all cofactors: the list is completed, and
 /// divided by what that gives, as are the S-polynomials of all its pairs; what has none of these variables is

@@ -6,12 +6,12 @@ ghost use Rattle.divide.specs.Outcomes.{refusal_of};
 ghost use Rattle.ideal_ops.specs.Calls.{AreOver};
 ghost use Rattle.complete.specs.Limits.{generators_limit};
 ghost use Rattle.rounds.specs.Analysis.{starts};
-ghost use Rattle.traces.specs.Coming.{Comes};
-ghost use Rattle.traces.specs.Making.{IsStartMade, IsStartRefused};
-ghost use Rattle.traces.specs.Rounds.{behind};
-ghost use Rattle.traces.specs.Trace.{no_results, goes, start_of, after_round};
-ghost use Rattle.full_types.specs.Images.{ArePolys, AreRows};
-ghost use Rattle.full_types.specs.View.{start_in};
+ghost use Rattle.completeness.specs.Coming.{Comes};
+ghost use Rattle.completeness.specs.Making.{IsStartMade, IsStartRefused};
+ghost use Rattle.completeness.specs.Rounds.{behind};
+ghost use Rattle.completeness.specs.Trace.{no_results, goes, start_of, after_round};
+ghost use Rattle.task_lists.specs.Images.{ArePolys, AreRows};
+ghost use Rattle.task_lists.specs.View.{start_in};
 ghost use Rattle.invariant_fix.specs.Setting.{FitsSetting};
 ghost use Rattle.full_trace.specs.Tasks.{Along, Stops, Knows};
 
@@ -19,13 +19,13 @@ use crate::rows::divide_each;
 use complete::complete_in;
 use divide::EngineError;
 use frac128::Frac;
-use full_types::FullStart;
 use invariant_fix::{AnalyseError, Setting, in_task};
 use journal::{Meter, Task};
 use monos::Grevlex;
 use poly::Poly;
 use reduced_basis::tidy_in;
 use std::alloc::Global;
+use task_lists::FullStart;
 
 /// Completes a list and tidies all that this gives, and divides the list by it. `Budget` only where the units
 /// are spent and the next event is one; `Wide` only where the weight of making an element monic, or of the

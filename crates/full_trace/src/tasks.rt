@@ -1,7 +1,7 @@
 //! The tasks of a trace that have a stage: the orbit of a list along a branch, and its intersection with the
 //! list so far.
 ghost use Rattle.std.specs.Prelude.{◌≡◌, ◌<◌, ◌≤◌, ◌+◌, ℕ, List, length, get_or, IfOk, IfErr};
-ghost use Rattle.numbers.specs.Fraction.{Fraction};
+ghost use Rattle.algebra.specs.Fraction.{Fraction};
 ghost use Rattle.polynomials.specs.Terms.{Terms};
 ghost use Rattle.machines.specs.Journal.{units_of};
 ghost use Rattle.rounds.specs.Form.{front};
@@ -10,11 +10,11 @@ ghost use Rattle.poly.specs.Seen.{terms_each};
 ghost use Rattle.divide.specs.Outcomes.{refusal_of};
 ghost use Rattle.ideal_ops.specs.Blending.{blend_of};
 ghost use Rattle.ideal_ops.specs.Calls.{AreOver};
-ghost use Rattle.traces.specs.Making.{IsStageMade};
-ghost use Rattle.traces.specs.Rounds.{OrbitBegins, OrbitEnds, MeetBegins, MeetEnds};
-ghost use Rattle.traces.specs.Trace.{Results};
-ghost use Rattle.full_types.specs.Images.{IsStageIn};
-ghost use Rattle.full_types.specs.View.{stage_in};
+ghost use Rattle.completeness.specs.Making.{IsStageMade};
+ghost use Rattle.completeness.specs.Rounds.{OrbitBegins, OrbitEnds, MeetBegins, MeetEnds};
+ghost use Rattle.completeness.specs.Trace.{Results};
+ghost use Rattle.task_lists.specs.Images.{IsStageIn};
+ghost use Rattle.task_lists.specs.View.{stage_in};
 ghost use Rattle.invariant_fix.specs.Orbits.{numbers_of, vars_of, unwound_list, IsPastUnwound};
 ghost use Rattle.invariant_fix.specs.Setting.{FitsSetting, FitsBranch};
 ghost use Rattle.full_trace.specs.Tasks.{Along, Stops, IsBegunRefused, Knows, most_begun, fronts_of};
@@ -22,14 +22,13 @@ ghost use Rattle.full_trace.specs.Tasks.{Along, Stops, IsBegunRefused, Knows, mo
 use crate::stage::stage;
 use divide::EngineError;
 use frac128::Frac;
-use full_types::FullStage;
 use ideal_ops::blend;
 use invariant_fix::{AnalyseError, Branch, Setting, in_task, number_of_place, orbit_list};
 use journal::{Meter, Task};
 use monos::Grevlex;
 use poly::Poly;
-use starting_lists::front;
 use std::alloc::Global;
+use task_lists::{FullStage, front};
 
 /// The stage of the orbit of a list along a branch. `Wide` only where the weight of a composition is past, or as that of `stage`.
 fn orbit_stage(

@@ -4,9 +4,9 @@
 --   not_zero          a value that is not zero
 use Rattle.std.proofs.Common.{◌≡◌, ◌≢◌, ◌∙◌, ◌+◌, ◌-◌, ◌*◌, ◌%◌, ◌<◌, ℕ, ap, ap₂, sym}
 use native.Mathlib.Nat as N
-use Rattle.numbers.specs.Scalars.{Scalars}
-use Rattle.numbers.specs.Residue.{Residue, residue, residues}
-use Rattle.numbers.proofs.ResidueLaws.{same_residue, rest-residue}
+use Rattle.algebra.specs.Scalars.{Scalars}
+use Rattle.algebra.specs.Residue.{Residue, residue, residues}
+use Rattle.algebra.proofs.ResidueLaws.{same_residue, rest-residue}
 use Rattle.gf65521.specs.declared.Gf.{Gf}
 use Rattle.gf65521.specs.GfMeaning.{residue_of, residue_rest}
 

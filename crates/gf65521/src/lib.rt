@@ -1,8 +1,10 @@
-//! The field of the remainders modulo the prime 65,521.
+//! `Gf`, the field of the residues modulo the prime 65,521.
+//!
+//! Proved: it is a field without a width: no result is `Wide`.
 #![tactic(auto)]
 
 ghost use Rattle.std.specs.Prelude.{◌≡◌, ◌<◌, ◌≤◌, ◌*◌, ◌%◌, ◌+◌, ◌-◌, ◌≢◌, IsOkAnd, IfSome, IsNone, ◌↔◌};
-ghost use Rattle.numbers.specs.Residue.{prime};
+ghost use Rattle.algebra.specs.Residue.{prime};
 
 pub mod laws;
 
@@ -12,7 +14,7 @@ use ring_laws::{Field, Ring, Weight, Wide};
 const PRIME: u32 = 65521;
 
 /// A remainder modulo 65,521.
-#[derive(Clone, Copy, Debug, PartialEq, Eq)]
+#[derive(Clone, Copy, PartialEq, Eq)]
 pub struct Gf {
     value: u16,
     pub ghost in_range: { value < prime },
@@ -77,8 +79,8 @@ fn inverse(value: u32) -> u32
 }
 
 impl Ring for Gf {
-    ghost use Rattle.numbers.specs.Residue.{residues};
-    ghost use Rattle.numbers.proofs.ResidueLaws.{residues_ring, residue_zero_is, residues_bounded};
+    ghost use Rattle.algebra.specs.Residue.{residues};
+    ghost use Rattle.algebra.proofs.ResidueLaws.{residues_ring, residue_zero_is, residues_bounded};
     ghost use Rattle.gf65521.specs.GfMeaning.{residue_of, residue_decides, gf_eq_is};
 
     ghost scalars = { residues prime tt };
@@ -143,8 +145,8 @@ impl Ring for Gf {
 }
 
 impl Field for Gf {
-    ghost use Rattle.numbers.specs.Residue.{residues};
-    ghost use Rattle.numbers.proofs.ResidueLaws.{residues_field, residue_quotients_bounded, prime_65521};
+    ghost use Rattle.algebra.specs.Residue.{residues};
+    ghost use Rattle.algebra.proofs.ResidueLaws.{residues_field, residue_quotients_bounded, prime_65521};
     ghost use Rattle.gf65521.specs.GfMeaning.{residue_of};
 
     /// The quotient, never `Wide`.

@@ -11,7 +11,7 @@ use Rattle.grammars.specs.Grammar.{Placed, State, Grammar, token, change, sequen
 use Rattle.grammars.specs.Derivation.{Mark, Derives, derives_nothing, derives_token, derives_change, derives_sequence, derives_left, derives_none, Text}
 use Rattle.grammars.specs.First.{may_be_empty, first, first_then, first_of}
 use Rattle.grammars.specs.Checked.{is_fit, are_fit, IsChecked, ends_by_token}
-use Rattle.rings.proofs.Basics.{same_head, same_tail}
+use Rattle.algebra.proofs.Basics.{same_head, same_tail}
 use Rattle.grammars.specs.Reader.{Move, takes, leaves, refuses, move, ReadResult, reads, refused, unended, by_move, read, at_text_end, read_whole}
 use Rattle.grammars.specs.FirstFault.{symbols_in, sound, sounds, Begins, IsCause}
 use Rattle.grammars.specs.Spelled.{IsRead}

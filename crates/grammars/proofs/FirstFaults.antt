@@ -2,7 +2,7 @@
 --   first_faults     the two say the same
 use Rattle.std.proofs.Common.{◌≡◌, List, [], ◌∷◌, ◌++◌, refl, ap, ap₂, sym, subst, ◌∙◌, append-nil, append_assoc, Option, Some, None, ◌↔◌}
 use Rattle.std.proofs.lemmas.List.{map-append}
-use Rattle.rings.proofs.Basics.{same_head, same_tail}
+use Rattle.algebra.proofs.Basics.{same_head, same_tail}
 use Rattle.grammars.specs.Grammar.{Placed, State, Grammar, Language}
 use Rattle.grammars.specs.Derivation.{Mark, Text}
 use Rattle.grammars.specs.FirstFault.{symbols_in, lexemes_of, bare, bare_marks, sound, sounds, Begins, BeginsSoundly, IsAtFault, IsCause, IsFirstFault}

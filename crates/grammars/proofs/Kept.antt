@@ -5,7 +5,7 @@
 --   places_kept    then what is read leads from a to b
 --   lifted_leads   a small language's grammar that keeps a property of its part of the state stays at a place
 use Rattle.std.proofs.Common.{◌≡◌, List, [], ◌∷◌, refl, ap, sym, ◌∙◌, true, None}
-use Rattle.rings.proofs.Basics.{same_head, same_tail}
+use Rattle.algebra.proofs.Basics.{same_head, same_tail}
 use Rattle.grammars.specs.Kinds.{has}
 use Rattle.grammars.specs.Grammar.{Placed, State, Grammar, token, change, sequence, either, many, rule, Language, after_token, after_change}
 use Rattle.grammars.specs.Derivation.{Mark, Derives, derives_nothing, derives_token, derives_change, derives_sequence, derives_left, derives_right, derives_none, derives_more, derives_rule}

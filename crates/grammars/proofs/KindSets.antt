@@ -6,7 +6,7 @@ use Rattle.std.proofs.Common.{◌≡◌, List, [], ◌∷◌, ◌++◌, refl, ap
 use Rattle.std.proofs.lemmas.List.Folds.{list_any-append}
 use Rattle.std.proofs.Math.Bool.{or-false}
 use Rattle.std.proofs.lemmas.Bool.{and_parts, and_from, or_cases, or_from, or_left, or_right, not-true, false_from_ne_true}
-use Rattle.rings.proofs.Basics.{not_both}
+use Rattle.algebra.proofs.Basics.{not_both}
 use Rattle.grammars.specs.Kinds.{IsExact, has, apart, within, with_if}
 
 not_has : (b c : Bool) → (b ≡ true → c ≡ true) → not c ≡ true → not b ≡ true

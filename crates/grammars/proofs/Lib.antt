@@ -12,3 +12,4 @@ pub mod Kept
 pub mod Automata
 pub mod Steps
 pub mod Lifted
+pub mod Retelling

@@ -4,7 +4,7 @@
 --   moved, moved_text  there is one
 --   bare-marks_at      as marks of lexemes they are the same
 use Rattle.std.proofs.Common.{◌≡◌, List, [], ◌∷◌, refl, ap, ap₂, subst, true, Option}
-use Rattle.rings.proofs.Basics.{same_head, same_tail}
+use Rattle.algebra.proofs.Basics.{same_head, same_tail}
 use Rattle.grammars.specs.Kinds.{has}
 use Rattle.grammars.specs.Grammar.{Placed, State, Grammar, token, Language}
 use Rattle.grammars.specs.Derivation.{Mark, Derives, derives_nothing, derives_token, derives_change, derives_sequence, derives_left, derives_right, derives_none, derives_more, derives_rule, Text}

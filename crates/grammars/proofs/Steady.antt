@@ -3,7 +3,7 @@
 --   move_rule         a rule is read as what it says
 use Rattle.std.proofs.Common.{◌≡◌, List, ◌∷◌, refl, ap₂, cond, Bool, true, false, not, ◌||◌}
 use Rattle.std.proofs.lemmas.Bool.{and_parts, and_from, or_left, or_right, not-true}
-use Rattle.rings.proofs.Basics.{not_both}
+use Rattle.algebra.proofs.Basics.{not_both}
 use Rattle.grammars.specs.Kinds.{has}
 use Rattle.grammars.specs.Grammar.{Placed, State, Grammar, token, change, sequence, either, many, rule, Language}
 use Rattle.grammars.specs.First.{may_be_empty, first}

@@ -3,7 +3,7 @@
 --   taken              so it is
 use Rattle.std.proofs.Common.{◌≡◌, List, ◌∷◌, refl, sym, subst, Bool, true, false, if◌then◌else◌}
 use Rattle.std.proofs.lemmas.Bool.{cond-true, cond-false}
-use Rattle.rings.proofs.Basics.{same_head, same_tail}
+use Rattle.algebra.proofs.Basics.{same_head, same_tail}
 use Rattle.grammars.specs.Kinds.{has}
 use Rattle.grammars.specs.Grammar.{Placed, State, Grammar, token, many, Language, after_token}
 use Rattle.grammars.specs.Derivation.{Mark, Derives, derives_nothing, derives_token, derives_change, derives_sequence, derives_left, derives_right, derives_none, derives_more, derives_rule}

@@ -8,3 +8,4 @@ pub mod FirstFault
 pub mod Spelled
 pub mod Parts
 pub mod Embedded
+pub mod Retold

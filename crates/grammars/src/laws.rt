@@ -1,4 +1,4 @@
-//! The laws of the definitions, one function each. They are of every language whose next token tells which way to go.
+//! The laws of texts, readers and first faults, one function each. They are of every language whose next token tells which way to go.
 
 ghost use Rattle.std.specs.Prelude.{◌≡◌, ◌↔◌, true, List, [], ◌∷◌, Option};
 ghost use Rattle.grammars.specs.Grammar.{Placed, State, Grammar, Language};

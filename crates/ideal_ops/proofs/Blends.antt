@@ -6,10 +6,10 @@
 --   just_one_of      the first variable of one
 use Rattle.std.proofs.Common.{◌≡◌, ◌↔◌, ℕ, zero, suc, ◌+◌, true, List, [], ◌∷◌, ◌++◌, length, slice_get, Some, refl, sym, ap, ap₂, subst, ◌∙◌, arith}
 use Rattle.std.specs.List.{Contains}
-use Rattle.rings.specs.FieldArithmetic.{field_of}
-use Rattle.rings.specs.Ring.{Field, IsRing, IsFieldOf}
-use Rattle.numbers.specs.Scalars.{Scalars, field}
-use Rattle.numbers.proofs.ScalarFields.{is_field}
+use Rattle.algebra.specs.FieldArithmetic.{field_of}
+use Rattle.algebra.specs.Ring.{Field, IsRing, IsFieldOf}
+use Rattle.algebra.specs.Scalars.{Scalars, field}
+use Rattle.algebra.proofs.ScalarFields.{is_field}
 use Rattle.polynomials.specs.Algebra as Algebra
 use Rattle.polynomials.specs.Exponent.{unit_exponents}
 use Rattle.polynomials.specs.Order.{Rank, IsMonomialOrder, grevlex, blocks}

@@ -4,11 +4,11 @@
 --   met_of            of a blend, the intersection
 --   added_of          a reduced basis of two lists together is one of the sum
 use Rattle.std.proofs.Common.{◌↔◌, ℕ, ◌+◌, List, ◌++◌}
-use Rattle.rings.specs.Arithmetic.{Arithmetic}
-use Rattle.rings.specs.Each.{Each}
-use Rattle.rings.specs.FieldArithmetic.{calculus}
-use Rattle.rings.specs.Ring.{Field, operations}
-use Rattle.rings.proofs.Each.{each_weaker}
+use Rattle.algebra.specs.Arithmetic.{Arithmetic}
+use Rattle.algebra.specs.Each.{Each}
+use Rattle.algebra.specs.FieldArithmetic.{calculus}
+use Rattle.algebra.specs.Ring.{Field, operations}
+use Rattle.algebra.proofs.Each.{each_weaker}
 use Rattle.polynomials.specs.Order.{Rank, IsMonomialOrder, blocks}
 use Rattle.polynomials.specs.Polynomial.{AllArity, Arity, IsPolynomial}
 use Rattle.polynomials.specs.Terms.{Terms}

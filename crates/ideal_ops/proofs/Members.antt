@@ -3,8 +3,8 @@
 --   nothing_left       where a division has ended, the rest is 0 exactly where nothing is left
 --   decided_by         the answer, by whether the rest is 0
 use Rattle.std.proofs.Common.{◌≡◌, ◌≢◌, ◌↔◌, ℕ, Bool, true, false, not, is_some, IsTrue, List, [], ◌∷◌, Option, Some, None, refl, sym, ap, ◌∙◌}
-use Rattle.rings.specs.FieldArithmetic.{FieldArithmetic, calculus}
-use Rattle.rings.specs.Ring.{Field, operations}
+use Rattle.algebra.specs.FieldArithmetic.{FieldArithmetic, calculus}
+use Rattle.algebra.specs.Ring.{Field, operations}
 use Rattle.polynomials.specs.Order.{Rank, IsMonomialOrder}
 use Rattle.polynomials.specs.Polynomial.{IsPolynomial}
 use Rattle.polynomials.specs.Terms.{Terms}

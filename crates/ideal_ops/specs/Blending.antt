@@ -4,8 +4,8 @@
 --   HaveT m gs            each of the gs has that order, and one more variable than m
 use Rattle.std.specs.Prelude.{ℕ, ◌+◌, List, ◌++◌}
 use Rattle.std.specs.declared.cmp.PartialEq as PartialEq
-use Rattle.rings.specs.FieldArithmetic.{FieldArithmetic}
-use Rattle.numbers.specs.Scalars.{field}
+use Rattle.algebra.specs.FieldArithmetic.{FieldArithmetic}
+use Rattle.algebra.specs.Scalars.{field}
 use Rattle.polynomials.specs.Order.{grevlex, blocks}
 use Rattle.polynomials.specs.Terms.{Terms, negate}
 use Rattle.machines.specs.Collect.{collect}

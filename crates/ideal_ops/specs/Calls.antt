@@ -10,7 +10,7 @@
 use Rattle.std.specs.Prelude.{◌≡◌, ◌+◌, ◌-◌, ℕ, List, [], ◌∷◌, ◌++◌, All}
 use Rattle.std.specs.Global.{Vec}
 use Rattle.std.specs.declared.cmp.PartialEq as PartialEq
-use Rattle.numbers.specs.Scalars.{Scalars, field}
+use Rattle.algebra.specs.Scalars.{Scalars, field}
 use Rattle.polynomials.specs.Order.{Rank, grevlex, blocks}
 use Rattle.polynomials.specs.Terms.{Terms}
 use Rattle.ideals.specs.Members.{IsMember, IsSumOf}

@@ -1,6 +1,6 @@
 //! Two lists of polynomials as one, with a variable t in front: t times the one, and 1 - t times the other.
 ghost use Rattle.std.specs.Prelude.{◌≡◌, ◌≤◌, ◌+◌, ◌∷◌, [], IfOk};
-ghost use Rattle.numbers.specs.Scalars.{field};
+ghost use Rattle.algebra.specs.Scalars.{field};
 ghost use Rattle.machines.specs.Elimination.{with_first};
 ghost use Rattle.poly.specs.Seen.{terms_in, terms_each};
 ghost use Rattle.ideal_ops.specs.Blending.{times_rest, blend_of, HaveT};

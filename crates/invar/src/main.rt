@@ -1,13 +1,16 @@
-//! `invar WORD..`: does what the words say over the system's files and standard output, and ends with the code of the status.
+//! The program `invar WORD..`: does what the words say over the system's files and standard output, and ends with the code of the status.
+//!
+//! Proved: it ends with the code of a status of which all holds that the top call promises, or with that of want of memory without a call.
+//! No clause says which words the process has, and none speaks of `main`.
 #![tactic(auto)]
 
-ghost use Rattle.std.specs.Prelude.{◌≡◌, ◌-◌, ◌<◌};
+ghost use Rattle.std.specs.Prelude.{◌≡◌, ◌-◌, ◌<◌, IfOk, IsErr};
 ghost use Rattle.std.specs.Process.{exit_status};
 ghost use Rattle.io_edge.specs.Outside.{most_counted};
-ghost use Rattle.courses.specs.Change.{◌⟶◌};
-ghost use Rattle.courses.specs.Statuses.{code_of};
+ghost use Rattle.io_edge.specs.Change.{◌⟶◌};
+ghost use Rattle.io_edge.specs.Statuses.{code_of};
 ghost use Rattle.invar_app.specs.Words.{command_in};
-ghost use Rattle.invar.specs.Process.{EndsWith, HasRun};
+ghost use Rattle.invar.specs.Process.{EndsWith};
 
 use invar_app::{Status, invar};
 use io_edge::{Files, OsFiles, OsOut, Sink};
@@ -15,24 +18,33 @@ use journal::Meter;
 use std::alloc::Global;
 use std::env::Env;
 use std::process::ExitCode;
-use std::{env, io, rt};
+use std::{env, io};
 
 fn main(system: HostRuntime) -> ExitCode {
-    run(&system)
+    let mut files = OsFiles::new(system.alloc(), &system);
+    let mut out = OsOut::new(io::writer(&system));
+    run_with(system.alloc(), words(&system), &mut files, &mut out)
 }
 
-/// Does what the words behind the program's name say, over the system's files and standard output. Where memory fails before the words are
-/// read, or a word isn't UTF-8, the code is that of want of memory. The system's words, files and output tell nothing of what they hold, so
-/// which words they are isn't said here.
-fn run<R: Env + rt::Files + Print + AllocGlobal>(system: &R) -> ExitCode
-    ensures { HasRun (exit_status result) }
+/// Does what the words say over the files and the output, whichever they are, and gives the code of the top call's status. Where the words
+/// couldn't be read, for want of memory or since one isn't UTF-8, nothing is done, and the code is that of want of memory.
+fn run_with<F: Files, S: Sink>(
+    alloc: Global,
+    words: io::Result<Vec<String>>,
+    files: &mut F,
+    out: &mut S,
+) -> ExitCode
+    requires { (S.seen out.old).faults < most_counted }
+    ensures words { IfOk words (λ w. EndsWith (command_in w) (F.seen files.old ⟶ F.seen files.new)
+        (S.seen out.old ⟶ S.seen out.new) (exit_status result)) }
+    ensures wordless { IsErr words → exit_status result ≡ code_of Status.Memory }
+    ensures idle { IsErr words → (F.seen files.new ≡ F.seen files.old)
+        × (S.seen out.new ≡ S.seen out.old) }
 {
-    let Ok(words) = words(system) else {
-        return exit_code(Status::Memory);
-    };
-    let mut files = OsFiles::new(system.alloc(), system);
-    let mut out = OsOut::new(io::writer(system));
-    obey(system.alloc(), &words, &mut files, &mut out)
+    match words {
+        Ok(words) => obey(alloc, &words, files, out),
+        Err(_) => exit_code(Status::Memory),
+    }
 }
 
 /// Does what the words say over the files and the output, and gives the code of the top call's status.

@@ -7,13 +7,13 @@ use Rattle.loops.specs.Program.{Expr, Program}
 use Rattle.loop_model.specs.Maps.{AreFree}
 use Rattle.completeness.specs.Full.{FullCertificate}
 use Rattle.completeness.specs.Parts.{AllHold}
-use Rattle.courses.specs.declared.answer.Status.{Status}
-use Rattle.courses.specs.declared.answer.Status.TheVariants as status
-use Rattle.courses.specs.Outcome.{Call}
-use Rattle.courses.specs.Clauses.{IsExcused}
-use Rattle.certificate_file.specs.Words.{Request}
-use Rattle.certificate_file.specs.Asking.{Decides}
-use Rattle.checkfull_command.specs.Clauses.{ChecksFull}
+use Rattle.io_edge.specs.declared.answer.Status.{Status}
+use Rattle.io_edge.specs.declared.answer.Status.TheVariants as status
+use Rattle.io_edge.specs.Outcome.{Call}
+use Rattle.io_edge.specs.Clauses.{IsExcused}
+use Rattle.certificate_commands.specs.CertificateWords.{Request}
+use Rattle.certificate_commands.specs.CertificateAsking.{Decides}
+use Rattle.certificate_commands.specs.CheckfullClauses.{ChecksFull}
 use Rattle.full_command.specs.Headline.{ShowsFull}
 use Rattle.full_command.specs.Causes.{HasFinished}
 

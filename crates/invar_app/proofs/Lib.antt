@@ -1,3 +1,4 @@
+pub mod HelpPromises
 pub mod TopPromises
 pub mod PrintedChecked
 pub mod FullChecked

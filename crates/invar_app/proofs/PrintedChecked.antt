@@ -7,17 +7,17 @@ use Rattle.loops.specs.Certificate.{Certificate, IsValid}
 use Rattle.loops.specs.Program.{Expr, Program}
 use Rattle.loop_model.specs.Maps.{AreFree}
 use Rattle.cert_form.specs.Form.{most_elements}
-use Rattle.courses.specs.declared.answer.Status.{Status}
-use Rattle.courses.specs.declared.answer.Status.TheVariants as status
-use Rattle.courses.specs.Outcome.{Call}
-use Rattle.courses.specs.Clauses.{IsExcused}
+use Rattle.io_edge.specs.declared.answer.Status.{Status}
+use Rattle.io_edge.specs.declared.answer.Status.TheVariants as status
+use Rattle.io_edge.specs.Outcome.{Call}
+use Rattle.io_edge.specs.Clauses.{IsExcused}
 use Rattle.analysis_commands.specs.declared.kind.Kind.TheVariants as kinds
 use Rattle.analysis_commands.specs.Headline.{ShowsAnalysis}
 use Rattle.analysis_commands.specs.Causes.{HasFinished}
 use Rattle.analysis_commands.proofs.PrintedCertificates.{printed_valid}
-use Rattle.certificate_file.specs.Words.{Request}
-use Rattle.certificate_file.specs.Asking.{Decides}
-use Rattle.check_command.specs.Clauses.{Checks}
+use Rattle.certificate_commands.specs.CertificateWords.{Request}
+use Rattle.certificate_commands.specs.CertificateAsking.{Decides}
+use Rattle.certificate_commands.specs.CheckClauses.{Checks}
 
 abbrev EndsValid : Status → Type 0
 EndsValid s = (s ≡ status.Yes) ⊎ ((s ≡ status.Wide) ⊎ IsExcused s)

@@ -5,34 +5,35 @@
 use Rattle.std.proofs.Common.{◌≡◌, ◌≢◌, refl, sym, subst, ◌∙◌, inl, inr}
 use Rattle.std.specs.Prelude.{◌⊎◌, ℕ, Option, Some, None}
 use Rattle.machines.specs.Journal.{Journal}
-use Rattle.courses.specs.declared.answer.Status.{Status}
-use Rattle.courses.specs.declared.answer.Status.TheVariants as status
-use Rattle.courses.specs.Settled.{IsSettled}
-use Rattle.courses.specs.Course.{EachAnswer}
-use Rattle.courses.specs.Outcome.{Call, IsUnasked, Finishes}
-use Rattle.courses.proofs.Outside.{outside, outside_unasked, usage_not}
-use Rattle.courses.specs.Clauses.{Wrote, IfTold, IsOutside}
+use Rattle.io_edge.specs.declared.answer.Status.{Status}
+use Rattle.io_edge.specs.declared.answer.Status.TheVariants as status
+use Rattle.io_edge.specs.Settled.{IsSettled}
+use Rattle.io_edge.specs.Course.{EachAnswer}
+use Rattle.io_edge.specs.Outcome.{Call, IsUnasked, Finishes}
+use Rattle.io_edge.proofs.Outside.{outside, outside_unasked, usage_not}
+use Rattle.io_edge.specs.Clauses.{Wrote, IfTold, IsOutside}
 use Rattle.analysis_commands.specs.BasisWords as basis_words
 use Rattle.analysis_commands.specs.MemberWords as member_words
 use Rattle.analysis_commands.specs.MemberHeadline.{ShowsNo}
-use Rattle.word_numbers.specs.FileRequests as file_requests
-use Rattle.certificate_file.specs.Words as check_words
-use Rattle.check_command.specs.Clauses.{IsRefuted}
-use Rattle.checkfull_command.specs.Clauses as full_clauses
+use Rattle.command_parts.specs.FileRequests as file_requests
+use Rattle.certificate_commands.specs.CertificateWords as check_words
+use Rattle.certificate_commands.specs.CheckClauses.{IsRefuted}
+use Rattle.certificate_commands.specs.CheckfullClauses as full_clauses
 use Rattle.analysis_commands.proofs.BasisPromises as basis_promises
 use Rattle.analysis_commands.proofs.MemberPromises as member_promises
 use Rattle.analysis_commands.proofs.GenPromises as gen_promises
 use Rattle.analysis_commands.proofs.RelationsPromises as relations_promises
-use Rattle.check_command.proofs.Promises as check_promises
-use Rattle.checkfull_command.proofs.Promises as checkfull_promises
-use Rattle.run_command.proofs.Promises as run_promises
-use Rattle.chain_commands.proofs.ChainPromises as chain_promises
-use Rattle.chainrun_command.proofs.ChainRunPromises as chainrun_promises
-use Rattle.counter_command.specs.Words as counter_words
-use Rattle.counter_command.specs.Clauses.{ShowsCounterRun}
-use Rattle.counter_command.proofs.Promises as counter_promises
+use Rattle.certificate_commands.proofs.CheckPromises as check_promises
+use Rattle.certificate_commands.proofs.CheckfullPromises as checkfull_promises
+use Rattle.replay_commands.proofs.RunPromises as run_promises
+use Rattle.analysis_commands.proofs.ChainPromises as chain_promises
+use Rattle.replay_commands.proofs.ChainRunPromises as chainrun_promises
+use Rattle.replay_commands.specs.CounterWords as counter_words
+use Rattle.replay_commands.specs.CounterClauses.{ShowsCounterRun}
+use Rattle.replay_commands.proofs.CounterPromises as counter_promises
 use Rattle.full_command.proofs.Promises as full_promises
-use Rattle.invar_app.specs.Words.{Command, basis, member, check, checkfull, run, gen, chain, chainrun, counter, full, relations, course_of, usage, usage_answer}
+use Rattle.invar_app.proofs.HelpPromises as help_promises
+use Rattle.invar_app.specs.Words.{Command, basis, member, check, checkfull, run, gen, chain, chainrun, counter, full, relations, help, course_of, usage, usage_answer}
 use Rattle.invar_app.specs.Promises.{Promises}
 
 each_settled : (m : Journal) (command : Command)
@@ -48,6 +49,7 @@ each_settled m (chainrun request) = chainrun_promises.settled request
 each_settled m (counter request) = counter_promises.settled request
 each_settled m (full request) = full_promises.settled request
 each_settled m (relations request) = relations_promises.settled request
+each_settled m (help page) = help_promises.settled page
 
 module _ (call : Call) where
   abbrev Ended : Option Command → Type 0
@@ -104,6 +106,8 @@ module _ (call : Call) where
       absurd ((chainrun_promises.replays_chain request call f).spent is)
   spent_by (Some (full request)) f is = inr (inr (inr (inr (inl (request, refl)))))
   spent_by (Some (relations request)) f is = inr (inr (inr (inr (inr (request, refl)))))
+  spent_by (Some (help page)) f is =
+      absurd (help_promises.ends_else page call f status.Budget is (λ h. cc) (λ h. cc) (λ h. cc))
 
   abbrev SaysNo : Option Command → Type 0
   SaysNo command =
@@ -127,6 +131,8 @@ module _ (call : Call) where
   no_by (Some (full request)) f is = absurd ((full_promises.finds_full request call f).no is)
   no_by (Some (relations request)) f is =
       absurd ((relations_promises.finds_relations request call f).no is)
+  no_by (Some (help page)) f is =
+      absurd (help_promises.ends_else page call f status.No is (λ h. cc) (λ h. cc) (λ h. cc))
 
   pub promises : (command : Option Command) → Ended command → Promises command call
   promises command f = record {
@@ -143,6 +149,7 @@ module _ (call : Call) where
     finds_full = λ request is. full_promises.finds_full request call (subst Ended is f);
     finds_relations = λ request is.
         relations_promises.finds_relations request call (subst Ended is f);
+    helps = λ page is. help_promises.helps page call (subst Ended is f);
     usage = usage_alone command f;
     no_command = λ none. unasked (subst Ended none f);
     untouched = λ none. (subst Ended none f).idle.kept;

@@ -1,28 +1,30 @@
 -- What the top call promises.
 --   Promises command call     the promises: the outcome, those of each command, and those of all
 use Rattle.std.specs.Prelude.{◌≡◌, ◌⊎◌, ℕ, Option, Some, None}
-use Rattle.courses.specs.declared.answer.Status.TheVariants as status
-use Rattle.courses.specs.Outcome.{Call, Finishes}
-use Rattle.courses.specs.Clauses.{IsOutside}
+use Rattle.io_edge.specs.declared.answer.Status.TheVariants as status
+use Rattle.io_edge.specs.Outcome.{Call, Finishes}
+use Rattle.io_edge.specs.Clauses.{IsOutside}
 use Rattle.analysis_commands.specs.BasisWords as basis_words
 use Rattle.analysis_commands.specs.BasisClauses.{Finds}
 use Rattle.analysis_commands.specs.MemberWords as member_words
 use Rattle.analysis_commands.specs.MemberClauses.{Decides}
 use Rattle.analysis_commands.specs.GenClauses.{Tallies}
-use Rattle.word_numbers.specs.FileRequests as file_requests
+use Rattle.command_parts.specs.FileRequests as file_requests
 use Rattle.analysis_commands.specs.RelationsClauses.{FindsRelations}
-use Rattle.certificate_file.specs.Words as check_words
-use Rattle.check_command.specs.Clauses.{Checks}
-use Rattle.checkfull_command.specs.Clauses.{ChecksFull}
-use Rattle.run_command.specs.Words as run_words
-use Rattle.run_command.specs.Clauses.{Runs}
-use Rattle.chain_commands.specs.ChainClauses.{FindsEach}
-use Rattle.chainrun_command.specs.Words as chainrun_words
-use Rattle.chainrun_command.specs.Clauses.{ReplaysChain}
-use Rattle.counter_command.specs.Words as counter_words
-use Rattle.counter_command.specs.Clauses.{Counters}
+use Rattle.certificate_commands.specs.CertificateWords as check_words
+use Rattle.certificate_commands.specs.CheckClauses.{Checks}
+use Rattle.certificate_commands.specs.CheckfullClauses.{ChecksFull}
+use Rattle.replay_commands.specs.RunWords as run_words
+use Rattle.replay_commands.specs.RunClauses.{Runs}
+use Rattle.analysis_commands.specs.ChainClauses.{FindsEach}
+use Rattle.replay_commands.specs.ChainrunWords as chainrun_words
+use Rattle.replay_commands.specs.ChainrunClauses.{ReplaysChain}
+use Rattle.replay_commands.specs.CounterWords as counter_words
+use Rattle.replay_commands.specs.CounterClauses.{Counters}
 use Rattle.full_command.specs.Clauses.{FindsFull}
-use Rattle.invar_app.specs.Words.{Command, basis, member, check, checkfull, run, gen, chain, chainrun, counter, full, relations, course_of, usage_answer}
+use Rattle.invar_app.specs.declared.pages.Page.{Page}
+use Rattle.invar_app.specs.HelpClauses.{Helps}
+use Rattle.invar_app.specs.Words.{Command, basis, member, check, checkfull, run, gen, chain, chainrun, counter, full, relations, help, course_of, usage_answer}
 
 pub record Promises (command : Option Command) (call : Call) : Type 0 where
   -- the reads, the answer by what they gave, and how it was delivered
@@ -48,6 +50,7 @@ pub record Promises (command : Option Command) (call : Call) : Type 0 where
       → FindsFull request call
   pub finds_relations : (request : file_requests.FileRequest) → command ≡ Some (relations request)
       → FindsRelations request call
+  pub helps : (page : Page) → command ≡ Some (help page) → Helps page call
   -- the usage line, exactly where the words are no command; they leave the meter alone
   pub usage : call.status ≡ status.Usage → command ≡ None
   pub no_command : command ≡ None → (call.status ≡ status.Usage) ⊎ (call.status ≡ status.WriteFault)

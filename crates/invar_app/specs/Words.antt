@@ -10,9 +10,9 @@ use Rattle.std.specs.Str.{bytes_eq}
 use Rattle.std.specs.Global.{Vec}
 use Rattle.std.specs.declared.alloc.Global.{Global}
 use Rattle.machines.specs.Journal.{Journal}
-use Rattle.courses.specs.declared.answer.Status.TheVariants as status
-use Rattle.courses.specs.Texts.{Answer, line, with_text}
-use Rattle.courses.specs.Course.{Course}
+use Rattle.io_edge.specs.declared.answer.Status.TheVariants as status
+use Rattle.io_edge.specs.Texts.{Answer, line, with_text}
+use Rattle.io_edge.specs.Course.{Course}
 use Rattle.analysis_commands.specs.declared.kind.Kind.TheVariants as kinds
 use Rattle.analysis_commands.specs.BasisWords as basis_words
 use Rattle.analysis_commands.specs.BasisCourse as basis_course
@@ -20,19 +20,23 @@ use Rattle.analysis_commands.specs.MemberWords as member_words
 use Rattle.analysis_commands.specs.MemberCourse as member_course
 use Rattle.analysis_commands.specs.GenWords as gen_words
 use Rattle.analysis_commands.specs.GenCourse as gen_course
-use Rattle.word_numbers.specs.FileRequests as file_requests
+use Rattle.command_parts.specs.FileRequests as file_requests
 use Rattle.analysis_commands.specs.RelationsCourse as relations_course
-use Rattle.certificate_file.specs.Words as check_words
-use Rattle.check_command.specs.Course as check_course
-use Rattle.checkfull_command.specs.Course as checkfull_course
-use Rattle.run_command.specs.Words as run_words
-use Rattle.run_command.specs.Course as run_course
-use Rattle.chain_commands.specs.ChainCourse as chain_course
-use Rattle.chainrun_command.specs.Words as chainrun_words
-use Rattle.chainrun_command.specs.Course as chainrun_course
-use Rattle.counter_command.specs.Words as counter_words
-use Rattle.counter_command.specs.Course as counter_course
+use Rattle.certificate_commands.specs.CertificateWords as check_words
+use Rattle.certificate_commands.specs.CheckCourse as check_course
+use Rattle.certificate_commands.specs.CheckfullCourse as checkfull_course
+use Rattle.replay_commands.specs.RunWords as run_words
+use Rattle.replay_commands.specs.RunCourse as run_course
+use Rattle.analysis_commands.specs.ChainCourse as chain_course
+use Rattle.replay_commands.specs.ChainrunWords as chainrun_words
+use Rattle.replay_commands.specs.ChainrunCourse as chainrun_course
+use Rattle.replay_commands.specs.CounterWords as counter_words
+use Rattle.replay_commands.specs.CounterCourse as counter_course
 use Rattle.full_command.specs.Course as full_course
+use Rattle.invar_app.specs.declared.pages.Page.{Page}
+use Rattle.invar_app.specs.declared.pages.Page.TheVariants.{Overview, Version}
+use Rattle.invar_app.specs.HelpPages.{page_behind_help, page_alone}
+use Rattle.invar_app.specs.HelpClauses as help_course
 
 pub data Command : Type 0 where
   basis : basis_words.Request → Command
@@ -46,6 +50,7 @@ pub data Command : Type 0 where
   counter : counter_words.Request → Command
   full : file_requests.FileRequest → Command
   relations : file_requests.FileRequest → Command
+  help : Page → Command
 
 abbrev pub command_by : List ℕ → List (List ℕ) → Option Command
 command_by name words =
@@ -68,7 +73,11 @@ command_by name words =
     else (if bytes_eq name (codes "relations")
     then option_map relations (file_requests.request_in words)
     else (if bytes_eq name (codes "full")
-    then option_map full (file_requests.request_in words) else None)))))))))))
+    then option_map full (file_requests.request_in words)
+    else (if bytes_eq name (codes "help") then option_map help (page_behind_help words)
+    else (if bytes_eq name (codes "--help") then option_map help (page_alone Overview words)
+    else (if bytes_eq name (codes "--version")
+    then option_map help (page_alone Version words) else None))))))))))))))
 
 abbrev pub command_of : List (List ℕ) → Option Command
 command_of [] = None
@@ -89,10 +98,11 @@ course_of m (chainrun request) = chainrun_course.course request
 course_of m (counter request) = counter_course.course request
 course_of m (full request) = full_course.course request
 course_of m (relations request) = relations_course.course request
+course_of m (help page) = help_course.course page
 
 abbrev pub usage : List ℕ
 usage = line
-    (codes "usage: invar basis [--budget N] LOOP | member [--budget N] LOOP EQUATION | cert [--budget N] LOOP | check LOOP CERT | run LOOP WORD VALUES | gen NUMBER | chain [--budget N] CHAIN | chainrun CHAIN WORDS VALUES | counter [--length N] LOOP EQUATION | full [--budget N] LOOP | checkfull LOOP CERT | relations [--budget N] FILE")
+    (codes "usage: invar basis [--budget N] LOOP | member [--budget N] LOOP EQUATION | cert [--budget N] LOOP | check LOOP CERT | run LOOP WORD VALUES | gen NUMBER | chain [--budget N] CHAIN | chainrun CHAIN WORDS VALUES | counter [--length N] LOOP EQUATION | full [--budget N] LOOP | checkfull LOOP CERT | relations [--budget N] FILE; invar --help says more")
 
 abbrev pub usage_answer : Answer
 usage_answer = with_text status.Usage usage

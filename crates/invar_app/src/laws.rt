@@ -2,22 +2,22 @@
 ghost use Rattle.std.specs.Prelude.{◌≡◌, ◌⊎◌, ◌≤◌, List, length, ℕ, Some};
 ghost use Rattle.machines.specs.Journal.{Journal};
 ghost use Rattle.cert_form.specs.Form.{most_elements};
-ghost use Rattle.courses.specs.Clauses.{IsExcused};
-ghost use Rattle.courses.specs.Outcome.{Call};
+ghost use Rattle.io_edge.specs.Clauses.{IsExcused};
+ghost use Rattle.io_edge.specs.Outcome.{Call};
 ghost use Rattle.analysis_commands.specs.declared.kind.Kind.TheVariants.{Certificate};
 ghost use Rattle.analysis_commands.specs.Headline.{ShowsAnalysis};
 ghost use Rattle.analysis_commands.specs.Causes.{HasFinished};
-ghost use Rattle.certificate_file.specs.Words.{Request};
-ghost use Rattle.check_command.specs.Clauses.{Checks};
-ghost use Rattle.checkfull_command.specs.Clauses.{ChecksFull};
+ghost use Rattle.certificate_commands.specs.CertificateWords.{Request};
+ghost use Rattle.certificate_commands.specs.CheckClauses.{Checks};
+ghost use Rattle.certificate_commands.specs.CheckfullClauses.{ChecksFull};
 ghost use Rattle.full_command.specs.Headline.{ShowsFull};
 ghost use Rattle.full_command.specs.Causes as full_causes;
 ghost use Rattle.loops.specs.Program.{Expr, Program};
-ghost use Rattle.equation_word.specs.Equations.{HoldsAfter};
+ghost use Rattle.command_parts.specs.Equations.{HoldsAfter};
 ghost use Rattle.analysis_commands.specs.MemberHeadline.{ShowsYes, ShowsNo};
-ghost use Rattle.counter_command.specs.Clauses.{IsQuestion, ShowsCounterRun};
+ghost use Rattle.replay_commands.specs.CounterClauses.{IsQuestion, ShowsCounterRun};
 
-use courses::Status;
+use io_edge::Status;
 
 /// What `cert` said of a text, where it has at most as many polynomials as a file may have, `check` of the same text calls
 /// valid, unless a number doesn't fit there, memory is wanting, or a file or the sink fails.

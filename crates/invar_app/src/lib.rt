@@ -1,47 +1,46 @@
-//! The top call: words, files and a sink in, a status out. The first word says which command they are.
+//! The top call `invar`: words, files and a sink in, a status out. The first word says which command they are.
+//!
+//! Proved: `Promises`, which has a record of clauses for each command, and beside it the headline; docs/THEOREM.md tells each clause.
 #![tactic(auto)]
 
 pub mod laws;
+mod pages;
 
 ghost use Rattle.std.specs.Prelude.{◌≡◌, ◌⊎◌, ◌-◌, ◌<◌, Some, None, map, string_bytes};
 ghost use Rattle.io_edge.specs.Outside.{most_counted};
-ghost use Rattle.courses.specs.Change.{◌⟶◌};
-ghost use Rattle.courses.specs.Outcome.{call_of, Obeys};
-ghost use Rattle.courses.specs.Clauses.{IfTold, Wrote};
+ghost use Rattle.io_edge.specs.Change.{◌⟶◌};
+ghost use Rattle.io_edge.specs.Outcome.{call_of, Obeys};
+ghost use Rattle.io_edge.specs.Clauses.{IfTold, Wrote};
 ghost use Rattle.analysis_commands.specs.BasisWords as basis_words;
 ghost use Rattle.analysis_commands.specs.MemberWords as member_words;
 ghost use Rattle.analysis_commands.specs.Headline.{ShowsAnalysis};
 ghost use Rattle.analysis_commands.specs.MemberHeadline.{ShowsYes, ShowsNo};
-ghost use Rattle.word_numbers.specs.FileRequests as file_requests;
+ghost use Rattle.command_parts.specs.FileRequests as file_requests;
 ghost use Rattle.analysis_commands.specs.RelationsClauses.{ShowsRelations};
-ghost use Rattle.chain_commands.specs.Headline.{ShowsChain};
-ghost use Rattle.certificate_file.specs.Words as check_words;
-ghost use Rattle.check_command.specs.Clauses.{ShowsValid, IsRefuted};
-ghost use Rattle.checkfull_command.specs.Clauses as full_clauses;
-ghost use Rattle.checkfull_command.specs.Clauses.{ShowsComplete};
-ghost use Rattle.counter_command.specs.Words as counter_words;
-ghost use Rattle.counter_command.specs.Clauses.{ShowsCounterRun, ShowsNoneUpTo};
+ghost use Rattle.analysis_commands.specs.ChainHeadline.{ShowsChain};
+ghost use Rattle.certificate_commands.specs.CertificateWords as check_words;
+ghost use Rattle.certificate_commands.specs.CheckClauses.{ShowsValid, IsRefuted};
+ghost use Rattle.certificate_commands.specs.CheckfullClauses as full_clauses;
+ghost use Rattle.certificate_commands.specs.CheckfullClauses.{ShowsComplete};
+ghost use Rattle.replay_commands.specs.CounterWords as counter_words;
+ghost use Rattle.replay_commands.specs.CounterClauses.{ShowsCounterRun, ShowsNoneUpTo};
 ghost use Rattle.full_command.specs.Headline.{ShowsFull};
 ghost use Rattle.invar_app.specs.Words as command;
 ghost use Rattle.invar_app.specs.Words.{command_by, command_of, command_in, course_of};
 ghost use Rattle.invar_app.specs.Promises.{Promises};
 
-use analysis_commands::{Kind, basis, member, relate, tally};
-use chain_commands::chain;
-use chainrun_command::chainrun;
-use check_command::check;
-use checkfull_command::checkfull;
-use counter_command::counter;
-pub use courses::Status;
-use courses::{Answer, finish};
+use analysis_commands::{Kind, basis, chain, member, relate, tally};
+use certificate_commands::{check, checkfull};
 use full_command::full;
-use io_edge::{Files, Sink};
+pub use io_edge::Status;
+use io_edge::{Answer, Files, Sink, finish};
 use journal::Meter;
-use run_command::run;
+use pages::{Page, show};
+use replay_commands::{chainrun, counter, run};
 use std::alloc::{AllocError, Global};
 
 const USAGE: &[u8] =
-    b"usage: invar basis [--budget N] LOOP | member [--budget N] LOOP EQUATION | cert [--budget N] LOOP | check LOOP CERT | run LOOP WORD VALUES | gen NUMBER | chain [--budget N] CHAIN | chainrun CHAIN WORDS VALUES | counter [--length N] LOOP EQUATION | full [--budget N] LOOP | checkfull LOOP CERT | relations [--budget N] FILE\n";
+    b"usage: invar basis [--budget N] LOOP | member [--budget N] LOOP EQUATION | cert [--budget N] LOOP | check LOOP CERT | run LOOP WORD VALUES | gen NUMBER | chain [--budget N] CHAIN | chainrun CHAIN WORDS VALUES | counter [--length N] LOOP EQUATION | full [--budget N] LOOP | checkfull LOOP CERT | relations [--budget N] FILE; invar --help says more\n";
 
 /// Does what the words say, and writes its answer to the sink.
 ///
@@ -58,7 +57,7 @@ pub fn invar<F: Files, S: Sink>(
     requires { (S.seen out.old).faults < most_counted }
     // All that the call promises: the outcome, the clauses of each command (`Finds` of `basis` and `cert`, `Decides` of
     // `member`, `Checks`, `ChecksFull`, `Runs`, `Tallies` of `gen`, `FindsEach` of `chain`, `ReplaysChain` of `chainrun`, `Counters`,
-    // `FindsFull` and `FindsRelations`), and those of all. The clauses behind it are its headline.
+    // `FindsFull`, `FindsRelations` and `Helps` of `help`), and those of all. The clauses behind it are its headline.
     ensures promises { Promises (command_in words.now)
         (call_of (F.seen files.old ⟶ F.seen files.new) (S.seen out.old ⟶ S.seen out.new)
         (meter.old ⟶ meter.new) result) }
@@ -192,6 +191,9 @@ fn answer_by<F: Files>(
         "counter" => counter(alloc, words, files),
         "relations" => relate(alloc, words, files, meter),
         "full" => full(alloc, words, files, meter),
+        "help" => show(alloc, Page::behind_help(words)),
+        "--help" => show(alloc, Page::Overview.alone(words)),
+        "--version" => show(alloc, Page::Version.alone(words)),
         _ => Ok(None),
     }
 }

@@ -11,8 +11,8 @@ use Rattle.std.proofs.Common.{◌≡◌, ◌≢◌, ◌↔◌, ◌⊎◌, inl, i
 use Rattle.std.specs.Prelude.{⊤}
 use Rattle.std.proofs.Math.Logic.{∥∥₁_elim}
 use Rattle.std.proofs.lemmas.List.{append-nil}
-use Rattle.rings.proofs.In.{in_get, map-in}
-use Rattle.numbers.specs.Fraction.{Fraction, ℚ, fractions, rationals}
+use Rattle.algebra.proofs.In.{in_get, map-in}
+use Rattle.algebra.specs.Fraction.{Fraction, ℚ, fractions, rationals}
 use Rattle.polynomials.specs.Order.{grevlex}
 use Rattle.polynomials.specs.Terms.{Terms, Same, combination}
 use Rattle.ideals.specs.Members.{IsMember}
@@ -39,7 +39,7 @@ use Rattle.rounds.specs.Journal.{IsFinished, IsAnswered}
 use Rattle.rounds.specs.Results.{IsReducedList}
 use Rattle.rounds.proofs.Theorem.{answered_decides_all}
 use Rattle.ideal_ops.specs.Calls.{AreOver}
-use Rattle.expressions.specs.FracPoly.{FracPoly}
+use Rattle.loop_model.specs.FracPoly.{FracPoly}
 use Rattle.invariant_fix.specs.Blocked.{Divided}
 use Rattle.invariant_fix.specs.Membership.{asks, Answers, HasAsked, HasAnswered, IsWideAsking, IsAskingOutOfUnits}
 use Rattle.invariant_fix.specs.declared.membership.Membership.TheVariants.{Yes, No}

@@ -5,7 +5,7 @@
 --   answered_decides       and the answer says whether it is an invariant
 --   tells_yes, tells_no    what is told of the division
 use Rattle.std.proofs.Common.{◌≡◌, ℕ, List, [], ◌∷◌, map, Some, None, refl, sym, ap, subst, ◌∙◌}
-use Rattle.numbers.specs.Fraction.{Fraction, rationals}
+use Rattle.algebra.specs.Fraction.{Fraction, rationals}
 use Rattle.polynomials.specs.Order.{grevlex}
 use Rattle.polynomials.specs.Terms.{Terms}
 use Rattle.machines.specs.Division as division

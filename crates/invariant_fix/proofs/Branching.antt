@@ -5,7 +5,7 @@
 use Rattle.std.proofs.Common.{◌≡◌, ◌⊎◌, inl, inr, ℕ, zero, suc, pred, ◌+◌, ◌<◌, ◌≤◌, cond, List, length, refl, ap, subst, arith}
 use Rattle.std.proofs.lemmas.Bool.{lt-ltb, le-ltb}
 use Rattle.std.proofs.lemmas.List.{length-map}
-use Rattle.numbers.specs.Fraction.{Fraction}
+use Rattle.algebra.specs.Fraction.{Fraction}
 use Rattle.polynomials.specs.Terms.{Terms}
 use Rattle.machines.specs.Journal as journal
 use Rattle.machines.specs.Journal.{Entry, Begin, Journal, units_of}
@@ -13,7 +13,7 @@ use Rattle.poly.specs.Seen.{terms_each}
 use Rattle.journal.specs.View.{with_entry}
 use Rattle.rounds.specs.Analysis as analysis
 use Rattle.rounds.specs.Analysis.{Setting, form_of, turns_of, goes, next, start_of, begin_branch, begin_turn, begin_orbit, begin_meet, after_turns, after_branch, after_orbit, after, closing_from, turn, turn_meet, orbit, meet}
-use Rattle.expressions.specs.FracPoly.{FracPoly}
+use Rattle.loop_model.specs.FracPoly.{FracPoly}
 use Rattle.invariant_fix.specs.Coming.{Comes}
 use Rattle.invariant_fix.specs.Setting.{setting_of}
 use Rattle.invariant_fix.specs.Steps.{HasMeet, HasWhole, turning, branching, branched, turn_begins, turn_ends, turn_meets, turn_met, orbiting, orbited, meeting, met, started, closing}

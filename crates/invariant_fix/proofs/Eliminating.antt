@@ -7,7 +7,7 @@
 use Rattle.std.proofs.Common.{◌≡◌, ℕ, zero, suc, ◌+◌, ◌-◌, ◌<◌, ◌≤◌, List, [], ◌∷◌, ◌++◌, map, drop, length, refl, ap, ap₂, subst, arith}
 use Rattle.std.proofs.lemmas.List.{length-map, length-append, length-drop}
 use Rattle.std.proofs.lemmas.List.Elements.{All-head}
-use Rattle.numbers.specs.Fraction.{Fraction, ℚ, rationals, fractions}
+use Rattle.algebra.specs.Fraction.{Fraction, ℚ, rationals, fractions}
 use Rattle.polynomials.specs.Order.{grevlex, blocks}
 use Rattle.polynomials.specs.Terms.{Terms, variables, compose}
 use Rattle.machines.specs.Collect.{collect}
@@ -20,7 +20,7 @@ use Rattle.rounds.specs.Results.{IsReducedList}
 use Rattle.ideal_ops.specs.Calls as ideal
 use Rattle.ideal_ops.specs.Calls.{Way, AreOver, first_block, IsEliminationOf}
 use Rattle.ideal_ops.specs.Eliminating.{HaveBlock}
-use Rattle.expressions.specs.FracPoly.{FracPoly}
+use Rattle.loop_model.specs.FracPoly.{FracPoly}
 use Rattle.invariant_fix.specs.Blocked.{Blocked}
 use Rattle.invariant_fix.proofs.Lists.{reduced_list}
 

@@ -10,8 +10,8 @@ use Rattle.std.proofs.Common.{◌≡◌, inr, ℕ, suc, ◌<◌, ◌≤◌, ◌+
 use Rattle.std.specs.Global.{Vec}
 use Rattle.std.proofs.lemmas.List.{get_or-map, length-map}
 use Rattle.std.proofs.lemmas.List.Elements.{All-nil, All-cons, All-head, All-tail}
-use Rattle.rings.proofs.Basics.{same_head, same_tail}
-use Rattle.numbers.specs.Fraction.{Fraction, rationals}
+use Rattle.algebra.proofs.Basics.{same_head, same_tail}
+use Rattle.algebra.specs.Fraction.{Fraction, rationals}
 use Rattle.polynomials.specs.Order.{grevlex}
 use Rattle.polynomials.specs.Terms.{Terms}
 use Rattle.machines.specs.Collect.{collect}
@@ -25,7 +25,7 @@ use Rattle.loops.specs.Program.{Expr, Program, Statement}
 use Rattle.loops.specs.WellFormed.{IsWellFormed}
 use Rattle.loop_model.specs.Maps.{AreFree}
 use Rattle.poly.specs.Seen.{terms_in, terms_each}
-use Rattle.expressions.specs.FracPoly.{FracPoly}
+use Rattle.loop_model.specs.FracPoly.{FracPoly}
 use Rattle.ideal_ops.specs.Calls.{AreOver}
 use Rattle.rounds.specs.Analysis as analysis
 use Rattle.rounds.specs.Analysis.{State, fresh, Step, finished, first_step, next, moves}

@@ -3,11 +3,11 @@
 --   map_formed, maps_none, maps_more          the maps of the first branches
 use Rattle.std.proofs.Common.{◌≡◌, ◌⊎◌, inl, inr, ℕ, suc, ◌<◌, ◌+◌, List, [], ◌∷◌, ◌++◌, map, length, get_or, refl, sym, ap, ap₂, subst, ◌∙◌, arith, Vec, Global}
 use Rattle.std.proofs.lemmas.List.{length-append}
-use Rattle.rings.specs.Each.{Each}
+use Rattle.algebra.specs.Each.{Each}
 use Rattle.std.proofs.lemmas.List.{get_or_append_left, get_or_push}
-use Rattle.rings.proofs.Basics.{below_or_last}
-use Rattle.numbers.specs.Fraction.{Fraction, ℚ, rationals}
-use Rattle.numbers.proofs.Fractions.{ℚ_field}
+use Rattle.algebra.proofs.Basics.{below_or_last}
+use Rattle.algebra.specs.Fraction.{Fraction, ℚ, rationals}
+use Rattle.algebra.proofs.Fractions.{ℚ_field}
 use Rattle.polynomials.specs.Order.{grevlex}
 use Rattle.polynomials.specs.Polynomial.{AllArity, IsPolynomial}
 use Rattle.polynomials.specs.Terms.{Terms}
@@ -20,9 +20,9 @@ use Rattle.loops.proofs.Maps.{arity-branch_map, length-branch_map}
 use Rattle.poly.specs.Seen.{terms_in, terms_each}
 use Rattle.poly.specs.Standing.{AllStandFor}
 use Rattle.poly.proofs.Standing.{stands_length, stands_over}
-use Rattle.expressions.specs.FracPoly.{FracPoly as Polynomial}
-use Rattle.expressions.specs.Operations.{IsFree}
-use Rattle.expressions.proofs.OperationLaws.{stops_behind}
+use Rattle.loop_model.specs.FracPoly.{FracPoly as Polynomial}
+use Rattle.loop_model.specs.Operations.{IsFree}
+use Rattle.loop_model.proofs.OperationLaws.{stops_behind}
 use Rattle.loop_model.specs.Maps.{start_operations, branches_operations}
 use Rattle.loop_model.proofs.MapsFormed.{free_all}
 use Rattle.rounds.specs.BranchMap.{map_of}

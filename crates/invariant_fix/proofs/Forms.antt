@@ -9,13 +9,13 @@ use Rattle.std.proofs.Common.{◌≡◌, ◌⊎◌, inl, inr, ℕ, zero, suc, �
 use Rattle.std.proofs.lemmas.Bool.{cases_lt}
 use Rattle.std.proofs.lemmas.List.{length-map, length-append}
 use Rattle.std.proofs.lemmas.List.Elements.{All-head, All-tail}
-use Rattle.rings.specs.Each.{Each}
-use Rattle.rings.specs.Sum.{sum_over}
+use Rattle.algebra.specs.Each.{Each}
+use Rattle.algebra.specs.Sum.{sum_over}
 use Rattle.std.proofs.lemmas.List.{get_or_append_left, get_or_push}
-use Rattle.rings.proofs.Basics.{below_or_last}
-use Rattle.rings.proofs.Each.{each_weaker}
-use Rattle.numbers.specs.Fraction.{Fraction, ℚ, rationals}
-use Rattle.numbers.proofs.Fractions.{ℚ_ring, ℚ_field}
+use Rattle.algebra.proofs.Basics.{below_or_last}
+use Rattle.algebra.proofs.Each.{each_weaker}
+use Rattle.algebra.specs.Fraction.{Fraction, ℚ, rationals}
+use Rattle.algebra.proofs.Fractions.{ℚ_ring, ℚ_field}
 use Rattle.polynomials.specs.Order.{grevlex}
 use Rattle.polynomials.specs.Polynomial.{AllArity, IsPolynomial}
 use Rattle.polynomials.specs.Algebra as Algebra
@@ -26,17 +26,17 @@ use Rattle.machines.specs.Collect.{collect}
 use Rattle.machines.proofs.Collecting.{collect-same}
 use Rattle.exponentials.specs.Base.{Coprime}
 use Rattle.loops.proofs.Maps.{length-variables}
-use Rattle.turns.specs.Classes.{IsFormBase}
-use Rattle.turns.specs.Expo.{zero_images}
-use Rattle.turns.specs.Turns as turns
-use Rattle.turns.specs.Turns.{width, values_at, IsNormal, IsNormalForm}
+use Rattle.solvable_maps.specs.Classes.{IsFormBase}
+use Rattle.solvable_maps.specs.Expo.{zero_images}
+use Rattle.solvable_maps.specs.Turns as turns
+use Rattle.solvable_maps.specs.Turns.{width, values_at, IsNormal, IsNormalForm}
 use Rattle.loops.specs.Map.{branch_map}
 use Rattle.loops.specs.Program.{Expr, Program}
 use Rattle.coprime_base.specs.Sizes.{sizes}
 use Rattle.poly.specs.Seen.{terms_in, terms_each}
 use Rattle.expo.specs.View.{base_of}
 use Rattle.expo.specs.declared.exponential.Expo.{Expo}
-use Rattle.expressions.specs.FracPoly.{FracPoly as Polynomial}
+use Rattle.loop_model.specs.FracPoly.{FracPoly as Polynomial}
 use Rattle.rounds.specs.BranchMap.{map_of}
 use Rattle.rounds.specs.Form.{front, backward, has_terms, passes, IsClosedForm}
 use Rattle.rounds.proofs.Passing.{stays_of, passes_of}

@@ -6,7 +6,7 @@ use Rattle.std.proofs.Common.{◌≡◌, ◌⊎◌, ℕ, zero, suc, ◌+◌, ◌
 use mathlib.Core.Path.{fun_ext}
 use Rattle.std.specs.Global.{Vec}
 use Rattle.std.specs.List.{Any}
-use Rattle.numbers.specs.Fraction.{Fraction, fractions, rationals}
+use Rattle.algebra.specs.Fraction.{Fraction, fractions, rationals}
 use Rattle.polynomials.specs.Order.{grevlex, blocks}
 use Rattle.polynomials.specs.Terms.{Terms}
 use Rattle.polynomials.specs.Weight.{IsPastComposition}
@@ -15,12 +15,12 @@ use Rattle.frac128.specs.declared.Whole.{Whole}
 use Rattle.poly.specs.Seen.{terms_each}
 use Rattle.coprime_base.specs.Sizes.{sizes}
 use Rattle.expo.specs.declared.exponential.Expo.{Expo}
-use Rattle.expressions.specs.FracPoly.{FracPoly}
+use Rattle.loop_model.specs.FracPoly.{FracPoly}
 use Rattle.closed_forms.specs.Values as values
 use Rattle.rounds.specs.Form.{Form, front, form_backward, passes, passing, form_before, front_since, list_since, late_orbit_list, turn_before, turn_graph}
 use Rattle.rounds.specs.Past.{IsPastGraph, IsPastOrbitSince, turn_images}
-use Rattle.graph_lists.specs.Late.{bodies_in, copies_in, front_in, orbit_of, turn_of, IsPastOrbitOf, IsPastTurnOf, vars_in, which, form_in}
-use Rattle.graph_lists.specs.declared.late_form.LateForm.{LateForm}
+use Rattle.task_lists.specs.Late.{bodies_in, copies_in, front_in, orbit_of, turn_of, IsPastOrbitOf, IsPastTurnOf, vars_in, which, form_in}
+use Rattle.task_lists.specs.declared.late_form.LateForm.{LateForm}
 use Rattle.invariant_fix.specs.Orbits.{numbers_of, vars_of, orbit_front_of, orbit_list_of, turn_front_of, turn_list_of, unwound_list, IsPastUnwinding, IsPastTurning, IsPastUnwound}
 use Rattle.invariant_fix.specs.Setting.{form_of, FitsBranch}
 use Rattle.invariant_fix.specs.declared.branches.Branch.{Branch}

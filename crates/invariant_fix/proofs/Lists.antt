@@ -10,10 +10,10 @@
 use Rattle.std.proofs.Common.{◌≡◌, ◌⊎◌, inl, inr, ℕ, suc, ◌+◌, ◌*◌, ◌≤◌, cond, List, [], ◌∷◌, ◌++◌, length, get_or, refl, sym, ap, subst, ◌∙◌, arith}
 use native.Mathlib.Nat as N
 use Rattle.std.proofs.lemmas.List.Elements.{All-head, All-nil, All-append}
-use Rattle.rings.specs.Each.{Each}
-use Rattle.rings.proofs.In.{in_get, map-in}
-use Rattle.numbers.specs.Fraction.{Fraction, ℚ, rationals, fractions}
-use Rattle.numbers.proofs.Fractions.{ℚ_ring, ℚ_field}
+use Rattle.algebra.specs.Each.{Each}
+use Rattle.algebra.proofs.In.{in_get, map-in}
+use Rattle.algebra.specs.Fraction.{Fraction, ℚ, rationals, fractions}
+use Rattle.algebra.proofs.Fractions.{ℚ_ring, ℚ_field}
 use Rattle.polynomials.specs.Order.{grevlex}
 use Rattle.polynomials.specs.Polynomial.{Falls, IsPolynomial}
 use Rattle.polynomials.specs.Terms.{Terms, Same, combination}
@@ -40,7 +40,7 @@ use Rattle.machines.specs.Machine.{done, Ran}
 use Rattle.invariant_fix.specs.Started.{with_past_start}
 use Rattle.std.proofs.lemmas.List.{length-map}
 use Rattle.std.specs.Global.{Vec}
-use Rattle.expressions.specs.FracPoly.{FracPoly}
+use Rattle.loop_model.specs.FracPoly.{FracPoly}
 use Rattle.invariant_fix.specs.Lists.{IsList}
 use Rattle.machines.proofs.Lengths.{made, list_few}
 use Rattle.invariant_fix.proofs.Tasks.{way_of}

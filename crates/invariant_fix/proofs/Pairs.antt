@@ -2,12 +2,12 @@
 --   pairs_none, pairs_more, pairs_all
 use Rattle.std.proofs.Common.{◌≡◌, ℕ, suc, ◌+◌, List, [], ◌∷◌, ◌++◌, map, sym, ap, ◌∙◌, arith}
 use Rattle.std.proofs.lemmas.List.{append-nil, append_assoc, map-append}
-use Rattle.numbers.specs.Fraction.{Fraction, rationals}
+use Rattle.algebra.specs.Fraction.{Fraction, rationals}
 use Rattle.polynomials.specs.Terms.{Terms}
 use Rattle.machines.specs.Collect.{collect}
 use Rattle.rounds.specs.Form.{front, orbit_order, relation, relations_to}
 use Rattle.invariant_fix.specs.Orbits.{relations_of}
-use Rattle.starting_lists.specs.Blocks.{relation_of}
+use Rattle.task_lists.specs.Blocks.{relation_of}
 
 module _ (r m : ℕ) where
   abbrev made : ℕ → List (Terms Fraction)

@@ -9,13 +9,13 @@
 use Rattle.std.proofs.Common.{◌≡◌, ◌⊎◌, inl, inr, ℕ, suc, ◌+◌, ◌<◌, ◌≤◌, List, [], ◌∷◌, ◌++◌, length, get_or, None, sym, ap, subst, ◌∙◌, arith, Vec, Global}
 use Rattle.std.proofs.lemmas.List.{length-map, length-append, map-append}
 use Rattle.std.proofs.lemmas.List.{get_or_append_left, get_or_push}
-use Rattle.rings.proofs.Basics.{below_or_last}
-use Rattle.numbers.specs.Fraction.{Fraction}
+use Rattle.algebra.proofs.Basics.{below_or_last}
+use Rattle.algebra.specs.Fraction.{Fraction}
 use Rattle.polynomials.specs.Terms.{Terms}
 use Rattle.machines.specs.Journal.{Entry}
 use Rattle.poly.specs.Seen.{terms_each}
 use Rattle.rounds.specs.Analysis.{Setting, test, closing_from, finished}
-use Rattle.expressions.specs.FracPoly.{FracPoly}
+use Rattle.loop_model.specs.FracPoly.{FracPoly}
 use Rattle.invariant_fix.specs.Closing.{seen_branch_steps, seen_steps, IsClosing, AreBranchSteps}
 use Rattle.invariant_fix.specs.Coming.{Comes}
 use Rattle.invariant_fix.proofs.Tests.{test_here, tests_go_on, tests_end}

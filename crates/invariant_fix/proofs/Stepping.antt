@@ -6,8 +6,8 @@
 use Rattle.std.proofs.Common.{◌≡◌, ◌≢◌, ℕ, suc, ◌<◌, ◌≤◌, List, [], ◌∷◌, length, get_or, None, sym, ap, ap₂, subst, ◌∙◌, arith, Vec, Global}
 use Rattle.std.proofs.lemmas.List.{get_or-map}
 use Rattle.std.proofs.lemmas.List.Elements.{All-head}
-use Rattle.numbers.specs.Fraction.{Fraction, ℚ, rationals, fractions}
-use Rattle.numbers.proofs.Fractions.{ℚ_field}
+use Rattle.algebra.specs.Fraction.{Fraction, ℚ, rationals, fractions}
+use Rattle.algebra.proofs.Fractions.{ℚ_field}
 use Rattle.polynomials.specs.Order.{grevlex}
 use Rattle.polynomials.specs.Terms.{Same, compose}
 use Rattle.polynomials.specs.Weight.{IsPastComposition}
@@ -31,7 +31,7 @@ use Rattle.journal.specs.View.{with_entry}
 use Rattle.journal.specs.declared.Task.TheVariants as task
 use Rattle.rounds.specs.Analysis as analysis
 use Rattle.ideal_ops.specs.Calls.{AreOver}
-use Rattle.expressions.specs.FracPoly.{FracPoly}
+use Rattle.loop_model.specs.FracPoly.{FracPoly}
 use Rattle.invariant_fix.specs.Blocked.{Divided}
 use Rattle.invariant_fix.specs.Closing.{pullback_by, test_of, IsClosing}
 use Rattle.invariant_fix.specs.Coming.{Comes, Refuses}

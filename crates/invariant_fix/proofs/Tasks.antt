@@ -6,7 +6,7 @@
 --   task_refused                   what a refusal of it tells
 use Rattle.std.proofs.Common.{◌≡◌, inl, inr, List, [], ◌∷◌, map, Option, refl, sym, ap, subst, ◌∙◌}
 use Rattle.std.specs.Global.{Vec}
-use Rattle.numbers.specs.Fraction.{Fraction, rationals, fractions}
+use Rattle.algebra.specs.Fraction.{Fraction, rationals, fractions}
 use Rattle.polynomials.specs.Order.{grevlex}
 use Rattle.machines.specs.Elimination as elimination
 use Rattle.machines.specs.Elimination.{free_part}
@@ -19,7 +19,7 @@ use Rattle.machines.specs.Run.{IsRun}
 use Rattle.machines.specs.Work.{Work as Done, IsSpent}
 use Rattle.machines.proofs.Runs.{run_joined, run_then}
 use Rattle.poly.specs.Seen.{terms_each}
-use Rattle.expressions.specs.FracPoly.{FracPoly}
+use Rattle.loop_model.specs.FracPoly.{FracPoly}
 use Rattle.ideal_ops.specs.Calls.{Way, elimination_of, IsListOf}
 use Rattle.rounds.specs.Analysis.{Setting, Work, starts, turn, turn_meet, orbit, meet, State, fresh, working, goes, block, order, starting, start_of, after, next_work, next, move_of, moves}
 use Rattle.rounds.specs.Past.{IsPastStarting, task_of_work}

@@ -6,7 +6,7 @@
 --   test_here, tests_go_on, tests_end     the tests one after another
 use Rattle.std.proofs.Common.{◌≡◌, ◌≢◌, inl, inr, ℕ, suc, ◌<◌, ◌≤◌, Bool, true, false, cond, ltb, ◌&&◌, List, [], ◌∷◌, map, length, get_or, Option, Some, None, refl, sym, ap, subst, ◌∙◌, arith}
 use Rattle.std.proofs.lemmas.Bool.{lt-ltb, le-ltb}
-use Rattle.numbers.specs.Fraction.{Fraction, rationals, fractions}
+use Rattle.algebra.specs.Fraction.{Fraction, rationals, fractions}
 use Rattle.polynomials.specs.Terms.{Terms}
 use Rattle.polynomials.specs.Order.{grevlex}
 use Rattle.polynomials.specs.Weight.{IsPastComposition}

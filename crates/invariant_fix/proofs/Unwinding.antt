@@ -5,7 +5,7 @@
 use Rattle.std.proofs.Common.{◌≡◌, ◌<◌, List, [], ◌∷◌, length, subst, ◌∙◌, arith}
 use Rattle.std.proofs.lemmas.List.{length-map}
 use Rattle.std.proofs.lemmas.List.Elements.{All-head}
-use Rattle.numbers.specs.Fraction.{ℚ}
+use Rattle.algebra.specs.Fraction.{ℚ}
 use Rattle.polynomials.specs.Polynomial.{AllArity}
 use Rattle.polynomials.specs.Terms.{Same, compose}
 use Rattle.coprime_base.specs.Sizes.{sizes}
@@ -14,7 +14,7 @@ use Rattle.poly.proofs.Standing.{arities_over}
 use Rattle.frac128.specs.declared.Whole.{Whole}
 use Rattle.rounds.specs.Form.{form_backward}
 use Rattle.ideal_ops.specs.Calls.{AreOver}
-use Rattle.expressions.specs.FracPoly.{FracPoly}
+use Rattle.loop_model.specs.FracPoly.{FracPoly}
 use Rattle.invariant_fix.specs.Orbits.{vars_of, width_of}
 use Rattle.invariant_fix.specs.Setting.{form_of, FitsBranch}
 use Rattle.invariant_fix.specs.declared.branches.Branch.{Branch}

@@ -5,9 +5,9 @@ use Rattle.std.proofs.Common.{◌≡◌, ◌<◌, ℕ, List, [], ◌∷◌, leng
 use Rattle.std.specs.Option.{option_map, IsSomeAnd}
 use Rattle.std.proofs.lemmas.List.{length-set, length-replicate}
 use Rattle.std.proofs.lemmas.Option.{slice_get-map, get_or_from_slice_get}
-use Rattle.rings.specs.Each.{Each}
-use Rattle.numbers.specs.Fraction.{Fraction, ℚ, rationals}
-use Rattle.numbers.proofs.Fractions.{ℚ_field}
+use Rattle.algebra.specs.Each.{Each}
+use Rattle.algebra.specs.Fraction.{Fraction, ℚ, rationals}
+use Rattle.algebra.proofs.Fractions.{ℚ_field}
 use Rattle.polynomials.specs.Exponent.{unit_exponents}
 use Rattle.polynomials.specs.Order.{grevlex, blocks}
 use Rattle.polynomials.specs.Polynomial.{Arity, AllArity, IsPolynomial, Falls}
@@ -20,10 +20,10 @@ use Rattle.machines.specs.Collect.{collect}
 use Rattle.machines.proofs.Collecting.{collect-is}
 use Rattle.monos.specs.declared.order.Grevlex.{Grevlex}
 use Rattle.poly.specs.Seen.{terms_in, Is}
-use Rattle.expressions.specs.FracPoly.{FracPoly}
+use Rattle.loop_model.specs.FracPoly.{FracPoly}
 use Rattle.invariant_fix.specs.Blocked.{Blocked}
 use Rattle.invariant_fix.proofs.Blocks.{graded_polynomial}
-use Rattle.starting_lists.proofs.TwoTerms.{block_polynomial}
+use Rattle.task_lists.proofs.TwoTerms.{block_polynomial}
 
 pub moved_is : (k m : ℕ) (g : Terms Fraction) (images : List (Terms Fraction)) → AllArity m images
     → (composed : Terms Fraction) → Same ℚ composed (compose ℚ m g images)

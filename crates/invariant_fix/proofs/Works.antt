@@ -10,9 +10,9 @@ use Rattle.std.proofs.Common.{◌≡◌, ◌⊎◌, inl, inr, ℕ, suc, ◌+◌,
 use Rattle.std.specs.Global.{Vec}
 use Rattle.std.proofs.lemmas.List.Elements.{All-tail}
 use Rattle.std.proofs.lemmas.List.{get_or-map, length-map, append-nil}
-use Rattle.rings.proofs.In.{each_from}
-use Rattle.numbers.specs.Fraction.{Fraction, ℚ, rationals, fractions}
-use Rattle.numbers.proofs.Fractions.{ℚ_field}
+use Rattle.algebra.proofs.In.{each_from}
+use Rattle.algebra.specs.Fraction.{Fraction, ℚ, rationals, fractions}
+use Rattle.algebra.proofs.Fractions.{ℚ_field}
 use Rattle.polynomials.proofs.Orders.{grevlex_order}
 use Rattle.polynomials.proofs.Same.{Same-refl}
 use Rattle.polynomials.specs.Order.{grevlex, blocks}
@@ -38,7 +38,7 @@ use Rattle.ideal_ops.specs.Calls as ideal
 use Rattle.ideal_ops.specs.Calls.{Way, elimination_of, IsListOf, IsSum, IsIntersection, AreOver}
 use Rattle.machines.specs.Machine.{done, stopped, Ran}
 use Rattle.machines.specs.Past.{IsPastStart}
-use Rattle.expressions.specs.FracPoly.{FracPoly}
+use Rattle.loop_model.specs.FracPoly.{FracPoly}
 use Rattle.invariant_fix.specs.Coming.{Comes, Refuses}
 use Rattle.invariant_fix.specs.Errors.{in_task}
 use Rattle.invariant_fix.specs.Lists.{IsList}

@@ -4,7 +4,7 @@
 --                                cofactors of its closing divisions;  IsClosedBy program a es: from its starts
 --   IsLeastLevel program k       the invariants of level k are all, and those of no level before
 use Rattle.std.specs.Prelude.{ℕ, ◌<◌, ◌↔◌, List, Option, None}
-use Rattle.numbers.specs.Fraction.{Fraction}
+use Rattle.algebra.specs.Fraction.{Fraction}
 use Rattle.polynomials.specs.Terms.{Terms}
 use Rattle.machines.specs.Journal.{Entry}
 use Rattle.loops.specs.Certificate.{Certificate}

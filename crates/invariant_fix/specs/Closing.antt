@@ -8,7 +8,7 @@
 --   test_of b g gs          its division by the gs, as a machine, whose start is made by a composition
 use Rattle.std.specs.Prelude.{◌≡◌, ◌<◌, ℕ, List, [], get_or, length, map, All, None}
 use Rattle.std.specs.Global.{Vec}
-use Rattle.numbers.specs.Fraction.{Fraction, ℚ, fractions, rationals}
+use Rattle.algebra.specs.Fraction.{Fraction, ℚ, fractions, rationals}
 use Rattle.polynomials.specs.Order.{grevlex}
 use Rattle.polynomials.specs.Terms.{Terms, compose}
 use Rattle.polynomials.specs.Weight.{IsPastComposition}
@@ -20,7 +20,7 @@ use Rattle.machines.specs.Run.{HasEnded}
 use Rattle.rounds.specs.Analysis.{Setting, pullback}
 use Rattle.rounds.specs.Results.{LeadsTo}
 use Rattle.poly.specs.Seen.{terms_in, terms_each}
-use Rattle.expressions.specs.FracPoly.{FracPoly}
+use Rattle.loop_model.specs.FracPoly.{FracPoly}
 use Rattle.ideal_ops.specs.Calls.{AreOver}
 use Rattle.invariant_fix.specs.Setting.{setting_of}
 use Rattle.invariant_fix.specs.Started.{with_past_start}

@@ -4,7 +4,7 @@ use Rattle.std.specs.Prelude.{◌≤◌, ◌+◌, ℕ, List, length}
 use Rattle.rounds.specs.Results.{IsReducedList}
 use Rattle.poly.specs.Seen.{terms_each}
 use Rattle.ideal_ops.specs.Calls.{AreOver}
-use Rattle.expressions.specs.FracPoly.{FracPoly}
+use Rattle.loop_model.specs.FracPoly.{FracPoly}
 
 pub record IsList (m most units : ℕ) (gs : List FracPoly) : Type 0 where
   pub arity : AreOver m gs

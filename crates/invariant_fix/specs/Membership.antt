@@ -9,7 +9,7 @@
 --   HasSum gs p a          where a is yes, the combination of its cofactors with the gs is p
 --   HasAnswered program p k gs es     the es follow the program to the end of its analysis, with round k and the list gs, and to the end of the division of p
 use Rattle.std.specs.Prelude.{◌≡◌, ◌⊎◌, ⊤, ℕ, List, ◌∷◌, [], ◌++◌, is_some, true, Option, None}
-use Rattle.numbers.specs.Fraction.{Fraction, ℚ, fractions, rationals}
+use Rattle.algebra.specs.Fraction.{Fraction, ℚ, fractions, rationals}
 use Rattle.polynomials.specs.Order.{grevlex}
 use Rattle.polynomials.specs.Terms.{Terms, Same, combination}
 use Rattle.machines.specs.Division as division

@@ -12,7 +12,7 @@
 --   IsPastUnwinding b gs, IsPastTurning b gs     what makes the list of an orbit, or of a turn, is past
 use Rattle.std.specs.Prelude.{◌⊎◌, ◌+◌, ◌++◌, ℕ, List, length, map}
 use Rattle.std.specs.List.{Any}
-use Rattle.numbers.specs.Fraction.{Fraction, fractions, rationals}
+use Rattle.algebra.specs.Fraction.{Fraction, fractions, rationals}
 use Rattle.polynomials.specs.Order.{grevlex, blocks}
 use Rattle.polynomials.specs.Terms.{Terms}
 use Rattle.polynomials.specs.Weight.{IsPastComposition}
@@ -22,7 +22,7 @@ use Rattle.rounds.specs.Form.{front, form_backward, normal, orbit_order, orbit_f
 use Rattle.rounds.specs.Past.{IsPastOrbit, IsPastTurn}
 use Rattle.coprime_base.specs.Sizes.{sizes}
 use Rattle.poly.specs.Seen.{terms_in, terms_each}
-use Rattle.expressions.specs.FracPoly.{FracPoly}
+use Rattle.loop_model.specs.FracPoly.{FracPoly}
 use Rattle.machines.specs.Elimination as elimination
 use Rattle.machines.specs.Machine.{Machine}
 use Rattle.ideal_ops.specs.Calls.{Way, elimination_of}

@@ -14,7 +14,7 @@
 --   IsRefusedFrom program given before after e     what the refusal e tells of the program, and of the journals before and after, where the analysis begins with what is given
 --   IsRefused program before after e     where it begins at the starts
 use Rattle.std.specs.Prelude.{◌≡◌, ◌≢◌, ◌⊎◌, ◌<◌, ℕ, suc, List, [], length, Option, None, IsSomeAnd}
-use Rattle.numbers.specs.Fraction.{Fraction}
+use Rattle.algebra.specs.Fraction.{Fraction}
 use Rattle.polynomials.specs.Terms.{Terms}
 use Rattle.machines.specs.Journal.{Entry, Task, Journal}
 use Rattle.loops.specs.Program.{Expr, Program}
@@ -23,10 +23,10 @@ use Rattle.rounds.specs.BranchMap.{map_of}
 use Rattle.rounds.specs.Form.{Form, IsClosedForm}
 use Rattle.rounds.specs.Journal.{setting_from, FollowsFrom, IsOutFrom}
 use Rattle.rounds.specs.Past.{IsPast, task_of}
-use Rattle.expressions.specs.Operations.{Operation, IsFree}
-use Rattle.expressions.specs.Stops.{Stops}
-use Rattle.expressions.specs.declared.map_error.MapError.{MapError}
-use Rattle.expressions.specs.declared.map_error.MapError.TheVariants as map_error
+use Rattle.loop_model.specs.Operations.{Operation, IsFree}
+use Rattle.loop_model.specs.Stops.{Stops}
+use Rattle.loop_model.specs.declared.map_error.MapError.{MapError}
+use Rattle.loop_model.specs.declared.map_error.MapError.TheVariants as map_error
 use Rattle.loop_model.specs.Maps.{branches_operations, maps_operations, AreFree}
 use Rattle.solvable.specs.Refusal.{IsSolvable}
 use Rattle.closed_forms.specs.Refusal.{AllPass, Refusal, IfRefused, refusal_in}

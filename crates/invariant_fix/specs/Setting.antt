@@ -12,7 +12,7 @@
 --   IsSettingOf program s       s has what the definitions make of the program
 --   HoldsOf s P                 P holds of each well-formed program of which s is the setting
 use Rattle.std.specs.Prelude.{◌≡◌, ◌≤◌, ◌<◌, ℕ, suc, ◌+◌, ◌^◌, false, List, All, length, map, get_or, Option, Some, None, option_map}
-use Rattle.numbers.specs.Fraction.{Fraction}
+use Rattle.algebra.specs.Fraction.{Fraction}
 use Rattle.polynomials.specs.Terms.{Terms}
 use Rattle.std.specs.Global.{Vec}
 use Rattle.loops.specs.Program.{Expr, Program}
@@ -24,7 +24,7 @@ use Rattle.rounds.specs.Form.{front, form_backward, passes, IsClosedForm}
 use Rattle.monos.specs.Variables.{most_variables}
 use Rattle.poly.specs.Seen.{terms_each}
 use Rattle.ideal_ops.specs.Calls.{AreOver}
-use Rattle.expressions.specs.FracPoly.{FracPoly}
+use Rattle.loop_model.specs.FracPoly.{FracPoly}
 use Rattle.coprime_base.specs.Sizes.{sizes}
 use Rattle.expo.specs.Bases.{IsCoprimeBase}
 use Rattle.solvable.specs.Refusal.{IsSolvable}
@@ -35,7 +35,7 @@ use Rattle.closed_forms.specs.Values.{bodies_of}
 use Rattle.closed_forms.specs.declared.Form.{Form}
 use Rattle.invariant_fix.specs.declared.branches.Branch.{Branch}
 use Rattle.invariant_fix.specs.declared.setting.Setting.{Setting}
-use Rattle.starting_lists.specs.Starts.{AreStarts}
+use Rattle.task_lists.specs.Starts.{AreStarts}
 use Rattle.loop_model.specs.Limits.{names_limit}
 
 abbrev pub form_of : Form → form.Form

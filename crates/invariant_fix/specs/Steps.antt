@@ -16,14 +16,14 @@
 --   orbiting s k b gs hs       the beginning of the orbit of the gs along branch b, where hs is the list so far;  orbited s k b gs hs ls: what comes when it has ended with ls
 --   meeting s k b gs hs ks     that of the meet of hs with the orbit ks along branch b;  met s k b gs hs ks ls: what comes when it has ended with ls
 use Rattle.std.specs.Prelude.{◌≡◌, ◌⊎◌, ℕ, suc, ◌+◌, ◌*◌, ◌<◌, ◌≤◌, List}
-use Rattle.numbers.specs.Fraction.{Fraction}
+use Rattle.algebra.specs.Fraction.{Fraction}
 use Rattle.polynomials.specs.Terms.{Terms}
 use Rattle.machines.specs.Journal as journal
 use Rattle.machines.specs.Journal.{Journal, units_of}
 use Rattle.rounds.specs.Analysis as analysis
 use Rattle.rounds.specs.Analysis.{Step, goes, finished, start_of, after, after_branch, test, closing_from, begin_branch, begin_turn, begin_orbit}
 use Rattle.poly.specs.Seen.{terms_each}
-use Rattle.expressions.specs.FracPoly.{FracPoly}
+use Rattle.loop_model.specs.FracPoly.{FracPoly}
 use Rattle.invariant_fix.specs.Coming.{Comes, Refuses}
 use Rattle.invariant_fix.specs.Lists.{IsList}
 use Rattle.invariant_fix.specs.Setting.{setting_of, most_first}

@@ -1,6 +1,6 @@
 //! The analysis of a loop.
 ghost use Rattle.std.specs.Prelude.{All, ◌≡◌, ◌≤◌, ◌+◌, ℕ, [], map, length, Some, None, IfOk, IfErr};
-ghost use Rattle.numbers.specs.Fraction.{rationals};
+ghost use Rattle.algebra.specs.Fraction.{rationals};
 ghost use Rattle.polynomials.specs.Order.{grevlex};
 ghost use Rattle.machines.specs.Journal.{units_of};
 ghost use Rattle.machines.specs.Reduced.{IsReducedFor};
@@ -8,7 +8,7 @@ ghost use Rattle.loops.specs.Certificate.{IsValid};
 ghost use Rattle.loops.specs.Inv.{Inv};
 ghost use Rattle.loops.specs.Program.{Expr, Program};
 ghost use Rattle.poly.specs.Seen.{terms_each};
-ghost use Rattle.expressions.specs.Operations.{IsFree};
+ghost use Rattle.loop_model.specs.Operations.{IsFree};
 ghost use Rattle.loop_model.specs.Maps.{branches_operations, AreFree};
 ghost use Rattle.loop_model.specs.View.{program_of};
 ghost use Rattle.rounds.specs.Kept.{IsKept};
@@ -29,8 +29,8 @@ use journal::Meter;
 use loop_model::{Loop, MapError};
 use monos::Grevlex;
 use poly::Poly;
-use starting_lists::start_list;
 use std::alloc::{AllocError, Global};
+use task_lists::start_list;
 
 /// The reduced basis of all polynomial invariants of a loop, in rounds (Rodríguez-Carbonell and Kapur, "Generating all polynomial invariants in simple loops", Journal of Symbolic Computation 42, 2007).
 ///

@@ -1,7 +1,7 @@
 //! The orbit of a list along a branch: what is in its ideal after any number of turns of the branch, from where its form begins to be the state.
 ghost use Rattle.std.specs.Prelude.{◌≡◌, ◌≤◌, ◌<◌, ◌+◌, ◌++◌, List, length, IfOk, OnOk, IfErr, IsErrOf};
-ghost use Rattle.numbers.specs.Fraction.{Fraction, fraction_size};
-ghost use Rattle.numbers.specs.Size.{IsPast};
+ghost use Rattle.algebra.specs.Fraction.{Fraction, fraction_size};
+ghost use Rattle.algebra.specs.Size.{IsPast};
 ghost use Rattle.polynomials.specs.Terms.{Terms};
 ghost use Rattle.polynomials.specs.Weight.{weight};
 ghost use Rattle.rounds.specs.Form.{front};
@@ -15,7 +15,7 @@ ghost use Rattle.divide.specs.Outcomes.{outcome_of};
 ghost use Rattle.ideal_ops.specs.Calls.{IsListOf, AreOver};
 ghost use Rattle.ideal_ops.specs.Eliminating.{HaveBlock};
 ghost use Rattle.invariant_fix.specs.Orbits.{numbers_of, vars_of, unwinding, orbit_of, orbit_front_of, orbit_list_of, unwound_element, unwound_each, unwound_list, normal_of, relations_of, HaveFront, IsPastAt, IsPastUnwound, IsPastUnwinding};
-ghost use Rattle.starting_lists.specs.Blocks.{HasFront};
+ghost use Rattle.task_lists.specs.Blocks.{HasFront};
 ghost use Rattle.invariant_fix.specs.Setting.{FitsSetting, FitsBranch, start_limit};
 ghost use Rattle.invariant_fix.specs.Steps.{Awaits, Knows, KnowsTurns, Stops, Follow, HasWhole, orbiting, orbited};
 
@@ -26,14 +26,13 @@ use crate::setting::Setting;
 use divide::EngineError;
 use expo::Expo;
 use frac128::Frac;
-use graph_lists::LateForm;
 use ideal_ops::eliminate;
 use journal::{Meter, Task};
 use monos::{Blocks, Grevlex};
 use poly::Poly;
 use ring_laws::ArithmeticError;
-use starting_lists::{front, relation};
 use std::alloc::{AllocError, Global};
+use task_lists::{LateForm, front, relation};
 
 /// The orbit of a list along the branch at this place, in this round.
 pub(crate) fn orbit(

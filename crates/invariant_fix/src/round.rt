@@ -1,6 +1,6 @@
 //! The rounds of an analysis.
 ghost use Rattle.std.specs.Prelude.{All, ◌<◌, ◌≡◌, List, length, IfOk, IfErr};
-ghost use Rattle.numbers.specs.Fraction.{Fraction};
+ghost use Rattle.algebra.specs.Fraction.{Fraction};
 ghost use Rattle.polynomials.specs.Terms.{Terms};
 ghost use Rattle.machines.specs.Journal.{units_of};
 ghost use Rattle.ideal_ops.specs.Calls.{AreOver};

@@ -1,6 +1,6 @@
 //! The first turns of a branch, one by one, where its form isn't the state from the start on.
 ghost use Rattle.std.specs.Prelude.{◌≡◌, ◌≤◌, ◌<◌, ◌+◌, suc, List, length, IfOk, IfErr};
-ghost use Rattle.numbers.specs.Fraction.{Fraction};
+ghost use Rattle.algebra.specs.Fraction.{Fraction};
 ghost use Rattle.polynomials.specs.Terms.{Terms};
 ghost use Rattle.rounds.specs.Results.{IsReducedList};
 ghost use Rattle.poly.specs.Seen.{terms_each};

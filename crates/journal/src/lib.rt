@@ -1,4 +1,6 @@
-//! The meter: the events of a computation with ideals in their order, counted against a limit.
+//! The meter: the events of a computation with ideals in their order, of which some are units that are counted against a limit, the budget.
+//!
+//! Proved: each entry is kept but a refused one, and exactly a unit above the limit is refused.
 #![tactic(auto)]
 
 ghost use Rattle.std.specs.Prelude.{◌≡◌, ◌≤◌, ◌-◌, [], ◌↔◌, map, OnOk, OnErr, IsErrOf};

@@ -2,13 +2,13 @@
 use Rattle.std.proofs.Common.{◌≡◌, ◌<◌, ◌≤◌, ℕ, suc, ◌+◌, true, false, cond, ltb, List, [], ◌∷◌, ◌++◌, length, get_or, take, drop, All, refl, sym, ap, ap₂, subst, ◌∙◌, arith, Vec, Global, Option, Some, MatchOption}
 use Rattle.std.specs.Prelude.{insert}
 use Rattle.std.proofs.lemmas.List.{take_more, take-map, drop-map}
-use Rattle.rings.specs.Ring.{CommRing}
-use Rattle.numbers.specs.Fraction.{Fraction, inverse, fraction_size}
-use Rattle.numbers.specs.Size.{sum_size, product_size, times_size, IsPast}
-use Rattle.numbers.proofs.Fractions.{ℚ_ring}
-use Rattle.numbers.proofs.SizeLaws.{under-sum, under_refl, past_under}
-use Rattle.numbers.proofs.ProductSizes.{product_den-pos, times_under_product}
-use Rattle.numbers.proofs.LcmLaws.{lcm-pos}
+use Rattle.algebra.specs.Ring.{CommRing}
+use Rattle.algebra.specs.Fraction.{Fraction, inverse, fraction_size}
+use Rattle.algebra.specs.Size.{sum_size, product_size, times_size, IsPast}
+use Rattle.algebra.proofs.Fractions.{ℚ_ring}
+use Rattle.algebra.proofs.SizeLaws.{under-sum, under_refl, past_under}
+use Rattle.algebra.proofs.ProductSizes.{product_den-pos, times_under_product}
+use Rattle.algebra.proofs.LcmLaws.{lcm-pos}
 use Rattle.vectors.specs.Adding.{lead, entry, less, reduced_by, reduce_row, scale_row, quotient, row_size}
 use Rattle.frac128.specs.FracMeaning.{fraction_of}
 use Rattle.frac128.specs.declared.fraction.Frac.{Frac}

@@ -9,13 +9,13 @@ use Rattle.std.proofs.Common.{◌≡◌, inl, inr, ◌<◌, ◌≤◌, ℕ, zero
 use Rattle.std.specs.Prelude.{insert}
 use Rattle.std.proofs.lemmas.Bool.{cases_lt}
 use mathlib.Core.Path.{fun_ext}
-use Rattle.rings.specs.Each.{Each}
-use Rattle.rings.specs.Ring.{CommRing, Field}
-use Rattle.rings.proofs.RingLaws as L
-use Rattle.rings.proofs.FieldLaws as FL
-use Rattle.rings.proofs.RingSolver.{ring_rules, ring}
-use Rattle.numbers.specs.Fraction.{Fraction, inverse}
-use Rattle.numbers.proofs.Fractions.{ℚ_ring, ℚ_field}
+use Rattle.algebra.specs.Each.{Each}
+use Rattle.algebra.specs.Ring.{CommRing, Field}
+use Rattle.algebra.proofs.RingLaws as L
+use Rattle.algebra.proofs.FieldLaws as FL
+use Rattle.algebra.proofs.RingSolver.{ring_rules, ring}
+use Rattle.algebra.specs.Fraction.{Fraction, inverse}
+use Rattle.algebra.proofs.Fractions.{ℚ_ring, ℚ_field}
 use Rattle.vectors.specs.Space.{IsCombination}
 use Rattle.vectors.specs.Sequences.{sequences}
 use Rattle.vectors.specs.Lists.{entries, tables}

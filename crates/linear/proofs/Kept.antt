@@ -1,7 +1,7 @@
 -- An `Rref` before and after a row, over what the code has.
 use Rattle.std.proofs.Common.{◌≡◌, ◌<◌, ℕ, List, [], ◌∷◌, ◌++◌, length, All, true, false, IsTrue, refl, sym, ap, subst, ◌∙◌, Vec, Global}
-use Rattle.rings.specs.Each.{Each}
-use Rattle.numbers.specs.Fraction.{Fraction}
+use Rattle.algebra.specs.Each.{Each}
+use Rattle.algebra.specs.Fraction.{Fraction}
 use Rattle.vectors.specs.Adding.{lead, reduce_row, IsEchelonOf, IsCombinationOf}
 use Rattle.std.proofs.lemmas.List.Elements.{All-nil, All-cons}
 use Rattle.frac128.specs.declared.fraction.Frac.{Frac}

@@ -4,8 +4,8 @@
 use Rattle.std.proofs.Common.{◌≡◌, inl, inr, ◌<◌, ◌≤◌, ℕ, zero, suc, ◌+◌, ◌-◌, Bool, true, false, cond, not, eqb, eqb→eq, ◌&&◌, ◌||◌, T, List, [], ◌∷◌, ◌++◌, length, refl, sym, ap, ap₂, subst, ◌∙◌, arith, append_assoc, add-one, Vec, Global}
 use Rattle.std.proofs.lemmas.Bool.{cases_lt}
 use mathlib.Core.Path.{fun_ext}
-use Rattle.rings.specs.Each.{Each}
-use Rattle.numbers.specs.Fraction.{Fraction, ℚ}
+use Rattle.algebra.specs.Each.{Each}
+use Rattle.algebra.specs.Fraction.{Fraction, ℚ}
 use Rattle.vectors.specs.Lists.{tables}
 use Rattle.vectors.specs.Echelon.{Pivots, IsReduced, IsKernelVector, AreKernelVectors, leads_at, free_from, kernel_vector}
 use Rattle.vectors.specs.Adding.{entry, IsEchelonOf, AreKernel}

@@ -1,18 +1,18 @@
 -- Rows as lists: where they lead, and what adding a row computes.
 use Rattle.std.proofs.Common.{◌≡◌, ◌≢◌, ◌⊎◌, inl, inr, ◌<◌, ◌≤◌, ℕ, zero, suc, ◌+◌, ℤ, pos, negsuc, List, [], ◌∷◌, ◌++◌, length, get_or, take, drop, All, refl, sym, ap, ap₂, subst, ◌∙◌, arith, drop-cons, add-one, Vec, Global}
 use Rattle.std.proofs.lemmas.List.{drop_all}
-use Rattle.rings.specs.In.{In}
-use Rattle.rings.specs.Ring.{CommRing}
-use Rattle.rings.proofs.Basics.{abs_zero}
-use Rattle.rings.proofs.RingLaws as L
-use Rattle.rings.proofs.Lists.{take_one}
-use Rattle.numbers.specs.Ratio.{Ratio}
-use Rattle.numbers.specs.Fraction.{Fraction, ℚ, inverse, fraction_size, fraction_arithmetic}
-use Rattle.numbers.specs.Size.{Size, size, sum_size, product_size, times_size, quotient_size, IsPast, IsUnder}
-use Rattle.numbers.proofs.Fractions.{ℚ_ring, fractions_ring, top_zero, ratio-zero}
-use Rattle.numbers.proofs.LcmLaws.{lcm-pos}
-use Rattle.numbers.proofs.SizeLaws.{under_trans, under_refl, under-sum, sum-left, sum-right, past_under, zero_or_some, sum_size_comm, sum_size_assoc, difference_within, fractions_bounded}
-use Rattle.numbers.proofs.ProductSizes.{product_den-pos, times_under_product, under_sum-times, past_product, fraction_quotients_bounded}
+use Rattle.algebra.specs.In.{In}
+use Rattle.algebra.specs.Ring.{CommRing}
+use Rattle.algebra.proofs.Basics.{abs_zero}
+use Rattle.algebra.proofs.RingLaws as L
+use Rattle.algebra.proofs.Lists.{take_one}
+use Rattle.algebra.specs.Ratio.{Ratio}
+use Rattle.algebra.specs.Fraction.{Fraction, ℚ, inverse, fraction_size, fraction_arithmetic}
+use Rattle.algebra.specs.Size.{Size, size, sum_size, product_size, times_size, quotient_size, IsPast, IsUnder}
+use Rattle.algebra.proofs.Fractions.{ℚ_ring, fractions_ring, top_zero, ratio-zero}
+use Rattle.algebra.proofs.LcmLaws.{lcm-pos}
+use Rattle.algebra.proofs.SizeLaws.{under_trans, under_refl, under-sum, sum-left, sum-right, past_under, zero_or_some, sum_size_comm, sum_size_assoc, difference_within, fractions_bounded}
+use Rattle.algebra.proofs.ProductSizes.{product_den-pos, times_under_product, under_sum-times, past_product, fraction_quotients_bounded}
 use Rattle.vectors.specs.Adding.{lead, after_zero, entry, less, reduced_by, reduce_row, reduced_size, quotient, scale_row, row_size}
 use Rattle.frac128.specs.FracMeaning.{fraction_of}
 use Rattle.frac128.specs.declared.fraction.Frac.{Frac}

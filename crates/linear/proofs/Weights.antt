@@ -1,12 +1,12 @@
 -- The weight of a row less a multiple of another bounds what is computed on the way.
 use Rattle.std.proofs.Common.{◌≡◌, ◌<◌, List, [], ◌∷◌, refl, sym, subst, arith}
-use Rattle.numbers.proofs.LcmLaws.{lcm-pos}
-use Rattle.numbers.proofs.RatioLaws.{mul-pos}
-use Rattle.numbers.specs.Fraction.{Fraction, fraction_size, fraction_arithmetic, ℚ}
-use Rattle.numbers.specs.Size.{Size, sum_size, times_size, IsPast, IsUnder}
-use Rattle.numbers.proofs.Fractions.{fractions_ring}
-use Rattle.numbers.proofs.SizeLaws.{under_trans, under_refl, under-sum, sum-left, sum-right, past_under, fractions_bounded}
-use Rattle.numbers.proofs.ProductSizes.{IsClean, clean_of, clean-sum, under_times}
+use Rattle.algebra.proofs.LcmLaws.{lcm-pos}
+use Rattle.algebra.proofs.RatioLaws.{mul-pos}
+use Rattle.algebra.specs.Fraction.{Fraction, fraction_size, fraction_arithmetic, ℚ}
+use Rattle.algebra.specs.Size.{Size, sum_size, times_size, IsPast, IsUnder}
+use Rattle.algebra.proofs.Fractions.{fractions_ring}
+use Rattle.algebra.proofs.SizeLaws.{under_trans, under_refl, under-sum, sum-left, sum-right, past_under, fractions_bounded}
+use Rattle.algebra.proofs.ProductSizes.{IsClean, clean_of, clean-sum, under_times}
 use Rattle.vectors.specs.Adding.{row_size}
 use Rattle.frac128.specs.FracMeaning.{fraction_of}
 use Rattle.frac128.specs.declared.fraction.Frac.{Frac}

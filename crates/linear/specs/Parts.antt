@@ -10,9 +10,9 @@
 --   is_free j rows              no row leads in the column j
 --   kernel_entry rows j i       the i-th entry of the kernel's vector of the column j;  kernel_row rows j k m: m entries from the k-th on
 use Rattle.std.specs.Prelude.{◌≡◌, ◌<◌, ◌⊎◌, ℕ, zero, suc, Bool, true, List, [], ◌∷◌, ◌&&◌, not, insert, length, cond, eqb, ltb}
-use Rattle.rings.specs.In.{In}
-use Rattle.numbers.specs.Fraction.{Fraction, ℚ, fraction_size}
-use Rattle.numbers.specs.Size.{sum_size, product_size, times_size, quotient_size, IsPast}
+use Rattle.algebra.specs.In.{In}
+use Rattle.algebra.specs.Fraction.{Fraction, ℚ, fraction_size}
+use Rattle.algebra.specs.Size.{sum_size, product_size, times_size, quotient_size, IsPast}
 use Rattle.vectors.specs.Adding.{row_size, reduced_size, less, entry, lead, reduce_row, quotient}
 
 abbrev pub IsPastLess : List Fraction → Fraction → List Fraction → Type 0

@@ -5,7 +5,7 @@
 --   IsNew e row     the row is no combination of its rows
 --   AreKernelOf e vs     vs are the kernel of its rows
 use Rattle.std.specs.Prelude.{ℕ, List, [], ◌∷◌, ◌++◌}
-use Rattle.numbers.specs.Fraction.{Fraction}
+use Rattle.algebra.specs.Fraction.{Fraction}
 use Rattle.vectors.specs.Adding.{IsEchelonOf, IsCombinationOf, AreKernel}
 
 pub record Echelon : Type 0 where

@@ -1,4 +1,8 @@
-//! Reduced echelon lists of rows of fractions, and their kernels: a layer above numbers.
+//! `Rref`: reduced echelon lists of rows of fractions, and their kernels.
+//!
+//! Proved: the list is the reduced echelon list of its rows, and the kernel's basis is theirs; what is too wide is told with its target.
+//!
+//! Notion: reduced echelon lists, kernels.
 #![tactic(auto)]
 
 ghost use Rattle.std.specs.Prelude.{◌≡◌, ℕ, [], length, IfOk, OnOk, OnErr, IsErrOf, IsTrue, ◌↔◌};

@@ -1,7 +1,7 @@
 //! Rows of fractions.
 ghost use Rattle.std.specs.Prelude.{◌≡◌, ◌<◌, ◌++◌, All, length, OnOk, IfOk, IsErrOf};
 ghost use Rattle.frac128.specs.FracMeaning.{fraction_of};
-ghost use Rattle.numbers.specs.Size.{IsPast};
+ghost use Rattle.algebra.specs.Size.{IsPast};
 ghost use Rattle.vectors.specs.Adding.{less, lead, reduce_row, reduced_size, row_size, scale_row};
 ghost use Rattle.linear.specs.Rows.{fractions_of, rows_of};
 ghost use Rattle.linear.specs.Parts.{IsPastLess, IsPastScaled, IsPastFresh};

@@ -3,17 +3,17 @@
 --   after_stands              the state after the statement
 use Rattle.std.proofs.Common.{◌≡◌, ℕ, ◌<◌, List, map, length, arith, sym, subst, All}
 use Rattle.std.proofs.lemmas.List.{get_or-map, length-map}
-use Rattle.numbers.specs.Fraction.{ℚ}
+use Rattle.algebra.specs.Fraction.{ℚ}
 use Rattle.polynomials.specs.Terms.{constant, lists}
 use Rattle.loops.specs.Effect.{store, after_statement}
 use Rattle.loops.specs.WellFormed.{Uses, IsStatement}
 use Rattle.poly.specs.Seen.{terms_each, arity_of}
 use Rattle.poly.specs.Standing.{IsOver, AllStandFor}
 use Rattle.poly.proofs.Standing.{stands_all_itself}
-use Rattle.expressions.specs.FracPoly.{FracPoly}
-use Rattle.expressions.specs.View.{expr_of}
-use Rattle.expressions.specs.Operations.{operations_all, value, IsFree}
-use Rattle.expressions.specs.declared.expr.Expr.{Expr}
+use Rattle.loop_model.specs.FracPoly.{FracPoly}
+use Rattle.loop_model.specs.ExpressionView.{expr_of}
+use Rattle.loop_model.specs.Operations.{operations_all, value, IsFree}
+use Rattle.loop_model.specs.declared.expr.Expr.{Expr}
 use Rattle.loop_model.specs.Parts.{statement_of}
 use Rattle.loop_model.specs.declared.statement.Statement.{Statement}
 use Rattle.loop_model.proofs.StoreLaws.{stands_store}

@@ -10,7 +10,7 @@ use Rattle.std.proofs.Common.{◌≡◌, ℕ, ◌<◌, ◌≤◌, ◌+◌, zero,
 use Rattle.std.specs.Global.{Vec}
 use Rattle.std.proofs.lemmas.List.{take_more, take_all, map_push, map-append, length-map, length-append, length-replicate, get_or-map}
 use Rattle.std.proofs.lemmas.List.Elements.{All-append}
-use Rattle.numbers.specs.Fraction.{Fraction, ℚ}
+use Rattle.algebra.specs.Fraction.{Fraction, ℚ}
 use Rattle.polynomials.specs.Terms.{Terms, Same, constant, variables, lists}
 use Rattle.loops.specs.Program as program
 use Rattle.loops.specs.Program.{Expr}
@@ -23,19 +23,19 @@ use Rattle.polynomials.proofs.Same.{Same-refl}
 use Rattle.poly.specs.Seen.{terms_in, terms_each, arity_of}
 use Rattle.poly.specs.Standing.{IsOver, StandsFor, AllStandFor}
 use Rattle.poly.proofs.Standing.{stands_over, stands_length, stands_push, first_arity}
-use Rattle.expressions.specs.FracPoly.{FracPoly}
-use Rattle.expressions.specs.View.{expr_of}
-use Rattle.expressions.specs.Operations.{Operation, operations_all, IsFree, PassesLimit}
-use Rattle.expressions.specs.Stops.{Stops}
-use Rattle.expressions.specs.declared.map_error.MapError.{MapError}
-use Rattle.expressions.proofs.OperationLaws.{stops_front, stops_behind}
+use Rattle.loop_model.specs.FracPoly.{FracPoly}
+use Rattle.loop_model.specs.ExpressionView.{expr_of}
+use Rattle.loop_model.specs.Operations.{Operation, operations_all, IsFree, PassesLimit}
+use Rattle.loop_model.specs.Stops.{Stops}
+use Rattle.loop_model.specs.declared.map_error.MapError.{MapError}
+use Rattle.loop_model.proofs.OperationLaws.{stops_front, stops_behind}
 use Rattle.loop_model.specs.Parts.{statement_of}
 use Rattle.loop_model.specs.View.{program_of}
 use Rattle.loop_model.specs.Maps.{statements_operations, branch_operations, entry}
 use Rattle.loop_model.specs.declared.statement.Statement.{Statement}
 use Rattle.loop_model.specs.declared.loop_.Loop.{Loop}
 use Rattle.loop_model.proofs.Formed.{formed}
-use Rattle.expressions.proofs.StateLaws.{after_value, after_free, after_stops}
+use Rattle.loop_model.proofs.StateLaws.{after_value, after_free, after_stops}
 
 stands_take : (m n : ℕ) (ps : List FracPoly) (qs : List (Terms Fraction)) → AllStandFor m ps qs
     → AllStandFor m (take n ps) (take n qs)

@@ -1,13 +1,13 @@
 -- The values at a state of what stands for a map.
 --   values_at_state      those of polynomials that stand for others
 use Rattle.std.proofs.Common.{◌≡◌, ℕ, List, [], ◌∷◌, map, refl, ap₂}
-use Rattle.numbers.specs.Fraction.{Fraction, ℚ}
-use Rattle.numbers.proofs.Fractions.{ℚ_ring}
+use Rattle.algebra.specs.Fraction.{Fraction, ℚ}
+use Rattle.algebra.proofs.Fractions.{ℚ_ring}
 use Rattle.polynomials.specs.Terms.{Terms, value_at}
 use Rattle.polynomials.proofs.ValueAt.{value_at_same}
 use Rattle.poly.specs.Seen.{terms_in}
 use Rattle.poly.specs.Standing.{AllStandFor}
-use Rattle.expressions.specs.FracPoly.{FracPoly}
+use Rattle.loop_model.specs.FracPoly.{FracPoly}
 
 pub values_at_state : (m : ℕ) (ps : List FracPoly) (qs : List (Terms Fraction)) (s : List Fraction)
     → AllStandFor m ps qs → map (λ (p : FracPoly). value_at ℚ (terms_in p) s) ps

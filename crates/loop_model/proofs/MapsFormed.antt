@@ -9,10 +9,10 @@ use Rattle.std.proofs.Math.Seq.{take-suc}
 use Rattle.std.proofs.lemmas.Grind.{flat_map-append}
 use Rattle.std.proofs.lemmas.List.Elements.{All-nil, All-append}
 use Rattle.loops.specs.Program.{Expr, Statement, Program}
-use Rattle.expressions.specs.Operations.{Operation, IsFree, PassesLimit}
-use Rattle.expressions.specs.Stops.{Stops}
-use Rattle.expressions.specs.declared.map_error.MapError.{MapError}
-use Rattle.expressions.proofs.OperationLaws.{stops_front, stops_behind}
+use Rattle.loop_model.specs.Operations.{Operation, IsFree, PassesLimit}
+use Rattle.loop_model.specs.Stops.{Stops}
+use Rattle.loop_model.specs.declared.map_error.MapError.{MapError}
+use Rattle.loop_model.proofs.OperationLaws.{stops_front, stops_behind}
 use Rattle.loop_model.specs.Maps.{start_operations, branch_operations, branches_operations, AreFree}
 
 module _ (program : Program (Expr ℕ)) where

@@ -7,7 +7,7 @@
 use Rattle.std.proofs.Common.{◌≡◌, ℕ, ◌<◌, ◌≤◌, ◌+◌, List, [], ◌∷◌, ◌++◌, get_or, set as put, take, drop, map, length, arith, refl, sym, ap, ap₂, subst, ◌∙◌, take-append-drop, All, ◌≢◌}
 use Rattle.std.proofs.lemmas.List.{take_more, take_all, map_push, map-append, length-map, get_or-map}
 use Rattle.std.proofs.lemmas.List.Elements.{All-append}
-use Rattle.numbers.specs.Fraction.{Fraction, ℚ}
+use Rattle.algebra.specs.Fraction.{Fraction, ℚ}
 use Rattle.polynomials.specs.Terms.{Terms, constant, variables, lists}
 use Rattle.loops.specs.Program as program
 use Rattle.loops.specs.Effect.{store, init_statement, value_of, after_statement, start_from}
@@ -19,20 +19,20 @@ use Rattle.loops.proofs.Starts.{uses_weaker}
 use Rattle.poly.specs.Seen.{terms_each}
 use Rattle.poly.specs.Standing.{StandsFor, AllStandFor}
 use Rattle.poly.proofs.Standing.{stands_set, stands_length}
-use Rattle.expressions.specs.FracPoly.{FracPoly}
-use Rattle.expressions.specs.View.{expr_of}
-use Rattle.expressions.specs.Operations.{Operation, operations, operations_all, value, IsFree, PassesLimit}
-use Rattle.expressions.specs.Stops.{Stops}
-use Rattle.expressions.specs.declared.map_error.MapError.{MapError}
-use Rattle.expressions.proofs.OperationLaws.{stops_front, stops_behind}
-use Rattle.expressions.proofs.FormedLaws.{operations_all-append, operations_all-push}
+use Rattle.loop_model.specs.FracPoly.{FracPoly}
+use Rattle.loop_model.specs.ExpressionView.{expr_of}
+use Rattle.loop_model.specs.Operations.{Operation, operations, operations_all, value, IsFree, PassesLimit}
+use Rattle.loop_model.specs.Stops.{Stops}
+use Rattle.loop_model.specs.declared.map_error.MapError.{MapError}
+use Rattle.loop_model.proofs.OperationLaws.{stops_front, stops_behind}
+use Rattle.loop_model.proofs.FormedLaws.{operations_all-append, operations_all-push}
 use Rattle.loop_model.specs.Parts.{equation_of}
 use Rattle.loop_model.specs.View.{program_of}
 use Rattle.loop_model.specs.Maps.{start_operations}
 use Rattle.loop_model.specs.declared.statement.Init.{Init}
 use Rattle.loop_model.specs.declared.loop_.Loop.{Loop}
 use Rattle.loop_model.proofs.Formed.{formed}
-use Rattle.expressions.proofs.StateLaws.{formed_value, formed_free, formed_stop}
+use Rattle.loop_model.proofs.StateLaws.{formed_value, formed_free, formed_stop}
 
 abbrev Equation : Type 0
 Equation = program.Equation (program.Expr ℕ)

@@ -8,18 +8,18 @@ use Rattle.std.specs.Result.{IsErrAnd, IfErr}
 use Rattle.std.specs.Global.{Vec}
 use Rattle.std.proofs.lemmas.List.{take_more, map_push, map-append}
 use Rattle.std.proofs.lemmas.List.Elements.{All-append}
-use Rattle.numbers.specs.Fraction.{Fraction}
+use Rattle.algebra.specs.Fraction.{Fraction}
 use Rattle.polynomials.specs.Terms.{Terms}
-use Rattle.expressions.specs.View.{expr_of}
-use Rattle.expressions.specs.declared.expr.Expr.{Expr}
+use Rattle.loop_model.specs.ExpressionView.{expr_of}
+use Rattle.loop_model.specs.declared.expr.Expr.{Expr}
 use Rattle.poly.specs.Standing.{StandsFor, AllStandFor}
 use Rattle.poly.proofs.Standing.{stands_push}
-use Rattle.expressions.specs.FracPoly.{FracPoly}
-use Rattle.expressions.specs.Operations.{Operation, operations, operations_all, value, IsFree, PassesLimit}
-use Rattle.expressions.specs.Stops.{Stops}
-use Rattle.expressions.specs.declared.map_error.MapError.{MapError}
-use Rattle.expressions.proofs.OperationLaws.{stops_front, stops_behind}
-use Rattle.expressions.proofs.FormedLaws.{operations_all-append, operations_all-push}
+use Rattle.loop_model.specs.FracPoly.{FracPoly}
+use Rattle.loop_model.specs.Operations.{Operation, operations, operations_all, value, IsFree, PassesLimit}
+use Rattle.loop_model.specs.Stops.{Stops}
+use Rattle.loop_model.specs.declared.map_error.MapError.{MapError}
+use Rattle.loop_model.proofs.OperationLaws.{stops_front, stops_behind}
+use Rattle.loop_model.proofs.FormedLaws.{operations_all-append, operations_all-push}
 use Rattle.loop_model.specs.Maps.{FormsAll}
 
 module _ (m : ℕ) (s : List (Terms Fraction)) where

@@ -1,3 +1,12 @@
+pub mod Ascii
+pub mod Words
+pub mod Names
+pub mod Uses
+pub mod ExpressionView
+pub mod SeenNames
+pub mod FracPoly
+pub mod Operations
+pub mod Stops
 pub mod Limits
 pub mod Parts
 pub mod View

@@ -4,7 +4,7 @@
 use Rattle.std.specs.Prelude.{ℕ, List, map}
 use Rattle.std.specs.Global.{Vec}
 use Rattle.loops.specs.Program as program
-use Rattle.expressions.specs.View.{expr_of}
+use Rattle.loop_model.specs.ExpressionView.{expr_of}
 use Rattle.loop_model.specs.declared.statement.Init.{Init}
 use Rattle.loop_model.specs.declared.statement.Statement.{Statement}
 

@@ -1,7 +1,7 @@
 //! The laws of loops and of their maps, as the contracts of functions that do nothing.
 
 ghost use Rattle.std.specs.Prelude.{◌≡◌, ℕ, List, [], length, map, get_or};
-ghost use Rattle.numbers.specs.Fraction.{Fraction, ℚ};
+ghost use Rattle.algebra.specs.Fraction.{Fraction, ℚ};
 ghost use Rattle.polynomials.specs.Terms.{value_at};
 ghost use Rattle.loops.specs.Effect.{start_from};
 ghost use Rattle.loops.specs.Run.{effect, IsState};
@@ -10,7 +10,7 @@ ghost use Rattle.loops.specs.WellFormed.{IsWellFormed};
 ghost use Rattle.loops.specs.Limits.{IsWithinLimits};
 ghost use Rattle.poly.specs.Seen.{terms_in};
 ghost use Rattle.poly.specs.Standing.{AllStandFor};
-ghost use Rattle.expressions.specs.FracPoly.{FracPoly};
+ghost use Rattle.loop_model.specs.FracPoly.{FracPoly};
 ghost use Rattle.loop_model.specs.View.{program_of};
 ghost use Rattle.loop_model.specs.declared.loop_.Loop.{Loop};
 

@@ -6,8 +6,7 @@ ghost use Rattle.loops.specs.Limits.{IsWithinLimits};
 ghost use Rattle.loop_model.specs.Parts.{parts, equation_of, statement_of};
 ghost use Rattle.loop_model.specs.Limits.{names_limit};
 
-use crate::{Init, Statement};
-use expressions::Names;
+use crate::{Init, Names, Statement};
 
 /// A loop over 1 to 12 variables with at most 12 local names and 1 to 6 branches, within the limits that its text kept: names have at most
 /// 32 bytes, all branches together 64 statements, and each right side 1,024 operators and no exponent above 16. Variables are set at most

@@ -1,21 +1,20 @@
 //! The maps of a loop: its effects, computed with polynomials in place of numbers.
 ghost use Rattle.std.specs.Prelude.{◌<◌, [], length, map, get_or, All, IfOk, IfErr};
-ghost use Rattle.numbers.specs.Fraction.{ℚ};
+ghost use Rattle.algebra.specs.Fraction.{ℚ};
 ghost use Rattle.polynomials.specs.Terms.{constant, lists};
 ghost use Rattle.loops.specs.Effect.{after_statement};
 ghost use Rattle.loops.specs.Map.{start_map, branch_map};
 ghost use Rattle.loops.specs.WellFormed.{Uses, IsStatement};
 ghost use Rattle.poly.specs.Seen.{terms_each, arity_of};
 ghost use Rattle.poly.specs.Standing.{IsOver, AllStandFor};
-ghost use Rattle.expressions.specs.View.{expr_of};
-ghost use Rattle.expressions.specs.Operations.{IsFree, value, operations_all};
-ghost use Rattle.expressions.specs.Stops.{Stops};
+ghost use Rattle.loop_model.specs.ExpressionView.{expr_of};
+ghost use Rattle.loop_model.specs.Operations.{IsFree, value, operations_all};
+ghost use Rattle.loop_model.specs.Stops.{Stops};
 ghost use Rattle.loop_model.specs.Parts.{statement_of};
 ghost use Rattle.loop_model.specs.View.{program_of};
 ghost use Rattle.loop_model.specs.Maps.{entry, start_operations, branch_operations, branches_operations, AreBranchMaps, FormsAll};
 
-use crate::{Loop, MapError, Statement};
-use expressions::{Expr, expr_poly, free_state};
+use crate::{Expr, Loop, MapError, Statement, expr_poly, free_state};
 use frac128::Frac;
 use monos::Grevlex;
 use poly::Poly;

@@ -1,6 +1,6 @@
-//! The parts of a loop.
+//! Statements and equations: the parts of a loop.
 
-use expressions::Expr;
+use crate::Expr;
 
 /// What a start meets: the variable at this position has this value.
 #[derive(Drop)]

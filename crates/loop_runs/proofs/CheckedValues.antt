@@ -5,9 +5,9 @@
 --   values_of_parts               the value of each kind of expression by those of its parts
 use Rattle.std.proofs.Common.{◌≡◌, ap, refl, ℕ, suc, ℤ, Bool, true, false, ◌&&◌, List, get_or, Option, Some}
 use Rattle.std.specs.Prelude.{option_map, option_and_then}
-use Rattle.rings.specs.Arithmetic as numeral
-use Rattle.numbers.specs.Fraction.{Fraction, ℚ, whole, inverse}
-use Rattle.numbers.proofs.Fractions.{fractions_ring}
+use Rattle.algebra.specs.Arithmetic as numeral
+use Rattle.algebra.specs.Fraction.{Fraction, ℚ, whole, inverse}
+use Rattle.algebra.proofs.Fractions.{fractions_ring}
 use Rattle.loops.specs.Program.{Expr, number, variable, neg, add, sub, mul, divide}
 use Rattle.loops.specs.Program as program
 use Rattle.loops.specs.Effect.{value_of}

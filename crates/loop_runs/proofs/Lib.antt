@@ -3,3 +3,7 @@ pub mod CheckedValues
 pub mod Turns
 pub mod Fits
 pub mod Runs
+pub mod ChainParts
+pub mod FaultPlaces
+pub mod ChainRuns
+pub mod Following

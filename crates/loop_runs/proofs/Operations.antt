@@ -6,8 +6,8 @@ use native.Mathlib.Nat as N
 use Rattle.std.specs.Prelude.{option_map}
 use Rattle.std.specs.Result.{result_ok}
 use Rattle.std.proofs.lemmas.Bool.Decides.{nat_tests}
-use Rattle.numbers.specs.Fraction.{Fraction, ℚ, fraction_size, inverse}
-use Rattle.numbers.specs.Size.{IsPast}
+use Rattle.algebra.specs.Fraction.{Fraction, ℚ, fraction_size, inverse}
+use Rattle.algebra.specs.Size.{IsPast}
 use Rattle.frac128.specs.Sums.{part, SumIsPast, left_past, right_past, parts_past, den_past}
 use Rattle.frac128.specs.FracMeaning.{fraction_of}
 use Rattle.frac128.specs.declared.fraction.Frac.{Frac}

@@ -7,7 +7,7 @@ use Rattle.std.specs.Prelude.{◌==◌, ok_or, option_and_then}
 use Rattle.std.specs.Option.{option_map_or}
 use Rattle.std.proofs.lemmas.Bool.{eqb-true}
 use Rattle.std.proofs.lemmas.List.Elements.{All-nil, All-cons, All-head, All-tail}
-use Rattle.numbers.specs.Fraction.{Fraction, ℚ}
+use Rattle.algebra.specs.Fraction.{Fraction, ℚ}
 use Rattle.loops.specs.Program.{Expr, Program, Equation, Statement}
 use Rattle.loops.specs.Effect.{store, after_statement, after_branch}
 use Rattle.loops.specs.Run.{value, effect, branch_at, run_end, states, IsStart}

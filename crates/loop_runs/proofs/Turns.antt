@@ -7,11 +7,11 @@ use Rattle.std.specs.Option.{option_map_or}
 use Rattle.std.proofs.lemmas.Bool.Decides.{Decides-int_eq, Decides-eqb}
 use Rattle.std.specs.Ordering.{int_eq}
 use Rattle.std.proofs.lemmas.List.{append_assoc, append-nil, map-append, take-map, drop_more, drop_all, take_all}
-use Rattle.expressions.specs.View.{expr_of}
-use Rattle.expressions.specs.declared.expr.Expr as code
-use Rattle.numbers.specs.Ratio.{ratio}
-use Rattle.numbers.specs.Fraction.{Fraction, ℚ}
-use Rattle.numbers.proofs.Fractions.{same_fraction}
+use Rattle.loop_model.specs.ExpressionView.{expr_of}
+use Rattle.loop_model.specs.declared.expr.Expr as code
+use Rattle.algebra.specs.Ratio.{ratio}
+use Rattle.algebra.specs.Fraction.{Fraction, ℚ}
+use Rattle.algebra.proofs.Fractions.{same_fraction}
 use Rattle.loops.specs.Program.{Expr, Equation, Statement, Program}
 use Rattle.loops.specs.Run.{branch_at}
 use Rattle.loops.specs.Effect.{store}

@@ -8,9 +8,9 @@
 --   number_if b p        the number p where b is true, and none otherwise
 --   checked_value e s    the value of e at s, if all operations fit
 use Rattle.std.specs.Prelude.{ℕ, zero, suc, ◌+ℤ◌, unsigned_abs, Bool, true, ◌&&◌, nat_lt, if◌then◌else◌, List, Option, Some, None}
-use Rattle.rings.specs.Arithmetic as numeral
-use Rattle.numbers.specs.Fraction.{Fraction, ℚ, whole, inverse}
-use Rattle.numbers.specs.Limits.{number_limit}
+use Rattle.algebra.specs.Arithmetic as numeral
+use Rattle.algebra.specs.Fraction.{Fraction, ℚ, whole, inverse}
+use Rattle.algebra.specs.Limits.{number_limit}
 use Rattle.loops.specs.Program.{Expr, number, variable, neg, add, sub, mul, divide, power}
 use Rattle.loops.specs.Run.{value}
 use Rattle.frac128.specs.Sums.{part}

@@ -2,3 +2,8 @@ pub mod Checked
 pub mod Replay
 pub mod Fits
 pub mod Seen
+pub mod Limits
+pub mod Parts
+pub mod ChainSeen
+pub mod ChainReplay
+pub mod ChainRunsSeen

@@ -7,7 +7,7 @@
 --   states_or_fault result             the states' numbers, or the fault
 use Rattle.std.specs.Prelude.{ℕ, ◌<◌, ⊤, List, map, Option, Some, None, Result, Ok, Err, option_map}
 use Rattle.std.specs.Global.{Vec}
-use Rattle.numbers.specs.Fraction.{Fraction}
+use Rattle.algebra.specs.Fraction.{Fraction}
 use Rattle.frac128.specs.declared.fraction.Frac.{Frac}
 use Rattle.frac128.specs.FracMeaning.{fraction_of}
 use Rattle.loop_runs.specs.Replay as spec

@@ -6,7 +6,7 @@ ghost use Rattle.loop_runs.specs.declared.error.RunError.TheVariants.{Memory};
 use std::alloc::{AllocError, AllocFailed};
 
 /// The first reason why a run was not replayed. Variables and letters count from 0.
-#[derive(Clone, Copy, Debug, PartialEq, Eq)]
+#[derive(Clone, Copy, PartialEq, Eq)]
 pub enum RunError {
     /// There are other than one value for each variable.
     Count { values: usize, variables: usize },

@@ -1,7 +1,7 @@
-//! What the replay of the definitions says of runs.
+//! The laws of replays of a loop: what is replayed is a run, one function each.
 
 ghost use Rattle.std.specs.Prelude.{◌≡◌, ◌≢◌, ◌⊎◌, ℕ, List, length, Some, None, Ok, Err};
-ghost use Rattle.numbers.specs.Fraction.{Fraction};
+ghost use Rattle.algebra.specs.Fraction.{Fraction};
 ghost use Rattle.loops.specs.Program.{Expr, Program};
 ghost use Rattle.loops.specs.Run.{IsStart, run_end, states};
 ghost use Rattle.loop_runs.specs.Replay.{count, start, no_branch, wide, replay_of};

@@ -1,4 +1,9 @@
-//! Layer of runs: a loop replayed from a start along a word.
+//! Replays runs: of a loop (`replay`), and of loops in sequence (`Chain`, `replay_chain`).
+//!
+//! Proved: the answer is the states of the run or its first refusal, exactly; what is replayed is a run, and a run is replayed unless a
+//! number doesn't fit.
+//!
+//! Notion: runs: the article.
 #![tactic(auto)]
 
 ghost use Rattle.std.specs.Prelude.{◌≡◌, ◌+◌, map, option_map, length, IfSome, IfOk, IfErr, IsOk};
@@ -10,15 +15,25 @@ ghost use Rattle.loop_model.specs.View.{program_of};
 ghost use Rattle.loop_runs.specs.Replay.{replay_of, states_from};
 ghost use Rattle.loop_runs.specs.Seen.{numbers_of, states_or_fault, IsWithin};
 
+mod chain;
+pub mod chain_laws;
+mod chain_replay;
 mod error;
 pub mod laws;
+mod parts;
+mod places;
+mod stage;
 mod start;
 mod steps;
 mod values;
 
+pub use chain::Chain;
+pub use chain_replay::replay_chain;
 pub use error::RunError;
 use frac128::Frac;
 use loop_model::{Loop, Statement};
+pub use parts::further_stages;
+pub use stage::{Stage, StageParts};
 use start::check_start;
 use std::alloc::Global;
 use steps::after_turn;

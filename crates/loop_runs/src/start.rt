@@ -1,4 +1,4 @@
-//! Starts.
+//! The start of a run: the values given, and the equations that they have to meet.
 
 ghost use Rattle.std.specs.Prelude.{◌≡◌, length, map, IfErr};
 ghost use Rattle.std.specs.List.{All};

@@ -4,7 +4,7 @@ ghost use Rattle.std.specs.Prelude.{◌≡◌, ◌<◌, ◌≤◌, ◌+◌, leng
 ghost use Rattle.std.specs.List.{All};
 ghost use Rattle.loops.specs.Effect.{store as stored};
 ghost use Rattle.loops.specs.WellFormed.{Uses, IsStatement};
-ghost use Rattle.expressions.specs.View.{expr_of as expression};
+ghost use Rattle.loop_model.specs.ExpressionView.{expr_of as expression};
 ghost use Rattle.loop_model.specs.Parts.{statement_of};
 ghost use Rattle.loop_runs.specs.Replay.{values, statement_end, branch_end, turn_end};
 ghost use Rattle.loop_runs.specs.Seen.{numbers_of, seen_state, IsWithin};
@@ -12,9 +12,8 @@ ghost use Rattle.loop_model.specs.Limits.{all_names_limit};
 
 use crate::RunError;
 use crate::values::value_at;
-use expressions::Expr;
 use frac128::Frac;
-use loop_model::Statement;
+use loop_model::{Expr, Statement};
 use ring_laws::Ring;
 use std::alloc::Global;
 

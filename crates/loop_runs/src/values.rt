@@ -4,16 +4,16 @@ ghost use Rattle.std.specs.Prelude.{◌≡◌, ◌<◌, length, option_map};
 ghost use Rattle.std.specs.Result.{result_ok};
 ghost use Rattle.loops.specs.WellFormed.{Uses};
 ghost use Rattle.frac128.specs.FracMeaning.{fraction_of};
-ghost use Rattle.expressions.specs.View.{expr_of};
+ghost use Rattle.loop_model.specs.ExpressionView.{expr_of};
 ghost use Rattle.loop_runs.specs.Checked.{number_if, checked_value, power_of as power, powers_fit};
 ghost use Rattle.loop_runs.specs.Seen.{numbers_of};
 
-use expressions::Expr;
 use frac128::Frac;
+use loop_model::Expr;
 use ring_laws::{Field, Ring, Wide};
 
 /// The value of the expression at the state. `Wide` exactly where an operation on the way is too wide.
-#[tactic(auto, unfolding(loops::specs::WellFormed::Uses, expressions::specs::View::expr_of), using(crate::proofs::CheckedValues::values_of_parts))]
+#[tactic(auto, unfolding(loops::specs::WellFormed::Uses, loop_model::specs::ExpressionView::expr_of), using(crate::proofs::CheckedValues::values_of_parts))]
 pub fn value_at(expr: &Expr, state: &[Frac]) -> Result<Frac, Wide>
     requires { Uses (λ i. i < length state.now) (expr_of expr.now) }
     ensures { option_map fraction_of (result_ok result) ≡ checked_value (expr_of expr.now)

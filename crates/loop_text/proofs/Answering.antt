@@ -1,15 +1,15 @@
 -- What the answers of the functions that read loops cite, from one place.
 pub use Rattle.std.proofs.lemmas.Result.{err_from_is_err_and}
 pub use Rattle.std.proofs.lemmas.List.{map_push, length-map}
-pub use Rattle.expressions.specs.View.{expr_of}
+pub use Rattle.loop_model.specs.ExpressionView.{expr_of}
 pub use Rattle.grammars.specs.Grammar.{sequence, many, some, change, optional, rule}
-pub use Rattle.expr_text.specs.CursorView.{rest, bytes_left, items}
-pub use Rattle.expr_text.specs.Lexemes.{tokens_from, Placed, tokens, is_sign_of, is_end_of}
-pub use Rattle.expr_text.specs.NextToken.{seen_lexeme}
-pub use Rattle.expr_text.specs.Reasons.{limit, Fault, syntax, unknown, twice, init_uses, Reason, or_else}
-pub use Rattle.expr_text.specs.declared.cursor.Cursor.{Cursor}
-pub use Rattle.expr_text.proofs.CursorReads.{no_first, here, token_barred, at_left, at_right}
-pub use Rattle.expr_text.proofs.Paths.{GoesOn, start, on, ends, stops_going, stops_last_going, over, stops, stops_last, in_parts, continued_going, continued, then_on, IsFault}
+pub use Rattle.poly_text.specs.CursorView.{rest, bytes_left, items}
+pub use Rattle.poly_text.specs.Lexemes.{tokens_from, Placed, tokens, is_sign_of, is_end_of}
+pub use Rattle.poly_text.specs.NextToken.{seen_lexeme}
+pub use Rattle.poly_text.specs.Reasons.{limit, Fault, syntax, unknown, twice, init_uses, Reason, or_else}
+pub use Rattle.poly_text.specs.declared.cursor.Cursor.{Cursor}
+pub use Rattle.poly_text.proofs.CursorReads.{no_first, here, token_barred, at_left, at_right}
+pub use Rattle.poly_text.proofs.Paths.{GoesOn, start, on, ends, stops_going, stops_last_going, over, stops, stops_last, in_parts, continued_going, continued, then_on, IsFault}
 pub use Rattle.loop_model.specs.Parts.{statement_of, equation_of, parts}
 pub use Rattle.loop_text.specs.declared.begun.Begun.{Begun}
 pub use Rattle.loop_text.specs.Loops.{declared_fault, declare, declared_name, names, nothing, sign, loop_language, keep, keyword, name_fault, set_fault, set_variable, sum, end_equation, with_equation, no_sum_value, init, init_end, end_sum, LoopState, guard, branch, the_end, Rule, branch_word_token, head, statements, branch_fault, begin_branch, loop, target_fault, aim, with_branch, statement_fault, begin_statement, end_statement, end_branch, with_statement, targets, values, statement_end, several, target, value_list, single, statement, LoopContext, only_target, right_side, more_values}

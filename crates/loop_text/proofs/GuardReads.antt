@@ -4,19 +4,19 @@
 --   guard_ends                     the { behind it
 --   head_guarded, head_bare        with a guard, and without one
 use Rattle.std.proofs.Common.{◌≡◌, ℕ, List, [], ◌∷◌, refl, ap, sym, subst, ◌∙◌, true, false, if◌then◌else◌, IsTrue, None, Ok}
-use Rattle.expressions.specs.Words.{when_word}
+use Rattle.loop_model.specs.Words.{when_word}
 use Rattle.grammars.specs.Kinds.{has}
 use Rattle.grammars.specs.Grammar.{sequence, many, some}
-use Rattle.expr_text.specs.Lexemes.{Placed, tokens_from, guard_from, is_sign_of, is_item}
-use Rattle.expr_text.specs.NextToken.{seen_lexeme, items_behind, is_genuine}
-use Rattle.expr_text.specs.Kinds.{an_item, no_kind, a_sign, same, kind_of}
-use Rattle.expr_text.specs.Reasons.{Fault, syntax}
-use Rattle.expr_text.specs.CursorView.{rest, items}
-use Rattle.expr_text.specs.declared.lexemes.Lexeme.TheVariants as code_lexeme
-use Rattle.expr_text.specs.declared.cursor.Cursor.{Cursor}
-use Rattle.expr_text.proofs.KindTests.{no_sign, unlike}
-use Rattle.expr_text.proofs.Paths.{then_on, in_parts}
-use Rattle.expr_text.proofs.CursorReads.{sign_here, fault_at, here, taken, amiss, no_first, at_left, at_right}
+use Rattle.poly_text.specs.Lexemes.{Placed, tokens_from, guard_from, is_sign_of, is_item}
+use Rattle.poly_text.specs.NextToken.{seen_lexeme, items_behind, is_genuine}
+use Rattle.poly_text.specs.Kinds.{an_item, no_kind, a_sign, same, kind_of}
+use Rattle.poly_text.specs.Reasons.{Fault, syntax}
+use Rattle.poly_text.specs.CursorView.{rest, items}
+use Rattle.poly_text.specs.declared.lexemes.Lexeme.TheVariants as code_lexeme
+use Rattle.poly_text.specs.declared.cursor.Cursor.{Cursor}
+use Rattle.poly_text.proofs.KindTests.{no_sign, unlike}
+use Rattle.poly_text.proofs.Paths.{then_on, in_parts}
+use Rattle.poly_text.proofs.CursorReads.{sign_here, fault_at, here, taken, amiss, no_first, at_left, at_right}
 use Rattle.loop_text.specs.Loops.{LoopState, Rule, keep, sign, keyword, the_item, guard, head, loop_language}
 use Rattle.loop_text.specs.States.{reading, is_keyword_of}
 use Rattle.loop_text.proofs.ListReads.{due, none_due}

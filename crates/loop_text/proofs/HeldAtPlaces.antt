@@ -15,17 +15,17 @@ use Rattle.loops.specs.Program.{Expr, Equation, Statement}
 use Rattle.loops.specs.WellFormed.{Uses, AreDistinct, IsStatement, is_among, local_places, SetsFirst}
 use Rattle.loops.specs.Limits.{most_names, most_bytes, most_branches, most_statements, operators, IsSmall}
 use Rattle.loops.proofs.Starts.{uses_weaker}
-use Rattle.expressions.specs.Uses.{uses}
-use Rattle.expressions.specs.Names.{place_of}
-use Rattle.expressions.proofs.Places.{place_within}
+use Rattle.loop_model.specs.Uses.{uses}
+use Rattle.loop_model.specs.Names.{place_of}
+use Rattle.loop_model.proofs.Places.{place_within}
 use Rattle.grammars.specs.Grammar.{after_change, some}
 use Rattle.grammars.specs.Embedded.{part}
-use Rattle.expr_text.specs.Reasons.{Reason, limit, twice, unknown, init_uses, unless}
-use Rattle.expr_text.specs.NameFaults.{has}
-use Rattle.expr_text.specs.Sums.{SumValue, place}
-use Rattle.expr_text.proofs.AllowedNames.{has_push, Allowed, uses_apart}
-use Rattle.expr_text.proofs.SumKept.{Fits, Safe, none_safe, number_fits, at_most, no_first, no_second}
-use Rattle.expr_text.specs.Sums as sums
+use Rattle.poly_text.specs.Reasons.{Reason, limit, twice, unknown, init_uses, unless}
+use Rattle.poly_text.specs.NameFaults.{has}
+use Rattle.poly_text.specs.Sums.{SumValue, place}
+use Rattle.poly_text.proofs.AllowedNames.{has_push, Allowed, uses_apart}
+use Rattle.poly_text.proofs.SumKept.{Fits, Safe, none_safe, number_fits, at_most, no_first, no_second}
+use Rattle.poly_text.specs.Sums as sums
 use Rattle.loop_text.specs.Loops.{LoopContext, LoopState, no_sum, in_scope, no_sum_value, nothing, length_fault, new_fault, declared_fault, local_fault, name_fault, set_fault, branch_fault, declare, declare_local, set_variable, end_equation, end_sum, begin_branch, end_branch, top, first_target, with_equation, with_branch, sums_in_loops, names, locals, init, targets, values, branch}
 use Rattle.loop_text.proofs.LocalPlaces.{unset_behind, unset_none, sets_none}
 

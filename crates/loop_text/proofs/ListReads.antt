@@ -5,15 +5,15 @@ use Rattle.std.proofs.Common.{◌≡◌, List, [], ◌∷◌, refl, ap, sym, ◌
 use Rattle.grammars.specs.Kinds.{has}
 use Rattle.grammars.specs.Grammar.{sequence, many, some, separated}
 use Rattle.grammars.specs.First.{first, may_be_empty}
-use Rattle.expr_text.specs.Lexemes.{Placed, tokens_from, is_sign_of}
-use Rattle.expr_text.specs.NextToken.{seen_lexeme}
-use Rattle.expr_text.specs.Kinds.{a_sign, same, kind_of}
-use Rattle.expr_text.specs.Reasons.{Fault}
-use Rattle.expr_text.specs.CursorView.{rest, behind}
-use Rattle.expr_text.specs.declared.cursor.Cursor.{Cursor}
-use Rattle.expr_text.proofs.KindTests.{no_sign}
-use Rattle.expr_text.proofs.Paths.{going_on, reading_sequence, reading_more, reading_none, then_on, in_first, in_parts, GoesOn, on, over}
-use Rattle.expr_text.proofs.CursorReads.{sign_here, here}
+use Rattle.poly_text.specs.Lexemes.{Placed, tokens_from, is_sign_of}
+use Rattle.poly_text.specs.NextToken.{seen_lexeme}
+use Rattle.poly_text.specs.Kinds.{a_sign, same, kind_of}
+use Rattle.poly_text.specs.Reasons.{Fault}
+use Rattle.poly_text.specs.CursorView.{rest, behind}
+use Rattle.poly_text.specs.declared.cursor.Cursor.{Cursor}
+use Rattle.poly_text.proofs.KindTests.{no_sign}
+use Rattle.poly_text.proofs.Paths.{going_on, reading_sequence, reading_more, reading_none, then_on, in_first, in_parts, GoesOn, on, over}
+use Rattle.poly_text.proofs.CursorReads.{sign_here, here}
 use Rattle.loop_text.specs.Loops.{LoopState, Rule, keep, sign, loop_language}
 use Rattle.loop_text.specs.States.{reading}
 use Rattle.loop_text.proofs.LoopChecked.{loops_checked}

@@ -5,17 +5,17 @@
 use Rattle.std.proofs.Common.{◌≡◌, ℕ, zero, suc, ◌+◌, ◌≤◌, List, ◌∷◌, length, refl, sym, subst, Bool, true, false, nat_lt, pos, arith}
 use Rattle.std.proofs.lemmas.Bool.Decides.{nat_tests}
 use Rattle.loops.specs.Program.{number}
-use Rattle.expressions.specs.Words as words
+use Rattle.loop_model.specs.Words as words
 use Rattle.grammars.specs.Kinds.{within}
 use Rattle.grammars.specs.Grammar.{Placed, change, rule, after_change}
 use Rattle.grammars.specs.Derivation.{derives_token, derives_change, derives_sequence, derives_left, derives_right, derives_none, derives_rule, Text}
 use Rattle.grammars.specs.Embedded.{IsEmbedded}
 use Rattle.grammars.specs.First.{first, may_be_empty}
 use Rattle.grammars.specs.Checked.{is_fit, begins_closed, IsChecked, IsWhole}
-use Rattle.expr_text.specs.Lexemes.{Lexeme}
-use Rattle.expr_text.specs.Kinds.{a_number, a_sign, same, sample}
-use Rattle.expr_text.specs.Sums.{a_sum, a_factor, sum_language, push}
-use Rattle.expr_text.proofs.SumChecked.{kinds_exact}
+use Rattle.poly_text.specs.Lexemes.{Lexeme}
+use Rattle.poly_text.specs.Kinds.{a_number, a_sign, same, sample}
+use Rattle.poly_text.specs.Sums.{a_sum, a_factor, sum_language, push}
+use Rattle.poly_text.proofs.SumChecked.{kinds_exact}
 use Rattle.loop_text.specs.Loops.{LoopContext, LoopState, LoopRule, Rule, of_sums, more_values, end_value, with_value, sums_in_loops, more_if, another_value, rule_says, rule_begins, may_follow, may_be_none, loop_language, whole_loop}
 
 pub sums_embedded : IsEmbedded sums_in_loops sum_language loop_language

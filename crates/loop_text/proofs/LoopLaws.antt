@@ -8,13 +8,13 @@ use Rattle.grammars.specs.Reader.{ReadResult}
 use Rattle.grammars.specs.FirstFault.{IsFirstFault}
 use Rattle.grammars.specs.Spelled.{IsRead, AreSpelled, spelled_marks}
 use Rattle.grammars.proofs.Automata.{leads}
-use Rattle.expr_text.specs.Lexemes.{Lexeme, tokens}
-use Rattle.expr_text.specs.Reasons.{Reason, Fault}
-use Rattle.expr_text.specs.Telling.{told}
-use Rattle.expr_text.specs.Sums.{a_sum, a_factor}
-use Rattle.expr_text.proofs.SumChecked.{kinds_exact, sum_leads}
-use Rattle.expr_text.proofs.LexemeRuns.{Place, outside, guarded, behind, moves, alike, texts_spelled}
-use Rattle.expr_text.proofs.WholeTexts.{texts_read, texts_refused, Outcome, is_read, is_refused, outcome}
+use Rattle.poly_text.specs.Lexemes.{Lexeme, tokens}
+use Rattle.poly_text.specs.Reasons.{Reason, Fault}
+use Rattle.poly_text.specs.Telling.{told}
+use Rattle.poly_text.specs.Sums.{a_sum, a_factor}
+use Rattle.poly_text.proofs.SumChecked.{kinds_exact, sum_leads}
+use Rattle.poly_text.proofs.LexemeRuns.{Place, outside, guarded, behind, moves, alike, texts_spelled}
+use Rattle.poly_text.proofs.WholeTexts.{texts_read, texts_refused, Outcome, is_read, is_refused, outcome}
 use Rattle.loop_text.specs.Loops.{LoopContext, LoopValue, LoopState, LoopRule, of_sums, more_values, rule_says, loop_language, whole_loop, nothing}
 use Rattle.loop_text.specs.LoopReader.{program_in, fault_at, program_or_fault, loop_of}
 use Rattle.loop_text.proofs.LoopChecked.{by_more, loops_checked, loop_whole}

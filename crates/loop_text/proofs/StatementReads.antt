@@ -5,15 +5,15 @@ use Rattle.std.proofs.Common.{◌≡◌, [], ◌∷◌, refl, ap, sym, ◌∙◌
 use Rattle.std.proofs.lemmas.Bool.{or_parts, or_from}
 use Rattle.grammars.specs.Kinds.{has}
 use Rattle.grammars.specs.Grammar.{sequence, many}
-use Rattle.expr_text.specs.Lexemes.{is_sign_of}
-use Rattle.expr_text.specs.NextToken.{seen_lexeme}
-use Rattle.expr_text.specs.Kinds.{a_name, a_sign, same, kind_of, is_name}
-use Rattle.expr_text.specs.Reasons.{syntax}
-use Rattle.expr_text.specs.CursorView.{rest, behind}
-use Rattle.expr_text.specs.declared.cursor.Cursor.{Cursor}
-use Rattle.expr_text.proofs.KindTests.{no_sign}
-use Rattle.expr_text.proofs.Paths.{in_parts}
-use Rattle.expr_text.proofs.CursorReads.{sign_here, fault_at, here, token_barred, no_first, at_left, at_right}
+use Rattle.poly_text.specs.Lexemes.{is_sign_of}
+use Rattle.poly_text.specs.NextToken.{seen_lexeme}
+use Rattle.poly_text.specs.Kinds.{a_name, a_sign, same, kind_of, is_name}
+use Rattle.poly_text.specs.Reasons.{syntax}
+use Rattle.poly_text.specs.CursorView.{rest, behind}
+use Rattle.poly_text.specs.declared.cursor.Cursor.{Cursor}
+use Rattle.poly_text.proofs.KindTests.{no_sign}
+use Rattle.poly_text.proofs.Paths.{in_parts}
+use Rattle.poly_text.proofs.CursorReads.{sign_here, fault_at, here, token_barred, no_first, at_left, at_right}
 use Rattle.loop_text.specs.Loops.{LoopState, end_branch, with_branch, only_target, single, several, list_opening, targets, values, statement_end, sign, right_side, statement, statements, branch_end, loop_language}
 use Rattle.loop_text.specs.States.{reading}
 use Rattle.loop_text.proofs.ListReads.{due, none_due}

@@ -8,31 +8,31 @@ use Rattle.std.proofs.Math.Bool.{or-false, or_assoc, or_comm}
 use Rattle.std.proofs.lemmas.List.{length_push}
 use Rattle.std.proofs.lemmas.List.Sums.{fold-append}
 use Rattle.loops.specs.Program.{Expr, number, variable, neg, add, sub, mul, divide, power, Equation}
-use Rattle.expressions.specs.Uses.{uses}
-use Rattle.expressions.specs.View.{expr_of}
+use Rattle.loop_model.specs.Uses.{uses}
+use Rattle.loop_model.specs.ExpressionView.{expr_of}
 use Rattle.grammars.specs.Grammar.{change, sequence, rule}
 use Rattle.grammars.specs.Reader as answer
 use Rattle.grammars.specs.Reader.{ReadResult, parsed}
 use Rattle.grammars.specs.Embedded.{part, with_part, answer_in}
 use Rattle.grammars.proofs.Lifted.{lifted_read}
-use Rattle.expr_text.specs.Lexemes.{Lexeme, Placed}
-use Rattle.expr_text.specs.Reasons.{Reason, init_uses, unset}
-use Rattle.expr_text.specs.NameFaults.{has}
-use Rattle.expr_text.specs.Faults.{fault_of}
-use Rattle.expr_text.specs.Sums.{SumContext, SumValue, SumState, a_sum, sum_language}
-use Rattle.expr_text.specs.CursorView.{rest, behind}
-use Rattle.expr_text.specs.Reads.{used_by, Around, state_in, behind_expr}
-use Rattle.expr_text.specs.Telling as telling
-use Rattle.expr_text.specs.Telling.{Told, told}
-use Rattle.expr_text.specs.declared.error.TextError.{TextError}
-use Rattle.expr_text.specs.declared.cursor.Cursor.{Cursor}
-use Rattle.expr_text.proofs.Paths.{IsFault, fault_passes, then_on, reading_change}
+use Rattle.poly_text.specs.Lexemes.{Lexeme, Placed}
+use Rattle.poly_text.specs.Reasons.{Reason, init_uses, unset}
+use Rattle.poly_text.specs.NameFaults.{has}
+use Rattle.poly_text.specs.Faults.{fault_of}
+use Rattle.poly_text.specs.Sums.{SumContext, SumValue, SumState, a_sum, sum_language}
+use Rattle.poly_text.specs.CursorView.{rest, behind}
+use Rattle.poly_text.specs.Reads.{used_by, Around, state_in, behind_expr}
+use Rattle.poly_text.specs.Telling as telling
+use Rattle.poly_text.specs.Telling.{Told, told}
+use Rattle.poly_text.specs.declared.error.TextError.{TextError}
+use Rattle.poly_text.specs.declared.cursor.Cursor.{Cursor}
+use Rattle.poly_text.proofs.Paths.{IsFault, fault_passes, then_on, reading_change}
 use Rattle.loop_model.specs.Parts.{equation_of}
 use Rattle.loop_model.specs.declared.statement.Init.{Init}
 use Rattle.loop_text.specs.Loops.{LoopContext, LoopValue, LoopState, no_sum_value, sum, end_equation, end_value, with_equation, with_value, right_side, sums_in_loops, loop_language}
 use Rattle.loop_text.specs.States.{reading, used_in, Inits, in_init, Before, in_statement}
 use Rattle.loop_text.proofs.LoopChecked.{sums_embedded}
-use Rattle.expr_text.proofs.CursorReads.{here}
+use Rattle.poly_text.proofs.CursorReads.{here}
 use Rattle.loop_text.specs.declared.begun.Begun.{Begun}
 
 -- ---- what is read

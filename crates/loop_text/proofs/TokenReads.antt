@@ -3,23 +3,23 @@
 --   keyword_kind, no_keyword_kind    the kind of a keyword, and of another token
 --   end_read, end_barred         the end of the text; sign_no_end, keyword_no_end: what isn't it
 use Rattle.std.proofs.Common.{◌≡◌, ◌≢◌, ℕ, List, [], ◌∷◌, refl, ap, sym, ◌∙◌, true, false, true≢false, ◌||◌, IsTrue, Option, Some, None, Ok}
-use Rattle.expressions.specs.Words.{Keyword}
+use Rattle.loop_model.specs.Words.{Keyword}
 use Rattle.grammars.specs.Kinds.{has}
 use Rattle.grammars.specs.Grammar.{after_change}
-use Rattle.expr_text.specs.Lexemes as lexemes
-use Rattle.expr_text.specs.Lexemes.{Lexeme, Placed, tokens_from, is_sign_of, is_end_of}
-use Rattle.expr_text.specs.NextToken.{seen_lexeme, tokens_behind}
-use Rattle.expr_text.specs.Kinds.{an_end, a_sign, a_keyword, same, kind_of}
-use Rattle.expr_text.specs.Reasons.{Reason, syntax}
-use Rattle.expr_text.specs.Tokens.{is_sign}
-use Rattle.expr_text.specs.CursorView.{rest, behind}
-use Rattle.expr_text.specs.declared.lexemes.Lexeme as code
-use Rattle.expr_text.specs.declared.lexemes.Lexeme.TheVariants as code_lexeme
-use Rattle.expr_text.specs.declared.cursor.Cursor.{Cursor}
-use Rattle.expr_text.proofs.KindTests.{by_shape, shape, no_sign, a_sign_kind}
-pub use Rattle.expr_text.proofs.KindTests.{end_is, no_end, sign_no_end}
-use Rattle.expr_text.proofs.CursorReads.{fault_at, here, taken, faulty, token_read, token_faulty, token_barred, sign_here}
-use Rattle.expr_text.proofs.SumChecked.{kinds_exact}
+use Rattle.poly_text.specs.Lexemes as lexemes
+use Rattle.poly_text.specs.Lexemes.{Lexeme, Placed, tokens_from, is_sign_of, is_end_of}
+use Rattle.poly_text.specs.NextToken.{seen_lexeme, tokens_behind}
+use Rattle.poly_text.specs.Kinds.{an_end, a_sign, a_keyword, same, kind_of}
+use Rattle.poly_text.specs.Reasons.{Reason, syntax}
+use Rattle.poly_text.specs.Tokens.{is_sign}
+use Rattle.poly_text.specs.CursorView.{rest, behind}
+use Rattle.poly_text.specs.declared.lexemes.Lexeme as code
+use Rattle.poly_text.specs.declared.lexemes.Lexeme.TheVariants as code_lexeme
+use Rattle.poly_text.specs.declared.cursor.Cursor.{Cursor}
+use Rattle.poly_text.proofs.KindTests.{by_shape, shape, no_sign, a_sign_kind}
+pub use Rattle.poly_text.proofs.KindTests.{end_is, no_end, sign_no_end}
+use Rattle.poly_text.proofs.CursorReads.{fault_at, here, taken, faulty, token_read, token_faulty, token_barred, sign_here}
+use Rattle.poly_text.proofs.SumChecked.{kinds_exact}
 use Rattle.loop_text.specs.Loops.{LoopContext, LoopValue, LoopState, Rule, token_of, the_end, loop_language}
 use Rattle.loop_text.specs.States.{reading, is_keyword_of}
 

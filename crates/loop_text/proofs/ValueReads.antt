@@ -5,11 +5,11 @@ use Rattle.std.proofs.Common.{◌≡◌, ℕ, ◌<◌, ◌≤◌, List, length, 
 use Rattle.std.proofs.lemmas.Bool.Decides.{nat_tests}
 use Rattle.loops.specs.Program.{Expr}
 use Rattle.grammars.specs.Grammar.{sequence, rule}
-use Rattle.expr_text.specs.CursorView.{rest, behind}
-use Rattle.expr_text.specs.Lexemes.{Placed}
-use Rattle.expr_text.specs.declared.cursor.Cursor.{Cursor}
-use Rattle.expr_text.proofs.CursorReads.{here}
-use Rattle.expr_text.proofs.Paths.{reading_rule, reading_change, in_first, in_parts, then_on, GoesOn, over}
+use Rattle.poly_text.specs.CursorView.{rest, behind}
+use Rattle.poly_text.specs.Lexemes.{Placed}
+use Rattle.poly_text.specs.declared.cursor.Cursor.{Cursor}
+use Rattle.poly_text.proofs.CursorReads.{here}
+use Rattle.poly_text.proofs.Paths.{reading_rule, reading_change, in_first, in_parts, then_on, GoesOn, over}
 use Rattle.loop_text.specs.Loops.{LoopState, Rule, keep, sign, right_side, more_values, more_if, another_value, loop_language}
 use Rattle.loop_text.specs.States.{reading, Before, in_statement}
 use Rattle.loop_text.proofs.LoopChecked.{loops_checked}

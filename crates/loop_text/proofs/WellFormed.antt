@@ -12,18 +12,18 @@ use Rattle.loops.specs.Program.{Expr, Equation, Statement, Program}
 use Rattle.loops.specs.WellFormed.{Uses, AreDistinct, IsStatement, is_among, local_places, still_unset, IsWellFormed}
 use Rattle.loops.specs.Limits.{most_bytes, most_statements, IsSmall, IsWithinLimits}
 use Rattle.loops.proofs.Starts.{uses_weaker}
-use Rattle.rings.proofs.Basics.{not_both}
+use Rattle.algebra.proofs.Basics.{not_both}
 use Rattle.grammars.specs.Grammar.{after_change, some}
 use Rattle.grammars.specs.Embedded.{part, with_part}
 use Rattle.grammars.proofs.Kept.{Leads, Opens, places_kept, lifted_leads}
-use Rattle.expr_text.specs.Reasons.{limit, twice}
-use Rattle.expr_text.specs.NameFaults.{has}
-use Rattle.expr_text.specs.Sums.{SumState, place, SumRule, sum_language}
-use Rattle.expr_text.proofs.AllowedNames.{Allowed}
-use Rattle.expr_text.proofs.SumKept.{Fits, Safe, none_safe, at_most, no_first, no_second, rules_keep}
-use Rattle.expr_text.specs.Lexemes.{tokens}
-use Rattle.expr_text.specs.Kinds.{word_in}
-use Rattle.expr_text.specs.Sums as sums
+use Rattle.poly_text.specs.Reasons.{limit, twice}
+use Rattle.poly_text.specs.NameFaults.{has}
+use Rattle.poly_text.specs.Sums.{SumState, place, SumRule, sum_language}
+use Rattle.poly_text.proofs.AllowedNames.{Allowed}
+use Rattle.poly_text.proofs.SumKept.{Fits, Safe, none_safe, at_most, no_first, no_second, rules_keep}
+use Rattle.poly_text.specs.Lexemes.{tokens}
+use Rattle.poly_text.specs.Kinds.{word_in}
+use Rattle.poly_text.specs.Sums as sums
 use Rattle.loop_text.specs.Loops.{LoopContext, LoopState, no_sum, no_sum_value, nothing, name_fault, target_fault, statement_fault, aim, set_variable, end_value, begin_statement, end_statement, top, with_value, with_statement, sums_in_loops, LoopRule, Rule, of_sums, more_values, loop_language, whole_loop, more_if, names, locals, start, init, right_side, single, targets, values, several, another_value, head, block, branch, loop}
 use Rattle.loop_text.specs.LoopReader.{program_in, loop_of}
 use Rattle.loop_text.proofs.LoopLaws.{loop_read}

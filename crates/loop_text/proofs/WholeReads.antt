@@ -4,15 +4,15 @@
 use Rattle.std.proofs.Common.{◌≡◌, ℕ, List, [], ap, sym, subst, ◌∙◌, Result, Ok, Err, IfSome, option_map}
 use Rattle.loops.specs.Program.{Program, Expr}
 use Rattle.grammars.specs.Grammar.{sequence}
-use Rattle.expr_text.specs.Lexemes.{Placed}
-use Rattle.expr_text.specs.Reasons.{Fault}
-use Rattle.expr_text.specs.Faults.{fault_of}
-use Rattle.expr_text.specs.declared.error.TextError.{TextError}
-use Rattle.expr_text.proofs.Paths.{IsFault, fault_passes, stopped, GoesOn}
+use Rattle.poly_text.specs.Lexemes.{Placed}
+use Rattle.poly_text.specs.Reasons.{Fault}
+use Rattle.poly_text.specs.Faults.{fault_of}
+use Rattle.poly_text.specs.declared.error.TextError.{TextError}
+use Rattle.poly_text.proofs.Paths.{IsFault, fault_passes, stopped, GoesOn}
 use Rattle.loop_text.specs.Loops.{LoopState, Rule, the_end, loop_language}
 use Rattle.loop_text.specs.LoopReader.{program_in, program_or_fault}
 use Rattle.loop_text.specs.States.{reading, whole}
-use Rattle.expr_text.proofs.WholeTexts.{whole_told, whole_reading}
+use Rattle.poly_text.proofs.WholeTexts.{whole_told, whole_reading}
 
 module _ (g : Rule) (s : LoopState) (ts : List Placed) where
   whole_is : whole g s ts ≡ program_or_fault (whole_told (reading (sequence g the_end) s ts))

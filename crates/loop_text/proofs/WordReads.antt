@@ -11,18 +11,18 @@ use Rattle.std.specs.Str.{bytes_eq}
 use Rattle.std.proofs.lemmas.Bool.{or_parts}
 use Rattle.std.proofs.lemmas.List.Folds.{list_any-append, list_any_at}
 use Rattle.std.proofs.lemmas.List.Quantifiers.{position-Some}
-use Rattle.expressions.proofs.Places.{no_place}
-use Rattle.expressions.specs.Names.{place_of}
-use Rattle.expr_text.specs.Lexemes.{tokens_from}
-use Rattle.expr_text.specs.NextToken.{seen_lexeme}
-use Rattle.expr_text.specs.Kinds.{word_in, is_name}
-use Rattle.expr_text.specs.NameFaults.{has}
-use Rattle.expr_text.specs.Reasons.{Reason, syntax, limit, twice, unknown, init_uses, unless, or_else}
-use Rattle.expr_text.specs.CursorView.{rest}
-use Rattle.expr_text.specs.declared.cursor.Cursor.{Cursor}
-use Rattle.expr_text.specs.declared.lexemes.Lexeme.TheVariants as code_lexeme
-use Rattle.expr_text.proofs.CursorReads.{fault_at, token_read, token_faulty, token_barred, behind_name}
-pub use Rattle.expr_text.proofs.CursorReads.{named_here, word_here, no_name_here}
+use Rattle.loop_model.proofs.Places.{no_place}
+use Rattle.loop_model.specs.Names.{place_of}
+use Rattle.poly_text.specs.Lexemes.{tokens_from}
+use Rattle.poly_text.specs.NextToken.{seen_lexeme}
+use Rattle.poly_text.specs.Kinds.{word_in, is_name}
+use Rattle.poly_text.specs.NameFaults.{has}
+use Rattle.poly_text.specs.Reasons.{Reason, syntax, limit, twice, unknown, init_uses, unless, or_else}
+use Rattle.poly_text.specs.CursorView.{rest}
+use Rattle.poly_text.specs.declared.cursor.Cursor.{Cursor}
+use Rattle.poly_text.specs.declared.lexemes.Lexeme.TheVariants as code_lexeme
+use Rattle.poly_text.proofs.CursorReads.{fault_at, token_read, token_faulty, token_barred, behind_name}
+pub use Rattle.poly_text.proofs.CursorReads.{named_here, word_here, no_name_here}
 use Rattle.loop_text.specs.Loops.{LoopContext, LoopState, new_fault, word, loop_language}
 use Rattle.loop_text.specs.States.{reading, left_fault, IsLeft, IsNew}
 

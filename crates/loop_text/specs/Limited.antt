@@ -4,9 +4,9 @@
 --   Limits fault at result                the answer tells the fault, at the offset at
 use Rattle.std.specs.Prelude.{◌≡◌, ⊤, ℕ, suc, nat_le, Option, Some, None, Result, Ok, Err}
 use Rattle.loops.specs.Limits.{most_statements, most_branches}
-use Rattle.expr_text.specs.Reasons.{Reason, limit, unless}
-use Rattle.expr_text.specs.declared.error.TextError.{TextError}
-use Rattle.expr_text.specs.declared.error.TextError.TheVariants.{Limit}
+use Rattle.poly_text.specs.Reasons.{Reason, limit, unless}
+use Rattle.poly_text.specs.declared.error.TextError.{TextError}
+use Rattle.poly_text.specs.declared.error.TextError.TheVariants.{Limit}
 
 abbrev pub most_places : ℕ
 most_places = 4096

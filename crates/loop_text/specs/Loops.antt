@@ -18,17 +18,17 @@ use Rattle.std.specs.Option.{option_map_or}
 use Rattle.loops.specs.Limits.{most_names, most_bytes, most_branches, most_statements}
 use Rattle.loops.specs.Program.{Expr, number, Equation, Statement}
 use Rattle.loops.specs.WellFormed.{local_places, still_unset}
-use Rattle.expressions.specs.Ascii.{left_parenthesis, right_parenthesis, star, plus_sign, comma, minus_sign, slash, semicolon, equal_sign, left_brace, right_brace}
-use Rattle.expressions.specs.Names.{place_of}
-use Rattle.expressions.specs.Words.{Keyword, vars_word, init_word, branch_word, when_word}
+use Rattle.loop_model.specs.Ascii.{left_parenthesis, right_parenthesis, star, plus_sign, comma, minus_sign, slash, semicolon, equal_sign, left_brace, right_brace}
+use Rattle.loop_model.specs.Names.{place_of}
+use Rattle.loop_model.specs.Words.{Keyword, vars_word, init_word, branch_word, when_word}
 use Rattle.grammars.specs.Grammar.{State, Grammar, Language, token, change, sequence, either, many, rule, optional, some, separated, plain}
 use Rattle.grammars.specs.Embedded.{Embedding, lift}
-use Rattle.expr_text.specs.Lexemes.{Lexeme}
-use Rattle.expr_text.specs.Kinds.{Kind, a_name, an_item, an_end, a_sign, a_keyword, same, kind_of, sample, word_in}
-use Rattle.expr_text.specs.Reasons.{Reason, syntax, limit, twice, unknown, init_uses, unset, unless, or_else}
-use Rattle.expr_text.specs.NameFaults.{has}
-use Rattle.expr_text.specs.Sums as sums
-use Rattle.expr_text.specs.Sums.{SumContext, SumValue, SumRule, a_sum, a_factor, begins_sum, place}
+use Rattle.poly_text.specs.Lexemes.{Lexeme}
+use Rattle.poly_text.specs.Kinds.{Kind, a_name, an_item, an_end, a_sign, a_keyword, same, kind_of, sample, word_in}
+use Rattle.poly_text.specs.Reasons.{Reason, syntax, limit, twice, unknown, init_uses, unset, unless, or_else}
+use Rattle.poly_text.specs.NameFaults.{has}
+use Rattle.poly_text.specs.Sums as sums
+use Rattle.poly_text.specs.Sums.{SumContext, SumValue, SumRule, a_sum, a_factor, begins_sum, place}
 
 pub record LoopContext : Type 0 where
   pub names : List (List ℕ)

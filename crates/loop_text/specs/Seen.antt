@@ -1,9 +1,9 @@
 -- What the answer of the reader of loops says.
 --   loop_or_fault result      the program with its offsets, or the first fault; none where memory failed
 use Rattle.std.specs.Prelude.{ℕ, Option, Some, Result, Ok, Err, option_map}
-use Rattle.expr_text.specs.Reasons.{Fault}
-use Rattle.expr_text.specs.Faults.{fault_of}
-use Rattle.expr_text.specs.declared.error.TextError.{TextError}
+use Rattle.poly_text.specs.Reasons.{Fault}
+use Rattle.poly_text.specs.Faults.{fault_of}
+use Rattle.poly_text.specs.declared.error.TextError.{TextError}
 use Rattle.loops.specs.Program.{Program, Expr}
 use Rattle.loop_model.specs.View.{program_of}
 use Rattle.loop_model.specs.declared.loop_.Loop.{Loop}

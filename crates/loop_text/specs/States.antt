@@ -20,20 +20,20 @@ use Rattle.std.specs.Global.{Vec}
 use Rattle.std.specs.List.{fold}
 use Rattle.std.specs.Option.{option_map_or}
 use Rattle.loops.specs.Program.{Expr, Equation, Statement, Program}
-use Rattle.expressions.specs.Names.{place_of}
-use Rattle.expressions.specs.Words.{Keyword}
+use Rattle.loop_model.specs.Names.{place_of}
+use Rattle.loop_model.specs.Words.{Keyword}
 use Rattle.grammars.specs.Kinds.{has}
 use Rattle.grammars.specs.Reader.{read_whole}
-use Rattle.expr_text.specs.Lexemes as lexemes
-use Rattle.expr_text.specs.Lexemes.{Lexeme, Placed}
-use Rattle.expr_text.specs.Kinds.{same_keyword}
-use Rattle.expr_text.specs.NameFaults as positions
-use Rattle.expr_text.specs.Reasons.{Reason, twice, unknown, init_uses, or_else, Fault}
-use Rattle.expr_text.specs.Reads.{used_by}
-use Rattle.expr_text.specs.Telling as telling
-use Rattle.expr_text.specs.Telling.{Told, told}
-use Rattle.expr_text.specs.declared.error.TextError.{TextError}
-use Rattle.expr_text.specs.declared.cursor.Cursor.{Cursor}
+use Rattle.poly_text.specs.Lexemes as lexemes
+use Rattle.poly_text.specs.Lexemes.{Lexeme, Placed}
+use Rattle.poly_text.specs.Kinds.{same_keyword}
+use Rattle.poly_text.specs.NameFaults as positions
+use Rattle.poly_text.specs.Reasons.{Reason, twice, unknown, init_uses, or_else, Fault}
+use Rattle.poly_text.specs.Reads.{used_by}
+use Rattle.poly_text.specs.Telling as telling
+use Rattle.poly_text.specs.Telling.{Told, told}
+use Rattle.poly_text.specs.declared.error.TextError.{TextError}
+use Rattle.poly_text.specs.declared.cursor.Cursor.{Cursor}
 use Rattle.loop_model.specs.declared.statement.Statement as code
 use Rattle.loop_model.specs.Parts.{statement_of}
 use Rattle.loop_text.specs.declared.begun.Begun.{Begun}

@@ -3,7 +3,7 @@
 ghost use Rattle.std.specs.Prelude.{◌≡◌, suc, OnOk};
 ghost use Rattle.loop_text.specs.Limited.{Limits, statement_limit, branch_limit};
 
-use expr_text::TextError;
+use poly_text::TextError;
 
 /// The most statements of a loop.
 const MOST_STATEMENTS: usize = 64;

@@ -2,10 +2,10 @@
 
 ghost use Rattle.std.specs.Prelude.{◌≡◌, ◌<◌, ◌≤◌, ◌∷◌, ◌++◌, [], length, map, IfOk, IsTrue};
 ghost use Rattle.grammars.specs.Grammar.{sequence, some};
-ghost use Rattle.expr_text.specs.CursorView.{bytes_left};
-ghost use Rattle.expr_text.specs.NextToken.{seen_lexeme};
-ghost use Rattle.expressions.specs.Ascii.{left_brace};
-ghost use Rattle.expressions.specs.Words.{when_word};
+ghost use Rattle.poly_text.specs.CursorView.{bytes_left};
+ghost use Rattle.poly_text.specs.NextToken.{seen_lexeme};
+ghost use Rattle.loop_model.specs.Ascii.{left_brace};
+ghost use Rattle.loop_model.specs.Words.{when_word};
 ghost use Rattle.loop_text.specs.Loops as grammar;
 ghost use Rattle.loop_text.specs.Loops.{LoopState};
 ghost use Rattle.loop_model.specs.Parts.{statement_of};
@@ -18,9 +18,8 @@ use crate::names::LoopNames;
 use crate::places::local_places;
 use crate::statements::read_statements;
 use crate::tokens::{expect_sign, is_keyword, syntax_fault};
-use expr_text::{Cursor, Lexeme, TextError};
-use expressions::Keyword;
-use loop_model::Statement;
+use loop_model::{Keyword, Statement};
+use poly_text::{Cursor, Lexeme, TextError};
 use std::alloc::Global;
 
 /// Goes on behind `when`, a guard, which has a byte at least, and the `{` behind it.

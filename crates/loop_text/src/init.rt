@@ -1,18 +1,17 @@
-//! Reads what a start meets.
+//! Reads `init`: the equations that a start meets.
 
 ghost use Rattle.std.specs.Prelude.{◌<◌, [], map, IfOk};
 ghost use Rattle.grammars.specs.Grammar.{sequence, separated, optional};
-ghost use Rattle.expr_text.specs.CursorView.{bytes_left};
+ghost use Rattle.poly_text.specs.CursorView.{bytes_left};
 ghost use Rattle.loop_model.specs.Parts.{equation_of};
 ghost use Rattle.loop_text.specs.Loops as grammar;
 ghost use Rattle.loop_text.specs.States.{Goes, Reads, in_init, with_init, with_names};
-ghost use Rattle.expressions.specs.Ascii.{comma};
+ghost use Rattle.loop_model.specs.Ascii.{comma};
 
 use crate::names::{LoopNames, read_left};
 use crate::tokens::{expect_sign, is_keyword};
-use expr_text::{Cursor, Refusal, SumReader, TextError};
-use expressions::Keyword;
-use loop_model::Init;
+use loop_model::{Init, Keyword};
+use poly_text::{Cursor, Refusal, SumReader, TextError};
 use std::alloc::Global;
 
 /// Reads an equation and adds it to the start, and its variable to what is set.

@@ -7,8 +7,8 @@ ghost use Rattle.loops.specs.Limits.{most_names, most_branches, IsWithinLimits};
 ghost use Rattle.grammars.specs.Grammar.{Placed};
 ghost use Rattle.grammars.specs.FirstFault.{IsFirstFault};
 ghost use Rattle.grammars.specs.Spelled.{IsRead, spelled_marks};
-ghost use Rattle.expr_text.specs.Lexemes.{Lexeme, tokens};
-ghost use Rattle.expr_text.specs.Reasons.{Reason, Fault};
+ghost use Rattle.poly_text.specs.Lexemes.{Lexeme, tokens};
+ghost use Rattle.poly_text.specs.Reasons.{Reason, Fault};
 ghost use Rattle.loop_text.specs.Loops.{LoopState, loop_language, whole_loop, nothing};
 ghost use Rattle.loop_text.specs.LoopReader.{program_in, fault_at, loop_of};
 

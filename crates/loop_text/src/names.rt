@@ -2,23 +2,22 @@
 
 ghost use Rattle.std.specs.Prelude.{◌≡◌, ◌<◌, ◌≤◌, ◌++◌, [], ℕ, List, Option, None, length, map, IfOk, OnOk};
 ghost use Rattle.std.specs.List.{list_any};
-ghost use Rattle.expr_text.specs.CursorView.{bytes_left};
-ghost use Rattle.expr_text.specs.Reasons.{Reason};
-ghost use Rattle.expressions.specs.Names.{place_of};
-ghost use Rattle.expressions.specs.Uses.{uses};
-ghost use Rattle.expressions.specs.View.{expr_of};
+ghost use Rattle.poly_text.specs.CursorView.{bytes_left};
+ghost use Rattle.poly_text.specs.Reasons.{Reason};
+ghost use Rattle.loop_model.specs.Names.{place_of};
+ghost use Rattle.loop_model.specs.Uses.{uses};
+ghost use Rattle.loop_model.specs.ExpressionView.{expr_of};
 ghost use Rattle.loop_model.specs.Parts.{equation_of};
 ghost use Rattle.loop_text.specs.Loops as grammar;
 ghost use Rattle.grammars.specs.Grammar.{sequence, separated, optional};
-ghost use Rattle.expressions.specs.Ascii.{comma, semicolon};
+ghost use Rattle.loop_model.specs.Ascii.{comma, semicolon};
 ghost use Rattle.loop_text.specs.Loops.{LoopContext, LoopState, nothing, locals_word, word as name_token};
 ghost use Rattle.loop_text.specs.States.{Goes, Reads, IsLeft, IsNew, IsAll, used_in, with_names};
 ghost use Rattle.loop_model.specs.Limits.{names_limit, all_names_limit};
 
 use crate::tokens::{expect_sign, is_keyword, syntax_fault};
-use expr_text::{Cursor, Lexeme, TextError};
-use expressions::{Keyword, MOST_BYTES, Names};
-use loop_model::Init;
+use loop_model::{Init, Keyword, MOST_BYTES, Names};
+use poly_text::{Cursor, Lexeme, TextError};
 use std::alloc::Global;
 
 const MOST_NAMES: usize = 12;

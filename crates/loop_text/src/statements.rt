@@ -1,11 +1,11 @@
 //! Reads statements.
 
 ghost use Rattle.std.specs.Prelude.{◌≡◌, ◌<◌, ◌++◌, ◌∷◌, ℕ, List, [], length, map, IfOk, IsTrue};
-ghost use Rattle.expr_text.specs.CursorView.{bytes_left};
-ghost use Rattle.expr_text.specs.Lexemes.{is_sign_of};
-ghost use Rattle.expr_text.specs.NextToken.{seen_lexeme};
-ghost use Rattle.expressions.specs.Ascii.{left_parenthesis};
-ghost use Rattle.expressions.specs.View.{expr_of};
+ghost use Rattle.poly_text.specs.CursorView.{bytes_left};
+ghost use Rattle.poly_text.specs.Lexemes.{is_sign_of};
+ghost use Rattle.poly_text.specs.NextToken.{seen_lexeme};
+ghost use Rattle.loop_model.specs.Ascii.{left_parenthesis};
+ghost use Rattle.loop_model.specs.ExpressionView.{expr_of};
 ghost use Rattle.loop_model.specs.Parts.{statement_of};
 ghost use Rattle.loop_text.specs.declared.begun.Begun.{Begun};
 ghost use Rattle.loop_text.specs.Loops as grammar;
@@ -15,9 +15,8 @@ use crate::begun::Begun;
 use crate::names::read_left;
 use crate::places::still_unset;
 use crate::tokens::{expect_sign, syntax_fault};
-use expr_text::{Cursor, Lexeme, Refusal, SumReader, TextError};
-use expressions::{Expr, Names};
-use loop_model::Statement;
+use loop_model::{Expr, Names, Statement};
+use poly_text::{Cursor, Lexeme, Refusal, SumReader, TextError};
 use std::alloc::Global;
 
 /// Reads a right side and adds it to the values.

@@ -2,17 +2,17 @@
 
 ghost use Rattle.std.specs.Prelude.{◌≡◌, ◌<◌, None, IfOk, IsTrue};
 ghost use Rattle.grammars.specs.Grammar.{after_change};
-ghost use Rattle.expr_text.specs.CursorView.{bytes_left};
-ghost use Rattle.expr_text.specs.Kinds.{a_sign};
-ghost use Rattle.expr_text.specs.NextToken.{seen_lexeme};
-ghost use Rattle.expr_text.specs.Tokens.{is_sign};
-ghost use Rattle.expressions.specs.View.{seen_keyword};
+ghost use Rattle.poly_text.specs.CursorView.{bytes_left};
+ghost use Rattle.poly_text.specs.Kinds.{a_sign};
+ghost use Rattle.poly_text.specs.NextToken.{seen_lexeme};
+ghost use Rattle.poly_text.specs.Tokens.{is_sign};
+ghost use Rattle.loop_model.specs.ExpressionView.{seen_keyword};
 ghost use Rattle.loop_text.specs.Loops.{LoopContext, LoopValue, LoopState, token_of};
-ghost use Rattle.expr_text.specs.Lexemes.{is_end_of};
+ghost use Rattle.poly_text.specs.Lexemes.{is_end_of};
 ghost use Rattle.loop_text.specs.States.{Goes, is_keyword_of};
 
-use expr_text::{Cursor, Lexeme, TextError};
-use expressions::Keyword;
+use loop_model::Keyword;
+use poly_text::{Cursor, Lexeme, TextError};
 
 /// The fault of a token that can't stand where it does.
 pub fn syntax_fault(cursor: Cursor<'_>) -> TextError

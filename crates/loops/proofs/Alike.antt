@@ -2,8 +2,8 @@
 --   same_value, same_branch     values of an expression, and states after a branch
 use Rattle.std.proofs.Common.{ℕ, List, [], ◌∷◌}
 use Rattle.std.specs.List.{AllZip}
-use Rattle.numbers.specs.Fraction.{Fraction, ℚ}
-use Rattle.numbers.proofs.Fractions.{ℚ_ring}
+use Rattle.algebra.specs.Fraction.{Fraction, ℚ}
+use Rattle.algebra.proofs.Fractions.{ℚ_ring}
 use Rattle.polynomials.specs.Terms.{Terms, Same, AllSame, constant, lists}
 use Rattle.polynomials.proofs.Same.{Same-refl, same_append, same_times, same_negate}
 use Rattle.loops.specs.Program.{Expr, Statement}

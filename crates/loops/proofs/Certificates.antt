@@ -1,9 +1,9 @@
 -- The listed polynomials of a valid certificate are invariants: all are zero at a start, and a turn keeps that.
 use Rattle.std.proofs.Common.{◌≡◌, ℕ, ◌<◌, List, [], length, sym, ap, subst, ◌∙◌, Some}
 use Rattle.std.proofs.lemmas.List.Elements.{All-from_get_or}
-use Rattle.rings.specs.Sum.{sum_over}
-use Rattle.numbers.specs.Fraction.{Fraction, ℚ}
-use Rattle.numbers.proofs.Fractions.{ℚ_ring}
+use Rattle.algebra.specs.Sum.{sum_over}
+use Rattle.algebra.specs.Fraction.{Fraction, ℚ}
+use Rattle.algebra.proofs.Fractions.{ℚ_ring}
 use Rattle.polynomials.specs.Terms.{Same, combination, evaluate, value_at}
 use Rattle.polynomials.proofs.ValueAt.{value_at_same, combination_zero}
 pub use Rattle.polynomials.proofs.Arity.{arity_at}

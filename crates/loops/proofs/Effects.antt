@@ -11,10 +11,10 @@
 use Rattle.std.proofs.Common.{◌≡◌, ℕ, zero, suc, ◌+◌, List, [], ◌∷◌, ◌++◌, map, get_or, set, take, replicate, length, arith, refl, ap, ap₂, ◌∙◌}
 use Rattle.std.specs.List.{AllZip}
 use Rattle.std.proofs.lemmas.List.{length-set, length-append, length-replicate, length-take-le}
-use Rattle.rings.specs.Each.{Each}
-use Rattle.rings.specs.Arithmetic as numeral
-use Rattle.rings.specs.Arithmetic.{Arithmetic}
-use Rattle.numbers.specs.Fraction.{Fraction, whole, inverse}
+use Rattle.algebra.specs.Each.{Each}
+use Rattle.algebra.specs.Arithmetic as numeral
+use Rattle.algebra.specs.Arithmetic.{Arithmetic}
+use Rattle.algebra.specs.Fraction.{Fraction, whole, inverse}
 use Rattle.loops.specs.Program.{Expr, number, variable, neg, add, sub, mul, divide, power, Statement, Program}
 use Rattle.loops.specs.Effect.{store, init_statement, value_of, after_statement, after_branch, after_turn, start_from}
 

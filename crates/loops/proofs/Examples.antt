@@ -1,10 +1,10 @@
 -- The definitions at small loops, by computation.
 use Rattle.std.proofs.Common.{◌≡◌, ℕ, pos, List, [], ◌∷◌, refl, Some, None}
 use Rattle.std.specs.Prelude.{⊤}
-use Rattle.numbers.specs.Gcd.{gcd}
-use Rattle.numbers.specs.Ratio.{is_lowest, reduce}
-use Rattle.numbers.specs.Fraction as Fraction
-use Rattle.numbers.specs.Fraction.{Fraction, fraction, over, whole, ℚ}
+use Rattle.algebra.specs.Gcd.{gcd}
+use Rattle.algebra.specs.Ratio.{is_lowest, reduce}
+use Rattle.algebra.specs.Fraction as Fraction
+use Rattle.algebra.specs.Fraction.{Fraction, fraction, over, whole, ℚ}
 use Rattle.loops.specs.Program.{Expr, number, variable, add, sub, mul, divide, Statement, Equation, Program}
 use Rattle.loops.specs.Effect.{store, init_statement, value_of, after_statement, after_branch, start_from}
 use Rattle.loops.specs.Run.{branch_at, run_end}

@@ -6,7 +6,7 @@ use Rattle.std.proofs.lemmas.List.Elements.{All-nil, All-cons}
 use Rattle.loops.specs.Program.{Expr, number, variable, add, sub, mul, divide, Equation}
 use Rattle.loops.specs.Inv.{Inv}
 use Rattle.polynomials.specs.Terms.{constant}
-use Rattle.numbers.specs.Fraction.{ℚ}
+use Rattle.algebra.specs.Fraction.{ℚ}
 use Rattle.loops.specs.WellFormed.{Uses, AreDistinct, IsStatement, IsWellFormed}
 use Rattle.loops.proofs.Examples.{product, assign}
 use Rattle.loops.proofs.Invariants.{one_no_invariant}

@@ -5,11 +5,11 @@
 --   one_no_invariant     so one is no invariant of a well-formed program
 use Rattle.std.proofs.Common.{List, [], ◌++◌, length, replicate, refl, sym, ap, ap₂, ◌∙◌}
 use Rattle.std.proofs.lemmas.Simd.{length-replicate}
-use Rattle.rings.specs.Each.{Each}
-use Rattle.rings.specs.Sum.{sum_over}
-use Rattle.rings.proofs.RingLaws.{mul-zero}
-use Rattle.numbers.specs.Fraction.{Fraction, ℚ}
-use Rattle.numbers.proofs.Fractions.{ℚ_ring, fractions_field}
+use Rattle.algebra.specs.Each.{Each}
+use Rattle.algebra.specs.Sum.{sum_over}
+use Rattle.algebra.proofs.RingLaws.{mul-zero}
+use Rattle.algebra.specs.Fraction.{Fraction, ℚ}
+use Rattle.algebra.proofs.Fractions.{ℚ_ring, fractions_field}
 use Rattle.polynomials.specs.Terms.{Terms, Same, constant, times, evaluate, value_at}
 use Rattle.polynomials.specs.Polynomial.{Arity}
 use Rattle.polynomials.proofs.Arity.{arity-append, arity-times}

@@ -7,9 +7,9 @@ use Rattle.std.proofs.lemmas.Bool.{eqb-true, or_from}
 use Rattle.std.proofs.lemmas.List.{append-nil, get_or_past, length-append, length-map, length-replicate, length-set, take_all}
 use Rattle.std.proofs.lemmas.List.Elements.{All-head, All-tail, All-weaker}
 use Rattle.std.proofs.lemmas.Map.Views.{any-filter_same}
-use Rattle.rings.specs.In.{In}
-use Rattle.rings.specs.Arithmetic as numeral
-use Rattle.numbers.specs.Fraction.{Fraction, ℚ, whole, inverse}
+use Rattle.algebra.specs.In.{In}
+use Rattle.algebra.specs.Arithmetic as numeral
+use Rattle.algebra.specs.Fraction.{Fraction, ℚ, whole, inverse}
 use Rattle.loops.specs.Program.{Expr, number, variable, neg, add, sub, mul, divide, power, Statement, Program}
 use Rattle.loops.specs.Effect.{store, value_of, after_statement, after_branch}
 use Rattle.loops.specs.Run.{effect, IsState}

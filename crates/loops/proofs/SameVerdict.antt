@@ -2,8 +2,8 @@
 --   same_start, same_step     an identity of one holds where that of the other does
 --   same_verdict              a verdict of one is a verdict of the other
 use Rattle.std.proofs.Common.{ℕ, ◌<◌, List, [], get_or, length, arith, sym}
-use Rattle.numbers.specs.Fraction.{Fraction, ℚ}
-use Rattle.numbers.proofs.Fractions.{ℚ_ring}
+use Rattle.algebra.specs.Fraction.{Fraction, ℚ}
+use Rattle.algebra.proofs.Fractions.{ℚ_ring}
 use Rattle.polynomials.specs.Terms.{Terms, Same}
 use Rattle.polynomials.specs.Polynomial.{AllArity}
 use Rattle.polynomials.proofs.Same.{Same-sym, Same-trans, AllSame-refl, AllSame-sym, AllSame-at, AllSame-length, same_combination}

@@ -7,9 +7,9 @@ use Rattle.std.proofs.Common.{◌≡◌, ◌≢◌, ℕ, zero, suc, ◌<◌, Lis
 use Rattle.std.proofs.lemmas.List.{set-get_or, get_or-set_same, get_or-set_other, length-set, same_lists, get_or_default}
 use Rattle.std.proofs.lemmas.List.Elements.{All-nil, All-cons, All-head, All-tail, All-map, All-weaker}
 use Rattle.std.proofs.lemmas.Simd.{map-map}
-use Rattle.rings.specs.Arithmetic as numeral
-use Rattle.rings.specs.Arithmetic.{Arithmetic}
-use Rattle.numbers.specs.Fraction.{Fraction, whole, inverse}
+use Rattle.algebra.specs.Arithmetic as numeral
+use Rattle.algebra.specs.Arithmetic.{Arithmetic}
+use Rattle.algebra.specs.Fraction.{Fraction, whole, inverse}
 use Rattle.loops.specs.Program.{Expr, number, variable, neg, add, sub, mul, divide, power, Equation, Program}
 use Rattle.loops.specs.Effect.{store, init_statement, value_of, after_statement, start_from}
 use Rattle.loops.specs.WellFormed.{IsWellFormed, Uses, AreDistinct}

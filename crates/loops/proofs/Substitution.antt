@@ -10,8 +10,8 @@ use Rattle.std.proofs.lemmas.List.{length-append, length-map, length-replicate, 
 use Rattle.std.proofs.lemmas.List.Elements.{All-nil, All-cons, All-head, All-tail, All-map, All-set, All-take, All-append, All-replicate, All-weaker}
 use Rattle.std.proofs.lemmas.Option.{slice_get-map}
 use Rattle.std.proofs.lemmas.Simd.{map-map}
-use Rattle.rings.specs.Arithmetic as numeral
-use Rattle.numbers.specs.Fraction.{Fraction, ℚ, whole, inverse}
+use Rattle.algebra.specs.Arithmetic as numeral
+use Rattle.algebra.specs.Fraction.{Fraction, ℚ, whole, inverse}
 use Rattle.polynomials.specs.Terms.{Terms}
 use Rattle.loops.specs.Program.{Expr, number, variable, neg, add, sub, mul, divide, power, Statement, Program}
 use Rattle.loops.specs.Effect.{store, value_of, after_statement, after_branch}

@@ -3,7 +3,7 @@
 --   verdict_exists     at least one
 --   first_failure      the first number below a bound at which a decided property fails, if there is one
 use Rattle.std.proofs.Common.{◌≡◌, ℕ, zero, suc, ◌<◌, ◌⊎◌, inl, inr, length, arith, refl, sym, ap, ap₂, subst}
-use Rattle.numbers.proofs.Fractions.{ℚ_ring, fraction_eq, fraction_eq_refl, fraction_eq_true}
+use Rattle.algebra.proofs.Fractions.{ℚ_ring, fraction_eq, fraction_eq_refl, fraction_eq_true}
 use Rattle.polynomials.proofs.SameDecided.{decide_same}
 use Rattle.loops.specs.Program.{Expr, Program}
 use Rattle.loops.specs.First.{IsFirstFailure}

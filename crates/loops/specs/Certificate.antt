@@ -6,7 +6,7 @@
 --   SameCertificate c d          the same polynomials in the same places
 --   IsVerdict program c v        v is valid, or the first that fails: the starts, then branch by branch, element by element
 use Rattle.std.specs.Prelude.{◌≡◌, ℕ, ◌<◌, List, [], get_or, length}
-use Rattle.numbers.specs.Fraction.{Fraction, ℚ}
+use Rattle.algebra.specs.Fraction.{Fraction, ℚ}
 use Rattle.polynomials.specs.Terms.{Terms, Same, AllSame, combination}
 use Rattle.polynomials.specs.Polynomial.{AllArity}
 use Rattle.loops.specs.Program.{Expr, Program}

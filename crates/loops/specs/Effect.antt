@@ -7,9 +7,9 @@
 --   after_turn N number program cs s     the variables after the branch cs; before it the local names are 0, and after it they are dropped
 --   start_from N number program s    s with the value of each equation of init at its variable
 use Rattle.std.specs.Prelude.{ℕ, List, [], ◌∷◌, ◌++◌, map, get_or, set, take, replicate, length}
-use Rattle.rings.specs.Arithmetic as numeral
-use Rattle.rings.specs.Arithmetic.{Arithmetic}
-use Rattle.numbers.specs.Fraction.{Fraction, whole, inverse}
+use Rattle.algebra.specs.Arithmetic as numeral
+use Rattle.algebra.specs.Arithmetic.{Arithmetic}
+use Rattle.algebra.specs.Fraction.{Fraction, whole, inverse}
 use Rattle.loops.specs.Program.{Expr, number, variable, neg, add, sub, mul, divide, power, Statement, Equation, Program}
 
 unfoldable pub store : {A : Type 0} → List ℕ → List A → List A → List A

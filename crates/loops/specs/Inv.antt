@@ -1,7 +1,7 @@
 -- Invariants: the polynomials over the program's variables that are zero at the end of every run.
 --   Inv program p       p is one: it has the program's variables, and is `zero` at each end
 use Rattle.std.specs.Prelude.{◌≡◌, length}
-use Rattle.numbers.specs.Fraction.{Fraction, ℚ}
+use Rattle.algebra.specs.Fraction.{Fraction, ℚ}
 use Rattle.polynomials.specs.Terms.{Terms, value_at}
 use Rattle.polynomials.specs.Polynomial.{Arity}
 use Rattle.loops.specs.Program.{Expr, Program}

@@ -3,7 +3,7 @@
 --   start_map program             the values at a start, as polynomials in the free variables
 --   composition program p images     p with the images for the program's variables
 use Rattle.std.specs.Prelude.{List, length}
-use Rattle.numbers.specs.Fraction.{Fraction, ℚ}
+use Rattle.algebra.specs.Fraction.{Fraction, ℚ}
 use Rattle.polynomials.specs.Terms.{Terms, constant, variables, lists, compose}
 use Rattle.loops.specs.Program.{Expr, Program, Statement}
 use Rattle.loops.specs.Effect.{after_turn, start_from}

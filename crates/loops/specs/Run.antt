@@ -9,7 +9,7 @@
 use Rattle.std.specs.Prelude.{◌≡◌, ℕ, zero, suc, List, [], ◌∷◌, get_or, length, slice_get, Option, Some, None, option_and_then}
 use Rattle.std.specs.Option.{option_map_or}
 use Rattle.std.specs.List.{All}
-use Rattle.numbers.specs.Fraction.{Fraction, ℚ}
+use Rattle.algebra.specs.Fraction.{Fraction, ℚ}
 use Rattle.loops.specs.Program.{Program, Equation, Statement, Expr}
 use Rattle.loops.specs.Effect.{value_of, after_turn}
 

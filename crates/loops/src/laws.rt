@@ -1,7 +1,7 @@
-//! The laws of the definitions, one function each.
+//! The laws of programs, their maps, runs, invariants and certificates, one function each.
 
 ghost use Rattle.std.specs.Prelude.{◌≡◌, ◌≢◌, ◌↔◌, ℕ, suc, ◌+◌, ◌<◌, List, [], ◌++◌, map, get_or, take, length, All};
-ghost use Rattle.numbers.specs.Fraction.{Fraction, ℚ};
+ghost use Rattle.algebra.specs.Fraction.{Fraction, ℚ};
 ghost use Rattle.polynomials.specs.Terms.{Terms, Same, constant, times, value_at};
 ghost use Rattle.polynomials.specs.Polynomial.{Arity};
 ghost use Rattle.loops.specs.Program.{Expr, Program, Statement, Equation};

@@ -14,7 +14,7 @@ use Rattle.std.specs.Cmp.Lexicographic.{slice_cmp}
 use Rattle.std.specs.Cmp.{nat_cmp_is}
 use Rattle.std.specs.Ordering.{ordering_then}
 use Rattle.std.proofs.lemmas.Cmp.{ranked, by_ranked}
-use Rattle.numbers.proofs.QuotientOrder.{nat_cmp-add}
+use Rattle.algebra.proofs.QuotientOrder.{nat_cmp-add}
 use Rattle.polynomials.specs.Order.{compare, grevlex, blocks}
 use Rattle.polynomials.proofs.Order.{compare_equal}
 use Rattle.polynomials.proofs.Orders.{compare_grevlex, compare_blocks, grevlex_order, slice_cmp-append}

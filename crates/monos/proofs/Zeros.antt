@@ -4,7 +4,7 @@
 use Rattle.std.proofs.Common.{◌≡◌, ◌≤◌, ℕ, IsTrue, nat_eq, eq-eqb, List, [], ◌∷◌, length, length-take, replicate, sum, take, refl, sym, ap, ap₂, ◌∙◌, arith}
 use Rattle.std.proofs.lemmas.Bool.{eqb-true}
 use Rattle.std.proofs.lemmas.List.Sums.{sum_by-cons}
-use Rattle.rings.proofs.Lists.{sum_zeros}
+use Rattle.algebra.proofs.Lists.{sum_zeros}
 
 pub zeros_of_sum : (d : List ℕ) → sum d ≡ 0 → d ≡ replicate (length d) 0
 zeros_of_sum [] h = refl

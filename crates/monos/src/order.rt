@@ -24,7 +24,7 @@ pub trait Order: Copy + Eq {
 }
 
 /// Lexicographic order: of two monomials the greater is the one with the greater exponent at the first variable where they differ.
-#[derive(Clone, Copy, Debug, PartialEq, Eq)]
+#[derive(Clone, Copy, PartialEq, Eq)]
 pub struct Lex;
 
 impl Order for Lex {
@@ -46,7 +46,7 @@ impl Order for Lex {
 
 /// Graded reverse lexicographic order: of two monomials the greater is that of greater degree.
 /// At equal degrees it is the one with the smaller exponent at the last variable where they differ.
-#[derive(Clone, Copy, Debug, PartialEq, Eq)]
+#[derive(Clone, Copy, PartialEq, Eq)]
 pub struct Grevlex;
 
 impl Order for Grevlex {
@@ -68,7 +68,7 @@ impl Order for Grevlex {
 
 /// Graded reverse lexicographic order on the first variables, and on the others where these are equal.
 /// A monomial without the first variables is below every one that has some.
-#[derive(Clone, Copy, Debug, PartialEq, Eq)]
+#[derive(Clone, Copy, PartialEq, Eq)]
 pub struct Blocks {
     /// How many variables come first.
     pub first: usize,

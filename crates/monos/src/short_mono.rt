@@ -17,7 +17,7 @@ use std::marker::Model;
 
 /// A monomial of at most 16 variables with small exponents: each stands in a lane of one word, the first variable's in the lowest.
 /// A lane has 16 bits up to 8 variables, and 8 bits above. Its highest bit, the guard, is 0.
-#[derive(Drop, Debug)]
+#[derive(Drop)]
 pub(crate) struct ShortMono {
     pub(crate) arity: u8,
     pub(crate) degree: u32,

@@ -1,5 +1,7 @@
 //! Worked rows: what calls on monomials, numbers and polynomials answer to given inputs, as tests. Each kind of row is a small function
 //! that says whether the call answers what is wanted; each generic function is called at a type, through its bound.
+//!
+//! Proved: that its tests are safe and end; the gate runs them.
 #![tactic(auto)]
 
 #[cfg(test)]

@@ -2,10 +2,10 @@
 --   undone           what undoes the product of two units
 --   product_cleared  the product of two multiples, divided by what they were multiplied with
 use Rattle.std.proofs.Common.{◌≡◌, ℕ, [], ◌∷◌, refl, sym, ap, ap₂, ◌∙◌}
-use Rattle.rings.specs.Ring.{CommRing, IsRing, ring as ring_of}
-use Rattle.rings.proofs.RingLaws.{one-mul}
-use Rattle.rings.proofs.RingSolver.{ring, ring_rules}
-use Rattle.numbers.specs.Scalars.{Scalars}
+use Rattle.algebra.specs.Ring.{CommRing, IsRing, ring as ring_of}
+use Rattle.algebra.proofs.RingLaws.{one-mul}
+use Rattle.algebra.proofs.RingSolver.{ring, ring_rules}
+use Rattle.algebra.specs.Scalars.{Scalars}
 use Rattle.polynomials.specs.Terms.{Terms, Same, constant, times}
 use Rattle.polynomials.specs.Polynomial.{Arity}
 use Rattle.polynomials.proofs.Arity.{arity-times}

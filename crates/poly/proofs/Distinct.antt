@@ -3,12 +3,12 @@
 --   distinct_front, distinct_back, distinct_parts     of two lists behind one another
 --   shared_apart                  a monomial of a polynomial is in each list that is the same
 --   not_shared                    two polynomials that are the same as the parts share none
-use Rattle.rings.specs.Each.{Each}
+use Rattle.algebra.specs.Each.{Each}
 use Rattle.std.proofs.Common.{◌≡◌, ◌≢◌, ℕ, zero, suc, false, List, [], ◌∷◌, ◌++◌, map, sym, ap, subst, ◌∙◌, ◌⊎◌, inl, inr, arith, true≢false}
 use Rattle.std.specs.List.{All, AllPairs, Contains}
 use Rattle.std.proofs.lemmas.List.Elements.{All-head, All-tail, Contains-append_cases}
-use Rattle.numbers.specs.Scalars.{Scalars}
-use Rattle.rings.specs.Ring.{IsRing, ring as ring_of}
+use Rattle.algebra.specs.Scalars.{Scalars}
+use Rattle.algebra.specs.Ring.{IsRing, ring as ring_of}
 use Rattle.polynomials.specs.Exponent.{same}
 use Rattle.polynomials.specs.Terms.{Terms, coefficient, Same}
 use Rattle.polynomials.specs.Order.{Rank, IsMonomialOrder}

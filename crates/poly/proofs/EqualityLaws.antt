@@ -6,7 +6,7 @@ use Rattle.std.proofs.Common.{◌≡◌, ◌↔◌, ℕ, ◌&&◌, Bool, true, n
 use Rattle.std.specs.Cmp.Lexicographic.{pointwise, bytes_decides}
 use Rattle.std.proofs.lemmas.Bool.{eqb-true, eq-eqb, and_parts}
 use Rattle.std.specs.declared.cmp.PartialEq as PartialEq
-use Rattle.rings.specs.Ring.{IsRing, ring as ring_of}
+use Rattle.algebra.specs.Ring.{IsRing, ring as ring_of}
 use Rattle.polynomials.specs.Terms.{Same}
 use Rattle.polynomials.specs.Order.{IsMonomialOrder}
 use Rattle.polynomials.proofs.Same.{Same-refl}

@@ -12,14 +12,14 @@ use Rattle.std.proofs.lemmas.List.{append-nil, get_or-replicate, length-replicat
 use Rattle.std.proofs.Math.Seq.{get_or-append_seam}
 use Rattle.std.proofs.lemmas.List.Elements.{All-nil, All-cons, All-head, All-tail, All-append}
 use Rattle.std.proofs.lemmas.Grind.{get_or-set_at}
-use Rattle.rings.specs.Each.{Each}
-use Rattle.rings.specs.Sum.{sum_over}
-use Rattle.rings.specs.Ring.{CommRing, IsRing, ring}
-use Rattle.rings.proofs.RingLaws.{zero-add}
-use Rattle.numbers.specs.Scalars.{Scalars, IsBounded}
-use Rattle.numbers.specs.Size.{IsPast, sum_size}
-use Rattle.numbers.proofs.LcmLaws.{lcm-pos}
-use Rattle.numbers.proofs.SizeLaws.{under-sum, past_under}
+use Rattle.algebra.specs.Each.{Each}
+use Rattle.algebra.specs.Sum.{sum_over}
+use Rattle.algebra.specs.Ring.{CommRing, IsRing, ring}
+use Rattle.algebra.proofs.RingLaws.{zero-add}
+use Rattle.algebra.specs.Scalars.{Scalars, IsBounded}
+use Rattle.algebra.specs.Size.{IsPast, sum_size}
+use Rattle.algebra.proofs.LcmLaws.{lcm-pos}
+use Rattle.algebra.proofs.SizeLaws.{under-sum, past_under}
 use Rattle.polynomials.specs.Algebra as Algebra
 use Rattle.polynomials.specs.Exponent.{plus, same, exponents}
 use Rattle.polynomials.specs.Terms.{Terms, coefficient, Same, shift, times}

@@ -13,9 +13,9 @@ use Rattle.std.specs.List.{All}
 use Rattle.std.proofs.Math.ListN.{get_or-map}
 use Rattle.std.proofs.lemmas.List.{append-nil, length-set}
 use Rattle.std.proofs.lemmas.List.Elements.{All-nil, All-cons, All-head, All-tail, All-append, All-map}
-use Rattle.rings.specs.Ring.{IsRing}
-use Rattle.numbers.specs.Scalars.{Scalars, IsBounded}
-use Rattle.numbers.specs.Size.{IsPast, sum_size, product_size}
+use Rattle.algebra.specs.Ring.{IsRing}
+use Rattle.algebra.specs.Scalars.{Scalars, IsBounded}
+use Rattle.algebra.specs.Size.{IsPast, sum_size, product_size}
 use Rattle.polynomials.specs.Algebra as Algebra
 use Rattle.polynomials.specs.Exponent.{plus}
 use Rattle.polynomials.specs.Terms.{Terms, shift, times}

@@ -10,7 +10,7 @@ use Rattle.std.specs.List.{All}
 use Rattle.std.proofs.Math.Nat.{mul-add, mul_assoc, mul-zero, pow-suc, pow-le-pow_right}
 use Rattle.std.proofs.lemmas.List.Elements.{All-more, All-weaker, All-head, All-tail}
 use Rattle.std.proofs.lemmas.List.{append-nil, length-map, length-take}
-use Rattle.numbers.specs.Scalars.{Scalars}
+use Rattle.algebra.specs.Scalars.{Scalars}
 use Rattle.polynomials.specs.Terms.{Terms}
 use Rattle.poly.specs.Places.{place_of, exponents_at, IsInside, IsGridFor}
 use Rattle.poly.proofs.Places.{place-nil, place-cons, place-bound, exponents-none, exponents-next}

@@ -4,11 +4,11 @@
 --   past_front, past_back, past_halves     the weight of a part, and of the sums of the halves
 use Rattle.std.proofs.Common.{◌≡◌, ◌/◌, ℕ, List, ◌++◌, map, take, drop, length, take-append-drop, sym, ap, ap₂, subst, ◌∙◌}
 use Rattle.std.proofs.lemmas.List.{map-append}
-use Rattle.numbers.specs.Scalars.{Scalars, IsBounded}
-use Rattle.rings.specs.Ring.{IsRing, ring as ring_of}
-use Rattle.numbers.specs.Size.{IsPast, sum_size}
-use Rattle.numbers.proofs.LcmLaws.{lcm-pos}
-use Rattle.numbers.proofs.SizeLaws.{under-sum, past_under}
+use Rattle.algebra.specs.Scalars.{Scalars, IsBounded}
+use Rattle.algebra.specs.Ring.{IsRing, ring as ring_of}
+use Rattle.algebra.specs.Size.{IsPast, sum_size}
+use Rattle.algebra.proofs.LcmLaws.{lcm-pos}
+use Rattle.algebra.proofs.SizeLaws.{under-sum, past_under}
 use Rattle.polynomials.specs.Terms.{Terms, Same}
 use Rattle.polynomials.specs.Order.{Rank, IsMonomialOrder}
 use Rattle.polynomials.specs.Polynomial.{IsPolynomial}

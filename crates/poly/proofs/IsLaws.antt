@@ -5,7 +5,7 @@
 use Rattle.std.proofs.Common.{◌≡◌, ℕ, Result, Ok, Err, sym, subst, ◌∙◌}
 use Rattle.std.specs.Result.{IfOk}
 use Rattle.std.specs.declared.cmp.PartialEq as PartialEq
-use Rattle.rings.specs.Arithmetic.{Arithmetic}
+use Rattle.algebra.specs.Arithmetic.{Arithmetic}
 use Rattle.polynomials.specs.Terms.{Terms, Same}
 use Rattle.polynomials.proofs.Same.{Same-refl}
 use Rattle.ring_laws.specs.declared.Ring as Ring

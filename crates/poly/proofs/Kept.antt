@@ -5,15 +5,15 @@
 --   polynomial_tail, head_X      what follows a term, and the term
 --   polynomial_append            one polynomial over another
 --   polynomial_in                in an equal order
-use Rattle.rings.specs.Each.{Each}
+use Rattle.algebra.specs.Each.{Each}
 use Rattle.std.proofs.Common.{◌≡◌, ◌≢◌, ℕ, List, [], ◌∷◌, ◌++◌, length, sym, subst, Less}
 use Rattle.polynomials.specs.Terms.{Terms}
 use Rattle.polynomials.specs.Order.{Rank, IsMonomialOrder, compare}
 use Rattle.polynomials.specs.Polynomial.{Below, Falls}
 use Rattle.polynomials.proofs.Canonical.{Below-weaker}
-use Rattle.rings.proofs.Each.{each-append}
+use Rattle.algebra.proofs.Each.{each-append}
 use Rattle.polynomials.proofs.Arity.{arity-append}
-use Rattle.numbers.specs.Scalars.{Scalars}
+use Rattle.algebra.specs.Scalars.{Scalars}
 use Rattle.polynomials.specs.Polynomial.{HasNoZero, IsPolynomial}
 
 pub polynomial_in : (S : Scalars) (O O' : Rank) (m m' : ℕ) (p : Terms S.Elem) → O ≡ O' → m ≡ m'

@@ -9,12 +9,12 @@ use Rattle.std.proofs.Common.{◌≡◌, ◌≢◌, ℕ, List, [], ◌∷◌, �
 use Rattle.std.specs.List.{Contains}
 use Rattle.std.proofs.lemmas.List.{append-nil, map-append}
 use Rattle.std.proofs.lemmas.List.Elements.{Contains-append_right}
-use Rattle.rings.specs.Ring.{CommRing}
-use Rattle.numbers.specs.Scalars.{Scalars, IsBounded}
-use Rattle.rings.specs.Ring.{IsRing, ring as ring_of}
-use Rattle.numbers.specs.Size.{IsPast, sum_size}
-use Rattle.rings.proofs.RingLaws.{zero-add}
-use Rattle.rings.proofs.RingSolver.{ring, ring_rules}
+use Rattle.algebra.specs.Ring.{CommRing}
+use Rattle.algebra.specs.Scalars.{Scalars, IsBounded}
+use Rattle.algebra.specs.Ring.{IsRing, ring as ring_of}
+use Rattle.algebra.specs.Size.{IsPast, sum_size}
+use Rattle.algebra.proofs.RingLaws.{zero-add}
+use Rattle.algebra.proofs.RingSolver.{ring, ring_rules}
 use Rattle.polynomials.specs.Terms.{Terms, Same}
 use Rattle.polynomials.specs.Order.{Rank, IsMonomialOrder, compare}
 use Rattle.polynomials.specs.Polynomial.{Below}

@@ -8,15 +8,15 @@
 --   seen_lead, first_number, first_nonzero     the lead
 use Rattle.std.proofs.Common.{◌≡◌, ◌≢◌, ◌⊎◌, inl, inr, ℕ, zero, suc, ◌*◌, ◌<◌, List, [], ◌∷◌, ◌++◌, append_assoc, map, drop, slice_get, Some, replicate, refl, sym, ap, ap₂, subst, ◌∙◌, arith}
 use Rattle.std.proofs.lemmas.List.{append-nil}
-use Rattle.rings.specs.Each.{Each}
-use Rattle.rings.specs.Ring.{CommRing, IsRing, IsFieldOf, ring as ring_of}
-use Rattle.rings.proofs.RingLaws.{neg-mul, one-mul}
-use Rattle.numbers.specs.Scalars.{Scalars, IsBounded, IsPastAdd}
-use Rattle.numbers.specs.Size.{Size, size, factor_of, IsPast, IsUnder, sum_size, product_size, quotient_size, times_size}
-use Rattle.numbers.proofs.LcmLaws.{lcm-pos}
-use Rattle.numbers.proofs.RatioLaws.{mul-pos}
-use Rattle.numbers.proofs.SizeLaws.{under_refl, under_trans, under-sum, sum-right, past_under, sum_size_assoc}
-use Rattle.numbers.proofs.ProductSizes.{under_at_most, past_at_most, product_at_most_left, product_den-pos, times_under_product, under_times, past_product, clean_of}
+use Rattle.algebra.specs.Each.{Each}
+use Rattle.algebra.specs.Ring.{CommRing, IsRing, IsFieldOf, ring as ring_of}
+use Rattle.algebra.proofs.RingLaws.{neg-mul, one-mul}
+use Rattle.algebra.specs.Scalars.{Scalars, IsBounded, IsPastAdd}
+use Rattle.algebra.specs.Size.{Size, size, factor_of, IsPast, IsUnder, sum_size, product_size, quotient_size, times_size}
+use Rattle.algebra.proofs.LcmLaws.{lcm-pos}
+use Rattle.algebra.proofs.RatioLaws.{mul-pos}
+use Rattle.algebra.proofs.SizeLaws.{under_refl, under_trans, under-sum, sum-right, past_under, sum_size_assoc}
+use Rattle.algebra.proofs.ProductSizes.{under_at_most, past_at_most, product_at_most_left, product_den-pos, times_under_product, under_times, past_product, clean_of}
 use Rattle.polynomials.specs.Algebra as Algebra
 use Rattle.polynomials.specs.Exponent.{plus}
 use Rattle.polynomials.specs.Order.{Rank}

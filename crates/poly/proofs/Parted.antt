@@ -4,12 +4,12 @@
 --   past_parts                where the product of two of them is past, so is that with the sums
 use Rattle.std.proofs.Common.{◌≡◌, ◌<◌, inl, inr, ℕ, zero, suc, ◌+◌, List, [], ◌∷◌, ◌++◌, length, map, sym, ap, ap₂, subst, ◌∙◌, arith, zero-add, suc-add}
 use Rattle.std.proofs.lemmas.List.{length_push}
-use Rattle.rings.specs.Arithmetic.{Arithmetic, power}
-use Rattle.rings.specs.Ring.{CommRing, IsRing, ring}
-use Rattle.numbers.specs.Scalars.{Scalars, IsBounded}
-use Rattle.numbers.specs.Size.{Size, sizes, product_size, IsPast, IsUnder}
-use Rattle.numbers.proofs.SizeLaws.{under_trans}
-use Rattle.numbers.proofs.ProductSizes.{IsClean, product_some, product_comm, product_assoc, one-product, power-add, past_product, past_left}
+use Rattle.algebra.specs.Arithmetic.{Arithmetic, power}
+use Rattle.algebra.specs.Ring.{CommRing, IsRing, ring}
+use Rattle.algebra.specs.Scalars.{Scalars, IsBounded}
+use Rattle.algebra.specs.Size.{Size, sizes, product_size, IsPast, IsUnder}
+use Rattle.algebra.proofs.SizeLaws.{under_trans}
+use Rattle.algebra.proofs.ProductSizes.{IsClean, product_some, product_comm, product_assoc, one-product, power-add, past_product, past_left}
 use Rattle.polynomials.specs.Exponent.{plus, Divides}
 use Rattle.polynomials.specs.Terms.{Terms, Same, lists, monomial_at}
 use Rattle.polynomials.specs.Order.{Rank, IsMonomialOrder}

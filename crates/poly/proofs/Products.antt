@@ -8,9 +8,9 @@
 use Rattle.polynomials.specs.Algebra as Algebra
 use Rattle.std.proofs.Common.{◌≡◌, ◌+◌, ℕ, suc, List, [], ◌∷◌, ◌++◌, refl, sym, ap, ap₂, subst, ◌∙◌, inl, inr, append_assoc}
 use Rattle.std.proofs.lemmas.List.{append-nil}
-use Rattle.numbers.specs.Scalars.{Scalars, IsBounded}
-use Rattle.rings.specs.Ring.{IsRing, ring as ring_of}
-use Rattle.numbers.specs.Size.{IsPast, product_size}
+use Rattle.algebra.specs.Scalars.{Scalars, IsBounded}
+use Rattle.algebra.specs.Ring.{IsRing, ring as ring_of}
+use Rattle.algebra.specs.Size.{IsPast, product_size}
 use Rattle.polynomials.specs.Exponent.{plus}
 use Rattle.polynomials.specs.Terms.{Terms, Same, constant, shift, times, lists}
 use Rattle.polynomials.specs.Polynomial.{Arity}
@@ -19,9 +19,9 @@ use Rattle.polynomials.specs.Weight.{weight, IsPastProduct}
 use Rattle.polynomials.specs.Exponent.{exponents}
 use Rattle.polynomials.proofs.Exponent.{exponents_monoid}
 use Rattle.polynomials.proofs.AlgebraRing.{algebra_ring, algebra_same, same_of_algebra, algebra-times}
-use Rattle.rings.specs.Arithmetic.{power}
-use Rattle.rings.specs.Ring.{CommRing}
-use Rattle.rings.proofs.RingLaws.{power-zero, power-suc, power-add}
+use Rattle.algebra.specs.Arithmetic.{power}
+use Rattle.algebra.specs.Ring.{CommRing}
+use Rattle.algebra.proofs.RingLaws.{power-zero, power-suc, power-add}
 use Rattle.polynomials.proofs.Arity.{arity-power}
 use Rattle.polynomials.proofs.Poly.{Poly, poly, poly_ring, poly_same, same_from_poly, poly-times}
 use Rattle.polynomials.proofs.Composition.{poly-power}

@@ -11,11 +11,11 @@
 --   images, drop_next, cut_next     what a list's image is
 use Rattle.std.proofs.Common.{◌≡◌, ◌≢◌, inl, inr, ℕ, Bool, true, false, Some, IsSomeAnd, slice_get, List, [], ◌∷◌, ◌++◌, length, map, take, drop, take-append-drop, get_or, ◌<◌, ◌+◌, append_assoc, refl, sym, ap, ap₂, subst, ◌∙◌, Ordering, Less, Equal, Greater}
 use Rattle.std.proofs.lemmas.List.{append-nil, map-append, drop_more}
-use Rattle.rings.specs.Each.{Each}
-use Rattle.rings.proofs.Each.{each-append, each-left, each-right, each_weaker, each_of}
-use Rattle.rings.specs.Ring.{IsRing, ring as ring_of}
-use Rattle.rings.proofs.RingLaws.{zero-add, neg-mul}
-use Rattle.numbers.specs.Scalars.{Scalars, IsPastAdd}
+use Rattle.algebra.specs.Each.{Each}
+use Rattle.algebra.proofs.Each.{each-append, each-left, each-right, each_weaker, each_of}
+use Rattle.algebra.specs.Ring.{IsRing, ring as ring_of}
+use Rattle.algebra.proofs.RingLaws.{zero-add, neg-mul}
+use Rattle.algebra.specs.Scalars.{Scalars, IsPastAdd}
 use Rattle.polynomials.specs.Exponent.{exponents, plus}
 use Rattle.polynomials.specs.Order.{Rank, IsMonomialOrder, compare}
 use Rattle.polynomials.specs.Polynomial.{Apart, Arity, Below, Falls, IsPolynomial}

@@ -5,13 +5,13 @@
 --   behind_distinct, rest_distinct     as it does behind a monomial, and without first variables that are in none
 --   free_step, free_none, free_at     what is free of the first variables, term by term
 use Rattle.std.proofs.Common.{◌≡◌, ℕ, false, List, [], ◌∷◌, ◌++◌, take, drop, replicate, length, refl, sym, ap, ap₂, subst, ◌∙◌, ◌⊎◌, inl, inr, take-append-drop, true≢false}
-use Rattle.rings.specs.Each.{Each}
-use Rattle.rings.proofs.Each.{each-append, each-right}
+use Rattle.algebra.specs.Each.{Each}
+use Rattle.algebra.proofs.Each.{each-append, each-right}
 use Rattle.polynomials.specs.Exponent.{same}
 use Rattle.polynomials.specs.Terms.{Terms, retold}
 use Rattle.polynomials.specs.Polynomial.{Apart, Arity, IsDistinct}
 use Rattle.polynomials.proofs.Exponent.{same_cases, same_refl}
-use Rattle.poly.specs.Front.{IsFreeOfFirst}
+use Rattle.machines.specs.Front.{IsFreeOfFirst}
 
 module _ {A : Type 0} (h : List ℕ → List ℕ) where
   retold-push : (p : Terms A) (t : List ℕ × A) → retold h (p ++ t ∷ []) ≡ retold h p ++ (h t.0, t.1)

@@ -3,14 +3,14 @@
 --   begin_shifting, step_shifting, shifted_at     nothing, one term more, and the whole
 --   scaled_at                    the whole where the monomial is 1
 --   takes_as                     a term, otherwise written
-use Rattle.rings.specs.Each.{Each}
+use Rattle.algebra.specs.Each.{Each}
 use Rattle.polynomials.specs.Algebra as Algebra
 use Rattle.std.proofs.Common.{◌≡◌, ℕ, List, [], ◌∷◌, ◌++◌, replicate, length, refl, sym, ap, ap₂, subst, ◌∙◌, inl, inr, Less}
 use Rattle.std.proofs.lemmas.List.{append-nil}
-use Rattle.rings.specs.Ring.{CommRing}
-use Rattle.numbers.specs.Scalars.{Scalars}
-use Rattle.rings.specs.Ring.{IsRing, ring as ring_of}
-use Rattle.rings.proofs.RingLaws.{mul-zero}
+use Rattle.algebra.specs.Ring.{CommRing}
+use Rattle.algebra.specs.Scalars.{Scalars}
+use Rattle.algebra.specs.Ring.{IsRing, ring as ring_of}
+use Rattle.algebra.proofs.RingLaws.{mul-zero}
 use Rattle.polynomials.specs.Exponent.{plus}
 use Rattle.polynomials.specs.Terms.{Terms, Same, constant, shift, times}
 use Rattle.polynomials.specs.Order.{Rank, IsMonomialOrder, compare}

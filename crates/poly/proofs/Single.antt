@@ -7,8 +7,8 @@ use Rattle.std.specs.List.{slice_get, All}
 use Rattle.std.specs.Option.{option_map, IsSomeAnd}
 use Rattle.std.proofs.lemmas.Option.{slice_get-map}
 use Rattle.std.proofs.lemmas.List.Elements.{All-head}
-use Rattle.numbers.specs.Scalars.{Scalars}
-use Rattle.rings.specs.Ring.{IsRing, ring as ring_of}
+use Rattle.algebra.specs.Scalars.{Scalars}
+use Rattle.algebra.specs.Ring.{IsRing, ring as ring_of}
 use Rattle.polynomials.specs.Exponent.{unit_exponents, exponents}
 use Rattle.polynomials.proofs.Exponent.{exponents_monoid}
 use Rattle.polynomials.proofs.AlgebraRing.{same_of_algebra, algebra-nil, monomial, monomial-list, monomial-zero}

@@ -8,8 +8,8 @@
 use Rattle.std.proofs.Common.{◌≡◌, ◌↔◌, ℕ, zero, suc, ◌<◌, Bool, List, [], ◌∷◌, ◌++◌, set as put, length, IsTrue, All, arith, refl, sym, ap, subst}
 use Rattle.std.proofs.lemmas.List.Elements.{All-nil, All-cons, All-head, All-tail}
 use Rattle.std.specs.declared.cmp.PartialEq as PartialEq
-use Rattle.rings.specs.Each.{Each}
-use Rattle.rings.specs.Ring.{IsRing, ring}
+use Rattle.algebra.specs.Each.{Each}
+use Rattle.algebra.specs.Ring.{IsRing, ring}
 use Rattle.polynomials.specs.Terms.{Terms, Same, AllSame}
 use Rattle.polynomials.specs.Order.{IsMonomialOrder}
 use Rattle.polynomials.specs.Polynomial.{Arity, AllArity, IsPolynomial}

@@ -4,14 +4,14 @@
 --   past_difference           where a difference is past
 --   shift_fits_at, all_arity, arity_at     exponents;  compare-shift: products keep the order
 --   begin_X, step_X           X so far: nothing, and one term more
-use Rattle.rings.specs.Each.{Each}
+use Rattle.algebra.specs.Each.{Each}
 use Rattle.polynomials.specs.Algebra as Algebra
 use Rattle.std.proofs.Common.{◌≡◌, ◌≢◌, ℕ, List, [], ◌∷◌, ◌++◌, length, refl, sym, ap, ap₂, subst, ◌∙◌}
 use Rattle.std.specs.List.{All}
 use Rattle.std.proofs.lemmas.List.Elements.{All-nil, All-cons}
-use Rattle.numbers.specs.Scalars.{Scalars, IsBounded}
-use Rattle.rings.specs.Ring.{IsRing, ring as ring_of}
-use Rattle.numbers.specs.Size.{IsPast, sum_size, product_size}
+use Rattle.algebra.specs.Scalars.{Scalars, IsBounded}
+use Rattle.algebra.specs.Ring.{IsRing, ring as ring_of}
+use Rattle.algebra.specs.Size.{IsPast, sum_size, product_size}
 use Rattle.polynomials.specs.Exponent.{plus}
 use Rattle.polynomials.specs.Terms.{Terms, shift, negate}
 use Rattle.polynomials.specs.Order.{Rank, IsMonomialOrder, compare}

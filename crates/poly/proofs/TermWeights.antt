@@ -3,13 +3,13 @@
 --   none_past                                  the answer None, of what is past
 --   few_fit, small_fits                        that of no term isn't past, nor is that of two numbers of 128 bits
 use Rattle.std.proofs.Common.{◌≡◌, ◌<◌, ◌^◌, inl, inr, ℕ, Option, None, List, [], ◌∷◌, ◌++◌, sym, ap, ap₂, subst, ◌∙◌, arith}
-use Rattle.numbers.specs.Scalars.{Scalars, IsBounded}
-use Rattle.rings.specs.Ring.{IsRing, ring as ring_of}
-use Rattle.numbers.specs.Size.{Size, size, sum_size, IsPast, SomeIf}
+use Rattle.algebra.specs.Scalars.{Scalars, IsBounded}
+use Rattle.algebra.specs.Ring.{IsRing, ring as ring_of}
+use Rattle.algebra.specs.Size.{Size, size, sum_size, IsPast, SomeIf}
 use Rattle.polynomials.specs.Terms.{Terms}
 use Rattle.polynomials.specs.Weight.{weight}
 use Rattle.polynomials.proofs.Weight.{weight-append}
-use Rattle.numbers.proofs.SizeLaws.{sum_size_comm, zero-sum_size}
+use Rattle.algebra.proofs.SizeLaws.{sum_size_comm, zero-sum_size}
 
 pub few_fit : IsPast (size 0 1) → ⊥
 few_fit (inl h) = omega arith

@@ -3,7 +3,7 @@
 --   AddsRow N b m t q old new     where the grid old holds a product p q, new holds (p + t) q
 --   Read N b m numbers p     p are terms inside with different monomials, whose coefficients are the numbers, each at its place
 use Rattle.std.specs.Prelude.{◌≡◌, ◌<◌, ◌^◌, ℕ, List, [], ◌∷◌, ◌++◌, length, All, slice_index_or as get_or}
-use Rattle.rings.specs.Arithmetic.{Arithmetic}
+use Rattle.algebra.specs.Arithmetic.{Arithmetic}
 use Rattle.polynomials.specs.Terms.{Terms, coefficient, times}
 use Rattle.polynomials.specs.Polynomial.{IsDistinct}
 use Rattle.poly.specs.Places.{place_of, exponents_at, IsInside}

@@ -10,4 +10,3 @@ pub mod Grid
 pub mod Multiple
 pub mod Undone
 pub mod Operations
-pub mod Front

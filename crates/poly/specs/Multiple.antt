@@ -2,9 +2,9 @@
 --   IsPastMultiple S p d c g     of p less c times the monomial d times g: the sum of p and the number times g is past, or an exponent of the shifted g doesn't fit
 --   lead_coefficient N p         the number of the first term, and zero of none
 use Rattle.std.specs.Prelude.{◌⊎◌, ℕ, List, [], ◌∷◌}
-use Rattle.rings.specs.Arithmetic.{Arithmetic}
-use Rattle.numbers.specs.Size.{IsPast, sum_size, product_size}
-use Rattle.numbers.specs.Scalars.{Scalars}
+use Rattle.algebra.specs.Arithmetic.{Arithmetic}
+use Rattle.algebra.specs.Size.{IsPast, sum_size, product_size}
+use Rattle.algebra.specs.Scalars.{Scalars}
 use Rattle.polynomials.specs.Exponent.{plus}
 use Rattle.polynomials.specs.Terms.{Terms}
 use Rattle.polynomials.specs.Weight.{weight, degrees, FitsMonomial}

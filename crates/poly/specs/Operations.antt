@@ -10,8 +10,8 @@
 --   AreDistinct ts       no two terms have the same monomial
 use Rattle.std.specs.Prelude.{◌≡◌, ◌≢◌, ℕ, Some, List, ◌++◌, map, slice_get, AllPairs, IsSomeAnd}
 use Rattle.std.specs.declared.cmp.PartialEq as PartialEq
-use Rattle.rings.specs.Arithmetic as Arithmetic
-use Rattle.numbers.specs.Size.{IsPast, product_size, quotient_size}
+use Rattle.algebra.specs.Arithmetic as Arithmetic
+use Rattle.algebra.specs.Size.{IsPast, product_size, quotient_size}
 use Rattle.polynomials.specs.Exponent.{plus}
 use Rattle.polynomials.specs.Terms.{Terms, Same, constant, variables, negate, shift, times, lists, compose, value_at}
 use Rattle.polynomials.specs.Weight.{weight, degrees, FitsMonomial, IsPastSum, IsPastProduct, IsPastPower, IsPastComposition, IsPastValue}

@@ -7,7 +7,7 @@
 --   most_places            an array has at most so many places
 --   IsGridFor N b m p q    b ^ m places hold p, q and the terms of their product, and an array has room for them
 use Rattle.std.specs.Prelude.{◌≡◌, ◌≤◌, ◌<◌, ◌+◌, ◌*◌, ◌/◌, ◌%◌, ◌^◌, ℕ, zero, suc, List, [], ◌∷◌, length, All}
-use Rattle.rings.specs.Arithmetic.{Arithmetic}
+use Rattle.algebra.specs.Arithmetic.{Arithmetic}
 use Rattle.polynomials.specs.Terms.{Terms, times}
 
 abbrev pub most_base : ℕ

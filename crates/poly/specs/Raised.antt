@@ -5,8 +5,8 @@
 --   IsPastRaise S olds d c t              of olds and c times the monomial d times the term t: an exponent, the product or the sum is past
 use Rattle.std.specs.Prelude.{◌≡◌, ◌≢◌, ◌⊎◌, ℕ, Bool, false, cond, List, [], ◌∷◌, ◌++◌, length}
 use Rattle.std.specs.declared.cmp.Ordering.TheVariants.{Less, Equal, Greater}
-use Rattle.rings.specs.Each.{Each}
-use Rattle.numbers.specs.Scalars.{Scalars, IsPastAdd, IsPastMul}
+use Rattle.algebra.specs.Each.{Each}
+use Rattle.algebra.specs.Scalars.{Scalars, IsPastAdd, IsPastMul}
 use Rattle.polynomials.specs.Exponent.{plus}
 use Rattle.polynomials.specs.Order.{Rank, compare}
 use Rattle.polynomials.specs.Polynomial.{IsPolynomial}

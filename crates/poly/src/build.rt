@@ -1,6 +1,6 @@
 //! Polynomials of given terms.
 ghost use Rattle.std.specs.Prelude.{◌≡◌, ◌≤◌, ◌<◌, length, [], ◌∷◌, slice_get, All, IfOk, IsErrOf, IsSomeAnd, IsTrue, ◌↔◌};
-ghost use Rattle.numbers.specs.Size.{IsPast};
+ghost use Rattle.algebra.specs.Size.{IsPast};
 ghost use Rattle.polynomials.specs.Terms.{constant, variables};
 ghost use Rattle.polynomials.specs.Polynomial.{IsPolynomial};
 ghost use Rattle.polynomials.specs.Weight.{weight};

@@ -2,7 +2,7 @@
 ghost use Rattle.std.specs.Prelude.{◌≡◌, ◌≤◌, ◌+◌, ◌-◌, ◌++◌, length, drop, All, IsTrue, ◌↔◌, IfOk};
 ghost use Rattle.polynomials.specs.Terms.{retold};
 ghost use Rattle.monos.specs.Variables.{most_variables};
-ghost use Rattle.poly.specs.Front.{IsFreeOfFirst};
+ghost use Rattle.machines.specs.Front.{IsFreeOfFirst};
 ghost use Rattle.poly.specs.Seen.{Is, terms_in};
 ghost use Rattle.poly.specs.View.{terms_of};
 

@@ -1,4 +1,9 @@
-//! Polynomials over a ring of checked numbers, with their terms in falling order: a layer above monomials.
+//! `Poly<K, O>`: polynomials over a ring of checked numbers, with their terms in falling order.
+//!
+//! Proved: each operation gives the one sorted list of the definition's polynomial, and is `Wide` only where its weight is past or an
+//! exponent that it forms doesn't fit; equal polynomials have equal terms.
+//!
+//! Notion: polynomials, 1.1; leads, 2.2.
 #![tactic(auto)]
 
 ghost use Rattle.std.specs.Prelude.{◌≡◌, ◌≤◌, [], IsTrue, ◌↔◌, IsNone, IfSome};
@@ -26,7 +31,7 @@ use ring_laws::Ring;
 use std::alloc::Global;
 
 /// A monomial with its coefficient.
-#[derive(Drop, Debug, PartialEq, Eq)]
+#[derive(Drop, PartialEq, Eq)]
 pub struct Term<K> {
     pub mono: Mono,
     pub coef: K,

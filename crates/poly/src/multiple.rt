@@ -1,6 +1,6 @@
 //! What divisions make: a polynomial less a multiple of another, and polynomials whose lead has the number 1.
 ghost use Rattle.std.specs.Prelude.{◌≡◌, ◌≢◌, ◌<◌, ◌≤◌, ◌+◌, ◌⊎◌, [], ◌++◌, length, vec_capacity, All, IfOk, OnOk, IsErrOf};
-ghost use Rattle.numbers.specs.Scalars.{IsPastAdd};
+ghost use Rattle.algebra.specs.Scalars.{IsPastAdd};
 ghost use Rattle.polynomials.specs.Exponent.{plus};
 ghost use Rattle.polynomials.specs.Polynomial.{IsPolynomial};
 ghost use Rattle.polynomials.specs.Terms.{coefficient};

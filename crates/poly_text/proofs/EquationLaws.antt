@@ -10,25 +10,25 @@ use Rattle.loops.specs.Program.{Expr, sub}
 use Rattle.loops.specs.WellFormed.{Uses}
 use Rattle.loops.proofs.Starts.{uses_weaker}
 use Rattle.grammars.specs.Grammar.{sequence, rule}
-use Rattle.expressions.specs.View.{expr_of}
-use Rattle.expressions.specs.declared.expr.Expr as code
-use Rattle.expr_text.specs.Lexemes.{Placed, sign, is_sign_of, tokens_from}
-use Rattle.expr_text.specs.NextToken.{seen_lexeme}
-use Rattle.expr_text.specs.Reasons.{Fault, init_uses}
-use Rattle.expr_text.specs.Faults.{fault_of}
-use Rattle.expr_text.specs.Sums.{SumContext, SumValue, SumState, Rule, a_sum, sum_language, equals, combine, the_end, start, equation, note}
-use Rattle.expr_text.specs.Telling.{Told, reading}
-use Rattle.expr_text.specs.CursorView.{rest}
-use Rattle.expr_text.specs.Reads.{used_by, Around, state_in, state_behind, behind_expr, with_operator}
-use Rattle.expr_text.specs.declared.cursor.Cursor.{Cursor}
-use Rattle.expr_text.specs.declared.error.TextError.{TextError}
-use Rattle.expr_text.specs.declared.sums.Part.{Part}
-use Rattle.expr_text.proofs.AllowedNames.{Allowed}
-use Rattle.expr_text.proofs.SumKept.{reading_safe, none_safe}
-use Rattle.expr_text.proofs.CursorReads.{sign_here, token_read}
-use Rattle.expr_text.proofs.PartSteps.{combine_done}
-use Rattle.expr_text.proofs.Paths.{IsFault, fault_passes, then_on, stopped, in_parts, GivesError}
-use Rattle.expr_text.proofs.WholeTexts.{whole_told, whole_reading}
+use Rattle.loop_model.specs.ExpressionView.{expr_of}
+use Rattle.loop_model.specs.declared.expr.Expr as code
+use Rattle.poly_text.specs.Lexemes.{Placed, sign, is_sign_of, tokens_from}
+use Rattle.poly_text.specs.NextToken.{seen_lexeme}
+use Rattle.poly_text.specs.Reasons.{Fault, init_uses}
+use Rattle.poly_text.specs.Faults.{fault_of}
+use Rattle.poly_text.specs.Sums.{SumContext, SumValue, SumState, Rule, a_sum, sum_language, equals, combine, the_end, start, equation, note}
+use Rattle.poly_text.specs.Telling.{Told, reading}
+use Rattle.poly_text.specs.CursorView.{rest}
+use Rattle.poly_text.specs.Reads.{used_by, Around, state_in, state_behind, behind_expr, with_operator}
+use Rattle.poly_text.specs.declared.cursor.Cursor.{Cursor}
+use Rattle.poly_text.specs.declared.error.TextError.{TextError}
+use Rattle.poly_text.specs.declared.sums.Part.{Part}
+use Rattle.poly_text.proofs.AllowedNames.{Allowed}
+use Rattle.poly_text.proofs.SumKept.{reading_safe, none_safe}
+use Rattle.poly_text.proofs.CursorReads.{sign_here, token_read}
+use Rattle.poly_text.proofs.PartSteps.{combine_done}
+use Rattle.poly_text.proofs.Paths.{IsFault, fault_passes, then_on, stopped, in_parts, GivesError}
+use Rattle.poly_text.proofs.WholeTexts.{whole_told, whole_reading}
 use Rattle.poly_text.specs.Equations.{sum_or_fault, sum_of, equation_of, tells}
 
 abbrev pub SumTold : Type 0

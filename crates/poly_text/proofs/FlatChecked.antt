@@ -2,7 +2,7 @@
 --   flat_read      a text is read to a state exactly where the grammar derives it
 use Rattle.std.proofs.Common.{◌≡◌, List, [], ◌∷◌, refl, true, false}
 use Rattle.std.specs.Prelude.{Bool, if◌then◌else◌, ◌↔◌}
-use Rattle.expressions.specs.Words as words
+use Rattle.loop_model.specs.Words as words
 use Rattle.grammars.specs.Kinds.{within}
 use Rattle.grammars.specs.Grammar.{change, either, rule}
 use Rattle.grammars.specs.Derivation.{derives_token, derives_sequence, derives_left, derives_rule, Text}
@@ -11,9 +11,9 @@ use Rattle.grammars.specs.First.{first}
 use Rattle.grammars.specs.Spelled.{IsRead}
 use Rattle.grammars.specs.Checked.{is_fit, begins_closed, IsChecked, IsWhole}
 use Rattle.grammars.proofs.Reading.{whole_read}
-use Rattle.expr_text.specs.Lexemes.{Placed}
-use Rattle.expr_text.specs.Kinds.{Kind, a_number, a_sign, same, sample}
-use Rattle.expr_text.proofs.SumChecked.{kinds_exact}
+use Rattle.poly_text.specs.Lexemes.{Placed}
+use Rattle.poly_text.specs.Kinds.{Kind, a_number, a_sign, same, sample}
+use Rattle.poly_text.proofs.SumChecked.{kinds_exact}
 use Rattle.poly_text.specs.Flat.{FlatContext, FlatState, FlatRule, Rule, an_exponent, fits, with_power, raising, rule_says, flat_language, whole_flat}
 
 -- what the rule says in either case

@@ -4,17 +4,17 @@
 use Rattle.std.proofs.Common.{◌≡◌, ℕ, List, [], ◌∷◌, refl, ap, subst, ◌∙◌, length}
 use Rattle.std.specs.Prelude.{⊤, true, false, Some}
 use Rattle.std.proofs.lemmas.List.{length-set}
-use Rattle.numbers.specs.Fraction.{Fraction}
+use Rattle.algebra.specs.Fraction.{Fraction}
 use Rattle.polynomials.specs.Terms.{Terms}
-use Rattle.rings.specs.Each.{Each}
+use Rattle.algebra.specs.Each.{Each}
 use Rattle.polynomials.specs.Polynomial.{Arity}
 use Rattle.polynomials.proofs.Arity.{arity-append, length-zeros}
 use Rattle.grammars.specs.Reader.{ReadResult, read, at_text_end, reads}
 use Rattle.grammars.specs.Spelled.{IsRead}
 use Rattle.grammars.proofs.Kept.{Keeps, KeepAll, read_kept}
-use Rattle.expr_text.specs.Lexemes.{Lexeme, tokens}
-use Rattle.expr_text.specs.Reasons.{Reason}
-use Rattle.expr_text.specs.Telling.{told}
+use Rattle.poly_text.specs.Lexemes.{Lexeme, tokens}
+use Rattle.poly_text.specs.Reasons.{Reason}
+use Rattle.poly_text.specs.Telling.{told}
 use Rattle.poly_text.specs.Flat.{FlatContext, FlatState, FlatRule, Rule, an_exponent, fits, with_power, with_item, signed_over, raising, rule_says, power, item, whole_flat, flat_language, no_exponents, start, terms_told, flat_of}
 use Rattle.poly_text.proofs.FlatChecked.{said_if, flat_read}
 

@@ -5,22 +5,22 @@
 use Rattle.std.proofs.Common.{◌≡◌, ◌≢◌, ℕ, ◌<◌, ◌^◌, List, [], ◌∷◌, refl, ap, sym, ◌∙◌, arith}
 use Rattle.std.specs.Prelude.{⊤, Bool, true, false, nat_le, nat_lt, if◌then◌else◌, IsTrue, Option, Some, None, unwrap_or, is_some, Ok}
 use Rattle.std.proofs.lemmas.Bool.Decides.{nat_tests}
-use Rattle.expressions.specs.Words.{is_plain_word}
-use Rattle.expressions.specs.Names.{place_of}
+use Rattle.loop_model.specs.Words.{is_plain_word}
+use Rattle.loop_model.specs.Names.{place_of}
 use Rattle.grammars.specs.Kinds.{has}
 use Rattle.grammars.specs.Grammar.{sequence, many, rule}
-use Rattle.expr_text.specs.Lexemes as lexemes
-use Rattle.expr_text.specs.Lexemes.{Lexeme, Placed, tokens_from, is_sign_of}
-use Rattle.expr_text.specs.Kinds.{a_name, a_number, no_kind, a_sign, same, kind_of}
-use Rattle.expr_text.specs.Reasons.{Reason, syntax, limit, divisor, unknown, unless}
-use Rattle.expr_text.specs.NextToken.{seen_lexeme}
-use Rattle.expr_text.specs.CursorView.{rest, behind}
-use Rattle.expr_text.specs.Telling.{Told, reading}
-use Rattle.expr_text.specs.declared.lexemes.Lexeme.TheVariants as code_lexeme
-use Rattle.expr_text.specs.declared.cursor.Cursor.{Cursor}
-use Rattle.expr_text.proofs.KindTests.{unlike, no_sign}
-use Rattle.expr_text.proofs.Paths.{reading_rule, reading_change, then_on, in_parts}
-use Rattle.expr_text.proofs.CursorReads.{genuine_number, genuine_name, sign_here, fault_at, here, token_read, token_faulty, token_barred, at_left, at_right, at_more, at_none, no_first}
+use Rattle.poly_text.specs.Lexemes as lexemes
+use Rattle.poly_text.specs.Lexemes.{Lexeme, Placed, tokens_from, is_sign_of}
+use Rattle.poly_text.specs.Kinds.{a_name, a_number, no_kind, a_sign, same, kind_of}
+use Rattle.poly_text.specs.Reasons.{Reason, syntax, limit, divisor, unknown, unless}
+use Rattle.poly_text.specs.NextToken.{seen_lexeme}
+use Rattle.poly_text.specs.CursorView.{rest, behind}
+use Rattle.poly_text.specs.Telling.{Told, reading}
+use Rattle.poly_text.specs.declared.lexemes.Lexeme.TheVariants as code_lexeme
+use Rattle.poly_text.specs.declared.cursor.Cursor.{Cursor}
+use Rattle.poly_text.proofs.KindTests.{unlike, no_sign}
+use Rattle.poly_text.proofs.Paths.{reading_rule, reading_change, then_on, in_parts}
+use Rattle.poly_text.proofs.CursorReads.{genuine_number, genuine_name, sign_here, fault_at, here, token_read, token_faulty, token_barred, at_left, at_right, at_more, at_none, no_first}
 use Rattle.poly_text.specs.Flat.{FlatContext, FlatState, Rule, an_exponent, takes, fits, raise, with_power, sign_token, name_token, exponent_token, raising, power, factor, numerator_token, denominator_token, division, coefficient, first_part, flat_language}
 use Rattle.poly_text.specs.FlatReads.{state_of, at_power, divided_by}
 use Rattle.poly_text.proofs.FlatChecked.{said_if, flat_checked}

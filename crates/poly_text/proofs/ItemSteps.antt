@@ -8,27 +8,27 @@ use Rattle.std.specs.Prelude.{⊤, Bool, true, false, if◌then◌else◌, Optio
 use Rattle.std.proofs.lemmas.Bool.{or_from}
 use Rattle.std.proofs.Math.Bool.{or-false}
 use Rattle.std.specs.Global.{Vec}
-use Rattle.numbers.specs.Fraction.{Fraction}
+use Rattle.algebra.specs.Fraction.{Fraction}
 use Rattle.frac128.specs.declared.fraction.Frac.{Frac}
 use Rattle.poly.specs.declared.Term.{Term}
 use Rattle.polynomials.specs.Terms.{Terms}
 use Rattle.grammars.specs.Kinds.{has}
 use Rattle.grammars.specs.Grammar.{sequence, many, optional}
-use Rattle.expr_text.specs.Lexemes as lexemes
-use Rattle.expr_text.specs.Lexemes.{Placed, tokens, tokens_from, is_sign_of}
-use Rattle.expr_text.specs.Kinds.{Kind, an_end, a_sign, same, kind_of}
-use Rattle.expr_text.specs.Reasons.{twice, Fault}
-use Rattle.expr_text.specs.Faults.{fault_of}
-use Rattle.expr_text.specs.NextToken.{seen_lexeme, tokens_behind}
-use Rattle.expr_text.specs.CursorView.{rest, behind}
-use Rattle.expr_text.specs.Telling.{Told}
-use Rattle.expr_text.specs.declared.error.TextError.{TextError}
-use Rattle.expr_text.specs.declared.cursor.Cursor.{Cursor}
-use Rattle.expr_text.specs.declared.lexemes.Lexeme.TheVariants as code_lexeme
-use Rattle.expr_text.proofs.KindTests.{unlike, no_sign}
-use Rattle.expr_text.proofs.Paths.{reading_change, IsFault, then_on, stopped, in_first, in_parts}
-use Rattle.expr_text.proofs.WholeTexts.{whole_told, whole_reading}
-use Rattle.expr_text.proofs.CursorReads.{GivesError, sign_here, here, taken, token_read, token_faulty, token_barred, at_left, at_right, at_more, at_none, no_first}
+use Rattle.poly_text.specs.Lexemes as lexemes
+use Rattle.poly_text.specs.Lexemes.{Placed, tokens, tokens_from, is_sign_of}
+use Rattle.poly_text.specs.Kinds.{Kind, an_end, a_sign, same, kind_of}
+use Rattle.poly_text.specs.Reasons.{twice, Fault}
+use Rattle.poly_text.specs.Faults.{fault_of}
+use Rattle.poly_text.specs.NextToken.{seen_lexeme, tokens_behind}
+use Rattle.poly_text.specs.CursorView.{rest, behind}
+use Rattle.poly_text.specs.Telling.{Told}
+use Rattle.poly_text.specs.declared.error.TextError.{TextError}
+use Rattle.poly_text.specs.declared.cursor.Cursor.{Cursor}
+use Rattle.poly_text.specs.declared.lexemes.Lexeme.TheVariants as code_lexeme
+use Rattle.poly_text.proofs.KindTests.{unlike, no_sign}
+use Rattle.poly_text.proofs.Paths.{reading_change, IsFault, then_on, stopped, in_first, in_parts}
+use Rattle.poly_text.proofs.WholeTexts.{whole_told, whole_reading}
+use Rattle.poly_text.proofs.CursorReads.{GivesError, sign_here, here, taken, token_read, token_faulty, token_barred, at_left, at_right, at_more, at_none, no_first}
 use Rattle.poly_text.specs.Flat.{FlatContext, Rule, stands, item_fault, with_item, at_item, operator_token, minus_token, item, next_item, flat, the_end, flat_language, start, terms_told, flat_of}
 use Rattle.poly_text.specs.FlatReads.{state_of, polynomial_told}
 use Rattle.poly_text.proofs.FlatChecked.{flat_checked}

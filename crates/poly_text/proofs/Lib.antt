@@ -1,3 +1,16 @@
+pub mod AllowedNames
+pub mod Lexing
+pub mod Shapes
+pub mod PrintedLexing
+pub mod SumChecked
+pub mod LexemeRuns
+pub mod WholeTexts
+pub mod SumKept
+pub mod KindTests
+pub mod PartSteps
+pub mod Paths
+pub mod CursorReads
+pub mod ReaderSteps
 pub mod PrintedPowers
 pub mod PrintedTerms
 pub mod Quotients
@@ -9,3 +22,4 @@ pub mod FlatOver
 pub mod PrintedItems
 pub mod PrintedSays
 pub mod EquationLaws
+pub mod Numerals

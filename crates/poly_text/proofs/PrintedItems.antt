@@ -16,25 +16,25 @@ use Rattle.std.proofs.lemmas.List.Folds.{list_any_at}
 use Rattle.std.proofs.lemmas.List.Elements.{All-head, All-tail}
 use Rattle.std.proofs.lemmas.List.Sums.{sum_by-cons}
 use Rattle.frac128.specs.Sums.{negate_if}
-use Rattle.numbers.specs.Fraction.{Fraction, fraction, over}
-use Rattle.numbers.proofs.RatioLaws.{reduce_value_is}
-use Rattle.numbers.proofs.Fractions.{facts, some, fraction-ratio}
+use Rattle.algebra.specs.Fraction.{Fraction, fraction, over}
+use Rattle.algebra.proofs.RatioLaws.{reduce_value_is}
+use Rattle.algebra.proofs.Fractions.{facts, some, fraction-ratio}
 use Rattle.polynomials.specs.Terms.{Terms}
-use Rattle.expressions.specs.Names.{place_of}
-use Rattle.expressions.specs.Words.{is_plain_word}
-use Rattle.expressions.proofs.Places.{place_there, place_within, place_stands, bytes_eq-refl}
+use Rattle.loop_model.specs.Names.{place_of}
+use Rattle.loop_model.specs.Words.{is_plain_word}
+use Rattle.loop_model.proofs.Places.{place_there, place_within, place_stands, bytes_eq-refl}
 use Rattle.grammars.specs.Kinds.{has}
 use Rattle.grammars.specs.Grammar.{either, many, rule}
 use Rattle.grammars.specs.Derivation.{Mark, Derives, derives_token, derives_change, derives_sequence, derives_left, derives_right, derives_none, derives_more, derives_rule}
-use Rattle.expr_text.specs.Lexemes.{Lexeme, Placed, name, number, sign}
-use Rattle.expr_text.specs.Kinds.{Kind, a_name, a_number, a_sign, same, kind_of}
-use Rattle.expr_text.specs.Reasons.{Reason, limit, unknown, divisor, unless}
+use Rattle.poly_text.specs.Lexemes.{Lexeme, Placed, name, number, sign}
+use Rattle.poly_text.specs.Kinds.{Kind, a_name, a_number, a_sign, same, kind_of}
+use Rattle.poly_text.specs.Reasons.{Reason, limit, unknown, divisor, unless}
 use Rattle.poly_text.specs.Flat.{FlatContext, FlatState, Rule, an_exponent, takes, fits, raise, signed_over, with_item, at_item, raising, power, factor, coefficient, item, flat_language}
 use Rattle.poly_text.specs.FlatReads.{state_of}
 use Rattle.poly_text.specs.Printed.{fraction_text, power_text, powers, is_bare, product_text, term_text}
 use Rattle.poly_text.specs.PrintedParts.{joined_behind}
 use Rattle.poly_text.specs.Narrow.{IsNarrow}
-use Rattle.expr_text.proofs.PrintedLexing.{lex, sign_lexed, Ends, slash_ends, caret_ends, star_ends, name_lexed, number_lexed}
+use Rattle.poly_text.proofs.PrintedLexing.{lex, sign_lexed, Ends, slash_ends, caret_ends, star_ends, name_lexed, number_lexed}
 use Rattle.poly_text.proofs.FlatChecked.{said_if}
 use Rattle.poly_text.proofs.FlatSteps.{number_kind, name_kind}
 

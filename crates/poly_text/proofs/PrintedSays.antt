@@ -9,14 +9,14 @@ use Rattle.std.specs.Str.{bytes_eq}
 use Rattle.std.proofs.lemmas.Fmt.{decimal_digit}
 use Rattle.std.proofs.lemmas.Bool.{or_from}
 use Rattle.std.proofs.lemmas.List.Elements.{All-head, All-tail}
-use Rattle.numbers.specs.Fraction.{Fraction, fraction, ℚ}
-use Rattle.numbers.proofs.RatioLaws.{frac_zero, zero-value, reduce_value_is}
-use Rattle.numbers.proofs.Fractions.{ℚ_ring}
+use Rattle.algebra.specs.Fraction.{Fraction, fraction, ℚ}
+use Rattle.algebra.proofs.RatioLaws.{frac_zero, zero-value, reduce_value_is}
+use Rattle.algebra.proofs.Fractions.{ℚ_ring}
 use Rattle.polynomials.specs.Exponent.{same}
-use Rattle.rings.specs.Each.{Each}
-use Rattle.rings.specs.Sum.{sum_over}
-use Rattle.rings.proofs.Basics.{same_tail, not_both}
-use Rattle.rings.proofs.Each.{each-right}
+use Rattle.algebra.specs.Each.{Each}
+use Rattle.algebra.specs.Sum.{sum_over}
+use Rattle.algebra.proofs.Basics.{same_tail, not_both}
+use Rattle.algebra.proofs.Each.{each-right}
 use Rattle.polynomials.specs.Algebra as Algebra
 use Rattle.polynomials.specs.Terms.{Terms, Same}
 use Rattle.polynomials.specs.Polynomial.{Arity, IsDistinct, IsPolynomial}
@@ -24,19 +24,19 @@ use Rattle.polynomials.proofs.Exponent.{same_refl}
 use Rattle.polynomials.proofs.Distinct.{distinct_falls}
 use Rattle.polynomials.specs.Order.{grevlex}
 use Rattle.polynomials.proofs.Orders.{grevlex_order}
-use Rattle.expressions.proofs.Places.{bytes_apart}
+use Rattle.loop_model.proofs.Places.{bytes_apart}
 use Rattle.grammars.specs.Grammar.{Placed, many}
 use Rattle.grammars.specs.Derivation.{Derives, derives_nothing, derives_sequence, derives_left, derives_right, derives_change, derives_none, derives_more}
 use Rattle.grammars.specs.FirstFault.{symbols_in, lexemes_of, sounds}
 use Rattle.grammars.proofs.Offsets.{marks_at, moved}
-use Rattle.expr_text.specs.Lexemes.{Lexeme, number, sign, the_end, tokens, lexemes}
-use Rattle.expr_text.specs.Kinds.{an_end, a_number, a_sign}
-use Rattle.expr_text.specs.Reasons.{twice}
+use Rattle.poly_text.specs.Lexemes.{Lexeme, number, sign, the_end, tokens, lexemes}
+use Rattle.poly_text.specs.Kinds.{an_end, a_number, a_sign}
+use Rattle.poly_text.specs.Reasons.{twice}
 use Rattle.poly_text.specs.Flat.{FlatState, Rule, stands, with_item, at_item, operator_token, item, next_item, the_end as flat_end, flat_language, whole_flat, start, flat_of}
 use Rattle.poly_text.specs.FlatReads.{state_of}
 use Rattle.poly_text.specs.Printed.{term_text, later_text, polynomial_text}
 use Rattle.poly_text.specs.Narrow.{IsNarrow}
-use Rattle.expr_text.proofs.PrintedLexing.{lex, lex-nil, blank_lexed, sign_lexed, Ends, end_ends, blank_ends, number_lexed}
+use Rattle.poly_text.proofs.PrintedLexing.{lex, lex-nil, blank_lexed, sign_lexed, Ends, end_ends, blank_ends, number_lexed}
 use Rattle.poly_text.proofs.FlatOver.{flat_from}
 use Rattle.poly_text.proofs.FlatSteps.{number_kind}
 use Rattle.poly_text.proofs.PrintedItems.{spell, Spelled, sound, regrouped, ArePlain, behind_term, item_found, item_says}

@@ -5,13 +5,13 @@ use Rattle.std.proofs.lemmas.Int.{ints}
 use Rattle.std.specs.Prelude.{◌↔◌, IsErrOf}
 use Rattle.std.specs.Result.{IsOk}
 use lib.Signed.{◌<ℤ◌}
-use Rattle.numbers.specs.Gcd.{gcd}
-use Rattle.numbers.specs.Ratio.{ratio, exact, reduce, ratio_size}
-use Rattle.numbers.specs.Size.{IsPast}
-use Rattle.numbers.proofs.SizeLaws.{abs-neg}
-use Rattle.numbers.specs.Fraction.{over, fraction_size}
-use Rattle.numbers.proofs.RatioLaws.{reduce-value}
-use Rattle.numbers.proofs.Fractions.{ratio-fraction}
+use Rattle.algebra.specs.Gcd.{gcd}
+use Rattle.algebra.specs.Ratio.{ratio, exact, reduce, ratio_size}
+use Rattle.algebra.specs.Size.{IsPast}
+use Rattle.algebra.proofs.SizeLaws.{abs-neg}
+use Rattle.algebra.specs.Fraction.{over, fraction_size}
+use Rattle.algebra.proofs.RatioLaws.{reduce-value}
+use Rattle.algebra.proofs.Fractions.{ratio-fraction}
 use Rattle.frac128.specs.FracMeaning.{fraction_of}
 use Rattle.frac128.specs.Sums as signed
 use Rattle.frac128.specs.declared.fraction.Frac.{Frac}

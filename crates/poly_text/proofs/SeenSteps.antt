@@ -11,9 +11,9 @@ use Rattle.std.proofs.lemmas.List.Quantifiers.{all_pairs_push}
 use Rattle.std.proofs.lemmas.Slice.Eq.{bytes_eq-Decides}
 use Rattle.std.proofs.lemmas.Map.Text.{is_eq-slice_cmp}
 use Rattle.std.proofs.lemmas.List.{map-append, length-map, get_or-map}
-use Rattle.rings.proofs.Basics.{not_both}
-use Rattle.rings.proofs.Lists.{have_more}
-use Rattle.numbers.specs.Fraction.{Fraction}
+use Rattle.algebra.proofs.Basics.{not_both}
+use Rattle.algebra.proofs.Lists.{have_more}
+use Rattle.algebra.specs.Fraction.{Fraction}
 use Rattle.frac128.specs.declared.fraction.Frac.{Frac}
 use Rattle.polynomials.specs.Terms.{Terms}
 use Rattle.poly.specs.declared.Term.{Term}

@@ -6,23 +6,23 @@
 --   free_state m             the variables, each with itself as its value
 --   Answers m sum_or_fault r         r is the polynomial that is said, and no operation that forms it passes a limit; or the text's first fault; or the operation that stops; want of memory says nothing
 use Rattle.std.specs.Prelude.{◌≡◌, ◌≢◌, ⊤, ℕ, List, [], ◌∷◌, Option, Some, Result, Ok, Err, option_map, IsSomeAnd, IsOkAnd}
-use Rattle.numbers.specs.Fraction.{Fraction, ℚ}
+use Rattle.algebra.specs.Fraction.{Fraction, ℚ}
 use Rattle.polynomials.specs.Terms.{Terms, variables}
 use Rattle.loops.specs.Program.{Expr}
 use Rattle.grammars.specs.Reader.{read_whole}
-use Rattle.expr_text.specs.Lexemes.{Placed}
-use Rattle.expr_text.specs.Reasons.{Fault, syntax}
-use Rattle.expr_text.specs.Sums.{SumContext, SumValue, sum_language, whole_sum, whole_equation, start}
-use Rattle.expr_text.specs.Faults.{fault_of}
-use Rattle.expr_text.specs.Telling.{Told, told}
+use Rattle.poly_text.specs.Lexemes.{Placed}
+use Rattle.poly_text.specs.Reasons.{Fault, syntax}
+use Rattle.poly_text.specs.Sums.{SumContext, SumValue, sum_language, whole_sum, whole_equation, start}
+use Rattle.poly_text.specs.Faults.{fault_of}
+use Rattle.poly_text.specs.Telling.{Told, told}
 use Rattle.poly.specs.Standing.{StandsFor}
-use Rattle.expressions.specs.FracPoly.{FracPoly}
-use Rattle.expressions.specs.Operations.{value, operations, IsFree}
-use Rattle.expressions.specs.Stops.{Stops}
-use Rattle.expressions.specs.declared.map_error.MapError.{MapError}
-use Rattle.expressions.specs.declared.map_error.MapError.TheVariants as map_error
-use Rattle.expr_text.specs.declared.error.TextError.{TextError}
-use Rattle.expr_text.specs.declared.error.TextError.TheVariants as text_error
+use Rattle.loop_model.specs.FracPoly.{FracPoly}
+use Rattle.loop_model.specs.Operations.{value, operations, IsFree}
+use Rattle.loop_model.specs.Stops.{Stops}
+use Rattle.loop_model.specs.declared.map_error.MapError.{MapError}
+use Rattle.loop_model.specs.declared.map_error.MapError.TheVariants as map_error
+use Rattle.poly_text.specs.declared.error.TextError.{TextError}
+use Rattle.poly_text.specs.declared.error.TextError.TheVariants as text_error
 use Rattle.poly_text.specs.declared.equation.PolyTextError.{PolyTextError}
 use Rattle.poly_text.specs.declared.equation.PolyTextError.TheVariants as refusal
 

@@ -15,18 +15,18 @@
 use Rattle.std.specs.Prelude.{⊤, ℕ, pos, ◌+◌, Bool, true, false, nat_le, if◌then◌else◌, List, [], ◌∷◌, ◌++◌, length, replicate, slice_index, set, Option, Some, None, Ok, Err, unwrap_or, is_some}
 use Rattle.std.specs.List.{list_any}
 use Rattle.std.specs.Str.{bytes_eq}
-use Rattle.numbers.specs.Fraction.{Fraction, over}
+use Rattle.algebra.specs.Fraction.{Fraction, over}
 use Rattle.frac128.specs.Sums.{negate_if}
 use Rattle.polynomials.specs.Terms.{Terms}
-use Rattle.expressions.specs.Ascii.{star, plus_sign, minus_sign, slash, caret}
-use Rattle.expressions.specs.Names.{place_of}
+use Rattle.loop_model.specs.Ascii.{star, plus_sign, minus_sign, slash, caret}
+use Rattle.loop_model.specs.Names.{place_of}
 use Rattle.grammars.specs.Grammar.{State, Grammar, Language, token, change, sequence, either, many, rule, optional, plain}
 use Rattle.grammars.specs.Reader.{read_whole}
-use Rattle.expr_text.specs.Lexemes.{Lexeme, tokens, is_sign_of}
-use Rattle.expr_text.specs.Kinds.{Kind, a_name, a_number, an_end, a_sign, same, kind_of, sample, word_in}
-use Rattle.expr_text.specs.Reasons.{Reason, limit, divisor, unknown, twice, unless}
-use Rattle.expr_text.specs.Sums.{number_of}
-use Rattle.expr_text.specs.Telling.{Told, told}
+use Rattle.poly_text.specs.Lexemes.{Lexeme, tokens, is_sign_of}
+use Rattle.poly_text.specs.Kinds.{Kind, a_name, a_number, an_end, a_sign, same, kind_of, sample, word_in}
+use Rattle.poly_text.specs.Reasons.{Reason, limit, divisor, unknown, twice, unless}
+use Rattle.poly_text.specs.Sums.{number_of}
+use Rattle.poly_text.specs.Telling.{Told, told}
 
 pub record FlatContext : Type 0 where
   pub names : List (List ℕ)

@@ -7,12 +7,12 @@
 --   polynomial_told r              the terms that r has, or none where the text is refused; nothing where memory failed
 use Rattle.std.specs.Prelude.{ℕ, Bool, List, Option, Some, None, Result, Ok, Err, option_map}
 use Rattle.std.specs.Global.{Vec}
-use Rattle.numbers.specs.Fraction.{Fraction}
+use Rattle.algebra.specs.Fraction.{Fraction}
 use Rattle.polynomials.specs.Terms.{Terms}
 use Rattle.frac128.specs.declared.fraction.Frac.{Frac}
 use Rattle.poly.specs.declared.Term.{Term}
-use Rattle.expr_text.specs.Faults.{fault_of}
-use Rattle.expr_text.specs.declared.error.TextError.{TextError}
+use Rattle.poly_text.specs.Faults.{fault_of}
+use Rattle.poly_text.specs.declared.error.TextError.{TextError}
 use Rattle.poly_text.specs.Flat.{FlatContext, FlatState, signed_over, at_item}
 use Rattle.poly_text.specs.Seen.{read_terms}
 use Rattle.poly_text.specs.declared.item.Item.{Item}

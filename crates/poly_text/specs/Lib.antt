@@ -1,3 +1,14 @@
+pub mod Tokens
+pub mod Lexemes
+pub mod NextToken
+pub mod Reasons
+pub mod NameFaults
+pub mod Faults
+pub mod Kinds
+pub mod Sums
+pub mod CursorView
+pub mod Reads
+pub mod Telling
 pub mod Flat
 pub mod FlatReads
 pub mod Printed
@@ -5,3 +16,5 @@ pub mod PrintedParts
 pub mod Seen
 pub mod Narrow
 pub mod Equations
+pub mod Number
+pub mod Text

@@ -11,7 +11,7 @@
 use Rattle.std.specs.Prelude.{ℕ, zero, suc, Bool, ◌&&◌, not, ◌==◌, if◌then◌else◌, List, [], ◌∷◌, ◌++◌, sum, unsigned_abs, codes, decimal}
 use Rattle.std.specs.List.{join_by}
 use Rattle.std.specs.Int.{is_negative}
-use Rattle.numbers.specs.Fraction.{Fraction}
+use Rattle.algebra.specs.Fraction.{Fraction}
 use Rattle.polynomials.specs.Terms.{Terms}
 
 unfoldable pub fraction_text : ℕ → ℕ → List ℕ

@@ -2,18 +2,18 @@
 
 ghost use Rattle.std.specs.Prelude.{◌≡◌, ◌<◌, length, IfOk, IfSome, Ok};
 ghost use Rattle.loops.specs.WellFormed.{Uses};
-ghost use Rattle.expr_text.specs.Lexemes.{tokens};
-ghost use Rattle.expr_text.specs.Sums as grammar;
-ghost use Rattle.expr_text.specs.Sums.{SumState, sum_language};
-ghost use Rattle.expr_text.specs.Telling.{Ends};
-ghost use Rattle.expressions.specs.View.{expr_of};
-ghost use Rattle.expressions.specs.Operations.{value, operations};
-ghost use Rattle.expressions.specs.Stops.{Forms};
+ghost use Rattle.poly_text.specs.Lexemes.{tokens};
+ghost use Rattle.poly_text.specs.Sums as grammar;
+ghost use Rattle.poly_text.specs.Sums.{SumState, sum_language};
+ghost use Rattle.poly_text.specs.Telling.{Ends};
+ghost use Rattle.loop_model.specs.ExpressionView.{expr_of};
+ghost use Rattle.loop_model.specs.Operations.{value, operations};
+ghost use Rattle.loop_model.specs.Stops.{Forms};
 ghost use Rattle.poly_text.specs.Equations.{sum_of, equation_of, free_state, tells, text_refusal, map_refusal, Answers};
 
-use expr_text::{Cursor, Lexeme, Refusal, SumReader, TextError};
-use expressions::{Expr, MapError, Names, expr_poly, free_state};
+use crate::{Cursor, Lexeme, Refusal, SumReader, TextError};
 use frac128::Frac;
+use loop_model::{Expr, MapError, Names, expr_poly, free_state};
 use monos::Grevlex;
 use poly::Poly;
 use std::alloc::Global;
@@ -88,7 +88,7 @@ pub fn read_sum(alloc: Global, text: &[u8], names: &Names) -> Result<Expr, TextE
 }
 
 /// The equation that the text is, as its left side minus its right side.
-#[tactic(auto, unfolding(expressions::specs::View::expr_of))]
+#[tactic(auto, unfolding(loop_model::specs::ExpressionView::expr_of))]
 fn read_difference(alloc: Global, text: &[u8], names: &Names) -> Result<Expr, TextError>
     ensures reads { IfSome (tells expr_of result)
         (λ r. r ≡ equation_of names.now (tokens text.now)) }

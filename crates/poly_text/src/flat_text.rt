@@ -1,22 +1,22 @@
-//! Reads the items of a flat polynomial as terms.
+//! Reads flat polynomials: their items, as terms.
 
 ghost use Rattle.std.specs.Prelude.{◌≡◌, ◌≢◌, ℕ, ◌<◌, ◌≤◌, List, ◌∷◌, ◌++◌, [], not, pos, ◌<ℤ◌, unsigned_abs, length, vec_len, All, AllPairs, Ok, IfOk, OnOk, IfSome, IsTrue};
-ghost use Rattle.numbers.specs.Fraction.{over};
+ghost use Rattle.algebra.specs.Fraction.{over};
 ghost use Rattle.frac128.specs.FracMeaning.{fraction_of};
 ghost use Rattle.grammars.specs.Grammar.{optional};
 ghost use Rattle.monos.specs.Variables.{most_variables};
-ghost use Rattle.expr_text.specs.CursorView.{rest};
-ghost use Rattle.expr_text.specs.Telling.{reading};
-ghost use Rattle.expr_text.specs.Tokens.{number_limit};
+ghost use Rattle.poly_text.specs.CursorView.{rest};
+ghost use Rattle.poly_text.specs.Telling.{reading};
+ghost use Rattle.poly_text.specs.Tokens.{number_limit};
 ghost use Rattle.poly_text.specs.Flat.{flat_of, flat_language, minus_token, at_item, start, stands, signed_over};
 ghost use Rattle.poly_text.specs.FlatReads.{state_of, term_with, polynomial_told};
 ghost use Rattle.poly_text.specs.Seen.{read_terms, HasRead};
 
 use crate::item::Item;
 use crate::item_text::read_item;
-use expr_text::{Cursor, Lexeme, TextError};
-use expressions::Names;
+use crate::{Cursor, Lexeme, TextError};
 use frac128::Frac;
+use loop_model::Names;
 use monos::Mono;
 use poly::Term;
 use std::alloc::{AllocError, Global};

@@ -1,7 +1,7 @@
 //! An item of a flat polynomial.
 
 ghost use Rattle.std.specs.Prelude.{◌<◌};
-ghost use Rattle.expr_text.specs.Tokens.{number_limit};
+ghost use Rattle.poly_text.specs.Tokens.{number_limit};
 
 /// What an item is without its sign: its exponents, one for each name, and its number.
 #[derive(Drop)]

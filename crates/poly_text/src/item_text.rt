@@ -1,20 +1,20 @@
-//! Reads the items of flat polynomials.
+//! Reads the parts of an item of a flat polynomial.
 
 ghost use Rattle.std.specs.Prelude.{◌≡◌, ℕ, ◌<◌, ◌≤◌, ◌^◌, Bool, List, length, vec_len, is_some, IfOk, IfSome};
-ghost use Rattle.numbers.specs.Fraction.{Fraction};
+ghost use Rattle.algebra.specs.Fraction.{Fraction};
 ghost use Rattle.polynomials.specs.Terms.{Terms};
 ghost use Rattle.grammars.specs.Grammar.{many, rule};
 ghost use Rattle.monos.specs.Variables.{most_variables};
-ghost use Rattle.expr_text.specs.CursorView.{bytes_left};
-ghost use Rattle.expr_text.specs.Telling.{Reads};
-ghost use Rattle.expr_text.specs.Tokens.{number_limit};
+ghost use Rattle.poly_text.specs.CursorView.{bytes_left};
+ghost use Rattle.poly_text.specs.Telling.{Reads};
+ghost use Rattle.poly_text.specs.Tokens.{number_limit};
 ghost use Rattle.poly_text.specs.Flat as grammar;
 ghost use Rattle.poly_text.specs.Flat.{FlatContext, flat_language};
 ghost use Rattle.poly_text.specs.FlatReads.{state_of, at_power, divided_by, behind_item};
 
 use crate::item::Item;
-use expr_text::{Cursor, Lexeme, TextError};
-use expressions::Names;
+use crate::{Cursor, Lexeme, TextError};
+use loop_model::Names;
 use std::alloc::Global;
 
 /// The highest exponent of a name in an item.

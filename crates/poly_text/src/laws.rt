@@ -1,12 +1,12 @@
-//! Laws of the texts' definitions, one function each.
+//! The laws of flat polynomials and of printed ones, one function each.
 ghost use Rattle.std.specs.Prelude.{◌≡◌, ◌≢◌, ◌↔◌, ℕ, List, length, Some, All, AllPairs, IsTrue, IsSomeAnd};
-ghost use Rattle.numbers.specs.Fraction.{Fraction, ℚ};
+ghost use Rattle.algebra.specs.Fraction.{Fraction, ℚ};
 ghost use Rattle.polynomials.specs.Terms.{Terms, Same};
 ghost use Rattle.polynomials.specs.Polynomial.{Arity, IsPolynomial};
 ghost use Rattle.polynomials.specs.Order.{grevlex};
-ghost use Rattle.expressions.specs.Words.{is_plain_word};
+ghost use Rattle.loop_model.specs.Words.{is_plain_word};
 ghost use Rattle.grammars.specs.Spelled.{IsRead};
-ghost use Rattle.expr_text.specs.Lexemes.{tokens};
+ghost use Rattle.poly_text.specs.Lexemes.{tokens};
 ghost use Rattle.poly_text.specs.Flat.{FlatState, flat_language, whole_flat, start, flat_of};
 ghost use Rattle.poly_text.specs.Printed.{polynomial_text};
 ghost use Rattle.poly_text.specs.Narrow.{IsNarrow};

@@ -1,4 +1,9 @@
-//! Layer of polynomials as text: flat polynomials both ways, and the polynomials of expressions.
+//! Texts of sums, equations, polynomials and numbers: tokens, the languages, the readers, and what is printed.
+//!
+//! Proved: bytes are read exactly where their tokens are a text of the language without a fault, and else refused for their first fault;
+//! printed polynomials are read back; `read_number` gives the fraction that a text is, exactly where it is one.
+//!
+//! Notion: texts and their grammars.
 #![tactic(auto)]
 
 ghost use Rattle.std.specs.Prelude.{◌≡◌, None, length, IfOk, IsErrOf, IsSomeAnd};
@@ -6,22 +11,36 @@ ghost use Rattle.poly.specs.Standing.{StandsFor};
 ghost use Rattle.poly_text.specs.Flat.{flat_of};
 ghost use Rattle.poly_text.specs.declared.FlatError.{FlatError};
 
+mod cursor;
 mod equation;
+mod error;
 mod flat_text;
 mod item;
 mod item_text;
 pub mod laws;
+pub mod lexemes;
+mod number_reading;
+mod number_writing;
 mod printing;
+pub mod sum_laws;
+mod sums;
+mod tokens;
 
+pub use cursor::{Cursor, Read};
 pub use equation::{PolyTextError, read_equation, read_poly, read_sum};
-use expr_text::TextError;
-use expressions::Names;
+pub use error::{Refusal, TextError};
 use frac128::Frac;
+pub use lexemes::{Lexeme, Placed, next_item, next_lexeme};
+use loop_model::Names;
 use monos::Grevlex;
+pub use number_reading::{is_number, read_number, read_numeral};
+pub use number_writing::push_number;
 use poly::Poly;
 pub use printing::print_poly;
 use std::alloc::Global;
+pub use sums::{Part, SumReader};
 use thiserror::Error;
+pub use tokens::number_value;
 
 /// Why a flat polynomial was not read.
 #[derive(Clone, Copy, Debug, Error)]

@@ -2,7 +2,7 @@
 
 ghost use Rattle.std.specs.Prelude.{◌≡◌, ◌≤◌, ◌++◌, length, string_bytes, decimal, unsigned_abs, if◌then◌else◌, codes, [], All, IfOk, OnOk, IsSomeAnd};
 ghost use Rattle.std.specs.Int.{is_negative};
-ghost use Rattle.numbers.specs.Fraction.{ℚ};
+ghost use Rattle.algebra.specs.Fraction.{ℚ};
 ghost use Rattle.polynomials.specs.Terms.{Same};
 ghost use Rattle.frac128.specs.FracMeaning.{fraction_of};
 ghost use Rattle.poly.specs.View.{term_of, terms_of};
@@ -12,9 +12,9 @@ ghost use Rattle.poly_text.specs.PrintedParts.{joined_behind};
 ghost use Rattle.poly_text.specs.Narrow.{IsNarrow};
 ghost use Rattle.poly_text.specs.Flat.{flat_of};
 
-use expressions::Names;
 use frac128::Frac;
 use itoa::Buffer;
+use loop_model::Names;
 use monos::Grevlex;
 use poly::{Poly, Term};
 use std::alloc::{AllocError, Global};

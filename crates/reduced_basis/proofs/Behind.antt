@@ -11,8 +11,8 @@ use Rattle.std.specs.List.{All}
 use Rattle.std.proofs.Math.ListN.{get_or-map}
 use Rattle.std.proofs.lemmas.List.{length-map, length-set, drop_more, drop_all}
 use Rattle.std.proofs.lemmas.List.Elements.{All-drop}
-use Rattle.rings.specs.FieldArithmetic.{FieldArithmetic}
-use Rattle.numbers.specs.Scalars.{Scalars, field}
+use Rattle.algebra.specs.FieldArithmetic.{FieldArithmetic}
+use Rattle.algebra.specs.Scalars.{Scalars, field}
 use Rattle.polynomials.specs.Polynomial.{Arity}
 use Rattle.polynomials.specs.Terms.{Terms}
 use Rattle.machines.specs.Cut.{Cutting, lead_of, tail_of, divides, cut_by, find_cut, first_of}

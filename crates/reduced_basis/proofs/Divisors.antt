@@ -7,8 +7,8 @@
 --   cut_found, cut_is                          the division rule goes by the leads
 --   drop_is                                    so does the place of the next Drop
 use Rattle.std.proofs.Common.{◌≡◌, ℕ, zero, suc, ◌+◌, ◌<◌, ◌≤◌, Bool, true, false, ◌&&◌, cond, is_some, List, [], ◌∷◌, map, drop, length, get_or, slice_get, Option, Some, None, refl, sym, ap, ap₂, subst, ◌∙◌, arith}
-use Rattle.rings.specs.FieldArithmetic.{FieldArithmetic}
-use Rattle.numbers.specs.Scalars.{Scalars, field}
+use Rattle.algebra.specs.FieldArithmetic.{FieldArithmetic}
+use Rattle.algebra.specs.Scalars.{Scalars, field}
 use Rattle.polynomials.specs.Terms.{Terms}
 use Rattle.machines.specs.Cut.{lead_of, lead_number, divides, cut_by}
 use Rattle.machines.specs.Tidying.{others, drop_from}

@@ -1,10 +1,10 @@
 -- What holds where a tidying has ended, as the program sees it.
 --   reduced_of      the law of machines for this tidying
 use Rattle.std.proofs.Common.{◌≡◌, ◌↔◌, ℕ, true, List}
-use Rattle.rings.specs.FieldArithmetic.{field_of}
-use Rattle.rings.specs.Ring.{Field, IsRing, IsFieldOf}
-use Rattle.numbers.specs.Scalars.{Scalars, field}
-use Rattle.numbers.proofs.ScalarFields.{is_field}
+use Rattle.algebra.specs.FieldArithmetic.{field_of}
+use Rattle.algebra.specs.Ring.{Field, IsRing, IsFieldOf}
+use Rattle.algebra.specs.Scalars.{Scalars, field}
+use Rattle.algebra.proofs.ScalarFields.{is_field}
 use Rattle.polynomials.specs.Order.{Rank, IsMonomialOrder}
 use Rattle.polynomials.specs.Polynomial.{IsPolynomial}
 use Rattle.polynomials.specs.Terms.{Terms}

@@ -14,11 +14,11 @@
 use Rattle.std.proofs.Common.{◌≡◌, ◌≢◌, ◌↔◌, ℕ, ◌+◌, ◌<◌, true, not, eqb, List, [], ◌∷◌, map, drop, length, set, get_or, slice_get, Option, Some, None, refl, sym, ap, ap₂, subst, ◌∙◌, arith, Less}
 use Rattle.std.proofs.lemmas.Bool.{eq-eqb}
 use Rattle.std.specs.List.{All}
-use Rattle.rings.specs.Each.{Each}
-use Rattle.rings.specs.FieldArithmetic.{FieldArithmetic, field_of, calculus}
-use Rattle.rings.specs.Ring.{Field, IsRing, IsFieldOf}
-use Rattle.numbers.specs.Scalars.{Scalars, field}
-use Rattle.numbers.proofs.ScalarFields.{is_field}
+use Rattle.algebra.specs.Each.{Each}
+use Rattle.algebra.specs.FieldArithmetic.{FieldArithmetic, field_of, calculus}
+use Rattle.algebra.specs.Ring.{Field, IsRing, IsFieldOf}
+use Rattle.algebra.specs.Scalars.{Scalars, field}
+use Rattle.algebra.proofs.ScalarFields.{is_field}
 use Rattle.polynomials.specs.Exponent.{plus}
 use Rattle.polynomials.specs.Order.{Rank, IsMonomialOrder, compare}
 use Rattle.polynomials.specs.Polynomial.{Falls, IsPolynomial}

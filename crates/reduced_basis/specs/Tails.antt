@@ -5,7 +5,7 @@
 --   TailAt S gs from i j k      that is the first cutting of a tail from the place `from` on, and its term stands behind the lead
 --   FindsTail S from gs o       o is where the first cutting of a tail is from the place `from` on, if there is one
 use Rattle.std.specs.Prelude.{◌≡◌, ◌<◌, ℕ, true, List, [], length, map, drop, get_or, Option, Some, None, MatchOption}
-use Rattle.numbers.specs.Scalars.{Scalars, field}
+use Rattle.algebra.specs.Scalars.{Scalars, field}
 use Rattle.polynomials.specs.Terms.{Terms}
 use Rattle.machines.specs.Cut.{lead_of, divides, find_cut}
 use Rattle.machines.specs.Tidying.{others, TailCut, tail_from}

@@ -1,6 +1,6 @@
 //! Tidying of a Gröbner basis.
 ghost use Rattle.std.specs.Prelude.{◌≡◌, ◌≤◌, length, IfOk, OnErr, IsErrOf};
-ghost use Rattle.numbers.specs.Scalars.{field};
+ghost use Rattle.algebra.specs.Scalars.{field};
 ghost use Rattle.machines.specs.Machine.{Ran};
 ghost use Rattle.machines.specs.Past.{IsPastStart};
 ghost use Rattle.poly.specs.Seen.{terms_each};

@@ -1,7 +1,7 @@
 //! The laws of rings, ordered rings and fields, each as the clause of a function.
 ghost use Rattle.std.specs.Prelude.{◌≡◌, ◌≢◌, ◌↔◌, true};
 ghost use Rattle.std.specs.declared.cmp.Ordering.{Ordering};
-ghost use Rattle.numbers.specs.Size.{sum_size, product_size, quotient_size, IsUnder};
+ghost use Rattle.algebra.specs.Size.{sum_size, product_size, quotient_size, IsUnder};
 
 use crate::{Field, OrderedRing, Ring};
 

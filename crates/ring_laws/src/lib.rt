@@ -1,11 +1,16 @@
-//! The lowest layer of code: rings, ordered rings and fields whose elements are checked against numbers with no bound.
+//! The traits of checked numbers: rings, ordered rings and fields whose elements mean numbers without bounds, with the error `Wide` for a
+//! result that doesn't fit.
+//!
+//! Proved: results mean the exact ones and lie within the weights of their operations; `Wide` comes only where that weight is past.
+//!
+//! Notion: rings and fields, 1.1.
 #![tactic(auto)]
 
 ghost use Rattle.std.specs.Prelude.{◌≡◌, ◌≢◌, true, pos, ◌≤ℤ◌, ◌<◌, unsigned_abs, IsTrue, ◌↔◌, IfOk, IfSome, IsErr};
-ghost use Rattle.rings.specs.Integers.{integer_in};
-ghost use Rattle.rings.specs.Ring.{IsRing, IsOrderOf, IsFieldOf};
-ghost use Rattle.numbers.specs.Scalars.{Scalars, IsBounded, BoundsQuotients, IsPastAdd, IsPastMul, IsPastDiv, AreInverses};
-ghost use Rattle.numbers.specs.Size.{size, sum_size, product_size, factor_size, SomeIf};
+ghost use Rattle.algebra.specs.Integers.{integer_in};
+ghost use Rattle.algebra.specs.Ring.{IsRing, IsOrderOf, IsFieldOf};
+ghost use Rattle.algebra.specs.Scalars.{Scalars, IsBounded, BoundsQuotients, IsPastAdd, IsPastMul, IsPastDiv, AreInverses};
+ghost use Rattle.algebra.specs.Size.{size, sum_size, product_size, factor_size, SomeIf};
 ghost use Rattle.ring_laws.specs.Sign.{sign_of};
 ghost use Rattle.ring_laws.specs.declared.ArithmeticError.TheVariants.{Wide as WideError, Memory as MemoryError};
 
@@ -18,7 +23,7 @@ mod euclid;
 pub mod laws;
 
 /// The refusal of an operation that has a number that does not fit its type.
-#[derive(Clone, Copy, Debug, PartialEq, Eq)]
+#[derive(Clone, Copy, PartialEq, Eq)]
 pub struct Wide;
 
 /// Why a number, a monomial or a polynomial was not made.
@@ -56,7 +61,7 @@ impl<T: Drop> From<AllocFailed<T>> for ArithmeticError {
 }
 
 /// A weight with both its numbers at most 2^127 - 1: what bounds the numbers of a computation, as a size over a denominator.
-#[derive(Clone, Copy, Debug, PartialEq, Eq)]
+#[derive(Clone, Copy, PartialEq, Eq)]
 pub struct Weight {
     pub size: i128,
     pub den: i128,
@@ -68,7 +73,7 @@ impl Weight {
     ghost use Rattle.ring_laws.specs.WeightSize.{size_of};
 
     /// The weight of a sum or a difference of what two weights bound. None exactly where it is past.
-    #[tactic(auto, unfolding(numbers::specs::Gcd::lcm))]
+    #[tactic(auto, unfolding(algebra::specs::Gcd::lcm))]
     pub fn plus(&self, other: &Weight) -> Option<Weight>
         ensures { SomeIf result size_of (sum_size (size_of self.now) (size_of other.now)) }
     {

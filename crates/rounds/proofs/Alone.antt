@@ -4,23 +4,23 @@
 --   own_is_eigenvalue, eigenvalue_is_own
 use Rattle.std.proofs.Common.{◌≡◌, inl, inr, ℕ, zero, suc, ◌<◌, List, [], ◌∷◌, map, length, Bool, true, not, ◌&&◌, T, refl, sym, ap, subst, ◌∙◌, arith}
 use Rattle.std.proofs.lemmas.Bool.{cases_lt}
-use Rattle.rings.specs.Each.{Each}
-use Rattle.rings.specs.In.{In}
-use Rattle.rings.specs.Ring.{CommRing, Field}
-use Rattle.rings.proofs.Basics.{both_out, both_in, same_head, not_out}
-use Rattle.rings.proofs.FieldLaws as FL
-use Rattle.rings.proofs.RingSolver.{ring, ring_rules}
-use Rattle.numbers.specs.Fraction.{Fraction, ℚ}
-use Rattle.numbers.proofs.Fractions.{ℚ_ring, ℚ_field}
+use Rattle.algebra.specs.Each.{Each}
+use Rattle.algebra.specs.In.{In}
+use Rattle.algebra.specs.Ring.{CommRing, Field}
+use Rattle.algebra.proofs.Basics.{both_out, both_in, same_head, not_out}
+use Rattle.algebra.proofs.FieldLaws as FL
+use Rattle.algebra.proofs.RingSolver.{ring, ring_rules}
+use Rattle.algebra.specs.Fraction.{Fraction, ℚ}
+use Rattle.algebra.proofs.Fractions.{ℚ_ring, ℚ_field}
 use Rattle.polynomials.specs.Terms.{Terms, coefficient, sum_of_products}
 use Rattle.polynomials.specs.Polynomial.{AllArity}
-use Rattle.chains.specs.Chain.{Reaches, reach}
-use Rattle.chains.specs.Class.{InClass, IsClassOf}
-use Rattle.chains.specs.Uses.{poly_at, uses, IsMap, unit}
-use Rattle.chains.proofs.Classes.{same_ascending}
-use Rattle.chains.proofs.Linear.{map_bounded}
-use Rattle.chains.proofs.Reach.{reach_all}
-use Rattle.turns.specs.Classes.{IsClass, column, IsEigenvalue}
+use Rattle.solvable_maps.specs.Chain.{Reaches, reach}
+use Rattle.solvable_maps.specs.Class.{InClass, IsClassOf}
+use Rattle.solvable_maps.specs.Uses.{poly_at, uses, IsMap, unit}
+use Rattle.solvable_maps.proofs.Classes.{same_ascending}
+use Rattle.solvable_maps.proofs.Linear.{map_bounded}
+use Rattle.solvable_maps.proofs.Reach.{reach_all}
+use Rattle.solvable_maps.specs.Classes.{IsClass, column, IsEigenvalue}
 
 module _ (images : List (Terms Fraction)) where
   abbrev m : ℕ

@@ -3,7 +3,7 @@
 --   run_asked          a run stays one
 --   finished_asked     where it has finished, the division of p comes next
 use Rattle.std.proofs.Common.{◌≡◌, ℕ, zero, suc, Bool, true, false, cond, ltb, ◌&&◌, List, [], ◌∷◌, length, refl, ap, ◌∙◌, Option, Some, None}
-use Rattle.numbers.specs.Fraction.{Fraction, rationals}
+use Rattle.algebra.specs.Fraction.{Fraction, rationals}
 use Rattle.polynomials.specs.Terms.{Terms}
 use Rattle.polynomials.specs.Order.{grevlex}
 use Rattle.machines.specs.Elimination.{free_part}

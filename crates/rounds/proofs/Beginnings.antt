@@ -3,7 +3,7 @@
 --   IsTold program I P Q     what stays in I is told by P along words, and by Q along all
 --   comes_here, comes_longer     a run of no event, and one that is an event longer
 use Rattle.std.proofs.Common.{◌≡◌, ℕ, suc, ◌<◌, ◌⊎◌, List, [], ◌∷◌, ◌++◌, length, arith, refl, sym, ap, ◌∙◌, ◌↔◌, Option, Some, None}
-use Rattle.numbers.specs.Fraction.{Fraction}
+use Rattle.algebra.specs.Fraction.{Fraction}
 use Rattle.polynomials.specs.Terms.{Terms}
 use Rattle.polynomials.specs.Polynomial.{Arity}
 use Rattle.machines.proofs.Runs.{run_then}

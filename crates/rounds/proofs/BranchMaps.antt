@@ -2,9 +2,9 @@
 --   branch_is_map        its polynomials are a map
 use Rattle.std.proofs.Common.{◌≡◌, ℕ, List, [], ◌∷◌, map, length, refl, sym, subst, ◌∙◌}
 use Rattle.std.proofs.lemmas.List.{length-map}
-use Rattle.rings.specs.Each.{Each}
-use Rattle.numbers.specs.Fraction.{Fraction, rationals}
-use Rattle.numbers.proofs.Fractions.{ℚ_field}
+use Rattle.algebra.specs.Each.{Each}
+use Rattle.algebra.specs.Fraction.{Fraction, rationals}
+use Rattle.algebra.proofs.Fractions.{ℚ_field}
 use Rattle.polynomials.specs.Order.{grevlex}
 use Rattle.polynomials.specs.Polynomial.{AllArity}
 use Rattle.polynomials.specs.Terms.{Terms}
@@ -13,7 +13,7 @@ use Rattle.machines.specs.Collect.{collect}
 use Rattle.machines.proofs.Collecting.{collect-polynomial}
 use Rattle.loops.specs.Program.{Expr, Program}
 use Rattle.loops.proofs.Maps.{arity-branch_map, length-branch_map}
-use Rattle.chains.specs.Uses.{IsMap}
+use Rattle.solvable_maps.specs.Uses.{IsMap}
 use Rattle.rounds.specs.BranchMap.{map_of}
 use Rattle.rounds.specs.Word.{branch_of}
 

@@ -4,9 +4,9 @@
 --   form_count       a closed form has a polynomial for each variable
 use Rattle.std.proofs.Common.{◌≡◌, ℕ, zero, suc, List, map, length, arith, refl, sym, ap, ◌∙◌}
 use Rattle.std.proofs.lemmas.List.{length-map}
-use Rattle.numbers.specs.Fraction.{Fraction, ℚ}
+use Rattle.algebra.specs.Fraction.{Fraction, ℚ}
 use Rattle.polynomials.specs.Terms.{Terms, value_at}
-use Rattle.turns.specs.Turns as turns
+use Rattle.solvable_maps.specs.Turns as turns
 use Rattle.loops.specs.Program.{Expr, Program}
 use Rattle.loops.specs.Map.{branch_map}
 use Rattle.loops.specs.Run.{effect, IsState}

@@ -6,19 +6,19 @@
 use Rattle.std.proofs.Common.{◌≡◌, inl, inr, ℕ, zero, suc, ◌<◌, ◌≤◌, pos, negsuc, List, [], ◌∷◌, length, get_or, refl, sym, ap, ap₂, subst, ◌∙◌, arith, None, Less}
 use Rattle.std.specs.Prelude.{⊤}
 use native.Mathlib.Nat as N
-use Rattle.rings.specs.Arithmetic.{power}
-use Rattle.rings.specs.Each.{Each}
-use Rattle.rings.specs.In.{In}
-use Rattle.rings.specs.Ring.{CommRing}
-use Rattle.rings.specs.Sum.{sum_over}
-use Rattle.rings.proofs.RingLaws.{zero-add, add_turn, one-mul}
-use Rattle.rings.proofs.RingSolver.{ring_rules, ring}
-use Rattle.numbers.specs.Gcd.{gcd}
-use Rattle.numbers.specs.Ratio.{is_lowest, reduce}
-use Rattle.numbers.specs.Fraction as Fraction
-use Rattle.numbers.specs.Fraction.{Fraction, fraction, whole, ℚ}
-use Rattle.numbers.proofs.Fractions.{ℚ_ring, ℚ_field}
-use Rattle.numbers.proofs.Wholes.{whole-suc}
+use Rattle.algebra.specs.Arithmetic.{power}
+use Rattle.algebra.specs.Each.{Each}
+use Rattle.algebra.specs.In.{In}
+use Rattle.algebra.specs.Ring.{CommRing}
+use Rattle.algebra.specs.Sum.{sum_over}
+use Rattle.algebra.proofs.RingLaws.{zero-add, add_turn, one-mul}
+use Rattle.algebra.proofs.RingSolver.{ring_rules, ring}
+use Rattle.algebra.specs.Gcd.{gcd}
+use Rattle.algebra.specs.Ratio.{is_lowest, reduce}
+use Rattle.algebra.specs.Fraction as Fraction
+use Rattle.algebra.specs.Fraction.{Fraction, fraction, whole, ℚ}
+use Rattle.algebra.proofs.Fractions.{ℚ_ring, ℚ_field}
+use Rattle.algebra.proofs.Wholes.{whole-suc}
 use Rattle.polynomials.specs.Algebra as Algebra
 use Rattle.polynomials.specs.Exponent.{same, plus, lcm, unit_exponents, over as less}
 use Rattle.polynomials.specs.Order.{compare, grevlex, blocks}
@@ -41,15 +41,15 @@ use Rattle.machines.specs.Run.{IsRun}
 use Rattle.machines.proofs.Runs.{on, trace, run_of}
 use Rattle.exponentials.specs.Base.{IsTheBase}
 use Rattle.exponentials.specs.Keys.{excess}
-use Rattle.turns.specs.Turns as turns
-use Rattle.turns.specs.Turns.{point, values_at}
+use Rattle.solvable_maps.specs.Turns as turns
+use Rattle.solvable_maps.specs.Turns.{point, values_at}
 use Rattle.loops.specs.Effect.{store, value_of, after_statement, after_branch}
 use Rattle.loops.specs.Map.{branch_map}
 use Rattle.loops.specs.Program.{Expr, number, variable, add, mul, Program}
 use Rattle.loops.proofs.Examples.{assign, given}
 use Rattle.loops.proofs.Maps.{branch_map_values}
 use Rattle.rounds.specs.BranchMap.{map_of}
-use Rattle.turns.specs.Classes.{IsEigenvalue}
+use Rattle.solvable_maps.specs.Classes.{IsEigenvalue}
 use Rattle.rounds.specs.Analysis as analysis
 use Rattle.rounds.specs.Analysis.{Setting, fresh, finished, next, moves, block, starting, closing_from}
 use Rattle.rounds.specs.Form.{Form, IsClosedForm, relation, relations_to}

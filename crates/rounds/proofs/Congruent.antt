@@ -2,9 +2,9 @@
 --   member_congruent     where each difference is a member
 use Rattle.std.proofs.Common.{◌≡◌, ℕ, suc, ◌<◌, List, [], ◌∷◌, ◌++◌, map, get_or, length, sym, ap, ◌∙◌, arith}
 use Rattle.std.specs.List.{AllZip}
-use Rattle.rings.specs.Ring.{CommRing, operations}
-use Rattle.numbers.specs.Fraction.{Fraction, ℚ}
-use Rattle.numbers.proofs.Fractions.{ℚ_ring, ℚ_zero_test}
+use Rattle.algebra.specs.Ring.{CommRing, operations}
+use Rattle.algebra.specs.Fraction.{Fraction, ℚ}
+use Rattle.algebra.proofs.Fractions.{ℚ_ring, ℚ_zero_test}
 use Rattle.polynomials.specs.Terms.{Terms, negate, compose, monomial_at}
 use Rattle.polynomials.proofs.Algebra.{gather}
 use Rattle.polynomials.specs.Polynomial.{Arity, AllArity}

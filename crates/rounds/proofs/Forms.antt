@@ -2,23 +2,23 @@
 --   closed_forms_are_one, forms_are_one
 --   enough_budget        where a finished journal has at most as many units as the limit, none is out of it
 use Rattle.std.proofs.Common.{◌≡◌, ◌≢◌, ◌⊎◌, inl, inr, ℕ, suc, ◌<◌, ◌≤◌, unsigned_abs, List, [], ◌∷◌, map, get_or, length, arith, refl, sym, ap, ap₂, subst, ◌∙◌, Option, None}
-use Rattle.rings.specs.Each.{Each}
-use Rattle.rings.specs.In.{In}
-use Rattle.numbers.specs.Gcd.{gcd}
-use Rattle.numbers.specs.Ratio.{is_lowest, reduce}
-use Rattle.numbers.specs.Fraction.{Fraction, fraction, ℚ}
+use Rattle.algebra.specs.Each.{Each}
+use Rattle.algebra.specs.In.{In}
+use Rattle.algebra.specs.Gcd.{gcd}
+use Rattle.algebra.specs.Ratio.{is_lowest, reduce}
+use Rattle.algebra.specs.Fraction.{Fraction, fraction, ℚ}
 use Rattle.polynomials.specs.Order.{grevlex}
 use Rattle.polynomials.specs.Terms.{Terms}
 use Rattle.polynomials.specs.Polynomial.{IsPolynomial}
 use Rattle.polynomials.proofs.Orders.{grevlex_order}
 use Rattle.exponentials.specs.Base.{IsProductOf, IsTheBase}
 use Rattle.exponentials.proofs.BaseLaws.{is_the_base}
-use Rattle.rings.proofs.In.{each_in, each_from, in_left, in_right, in_either, in_map, map-in}
+use Rattle.algebra.proofs.In.{each_in, each_from, in_left, in_right, in_either, in_map, map-in}
 use Rattle.exponentials.proofs.Lists.{each_map}
 use Rattle.exponentials.proofs.Powers.{product-pos}
-use Rattle.turns.specs.Classes.{sizes_of}
-use Rattle.turns.specs.Turns.{width, IsNormal, IsNormalForm, IsClosedFormFrom}
-use Rattle.turns.proofs.OneForm.{forms_one}
+use Rattle.solvable_maps.specs.Classes.{sizes_of}
+use Rattle.solvable_maps.specs.Turns.{width, IsNormal, IsNormalForm, IsClosedFormFrom}
+use Rattle.solvable_maps.proofs.OneForm.{forms_one}
 use Rattle.loops.specs.Map.{branch_map}
 use Rattle.machines.specs.Journal.{Entry, units_of}
 use Rattle.loops.specs.Program.{Expr, Program}

@@ -3,7 +3,7 @@
 --   has_passed              the closing tests that have passed
 --   run_given               the law
 use Rattle.std.proofs.Common.{◌≡◌, ℕ, suc, ◌<◌, ◌≤◌, List, [], ◌∷◌, get_or, length, arith}
-use Rattle.numbers.specs.Fraction.{Fraction, ℚ, rationals}
+use Rattle.algebra.specs.Fraction.{Fraction, ℚ, rationals}
 use Rattle.polynomials.specs.Terms.{Terms}
 use Rattle.polynomials.proofs.Arity.{arity_at}
 use Rattle.polynomials.specs.Order.{grevlex}

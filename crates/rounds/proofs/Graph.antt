@@ -3,13 +3,13 @@
 use Rattle.std.proofs.Common.{◌≡◌, ℕ, zero, suc, ◌+◌, ◌<◌, List, [], ◌∷◌, ◌++◌, map, get_or, take, drop, replicate, length, arith, refl, sym, ap, ap₂, subst, ◌∙◌, All, append_assoc}
 use Rattle.std.proofs.lemmas.List.{length-map, length-append, map-append, drop_at, length-drop}
 use Rattle.std.proofs.lemmas.List.Elements.{All-head, All-tail}
-use Rattle.rings.specs.Each.{Each}
-use Rattle.rings.specs.Sum.{sum_over}
-use Rattle.rings.proofs.Each.{each-append, each-left, each-right, each-map, each_of}
-use Rattle.rings.proofs.Lists.{length-front}
-use Rattle.rings.proofs.RingSolver.{ring, ring_rules}
-use Rattle.numbers.specs.Fraction.{Fraction, ℚ}
-use Rattle.numbers.proofs.Fractions.{ℚ_ring}
+use Rattle.algebra.specs.Each.{Each}
+use Rattle.algebra.specs.Sum.{sum_over}
+use Rattle.algebra.proofs.Each.{each-append, each-left, each-right, each-map, each_of}
+use Rattle.algebra.proofs.Lists.{length-front}
+use Rattle.algebra.proofs.RingSolver.{ring, ring_rules}
+use Rattle.algebra.specs.Fraction.{Fraction, ℚ}
+use Rattle.algebra.proofs.Fractions.{ℚ_ring}
 use Rattle.polynomials.specs.Terms.{Terms, Same, AllSame, constant, variables, negate, compose, evaluate}
 use Rattle.polynomials.specs.Polynomial.{Arity, AllArity}
 use Rattle.polynomials.proofs.Arity.{arity-append, arity-negate, arity-compose, arity-constants, arity-variables}

@@ -4,14 +4,14 @@ use Rattle.std.proofs.Common.{◌≡◌, ℕ, zero, suc, ◌+◌, ◌<◌, ◌�
 use Rattle.std.proofs.lemmas.List.{length-map, length-append, map-append, drop-drop, get_or-take, get_or-drop}
 use Rattle.std.proofs.Math.ListN.{get_or-map}
 use Rattle.std.specs.List.{AllZip}
-use Rattle.rings.specs.Arithmetic.{power}
-use Rattle.rings.specs.Each.{Each}
-use Rattle.rings.specs.Ring.{CommRing, Hom, operations, of_nat}
-use Rattle.rings.proofs.Each.{each-append}
-use Rattle.rings.proofs.Homs.{to-neg, to-power}
-use Rattle.rings.proofs.Lists.{length-back}
-use Rattle.numbers.specs.Fraction.{Fraction, ℚ}
-use Rattle.numbers.proofs.Fractions.{ℚ_ring, ℚ_field, ℚ_zero_test}
+use Rattle.algebra.specs.Arithmetic.{power}
+use Rattle.algebra.specs.Each.{Each}
+use Rattle.algebra.specs.Ring.{CommRing, Hom, operations, of_nat}
+use Rattle.algebra.proofs.Each.{each-append}
+use Rattle.algebra.proofs.Homs.{to-neg, to-power}
+use Rattle.algebra.proofs.Lists.{length-back}
+use Rattle.algebra.specs.Fraction.{Fraction, ℚ}
+use Rattle.algebra.proofs.Fractions.{ℚ_ring, ℚ_field, ℚ_zero_test}
 use Rattle.polynomials.specs.Terms.{Terms, Same, constant, variables, compose, evaluate}
 use Rattle.polynomials.specs.Polynomial.{Arity, AllArity}
 use Rattle.polynomials.proofs.Arity.{arity-append, arity-times, arity-negate, arity-constant, arity-constants, arity-variables, arity-compose}
@@ -24,7 +24,7 @@ use Rattle.exponentials.proofs.Monomial.{to-nat}
 use Rattle.exponentials.proofs.Unique.{fraction_char0}
 use Rattle.exponentials.proofs.Units as Units
 use Rattle.exponentials.proofs.Units.{HasRoom, room_long, value_of}
-use Rattle.turns.proofs.Numbers.{point-is}
+use Rattle.solvable_maps.proofs.Numbers.{point-is}
 use Rattle.ideals.specs.Ideal.{InIdeal, IsCongruent}
 use Rattle.ideals.specs.Members.{IsMember}
 use Rattle.ideals.proofs.Ideal.{in_ideal_same, in_ideal_head, in_ideal_tail, in_ideal_append_left, in_ideal_append_right}

@@ -7,7 +7,7 @@
 --   closed_list_has_certificate    and it has one
 --   reduced_decides                two programs with as many variables have the same reduced basis exactly where they have the same invariants
 use Rattle.std.proofs.Common.{◌≡◌, ℕ, zero, suc, ◌<◌, ◌≤◌, ◌+◌, ◌↔◌, ◌⊎◌, inl, inr, List, [], ◌∷◌, get_or, length, arith, refl, sym, ap, ap₂, ◌∙◌, subst}
-use Rattle.numbers.specs.Fraction.{Fraction, ℚ, rationals}
+use Rattle.algebra.specs.Fraction.{Fraction, ℚ, rationals}
 use Rattle.polynomials.specs.Terms.{Terms, Same, combination}
 use Rattle.polynomials.specs.Order.{grevlex}
 use Rattle.polynomials.specs.Polynomial.{Arity, AllArity}

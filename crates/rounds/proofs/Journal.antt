@@ -5,7 +5,7 @@
 --   finished_round      what an analysis finishes with is the list of a closed round, reduced for its own ideal
 use Rattle.std.proofs.Common.{◌≡◌, ℕ, zero, suc, ◌<◌, ◌≤◌, ◌⊎◌, inl, inr, Bool, true, false, cond, ltb, ◌&&◌, List, [], ◌∷◌, get_or, length, arith, refl, sym, ap, subst, ◌∙◌, ◌↔◌, Option, Some, None}
 use Rattle.std.proofs.lemmas.Bool.{and_parts, and_cases, ltb-false, ltb-true}
-use Rattle.numbers.specs.Fraction.{Fraction, ℚ, rationals}
+use Rattle.algebra.specs.Fraction.{Fraction, ℚ, rationals}
 use Rattle.polynomials.specs.Terms.{Terms}
 use Rattle.polynomials.specs.Polynomial.{AllArity, IsPolynomial}
 use Rattle.polynomials.specs.Order.{grevlex, blocks}

@@ -2,11 +2,11 @@
 --   alike_members       lists with the same values at all points, and with the relations, have one ideal
 --   start_orbit         so it gives the orbit
 use Rattle.std.proofs.Common.{◌≡◌, ℕ, Bool, false, ◌+◌, ◌<◌, List, [], ◌∷◌, ◌++◌, map, drop, length, arith, sym, ap, ap₂, subst, ◌∙◌}
-use Rattle.rings.specs.Each.{Each}
-use Rattle.rings.proofs.Each.{each-append, each-left, each-right}
+use Rattle.algebra.specs.Each.{Each}
+use Rattle.algebra.proofs.Each.{each-append, each-left, each-right}
 use Rattle.exponentials.specs.Base.{Coprime}
-use Rattle.numbers.specs.Fraction.{Fraction, ℚ, rationals}
-use Rattle.numbers.proofs.Fractions.{ℚ_ring, ℚ_field}
+use Rattle.algebra.specs.Fraction.{Fraction, ℚ, rationals}
+use Rattle.algebra.proofs.Fractions.{ℚ_ring, ℚ_field}
 use Rattle.polynomials.specs.Order.{Rank, IsMonomialOrder, grevlex}
 use Rattle.polynomials.specs.Polynomial.{Arity, AllArity, IsPolynomial}
 use Rattle.polynomials.specs.Terms.{Terms, variables, negate, compose}
@@ -14,13 +14,13 @@ use Rattle.polynomials.proofs.Arity.{arity-append, arity-negate}
 use Rattle.polynomials.proofs.Orders.{grevlex_order, blocks_order}
 use Rattle.polynomials.proofs.Same.{Same-sym}
 use Rattle.polynomials.proofs.ValueAt.{value_at_same, value_at-append, value_at-negate}
-use Rattle.turns.specs.Expo.{with_normal_keys}
-use Rattle.turns.specs.Turns as turns
-use Rattle.turns.specs.Turns.{point, width, IsItself}
+use Rattle.solvable_maps.specs.Expo.{with_normal_keys}
+use Rattle.solvable_maps.specs.Turns as turns
+use Rattle.solvable_maps.specs.Turns.{point, width, IsItself}
 use Rattle.loops.specs.Map.{branch_map}
 use Rattle.rounds.specs.Word.{branch_of}
-use Rattle.turns.proofs.Lengths.{arity-normalized}
-use Rattle.turns.proofs.Operations.{point-append, normal-value}
+use Rattle.solvable_maps.proofs.Lengths.{arity-normalized}
+use Rattle.solvable_maps.proofs.Operations.{point-append, normal-value}
 use Rattle.ideals.specs.Members.{IsMember}
 use Rattle.ideals.proofs.FractionMembers.{member_same, member_nil, member_append, member_members}
 use Rattle.machines.specs.Collect.{collect}

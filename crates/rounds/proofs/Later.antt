@@ -4,22 +4,22 @@
 use Rattle.std.proofs.Common.{◌≡◌, ℕ, zero, suc, ◌+◌, pos, drop, List, [], ◌∷◌, ◌++◌, map, length, arith, sym, ap, ap₂, subst, ◌∙◌, All, append_assoc}
 use Rattle.std.proofs.lemmas.List.{map-append, drop_at, length-append, length-map}
 use Rattle.std.proofs.lemmas.List.Elements.{All-head, All-tail}
-use Rattle.rings.specs.Each.{Each}
-use Rattle.rings.specs.Sum.{sum_over}
-use Rattle.rings.proofs.Each.{each-append}
+use Rattle.algebra.specs.Each.{Each}
+use Rattle.algebra.specs.Sum.{sum_over}
+use Rattle.algebra.proofs.Each.{each-append}
 use Rattle.exponentials.specs.Base.{Coprime}
-use Rattle.numbers.specs.Fraction.{Fraction, ℚ, whole, opposite}
-use Rattle.numbers.proofs.Fractions.{ℚ_ring, ℚ_field}
+use Rattle.algebra.specs.Fraction.{Fraction, ℚ, whole, opposite}
+use Rattle.algebra.proofs.Fractions.{ℚ_ring, ℚ_field}
 use Rattle.polynomials.specs.Terms.{Terms, Same, constant, variables, compose, evaluate}
 use Rattle.polynomials.specs.Polynomial.{Arity, AllArity}
 use Rattle.polynomials.proofs.Arity.{arity-compose, arity-constants, arity-variables}
 use Rattle.polynomials.proofs.ByValues.{same_by_values}
 use Rattle.polynomials.proofs.Same.{Same-sym}
 use Rattle.polynomials.proofs.ValueAt.{value_at-compose, values_at-constants, value_at-variables}
-use Rattle.turns.specs.Turns.{back_point, powers, inverses, sign, width}
-use Rattle.turns.specs.Expo.{next_images}
-use Rattle.turns.proofs.Operations.{point-append, next-value}
-use Rattle.turns.proofs.Back as Back
+use Rattle.solvable_maps.specs.Turns.{back_point, powers, inverses, sign, width}
+use Rattle.solvable_maps.specs.Expo.{next_images}
+use Rattle.solvable_maps.proofs.Operations.{point-append, next-value}
+use Rattle.solvable_maps.proofs.Back as Back
 use Rattle.ideals.specs.Members.{IsMember}
 use Rattle.ideals.proofs.FractionMembers.{member_same, member_nil, member_turned}
 use Rattle.machines.specs.Elimination.{in_front}
@@ -30,7 +30,7 @@ use Rattle.rounds.proofs.Independent.{points_of_base, points_are_independent, ar
 use Rattle.rounds.proofs.Orbit.{value_at_point, arity-at_point}
 use Rattle.rounds.proofs.Relations.{zero_at_back_points}
 use Rattle.exponentials.proofs.Unique.{fraction_char0}
-use Rattle.turns.proofs.OneForm.{next_images-is, next_back_value, back_point_zero}
+use Rattle.solvable_maps.proofs.OneForm.{next_images-is, next_back_value, back_point_zero}
 use Rattle.rounds.proofs.Graph.{each_place, members_each}
 
 module _ (bs : List ℕ) (c : Coprime bs) (m : ℕ) where

@@ -1,10 +1,10 @@
 -- What is known of an analysis by the layers below: no more is asked of them than what they prove.
 --   lawful                 the laws of the analysis of a program with its closed forms
 use Rattle.std.proofs.Common.{◌≡◌, ◌↔◌, ℕ, suc, ◌+◌, ◌<◌, true, cond, List, [], ◌∷◌, map, get_or, length, arith, refl, sym, ap, ap₂, subst, ◌∙◌, Option, zero-add}
-use Rattle.rings.specs.Each.{Each}
-use Rattle.rings.proofs.Each.{each-map, each_weaker}
-use Rattle.numbers.specs.Fraction.{Fraction, ℚ, rationals}
-use Rattle.numbers.proofs.Fractions.{ℚ_ring, ℚ_field}
+use Rattle.algebra.specs.Each.{Each}
+use Rattle.algebra.proofs.Each.{each-map, each_weaker}
+use Rattle.algebra.specs.Fraction.{Fraction, ℚ, rationals}
+use Rattle.algebra.proofs.Fractions.{ℚ_ring, ℚ_field}
 use Rattle.polynomials.specs.Exponent.{same}
 use Rattle.polynomials.specs.Order.{grevlex, blocks}
 use Rattle.polynomials.specs.Terms.{Terms, Same, retold}
@@ -45,7 +45,7 @@ use Rattle.machines.proofs.Padding.{arity-pad, in_front_at}
 use Rattle.rounds.proofs.Orbits.{orbit_polynomials, form_orbit, turn_polynomials, form_turn}
 use Rattle.rounds.proofs.Start.{start_list_arity}
 use Rattle.rounds.proofs.Turned.{turned_polynomial, turned_same, map_turns}
-use Rattle.rings.proofs.In.{each_from}
+use Rattle.algebra.proofs.In.{each_from}
 use Rattle.machines.proofs.Places.{each_at, at_each}
 use Rattle.machines.proofs.ReducedLists.{reduced_arity, reduced_generates, reduced_for_itself, generated, division_decides}
 

@@ -7,11 +7,11 @@
 use Rattle.std.proofs.Common.{◌≡◌, ℕ, zero, suc, ◌+◌, ◌<◌, List, [], ◌∷◌, ◌++◌, map, replicate, get_or, length, arith, refl, sym, ap, ap₂, ◌∙◌, All}
 use Rattle.std.proofs.lemmas.List.{map-append}
 use Rattle.std.proofs.lemmas.List.Elements.{All-head, All-tail}
-use Rattle.rings.specs.Each.{Each}
-use Rattle.rings.specs.Sum.{sum_over}
-use Rattle.rings.proofs.Each.{each-append}
-use Rattle.numbers.specs.Fraction.{Fraction, ℚ}
-use Rattle.numbers.proofs.Fractions.{ℚ_ring}
+use Rattle.algebra.specs.Each.{Each}
+use Rattle.algebra.specs.Sum.{sum_over}
+use Rattle.algebra.proofs.Each.{each-append}
+use Rattle.algebra.specs.Fraction.{Fraction, ℚ}
+use Rattle.algebra.proofs.Fractions.{ℚ_ring}
 use Rattle.polynomials.specs.Terms.{Terms, Same, constant, variables, compose, evaluate}
 use Rattle.polynomials.specs.Polynomial.{Arity, AllArity}
 use Rattle.polynomials.proofs.Arity.{arity-compose, arity-constants, arity-variables}

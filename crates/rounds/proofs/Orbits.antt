@@ -2,11 +2,11 @@
 --   orbit_polynomials, form_orbit     the list that it begins with, and what its elimination gives
 --   turn_polynomials, form_turn       so for one turn, with any polynomials that are the turn
 use Rattle.std.proofs.Common.{◌≡◌, ℕ, zero, suc, ◌+◌, ◌<◌, false, List, length, arith, sym, subst, zero-add}
-use Rattle.rings.specs.Each.{Each}
-use Rattle.rings.proofs.Each.{each-map, each_weaker}
+use Rattle.algebra.specs.Each.{Each}
+use Rattle.algebra.proofs.Each.{each-map, each_weaker}
 use Rattle.exponentials.specs.Base.{Coprime}
-use Rattle.numbers.specs.Fraction.{Fraction, ℚ, rationals}
-use Rattle.numbers.proofs.Fractions.{ℚ_field}
+use Rattle.algebra.specs.Fraction.{Fraction, ℚ, rationals}
+use Rattle.algebra.proofs.Fractions.{ℚ_field}
 use Rattle.polynomials.specs.Order.{IsMonomialOrder, grevlex, blocks}
 use Rattle.polynomials.specs.Polynomial.{Arity, AllArity, IsPolynomial}
 use Rattle.polynomials.specs.Terms.{Terms}
@@ -16,8 +16,8 @@ use Rattle.machines.specs.Collect.{collect}
 use Rattle.machines.specs.Elimination.{in_front}
 use Rattle.machines.proofs.Collecting.{collect-polynomial}
 use Rattle.machines.proofs.Starting.{reordered_members}
-use Rattle.turns.specs.Turns as turns
-use Rattle.turns.specs.Turns.{IsItself}
+use Rattle.solvable_maps.specs.Turns as turns
+use Rattle.solvable_maps.specs.Turns.{IsItself}
 use Rattle.loops.specs.Map.{branch_map}
 use Rattle.loops.specs.Program.{Expr, Program}
 use Rattle.rounds.specs.Form.{Form, front, point_of, relations, passes, front_since, orbit_front, list_since, orbit_list, turn_front, turn_graph, turn_list, IsClosedForm}

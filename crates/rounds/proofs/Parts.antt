@@ -6,8 +6,8 @@
 --   first_so_far               the orbit of the first branch is the list so far, where its form is the state from 0 on
 --   to_next_branch                behind a branch no turn of the next one is taken
 use Rattle.std.proofs.Common.{◌≡◌, ◌⊎◌, inl, inr, ℕ, zero, suc, pred, ◌-◌, ◌<◌, ◌≤◌, List, [], ◌∷◌, ◌++◌, replicate, length, arith, refl, sym, ap, subst, ◌∙◌}
-use Rattle.rings.proofs.Basics.{equal_or_not}
-use Rattle.numbers.specs.Fraction.{Fraction, ℚ}
+use Rattle.algebra.proofs.Basics.{equal_or_not}
+use Rattle.algebra.specs.Fraction.{Fraction, ℚ}
 use Rattle.polynomials.specs.Terms.{Terms}
 use Rattle.polynomials.specs.Polynomial.{AllArity}
 use Rattle.ideals.specs.Members.{IsMember}

@@ -4,12 +4,12 @@
 --   begins_of, stay_of      each variable stays exactly where the form is the state from 0 on
 use Rattle.std.proofs.Common.{◌≡◌, ◌↔◌, ℕ, suc, ◌<◌, ◌≤◌, false, List, [], ◌∷◌, ◌++◌, get_or, length, arith, refl, sym, ap, ap₂, subst, ◌∙◌}
 use Rattle.std.proofs.lemmas.List.{length-map, get_or-map}
-use Rattle.rings.specs.Each.{Each}
-use Rattle.rings.specs.Sum.{sum_over}
-use Rattle.rings.proofs.RingLaws.{eq_of_sub}
+use Rattle.algebra.specs.Each.{Each}
+use Rattle.algebra.specs.Sum.{sum_over}
+use Rattle.algebra.proofs.RingLaws.{eq_of_sub}
 use Rattle.exponentials.specs.Base.{Coprime}
-use Rattle.numbers.specs.Fraction.{Fraction, ℚ, rationals}
-use Rattle.numbers.proofs.Fractions.{ℚ_ring, ℚ_field}
+use Rattle.algebra.specs.Fraction.{Fraction, ℚ, rationals}
+use Rattle.algebra.proofs.Fractions.{ℚ_ring, ℚ_field}
 use Rattle.polynomials.specs.Order.{grevlex}
 use Rattle.polynomials.specs.Polynomial.{Arity, IsPolynomial, Falls}
 use Rattle.polynomials.specs.Terms.{Terms, variables, negate, evaluate, value_at}
@@ -20,12 +20,12 @@ use Rattle.polynomials.proofs.ValueAt.{value_at_same, value_at-append, value_at-
 use Rattle.machines.specs.Collect.{collect}
 use Rattle.machines.proofs.Collecting.{collect-is, collect-same}
 use Rattle.machines.proofs.Padding.{at}
-use Rattle.turns.specs.Expo.{zero_images}
-use Rattle.turns.specs.Turns as turns
-use Rattle.turns.specs.Turns.{point, values_at, IsClosedFormFrom, IsItself}
-use Rattle.turns.proofs.OneForm.{on_from}
-use Rattle.turns.proofs.Lengths.{arity-zero_images}
-use Rattle.turns.proofs.Operations.{zero-value}
+use Rattle.solvable_maps.specs.Expo.{zero_images}
+use Rattle.solvable_maps.specs.Turns as turns
+use Rattle.solvable_maps.specs.Turns.{point, values_at, IsClosedFormFrom, IsItself}
+use Rattle.solvable_maps.proofs.OneForm.{on_from}
+use Rattle.solvable_maps.proofs.Lengths.{arity-zero_images}
+use Rattle.solvable_maps.proofs.Operations.{zero-value}
 use Rattle.loops.specs.Map.{branch_map}
 use Rattle.loops.specs.Program.{Expr, Program}
 use Rattle.loops.proofs.Maps.{length-branch_map}

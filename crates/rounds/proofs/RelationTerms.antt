@@ -8,10 +8,10 @@
 use Rattle.std.proofs.Common.{◌≡◌, ◌≢◌, ◌⊎◌, inl, inr, ℕ, zero, suc, ◌+◌, ◌<◌, ◌≤◌, Bool, true, false, List, [], ◌∷◌, ◌++◌, map, get_or, take, replicate, refl, sym, ap, ap₂, subst, ◌∙◌, arith}
 use Rattle.std.proofs.lemmas.List.{map-append}
 use Rattle.std.proofs.lemmas.Bool.{and_parts}
-use Rattle.rings.specs.Each.{Each}
-use Rattle.rings.proofs.RingLaws.{zero-add}
-use Rattle.numbers.specs.Fraction.{Fraction, ℚ, rationals}
-use Rattle.numbers.proofs.Fractions.{ℚ_ring, ℚ_field}
+use Rattle.algebra.specs.Each.{Each}
+use Rattle.algebra.proofs.RingLaws.{zero-add}
+use Rattle.algebra.specs.Fraction.{Fraction, ℚ, rationals}
+use Rattle.algebra.proofs.Fractions.{ℚ_ring, ℚ_field}
 use Rattle.polynomials.specs.Algebra as Algebra
 use Rattle.polynomials.specs.Exponent.{exponents, same, plus, unit_exponents}
 use Rattle.polynomials.specs.Order.{Rank, IsMonomialOrder, grevlex, blocks}
@@ -22,8 +22,8 @@ use Rattle.polynomials.proofs.Distinct.{coefficient_apart, coefficient_first, di
 use Rattle.polynomials.proofs.Arity.{length-zeros}
 use Rattle.polynomials.proofs.Exponent.{get_or-zeros, get_or-plus, same_refl, same_true, same_apart, length-plus_same}
 use Rattle.polynomials.proofs.Orders.{grevlex_order, blocks_order}
-use Rattle.chains.proofs.Exponents.{length-unit}
-use Rattle.chains.specs.Uses.{unit}
+use Rattle.solvable_maps.proofs.Exponents.{length-unit}
+use Rattle.solvable_maps.specs.Uses.{unit}
 use Rattle.machines.specs.Collect.{collect}
 use Rattle.machines.specs.Elimination.{all_free, free, in_front, with_first, blend}
 use Rattle.machines.proofs.Collecting.{collect-same}

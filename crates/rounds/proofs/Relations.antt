@@ -6,16 +6,16 @@ use Rattle.std.proofs.Common.{◌≡◌, ℕ, zero, suc, ◌+◌, ◌<◌, ◌�
 use Rattle.std.proofs.lemmas.List.{get_or-map, length-map, length-append, get_or_append_left, get_or-append-add}
 use Rattle.std.proofs.lemmas.List.Elements.{All-nil, All-cons, All-append, length_all_zip, AllZip-get_or}
 use Rattle.std.specs.List.{AllZip}
-use Rattle.rings.proofs.RingLaws as L
-use Rattle.numbers.specs.Fraction.{Fraction, ℚ, whole, inverse}
-use Rattle.numbers.proofs.Fractions.{ℚ_ring, ℚ_field}
-use Rattle.numbers.proofs.Wholes.{whole-some, opposite-whole}
+use Rattle.algebra.proofs.RingLaws as L
+use Rattle.algebra.specs.Fraction.{Fraction, ℚ, whole, inverse}
+use Rattle.algebra.proofs.Fractions.{ℚ_ring, ℚ_field}
+use Rattle.algebra.proofs.Wholes.{whole-some, opposite-whole}
 use Rattle.polynomials.specs.Terms.{constant, variables, times, negate}
 use Rattle.polynomials.proofs.ValueAt.{value_at-append, value_at-times, value_at-negate, value_at-constant, value_at-variables}
 use Rattle.exponentials.specs.Base.{Coprime}
 use Rattle.exponentials.proofs.Monomial.{power_inverse}
-use Rattle.turns.specs.Turns.{point, back_point, powers, inverses, sign}
-use Rattle.turns.proofs.Operations.{point-append}
+use Rattle.solvable_maps.specs.Turns.{point, back_point, powers, inverses, sign}
+use Rattle.solvable_maps.proofs.Operations.{point-append}
 use Rattle.rounds.specs.Orbit.{AreRelations}
 use Rattle.rounds.specs.Form.{front, point_of, variable_at, relation, relations_to, relations}
 use Rattle.machines.proofs.Padding.{at}

@@ -4,16 +4,16 @@
 --   resets_finished       and ends in round 1 with x^2 - 8 x + 15
 use Rattle.std.proofs.Common.{◌≡◌, ℕ, zero, suc, ◌+◌, ◌<◌, ◌≤◌, pos, negsuc, List, [], ◌∷◌, length, get_or, refl, sym, ap, subst, ◌∙◌, arith, None}
 use Rattle.std.specs.Prelude.{⊤}
-use Rattle.rings.specs.Arithmetic.{power}
-use Rattle.rings.specs.Each.{Each}
-use Rattle.rings.specs.Sum.{sum_over}
-use Rattle.rings.proofs.Basics.{same_head}
-use Rattle.numbers.specs.Gcd.{gcd}
-use Rattle.numbers.specs.Ratio.{is_lowest, reduce}
-use Rattle.numbers.specs.Fraction as Fraction
-use Rattle.numbers.specs.Fraction.{Fraction, fraction, whole, ℚ}
-use Rattle.numbers.proofs.Fractions.{ℚ_ring}
-use Rattle.numbers.proofs.Wholes.{whole-some}
+use Rattle.algebra.specs.Arithmetic.{power}
+use Rattle.algebra.specs.Each.{Each}
+use Rattle.algebra.specs.Sum.{sum_over}
+use Rattle.algebra.proofs.Basics.{same_head}
+use Rattle.algebra.specs.Gcd.{gcd}
+use Rattle.algebra.specs.Ratio.{is_lowest, reduce}
+use Rattle.algebra.specs.Fraction as Fraction
+use Rattle.algebra.specs.Fraction.{Fraction, fraction, whole, ℚ}
+use Rattle.algebra.proofs.Fractions.{ℚ_ring}
+use Rattle.algebra.proofs.Wholes.{whole-some}
 use Rattle.polynomials.specs.Algebra as Algebra
 use Rattle.polynomials.specs.Exponent.{same, plus, lcm, unit_exponents, over as less}
 use Rattle.polynomials.specs.Order.{compare, grevlex, blocks}
@@ -36,9 +36,9 @@ use Rattle.machines.specs.Run.{IsRun}
 use Rattle.machines.proofs.Runs.{on, trace, run_of}
 use Rattle.exponentials.specs.Base.{IsTheBase}
 use Rattle.exponentials.specs.Keys.{excess}
-use Rattle.turns.specs.Classes.{IsEigenvalue, IsFormBase}
-use Rattle.turns.specs.Turns as turns
-use Rattle.turns.specs.Turns.{point, values_at, IsClosedFormFrom}
+use Rattle.solvable_maps.specs.Classes.{IsEigenvalue, IsFormBase}
+use Rattle.solvable_maps.specs.Turns as turns
+use Rattle.solvable_maps.specs.Turns.{point, values_at, IsClosedFormFrom}
 use Rattle.loops.specs.Effect.{store, value_of, after_statement, after_branch}
 use Rattle.loops.specs.Map.{branch_map}
 use Rattle.loops.specs.Program.{Expr, number, Program}

@@ -4,7 +4,7 @@
 --   alike_past         what is past
 use Rattle.std.proofs.Common.{◌≡◌, ℕ, zero, suc, Bool, true, false, cond, ltb, List, [], ◌∷◌, map, length, Option, Some, None, refl, sym, ap, subst, ◌∙◌}
 use Rattle.std.proofs.Common.{inl, inr}
-use Rattle.numbers.specs.Fraction.{Fraction, rationals, fractions}
+use Rattle.algebra.specs.Fraction.{Fraction, rationals, fractions}
 use Rattle.polynomials.specs.Terms.{Terms}
 use Rattle.polynomials.specs.Order.{grevlex}
 use Rattle.machines.specs.Collect.{collect}

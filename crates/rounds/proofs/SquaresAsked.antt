@@ -8,15 +8,15 @@ use Rattle.std.proofs.Common.{◌≡◌, zero, suc, ◌<◌, pos, negsuc, List, 
 use Rattle.std.specs.Prelude.{⊤, ◌≢◌}
 use Rattle.std.specs.List.{All}
 use Rattle.std.proofs.lemmas.List.Elements.{All-nil, All-cons}
-use Rattle.rings.specs.Arithmetic.{power}
-use Rattle.rings.specs.Each.{Each}
-use Rattle.rings.specs.Sum.{sum_over}
-use Rattle.numbers.specs.Gcd.{gcd}
-use Rattle.numbers.specs.Ratio.{is_lowest, reduce}
-use Rattle.numbers.specs.Fraction as Fraction
-use Rattle.numbers.specs.Fraction.{Fraction, fraction, over, whole, ℚ, rationals}
-use Rattle.numbers.proofs.Fractions.{ℚ_field}
-use Rattle.numbers.proofs.Wholes.{whole_injective}
+use Rattle.algebra.specs.Arithmetic.{power}
+use Rattle.algebra.specs.Each.{Each}
+use Rattle.algebra.specs.Sum.{sum_over}
+use Rattle.algebra.specs.Gcd.{gcd}
+use Rattle.algebra.specs.Ratio.{is_lowest, reduce}
+use Rattle.algebra.specs.Fraction as Fraction
+use Rattle.algebra.specs.Fraction.{Fraction, fraction, over, whole, ℚ, rationals}
+use Rattle.algebra.proofs.Fractions.{ℚ_field}
+use Rattle.algebra.proofs.Wholes.{whole_injective}
 use Rattle.polynomials.specs.Algebra as Algebra
 use Rattle.polynomials.specs.Exponent.{same, plus, lcm, unit_exponents, over as less}
 use Rattle.polynomials.specs.Order.{compare, grevlex, blocks}

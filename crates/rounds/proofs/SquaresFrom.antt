@@ -2,12 +2,12 @@
 --   from_starts_finished      from t - 1, s - 1, a, the list that its starts have, it finishes as from its starts, without the first task
 --   from_basis_finished       from the basis of its invariants it finishes at once, with round 0
 use Rattle.std.proofs.Common.{◌≡◌, pos, negsuc, List, [], ◌∷◌, refl, subst, None, Some}
-use Rattle.rings.specs.Arithmetic.{power}
-use Rattle.rings.specs.Sum.{sum_over}
-use Rattle.numbers.specs.Gcd.{gcd}
-use Rattle.numbers.specs.Ratio.{is_lowest, reduce}
-use Rattle.numbers.specs.Fraction as Fraction
-use Rattle.numbers.specs.Fraction.{Fraction, fraction, whole}
+use Rattle.algebra.specs.Arithmetic.{power}
+use Rattle.algebra.specs.Sum.{sum_over}
+use Rattle.algebra.specs.Gcd.{gcd}
+use Rattle.algebra.specs.Ratio.{is_lowest, reduce}
+use Rattle.algebra.specs.Fraction as Fraction
+use Rattle.algebra.specs.Fraction.{Fraction, fraction, whole}
 use Rattle.polynomials.specs.Algebra as Algebra
 use Rattle.polynomials.specs.Exponent.{same, plus, lcm, unit_exponents, over as less}
 use Rattle.polynomials.specs.Order.{compare, grevlex, blocks}

@@ -5,10 +5,10 @@ use Rattle.std.proofs.Common.{◌≡◌, ℕ, zero, suc, ◌<◌, ◌⊎◌, inl
 use Rattle.std.specs.List.{AllZip}
 use Rattle.std.proofs.lemmas.Bool.{eq-eqb}
 use Rattle.std.proofs.lemmas.List.Elements.{All-nil, All-head, All-tail, All-append, All-filter, All-map, All-weaker}
-use Rattle.rings.specs.Ring.{CommRing}
-use Rattle.rings.proofs.Each.{each-map, each_of}
-use Rattle.numbers.specs.Fraction.{Fraction, ℚ}
-use Rattle.numbers.proofs.Fractions.{ℚ_ring, ℚ_zero_test}
+use Rattle.algebra.specs.Ring.{CommRing}
+use Rattle.algebra.proofs.Each.{each-map, each_of}
+use Rattle.algebra.specs.Fraction.{Fraction, ℚ}
+use Rattle.algebra.proofs.Fractions.{ℚ_ring, ℚ_zero_test}
 use Rattle.polynomials.specs.Terms.{Terms, Same, constant, variables, lists, negate, combination, value_at}
 use Rattle.polynomials.specs.Polynomial.{Arity, AllArity}
 use Rattle.polynomials.proofs.Arity.{arity-compose, arity-variables}

@@ -7,8 +7,8 @@
 --   answered_is, answered_decides_all     so does an answered one, whose division decides
 --   same_basis_same       two finished journals have one basis exactly where their programs have the same invariants
 use Rattle.std.proofs.Common.{◌≡◌, ◌↔◌, ℕ, ◌<◌, List, length, sym, ap, subst, refl, Option, Some, None}
-use Rattle.numbers.proofs.Fractions.{ℚ_field}
-use Rattle.numbers.specs.Fraction.{Fraction, ℚ, rationals}
+use Rattle.algebra.proofs.Fractions.{ℚ_field}
+use Rattle.algebra.specs.Fraction.{Fraction, ℚ, rationals}
 use Rattle.polynomials.specs.Order.{grevlex}
 use Rattle.polynomials.specs.Terms.{Terms}
 use Rattle.polynomials.specs.Polynomial.{Arity, IsPolynomial}

@@ -3,12 +3,12 @@
 --   member_at_units       the theorem
 use Rattle.std.proofs.Common.{◌≡◌, ℕ, zero, suc, List, [], ◌∷◌, ◌++◌, map, length, take, drop, refl, sym, ap, ap₂, ◌∙◌}
 use Rattle.std.specs.List.{AllZip}
-use Rattle.rings.specs.Arithmetic.{power}
-use Rattle.rings.specs.Each.{Each}
-use Rattle.rings.specs.Sum.{sum_over}
-use Rattle.rings.specs.Ring.{CommRing, Field, Hom, operations, of_nat}
-use Rattle.rings.proofs.RingLaws as L
-use Rattle.rings.proofs.Sums.{sum-nil, sum-cons}
+use Rattle.algebra.specs.Arithmetic.{power}
+use Rattle.algebra.specs.Each.{Each}
+use Rattle.algebra.specs.Sum.{sum_over}
+use Rattle.algebra.specs.Ring.{CommRing, Field, Hom, operations, of_nat}
+use Rattle.algebra.proofs.RingLaws as L
+use Rattle.algebra.proofs.Sums.{sum-nil, sum-cons}
 use Rattle.polynomials.specs.Exponent.{plus}
 use Rattle.polynomials.specs.Terms.{monomial_at}
 use Rattle.exponentials.specs.Base.{Coprime, SameLength}
@@ -19,9 +19,9 @@ use Rattle.exponentials.proofs.Points.{term-value}
 use Rattle.polynomials.proofs.Value.{monomial-plus}
 use Rattle.exponentials.proofs.Flat.{IsIdeal, moved}
 use Rattle.exponentials.specs.Table.{alike}
-use Rattle.rings.proofs.Each.{each-map}
-use Rattle.rings.proofs.In.{each_from, each_in, map-in}
-use Rattle.rings.proofs.Basics.{cond_both}
+use Rattle.algebra.proofs.Each.{each-map}
+use Rattle.algebra.proofs.In.{each_from, each_in, map-in}
+use Rattle.algebra.proofs.Basics.{cond_both}
 use Rattle.exponentials.proofs.Lists.{each_map, sum_same, sum_alike, once, once-distinct, once-in, once-out}
 use Rattle.exponentials.proofs.Expo.{IsChar0, key_test, coefficient, coefficient_in, value}
 use Rattle.exponentials.proofs.Everywhere.{Place, place_test, gathered, regrouped}

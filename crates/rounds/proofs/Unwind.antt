@@ -4,15 +4,15 @@
 use Rattle.std.proofs.Common.{◌≡◌, ℕ, suc, ◌+◌, ◌<◌, pos, List, [], ◌∷◌, ◌++◌, map, get_or, take, drop, length, arith, refl, sym, ap, ap₂, subst, ◌∙◌, All, length-take, append_assoc}
 use Rattle.std.proofs.lemmas.List.{get_or-map, length-map, length-append, map-append, take_at, drop_at}
 use Rattle.std.proofs.lemmas.List.Elements.{All-head, All-tail}
-use Rattle.rings.specs.Arithmetic.{power}
-use Rattle.rings.specs.Each.{Each}
-use Rattle.rings.specs.Sum.{sum_over}
-use Rattle.rings.proofs.Each.{each-append, each-map, each_of, each_weaker}
-use Rattle.rings.proofs.RingLaws.{eq_of_sub}
-use Rattle.rings.proofs.RingSolver.{ring, ring_rules}
-use Rattle.rings.proofs.Basics.{same_head, same_tail}
-use Rattle.numbers.specs.Fraction.{Fraction, ℚ, whole, inverse, rationals}
-use Rattle.numbers.proofs.Fractions.{ℚ_ring, ℚ_field}
+use Rattle.algebra.specs.Arithmetic.{power}
+use Rattle.algebra.specs.Each.{Each}
+use Rattle.algebra.specs.Sum.{sum_over}
+use Rattle.algebra.proofs.Each.{each-append, each-map, each_of, each_weaker}
+use Rattle.algebra.proofs.RingLaws.{eq_of_sub}
+use Rattle.algebra.proofs.RingSolver.{ring, ring_rules}
+use Rattle.algebra.proofs.Basics.{same_head, same_tail}
+use Rattle.algebra.specs.Fraction.{Fraction, ℚ, whole, inverse, rationals}
+use Rattle.algebra.proofs.Fractions.{ℚ_ring, ℚ_field}
 use Rattle.polynomials.specs.Order.{Rank, IsMonomialOrder, grevlex, blocks}
 use Rattle.polynomials.specs.Terms.{Terms, Same, variables, negate, combination, compose, evaluate}
 use Rattle.polynomials.specs.Polynomial.{Arity, AllArity, IsPolynomial}
@@ -21,12 +21,12 @@ use Rattle.polynomials.proofs.Orders.{grevlex_order, blocks_order}
 use Rattle.polynomials.proofs.Same.{Same-sym}
 use Rattle.polynomials.proofs.ValueAt.{value_at_same, value_at-append, value_at-negate, value_at-compose, value_at-variables, combination_zero}
 use Rattle.exponentials.specs.Base.{Coprime}
-use Rattle.turns.specs.Turns as turns
-use Rattle.turns.specs.Turns.{point, back_point, width}
-use Rattle.turns.specs.Expo.{with_normal_keys, backward_terms}
-use Rattle.turns.proofs.OneForm.{back_is_inverse}
-use Rattle.turns.proofs.Operations.{point-append, back-value, normal-value, turned_value}
-use Rattle.turns.proofs.Lengths.{arity-normalized, arity-turned_back}
+use Rattle.solvable_maps.specs.Turns as turns
+use Rattle.solvable_maps.specs.Turns.{point, back_point, width}
+use Rattle.solvable_maps.specs.Expo.{with_normal_keys, backward_terms}
+use Rattle.solvable_maps.proofs.OneForm.{back_is_inverse}
+use Rattle.solvable_maps.proofs.Operations.{point-append, back-value, normal-value, turned_value}
+use Rattle.solvable_maps.proofs.Lengths.{arity-normalized, arity-turned_back}
 use Rattle.ideals.specs.Members.{IsMember}
 use Rattle.machines.specs.Collect.{collect}
 use Rattle.machines.specs.Elimination.{in_front}

@@ -2,10 +2,10 @@
 --   unwound_is             what is composed, made normal and put in the order of an orbit is the element unwound
 --   unwound_past           where making it normal is past, the composition is
 use Rattle.std.proofs.Common.{◌≡◌, inl, ℕ, ◌+◌, length, sym, subst}
-use Rattle.numbers.specs.Fraction.{Fraction, ℚ, fractions, fraction_size}
-use Rattle.numbers.specs.Size.{IsPast}
-use Rattle.numbers.proofs.Fractions.{ℚ_ring, ℚ_field, fractions_ring}
-use Rattle.numbers.proofs.SizeLaws.{fractions_bounded, past_under}
+use Rattle.algebra.specs.Fraction.{Fraction, ℚ, fractions, fraction_size}
+use Rattle.algebra.specs.Size.{IsPast}
+use Rattle.algebra.proofs.Fractions.{ℚ_ring, ℚ_field, fractions_ring}
+use Rattle.algebra.proofs.SizeLaws.{fractions_bounded, past_under}
 use Rattle.polynomials.specs.Order.{grevlex}
 use Rattle.polynomials.specs.Polynomial.{Arity, AllArity, IsPolynomial}
 use Rattle.polynomials.specs.Terms.{Terms, Same, compose}
@@ -16,9 +16,9 @@ use Rattle.polynomials.proofs.Past.{composition_under}
 use Rattle.polynomials.proofs.Same.{Same-trans}
 use Rattle.polynomials.proofs.Weight.{composition-pos}
 use Rattle.machines.proofs.Collecting.{collect-is, collect-same}
-use Rattle.turns.specs.Expo.{with_normal_keys}
-use Rattle.turns.proofs.Lengths.{arity-normalized}
-use Rattle.turns.proofs.Retold.{same_normalized}
+use Rattle.solvable_maps.specs.Expo.{with_normal_keys}
+use Rattle.solvable_maps.proofs.Lengths.{arity-normalized}
+use Rattle.solvable_maps.proofs.Retold.{same_normalized}
 use Rattle.rounds.specs.Form.{Form, front, normal, orbit_order, form_backward, unwound_by}
 use Rattle.rounds.proofs.Unwind.{width-is}
 

@@ -5,22 +5,22 @@
 --   late_orbit       so its graph gives the orbit from there on
 use Rattle.std.proofs.Common.{◌≡◌, ℕ, zero, suc, ◌+◌, ◌<◌, ◌≤◌, Bool, true, false, cond, List, [], ◌∷◌, ◌++◌, map, get_or, take, drop, length, arith, refl, sym, ap, ap₂, subst, ◌∙◌, All, drop-cons, append_assoc}
 use Rattle.std.proofs.lemmas.List.{length-map, length-append, get_or-map, get_or_append_left, get_or-append-add, get_or-take, drop_at}
-use Rattle.rings.specs.Each.{Each}
-use Rattle.rings.proofs.Lists.{length-front}
-use Rattle.rings.proofs.Basics.{same_head, same_tail}
+use Rattle.algebra.specs.Each.{Each}
+use Rattle.algebra.proofs.Lists.{length-front}
+use Rattle.algebra.proofs.Basics.{same_head, same_tail}
 use Rattle.exponentials.specs.Base.{Coprime}
-use Rattle.numbers.specs.Fraction.{Fraction, ℚ}
-use Rattle.numbers.proofs.Fractions.{ℚ_ring}
+use Rattle.algebra.specs.Fraction.{Fraction, ℚ}
+use Rattle.algebra.proofs.Fractions.{ℚ_ring}
 use Rattle.polynomials.specs.Terms.{Terms, Same, AllSame, constant, variables, times, negate}
 use Rattle.polynomials.specs.Polynomial.{Arity, AllArity}
 use Rattle.polynomials.proofs.Arity.{arity-append, arity-times, arity-negate, arity-constant, arity-compose, arity-variables, arity_at}
 use Rattle.polynomials.proofs.ByValues.{same_by_values}
 use Rattle.polynomials.proofs.ValueAt.{value_at-append, value_at-times, value_at-negate, value_at-constant, value_at-compose, value_at-variables}
-use Rattle.turns.specs.Turns as turns
-use Rattle.turns.specs.Turns.{point, values_at, IsItself}
-use Rattle.turns.specs.Expo.{backward_terms}
-use Rattle.turns.proofs.Operations.{point-append}
-use Rattle.turns.proofs.OneForm.{backward_to_zero}
+use Rattle.solvable_maps.specs.Turns as turns
+use Rattle.solvable_maps.specs.Turns.{point, values_at, IsItself}
+use Rattle.solvable_maps.specs.Expo.{backward_terms}
+use Rattle.solvable_maps.proofs.Operations.{point-append}
+use Rattle.solvable_maps.proofs.OneForm.{backward_to_zero}
 use Rattle.machines.proofs.Padding.{at, inner-is, inner_arity, inner_at}
 use Rattle.loops.specs.Program.{Expr, Program}
 use Rattle.loops.specs.Map.{branch_map}

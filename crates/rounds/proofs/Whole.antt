@@ -3,7 +3,7 @@
 --   begins_whole                 no turn is taken by itself
 --   first_whole, further_whole   what follows the orbit
 use Rattle.std.proofs.Common.{◌≡◌, ℕ, suc, pred, cond, ltb, List, ◌++◌, map, length, ap}
-use Rattle.numbers.specs.Fraction.{Fraction, rationals}
+use Rattle.algebra.specs.Fraction.{Fraction, rationals}
 use Rattle.polynomials.specs.Terms.{Terms}
 use Rattle.machines.specs.Collect.{collect}
 use Rattle.rounds.specs.Form.{front, relations, orbit_order, front_since, list_since}

@@ -17,7 +17,7 @@
 --   closing_from k b i gs      the closing tests of round k, from branch b and element i on
 --   moves s           the entry that comes next, if one does, and the state after it
 use Rattle.std.specs.Prelude.{ℕ, zero, suc, pred, ◌&&◌, cond, ltb, List, [], map, length, get_or, Option, Some, None}
-use Rattle.numbers.specs.Fraction.{Fraction, ℚ, rationals, fractions}
+use Rattle.algebra.specs.Fraction.{Fraction, ℚ, rationals, fractions}
 use Rattle.polynomials.specs.Terms.{Terms, compose}
 use Rattle.polynomials.specs.Order.{Rank, grevlex, blocks}
 use Rattle.machines.specs.Event.{Event}

@@ -1,7 +1,7 @@
 -- The map of a branch as the analysis has it.
 --   map_of program b           the polynomials of branch b, collected
 use Rattle.std.specs.Prelude.{ℕ, List, map}
-use Rattle.numbers.specs.Fraction.{Fraction, rationals}
+use Rattle.algebra.specs.Fraction.{Fraction, rationals}
 use Rattle.polynomials.specs.Terms.{Terms}
 use Rattle.polynomials.specs.Order.{grevlex}
 use Rattle.machines.specs.Collect.{collect}

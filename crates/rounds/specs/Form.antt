@@ -23,15 +23,15 @@
 --   at_minus_one f m p   p at n = -1;  turn_before, turn_graph, turn_list f m images gs     the same for one turn, with the form there and the branch's map
 --   IsClosedForm program b f      f is the closed form of branch b: over the base of the sizes of all eigenvalues but 0, normal, and from the least number of turns on
 use Rattle.std.specs.Prelude.{◌≤◌, ℕ, zero, suc, ◌+◌, Bool, true, false, cond, List, [], ◌∷◌, ◌++◌, map, drop, length, get_or}
-use Rattle.rings.specs.Each.{Each}
-use Rattle.numbers.specs.Fraction.{Fraction, ℚ, rationals}
+use Rattle.algebra.specs.Each.{Each}
+use Rattle.algebra.specs.Fraction.{Fraction, ℚ, rationals}
 use Rattle.polynomials.specs.Terms.{Terms, constant, variables, times, negate, compose}
 use Rattle.polynomials.specs.Order.{Rank, grevlex, blocks}
 use Rattle.polynomials.specs.Polynomial.{IsPolynomial}
-use Rattle.turns.specs.Classes.{IsFormBase}
-use Rattle.turns.specs.Turns as turns
-use Rattle.turns.specs.Turns.{point, back_point, width, IsNormal}
-use Rattle.turns.specs.Expo.{with_normal_keys, backward_terms, zero_images}
+use Rattle.solvable_maps.specs.Classes.{IsFormBase}
+use Rattle.solvable_maps.specs.Turns as turns
+use Rattle.solvable_maps.specs.Turns.{point, back_point, width, IsNormal}
+use Rattle.solvable_maps.specs.Expo.{with_normal_keys, backward_terms, zero_images}
 use Rattle.machines.specs.Collect.{collect}
 use Rattle.loops.specs.Program.{Expr, Program}
 use Rattle.loops.specs.Map.{branch_map}

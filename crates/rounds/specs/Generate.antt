@@ -2,7 +2,7 @@
 --   Generates m gs P      gs are polynomials in m variables over fractions, and the polynomials in m variables that are members of their ideal are those of P
 --   IsMeet m hs ks gs     gs generate the polynomials that are members of both ideals
 use Rattle.std.specs.Prelude.{ℕ, List}
-use Rattle.numbers.specs.Fraction.{Fraction, ℚ}
+use Rattle.algebra.specs.Fraction.{Fraction, ℚ}
 use Rattle.polynomials.specs.Terms.{Terms}
 use Rattle.polynomials.specs.Polynomial.{Arity, AllArity}
 use Rattle.ideals.specs.Members.{IsMember}

@@ -7,7 +7,7 @@
 --   AreWide k t m point before rs us     the us are the rs at what was, and zero at each point
 use Rattle.std.specs.Prelude.{◌≡◌, ℕ, ◌+◌, List, [], ◌∷◌, ◌++◌, map, drop, take, length}
 use Rattle.std.specs.List.{All}
-use Rattle.numbers.specs.Fraction.{Fraction, ℚ}
+use Rattle.algebra.specs.Fraction.{Fraction, ℚ}
 use Rattle.polynomials.specs.Terms.{Terms, AllSame, variables, negate, compose, value_at}
 use Rattle.polynomials.specs.Polynomial.{AllArity}
 use Rattle.loops.specs.Program.{Expr, Program}

@@ -12,7 +12,7 @@
 --   IsAnswered program p es k gs s     they follow it, the analysis has ended so, and the division of p by gs has ended with s
 --   IsOut program asked limit es       they follow it, have as many units as the limit, and what comes next is a unit
 use Rattle.std.specs.Prelude.{◌≡◌, ℕ, suc, ◌<◌, true, List, [], map, get_or, length, Option, Some, None}
-use Rattle.numbers.specs.Fraction.{Fraction, rationals}
+use Rattle.algebra.specs.Fraction.{Fraction, rationals}
 use Rattle.polynomials.specs.Terms.{Terms}
 use Rattle.polynomials.specs.Order.{grevlex}
 use Rattle.machines.specs.Collect.{collect}

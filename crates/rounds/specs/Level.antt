@@ -4,7 +4,7 @@
 --   InvThen program k i p       so for the words of level k followed by any number of letters i
 --   InvUpTo program k j p       so for all of these with a letter i from 1 to j
 use Rattle.std.specs.Prelude.{◌≡◌, ℕ, List, length}
-use Rattle.numbers.specs.Fraction.{Fraction, ℚ}
+use Rattle.algebra.specs.Fraction.{Fraction, ℚ}
 use Rattle.polynomials.specs.Terms.{Terms, value_at}
 use Rattle.polynomials.specs.Polynomial.{Arity}
 use Rattle.loops.specs.Program.{Expr, Program}

@@ -13,7 +13,7 @@
 --   AreInvariants program since s    so from the starts: bases of invariants
 --   AreKept program firsts since s   so from a list that is given: bases of what the loop keeps of its ideal
 use Rattle.std.specs.Prelude.{◌≡◌, ◌⊎◌, ℕ, suc, pred, ◌<◌, List, [], get_or, length, ⊤}
-use Rattle.numbers.specs.Fraction.{Fraction, ℚ, rationals}
+use Rattle.algebra.specs.Fraction.{Fraction, ℚ, rationals}
 use Rattle.polynomials.specs.Terms.{Terms}
 use Rattle.polynomials.specs.Polynomial.{Arity}
 use Rattle.polynomials.specs.Order.{grevlex}

@@ -12,7 +12,7 @@
 --   IsEliminated k m hs ks         ks generate the polynomials that are, padded, members of the ideal of hs
 use Rattle.std.specs.Prelude.{◌≡◌, ℕ, zero, suc, ◌+◌, ◌↔◌, List, ◌++◌, map, length}
 use Rattle.std.specs.List.{All}
-use Rattle.numbers.specs.Fraction.{Fraction, ℚ}
+use Rattle.algebra.specs.Fraction.{Fraction, ℚ}
 use Rattle.polynomials.specs.Terms.{Terms, constant, variables, compose, value_at}
 use Rattle.polynomials.specs.Polynomial.{Arity, AllArity}
 use Rattle.ideals.specs.Members.{IsMember}

@@ -10,7 +10,7 @@
 --   IsPast s                   one of the two;  task_of s: the task that s is in
 use Rattle.std.specs.Prelude.{◌⊎◌, ℕ, zero, suc, ◌+◌, List, [], ◌∷◌, ◌++◌, map, drop, replicate, length, get_or}
 use Rattle.std.specs.List.{Any}
-use Rattle.numbers.specs.Fraction.{Fraction, ℚ, fractions, rationals}
+use Rattle.algebra.specs.Fraction.{Fraction, ℚ, fractions, rationals}
 use Rattle.polynomials.specs.Order.{grevlex}
 use Rattle.polynomials.specs.Terms.{Terms, constant, variables, negate}
 use Rattle.polynomials.specs.Weight.{IsPastSum, IsPastProduct, IsPastComposition}

@@ -6,7 +6,7 @@
 --   orbit_turns d n            n + d turns, for the orbit of a form that is the state from d turns on
 --   Laws program A             what the layers below give: tasks eliminate and reduce, divisions decide, the starting lists have the right members
 use Rattle.std.specs.Prelude.{◌≡◌, ◌↔◌, ℕ, zero, suc, ◌+◌, ◌<◌, List, [], get_or, length, Option, None, ⊤}
-use Rattle.numbers.specs.Fraction.{Fraction, ℚ, rationals}
+use Rattle.algebra.specs.Fraction.{Fraction, ℚ, rationals}
 use Rattle.polynomials.specs.Terms.{Terms}
 use Rattle.polynomials.specs.Polynomial.{Arity, IsPolynomial}
 use Rattle.polynomials.specs.Order.{grevlex, blocks}

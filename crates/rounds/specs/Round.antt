@@ -6,7 +6,7 @@
 --   IsClosed program gs          each of gs composed with the map of each branch is a member of their ideal
 --   IsRound program I k gs       gs is the list of round k: round 0 generates I, and each further round follows one that isn't closed
 use Rattle.std.specs.Prelude.{ℕ, suc, ◌<◌, List, [], replicate, get_or, length}
-use Rattle.numbers.specs.Fraction.{Fraction, ℚ}
+use Rattle.algebra.specs.Fraction.{Fraction, ℚ}
 use Rattle.polynomials.specs.Terms.{Terms}
 use Rattle.ideals.specs.Members.{IsMember}
 use Rattle.loops.specs.Program.{Expr, Program}

@@ -4,7 +4,7 @@
 --   start_list program             the polynomials of init, in declared order of the variables
 use Rattle.std.specs.Prelude.{ℕ, zero, suc, eqb, List, [], ◌++◌, map, get_or, length}
 use Rattle.std.specs.List.{filter}
-use Rattle.numbers.specs.Fraction.{Fraction, ℚ}
+use Rattle.algebra.specs.Fraction.{Fraction, ℚ}
 use Rattle.polynomials.specs.Terms.{Terms, constant, negate, variables, lists}
 use Rattle.loops.specs.Program.{Expr, Program, Equation}
 use Rattle.loops.specs.Effect.{value_of}

@@ -13,7 +13,7 @@
 --   IsZeroAtStarts program p     p is zero at each start
 use Rattle.std.specs.Prelude.{◌≡◌, ℕ, suc, pred, ◌<◌, ◌≤◌, cond, eqb, List, [], ◌∷◌, ◌++◌, replicate, get_or, length, ⊤}
 use Rattle.std.specs.List.{All}
-use Rattle.numbers.specs.Fraction.{Fraction, ℚ}
+use Rattle.algebra.specs.Fraction.{Fraction, ℚ}
 use Rattle.polynomials.specs.Terms.{Terms, value_at}
 use Rattle.loops.specs.Program.{Expr, Program, Statement}
 use Rattle.loops.specs.Run.{IsStart}

@@ -1,7 +1,7 @@
-//! The laws of the definitions, each as the contract of a function that does nothing.
+//! The laws of the analysis of a loop, up to its theorem, each as the contract of a function that does nothing.
 
 ghost use Rattle.std.specs.Prelude.{◌≡◌, ◌↔◌, ℕ, suc, pred, ◌+◌, ◌<◌, ◌≤◌, true, false, List, [], ◌++◌, map, get_or, length, Option, None, Some};
-ghost use Rattle.numbers.specs.Fraction.{Fraction, ℚ, rationals};
+ghost use Rattle.algebra.specs.Fraction.{Fraction, ℚ, rationals};
 ghost use Rattle.polynomials.specs.Terms.{Terms, Same};
 ghost use Rattle.polynomials.specs.Order.{grevlex};
 ghost use Rattle.polynomials.specs.Polynomial.{Arity, AllArity, IsPolynomial};

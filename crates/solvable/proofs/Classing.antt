@@ -3,14 +3,14 @@ use Rattle.std.proofs.Common.{append-nil, ◌≡◌, ◌⊎◌, inl, inr, ◌<�
 use lib.Dec.{eqb_refl}
 use Rattle.std.specs.List.{list_any}
 use Rattle.std.proofs.lemmas.Bool.{cases_lt}
-use Rattle.rings.specs.In.{In}
-use Rattle.chains.specs.Chain.{Reaches}
-use Rattle.chains.specs.Class.{Above, Ascends, InClass, Ready, IsClassOf, IsNext, AreClasses}
-use Rattle.rings.proofs.Basics.{both_in, both_out, not_out}
-use Rattle.rings.proofs.In.{in_left, in_right, in_push}
-use Rattle.chains.proofs.Reach.{reach_walk, reach_all, or_out, or_left, or_right}
-use Rattle.chains.proofs.Ranks.{count, count_less}
-use Rattle.chains.proofs.Classes.{some_ready, member_dec, reached_within}
+use Rattle.algebra.specs.In.{In}
+use Rattle.solvable_maps.specs.Chain.{Reaches}
+use Rattle.solvable_maps.specs.Class.{Above, Ascends, InClass, Ready, IsClassOf, IsNext, AreClasses}
+use Rattle.algebra.proofs.Basics.{both_in, both_out, not_out}
+use Rattle.algebra.proofs.In.{in_left, in_right, in_push}
+use Rattle.solvable_maps.proofs.Reach.{reach_walk, reach_all, or_out, or_left, or_right}
+use Rattle.solvable_maps.proofs.Ranks.{count, count_less}
+use Rattle.solvable_maps.proofs.Classes.{some_ready, member_dec, reached_within}
 use Rattle.solvable.specs.Tables.{at, IsSquare}
 use Rattle.solvable.specs.Ready.{Mutual, IsReady, IsFirstReady, IsGroup, AreReached}
 use Rattle.solvable.proofs.Rows.{Rows, at_inside}

@@ -2,7 +2,7 @@
 use Rattle.std.proofs.Common.{◌≡◌, ◌⊎◌, inl, inr, ◌<◌, ◌≤◌, ℕ, zero, suc, ◌+◌, Bool, false, List, [], ◌∷◌, ◌++◌, length, get_or, All, T, ◌&&◌, Vec, Global, Result, Ok, Err, refl, sym, ap, subst, ◌∙◌, arith, IfOk, length-append}
 use Rattle.std.proofs.lemmas.Bool.{cases_lt}
 use Rattle.std.proofs.lemmas.List.Elements.{All-head, All-tail, All-append, All-cons, All-nil}
-use Rattle.rings.proofs.Basics.{both_out}
+use Rattle.algebra.proofs.Basics.{both_out}
 use Rattle.solvable.specs.Tables.{at, IsSquare, IsRow, IsTable}
 
 abbrev pub Rows : Type 0

@@ -2,17 +2,17 @@
 use Rattle.std.proofs.Common.{◌≡◌, ◌⊎◌, inl, inr, ◌<◌, ◌≤◌, ℕ, zero, suc, ◌+◌, Option, Some, None, Vec, Global, Bool, true, false, List, [], ◌∷◌, ◌&&◌, ◌||◌, map, length, get_or, drop, sum, All, T, ltb, lt→ltb, ltb→lt, refl, sym, ap, ap₂, subst, ◌∙◌, arith, drop-cons, add-one}
 use mathlib.Core.Path.{fun_ext}
 use Rattle.std.proofs.lemmas.Bool.{cases_lt}
-use Rattle.rings.specs.Each.{Each}
-use Rattle.rings.proofs.Basics.{to_true, both_in, both_out}
-use Rattle.numbers.specs.Fraction.{Fraction}
+use Rattle.algebra.specs.Each.{Each}
+use Rattle.algebra.proofs.Basics.{to_true, both_in, both_out}
+use Rattle.algebra.specs.Fraction.{Fraction}
 use Rattle.polynomials.specs.Terms.{Terms}
 use Rattle.polynomials.specs.Polynomial.{Arity}
-use Rattle.chains.specs.Chain.{IsChain, IsLeastChain}
-use Rattle.chains.specs.Class.{AreClasses}
+use Rattle.solvable_maps.specs.Chain.{IsChain, IsLeastChain}
+use Rattle.solvable_maps.specs.Class.{AreClasses}
 use Rattle.solvable.specs.Refusal.{IsAnswer}
-use Rattle.chains.specs.Uses.{any, has, exponent, degree, poly_at, uses, strongly, IsMap}
-use Rattle.chains.proofs.Exponents.{exponent-get, degree-sum}
-use Rattle.chains.proofs.Linear.{exponent_degree, map_bounded, strongly_uses}
+use Rattle.solvable_maps.specs.Uses.{any, has, exponent, degree, poly_at, uses, strongly, IsMap}
+use Rattle.solvable_maps.proofs.Exponents.{exponent-get, degree-sum}
+use Rattle.solvable_maps.proofs.Linear.{exponent_degree, map_bounded, strongly_uses}
 use Rattle.poly.specs.View.{terms_of}
 use Rattle.poly.specs.declared.Term.{Term}
 use Rattle.frac128.specs.declared.fraction.Frac.{Frac}

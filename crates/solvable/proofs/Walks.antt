@@ -3,9 +3,9 @@ use Rattle.std.proofs.Common.{◌≡◌, inl, inr, ◌<◌, ◌≤◌, ◌↔◌
 use lib.Dec.{eqb_refl}
 use Rattle.std.proofs.lemmas.Bool.{cases_lt}
 use Rattle.std.proofs.lemmas.List.{append-nil, get_or_append_left, get_or_push}
-use Rattle.chains.specs.Chain.{Least, IsChain, IsLeastChain}
-use Rattle.rings.proofs.Basics.{both_in, both_out}
-use Rattle.chains.proofs.Chains as C
+use Rattle.solvable_maps.specs.Chain.{Least, IsChain, IsLeastChain}
+use Rattle.algebra.proofs.Basics.{both_in, both_out}
+use Rattle.solvable_maps.proofs.Chains as C
 use Rattle.solvable.specs.Tables.{at, IsSquare, First, Found}
 use Rattle.solvable.specs.Walking.{Table, IsWalk, IsLeastWalk, IsWalks, AreWalks, IsStart, IsCycle}
 use Rattle.solvable.proofs.Rows.{Rows, at_inside}

@@ -6,11 +6,11 @@
 use Rattle.std.specs.Prelude.{ℕ, Bool, List, [], map as each, length, Option, MatchOption}
 use Rattle.std.specs.declared.alloc.Global.{Global}
 use Rattle.std.specs.declared.vec.Vec.{Vec}
-use Rattle.numbers.specs.Fraction.{Fraction}
+use Rattle.algebra.specs.Fraction.{Fraction}
 use Rattle.polynomials.specs.Terms.{Terms}
-use Rattle.chains.specs.Chain.{IsChain, IsLeastChain}
-use Rattle.chains.specs.Class.{AreClasses}
-use Rattle.chains.specs.Uses.{uses, strongly}
+use Rattle.solvable_maps.specs.Chain.{IsChain, IsLeastChain}
+use Rattle.solvable_maps.specs.Class.{AreClasses}
+use Rattle.solvable_maps.specs.Uses.{uses, strongly}
 use Rattle.solvable.specs.declared.SolvableError.{SolvableError}
 use Rattle.solvable.specs.declared.SolvableError.TheVariants.{NotSolvable, Memory}
 

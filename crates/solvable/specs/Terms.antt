@@ -3,7 +3,7 @@
 --   is_used below map i j     some term of the i-th polynomial does
 use Rattle.std.specs.Prelude.{ℕ, List, Bool, ◌&&◌, ltb}
 use Rattle.polynomials.specs.Terms.{Terms}
-use Rattle.chains.specs.Uses.{any, has, degree, poly_at}
+use Rattle.solvable_maps.specs.Uses.{any, has, degree, poly_at}
 
 abbrev pub has_above : ℕ → ℕ → List ℕ → Bool
 has_above below j e = has j e && ltb below (degree e)

@@ -8,7 +8,7 @@
 use Rattle.std.specs.Prelude.{◌≡◌, ◌<◌, ◌≤◌, ◌↔◌, ℕ, Bool, List, ◌∷◌, ◌&&◌, length, get_or, T}
 use Rattle.std.specs.declared.alloc.Global.{Global}
 use Rattle.std.specs.declared.vec.Vec.{Vec}
-use Rattle.chains.specs.Chain.{Walks, last_of, Least}
+use Rattle.solvable_maps.specs.Chain.{Walks, last_of, Least}
 use Rattle.solvable.specs.Tables.{IsTable}
 
 abbrev pub Table : Type 0

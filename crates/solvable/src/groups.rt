@@ -1,7 +1,7 @@
 //! Classes of variables that reach one another, those that are used before their users.
 ghost use Rattle.std.specs.Prelude.{◌<◌, ℕ, [], ◌↔◌, map, IfOk, IfSome, IfNone, IsTrue, length};
-ghost use Rattle.rings.specs.In.{In};
-ghost use Rattle.chains.specs.Class.{AreClasses};
+ghost use Rattle.algebra.specs.In.{In};
+ghost use Rattle.solvable_maps.specs.Class.{AreClasses};
 ghost use Rattle.solvable.specs.Tables.{at, IsSquare};
 ghost use Rattle.solvable.specs.Ready.{Mutual, IsReady, IsFirstReady, IsGroup, AreReached, Through};
 
@@ -9,7 +9,7 @@ use crate::tables::{entry, table};
 use std::alloc::{AllocError, Global};
 
 /// The classes of a map, each in declared order.
-#[derive(Debug, Drop)]
+#[derive(Drop)]
 pub struct Classes {
     pub groups: Vec<Vec<usize>>,
 }

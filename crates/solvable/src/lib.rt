@@ -1,4 +1,8 @@
-//! Solvable maps: whether a variable uses itself non-linearly round a chain, and the classes of variables that use one another: a layer above polynomials.
+//! Finds the classes of variables of a map that use one another, or why the map isn't solvable.
+//!
+//! Proved: `classes` gives the classes in their one order, or the least cycle of uses round which a variable uses itself non-linearly.
+//!
+//! Notion: solvable maps: the article.
 #![tactic(auto)]
 
 ghost use Rattle.std.specs.Prelude.{◌≡◌, All, length, IsOk, IfOk, IfErr};

@@ -1,6 +1,6 @@
 //! The variables that a polynomial has.
 ghost use Rattle.std.specs.Prelude.{◌≡◌, ◌<◌, All, length};
-ghost use Rattle.chains.specs.Uses.{any};
+ghost use Rattle.solvable_maps.specs.Uses.{any};
 ghost use Rattle.poly.specs.Seen.{terms_in, terms_each};
 ghost use Rattle.solvable.specs.Terms.{has_above, is_used};
 

@@ -3,19 +3,19 @@ use Rattle.std.proofs.Common.{◌≡◌, ◌≢◌, ◌⊎◌, inl, inr, ℕ, ze
 use mathlib.Core.Path.{fun_ext}
 use lib.Dec.{eqb_refl}
 use Rattle.std.proofs.lemmas.Bool.{cases_lt}
-use Rattle.rings.specs.Ring.{CommRing, Field}
-use Rattle.rings.proofs.RingLaws as L
-use Rattle.rings.proofs.FieldLaws as FL
-use Rattle.rings.proofs.RingSolver.{ring_rules, ring, from_one}
-use Rattle.rings.specs.Each.{Each}
-use Rattle.rings.proofs.Each.{each_weaker}
+use Rattle.algebra.specs.Ring.{CommRing, Field}
+use Rattle.algebra.proofs.RingLaws as L
+use Rattle.algebra.proofs.FieldLaws as FL
+use Rattle.algebra.proofs.RingSolver.{ring_rules, ring, from_one}
+use Rattle.algebra.specs.Each.{Each}
+use Rattle.algebra.proofs.Each.{each_weaker}
 use Rattle.vectors.specs.Space.{Space, IsCombination}
 use Rattle.vectors.specs.Sequences.{sequences}
 use Rattle.vectors.specs.Echelon.{Pivots, rows_in, Leads, IsReduced, reduced_by, clear_one, clear_column, insert_row, with_row, leads_at, free_from, IsFree, Rising, AreFree}
 use Rattle.vectors.proofs.Combinations as C
 use Rattle.vectors.proofs.EchelonLaws as E
 use Rattle.vectors.proofs.EchelonKernel.{same_or_not}
-use Rattle.rings.specs.In.{In}
+use Rattle.algebra.specs.In.{In}
 
 module _ {A : Type 0} (F : Field A) where
   abbrev R : CommRing A

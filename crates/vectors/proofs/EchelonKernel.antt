@@ -2,18 +2,18 @@
 use Rattle.std.proofs.Common.{◌≡◌, ◌≢◌, ◌⊎◌, inl, inr, ℕ, zero, suc, ◌<◌, ◌≤◌, List, [], ◌∷◌, cond, eqb, refl, sym, ap, ap₂, subst, ◌∙◌, arith}
 use mathlib.Core.Path.{fun_ext}
 use Rattle.std.proofs.lemmas.Bool.{cases_lt, ne_eqb}
-use Rattle.rings.specs.Ring.{CommRing, Field}
-use Rattle.rings.proofs.RingLaws as L
-use Rattle.rings.proofs.RingSolver.{ring_rules, ring, from}
-use Rattle.rings.specs.Each.{Each}
+use Rattle.algebra.specs.Ring.{CommRing, Field}
+use Rattle.algebra.proofs.RingLaws as L
+use Rattle.algebra.proofs.RingSolver.{ring_rules, ring, from}
+use Rattle.algebra.specs.Each.{Each}
 use Rattle.vectors.specs.Space.{Space, combine, IsCombination, Independent}
 use Rattle.vectors.specs.Sequences.{sequences}
 use Rattle.vectors.specs.Echelon.{Pivots, rows_in, Leads, IsReduced, total, IsKernel, IsFree, IsKernelVector, AreKernelVectors, Rising, AreFree, kernel_vector}
 use Rattle.vectors.proofs.Combinations as C
 use Rattle.vectors.proofs.Combinations.{before}
 use Rattle.vectors.proofs.Independence as I
-use Rattle.rings.specs.In.{In}
-use Rattle.rings.proofs.Basics.{eqb_same}
+use Rattle.algebra.specs.In.{In}
+use Rattle.algebra.proofs.Basics.{eqb_same}
 
 pub same_or_not : (a b : ℕ) → (a ≡ b) ⊎ (a ≢ b)
 same_or_not a b = elim (cases_lt a b) [

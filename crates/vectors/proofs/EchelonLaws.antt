@@ -2,11 +2,11 @@
 use Rattle.std.proofs.Common.{◌≡◌, inl, inr, ℕ, suc, ◌<◌, ◌≤◌, List, [], ◌∷◌, refl, sym, ap, ap₂, subst, ◌∙◌, arith}
 use mathlib.Core.Path.{fun_ext}
 use Rattle.std.proofs.lemmas.Bool.{cases_lt}
-use Rattle.rings.specs.Ring.{CommRing, Field}
-use Rattle.rings.proofs.RingLaws as L
-use Rattle.rings.proofs.RingSolver.{ring_rules, ring, from, from_one, from_two}
-use Rattle.rings.specs.Each.{Each}
-use Rattle.rings.proofs.Each.{each_weaker}
+use Rattle.algebra.specs.Ring.{CommRing, Field}
+use Rattle.algebra.proofs.RingLaws as L
+use Rattle.algebra.proofs.RingSolver.{ring_rules, ring, from, from_one, from_two}
+use Rattle.algebra.specs.Each.{Each}
+use Rattle.algebra.proofs.Each.{each_weaker}
 use Rattle.vectors.specs.Space.{Space, combine, IsCombination}
 use Rattle.vectors.specs.Sequences.{sequences}
 use Rattle.vectors.specs.Echelon.{Pivots, rows_in, Leads, IsReduced, IsEchelon, reduced_by}

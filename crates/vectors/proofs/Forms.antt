@@ -1,9 +1,9 @@
 -- The forms of one value, level by level of the kernels of powers.
 use Rattle.std.proofs.Common.{◌≡◌, ℕ, zero, suc, ◌+◌, List, [], ◌∷◌, ◌++◌, length, append_assoc, sym, ap, subst, ◌∙◌, arith}
-use Rattle.rings.specs.Ring.{Field}
-use Rattle.rings.proofs.FieldLaws as FL
-use Rattle.rings.specs.Each.{Each}
-use Rattle.rings.proofs.Each.{each-append, each_weaker}
+use Rattle.algebra.specs.Ring.{Field}
+use Rattle.algebra.proofs.FieldLaws as FL
+use Rattle.algebra.specs.Each.{Each}
+use Rattle.algebra.proofs.Each.{each-append, each_weaker}
 use Rattle.std.proofs.lemmas.List.{append-nil}
 use Rattle.vectors.specs.Space.{Space, IsCombination, Independent, IsLinear}
 use Rattle.vectors.specs.Splitting.{shift, IsKilled, IsTriangular, IsLevel, Pushing}

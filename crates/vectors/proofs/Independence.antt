@@ -1,10 +1,10 @@
 -- Independent lists, and that a list longer than what it is made of is dependent.
 use Rattle.std.proofs.Common.{◌≡◌, ◌≢◌, ◌⊎◌, inl, inr, ℕ, zero, suc, ◌<◌, ◌≤◌, List, [], ◌∷◌, length, refl, sym, ap, ap₂, subst, ◌∙◌, arith}
 use Rattle.std.proofs.lemmas.Bool.{cases_lt}
-use Rattle.rings.specs.Ring.{CommRing, Field}
-use Rattle.rings.proofs.RingLaws as L
-use Rattle.rings.proofs.FieldLaws as FL
-use Rattle.rings.specs.Each.{Each}
+use Rattle.algebra.specs.Ring.{CommRing, Field}
+use Rattle.algebra.proofs.RingLaws as L
+use Rattle.algebra.proofs.FieldLaws as FL
+use Rattle.algebra.specs.Each.{Each}
 use Rattle.vectors.specs.Space.{Space, combine, IsCombination, Independent}
 use Rattle.vectors.proofs.VectorRing.{scalar, vector, vector_rules, vectors, vfrom, zero-scale}
 use Rattle.vectors.proofs.Combinations as C

@@ -1,6 +1,6 @@
 -- Entries of lists: past the length they are zero, and lists of one length with the same entries are the same.
 use Rattle.std.proofs.Common.{◌≡◌, ℕ, zero, suc, ◌<◌, ◌≤◌, List, [], ◌∷◌, length, refl, sym, ap₂, arith}
-use Rattle.rings.specs.Ring.{Field}
+use Rattle.algebra.specs.Ring.{Field}
 use Rattle.vectors.specs.Lists.{entries, below}
 
 module _ {A : Type 0} (F : Field A) where

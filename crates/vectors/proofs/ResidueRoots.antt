@@ -10,15 +10,15 @@ use native.Mathlib.Nat as N
 use lib.IntN.{nat_abs}
 use Rattle.std.proofs.lemmas.Bool.{cases_lt, ne_eqb}
 use Rattle.std.proofs.lemmas.Int.{unsigned_abs-mul}
-use Rattle.rings.specs.Ring.{CommRing, Field}
-use Rattle.rings.proofs.Basics.{eqb_same}
-use Rattle.rings.proofs.FieldLaws as FL
-use Rattle.rings.proofs.RingLaws as L
-use Rattle.rings.proofs.IntRing.{ℤ_ring}
-use Rattle.rings.proofs.OfInt.{of_int, of_int-add, of_int-mul}
-use Rattle.rings.proofs.RingSolver.{ring_rules, ring}
-use Rattle.numbers.specs.Ratio.{exact}
-use Rattle.numbers.proofs.RatioLaws.{exact_whole, cancel}
+use Rattle.algebra.specs.Ring.{CommRing, Field}
+use Rattle.algebra.proofs.Basics.{eqb_same}
+use Rattle.algebra.proofs.FieldLaws as FL
+use Rattle.algebra.proofs.RingLaws as L
+use Rattle.algebra.proofs.IntRing.{ℤ_ring}
+use Rattle.algebra.proofs.OfInt.{of_int, of_int-add, of_int-mul}
+use Rattle.algebra.proofs.RingSolver.{ring_rules, ring}
+use Rattle.algebra.specs.Ratio.{exact}
+use Rattle.algebra.proofs.RatioLaws.{exact_whole, cancel}
 use Rattle.vectors.specs.Echelon.{total}
 use Rattle.vectors.specs.Sequences.{sequences}
 use Rattle.vectors.proofs.Combinations as C

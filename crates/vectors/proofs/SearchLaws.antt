@@ -1,10 +1,10 @@
 -- The search goes through the candidates, and takes the forms of each, level by level.
 use Rattle.std.proofs.lemmas.List.{append-nil}
 use Rattle.std.proofs.Common.{◌≡◌, ◌≢◌, ◌⊎◌, inl, inr, nat_abs, ℕ, suc, ◌+◌, ◌-◌, ◌<◌, ◌≤◌, ℤ, pos, negsuc, zero, List, [], ◌∷◌, ◌++◌, length, refl, sym, ap, subst, ◌∙◌, arith, ◌+ℤ◌, neg_ℤ}
-use Rattle.rings.specs.Ring.{CommRing, Field}
-use Rattle.rings.proofs.FieldLaws as FL
-use Rattle.rings.proofs.OfInt.{of_int}
-use Rattle.rings.specs.Each.{Each}
+use Rattle.algebra.specs.Ring.{CommRing, Field}
+use Rattle.algebra.proofs.FieldLaws as FL
+use Rattle.algebra.proofs.OfInt.{of_int}
+use Rattle.algebra.specs.Each.{Each}
 use Rattle.vectors.specs.Space.{Space, IsCombination, Independent, IsLinear}
 use Rattle.vectors.specs.Sequences.{column_sum}
 use Rattle.vectors.specs.Rows.{Row, rows_of, times_rows}
@@ -15,7 +15,7 @@ use Rattle.vectors.proofs.RowLaws as RL
 use Rattle.vectors.proofs.Kernels as K
 use Rattle.vectors.proofs.Forms as FO
 use Rattle.vectors.proofs.Independence as I
-use Rattle.rings.proofs.Each.{each-append, each_of, each_weaker}
+use Rattle.algebra.proofs.Each.{each-append, each_of, each_weaker}
 use Rattle.vectors.proofs.FractionEigen.{Fractions}
 use Rattle.vectors.proofs.MatrixSplits.{IsOver, Whole, Searched}
 use Rattle.std.specs.Int.Signed.{◌<ℤ◌}

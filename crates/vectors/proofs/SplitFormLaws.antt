@@ -2,9 +2,9 @@
 use Rattle.std.proofs.lemmas.List.{append-nil}
 use Rattle.std.proofs.Common.{◌≡◌, ◌≢◌, true, false, cond, List, [], ◌∷◌, ◌++◌, append_assoc, refl, sym, ap, subst, ◌∙◌}
 use Rattle.std.proofs.lemmas.Bool.{false_from_ne_true}
-use Rattle.rings.specs.Ring.{Field}
-use Rattle.rings.proofs.RingLaws as L
-use Rattle.rings.specs.Each.{Each}
+use Rattle.algebra.specs.Ring.{Field}
+use Rattle.algebra.proofs.RingLaws as L
+use Rattle.algebra.specs.Each.{Each}
 use Rattle.vectors.specs.Space.{Space, IsCombination}
 use Rattle.vectors.specs.Splitting.{shift, IsTriangular}
 use Rattle.vectors.specs.SplitForms.{with_value, of_value, AreSplitForms}

@@ -1,9 +1,9 @@
 -- Where the product of the M - c is zero, the forms found make everything.
 use Rattle.std.proofs.Common.{◌≡◌, ◌≢◌, ℕ, zero, suc, List, [], ◌∷◌, refl, sym, ap, ap₂, subst, ◌∙◌}
-use Rattle.rings.specs.Ring.{CommRing, Field}
-use Rattle.rings.proofs.RingLaws as L
-use Rattle.rings.proofs.FieldLaws as FL
-use Rattle.rings.specs.Each.{Each}
+use Rattle.algebra.specs.Ring.{CommRing, Field}
+use Rattle.algebra.proofs.RingLaws as L
+use Rattle.algebra.proofs.FieldLaws as FL
+use Rattle.algebra.specs.Each.{Each}
 use Rattle.vectors.specs.Space.{Space, combine, IsCombination, IsLinear}
 use Rattle.vectors.specs.Splitting.{shift, shift_power, after, IsKilled, vectors_of, repeat, roots, AllKilled, Taken}
 use Rattle.vectors.proofs.VectorRing.{scalar, vector, vector_rules, vectors, vfrom, add-zero, scale-zero}

@@ -6,12 +6,12 @@ use native.Mathlib.Nat as N
 use lib.IntN.{nat_abs}
 use Rattle.std.proofs.lemmas.Bool.{cases_lt}
 use Rattle.std.proofs.lemmas.Int.{unsigned_abs-mul, ints}
-use Rattle.numbers.specs.Gcd.{gcd}
-use Rattle.numbers.specs.Ratio.{exact}
-use Rattle.numbers.proofs.GcdLaws.{dvd_from_coprime}
-use Rattle.numbers.proofs.RatioLaws.{exact_whole, cancel}
-use Rattle.rings.proofs.RingLaws as L
-use Rattle.rings.proofs.IntRing.{ℤ_ring}
+use Rattle.algebra.specs.Gcd.{gcd}
+use Rattle.algebra.specs.Ratio.{exact}
+use Rattle.algebra.proofs.GcdLaws.{dvd_from_coprime}
+use Rattle.algebra.proofs.RatioLaws.{exact_whole, cancel}
+use Rattle.algebra.proofs.RingLaws as L
+use Rattle.algebra.proofs.IntRing.{ℤ_ring}
 use Rattle.vectors.specs.Sequences.{sequences, times_matrix, column_sum}
 use Rattle.vectors.proofs.Combinations as C
 

@@ -8,10 +8,10 @@
 --   row_size row                 the weight of a row, its entries taken as coefficients of different variables
 --   IsPastTarget rows row target     the weight of the combination with this target is past
 use Rattle.std.specs.Prelude.{◌≡◌, ◌⊎◌, ℕ, zero, suc, ◌<◌, ℤ, pos, negsuc, List, [], ◌∷◌, length, get_or}
-use Rattle.rings.specs.Each.{Each}
-use Rattle.numbers.specs.Fraction.{Fraction, ℚ, inverse, fraction_size}
-use Rattle.numbers.specs.Size.{Size, size, sum_size, product_size, quotient_size, IsPast}
-use Rattle.numbers.proofs.Fractions.{ℚ_ring, ℚ_field}
+use Rattle.algebra.specs.Each.{Each}
+use Rattle.algebra.specs.Fraction.{Fraction, ℚ, inverse, fraction_size}
+use Rattle.algebra.specs.Size.{Size, size, sum_size, product_size, quotient_size, IsPast}
+use Rattle.algebra.proofs.Fractions.{ℚ_ring, ℚ_field}
 use Rattle.vectors.specs.Space.{IsCombination}
 use Rattle.vectors.specs.Sequences.{sequences}
 use Rattle.vectors.specs.Lists.{entries, tables}

@@ -6,8 +6,8 @@
 --   IsPastVector n found vector     adding a kernel vector to the forms of the candidate so far is past
 use Rattle.std.specs.Prelude.{◌≡◌, ℕ, zero, suc, ◌<◌, ◌≤◌, ℤ, pos, cond, leb, List, [], ◌∷◌, map, length}
 use lib.IntN.{nat_abs}
-use Rattle.numbers.specs.Fraction.{Fraction, ℚ, whole}
-use Rattle.numbers.specs.Limits.{number_limit}
+use Rattle.algebra.specs.Fraction.{Fraction, ℚ, whole}
+use Rattle.algebra.specs.Limits.{number_limit}
 use Rattle.vectors.specs.Adding.{IsEchelonOf, IsPastTarget, entry}
 use Rattle.vectors.specs.Matrices.{denominator, whole_number, sum_of_column}
 

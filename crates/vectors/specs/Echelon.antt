@@ -13,11 +13,11 @@
 --   kernel_vector F ps j     the vector of the column j, entry by entry
 --   IsRref F n given ps      ps is the reduced echelon list of the rows given, of width n
 use Rattle.std.specs.Prelude.{◌≡◌, ◌≢◌, ℕ, zero as nought, suc, ◌<◌, ◌≤◌, List, [], ◌∷◌, Bool, false, cond, ltb, eqb, ◌||◌}
-use Rattle.rings.specs.Ring.{Field}
-use Rattle.rings.specs.Each.{Each}
+use Rattle.algebra.specs.Ring.{Field}
+use Rattle.algebra.specs.Each.{Each}
 use Rattle.vectors.specs.Space.{IsCombination}
 use Rattle.vectors.specs.Sequences.{sequences}
-use Rattle.rings.specs.In.{In}
+use Rattle.algebra.specs.In.{In}
 
 module _ {A : Type 0} (F : Field A) where
   -- rows, each with its leading column

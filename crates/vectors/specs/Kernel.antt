@@ -2,7 +2,7 @@
 --   IsInKernel F n rows y    y is of width n, and its product with each row is zero
 --   IsKernelBasis F n rows xs    the xs are independent, and their combinations are exactly what is in the kernel
 use Rattle.std.specs.Prelude.{◌≡◌, ℕ, ◌≤◌, List}
-use Rattle.rings.specs.Ring.{Field}
+use Rattle.algebra.specs.Ring.{Field}
 use Rattle.vectors.specs.Space.{IsCombination, Independent}
 use Rattle.vectors.specs.Sequences.{sequences}
 use Rattle.vectors.specs.Echelon.{IsKernel}

@@ -4,7 +4,7 @@
 --   row_of F n xs            a list as a row of width n; matrix_of: each of a list
 use Rattle.std.specs.Prelude.{◌≡◌, ℕ, zero as nought, suc, ◌≤◌, List, [], ◌∷◌}
 use Rattle.std.proofs.Common.{refl, arith}
-use Rattle.rings.specs.Ring.{Field}
+use Rattle.algebra.specs.Ring.{Field}
 use Rattle.vectors.specs.Rows.{Row}
 
 module _ {A : Type 0} (F : Field A) where

@@ -9,10 +9,10 @@
 --   AreSearched n rows forms values  what a search has found that went through all candidates: whole numbers over the denominator, at most the greatest sum
 use Rattle.std.specs.Prelude.{◌≡◌, ◌≤◌, ℕ, zero as nought, suc, ◌+◌, ◌/◌, max, ℤ, pos, ◌*ℤ◌, List, [], ◌∷◌, length}
 use lib.IntN.{nat_abs}
-use Rattle.rings.specs.Each.{Each}
-use Rattle.numbers.specs.Gcd.{lcm}
-use Rattle.numbers.specs.Fraction.{Fraction, whole, product}
-use Rattle.numbers.proofs.Fractions.{ℚ_field}
+use Rattle.algebra.specs.Each.{Each}
+use Rattle.algebra.specs.Gcd.{lcm}
+use Rattle.algebra.specs.Fraction.{Fraction, whole, product}
+use Rattle.algebra.proofs.Fractions.{ℚ_field}
 use Rattle.vectors.specs.Space.{IsCombination, Independent}
 use Rattle.vectors.specs.Rows.{Row, rows_of, times_rows}
 use Rattle.vectors.specs.Lists.{entries, row_of, matrix_of}

@@ -6,8 +6,8 @@
 use Rattle.std.specs.Prelude.{◌≡◌, ℕ, ◌≤◌, List, [], ◌∷◌}
 use Rattle.std.proofs.Common.{refl, ap, ap₂, ◌∙◌}
 use mathlib.Core.HLevel.{Σ_prop_path, Π_prop}
-use Rattle.rings.specs.Ring.{Field}
-use Rattle.rings.proofs.RingLaws as L
+use Rattle.algebra.specs.Ring.{Field}
+use Rattle.algebra.proofs.RingLaws as L
 use Rattle.vectors.specs.Space.{Space, combine}
 use Rattle.vectors.specs.Sequences.{sequences}
 

@@ -5,8 +5,8 @@
 use Rattle.std.specs.Prelude.{ℕ, ◌+◌, ℤ, List, [], ◌∷◌}
 use mathlib.Core.Path.{fun_ext}
 use lib.IntN.{nat_abs}
-use Rattle.rings.specs.Ring.{CommRing}
-use Rattle.rings.proofs.RingLaws as L
+use Rattle.algebra.specs.Ring.{CommRing}
+use Rattle.algebra.proofs.RingLaws as L
 use Rattle.vectors.specs.Space.{Space, combine}
 
 abbrev pub sequences : {A : Type 0} (R : CommRing A) (X : Type 0) → Space R (X → A)

@@ -4,7 +4,7 @@
 --   Independent S vs         a combination is zero only by coefficients that are zero
 --   IsLinear S t             t keeps sums and multiples
 use Rattle.std.specs.Prelude.{◌≡◌, ℕ, suc, ◌<◌, List, [], ◌∷◌, length}
-use Rattle.rings.specs.Ring.{CommRing}
+use Rattle.algebra.specs.Ring.{CommRing}
 
 pub record Space {A : Type 0} (R : CommRing A) (V : Type 0) : Type 0 where
   pub zero : V

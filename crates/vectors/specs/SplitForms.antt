@@ -3,7 +3,7 @@
 --   of_value F c forms       the forms of the value c
 --   AreSplitForms F S t before forms     so they are, after those before
 use Rattle.std.specs.Prelude.{List, [], ◌∷◌, ◌++◌, cond}
-use Rattle.rings.specs.Ring.{Field}
+use Rattle.algebra.specs.Ring.{Field}
 use Rattle.vectors.specs.Space.{Space, IsCombination}
 use Rattle.vectors.specs.Splitting.{shift}
 

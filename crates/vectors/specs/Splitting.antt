@@ -10,8 +10,8 @@
 --   IsLevel S t c k es       the es are a basis of what the power k of M - c kills, and triangular
 --   Pushing S t c k es tried new     the kernel vectors that were tried, and the forms that were taken from them
 use Rattle.std.specs.Prelude.{◌≡◌, ◌⊎◌, ℕ, zero as nought, suc, List, [], ◌∷◌, ◌++◌}
-use Rattle.rings.specs.Ring.{CommRing}
-use Rattle.rings.specs.Each.{Each}
+use Rattle.algebra.specs.Ring.{CommRing}
+use Rattle.algebra.specs.Each.{Each}
 use Rattle.vectors.specs.Space.{Space, IsCombination, Independent}
 
 -- forms with their values

@@ -5,8 +5,8 @@
 --   greatest_column_sum rows the greatest column sum of the absolute values
 use Rattle.std.specs.Prelude.{◌≡◌, ◌≢◌, ◌≤◌, ℕ, ℤ, List, [], ◌∷◌, length}
 use lib.IntN.{nat_abs}
-use Rattle.numbers.specs.Fraction.{Fraction, ℚ, whole, product}
-use Rattle.numbers.proofs.Fractions.{ℚ_ring}
+use Rattle.algebra.specs.Fraction.{Fraction, ℚ, whole, product}
+use Rattle.algebra.proofs.Fractions.{ℚ_ring}
 use Rattle.vectors.specs.Sequences.{times_matrix, column_sum}
 use Rattle.vectors.specs.Matrices.{greatest_of}
 

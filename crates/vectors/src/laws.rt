@@ -1,10 +1,10 @@
 //! The laws of echelon lists, of combinations and of splitting over the fractions, one function each.
 
 ghost use Rattle.std.specs.Prelude.{◌≡◌, ◌<◌, ◌≤◌, ◌⊎◌, ℕ, ℤ, List, length};
-ghost use Rattle.numbers.specs.Fraction.{Fraction};
-ghost use Rattle.numbers.proofs.Fractions.{ℚ_ring, ℚ_field};
-ghost use Rattle.rings.specs.Each.{Each};
-ghost use Rattle.rings.specs.In.{In};
+ghost use Rattle.algebra.specs.Fraction.{Fraction};
+ghost use Rattle.algebra.proofs.Fractions.{ℚ_ring, ℚ_field};
+ghost use Rattle.algebra.specs.Each.{Each};
+ghost use Rattle.algebra.specs.In.{In};
 ghost use Rattle.vectors.specs.Space.{IsCombination, Independent};
 ghost use Rattle.vectors.specs.Sequences.{sequences};
 ghost use Rattle.vectors.specs.Rows.{Row, rows_of};

@@ -1,5 +1,7 @@
-//! Worked rows: lines that have columns between tabs, the last of which is the answer that is wanted. A program answers the rows;
-//! its answers are compared here, those that differ are told, and both are counted. It names no other crate of ours.
+//! Worked rows: lines with columns between tabs, the last of which is the answer that is wanted. A program answers the rows; its answers
+//! are compared here, those that differ are told, and both are counted.
+//!
+//! Proved: a text agrees with a row exactly where it is the one that the row has, and a tally counts each row once.
 #![tactic(auto)]
 
 mod tally;

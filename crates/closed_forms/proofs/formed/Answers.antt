@@ -2,11 +2,11 @@ use Rattle.std.proofs.Common.{◌≡◌, ◌≢◌, ◌≤◌, ◌<◌, inl, inr
 use Rattle.std.proofs.lemmas.Bool.{cases_eq}
 use Rattle.std.proofs.lemmas.List.{length-map}
 use Rattle.polynomials.specs.Terms.{Terms}
-use Rattle.numbers.specs.Fraction.{Fraction}
+use Rattle.algebra.specs.Fraction.{Fraction}
 use Rattle.poly.specs.Seen.{terms_each}
 use Rattle.coprime_base.specs.Sizes.{sizes}
 use Rattle.solvable.proofs.Using.{FracPoly, length_each}
-use Rattle.turns.specs.Turns.{IsClosedFormFrom}
+use Rattle.solvable_maps.specs.Turns.{IsClosedFormFrom}
 use Rattle.expo.specs.declared.exponential.Expo.{Expo}
 use Rattle.closed_forms.specs.declared.Form.{Form}
 use Rattle.closed_forms.specs.Known.{IsWideTurn}

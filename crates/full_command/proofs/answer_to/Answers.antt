@@ -1,10 +1,10 @@
 use Rattle.std.proofs.Common.{refl, inr}
 use Rattle.loop_model.specs.View.{program_of}
 use Rattle.loop_text.specs.LoopReader.{loop_of}
-use Rattle.courses.specs.Change.{◌⟶◌}
-use Rattle.courses.proofs.Going.{replied, at_end}
-use Rattle.courses.proofs.Readings.{refused_says, reading_ends}
-use Rattle.loop_file.specs.Texts.{loop_refusal}
+use Rattle.io_edge.specs.Change.{◌⟶◌}
+use Rattle.io_edge.proofs.Going.{replied, at_end}
+use Rattle.io_edge.proofs.Readings.{refused_says, reading_ends}
+use Rattle.command_parts.specs.FaultTexts.{loop_refusal}
 use Rattle.full_command.proofs.answer_to.Goals as goal
 
 pub returns-in-Ok : goal.returns-in-Ok

@@ -1,8 +1,8 @@
 use Rattle.std.proofs.Common.{rules, refl, map, string_bytes}
-use Rattle.courses.proofs.Going.{obeys, obeys_nothing}
-use Rattle.word_numbers.specs.FileRequests.{request_in}
+use Rattle.io_edge.proofs.Going.{obeys, obeys_nothing}
+use Rattle.command_parts.specs.FileRequests.{request_in}
 use Rattle.full_command.specs.Course.{course}
-use Rattle.word_numbers.specs.FileViews.{view}
+use Rattle.command_parts.specs.FileViews.{view}
 use Rattle.full_command.proofs.full.Goals as goal
 
 pub returns-in-Some : goal.returns-in-Some

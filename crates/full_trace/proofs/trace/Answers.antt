@@ -1,5 +1,5 @@
 use Rattle.std.proofs.Common.{subst, get_or}
-use Rattle.full_types.specs.View.{start_in}
+use Rattle.task_lists.specs.View.{start_in}
 use Rattle.full_trace.specs.Tasks.{AreBranchesOver}
 use Rattle.full_trace.proofs.RoundsMade.{zip_forms, fronts_are}
 use Rattle.full_trace.proofs.Whole.{finished, going, lost, followed, refused}

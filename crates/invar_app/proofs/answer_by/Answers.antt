@@ -2,8 +2,8 @@ use Rattle.std.proofs.Common.{◌≡◌, ℕ, List, Bool, true, false, sym, ap, 
 use Rattle.std.specs.Prelude.{None, codes, if◌then◌else◌}
 use Rattle.std.specs.Str.{bytes_eq}
 use Rattle.std.proofs.lemmas.Slice.Eq.{bytes_eq-Decides}
-use Rattle.courses.specs.Change.{◌⟶◌}
-use Rattle.courses.proofs.Going.{obeys_as, obeys_nothing, obeys_same}
+use Rattle.io_edge.specs.Change.{◌⟶◌}
+use Rattle.io_edge.proofs.Going.{obeys_as, obeys_nothing, obeys_same}
 use Rattle.analysis_commands.specs.declared.kind.Kind.TheVariants as kinds
 use Rattle.analysis_commands.specs.BasisWords as basis_words
 use Rattle.analysis_commands.specs.BasisCourse as basis_course
@@ -11,20 +11,23 @@ use Rattle.analysis_commands.specs.MemberWords as member_words
 use Rattle.analysis_commands.specs.MemberCourse as member_course
 use Rattle.analysis_commands.specs.GenWords as gen_words
 use Rattle.analysis_commands.specs.GenCourse as gen_course
-use Rattle.word_numbers.specs.FileRequests as file_requests
+use Rattle.command_parts.specs.FileRequests as file_requests
 use Rattle.analysis_commands.specs.RelationsCourse as relations_course
-use Rattle.certificate_file.specs.Words as check_words
-use Rattle.check_command.specs.Course as check_course
-use Rattle.checkfull_command.specs.Course as checkfull_course
-use Rattle.run_command.specs.Words as run_words
-use Rattle.run_command.specs.Course as run_course
-use Rattle.chain_commands.specs.ChainCourse as chain_course
-use Rattle.chainrun_command.specs.Words as chainrun_words
-use Rattle.chainrun_command.specs.Course as chainrun_course
-use Rattle.counter_command.specs.Words as counter_words
-use Rattle.counter_command.specs.Course as counter_course
+use Rattle.certificate_commands.specs.CertificateWords as check_words
+use Rattle.certificate_commands.specs.CheckCourse as check_course
+use Rattle.certificate_commands.specs.CheckfullCourse as checkfull_course
+use Rattle.replay_commands.specs.RunWords as run_words
+use Rattle.replay_commands.specs.RunCourse as run_course
+use Rattle.analysis_commands.specs.ChainCourse as chain_course
+use Rattle.replay_commands.specs.ChainrunWords as chainrun_words
+use Rattle.replay_commands.specs.ChainrunCourse as chainrun_course
+use Rattle.replay_commands.specs.CounterWords as counter_words
+use Rattle.replay_commands.specs.CounterCourse as counter_course
 use Rattle.full_command.specs.Course as full_course
-use Rattle.invar_app.specs.Words.{basis, member, check, checkfull, run, gen, chain, chainrun, counter, full, relations, command_by, course_of}
+use Rattle.invar_app.specs.declared.pages.Page.TheVariants.{Overview, Version}
+use Rattle.invar_app.specs.HelpPages.{page_behind_help, page_alone}
+use Rattle.invar_app.specs.HelpClauses as help_course
+use Rattle.invar_app.specs.Words.{basis, member, check, checkfull, run, gen, chain, chainrun, counter, full, relations, help, command_by, course_of}
 use Rattle.invar_app.proofs.answer_by.Goals as goal
 
 otherwise : {A : Type 0} (name word : List ℕ) (x y : A) → (name ≡ word → ⊥)
@@ -49,6 +52,9 @@ record IsNoName (name : List ℕ) : Type 0 where
   counter_not : name ≡ codes "counter" → ⊥
   relations_not : name ≡ codes "relations" → ⊥
   full_not : name ≡ codes "full" → ⊥
+  help_not : name ≡ codes "help" → ⊥
+  help_option_not : name ≡ codes "--help" → ⊥
+  version_not : name ≡ codes "--version" → ⊥
 
 no_name : (name : List ℕ) (words : List (List ℕ)) → IsNoName name
     → None ≡ command_by name words
@@ -64,7 +70,10 @@ no_name name words is = sym
     ∙ (otherwise name (codes "chainrun") _ _ is.chainrun_not
     ∙ (otherwise name (codes "counter") _ _ is.counter_not
     ∙ (otherwise name (codes "relations") _ _ is.relations_not
-    ∙ otherwise name (codes "full") _ _ is.full_not)))))))))))
+    ∙ (otherwise name (codes "full") _ _ is.full_not
+    ∙ (otherwise name (codes "help") _ _ is.help_not
+    ∙ (otherwise name (codes "--help") _ _ is.help_option_not
+    ∙ otherwise name (codes "--version") _ _ is.version_not))))))))))))))
 
 pub returns-in-basis : goal.returns-in-basis
 returns-in-basis g c =
@@ -187,6 +196,42 @@ returns-in-full g c =
     (obeys_as full_course.course (course_of m) full (λ a. refl)
     (file_requests.request_in words) _ _ c.full.result c.full.ensures)
 
+pub returns-in-help : goal.returns-in-help
+returns-in-help g c =
+    let words = map string_bytes c.args.words.now in
+    let m = c.args.meter.now in
+    obeys_same (course_of m) (command_by (codes "help") words)
+    (command_by (string_bytes c.args.name.now) words) _ _ c.show.result
+    (ap (λ n. command_by n words) (sym c.in-help.is ∙ c.as_str.ensures.value))
+    (obeys_as help_course.course (course_of m) help (λ page. refl) (page_behind_help words)
+    _ (m ⟶ m) c.show.result
+    (obeys_same help_course.course c.behind_help.result (page_behind_help words) _ (m ⟶ m)
+    c.show.result c.behind_help.ensures (c.show.ensures _ m)))
+
+pub returns-in-text : goal.returns-in-text
+returns-in-text g c =
+    let words = map string_bytes c.args.words.now in
+    let m = c.args.meter.now in
+    obeys_same (course_of m) (command_by (codes "--help") words)
+    (command_by (string_bytes c.args.name.now) words) _ _ c.show-in-text.result
+    (ap (λ n. command_by n words) (sym c.in-text.is ∙ c.as_str.ensures.value))
+    (obeys_as help_course.course (course_of m) help (λ page. refl) (page_alone Overview words)
+    _ (m ⟶ m) c.show-in-text.result
+    (obeys_same help_course.course c.alone.result (page_alone Overview words) _ (m ⟶ m)
+    c.show-in-text.result c.alone.ensures (c.show-in-text.ensures _ m)))
+
+pub returns-in-text-2 : goal.returns-in-text-2
+returns-in-text-2 g c =
+    let words = map string_bytes c.args.words.now in
+    let m = c.args.meter.now in
+    obeys_same (course_of m) (command_by (codes "--version") words)
+    (command_by (string_bytes c.args.name.now) words) _ _ c.show-in-text-2.result
+    (ap (λ n. command_by n words) (sym c.in-text-2.is ∙ c.as_str.ensures.value))
+    (obeys_as help_course.course (course_of m) help (λ page. refl) (page_alone Version words)
+    _ (m ⟶ m) c.show-in-text-2.result
+    (obeys_same help_course.course c.alone-in-text-2.result (page_alone Version words) _ (m ⟶ m)
+    c.show-in-text-2.result c.alone-in-text-2.ensures (c.show-in-text-2.ensures _ m)))
+
 pub returns-in_default : goal.returns-in_default
 returns-in_default g c =
     let words = map string_bytes c.args.words.now in
@@ -205,4 +250,7 @@ returns-in_default g c =
       counter_not = λ e. c.in_default.not-counter (is ∙ e);
       relations_not = λ e. c.in_default.not-relations (is ∙ e);
       full_not = λ e. c.in_default.not-full (is ∙ e);
+      help_not = λ e. c.in_default.not-help (is ∙ e);
+      help_option_not = λ e. c.in_default.not-text (is ∙ e);
+      version_not = λ e. c.in_default.not-text-2 (is ∙ e);
     })) refl refl

@@ -1,7 +1,7 @@
 use Rattle.std.proofs.Common.{ap, refl, rules, arith, ◌≡◌, suc, map, string_bytes, String, List, [], ◌∷◌, length}
 use Rattle.std.specs.Prelude.{None}
 use Rattle.std.specs.declared.alloc.Global.{Global}
-use Rattle.courses.proofs.Going.{obeys_nothing, obeys_same}
+use Rattle.io_edge.proofs.Going.{obeys_nothing, obeys_same}
 use Rattle.invar_app.specs.Words.{command_by, command_of, course_of}
 use Rattle.invar_app.proofs.answer_to.Goals as goal
 

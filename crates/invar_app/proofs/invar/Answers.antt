@@ -1,5 +1,5 @@
 use Rattle.std.proofs.Common.{ap, map, string_bytes}
-use Rattle.courses.proofs.Going.{finishes, obeys_same}
+use Rattle.io_edge.proofs.Going.{finishes, obeys_same}
 use Rattle.invar_app.specs.Words.{command_of, command_in, course_of, usage_answer}
 use Rattle.invar_app.proofs.TopPromises.{promises, refuted}
 use Rattle.invar_app.proofs.invar.Goals as goal

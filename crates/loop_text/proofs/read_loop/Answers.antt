@@ -1,9 +1,9 @@
 use Rattle.std.proofs.Common.{◌≡◌, ℕ, List, [], true, false, length, arith, ap, sym, subst, ◌∙◌, map, Ok, Result, Err, IfSome, option_map}
 use Rattle.std.proofs.lemmas.List.{length-append}
 use Rattle.loops.specs.Program.{Program, Expr}
-use Rattle.expr_text.specs.Faults.{fault_of}
-use Rattle.expr_text.specs.declared.error.TextError.{TextError}
-use Rattle.expr_text.specs.declared.error.TextError.TheVariants as text_error
+use Rattle.poly_text.specs.Faults.{fault_of}
+use Rattle.poly_text.specs.declared.error.TextError.{TextError}
+use Rattle.poly_text.specs.declared.error.TextError.TheVariants as text_error
 use Rattle.loop_text.specs.LoopReader.{program_in, loop_of}
 use Rattle.loop_text.proofs.WellFormed.{loop_well}
 use Rattle.loop_text.proofs.WholeReads.{whole_fails, whole_fails_last, whole_read}

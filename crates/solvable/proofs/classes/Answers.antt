@@ -1,5 +1,5 @@
 use Rattle.std.proofs.Common.{length}
-use Rattle.chains.specs.Uses.{uses, strongly}
+use Rattle.solvable_maps.specs.Uses.{uses, strongly}
 use Rattle.poly.specs.Seen.{terms_each}
 use Rattle.solvable.proofs.Using.{is_map, linear_tables, answer_is, classes_are, some_answer, no_answer}
 use Rattle.solvable.proofs.classes.Goals as goal

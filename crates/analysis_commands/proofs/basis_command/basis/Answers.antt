@@ -1,5 +1,5 @@
 use Rattle.std.proofs.Common.{rules, refl, map, string_bytes}
-use Rattle.courses.proofs.Going.{obeys, obeys_nothing}
+use Rattle.io_edge.proofs.Going.{obeys, obeys_nothing}
 use Rattle.analysis_commands.specs.BasisWords.{request_in}
 use Rattle.analysis_commands.specs.BasisCourse.{course}
 use Rattle.analysis_commands.specs.BasisViews.{view}

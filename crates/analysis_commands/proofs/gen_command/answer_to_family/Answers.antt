@@ -1,8 +1,8 @@
 use Rattle.std.proofs.Common.{◌+◌, rules, arith, ap, refl, inl}
-use Rattle.loop_family.specs.Family.{Counts}
-use Rattle.loop_family.specs.Family as family
-use Rattle.word_numbers.specs.Numerals.{usual_budget}
-use Rattle.courses.specs.Views.{answer_view}
+use Rattle.loop_text.specs.Family.{Counts}
+use Rattle.loop_text.specs.Family as family
+use Rattle.command_parts.specs.Numerals.{usual_budget}
+use Rattle.io_edge.specs.Views.{answer_view}
 use Rattle.analysis_commands.specs.Causes.{IsUnanalysed}
 use Rattle.analysis_commands.proofs.Tallying.{kept_more, one_more, stops_here, told_all, few_loops, at_refusal}
 use Rattle.analysis_commands.proofs.gen_command.answer_to_family.Goals as goal

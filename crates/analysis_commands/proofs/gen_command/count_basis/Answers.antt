@@ -1,5 +1,5 @@
 use Rattle.loop_model.specs.View.{program_of}
-use Rattle.courses.specs.Views.{answer_view}
+use Rattle.io_edge.specs.Views.{answer_view}
 use Rattle.analysis_commands.proofs.BasisAnswers.{refused_named}
 use Rattle.analysis_commands.proofs.Tallying.{refusal_given}
 use Rattle.analysis_commands.proofs.gen_command.count_basis.Goals as goal

@@ -1,7 +1,7 @@
 use Rattle.std.proofs.Common.{◌≡◌, sym, ◌∙◌, Ok, inr}
 use Rattle.loop_model.specs.View.{program_of}
 use Rattle.loop_text.specs.LoopReader.{loop_of}
-use Rattle.loop_family.specs.Family.{loop_text}
+use Rattle.loop_text.specs.Family.{loop_text}
 use Rattle.analysis_commands.proofs.Tallying.{unanalysed_for, next_for, loop_read}
 use Rattle.analysis_commands.proofs.gen_command.count_loop.Goals as goal
 

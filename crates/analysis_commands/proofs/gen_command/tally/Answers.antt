@@ -1,6 +1,6 @@
 use Rattle.std.proofs.Common.{rules, refl, map, string_bytes}
-use Rattle.courses.specs.Change.{◌⟶◌}
-use Rattle.courses.proofs.Going.{obeys, obeys_nothing, at_end, replied}
+use Rattle.io_edge.specs.Change.{◌⟶◌}
+use Rattle.io_edge.proofs.Going.{obeys, obeys_nothing, at_end, replied}
 use Rattle.analysis_commands.specs.Counting.{HasCounted, AnswersFamily}
 use Rattle.analysis_commands.specs.GenWords.{request_in}
 use Rattle.analysis_commands.specs.GenCourse.{course}

@@ -1,10 +1,10 @@
 use Rattle.std.proofs.Common.{refl}
 use Rattle.loop_text.specs.LoopReader.{loop_of}
-use Rattle.courses.specs.Change.{◌⟶◌}
+use Rattle.io_edge.specs.Change.{◌⟶◌}
 use Rattle.loop_model.specs.View.{program_of}
 use Rattle.loop_text.proofs.WellFormed.{loop_well}
-use Rattle.courses.proofs.Readings.{refused_says, reading_ends}
-use Rattle.loop_file.specs.Texts.{loop_refusal}
+use Rattle.io_edge.proofs.Readings.{refused_says, reading_ends}
+use Rattle.command_parts.specs.FaultTexts.{loop_refusal}
 use Rattle.analysis_commands.proofs.member_command.answer_to.Goals as goal
 
 pub answer_to_equation-requires : goal.answer_to_equation-requires

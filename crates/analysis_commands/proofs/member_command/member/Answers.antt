@@ -1,5 +1,5 @@
 use Rattle.std.proofs.Common.{rules, refl, map, string_bytes}
-use Rattle.courses.proofs.Going.{obeys, obeys_nothing}
+use Rattle.io_edge.proofs.Going.{obeys, obeys_nothing}
 use Rattle.analysis_commands.specs.MemberWords.{request_in}
 use Rattle.analysis_commands.specs.MemberCourse.{course}
 use Rattle.analysis_commands.specs.MemberViews.{view}

@@ -1,8 +1,8 @@
 use Rattle.std.proofs.Common.{refl, inr}
-use Rattle.sequence_grammar.specs.SeqReader.{sequences_of}
-use Rattle.courses.specs.Change.{◌⟶◌}
-use Rattle.courses.proofs.Going.{replied, at_end}
-use Rattle.courses.proofs.Readings.{refused_says, reading_ends}
+use Rattle.loop_text.specs.SeqReader.{sequences_of}
+use Rattle.io_edge.specs.Change.{◌⟶◌}
+use Rattle.io_edge.proofs.Going.{replied, at_end}
+use Rattle.io_edge.proofs.Readings.{refused_says, reading_ends}
 use Rattle.analysis_commands.specs.RelationsTexts.{sequences_refusal}
 use Rattle.analysis_commands.proofs.relations_command.answer_to.Goals as goal
 

@@ -1,9 +1,9 @@
 use Rattle.std.proofs.Common.{rules, inr}
 use Rattle.std.proofs.lemmas.Result.{IfOk-weaker}
-use Rattle.expr_text.specs.Faults.{fault_of}
-use Rattle.courses.specs.Views.{answer_view}
-use Rattle.sequence_grammar.specs.SeqReader.{sequences_of}
-use Rattle.courses.proofs.Readings.{fault_is}
+use Rattle.poly_text.specs.Faults.{fault_of}
+use Rattle.io_edge.specs.Views.{answer_view}
+use Rattle.loop_text.specs.SeqReader.{sequences_of}
+use Rattle.io_edge.proofs.Readings.{fault_is}
 use Rattle.analysis_commands.specs.RelationsTexts.{sequences_refusal}
 use Rattle.analysis_commands.proofs.SequenceCourses.{sequences_are}
 use Rattle.analysis_commands.proofs.relations_command.read_sequences.Goals as goal

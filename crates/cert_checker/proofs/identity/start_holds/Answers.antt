@@ -1,4 +1,4 @@
-use Rattle.numbers.proofs.Fractions.{fractions_ring}
+use Rattle.algebra.proofs.Fractions.{fractions_ring}
 use Rattle.polynomials.proofs.Orders.{grevlex_order}
 use Rattle.poly.proofs.Standing.{zero_tells}
 use Rattle.cert_checker.proofs.IdentityLaws.{composed_stands, composed_arities}

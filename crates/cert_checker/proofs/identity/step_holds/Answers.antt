@@ -1,6 +1,6 @@
 use Rattle.std.proofs.Common.{ap, subst₂, inr}
 use Rattle.poly.specs.Seen.{terms_in, terms_each}
-use Rattle.list_checks.specs.Past.{IsPastCombination}
+use Rattle.task_lists.specs.Past.{IsPastCombination}
 use Rattle.cert_checker.proofs.IdentityLaws.{composed_stands, composed_arities, combined_tells}
 use Rattle.cert_checker.proofs.identity.step_holds.Goals as goal
 

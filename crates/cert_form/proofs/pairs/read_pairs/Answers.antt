@@ -1,5 +1,5 @@
 use Rattle.std.proofs.Common.{ℕ}
-use Rattle.expressions.specs.FracPoly.{FracPoly}
+use Rattle.loop_model.specs.FracPoly.{FracPoly}
 use Rattle.cert_form.specs.Path.{path_bytes}
 use Rattle.cert_form.proofs.PairSteps.{pairs_start, pairs_more}
 use Rattle.cert_form.proofs.Paths.{place_is}

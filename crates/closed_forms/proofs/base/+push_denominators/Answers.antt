@@ -1,9 +1,9 @@
 use Rattle.std.proofs.Common.{unsigned_abs, pos, ◌<ℤ◌, ap, ◌∙◌}
-use Rattle.numbers.specs.Fraction.{Fraction}
+use Rattle.algebra.specs.Fraction.{Fraction}
 use Rattle.frac128.specs.FracMeaning.{fraction_of}
 use Rattle.frac128.specs.declared.Whole.{Whole}
 use Rattle.coprime_base.specs.Sizes.{sizes}
-use Rattle.rings.proofs.Lists.{have_more}
+use Rattle.algebra.proofs.Lists.{have_more}
 use Rattle.closed_forms.proofs.Mixing.{on_ok_where}
 use Rattle.closed_forms.proofs.Sizing.{behind_none, behind_next, den_fits, den_passed, den_some}
 use Rattle.closed_forms.proofs.base.+push_denominators.Goals as goal

@@ -1,7 +1,7 @@
 use Rattle.std.proofs.Common.{◌≡◌, ◌<◌, ◌∙◌, ℕ, suc, ◌-◌, Bool, true, false, List, length, get_or, sym, ap, subst, arith}
 use Rattle.std.proofs.lemmas.Result.{IfOk-weaker, IfErr-weaker}
 use Rattle.polynomials.specs.Terms.{Terms}
-use Rattle.numbers.specs.Fraction.{Fraction}
+use Rattle.algebra.specs.Fraction.{Fraction}
 use Rattle.poly.specs.Seen.{terms_each}
 use Rattle.closed_forms.specs.Known.{IsWideTurn}
 use Rattle.closed_forms.specs.Settling.{AreAllMarked, IsPastOfClass, IsSettling, IsSettled}

@@ -2,7 +2,7 @@ use Rattle.std.proofs.Common.{length, sym, subst}
 use Rattle.linear.specs.Rows.{fractions_of, rows_of}
 use Rattle.polynomials.specs.Order.{grevlex}
 use Rattle.solvable.proofs.Using.{FracPoly}
-use Rattle.turns.specs.Turns.{IsNormalForm}
+use Rattle.solvable_maps.specs.Turns.{IsNormalForm}
 use Rattle.poly.specs.Seen.{terms_in, terms_each}
 use Rattle.frac128.specs.FracMeaning.{fraction_of}
 use Rattle.coprime_base.specs.Sizes.{sizes}

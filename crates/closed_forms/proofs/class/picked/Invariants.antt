@@ -1,5 +1,5 @@
 use Rattle.std.proofs.Common.{◌≡◌, ℕ, take, map, All}
-use Rattle.chains.specs.Uses.{poly_at}
+use Rattle.solvable_maps.specs.Uses.{poly_at}
 use Rattle.poly.specs.Seen.{terms_each}
 use Rattle.solvable.proofs.Using.{FracPoly}
 use Rattle.closed_forms.proofs.class.picked.Given as goal

@@ -4,7 +4,7 @@ use Rattle.poly.specs.Seen.{terms_each}
 use Rattle.closed_forms.proofs.Ahead.{after_count}
 use Rattle.closed_forms.proofs.Settling.{forms_wide, forms_few}
 use Rattle.linear.specs.Rows.{rows_of}
-use Rattle.chains.specs.Uses.{poly_at}
+use Rattle.solvable_maps.specs.Uses.{poly_at}
 use Rattle.closed_forms.specs.Inverses.{IsBehind}
 use Rattle.solvable.proofs.Using.{FracPoly, length_each}
 use Rattle.closed_forms.proofs.Splitting.{class_inside}

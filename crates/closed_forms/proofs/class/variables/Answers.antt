@@ -1,13 +1,13 @@
 use Rattle.std.proofs.Common.{◌≡◌, ◌+◌, ◌*◌, inl, inr, length, ap, subst, ◌∙◌}
 use Rattle.std.proofs.lemmas.List.{length_push}
 use Rattle.std.proofs.lemmas.List.Elements.{All-push, All-same}
-use Rattle.numbers.specs.Fraction.{fraction_size}
-use Rattle.numbers.specs.Size.{IsPast}
+use Rattle.algebra.specs.Fraction.{fraction_size}
+use Rattle.algebra.specs.Size.{IsPast}
 use Rattle.polynomials.specs.Weight.{weight}
 use Rattle.linear.specs.Rows.{fractions_of}
 use Rattle.poly.specs.Seen.{terms_in, terms_each}
 use Rattle.coprime_base.specs.Sizes.{sizes}
-use Rattle.turns.specs.Expo.{with_normal_keys}
+use Rattle.solvable_maps.specs.Expo.{with_normal_keys}
 use Rattle.closed_forms.specs.Sources.{collect_terms, part}
 use Rattle.closed_forms.specs.Sums.{IsPastMix}
 use Rattle.closed_forms.specs.Values.{IsExpoOver}

@@ -1,7 +1,7 @@
 use Rattle.std.proofs.Common.{◌≡◌, ◌≤◌, ◌+◌, ◌*◌, ◌++◌, inl, inr, All, List, ℕ, length, ap, ap₂, sym, subst, ◌∙◌, arith}
 use Rattle.std.proofs.lemmas.List.{length-map}
-use Rattle.numbers.specs.Fraction.{Fraction, fraction_size}
-use Rattle.numbers.specs.Size.{IsPast}
+use Rattle.algebra.specs.Fraction.{Fraction, fraction_size}
+use Rattle.algebra.specs.Size.{IsPast}
 use Rattle.polynomials.specs.Polynomial.{Arity}
 use Rattle.polynomials.specs.Terms.{Terms}
 use Rattle.polynomials.specs.Weight.{weight}
@@ -9,7 +9,7 @@ use Rattle.frac128.specs.declared.fraction.Frac.{Frac}
 use Rattle.poly.specs.Seen.{terms_in}
 use Rattle.poly.specs.declared.Term.{Term}
 use Rattle.coprime_base.specs.Sizes.{sizes}
-use Rattle.turns.specs.Turns.{width}
+use Rattle.solvable_maps.specs.Turns.{width}
 use Rattle.expo.specs.Operations.{vars_of}
 use Rattle.expo.specs.Powers.{key_of_power}
 use Rattle.closed_forms.specs.Later.{with_powers}

@@ -1,12 +1,12 @@
 use Rattle.std.proofs.Common.{[], ◌∷◌, sym, ap, subst, ◌∙◌}
-use Rattle.rings.specs.Arithmetic.{power}
-use Rattle.numbers.specs.Fraction.{ℚ, inverse}
+use Rattle.algebra.specs.Arithmetic.{power}
+use Rattle.algebra.specs.Fraction.{ℚ, inverse}
 use Rattle.polynomials.specs.Terms.{Same}
 use Rattle.coprime_base.specs.Sizes.{sizes}
 use Rattle.frac128.specs.FracMeaning.{fraction_of}
 use Rattle.linear.specs.Rows.{fractions_of}
 use Rattle.poly.specs.Seen.{terms_in}
-use Rattle.turns.specs.Expo.{at_turn}
+use Rattle.solvable_maps.specs.Expo.{at_turn}
 use Rattle.expo.proofs.Solved.{handed_on}
 use Rattle.closed_forms.specs.Later.{IsPastAt, turn_past, difference_past}
 use Rattle.closed_forms.specs.Sums.{IsPastMix}

@@ -1,7 +1,7 @@
 use Rattle.std.proofs.Common.{map, length, get_or}
-use Rattle.numbers.specs.Fraction.{ℚ}
+use Rattle.algebra.specs.Fraction.{ℚ}
 use Rattle.polynomials.specs.Terms.{coefficient}
-use Rattle.chains.specs.Uses.{poly_at, unit}
+use Rattle.solvable_maps.specs.Uses.{poly_at, unit}
 use Rattle.linear.specs.Rows.{fractions_of}
 use Rattle.poly.specs.Seen.{terms_each}
 use Rattle.closed_forms.proofs.Alone.{rows_next, part_is, place_low}

@@ -1,6 +1,6 @@
 use Rattle.std.proofs.Common.{◌<◌, List, get_or, ap, sym, subst, ◌∙◌}
-use Rattle.numbers.specs.Fraction.{ℚ}
-use Rattle.chains.specs.Uses.{unit}
+use Rattle.algebra.specs.Fraction.{ℚ}
+use Rattle.solvable_maps.specs.Uses.{unit}
 use Rattle.polynomials.proofs.Distinct.{distinct_falls}
 use Rattle.polynomials.proofs.Orders.{grevlex_order}
 use Rattle.polynomials.specs.Order.{grevlex}

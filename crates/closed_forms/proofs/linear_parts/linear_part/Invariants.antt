@@ -1,7 +1,7 @@
 use Rattle.std.proofs.Common.{◌≡◌, take, map}
-use Rattle.numbers.specs.Fraction.{ℚ}
+use Rattle.algebra.specs.Fraction.{ℚ}
 use Rattle.polynomials.specs.Terms.{coefficient}
-use Rattle.chains.specs.Uses.{unit}
+use Rattle.solvable_maps.specs.Uses.{unit}
 use Rattle.linear.specs.Rows.{fractions_of}
 use Rattle.poly.specs.Seen.{terms_in}
 use Rattle.closed_forms.proofs.linear_parts.linear_part.Given as goal

@@ -1,9 +1,9 @@
 use Rattle.std.proofs.Common.{length, get_or, sym, ap, ◌∙◌, ◌≡◌}
-use Rattle.chains.specs.Uses.{poly_at}
+use Rattle.solvable_maps.specs.Uses.{poly_at}
 use Rattle.poly.specs.Seen.{terms_each}
-use Rattle.turns.specs.AfterTurns.{rest_of}
+use Rattle.solvable_maps.specs.AfterTurns.{rest_of}
 use Rattle.solvable.proofs.Using.{FracPoly, poly_at-is, arity_at}
-use Rattle.rings.proofs.Lists.{have_more}
+use Rattle.algebra.proofs.Lists.{have_more}
 use Rattle.closed_forms.proofs.Alone.{terms_next, place_low}
 use Rattle.closed_forms.proofs.linear_parts.rests.Goals as goal
 

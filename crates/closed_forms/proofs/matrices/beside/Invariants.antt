@@ -1,6 +1,6 @@
 use Rattle.std.proofs.Common.{◌≡◌, ◌++◌, take}
 use Rattle.linear.specs.Rows.{fractions_of}
-use Rattle.turns.specs.Inverse.{unit_list}
+use Rattle.solvable_maps.specs.Inverse.{unit_list}
 use Rattle.closed_forms.proofs.matrices.beside.Given as goal
 
 abbrev pub invariant-loop-i : goal.invariant-loop-i

@@ -1,7 +1,7 @@
 use Rattle.std.proofs.Common.{◌++◌, ◌∷◌, [], take, length, Err, sym, ap, subst, ◌∙◌}
 use Rattle.vectors.specs.Adding.{IsEchelonOf}
 use Rattle.linear.specs.Rows.{fractions_of, rows_of}
-use Rattle.turns.specs.Inverse.{unit_list, beside}
+use Rattle.solvable_maps.specs.Inverse.{unit_list, beside}
 use Rattle.closed_forms.proofs.Rows.{beside-width, past_inverse, echelon_next}
 use Rattle.closed_forms.proofs.matrices.echelon_beside.Goals as goal
 

@@ -1,7 +1,7 @@
 use Rattle.std.proofs.Common.{◌≡◌, ◌+◌, take}
 use Rattle.linear.specs.Rows.{rows_of}
 use Rattle.vectors.specs.Adding.{IsEchelonOf}
-use Rattle.turns.specs.Inverse.{beside}
+use Rattle.solvable_maps.specs.Inverse.{beside}
 use Rattle.closed_forms.proofs.matrices.echelon_beside.Given as goal
 
 abbrev pub invariant-loop-place : goal.invariant-loop-place

@@ -1,8 +1,8 @@
 use Rattle.std.proofs.Common.{ap, ◌∙◌, arith}
 use Rattle.std.proofs.lemmas.Result.{IfOk-weaker}
 use Rattle.expo.specs.Powers.{key_of_power}
-use Rattle.turns.specs.Expo.{with_key}
-use Rattle.chains.proofs.Exponents.{unit_is}
+use Rattle.solvable_maps.specs.Expo.{with_key}
+use Rattle.solvable_maps.proofs.Exponents.{unit_is}
 use Rattle.closed_forms.proofs.powers.growing_monomial.Goals as goal
 
 pub behind_power-requires-clause-few : goal.behind_power-requires-clause-few

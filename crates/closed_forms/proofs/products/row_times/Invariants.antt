@@ -1,5 +1,5 @@
 use Rattle.linear.specs.Rows.{fractions_of, rows_of}
-use Rattle.turns.specs.Inverse.{IsProduct}
+use Rattle.solvable_maps.specs.Inverse.{IsProduct}
 use Rattle.closed_forms.proofs.products.row_times.Given as goal
 
 abbrev pub invariant-loop-column : goal.invariant-loop-column

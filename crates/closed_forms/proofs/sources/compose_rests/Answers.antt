@@ -3,7 +3,7 @@ use Rattle.linear.specs.Rows.{fractions_of}
 use Rattle.poly.specs.Seen.{terms_each}
 use Rattle.coprime_base.specs.Sizes.{sizes}
 use Rattle.solvable.proofs.Using.{FracPoly}
-use Rattle.turns.specs.Turns.{width}
+use Rattle.solvable_maps.specs.Turns.{width}
 use Rattle.closed_forms.specs.Sources.{part}
 use Rattle.closed_forms.proofs.Making.{arity_of_is, over_images, moved_is}
 use Rattle.closed_forms.proofs.sources.compose_rests.Goals as goal

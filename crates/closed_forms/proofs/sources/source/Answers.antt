@@ -1,7 +1,7 @@
 use Rattle.std.proofs.Common.{◌≡◌, ◌+◌, ◌*◌, ◌≤◌, All, Err, length, refl, sym, ap, subst, ◌∙◌, arith}
 use Rattle.std.proofs.lemmas.List.{length-map}
-use Rattle.numbers.specs.Fraction.{fractions, fraction_size}
-use Rattle.numbers.specs.Size.{IsPast}
+use Rattle.algebra.specs.Fraction.{fractions, fraction_size}
+use Rattle.algebra.specs.Size.{IsPast}
 use Rattle.polynomials.specs.Weight.{weight, IsPastSum}
 use Rattle.linear.specs.Rows.{fractions_of, rows_of}
 use Rattle.poly.specs.Seen.{terms_in, terms_each}

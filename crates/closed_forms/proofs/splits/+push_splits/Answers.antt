@@ -1,7 +1,7 @@
 use Rattle.std.proofs.Common.{◌≡◌, ◌<◌, rules, length, [], ◌∙◌, subst, arith}
-use Rattle.rings.proofs.In.{each_in}
+use Rattle.algebra.proofs.In.{each_in}
 use Rattle.poly.specs.Seen.{terms_each}
-use Rattle.turns.specs.Classes.{IsClass}
+use Rattle.solvable_maps.specs.Classes.{IsClass}
 use Rattle.closed_forms.specs.Splits.{groups_in, IsSplitAt}
 use Rattle.solvable.proofs.Using.{length_each}
 use Rattle.closed_forms.proofs.Splitting.{classes_are, class_among, split_at, splits_push, first_refused, map_of, refused_moved}

@@ -1,10 +1,10 @@
 use Rattle.std.proofs.Common.{rules, inl, inr, sym, ap, ◌∙◌, subst, arith}
 use Rattle.std.proofs.lemmas.List.{length-map}
 use Rattle.std.proofs.lemmas.Result.{IfErr-weaker}
-use Rattle.rings.specs.In.{In}
+use Rattle.algebra.specs.In.{In}
 use Rattle.poly.specs.Seen.{terms_each}
-use Rattle.turns.specs.Classes.{first_of}
-use Rattle.turns.proofs.Classwise.{class_some}
+use Rattle.solvable_maps.specs.Classes.{first_of}
+use Rattle.solvable_maps.proofs.Classwise.{class_some}
 use Rattle.closed_forms.specs.Splits.{groups_in}
 use Rattle.closed_forms.proofs.Mixing.{if_ok_where}
 use Rattle.closed_forms.proofs.Splitting.{among_none, among_skip, among_here, first_read, map_of, refused_moved, later_classes, this_class}

@@ -1,7 +1,7 @@
 use Rattle.std.proofs.Common.{◌≡◌, ◌<◌, ℕ, List, All, length, ap, ◌∙◌, subst, sym, arith, refl}
 use Rattle.poly.specs.Seen.{terms_each}
-use Rattle.turns.specs.Classes.{class_matrix}
-use Rattle.turns.proofs.Classwise.{class_few, class_some}
+use Rattle.solvable_maps.specs.Classes.{class_matrix}
+use Rattle.solvable_maps.proofs.Classwise.{class_few, class_some}
 use Rattle.closed_forms.specs.Splits.{IfRefusedMatrix}
 use Rattle.solvable.proofs.Using.{length_each}
 use Rattle.closed_forms.proofs.Splitting.{class_inside, matrix_count, matrix_square, matrix_refused, refused_moved, split_is}

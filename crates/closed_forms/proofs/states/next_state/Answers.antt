@@ -1,7 +1,7 @@
 use Rattle.std.proofs.Common.{◌≡◌, length, ◌∙◌}
 use Rattle.std.proofs.lemmas.List.{take_all}
 use Rattle.poly.specs.Seen.{terms_each}
-use Rattle.rings.proofs.Lists.{have_more}
+use Rattle.algebra.proofs.Lists.{have_more}
 use Rattle.solvable.proofs.Using.{FracPoly}
 use Rattle.expo.proofs.Solved.{handed_on}
 use Rattle.closed_forms.proofs.Making.{arity_of_is, over_images}

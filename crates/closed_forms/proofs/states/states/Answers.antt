@@ -1,6 +1,6 @@
 use Rattle.std.proofs.Common.{◌≡◌, All, Vec, Global, length, sym, subst, arith}
 use Rattle.poly.specs.Seen.{terms_each}
-use Rattle.rings.proofs.Lists.{have_more}
+use Rattle.algebra.proofs.Lists.{have_more}
 use Rattle.expo.proofs.Solved.{handed_on}
 use Rattle.solvable.proofs.Using.{FracPoly}
 use Rattle.closed_forms.proofs.StateLists.{states_count, states_next, state_length, state_over, next_is, past_state}

@@ -1,5 +1,5 @@
 use Rattle.std.proofs.Common.{◌≡◌, ◌≤◌, arith}
-use Rattle.rings.proofs.Lists.{have_more}
+use Rattle.algebra.proofs.Lists.{have_more}
 use Rattle.solvable.proofs.Using.{FracPoly}
 use Rattle.closed_forms.proofs.StateLists.{variable_next, variable_arity, variables_all}
 use Rattle.closed_forms.proofs.states.variables.Goals as goal

@@ -1,11 +1,11 @@
 use Rattle.std.proofs.Common.{◌++◌, ◌<◌, List, get_or, ap, sym, subst, ◌∙◌}
-use Rattle.numbers.specs.Fraction.{ℚ}
+use Rattle.algebra.specs.Fraction.{ℚ}
 use Rattle.polynomials.specs.Order.{grevlex}
 use Rattle.polynomials.specs.Polynomial.{Arity, IsPolynomial}
 use Rattle.frac128.specs.declared.fraction.Frac.{Frac}
 use Rattle.poly.specs.Seen.{terms_in}
 use Rattle.poly.specs.declared.Term.{Term}
-use Rattle.turns.specs.AfterTurns.{rest_of}
+use Rattle.solvable_maps.specs.AfterTurns.{rest_of}
 use Rattle.closed_forms.proofs.Mixing.{tell, all_arity, rest_polynomial}
 use Rattle.closed_forms.proofs.sums.rest_of.Goals as goal
 

@@ -1,5 +1,5 @@
 use Rattle.std.proofs.Common.{ap, ◌∙◌, refl}
-use Rattle.numbers.specs.Scalars.{field}
+use Rattle.algebra.specs.Scalars.{field}
 use Rattle.poly.specs.Seen.{terms_in}
 use Rattle.machines.specs.Completion.{with_element}
 use Rattle.complete.specs.Completing.{state_of}

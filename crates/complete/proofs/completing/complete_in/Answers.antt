@@ -1,8 +1,8 @@
 use Rattle.std.proofs.Common.{◌≤◌, ◌^◌, refl, sym, ap, get_or, subst, arith}
 use Rattle.std.proofs.lemmas.List.{length-map}
-use Rattle.rings.specs.FieldArithmetic.{field_of}
-use Rattle.numbers.specs.Scalars.{field}
-use Rattle.numbers.proofs.ScalarFields.{is_field}
+use Rattle.algebra.specs.FieldArithmetic.{field_of}
+use Rattle.algebra.specs.Scalars.{field}
+use Rattle.algebra.proofs.ScalarFields.{is_field}
 use Rattle.polynomials.specs.Polynomial.{IsPolynomial}
 use Rattle.machines.specs.Completion as completion
 use Rattle.machines.specs.Journal.{Journal, units_of}

@@ -1,5 +1,5 @@
 use Rattle.std.proofs.Common.{◌≡◌, ◌≤◌, length, drop}
-use Rattle.numbers.specs.Scalars.{field}
+use Rattle.algebra.specs.Scalars.{field}
 use Rattle.machines.specs.Completion.{empty_state, with_elements}
 use Rattle.poly.specs.Seen.{terms_each}
 use Rattle.complete.specs.Completing.{state_of, FitsCompletion}

@@ -1,6 +1,6 @@
 use Rattle.std.proofs.Common.{◌≡◌, map, Some, None, IfOk, refl, sym, ap, subst, ◌∙◌}
 use Rattle.std.proofs.lemmas.Option.{MatchOption-at_some, MatchOption-at_none}
-use Rattle.numbers.specs.Scalars.{field}
+use Rattle.algebra.specs.Scalars.{field}
 use Rattle.poly.specs.Seen.{terms_each}
 use Rattle.machines.specs.Completion.{next, with_element}
 use Rattle.machines.specs.Cut.{after_cut, find_cut, all_places, monic}

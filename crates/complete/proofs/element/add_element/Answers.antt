@@ -2,7 +2,7 @@ use Rattle.std.proofs.Common.{◌≡◌, ◌≢◌, ◌≤◌, ◌+◌, ◌++◌
 use Rattle.std.specs.List.{All}
 use Rattle.std.proofs.lemmas.List.{length-map, length_push}
 use Rattle.std.proofs.lemmas.List.Elements.{All-push, All-same}
-use Rattle.numbers.specs.Scalars.{field}
+use Rattle.algebra.specs.Scalars.{field}
 use Rattle.machines.specs.Cut.{lead_of}
 use Rattle.machines.specs.Pairs.{mixes_degrees, with_new}
 use Rattle.monos.specs.Variables.{most_variables}

@@ -1,6 +1,6 @@
 use Rattle.std.proofs.Common.{◌≡◌, ◌≢◌, [], sym, subst, ◌∙◌}
-use Rattle.numbers.specs.Scalars.{field}
-use Rattle.numbers.specs.Size.{IsPast, quotient_size}
+use Rattle.algebra.specs.Scalars.{field}
+use Rattle.algebra.specs.Size.{IsPast, quotient_size}
 use Rattle.polynomials.specs.Weight.{weight}
 use Rattle.machines.specs.Cut.{monic}
 use Rattle.poly.specs.Seen.{terms_in}

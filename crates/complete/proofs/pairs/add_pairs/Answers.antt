@@ -4,7 +4,7 @@ use Rattle.std.proofs.lemmas.List.{drop_all, take_all, length_push, length-map, 
 use Rattle.std.proofs.lemmas.List.Elements.{All-nil, All-push, All-append}
 use Rattle.std.proofs.lemmas.Result.{on_ok_weaker}
 use Rattle.polynomials.proofs.Exponent.{length-lcm}
-use Rattle.rings.proofs.Lists.{take_next}
+use Rattle.algebra.proofs.Lists.{take_next}
 use Rattle.machines.specs.Pairs.{coprime, put_pair, with_new}
 use Rattle.machines.proofs.Waiting.{AllWithin}
 use Rattle.complete.specs.declared.pair.Pair.{Pair}

@@ -1,4 +1,4 @@
-use Rattle.rings.specs.FieldArithmetic.{field_of}
+use Rattle.algebra.specs.FieldArithmetic.{field_of}
 use Rattle.completeness.proofs.Representations.{but_coprime_represented, all_represented}
 use Rattle.completeness.proofs.laws.lists_with_lcm_representations_are_bases.Goals as goal
 

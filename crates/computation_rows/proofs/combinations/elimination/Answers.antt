@@ -6,13 +6,13 @@ use Rattle.computation_rows.proofs.Alike.{alike, block_within}
 use Rattle.computation_rows.proofs.combinations.elimination.Goals as goal
 
 pub eliminate-requires-clause-alike : goal.eliminate-requires-clause-alike
-eliminate-requires-clause-alike g c =
+eliminate-requires-clause-alike c =
     subst (λ ps. AreAlike ps) (sym c.deref.ensures.value)
     (alike (record { first = c.args.first }) (length c.args.names.now) c.in_ok-list.list.items
     c.in_ok-list.ensures.like)
 
 pub eliminate-requires-clause-block : goal.eliminate-requires-clause-block
-eliminate-requires-clause-block g c =
+eliminate-requires-clause-block c =
     let first = c.if-first-len.false in
     let names = c.len.ensures.len in
     subst (λ ps. first_block ps ≤ arity_of ps) (sym c.deref.ensures.value)

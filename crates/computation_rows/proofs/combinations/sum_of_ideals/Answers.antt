@@ -8,7 +8,7 @@ the_order : Grevlex
 the_order = record {}
 
 pub sum-requires-clause-alike : goal.sum-requires-clause-alike
-sum-requires-clause-alike g c =
+sum-requires-clause-alike c =
     let together = one_arity the_order (length c.args.names.now) c.in_ok-a.a.items c.in_ok-b.b.items
     c.in_ok-a.ensures.like c.in_ok-b.ensures.like in
     subst (λ ps. HaveOneArity (ps ++ c.deref-2.result.now)) (sym c.deref.ensures.value)

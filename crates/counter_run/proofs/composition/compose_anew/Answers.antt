@@ -3,7 +3,7 @@ use Rattle.std.proofs.lemmas.List.{drop_all}
 use Rattle.frac128.specs.FracMeaning.{fraction_of}
 use Rattle.poly.specs.Seen.{terms_in, terms_each}
 use Rattle.poly.specs.View.{term_of, terms_of}
-use Rattle.expressions.proofs.OperationLaws.{handed_on}
+use Rattle.loop_model.proofs.OperationLaws.{handed_on}
 use Rattle.loop_model.proofs.Items.{past_list}
 use Rattle.counter_run.proofs.Compositions.{summing_arity, summing_more, summing_sum_stop, summing_product_stop, summing_all, read_at}
 use Rattle.counter_run.proofs.composition.compose_anew.Goals as goal

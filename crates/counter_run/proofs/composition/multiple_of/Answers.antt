@@ -7,7 +7,7 @@ use Rattle.polynomials.specs.Terms.{constant}
 use Rattle.frac128.specs.FracMeaning.{fraction_of}
 use Rattle.poly.specs.Seen.{terms_in, terms_each}
 use Rattle.poly.specs.Standing.{IsOver}
-use Rattle.expressions.proofs.OperationLaws.{stops_front, handed_on}
+use Rattle.loop_model.proofs.OperationLaws.{stops_front, handed_on}
 use Rattle.counter_run.specs.Composition.{factors}
 use Rattle.counter_run.proofs.Compositions.{factor_none, factor_arity, factor_more, factor_stop, factor_all}
 use Rattle.counter_run.proofs.composition.multiple_of.Goals as goal

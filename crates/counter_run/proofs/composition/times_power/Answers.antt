@@ -1,5 +1,5 @@
 use Rattle.poly.specs.Seen.{terms_in}
-use Rattle.expressions.proofs.OperationLaws.{handed_on}
+use Rattle.loop_model.proofs.OperationLaws.{handed_on}
 use Rattle.counter_run.proofs.Compositions.{multiply_arity, multiply_more, multiply_stop, multiply_all}
 use Rattle.counter_run.proofs.composition.times_power.Goals as goal
 

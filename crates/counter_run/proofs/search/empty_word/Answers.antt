@@ -1,5 +1,5 @@
 use Rattle.std.proofs.Common.{refl, sym, subst, ◌∙◌}
-use Rattle.numbers.specs.Fraction.{ℚ}
+use Rattle.algebra.specs.Fraction.{ℚ}
 use Rattle.polynomials.specs.Terms.{Same}
 use Rattle.polynomials.proofs.Same.{Same-refl}
 use Rattle.poly.specs.Seen.{terms_in}

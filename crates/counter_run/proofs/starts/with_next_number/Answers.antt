@@ -1,7 +1,7 @@
 use Rattle.std.proofs.Common.{◌≡◌, length, vec_len, rules, refl, sym, subst, ◌∙◌}
 use Rattle.poly.specs.Seen.{terms_in}
 use Rattle.loop_model.specs.View.{program_of}
-use Rattle.counters.specs.Point.{IsFirstPrefix}
+use Rattle.corollaries.specs.Point.{IsFirstPrefix}
 use Rattle.counter_run.specs.Starts.{IsPastNext}
 use Rattle.counter_run.proofs.Starting.{fixed_prefix, free_variable, set_variable}
 use Rattle.counter_run.proofs.starts.with_next_number.Goals as goal

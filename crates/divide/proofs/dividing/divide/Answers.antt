@@ -1,5 +1,5 @@
 use Rattle.std.proofs.Common.{List, map, ◌≡◌, ◌≢◌, [], ◌++◌, false, sym, ap₂, get_or, subst, ◌∙◌}
-use Rattle.numbers.specs.Scalars.{field}
+use Rattle.algebra.specs.Scalars.{field}
 use Rattle.polynomials.specs.Polynomial.{IsPolynomial}
 use Rattle.polynomials.specs.Terms.{Terms, Same, combination}
 use Rattle.machines.specs.Basis.{AtPlaces}

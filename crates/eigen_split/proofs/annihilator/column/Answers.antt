@@ -2,7 +2,7 @@ use Rattle.std.proofs.Common.{◌<◌, ◌^◌, unsigned_abs, ap, subst, sym, �
 use mir.Syntax.{w128}
 use native.Mathlib.Nat as N
 use Rattle.std.proofs.lemmas.Int.{to_z-of_z, fits_signed_from_abs}
-use Rattle.rings.specs.Integers.{integer_in}
+use Rattle.algebra.specs.Integers.{integer_in}
 use Rattle.gf65521.specs.GfMeaning.{residue_of}
 use Rattle.linear.specs.Rows.{rows_of}
 use Rattle.eigen_split.specs.Residues.{GF, residue_at}

@@ -1,5 +1,5 @@
 use Rattle.std.proofs.Common.{ℕ, List, [], ◌<◌, map, get_or, length, sym, ap, ◌∙◌, arith, Vec, Global}
-use Rattle.numbers.specs.Residue.{Residue}
+use Rattle.algebra.specs.Residue.{Residue}
 use Rattle.gf65521.specs.declared.Gf.{Gf}
 use Rattle.gf65521.specs.GfMeaning.{residue_of}
 use Rattle.vectors.specs.Causes.{numbers_to}

@@ -1,5 +1,5 @@
 use Rattle.std.proofs.Common.{◌<◌, ◌^◌, subst, sym}
-use Rattle.numbers.proofs.Fractions.{some}
+use Rattle.algebra.proofs.Fractions.{some}
 use Rattle.frac128.specs.FracMeaning.{fraction_of}
 use Rattle.linear.specs.Rows.{fractions_of}
 use Rattle.vectors.specs.Matrices.{row_denominator}

@@ -1,7 +1,7 @@
 use Rattle.std.proofs.Common.{◌<◌, ◌^◌, unsigned_abs, subst, sym}
 use mir.Syntax.{w128}
 use Rattle.std.proofs.lemmas.Int.{to_z-of_z, fits_signed_from_abs}
-use Rattle.numbers.proofs.Fractions.{some}
+use Rattle.algebra.proofs.Fractions.{some}
 use Rattle.frac128.specs.FracMeaning.{fraction_of}
 use Rattle.eigen_split.proofs.Reading.{num_small}
 use Rattle.eigen_split.proofs.whole.whole_number.Goals as goal

@@ -1,6 +1,6 @@
 use Rattle.std.proofs.Common.{◌≡◌, ◌++◌, take, drop, length, refl, ap, ◌∙◌, arith}
 use Rattle.exponentials.specs.Keys.{excess}
-use Rattle.expo.specs.Exponents.{normal_exponents}
+use Rattle.solvable_maps.specs.NormalExponents.{normal_exponents}
 use Rattle.expo.proofs.Outcomes.{ok_weaker}
 use Rattle.expo.proofs.Stepping.{normal_parts, normal_long}
 use Rattle.expo.proofs.exponents.normal_monomial.Goals as goal

@@ -1,5 +1,5 @@
 use Rattle.std.proofs.Common.{unsigned_abs, sym, ap, ◌∙◌}
-use Rattle.numbers.specs.Fraction.{inverse}
+use Rattle.algebra.specs.Fraction.{inverse}
 use Rattle.expo.specs.Images.{factor}
 use Rattle.expo.proofs.Binomials.{some_natural}
 use Rattle.expo.proofs.images.factor_of.Goals as goal

@@ -1,6 +1,6 @@
 use Rattle.std.proofs.Common.{◌≡◌, [], ◌∷◌, replicate}
 use Rattle.std.specs.List.{All}
-use Rattle.numbers.specs.Fraction.{ℚ}
+use Rattle.algebra.specs.Fraction.{ℚ}
 use Rattle.polynomials.specs.Terms.{constant}
 use Rattle.poly.specs.Seen.{terms_each}
 use Rattle.expo.proofs.images.images_at_zero.Given as goal

@@ -1,6 +1,6 @@
 use Rattle.std.proofs.Common.{◌≡◌, ◌++◌, drop}
 use Rattle.std.specs.List.{All}
-use Rattle.numbers.specs.Fraction.{ℚ}
+use Rattle.algebra.specs.Fraction.{ℚ}
 use Rattle.polynomials.specs.Terms.{variables}
 use Rattle.poly.specs.Seen.{terms_each}
 use Rattle.expo.proofs.images.push_variables.Given as goal

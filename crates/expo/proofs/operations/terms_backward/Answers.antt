@@ -2,7 +2,7 @@ use Rattle.std.proofs.Common.{ap, map, ◌∙◌}
 use Rattle.std.proofs.lemmas.List.{map-append}
 use Rattle.frac128.specs.FracMeaning.{fraction_of}
 use Rattle.poly.specs.View.{term_of}
-use Rattle.rings.proofs.Lists.{take_next}
+use Rattle.algebra.proofs.Lists.{take_next}
 use Rattle.expo.proofs.Stepping.{step_turned}
 use Rattle.expo.proofs.operations.terms_backward.Goals as goal
 

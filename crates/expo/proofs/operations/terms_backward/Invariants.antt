@@ -1,5 +1,5 @@
 use Rattle.std.proofs.Common.{◌≡◌, take}
-use Rattle.turns.specs.Expo.{backward_terms}
+use Rattle.solvable_maps.specs.Expo.{backward_terms}
 use Rattle.frac128.specs.FracMeaning.{fraction_of}
 use Rattle.poly.specs.View.{terms_of}
 use Rattle.expo.proofs.operations.terms_backward.Given as goal

@@ -1,7 +1,7 @@
 use Rattle.std.proofs.Common.{◌<◌, ◌∙◌, [], ◌∷◌, ap, subst, arith, unsigned_abs}
 use Rattle.std.proofs.lemmas.List.{map-append}
-use Rattle.rings.specs.Arithmetic.{power}
-use Rattle.numbers.specs.Fraction.{ℚ}
+use Rattle.algebra.specs.Arithmetic.{power}
+use Rattle.algebra.specs.Fraction.{ℚ}
 use Rattle.polynomials.specs.Order.{grevlex}
 use Rattle.polynomials.specs.Polynomial.{IsPolynomial}
 use Rattle.coprime_base.specs.Sizes.{sizes}

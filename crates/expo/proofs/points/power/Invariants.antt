@@ -1,6 +1,6 @@
 use Rattle.std.proofs.Common.{◌≡◌}
-use Rattle.rings.specs.Arithmetic.{power}
-use Rattle.numbers.specs.Fraction.{ℚ}
+use Rattle.algebra.specs.Arithmetic.{power}
+use Rattle.algebra.specs.Fraction.{ℚ}
 use Rattle.frac128.specs.FracMeaning.{fraction_of}
 use Rattle.expo.proofs.points.power.Given as goal
 

@@ -1,5 +1,5 @@
 use Rattle.std.proofs.Common.{negsuc}
-use Rattle.numbers.specs.Fraction.{whole}
+use Rattle.algebra.specs.Fraction.{whole}
 use Rattle.frac128.specs.FracMeaning.{fraction_of}
 use Rattle.expo.proofs.AtTurns.{power_none, sign_next}
 use Rattle.expo.proofs.points.sign.Goals as goal

@@ -1,7 +1,7 @@
 use Rattle.std.proofs.Common.{◌≡◌, length, subst}
 use Rattle.frac128.specs.FracMeaning.{fraction_of}
 use Rattle.poly.specs.View.{terms_of}
-use Rattle.turns.specs.Expo.{power_terms}
+use Rattle.solvable_maps.specs.Expo.{power_terms}
 use Rattle.expo.specs.Numbers.{number_at}
 use Rattle.expo.specs.Powers.{key_in}
 use Rattle.expo.proofs.Solved.{handed_on, equal_made}

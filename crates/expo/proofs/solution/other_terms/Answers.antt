@@ -1,9 +1,9 @@
 use Rattle.std.proofs.Common.{◌≡◌, ◌∙◌, ap, arith, map, length, subst}
 use Rattle.std.proofs.lemmas.List.{map-append}
-use Rattle.numbers.specs.Fraction.{opposite}
+use Rattle.algebra.specs.Fraction.{opposite}
 use Rattle.frac128.specs.FracMeaning.{fraction_of}
 use Rattle.poly.specs.View.{term_of, terms_of}
-use Rattle.turns.specs.Expo.{power_terms}
+use Rattle.solvable_maps.specs.Expo.{power_terms}
 use Rattle.expo.specs.Numbers.{number_at}
 use Rattle.expo.specs.Powers.{key_in}
 use Rattle.expo.proofs.Solved.{handed_on, other_made}

@@ -1,6 +1,6 @@
 use Rattle.std.proofs.Common.{◌≡◌, ◌+◌, ◌*◌, length, refl, ap, sym, subst, ◌∙◌, arith}
 use Rattle.std.proofs.lemmas.List.{length-map}
-use Rattle.numbers.specs.Fraction.{ℚ}
+use Rattle.algebra.specs.Fraction.{ℚ}
 use Rattle.polynomials.specs.Order.{grevlex}
 use Rattle.polynomials.specs.Polynomial.{Arity, IsPolynomial}
 use Rattle.frac128.specs.FracMeaning.{fraction_of}
@@ -8,8 +8,8 @@ use Rattle.poly.specs.Seen.{terms_in}
 use Rattle.poly.specs.View.{terms_of}
 use Rattle.poly.proofs.Steps.{all_arity}
 use Rattle.coprime_base.specs.Sizes.{sizes}
-use Rattle.turns.specs.Expo.{with_normal_keys}
-use Rattle.turns.specs.Turns.{width}
+use Rattle.solvable_maps.specs.Expo.{with_normal_keys}
+use Rattle.solvable_maps.specs.Turns.{width}
 use Rattle.expo.specs.Powers.{number_of}
 use Rattle.expo.proofs.Distinct.{pairs_of}
 use Rattle.expo.proofs.Results.{IsNormalList, normal_list, made_expo}

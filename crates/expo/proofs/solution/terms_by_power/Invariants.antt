@@ -1,5 +1,5 @@
 use Rattle.std.proofs.Common.{◌≡◌}
-use Rattle.turns.specs.Expo.{power_terms}
+use Rattle.solvable_maps.specs.Expo.{power_terms}
 use Rattle.frac128.specs.FracMeaning.{fraction_of}
 use Rattle.poly.specs.View.{terms_of}
 use Rattle.expo.specs.Numbers.{number_at}

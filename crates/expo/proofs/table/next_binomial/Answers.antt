@@ -1,6 +1,6 @@
 use Rattle.std.proofs.Common.{◌-◌, refl, arith, subst, ◌∙◌}
-use Rattle.numbers.specs.Size.{IsPast}
-use Rattle.numbers.specs.Fraction.{fraction_size}
+use Rattle.algebra.specs.Size.{IsPast}
+use Rattle.algebra.specs.Fraction.{fraction_size}
 use Rattle.expo.proofs.Binomials.{some_natural, next_is, small_quotient}
 use Rattle.expo.proofs.Outcomes.{ok_weaker}
 use Rattle.expo.proofs.table.next_binomial.Goals as goal

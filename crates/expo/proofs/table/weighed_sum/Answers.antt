@@ -1,5 +1,5 @@
 use Rattle.std.proofs.Common.{refl, ap, ◌∙◌, arith}
-use Rattle.numbers.specs.Fraction.{ℚ}
+use Rattle.algebra.specs.Fraction.{ℚ}
 use Rattle.expo.specs.Numbers.{number_at}
 use Rattle.expo.specs.Rows.{coefficient}
 use Rattle.expo.proofs.Tables.{summed_first, summed_next, number_here, past_product, past_total}

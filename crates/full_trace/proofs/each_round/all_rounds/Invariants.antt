@@ -1,12 +1,12 @@
 use Rattle.std.proofs.Common.{◌≡◌, ◌<◌, List, [], map, length}
 use Rattle.std.specs.List.{All}
-use Rattle.numbers.specs.Fraction.{Fraction}
+use Rattle.algebra.specs.Fraction.{Fraction}
 use Rattle.polynomials.specs.Terms.{Terms}
 use Rattle.poly.specs.Seen.{terms_each}
-use Rattle.full_types.specs.View.{round_in}
-use Rattle.traces.specs.Coming.{Comes}
-use Rattle.traces.specs.Rounds.{behind}
-use Rattle.traces.specs.Trace.{after_round}
+use Rattle.task_lists.specs.View.{round_in}
+use Rattle.completeness.specs.Coming.{Comes}
+use Rattle.completeness.specs.Rounds.{behind}
+use Rattle.completeness.specs.Trace.{after_round}
 use Rattle.full_trace.specs.Tasks.{Along, Knows, after_rows, fronts_of, AreBranchesOver}
 use Rattle.full_trace.proofs.each_round.all_rounds.Given as goal
 

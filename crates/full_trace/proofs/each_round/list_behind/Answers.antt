@@ -1,6 +1,6 @@
 use Rattle.std.proofs.Common.{sym, ap, ◌∙◌, arith, ◌≡◌, ◌<◌, ◌-◌, length, get_or}
 use Rattle.std.specs.Global.{Vec}
-use Rattle.full_types.specs.declared.parts.FullBranch.{FullBranch}
+use Rattle.task_lists.specs.declared.parts.FullBranch.{FullBranch}
 use Rattle.full_trace.proofs.RoundsMade.{rows_none, rows_last}
 use Rattle.full_trace.proofs.each_round.list_behind.Goals as goal
 

@@ -3,15 +3,15 @@ use Rattle.std.specs.List.{All}
 use Rattle.std.proofs.lemmas.List.{map-id, map-append}
 use Rattle.std.proofs.lemmas.Iterator.Adapters.{YieldsList-from_vec}
 use Rattle.std.proofs.lemmas.Iterator.Consumers.{YieldsList-end}
-use Rattle.rings.proofs.Lists.{have_more}
+use Rattle.algebra.proofs.Lists.{have_more}
 use Rattle.completeness.specs.Full.{WrittenForm}
 use Rattle.coprime_base.specs.Sizes.{sizes}
-use Rattle.full_types.specs.View.{form_in}
-use Rattle.full_types.specs.declared.parts.FullForm.{FullForm}
+use Rattle.task_lists.specs.View.{form_in}
+use Rattle.task_lists.specs.declared.parts.FullForm.{FullForm}
 use Rattle.invariant_fix.specs.Setting.{FitsBranch}
 use Rattle.invariant_fix.specs.declared.branches.Branch.{Branch}
 use Rattle.full_trace.specs.Tasks.{written_of}
-use Rattle.full_types.specs.Images.{IsFormOver}
+use Rattle.task_lists.specs.Images.{IsFormOver}
 use Rattle.full_trace.proofs.FormsMade.{form_fits, but_last, last_of}
 use Rattle.full_trace.proofs.forms.forms_in.Goals as goal
 

@@ -1,9 +1,9 @@
 use Rattle.std.proofs.Common.{◌≡◌, ℕ, map}
 use Rattle.std.specs.List.{All}
-use Rattle.full_types.specs.View.{form_in}
+use Rattle.task_lists.specs.View.{form_in}
 use Rattle.invariant_fix.specs.Setting.{FitsBranch}
 use Rattle.full_trace.specs.Tasks.{written_of}
-use Rattle.full_types.specs.Images.{IsFormOver}
+use Rattle.task_lists.specs.Images.{IsFormOver}
 use Rattle.full_trace.proofs.forms.forms_in.Given as goal
 
 abbrev pub invariant-loop-branch : goal.invariant-loop-branch

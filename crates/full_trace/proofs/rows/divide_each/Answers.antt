@@ -2,9 +2,9 @@ use Rattle.std.proofs.Common.{[], refl, sym, subst, ◌∙◌}
 use Rattle.std.proofs.lemmas.List.{take_all}
 use Rattle.std.proofs.lemmas.List.Elements.{All-nil, All-same}
 use Rattle.poly.specs.Seen.{terms_each}
-use Rattle.rings.proofs.Lists.{have_more}
-use Rattle.traces.specs.Rows.{AreDivided, IsRefusedIn}
-use Rattle.full_types.specs.Rows.{rows_of}
+use Rattle.algebra.proofs.Lists.{have_more}
+use Rattle.completeness.specs.Rows.{AreDivided, IsRefusedIn}
+use Rattle.task_lists.specs.Rows.{rows_of}
 use Rattle.complete.specs.Completing.{AreLike}
 use Rattle.full_trace.proofs.RowsMade.{passed, row_made, row_like, row_refused, row_lost}
 use Rattle.full_trace.proofs.rows.divide_each.Goals as goal

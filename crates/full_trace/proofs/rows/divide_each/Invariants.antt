@@ -1,7 +1,7 @@
 use Rattle.std.proofs.Common.{◌≡◌, take}
 use Rattle.poly.specs.Seen.{terms_each}
-use Rattle.traces.specs.Rows.{AreDivided}
-use Rattle.full_types.specs.Rows.{rows_of}
+use Rattle.completeness.specs.Rows.{AreDivided}
+use Rattle.task_lists.specs.Rows.{rows_of}
 use Rattle.full_trace.specs.Rows.{AreRowsLike}
 use Rattle.full_trace.proofs.rows.divide_each.Given as goal
 

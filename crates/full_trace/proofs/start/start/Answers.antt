@@ -1,6 +1,6 @@
 use Rattle.std.proofs.Common.{refl, sym, subst}
 use Rattle.journal.specs.declared.Task.TheVariants as task
-use Rattle.full_types.specs.View.{start_in}
+use Rattle.task_lists.specs.View.{start_in}
 use Rattle.full_trace.specs.Tasks.{Stops}
 use Rattle.full_trace.proofs.TasksMade.{start_next, start_known, start_stops}
 use Rattle.full_trace.proofs.start.start.Goals as goal

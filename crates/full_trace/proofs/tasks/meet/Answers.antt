@@ -1,6 +1,6 @@
 use Rattle.std.proofs.Common.{refl, sym, subst}
 use Rattle.journal.specs.declared.Task.TheVariants as task
-use Rattle.full_types.specs.View.{stage_in}
+use Rattle.task_lists.specs.View.{stage_in}
 use Rattle.full_trace.specs.Tasks.{Stops}
 use Rattle.full_trace.proofs.TasksMade.{meet_next, meet_known, meet_units, meet_stops}
 use Rattle.full_trace.proofs.tasks.meet.Goals as goal

@@ -1,11 +1,11 @@
 use Rattle.std.proofs.Common.{◌≡◌, ◌+◌, ◌++◌, [], map, sym, ap, ◌∙◌}
 use Rattle.std.proofs.lemmas.List.{append-nil, take_all}
 use Rattle.std.proofs.lemmas.List.Elements.{All-nil, All-same}
-use Rattle.numbers.specs.Scalars.{field}
+use Rattle.algebra.specs.Scalars.{field}
 use Rattle.machines.specs.Elimination.{with_first}
 use Rattle.poly.specs.Seen.{terms_in, terms_each}
-use Rattle.rings.proofs.Growing.{grown_through}
-use Rattle.rings.proofs.Lists.{have_more}
+use Rattle.algebra.proofs.Growing.{grown_through}
+use Rattle.algebra.proofs.Lists.{have_more}
 use Rattle.ideal_ops.specs.Blending.{times_rest}
 use Rattle.ideal_ops.proofs.Lists.{arity_here}
 use Rattle.ideal_ops.proofs.blending.blend.Goals as goal

@@ -1,10 +1,10 @@
 use Rattle.std.proofs.Common.{◌≡◌, ◌+◌, map, length, refl, sym, ap, subst, ◌∙◌, arith}
 use Rattle.std.proofs.lemmas.List.{length-map}
 use Rattle.std.specs.Prelude.{⊤}
-use Rattle.rings.specs.FieldArithmetic.{field_of}
-use Rattle.rings.specs.Ring.{Field}
-use Rattle.numbers.specs.Scalars.{field}
-use Rattle.numbers.proofs.ScalarFields.{is_field}
+use Rattle.algebra.specs.FieldArithmetic.{field_of}
+use Rattle.algebra.specs.Ring.{Field}
+use Rattle.algebra.specs.Scalars.{field}
+use Rattle.algebra.proofs.ScalarFields.{is_field}
 use Rattle.polynomials.specs.Order.{grevlex, blocks}
 use Rattle.polynomials.specs.Polynomial.{IsPolynomial}
 use Rattle.polynomials.proofs.Orders.{grevlex_order}

@@ -3,10 +3,10 @@ use Rattle.std.proofs.lemmas.List.{map-append}
 use Rattle.std.proofs.lemmas.List.Elements.{All-nil, All-same}
 use Rattle.machines.specs.Elimination.{all_free}
 use Rattle.poly.specs.Seen.{terms_in, terms_each}
-use Rattle.poly.specs.Front.{IsFreeOfFirst}
-use Rattle.rings.proofs.Lists.{take_next, have_more}
+use Rattle.machines.specs.Front.{IsFreeOfFirst}
+use Rattle.algebra.proofs.Lists.{take_next, have_more}
 use Rattle.ideal_ops.specs.Eliminating.{AreKept}
-use Rattle.list_checks.proofs.Keeping.{kept_none, kept_step_in, kept_step_out, free_all, not_free, rest_made, rest_some}
+use Rattle.machines.proofs.Keeping.{kept_none, kept_step_in, kept_step_out, free_all, not_free, rest_made, rest_some}
 use Rattle.ideal_ops.proofs.Lists.{block_here, block_polynomial}
 use Rattle.ideal_ops.proofs.eliminating.without_first.Goals as goal
 use Rattle.ideal_ops.proofs.eliminating.without_first.Goals.{then-is_free_of_first+in_ok-without_first+in_ok-push, else-is_free_of_first}

@@ -1,7 +1,7 @@
 use Rattle.std.proofs.Common.{◌≢◌, [], get_or, sym, ◌∙◌}
-use Rattle.rings.specs.FieldArithmetic.{field_of}
-use Rattle.numbers.specs.Scalars.{field}
-use Rattle.numbers.proofs.ScalarFields.{is_field}
+use Rattle.algebra.specs.FieldArithmetic.{field_of}
+use Rattle.algebra.specs.Scalars.{field}
+use Rattle.algebra.proofs.ScalarFields.{is_field}
 use Rattle.polynomials.specs.Polynomial.{IsPolynomial}
 use Rattle.poly.specs.Seen.{terms_in, terms_each}
 use Rattle.divide.proofs.Ended.{places_of}

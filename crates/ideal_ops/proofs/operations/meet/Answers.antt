@@ -1,8 +1,8 @@
 use Rattle.std.proofs.Common.{◌+◌, ◌++◌, map, length, refl, sym, ap, subst, ◌∙◌, arith}
 use Rattle.std.proofs.lemmas.List.{length-map, length-append}
-use Rattle.rings.specs.FieldArithmetic.{field_of}
-use Rattle.numbers.specs.Scalars.{field}
-use Rattle.numbers.proofs.ScalarFields.{is_field}
+use Rattle.algebra.specs.FieldArithmetic.{field_of}
+use Rattle.algebra.specs.Scalars.{field}
+use Rattle.algebra.proofs.ScalarFields.{is_field}
 use Rattle.polynomials.specs.Order.{grevlex, blocks}
 use Rattle.polynomials.proofs.Orders.{grevlex_order}
 use Rattle.ideals.specs.Members.{IsMember}

@@ -1,8 +1,8 @@
 use Rattle.std.proofs.Common.{◌≡◌, ◌++◌, sym, ap, ◌∙◌}
 use Rattle.std.proofs.lemmas.List.{append-nil, take_all}
 use Rattle.poly.specs.Seen.{terms_in, terms_each}
-use Rattle.rings.proofs.Growing.{grown_behind}
-use Rattle.rings.proofs.Lists.{have_more}
+use Rattle.algebra.proofs.Growing.{grown_behind}
+use Rattle.algebra.proofs.Lists.{have_more}
 use Rattle.ideal_ops.proofs.Lists.{arity_here}
 use Rattle.ideal_ops.proofs.operations.push_copies.Goals as goal
 

@@ -1,4 +1,4 @@
-use Rattle.counter_command.proofs.Shown.{run_refutes, same_question, holds_of_words}
+use Rattle.replay_commands.proofs.CounterShown.{run_refutes, same_question, holds_of_words}
 use Rattle.invar_app.proofs.laws.counter_runs_are_of_equations_that_do_not_hold.Goals as goal
 
 pub returns : goal.returns

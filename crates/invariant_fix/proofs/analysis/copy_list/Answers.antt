@@ -1,7 +1,7 @@
 use Rattle.std.proofs.Common.{map, ap}
 use Rattle.poly.specs.Seen.{terms_in, terms_each}
-use Rattle.expressions.specs.FracPoly.{FracPoly}
-use Rattle.rings.proofs.Growing.{grown, all_grown}
+use Rattle.loop_model.specs.FracPoly.{FracPoly}
+use Rattle.algebra.proofs.Growing.{grown, all_grown}
 use Rattle.invariant_fix.proofs.analysis.copy_list.Goals as goal
 
 pub loop-poly-init : goal.loop-poly-init

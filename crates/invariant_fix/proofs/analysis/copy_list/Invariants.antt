@@ -1,6 +1,6 @@
 use Rattle.std.proofs.Common.{◌≡◌, map, take}
 use Rattle.poly.specs.Seen.{terms_each}
-use Rattle.expressions.specs.FracPoly.{FracPoly}
+use Rattle.loop_model.specs.FracPoly.{FracPoly}
 use Rattle.invariant_fix.proofs.analysis.copy_list.Given as goal
 
 abbrev pub invariant-loop-poly : goal.invariant-loop-poly

@@ -1,12 +1,12 @@
 use Rattle.std.proofs.Common.{map, length, sym, ap, ap₂, ◌∙◌}
 use Rattle.polynomials.specs.Order.{grevlex}
 use Rattle.poly.specs.Seen.{terms_in, terms_each}
-use Rattle.turns.specs.Turns.{width}
+use Rattle.solvable_maps.specs.Turns.{width}
 use Rattle.expo.specs.View.{base_of}
 use Rattle.expo.specs.declared.exponential.Expo.{Expo}
-use Rattle.expressions.specs.FracPoly.{FracPoly}
+use Rattle.loop_model.specs.FracPoly.{FracPoly}
 use Rattle.rounds.specs.Form.{backward}
-use Rattle.rings.proofs.Growing.{grown, all_grown}
+use Rattle.algebra.proofs.Growing.{grown, all_grown}
 use Rattle.invariant_fix.proofs.branches.backward.Goals as goal
 
 pub loop-poly-init : goal.loop-poly-init

@@ -3,7 +3,7 @@ use Rattle.polynomials.specs.Order.{grevlex}
 use Rattle.poly.specs.Seen.{terms_in, terms_each}
 use Rattle.expo.specs.View.{base_of}
 use Rattle.expo.specs.declared.exponential.Expo.{Expo}
-use Rattle.expressions.specs.FracPoly.{FracPoly}
+use Rattle.loop_model.specs.FracPoly.{FracPoly}
 use Rattle.rounds.specs.Form.{backward}
 use Rattle.invariant_fix.proofs.branches.backward.Given as goal
 

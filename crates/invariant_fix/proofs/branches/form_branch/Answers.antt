@@ -1,10 +1,10 @@
 use Rattle.std.proofs.Common.{◌≤◌, length, map, refl, sym, ap, subst, ◌∙◌}
 use Rattle.std.proofs.lemmas.List.{length-map}
-use Rattle.rings.specs.Each.{Each}
+use Rattle.algebra.specs.Each.{Each}
 use Rattle.polynomials.specs.Order.{grevlex}
 use Rattle.poly.specs.Seen.{terms_in}
 use Rattle.coprime_base.specs.Sizes.{sizes}
-use Rattle.turns.specs.Turns.{width, IsNormalForm}
+use Rattle.solvable_maps.specs.Turns.{width, IsNormalForm}
 use Rattle.closed_forms.specs.Values.{bodies_of, AreOver}
 use Rattle.closed_forms.specs.View.{ArePassing}
 use Rattle.expo.specs.View.{base_of}

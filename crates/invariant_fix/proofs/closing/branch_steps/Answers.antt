@@ -6,9 +6,9 @@ use Rattle.rounds.specs.Analysis.{closing_from}
 use Rattle.invariant_fix.specs.Coming.{Comes}
 use Rattle.invariant_fix.specs.Setting.{setting_of}
 use Rattle.std.specs.Global.{Vec}
-use Rattle.expressions.specs.FracPoly.{FracPoly}
+use Rattle.loop_model.specs.FracPoly.{FracPoly}
 use Rattle.ideal_ops.specs.Calls.{AreOver}
-use Rattle.rings.proofs.Lists.{have_more}
+use Rattle.algebra.proofs.Lists.{have_more}
 use Rattle.invariant_fix.proofs.Passing.{steps_more, test_now}
 use Rattle.invariant_fix.proofs.closing.branch_steps.Goals as goal
 

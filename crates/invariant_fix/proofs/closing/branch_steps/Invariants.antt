@@ -1,6 +1,6 @@
 use Rattle.std.proofs.Common.{◌≡◌, All}
 use Rattle.std.specs.Global.{Vec}
-use Rattle.expressions.specs.FracPoly.{FracPoly}
+use Rattle.loop_model.specs.FracPoly.{FracPoly}
 use Rattle.ideal_ops.specs.Calls.{AreOver}
 use Rattle.poly.specs.Seen.{terms_each}
 use Rattle.invariant_fix.specs.Setting.{setting_of}

@@ -2,8 +2,8 @@ use Rattle.std.proofs.Common.{◌≡◌, ◌+◌, [], ◌∷◌, ◌++◌, suc, 
 use Rattle.std.proofs.lemmas.List.{map-append}
 use Rattle.poly.specs.Seen.{terms_in, terms_each}
 use Rattle.invariant_fix.specs.Blocked.{Blocked}
-use Rattle.starting_lists.specs.Blocks.{relation_of, HasFront}
-use Rattle.rings.proofs.Lists.{have_more}
+use Rattle.task_lists.specs.Blocks.{relation_of, HasFront}
+use Rattle.algebra.proofs.Lists.{have_more}
 use Rattle.invariant_fix.proofs.Pairs.{pairs_none, pairs_more, pairs_all}
 use Rattle.invariant_fix.proofs.orbits.push_relations.Goals as goal
 

@@ -1,10 +1,10 @@
 use Rattle.std.proofs.Common.{◌≡◌, ◌+◌, [], ◌∷◌, ◌++◌, map}
-use Rattle.numbers.specs.Fraction.{rationals}
+use Rattle.algebra.specs.Fraction.{rationals}
 use Rattle.machines.specs.Collect.{collect}
 use Rattle.poly.specs.Seen.{terms_each}
 use Rattle.rounds.specs.Form.{front, orbit_order, relations_to}
 use Rattle.invariant_fix.specs.Orbits.{HaveFront}
-use Rattle.starting_lists.specs.Blocks.{relation_of}
+use Rattle.task_lists.specs.Blocks.{relation_of}
 use Rattle.invariant_fix.proofs.orbits.push_relations.Given as goal
 
 abbrev pub invariant-loop-number : goal.invariant-loop-number

@@ -4,13 +4,13 @@ use Rattle.std.proofs.lemmas.Result.{err_from_is_err_and}
 use Rattle.std.proofs.lemmas.Simd.{map-map}
 use Rattle.poly.specs.Seen.{terms_in, terms_each}
 use Rattle.rounds.specs.Form.{unwound_by}
-use Rattle.expressions.specs.FracPoly.{FracPoly}
+use Rattle.loop_model.specs.FracPoly.{FracPoly}
 use Rattle.invariant_fix.specs.Blocked.{Blocked}
 use Rattle.invariant_fix.specs.Orbits.{numbers_of, vars_of, unwound_element}
-use Rattle.starting_lists.specs.Blocks.{HasFront}
+use Rattle.task_lists.specs.Blocks.{HasFront}
 use Rattle.invariant_fix.specs.Setting.{form_of}
-use Rattle.rings.proofs.Lists.{have_more}
-use Rattle.rings.proofs.Growing.{grown_behind, any_mapped}
+use Rattle.algebra.proofs.Lists.{have_more}
+use Rattle.algebra.proofs.Growing.{grown_behind, any_mapped}
 use Rattle.invariant_fix.proofs.orbits.push_unwound.Goals as goal
 
 pub loop-element-init : goal.loop-element-init

@@ -1,6 +1,6 @@
 use Rattle.std.proofs.Common.{◌≡◌, ◌++◌, map, take}
 use Rattle.poly.specs.Seen.{terms_each}
-use Rattle.expressions.specs.FracPoly.{FracPoly}
+use Rattle.loop_model.specs.FracPoly.{FracPoly}
 use Rattle.invariant_fix.specs.Orbits.{numbers_of, vars_of, unwound_element, HaveFront}
 use Rattle.invariant_fix.proofs.orbits.push_unwound.Given as goal
 

@@ -1,7 +1,7 @@
 use Rattle.std.proofs.Common.{◌+◌, sym, subst, ◌∙◌}
 use Rattle.std.proofs.lemmas.Result.{IfOk-weaker}
 use Rattle.ideal_ops.specs.Eliminating.{HaveBlock}
-use Rattle.graph_lists.specs.Late.{front_in}
+use Rattle.task_lists.specs.Late.{front_in}
 use Rattle.invariant_fix.specs.Orbits.{vars_of}
 use Rattle.invariant_fix.proofs.LateForms.{whole_front, whole_list, whole_past, vars_are, late_front, late_list, late_past}
 use Rattle.invariant_fix.proofs.orbits.starting_list.Goals as goal

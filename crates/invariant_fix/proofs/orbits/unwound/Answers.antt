@@ -6,7 +6,7 @@ use Rattle.invariant_fix.specs.Orbits.{width_of}
 use Rattle.invariant_fix.specs.Setting.{form_of}
 use Rattle.invariant_fix.proofs.Unwinding.{moved_same, moved_arity, back_arities, numbers_are}
 use Rattle.invariant_fix.proofs.Blocks.{graded_polynomial}
-use Rattle.starting_lists.proofs.TwoTerms.{block_polynomial}
+use Rattle.task_lists.proofs.TwoTerms.{block_polynomial}
 use Rattle.rounds.proofs.Unwound.{unwound_is, unwound_past}
 use Rattle.invariant_fix.proofs.orbits.unwound.Goals as goal
 

@@ -7,9 +7,9 @@ use Rattle.divide.specs.Outcomes.{outcome_of}
 use Rattle.divide.proofs.Refused.{unmade}
 use Rattle.ideal_ops.specs.Calls.{elimination_of, IsListOf}
 use Rattle.ideal_ops.specs.Eliminating.{HaveBlock}
-use Rattle.expressions.specs.FracPoly.{FracPoly}
-use Rattle.graph_lists.specs.Late as late
-use Rattle.graph_lists.specs.Late.{IsPastTurnOf, copies_in}
+use Rattle.loop_model.specs.FracPoly.{FracPoly}
+use Rattle.task_lists.specs.Late as late
+use Rattle.task_lists.specs.Late.{IsPastTurnOf, copies_in}
 use Rattle.invariant_fix.specs.Orbits.{vars_of, turning, turn_of, turn_front_of, turn_list_of}
 use Rattle.invariant_fix.specs.Setting.{form_of}
 use Rattle.invariant_fix.proofs.LateForms.{vars_are, turn_front_is, turn_list_is, turn_past_is}

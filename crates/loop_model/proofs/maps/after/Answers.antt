@@ -1,9 +1,9 @@
 use Rattle.std.proofs.Common.{◌≡◌, ◌⊎◌, ◌<◌, length, map, All, sym, ap, ◌∙◌, inl, inr, arith, subst}
 use Rattle.poly.specs.Seen.{terms_each, arity_of}
-use Rattle.expressions.specs.View.{expr_of}
+use Rattle.loop_model.specs.ExpressionView.{expr_of}
 use Rattle.poly.specs.Standing.{}
-use Rattle.expressions.specs.Operations.{operations_all}
-use Rattle.expressions.specs.Stops.{Stops}
+use Rattle.loop_model.specs.Operations.{operations_all}
+use Rattle.loop_model.specs.Stops.{Stops}
 use Rattle.loop_model.proofs.ValueLaws.{Valued, handed_on_all}
 use Rattle.loop_model.proofs.StoreLaws.{storing_begins, storing_goes, storing_within, storing_ends}
 use Rattle.loop_model.proofs.AfterLaws.{uses_of, after_stands}

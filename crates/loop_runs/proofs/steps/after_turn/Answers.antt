@@ -1,7 +1,7 @@
 use Rattle.std.proofs.Common.{◌≡◌, ◌+◌, ◌++◌, ◌∙◌, sym, ap, subst, map, take, length, replicate, All, arith}
 use Rattle.std.proofs.lemmas.Result.{err_from_is_err_and}
 use Rattle.std.proofs.lemmas.List.{length-append, length-replicate, length-map, length-take-le}
-use Rattle.numbers.specs.Fraction.{ℚ}
+use Rattle.algebra.specs.Fraction.{ℚ}
 use Rattle.frac128.specs.FracMeaning.{fraction_of}
 use Rattle.loops.specs.WellFormed.{IsStatement}
 use Rattle.loop_model.specs.Parts.{statement_of}

@@ -1,7 +1,7 @@
 use Rattle.std.proofs.Common.{map, arith, ap, ⊎_elim, inl, inr}
 use Rattle.std.proofs.lemmas.List.{map-append, length-append}
 use Rattle.std.proofs.lemmas.Slice.Zip.{Zip-more, either_empty_from_Zip}
-use Rattle.expressions.specs.View.{expr_of}
+use Rattle.loop_model.specs.ExpressionView.{expr_of}
 use Rattle.loop_runs.specs.Seen.{numbers_of}
 use Rattle.loop_runs.proofs.steps.values_at.Goals as goal
 use Rattle.loop_runs.proofs.Turns.{values_more, values_wide, values_end}

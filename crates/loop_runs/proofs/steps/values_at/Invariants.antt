@@ -1,7 +1,7 @@
 use Rattle.std.proofs.Common.{◌≡◌, ◌+◌, length, map}
 use Rattle.std.specs.Iterator.Adapters.{zip_first, zip_second}
 use Rattle.std.specs.Slice.Iter.{iter_rest}
-use Rattle.expressions.specs.View.{expr_of}
+use Rattle.loop_model.specs.ExpressionView.{expr_of}
 use Rattle.loop_runs.specs.Replay.{values}
 use Rattle.loop_runs.specs.Seen.{numbers_of}
 use Rattle.loop_runs.proofs.Turns.{ValuesLeft}

@@ -1,7 +1,7 @@
 use Rattle.std.proofs.Common.{pos, sym, ap, ◌∙◌, Some}
-use Rattle.numbers.proofs.Wholes.{whole_injective}
+use Rattle.algebra.proofs.Wholes.{whole_injective}
 use Rattle.loops.specs.WellFormed.{Uses}
-use Rattle.expressions.specs.View.{expr_of}
+use Rattle.loop_model.specs.ExpressionView.{expr_of}
 use Rattle.loop_runs.specs.Seen.{numbers_of}
 use Rattle.loop_runs.proofs.values.+value_at.Goals as goal
 use Rattle.loop_runs.proofs.CheckedValues.{value-variable, value-add, value-sub, value-mul, value-divide}

@@ -1,5 +1,5 @@
 use Rattle.std.proofs.Common.{◌≡◌, ℕ, suc, true, List, ap, sym, subst, [], ◌++◌, length, ◌∙◌, map, None, Ok}
-use Rattle.expressions.specs.Words.{branch_word}
+use Rattle.loop_model.specs.Words.{branch_word}
 use Rattle.loops.specs.WellFormed.{local_places}
 use Rattle.loop_text.specs.declared.names.LoopNames.{LoopNames}
 use Rattle.loop_text.proofs.branches.read_branch.Goals.{In_ok-unset}

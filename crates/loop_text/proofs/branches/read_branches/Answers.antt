@@ -1,7 +1,7 @@
 use Rattle.std.proofs.Common.{◌≡◌, false, true, refl, sym, ◌∙◌, arith, Ok}
-use Rattle.expressions.specs.Words.{branch_word}
-use Rattle.expr_text.specs.CursorView.{behind}
-use Rattle.expr_text.proofs.Paths.{reading_more, reading_none, reading_sequence}
+use Rattle.loop_model.specs.Words.{branch_word}
+use Rattle.poly_text.specs.CursorView.{behind}
+use Rattle.poly_text.proofs.Paths.{reading_more, reading_none, reading_sequence}
 use Rattle.loop_text.proofs.LoopChecked.{loops_checked}
 use Rattle.loop_text.proofs.Answering.{err_from_is_err_and, many, some, rest, seen_lexeme, Cursor, here, on, over, ends, start, stops, keyword_kind, no_keyword_kind, LoopState, branch, loop_language, reading, in_branches, branches_of, is_keyword_of}
 use Rattle.loop_text.proofs.branches.read_branches.Goals as goal

@@ -1,7 +1,7 @@
 use Rattle.std.proofs.Common.{◌≡◌, ◌≢◌, ℕ, sym, ◌∙◌, arith}
-use Rattle.expressions.specs.Words.{when_word}
-use Rattle.expr_text.specs.declared.lexemes.Lexeme as code
-use Rattle.expr_text.specs.declared.lexemes.Lexeme.TheVariants as code_lexeme
+use Rattle.loop_model.specs.Words.{when_word}
+use Rattle.poly_text.specs.declared.lexemes.Lexeme as code
+use Rattle.poly_text.specs.declared.lexemes.Lexeme.TheVariants as code_lexeme
 use Rattle.loop_text.proofs.GuardReads.{guard_begins, guard_more, guard_goes_on, guard_barred, guard_ends}
 use Rattle.loop_text.proofs.Answering.{start, over, ends, sign_no_end, keyword_no_end, loop_language}
 use Rattle.loop_text.proofs.branches.read_guard.Goals as goal

@@ -1,7 +1,7 @@
 use Rattle.std.proofs.Common.{refl, sym, ◌∙◌, None}
-use Rattle.expressions.specs.Words.{init_word}
-use Rattle.expr_text.specs.CursorView.{behind}
-use Rattle.expr_text.proofs.Paths.{reading_change}
+use Rattle.loop_model.specs.Words.{init_word}
+use Rattle.poly_text.specs.CursorView.{behind}
+use Rattle.poly_text.proofs.Paths.{reading_change}
 use Rattle.loop_text.specs.Loops.{start}
 use Rattle.loop_text.proofs.Answering.{sequence, change, optional, rest, seen_lexeme, continued, then_on, here, at_left, at_right, comma_list, keyword_read, keyword_kind, no_keyword_kind, keep, keyword, init, init_end, loop_language, with_names}
 use Rattle.loop_text.proofs.init.read_init.Goals as goal

@@ -1,5 +1,5 @@
 use Rattle.std.proofs.Common.{◌≡◌, ℕ, true, false, refl, sym, ◌∙◌, map, Option, Some, None}
-use Rattle.expressions.specs.Names.{place_of}
+use Rattle.loop_model.specs.Names.{place_of}
 use Rattle.loop_text.proofs.WordReads.{no_name_here, word_barred, left_long, left_short, left_found, left_fails, left_reads}
 use Rattle.loop_text.proofs.Answering.{limit, unknown, twice, init_uses, equation_of, has_used, used_in}
 use Rattle.loop_text.proofs.names.read_left.Goals as goal

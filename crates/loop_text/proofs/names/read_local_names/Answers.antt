@@ -1,7 +1,7 @@
 use Rattle.std.proofs.Common.{◌≡◌, refl, sym, ap, subst, [], ◌++◌, length, ◌∙◌, List, ℕ, None, arith}
 use Rattle.std.proofs.lemmas.List.{length-append}
 use Rattle.loop_text.specs.Loops.{local_fault, declare_local, local_name}
-use Rattle.expressions.specs.Names.{place_of}
+use Rattle.loop_model.specs.Names.{place_of}
 use Rattle.loop_text.specs.States.{IsNew}
 use Rattle.loop_text.proofs.WordReads.{none_behind}
 use Rattle.loop_text.proofs.Answering.{GoesOn, Rule, sequence, comma_list, sign, err_from_is_err_and, rest, start, ends, stops, stops_last, each, next_one, last_one, keep, loop_language, with_names}

@@ -1,8 +1,8 @@
 use Rattle.std.proofs.Common.{◌≡◌, sym, ap, ◌∙◌, List, ℕ, [], length, true, false, Ok, arith}
-use Rattle.expr_text.specs.CursorView.{behind}
-use Rattle.expr_text.specs.Reasons.{syntax, unless}
-use Rattle.expr_text.specs.Kinds.{word_in}
-use Rattle.expr_text.proofs.Paths.{reading_change}
+use Rattle.poly_text.specs.CursorView.{behind}
+use Rattle.poly_text.specs.Reasons.{syntax, unless}
+use Rattle.poly_text.specs.Kinds.{word_in}
+use Rattle.poly_text.proofs.Paths.{reading_change}
 use Rattle.loop_text.specs.Loops.{locals, locals_fault, locals_word, local_name, word_locals, LoopContext}
 use Rattle.loop_text.proofs.WordReads.{named_here, no_name_here, word_here, word_goes, word_fails}
 use Rattle.loop_text.proofs.Answering.{sequence, change, optional, rest, seen_lexeme, continued, then_on, here, at_left, at_right, no_first, comma_list, sign, Rule, loop_language, with_names}

@@ -1,6 +1,6 @@
 use Rattle.std.proofs.Common.{◌≡◌, refl, sym, ap, subst, [], ◌++◌, length, ◌∙◌, List, ℕ, None, arith, append-nil}
-use Rattle.expressions.specs.Names.{place_of}
-use Rattle.expressions.specs.Words.{vars_word}
+use Rattle.loop_model.specs.Names.{place_of}
+use Rattle.loop_model.specs.Words.{vars_word}
 use Rattle.loop_text.specs.Loops.{declared_fault, declare}
 use Rattle.loop_text.specs.States.{IsNew}
 use Rattle.loop_text.proofs.Answering.{err_from_is_err_and, sequence, rest, no_first, start, on, ends, stops, stops_last, comma_list, each, next_one, last_one, keyword_read, keyword_barred, declared_name, nothing, keep, keyword, sign, loop_language, with_names}

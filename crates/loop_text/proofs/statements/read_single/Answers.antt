@@ -1,6 +1,6 @@
 use Rattle.std.proofs.Common.{◌≡◌, ℕ, suc, List, ap, sym, ◌∷◌, [], ◌++◌, ◌∙◌, map, Ok, Option, None, unwrap_or}
-use Rattle.expressions.specs.Names.{place_of}
-use Rattle.expr_text.specs.Kinds.{word_in}
+use Rattle.loop_model.specs.Names.{place_of}
+use Rattle.poly_text.specs.Kinds.{word_in}
 use Rattle.loop_text.proofs.WordReads.{named_here, no_name_here, word_barred, word_fails}
 use Rattle.loop_text.proofs.Answering.{map_push, err_from_is_err_and, expr_of, sequence, rest, seen_lexeme, Reason, or_else, limit, no_first, GoesOn, start, on, ends, stops_going, stops_last_going, statement_of, Begun, LoopContext, keep, statement_fault, name_fault, target_fault, begin_statement, aim, end_statement, with_statement, only_target, right_side, statement_end, sign, single, loop_language, Before, between, behind, in_statement, IsLeft, left_fault, statement_limit}
 use Rattle.loop_text.proofs.statements.read_single.Goals as goal

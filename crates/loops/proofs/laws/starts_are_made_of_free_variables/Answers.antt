@@ -1,4 +1,4 @@
-use Rattle.numbers.specs.Fraction.{ℚ}
+use Rattle.algebra.specs.Fraction.{ℚ}
 use Rattle.loops.proofs.Starts.{start_from_start, start_by_free}
 use Rattle.loops.proofs.Invariants.{start_from_is}
 use Rattle.loops.proofs.laws.starts_are_made_of_free_variables.Goals as goal

@@ -3,7 +3,7 @@ use Rattle.std.proofs.lemmas.List.{take_all, map-append}
 use Rattle.std.proofs.lemmas.Result.{err_from_is_err_and}
 use Rattle.polynomials.specs.Polynomial.{IsPolynomial}
 use Rattle.polynomials.specs.Terms.{Terms, Same, shift}
-use Rattle.rings.proofs.Lists.{at_index, take_next}
+use Rattle.algebra.proofs.Lists.{at_index, take_next}
 use Rattle.poly.specs.Seen.{terms_in}
 use Rattle.poly.specs.View.{term_of, terms_of}
 use Rattle.poly.proofs.Kept.{polynomial_in, polynomial_tail}

@@ -1,5 +1,5 @@
 use Rattle.std.proofs.Common.{sym, ◌∙◌}
-use Rattle.rings.proofs.Lists.{of_ok}
+use Rattle.algebra.proofs.Lists.{of_ok}
 use Rattle.poly.proofs.Cleared.{undone}
 use Rattle.poly.proofs.Poly.clearing.Goals as goal
 

@@ -1,12 +1,12 @@
 use Rattle.std.proofs.Common.{◌≡◌, length, arith, refl, sym, ap, map, replicate, subst, ◌∙◌}
 use Rattle.std.proofs.lemmas.List.{take_all, length-replicate}
-use Rattle.numbers.specs.Size.{IsPast, quotient_size}
+use Rattle.algebra.specs.Size.{IsPast, quotient_size}
 use Rattle.polynomials.specs.Polynomial.{IsPolynomial}
 use Rattle.polynomials.specs.Weight.{weight}
 use Rattle.poly.specs.View.{term_of, terms_of}
 use Rattle.polynomials.proofs.Arity.{zeros-plus}
 use Rattle.poly.proofs.Multiples.{quotient_number, past_quotient_at}
-use Rattle.rings.proofs.Lists.{at_index, take_next}
+use Rattle.algebra.proofs.Lists.{at_index, take_next}
 use Rattle.poly.proofs.Steps.{arity_at}
 use Rattle.poly.proofs.Shifting.{begin_shifting, step_shifting, scaled_at, takes_as}
 use Rattle.poly.proofs.Poly.divide_by.Goals as goal

@@ -1,9 +1,9 @@
 use Rattle.std.proofs.Common.{◌≤◌, ℕ, refl, sym, subst}
 use Rattle.polynomials.specs.Polynomial.{Arity}
-use Rattle.poly.specs.Front.{IsFreeOfFirst}
+use Rattle.machines.specs.Front.{IsFreeOfFirst}
 use Rattle.poly.specs.View.{term_of, terms_of}
 use Rattle.poly.proofs.Retelling.{free_none, free_step, free_at}
-use Rattle.rings.proofs.Lists.{at_index, take_next}
+use Rattle.algebra.proofs.Lists.{at_index, take_next}
 use Rattle.poly.proofs.Steps.{arity_at}
 use Rattle.poly.proofs.Poly.is_free_of_first.Goals as goal
 

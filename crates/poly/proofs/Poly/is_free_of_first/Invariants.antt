@@ -1,5 +1,5 @@
 use Rattle.std.proofs.Common.{take}
-use Rattle.poly.specs.Front.{IsFreeOfFirst}
+use Rattle.machines.specs.Front.{IsFreeOfFirst}
 use Rattle.poly.specs.View.{terms_of}
 use Rattle.poly.proofs.Poly.is_free_of_first.Given as goal
 

@@ -6,7 +6,7 @@ use Rattle.polynomials.specs.Polynomial.{IsPolynomial}
 use Rattle.polynomials.specs.Terms.{Terms, Same, shift}
 use Rattle.polynomials.specs.Weight.{degrees, FitsMonomial, IsPastSum}
 use Rattle.poly.specs.Multiple.{IsPastMultiple}
-use Rattle.rings.proofs.Lists.{at_index, take_next}
+use Rattle.algebra.proofs.Lists.{at_index, take_next}
 use Rattle.poly.specs.Seen.{terms_in}
 use Rattle.poly.specs.View.{term_of, terms_of}
 use Rattle.poly.proofs.Kept.{polynomial_in}

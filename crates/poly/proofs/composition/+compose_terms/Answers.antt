@@ -3,7 +3,7 @@ use Rattle.std.specs.Result.{IfOk}
 use Rattle.std.proofs.lemmas.Result.{err_from_is_err_and}
 use Rattle.polynomials.specs.Terms.{Terms, Same, compose}
 use Rattle.polynomials.specs.Weight.{IsPastComposition}
-use Rattle.rings.proofs.Lists.{nil_from_length, one_from_length}
+use Rattle.algebra.proofs.Lists.{nil_from_length, one_from_length}
 use Rattle.poly.specs.Seen.{Is, terms_in, terms_each}
 use Rattle.poly.specs.View.{term_of, terms_of}
 use Rattle.poly.proofs.Halves.{parts}

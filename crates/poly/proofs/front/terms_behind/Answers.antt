@@ -3,7 +3,7 @@ use Rattle.std.proofs.lemmas.List.{map-append, take_all, length_push}
 use Rattle.polynomials.specs.Terms.{retold}
 use Rattle.poly.specs.View.{term_of, terms_of}
 use Rattle.poly.proofs.Retelling.{begin_retold, step_retold}
-use Rattle.rings.proofs.Lists.{take_next}
+use Rattle.algebra.proofs.Lists.{take_next}
 use Rattle.poly.proofs.front.terms_behind.Goals as goal
 
 pub loop-term-init : goal.loop-term-init

@@ -2,7 +2,7 @@ use Rattle.std.proofs.Common.{◌≤◌, ◌+◌, ◌^◌, length, map, refl, sy
 use Rattle.std.proofs.lemmas.List.{take_all, length-set, map-set}
 use Rattle.poly.specs.View.{term_of}
 use Rattle.poly.specs.Places.{place_of, IsInside}
-use Rattle.rings.proofs.Lists.{at_index, take_next}
+use Rattle.algebra.proofs.Lists.{at_index, take_next}
 use Rattle.poly.proofs.GridRows.{number_at, inside_own, other_inside, row_place, row_start, row_step, row_end, row_add_past, row_mul_past}
 use Rattle.poly.proofs.grid.add_row.Goals as goal
 

@@ -6,7 +6,7 @@ use Rattle.poly.specs.Places.{IsGridFor}
 use Rattle.poly.specs.Grid.{Holds, Read}
 use Rattle.poly.specs.View.{term_of}
 use Rattle.poly.proofs.IsLaws.{is_as}
-use Rattle.rings.proofs.Lists.{at_index, take_next}
+use Rattle.algebra.proofs.Lists.{at_index, take_next}
 use Rattle.poly.proofs.Halves.{same_trans}
 use Rattle.poly.proofs.GridHolds.{holds-nil, product-none, read-same, arities_read}
 use Rattle.poly.proofs.GridRows.{grid_for_row, past_so_far}

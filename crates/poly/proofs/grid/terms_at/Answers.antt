@@ -2,7 +2,7 @@ use Rattle.std.proofs.Common.{◌+◌, map, take, refl, sym, ap, subst, ◌∙�
 use Rattle.std.proofs.lemmas.List.{map-append}
 use Rattle.poly.specs.Grid.{Read}
 use Rattle.poly.specs.View.{term_of}
-use Rattle.rings.proofs.Lists.{take_next}
+use Rattle.algebra.proofs.Lists.{take_next}
 use Rattle.poly.proofs.GridHolds.{read-nil, read-zero, read-term}
 use Rattle.poly.proofs.GridSteps.{length_before}
 use Rattle.poly.proofs.grid.terms_at.Goals as goal

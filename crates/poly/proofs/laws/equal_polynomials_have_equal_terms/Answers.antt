@@ -1,4 +1,4 @@
-use Rattle.rings.specs.Ring.{ring as ring_of}
+use Rattle.algebra.specs.Ring.{ring as ring_of}
 use Rattle.polynomials.proofs.Canonical.{polynomial_unique}
 use Rattle.poly.proofs.laws.equal_polynomials_have_equal_terms.Goals as goal
 

@@ -1,9 +1,9 @@
 use Rattle.std.proofs.Common.{◌<◌, ◌^◌, unsigned_abs, sym, ap, subst, map, ◌∙◌, arith}
 use Rattle.std.proofs.lemmas.Int.{ints}
-use Rattle.numbers.specs.Size.{IsPast, SomeIf}
+use Rattle.algebra.specs.Size.{IsPast, SomeIf}
 use Rattle.ring_laws.specs.WeightSize.{size_of}
 use Rattle.poly.specs.View.{term_of}
-use Rattle.rings.proofs.Lists.{nil_from_length, one_from_length}
+use Rattle.algebra.proofs.Lists.{nil_from_length, one_from_length}
 use Rattle.poly.proofs.Halves.{parts, past_front, past_back}
 use Rattle.poly.proofs.TermWeights.{few_fit, small_fits, weight_none, weight_one, weight_halves, none_past}
 use Rattle.poly.proofs.measures.+weight_of.Goals as goal

@@ -1,6 +1,6 @@
 use Rattle.std.proofs.Common.{◌≡◌, map, length, suc, arith, refl, ap, ◌∙◌}
 use Rattle.std.proofs.lemmas.List.{length_push}
-use Rattle.rings.proofs.Each.{each-right}
+use Rattle.algebra.proofs.Each.{each-right}
 use Rattle.poly.specs.View.{term_of, terms_of}
 use Rattle.poly.proofs.Peeked.{pushed, parts_long}
 use Rattle.poly.proofs.Shifting.{takes_as}

@@ -8,7 +8,7 @@ use Rattle.poly.specs.declared.Term.{Term}
 use Rattle.poly.specs.View.{term_of}
 use Rattle.poly.specs.Seen.{terms_in}
 use Rattle.poly.proofs.IsLaws.{is_as}
-use Rattle.rings.proofs.Lists.{nil_from_length, one_from_length}
+use Rattle.algebra.proofs.Lists.{nil_from_length, one_from_length}
 use Rattle.poly.proofs.Kept.{polynomial_in}
 use Rattle.poly.proofs.Halves.{parts}
 use Rattle.poly.proofs.Products.{product_none, product_one, product_halves}

@@ -2,7 +2,7 @@ use Rattle.std.proofs.Common.{◌≡◌, length, arith, ap, map, ◌∙◌, refl
 use Rattle.std.proofs.lemmas.List.{map-append, length_push}
 use Rattle.std.proofs.lemmas.Result.{err_from_is_err_and}
 use Rattle.poly.specs.View.{term_of}
-use Rattle.rings.proofs.Lists.{at_index, take_next}
+use Rattle.algebra.proofs.Lists.{at_index, take_next}
 use Rattle.poly.proofs.Steps.{shift_fits_at, begin_shift, step_shift}
 use Rattle.poly.proofs.product.shift_terms.Goals as goal
 

@@ -1,6 +1,6 @@
 use Rattle.std.proofs.Common.{◌≡◌, ◌∷◌, ◌++◌, [], length, arith, sym, ap, ap₂, ◌∙◌}
 use Rattle.std.proofs.lemmas.List.{length_push}
-use Rattle.rings.proofs.Lists.{take_one}
+use Rattle.algebra.proofs.Lists.{take_one}
 use Rattle.poly.proofs.sums.copies.Goals as goal
 
 pub loop-term-init : goal.loop-term-init

@@ -1,7 +1,7 @@
 use Rattle.std.proofs.Common.{◌≡◌, length, arith, ap, map, ◌∙◌}
 use Rattle.std.proofs.lemmas.List.{map-append, length_push}
 use Rattle.poly.specs.View.{term_of}
-use Rattle.rings.proofs.Lists.{take_next}
+use Rattle.algebra.proofs.Lists.{take_next}
 use Rattle.poly.proofs.Steps.{begin_negate, step_negate}
 use Rattle.poly.proofs.sums.opposites.Goals as goal
 

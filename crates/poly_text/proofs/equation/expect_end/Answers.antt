@@ -1,11 +1,11 @@
 use Rattle.std.proofs.Common.{◌≡◌, [], ◌∷◌, refl, sym, subst, Ok}
-use Rattle.expr_text.specs.Lexemes as lexemes
-use Rattle.expr_text.specs.Kinds.{an_end}
-use Rattle.expr_text.specs.NextToken.{seen_lexeme, tokens_behind}
-use Rattle.expr_text.specs.Sums.{sum_language, the_end}
-use Rattle.expr_text.specs.Telling.{reading}
-use Rattle.expr_text.proofs.KindTests.{unlike}
-use Rattle.expr_text.proofs.CursorReads.{taken, token_barred}
+use Rattle.poly_text.specs.Lexemes as lexemes
+use Rattle.poly_text.specs.Kinds.{an_end}
+use Rattle.poly_text.specs.NextToken.{seen_lexeme, tokens_behind}
+use Rattle.poly_text.specs.Sums.{sum_language, the_end}
+use Rattle.poly_text.specs.Telling.{reading}
+use Rattle.poly_text.proofs.KindTests.{unlike}
+use Rattle.poly_text.proofs.CursorReads.{taken, token_barred}
 use Rattle.poly_text.proofs.equation.expect_end.Goals as goal
 
 pub returns-in-End : goal.returns-in-End

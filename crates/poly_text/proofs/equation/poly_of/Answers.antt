@@ -1,8 +1,8 @@
 use Rattle.std.proofs.Common.{◌≡◌, ◌<◌, length, sym, subst}
 use Rattle.loops.specs.WellFormed.{Uses}
-use Rattle.expressions.specs.View.{expr_of}
-use Rattle.expressions.proofs.StateLaws.{formed_at}
-use Rattle.expressions.proofs.Variables.{made_stand, made_length, made_arity, made_over}
+use Rattle.loop_model.specs.ExpressionView.{expr_of}
+use Rattle.loop_model.proofs.StateLaws.{formed_at}
+use Rattle.loop_model.proofs.Variables.{made_stand, made_length, made_arity, made_over}
 use Rattle.poly_text.specs.Equations.{free_state}
 use Rattle.poly_text.proofs.equation.poly_of.Goals as goal
 

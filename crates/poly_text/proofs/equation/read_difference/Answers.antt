@@ -1,14 +1,14 @@
 use Rattle.std.proofs.Common.{refl, ap, sym, ◌∙◌}
 use Rattle.std.proofs.lemmas.Result.{err_from_is_err_and}
 use Rattle.loops.specs.WellFormed.{Uses}
-use Rattle.expressions.specs.View.{expr_of}
-use Rattle.expr_text.specs.Lexemes.{tokens}
-use Rattle.expr_text.specs.CursorView.{rest}
-use Rattle.expr_text.specs.Sums.{sum_language, equals}
-use Rattle.expr_text.specs.NextToken.{seen_lexeme}
-use Rattle.expr_text.proofs.KindTests.{no_sign}
-use Rattle.expr_text.proofs.CursorReads.{no_first, token_barred}
-use Rattle.expr_text.specs.Reads.{state_behind}
+use Rattle.loop_model.specs.ExpressionView.{expr_of}
+use Rattle.poly_text.specs.Lexemes.{tokens}
+use Rattle.poly_text.specs.CursorView.{rest}
+use Rattle.poly_text.specs.Sums.{sum_language, equals}
+use Rattle.poly_text.specs.NextToken.{seen_lexeme}
+use Rattle.poly_text.proofs.KindTests.{no_sign}
+use Rattle.poly_text.proofs.CursorReads.{no_first, token_barred}
+use Rattle.poly_text.specs.Reads.{state_behind}
 use Rattle.poly_text.proofs.EquationLaws.{equation_begins, behind_left, behind_equals, behind_right, said_told, refused, refused_last, outside, uses_part}
 use Rattle.poly_text.proofs.equation.read_difference.Goals as goal
 

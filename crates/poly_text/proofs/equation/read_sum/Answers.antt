@@ -1,9 +1,9 @@
 use Rattle.std.proofs.Common.{◌<◌, length, ap, sym, subst, ◌∙◌, Ok}
 use Rattle.std.proofs.lemmas.Result.{err_from_is_err_and}
 use Rattle.loops.specs.WellFormed.{Uses}
-use Rattle.expressions.specs.View.{expr_of}
-use Rattle.expr_text.specs.Lexemes.{tokens}
-use Rattle.expr_text.specs.CursorView.{rest}
+use Rattle.loop_model.specs.ExpressionView.{expr_of}
+use Rattle.poly_text.specs.Lexemes.{tokens}
+use Rattle.poly_text.specs.CursorView.{rest}
 use Rattle.poly_text.proofs.EquationLaws.{on, sum_begins, said_told, refused, refused_last, uses_part}
 use Rattle.poly_text.proofs.equation.read_sum.Goals as goal
 

@@ -1,12 +1,12 @@
 use Rattle.std.proofs.Common.{◌≡◌, ℕ, List, refl, ap, sym, subst, ◌∙◌, Some, Ok, true, false}
 use Rattle.std.specs.Prelude.{Bool, not, Option}
 use Rattle.std.proofs.lemmas.Result.{err_from_is_err_and}
-use Rattle.numbers.specs.Fraction.{Fraction}
+use Rattle.algebra.specs.Fraction.{Fraction}
 use Rattle.polynomials.specs.Terms.{Terms}
-use Rattle.expr_text.specs.CursorView.{rest}
-use Rattle.expr_text.specs.NextToken.{seen_lexeme}
-use Rattle.expr_text.specs.Telling.{Reads}
-use Rattle.expr_text.specs.declared.cursor.Cursor.{Cursor}
+use Rattle.poly_text.specs.CursorView.{rest}
+use Rattle.poly_text.specs.NextToken.{seen_lexeme}
+use Rattle.poly_text.specs.Telling.{Reads}
+use Rattle.poly_text.specs.declared.cursor.Cursor.{Cursor}
 use Rattle.poly_text.specs.Flat.{at_item, item, flat_language}
 use Rattle.poly_text.specs.FlatReads.{state_of, behind_item}
 use Rattle.poly_text.specs.Seen.{read_terms, HasRead}

@@ -1,5 +1,5 @@
 use Rattle.std.proofs.Common.{◌≡◌, length}
-use Rattle.expr_text.specs.CursorView.{rest, bytes_left}
+use Rattle.poly_text.specs.CursorView.{rest, bytes_left}
 use Rattle.poly_text.specs.Flat.{flat_of}
 use Rattle.poly_text.specs.Seen.{read_terms, HasRead}
 use Rattle.poly_text.proofs.ItemSteps.{from_item}

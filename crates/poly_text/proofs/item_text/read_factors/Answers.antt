@@ -1,9 +1,9 @@
 use Rattle.std.proofs.Common.{sym, subst, ◌∙◌, rules, arith}
 use Rattle.std.proofs.lemmas.Result.{err_from_is_err_and}
 use Rattle.grammars.specs.Grammar.{many}
-use Rattle.expr_text.specs.CursorView.{rest}
-use Rattle.expr_text.proofs.CursorReads.{passed_on}
-use Rattle.expr_text.proofs.Paths.{IsFault, then_on, stopped}
+use Rattle.poly_text.specs.CursorView.{rest}
+use Rattle.poly_text.proofs.CursorReads.{passed_on}
+use Rattle.poly_text.proofs.Paths.{IsFault, then_on, stopped}
 use Rattle.poly_text.specs.Flat.{factor, power, flat_language}
 use Rattle.poly_text.specs.FlatReads.{at_power}
 use Rattle.poly_text.proofs.FlatSteps.{is_before_end, factor_more, factor_none}

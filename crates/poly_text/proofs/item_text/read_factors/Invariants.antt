@@ -1,7 +1,7 @@
 use Rattle.std.proofs.Common.{◌≡◌, ◌≤◌, length, vec_len}
 use Rattle.grammars.specs.Grammar.{many}
-use Rattle.expr_text.specs.CursorView.{rest, bytes_left}
-use Rattle.expr_text.specs.Telling.{reading}
+use Rattle.poly_text.specs.CursorView.{rest, bytes_left}
+use Rattle.poly_text.specs.Telling.{reading}
 use Rattle.poly_text.specs.Flat.{FlatContext, factor, flat_language}
 use Rattle.poly_text.specs.FlatReads.{at_power}
 use Rattle.poly_text.proofs.item_text.read_factors.Given as goal

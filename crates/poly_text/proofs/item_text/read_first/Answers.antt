@@ -1,7 +1,7 @@
 use Rattle.std.proofs.Common.{sym, subst, ap, ◌∙◌, Ok}
 use Rattle.std.proofs.lemmas.Result.{err_from_is_err_and}
-use Rattle.expr_text.specs.CursorView.{rest}
-use Rattle.expr_text.proofs.Paths.{IsFault, start, over, stops_last}
+use Rattle.poly_text.specs.CursorView.{rest}
+use Rattle.poly_text.proofs.Paths.{IsFault, start, over, stops_last}
 use Rattle.poly_text.specs.Flat.{at_item, division, power, first_part, flat_language}
 use Rattle.poly_text.specs.FlatReads.{state_of, at_power, behind_item}
 use Rattle.poly_text.proofs.FlatSteps.{read, first_number, first_power}

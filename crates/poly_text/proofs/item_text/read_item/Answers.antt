@@ -1,6 +1,6 @@
 use Rattle.std.proofs.lemmas.Result.{err_from_is_err_and}
-use Rattle.expr_text.specs.CursorView.{rest}
-use Rattle.expr_text.proofs.Paths.{start, on, ends, stops, stops_last}
+use Rattle.poly_text.specs.CursorView.{rest}
+use Rattle.poly_text.proofs.Paths.{start, on, ends, stops, stops_last}
 use Rattle.poly_text.specs.Flat.{at_item, item, flat_language}
 use Rattle.poly_text.specs.FlatReads.{state_of, behind_item}
 use Rattle.poly_text.proofs.item_text.read_item.Goals as goal

@@ -1,8 +1,8 @@
 use Rattle.std.proofs.Common.{sym}
 use Rattle.grammars.specs.Grammar.{rule}
-use Rattle.expr_text.specs.CursorView.{rest}
-use Rattle.expr_text.proofs.Paths.{continued, then_on}
-use Rattle.expr_text.proofs.CursorReads.{no_first}
+use Rattle.poly_text.specs.CursorView.{rest}
+use Rattle.poly_text.proofs.Paths.{continued, then_on}
+use Rattle.poly_text.proofs.CursorReads.{no_first}
 use Rattle.poly_text.specs.Flat.{an_exponent, name_token, power, flat_language}
 use Rattle.poly_text.specs.FlatReads.{at_power}
 use Rattle.poly_text.proofs.FlatSteps.{name_goes, name_unknown, name_barred}

@@ -1,5 +1,5 @@
 use Rattle.std.proofs.Common.{ap, sym, ◌∙◌, Ok}
-use Rattle.expr_text.specs.CursorView.{rest}
+use Rattle.poly_text.specs.CursorView.{rest}
 use Rattle.poly_text.specs.FlatReads.{at_power}
 use Rattle.poly_text.proofs.FlatSteps.{number_barred, exponent_goes, exponent_high, raising_some, raising_none, raising_missing}
 use Rattle.poly_text.proofs.item_text.read_raising.Goals as goal

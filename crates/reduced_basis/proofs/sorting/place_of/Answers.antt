@@ -2,7 +2,7 @@ use Rattle.std.proofs.Common.{◌≤◌, ◌+◌, ◌++◌, ◌∷◌, [], take,
 use Rattle.machines.specs.Tidying.{put_by_lead}
 use Rattle.poly.specs.Seen.{terms_in, terms_each}
 use Rattle.complete.proofs.Walking.{seen_drop, seen_end}
-use Rattle.rings.proofs.Lists.{take_next}
+use Rattle.algebra.proofs.Lists.{take_next}
 use Rattle.reduced_basis.proofs.Ordered.{put_here, put_next, put_none, put_at, put_last}
 use Rattle.reduced_basis.proofs.sorting.place_of.Goals as goal
 

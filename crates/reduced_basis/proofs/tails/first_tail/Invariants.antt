@@ -1,5 +1,5 @@
 use Rattle.std.proofs.Common.{◌≡◌, drop}
-use Rattle.numbers.specs.Scalars.{field}
+use Rattle.algebra.specs.Scalars.{field}
 use Rattle.machines.specs.Tidying.{tail_from}
 use Rattle.poly.specs.Seen.{terms_each}
 use Rattle.reduced_basis.proofs.tails.first_tail.Given as goal

@@ -2,13 +2,13 @@ use Rattle.std.proofs.Common.{◌≡◌, ◌≢◌, [], ◌∷◌, ◌++◌, map
 use Rattle.std.proofs.lemmas.List.{map-append}
 use Rattle.std.proofs.lemmas.List.Elements.{All-push}
 use Rattle.std.proofs.lemmas.Result.{err_from_is_err_and}
-use Rattle.numbers.specs.Scalars.{field}
+use Rattle.algebra.specs.Scalars.{field}
 use Rattle.machines.specs.Cut.{monic}
 use Rattle.poly.specs.Seen.{terms_in, terms_each}
 use Rattle.divide.specs.Current.{AreDivisors}
 use Rattle.divide.proofs.Divided.{pushed}
 use Rattle.complete.proofs.Coming.{start_past}
-use Rattle.rings.proofs.Lists.{take_next}
+use Rattle.algebra.proofs.Lists.{take_next}
 use Rattle.reduced_basis.proofs.tidying.all_monic.Goals as goal
 
 pub returns-in_err-made_monic-clause-wide : goal.returns-in_err-made_monic-clause-wide

@@ -1,5 +1,5 @@
 use Rattle.std.proofs.Common.{◌≡◌, map, take}
-use Rattle.numbers.specs.Scalars.{field}
+use Rattle.algebra.specs.Scalars.{field}
 use Rattle.machines.specs.Cut.{monic}
 use Rattle.poly.specs.Seen.{terms_each}
 use Rattle.divide.specs.Current.{AreDivisors}

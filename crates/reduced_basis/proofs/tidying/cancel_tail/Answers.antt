@@ -2,7 +2,7 @@ use Rattle.std.proofs.Common.{◌≡◌, ◌≢◌, ◌<◌, true, [], None, dro
 use Rattle.std.specs.List.{All}
 use Rattle.std.proofs.lemmas.List.{length-map, length-set, get_or-set_other, set-set}
 use Rattle.std.proofs.lemmas.List.Elements.{All-set}
-use Rattle.numbers.specs.Scalars.{field}
+use Rattle.algebra.specs.Scalars.{field}
 use Rattle.polynomials.specs.Polynomial.{IsPolynomial}
 use Rattle.machines.specs.Cut.{lead_of, divides}
 use Rattle.machines.specs.Past.{IsPastCut}

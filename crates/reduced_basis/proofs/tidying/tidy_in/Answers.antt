@@ -1,5 +1,5 @@
 use Rattle.std.proofs.Common.{List, length, sym, subst}
-use Rattle.numbers.specs.Scalars.{field}
+use Rattle.algebra.specs.Scalars.{field}
 use Rattle.polynomials.specs.Terms.{Terms}
 use Rattle.machines.specs.Machine.{Machine}
 use Rattle.machines.specs.Machines as machines

@@ -1,5 +1,5 @@
 use Rattle.std.proofs.Common.{length}
-use Rattle.numbers.specs.Fraction.{ℚ}
+use Rattle.algebra.specs.Fraction.{ℚ}
 use Rattle.ideals.specs.Members.{IsMember}
 use Rattle.rounds.proofs.Round.{round_generates, closed_generates}
 use Rattle.rounds.proofs.laws.closed_rounds_generate_what_stays_in_an_ideal.Goals as goal

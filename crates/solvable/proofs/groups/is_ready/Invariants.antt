@@ -1,5 +1,5 @@
 use Rattle.std.proofs.Common.{◌⊎◌, ◌<◌, ℕ, T}
-use Rattle.rings.specs.In.{In}
+use Rattle.algebra.specs.In.{In}
 use Rattle.solvable.specs.Tables.{at}
 use Rattle.solvable.proofs.groups.is_ready.Given as goal
 

@@ -4,7 +4,7 @@ use Rattle.poly.specs.View.{terms_of}
 use Rattle.poly.specs.declared.Term.{Term}
 use Rattle.frac128.specs.declared.fraction.Frac.{Frac}
 use Rattle.frac128.specs.FracMeaning.{fraction_of}
-use Rattle.chains.specs.Uses.{any}
+use Rattle.solvable_maps.specs.Uses.{any}
 use Rattle.poly.specs.Seen.{terms_in}
 use Rattle.solvable.specs.Terms.{has_above}
 use Rattle.solvable.proofs.Using.{term_arity, found_term, passed_term, has_now, has_not, has_low}

@@ -1,5 +1,5 @@
 use Rattle.std.proofs.Common.{◌≡◌, drop}
-use Rattle.chains.specs.Uses.{any}
+use Rattle.solvable_maps.specs.Uses.{any}
 use Rattle.poly.specs.Seen.{terms_in}
 use Rattle.poly.specs.View.{terms_of}
 use Rattle.frac128.specs.FracMeaning.{fraction_of}

@@ -1,5 +1,5 @@
 use Rattle.std.proofs.Common.{◌<◌, length, subst, sym, ap, ◌∙◌}
-use Rattle.chains.specs.Uses.{any}
+use Rattle.solvable_maps.specs.Uses.{any}
 use Rattle.solvable.specs.Terms.{has_above}
 use Rattle.solvable.proofs.Using.{poly_at-is, arity_at}
 use Rattle.solvable.proofs.variables.uses_at.Goals as goal

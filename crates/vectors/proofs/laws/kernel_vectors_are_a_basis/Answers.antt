@@ -1,4 +1,4 @@
-use Rattle.numbers.proofs.Fractions.{ℚ_field}
+use Rattle.algebra.proofs.Fractions.{ℚ_field}
 use Rattle.vectors.proofs.EchelonKernel.{kernel_in, kernel_out, kernel_independent}
 use Rattle.vectors.proofs.laws.kernel_vectors_are_a_basis.Goals as goal
 

@@ -1,9 +1,9 @@
 use Rattle.std.proofs.Common.{◌≡◌, ℕ, ℤ, List, [], ◌∷◌, refl, ap, ap₂, ◌∙◌, length}
 use mathlib.Core.Path.{fun_ext}
 use native.Mathlib.Nat as N
-use Rattle.numbers.specs.Fraction.{Fraction}
-use Rattle.numbers.proofs.Fractions.{ℚ_ring, ℚ_field}
-use Rattle.numbers.proofs.Wholes.{of_int-whole}
+use Rattle.algebra.specs.Fraction.{Fraction}
+use Rattle.algebra.proofs.Fractions.{ℚ_ring, ℚ_field}
+use Rattle.algebra.proofs.Wholes.{of_int-whole}
 use Rattle.vectors.specs.Sequences.{times_matrix, column_sum}
 use Rattle.vectors.specs.WholeMatrices.{over_fractions, IsEigenvalue, IsWholeWithin, greatest_column_sum}
 use Rattle.vectors.proofs.FractionEigen.{ℚ_fractions, as_fractions, fraction_root, WholeRoot}

@@ -2,7 +2,7 @@ use Rattle.std.proofs.Common.{◌<◌, Some, get_or, [], refl, ap, sym, ◌∙�
 use Rattle.std.proofs.lemmas.List.{length-map}
 use Rattle.poly.specs.View.{term_of}
 use Rattle.machines.specs.Cut.{cut_by, all_places}
-use Rattle.numbers.specs.Scalars.{field}
+use Rattle.algebra.specs.Scalars.{field}
 use Rattle.divide.specs.Cutting.{cutting_of}
 use Rattle.poly.specs.Seen.{terms_in}
 use Rattle.divide.proofs.OneCut.{seen_at, term_long}

@@ -1,5 +1,5 @@
 use Rattle.std.proofs.Common.{◌≡◌, List, map, take, drop}
-use Rattle.numbers.specs.Scalars.{field}
+use Rattle.algebra.specs.Scalars.{field}
 use Rattle.polynomials.specs.Terms.{Terms}
 use Rattle.machines.specs.Cut.{lead_of, find_cut, all_places}
 use Rattle.poly.specs.Seen.{terms_in}

@@ -1,7 +1,7 @@
 use Rattle.std.proofs.Common.{◌≡◌, ◌≢◌, ◌<◌, [], take, length, get_or, refl, sym, ap, subst, ◌∙◌, arith}
 use Rattle.std.proofs.lemmas.List.{length-map}
 use Rattle.std.proofs.lemmas.Result.{err_from_is_err_and}
-use Rattle.numbers.specs.Scalars.{field}
+use Rattle.algebra.specs.Scalars.{field}
 use Rattle.poly.specs.Seen.{terms_in, terms_each}
 use Rattle.poly.specs.View.{terms_of}
 use Rattle.machines.specs.Cut.{after_cut}

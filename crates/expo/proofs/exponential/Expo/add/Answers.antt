@@ -1,10 +1,10 @@
 use Rattle.std.proofs.Common.{◌≡◌, ◌++◌, length, ap, ap₂, sym, subst, ◌∙◌}
-use Rattle.numbers.specs.Fraction.{ℚ}
+use Rattle.algebra.specs.Fraction.{ℚ}
 use Rattle.polynomials.specs.Terms.{Same, value_at}
 use Rattle.poly.specs.Seen.{terms_in}
 use Rattle.coprime_base.specs.Sizes.{sizes}
-use Rattle.turns.specs.Expo.{with_normal_keys}
-use Rattle.turns.specs.Turns.{point}
+use Rattle.solvable_maps.specs.Expo.{with_normal_keys}
+use Rattle.solvable_maps.specs.Turns.{point}
 use Rattle.expo.specs.Operations.{sum_of}
 use Rattle.expo.specs.View.{base_of, value_of}
 use Rattle.expo.proofs.Calls.{sum_made}

@@ -1,6 +1,6 @@
 use Rattle.std.proofs.Common.{◌≡◌, All, length, refl, ap, ap₂, sym, subst, ◌∙◌, arith, inr}
 use Rattle.std.proofs.lemmas.List.{length-map}
-use Rattle.numbers.specs.Fraction.{ℚ, fractions}
+use Rattle.algebra.specs.Fraction.{ℚ, fractions}
 use Rattle.polynomials.specs.Terms.{Same, compose}
 use Rattle.polynomials.specs.Weight.{IsPastComposition}
 use Rattle.poly.specs.Seen.{terms_in, terms_each, arity_of}

@@ -1,11 +1,11 @@
 use Rattle.std.proofs.Common.{◌≡◌, All, length, refl, ap, ap₂, sym, subst, ◌∙◌, arith}
 use Rattle.std.proofs.lemmas.List.{length-map}
-use Rattle.numbers.specs.Fraction.{ℚ, fractions}
+use Rattle.algebra.specs.Fraction.{ℚ, fractions}
 use Rattle.polynomials.specs.Terms.{Same, compose}
 use Rattle.polynomials.specs.Weight.{IsPastComposition}
 use Rattle.poly.specs.Seen.{terms_in, terms_each, arity_of}
 use Rattle.poly.proofs.Standing.{first_arity}
-use Rattle.turns.specs.Expo.{zero_images}
+use Rattle.solvable_maps.specs.Expo.{zero_images}
 use Rattle.expo.specs.View.{base_of}
 use Rattle.expo.proofs.Calls.{zeros_count, zero_values}
 use Rattle.expo.proofs.Outcomes.{ok_weaker}

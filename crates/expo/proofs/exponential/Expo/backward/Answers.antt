@@ -5,8 +5,8 @@ use Rattle.poly.specs.Seen.{terms_in}
 use Rattle.poly.specs.View.{terms_of}
 use Rattle.poly.proofs.Steps.{all_arity}
 use Rattle.coprime_base.specs.Sizes.{sizes}
-use Rattle.turns.specs.Expo.{with_normal_keys, backward_terms}
-use Rattle.turns.specs.Turns.{width}
+use Rattle.solvable_maps.specs.Expo.{with_normal_keys, backward_terms}
+use Rattle.solvable_maps.specs.Turns.{width}
 use Rattle.expo.specs.Operations.{backward_of}
 use Rattle.expo.specs.View.{base_of}
 use Rattle.expo.proofs.Calls.{long_terms, wide_front, turned_arity, turned_made, turned_distinct}

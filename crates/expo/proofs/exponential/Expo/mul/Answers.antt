@@ -1,10 +1,10 @@
 use Rattle.std.proofs.Common.{ap, ap₂, subst, ◌∙◌}
-use Rattle.numbers.specs.Fraction.{ℚ}
+use Rattle.algebra.specs.Fraction.{ℚ}
 use Rattle.polynomials.specs.Terms.{Same, times, value_at}
 use Rattle.poly.specs.Seen.{terms_in}
 use Rattle.coprime_base.specs.Sizes.{sizes}
 use Rattle.expo.specs.View.{base_of, value_of}
-use Rattle.turns.specs.Turns.{point}
+use Rattle.solvable_maps.specs.Turns.{point}
 use Rattle.expo.proofs.Outcomes.{ok_weaker}
 use Rattle.expo.proofs.Values.{product_values}
 use Rattle.expo.proofs.Results.{mul_is, expo_arity, other_arity, product_weight_past}

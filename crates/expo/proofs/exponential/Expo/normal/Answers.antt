@@ -6,8 +6,8 @@ use Rattle.poly.specs.Seen.{terms_in}
 use Rattle.poly.specs.View.{terms_of}
 use Rattle.poly.proofs.Steps.{all_arity}
 use Rattle.coprime_base.specs.Sizes.{sizes}
-use Rattle.turns.specs.Expo.{with_normal_keys}
-use Rattle.turns.specs.Turns.{width}
+use Rattle.solvable_maps.specs.Expo.{with_normal_keys}
+use Rattle.solvable_maps.specs.Turns.{width}
 use Rattle.expo.specs.Operations.{vars_of, normal_of}
 use Rattle.expo.proofs.Calls.{long_terms, normal_arity, normal_made}
 use Rattle.expo.proofs.Outcomes.{wide_of}

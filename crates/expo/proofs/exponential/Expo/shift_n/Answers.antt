@@ -1,12 +1,12 @@
 use Rattle.std.proofs.Common.{All, length, ap, ap₂, sym, subst, ◌≡◌, ◌∙◌}
-use Rattle.numbers.specs.Fraction.{ℚ, fractions}
+use Rattle.algebra.specs.Fraction.{ℚ, fractions}
 use Rattle.polynomials.specs.Terms.{Same, compose}
 use Rattle.polynomials.specs.Weight.{IsPastComposition}
 use Rattle.poly.specs.Seen.{terms_in, terms_each, arity_of}
 use Rattle.poly.proofs.Standing.{first_arity}
 use Rattle.coprime_base.specs.Sizes.{sizes}
-use Rattle.turns.specs.Expo.{with_normal_keys, next_images}
-use Rattle.turns.specs.Turns.{width}
+use Rattle.solvable_maps.specs.Expo.{with_normal_keys, next_images}
+use Rattle.solvable_maps.specs.Turns.{width}
 use Rattle.expo.specs.Operations.{at_next}
 use Rattle.expo.specs.View.{base_of}
 use Rattle.expo.proofs.Calls.{AreNext, are_next, shifted_made}

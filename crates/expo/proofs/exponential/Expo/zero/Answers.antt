@@ -1,6 +1,6 @@
 use Rattle.std.proofs.Common.{◌≡◌, length, refl, sym, subst}
 use Rattle.coprime_base.specs.Sizes.{sizes}
-use Rattle.turns.specs.Expo.{with_normal_keys}
+use Rattle.solvable_maps.specs.Expo.{with_normal_keys}
 use Rattle.expo.proofs.exponential.Expo.zero.Goals as goal
 
 pub of-requires-clause-normal : goal.of-requires-clause-normal

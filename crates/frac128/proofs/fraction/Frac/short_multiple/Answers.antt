@@ -2,7 +2,7 @@ use Rattle.std.proofs.Common.{SFits, ◌∙◌, ap, rules}
 use mir.Syntax.{w64}
 use mir.Val.{to_z}
 use Rattle.std.proofs.lemmas.Int.{to_z-of_z}
-use Rattle.numbers.specs.Fraction.{product}
+use Rattle.algebra.specs.Fraction.{product}
 use Rattle.frac128.specs.FracMeaning.{fraction_of}
 use Rattle.frac128.proofs.FracResults.{Means, means_fraction}
 use Rattle.frac128.proofs.ShortResults.{short_multiple_means, one_multiple}

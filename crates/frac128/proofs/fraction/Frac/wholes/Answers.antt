@@ -1,5 +1,5 @@
 use Rattle.std.proofs.Common.{◌≡◌, rules}
-use Rattle.numbers.specs.Ratio.{ratio}
+use Rattle.algebra.specs.Ratio.{ratio}
 use Rattle.frac128.specs.FracMeaning.{frac_meaning}
 use Rattle.frac128.proofs.FracResults.{whole_at}
 use Rattle.frac128.proofs.fraction.Frac.wholes.Goals as goal

@@ -1,6 +1,6 @@
 use Rattle.std.proofs.Common.{ap, ◌∙◌}
 use Rattle.std.proofs.lemmas.Result.{IfOk-weaker}
-use Rattle.numbers.specs.Fraction.{product}
+use Rattle.algebra.specs.Fraction.{product}
 use Rattle.frac128.specs.FracMeaning.{fraction_of}
 use Rattle.frac128.proofs.fraction.FracField.div.Goals as goal
 

@@ -1,6 +1,6 @@
 use Rattle.std.proofs.Common.{rules, ◌∙◌, ◌≡◌, ◌≢◌, pos, sym}
-use Rattle.numbers.specs.Fraction.{whole}
-use Rattle.numbers.proofs.Wholes.{whole_injective}
+use Rattle.algebra.specs.Fraction.{whole}
+use Rattle.algebra.proofs.Wholes.{whole_injective}
 use Rattle.frac128.specs.FracMeaning.{fraction_of}
 use Rattle.frac128.proofs.fraction.FracRing.unit.Goals as goal
 

@@ -1,5 +1,5 @@
 use Rattle.std.proofs.Common.{length, ap, ◌∙◌}
-use Rattle.expressions.proofs.Variables.{made_stand}
+use Rattle.loop_model.proofs.Variables.{made_stand}
 use Rattle.loop_model.proofs.BranchLaws.{entry_none, entry_more, zero_stands}
 use Rattle.loop_model.proofs.loop_.Loop.entry.Goals as goal
 

@@ -1,5 +1,5 @@
 use Rattle.std.proofs.Common.{◌≡◌, ◌<◌, length, ap, ◌∙◌, arith}
-use Rattle.expressions.proofs.Variables.{made_stand, made_length, made_arity, made_over}
+use Rattle.loop_model.proofs.Variables.{made_stand, made_length, made_arity, made_over}
 use Rattle.loop_model.proofs.ValueLaws.{stops_handed_on}
 use Rattle.loop_model.proofs.StartLaws.{begun_none, begun_more, begun_all, begun_length, begun_stop, start_stands, start_free, start_stops, equation_var, equation_uses}
 use Rattle.loop_model.proofs.loop_.Loop.start_map.Goals as goal

@@ -1,0 +1,15 @@
+pub mod Arithmetic
+pub mod Integers
+pub mod Each
+pub mod In
+pub mod Sum
+pub mod Ring
+pub mod RingExpression
+pub mod FieldArithmetic
+pub mod Gcd
+pub mod Limits
+pub mod Size
+pub mod Scalars
+pub mod Ratio
+pub mod Fraction
+pub mod Residue

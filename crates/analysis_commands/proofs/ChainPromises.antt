@@ -1,0 +1,74 @@
+-- What `chain` promises, from the outcome of its course.
+--   settled      its answers are settled
+--   finds_each   the clauses
+use Rattle.std.proofs.Common.{ℕ, refl}
+use Rattle.machines.specs.Journal.{Journal}
+use Rattle.poly_text.specs.Reasons.{Fault, limit}
+use Rattle.loops.specs.Program.{Expr}
+use Rattle.loops.specs.Chain.{Chain}
+use Rattle.io_edge.specs.Settled.{IsSettled}
+use Rattle.io_edge.specs.Course.{EachAnswer}
+use Rattle.io_edge.specs.Outcome.{Call, IsCarriedOut}
+use Rattle.io_edge.proofs.Outcomes.{or_wide, or_yes}
+use Rattle.io_edge.proofs.OneFile as one_file
+use Rattle.io_edge.proofs.OneFile.{OneFile, concludes_yes, concludes_no, concludes_spent, answered, ends_at_fault, tells, writes, refused, never_ends, not_ended, left, long}
+use Rattle.command_parts.specs.FaultTexts.{loop_refusal}
+use Rattle.command_parts.proofs.ChainCourses.{reading_chain}
+use Rattle.analysis_commands.specs.ChainAnalyses.{Analyses, HasAnalysed}
+use Rattle.analysis_commands.specs.Texts.{branch_answer}
+use Rattle.analysis_commands.specs.ChainTexts.{in_loop}
+use Rattle.analysis_commands.specs.ChainHeadline.{ShowsChain}
+use Rattle.analysis_commands.specs.ChainCauses.{HasFinished, IsSpent, IsAnalysed, IsUnanalysed}
+use Rattle.analysis_commands.proofs.Endings.{or_found}
+use Rattle.analysis_commands.proofs.ChainAnalysing.{analyses_settled, analyses_not_no, found_shown, out_shown, unanalysed, limit_analysed, branch_analysed, formed_analysed, not_spent, all_analysed}
+use Rattle.command_parts.specs.FileRequests.{FileRequest}
+use Rattle.analysis_commands.specs.ChainCourse.{course}
+use Rattle.analysis_commands.specs.ChainClauses.{FindsEach}
+
+module _ (request : FileRequest) where
+  abbrev path : OneFile (Chain (Expr ℕ)) Fault
+  path = reading_chain request.file (λ c. HasAnalysed c request.budget)
+      (λ c. Analyses c request.budget)
+
+  pub settled : EachAnswer (λ a. IsSettled a.status) (course request)
+  settled = one_file.settled path (λ c m a h. analyses_settled c request.budget a m h)
+
+  module _ (call : Call) (f : IsCarriedOut (course request) call) where
+    abbrev m : Journal
+    m = call.meter.after
+
+    pub finds_each : FindsEach request call
+    finds_each = record {
+      bases = writes path call f concludes_yes ShowsChain
+          (λ text c a e h yes. (found_shown text c request.budget m a e h yes).0);
+      finished = tells path call f concludes_yes (λ text. HasFinished text request.budget m)
+          (λ text c a e h yes. (found_shown text c request.budget m a e h yes).1);
+      why = λ is. refused path call f call.status is
+          (λ text a. IsUnanalysed text request.budget m a)
+          (λ text c a e h same refusing.
+          unanalysed text c request.budget m a e h refusing.yes_not) refl;
+      spent = writes path call f concludes_spent (λ text. IsSpent text request.budget m)
+          (λ text c a e h out. out_shown text c request.budget m a e h out);
+      no = never_ends path call f concludes_no
+          (λ c j a h. analyses_not_no c request.budget a j h);
+      journal = left path call f (λ text. IsAnalysed text request.budget m)
+          (λ text c e h. record { chain = c; is_chain = e; analysed = h });
+      chain_fault = ends_at_fault path call f;
+      limit_met = λ c j at r within known before first. or_wide (course request) call f
+          (in_loop j (loop_refusal (record { reason = limit; at = at })))
+          (λ s. limit_analysed r.text c request.budget m s.answer r.reads j within known before at
+          first (answered path call f c r s));
+      branch_refused = λ c j b x r within known before free exact first.
+          or_wide (course request) call f (in_loop j (branch_answer c.first.names b x))
+          (λ s. branch_analysed r.text c request.budget m s.answer r.reads j within known before
+          free b x exact first (answered path call f c r s));
+      found = λ c r each. or_found (course request) call f
+          (λ s. formed_analysed r.text c request.budget m s.answer r.reads each
+          (answered path call f c r s));
+      enough = λ c r within. not_ended path call f concludes_spent c r
+          (λ a h out. not_spent r.text c request.budget m a r.reads within h out);
+      completes = λ c r never_refused within. or_yes (course request) call f
+          (λ s. all_analysed r.text c request.budget m s.answer r.reads never_refused within
+          (answered path call f c r s));
+      long = long path call f;
+    }

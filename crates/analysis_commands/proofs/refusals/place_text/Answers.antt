@@ -1,0 +1,24 @@
+use Rattle.std.proofs.Common.{string_bytes, append_assoc}
+use Rattle.analysis_commands.proofs.Pushing.{retold}
+use Rattle.analysis_commands.proofs.refusals.place_text.Goals as goal
+
+pub returns-in-Closed : goal.returns-in-Closed
+returns-in-Closed c = retold string_bytes c.format.result _ _ c.format.ensures.ok
+    (rw c.in-Closed.is (simp append_assoc))
+
+pub returns-in-Orbit : goal.returns-in-Orbit
+returns-in-Orbit c = retold string_bytes c.format-in-Orbit.result _ _ c.format-in-Orbit.ensures.ok
+    (rw c.in-Orbit.is (simp append_assoc))
+
+pub returns-in-Meet : goal.returns-in-Meet
+returns-in-Meet c = retold string_bytes c.format-in-Meet.result _ _ c.format-in-Meet.ensures.ok
+    (rw c.in-Meet.is (simp append_assoc))
+
+pub returns-in-Turn : goal.returns-in-Turn
+returns-in-Turn c = retold string_bytes c.format-in-Turn.result _ _ c.format-in-Turn.ensures.ok
+    (rw c.in-Turn.is (simp append_assoc))
+
+pub returns-in-TurnMeet : goal.returns-in-TurnMeet
+returns-in-TurnMeet c =
+    retold string_bytes c.format-in-TurnMeet.result _ _ c.format-in-TurnMeet.ensures.ok
+    (rw c.in-TurnMeet.is (simp append_assoc))

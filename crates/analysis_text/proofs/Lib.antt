@@ -1,4 +1,0 @@
-pub mod Naming
-pub mod Pushing
-pub mod LineFeeds
-pub mod BasisTexts

@@ -1,5 +1,0 @@
-use Rattle.analysis_text.proofs.BasisTexts.{same_bases}
-use Rattle.analysis_text.proofs.laws.texts_tell_bases.Goals as goal
-
-pub returns : goal.returns
-returns c = λ names gs hs pg ph rg rh e. same_bases names rg.are_names gs hs pg ph rg.each rh.each e

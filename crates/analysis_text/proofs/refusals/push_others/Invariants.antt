@@ -1,7 +1,0 @@
-use Rattle.std.proofs.Common.{◌≡◌, ◌++◌, string_bytes, take}
-use Rattle.analysis_text.specs.Texts.{listed_behind}
-use Rattle.analysis_text.proofs.refusals.push_others.Given as goal
-
-abbrev pub invariant-loop-variable : goal.invariant-loop-variable
-invariant-loop-variable l = string_bytes l.text ≡ string_bytes l.fn.text ++ listed_behind l.names
-    (take l.variable-index l.others)

@@ -1,4 +1,0 @@
-pub mod Certificates
-pub mod Naming
-pub mod ReadBack
-pub mod Texts

@@ -1,0 +1,199 @@
+-- Forms of maps that are the same.
+--   passes_along       a form that passes for the one passes for the other
+--   map_of             the images of a branch are its map's polynomials
+--   form_at, wide, many    the form of a branch in the code
+--   fits, pass_on, pass_back, past_on, backward_at     what is told of it
+--   backs_more         what holds of each of a list, at its place, and of one more
+use Rattle.std.proofs.Common.{◌≡◌, ◌⊎◌, inl, inr, ◌<◌, ◌≤◌, ◌+◌, ℕ, List, [], ◌∷◌, ◌++◌, map, get_or, length, sym, ap, subst, subst₂, ◌∙◌, arith, Vec, Global}
+use Rattle.std.specs.Prelude.{All, vec_len}
+use Rattle.std.proofs.lemmas.List.{get_or-map, get_or_append_left, get_or_push, length-map}
+use Rattle.std.proofs.lemmas.List.Elements.{All-map, All-weaker}
+use Rattle.algebra.specs.Each.{Each}
+use Rattle.algebra.specs.Fraction.{Fraction, ℚ}
+use Rattle.algebra.proofs.Fractions.{ℚ_ring}
+use Rattle.polynomials.specs.Order.{grevlex}
+use Rattle.polynomials.specs.Polynomial.{AllArity, IsPolynomial}
+use Rattle.polynomials.specs.Terms.{Terms, AllSame, compose}
+use Rattle.polynomials.proofs.Composition.{same_compose}
+use Rattle.polynomials.proofs.Same.{Same-trans, AllSame-refl, AllSame-sym}
+use Rattle.solvable_maps.specs.Expo.{with_normal_keys}
+use Rattle.solvable_maps.specs.Turns.{width}
+use Rattle.solvable_maps.proofs.Retold.{same_normalized}
+use Rattle.loops.specs.Program.{Expr, Program}
+use Rattle.rounds.specs.Form.{Form, front, form_backward}
+use Rattle.monos.specs.Variables.{most_variables}
+use Rattle.poly.specs.Seen.{terms_in, terms_each}
+use Rattle.poly.specs.Standing.{IsOver, AllStandFor}
+use Rattle.poly.proofs.Standing.{polynomial_over, arities_over, stands_over, stands_same}
+use Rattle.loop_model.specs.FracPoly.{FracPoly}
+use Rattle.coprime_base.specs.Sizes.{sizes}
+use Rattle.expo.specs.Bases.{IsCoprimeBase}
+use Rattle.completeness.specs.FormIdentities.{IsRightForm}
+use Rattle.completeness.specs.Full.{as_form, form_of}
+use Rattle.cert_checker.specs.Passing.{FitsForm, IsPastForm}
+use Rattle.task_lists.specs.Images.{IsFormOver, IsFullIn}
+use Rattle.task_lists.specs.View.{form_in, full_of}
+use Rattle.task_lists.specs.declared.parts.FullForm.{FullForm}
+use Rattle.completeness.specs.Counts.{IsCounted}
+use Rattle.task_lists.specs.declared.parts.FullCert.{FullCert}
+use Rattle.cert_checker.specs.Wide.{IsMapOf}
+use Rattle.cert_checker.specs.Backward.{IsBackward}
+use Rattle.cert_checker.specs.FullWide.{IsPastOfMap}
+
+all_trans : (ps qs rs : List (Terms Fraction)) → AllSame ℚ ps qs → AllSame ℚ qs rs
+    → AllSame ℚ ps rs
+unfolding AllSame
+all_trans [] [] [] h k = tt
+all_trans [] [] (r ∷ rs) h k = absurd k
+all_trans [] (q ∷ qs) rs h k = absurd h
+all_trans (p ∷ ps) [] rs h k = absurd h
+all_trans (p ∷ ps) (q ∷ qs) [] h k = absurd k
+all_trans (p ∷ ps) (q ∷ qs) (r ∷ rs) h k = (Same-trans ℚ h.0 k.0, all_trans ps qs rs h.1 k.1)
+
+module _ (m : ℕ) (f : Form) (over : AllArity (width (length f.base) m) f.polys) where
+  abbrev moved : Terms Fraction → Terms Fraction
+  moved q = with_normal_keys (length f.base) (compose ℚ (width (length f.base) m) q f.polys)
+
+  moved_same : (ps qs : List (Terms Fraction)) → AllArity m ps → AllArity m qs → AllSame ℚ ps qs
+      → AllSame ℚ (map moved ps) (map moved qs)
+  unfolding AllSame Each
+  moved_same [] [] a b h = tt
+  moved_same [] (q ∷ qs) a b h = absurd h
+  moved_same (p ∷ ps) [] a b h = absurd h
+  moved_same (p ∷ ps) (q ∷ qs) a b h = (
+    same_normalized ℚ_ring (length f.base) _ _ (same_compose ℚ_ring m (width (length f.base) m) p q
+        f.polys f.polys a.0 b.0 over over h.0 (AllSame-refl ℚ f.polys)),
+    moved_same ps qs a.1 b.1 h.1,
+  )
+
+  pub passes_along : (ps qs : List (Terms Fraction)) → AllArity m ps → AllArity m qs
+      → AllSame ℚ ps qs → IsRightForm ps m f → IsRightForm qs m f
+  passes_along ps qs a b same h = record {
+    ascending = h.ascending;
+    coprime = h.coprime;
+    normal = h.normal;
+    at_zero = h.at_zero;
+    goes_on = all_trans (map moved qs) (map moved ps) _
+        (moved_same qs ps b a (AllSame-sym ℚ ps qs same)) h.goes_on;
+  }
+
+pub map_of : (m : ℕ) (images : List FracPoly) (maps : List (Terms Fraction))
+    → AllStandFor m images maps → IsMapOf m (terms_each images) maps
+map_of m images maps h = record {
+  polynomials = All-map (IsPolynomial ℚ grevlex m) terms_in images
+      (All-weaker (IsOver m) (λ p. IsPolynomial ℚ grevlex m (terms_in p)) (polynomial_over m)
+      images (stands_over m images maps h));
+  same = stands_same m images maps h;
+}
+
+-- ---- the form of a branch
+module _ (program : Program (Expr ℕ)) (cert : FullCert)
+    (over : IsFullIn (length program.names) cert) (counted : IsCounted program (full_of cert))
+    (b : ℕ) (form : FullForm) (l : b < length cert.forms.items)
+    (is : form ≡ get_or cert.forms.items b form) where
+  abbrev m : ℕ
+  m = length program.names
+
+  abbrev r : ℕ
+  r = length (sizes form.base.items)
+
+  pub form_at : as_form (form_in form) ≡ form_of (full_of cert) b
+  form_at = ap as_form (ap form_in is ∙ sym (get_or-map form_in cert.forms.items b form _ l))
+
+  numbers : vec_len form.base ≡ length (sizes form.base.items)
+  numbers = form.base.ok.0 ∙ sym (length-map form.base.items _)
+
+  pub wide : All (IsOver (width (length (sizes form.base.items)) (length program.names)))
+      form.polys.items
+  wide = subst (λ n. All (IsOver (width n m)) form.polys.items) numbers
+      (subst (IsFormOver m) (sym is) (over.forms b form l)).polys
+
+  pub many : length form.polys.items ≡ length program.names
+  many = sym (length-map form.polys.items terms_in)
+      ∙ ap (λ (f : Form). length f.polys) form_at
+      ∙ counted.polys b _ (let n = length-map cert.forms.items form_in in omega (arith, l, n))
+
+  few : length (sizes form.base.items) ≤ 1024
+  few = subst (λ n. n ≤ 1024) numbers (subst (IsFormOver m) (sym is) (over.forms b form l)).few
+
+  module _ (images : Vec FracPoly Global) (maps : List (Terms Fraction))
+      (stands : AllStandFor (length program.names) images.items maps)
+      (count : length images.items ≡ length program.names) (some : 0 < length program.names)
+      (names : length program.names ≤ 12) (arity : AllArity (length program.names) maps) where
+    pub fits : FitsForm (length images.items) form.base form.polys images
+    fits = subst (λ n. FitsForm n form.base form.polys images) (sym count) (record {
+      some = some;
+      few = omega (arith, few, names);
+      count = many;
+      over_width = wide;
+      over_variables = stands_over m images.items maps stands;
+    })
+
+    polys_over : AllArity (width (length (sizes form.base.items)) m) (as_form (form_in form)).polys
+    polys_over = arities_over (width r m) form.polys.items wide
+
+    images_over : AllArity m (terms_each images.items)
+    images_over = arities_over m images.items (stands_over m images.items maps stands)
+
+    pub pass_on : IsRightForm (terms_each images.items) (length images.items)
+        (as_form (form_in form))
+        → IsRightForm maps (length program.names) (form_of (full_of cert) b)
+    pass_on h = subst (IsRightForm maps m) form_at
+        (passes_along m (as_form (form_in form)) polys_over (terms_each images.items) maps
+        images_over arity
+        (stands_same m images.items maps stands)
+        (subst (λ n. IsRightForm (terms_each images.items) n (as_form (form_in form))) count h))
+
+    pub pass_back : IsRightForm maps (length program.names) (form_of (full_of cert) b)
+        → IsRightForm (terms_each images.items) (length images.items) (as_form (form_in form))
+    pass_back h = subst (λ n. IsRightForm (terms_each images.items) n (as_form (form_in form)))
+        (sym count)
+        (passes_along m (as_form (form_in form)) polys_over maps (terms_each images.items) arity
+        images_over
+        (AllSame-sym ℚ _ _ (stands_same m images.items maps stands))
+        (subst (IsRightForm maps m) (sym form_at) h))
+
+    pub past_on : IsPastForm (terms_each images.items) (length images.items)
+        (as_form (form_in form))
+        → IsPastOfMap (length program.names) maps
+        (λ ims. IsPastForm ims (length program.names) (form_of (full_of cert) b))
+    past_on h = record {
+      images = terms_each images.items;
+      is = map_of m images.items maps stands;
+      past = subst₂ (IsPastForm (terms_each images.items)) count form_at h;
+    }
+
+    pub backward_at : (back : Vec FracPoly Global) → terms_each back.items ≡ form_backward
+        (as_form (form_in form))
+        → All (IsOver (width (length (sizes form.base.items)) (length images.items)))
+        back.items → IsCoprimeBase (sizes form.base.items) → IsBackward program cert b back
+    backward_at back same arities base = record {
+      base = subst (λ (f : Form). IsCoprimeBase f.base) form_at base;
+      few = subst (λ (f : Form). front (length f.base) + m ≤ most_variables) form_at
+          (let e = few in omega (arith, e, names));
+      count = sym (length-map back.items terms_in) ∙ ap length same
+          ∙ length-map (as_form (form_in form)).polys _ ∙ length-map form.polys.items terms_in
+          ∙ many;
+      arity = subst (λ (f : Form). All (IsOver (front (length f.base) + m)) back.items) form_at
+          (subst (λ n. All (IsOver n) back.items) front_is arities);
+      is = same ∙ ap form_backward form_at;
+    }
+      where
+        front_is : width (length (sizes form.base.items)) (length images.items)
+            ≡ front (length (sizes form.base.items)) + length program.names
+        front_is = omega (arith, count)
+
+-- one more
+pub backs_more : {X : Type 0} (P : ℕ → X → Type 0) (xs : List X) (x : X) (b : ℕ) → length xs ≡ b
+    → ((j : ℕ) (d : X) → j < b → P j (get_or xs j d)) → P b x
+    → (j : ℕ) (d : X) → j < b + 1 → P j (get_or (xs ++ x ∷ []) j d)
+backs_more P xs x b e before here j d l = go (cases j b l)
+  where
+    cases : (i n : ℕ) → i < n + 1 → (i < n) ⊎ (n ≡ i)
+    cases i n l = grind (arith, l)
+
+    go : (j < b) ⊎ (b ≡ j) → P j (get_or (xs ++ x ∷ []) j d)
+    go (inl k) = subst (P j) (sym (get_or_append_left xs (x ∷ []) d j (omega (arith, k, e))))
+        (before j d k)
+    go (inr k) = subst (λ i. P i (get_or (xs ++ x ∷ []) i d)) k
+        (subst (P b) (sym (get_or_push xs x d b e)) here)

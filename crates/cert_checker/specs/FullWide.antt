@@ -1,0 +1,92 @@
+-- Where a part of a full certificate is too wide, and the causes of refusals.
+--   IsWideAt path e                e tells that the part with this path is too wide; want of memory is free
+--   IsRefusalOf e r                r is the refusal e of the certificate itself
+--   IsPastOfMap program maps W     W of the polynomials of a map of the program, with their terms in falling order
+--   IsPastBegun program c r b kind i     of making polynomial i that a stage begins with
+--   IsPastPart program c part      of an operation of the part
+--   IsWide program c path          so it is of the part with this path, and those before it hold
+--   IsUnformed m os e              e is one of the operations os that can't be done
+--   IfRefused program c e          the cause of the refusal e: a map of the loop can't be formed, or a part is too wide; want of memory is free
+use Rattle.std.specs.Prelude.{◌≡◌, ℕ, zero, suc, ◌-◌, ◌<◌, ◌≤◌, pred, List, [], get_or, length, string_bytes}
+use Rattle.algebra.specs.Fraction.{Fraction, fractions}
+use Rattle.polynomials.specs.Terms.{Terms}
+use Rattle.polynomials.specs.Weight.{IsPastComposition, IsPastSum}
+use Rattle.loops.specs.Program.{Expr, Program}
+use Rattle.loops.specs.Map.{start_map, branch_map}
+use Rattle.rounds.specs.Form.{Form, form_backward}
+use Rattle.loop_model.specs.Operations.{Operation, IsLimit, IsWide as IsWideOperation}
+use Rattle.loop_model.specs.declared.map_error.MapError.{MapError}
+use Rattle.loop_model.specs.declared.map_error.MapError.TheVariants as map_error
+use Rattle.loop_model.specs.Maps.{maps_operations, AreFree}
+use Rattle.cert_checker.specs.Passing.{IsPastForm}
+use Rattle.task_lists.specs.Past.{IsPastCombination}
+use Rattle.cert_checker.specs.Identities.{StartIsPast, StepIsPast}
+use Rattle.cert_checker.specs.Wide.{IsMapOf}
+use Rattle.cert_checker.specs.declared.error.CheckError.{CheckError}
+use Rattle.cert_checker.specs.declared.error.CheckError.TheVariants as check_error
+use Rattle.completeness.specs.Full.{FullCertificate, Kind, orbit, meet, form_of, stage_of, so_far, before}
+use Rattle.completeness.specs.Parts.{Part, in_basis, in_steps, in_forms, in_start, in_round, at_end, Holds, parts}
+use Rattle.cert_checker.specs.Paths.{path_of}
+use Rattle.cert_checker.specs.StageParts.{IsPastPlace}
+use Rattle.cert_checker.specs.FullStops.{Behind}
+use Rattle.cert_checker.specs.declared.full_error.FullError.{FullError}
+use Rattle.cert_checker.specs.declared.full_error.FullError.TheVariants.{Map, Wide, Memory}
+
+pub record IsPastOfMap (m : ℕ) (maps : List (Terms Fraction)) (W : List (Terms Fraction)
+    → Type 0) : Type 0 where
+  pub images : List (Terms Fraction)
+  pub is : IsMapOf m images maps
+  pub past : W images
+
+module _ (program : Program (Expr ℕ)) (c : FullCertificate) where
+  abbrev pub IsPastUnwound : Form → List (Terms Fraction) → ℕ → Type 0
+  IsPastUnwound f gs i =
+      (i < length gs) × IsPastComposition fractions (get_or gs i []) (form_backward f)
+
+  abbrev pub IsPastBlended : List (Terms Fraction) → List (Terms Fraction) → ℕ → Type 0
+  IsPastBlended ks hs i = (length ks ≤ i)
+      × IsPastSum fractions (get_or hs (i - length ks) []) (get_or hs (i - length ks) [])
+
+  abbrev pub IsPastBegun : ℕ → ℕ → Kind → ℕ → Type 0
+  IsPastBegun r b orbit i = IsPastUnwound (form_of c b) (before program c r) i
+  IsPastBegun r b meet i = IsPastBlended (so_far c r (pred b)) (stage_of c r b orbit).out i
+
+  abbrev pub IsPastPart : Part → Type 0
+  IsPastPart (in_basis e) = IsPastOfMap (length program.names) (start_map program)
+      (λ images. StartIsPast c.basis images e)
+  IsPastPart (in_steps b e) = IsPastOfMap (length program.names)
+      (branch_map program (get_or program.branches b []))
+      (λ images. StepIsPast c.basis images (get_or c.steps b []) e)
+  IsPastPart (in_forms b) = IsPastOfMap (length program.names)
+      (branch_map program (get_or program.branches b []))
+      (λ images. IsPastForm images (length program.names) (form_of c b))
+  IsPastPart (in_start i) = IsPastCombination (get_or c.start_links i []) c.start_out
+  IsPastPart (in_round r b kind place) =
+      IsPastPlace (IsPastBegun r b kind) (stage_of c r b kind) place
+  IsPastPart at_end = ⊥
+
+  pub record IsWide (path : List ℕ) : Type 0 where
+    pub part : Part
+    pub at : path_of part ≡ path
+    pub is : Behind (Holds program c) (parts program c) part (IsPastPart part)
+
+abbrev pub IsUnformed : ℕ → List Operation → MapError → Type 0
+IsUnformed m os (map_error.Limit at) = IsLimit m os at
+IsUnformed m os (map_error.Wide at) = IsWideOperation m os at
+IsUnformed m os map_error.Memory = ⊥
+
+abbrev pub IfRefused : Program (Expr ℕ) → FullCertificate → FullError → Type 0
+IfRefused program c (Map e) = IsUnformed (length program.names) (maps_operations program) e
+IfRefused program c (Wide path) = AreFree program × IsWide program c (string_bytes path)
+IfRefused program c Memory = Unit {0}
+
+abbrev pub IsWideAt : List ℕ → FullError → Type 0
+IsWideAt path (Map e) = ⊥
+IsWideAt path (Wide at) = string_bytes at ≡ path
+IsWideAt path Memory = Unit {0}
+
+abbrev pub IsRefusalOf : CheckError → FullError → Type 0
+IsRefusalOf (check_error.Map e) r = r ≡ Map e
+IsRefusalOf (check_error.Wide zero i) r = IsWideAt (path_of (in_basis i)) r
+IsRefusalOf (check_error.Wide (suc b) i) r = IsWideAt (path_of (in_steps b i)) r
+IsRefusalOf check_error.Memory r = r ≡ Memory

@@ -1,0 +1,13 @@
+//! Why a full certificate was not judged.
+use loop_model::MapError;
+
+/// Why a full certificate was not judged.
+#[derive(Drop)]
+pub enum FullError {
+    /// A map of the loop can't be formed. This is never want of memory.
+    Map(MapError),
+    /// All parts before the one with this path hold, and it is too wide.
+    Wide { path: String },
+    /// No memory was left.
+    Memory,
+}

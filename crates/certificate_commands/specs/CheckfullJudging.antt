@@ -1,0 +1,31 @@
+-- How `checkfull` answers a full certificate of a loop.
+--   FailsFirst l c path       the part with this path is the first that doesn't hold
+--   IsJudgement l c j         where each judgement of the full certificate c may come
+--   Judges l c a              the answer a tells a judgement of it
+use Rattle.std.specs.Prelude.{◌≡◌, ℕ, List, length}
+use Rattle.loops.specs.Inv.{Inv}
+use Rattle.loops.specs.Program.{Expr, Program}
+use Rattle.rounds.specs.Generate.{Generates}
+use Rattle.loop_model.specs.Operations.{IsLimit, IsWide as IsWideOperation}
+use Rattle.loop_model.specs.Maps.{maps_operations, AreFree}
+use Rattle.completeness.specs.Full.{FullCertificate}
+use Rattle.completeness.specs.Parts.{Part, AllHold, IsFirst}
+use Rattle.cert_checker.specs.Paths.{path_of}
+use Rattle.cert_checker.specs.FullWide.{IsWide}
+use Rattle.io_edge.specs.Texts.{Answer}
+use Rattle.certificate_commands.specs.CheckfullTexts.{Judgement, complete, fails, map_limit, map_wide, wide_part, judgement_answer}
+
+abbrev pub FailsFirst : Program (Expr ℕ) → FullCertificate → List ℕ → Type 0
+FailsFirst l c path = (part : Part) × (path_of part ≡ path) × IsFirst l c part
+
+abbrev pub IsJudgement : Program (Expr ℕ) → FullCertificate → Judgement → Type 0
+IsJudgement l c complete = AreFree l × AllHold l c × Generates (length l.names) c.basis (Inv l)
+IsJudgement l c (fails path) = AreFree l × FailsFirst l c path
+IsJudgement l c (map_limit at) = IsLimit (length l.names) (maps_operations l) at
+IsJudgement l c (map_wide at) = IsWideOperation (length l.names) (maps_operations l) at
+IsJudgement l c (wide_part path) = AreFree l × IsWide l c path
+
+pub record Judges (l : Program (Expr ℕ)) (c : FullCertificate) (a : Answer) : Type 0 where
+  pub judgement : Judgement
+  pub is : IsJudgement l c judgement
+  pub says : a ≡ judgement_answer judgement

@@ -1,0 +1,16 @@
+pub mod CertificateWords
+pub mod CertificateTexts
+pub mod CertificateAsking
+pub mod CertificateViews
+pub mod CheckWords
+pub mod CheckTexts
+pub mod CheckJudging
+pub mod CheckCourse
+pub mod CheckClauses
+pub mod CheckViews
+pub mod CheckfullWords
+pub mod CheckfullTexts
+pub mod CheckfullJudging
+pub mod CheckfullCourse
+pub mod CheckfullClauses
+pub mod CheckfullViews

@@ -1,0 +1,72 @@
+//! `check LOOP CERT`: whether a certificate of a loop is valid.
+
+ghost use Rattle.std.specs.Prelude.{map, string_bytes, IfOk};
+ghost use Rattle.machines.specs.Journal.{Journal};
+ghost use Rattle.loop_model.specs.View.{program_of};
+ghost use Rattle.io_edge.specs.Change.{◌⟶◌};
+ghost use Rattle.io_edge.specs.Views.{answer_view, seen_answer};
+ghost use Rattle.io_edge.specs.Outcome.{Says, Obeys};
+ghost use Rattle.certificate_commands.specs.CertificateWords.{request_in};
+ghost use Rattle.certificate_commands.specs.CertificateAsking.{AnswersCertificate};
+ghost use Rattle.certificate_commands.specs.CheckJudging.{Judges, certificate_in};
+ghost use Rattle.certificate_commands.specs.CheckCourse.{course};
+ghost use Rattle.certificate_commands.specs.CertificateViews.{view};
+
+use crate::check_texts::{check_refusal, verdict_answer};
+use crate::{Request, certificate_refusal, read_words};
+use cert_form::read_cert;
+use command_parts::read_program;
+use io_edge::{Answer, Files, read_file};
+use loop_model::Loop;
+use std::alloc::{AllocError, Global};
+
+const CERTIFICATE_LIMIT: usize = 1_048_576;
+
+/// What `check` answers to the words behind it; none where they ask for no certificate.
+pub fn check<F: Files>(
+    alloc: Global,
+    words: &[String],
+    files: &mut F,
+) -> Result<Option<Answer>, AllocError>
+    ensures { (m : Journal) → Obeys course (request_in (map string_bytes words.now))
+        (F.seen files.old ⟶ F.seen files.new) (m ⟶ m) result }
+{
+    match read_words(words) {
+        Some(request) => io_edge::reply(answer_to(alloc, files, request)),
+        None => Ok(None),
+    }
+}
+
+fn answer_to<F: Files>(
+    alloc: Global,
+    files: &mut F,
+    request: Request<'_>,
+) -> Result<Answer, AllocError>
+    ensures { (m : Journal) → Says (course (view request.entry))
+        (F.seen files.old ⟶ F.seen files.new) (m ⟶ m)
+        (seen_answer result) }
+{
+    let lp = match read_program(alloc, files, request.file) {
+        Ok(lp) => lp,
+        Err(refusal) => return refusal,
+    };
+    match read_file(alloc, files, request.certificate, CERTIFICATE_LIMIT) {
+        Ok(bytes) => judge(alloc, &lp, &bytes),
+        Err(refusal) => refusal,
+    }
+}
+
+/// The answer by what the bytes of CERT are.
+fn judge(alloc: Global, lp: &Loop, bytes: &[u8]) -> Result<Answer, AllocError>
+    ensures { IfOk result (λ a. AnswersCertificate Judges (program_of lp.now)
+        (certificate_in (program_of lp.now) bytes.now) (answer_view a)) }
+{
+    let cert = match read_cert(alloc, bytes, lp.names(), lp.branches().len()) {
+        Ok(cert) => cert,
+        Err(e) => return certificate_refusal(alloc, e),
+    };
+    match cert_checker::check(alloc, lp, &cert) {
+        Ok(verdict) => verdict_answer(alloc, verdict),
+        Err(e) => check_refusal(alloc, e),
+    }
+}

@@ -1,0 +1,70 @@
+// What the answers of `check` say.
+ghost use Rattle.std.specs.Prelude.{◌≡◌, ◌<◌, Some, option_map, IfOk};
+ghost use Rattle.loops.specs.Certificate as certificate;
+ghost use Rattle.cert_checker.specs.Views.{verdict_of, failing_in, IsNumbered};
+ghost use Rattle.io_edge.specs.Views.{answer_view};
+ghost use Rattle.certificate_commands.specs.CheckViews.{judgement_of};
+ghost use Rattle.certificate_commands.specs.CheckTexts as texts;
+ghost use Rattle.certificate_commands.specs.CheckTexts.{verdict, wide_identity, judgement_answer};
+
+use cert_checker::{CheckError, Verdict};
+use command_parts::{fault_line, ordinal};
+use io_edge::{Answer, Status, line};
+use loop_model::MapError;
+use std::alloc::{AllocError, Global};
+
+/// To a certificate that was judged.
+pub(crate) fn verdict_answer(alloc: Global, outcome: Verdict) -> Result<Answer, AllocError>
+    requires { IsNumbered outcome }
+    ensures { IfOk result (λ a. answer_view a ≡ judgement_answer (verdict (verdict_of outcome))) }
+{
+    match outcome {
+        Verdict::Valid => line(alloc, Status::Yes, "valid", ""),
+        Verdict::StartFails { element } => start_fails(alloc, element),
+        Verdict::StepFails { branch, element } => step_fails(alloc, branch, element),
+    }
+}
+
+/// To a certificate that wasn't.
+pub(crate) fn check_refusal(alloc: Global, why: CheckError) -> Result<Answer, AllocError>
+    ensures { IfOk result (λ a. option_map judgement_answer (judgement_of why) ≡
+        Some (answer_view a)) }
+{
+    match why {
+        CheckError::Map(MapError::Limit { at }) => {
+            fault_line(alloc, Status::Fault, "loop: ", "limit", at)
+        }
+        CheckError::Map(MapError::Wide { at }) => {
+            fault_line(alloc, Status::Wide, "loop: ", "wide", at)
+        }
+        CheckError::Wide { branch, element } => wide_at(alloc, branch, element),
+        CheckError::Map(MapError::Memory) | CheckError::Memory => Err(AllocError),
+    }
+}
+
+fn start_fails(alloc: Global, element: usize) -> Result<Answer, AllocError>
+    ensures { IfOk result (λ a. answer_view a ≡
+        judgement_answer (verdict (certificate.start_fails element))) }
+{
+    let element = ordinal(element);
+    let text = format!(in alloc; "start fails: element {element}\n")?;
+    Ok(Answer::new(Status::No, text))
+}
+
+fn step_fails(alloc: Global, branch: usize, element: usize) -> Result<Answer, AllocError>
+    requires { 0 < branch }
+    ensures { IfOk result (λ a. answer_view a ≡
+        judgement_answer (verdict (failing_in branch element))) }
+{
+    let element = ordinal(element);
+    let text = format!(in alloc; "step fails: branch {branch}, element {element}\n")?;
+    Ok(Answer::new(Status::No, text))
+}
+
+fn wide_at(alloc: Global, branch: usize, element: usize) -> Result<Answer, AllocError>
+    ensures { IfOk result (λ a. answer_view a ≡ judgement_answer (wide_identity branch element)) }
+{
+    let element = ordinal(element);
+    let text = format!(in alloc; "wide: branch {branch}, element {element}\n")?;
+    Ok(Answer::new(Status::Wide, text))
+}

@@ -1,0 +1,38 @@
+// What the answers of `checkfull` say.
+ghost use Rattle.std.specs.Prelude.{◌≡◌, Some, option_map, IfOk};
+ghost use Rattle.io_edge.specs.Views.{answer_view};
+ghost use Rattle.certificate_commands.specs.CheckfullTexts.{judgement_answer};
+ghost use Rattle.certificate_commands.specs.CheckfullViews.{judgement_in, judgement_of};
+
+use cert_checker::{FullError, FullVerdict};
+use command_parts::fault_line;
+use io_edge::{Answer, Status, line};
+use loop_model::MapError;
+use std::alloc::{AllocError, Global};
+
+/// To a full certificate that was judged.
+pub(crate) fn verdict_answer(alloc: Global, outcome: FullVerdict) -> Result<Answer, AllocError>
+    ensures { IfOk result (λ a. answer_view a ≡ judgement_answer (judgement_in outcome)) }
+{
+    match outcome {
+        FullVerdict::Complete => line(alloc, Status::Yes, "complete", ""),
+        FullVerdict::Fails { path } => line(alloc, Status::No, "fails: ", path.as_str()),
+    }
+}
+
+/// To a full certificate that wasn't.
+pub(crate) fn judge_refusal(alloc: Global, why: FullError) -> Result<Answer, AllocError>
+    ensures { IfOk result (λ a. option_map judgement_answer (judgement_of why) ≡
+        Some (answer_view a)) }
+{
+    match why {
+        FullError::Map(MapError::Limit { at }) => {
+            fault_line(alloc, Status::Fault, "loop: ", "limit", at)
+        }
+        FullError::Map(MapError::Wide { at }) => {
+            fault_line(alloc, Status::Wide, "loop: ", "wide", at)
+        }
+        FullError::Wide { path } => line(alloc, Status::Wide, "wide: ", path.as_str()),
+        FullError::Map(MapError::Memory) | FullError::Memory => Err(AllocError),
+    }
+}

@@ -1,7 +1,0 @@
-use Rattle.std.proofs.Common.{◌≡◌, drop}
-use Rattle.chain_bases.specs.Code.{assigned_by}
-use Rattle.chain_bases.proofs.code.is_assigned.Given as goal
-
-abbrev pub invariant-loop-statement : goal.invariant-loop-statement
-invariant-loop-statement l = assigned_by (drop l.statement-index l.code) l.var ≡ assigned_by l.code
-    l.var

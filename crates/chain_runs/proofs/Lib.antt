@@ -1,3 +1,0 @@
-pub mod FaultPlaces
-pub mod ChainRuns
-pub mod Following

@@ -1,5 +1,0 @@
-pub mod Chains
-pub mod ChainReader
-pub mod Raising
-pub mod Seen
-pub mod States

@@ -1,2 +1,0 @@
-pub mod ChainRunWords
-pub mod ChainRunPromises

@@ -1,5 +1,0 @@
-use Rattle.std.proofs.Common.{length}
-use Rattle.closed_forms.proofs.solving.+push_growing.Given as goal
-
-abbrev pub decreases-push_growing : goal.decreases-push_growing
-decreases-push_growing l = length l.form.now

@@ -1,0 +1,48 @@
+use Rattle.std.proofs.Common.{◌++◌, List, length, ap, ◌∙◌}
+use Rattle.std.proofs.lemmas.List.{drop_all}
+use Rattle.frac128.specs.declared.fraction.Frac.{Frac}
+use Rattle.poly.specs.Seen.{terms_in}
+use Rattle.poly.specs.declared.Term.{Term}
+use Rattle.coprime_base.specs.Sizes.{sizes}
+use Rattle.expo.specs.Powers.{number_of}
+use Rattle.expo.proofs.Solved.{handed_on}
+use Rattle.closed_forms.proofs.Joining.{solved_none, solved_next, past_term_at, normal_at}
+use Rattle.closed_forms.proofs.Mixing.{tell, left_at}
+use Rattle.closed_forms.proofs.solving.push_solved.Goals as goal
+
+pub loop-term-init : goal.loop-term-init
+loop-term-init c = λ new h. h
+
+pub term_solved-requires-clause-normal : goal.term_solved-requires-clause-normal
+term_solved-requires-clause-normal c =
+    let bs = sizes c.args.base.now.items in
+    normal_at bs c.args.vars (number_of bs c.args.own.now) c.args.terms.now
+    c.loop-term.term-index c.term-item.result c.loop-term-test.true c.term-item.is
+    c.requires.normal
+
+pub loop-term-preserved : goal.loop-term-preserved
+loop-term-preserved c = λ new h.
+    let bs = sizes c.args.base.now.items in
+    c.loop-term.invariant new (solved_next bs c.args.vars (number_of bs c.args.own.now) _ _
+    c.term-item.result (terms_in c.in_ok-solution.solution) (tell c.loop-term.out.items)
+    (tell c.push_copies.new.out.items) new
+    (left_at c.args.terms.now c.loop-term.term-index c.term-item.result c.loop-term-test.true
+    c.term-item.is) c.in_ok-solution.ensures.solved
+    (c.in_ok-push_copies.ensures.terms ∙ ap (λ (ts : List (Term Frac)).
+    tell c.loop-term.out.items ++ tell ts) (c.deref.ensures.value
+    ∙ ap (λ v. v.items) c.terms.ensures)) h)
+
+pub returns-clause-terms : goal.returns-clause-terms
+returns-clause-terms c =
+    let bs = sizes c.args.base.now.items in
+    c.loop-term.invariant (tell c.loop-term.out.items)
+    (solved_none bs c.args.vars (number_of bs c.args.own.now) _ (tell c.loop-term.out.items)
+    (ap length (drop_all c.loop-term.term-index c.args.terms.now c.loop-term-test.false)))
+
+pub returns-in_err-solution-clause-wide : goal.returns-in_err-solution-clause-wide
+returns-in_err-solution-clause-wide c =
+    let bs = sizes c.args.base.now.items in
+    handed_on c.in_err-solution.field-0.0 c.from_residual.result c.from_residual.ensures.1
+    (λ x. past_term_at bs c.args.vars (number_of bs c.args.own.now) c.args.terms.now
+    c.loop-term.term-index c.term-item.result c.loop-term-test.true c.term-item.is
+    (c.in_err-solution.ensures.wide x))

@@ -1,0 +1,9 @@
+pub mod NumeralLaws
+pub mod Growing
+pub mod LoopCourses
+pub mod MapLimits
+pub mod ChainCourses
+pub mod Polynomials
+pub mod Reading
+pub mod Refusals
+pub mod StateLaws

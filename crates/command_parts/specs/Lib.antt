@@ -1,0 +1,11 @@
+pub mod Numerals
+pub mod Budgets
+pub mod Lookup
+pub mod FileRequests
+pub mod FileViews
+pub mod FaultTexts
+pub mod LoopReading
+pub mod ChainReading
+pub mod Equations
+pub mod EquationReading
+pub mod StateTexts

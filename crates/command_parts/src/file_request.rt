@@ -1,0 +1,40 @@
+// The words `[--budget N] FILE`.
+ghost use Rattle.std.specs.Prelude.{◌≡◌, map, string_bytes, option_map};
+ghost use Rattle.command_parts.specs.Budgets.{units_of};
+ghost use Rattle.command_parts.specs.FileRequests.{request_in, request_within};
+ghost use Rattle.command_parts.specs.FileViews.{view};
+
+use crate::budget::Budget;
+use crate::numerals::read_budget;
+use io_edge::names_a_file;
+
+/// A file, and the budget for what is computed of it.
+#[derive(Clone, Copy)]
+pub struct FileRequest<'a> {
+    pub budget: Budget,
+    pub file: &'a String,
+}
+
+/// The file and the budget that the words give: the usual one where they give none. `None` where they are no such words.
+pub fn read_file_request(words: &[String]) -> Option<FileRequest<'_>>
+    ensures { option_map view result ≡ request_in (map string_bytes words.now) }
+{
+    match words {
+        [file] if names_a_file(file) => within_budget(Some(Budget::usual()), file),
+        [option, number, file] if option.as_str() == "--budget" && names_a_file(file) => {
+            within_budget(read_budget(number.as_bytes()), file)
+        }
+        _ => None,
+    }
+}
+
+/// The request for this file, where there is a budget.
+fn within_budget(budget: Option<Budget>, file: &String) -> Option<FileRequest<'_>>
+    ensures { option_map view result
+        ≡ request_within (option_map units_of budget) (string_bytes file.now) }
+{
+    match budget {
+        Some(budget) => Some(FileRequest { budget, file }),
+        None => None,
+    }
+}

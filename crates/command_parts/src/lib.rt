@@ -1,0 +1,25 @@
+//! What commands share in their arguments and answers: budgets, counts, letters and values, the files LOOP and CHAIN, the equation, and
+//! states as texts.
+//!
+//! Proved: what is read is the number, the loop, the chain or the polynomial that the text is, or the answer tells its first fault; an
+//! equation holds exactly where its polynomial is an invariant.
+#![tactic(auto)]
+
+mod budget;
+mod chain_reading;
+pub mod equation_laws;
+mod equation_word;
+mod fault_texts;
+mod file_request;
+mod loop_reading;
+mod numerals;
+mod state_text;
+
+pub use budget::Budget;
+pub use chain_reading::read_file_chain;
+pub use equation_word::read_polynomial;
+pub use fault_texts::{fault_line, ordinal, text_refusal};
+pub use file_request::{FileRequest, read_file_request};
+pub use loop_reading::read_program;
+pub use numerals::{read_budget, read_count, read_letters, read_values};
+pub use state_text::push_states;

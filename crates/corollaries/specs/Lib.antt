@@ -1,0 +1,9 @@
+pub mod Order
+pub mod Journal
+pub mod CodeBetween
+pub mod Between
+pub mod Analysed
+pub mod Word
+pub mod Counter
+pub mod Point
+pub mod Image

@@ -1,9 +1,0 @@
-use Rattle.counter_command.proofs.Shown.{run_refutes, holds_of_words}
-use Rattle.counter_command.proofs.laws.counter_runs_refute_equations.Goals as goal
-
-pub returns : goal.returns
-returns c = record {
-  refutes = λ text equation said n l e shows is holds.
-      run_refutes text equation said n l e shows is holds;
-  holds = λ l e h. holds_of_words l e h;
-}

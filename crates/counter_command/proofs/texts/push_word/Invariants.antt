@@ -1,7 +1,0 @@
-use Rattle.std.proofs.Common.{◌≡◌, ◌++◌, string_bytes, take}
-use Rattle.counter_command.specs.Texts.{letters_text}
-use Rattle.counter_command.proofs.texts.push_word.Given as goal
-
-abbrev pub invariant-loop-letter : goal.invariant-loop-letter
-invariant-loop-letter l =
-    string_bytes l.text ≡ string_bytes l.initial.text ++ letters_text (take l.letter-index l.word)

@@ -1,3 +1,0 @@
-pub mod Polynomials
-pub mod Reading
-pub mod Refusals

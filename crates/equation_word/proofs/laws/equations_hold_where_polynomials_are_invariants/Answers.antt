@@ -1,5 +1,0 @@
-use Rattle.equation_word.proofs.Polynomials.{holds_invariant}
-use Rattle.equation_word.proofs.laws.equations_hold_where_polynomials_are_invariants.Goals as goal
-
-pub returns : goal.returns
-returns c = λ l e. holds_invariant l e

@@ -1,6 +1,0 @@
-use Rattle.expressions.specs.View.{expr_of}
-use Rattle.expressions.proofs.ExprSize.{size_of}
-use Rattle.expressions.proofs.forming.+expr_poly.Given as goal
-
-abbrev pub decreases-expr_poly : goal.decreases-expr_poly
-decreases-expr_poly l = size_of (expr_of l.expr.now)

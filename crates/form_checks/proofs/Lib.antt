@@ -1,4 +1,0 @@
-pub mod Walks
-pub mod Bases
-pub mod Normal
-pub mod Passings

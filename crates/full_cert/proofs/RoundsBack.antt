@@ -1,0 +1,302 @@
+-- The rounds of a full certificate that are written are read as themselves.
+--   AreStagesReadable program c     the polynomials of its stages are readable
+--   rounds_read      the rounds, where they have as many of all as they must
+use Rattle.std.proofs.Common.{◌≡◌, ℕ, zero, suc, ◌+◌, ◌<◌, List, [], ◌∷◌, length, map, get_or, pred, refl, sym, ap, ap₂, subst, ◌∙◌, arith, Ok}
+use Rattle.std.specs.Prelude.{true, Option, Some, None, codes, is_some}
+use Rattle.std.specs.Option.{ok_or, option_map_or}
+use Rattle.std.proofs.lemmas.List.{length-append, length-map}
+use Rattle.serde_json.specs.Data.{Data}
+use Rattle.serde_json.specs.View.{items_of}
+use Rattle.serde_json.specs.Find.{get}
+use Rattle.serde_json.proofs.OnLiterals.{serde_json_on_literals}
+use Rattle.algebra.specs.Fraction.{Fraction, rationals}
+use Rattle.polynomials.specs.Order.{IsMonomialOrder, grevlex}
+use Rattle.polynomials.specs.Terms.{Terms}
+use Rattle.polynomials.proofs.Orders.{grevlex_order, blocks_order}
+use Rattle.machines.specs.Collect.{collect}
+use Rattle.loops.specs.Program.{Expr, Program}
+use Rattle.rounds.specs.Form.{front, orbit_order, relations}
+use Rattle.cert_form.specs.Form.{on, after, part, shape}
+use Rattle.cert_form.specs.Path.{member_path}
+use Rattle.cert_form.specs.Written.{list_data}
+use Rattle.completeness.specs.Stage.{Stage, block_order}
+use Rattle.completeness.specs.Full.{FullCertificate, WrittenForm, BranchStages, orbit, meet, form_of, stage_of, front_of, of_option, so_far, before, starting}
+use Rattle.completeness.specs.Counts.{IsStageCounted, no_branch, IsCounted}
+use Rattle.full_cert.specs.PartsForm.{stage_at}
+use Rattle.full_cert.specs.Form.{member_stage, alone, with_orbit, branch_at, given_by, branches_at, last_given, rounds_at, rounds_in}
+use Rattle.full_cert.proofs.Counted.{last_of, length-relations_to}
+use Rattle.full_cert.specs.Written.{stage_data, orbit_object, meet_object, branch_data, round_data}
+use Rattle.full_cert.proofs.PartsBack.{IsStageReadable, stage_reads, with_count}
+
+block_is_order : (k : ℕ) → IsMonomialOrder (block_order k)
+block_is_order k = blocks_order k grevlex grevlex grevlex_order grevlex_order
+
+abbrev no_form : WrittenForm
+no_form = record { base = []; polys = [] }
+
+-- ---- a branch
+abbrev HasMeet : ℕ → Option ℕ → BranchStages → Type 0
+HasMeet m None s = s.meet_stage ≡ None
+HasMeet m (Some n) s = (t : Stage) × (s.meet_stage ≡ Some t) × IsStageReadable 1 m t
+    × IsStageCounted 1 (n + length s.orbit_stage.out) t
+
+record IsBranchReadable (m before : ℕ) (so_far : Option ℕ) (f : WrittenForm) (s : BranchStages)
+    : Type 0 where
+  orbit : IsStageReadable (front (length f.base)) m s.orbit_stage
+  counted : IsStageCounted (front (length f.base)) (before + suc (length f.base)) s.orbit_stage
+  meet : HasMeet m so_far s
+
+module _ (d : Data) where
+  at_alone : get (codes "orbit") (orbit_object d) ≡ Some d
+  unfolding serde_json_on_literals
+  at_alone = refl
+
+  module _ (e : Data) where
+    at_orbit : get (codes "orbit") (meet_object e d) ≡ Some d
+    unfolding serde_json_on_literals
+    at_orbit = refl
+
+    at_meet : get (codes "meet") (meet_object e d) ≡ Some e
+    unfolding serde_json_on_literals
+    at_meet = refl
+
+member_reads : (k m n : ℕ) (path name : List ℕ) (d : Data) (s : Stage)
+    → get name d ≡ Some (stage_data s) → IsStageReadable k m s → IsStageCounted k n s
+    → member_stage k m n path name d ≡ Ok s
+member_reads k m n path name d s there h c =
+    ap (λ x. on (stage_at k m n (member_path path name)) (ok_or x (shape (member_path path name))))
+    there
+    ∙ stage_reads k m n (member_path path name) s (block_is_order k) h c
+
+alone_reads : (m before : ℕ) (f : WrittenForm) (path : List ℕ) (o : Stage)
+    → IsStageReadable (front (length f.base)) m o
+    → IsStageCounted (front (length f.base)) (before + suc (length f.base)) o
+    → branch_at m before None f path (branch_data (alone o)) ≡ Ok (alone o)
+alone_reads m before f path o h c =
+    ap (on (λ s. Ok (alone s))) (member_reads (front (length f.base)) m
+    (before + suc (length f.base)) path (codes "orbit") (orbit_object (stage_data o)) o
+    (at_alone (stage_data o)) h c)
+
+abbrev both : Stage → Stage → BranchStages
+both o t = record { orbit_stage = o; meet_stage = Some t }
+
+both_read : (m before n : ℕ) (f : WrittenForm) (path : List ℕ) (o t : Stage)
+    → IsStageReadable (front (length f.base)) m o
+    → IsStageCounted (front (length f.base)) (before + suc (length f.base)) o
+    → IsStageReadable 1 m t → IsStageCounted 1 (n + length o.out) t
+    → branch_at m before (Some n) f path (branch_data (both o t)) ≡ Ok (both o t)
+both_read m before n f path o t h c k l =
+    let d : Data = meet_object (stage_data t) (stage_data o) in
+    ap (on (with_orbit m n path d)) (member_reads (front (length f.base)) m
+    (before + suc (length f.base)) path (codes "orbit") d o (at_orbit (stage_data o) (stage_data t))
+    h c)
+    ∙ ap (on (λ s. Ok (both o s))) (member_reads 1 m (n + length o.out) path (codes "meet") d t
+    (at_meet (stage_data o) (stage_data t)) k l)
+
+branch_reads : (m before : ℕ) (so_far : Option ℕ) (f : WrittenForm) (path : List ℕ)
+    (s : BranchStages)
+    → IsBranchReadable m before so_far f s
+    → branch_at m before so_far f path (branch_data s) ≡ Ok s
+branch_reads m before None f path s h =
+    let same : alone s.orbit_stage ≡ s =
+    sym (ap (λ x. record { orbit_stage = s.orbit_stage; meet_stage = x }) h.meet) in
+    subst (λ b. branch_at m before None f path (branch_data b) ≡ Ok b) same
+    (alone_reads m before f path s.orbit_stage h.orbit h.counted)
+branch_reads m before (Some n) f path s h =
+    let t : Stage = h.meet.0 in
+    let same : both s.orbit_stage t ≡ s =
+    sym (ap (λ x. record { orbit_stage = s.orbit_stage; meet_stage = x }) h.meet.1) in
+    subst (λ b. branch_at m before (Some n) f path (branch_data b) ≡ Ok b) same
+    (both_read m before n f path s.orbit_stage t h.orbit h.counted h.meet.2 h.meet.3)
+
+-- ---- branches and rounds, one after another
+abbrev AreBranchesReadable : ℕ → ℕ → Option ℕ → List WrittenForm → List BranchStages → Type 0
+AreBranchesReadable m before so_far [] [] = Unit {0}
+AreBranchesReadable m before so_far [] (s ∷ ss) = ⊥
+AreBranchesReadable m before so_far (f ∷ fs) [] = ⊥
+AreBranchesReadable m before so_far (f ∷ fs) (s ∷ ss) =
+    IsBranchReadable m before so_far f s × AreBranchesReadable m before (Some (given_by s)) fs ss
+
+abbrev AreRoundsReadable : ℕ → ℕ → List WrittenForm → List (List BranchStages) → Type 0
+AreRoundsReadable m before fs [] = Unit {0}
+AreRoundsReadable m before fs (row ∷ rows) =
+    AreBranchesReadable m before None fs row × AreRoundsReadable m (last_given before row) fs rows
+
+branches_read : (m before : ℕ) (so_far : Option ℕ) (fs : List WrittenForm) (path : List ℕ) (b : ℕ)
+    (ss : List BranchStages) → AreBranchesReadable m before so_far fs ss
+    → branches_at m before so_far fs path b (items_of (map branch_data ss)) ≡ Ok ss
+branches_read m before so_far [] path b [] h = refl
+branches_read m before so_far [] path b (s ∷ ss) h = absurd h
+branches_read m before so_far (f ∷ fs) path b [] h = absurd h
+branches_read m before so_far (f ∷ fs) path b (s ∷ ss) h =
+    ap (on (λ x. after (x ∷ []) (branches_at m before (Some (given_by x)) fs path (suc b)
+    (items_of (map branch_data ss))))) (branch_reads m before so_far f (part path b) s h.0)
+    ∙ ap (after (s ∷ []))
+    (branches_read m before (Some (given_by s)) fs path (suc b) ss h.1)
+
+as_many : (m before : ℕ) (so_far : Option ℕ) (fs : List WrittenForm) (ss : List BranchStages)
+    → AreBranchesReadable m before so_far fs ss → length ss ≡ length fs
+as_many m before so_far [] [] h = refl
+as_many m before so_far [] (s ∷ ss) h = absurd h
+as_many m before so_far (f ∷ fs) [] h = absurd h
+as_many m before so_far (f ∷ fs) (s ∷ ss) h =
+    ap suc (as_many m before (Some (given_by s)) fs ss h.1)
+
+each_round_reads : (m before : ℕ) (fs : List WrittenForm) (path : List ℕ) (r : ℕ)
+    (rows : List (List BranchStages)) → AreRoundsReadable m before fs rows
+    → rounds_at m before fs path r (items_of (map round_data rows)) ≡ Ok rows
+each_round_reads m before fs path r [] h = refl
+each_round_reads m before fs path r (row ∷ rows) h =
+    ap (on (λ x. after (x ∷ []) (rounds_at m (last_given before x) fs path (suc r)
+    (items_of (map round_data rows)))))
+    (ap (λ o. on (branches_at m before None fs (part path r) 0) (ok_or o (shape (part path r))))
+    (with_count branch_data (length fs) row (as_many m before None fs row h.0))
+    ∙ branches_read m before None fs (part path r) 0 row h.0)
+    ∙ ap (after (row ∷ []))
+    (each_round_reads m (last_given before row) fs path (suc r) rows h.1)
+
+-- ---- from what each place has
+branches_from : (m before : ℕ) (told : ℕ → Option ℕ) (fs : List WrittenForm)
+    (ss : List BranchStages)
+    → length ss ≡ length fs
+    → ((b : ℕ) → b < length fs
+    → IsBranchReadable m before (told b) (get_or fs b no_form) (get_or ss b no_branch))
+    → ((b : ℕ) → b < length fs → told (suc b) ≡ Some (given_by (get_or ss b no_branch)))
+    → AreBranchesReadable m before (told 0) fs ss
+branches_from m before told [] [] many each next = tt
+branches_from m before told [] (s ∷ ss) many each next = absurd (omega (arith, many))
+branches_from m before told (f ∷ fs) [] many each next = absurd (omega (arith, many))
+branches_from m before told (f ∷ fs) (s ∷ ss) many each next = (
+  each 0 (omega arith),
+  subst (λ x. AreBranchesReadable m before x fs ss) (next 0 (omega arith))
+      (branches_from m before (λ b. told (suc b)) fs ss (omega (arith, many))
+      (λ b l. each (suc b) (omega (arith, l))) (λ b l. next (suc b) (omega (arith, l)))),
+)
+
+rounds_from : (m : ℕ) (told : ℕ → ℕ) (fs : List WrittenForm) (rows : List (List BranchStages))
+    → ((r : ℕ) → r < length rows → AreBranchesReadable m (told r) None fs (get_or rows r []))
+    → ((r : ℕ) → r < length rows → told (suc r) ≡ last_given (told r) (get_or rows r []))
+    → AreRoundsReadable m (told 0) fs rows
+rounds_from m told fs [] each next = tt
+rounds_from m told fs (row ∷ rows) each next = (
+  each 0 (omega arith),
+  subst (λ n. AreRoundsReadable m n fs rows) (next 0 (omega arith))
+      (rounds_from m (λ r. told (suc r)) fs rows (λ r l. each (suc r) (omega (arith, l)))
+      (λ r l. next (suc r) (omega (arith, l)))),
+)
+
+-- ---- the certificate
+module _ {At : Type 0} (program : Program (Expr At)) (c : FullCertificate) where
+  abbrev m : ℕ
+  m = length program.names
+
+  abbrev n : ℕ
+  n = length program.branches
+
+  pub record AreStagesReadable : Type 0 where
+    pub orbit : (r b : ℕ) → r < length c.rounds → b < n
+        → IsStageReadable (front_of c b orbit) m (stage_of c r b orbit)
+    pub meet : (r b : ℕ) → r < length c.rounds → b < n → 0 < b
+        → IsStageReadable 1 m (stage_of c r b meet)
+
+  orbit_begins : (r b : ℕ) → length (starting program c r b orbit)
+      ≡ length (before program c r) + suc (length (form_of c b).base)
+  orbit_begins r b =
+      let told : Terms Fraction → Terms Fraction =
+      collect rationals (orbit_order (length (form_of c b).base)) in
+      length-append (map _ (before program c r))
+      (map told (relations (length (form_of c b).base) m))
+      ∙ ap₂ ◌+◌ (length-map (before program c r) _)
+      (length-map (relations (length (form_of c b).base) m) told
+      ∙ ap suc (length-relations_to (length (form_of c b).base) (front (length (form_of c b).base)
+      + m)
+      (length (form_of c b).base)))
+
+  meet_begins : (r b : ℕ) → length (starting program c r (suc b) meet)
+      ≡ length (so_far c r b) + length (stage_of c r (suc b) orbit).out
+  meet_begins r b =
+      length-append (map _ (so_far c r b)) (map _ (stage_of c r (suc b) orbit).out)
+      ∙ ap₂ ◌+◌ (length-map (so_far c r b) _) (length-map (stage_of c r (suc b) orbit).out _)
+
+  module _ (counted : IsCounted program c) (readable : AreStagesReadable) (r : ℕ)
+      (within : r < length c.rounds) where
+    abbrev row : List BranchStages
+    row = get_or c.rounds r []
+
+    abbrev told : ℕ → Option ℕ
+    told zero = None
+    told (suc b) = Some (length (so_far c r b))
+
+    row_many : length row ≡ n
+    row_many = counted.rounds r [] within
+
+    some_meet : (o : Option Stage) → is_some o ≡ true → o ≡ Some (of_option o)
+    some_meet None e = absurd (cc)
+    some_meet (Some t) e = refl
+
+    given : (b : ℕ) → b < n → length (so_far c r b) ≡ given_by (get_or row b no_branch)
+    unfolding so_far
+    given zero l = sym (ap (λ x. option_map_or (λ (s : Stage). length s.out) x
+        (length (get_or row 0 no_branch).orbit_stage.out)) (counted.first r within l))
+    given (suc b) l = sym (ap (λ x. option_map_or (λ (s : Stage). length s.out) x
+        (length (get_or row (suc b) no_branch).orbit_stage.out))
+        (some_meet (get_or row (suc b) no_branch).meet_stage
+        (counted.others r (suc b) within (omega arith) l)))
+
+    branch_at_place : (b : ℕ) → b < n
+        → IsBranchReadable m (length (before program c r)) (told b) (get_or c.forms b no_form)
+        (get_or row b no_branch)
+    branch_at_place zero l = record {
+      orbit = readable.orbit r 0 within l;
+      counted = subst (λ k. IsStageCounted (front (length (form_of c 0).base)) k
+          (stage_of c r 0 orbit)) (orbit_begins r 0) (counted.stages r 0 within l).orbit;
+      meet = counted.first r within l;
+    }
+    branch_at_place (suc b) l = record {
+      orbit = readable.orbit r (suc b) within l;
+      counted = subst (λ k. IsStageCounted (front (length (form_of c (suc b)).base)) k
+          (stage_of c r (suc b) orbit)) (orbit_begins r (suc b))
+          (counted.stages r (suc b) within l).orbit;
+      meet = (
+        stage_of c r (suc b) meet,
+        some_meet (get_or row (suc b) no_branch).meet_stage
+            (counted.others r (suc b) within (omega arith) l),
+        readable.meet r (suc b) within l (omega arith),
+        subst (λ k. IsStageCounted 1 k (stage_of c r (suc b) meet)) (meet_begins r b)
+            ((counted.stages r (suc b) within l).meet (omega arith)),
+      );
+    }
+
+    round_readable : AreBranchesReadable m (length (before program c r)) None c.forms row
+    round_readable =
+        let many : length c.forms ≡ n = counted.forms in
+        branches_from m (length (before program c r)) told c.forms row (row_many ∙ sym many)
+        (λ b l. branch_at_place b (omega (arith, l, many)))
+        (λ b l. ap Some (given b (omega (arith, l, many))))
+
+    goes_on : 0 < n → length (before program c (suc r))
+        ≡ last_given (length (before program c r)) row
+    unfolding before
+    goes_on some =
+        let many : length row ≡ n = row_many in
+        given (pred n) (omega (arith, some))
+        ∙ ap (λ k. given_by (get_or row (pred k) no_branch)) (sym many)
+        ∙ sym (last_of (length (before program c r)) row (omega (arith, some, many)))
+
+  rounds_readable : IsCounted program c → AreStagesReadable → 0 < n
+      → AreRoundsReadable m (length (before program c 0)) c.forms c.rounds
+  rounds_readable counted readable some =
+      rounds_from m (λ r. length (before program c r)) c.forms c.rounds
+      (round_readable counted readable) (λ r l. goes_on counted readable r l some)
+
+  first_before : length (before program c 0) ≡ length c.start_out
+  unfolding before
+  first_before = refl
+
+  pub rounds_read : IsCounted program c → AreStagesReadable → 0 < n → (path : List ℕ)
+      → rounds_in m (length c.start_out) c.forms path (Some (list_data round_data c.rounds))
+      ≡ Ok c.rounds
+  rounds_read counted readable some path =
+      each_round_reads m (length c.start_out) c.forms path 0 c.rounds
+      (subst (λ k. AreRoundsReadable m k c.forms c.rounds) first_before
+      (rounds_readable counted readable some))

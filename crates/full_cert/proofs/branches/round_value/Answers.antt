@@ -1,0 +1,24 @@
+use Rattle.task_lists.specs.View.{branch_in}
+use Rattle.full_cert.specs.Narrow.{IsBranchNarrow}
+use Rattle.full_cert.specs.Written.{branch_data}
+use Rattle.std.proofs.Common.{refl}
+use Rattle.cert_form.proofs.Listed.{listed_start, listed_more, listed_all, pushed, list_is}
+use Rattle.full_cert.proofs.branches.round_value.Goals as goal
+
+pub loop-element-init : goal.loop-element-init
+loop-element-init c = listed_start _ _ _ _ c.new-values.ensures.items
+
+pub loop-element-preserved : goal.loop-element-preserved
+loop-element-preserved c =
+    listed_more _ _ _ c.args.branches.now refl c.loop-element.element-index
+    c.loop-element.values.items
+    c.loop-element.invariant c.element-item.result _ c.loop-element-test.true c.element-item.is
+    (pushed _ _ _ _ c.in_ok-push.ensures.items c.in_ok-branch_value.ensures.value)
+    c.in_ok-branch_value.ensures.holds
+
+pub returns : goal.returns
+returns c =
+    list_is branch_in branch_data IsBranchNarrow c.args.branches.now c.loop-element.values.items _
+    (listed_all _ _ _ c.args.branches.now refl c.loop-element.element-index
+    c.loop-element.values.items
+    c.loop-element.invariant c.loop-element-test.false) c.from.ensures

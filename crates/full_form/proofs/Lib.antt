@@ -1,6 +1,0 @@
-pub mod EachBranch
-pub mod EachRound
-pub mod FullOver
-pub mod Counted
-pub mod Documents
-pub mod Rest

@@ -1,5 +1,0 @@
-use Rattle.full_parts.proofs.Counts.{same_count}
-use Rattle.full_parts.proofs.stage.are_pairs.Goals as goal
-
-pub returns : goal.returns
-returns c = same_count c.args.pairs c.args.count

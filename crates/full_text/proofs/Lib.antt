@@ -1,9 +1,0 @@
-pub mod Plain
-pub mod Wholes
-pub mod NumberBack
-pub mod TermBack
-pub mod PartsBack
-pub mod RoundsBack
-pub mod WholeBack
-pub mod Readable
-pub mod TextBack

@@ -1,8 +1,0 @@
-mod Variables
-mod Copies
-mod Differences
-mod Passers
-mod OneTurnBack
-mod Placing
-mod LateLists
-mod Lists

@@ -1,5 +1,0 @@
-use Rattle.std.proofs.Common.{length}
-use Rattle.graph_lists.proofs.graph.+push_differences.Given as goal
-
-abbrev pub decreases-push_differences : goal.decreases-push_differences
-decreases-push_differences l = length l.forms.now

@@ -1,0 +1,177 @@
+-- The pages of help, and which words ask for which.
+--   page_named name        the page of the command of this name
+--   page_behind_help words the page that the words behind `help` ask for;  page_alone page words: this one, where there are none
+--   text_of page           what is printed, byte for byte
+use Rattle.std.specs.Prelude.{ℕ, List, [], ◌∷◌, ◌++◌, Option, Some, None, codes, if◌then◌else◌}
+use Rattle.std.specs.Str.{bytes_eq}
+use Rattle.io_edge.specs.Texts.{line}
+use Rattle.invar_app.specs.declared.pages.Page.{Page}
+use Rattle.invar_app.specs.declared.pages.Page.TheVariants as page
+
+abbrev pub page_named : List ℕ → Option Page
+page_named name =
+    if bytes_eq name (codes "basis") then Some page.Basis
+    else (if bytes_eq name (codes "member") then Some page.Member
+    else (if bytes_eq name (codes "counter") then Some page.Counter
+    else (if bytes_eq name (codes "cert") then Some page.Cert
+    else (if bytes_eq name (codes "check") then Some page.Check
+    else (if bytes_eq name (codes "full") then Some page.Full
+    else (if bytes_eq name (codes "checkfull") then Some page.CheckFull
+    else (if bytes_eq name (codes "run") then Some page.Run
+    else (if bytes_eq name (codes "chain") then Some page.Chain
+    else (if bytes_eq name (codes "chainrun") then Some page.ChainRun
+    else (if bytes_eq name (codes "relations") then Some page.Relations
+    else (if bytes_eq name (codes "gen") then Some page.Gen
+    else None)))))))))))
+
+abbrev pub page_behind_help : List (List ℕ) → Option Page
+page_behind_help [] = Some page.Overview
+page_behind_help (name ∷ []) = page_named name
+page_behind_help (name ∷ more ∷ rest) = None
+
+abbrev pub page_alone : Page → List (List ℕ) → Option Page
+page_alone it [] = Some it
+page_alone it (word ∷ rest) = None
+
+abbrev pub loop_commands : List ℕ
+loop_commands =
+    line (codes "invar finds all polynomial equations that always hold at the head of a loop. Its")
+    ++ line (codes "machine-checked proof says that each of them holds and that none is missing.")
+    ++ line (codes "")
+    ++ line (codes "About a loop:")
+    ++ line (codes "  basis [--budget N] LOOP              the reduced basis of all invariants")
+    ++ line (codes "  member [--budget N] LOOP EQUATION    yes with its proof, or no")
+    ++ line (codes "  counter [--length N] LOOP EQUATION   the first run after which it is wrong")
+    ++ line (codes "  cert [--budget N] LOOP               the basis as a certificate")
+    ++ line (codes "  check LOOP CERT                      is each polynomial listed an invariant?")
+    ++ line (codes "  full [--budget N] LOOP               a certificate that none is missing")
+    ++ line (codes "  checkfull LOOP CERT                  do they generate all invariants?")
+    ++ line (codes "  run LOOP WORD VALUES                 the states of a run")
+
+abbrev pub other_commands : List ℕ
+other_commands =
+    line (codes "About loops one after another, and about sequences:")
+    ++ line (codes "  chain [--budget N] CHAIN             for each loop what holds at its head")
+    ++ line (codes "  chainrun CHAIN WORDS VALUES          the states of a run of such loops")
+    ++ line (codes "  relations [--budget N] FILE          the basis of all relations of sequences")
+    ++ line (codes "Other:")
+    ++ line (codes "  gen NUMBER                           counts over a family of loops")
+    ++ line (codes "  help [COMMAND], --help               this text, or more about one command")
+    ++ line (codes "  --version                            the version")
+    ++ line (codes "")
+    ++ line (codes "An option stands before the file:")
+    ++ line (codes "  --budget N   at most N steps of an analysis, 1 to 1000000; else 200000")
+    ++ line (codes "  --length N   words of at most N branches, 0 to 6; else 4")
+    ++ line (codes "")
+    ++ line (codes "Status: 0 an answer, or yes; 1 no; 2 the words are no command; 3 a fault of a")
+    ++ line (codes "text, or a loop that isn't taken; 4 a number may not fit into 128 bits; 5 the")
+    ++ line (codes "budget is spent; 6 no memory; 7 a file can't be read or is too long; 8 writing")
+    ++ line (codes "failed.")
+    ++ line (codes "")
+    ++ line (codes "Examples:")
+    ++ line (codes "  invar basis examples/squares.loop")
+    ++ line (codes "  invar member examples/squares.loop 's = (a+1)^2'")
+
+abbrev pub version : List ℕ
+version =
+    line (codes "invar 1.0.0")
+
+abbrev pub head_of : Page → List ℕ
+head_of page.Overview = loop_commands
+head_of page.Version = version
+head_of page.Basis = line (codes "invar basis [--budget N] LOOP")
+head_of page.Member = line (codes "invar member [--budget N] LOOP EQUATION")
+head_of page.Counter = line (codes "invar counter [--length N] LOOP EQUATION")
+head_of page.Cert = line (codes "invar cert [--budget N] LOOP")
+head_of page.Check = line (codes "invar check LOOP CERT")
+head_of page.Full = line (codes "invar full [--budget N] LOOP")
+head_of page.CheckFull = line (codes "invar checkfull LOOP CERT")
+head_of page.Run = line (codes "invar run LOOP WORD VALUES")
+head_of page.Chain = line (codes "invar chain [--budget N] CHAIN")
+head_of page.ChainRun = line (codes "invar chainrun CHAIN WORDS VALUES")
+head_of page.Relations = line (codes "invar relations [--budget N] FILE")
+head_of page.Gen = line (codes "invar gen NUMBER")
+
+abbrev pub about_basis : List ℕ
+about_basis =
+    line (codes "Prints the reduced basis of all polynomial invariants of the loop in the file")
+    ++ line (codes "LOOP, an equation a line, or `none`. Each invariant is a combination of these.")
+
+abbrev pub about_member : List ℕ
+about_member =
+    line (codes "Prints `yes`, with status 0, where the equation holds at the end of every run")
+    ++ line (codes "of the loop, and a cofactor for each element of the basis: the products of the")
+    ++ line (codes "two add up to the left side minus the right side. Prints `no`, with status 1,")
+    ++ line (codes "where it fails at the end of some run.")
+
+abbrev pub about_counter : List ℕ
+about_counter =
+    line (codes "Prints the first word of at most N branches after which the equation doesn't")
+    ++ line (codes "hold, the states of a run with it and the left side minus the right side at")
+    ++ line (codes "its end, with status 1; or `none up to N`, with status 0.")
+
+abbrev pub about_cert : List ℕ
+about_cert =
+    line (codes "Prints the basis as a certificate, with the cofactors that show that a turn of")
+    ++ line (codes "each branch keeps it zero. `invar check` reads it.")
+
+abbrev pub about_check : List ℕ
+about_check =
+    line (codes "Prints `valid`, with status 0, where the certificate in the file CERT shows that")
+    ++ line (codes "each polynomial that it lists is an invariant of the loop; else the first part")
+    ++ line (codes "that doesn't hold, with status 1.")
+
+abbrev pub about_full : List ℕ
+about_full =
+    line (codes "Prints the basis as a full certificate, which shows too that it generates all")
+    ++ line (codes "invariants. `invar checkfull` reads it.")
+
+abbrev pub about_checkfull : List ℕ
+about_checkfull =
+    line (codes "Prints `complete`, with status 0, where the full certificate in the file CERT")
+    ++ line (codes "shows that its polynomials generate all invariants of the loop; else the first")
+    ++ line (codes "part that doesn't hold, with status 1.")
+
+abbrev pub about_run : List ℕ
+about_run =
+    line (codes "Prints the states of a run, one a line. WORD has the numbers of the branches,")
+    ++ line (codes "VALUES those of the variables at the start; both are joined by commas.")
+
+abbrev pub about_chain : List ℕ
+about_chain =
+    line (codes "Prints for each of the loops one after another in the file CHAIN the reduced")
+    ++ line (codes "basis of what holds at its head after all that comes before it.")
+
+abbrev pub about_chainrun : List ℕ
+about_chainrun =
+    line (codes "Prints the states of a run of loops one after another. WORDS has one word for")
+    ++ line (codes "each loop, joined by `/`; words and values are those of `invar run`.")
+
+abbrev pub about_relations : List ℕ
+about_relations =
+    line (codes "Prints the reduced basis of all polynomial relations of sequences that are given")
+    ++ line (codes "by recurrences in the file FILE, an equation a line, or `none`.")
+
+abbrev pub about_gen : List ℕ
+about_gen =
+    line (codes "Analyses the first so many loops of a family, 1 to 1000, and prints how many")
+    ++ line (codes "loops and elements there are, and the greatest degree. It reads no file.")
+
+abbrev pub body_of : Page → List ℕ
+body_of page.Overview = other_commands
+body_of page.Version = []
+body_of page.Basis = about_basis
+body_of page.Member = about_member
+body_of page.Counter = about_counter
+body_of page.Cert = about_cert
+body_of page.Check = about_check
+body_of page.Full = about_full
+body_of page.CheckFull = about_checkfull
+body_of page.Run = about_run
+body_of page.Chain = about_chain
+body_of page.ChainRun = about_chainrun
+body_of page.Relations = about_relations
+body_of page.Gen = about_gen
+
+abbrev pub text_of : Page → List ℕ
+text_of page = head_of page ++ body_of page

@@ -1,0 +1,28 @@
+use Rattle.std.proofs.Common.{◌<◌, sym, subst, refl}
+use Rattle.invariant_fix.specs.Code.{all}
+use Rattle.invariant_fix.proofs.Assigned.{place_copy, place_itself, place_within}
+use Rattle.invariant_fix.proofs.chain_code.place_before.Goals as goal
+
+pub returns-then-is_assigned-clause-place : goal.returns-then-is_assigned-clause-place
+returns-then-is_assigned-clause-place c =
+    place_copy c.args.vars c.args.code.now c.args.var c.requires.var c.count_assigned.result
+    c.count_assigned.ensures.count (sym c.if-is_assigned.ensures)
+
+pub returns-then-is_assigned-clause-within : goal.returns-then-is_assigned-clause-within
+returns-then-is_assigned-clause-within c =
+    subst (λ n. n < all c.args.vars c.args.code.now)
+    (sym (place_copy c.args.vars c.args.code.now c.args.var c.requires.var c.count_assigned.result
+    c.count_assigned.ensures.count (sym c.if-is_assigned.ensures)))
+    (place_within c.args.vars c.args.code.now c.args.var c.requires.var)
+
+pub returns-else-is_assigned-clause-place : goal.returns-else-is_assigned-clause-place
+returns-else-is_assigned-clause-place c =
+    place_itself c.args.vars c.args.code.now c.args.var c.requires.var _ c.args.first
+    c.requires.copies refl (sym c.if-is_assigned.ensures)
+
+pub returns-else-is_assigned-clause-within : goal.returns-else-is_assigned-clause-within
+returns-else-is_assigned-clause-within c =
+    subst (λ n. n < all c.args.vars c.args.code.now)
+    (sym (place_itself c.args.vars c.args.code.now c.args.var c.requires.var _ c.args.first
+    c.requires.copies refl (sym c.if-is_assigned.ensures)))
+    (place_within c.args.vars c.args.code.now c.args.var c.requires.var)

@@ -1,9 +1,0 @@
-use Rattle.std.proofs.Common.{◌≡◌, ◌≤◌}
-use Rattle.list_checks.proofs.Places.{pairs_to}
-use Rattle.list_checks.proofs.lists.all_pairs.Given as goal
-
-abbrev pub invariant-loop-left : goal.invariant-loop-left
-invariant-loop-left l = record {
-  within : l.left ≤ l.count;
-  items : l.pairs.items ≡ pairs_to l.count l.left;
-}

@@ -1,8 +1,0 @@
-use Rattle.numbers.specs.Fraction.{rationals}
-use Rattle.poly.specs.Seen.{terms_each}
-use Rattle.list_checks.proofs.Below.{BelowFrom}
-use Rattle.list_checks.proofs.pairs.are_below.Given as goal
-
-abbrev pub invariant-loop-i : goal.invariant-loop-i
-invariant-loop-i g l = BelowFrom rationals (g.O.Order.order l.fn.order) l.multiple
-    (terms_each l.cofactors) (terms_each l.list) l.i

@@ -1,6 +1,0 @@
-use Rattle.poly.specs.Seen.{terms_in}
-use Rattle.list_checks.proofs.Raised.{lead_first}
-use Rattle.list_checks.proofs.s_polynomial.lead_monomial.Goals as goal
-
-pub returns : goal.returns
-returns g c = lead_first (terms_in c.args.p.now) _ c.in-Some.ensures.some

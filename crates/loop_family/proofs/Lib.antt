@@ -1,4 +1,0 @@
-pub mod Degrees
-pub mod OtherKinds
-pub mod Pieces
-pub mod FamilyTexts

@@ -1,5 +1,0 @@
-use Rattle.loop_family.proofs.Degrees.{GreatestSoFar}
-use Rattle.loop_family.proofs.counts.greatest_degree.Given as goal
-
-abbrev pub invariant-loop-element : goal.invariant-loop-element
-invariant-loop-element l = GreatestSoFar l.basis l.element-index l.greatest

@@ -1,9 +1,0 @@
-use Rattle.std.proofs.Common.{◌≡◌, ◌+◌, drop}
-use Rattle.relations.specs.Order.{place_in}
-use Rattle.loop_relations.proofs.ordering.place_in.Given as goal
-
-abbrev pub invariant-loop-place : goal.invariant-loop-place
-invariant-loop-place l = record {
-  at : l.at ≡ l.place-index;
-  rest : l.at + place_in (drop l.place-index l.places) l.var ≡ place_in l.places l.var;
-}

@@ -1,8 +1,0 @@
-use Rattle.std.proofs.Common.{◌≡◌, ◌++◌, filter}
-use Rattle.recurrences.specs.Turning.{places}
-use Rattle.relations.specs.Order.{is_among}
-use Rattle.loop_relations.proofs.ordering.push_visible.Given as goal
-
-abbrev pub invariant-loop-place : goal.invariant-loop-place
-invariant-loop-place l =
-    l.places.items ≡ l.initial.places.items ++ filter (is_among l.shown) (places 0 l.place-counter)

@@ -1,0 +1,11 @@
+use Rattle.std.proofs.Common.{◌≡◌, ◌-◌, ◌≤◌, ◌++◌, suc, map}
+use Rattle.loop_model.specs.ExpressionView.{expr_of}
+use Rattle.loops.specs.Turning.{variables_from}
+use Rattle.loop_text.proofs.sequence_nexts.push_later.Given as goal
+
+abbrev pub invariant-loop-var : goal.invariant-loop-var
+invariant-loop-var l = record {
+  turn : map expr_of l.turn.items ≡ map expr_of l.initial.turn.items
+      ++ variables_from (suc l.first) (l.var - suc l.first);
+  low : suc l.first ≤ l.var;
+}

@@ -1,5 +1,0 @@
-use Rattle.raw_polys.proofs.SoFar.{ExponentsSoFar}
-use Rattle.raw_polys.proofs.terms.exponents.Given as goal
-
-abbrev pub invariant-loop-value : goal.invariant-loop-value
-invariant-loop-value l = ExponentsSoFar l.list l.value-index l.found.items

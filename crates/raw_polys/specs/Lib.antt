@@ -1,4 +1,0 @@
-pub mod Raw
-pub mod Term
-pub mod Written
-pub mod Tables

@@ -1,0 +1,9 @@
+pub mod RunWords
+pub mod RunPromises
+pub mod ChainRunWords
+pub mod ChainRunPromises
+pub mod CounterLetters
+pub mod CounterTold
+pub mod CounterShown
+pub mod CounterDecided
+pub mod CounterPromises

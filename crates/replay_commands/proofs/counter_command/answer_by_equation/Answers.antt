@@ -1,0 +1,18 @@
+use Rattle.std.proofs.Common.{string_bytes}
+use Rattle.loop_model.specs.View.{program_of}
+use Rattle.replay_commands.proofs.CounterTold.{answers_equation, answers_unread}
+use Rattle.replay_commands.proofs.counter_command.answer_by_equation.Goals as goal
+
+pub answer_by_search-requires : goal.answer_by_search-requires
+answer_by_search-requires c = c.in-Ok.ensures.polynomial.arity
+
+pub returns-in-Ok : goal.returns-in-Ok
+returns-in-Ok c =
+    answers_equation (program_of c.args.lp.now) (string_bytes c.args.equation.now) c.args.most
+    c.answer_by_search.result c.in-Ok.polynomial c.in-Ok.ensures.polynomial
+    c.answer_by_search.ensures
+
+pub returns-in-Err : goal.returns-in-Err
+returns-in-Err c =
+    answers_unread (program_of c.args.lp.now) (string_bytes c.args.equation.now) c.args.most
+    c.in-Err.refusal c.in-Err.ensures.unread

@@ -1,0 +1,16 @@
+pub mod RunWords
+pub mod RunTexts
+pub mod RunCourse
+pub mod RunClauses
+pub mod RunViews
+pub mod ChainrunWords
+pub mod ChainrunTexts
+pub mod ChainrunCourse
+pub mod ChainrunClauses
+pub mod ChainrunViews
+pub mod CounterWords
+pub mod CounterTexts
+pub mod CounterSeeking
+pub mod CounterCourse
+pub mod CounterClauses
+pub mod CounterViews

@@ -1,0 +1,13 @@
+-- The words of `run` as the definitions see them.
+--   view request        what is asked for
+use Rattle.std.specs.Prelude.{string_bytes}
+use Rattle.loop_runs.specs.Seen.{numbers_of}
+use Rattle.replay_commands.specs.declared.run_words.Request as made
+use Rattle.replay_commands.specs.RunWords.{Request}
+
+abbrev pub view : made.Request → Request
+view request = record {
+  file = string_bytes request.file.now;
+  word = request.word.items;
+  values = numbers_of request.start.items;
+}

@@ -1,4 +1,0 @@
-//! A language whose faults are told in other words: mathematics alone.
-#![tactic(auto)]
-
-pub mod laws;

@@ -1,4 +1,0 @@
-pub mod SeqChecked
-pub mod SeqLaws
-pub mod Named
-pub mod LoopLayout

@@ -1,4 +1,0 @@
-pub mod Seqs
-pub mod Names
-pub mod LoopLayout
-pub mod SeqReader

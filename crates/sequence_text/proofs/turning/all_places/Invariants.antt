@@ -1,6 +1,0 @@
-use Rattle.std.proofs.Common.{◌≡◌}
-use Rattle.recurrences.specs.Turning.{places}
-use Rattle.sequence_text.proofs.turning.all_places.Given as goal
-
-abbrev pub invariant-loop-var : goal.invariant-loop-var
-invariant-loop-var l = l.places.items ≡ places 0 l.var

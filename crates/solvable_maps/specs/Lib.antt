@@ -1,0 +1,12 @@
+pub mod Chain
+pub mod Class
+pub mod Uses
+pub mod Shifts
+pub mod Turns
+pub mod Expo
+pub mod Classes
+pub mod AfterTurns
+pub mod Inverse
+pub mod Made
+pub mod Splits
+pub mod NormalExponents

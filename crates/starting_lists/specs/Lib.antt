@@ -1,3 +1,0 @@
-pub mod Blocks
-pub mod Starting
-pub mod Starts

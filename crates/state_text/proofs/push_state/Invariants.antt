@@ -1,8 +1,0 @@
-use Rattle.std.proofs.Common.{◌≡◌, ◌++◌, string_bytes, take}
-use Rattle.state_text.proofs.StateLaws.{joined, entries}
-use Rattle.state_text.proofs.push_state.Given as goal
-
-abbrev pub invariant-loop-index : goal.invariant-loop-index
-invariant-loop-index l =
-    string_bytes l.text ≡ string_bytes l.initial.text ++ joined
-    (take l.index (entries l.names l.state))

@@ -1,8 +1,0 @@
-use Rattle.std.proofs.Common.{◌≡◌, ◌++◌, string_bytes, take}
-use Rattle.state_text.proofs.StateLaws.{text_of}
-use Rattle.state_text.proofs.push_states.Given as goal
-
-abbrev pub invariant-loop-state : goal.invariant-loop-state
-invariant-loop-state l =
-    string_bytes l.text ≡ string_bytes l.initial.text ++ text_of l.names
-    (take l.state-index l.states)

@@ -1,0 +1,130 @@
+-- Polynomials in the order that eliminates the first variables, one after another.
+--   pushed_next        one more
+--   normal_is, placed_is            an element
+--   relation_placed, relations_none, relations_more      the relations
+--   past_later         what is past
+use Rattle.std.proofs.Common.{◌≡◌, ℕ, suc, ◌+◌, ◌-◌, ◌<◌, ◌≤◌, List, [], ◌∷◌, ◌++◌, map, Result, refl, sym, ap, ap₂, subst, ◌∙◌, arith, append_assoc}
+use Rattle.std.specs.List.{Any}
+use Rattle.std.specs.Result.{OnOk}
+use Rattle.std.proofs.lemmas.List.{map-append}
+use Rattle.std.proofs.lemmas.Result.{on_ok_weaker}
+use Rattle.algebra.specs.Each.{Each}
+use Rattle.algebra.specs.Fraction.{Fraction, ℚ, rationals, fraction_size}
+use Rattle.algebra.specs.Size.{IsPast}
+use Rattle.algebra.proofs.Fractions.{ℚ_ring, ℚ_field}
+use Rattle.polynomials.specs.Order.{grevlex, blocks}
+use Rattle.polynomials.specs.Polynomial.{Arity, AllArity}
+use Rattle.polynomials.specs.Terms.{Terms, Same}
+use Rattle.polynomials.specs.Weight.{weight}
+use Rattle.polynomials.proofs.Orders.{grevlex_order, blocks_order}
+use Rattle.polynomials.proofs.Same.{Same-trans}
+use Rattle.machines.specs.Collect.{collect}
+use Rattle.machines.proofs.Collecting.{collect-is, collect-same}
+use Rattle.poly.specs.Seen.{terms_in, terms_each, Is}
+use Rattle.poly.specs.Standing.{StandsFor, AllStandFor}
+use Rattle.solvable_maps.specs.Expo.{with_normal_keys}
+use Rattle.solvable_maps.specs.Turns.{width}
+use Rattle.solvable_maps.proofs.Lengths.{arity-normalized}
+use Rattle.solvable_maps.proofs.Retold.{same_normalized}
+use Rattle.rounds.specs.Form.{front, normal, orbit_order, relation, relations_to}
+use Rattle.rounds.proofs.RelationTerms.{relation_arity}
+use Rattle.loop_model.specs.FracPoly.{FracPoly}
+use Rattle.task_lists.specs.Blocks.{Blocked, in_blocks}
+use Rattle.task_lists.proofs.TwoTerms.{block_polynomial}
+
+-- ---- one more
+module _ (w : ℕ) (f : Terms Fraction → Terms Fraction) where
+  module _ {T E : Type 0} (r : Result T E) (olds mids news : List Blocked) (b : Blocked)
+      (are : mids ≡ olds ++ b ∷ []) (p : FracPoly)
+      (element : (q : Terms Fraction) → StandsFor w p q → Arity w q → terms_in b ≡ f q)
+      (rest : List FracPoly)
+      (others : (qs : List (Terms Fraction)) → AllStandFor w rest qs → AllArity w qs
+      → OnOk r (terms_each news ≡ terms_each mids ++ map f qs)) where
+    along : (q : Terms Fraction) (qs : List (Terms Fraction)) → terms_in b ≡ f q
+        → terms_each news ≡ terms_each mids ++ map f qs
+        → terms_each news ≡ terms_each olds ++ f q ∷ map f qs
+    along q qs e h =
+        h ∙ ap (λ l. l ++ map f qs) (ap terms_each are
+        ∙ map-append (λ (x : Blocked). terms_in x) olds (b ∷ [])
+        ∙ ap (λ t. terms_each olds ++ t ∷ []) e)
+        ∙ append_assoc (terms_each olds) (f q ∷ []) (map f qs)
+
+    behind : (qs : List (Terms Fraction)) → AllStandFor w (p ∷ rest) qs → AllArity w qs
+        → OnOk r (terms_each news ≡ terms_each olds ++ map f qs)
+    unfolding Each
+    behind [] a h = absurd a
+    behind (q ∷ qs) a h = on_ok_weaker r (along q qs (element q a.0 h.0)) (others qs a.1 h.1)
+
+    pub pushed_next : (list : List FracPoly) → list ≡ p ∷ rest → (qs : List (Terms Fraction))
+        → AllStandFor w list qs → AllArity w qs
+        → OnOk r (terms_each news ≡ terms_each olds ++ map f qs)
+    pushed_next list is qs a h = behind qs (subst (λ l. AllStandFor w l qs) is a) h
+
+-- ---- an element
+module _ (n w : ℕ) (b : Blocked) (order : b.order ≡ in_blocks n) (arity : b.arity ≡ w)
+    (q : Terms Fraction) (long : Arity w q) (same : Same ℚ (terms_in b) q) where
+  pub collected_is : terms_in b ≡ collect rationals (blocks n grevlex grevlex) q
+  collected_is = collect-is ℚ_field (blocks n grevlex grevlex)
+      (blocks_order n grevlex grevlex grevlex_order grevlex_order) w q (terms_in b) long
+      (block_polynomial n w b (ap (λ o. o.first) order) arity) same
+
+pub placed_is : (n w : ℕ) (p : FracPoly) (b : Blocked) → Is (in_blocks n) p.arity (terms_in p) b
+    → (q : Terms Fraction) → StandsFor w p q → Arity w q
+    → terms_in b ≡ collect rationals (blocks n grevlex grevlex) q
+placed_is n w p b is q s a = collected_is n w b is.order (is.arity ∙ s.arity) q a
+    (Same-trans ℚ is.same s.same)
+
+module _ (n w r : ℕ) (p made : FracPoly) (b : Blocked) (normals : terms_in made
+    ≡ normal grevlex r (terms_in p)) (size : made.arity ≡ p.arity) (some : front r ≤ p.arity)
+    (is : Is (in_blocks n) made.arity (terms_in made) b) where
+  pub normal_is : (q : Terms Fraction) → StandsFor w p q → Arity w q
+      → terms_in b ≡ normal (blocks n grevlex grevlex) r q
+  normal_is q s a =
+      let within = s.arity in
+      let wide : width r (w - front r) ≡ w = omega (arith, some, within) in
+      collected_is n w b is.order (is.arity ∙ size ∙ s.arity) (with_normal_keys r q)
+      (subst (λ k. Arity k (with_normal_keys r q)) wide
+      (arity-normalized r (w - front r) q (subst (λ k. Arity k q) (sym wide) a)))
+      (Same-trans ℚ (subst (Same ℚ (terms_in b)) normals is.same)
+      (Same-trans ℚ (collect-same ℚ_field grevlex grevlex_order (with_normal_keys r (terms_in p)))
+      (same_normalized ℚ_ring r (terms_in p) q s.same)))
+
+-- ---- the relations
+pub relation_placed : (n r m i j : ℕ) → i < front r → j < front r → (p b : Blocked)
+    → terms_in p ≡ collect rationals (orbit_order r) (relation (front r + m) i j)
+    → p.arity ≡ front r + m → Is (in_blocks n) p.arity (terms_in p) b
+    → terms_in b ≡ collect rationals (blocks n grevlex grevlex) (relation (front r + m) i j)
+relation_placed n r m i j k l p b terms size is =
+    collected_is n (front r + m) b is.order (is.arity ∙ size) (relation (front r + m) i j)
+    (relation_arity (front r + m) i j (omega (arith, k)) (omega (arith, l)))
+    (Same-trans ℚ (subst (Same ℚ (terms_in b)) terms is.same)
+    (collect-same ℚ_field (orbit_order r)
+    (blocks_order (front r) grevlex grevlex grevlex_order grevlex_order)
+    (relation (front r + m) i j)))
+
+module _ (f : Terms Fraction → Terms Fraction) (r w : ℕ) (olds : List (Terms Fraction))
+    (first : Terms Fraction) where
+  pub relations_none : olds ++ f first ∷ [] ≡ olds ++ map f (first ∷ relations_to r w 0)
+  unfolding relations_to
+  relations_none = refl
+
+  pub relations_more : (n : ℕ) (news : List (Terms Fraction)) (t : Terms Fraction)
+      → news ≡ olds ++ map f (first ∷ relations_to r w n)
+      → t ≡ f (relation w (suc (suc n)) (suc (suc (r + n))))
+      → news ++ t ∷ [] ≡ olds ++ map f (first ∷ relations_to r w (n + 1))
+  unfolding relations_to
+  relations_more n news t e is =
+      ap₂ (λ l x. l ++ x ∷ []) e is
+      ∙ append_assoc olds (map f (first ∷ relations_to r w n))
+      (f (relation w (suc (suc n)) (suc (suc (r + n)))) ∷ [])
+      ∙ ap (λ l. olds ++ f first ∷ l) (sym (map-append f (relations_to r w n)
+      (relation w (suc (suc n)) (suc (suc (r + n))) ∷ [])))
+      ∙ ap (λ k. olds ++ map f (first ∷ relations_to r w k)) (let z : suc n ≡ n + 1 = omega arith in
+      z)
+
+-- ---- what is past
+module _ (list rest : List FracPoly) (p : FracPoly) (is : list ≡ p ∷ rest) where
+  pub past_later : Any (λ t. IsPast (weight fraction_size t)) (terms_each rest)
+      → Any (λ t. IsPast (weight fraction_size t)) (terms_each list)
+  past_later (i, t, l, e, h) = subst (λ l. Any (λ t. IsPast (weight fraction_size t))
+      (terms_each l)) (sym is) (suc i, t, omega (arith, l), e, h)

@@ -1,0 +1,15 @@
+use Rattle.std.proofs.Common.{◌+◌, ◌++◌, length, refl, ap, subst}
+use Rattle.algebra.specs.Fraction.{ℚ}
+use Rattle.polynomials.specs.Terms.{Same, retold}
+use Rattle.poly.specs.Seen.{terms_in}
+use Rattle.poly.proofs.IsLaws.{is_as}
+use Rattle.task_lists.proofs.meet.without_t.Goals as goal
+
+pub returns : goal.returns
+returns c = record {
+  same = let p = c.args.p.now in
+      let is = c.in_ok-one.ensures.ok in
+      is_as c.behind.result _ _ _ _ _ _ refl (ap (λ d. length d + p.arity) is)
+      (λ q same. subst (λ d. Same ℚ (terms_in q) (retold (λ e. d ++ e) (terms_in p))) is same)
+      c.behind.ensures.product;
+}

@@ -1,0 +1,11 @@
+pub mod Past
+pub mod Raising
+pub mod Blocks
+pub mod Starting
+pub mod Starts
+pub mod Shapes
+pub mod Placed
+pub mod Late
+pub mod Rows
+pub mod View
+pub mod Images

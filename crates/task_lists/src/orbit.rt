@@ -1,0 +1,64 @@
+//! Polynomials with a closed form, made backward, for their variables.
+ghost use Rattle.std.specs.Prelude.{◌≡◌, ◌<◌, ◌≤◌, ◌+◌, length, All, IfOk, IsErrOf};
+ghost use Rattle.algebra.specs.Fraction.{fractions, fraction_size};
+ghost use Rattle.algebra.specs.Size.{IsPast};
+ghost use Rattle.polynomials.specs.Order.{grevlex};
+ghost use Rattle.polynomials.specs.Weight.{weight, IsPastComposition};
+ghost use Rattle.rounds.specs.Form.{front, normal};
+ghost use Rattle.monos.specs.Variables.{most_variables};
+ghost use Rattle.poly.specs.Seen.{terms_in, terms_each, Is};
+ghost use Rattle.poly.specs.Standing.{IsOver};
+ghost use Rattle.coprime_base.specs.Sizes.{sizes};
+ghost use Rattle.expo.specs.Bases.{IsCoprimeBase};
+ghost use Rattle.task_lists.specs.Blocks.{in_blocks};
+ghost use Rattle.task_lists.specs.Starting.{unwound};
+
+use crate::relations::front;
+use expo::Expo;
+use frac128::{Frac, Whole};
+use monos::{Blocks, Grevlex};
+use poly::Poly;
+use ring_laws::ArithmeticError;
+use std::alloc::Global;
+
+/// The polynomial with s s and the u_j v_j replaced by 1. `Wide` only where its weight is past.
+pub fn normal_of(
+    alloc: Global,
+    base: &Vec<Whole>,
+    p: &Poly<Frac, Grevlex>,
+) -> Result<Poly<Frac, Grevlex>, ArithmeticError>
+    requires base { IsCoprimeBase (sizes base.now.items) }
+    requires front { front (length (sizes base.now.items)) ≤ p.now.arity }
+    ensures normal { IfOk result (λ q. terms_in q
+        ≡ normal grevlex (length (sizes base.now.items)) (terms_in p.now)) }
+    ensures arity { IfOk result (λ q. q.arity ≡ p.now.arity) }
+    ensures wide { IsErrOf result ArithmeticError.Wide
+        → IsPast (weight fraction_size (terms_in p.now)) }
+{
+    Ok(Expo::normal(alloc, base, p)?.into_body())
+}
+
+/// The polynomial with the form backward for its variables, normal.
+pub(crate) fn unwound(
+    alloc: Global,
+    base: &Vec<Whole>,
+    back: &Vec<Poly<Frac, Grevlex>>,
+    p: &Poly<Frac, Grevlex>,
+) -> Result<Poly<Frac, Blocks>, ArithmeticError>
+    requires base { IsCoprimeBase (sizes base.now.items) }
+    requires some { 0 < p.now.arity }
+    requires count { length back.now.items ≡ p.now.arity }
+    requires few { front (length (sizes base.now.items)) + p.now.arity ≤ most_variables }
+    requires back { let r = length (sizes base.now.items) in
+        All (IsOver (front r + p.now.arity)) back.now.items }
+    ensures unwound { let r = length (sizes base.now.items) in IfOk result
+        (Is (in_blocks (front r)) (front r + p.now.arity)
+        (unwound r p.now.arity (terms_each back.now.items) (terms_in p.now))) }
+    ensures wide { IsErrOf result ArithmeticError.Wide
+        → IsPastComposition fractions (terms_in p.now) (terms_each back.now.items) }
+{
+    let moved = p.compose(alloc, back)?;
+    let normal = normal_of(alloc, base, &moved)?;
+    let first = front(base.len());
+    Ok(normal.reorder(alloc, Blocks { first })?)
+}

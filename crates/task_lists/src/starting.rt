@@ -1,0 +1,114 @@
+//! What a stage begins with.
+ghost use Rattle.std.specs.Prelude.{◌≡◌, ◌<◌, ◌≤◌, ◌+◌, [], length, get_or, IfOk, IsErrOf};
+ghost use Rattle.algebra.specs.Fraction.{ℚ};
+ghost use Rattle.polynomials.specs.Terms.{Same};
+ghost use Rattle.rounds.specs.Form.{front};
+ghost use Rattle.monos.specs.Variables.{most_variables};
+ghost use Rattle.poly.specs.Seen.{terms_in, IsImage};
+ghost use Rattle.task_lists.specs.Blocks.{in_blocks, HasFront};
+ghost use Rattle.task_lists.specs.Starting.{numbers_of, orbit_starting, meet_starting, starting, front_of, relations_of, FitsOrbit, FitsMeet, FitsStart, IsPastOrbit, IsPastMeet, IsPastAt};
+
+use crate::meet::{times_rest, times_t};
+use crate::orbit::unwound;
+use crate::relations::relation;
+use frac128::{Frac, Whole};
+use monos::{Blocks, Grevlex};
+use poly::Poly;
+use ring_laws::ArithmeticError;
+use std::alloc::{AllocError, Global};
+
+/// What a stage begins with.
+#[derive(Clone, Copy)]
+pub enum Starting<'a> {
+    /// For the orbit of a list: its elements with a form over this base backward for the variables, and the
+    /// relations between the powers.
+    Orbit(&'a Vec<Whole>, &'a Vec<Poly<Frac, Grevlex>>, &'a Vec<Poly<Frac, Grevlex>>),
+    /// For the intersection with another list: the products of the one with t, and of the other with 1 - t.
+    Meet(&'a Vec<Poly<Frac, Grevlex>>, &'a Vec<Poly<Frac, Grevlex>>),
+}
+
+/// The polynomial at this place of the list.
+pub fn element_of<'a>(
+    alloc: Global,
+    list: &Starting<'a>,
+    variables: usize,
+    place: usize,
+) -> Result<Poly<Frac, Blocks>, ArithmeticError>
+    requires fits { FitsStart variables list.now }
+    requires place { place < length (starting variables list.now) }
+    ensures image { IfOk result
+        (IsImage (in_blocks (front_of list.now)) (front_of list.now + variables)) }
+    ensures same { IfOk result (λ p.
+        Same ℚ (terms_in p) (get_or (starting variables list.now) place [])) }
+    ensures wide { IsErrOf result ArithmeticError.Wide → IsPastAt variables list.now place }
+{
+    match *list {
+        Starting::Orbit(base, back, list) => {
+            orbit_element(alloc, base, back, list, variables, place)
+        }
+        Starting::Meet(left, right) => meet_element(alloc, variables, left, right, place),
+    }
+}
+
+/// The polynomial at this place of what an orbit begins with.
+fn orbit_element(
+    alloc: Global,
+    base: &Vec<Whole>,
+    back: &Vec<Poly<Frac, Grevlex>>,
+    list: &Vec<Poly<Frac, Grevlex>>,
+    variables: usize,
+    place: usize,
+) -> Result<Poly<Frac, Blocks>, ArithmeticError>
+    requires fits { FitsOrbit variables base.now back.now list.now }
+    requires place { place < length (orbit_starting variables base.now back.now list.now) }
+    ensures image { let r = numbers_of base.now in
+        IfOk result (IsImage (in_blocks (front r)) (front r + variables)) }
+    ensures same { IfOk result (λ p. Same ℚ (terms_in p)
+        (get_or (orbit_starting variables base.now back.now list.now) place [])) }
+    ensures wide { IsErrOf result ArithmeticError.Wide → IsPastOrbit back.now list.now place }
+{
+    if place < list.len() {
+        return unwound(alloc, base, back, &list[place]);
+    }
+    Ok(relation_at(alloc, base.len(), variables, place - list.len())?)
+}
+
+/// The polynomial at this place of what an intersection begins with.
+fn meet_element(
+    alloc: Global,
+    variables: usize,
+    left: &Vec<Poly<Frac, Grevlex>>,
+    right: &Vec<Poly<Frac, Grevlex>>,
+    place: usize,
+) -> Result<Poly<Frac, Blocks>, ArithmeticError>
+    requires fits { FitsMeet variables left.now right.now }
+    requires place { place < length (meet_starting left.now right.now) }
+    ensures image { IfOk result (IsImage (in_blocks 1) (1 + variables)) }
+    ensures same { IfOk result (λ p.
+        Same ℚ (terms_in p) (get_or (meet_starting left.now right.now) place [])) }
+    ensures wide { IsErrOf result ArithmeticError.Wide → IsPastMeet left.now right.now place }
+{
+    if place < left.len() {
+        return Ok(times_t(alloc, &left[place])?);
+    }
+    times_rest(alloc, &right[place - left.len()])
+}
+
+/// The relation at this place.
+fn relation_at(
+    alloc: Global,
+    numbers: usize,
+    variables: usize,
+    place: usize,
+) -> Result<Poly<Frac, Blocks>, AllocError>
+    requires few { front numbers + variables ≤ most_variables }
+    requires place { place ≤ numbers }
+    ensures relation { IfOk result (λ p.
+        terms_in p ≡ get_or (relations_of numbers variables) place []) }
+    ensures block { IfOk result (HasFront numbers variables) }
+{
+    if place == 0 {
+        return relation(alloc, numbers, variables, 1, 1);
+    }
+    relation(alloc, numbers, variables, 1 + place, 1 + place + numbers)
+}

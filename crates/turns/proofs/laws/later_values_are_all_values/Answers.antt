@@ -1,5 +1,0 @@
-use Rattle.turns.proofs.OneForm.{all_values}
-use Rattle.turns.proofs.laws.later_values_are_all_values.Goals as goal
-
-pub returns : goal.returns
-returns c = λ base coprime m d p q s l h n. all_values base coprime m d p q s l h n

@@ -1,7 +1,0 @@
-use Rattle.turns.proofs.Existence.{map_exists}
-use Rattle.turns.proofs.laws.solvable_maps_have_a_closed_form.Goals as goal
-
-pub returns : goal.returns
-returns c = λ base coprime images is none groups all splits.
-    let made = map_exists base coprime images is none splits groups all in
-    (made.since, made.polys, made.form, made.stays)

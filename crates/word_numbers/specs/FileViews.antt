@@ -1,8 +1,0 @@
--- A request for a file as the definitions see it.
---   view request        what is asked for
-use Rattle.std.specs.Prelude.{string_bytes}
-use Rattle.word_numbers.specs.declared.file_request.FileRequest as made
-use Rattle.word_numbers.specs.FileRequests.{FileRequest}
-
-abbrev pub view : made.FileRequest → FileRequest
-view request = record { budget = request.budget.units; file = string_bytes request.file.now }
