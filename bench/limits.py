@@ -1,7 +1,7 @@
 #!/usr/bin/env python3
 """Times the built program on inputs as large as it takes, by processor time with the system's, and tells its peak memory.
 
-Usage: bench/limits.py        (after ./invar has built the program)
+Usage: bench/limits.py        (after ./invar --prove has built the program)
 """
 import itertools
 import os

@@ -1,7 +1,7 @@
 #!/usr/bin/env python3
 """Times products and sums of dense polynomials in three variables, beside the same work in sympy.
 
-Usage: bench/polynomials.py        (after .ci/run, or `rt run` in crates/poly_bench, has built the program; needs sympy)
+Usage: bench/polynomials.py        (after .ci/run, or `rt run` in crates/computation_rows, has built the program; needs sympy)
 
 Products are of two polynomials with 1,000 terms each, over fractions and over the remainders modulo 65,521; sums are of two with
 100,000 terms each. The coefficients are products of three fractions from 1 to 19 over 1 to a greatest denominator. Both do their
@@ -13,32 +13,35 @@ import os
 import pathlib
 import subprocess
 import sys
+import tempfile
 import time
 
-PROGRAM = pathlib.Path(os.environ.get("POLY_BENCH") or pathlib.Path(__file__).resolve().parent.parent / "crates/poly_bench/out/poly_bench")
+PROGRAM = pathlib.Path(os.environ.get("COMPUTATION_ROWS") or pathlib.Path(__file__).resolve().parent.parent / "crates/computation_rows/out/computation_rows")
 DENOMINATORS = (3, 9, 97, 997)
 RUNS = 3
 GOAL = 20
 GOAL_BYTES = 200
 
 
-def run(*words):
+def run(what, numbers, sides, times):
     """The processor time in seconds and the peak memory in bytes of one run of the program, and how many terms its result has."""
-    child = subprocess.Popen([PROGRAM, *map(str, words)], stdout=subprocess.PIPE, text=True)
-    terms = int(child.stdout.read().split()[0])
-    _, status, usage = os.wait4(child.pid, 0)
-    assert status == 0, words
+    with tempfile.NamedTemporaryFile("w") as rows:
+        print("dense", what, numbers, ",".join(map(str, sides)), times, "?", sep="\t", file=rows, flush=True)
+        child = subprocess.Popen([PROGRAM, "print", rows.name], stdout=subprocess.PIPE, text=True)
+        terms = int(child.stdout.read().split()[0])
+        _, status, usage = os.wait4(child.pid, 0)
+    assert status == 0, (what, numbers, sides)
     return usage.ru_utime + usage.ru_stime, usage.ru_maxrss * 1024, terms
 
 
 def of_program(what, numbers, sides, times):
-    once = min(run(what, numbers, *sides, 1) for _ in range(RUNS))
-    more = min(run(what, numbers, *sides, times + 1) for _ in range(RUNS))
+    once = min(run(what, numbers, sides, 1) for _ in range(RUNS))
+    more = min(run(what, numbers, sides, times + 1) for _ in range(RUNS))
     return (more[0] - once[0]) / times, once[1], once[2]
 
 
 def of_sympy(what, numbers, sides):
-    """The same work on the same polynomials, which crates/poly_bench/src/dense.rt makes."""
+    """The same work on the same polynomials, which crates/computation_rows/src/dense.rt makes."""
     # Imported here, since a child's peak memory is at least what its parent had.
     from sympy import GF, QQ
     from sympy.polys.rings import ring

@@ -1,6 +1,6 @@
 #!/bin/sh
 # Refuses each request for memory in turn: `basis`, `member`, `cert`, `check`, `full`, `checkfull`, `run` and `gen` then give their answers, or `memory` with status 6.
-# Usage: bench/refuse-memory.sh   (after ./invar has built the program; needs a C compiler for the stand-in of malloc)
+# Usage: bench/refuse-memory.sh   (after ./invar --prove has built the program; needs a C compiler for the stand-in of malloc)
 here=$(cd "$(dirname "$0")/.." && pwd)
 folder=$(mktemp -d)
 trap 'rm -rf "$folder"' EXIT

@@ -1,7 +1,7 @@
 #!/bin/sh
 # Lets the output take one byte a call and fail at each call in turn: `basis` on the squares example then ends with status 8, and what was
 # written is the beginning of its text.
-# Usage: bench/refuse-writes.sh   (after ./invar has built the program; needs a C compiler for the stand-in of write)
+# Usage: bench/refuse-writes.sh   (after ./invar --prove has built the program; needs a C compiler for the stand-in of write)
 here=$(cd "$(dirname "$0")/.." && pwd)
 folder=$(mktemp -d)
 trap 'rm -rf "$folder"' EXIT

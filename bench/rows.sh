@@ -1,8 +1,8 @@
 #!/bin/sh
 # Runs the built program on worked rows, on those of crates/acceptance/data/loops.txt too, and compares its text and status with what they want.
-# Usage: bench/rows.sh            (after ./invar has built the program)
+# Usage: bench/rows.sh            (after ./invar --prove has built the program; INVAR names another one)
 here=$(cd "$(dirname "$0")/.." && pwd)
-program=$here/crates/invar/out/invar
+program=$(realpath "${INVAR:-$here/crates/invar/out/invar}")
 folder=$(mktemp -d)
 trap 'rm -rf "$folder"' EXIT
 cd "$folder" || exit 1
@@ -32,7 +32,7 @@ head -c 50 fractions.json >cut.json
 head -c 65537 /dev/zero | tr '\0' ' ' >long.loop
 head -c 1048577 /dev/zero | tr '\0' ' ' >long.json
 head -c 1048576 /dev/zero | tr '\0' ' ' >spaces.json
-usage='usage: invar basis [--budget N] LOOP | member [--budget N] LOOP EQUATION | cert [--budget N] LOOP | check LOOP CERT | run LOOP WORD VALUES | gen NUMBER | chain [--budget N] CHAIN | chainrun CHAIN WORDS VALUES | counter [--length N] LOOP EQUATION | full [--budget N] LOOP | checkfull LOOP CERT | relations [--budget N] FILE'
+usage='usage: invar basis [--budget N] LOOP | member [--budget N] LOOP EQUATION | cert [--budget N] LOOP | check LOOP CERT | run LOOP WORD VALUES | gen NUMBER | chain [--budget N] CHAIN | chainrun CHAIN WORDS VALUES | counter [--length N] LOOP EQUATION | full [--budget N] LOOP | checkfull LOOP CERT | relations [--budget N] FILE; invar --help says more'
 failed=0
 row() {
     want_status=$1 want_text=$2
@@ -82,6 +82,13 @@ row 3 'loop: limit at 38' basis high.loop
 row 4 'loop: wide at 60' basis wide.loop
 row 7 'read fault: none' basis none
 row 7 'too long: long.loop' basis long.loop
+row 0 'invar 1.0.0' --version
+row 0 "$("$program" help)" --help
+row 0 'invar gen NUMBER
+Analyses the first so many loops of a family, 1 to 1000, and prints how many
+loops and elements there are, and the greatest degree. It reads no file.' help gen
+row 2 "$usage" help help
+row 2 "$usage" --version basis
 row 2 "$usage" basis
 row 2 "$usage" basis -x
 row 2 "$usage" basis --budget 0 product.loop

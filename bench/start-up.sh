@@ -1,6 +1,6 @@
 #!/bin/sh
 # How long one run takes from start to end: of 200 runs of `basis` and of `check` on the squares example, in milliseconds.
-# Usage: bench/start-up.sh        (after ./invar has built the program)
+# Usage: bench/start-up.sh        (after ./invar --prove has built the program)
 here=$(cd "$(dirname "$0")/.." && pwd)
 exec python3 - "$here/crates/invar/out/invar" "$here/examples/squares.loop" "$here/examples/squares.json" <<'PY'
 import statistics, subprocess, sys, time

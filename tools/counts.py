@@ -10,6 +10,8 @@ import sys
 from dataclasses import astuple, dataclass
 from pathlib import Path
 
+import crates
+
 TOP = Path(__file__).resolve().parent.parent
 
 
@@ -23,13 +25,6 @@ class Count:
 
     def __add__(self, other: "Count") -> "Count":
         return Count(*(a + b for a, b in zip(astuple(self), astuple(other))))
-
-
-def crates() -> dict[str, list[str]]:
-    """Each crate with those that its line in crates.txt names."""
-    lines = (TOP / "crates.txt").read_text(encoding="utf-8").split("\n")
-    parts = [line.partition("#")[0].partition(":") for line in lines]
-    return {name.split()[0]: below.split() for name, colon, below in parts if colon}
 
 
 def longest_chain(below: dict[str, list[str]]) -> list[str]:
@@ -68,14 +63,15 @@ def main() -> int:
     parser.add_argument("--crates", action="store_true")
     parser.add_argument("--chain", action="store_true")
     arguments = parser.parse_args()
-    counted = {crate: count(crate) for crate in crates()}
+    listed = crates.listed()
+    counted = {name: count(name) for name in listed}
     print(f"{'':<20}" + "".join(f"{title:>9}" for title in ("edits", "beside", "specs", "proofs", "code")))
     if arguments.crates:
-        for crate, of_crate in counted.items():
-            print(row(crate, of_crate))
+        for name, of_crate in counted.items():
+            print(row(name, of_crate))
     print(row(f"{len(counted)} crates", sum(counted.values(), Count())))
     if arguments.chain:
-        chain = longest_chain(crates())
+        chain = longest_chain({name: crate.below for name, crate in listed.items()})
         print(f"{len(chain)} in a chain: " + ", ".join(chain))
     return 0
 

@@ -3,40 +3,73 @@
 
 Usage: tools/layout.py [--since REVISION] [--rule NAME ..]
 
-With --since, only files that changed since that revision; with --rule, only the rules that are named:
+With --since, of each file only where it changed since that revision; with --rule, only the rules that are named:
 
-  edits      the old text of a must-fail edit, or of one in bench/edits, doesn't stand exactly once in its file
+  edits      the old text of a must-fail edit, or of one in bench/edits, doesn't stand exactly once in its file; or the gate has more than 60
   modules    a list in a Lib.antt names a file that isn't there, a file of specs isn't listed, or its name is a module's but for the case
   imports    a name is imported that its file doesn't use
-  columns    a line of more than 100 columns, but for imports and the comments at a file's head
+  columns    a line of more than 100 columns, but for imports, the comments at a file's head, and what a text in quotes has too many
   lengths    a file of more than 600 lines
   heads      a file of specs or proofs doesn't begin with what it says
-  digits     a clause has a number of two digits or more, where a name should stand
-  borrowed   a file of specs imports from proofs
-  below      a crate stands on one that it has to do without (crates.txt, whose lines a check follows)
+  digits     a clause has a number of two digits or more, where a name should stand; the base of numerals has none
+  borrowed   a file of specs imports from proofs, but for values that carry their laws
+  order      crates.txt lists a crate behind one that stands on it
+  theory     a crate of the band `theory` in crates.txt stands on one of another band, or on a library of the kit
+  below      a crate stands on one that it has to do without
+  named      crates.txt lists a library for a crate, none of whose files names it; or a file names one that isn't listed
+  pages      docs/CRATES.md isn't what tools/crates.py writes; a page names a file, a crate or a word of the sources that isn't there; or the picture
+             in docs/ARCHITECTURE.md leaves a crate out, or draws it before one that it names
+  edges      a note, and no finding: a crate stands on another by at most three import lines, through which alone something is below it
 
-Each row is a file, a line (0: the whole file), and what is wrong there. The status is 1 where there is a row.
+Each row is a file, a line (0: the whole file), and what is wrong there. The status is 1 where there is a row. Those on crates and pages are about
+the whole repository, also with --since.
 """
 import argparse
 import os
 import re
 import subprocess
 import sys
+from collections import Counter, defaultdict
 from collections.abc import Iterator
 from dataclasses import dataclass
+from functools import cache
 from pathlib import Path
 
+import crates
+from crates import Crate
+
 TOP = Path(__file__).resolve().parent.parent
-COLUMNS, LINES = 100, 600
+CRATES = TOP / "crates.txt"
+COLUMNS, LINES, EDITS, FEW_IMPORTS = 100, 600, 60, 3
 # an import in a file of definitions or proofs, and in one of code
 THEORY_IMPORT = re.compile(r"^\s*use (Rattle\.[^;\n{]*)\.\{([^}]*)\}", re.M)
 CODE_IMPORT = re.compile(r"^\s*ghost use (Rattle\.[^;\n{]*)\.\{([^}]*)\};", re.M)
 CLAUSE = re.compile(r"^\s*(?:(?:requires|ensures|narrow)\b|(?:\w+\s*)?\{)")
-NUMBER = re.compile(r"(?<![\w.^-])\d{2,}(?![\w.])")
+NUMBER = re.compile(r"(?<![\w.^-])(?<!digits_value )\d{2,}(?![\w.])")
+QUOTED = re.compile(r'"[^"]*"')
+# a name of a library, in a path of definitions and proofs, in one of code, and in an import of either
+THEORY_PATH = re.compile(r"\bRattle\.([a-z]\w*)\.")
+CODE_PATH = re.compile(r"(?<![\w:.])([a-z]\w*)::")
+ANY_IMPORT = re.compile(r"^\s*(?:(?:pub|ghost|unfoldable)\s+)*use\s+(?:Rattle\.([a-z]\w*)\.|([a-z]\w*)::)", re.M)
 
+# What specs may take from proofs. A structure has its laws as parts, so it stands where they are proved, and so do its operations, which
+# are told by it. A type that keeps a fact of its values (a fraction in lowest terms, a row of a width, a residue below its modulus) has
+# lemmas in what makes a value.
+STRUCTURES = {"ℚ_field", "ℚ_ring", "algebra_ring", "Algebra", "algebra", "coef", "monomial", "poly_ring", "Poly", "poly", "poly_constant", "poly_evaluate"}
+KEPT_FACTS = {"RingLaws", "abs-pos", "same_abs", "is_lowest-in", "lowest-whole", "rest-residue", "each_prop"}
 
-# what a crate may stand on neither itself nor through others: the judge of full certificates makes no completion and no closed form
-WITHOUT = {"full_cert": {"journal", "divide", "complete", "reduced_basis", "ideal_ops", "linear", "solvable", "eigen_split", "closed_forms", "invariant_fix"}}
+# What a crate may stand on neither itself nor through others. What judges certificates completes nothing and finds no closed form; who asks for
+# a judgement knows besides what a meter is, since every command does.
+COMPUTATIONS = {"divide", "complete", "reduced_basis", "ideal_ops", "linear", "solvable", "eigen_split", "closed_forms", "invariant_fix"}
+WITHOUT = {"cert_checker": COMPUTATIONS | {"journal"}, "full_cert": COMPUTATIONS | {"journal"}, "certificate_commands": COMPUTATIONS}
+
+# In pages: a text in backticks, a path anywhere, the crates in a heading, and parts of paths that stand for others.
+TICKED = re.compile(r"`([^`\n]+)`")
+PATH = re.compile(r"(?<![\w/.*-])((?:crates|bench|docs|tools|examples|[a-z]\w*/(?:src|specs|proofs|must-fail|data))/[\w./*-]*\w)")
+FILE_NAME = re.compile(r"[\w.-]+\.(?:antt|rt|py|sh|md|edit)")
+SOURCE_WORD = re.compile(r"[a-z][a-z0-9]+(?:_[a-z0-9]{2,})+")
+HEADING_CRATES = re.compile(r"^#+ .*\(((?:`\w+`(?:, )?)+)\)$")
+STANDS_FOR_OTHERS = {"X", "NAME", "MODULE", "FUNCTION", "FILE"}
 
 
 @dataclass(frozen=True)
@@ -93,6 +126,9 @@ def edits() -> Iterator[Finding]:
                 count = file.read_text(encoding="utf-8").count(line[5:]) if file and file.exists() else 0
                 if count != 1:
                     yield Finding("edits", path, number, f"stands {count} times in its file")
+    of_gate = len(list((TOP / "crates").glob("*/must-fail/*.edit")))
+    if of_gate > EDITS:
+        yield Finding("edits", TOP / "crates", 0, f"the gate has {of_gate} edits")
 
 
 def modules() -> Iterator[Finding]:
@@ -132,7 +168,7 @@ def imports(source: Source) -> Iterator[Finding]:
 def columns(source: Source) -> Iterator[Finding]:
     exempt = ("--", "use ", "pub use ") if source.is_theory else ("//", "use ", "ghost use", "#[")
     for number, line in enumerate(source.lines, 1):
-        if len(line) > COLUMNS and not line.lstrip().startswith(exempt):
+        if len(QUOTED.sub("", line)) > COLUMNS and not line.lstrip().startswith(exempt):
             yield Finding("columns", source.path, number, f"{len(line)} columns")
 
 
@@ -162,27 +198,195 @@ def digits(source: Source) -> Iterator[Finding]:
 def borrowed(source: Source) -> Iterator[Finding]:
     if source.is_theory and source.is_specs:
         for number, line in enumerate(source.lines, 1):
-            if re.match(r"use Rattle\.(?!std\.)\w+\.proofs\.", line):
-                yield Finding("borrowed", source.path, number, line)
+            found = re.match(r"use Rattle\.(?!std\.)\w+\.proofs\.([\w.]+?)(?:\.\{([^}]*)\}| as \w+)?$", line)
+            names = re.split(r",\s*", found[2] or found[1]) if found else []
+            taken = [name for name in names if name.split(" as ")[0] not in STRUCTURES | KEPT_FACTS]
+            if taken:
+                yield Finding("borrowed", source.path, number, ", ".join(taken))
+
+
+@cache
+def listed() -> dict[str, Crate]:
+    return crates.listed()
+
+
+def all_below(name: str, but: str = "") -> set[str]:
+    """The crates that a crate stands on, itself or through others; without a line that names one of them, where it is given."""
+    stands_on = {one.name: {other for other in one.below if other in listed()} for one in listed().values()}
+    reached, waiting = set(), stands_on[name] - {but}
+    while waiting:
+        reached |= waiting
+        waiting = {other for one in waiting for other in stands_on[one]} - reached
+    return reached
+
+
+def of_crate(rule: str, crate: Crate, what: str) -> Finding:
+    return Finding(rule, CRATES, crate.line, f"{crate.name} {what}")
+
+
+def order() -> Iterator[Finding]:
+    for crate in listed().values():
+        for other in crate.below:
+            if other in listed() and listed()[other].line > crate.line:
+                yield of_crate("order", crate, f"stands on {other}, which is listed behind it")
+
+
+def theory() -> Iterator[Finding]:
+    for crate in listed().values():
+        for other in crate.below if crate.band == "theory" else ():
+            if other not in listed() or listed()[other].band != "theory":
+                yield of_crate("theory", crate, f"stands on {other}")
 
 
 def below() -> Iterator[Finding]:
-    path = TOP / "crates.txt"
-    lines = [line.split(":", 1) for line in path.read_text(encoding="utf-8").split("\n")]
-    stands_on = {line[0].split()[0]: set(line[1].split()) for line in lines if len(line) == 2}
-    for crate, without in WITHOUT.items():
-        reached, waiting = set(), {crate}
-        while waiting:
-            reached |= waiting
-            waiting = {name for one in waiting for name in stands_on.get(one, ())} - reached
-        for name in sorted(reached & without):
-            yield Finding("below", path, [line[0] for line in lines].index(crate) + 1, f"{crate} stands on {name}")
+    for name, without in WITHOUT.items():
+        for other in sorted(all_below(name) & without):
+            yield of_crate("below", listed()[name], f"stands on {other}")
 
 
-OF_TREE = {"edits": edits, "modules": modules, "below": below}
+@dataclass
+class Naming:
+    """Where a crate names libraries: the first file of each, and how many of its imports name it."""
+    first: dict[str, Path]
+    imports: Counter[str]
+
+
+@cache
+def namings() -> dict[str, Naming]:
+    found = defaultdict(lambda: Naming({}, Counter()))
+    for source in sources():
+        naming = found[source.path.relative_to(TOP / "crates").parts[0]]
+        text = source.text if source.is_theory else re.sub(r"//.*", "", source.text)
+        paths = THEORY_PATH.findall(text) + ([] if source.is_theory else CODE_PATH.findall(text))
+        for library in paths:
+            naming.first.setdefault(library, source.path)
+        naming.imports.update(theory or code for theory, code in ANY_IMPORT.findall(text))
+    return found
+
+
+def named() -> Iterator[Finding]:
+    known = set(listed()) | {library for crate in listed().values() for library in crate.below}
+    for crate in listed().values():
+        first = namings()[crate.name].first
+        for library in crate.below:
+            if library not in first:
+                yield of_crate("named", crate, f"names {library} in no file")
+        for library in sorted(known & set(first) - {crate.name, *crate.below}):
+            yield Finding("named", first[library], 0, f"names {library}, which crates.txt doesn't list for {crate.name}")
+
+
+def edges() -> Iterator[Finding]:
+    for crate in listed().values():
+        for other in crate.below if crate.band != "worked rows" else ():
+            count = namings()[crate.name].imports[other]
+            alone = all_below(crate.name) - all_below(crate.name, but=other) if other in listed() and count <= FEW_IMPORTS else ()
+            if alone:
+                yield of_crate("edges", crate, f"names {other} in so few imports: {count}; below by these alone: {', '.join(sorted(alone))}")
+
+
+def page_files() -> list[Path]:
+    found = [*TOP.glob("*.md"), *(TOP / "docs").glob("*.md"), *(TOP / "bench").glob("*.md"), *(TOP / "examples").rglob("*.md")]
+    return sorted(found)
+
+
+@cache
+def files_there() -> frozenset[Path]:
+    """The files of the repository: what git has, and what it doesn't know yet and doesn't ignore."""
+    command = ["git", "-C", TOP, "ls-files", "--cached", "--others", "--exclude-standard"]
+    names = subprocess.run(command, check=True, capture_output=True, text=True).stdout.split("\n")
+    return frozenset(TOP / name for name in names if name and (TOP / name).exists())
+
+
+@cache
+def file_names() -> frozenset[str]:
+    return frozenset(path.name for path in files_there())
+
+
+@cache
+def source_words() -> frozenset[str]:
+    """The words of all files but pages, and the names of files."""
+    words = {path.stem for path in files_there()}
+    for path in files_there():
+        if path.suffix != ".md" and "edits" not in path.parts:
+            words |= set(SOURCE_WORD.findall(path.read_text(encoding="utf-8", errors="replace")))
+    return frozenset(words)
+
+
+def is_there(page: Path, path: str) -> bool:
+    if STANDS_FOR_OTHERS & set(path.split("/")) or "/out/" in path or path.endswith("/out"):
+        return True
+    return any(next(base.glob(path), None) for base in (TOP, TOP / "crates", page.parent))
+
+
+def missing_in(page: Path, line: str) -> Iterator[str]:
+    """What a line of a page names that isn't there."""
+    for path in PATH.findall(line):
+        if not is_there(page, path.rstrip("/")):
+            yield f"no file {path}"
+    for ticked in TICKED.findall(line):
+        if FILE_NAME.fullmatch(ticked) and not ticked.startswith(".") and ticked not in file_names():
+            yield f"no file {ticked}"
+        elif SOURCE_WORD.fullmatch(ticked) and ticked not in source_words():
+            yield f"no word {ticked}"
+    heading = HEADING_CRATES.match(line)
+    for name in TICKED.findall(heading[1]) if heading else ():
+        if name not in listed():
+            yield f"no crate {name}"
+
+
+def crate_cells(lines: list[str]) -> Iterator[tuple[int, str]]:
+    """The first cells of tables of crates, with their lines."""
+    is_of_crates = False
+    for number, line in enumerate(lines, 1):
+        cells = line.split("|")
+        if not line.startswith("|"):
+            is_of_crates = False
+        elif is_of_crates:
+            yield number, cells[1]
+        elif cells[1].strip() in ("Crate", "Crates"):
+            is_of_crates = True
+
+
+def picture() -> Iterator[Finding]:
+    """The layers as ARCHITECTURE draws them: each crate once, behind those that it names. What two blanks part is a crate, if it is one word."""
+    page = TOP / "docs" / "ARCHITECTURE.md"
+    before, _, text = page.read_text(encoding="utf-8").partition("## The layers\n")
+    drawn = []
+    for number, line in enumerate(text.partition("\n## ")[0].split("\n"), before.count("\n") + 2):
+        names = [part for part in re.split(r"  +", line.strip()) if re.fullmatch(r"[a-z]\w+", part)] if line.startswith("    ") else []
+        drawn += [(name, number) for name in names if name in listed() or "_" in name]
+    place = {name: k for k, (name, _) in enumerate(drawn)}
+    for name, number in drawn:
+        if name not in listed():
+            yield Finding("pages", page, number, f"no crate {name}")
+        elif any(place.get(other, -1) > place[name] for other in listed()[name].below):
+            yield Finding("pages", page, number, f"{name} is drawn before a crate that it names")
+    for name in sorted(set(listed()) - set(place)):
+        yield Finding("pages", page, 0, f"{name} isn't drawn")
+
+
+def pages() -> Iterator[Finding]:
+    if not crates.PAGE.exists() or crates.PAGE.read_text(encoding="utf-8") != crates.page():
+        yield Finding("pages", crates.PAGE, 0, "isn't what tools/crates.py writes")
+    yield from picture()
+    for page in page_files():
+        lines = page.read_text(encoding="utf-8").split("\n")
+        for number, line in enumerate(lines, 1):
+            for what in missing_in(page, line):
+                yield Finding("pages", page, number, what)
+        for number, cell in crate_cells(lines):
+            for name in TICKED.findall(cell):
+                if name not in listed():
+                    yield Finding("pages", page, number, f"no crate {name}")
+
+
+OF_TREE = {"edits": edits, "modules": modules, "order": order, "theory": theory, "below": below, "named": named, "pages": pages}
 OF_FILE = {
     "imports": imports, "columns": columns, "lengths": lengths, "heads": heads, "digits": digits, "borrowed": borrowed,
 }
+NOTES = {"edges": edges}
+# what has to do with more than the file in which it stands
+OF_ALL = {"order", "theory", "below", "named", "pages"}
 
 
 def findings(rules: set[str]) -> Iterator[Finding]:
@@ -204,15 +408,17 @@ def changed_since(revision: str) -> set[Path]:
 
 
 def main() -> int:
-    every = [*OF_TREE, *OF_FILE]
+    every = [*OF_TREE, *OF_FILE, *NOTES]
     parser = argparse.ArgumentParser(description=__doc__, formatter_class=argparse.RawDescriptionHelpFormatter)
     parser.add_argument("--since", metavar="REVISION")
     parser.add_argument("--rule", nargs="+", choices=every, default=every)
     arguments = parser.parse_args()
     changed = changed_since(arguments.since) if arguments.since else None
-    rows = [row for row in findings(set(arguments.rule)) if changed is None or row.path in changed]
+    rows = [row for row in findings(set(arguments.rule)) if changed is None or row.path in changed or row.rule in OF_ALL]
     for row in rows:
         print(row)
+    for note in (note for rule, find in NOTES.items() if rule in arguments.rule for note in find()):
+        print(f"note: {note}", file=sys.stderr)
     print(f"{len(rows)} findings", file=sys.stderr)
     return 1 if rows else 0
 

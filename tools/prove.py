@@ -8,44 +8,39 @@ given the libraries below that are built, and gives back what it builds. Each cr
 building of a crate says is told where it fails; the status is then 1.
 
 INVAR_WORKERS says how many are proved at once: as many as there are processors, if it isn't set; with 1 they are proved one after another.
-Those on the longest chain of crates go before the others, as the whole takes no less time than they do.
+Those on the longest chain of crates go before the others, as the whole takes no less time than they do. Each is proved by one job, which takes
+the least processor time; only a large one that has fewer beside it than there are workers gets the jobs that would be idle.
 """
 import concurrent.futures
 import contextlib
 import os
 import queue
 import shutil
+import signal
 import subprocess
 import sys
 import tempfile
 
+import kept
+from kept import TOP
+from progress import Progress, told
+
 WORKERS = int(os.environ.get("INVAR_WORKERS") or os.cpu_count() or 1)
-TOP = os.path.dirname(os.path.dirname(os.path.abspath(__file__)))
 # what `rt` leaves in the folder `out` of a crate: its library, and what was checked of it
 LIBRARY, CHECKED = "rlib", "incremental"
 # how nice a crate's proof is to those on the longest chain: so much for each part of the chain that it misses, up to the most
 NICE, MOST_NICE = 60, 19
+# a crate of fewer bytes gains nothing from a second job
+LARGE = 20_000
+ROOM = "copies-"
+# the commands that are under way
+CALLS = set()
 
 
 def crates_below(program):
     """The crates of the repository that the program stands on, each with those that it names: lowest first."""
-    named = {}
-    with open(os.path.join(TOP, "crates.txt")) as lines:
-        for line in lines:
-            name, colon, below = line.split("#")[0].partition(":")
-            if colon:
-                named[name.split()[0]] = below.split()
-    order = {}
-
-    def visit(name):
-        below = [crate for crate in named[name] if crate in named]
-        for crate in below:
-            if crate not in order:
-                visit(crate)
-        order[name] = below
-
-    visit(program)
-    return order
+    named = kept.crates_below(program)
+    return {name: [crate for crate in below if crate in named] for name, below in named.items()}
 
 
 def size(name):
@@ -67,12 +62,28 @@ def slack(order):
     return {name: 1 - (upto[name] + beyond[name]) / longest for name in order}
 
 
-def call(top, name, word, niceness=0):
+def jobs(size, others, workers):
+    """With how many jobs a crate of this size is proved where so many others are being proved or ready to be: its share of the workers."""
+    return max(1, workers // (others + 1)) if size >= LARGE else 1
+
+
+def call(top, name, *words, niceness=0):
     """Runs a command of `rt` in the folder of a crate: its status, and what it prints."""
     folder = os.path.join(top, "crates", name)
-    words = ["nice", "-n", str(niceness), "rt", word]
-    made = subprocess.run(words, cwd=folder, stdin=subprocess.DEVNULL, stdout=subprocess.PIPE, stderr=subprocess.STDOUT, text=True)
-    return made.returncode, made.stdout
+    words = ["nice", "-n", str(niceness), "rt", *words]
+    how = {"stdin": subprocess.DEVNULL, "stdout": subprocess.PIPE, "stderr": subprocess.STDOUT, "start_new_session": True}
+    with subprocess.Popen(words, cwd=folder, text=True, **how) as command:
+        CALLS.add(command)
+        said = command.communicate()[0]
+        CALLS.discard(command)
+    return command.returncode, said
+
+
+def end_calls():
+    """Ends what `call` has started, for a proof that is told to stop."""
+    for command in list(CALLS):
+        with contextlib.suppress(OSError):
+            os.killpg(command.pid, signal.SIGTERM)
 
 
 def hand(part, name, source, target):
@@ -101,11 +112,11 @@ class Copy:
     def __init__(self, top):
         self.top = top
         self.given = set()
-        shutil.copytree(os.path.join(TOP, "crates"), os.path.join(top, "crates"), ignore=shutil.ignore_patterns("out"))
+        shutil.copytree(os.path.join(TOP, "crates"), os.path.join(top, "crates"), ignore=shutil.ignore_patterns("out", "must-fail"))
         for name in ("crates.txt", "HANDLES"):
             shutil.copy2(os.path.join(TOP, name), top)
 
-    def library(self, name, below, niceness):
+    def library(self, name, below, jobs, niceness):
         """Whether the library of a crate is built over those below, which only a proved crate's is, and what was said of it."""
         for crate in below:
             if crate not in self.given:
@@ -113,7 +124,7 @@ class Copy:
                 self.given.add(crate)
         for part in (LIBRARY, CHECKED):
             hand(part, name, TOP, self.top)
-        status, said = call(self.top, name, "lib", niceness)
+        status, said = call(self.top, name, "lib", "--jobs", str(jobs), niceness=niceness)
         if status == 0:
             for part in (CHECKED, LIBRARY):
                 hand(part, name, self.top, TOP)
@@ -135,53 +146,80 @@ def all_below(name, waits):
     return list(found)
 
 
-def libraries(program, order, copies):
+def libraries(program, order, copies, progress):
     """Proves the crates below the program and builds their libraries. What was said of one that failed, or nothing."""
     waits = {name: below for name, below in order.items() if name != program}
-    done, running = set(), {}
+    sizes = {name: size(name) for name in order}
+    done, running = {}, {}
     behind = slack(order)
 
-    def work(name):
+    def work(name, jobs):
         copy = copies.get()
         try:
-            return copy.library(name, all_below(name, order), min(MOST_NICE, round(NICE * behind[name])))
+            return copy.library(name, all_below(name, order), jobs, min(MOST_NICE, round(NICE * behind[name])))
         finally:
             copies.put(copy)
 
-    with concurrent.futures.ThreadPoolExecutor(WORKERS) as pool:
+    def show():
+        part = sum(sizes[name] for name in done) / sum(sizes.values())
+        progress.bar(part, f"{len(done)} of {len(order)} crates, proving {', '.join(running.values())}")
+
+    def go(pool):
         while waits or running:
-            for name in sorted((name for name, below in waits.items() if done.issuperset(below)), key=behind.get):
-                running[pool.submit(work, name)] = name
+            ready = sorted((name for name, below in waits.items() if done.keys() >= set(below)), key=behind.get)
+            for place, name in enumerate(ready[: WORKERS - len(running)]):
+                others = len(running) + len(ready) - place - 1
+                running[pool.submit(work, name, jobs(sizes[name], others, WORKERS))] = name
                 del waits[name]
-            ended, _ = concurrent.futures.wait(running, return_when=concurrent.futures.FIRST_COMPLETED)
+            show()
+            ended, _ = concurrent.futures.wait(running, timeout=1, return_when=concurrent.futures.FIRST_COMPLETED)
             for future in ended:
                 name = running.pop(future)
                 proved, said = future.result()
                 if not proved:
-                    pool.shutdown(cancel_futures=True)
                     return said
-                done.add(name)
-                print(f"invar: proved {name} ({len(done)} of {len(order)})", file=sys.stderr)
-    return None
+                done[name] = progress.taken()
+                progress.line(f"proved {name} ({len(done)} of {len(order)}, after {told(done[name])})")
+        return None
+
+    with concurrent.futures.ThreadPoolExecutor(WORKERS) as pool:
+        try:
+            return go(pool)
+        except BaseException:
+            end_calls()
+            raise
 
 
 def prove(program):
+    """Proves and builds a program, for whoever holds the lock: whether that failed."""
     order = crates_below(program)
-    out = os.path.join(TOP, "crates", program, "out")
-    os.makedirs(out, exist_ok=True)
-    with tempfile.TemporaryDirectory(prefix="copies-", dir=out) as room:
+    progress = Progress()
+    progress.line(f"proving {len(order)} crates, {WORKERS} at a time; the first time this takes a good while")
+    stands = kept.proved(program)
+    made_of = stands.made_of()
+    out = os.path.dirname(stands.path)
+    kept.remove_left(out, ROOM)
+    with tempfile.TemporaryDirectory(prefix=ROOM, dir=out) as room:
         copies = queue.Queue()
         for number in range(WORKERS):
             copies.put(Copy(os.path.join(room, str(number))))
-        said = libraries(program, order, copies)
+        said = libraries(program, order, copies, progress)
+    progress.end()
     if said is None:
         proved, said = built(program)
         if proved:
-            print(f"invar: proved and built {program}", file=sys.stderr)
+            same = stands.keep(made_of)
+            progress.line(f"proved and built {program} in {told(progress.taken())}" + ("" if same else "; sources changed meanwhile"))
             return 0
     sys.stderr.write(said)
     return 1
 
 
+def main(program):
+    kept.end_when_told()
+    with kept.alone(program, lambda: print("invar: another call is building; this one waits for it", file=sys.stderr)):
+        return prove(program)
+
+
 if __name__ == "__main__":
-    sys.exit(prove(*sys.argv[1:]))
+    sys.exit(main(*sys.argv[1:]))

@@ -1,0 +1,56 @@
+#!/bin/sh
+# Runs the built program in 512 KB of stack: the rows of bench/rows.sh, and texts whose polynomials, lists and nestings are as long and as deep as they may be.
+# Usage: bench/small-stack.sh            (after ./invar --prove has built the program)
+here=$(cd "$(dirname "$0")/.." && pwd)
+program=$here/crates/invar/out/invar
+folder=$(mktemp -d)
+trap 'rm -rf "$folder"' EXIT
+ulimit -s 512 || exit 1
+cd "$folder" || exit 1
+failed=0
+"$here/bench/rows.sh" || failed=1
+# forms and images with 39,203 terms, forward and backward, in a loop, behind code, and of sequences
+printf '%s' 'vars a, b, c, d, e; branch { a=b^8; b=(c+d+e+1)^8; }' >forms.loop
+printf '%s' 'vars a, b, c, d, e, f; branch { a=a+b^6; b=b+(c+d+e+f+1)^6; }' >sums.loop
+printf '%s' 'vars a, b, c, d, e, f, g; branch { a=a+b^8; b=c; c=(d+e+f+g+1)^5; }' >classes.loop
+printf '%s' 'vars a, b, c, d, e; branch { } then branch { a=b^8; b=(c+d+e+1)^8; }' >forms.chain
+printf '%s' 'sequences a=(1), b=(1), c=(1), d=(2), e=(3); a=b^8; b=(c+d+e+1)^8; c=c; d=d; e=e;' >forms.seqs
+# texts as deep and as long as they may be
+python3 - <<'PY'
+from pathlib import Path
+
+names = "abcdefgh"
+Path("deep.loop").write_text("vars x; branch { x=" + "(" * 63 + "-x" + "+1)" * 63 + "; }")
+Path("minus.loop").write_text("vars x; branch { x=" + "-" * 64 + "x; }")
+Path("same.loop").write_text("vars " + ", ".join(names) + "; branch { }")
+Path("deep.json").write_text('{"basis":' + "[" * 126 + "]" * 126 + "}")
+Path("too-deep.json").write_text("[" * 500_000)
+terms = [f"{a}^{i}*{b}^{j}" for a in names for b in names if a < b for i in range(1, 40) for j in range(1, 60)]
+Path("long.json").write_text('{"basis":["' + "+".join(terms) + '"],"steps":[[["1"]]],"vars":[' + ",".join(f'"{name}"' for name in names) + '],"version":1}')
+elements = ",".join(f'"a^{i}*b"' for i in range(1, 513))
+rows = ",".join(f'[[{i},"1"]]' for i in range(512))
+Path("elements.json").write_text(f'{{"basis":[{elements}],"steps":[[{rows}]],"vars":[' + ",".join(f'"{name}"' for name in names) + '],"version":2}')
+PY
+letters=$(printf '1,%.0s' $(seq 4095))1
+row() {
+    want_status=$1
+    shift
+    "$program" "$@" >answer
+    status=$?
+    [ "$status" = "$want_status" ] || { echo "invar $*: status $status, and not $want_status: $(head -c 80 answer)" | cut -c1-200; failed=1; }
+}
+row 0 basis forms.loop
+row 0 basis sums.loop
+row 0 basis classes.loop
+row 0 chain forms.chain
+row 4 relations forms.seqs
+row 0 basis deep.loop
+row 0 basis minus.loop
+row 3 check same.loop deep.json
+row 3 check same.loop too-deep.json
+row 3 checkfull same.loop too-deep.json
+row 1 check same.loop long.json
+row 1 check same.loop elements.json
+row 0 run same.loop "$letters" 1,1,1,1,1,1,1,1
+[ $failed = 0 ] && echo 'all runs end in 512 KB of stack'
+exit $failed
