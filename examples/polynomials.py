@@ -1,6 +1,6 @@
 """Polynomials with fractions as coefficients, read from the text that `invar` prints and written as other programs want them.
 
-What examples/dafny.py and examples/c/annotate.py share. A polynomial keeps its terms in the order in which they were read or made.
+What examples/c/annotate.py and the scripts of this folder that show loops share. A polynomial keeps its terms in the order in which they were read or made.
 """
 from __future__ import annotations
 

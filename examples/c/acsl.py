@@ -15,11 +15,11 @@ ANNOTATION = re.compile(r"/\*@\s*(loop\b.*?)\*/|//@\s*(loop\b[^\n]*)", re.DOTALL
 
 @dataclass(frozen=True)
 class Note:
-    """What is written at a loop: equations between whole numbers, and the variables that its turns change."""
+    """What is written at a loop: equations between whole numbers, and the variables that its turns change, if these are all."""
 
     loop: Loop
     equations: tuple[str, ...]
-    assigns: tuple[str, ...]
+    assigns: tuple[str, ...] | None
 
 
 def clauses_of(annotation: str) -> list[str]:
@@ -33,7 +33,8 @@ def written(note: Note, there: list[str]) -> str:
     """The annotation of a note with the clauses that are there, without blanks before its lines."""
     found = [f"{FOUND}{equation} == 0;" for equation in note.equations]
     end = next((place for place, line in enumerate(there) if line.startswith("loop variant")), len(there))
-    assigns = [] if any(line.startswith("loop assigns") for line in there) else [f"loop assigns {listed(note.assigns)};"]
+    given = note.assigns is None or any(line.startswith("loop assigns") for line in there)
+    assigns = [] if given else [f"loop assigns {listed(note.assigns)};"]
     return "/*@ " + "\n    ".join([*found, *there[:end], *assigns, *there[end:]]) + " */"
 
 
@@ -41,15 +42,28 @@ def listed(names: Iterable[str]) -> str:
     return ", ".join(names) or r"\nothing"
 
 
+def annotation_before(source: Source, at: int) -> re.Match | None:
+    """The annotation of a loop that begins at a place of the text."""
+    gap = len(source.code[:at].rstrip())
+    found = list(ANNOTATION.finditer(source.text, gap, at))
+    return found[-1] if found else None
+
+
+def has_assigns(source: Source, loop: Loop) -> bool:
+    """Whether the author says what a loop assigns."""
+    at = source.offset_of(loop)
+    found = None if at is None else annotation_before(source, at)
+    return found is not None and re.search(r"\bloop assigns\b", found[0]) is not None
+
+
 def annotated(source: Source, notes: Iterable[Note]) -> str:
     """The text of a source with notes at its loops."""
     text = source.text
     for note in sorted(notes, key=lambda note: source.offset_of(note.loop), reverse=True):
         at = source.offset_of(note.loop)
-        gap = len(source.code[:at].rstrip())
-        found = list(ANNOTATION.finditer(text[gap:at]))
-        begin, end = (gap + found[-1].start(), gap + found[-1].end()) if found else (at, at)
-        there = clauses_of(found[-1][1] or found[-1][2]) if found else []
+        found = annotation_before(source, at)
+        begin, end = found.span() if found else (at, at)
+        there = clauses_of(found[1] or found[2]) if found else []
         blanks = " " * (begin - text.rfind("\n", 0, begin) - 1)
         behind = "" if found else "\n" + blanks
         text = text[:begin] + written(note, there).replace("\n", "\n" + blanks) + behind + text[end:]

@@ -15,12 +15,15 @@ MOST_SECONDS = 60
 
 
 class Refused(Exception):
-    """What `invar` answers instead of a basis."""
+    """What `invar` answers instead of a basis; `names` are the variables that it speaks of."""
 
     def __init__(self, told: str, text: str) -> None:
         """Of a loop with this text. Where a branch is named, it is shown."""
         branches = [line.removeprefix("branch ") for line in text.splitlines() if line.startswith("branch ")]
         number = re.match(r"branch (\d+):", told)
+        named = re.match(r"branch \d+: (?:not solvable|eigenvalues|range: \d+|wide in splitting|wide in forms): (.*)", told)
+        self.names = named[1].split(", ") if named else []
+        self.told = told
         shown = [f"{number[0]} {branches[int(number[1]) - 1]}"] if number else []
         super().__init__("\n    ".join(filter(None, [f"invar says {told}", *shown, advice(told)])))
 

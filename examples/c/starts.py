@@ -2,31 +2,29 @@
 from __future__ import annotations
 
 import itertools
-from collections.abc import Iterable
+from collections.abc import Callable, Iterable
 from dataclasses import dataclass, field, replace
 
-from pycparser import c_ast
-
-from paths import turn
+from lowering import Function
+from paths import State
 from polynomials import Polynomial
-from sources import Loop, Refusal, assigned, is_whole, line_of, nodes, statements
-from values import Values
+from statements import Block, Cases, Choice, Claim, Declared, Leave, Set, Statement, Target, Touch, Turns, changed
 
 BEFORE = "@"
 """Behind the name of a parameter or of a global variable: its value where the function begins."""
 
-STRAIGHT = (c_ast.Decl, c_ast.Assignment, c_ast.UnaryOp, c_ast.ExprList, c_ast.EmptyStatement)
+STRAIGHT = (Set, Declared, Touch, Claim)
 
 
 @dataclass(frozen=True)
 class Sequence:
-    """Loops of one block, with the straight code between them, and the names in scope before the first."""
+    """Loops of one block, with the straight code between them, and the variables in scope before the first."""
 
-    items: tuple[c_ast.Node, ...]
+    items: tuple[Statement, ...]
     scope: frozenset[str]
 
-    def loops(self) -> list[Loop]:
-        return [item for item in self.items if isinstance(item, Loop)]
+    def loops(self) -> list[Turns]:
+        return [item for item in self.items if isinstance(item, Turns)]
 
     def parts(self) -> list[Sequence]:
         """Each loop for itself."""
@@ -37,127 +35,100 @@ class Sequence:
 class Starts:
     """For each loop of a function the values at its first arrival, and the sequences of loops outside and inside of it."""
 
-    globals: list[str]
-    addressed: set[str]
-    at: dict[Loop, Values] = field(default_factory=dict)
-    sequences: dict[Loop | None, list[Sequence]] = field(default_factory=dict)
-    symbols: Iterable[int] = field(default_factory=itertools.count)
+    function: Function
+    is_framed: Callable[[Turns], bool] = lambda loop: True
+    """Whether the verifier is told what a loop assigns: behind any other loop nothing is known."""
+    at: dict[Turns, State] = field(default_factory=dict)
+    sequences: dict[Turns | None, list[Sequence]] = field(default_factory=dict)
+    symbols: Iterable[int] = field(default_factory=lambda: itertools.count(1))
 
-    def symbol(self) -> Polynomial:
-        """A value of which nothing is known."""
-        return Polynomial.variable(f"?{next(self.symbols)}")
+    def unknown(self, state: State, keys: Iterable[str]) -> State:
+        """The state once code that isn't followed may have changed these variables."""
+        for key in dict.fromkeys(keys):
+            if key in state.of:
+                state = state.any_value(key, "")
+        return state
 
-    def unknown(self, values: Values, names: Iterable[str]) -> Values:
-        """The values once code that isn't followed may have changed these names."""
-        for name in names:
-            if name in values.of:
-                values = values.having(name, self.symbol())
-        return values
+    def anything(self, keys: Iterable[str]) -> State:
+        """A state of which nothing is known."""
+        return self.unknown(State({key: Polynomial() for key in keys}, self.function.types, symbols=self.symbols), keys)
 
-    def touched(self, node: c_ast.Node | None) -> list[str]:
-        """The names that code may change, also by a call or through a pointer."""
-        if node is None:
-            return []
-        parts = nodes(node)
-        hidden = any(
-            isinstance(part, c_ast.FuncCall)
-            or isinstance(part, c_ast.Assignment) and not isinstance(part.lvalue, c_ast.ID)
-            for part in parts
-        )
-        return assigned(node) + (sorted(self.addressed) + self.globals if hidden else [])
-
-    def after_block(self, items: list[c_ast.Node], values: Values, owner: Loop | None) -> Values:
-        """Goes through the statements of a block."""
-        scope = frozenset(values.of)
-        run: list[c_ast.Node] = []
-        before = scope
+    def through(self, items: tuple[Statement, ...], state: State | None, owner: Turns | None) -> State | None:
+        """Goes through statements; None where their end isn't reached."""
+        run: list[Statement] = []
+        scope: frozenset[str] = frozenset()
         for item in items:
-            if isinstance(item, Loop) and not run:
-                before = frozenset(values.of)
-            if isinstance(item, Loop) or run and isinstance(item, STRAIGHT):
+            if isinstance(item, Turns) and not run:
+                scope = frozenset(state.of) if state is not None else item.around
+            if isinstance(item, Turns) or run and isinstance(item, STRAIGHT):
                 run.append(item)
             else:
-                self.keep(run, before, owner)
+                self.keep(run, scope, owner)
                 run = []
-            values = self.after(item, values, owner)
-        self.keep(run, before, owner)
-        return leaving(values, scope)
+            state = self.after(item, state, owner)
+        self.keep(run, scope, owner)
+        return state
 
-    def keep(self, run: list[c_ast.Node], scope: frozenset[str], owner: Loop | None) -> None:
+    def keep(self, run: list[Statement], scope: frozenset[str], owner: Turns | None) -> None:
         """Keeps a sequence of loops without the code behind the last of them."""
-        while run and not isinstance(run[-1], Loop):
+        while run and not isinstance(run[-1], Turns):
             run = run[:-1]
-        if run:
-            self.sequences.setdefault(owner, []).append(Sequence(tuple(run), scope))
+        sequence = Sequence(tuple(run), scope)
+        if run and sequence not in self.sequences.setdefault(owner, []):
+            self.sequences[owner].append(sequence)
 
-    def after(self, item: c_ast.Node, values: Values, owner: Loop | None) -> Values:
-        """Goes through a statement."""
-        if isinstance(item, c_ast.Compound):
-            return self.after_block(statements(item), values, owner)
-        if isinstance(item, c_ast.If):
-            return self.after_choice(item, values, owner)
-        if isinstance(item, Loop):
-            return self.after_loop(item, values)
-        if isinstance(item, c_ast.Decl) and item.name in values.of:
-            raise Refusal(line_of(item), f"a second variable {item.name} inside the scope of the first")
-        inner = nested(item)
-        if inner:
-            everything = replace(self.unknown(values, list(values.of)), facts=())
-            for part in inner:
-                self.after_block(statements(part), everything, owner)
-            return everything
-        try:
-            return values.after(item)
-        except Refusal:
-            if isinstance(item, c_ast.Decl) and is_whole(item.type):
-                values = values.having(item.name, self.symbol())
-            return self.unknown(values, self.touched(item))
+    def after(self, item: Statement, state: State | None, owner: Turns | None) -> State | None:
+        """Goes through a statement. What can't be reached is gone through as well, for the loops in it."""
+        if isinstance(item, Target):
+            return self.anything(item.keys)
+        if isinstance(item, Turns):
+            return self.after_loop(item, state)
+        if isinstance(item, Block):
+            inside = self.through(item.items, state, owner)
+            return None if inside is None else inside.leaving(item.own)
+        if isinstance(item, Choice):
+            test = item.test
+            yes = self.through(item.yes, None if state is None else state.tested("", test.holds), owner)
+            no = self.through(item.no, None if state is None else state.tested("", test.fails), owner)
+            return self.joined(yes, no)
+        if isinstance(item, Cases):
+            for entry in item.entries:
+                self.through(entry, state, owner)
+            return None if state is None else self.unknown(state, changed([item]))
+        if isinstance(item, Leave) or state is None:
+            return None
+        if isinstance(item, Set):
+            return state.having(item.key, item.term)
+        if isinstance(item, Declared):
+            return state.declaring(item.key)
+        if isinstance(item, Touch):
+            return self.unknown(state, item.keys)
+        return state.tested("", item.facts)
 
-    def after_choice(self, choice: c_ast.If, values: Values, owner: Loop | None) -> Values:
-        values = self.unknown(values, self.touched(choice.cond))
-        arms = [
-            self.after_block([] if arm is None else [arm], values.tested(choice.cond, holds), owner)
-            for holds, arm in ((True, choice.iftrue), (False, choice.iffalse))
-        ]
-        differing = [name for name in values.of if arms[0].of[name] != arms[1].of[name]]
-        return self.unknown(replace(arms[0], facts=values.facts), differing)
+    def joined(self, one: State | None, other: State | None) -> State | None:
+        """What two states have in common."""
+        if one is None or other is None:
+            return one or other
+        facts = tuple(fact for fact in one.facts if fact in other.facts)
+        both = {key: value for key, value in one.of.items() if key in other.of}
+        return self.unknown(replace(one, of=both, facts=facts), [key for key in both if one.of[key] != other.of[key]])
 
-    def after_loop(self, loop: Loop, values: Values) -> Values:
-        scope = frozenset(values.of)
-        for item in statements(loop.init) if isinstance(loop, c_ast.For) else []:
-            values = self.after(item, values, loop)
-        self.at[loop] = values
-        parts = [*turn(loop), *([loop.cond] if loop.cond is not None else [])]
-        values = self.unknown(values, [name for part in parts for name in self.touched(part)])
-        self.after_block(list(turn(loop)), values.tested(loop.cond, True), loop)
-        return leaving(values, scope)
-
-
-def leaving(values: Values, scope: frozenset[str]) -> Values:
-    return replace(values, of={name: value for name, value in values.of.items() if name in scope})
-
-
-def nested(item: c_ast.Node) -> list[c_ast.Node]:
-    """The statements in one whose course isn't followed."""
-    if isinstance(item, (c_ast.DoWhile, c_ast.Switch, c_ast.Label)):
-        return [item.stmt]
-    if isinstance(item, (c_ast.Case, c_ast.Default)):
-        return list(item.stmts or [])
-    return []
+    def after_loop(self, loop: Turns, state: State | None) -> State:
+        if state is None:
+            state = self.anything(loop.around)
+        scope = frozenset(state.of)
+        state = self.through(loop.init, state, loop) or state
+        self.at[loop] = self.joined(self.at.get(loop), state)
+        state = self.unknown(state, changed([*loop.body, *loop.next]))
+        following = self.through(loop.body, state, loop)
+        self.through(loop.next, following, loop)
+        behind = state if self.is_framed(loop) else self.unknown(state, state.of)
+        return behind.leaving(frozenset(state.of) - scope)
 
 
-def starts_of(function: c_ast.FuncDef, global_declarations: list[c_ast.Decl]) -> Starts:
+def starts_of(function: Function, is_framed: Callable[[Turns], bool]) -> Starts:
     """The starts of a function's loops; its parameters and the global variables have their values before."""
-    parameters = function.decl.type.args.params if function.decl.type.args is not None else []
-    own = {node.name for node in nodes(function) if isinstance(node, c_ast.Decl)}
-    visible = [node.name for node in global_declarations if is_whole(node.type) and node.name not in own]
-    names = visible + [node.name for node in parameters if isinstance(node, c_ast.Decl) and is_whole(node.type)]
-    addressed = {node.expr.name for node in nodes(function) if is_address(node)}
-    result = Starts(visible, addressed)
-    values = Values({name: Polynomial.variable(name + BEFORE) for name in names})
-    result.after_block(statements(function.body), values, None)
+    result = Starts(function, is_framed)
+    values = {key: Polynomial.variable(name + BEFORE) for key, name in function.begins.items()}
+    result.through(function.items, State(values, function.types, symbols=result.symbols), None)
     return result
-
-
-def is_address(node: c_ast.Node) -> bool:
-    return isinstance(node, c_ast.UnaryOp) and node.op == "&" and isinstance(node.expr, c_ast.ID)

@@ -2,6 +2,7 @@
 """Tests of annotate.py: what is refused with its line, and what is written. Once `./invar` has built the program: examples/c/tests.py"""
 from __future__ import annotations
 
+import re
 import subprocess
 import sys
 import tempfile
@@ -60,14 +61,25 @@ class Annotations(unittest.TestCase):
 
     def body_refused(self, body: str, reason: str) -> None:
         text = f"int g(int n, int *p)\n{{\n    int x = 0, y = 1;\n    while (x < n) {{\n        {body}\n    }}\n    return y;\n}}\n"
-        self.refused(text, f"test.c:4: loop not taken: {reason} in line 5\n")
+        self.refused(text, f"test.c:4: loop not taken: {reason}" + (" in line 5\n" if "at first" not in reason else "\n"))
+
+    def body_without(self, body: str, asked: str, left: str = "") -> None:
+        """No equation between these holds, and what else changes may have any value, for a reason."""
+        text = f"int g(int n, int *p)\n{{\n    int x = 0, y = 1;\n    while (x < n) {{\n        {body}\n    }}\n    return y;\n}}\n"
+        result = self.annotate(text)
+        self.assertEqual((result.status, result.text), (0, text))
+        self.assertEqual(result.told, f"test.c:4: no equation between {asked} holds at each turn{'; any value: ' + left if left else ''}\n")
+
+    def turned(self, body: str, before: str = "int x = 0, y = 0;", test: str = "x < n") -> list[str]:
+        """The equations of a loop with this body."""
+        return self.equations(f"int g(int n, int *p, unsigned m)\n{{\n    {before}\n    while ({test}) {{\n        {body}\n    }}\n    return y;\n}}\n")
 
     def equations(self, text: str) -> list[str]:
         result = self.annotate(text)
         self.assertEqual((result.status, result.told), (0, ""))
         clauses = [line.strip().removeprefix("/*@ ") for line in result.text.splitlines()]
         mark = "loop invariant invar: "
-        return [clause.removeprefix(mark).removesuffix(";") for clause in clauses if clause.startswith(mark)]
+        return [clause.removeprefix(mark).removesuffix(" */").removesuffix(";") for clause in clauses if clause.startswith(mark)]
 
     def kept_text(self, text: str, name: str) -> list[str]:
         """The lines of a loop text that stays beside the file, but for its title."""
@@ -77,16 +89,22 @@ class Annotations(unittest.TestCase):
     def test_what_is_refused_by_line(self) -> None:
         self.body_refused("x = g(x, p);", "a call")
         self.body_refused("x = p[x];", "an array")
-        self.body_refused("x++; if (x == 7) break;", "a break")
-        self.body_refused("x++; if (x == 7) continue;", "a continue")
         self.body_refused("x = *p;", "a pointer")
         self.body_refused("x = x / 2;", "a division by 2 on a path without the test that makes it exact")
-        self.body_refused("x = n / x;", "a division by what is no number other than 0")
-        self.body_refused("x = x % 3;", "the operator %")
-        self.body_refused("x = x > y ? 1 : x;", "a conditional expression")
-        self.body_refused("if (x++ > 2) y = 3;", "a test that changes a variable")
-        self.body_refused("int t; x = t;", "t, which may be read before it is set,")
-        self.body_refused("do x++; while (x < y);", "a loop with its test at the end")
+        self.body_refused("x = n / x;", "a division")
+        self.body_refused("x = x % 3;", "a remainder")
+        self.body_refused("x = x << 1;", "the operator <<")
+        self.body_refused("int t; x = t;", "it has no value at first")
+        self.body_refused("x = x++ + 1;", "x, which is changed and read in one expression,")
+        self.body_refused("again: x++; if (x == 3) goto again;", "a label")
+
+    def test_what_has_no_equation(self) -> None:
+        self.body_without("x++; if (x == 7) break;", "x")
+        self.body_without("x++; if (x == 7) continue;", "x")
+        self.body_without("x = x > y ? x + 1 : x + 2;", "x")
+        self.body_without("x++; y = p[x];", "x", "y (an array in line 5)")
+        self.body_without("x++; y += g(x, p);", "x", "y (a call in line 5)")
+        self.body_without("x++; y = y / 2;", "x", "y (a division by 2 on a path without the test that makes it exact in line 5)")
 
     def test_that_an_odd_rest_may_be_negative(self) -> None:
         self.body_refused("if (x % 2 == 1) x--; else x = x / 2;", "a division by 2 on a path without the test that makes it exact")
@@ -97,11 +115,146 @@ class Annotations(unittest.TestCase):
 
     def test_what_is_no_whole_number(self) -> None:
         self.refused("int f(double x)\n{\n    while (x > 1)\n        x = x - 1;\n    return 0;\n}\n", "test.c:3: loop not taken: x, which is no")
-        self.refused("int f(unsigned x)\n{\n    while (x > 1)\n        x = x - 1;\n    return 0;\n}\n", "test.c:3: loop not taken: x, which is no")
 
     def test_faults_of_the_text(self) -> None:
         self.refused("int f(void)\n{\n    return 0\n}\n", "test.c:4: no C that is read here")
-        self.refused("int f(int x)\n{\n    while (x > 0) { int x = 1; x--; }\n    return 0;\n}\n", "a second variable x inside the scope of the first")
+        self.refused("#include \"none.h\"\nint f(int x)\n{\n    while (x > 0) x-- y;\n    return 0;\n}\n", "the header none.h isn't found", "test.c:4: loop not taken: no C")
+        self.refused("#if (\nint f(void);\n#endif\n", "test.c:1: the preprocessor says: ")
+
+    def test_shadows(self) -> None:
+        self.refused("int f(int x)\n{\n    while (x > 0) { int x = 1; x--; }\n    return 0;\n}\n", "test.c:3: loop not taken: nothing that changes")
+        inner = "int f(int n)\n{\n    int x = 5, i = 0;\n    {\n        int x = 0;\n        while (i < n) { x += 2; i++; }\n    }\n    return x;\n}\n"
+        self.assertEqual(self.equations(inner), ["2*i - x == 0"])
+        hidden = "int x;\nint f(int x)\n{\n    int i = 0;\n    while (i < 5) { x += 2; i++; }\n    return x;\n}\n"
+        self.assertEqual(self.equations(hidden), [r"\at(x, Pre) - x + 2*i == 0"])
+
+    def test_names_that_acsl_has(self) -> None:
+        text = "int f(int n)\n{\n    int integer = 0, i = 0;\n    while (i < n) { integer += 2; i++; }\n    return i;\n}\n"
+        self.assertEqual(self.annotate(text).told, "test.c:4: no equation between integer, i can be written here\n")
+
+    def test_both_sides_of_a_condition(self) -> None:
+        self.assertEqual(self.turned("\n#ifdef FAST\ny += 2;\n#else\ny += 3;\n#endif\nx++;"), ["3*x - y == 0"])
+        self.assertEqual(self.turned("y += 2;\n#if 0\ny += 40;\n#endif\nx++;"), ["2*x - y == 0"])
+        self.assertEqual(self.annotate("#ifdef STEP\nint f(int n) { int x = 0, y = 0; while (x < n) { x++; y += STEP; } return y; }\n#endif\n", "-D", "STEP=7").text.count("7*x - y == 0"), 1)
+
+    def test_functions_on_one_line(self) -> None:
+        one = "int %s(int n) { int i = 0, s = 0; while (i < n) { s += %d; i++; } return s; }"
+        text = self.annotate(f"{one % ('f', 2)} {one % ('g', 3)} {one % ('h', 4)}\n").text
+        self.assertEqual(re.findall(r"invar: (.*?) == 0;\s*loop assigns s, i; \*/\s*while \(i < n\) { s \+= (\d)", text), [
+            ("2*i - s", "2"), ("3*i - s", "3"), ("4*i - s", "4"),
+        ])
+
+    def test_what_loops_before_assign(self) -> None:
+        text = "int f(int n, int *p)\n{\n    int i, c = n, s = 0;\n    for (i = 0; i < n; i++) s += p[i];\n    if (s > 5) s = 5;\n    while (s > c) { c++; s++; }\n    return s;\n}\n"
+        result = self.annotate(text)
+        self.assertIn("    /*@ loop assigns s, i; */\n    for (i = 0", result.text)
+        self.assertIn(r"invar: \at(s, LoopEntry) - n + c - s == 0;", result.text)
+        self.assertEqual(self.annotate(result.text).text, result.text)
+        unframed = self.annotate(text.replace("s += p[i];", "s += f(i, p);")).text
+        self.assertNotIn("loop assigns s, i;", unframed)
+        self.assertRegex(unframed, r"invar: \\at\(c, LoopEntry\) - .*;")
+
+    def test_what_never_changes(self) -> None:
+        text = "static const int STEP = 3;\nvoid h(void);\nint f(int n)\n{\n    int i = 0, s = 0;\n    while (i < n) { s += STEP; h(); i++; }\n    return s;\n}\n"
+        self.assertEqual(self.equations(text), ["STEP*i - s == 0"])
+
+    def test_loops_that_are_never_reached(self) -> None:
+        text = "int f(int n)\n{\n    int i = 0, s = 0;\n    if (0) {\n        while (i < n) { s += 2; i++; }\n    }\n    return s;\n}\n"
+        self.assertEqual(self.equations(text), ["2*i - s == 0"])
+
+    def test_macros(self) -> None:
+        macros = "#define STEP 3\n#define EACH(i, n) for (i = 0; i < n; i++)\nint f(int n)\n{\n    int i = 0, s = 0;\n    "
+        self.assertEqual(self.equations(macros + "while (i < n) { s += STEP; i++; }\n    return s;\n}\n"), ["3*i - s == 0"])
+        self.refused(macros + "EACH(i, n) s += 2;\n    return s;\n}\n", "test.c:6: loop not taken: a loop that a macro makes")
+
+    def test_headers(self) -> None:
+        text = "#include <stddef.h>\n#include <stdint.h>\nsize_t f(size_t n)\n{\n    size_t i = 0, j = n;\n    while (i < j) { i++; j--; }\n    return i;\n}\n"
+        self.assertEqual(self.equations(text), ["n - i - j == 0"])
+        types = "typedef int money;\nenum { STEP = 5 };\nmoney f(int n)\n{\n    money b = 0;\n    int y = 0;\n    while (y < n) { b += STEP; y++; }\n    return b;\n}\n"
+        self.assertEqual(self.equations(types), ["b - 5*y == 0"])
+        unknown = "#include <nowhere.h>\nvoid f(thing *t, int n)\n{\n    other_t o;\n    int i = 0, s = 0;\n    while (i < n) { use(t, (thing *) o); s += 2; i++; }\n}\n"
+        result = self.annotate(unknown)
+        self.assertEqual((result.status, result.told), (0, "test.c: the header nowhere.h isn't found, and counts as empty\n"))
+        self.assertIn("invar: 2*i - s == 0;", result.text)
+        written = unknown.replace("use(t, (thing *) o)", "use(t, s)")
+        self.assertIn("any value: s (a call in line 6)", self.annotate(written).told)
+
+    def test_values_that_may_not_fit(self) -> None:
+        self.body_without("x++; y = *(long *) p;", "x", "y (a pointer in line 5)")
+        self.assertEqual(self.annotate("int f(long m) { int i = 0, t = 0; while (i < 9) { i++; m++; t = m; } return t; }\n").text.count("- m + i == 0;"), 1)
+        self.assertEqual(self.turned("long t = x; x++; y = t;", "int x = 1, y = 0;"), ["x - y - 1 == 0"])
+        self.assertEqual(self.annotate("int f(int n) { short s = 70000; int i = 0; while (i < n) { s += 2; i++; } return s; }\n").told,
+            "test.c:1: no equation between i holds at each turn; any value: s (short s in line 1 may not hold it)\n")
+        self.assertEqual(self.turned("y += 2; x++;", "int y = 0; short x = 0;", "x < 1000"), ["y - 2*x == 0"])
+        self.assertEqual(self.turned("y += (long) x * 2; x++;", "long y = 0; int x = 0;"), ["x*x - y - x == 0"])
+
+    def test_unsigned_values(self) -> None:
+        self.assertEqual(self.turned("k--; y++;", "unsigned k = m; int y = 0;", "k > 0"), ["m - k - y == 0"])
+        self.assertEqual(self.turned("k--; y++;", "unsigned k = m; int y = 0;", "k"), ["m - k - y == 0"])
+        self.assertEqual(self.turned("r -= 3; y++;", "unsigned r = m; int y = 0;", "r >= 3"), ["m - r - 3*y == 0"])
+        wrapping = "unsigned f(unsigned n)\n{\n    unsigned i = 0, s = 0;\n    while (i < n) { s += 2; i++; }\n    return s;\n}\n"
+        self.assertEqual(self.annotate(wrapping).told, "test.c:4: no equation between i holds at each turn; any value: s (unsigned int s in line 4 may not hold it)\n")
+
+    def test_what_is_told_beside_equations(self) -> None:
+        text = "int g;\nvoid h(void);\nint f(int n)\n{\n    int i = 0, k = 0;\n    unsigned char c = 0;\n    while (i < n) { %s i++; k += 2; }\n    return k;\n}\n"
+        for body, wanted in (("c++;", "c (unsigned char c in line 7 may not hold it)"), ("g = i; h();", "g (a call in line 7)")):
+            result = self.annotate(text.replace("%s", body))
+            self.assertEqual((result.status, result.told), (0, f"test.c:7: any value: {wanted}\n"))
+            self.assertIn("2*i - k == 0;", result.text)
+
+    def test_constants(self) -> None:
+        values = {"010": 8, "0x1F": 31, "'a'": 97, r"'\n'": 10, r"'\17'": 15, r"'\x41'": 65, "3L": 3, "-7 / 2": -3, "7 << 2": 28, "(6 | 1) ^ 2": 5, "-7 % 3": -1}
+        for written, value in values.items():
+            text = f"int f(int n)\n{{\n    int i = 0;\n    long s = 0;\n    while (i < n) {{ s += {written}; i++; }}\n    return i;\n}}\n"
+            found = self.annotate(text).text
+            i, s = 10, 10 * value
+            equation = re.search(r"invar: (.*?) == 0;", found)[1]
+            self.assertEqual(eval(equation, {"i": i, "s": s}), 0, written)
+
+    def test_effects_in_expressions(self) -> None:
+        self.assertEqual(self.turned("y += 2;", test="x++ < n"), ["2*x - y == 0"])
+        self.assertEqual(self.turned("y += 2;", "int x = 0, y = 0, k = n;", "k-- > 0"), ["2*n - y - 2*k == 0"])
+        self.assertEqual(self.turned("y = x++;", "int x = 0, y = -1;"), ["x - y - 1 == 0"])
+        self.assertEqual(self.turned("y = (z = 3, x += 2, x + z);", "int x = 0, y = 3, z;")[:1], ["x - y + 3 == 0"])
+        self.assertEqual(self.turned("y += x > 5 ? 2 : 1 + 1; x++;"), ["2*x - y == 0"])
+        self.assertEqual(self.turned("x++; z++; y = 2 * x;", "int x = 0, y = 0, z = 0;"), ["y - 2*z == 0", "x - z == 0"])
+
+    def test_ways_out(self) -> None:
+        self.assertEqual(self.turned("if (x >= n) break; y += 2; x++;", test="1"), ["2*x - y == 0"])
+        self.assertEqual(self.turned("x++; y += 2; if (x % 3 == 0) continue; if (y > 100) return x;"), ["2*x - y == 0"])
+        self.assertEqual(self.turned("x++; switch (p[x]) { case 1: y += 2; break; case 2: y += 1; default: y += 1; } z += 4;", "int x = 0, y = 0, z = 0;"), ["4*x - z == 0"])
+        self.assertEqual(self.equations("int f(int n)\n{\n    int i = 0, s = 0;\n    do { s += 2; } while (++i < n);\n    return s;\n}\n"), ["2*i - s == 0"])
+        self.assertEqual(self.equations("int f(int n)\n{\n    int i, j;\n    for (i = 0, j = n; i < j; i++, j--) ;\n    return i;\n}\n"), ["n - i - j == 0"])
+
+    def test_unknown_values(self) -> None:
+        self.assertEqual(self.turned("int t = p[x]; x++; y += t; z -= t;", "int x = 0, y = 0, z = 0;"), ["y + z == 0"])
+        text = "int f(int n, int *p)\n{\n    int x = 0, y = 0, z = 0;\n    while (x < n) { int t = p[x]; x++; y += t; z -= t; }\n    return y;\n}\n"
+        self.assertEqual(self.kept_text(text, "test-4.loop"), [
+            "vars any, x, y, z;",
+            "locals t;",
+            "init x = 0, y = 0, z = 0;",
+            "branch when x < n { t = any; x = x + 1; y = y + t; z = z - t; }",
+            "branch { any = any + 1; }",
+        ])
+
+    def test_what_a_call_may_change(self) -> None:
+        text = "int g;\nvoid h(void);\nint f(int n)\n{\n    int i = 0, s = 0;\n    while (i < n) { h(); g += 2; s += 2; i++; }\n    return s;\n}\n"
+        self.assertEqual(self.annotate(text).told, "test.c:6: any value: g (a call in line 6)\n")
+        self.assertIn("invar: 2*i - s == 0;", self.annotate(text).text)
+        self.assertNotIn("loop assigns", self.annotate(text).text)
+
+    def test_values_at_the_first_arrival(self) -> None:
+        text = "int f(int m)\n{\n    int s = 0, n = g(m), t = n;\n    while (n > 0) { s += 2; n--; t--; }\n    return s;\n}\n"
+        self.assertEqual(self.equations(text), ["n - t == 0"])
+        self.annotate(text, "--entries")
+        self.assertIn(r"\at(n, LoopEntry)", self.file.read_text())
+
+    def test_what_invar_refuses_in_part(self) -> None:
+        text = "int f(int n)\n{\n    int i = 1, p = 1, s = 0;\n    while (i < n) { p = p * i; i++; s += 2; }\n    return p;\n}\n"
+        result = self.annotate(text)
+        self.assertEqual(result.status, 1)
+        self.assertIn("test.c:4: loop taken without p: invar says branch 1: not solvable: p", result.told)
+        self.assertIn("2*i - s - 2 == 0", result.text)
 
     def test_that_other_loops_of_the_file_are_annotated(self) -> None:
         text = DIVISION + "void g(int n)\n{\n    while (n > 0) n = f(n);\n}\n"

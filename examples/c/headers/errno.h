@@ -1,0 +1,4 @@
+#ifndef ERRNO_H_OF_INVAR
+#define ERRNO_H_OF_INVAR
+extern int errno;
+#endif
