@@ -15,7 +15,7 @@ import argparse
 import contextlib
 import sys
 import tempfile
-from collections.abc import Container, Mapping
+from collections.abc import Container, Iterable, Mapping
 from dataclasses import dataclass, field
 from pathlib import Path
 
@@ -31,7 +31,7 @@ from program import Files, Refused, basis, build, chain  # noqa: E402
 from pycparser import c_ast  # noqa: E402
 from sources import Refusal, Source, line_of, loops_in, read_source, write_source  # noqa: E402
 from starts import Sequence, Starts, starts_of  # noqa: E402
-from statements import Set, Touch, Turns, Within, every, turns_in  # noqa: E402
+from statements import Set, Statement, Touch, Turns, Within, every, turns_in  # noqa: E402
 from texts import LoopText, Names, idle, is_any, loop_text, spelled  # noqa: E402
 
 
@@ -53,7 +53,7 @@ class Found:
     refused: str = ""
     """Why `invar` took the loop only without some variables."""
     wrapping: frozenset[str] = frozenset()
-    """The names in the text of unsigned variables that change."""
+    """The names in the text of variables that change and are unsigned, or get values of wider types."""
 
     def equations(self, visible: Container[str], entries: bool) -> list[str]:
         """The left sides over names that are visible; with entries also over values at the first arrival at the first loop."""
@@ -62,8 +62,9 @@ class Found:
         return [element.whole(self.names.spelling) for element in self.elements if element.names() <= known and not self.is_heavy(element)]
 
     def is_heavy(self, element: Polynomial) -> bool:
-        """Whether provers lose themselves in an equation: it is long, or a product has an unsigned variable that changes and might wrap around."""
-        return len(element.terms) > MOST_TERMS or any(sum(exponent for _, exponent in term) > 1 and {name for name, _ in term} & self.wrapping for term in element.terms)
+        """Whether provers lose themselves in an equation: it is long, or a product has a variable that might be cut off or wrap around."""
+        products = (term for term in element.terms if sum(exponent for _, exponent in term) > 1)
+        return len(element.terms) > MOST_TERMS or any(name in self.wrapping for term in products for name, _ in term)
 
 
 @dataclass
@@ -186,7 +187,8 @@ class Annotator:
             raise
         asked = tuple(key for key in text.names.variables if any(key in edge.values for edge in edges))
         types = starts.function.types
-        wrapping = frozenset(text.names.variables[key] for key in asked if not types[key].signed)
+        cut = {key for part in parts for head in part.walk.heads for key in cut_off([*head.body, *head.next])}
+        wrapping = frozenset(text.names.variables[key] for key in asked if key in cut or not types[key].signed)
         return {
             loop: Found(elements, text.names, part is parts[0] and loop is sequence.items[0], asked, text.without, refused, wrapping)
             for part, elements in zip(parts, bases)
@@ -244,6 +246,11 @@ def nothing(found: Found) -> str:
     left = [f"{spelled(key)} ({why})" if why else spelled(key) for key, why in found.without.items()]
     said = "can be written here" if found.elements else "holds at each turn"
     return f"no equation between {asked} {said}" + (f"; any value: {', '.join(left)}" if left else "")
+
+
+def cut_off(items: Iterable[Statement]) -> set[str]:
+    """The variables for which it has to be known that a value fits."""
+    return {item.key for item in every(items) if isinstance(item, Set) and any(isinstance(need, Within) for need in item.term.needs)}
 
 
 def unforeseen(loop: Turns, found: Found) -> list[str]:

@@ -130,7 +130,10 @@ class Lowering:
                 self.statement(part)
         elif isinstance(node, c_ast.FuncCall) and getattr(node.name, "name", None) == ASSERTION:
             self.emit(Claim(self.test(node.args.exprs[0]).holds))
-        elif not isinstance(node, (c_ast.EmptyStatement, c_ast.Pragma, c_ast.Typedef, c_ast.StaticAssert)):
+        elif isinstance(node, c_ast.Typedef):
+            known = self.declared.types
+            self.declared.types = {**known, node.name: None if node.name in known else node.type}
+        elif not isinstance(node, (c_ast.EmptyStatement, c_ast.Pragma, c_ast.StaticAssert)):
             self.effects(node)
 
     def declaration(self, node: c_ast.Decl) -> None:

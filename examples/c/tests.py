@@ -172,6 +172,8 @@ class Annotations(unittest.TestCase):
         self.assertEqual(self.equations(text), ["n - i - j == 0"])
         types = "typedef int money;\nenum { STEP = 5 };\nmoney f(int n)\n{\n    money b = 0;\n    int y = 0;\n    while (y < n) { b += STEP; y++; }\n    return b;\n}\n"
         self.assertEqual(self.equations(types), ["b - 5*y == 0"])
+        inner = "typedef long num;\nint f(int n)\n{\n    typedef short num;\n    num k = 0;\n    int i = 0;\n    while (i < n) { k += 5; i++; }\n    return k;\n}\n"
+        self.assertIn("no equation between i holds", self.annotate(inner).told)
         unknown = "#include <nowhere.h>\nvoid f(thing *t, int n)\n{\n    other_t o;\n    int i = 0, s = 0;\n    while (i < n) { use(t, (thing *) o); s += 2; i++; }\n}\n"
         result = self.annotate(unknown)
         self.assertEqual((result.status, result.told), (0, "test.c: the header nowhere.h isn't found, and counts as empty\n"))
@@ -192,6 +194,9 @@ class Annotations(unittest.TestCase):
         self.assertEqual(self.turned("k--; y++;", "unsigned k = m; int y = 0;", "k > 0"), ["m - k - y == 0"])
         self.assertEqual(self.turned("k--; y++;", "unsigned k = m; int y = 0;", "k"), ["m - k - y == 0"])
         self.assertEqual(self.turned("r -= 3; y++;", "unsigned r = m; int y = 0;", "r >= 3"), ["m - r - 3*y == 0"])
+        product = "int f(int n, int k)\n{\n    int d = 0;\n    %s i = 0;\n    while (i < 4) { i++; d += k; }\n    return d;\n}\n"
+        self.assertEqual(self.equations(product % "int"), ["i*k - d == 0"])
+        self.assertEqual(self.annotate(product % "short").told, "test.c:5: no equation between d, i can be written here\n")
         wrapping = "unsigned f(unsigned n)\n{\n    unsigned i = 0, s = 0;\n    while (i < n) { s += 2; i++; }\n    return s;\n}\n"
         self.assertEqual(self.annotate(wrapping).told, "test.c:4: no equation between i holds at each turn; any value: s (unsigned int s in line 4 may not hold it)\n")
 
