@@ -1,5 +1,6 @@
 -- What the answers to analyses show, and where each comes.
 --   found_shown        a yes: the reduced basis of the loop's invariants, at the end of its analysis
+--   closed_shown       with the cofactors of the divisions that closed it
 --   out_shown          a spent budget: an analysis that ran out of units
 --   unanalysed         any other answer: why the analysis was refused
 --   limit_analysed     the answer where an operation of the maps passes a limit
@@ -28,7 +29,6 @@ use Rattle.solvable.specs.Refusal.{IsSolvable}
 use Rattle.closed_forms.specs.Refusal.{AllPass, Refusal, not_solvable, eigenvalues, range, wide_split, wide_form, IfRefused, refusal_in}
 use Rattle.closed_forms.specs.declared.errors.FormsError.{FormsError}
 use Rattle.invariant_fix.specs.Refusals.{AllHaveForms, HasForm, IsRefusedBranch, TellsBranch, IsRefused}
-use Rattle.analysis_commands.specs.AnalysisTexts.{cause_or_memory}
 use Rattle.invariant_fix.specs.declared.errors.AnalyseError.{AnalyseError}
 use Rattle.invariant_fix.specs.declared.errors.AnalyseError.TheVariants as error
 use Rattle.analysis_commands.specs.declared.kind.Kind.{Kind}
@@ -36,12 +36,13 @@ use Rattle.io_edge.specs.declared.answer.Status.{Status}
 use Rattle.io_edge.specs.declared.answer.Status.TheVariants as status
 use Rattle.analysis_commands.specs.Statuses.{cause_status, refusal_status}
 use Rattle.io_edge.specs.Texts.{Answer, line, with_text}
-use Rattle.analysis_commands.specs.Texts.{found_answer, refusal_answer, branch_answer}
+use Rattle.analysis_commands.specs.Texts.{found_answer}
+use Rattle.analysis_commands.specs.RefusalTexts.{cause_or_memory, refusal_answer, branch_answer}
 use Rattle.command_parts.specs.FaultTexts.{loop_refusal}
 use Rattle.analysis_commands.specs.Headline.{ShowsAnalysis}
 use Rattle.analysis_commands.specs.Analyses.{empty_journal, Ending, found, refused, EndsWith, answer_of, Analyses}
 use Rattle.analysis_commands.specs.Completeness.{AllSplit}
-use Rattle.analysis_commands.specs.Causes.{HasFinished, IsSpent, IsNeverRefused, IsWithinBudget, IsExact, IsUnanalysed}
+use Rattle.analysis_commands.specs.Causes.{HasFinished, IsClosed, IsSpent, IsNeverRefused, IsWithinBudget, IsExact, IsUnanalysed}
 use Rattle.io_edge.proofs.OfStatuses.{status_of, text_of, no_answer}
 use Rattle.analysis_commands.proofs.Refused.{refusal_parts, refusal_kind, Refused, at_fault, too_wide, spent}
 use Rattle.command_parts.proofs.MapLimits.{limit_same, not_free}
@@ -52,11 +53,17 @@ refused_not_yes e s (at_fault is) h = cc
 refused_not_yes e s (too_wide is) h = cc
 refused_not_yes e s (spent is same) h = cc
 
--- the refusal of an answer that tells a spent budget
+-- the refusal of an answer that tells a spent budget, and of one that doesn't
 pub spent_is : (e : AnalyseError) (s : Status) → Refused e s → s ≡ status.Budget → e ≡ error.Budget
 spent_is e s (at_fault is) h = absurd (cc)
 spent_is e s (too_wide is) h = absurd (cc)
 spent_is e s (spent is same) h = same
+
+pub at_fault_or_wide : (e : AnalyseError) (s : Status) → Refused e s → (e ≡ error.Budget → ⊥)
+    → (s ≡ status.Fault) ⊎ (s ≡ status.Wide)
+at_fault_or_wide e s (at_fault is) not = inl is
+at_fault_or_wide e s (too_wide is) not = inr is
+at_fault_or_wide e s (spent is same) not = absurd (not same)
 
 module _ (kind : Kind) (l : Program (Expr ℕ)) (budget : ℕ) (m : Journal) (a : Answer) where
   refused_kind : (e : AnalyseError) → answer_of kind l.names budget (refused e) ≡ Some a
@@ -76,24 +83,38 @@ module _ (kind : Kind) (l : Program (Expr ℕ)) (budget : ℕ) (m : Journal) (a 
         is_loop = is;
         certificate = c;
         says = sym (text_of (found_same c says));
-        is_basis = ends.1.basis;
+        is_basis = ends.1.ended.basis;
         generates = finished_generates l
-            (loop_well text l is).formed m.entries ends.1.rounds c.basis ends.1.finished;
+            (loop_well text l is).formed m.entries ends.1.ended.rounds c.basis
+            ends.1.ended.finished;
         identities = ends.2;
         reads_back = ends.3;
       },
       record {
         loop = l;
         is_loop = is;
-        free = ends.1.free;
+        free = ends.1.ended.free;
         limit = ends.0;
-        rounds = ends.1.rounds;
+        rounds = ends.1.ended.rounds;
         list = c.basis;
-        finished = ends.1.finished;
-        least = ends.1.least;
+        finished = ends.1.ended.finished;
+        least = ends.1.ended.least;
       },
     )
     shown (refused e) ends says h = absurd (refused_not_yes e a.status (refused_kind e says) h)
+
+    closed : (e : Ending) → EndsWith l budget m kind e → answer_of kind l.names budget e ≡ Some a
+        → a.status ≡ status.Yes → IsClosed kind text m a.text
+    closed (found c) ends says h = record {
+      loop = l;
+      is_loop = is;
+      certificate = c;
+      rounds = ends.1.ended.rounds;
+      finished = ends.1.ended.finished;
+      steps = ends.1.steps;
+      says = sym (text_of (found_same c says));
+    }
+    closed (refused e) ends says h = absurd (refused_not_yes e a.status (refused_kind e says) h)
 
     out : (e : Ending) → EndsWith l budget m kind e → answer_of kind l.names budget e ≡ Some a
         → a.status ≡ status.Budget → IsSpent text budget m a.text
@@ -130,7 +151,7 @@ module _ (kind : Kind) (l : Program (Expr ℕ)) (budget : ℕ) (m : Journal) (a 
       → EndsWith l budget m kind e → answer_of kind l.names budget e ≡ Some a
       → (a ≡ loop_refusal (record { reason = limit; at = at })) ⊎ (a.status ≡ status.Wide)
   limited at first (found c) ends says =
-      absurd (not_free (length l.names) (maps_operations l) at first ends.1.free)
+      absurd (not_free (length l.names) (maps_operations l) at first ends.1.ended.free)
   limited at first (refused (error.Map (map_error.Limit other))) ends says =
       let is : Some (loop_refusal (record { reason = limit; at = other })) ≡ Some a = says in
       let told : loop_refusal (record { reason = limit; at = other }) ≡ a = cc in
@@ -190,18 +211,12 @@ module _ (kind : Kind) (l : Program (Expr ℕ)) (budget : ℕ) (m : Journal) (a 
       inr (inr (status_told error.Budget status.Budget refl says))
   formed free forms (refused error.Memory) ends says = absurd (no_answer a says)
 
-  at_fault_or_wide : (e : AnalyseError) → Refused e a.status → (e ≡ error.Budget → ⊥)
-      → (a.status ≡ status.Fault) ⊎ (a.status ≡ status.Wide)
-  at_fault_or_wide e (at_fault is) not = inl is
-  at_fault_or_wide e (too_wide is) not = inr is
-  at_fault_or_wide e (spent is same) not = absurd (not same)
-
   unformed : AreFree l → ¬ (AllHaveForms l) → (e : Ending) → EndsWith l budget m kind e
       → answer_of kind l.names budget e ≡ Some a → (a.status ≡ status.Fault)
       ⊎ (a.status ≡ status.Wide)
-  unformed free not (found c) ends says = absurd (not ends.1.forms)
+  unformed free not (found c) ends says = absurd (not ends.1.ended.forms)
   unformed free not (refused e) ends says =
-      at_fault_or_wide e (refused_kind e says)
+      at_fault_or_wide e a.status (refused_kind e says)
       (λ same. not (subst (IsRefused l (empty_journal budget) m) same ends.1).1)
 
   completed : IsNeverRefused l → IsWithinBudget l budget → (e : Ending)
@@ -256,7 +271,7 @@ module _ (kind : Kind) (l : Program (Expr ℕ)) (budget : ℕ) (m : Journal) (a 
     pub branch_told : (x : Ending) → EndsWith l budget m kind x
         → answer_of kind l.names budget x ≡ Some a → Told
     branch_told (found c) ends says =
-        absurd (no_form l (suc b) r exact first.is (ends.1.forms b first.within))
+        absurd (no_form l (suc b) r exact first.is (ends.1.ended.forms b first.within))
     branch_told (refused (error.Map (map_error.Limit at))) ends says =
         absurd (not_free (length l.names) (maps_operations l) at ends.1.1.1 free)
     branch_told (refused (error.Map (map_error.Wide at))) ends says =
@@ -274,6 +289,11 @@ pub found_shown : (kind : Kind) (text : List ℕ) (l : Program (Expr ℕ)) (budg
     (a : Answer) → loop_of text ≡ Ok l → Analyses kind l budget m a → a.status ≡ status.Yes
     → ShowsAnalysis kind text a.text × HasFinished text budget m
 found_shown kind text l budget m a is h = shown kind l budget m a text is h.ending h.ends h.says
+
+pub closed_shown : (kind : Kind) (text : List ℕ) (l : Program (Expr ℕ)) (budget : ℕ) (m : Journal)
+    (a : Answer) → loop_of text ≡ Ok l → Analyses kind l budget m a → a.status ≡ status.Yes
+    → IsClosed kind text m a.text
+closed_shown kind text l budget m a is h = closed kind l budget m a text is h.ending h.ends h.says
 
 pub out_shown : (kind : Kind) (text : List ℕ) (l : Program (Expr ℕ)) (budget : ℕ) (m : Journal)
     (a : Answer) → loop_of text ≡ Ok l → Analyses kind l budget m a → a.status ≡ status.Budget

@@ -1,6 +1,6 @@
 -- Answers to an analysis, from what it gave.
 --   limit_opened     the limit of the meter behind it
---   finds_of         an analysis that has a basis;  found_said: what is answered then
+--   closed_of        an analysis that has a basis, with its cofactors;  finds_of: without;  found_said: what is answered then
 --   refused_analysed, refused_said     where it was refused;  refused_named: its variables are the loop's
 use Rattle.std.proofs.Common.{◌≡◌, ℕ, List, length, sym, ap, subst, ◌∙◌, Result}
 use Rattle.std.specs.Prelude.{Some, IfOk}
@@ -25,9 +25,10 @@ use Rattle.analysis_commands.proofs.Naming.{named}
 use Rattle.io_edge.specs.declared.answer.Answer as made
 use Rattle.analysis_commands.specs.declared.kind.Kind.{Kind}
 use Rattle.analysis_commands.specs.Headline.{IsToldBack}
-use Rattle.analysis_commands.specs.Texts.{found_answer, refusal_answer}
+use Rattle.analysis_commands.specs.Texts.{found_answer}
+use Rattle.analysis_commands.specs.RefusalTexts.{refusal_answer}
 use Rattle.io_edge.specs.Views.{answer_view}
-use Rattle.analysis_commands.specs.Analyses.{empty_journal, HasFound, found, refused, Analyses, HasAnalysed}
+use Rattle.analysis_commands.specs.Analyses.{empty_journal, HasFound, HasClosed, found, refused, Analyses, HasAnalysed}
 
 -- the meter is opened before the analysis, and its limit kept
 module _ (l : Program (Expr ℕ)) (budget : ℕ) (before m : Journal)
@@ -42,20 +43,20 @@ module _ (l : Program (Expr ℕ)) (budget : ℕ) (before m : Journal)
   -- the names and the elements are the loop's and the basis's
   module _ (r : Result made.Answer AllocError) (names : List (List ℕ))
       (same : names ≡ l.names) where
-    pub found_said : (kind : Kind) (a : Analysis) → HasFound l m (terms_each a.basis.items)
-        → IsClosedBy l a m.entries → IsValid l (certificate_of a)
+    pub found_said : (kind : Kind) (a : Analysis) → HasClosed l m (certificate_of a)
+        → IsValid l (certificate_of a)
         → IfOk r (λ x. answer_view x ≡ found_answer kind names (certificate_of a))
         → IfOk r (λ x. IsToldBack kind names (length (certificate_of a).steps) (certificate_of a))
         → IfOk r (λ x. Analyses kind l budget m (answer_view x))
-    found_said kind a finds closed valid told reads =
+    found_said kind a closed valid told reads =
         let c = certificate_of a in
         let branches : length c.steps ≡ length l.branches = closed.steps.count
-        ∙ closed.finished.follows.are_forms.count in
+        ∙ closed.ended.finished.follows.are_forms.count in
         if_ok_two _ _ _ r (λ x says read. record {
           ending = found c;
           ends = (
             limit,
-            finds,
+            closed,
             valid,
             subst (λ n. IsToldBack kind l.names n c) branches
                 (subst (λ ns. IsToldBack kind ns (length c.steps) c) same read),
@@ -78,19 +79,29 @@ module _ (l : Program (Expr ℕ)) (budget : ℕ) (before m : Journal)
     refused_said kind e cause told =
         IfOk-weaker r _ _ (λ x says. refused_analysed kind e x cause says) told
 
+pub closed_of : (l : Program (Expr ℕ)) (m : Journal) (a : Analysis) → AreFree l → AllHaveForms l
+    → IsClosedBy l a m.entries → IsLeastLevel l a.rounds
+    → IsReducedFor rationals grevlex (length l.names) (terms_each a.basis.items) (Inv l)
+    → HasClosed l m (certificate_of a)
+closed_of l m a free forms closed least reduced =
+    record {
+      ended = record {
+        free = free;
+        forms = forms;
+        rounds = a.rounds;
+        finished = closed.finished;
+        least = least;
+        basis = reduced;
+      };
+      steps = closed.steps;
+    }
+
 pub finds_of : (l : Program (Expr ℕ)) (m : Journal) (a : Analysis) → AreFree l → AllHaveForms l
     → IsClosedBy l a m.entries → IsLeastLevel l a.rounds
     → IsReducedFor rationals grevlex (length l.names) (terms_each a.basis.items) (Inv l)
     → HasFound l m (terms_each a.basis.items)
 finds_of l m a free forms closed least reduced =
-    record {
-      free = free;
-      forms = forms;
-      rounds = a.rounds;
-      finished = closed.finished;
-      least = least;
-      basis = reduced;
-    }
+    (closed_of l m a free forms closed least reduced).ended
 
 pub refused_named : (l : Program (Expr ℕ)) (before m : Journal) (e : AnalyseError)
     (names : List (List ℕ)) → names ≡ l.names → IsRefused l before m e → AreNamed (length names) e

@@ -14,11 +14,11 @@ use Rattle.io_edge.proofs.OneFile.{OneFile, concludes_yes, concludes_no, conclud
 use Rattle.command_parts.specs.FaultTexts.{loop_refusal}
 use Rattle.command_parts.proofs.LoopCourses.{reading_loop}
 use Rattle.analysis_commands.specs.Analyses.{Analyses, HasAnalysed}
-use Rattle.analysis_commands.specs.Texts.{branch_answer}
+use Rattle.analysis_commands.specs.RefusalTexts.{branch_answer}
 use Rattle.analysis_commands.specs.Headline.{ShowsAnalysis}
-use Rattle.analysis_commands.specs.Causes.{HasFinished, IsSpent, IsAnalysed, IsUnanalysed}
+use Rattle.analysis_commands.specs.Causes.{HasFinished, IsClosed, IsSpent, IsAnalysed, IsUnanalysed}
 use Rattle.analysis_commands.proofs.Settling.{analyses_settled, analyses_not_no}
-use Rattle.analysis_commands.proofs.Analysing.{found_shown, out_shown, unanalysed, limit_analysed, formed_analysed, unformed_analysed, all_analysed, branch_analysed}
+use Rattle.analysis_commands.proofs.Analysing.{found_shown, closed_shown, out_shown, unanalysed, limit_analysed, formed_analysed, unformed_analysed, all_analysed, branch_analysed}
 use Rattle.analysis_commands.proofs.Endings.{or_found, not_spent}
 use Rattle.analysis_commands.specs.BasisWords.{Request}
 use Rattle.analysis_commands.specs.BasisCourse.{course}
@@ -43,6 +43,8 @@ module _ (request : Request) where
           (λ text l a e h yes. (found_shown request.kind text l request.budget m a e h yes).0);
       finished = tells path call f concludes_yes (λ text. HasFinished text request.budget m)
           (λ text l a e h yes. (found_shown request.kind text l request.budget m a e h yes).1);
+      closed = writes path call f concludes_yes (λ text. IsClosed request.kind text m)
+          (λ text l a e h yes. closed_shown request.kind text l request.budget m a e h yes);
       why = λ is. refused path call f call.status is
           (λ text a. IsUnanalysed text request.budget m a)
           (λ text l a e h same refusing.

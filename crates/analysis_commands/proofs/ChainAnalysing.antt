@@ -5,6 +5,7 @@
 --   unanalysed         any other answer: why the analysis of a loop was refused
 --   limit_analysed     the answer where an operation of a loop's maps passes a limit, behind loops that have their bases
 --   branch_analysed    where the first branch of a loop that has no closed form is refused for a cause of its own
+--   unformed_analysed  where it has one: a fault, or a number that doesn't fit
 --   formed_analysed    where none is and each branch splits: a yes, or a number that doesn't fit, or a spent budget
 --   not_spent          no budget is spent where each loop has a finished journal within it
 --   all_analysed       where nothing refuses and that is so: a yes
@@ -48,8 +49,8 @@ use Rattle.analysis_commands.specs.Analyses as alone
 use Rattle.analysis_commands.specs.Completeness.{AllSplit}
 use Rattle.analysis_commands.specs.Causes.{IsExact}
 use Rattle.analysis_commands.specs.Statuses.{refusal_status}
-use Rattle.analysis_commands.specs.Texts.{refusal_answer, branch_answer}
-use Rattle.analysis_commands.proofs.Analysing.{refused_not_yes, spent_is, branch_told, formed, status_told}
+use Rattle.analysis_commands.specs.RefusalTexts.{refusal_answer, branch_answer}
+use Rattle.analysis_commands.proofs.Analysing.{refused_not_yes, spent_is, at_fault_or_wide, branch_told, formed, status_told}
 use Rattle.analysis_commands.proofs.BranchRefusals.{no_form, some_told}
 use Rattle.analysis_commands.proofs.Refused.{refusal_parts, refusal_kind, refused_settled, refused_not_no}
 use Rattle.analysis_commands.specs.ChainTexts.{bases_text, in_loop}
@@ -275,6 +276,15 @@ module _ (c : Chain (Expr ℕ)) (budget : ℕ) (a : Answer) where
       absurd (let z : status.Wide ≡ status.Budget =
       sym (status_of (some_answer between_answer x told)) ∙ h in cc)
 
+  fault_error : (e : LoopError) (x : Answer) → error_answer c.first.names budget e ≡ Some x
+      → (e ≡ loop_error.Analysis error.Budget → ⊥)
+      → (x.status ≡ status.Fault) ⊎ (x.status ≡ status.Wide)
+  fault_error (loop_error.Analysis e) x told not = at_fault_or_wide e x.status
+      (refusal_kind e x.status (refusal_parts c.first.names budget e x told).0)
+      (λ spent. not (ap loop_error.Analysis spent))
+  fault_error loop_error.Between x told not =
+      inr (status_of (some_answer between_answer x told))
+
   settled_so : (e : Ending) → answer_of c.first.names budget e ≡ Some a → IsSettled a.status
   settled_so (found bases) says = settled_yes a.status (status_of (found_is bases says))
   settled_so (refused r) says =
@@ -466,6 +476,28 @@ module _ (text : List ℕ) (c : Chain (Expr ℕ)) (budget : ℕ) (m : Journal) (
               | inr wide ↦ inr (status_of o.is_told ∙ wide)
             ]
 
+    unformed_so : ¬ (AllHaveForms (loop_at c j)) → (e : Ending) → EndsWith c budget m e
+        → answer_of c.first.names budget e ≡ Some a
+        → (a.status ≡ status.Fault) ⊎ (a.status ≡ status.Wide)
+    unformed_so not (found bases) ends says = absurd (not (ends.0.formed j within).1)
+    unformed_so not (refused r) ends says = elim (cases_lt r.place j) [
+      | inl earlier ↦ inr (wide_before j known before r says ends earlier)
+      | inr l1 ↦ elim (cases_lt j r.place) [
+        | inl later ↦ absurd (not (ends.before j later).1)
+        | inr l2 ↦ here (omega (arith, l1, l2))
+      ]
+    ]
+      where
+        here : j ≡ r.place → (a.status ≡ status.Fault) ⊎ (a.status ≡ status.Wide)
+        here same =
+            let o = of_loop c budget a r says in
+            elim (fault_error c budget a r.error o.x o.told
+            (λ spent. not (subst (λ k. AllHaveForms (loop_at c k)) (sym same)
+            (out_of r ends spent).0.1))) [
+              | inl fault ↦ inl (status_of o.is_told ∙ fault)
+              | inr wide ↦ inr (status_of o.is_told ∙ wide)
+            ]
+
   all_formed : ((j : ℕ) → j ≤ length c.further
       → IsFree (length c.first.names) (operations_at c j) × AllSplit (loop_at c j))
       → (e : Ending) → EndsWith c budget m e → answer_of c.first.names budget e ≡ Some a
@@ -537,6 +569,12 @@ module _ (text : List ℕ) (c : Chain (Expr ℕ)) (budget : ℕ) (m : Journal) (
   branch_analysed j within known before free b y exact first h =
       branch_so text c budget m a is j within known before free b y exact first h.ending h.ends
       h.says
+
+  pub unformed_analysed : (j : ℕ) → j ≤ length c.further → Reaches c budget j
+      → AreFormedBefore c j → ¬ (AllHaveForms (loop_at c j)) → Analyses c budget m a
+      → (a.status ≡ status.Fault) ⊎ (a.status ≡ status.Wide)
+  unformed_analysed j within known before not h =
+      unformed_so text c budget m a is j within known before not h.ending h.ends h.says
 
   pub formed_analysed
       : ((j : ℕ) → j ≤ length c.further

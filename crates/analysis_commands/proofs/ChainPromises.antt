@@ -9,18 +9,18 @@ use Rattle.loops.specs.Chain.{Chain}
 use Rattle.io_edge.specs.Settled.{IsSettled}
 use Rattle.io_edge.specs.Course.{EachAnswer}
 use Rattle.io_edge.specs.Outcome.{Call, IsCarriedOut}
-use Rattle.io_edge.proofs.Outcomes.{or_wide, or_yes}
+use Rattle.io_edge.proofs.Outcomes.{or_wide, or_fault, or_yes}
 use Rattle.io_edge.proofs.OneFile as one_file
 use Rattle.io_edge.proofs.OneFile.{OneFile, concludes_yes, concludes_no, concludes_spent, answered, ends_at_fault, tells, writes, refused, never_ends, not_ended, left, long}
 use Rattle.command_parts.specs.FaultTexts.{loop_refusal}
 use Rattle.command_parts.proofs.ChainCourses.{reading_chain}
 use Rattle.analysis_commands.specs.ChainAnalyses.{Analyses, HasAnalysed}
-use Rattle.analysis_commands.specs.Texts.{branch_answer}
+use Rattle.analysis_commands.specs.RefusalTexts.{branch_answer}
 use Rattle.analysis_commands.specs.ChainTexts.{in_loop}
 use Rattle.analysis_commands.specs.ChainHeadline.{ShowsChain}
 use Rattle.analysis_commands.specs.ChainCauses.{HasFinished, IsSpent, IsAnalysed, IsUnanalysed}
 use Rattle.analysis_commands.proofs.Endings.{or_found}
-use Rattle.analysis_commands.proofs.ChainAnalysing.{analyses_settled, analyses_not_no, found_shown, out_shown, unanalysed, limit_analysed, branch_analysed, formed_analysed, not_spent, all_analysed}
+use Rattle.analysis_commands.proofs.ChainAnalysing.{analyses_settled, analyses_not_no, found_shown, out_shown, unanalysed, limit_analysed, branch_analysed, unformed_analysed, formed_analysed, not_spent, all_analysed}
 use Rattle.command_parts.specs.FileRequests.{FileRequest}
 use Rattle.analysis_commands.specs.ChainCourse.{course}
 use Rattle.analysis_commands.specs.ChainClauses.{FindsEach}
@@ -62,6 +62,9 @@ module _ (request : FileRequest) where
           or_wide (course request) call f (in_loop j (branch_answer c.first.names b x))
           (λ s. branch_analysed r.text c request.budget m s.answer r.reads j within known before
           free b x exact first (answered path call f c r s));
+      unformed = λ c j r within known before not. or_fault (course request) call f
+          (λ s. unformed_analysed r.text c request.budget m s.answer r.reads j within known before
+          not (answered path call f c r s));
       found = λ c r each. or_found (course request) call f
           (λ s. formed_analysed r.text c request.budget m s.answer r.reads each
           (answered path call f c r s));

@@ -22,6 +22,9 @@ pub mod RelationsAnswered
 pub mod RelationsEndings
 pub mod RelationsPromises
 pub mod EqualBases
+pub mod EqualRelations
+pub mod EqualChains
+pub mod OneCertificate
 pub mod PrintedCertificates
 pub mod IdentityMap
 pub mod IdentityUnrefused
@@ -34,6 +37,9 @@ pub mod PassedLimits
 pub mod ReadTexts
 pub mod Witnesses
 pub mod ChainAnswers
+pub mod StartedRuns
+pub mod RelatedRuns
+pub mod StartedWitnesses
 pub mod FewUnits
 pub mod BasesPushing
 pub mod ChainAnalysing

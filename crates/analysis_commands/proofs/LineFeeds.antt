@@ -1,7 +1,8 @@
 -- A printed polynomial stands in one line.
 --   is_line text       no byte of it is a line feed
 --   first_line         two texts that begin with a line have the same first line and the same rest
---   printed_line       a printed polynomial is one
+--   join_lines         texts without one, one behind the other
+--   decimal_line, printed_line       a number and a printed polynomial are lines
 use Rattle.std.proofs.Common.{◌≡◌, ℕ, zero, suc, ◌+◌, List, [], ◌∷◌, ◌++◌, refl, sym, ap, ap₂, subst, ◌∙◌, true, false, arith}
 use Rattle.std.specs.Prelude.{Bool, if◌then◌else◌, ◌&&◌, not, ◌==◌, ◌/◌, ◌%◌, nat_lt, codes, decimal, unsigned_abs, is_none, IsTrue, All}
 use Rattle.std.specs.List.{flat_map, list_all}
@@ -37,7 +38,8 @@ first_line (x ∷ xs) (y ∷ ys) us vs h k e =
     (and_parts (not (y == 10)) (is_line ys) k).1 (same_tail e) in
     (ap₂ ◌∷◌ (same_head e) rest.0, rest.1)
 
-join_lines : (xs ys : List ℕ) → is_line xs ≡ true → is_line ys ≡ true → is_line (xs ++ ys) ≡ true
+pub join_lines : (xs ys : List ℕ) → is_line xs ≡ true → is_line ys ≡ true
+    → is_line (xs ++ ys) ≡ true
 join_lines xs ys h k = list_all-append (λ c. not (c == 10)) xs ys ∙ ap₂ ◌&&◌ h k
 
 -- ---- numbers
@@ -64,7 +66,7 @@ onto_line (suc k) n acc h =
     go true one more = one
     go false one more = more
 
-decimal_line : (n : ℕ) → is_line (decimal n) ≡ true
+pub decimal_line : (n : ℕ) → is_line (decimal n) ≡ true
 unfolding digits
 decimal_line n = onto_line 64 n [] refl
 

@@ -39,7 +39,7 @@ use Rattle.analysis_commands.specs.Analyses.{empty_journal, HasFound, HasAnalyse
 use Rattle.command_parts.specs.Equations.{equation_in}
 use Rattle.analysis_commands.specs.MemberCourse.{HasAskedFor, AnswersEquation, by_equation, with_question}
 use Rattle.analysis_commands.specs.Questions.{unanalysed, undivided, yes, no, Divides, IsUndivided, Asks, IsFollowingAsked, HasAsked, undivided_answer, membership_answer}
-use Rattle.analysis_commands.specs.Texts.{refusal_answer}
+use Rattle.analysis_commands.specs.RefusalTexts.{refusal_answer}
 use Rattle.analysis_commands.proofs.BasisElements.{elements_over}
 use Rattle.analysis_commands.proofs.MemberJournals.{follows_asked, asking_stopped, asking_out, asking_worked}
 use Rattle.command_parts.specs.EquationReading.{equation_refusal, IsPolynomialOf, IsUnread}

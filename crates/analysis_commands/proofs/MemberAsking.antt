@@ -48,7 +48,7 @@ use Rattle.analysis_commands.specs.MemberCauses.{IsAsking, HasAffirmed, HasDenie
 use Rattle.analysis_commands.specs.MemberClauses.{EndsDecided, limit_of_loop}
 use Rattle.analysis_commands.specs.MemberHeadline.{ShowsYes, ShowsNo}
 use Rattle.analysis_commands.specs.Questions.{Decision, unanalysed, undivided, yes, no, IsUndivided, DecidesWith, decision_answer, positive_answer, negative_answer, Asks}
-use Rattle.analysis_commands.specs.Texts.{refusal_answer, branch_answer}
+use Rattle.analysis_commands.specs.RefusalTexts.{refusal_answer, branch_answer}
 use Rattle.analysis_commands.proofs.Analysing.{refused_not_yes, spent_is, limit_analysed, formed_analysed, unformed_analysed, branch_analysed}
 use Rattle.analysis_commands.proofs.BranchRefusals.{no_form, some_told}
 use Rattle.command_parts.proofs.Polynomials.{holds_invariant}

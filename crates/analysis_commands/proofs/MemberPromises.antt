@@ -38,7 +38,7 @@ use Rattle.analysis_commands.specs.MemberCourse.{HasAskedFor, AnswersEquation, b
 use Rattle.analysis_commands.specs.MemberHeadline.{ShowsYes, ShowsNo}
 use Rattle.analysis_commands.specs.MemberWords.{Request}
 use Rattle.analysis_commands.specs.Questions.{Asks}
-use Rattle.analysis_commands.specs.Texts.{branch_answer}
+use Rattle.analysis_commands.specs.RefusalTexts.{branch_answer}
 use Rattle.analysis_commands.proofs.MemberAsking.{never_stopped, yes_asking, no_asking, spent_asking, spent_out, limit_asking, decided_asking, unformed_asking, branch_asking, completed_asking}
 use Rattle.analysis_commands.proofs.MemberJournals.{enough_asked}
 use Rattle.analysis_commands.proofs.MemberStatuses.{equation_settled}

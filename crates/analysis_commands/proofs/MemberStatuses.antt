@@ -9,7 +9,7 @@ use Rattle.machines.specs.Journal.{Journal}
 use Rattle.loops.specs.Program.{Expr, Program}
 use Rattle.divide.specs.declared.EngineError.{EngineError}
 use Rattle.divide.specs.declared.EngineError.TheVariants as engine_error
-use Rattle.analysis_commands.specs.AnalysisTexts.{member_text}
+use Rattle.analysis_commands.specs.RefusalTexts.{member_text}
 use Rattle.io_edge.specs.declared.answer.Status.{Status}
 use Rattle.io_edge.specs.declared.answer.Status.TheVariants as status
 use Rattle.io_edge.specs.Texts.{Answer}

@@ -19,7 +19,8 @@ use Rattle.loop_model.specs.FracPoly.{FracPoly as Polynomial}
 use Rattle.poly.specs.Seen.{terms_in, terms_each}
 use Rattle.loop_model.specs.Names.{AreNames}
 use Rattle.analysis_commands.specs.ReadBack.{ReadsBack, IsReadBack}
-use Rattle.analysis_commands.specs.AnalysisTexts.{equation_line, cofactor_line, basis_text, yes_text, name_of, listed_behind, line}
+use Rattle.analysis_commands.specs.AnalysisTexts.{equation_line, cofactor_line, basis_text, yes_text, line}
+use Rattle.analysis_commands.specs.RefusalTexts.{name_of, listed_behind}
 
 module _ {X : Type 0} (f : X → List ℕ) (xs : List X) (i : ℕ) where
   pub pushed_at : (d : X) (start text more : List ℕ) → i < length xs

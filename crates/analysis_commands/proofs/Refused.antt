@@ -10,12 +10,11 @@ use Rattle.closed_forms.specs.declared.errors.FormsError.{FormsError}
 use Rattle.closed_forms.specs.declared.errors.FormsError.TheVariants as forms_error
 use Rattle.invariant_fix.specs.declared.errors.AnalyseError.{AnalyseError}
 use Rattle.invariant_fix.specs.declared.errors.AnalyseError.TheVariants as error
-use Rattle.analysis_commands.specs.AnalysisTexts.{refusal_text}
 use Rattle.io_edge.specs.declared.answer.Status.{Status}
 use Rattle.io_edge.specs.declared.answer.Status.TheVariants as status
 use Rattle.analysis_commands.specs.Statuses.{map_status, forms_status, refusal_status}
 use Rattle.io_edge.specs.Texts.{Answer, with_text}
-use Rattle.analysis_commands.specs.Texts.{refusal_answer}
+use Rattle.analysis_commands.specs.RefusalTexts.{refusal_text, refusal_answer}
 use Rattle.io_edge.specs.Settled.{IsSettled}
 use Rattle.io_edge.proofs.OfStatuses.{status_of, text_of, some_status, refusing_fault, refusing_wide, settled_budget}
 

@@ -7,6 +7,7 @@
 --   formed_related     where none does and the branch splits: a yes, or a number that doesn't fit, or a spent budget
 --   unformed_related   where the branch has no closed form: a fault, or a number that doesn't fit
 --   branch_related     where it is refused for a cause of its own: this refusal, or a number that doesn't fit
+--   all_related        where nothing refuses and some journal that has ended is within the budget: a yes
 --   related_within     no budget is spent where some journal that has ended is within it
 use Rattle.std.proofs.Common.{◌≡◌, ◌≢◌, ℕ, suc, List, length, refl, sym, ap, subst, ◌∙◌, Ok, inl, inr}
 use Rattle.std.specs.Prelude.{◌⊎◌, Some, ◌++◌, codes, decimal}
@@ -19,7 +20,7 @@ use Rattle.loop_model.specs.Operations.{IsLimit}
 use Rattle.loop_model.specs.declared.map_error.MapError.{MapError}
 use Rattle.loop_model.specs.declared.map_error.MapError.TheVariants as map_error
 use Rattle.loop_model.specs.Maps.{maps_operations, AreFree}
-use Rattle.closed_forms.specs.Refusal.{Refusal}
+use Rattle.closed_forms.specs.Refusal.{Refusal, refusal_in}
 use Rattle.invariant_fix.specs.Refusals.{AllHaveForms, IsRefusedBranch}
 use Rattle.invariant_fix.specs.declared.errors.AnalyseError.{AnalyseError}
 use Rattle.invariant_fix.specs.declared.errors.AnalyseError.TheVariants as error
@@ -40,14 +41,15 @@ use Rattle.analysis_commands.specs.Analyses as analysing
 use Rattle.analysis_commands.specs.Analyses.{Analyses}
 use Rattle.analysis_commands.specs.Causes.{IsExact}
 use Rattle.analysis_commands.specs.Completeness.{AllSplit}
-use Rattle.analysis_commands.specs.Texts.{refusal_answer, branch_answer}
+use Rattle.analysis_commands.specs.RefusalTexts.{refusal_answer, branch_answer}
 use Rattle.analysis_commands.specs.RelationsTexts.{sequences_refusal, map_answer, found_answer, wide_answer, relations_refusal}
 use Rattle.analysis_commands.specs.RelationsAnswers.{Ending, related, refused, EndsWith, answer_of, Relates}
-use Rattle.analysis_commands.specs.RelationsClauses.{ShowsRelations, HasEnded, IsSpentRelating, IsUnrelated, IsRelatedWithin}
+use Rattle.analysis_commands.specs.RelationsClauses.{HasEnded, IsSpentRelating, IsUnrelated, IsRelatedWithin, IsNeverStopped}
+use Rattle.analysis_commands.specs.RelationsHeadline.{ShowsRelations}
 use Rattle.analysis_commands.proofs.Refused.{refusal_parts, refusal_kind, at_fault, too_wide, spent}
 use Rattle.analysis_commands.proofs.Refused as refusals
 use Rattle.analysis_commands.proofs.Analysing.{formed_analysed, branch_analysed}
-use Rattle.analysis_commands.proofs.BranchRefusals.{no_form}
+use Rattle.analysis_commands.proofs.BranchRefusals.{no_form, some_told}
 
 -- a refusal is a fault, a number that doesn't fit, or a spent budget
 data Kind (e : RelationsError) (a : Answer) : Type 0 where
@@ -306,6 +308,38 @@ module _ (qs : List (Sequence (Expr ℕ))) (budget : ℕ) (m : Journal) (a : Ans
   unformed not (related gs) ends says = absurd (not ends.1.forms)
   unformed not (refused e) ends says = unformed_kind not e ends (refused_kind e says)
 
+  -- nothing refuses, and the budget is enough
+  unspent : IsRelatedWithin qs budget → IsOutOf → ⊥
+  unspent within o =
+      enough_budget (program_of qs) (first_places 0 qs) within.entries m.entries budget within.list
+      within.ended within.few o.out
+
+  completed : IsNeverStopped qs → IsRelatedWithin qs budget → (e : Ending) → EndsWith qs budget m e
+      → answer_of qs budget e ≡ Some a → a.status ≡ status.Yes
+  completed never within (related gs) ends says = yes_of gs says
+  completed never within (refused (relating.Analysis (error.Map (map_error.Limit at)))) ends says =
+      absurd (not_free (length (names qs)) (maps_operations (program_of qs)) at ends.1.1.1
+      never.analysis.free)
+  completed never within (refused (relating.Analysis (error.Map (map_error.Wide at)))) ends says =
+      absurd (never.analysis.maps at ends.1.1.1)
+  completed never within (refused (relating.Analysis (error.Map map_error.Memory))) ends says =
+      absurd (no_answer a says)
+  completed never within (refused (relating.Analysis (error.Branch b e))) ends says =
+      let t = some_told (refusal_in e) (IsRefusedBranch (program_of qs) b) ends.1.1.1 in
+      absurd (never.analysis.branches b t.0 t.1.within t.1.is)
+  completed never within (refused (relating.Analysis (error.Wide task))) ends says =
+      let s = ends.1.2 in
+      absurd (never.analysis.states m.entries s.state s.follows s.past)
+  completed never within (refused (relating.Analysis error.Budget)) ends says =
+      absurd (unspent within (out_of (relating.Analysis error.Budget) ends (inr refl)))
+  completed never within (refused (relating.Analysis error.Memory)) ends says =
+      absurd (no_answer a says)
+  completed never within (refused relating.Wide) ends says =
+      absurd (never.elimination m.entries ends.1.2)
+  completed never within (refused relating.Budget) ends says =
+      absurd (unspent within (out_of relating.Budget ends (inl refl)))
+  completed never within (refused relating.Memory) ends says = absurd (no_answer a says)
+
   module _ (free : AreFree (program_of qs)) (b : ℕ) (r : Refusal) (exact : IsExact r)
       (first : IsRefusedBranch (program_of qs) b r) where
     has_none : AllHaveForms (program_of qs) → ⊥
@@ -369,6 +403,9 @@ module _ (qs : List (Sequence (Expr ℕ))) (budget : ℕ) (m : Journal) (a : Ans
       → (a ≡ branch_answer (names qs) b r) ⊎ (a.status ≡ status.Wide)
   branch_related free b r exact first =
       branch_told qs budget m a free b r exact first h.ending h.ends h.says
+
+  pub all_related : IsNeverStopped qs → IsRelatedWithin qs budget → a.status ≡ status.Yes
+  all_related never within = completed qs budget m a never within h.ending h.ends h.says
 
 pub related_within : (text : List ℕ) (qs : List (Sequence (Expr ℕ))) (budget : ℕ) (m : Journal)
     (said : List ℕ) → sequences_of text ≡ Ok qs → IsRelatedWithin qs budget

@@ -10,18 +10,19 @@ use Rattle.loops.specs.Turning.{names}
 use Rattle.io_edge.specs.Settled.{IsSettled}
 use Rattle.io_edge.specs.Course.{EachAnswer}
 use Rattle.io_edge.specs.Outcome.{Call, IsCarriedOut}
-use Rattle.io_edge.proofs.Outcomes.{or_wide, or_fault}
+use Rattle.io_edge.proofs.Outcomes.{or_wide, or_fault, or_yes}
 use Rattle.io_edge.proofs.OneFile as one_file
 use Rattle.io_edge.proofs.OneFile.{OneFile, concludes_yes, concludes_no, concludes_spent, answered, ends_at_fault, tells, writes, refused, never_ends, not_ended, left, long}
-use Rattle.analysis_commands.specs.Texts.{branch_answer}
+use Rattle.analysis_commands.specs.RefusalTexts.{branch_answer}
 use Rattle.analysis_commands.specs.RelationsTexts.{sequences_refusal}
 use Rattle.analysis_commands.specs.RelationsAnswers.{Relates, HasRelated}
 use Rattle.command_parts.specs.FileRequests.{FileRequest}
 use Rattle.analysis_commands.specs.RelationsCourse.{course}
-use Rattle.analysis_commands.specs.RelationsClauses.{ShowsRelations, HasEnded, IsSpentRelating, IsUnrelated, IsRelating, FindsRelations}
+use Rattle.analysis_commands.specs.RelationsClauses.{HasEnded, IsSpentRelating, IsUnrelated, IsRelating, FindsRelations}
+use Rattle.analysis_commands.specs.RelationsHeadline.{ShowsRelations}
 use Rattle.analysis_commands.proofs.Endings.{or_found}
 use Rattle.analysis_commands.proofs.SequenceCourses.{reading_sequences}
-use Rattle.analysis_commands.proofs.RelationsEndings.{relates_settled, relates_not_no, related_shown, spent_shown, unrelated, limit_related, formed_related, unformed_related, branch_related, related_within}
+use Rattle.analysis_commands.proofs.RelationsEndings.{relates_settled, relates_not_no, related_shown, spent_shown, unrelated, limit_related, formed_related, unformed_related, branch_related, all_related, related_within}
 
 module _ (request : FileRequest) where
   abbrev path : OneFile (List (Sequence (Expr ℕ))) Fault
@@ -67,5 +68,8 @@ module _ (request : FileRequest) where
       enough = λ qs r within. not_ended path call f concludes_spent qs r
           (λ a h out. related_within r.text qs request.budget m a.text r.reads within
           (spent_shown qs request.budget m a h r.text r.reads out));
+      completes = λ qs r never within. or_yes (course request) call f
+          (λ s. all_related qs request.budget m s.answer (answered path call f qs r s) never
+          within);
       long = long path call f;
     }

@@ -22,7 +22,7 @@ use Rattle.io_edge.specs.declared.answer.Status.TheVariants as status
 use Rattle.io_edge.specs.Texts.{Answer, with_text}
 use Rattle.io_edge.specs.Views.{answer_view}
 use Rattle.io_edge.proofs.OfStatuses.{status_of, text_of}
-use Rattle.analysis_commands.specs.Texts.{refusal_answer}
+use Rattle.analysis_commands.specs.RefusalTexts.{refusal_answer}
 use Rattle.analysis_commands.specs.Analyses.{empty_journal, AnswersRefusal}
 use Rattle.analysis_commands.specs.Causes.{IsUnanalysed}
 use Rattle.analysis_commands.specs.Counting.{IsCounted, IsNext, AreCounted, HasOpenedFor, HasCounted, AnswersFamily}

@@ -23,8 +23,8 @@
 -- What isn't shown:
 --   that the outside tells any bytes, and more of them than a limit (IsLonger)
 --   IsFamily of more than no loop, for any of the premises of `Tallies`
---   IsNeverRefused, IsWithinBudget and AllSplit of a loop with `init`; the first two of one with a
---   branch that changes a variable
+--   IsNeverRefused and IsWithinBudget of a loop with a branch that changes a variable
+-- A loop with `init` is in StartedWitnesses.
 --   a branch that is refused for another exact cause than that it isn't solvable
 use Rattle.std.proofs.Common.{ℕ, ◌≤◌, List, [], ◌∷◌, sym, subst, arith}
 use Rattle.algebra.specs.Fraction.{Fraction}

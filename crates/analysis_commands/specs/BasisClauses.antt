@@ -14,10 +14,10 @@ use Rattle.io_edge.specs.Outcome.{Call}
 use Rattle.io_edge.specs.Clauses.{Wrote, TellsWhy, IfTold, IsExcused, Ends, EndsOrWide, EndsAtFault, EndsTooLong, IsLonger}
 use Rattle.command_parts.specs.FaultTexts.{loop_refusal}
 use Rattle.command_parts.specs.LoopReading.{loop_at, IsLoopFault, ReadsLoop}
-use Rattle.analysis_commands.specs.Texts.{branch_answer}
+use Rattle.analysis_commands.specs.RefusalTexts.{branch_answer}
 use Rattle.analysis_commands.specs.Headline.{ShowsAnalysis}
 use Rattle.analysis_commands.specs.Completeness.{AllSplit, EndsFound}
-use Rattle.analysis_commands.specs.Causes.{HasFinished, IsSpent, IsAnalysed, IsUnanalysed, IsNeverRefused, IsWithinBudget, IsExact}
+use Rattle.analysis_commands.specs.Causes.{HasFinished, IsClosed, IsSpent, IsAnalysed, IsUnanalysed, IsNeverRefused, IsWithinBudget, IsExact}
 use Rattle.analysis_commands.specs.BasisWords.{Request}
 
 abbrev pub Refuses : Call → Request → Answer → Type 0
@@ -31,6 +31,9 @@ pub record Finds (request : Request) (call : Call) : Type 0 where
       (λ text. Wrote call.sink (ShowsAnalysis request.kind text))
   pub finished : call.status ≡ status.Yes → IfTold call.files.before request.file
       (λ text. HasFinished text request.budget call.meter.after)
+  -- and the cofactors are those of the divisions that closed it
+  pub closed : call.status ≡ status.Yes → IfTold call.files.before request.file
+      (λ text. Wrote call.sink (IsClosed request.kind text call.meter.after))
   -- a fault, or a number that doesn't fit: the text tells the first fault of LOOP, or why the
   -- analysis has no basis
   pub why : TellsWhy call (Refuses call request)

@@ -1,5 +1,6 @@
 -- How an analysis ends, over the bytes of LOOP.
 --   HasFinished text budget m        the bytes are a loop, no operation of its maps passes a limit, and the journal m, with this budget, is that of its finished analysis, after as few rounds as have all its invariants
+--   IsClosed kind text m said        they are a loop, m is the journal of its finished analysis, and what is said is its list, or the certificate with the cofactors of the divisions that closed it
 --   IsSpent text budget m said       they are a loop whose maps are free and whose branches have closed forms, the entries of m follow its analysis, as many of them are units as the budget, what comes next is a unit, and the budget is said
 --   IsAnalysed text budget m         they are a loop, and the meter was opened for its analysis
 --   IsUnanalysed text budget m a     they are a loop, and a tells why its analysis, which left m, has no basis
@@ -10,6 +11,7 @@ use Rattle.std.specs.Prelude.{◌≡◌, ◌<◌, ◌≤◌, ⊤, ℕ, suc, List
 use Rattle.algebra.specs.Fraction.{Fraction}
 use Rattle.polynomials.specs.Terms.{Terms}
 use Rattle.machines.specs.Journal.{Journal, Entry as Made, units_of}
+use Rattle.loops.specs.Certificate.{Certificate}
 use Rattle.loops.specs.Program.{Expr, Program}
 use Rattle.loop_model.specs.Operations.{IsWide}
 use Rattle.loop_model.specs.Maps.{maps_operations, AreFree}
@@ -20,8 +22,11 @@ use Rattle.rounds.specs.Journal.{setting_of, Follows, IsFinished, IsOut}
 use Rattle.rounds.specs.Past.{IsPast}
 use Rattle.closed_forms.specs.Refusal.{Refusal, not_solvable, eigenvalues, range, wide_split, wide_form, IfRefused}
 use Rattle.invariant_fix.specs.Answers.{IsLeastLevel}
+use Rattle.invariant_fix.specs.Closing.{AreSteps}
 use Rattle.invariant_fix.specs.Refusals.{AllHaveForms}
 use Rattle.io_edge.specs.Texts.{Answer, line}
+use Rattle.analysis_commands.specs.declared.kind.Kind.{Kind}
+use Rattle.analysis_commands.specs.Certificates.{found_text}
 use Rattle.analysis_commands.specs.Analyses.{AnswersRefusal, HasAnalysed}
 
 pub record HasFinished (text : List ℕ) (budget : ℕ) (m : Journal) : Type 0 where
@@ -33,6 +38,16 @@ pub record HasFinished (text : List ℕ) (budget : ℕ) (m : Journal) : Type 0 w
   pub list : List (Terms Fraction)
   pub finished : IsFinished loop m.entries rounds list
   pub least : IsLeastLevel loop rounds
+
+pub record IsClosed (kind : Kind) (text : List ℕ) (m : Journal) (said : List ℕ) : Type 0 where
+  pub loop : Program (Expr ℕ)
+  pub is_loop : loop_of text ≡ Ok loop
+  pub certificate : Certificate
+  pub rounds : ℕ
+  pub finished : IsFinished loop m.entries rounds certificate.basis
+  pub steps : AreSteps (setting_of loop finished.follows.forms None) certificate.basis
+      certificate.steps
+  pub says : said ≡ found_text kind loop.names certificate
 
 pub record IsSpent (text : List ℕ) (budget : ℕ) (m : Journal) (said : List ℕ) : Type 0 where
   pub loop : Program (Expr ℕ)

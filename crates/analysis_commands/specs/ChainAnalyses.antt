@@ -22,7 +22,7 @@ use Rattle.invariant_fix.specs.declared.refused.Refused.{Refused}
 use Rattle.io_edge.specs.declared.answer.Status.TheVariants as status
 use Rattle.io_edge.specs.Texts.{Answer, with_text, line}
 use Rattle.analysis_commands.specs.Naming.{AreNamed}
-use Rattle.analysis_commands.specs.Texts.{refusal_answer}
+use Rattle.analysis_commands.specs.RefusalTexts.{refusal_answer}
 use Rattle.analysis_commands.specs.ChainTexts.{bases_text, in_loop}
 use Rattle.analysis_commands.specs.ChainHeadline.{AreReadBack}
 

@@ -8,14 +8,14 @@ use Rattle.loops.specs.Program.{Expr}
 use Rattle.loops.specs.Chain.{Chain, loop_at}
 use Rattle.invariant_fix.specs.Bases.{Reaches, operations_at}
 use Rattle.closed_forms.specs.Refusal.{Refusal}
-use Rattle.invariant_fix.specs.Refusals.{IsRefusedBranch}
+use Rattle.invariant_fix.specs.Refusals.{AllHaveForms, IsRefusedBranch}
 use Rattle.io_edge.specs.declared.answer.Status.TheVariants as status
 use Rattle.io_edge.specs.Texts.{Answer}
 use Rattle.io_edge.specs.Outcome.{Call}
-use Rattle.io_edge.specs.Clauses.{Wrote, TellsWhy, IfTold, IsExcused, Ends, EndsOrWide, EndsTooLong, IsLonger}
+use Rattle.io_edge.specs.Clauses.{Wrote, TellsWhy, IfTold, IsExcused, Ends, EndsOrWide, EndsAtFault, EndsTooLong, IsLonger}
 use Rattle.command_parts.specs.FaultTexts.{loop_refusal}
 use Rattle.command_parts.specs.LoopReading.{loop_at as chain_at}
-use Rattle.analysis_commands.specs.Texts.{branch_answer}
+use Rattle.analysis_commands.specs.RefusalTexts.{branch_answer}
 use Rattle.analysis_commands.specs.Completeness.{AllSplit, EndsFound}
 use Rattle.analysis_commands.specs.Causes.{IsExact}
 use Rattle.analysis_commands.specs.ChainTexts.{in_loop}
@@ -38,12 +38,14 @@ pub record FindsEach (request : FileRequest) (call : Call) : Type 0 where
   -- a fault, or a number that doesn't fit: the text tells the first fault of CHAIN, or why the
   -- analysis of a loop has no basis, said of this loop
   pub why : TellsWhy call (Refuses call request)
-  -- a spent budget: of a loop, as many entries are units as the budget, and what comes next is one
+  -- a spent budget: of a loop, or of the code before it, as many entries are units as are left, and
+  -- what comes next is one
   pub spent : call.status ≡ status.Budget → IfTold call.files.before request.file
       (λ text. Wrote call.sink (IsSpent text request.budget call.meter.after))
   -- never no
   pub no : call.status ≢ status.No
-  -- the meter is opened with the budget, and the entries follow the analysis of a loop
+  -- the meter is opened with what is left of the budget, and the entries follow the analysis of a
+  -- loop; or with the budget for the code before a loop, and they are a beginning of its elimination
   pub journal : (call.meter.after ≡ call.meter.before)
       ⊎ IfTold call.files.before request.file
       (λ text. IsAnalysed text request.budget call.meter.after)
@@ -56,13 +58,16 @@ pub record FindsEach (request : FileRequest) (call : Call) : Type 0 where
       → j ≤ length c.further → Reaches c request.budget j → AreFormedBefore c j
       → IsLimit (length c.first.names) (operations_at c j) at
       → EndsOrWide call (in_loop j (loop_refusal (record { reason = limit; at = at })))
-  -- the first branch of a loop that has no closed form
+  -- the first branch of a loop that has no closed form; a fault where one has none
   pub branch_refused : (c : Chain (Expr ℕ)) (j b : ℕ) (r : Refusal)
       → ReadsChain call request.file (Ok c) → j ≤ length c.further
       → Reaches c request.budget j → AreFormedBefore c j
       → IsFree (length c.first.names) (operations_at c j) → IsExact r
       → IsRefusedBranch (loop_at c j) b r
       → EndsOrWide call (in_loop j (branch_answer c.first.names b r))
+  pub unformed : (c : Chain (Expr ℕ)) (j : ℕ) → ReadsChain call request.file (Ok c)
+      → j ≤ length c.further → Reaches c request.budget j → AreFormedBefore c j
+      → ¬ (AllHaveForms (loop_at c j)) → EndsAtFault call.status
   -- where no loop is refused so, the bases, but for numbers that don't fit and a spent budget
   pub found : (c : Chain (Expr ℕ)) → ReadsChain call request.file (Ok c)
       → ((j : ℕ) → j ≤ length c.further

@@ -15,10 +15,9 @@ use Rattle.loop_text.specs.LoopReader.{loop_of}
 use Rattle.rounds.specs.Generate.{Generates}
 use Rattle.cert_form.specs.Form.{cert_in, most_elements, ReadsAs}
 use Rattle.analysis_commands.specs.ReadBack.{IsReadBack}
-use Rattle.analysis_commands.specs.Certificates.{certificate_text}
 use Rattle.analysis_commands.specs.declared.kind.Kind.{Kind}
 use Rattle.analysis_commands.specs.declared.kind.Kind.TheVariants as kinds
-use Rattle.analysis_commands.specs.Texts.{found_text}
+use Rattle.analysis_commands.specs.Certificates.{certificate_text, found_text}
 
 abbrev pub IsBasisOf : Program (Expr ℕ) → List (Terms Fraction) → Type 0
 IsBasisOf l gs = IsReducedFor rationals grevlex (length l.names) gs (Inv l)

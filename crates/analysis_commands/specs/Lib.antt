@@ -4,6 +4,7 @@ pub mod ReadBack
 pub mod AnalysisTexts
 pub mod Statuses
 pub mod Texts
+pub mod RefusalTexts
 pub mod Headline
 pub mod Analyses
 pub mod Completeness
@@ -23,6 +24,7 @@ pub mod Counting
 pub mod GenWords
 pub mod GenCourse
 pub mod GenClauses
+pub mod RelationsHeadline
 pub mod RelationsViews
 pub mod RelationsTexts
 pub mod RelationsAnswers

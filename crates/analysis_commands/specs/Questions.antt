@@ -39,14 +39,14 @@ use Rattle.invariant_fix.specs.Refusals.{AllHaveForms, IsRefused}
 use Rattle.invariant_fix.specs.declared.errors.AnalyseError.{AnalyseError}
 use Rattle.invariant_fix.specs.declared.membership.Membership as declared
 use Rattle.invariant_fix.specs.declared.membership.Membership.TheVariants as membership
-use Rattle.analysis_commands.specs.AnalysisTexts.{yes_text, member_text}
+use Rattle.analysis_commands.specs.AnalysisTexts.{yes_text}
 use Rattle.io_edge.specs.declared.answer.Status.{Status}
 use Rattle.io_edge.specs.declared.answer.Status.TheVariants as status
 use Rattle.io_edge.specs.Texts.{Answer, with_text, answer}
 use Rattle.analysis_commands.specs.Analyses.{empty_journal}
 use Rattle.analysis_commands.specs.Headline.{IsBasisOf}
 use Rattle.analysis_commands.specs.MemberHeadline.{AreCofactors}
-use Rattle.analysis_commands.specs.Texts.{refusal_answer}
+use Rattle.analysis_commands.specs.RefusalTexts.{member_text, refusal_answer}
 
 pub data Decision : Type 0 where
   unanalysed : AnalyseError → Decision

@@ -1,6 +1,5 @@
 -- How the journal of relations ends, and what `relations` answers then.
 --   AreSequences s             s is the loop of some sequences
---   Generate n gs I            the polynomials in n variables in the ideal of the gs are those of I
 --   HasRelations qs m gs       the journal m has ended with the list gs: the reduced basis of the relations of the qs
 --   Ending                     related: a list; refused: why there is none
 --   EndsWith qs budget m e     the journal with this budget ends with e, and is m; what is told of a list can be read back
@@ -8,12 +7,10 @@
 --   Relates qs budget m a      a is the answer to an ending that leaves m
 --   AnswersUnrelated qs budget m a     a tells why the journal with this budget, which is m, has no relations
 --   HasRelated qs budget m     the meter was opened with this budget, and its entries are a beginning of the journal
-use Rattle.std.specs.Prelude.{◌≡◌, ◌↔◌, ℕ, List, length, Option, Some}
-use Rattle.algebra.specs.Fraction.{Fraction, rationals, ℚ}
+use Rattle.std.specs.Prelude.{◌≡◌, ℕ, List, length, Option, Some}
+use Rattle.algebra.specs.Fraction.{Fraction, rationals}
 use Rattle.polynomials.specs.Order.{grevlex}
 use Rattle.polynomials.specs.Terms.{Terms}
-use Rattle.polynomials.specs.Polynomial.{IsPolynomial}
-use Rattle.ideals.specs.Members.{IsMember}
 use Rattle.machines.specs.Journal.{Journal}
 use Rattle.machines.specs.Reduced.{IsReducedFor}
 use Rattle.loops.specs.Program.{Expr}
@@ -28,6 +25,7 @@ use Rattle.loop_text.specs.SequenceSeen.{IsLoopOf}
 use Rattle.invariant_fix.specs.RelationsRefusals.{IsRefused}
 use Rattle.invariant_fix.specs.declared.relations_error.RelationsError.{RelationsError}
 use Rattle.analysis_commands.specs.ReadBack.{IsReadBack}
+use Rattle.analysis_commands.specs.RelationsHeadline.{Generate}
 use Rattle.analysis_commands.specs.Analyses.{empty_journal}
 use Rattle.analysis_commands.specs.RelationsTexts.{found_answer, relations_refusal}
 use Rattle.io_edge.specs.Texts.{Answer}
@@ -35,9 +33,6 @@ use Rattle.io_edge.specs.Texts.{Answer}
 pub record AreSequences (s : Seqs) : Type 0 where
   pub sequences : List (Sequence (Expr ℕ))
   pub is : IsLoopOf s sequences
-
-abbrev pub Generate : ℕ → List (Terms Fraction) → (Terms Fraction → Type 0) → Type 0
-Generate n gs I = (p : Terms Fraction) → IsPolynomial ℚ grevlex n p → IsMember ℚ n gs p ↔ I p
 
 pub data Ending : Type 0 where
   related : List (Terms Fraction) → Ending

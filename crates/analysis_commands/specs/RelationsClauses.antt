@@ -1,53 +1,39 @@
 -- What `relations` promises.
---   ShowsRelations text said      the bytes are sequences, and the reduced basis of all their relations is said, an equation a line: each is zero at every index, the lead of each relation is divided by one of theirs, and they generate all of them; it can be read back from what is said
 --   HasEnded text budget m        they are sequences, and the journal m, with this budget, is that of their relations, which has ended
 --   IsSpentRelating text budget m said    they are sequences whose maps are free and whose loop has closed forms, the entries of m are a beginning of this journal, as many of them are units as the budget, what comes next is a unit, and the budget is said
 --   IsUnrelated text budget m a   they are sequences, and a tells why there are no relations
 --   IsRelating text budget m      they are sequences, and the meter was opened for the journal of their relations
 --   IsRelatedWithin qs budget            some journal of relations that has ended has at most as many units as the budget
+--   IsNeverStopped qs             nothing refuses the analysis of their loop, and no state of the elimination behind it is past
 --   Refuses call request a        a tells the first fault of FILE, or why the journal that left the meter so has no relations
 --   FindsRelations request call   the clauses
 use Rattle.std.specs.Prelude.{◌≡◌, ◌≢◌, ◌⊎◌, ℕ, ◌≤◌, List, length, Ok, Err, codes, ◌++◌, decimal}
-use Rattle.algebra.specs.Fraction.{Fraction, rationals}
-use Rattle.polynomials.specs.Order.{grevlex}
+use Rattle.algebra.specs.Fraction.{Fraction}
 use Rattle.polynomials.specs.Terms.{Terms}
 use Rattle.machines.specs.Journal.{Journal, Entry as Made, units_of}
-use Rattle.machines.specs.Reduced.{IsReducedFor}
 use Rattle.loops.specs.Program.{Expr}
 use Rattle.poly_text.specs.Reasons.{Fault, limit}
 use Rattle.loop_model.specs.Operations.{IsLimit}
 use Rattle.loop_model.specs.Maps.{maps_operations, AreFree}
 use Rattle.closed_forms.specs.Refusal.{Refusal}
 use Rattle.invariant_fix.specs.Refusals.{AllHaveForms, IsRefusedBranch}
-use Rattle.loops.specs.Sequences.{Sequence, sequence_names, AreFormed}
+use Rattle.loops.specs.Sequences.{Sequence}
 use Rattle.loops.specs.Turning.{names, program_of, first_places}
-use Rattle.loops.specs.Relations.{IsRelation}
-use Rattle.corollaries.specs.Journal.{IsEnded, IsOut}
+use Rattle.corollaries.specs.Journal.{IsEnded, IsOut, IsStopped}
 use Rattle.loop_text.specs.SeqReader.{sequences_of}
-use Rattle.analysis_commands.specs.ReadBack.{IsReadBack}
-use Rattle.analysis_commands.specs.AnalysisTexts.{basis_text}
-use Rattle.analysis_commands.specs.Texts.{branch_answer}
+use Rattle.analysis_commands.specs.RefusalTexts.{branch_answer}
 use Rattle.analysis_commands.specs.Completeness.{AllSplit, EndsFound}
-use Rattle.analysis_commands.specs.Causes.{IsExact}
-use Rattle.analysis_commands.specs.RelationsAnswers.{Generate, HasRelated, AnswersUnrelated}
+use Rattle.analysis_commands.specs.Causes.{IsNeverRefused, IsExact}
+use Rattle.analysis_commands.specs.RelationsAnswers.{HasRelated, AnswersUnrelated}
 use Rattle.analysis_commands.specs.RelationsTexts.{sequences_refusal}
 use Rattle.analysis_commands.specs.RelationsReading.{IsSequencesFault, ReadsSequences}
 use Rattle.command_parts.specs.FileRequests.{FileRequest}
 use Rattle.io_edge.specs.declared.answer.Status.TheVariants as status
 use Rattle.io_edge.specs.Texts.{Answer, line}
 use Rattle.io_edge.specs.Outcome.{Call}
-use Rattle.io_edge.specs.Clauses.{Wrote, TellsWhy, IfTold, Ends, EndsOrWide, EndsAtFault, EndsTooLong, IsLonger}
+use Rattle.io_edge.specs.Clauses.{Wrote, TellsWhy, IfTold, IsExcused, Ends, EndsOrWide, EndsAtFault, EndsTooLong, IsLonger}
 use Rattle.command_parts.specs.LoopReading.{loop_at}
-
-pub record ShowsRelations (text said : List ℕ) : Type 0 where
-  pub sequences : List (Sequence (Expr ℕ))
-  pub are_sequences : sequences_of text ≡ Ok sequences
-  pub formed : AreFormed sequences
-  pub list : List (Terms Fraction)
-  pub says : said ≡ basis_text (sequence_names sequences) list
-  pub basis : IsReducedFor rationals grevlex (length sequences) list (IsRelation sequences)
-  pub generates : Generate (length sequences) list (IsRelation sequences)
-  pub reads_back : IsReadBack (sequence_names sequences) list
+use Rattle.analysis_commands.specs.RelationsHeadline.{ShowsRelations}
 
 pub record HasEnded (text : List ℕ) (budget : ℕ) (m : Journal) : Type 0 where
   pub sequences : List (Sequence (Expr ℕ))
@@ -81,6 +67,10 @@ pub record IsRelatedWithin (qs : List (Sequence (Expr ℕ))) (budget : ℕ) : Ty
   pub list : List (Terms Fraction)
   pub ended : IsEnded (program_of qs) (first_places 0 qs) entries list
   pub few : units_of entries ≤ budget
+
+pub record IsNeverStopped (qs : List (Sequence (Expr ℕ))) : Type 0 where
+  pub analysis : IsNeverRefused (program_of qs)
+  pub elimination : (es : List Made) → IsStopped (program_of qs) (first_places 0 qs) es → ⊥
 
 abbrev pub Refuses : Call → FileRequest → Answer → Type 0
 Refuses call request a = IfTold call.files.before request.file
@@ -127,5 +117,9 @@ pub record FindsRelations (request : FileRequest) (call : Call) : Type 0 where
   -- the budget isn't spent where some journal that has ended has at most as many units
   pub enough : (qs : List (Sequence (Expr ℕ))) → ReadsSequences call request.file (Ok qs)
       → IsRelatedWithin qs request.budget → call.status ≢ status.Budget
+  -- and so, where nothing refuses, there are the relations
+  pub completes : (qs : List (Sequence (Expr ℕ))) → ReadsSequences call request.file (Ok qs)
+      → IsNeverStopped qs → IsRelatedWithin qs request.budget
+      → (call.status ≡ status.Yes) ⊎ IsExcused call.status
   -- a file that is too long
   pub long : IsLonger call.files.before (loop_at request.file) → EndsTooLong call request.file

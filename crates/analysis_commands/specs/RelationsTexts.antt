@@ -14,7 +14,7 @@ use Rattle.invariant_fix.specs.declared.errors.AnalyseError.TheVariants as analy
 use Rattle.invariant_fix.specs.declared.relations_error.RelationsError.{RelationsError}
 use Rattle.invariant_fix.specs.declared.relations_error.RelationsError.TheVariants as error
 use Rattle.analysis_commands.specs.AnalysisTexts.{basis_text}
-use Rattle.analysis_commands.specs.Texts.{refusal_answer}
+use Rattle.analysis_commands.specs.RefusalTexts.{refusal_answer}
 use Rattle.io_edge.specs.declared.answer.Status.TheVariants as status
 use Rattle.io_edge.specs.Texts.{Answer, with_text, answer}
 use Rattle.command_parts.specs.FaultTexts.{text_refusal}

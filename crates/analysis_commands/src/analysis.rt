@@ -9,7 +9,9 @@ ghost use Rattle.analysis_commands.specs.Statuses as statuses;
 ghost use Rattle.io_edge.specs.Views.{answer_view};
 ghost use Rattle.analysis_commands.specs.Headline.{IsToldBack};
 ghost use Rattle.analysis_commands.specs.Analyses.{Analyses, HasAnalysed};
+ghost use Rattle.analysis_commands.specs.Certificates as told;
 ghost use Rattle.analysis_commands.specs.Texts as texts;
+ghost use Rattle.analysis_commands.specs.RefusalTexts as refusal_texts;
 
 use crate::kind::Kind;
 use crate::{basis_text, certificate_text, refusal_text};
@@ -70,7 +72,7 @@ fn found_text(
     requires square { let count = length found.basis.items in
         All (λ rows. IsSquare (length names.now) count rows.items) found.steps.items }
     ensures text { let c = certificate_of found in
-        IfOk result (λ text. string_bytes text ≡ texts.found_text kind names.now c) }
+        IfOk result (λ text. string_bytes text ≡ told.found_text kind names.now c) }
     ensures read_back { let c = certificate_of found in
         IfOk result (λ _. IsToldBack kind names.now (length c.steps) c) }
 {
@@ -88,7 +90,7 @@ pub fn answer_to_refusal(
     error: &AnalyseError,
 ) -> Result<Answer, AllocError>
     requires { AreNamed (length names.now) error.now }
-    ensures { IfOk result (λ a. texts.refusal_answer names.now budget error.now
+    ensures { IfOk result (λ a. refusal_texts.refusal_answer names.now budget error.now
         ≡ Some (answer_view a)) }
 {
     let Some(status) = refusal_status(error) else {

@@ -32,7 +32,8 @@ use Rattle.certificate_commands.specs.CheckJudging.{IsJudgement, Judges, certifi
 use Rattle.certificate_commands.specs.CertificateWords.{Request}
 use Rattle.certificate_commands.specs.CheckWords.{most_certificate_bytes}
 use Rattle.certificate_commands.specs.CheckCourse.{course}
-use Rattle.certificate_commands.specs.CheckClauses.{ShowsValid, IsRefuted, Checks}
+use Rattle.certificate_commands.specs.CheckClauses.{IsRefuted, Checks}
+use Rattle.certificate_commands.specs.CheckHeadline.{ShowsValid}
 
 -- ---- statuses
 by_judgement_plain : (j : Judgement) → IsPlain (judgement_answer j).status

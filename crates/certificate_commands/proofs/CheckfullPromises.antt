@@ -33,7 +33,8 @@ use Rattle.certificate_commands.specs.CheckfullTexts.{Judgement, complete, fails
 use Rattle.certificate_commands.specs.CheckfullJudging.{FailsFirst, IsJudgement, Judges}
 use Rattle.certificate_commands.specs.CheckfullWords.{most_certificate_bytes}
 use Rattle.certificate_commands.specs.CheckfullCourse.{course}
-use Rattle.certificate_commands.specs.CheckfullClauses.{ShowsComplete, IsRefuted, ChecksFull}
+use Rattle.certificate_commands.specs.CheckfullClauses.{IsRefuted, ChecksFull}
+use Rattle.certificate_commands.specs.CheckfullHeadline.{ShowsComplete}
 
 -- ---- statuses
 by_judgement_plain : (j : Judgement) → IsPlain (judgement_answer j).status

@@ -1,10 +1,8 @@
 -- What `check` promises.
---   ShowsValid text certificate said     `valid` is said; the bytes are a loop and a certificate of it, the certificate's identities hold, and each of its polynomials is zero at the end of every run of the loop
 --   IsRefuted text certificate said      they are a loop and a certificate of it, and what is said is the first identity that fails
 --   Checks request call                    the clauses
-use Rattle.std.specs.Prelude.{◌≡◌, ◌≢◌, ◌<◌, ℕ, List, length, Ok, Err, codes}
-use Rattle.loops.specs.Certificate.{Certificate, Verdict, valid, IsValid, IsVerdict, element}
-use Rattle.loops.specs.Inv.{Inv}
+use Rattle.std.specs.Prelude.{◌≡◌, ◌≢◌, ℕ, List, length, Ok, Err}
+use Rattle.loops.specs.Certificate.{Certificate, Verdict, valid, IsValid, IsVerdict}
 use Rattle.loops.specs.Program.{Expr, Program}
 use Rattle.poly_text.specs.Reasons.{Fault, limit}
 use Rattle.loop_model.specs.Operations.{IsLimit}
@@ -21,14 +19,7 @@ use Rattle.certificate_commands.specs.CertificateWords.{Request}
 use Rattle.certificate_commands.specs.CertificateAsking.{IsQuestion, Refuses, ReadsCertificate, Decides}
 use Rattle.certificate_commands.specs.CheckJudging.{Judges, certificate_in}
 use Rattle.certificate_commands.specs.CheckWords.{certificate_at}
-
-pub record ShowsValid (text certificate said : List ℕ) : Type 0 where
-  pub says : said ≡ codes "valid\n"
-  pub loop : Program (Expr ℕ)
-  pub listed : Certificate
-  pub question : IsQuestion certificate_in text certificate loop listed
-  pub identities : IsValid loop listed
-  pub invariants : (i : ℕ) → i < length listed.basis → Inv loop (element listed i)
+use Rattle.certificate_commands.specs.CheckHeadline.{ShowsValid}
 
 pub record IsRefuted (text certificate said : List ℕ) : Type 0 where
   pub loop : Program (Expr ℕ)

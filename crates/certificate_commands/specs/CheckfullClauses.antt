@@ -1,11 +1,8 @@
 -- What `checkfull` promises.
---   ShowsComplete text certificate said     `complete` is said; the bytes are a loop and a full certificate of it all parts of which hold, and its polynomials generate the invariants: each of them is one, and each invariant is a sum of products with them
 --   IsRefuted text certificate said      they are a loop and a full certificate of it, and what is said is the path of the first part that doesn't hold
 --   ChecksFull request call              the clauses
-use Rattle.std.specs.Prelude.{◌≡◌, ◌≢◌, ℕ, List, length, Ok, Err, codes}
-use Rattle.loops.specs.Inv.{Inv}
+use Rattle.std.specs.Prelude.{◌≡◌, ◌≢◌, ℕ, List, length, Ok, Err}
 use Rattle.loops.specs.Program.{Expr, Program}
-use Rattle.rounds.specs.Generate.{Generates}
 use Rattle.completeness.specs.Full.{FullCertificate}
 use Rattle.completeness.specs.Parts.{AllHold}
 use Rattle.poly_text.specs.Reasons.{Fault, limit}
@@ -24,14 +21,7 @@ use Rattle.certificate_commands.specs.CertificateAsking.{IsQuestion, Refuses, Re
 use Rattle.certificate_commands.specs.CheckfullTexts.{fails, judgement_answer}
 use Rattle.certificate_commands.specs.CheckfullJudging.{FailsFirst, Judges}
 use Rattle.certificate_commands.specs.CheckfullWords.{certificate_at}
-
-pub record ShowsComplete (text certificate said : List ℕ) : Type 0 where
-  pub says : said ≡ codes "complete\n"
-  pub loop : Program (Expr ℕ)
-  pub listed : FullCertificate
-  pub question : IsQuestion full_in text certificate loop listed
-  pub holds : AllHold loop listed
-  pub generates : Generates (length loop.names) listed.basis (Inv loop)
+use Rattle.certificate_commands.specs.CheckfullHeadline.{ShowsComplete}
 
 pub record IsRefuted (text certificate said : List ℕ) : Type 0 where
   pub loop : Program (Expr ℕ)

@@ -6,11 +6,13 @@ pub mod CheckWords
 pub mod CheckTexts
 pub mod CheckJudging
 pub mod CheckCourse
+pub mod CheckHeadline
 pub mod CheckClauses
 pub mod CheckViews
 pub mod CheckfullWords
 pub mod CheckfullTexts
 pub mod CheckfullJudging
 pub mod CheckfullCourse
+pub mod CheckfullHeadline
 pub mod CheckfullClauses
 pub mod CheckfullViews

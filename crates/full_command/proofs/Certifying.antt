@@ -48,7 +48,7 @@ use Rattle.analysis_commands.specs.declared.kind.Kind.TheVariants as kinds
 use Rattle.analysis_commands.specs.Analyses.{IsUnfound, Analyses}
 use Rattle.analysis_commands.specs.Causes.{IsUnanalysed, IsExact}
 use Rattle.analysis_commands.specs.Completeness.{AllSplit}
-use Rattle.analysis_commands.specs.Texts.{refusal_answer, branch_answer}
+use Rattle.analysis_commands.specs.RefusalTexts.{refusal_answer, branch_answer}
 use Rattle.analysis_commands.proofs.Analysing as analysing
 use Rattle.analysis_commands.proofs.BranchRefusals.{no_form}
 use Rattle.analysis_commands.proofs.Refused.{refusal_parts, refusal_kind, refused_settled, refused_not_no}

@@ -55,7 +55,7 @@ use Rattle.io_edge.specs.Texts.{Answer}
 use Rattle.io_edge.specs.Views.{answer_view}
 use Rattle.analysis_commands.specs.Analyses.{empty_journal}
 use Rattle.analysis_commands.specs.Headline.{IsBasisOf}
-use Rattle.analysis_commands.specs.Texts.{refusal_answer}
+use Rattle.analysis_commands.specs.RefusalTexts.{refusal_answer}
 use Rattle.full_command.specs.Certified.{IsAnalysed, certified, first_late, unanalysed, untraced, Certifies, HasWorked}
 use Rattle.full_command.specs.Made.{IsFoundBy, IsMadeOf, IsToldAs}
 use Rattle.full_command.specs.Texts.{certificate_answer, late_answer}

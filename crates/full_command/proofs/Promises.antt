@@ -17,7 +17,7 @@ use Rattle.command_parts.specs.FaultTexts.{loop_refusal}
 use Rattle.command_parts.proofs.LoopCourses.{reading_loop}
 use Rattle.command_parts.specs.FileRequests.{FileRequest}
 use Rattle.analysis_commands.specs.Causes.{IsUnanalysed}
-use Rattle.analysis_commands.specs.Texts.{branch_answer}
+use Rattle.analysis_commands.specs.RefusalTexts.{branch_answer}
 use Rattle.analysis_commands.proofs.Endings.{or_found}
 use Rattle.full_command.specs.Texts.{late_answer}
 use Rattle.full_command.specs.Headline.{ShowsFull}

@@ -20,7 +20,7 @@ use Rattle.io_edge.specs.Texts.{Answer}
 use Rattle.analysis_commands.specs.declared.kind.Kind.TheVariants as kinds
 use Rattle.analysis_commands.specs.Analyses.{refused, IsUnfound, Analyses}
 use Rattle.analysis_commands.specs.Statuses.{refusal_status}
-use Rattle.analysis_commands.specs.Texts.{refusal_answer}
+use Rattle.analysis_commands.specs.RefusalTexts.{refusal_answer}
 use Rattle.io_edge.proofs.OfStatuses.{no_answer}
 use Rattle.analysis_commands.proofs.Analysing.{formed_analysed, status_told}
 use Rattle.analysis_commands.proofs.Refused.{refusal_parts, refusal_kind, Refused, at_fault, too_wide, spent}

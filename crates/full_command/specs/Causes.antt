@@ -23,7 +23,7 @@ use Rattle.completeness.specs.Trace.{Results, State}
 use Rattle.completeness.specs.Followed.{Follows, IsFinished, IsOut, IsPast}
 use Rattle.io_edge.specs.Texts.{Answer, line}
 use Rattle.analysis_commands.specs.Causes as causes
-use Rattle.analysis_commands.specs.Texts.{refusal_answer}
+use Rattle.analysis_commands.specs.RefusalTexts.{refusal_answer}
 use Rattle.full_command.specs.Certified.{IsAnalysed, IsLate, IsUntraced, HasWorked}
 use Rattle.full_command.specs.Texts.{late_answer}
 

@@ -32,7 +32,7 @@ use Rattle.full_trace.specs.Traced as trace
 use Rattle.io_edge.specs.Texts.{Answer}
 use Rattle.analysis_commands.specs.Analyses.{empty_journal, IsUnfound}
 use Rattle.analysis_commands.specs.Headline.{IsBasisOf}
-use Rattle.analysis_commands.specs.Texts.{refusal_answer}
+use Rattle.analysis_commands.specs.RefusalTexts.{refusal_answer}
 use Rattle.full_command.specs.Texts.{certificate_answer, late_answer}
 
 pub record IsAnalysed (l : Program (Expr ℕ)) (budget : ℕ) : Type 0 where

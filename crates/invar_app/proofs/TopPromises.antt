@@ -29,7 +29,7 @@ use Rattle.replay_commands.proofs.RunPromises as run_promises
 use Rattle.analysis_commands.proofs.ChainPromises as chain_promises
 use Rattle.replay_commands.proofs.ChainRunPromises as chainrun_promises
 use Rattle.replay_commands.specs.CounterWords as counter_words
-use Rattle.replay_commands.specs.CounterClauses.{ShowsCounterRun}
+use Rattle.replay_commands.specs.CounterHeadline.{ShowsCounterRun}
 use Rattle.replay_commands.proofs.CounterPromises as counter_promises
 use Rattle.full_command.proofs.Promises as full_promises
 use Rattle.invar_app.proofs.HelpPromises as help_promises

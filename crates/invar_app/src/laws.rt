@@ -15,7 +15,7 @@ ghost use Rattle.full_command.specs.Causes as full_causes;
 ghost use Rattle.loops.specs.Program.{Expr, Program};
 ghost use Rattle.command_parts.specs.Equations.{HoldsAfter};
 ghost use Rattle.analysis_commands.specs.MemberHeadline.{ShowsYes, ShowsNo};
-ghost use Rattle.replay_commands.specs.CounterClauses.{IsQuestion, ShowsCounterRun};
+ghost use Rattle.replay_commands.specs.CounterHeadline.{IsQuestion, ShowsCounterRun};
 
 use io_edge::Status;
 

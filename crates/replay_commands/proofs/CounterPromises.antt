@@ -29,7 +29,8 @@ use Rattle.replay_commands.specs.CounterSeeking.{Answers}
 use Rattle.replay_commands.specs.CounterTexts.{none_answer, limit_answer}
 use Rattle.replay_commands.specs.CounterWords.{Request}
 use Rattle.replay_commands.specs.CounterCourse.{course}
-use Rattle.replay_commands.specs.CounterClauses.{IsQuestion, ShowsCounterRun, ShowsNoneUpTo, IsEquationFault, StopsSearch, ReadsEquation, IsWithin, EndsSeeking, Counters}
+use Rattle.replay_commands.specs.CounterClauses.{IsEquationFault, StopsSearch, ReadsEquation, IsWithin, EndsSeeking, Counters}
+use Rattle.replay_commands.specs.CounterHeadline.{IsQuestion, ShowsCounterRun, ShowsNoneUpTo}
 use Rattle.replay_commands.proofs.CounterShown.{answers_plain, run_when_no, none_when_yes, stop_when_refusing}
 use Rattle.replay_commands.proofs.CounterDecided.{map_limit_told, complete, first_found, none_found, limit_told}
 

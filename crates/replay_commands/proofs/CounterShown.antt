@@ -32,7 +32,7 @@ use Rattle.command_parts.proofs.Polynomials.{end_value}
 use Rattle.command_parts.proofs.Refusals.{equation_refuses, unformed_refuses}
 use Rattle.replay_commands.specs.CounterSeeking.{TellsRun, TellsNone, TellsStop, Seeks, Answers}
 use Rattle.replay_commands.specs.CounterTexts.{run_text, map_answer}
-use Rattle.replay_commands.specs.CounterClauses.{IsQuestion, ShowsCounterRun, ShowsNoneUpTo}
+use Rattle.replay_commands.specs.CounterHeadline.{IsQuestion, ShowsCounterRun, ShowsNoneUpTo}
 
 -- ---- where the equation holds
 module _ (l : Program (Expr ℕ)) (e : Expr ℕ) where
@@ -119,6 +119,9 @@ module _ (text equation : List ℕ) (l : Program (Expr ℕ)) (e : Expr ℕ)
         fails = λ z. from.not_zero (v ∙ z);
         short = t.is.short;
         first = λ w earlier. holds_after l e w (t.is.first.first w earlier);
+        numbers = from.numbers;
+        is_start = refl;
+        first_start = from.start;
         says = text_of t.says ∙ ap₂ (λ ss x. run_text l.names t.word ss x) from.are_states v;
       }
 

@@ -1,13 +1,4 @@
 -- What `counter` promises.
---   IsQuestion text equation l e      the bytes are the loop l and the equation e
---   ShowsCounterRun text equation n said   they are; a word of at most n letters, the states of a
---     run
---                         with it and the equation's value at the end of this run are said; the
---                           value
---                         isn't 0, and the equation holds after each earlier word
---   ShowsNoneUpTo text equation n said     they are, the equation holds after each word of at most
---     n
---                         letters, and this is said
 --   IsEquationFault text equation a   the bytes are a loop, and a tells the first fault of the
 --     equation
 --   StopsSearch text equation n a     they are a loop and an equation, and a tells by what its
@@ -27,11 +18,9 @@
 --   Counters request call       the clauses
 use Rattle.std.specs.Prelude.{◌≡◌, ◌≢◌, ◌⊎◌, ℕ, ◌≤◌, List, length, Ok, Err, Result}
 use Rattle.std.specs.List.{All}
-use Rattle.algebra.specs.Fraction.{Fraction, ℚ}
+use Rattle.algebra.specs.Fraction.{Fraction}
 use Rattle.polynomials.specs.Terms.{Terms}
 use Rattle.loops.specs.Program.{Expr, Program}
-use Rattle.loops.specs.Run as runs
-use Rattle.loops.specs.Run.{Run, states}
 use Rattle.rounds.specs.Word.{IsLetter}
 use Rattle.poly_text.specs.Reasons.{Fault, limit}
 use Rattle.loop_model.specs.Operations.{IsLimit, IsWide}
@@ -49,33 +38,12 @@ use Rattle.io_edge.specs.Outcome.{Call}
 use Rattle.io_edge.specs.Clauses.{Wrote, TellsWhy, IfTold, IsExcused, Ends, EndsOrWide, EndsTooLong, IsLonger}
 use Rattle.command_parts.specs.FaultTexts.{loop_refusal}
 use Rattle.command_parts.specs.LoopReading.{loop_at, IsLoopFault, ReadsLoop}
-use Rattle.command_parts.specs.Equations.{equation_in, operations_of, polynomial_of, HoldsAfter, FormsFreely}
+use Rattle.command_parts.specs.Equations.{equation_in, operations_of, polynomial_of, FormsFreely}
 use Rattle.command_parts.specs.EquationReading.{equation_refusal, IsUnformed}
 use Rattle.replay_commands.specs.CounterSeeking.{TellsStop}
-use Rattle.replay_commands.specs.CounterTexts.{run_text, none_answer, limit_answer}
+use Rattle.replay_commands.specs.CounterTexts.{none_answer, limit_answer}
 use Rattle.replay_commands.specs.CounterWords.{Request}
-
-pub record IsQuestion (text equation : List ℕ) (l : Program (Expr ℕ)) (e : Expr ℕ) : Type 0 where
-  pub is_loop : loop_of text ≡ Ok l
-  pub is_equation : equation_in l.names equation ≡ Ok e
-
-pub record ShowsCounterRun (text equation : List ℕ) (n : ℕ) (said : List ℕ) : Type 0 where
-  pub loop : Program (Expr ℕ)
-  pub difference : Expr ℕ
-  pub question : IsQuestion text equation loop difference
-  pub run : Run loop
-  pub fails : runs.value difference run.end ≢ ℚ.zero
-  pub short : length run.word ≤ n
-  pub first : (v : List ℕ) → IsEarlier v run.word → HoldsAfter loop difference v
-  pub says : said ≡ run_text loop.names run.word (states loop run.word run.start)
-      (runs.value difference run.end)
-
-pub record ShowsNoneUpTo (text equation : List ℕ) (n : ℕ) (said : List ℕ) : Type 0 where
-  pub loop : Program (Expr ℕ)
-  pub difference : Expr ℕ
-  pub question : IsQuestion text equation loop difference
-  pub holds : (w : List ℕ) → length w ≤ n → HoldsAfter loop difference w
-  pub says : said ≡ (none_answer n).text
+use Rattle.replay_commands.specs.CounterHeadline.{IsQuestion, ShowsCounterRun, ShowsNoneUpTo}
 
 pub record IsEquationFault (text equation : List ℕ) (a : Answer) : Type 0 where
   pub loop : Program (Expr ℕ)

@@ -12,5 +12,6 @@ pub mod CounterWords
 pub mod CounterTexts
 pub mod CounterSeeking
 pub mod CounterCourse
+pub mod CounterHeadline
 pub mod CounterClauses
 pub mod CounterViews

@@ -3,7 +3,7 @@
 ghost use Rattle.std.specs.Prelude.{ℕ, ◌≤◌, List, length};
 ghost use Rattle.loops.specs.Program.{Expr, Program};
 ghost use Rattle.command_parts.specs.Equations.{Holds, HoldsAfter};
-ghost use Rattle.replay_commands.specs.CounterClauses.{IsQuestion, ShowsCounterRun};
+ghost use Rattle.replay_commands.specs.CounterHeadline.{IsQuestion, ShowsCounterRun};
 
 /// An equation that a counter-run is shown of doesn't hold at the end of every run of the same loop.
 /// One that doesn't hold there isn't one that holds after each word; no length is told within which a

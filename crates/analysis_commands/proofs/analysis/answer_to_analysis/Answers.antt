@@ -3,7 +3,7 @@ use Rattle.std.specs.Prelude.{All, length}
 use Rattle.loop_model.specs.View.{program_of}
 use Rattle.ideal_ops.specs.Calls.{AreOver}
 use Rattle.invariant_fix.specs.Closing.{IsSquare}
-use Rattle.analysis_commands.proofs.BasisAnswers.{has_analysed, finds_of, found_said, refused_said, refused_named}
+use Rattle.analysis_commands.proofs.BasisAnswers.{has_analysed, closed_of, found_said, refused_said, refused_named}
 use Rattle.analysis_commands.proofs.analysis.answer_to_analysis.Goals as goal
 
 pub found_answer-requires-clause-arity : goal.found_answer-requires-clause-arity
@@ -27,9 +27,9 @@ returns-in-Ok-clause-answer c =
     found_said l c.args.budget.units c.open.new.self c.analyse.new.meter c.open.ensures
     c.in-Ok.ensures.limit
     c.found_answer.result c.names.result.now c.names.ensures.names c.args.kind c.in-Ok.found
-    (finds_of l c.analyse.new.meter c.in-Ok.found c.in-Ok.ensures.free c.in-Ok.ensures.forms
+    (closed_of l c.analyse.new.meter c.in-Ok.found c.in-Ok.ensures.free c.in-Ok.ensures.forms
     c.in-Ok.ensures.closed c.in-Ok.ensures.rounds c.in-Ok.ensures.basis)
-    c.in-Ok.ensures.closed c.in-Ok.ensures.certificate c.found_answer.ensures.text
+    c.in-Ok.ensures.certificate c.found_answer.ensures.text
     c.found_answer.ensures.read_back
 
 pub returns-in-Err-clause-answer : goal.returns-in-Err-clause-answer

@@ -1,5 +1,5 @@
 use Rattle.std.proofs.Common.{◌≡◌, ◌++◌, string_bytes, take}
-use Rattle.analysis_commands.specs.AnalysisTexts.{listed_behind}
+use Rattle.analysis_commands.specs.RefusalTexts.{listed_behind}
 use Rattle.analysis_commands.proofs.refusals.push_others.Given as goal
 
 abbrev pub invariant-loop-variable : goal.invariant-loop-variable

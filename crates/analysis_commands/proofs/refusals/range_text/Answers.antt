@@ -2,7 +2,7 @@ use Rattle.std.proofs.Common.{◌≡◌, string_bytes, ap, append_assoc, ◌∙�
 use Rattle.std.proofs.lemmas.Int.{to_z-of_z}
 use Rattle.std.specs.Fmt.{signed_decimal}
 use mir.Syntax.{w128}
-use Rattle.analysis_commands.specs.AnalysisTexts.{names_at}
+use Rattle.analysis_commands.specs.RefusalTexts.{names_at}
 use Rattle.analysis_commands.proofs.Pushing.{retold}
 use Rattle.analysis_commands.proofs.refusals.range_text.Goals as goal
 

@@ -3,7 +3,7 @@ use Rattle.std.proofs.lemmas.Int.{to_z-of_z}
 use Rattle.std.specs.Fmt.{signed_decimal}
 use mir.Syntax.{w32, w128}
 use mir.Val.{to_z, of_z}
-use Rattle.analysis_commands.specs.AnalysisTexts.{names_at}
+use Rattle.analysis_commands.specs.RefusalTexts.{names_at}
 use Rattle.analysis_commands.proofs.Pushing.{retold}
 use Rattle.analysis_commands.proofs.refusals.split_text.Goals as goal
 
