@@ -8,10 +8,10 @@
 --   less_none, differences_next, past_difference_here, past_difference_next     each variable less its form
 --   images_count, graph_rest, past_graph     the whole list
 --   copy_next, told_next     what the variables were
-use Rattle.std.proofs.Common.{◌≡◌, ◌⊎◌, inl, inr, ℕ, suc, ◌+◌, ◌-◌, ◌<◌, ◌≤◌, true, false, Bool, List, [], ◌∷◌, ◌++◌, map, take, drop, length, All, arith, refl, sym, ap, ap₂, subst, ◌∙◌, drop-cons, append_assoc}
+use Rattle.std.proofs.Common.{◌≡◌, ◌⊎◌, inl, inr, ℕ, suc, ◌+◌, ◌-◌, ◌<◌, ◌≤◌, true, false, Bool, List, [], ◌∷◌, ◌++◌, map, take, drop, get_or, length, All, arith, refl, sym, ap, ap₂, subst, ◌∙◌, drop-cons, append_assoc}
 use Rattle.std.specs.List.{Any}
-use Rattle.std.proofs.lemmas.List.{append-nil, length-append, length-map, length-take}
-use Rattle.algebra.proofs.Lists.{length-front}
+use Rattle.std.proofs.lemmas.List.{append-nil, length-append, length-map, length-take, map-append}
+use Rattle.algebra.proofs.Lists.{length-front, take_next}
 use Rattle.algebra.specs.Fraction.{Fraction, ℚ, fractions, rationals}
 use Rattle.algebra.proofs.Fractions.{ℚ_ring, ℚ_field}
 use Rattle.polynomials.specs.Order.{grevlex}
@@ -108,18 +108,19 @@ past_sum variable image x y e f p = subst (λ z. IsPastSum fractions z y) e
     (subst (λ z. IsPastSum fractions (terms_in variable) z) f p)
 
 -- ---- the elements at what was
+pub composed_next : (F : Terms Fraction → Terms Fraction) (gs : List FracPoly) (i : ℕ)
+    (g : FracPoly) → i < length gs → g ≡ get_or gs i g → (qs : List (Terms Fraction))
+    → (qs ++ map F (terms_each (take i gs))) ++ F (terms_in g) ∷ []
+    ≡ qs ++ map F (terms_each (take (i + 1) gs))
+composed_next F gs i g l is qs =
+    append_assoc qs (map F (terms_each (take i gs))) (F (terms_in g) ∷ [])
+    ∙ ap (λ ts. qs ++ ts) (sym (ap (map F) (take_next terms_in gs i g l is)
+    ∙ map-append F (terms_each (take i gs)) (terms_in g ∷ [])))
+
 module _ (w : ℕ) (images : List (Terms Fraction)) (gs rest : List FracPoly) (g : FracPoly)
     (is : gs ≡ g ∷ rest) where
   abbrev at : Terms Fraction → Terms Fraction
   at t = compose ℚ w t images
-
-  pub composed_next : (news : List FracPoly) (qs : List (Terms Fraction))
-      → AllStandFor w news ((qs ++ compose ℚ w (terms_in g) images ∷ [])
-      ++ map (λ t. compose ℚ w t images) (terms_each rest))
-      → AllStandFor w news (qs ++ map (λ t. compose ℚ w t images) (terms_each gs))
-  composed_next news qs a =
-      subst (λ l. AllStandFor w news (qs ++ map (λ t. compose ℚ w t images) (terms_each l)))
-      (sym is) (along w news qs (map (λ t. compose ℚ w t images) (terms_each rest)) _ a)
 
   pub past_composed_here : IsPastComposition fractions (terms_in g) images
       → Any (λ t. IsPastComposition fractions t images) (terms_each gs)
@@ -265,10 +266,6 @@ pub tail_over : (m : ℕ) (ps rest : List FracPoly) (p : FracPoly) → ps ≡ p 
 tail_over m ps rest p e all = λ k d l. subst (λ r. All (IsOver m) r) e all (suc k) d
     (omega (arith, l))
 
-pub head_all : (P : FracPoly → Type 0) (ps rest : List FracPoly) (p : FracPoly) → ps ≡ p ∷ rest
-    → All P ps → P p
-head_all P ps rest p e all = subst (λ r. All P r) e all 0 p (omega arith)
-
-pub head_over : (m : ℕ) (ps rest : List FracPoly) (p : FracPoly) → ps ≡ p ∷ rest
-    → All (IsOver m) ps → p.arity ≡ m
-head_over m ps rest p e all = head_all (IsOver m) ps rest p e all
+pub all_at : (P : FracPoly → Type 0) (ps : List FracPoly) (i : ℕ) (p : FracPoly) → i < length ps
+    → p ≡ get_or ps i p → All P ps → P p
+all_at P ps i p l is all = subst P (sym is) (all i p l)

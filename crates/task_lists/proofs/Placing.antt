@@ -1,21 +1,17 @@
 -- Polynomials in the order that eliminates the first variables, one after another.
---   pushed_next        one more
+--   IsLeft, left_next, left_end     what is still to be put, as one goes behind another
 --   normal_is, placed_is            an element
 --   relation_placed, relations_none, relations_more      the relations
---   past_later         what is past
-use Rattle.std.proofs.Common.{◌≡◌, ℕ, suc, ◌+◌, ◌-◌, ◌<◌, ◌≤◌, List, [], ◌∷◌, ◌++◌, map, Result, refl, sym, ap, ap₂, subst, ◌∙◌, arith, append_assoc}
-use Rattle.std.specs.List.{Any}
-use Rattle.std.specs.Result.{OnOk}
-use Rattle.std.proofs.lemmas.List.{map-append}
-use Rattle.std.proofs.lemmas.Result.{on_ok_weaker}
+use Rattle.std.proofs.Common.{◌≡◌, ℕ, suc, ◌+◌, ◌-◌, ◌<◌, ◌≤◌, List, [], ◌∷◌, ◌++◌, map, length, refl, sym, ap, ap₂, subst, ◌∙◌, arith, append_assoc}
+use Rattle.std.proofs.lemmas.List.{append-nil, map-append}
+use Rattle.std.proofs.lemmas.Slice.Zip.{AllZip-long}
+use Rattle.algebra.proofs.Lists.{nil_from_length}
 use Rattle.algebra.specs.Each.{Each}
-use Rattle.algebra.specs.Fraction.{Fraction, ℚ, rationals, fraction_size}
-use Rattle.algebra.specs.Size.{IsPast}
+use Rattle.algebra.specs.Fraction.{Fraction, ℚ, rationals}
 use Rattle.algebra.proofs.Fractions.{ℚ_ring, ℚ_field}
 use Rattle.polynomials.specs.Order.{grevlex, blocks}
 use Rattle.polynomials.specs.Polynomial.{Arity, AllArity}
 use Rattle.polynomials.specs.Terms.{Terms, Same}
-use Rattle.polynomials.specs.Weight.{weight}
 use Rattle.polynomials.proofs.Orders.{grevlex_order, blocks_order}
 use Rattle.polynomials.proofs.Same.{Same-trans}
 use Rattle.machines.specs.Collect.{collect}
@@ -34,31 +30,48 @@ use Rattle.task_lists.proofs.TwoTerms.{block_polynomial}
 
 -- ---- one more
 module _ (w : ℕ) (f : Terms Fraction → Terms Fraction) where
-  module _ {T E : Type 0} (r : Result T E) (olds mids news : List Blocked) (b : Blocked)
-      (are : mids ≡ olds ++ b ∷ []) (p : FracPoly)
+  -- what was put, with the f of what the list stands for behind it, is all
+  pub record IsLeft (list : List FracPoly) (put : List Blocked) (all : List (Terms Fraction))
+      : Type 0 where
+    pub left : List (Terms Fraction)
+    pub stand : AllStandFor w list left
+    pub long : AllArity w left
+    pub are : terms_each put ++ map f left ≡ all
+
+  module _ (olds news : List Blocked) (b : Blocked) (are : news ≡ olds ++ b ∷ []) (p : FracPoly)
       (element : (q : Terms Fraction) → StandsFor w p q → Arity w q → terms_in b ≡ f q)
-      (rest : List FracPoly)
-      (others : (qs : List (Terms Fraction)) → AllStandFor w rest qs → AllArity w qs
-      → OnOk r (terms_each news ≡ terms_each mids ++ map f qs)) where
+      (rest : List FracPoly) (all : List (Terms Fraction)) where
     along : (q : Terms Fraction) (qs : List (Terms Fraction)) → terms_in b ≡ f q
-        → terms_each news ≡ terms_each mids ++ map f qs
-        → terms_each news ≡ terms_each olds ++ f q ∷ map f qs
-    along q qs e h =
-        h ∙ ap (λ l. l ++ map f qs) (ap terms_each are
+        → terms_each news ++ map f qs ≡ terms_each olds ++ f q ∷ map f qs
+    along q qs e =
+        ap (λ l. l ++ map f qs) (ap terms_each are
         ∙ map-append (λ (x : Blocked). terms_in x) olds (b ∷ [])
         ∙ ap (λ t. terms_each olds ++ t ∷ []) e)
         ∙ append_assoc (terms_each olds) (f q ∷ []) (map f qs)
 
     behind : (qs : List (Terms Fraction)) → AllStandFor w (p ∷ rest) qs → AllArity w qs
-        → OnOk r (terms_each news ≡ terms_each olds ++ map f qs)
+        → terms_each olds ++ map f qs ≡ all → IsLeft rest news all
     unfolding Each
-    behind [] a h = absurd a
-    behind (q ∷ qs) a h = on_ok_weaker r (along q qs (element q a.0 h.0)) (others qs a.1 h.1)
+    behind [] a h e = absurd a
+    behind (q ∷ qs) a h e = record {
+      left = qs;
+      stand = a.1;
+      long = h.1;
+      are = along q qs (element q a.0 h.0) ∙ e;
+    }
 
-    pub pushed_next : (list : List FracPoly) → list ≡ p ∷ rest → (qs : List (Terms Fraction))
-        → AllStandFor w list qs → AllArity w qs
-        → OnOk r (terms_each news ≡ terms_each olds ++ map f qs)
-    pushed_next list is qs a h = behind qs (subst (λ l. AllStandFor w l qs) is a) h
+    pub left_next : (list : List FracPoly) → list ≡ p ∷ rest → IsLeft list olds all
+        → IsLeft rest news all
+    left_next list is h =
+        behind h.left (subst (λ l. AllStandFor w l h.left) is h.stand) h.long h.are
+
+  pub left_end : (list : List FracPoly) (put : List Blocked) (all : List (Terms Fraction))
+      → list ≡ [] → IsLeft list put all → terms_each put ≡ all
+  left_end list put all none h =
+      let n = AllZip-long (StandsFor w) list h.left h.stand in
+      let m = ap length none in
+      let nil = nil_from_length h.left (omega (arith, n, m)) in
+      sym (append-nil (terms_each put)) ∙ ap (λ qs. terms_each put ++ map f qs) (sym nil) ∙ h.are
 
 -- ---- an element
 module _ (n w : ℕ) (b : Blocked) (order : b.order ≡ in_blocks n) (arity : b.arity ≡ w)
@@ -121,10 +134,3 @@ module _ (f : Terms Fraction → Terms Fraction) (r w : ℕ) (olds : List (Terms
       (relation w (suc (suc n)) (suc (suc (r + n))) ∷ [])))
       ∙ ap (λ k. olds ++ map f (first ∷ relations_to r w k)) (let z : suc n ≡ n + 1 = omega arith in
       z)
-
--- ---- what is past
-module _ (list rest : List FracPoly) (p : FracPoly) (is : list ≡ p ∷ rest) where
-  pub past_later : Any (λ t. IsPast (weight fraction_size t)) (terms_each rest)
-      → Any (λ t. IsPast (weight fraction_size t)) (terms_each list)
-  past_later (i, t, l, e, h) = subst (λ l. Any (λ t. IsPast (weight fraction_size t))
-      (terms_each l)) (sym is) (suc i, t, omega (arith, l), e, h)

@@ -70,11 +70,10 @@ fn push_composed(
         → Any (λ g. IsPastComposition fractions g (terms_each before.now.items))
         (terms_each list.now) }
 {
-    let Some((element, list)) = list.split_first() else {
-        return Ok(());
-    };
-    out.push(element.compose(alloc, before)?)?;
-    push_composed(alloc, out, shape, before, list)
+    for element in list {
+        out.push(element.compose(alloc, before)?)?;
+    }
+    Ok(())
 }
 
 /// The variables in front, and behind them what the others were.

@@ -40,12 +40,11 @@ pub(crate) fn push_normal(
     ensures wide { IsErrOf result ArithmeticError.Wide
         → Any (λ p. IsPast (weight fraction_size p)) (terms_each list.now) }
 {
-    let Some((p, list)) = list.split_first() else {
-        return Ok(());
-    };
-    let normal = normal_of(alloc, base, p)?;
-    gens.push(normal.reorder(alloc, Blocks { first })?)?;
-    push_normal(alloc, gens, base, first, list)
+    for p in list {
+        let normal = normal_of(alloc, base, p)?;
+        gens.push(normal.reorder(alloc, Blocks { first })?)?;
+    }
+    Ok(())
 }
 
 /// Puts the polynomials behind the others, in the order that eliminates the first ones.
@@ -61,11 +60,10 @@ pub(crate) fn push_placed(
     ensures block { (w : ℕ) → All (IsOver w) list.now → HaveBlock first w gens.old.items
         → OnOk result (HaveBlock first w gens.new.items) }
 {
-    let Some((p, list)) = list.split_first() else {
-        return Ok(());
-    };
-    gens.push(p.reorder(alloc, Blocks { first })?)?;
-    push_placed(alloc, gens, first, list)
+    for p in list {
+        gens.push(p.reorder(alloc, Blocks { first })?)?;
+    }
+    Ok(())
 }
 
 /// Puts s s - 1, and then the u_j v_j - 1, behind the others, in the order that eliminates what stands in front and the copies behind that.
