@@ -70,6 +70,9 @@ place_text (task.Orbit round branch) =
 place_text (task.Meet round branch) =
     codes "round " ++ decimal round ++ codes ", branch " ++ decimal branch ++ codes ", meet"
 place_text task.Member = codes "member"
+place_text (task.Image number) = codes "image " ++ decimal number
+place_text (task.Extend number) = codes "image " ++ decimal number ++ codes ", extension"
+place_text (task.Sample number) = codes "sample " ++ decimal number
 
 abbrev pub map_text : MapError → List ℕ
 map_text (map_error.Limit at) = codes "loop: limit at " ++ decimal at

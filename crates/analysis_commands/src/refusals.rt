@@ -220,5 +220,8 @@ fn place_text(alloc: Global, task: &Task) -> Result<String, AllocError>
         Task::Orbit { round, branch } => format!(in alloc; "round {round}, branch {branch}, orbit"),
         Task::Meet { round, branch } => format!(in alloc; "round {round}, branch {branch}, meet"),
         Task::Member => String::from_str(alloc, "member"),
+        Task::Image { number } => format!(in alloc; "image {number}"),
+        Task::Extend { number } => format!(in alloc; "image {number}, extension"),
+        Task::Sample { number } => format!(in alloc; "sample {number}"),
     }
 }

@@ -62,6 +62,18 @@ pub enum Task {
         branch: u32,
     },
     Member,
+    /// The division of an image of a polynomial. Images of a closing count from 0.
+    Image {
+        number: u32,
+    },
+    /// The completion of the list with the remainder of that image.
+    Extend {
+        number: u32,
+    },
+    /// The values of the monomials at the end of a run. Samples count from 0.
+    Sample {
+        number: u32,
+    },
 }
 
 /// What the journal tells.
@@ -151,6 +163,9 @@ impl Task {
             Task::Orbit { .. } => false,
             Task::Meet { .. } => false,
             Task::Member => false,
+            Task::Image { .. } => true,
+            Task::Extend { .. } => false,
+            Task::Sample { .. } => true,
         }
     }
 }

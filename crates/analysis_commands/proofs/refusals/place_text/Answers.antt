@@ -22,3 +22,7 @@ pub returns-in-TurnMeet : goal.returns-in-TurnMeet
 returns-in-TurnMeet c =
     retold string_bytes c.format-in-TurnMeet.result _ _ c.format-in-TurnMeet.ensures.ok
     (rw c.in-TurnMeet.is (simp append_assoc))
+
+pub returns-in-Extend : goal.returns-in-Extend
+returns-in-Extend c = retold string_bytes c.format-in-Extend.result _ _ c.format-in-Extend.ensures.ok
+    (rw c.in-Extend.is (simp append_assoc))
