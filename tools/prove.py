@@ -9,7 +9,7 @@ building of a crate says is told where it fails; the status is then 1.
 
 INVAR_WORKERS says how many are proved at once: as many as there are processors, if it isn't set; with 1 they are proved one after another.
 Those on the longest chain of crates go before the others, as the whole takes no less time than they do. Each is proved by one job, which takes
-the least processor time; only a large one that has fewer beside it than there are workers gets the jobs that would be idle.
+the least processor time; only a large one on that chain gets half of the processors, and one beside which little is left to prove its share of them.
 """
 import concurrent.futures
 import contextlib
@@ -30,8 +30,10 @@ WORKERS = int(os.environ.get("INVAR_WORKERS") or os.cpu_count() or 1)
 LIBRARY, CHECKED = "rlib", "incremental"
 # how nice a crate's proof is to those on the longest chain: so much for each part of the chain that it misses, up to the most
 NICE, MOST_NICE = 60, 19
-# a crate of fewer bytes gains nothing from a second job
-LARGE = 20_000
+# by which part of it a chain may miss the longest one and still count as it
+NEAR = 0.02
+# a crate of fewer bytes of code gains nothing from a second job
+LARGE = 8_000
 ROOM = "copies-"
 # the commands that are under way
 CALLS = set()
@@ -44,9 +46,9 @@ def crates_below(program):
 
 
 def size(name):
-    """How many bytes of sources a crate has, by which the time of its proof is guessed."""
-    folders = (os.path.join(TOP, "crates", name, part) for part in ("src", "specs", "proofs"))
-    return sum(os.path.getsize(os.path.join(at, file)) for folder in folders for at, _, files in os.walk(folder) for file in files)
+    """How many bytes of code a crate has, by which the time of its proof is guessed. Laws, which do nothing, take next to none."""
+    folder = os.path.join(TOP, "crates", name, "src")
+    return sum(os.path.getsize(os.path.join(at, file)) for at, _, files in os.walk(folder) for file in files if not file.endswith("laws.rt"))
 
 
 def slack(order):
@@ -62,9 +64,15 @@ def slack(order):
     return {name: 1 - (upto[name] + beyond[name]) / longest for name in order}
 
 
-def jobs(size, others, workers):
-    """With how many jobs a crate of this size is proved where so many others are being proved or ready to be: its share of the workers."""
-    return max(1, workers // (others + 1)) if size >= LARGE else 1
+def apart(order):
+    """For each crate those that don't wait for it and for which it doesn't wait, which can be proved beside it."""
+    below = {name: set(all_below(name, order)) for name in order}
+    return {name: [other for other in order if other != name and other not in below[name] and name not in below[other]] for name in order}
+
+
+def jobs(size, beside, least, workers):
+    """With how many jobs a crate of this size is proved, where so much is left that can be proved beside it: its share of the workers."""
+    return max(least, round(workers * size / (size + beside))) if size >= LARGE else 1
 
 
 def call(top, name, *words, niceness=0):
@@ -150,8 +158,8 @@ def libraries(program, order, copies, progress):
     """Proves the crates below the program and builds their libraries. What was said of one that failed, or nothing."""
     waits = {name: below for name, below in order.items() if name != program}
     sizes = {name: size(name) for name in order}
-    done, running = {}, {}
-    behind = slack(order)
+    done, running, taken = {}, {}, {}
+    behind, others = slack(order), apart(order)
 
     def work(name, jobs):
         copy = copies.get()
@@ -166,10 +174,14 @@ def libraries(program, order, copies, progress):
 
     def go(pool):
         while waits or running:
-            ready = sorted((name for name, below in waits.items() if done.keys() >= set(below)), key=behind.get)
-            for place, name in enumerate(ready[: WORKERS - len(running)]):
-                others = len(running) + len(ready) - place - 1
-                running[pool.submit(work, name, jobs(sizes[name], others, WORKERS))] = name
+            for name in sorted((name for name, below in waits.items() if done.keys() >= set(below)), key=behind.get):
+                free = WORKERS - sum(taken[other] for other in running.values())
+                if free <= 0:
+                    break
+                beside = sum(sizes[other] for other in others[name] if other not in done)
+                least = WORKERS // 2 or 1 if behind[name] < NEAR else 1
+                taken[name] = min(free, jobs(sizes[name], beside, least, WORKERS))
+                running[pool.submit(work, name, taken[name])] = name
                 del waits[name]
             show()
             ended, _ = concurrent.futures.wait(running, timeout=1, return_when=concurrent.futures.FIRST_COMPLETED)
