@@ -24,5 +24,6 @@ returns-in-TurnMeet c =
     (rw c.in-TurnMeet.is (simp append_assoc))
 
 pub returns-in-Extend : goal.returns-in-Extend
-returns-in-Extend c = retold string_bytes c.format-in-Extend.result _ _ c.format-in-Extend.ensures.ok
+returns-in-Extend c =
+    retold string_bytes c.format-in-Extend.result _ _ c.format-in-Extend.ensures.ok
     (rw c.in-Extend.is (simp append_assoc))
