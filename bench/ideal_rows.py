@@ -1,7 +1,7 @@
 #!/usr/bin/env python3
 """Computes the rows of crates/computation_rows/data/ideals.txt anew, by the rules as docs/DEFINITIONS.md has them, and tells each that has another answer.
 
-Usage: bench/ideal_rows.py [FILE]
+Usage: bench/ideal_rows.py [FILE]     (but for the rows that count terms, which follow from no rule)
 
 It shares nothing with the program, and is written to be read: polynomials are dictionaries from exponents to numbers, leads are searched for
 each time, and the least waiting pair too. A number or an exponent that doesn't fit is wide where it is the result of an operation.
@@ -191,7 +191,8 @@ class Ideals:
         return elements
 
     def tidy(self, elements):
-        elements = [self.monic(p) for p in elements]
+        """From the least lead up; of equal leads the last element comes first."""
+        elements = sorted((self.monic(p) for p in reversed(elements)), key=lambda p: self.key(self.lead(p)))
 
         def others(k):
             return [l for l in range(len(elements)) if l != k]
@@ -211,7 +212,7 @@ class Ideals:
             k, (by, _, _, left) = found
             self.meter.did("Tail", element=k, by=by)
             elements[k] = left
-        return sorted(elements, key=lambda p: self.key(self.lead(p)))
+        return elements
 
     def read(self, text, names):
         p = {}
@@ -310,7 +311,7 @@ def answer(call, limit, *values):
 
 def main():
     path = pathlib.Path(sys.argv[1]) if len(sys.argv) > 1 else ROWS
-    rows = [line.split("\t") for line in path.read_text().splitlines() if "\t" in line]
+    rows = [line.split("\t") for line in path.read_text().splitlines() if "\t" in line and not line.startswith("dense\t")]
     differ = [(row, found) for row in rows if (found := answer(*row[:-1])) != row[-1]]
     for row, found in differ:
         print("\t".join(row), f"    computed {found}", sep="\n")

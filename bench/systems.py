@@ -4,6 +4,7 @@
 """
 import collections
 import itertools
+import math
 
 
 def cyclic(n):
@@ -81,6 +82,53 @@ def colours(edges, n):
     return names, [*(f"{x}^3 - 1" for x in names), *(f"{names[a]}^2 + {names[a]}*{names[b]} + {names[b]}^2" for a, b in edges)]
 
 
+def reduced_cyclic(n):
+    """Cyclic with one variable put to 1, and without the product."""
+    names = [f"x{i}" for i in range(1, n)]
+    around = ["1", *names]
+    return names, [" + ".join("*".join(around[(i + j) % n] for j in range(d)) for i in range(n)) for d in range(1, n)]
+
+
+def homogeneous_cyclic(n):
+    """Cyclic with one more variable to the power n in place of 1."""
+    names, sums = cyclic(n)
+    return [*names, "h"], [*sums[:-1], sums[-1].replace(" - 1", f" - h^{n}")]
+
+
+def reduced_economics(n):
+    """Economics with u for the inverse of the last variable."""
+    names = [f"x{i}" for i in range(1, n)]
+    products = [" + ".join([names[k], *(f"{names[i]}*{names[i + k + 1]}" for i in range(n - 2 - k))]) for k in range(n - 1)]
+    return [*names, "u"], [*(f"{product} - {k + 1}*u" for k, product in enumerate(products)), " + ".join(names) + " + 1"]
+
+
+def chandrasekhar(n):
+    """The H-equation at n places, with the parameter 1/2."""
+    names = [f"h{i}" for i in range(1, n + 1)]
+    lcm = math.lcm(*range(1, 2 * n))
+    sums = (" + ".join(f"{lcm * k // (k + i)}*{x}" for i, x in enumerate(names[:-1], 1)) for k in range(1, n + 1))
+    return names, [f"{4 * n * lcm}*{x} - {x}*({lcm} + {total}) - {4 * n * lcm}" for x, total in zip(names, sums)]
+
+
+def minors(rows, columns):
+    """The minors of two rows and two columns of a matrix."""
+    name = lambda i, j: f"x{i + 1}{j + 1}"
+    pairs = itertools.product(itertools.combinations(range(rows), 2), itertools.combinations(range(columns), 2))
+    return [name(i, j) for i in range(rows) for j in range(columns)], [f"{name(a, c)}*{name(b, d)} - {name(a, d)}*{name(b, c)}" for (a, b), (c, d) in pairs]
+
+
+def rational_curve(n):
+    """The minors of two neighbouring rows of n + 1 coordinates: the curve of all powers up to n."""
+    names = [f"x{i}" for i in range(n + 1)]
+    return names, [f"{names[i]}*{names[j + 1]} - {names[i + 1]}*{names[j]}" for i, j in itertools.combinations(range(n), 2)]
+
+
+def edges_of_polygon(n):
+    """For each edge of a polygon the minor of the columns of its ends, in a matrix of two rows."""
+    ends = [(i, (i + 1) % n) for i in range(n)]
+    return [f"{letter}{i}" for letter in "xy" for i in range(n)], [f"x{i}*y{j} - x{j}*y{i}" for i, j in ends]
+
+
 PETERSEN = [(i, (i + 1) % 5) for i in range(5)] + [(i, i + 5) for i in range(5)] + [(5 + i, 5 + (i + 2) % 5) for i in range(5)]
 
 TRINKS = (
@@ -124,6 +172,19 @@ ENNEPER = ("x - 3*u - 3*u*v^2 + u^3", "y - 3*v - 3*u^2*v + v^3", "z - 3*u^2 + 3*
 
 MORA = ("x^5 - y*z^3*w", "x*y^3 - z^4", "x^4*z - y^4*w")
 
+ARM = (
+    "a^2 + b^2 - 1",
+    "c^2 + d^2 - 1",
+    "e^2 + f^2 - 1",
+    "3*a + 2*c + e - 2",
+    "3*b + 2*d + f - 3",
+    "a*c + b*d - c*e - d*f",
+)
+
+EXTREMA = ("3*x^2 + 2*y*z - 2*x*l", "2*x*z - 2*y*l", "2*x*y - 2*z - 2*z*l", "x^2 + y^2 + z^2 - 1")
+
+ROMAN = ("x - u*v", "y - u*w", "z - v*w", "u^2 + v^2 + w^2 - 1")
+
 SYSTEMS = {
     **{f"cyclic-{n}": lambda n=n: cyclic(n) for n in (4, 5, 6)},
     **{f"katsura-{n}": lambda n=n: katsura(n) for n in (4, 5, 6, 7, 8)},
@@ -145,4 +206,14 @@ SYSTEMS = {
     "adjacent minors-4": lambda: adjacent_minors(4),
     "commuting-3": lambda: commuting(3),
     "colours of Petersen": lambda: colours(PETERSEN, 10),
+    "reduced cyclic-5": lambda: reduced_cyclic(5),
+    "homogeneous cyclic-5": lambda: homogeneous_cyclic(5),
+    "reduced eco-7": lambda: reduced_economics(7),
+    "chandrasekhar-4": lambda: chandrasekhar(4),
+    "minors-3-4": lambda: minors(3, 4),
+    "rational curve-6": lambda: rational_curve(6),
+    "edges of a hexagon": lambda: edges_of_polygon(6),
+    "arm": lambda: (list("abcdef"), list(ARM)),
+    "extrema": lambda: (list("lxyz"), list(EXTREMA)),
+    "roman surface": lambda: (list("uvwxyz"), list(ROMAN)),
 }

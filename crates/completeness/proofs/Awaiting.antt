@@ -14,6 +14,7 @@ use Rattle.algebra.specs.Fraction.{Fraction, fractions, rationals}
 use Rattle.polynomials.specs.Order.{grevlex}
 use Rattle.polynomials.specs.Terms.{Terms}
 use Rattle.machines.specs.Completion as completion
+use Rattle.machines.specs.Cut.{monic}
 use Rattle.machines.specs.Division as division
 use Rattle.machines.specs.Elimination.{free_part}
 use Rattle.machines.specs.Event.{Event, Pair}
@@ -114,7 +115,7 @@ module _ (A : Setting) (rounds : ℕ) where
             is = b.is ∙ ap (λ o. next_or at o (later i.at)) i.comes;
           };
           unit = i.unit;
-          spent = i.spent;
+          exhausted = i.exhausted;
         }
     awaits_refused before after a start out_of_memory g =
         let b = awaits_work before.entries after.entries M.start g.at a g.work in
@@ -296,12 +297,12 @@ module _ (A : Setting) (rounds : ℕ) where
         }
 
         pub pair_out : (limit : ℕ) → units_of es ≡ limit → IsOutOf A rounds limit es
-        pair_out limit spent = record {
+        pair_out limit exhausted = record {
           entry = Did (Pair ab.0 ab.1);
           following = at_division divides.start;
           comes = record { state = a.state; run = a.run; is = pair_next };
           unit = refl;
-          spent = spent;
+          exhausted = exhausted;
         }
 
         pub s_polynomial_awaits : (after : List Entry) (d : division.State Fraction)
@@ -331,11 +332,10 @@ module _ (A : Setting) (rounds : ℕ) where
       tidies = machines.tidying fractions grevlex gs
 
       abbrev out_coming : List (Terms Fraction) → Step
-      out_coming hs = link_from A rounds done w told (tidying.by_lead grevlex hs) []
-          (link_dividends A w list)
+      out_coming hs = link_from A rounds done w told hs [] (link_dividends A w list)
 
       abbrev out_past : List (Terms Fraction) → Type 0
-      out_past hs = IsPastDividends grevlex (tidying.by_lead grevlex hs) (link_dividends A w list) ⊥
+      out_past hs = IsPastDividends grevlex hs (link_dividends A w list) ⊥
 
       tidying_next : (hs : List (Terms Fraction))
           → next A rounds (tidying_up done w told hs)
@@ -348,7 +348,7 @@ module _ (A : Setting) (rounds : ℕ) where
           (divide_from A rounds done w list rows []) (IsPastDivided A w list [])
 
       -- where each element is monic already
-      module _ (is : gs ≡ free_part (block A w) list) (monic : tidies.start ≡ gs) where
+      module _ (is : gs ≡ free_part (block A w) list) (ones : map (monic rationals) gs ≡ gs) where
         tidying_coming : (es : List Entry) → TidyingAwaited es → Awaits A rounds es
             (task_of_work w)
             (next_or (tidying_up done w told) (tidies.next tidies.start) (out_coming tidies.start))
@@ -358,7 +358,7 @@ module _ (A : Setting) (rounds : ℕ) where
         tidying_coming es a = subst (λ hs. Awaits A rounds es (task_of_work w)
             (next_or (tidying_up done w told) (tidies.next hs) (out_coming hs))
             (tidies.IsPastNext hs ⊎ (HasEnded tidies.next hs × out_past hs)))
-            (sym (monic ∙ is)) a
+            (sym (ap (tidying.by_lead grevlex) (ones ∙ is))) a
 
         pub out_awaits : (before after : List Entry) (hs : List (Terms Fraction))
             → TidyingAwaited before

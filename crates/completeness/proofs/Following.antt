@@ -145,7 +145,8 @@ module _ (A : Setting) (R : ℕ) (some : 0 < length A.forms) where
   Good (tidying_up done w t gs) =
       Stands done w × IsCompleted (order A w) (starting A w) t.list
       × AllDivided (order A w) t.list (list_dividends A w t.list) t.rows
-      × LeadsTo (tidying.next rationals grevlex) (free_part (block A w) t.list) gs
+      × LeadsTo (tidying.next rationals grevlex)
+      (tidying.by_lead grevlex (free_part (block A w) t.list)) gs
   Good (linking done w t out row d) =
       Stands done w × IsCompleted (order A w) (starting A w) t.list
       × AllDivided (order A w) t.list (list_dividends A w t.list) t.rows
@@ -277,8 +278,7 @@ module _ (A : Setting) (R : ℕ) (some : 0 < length A.forms) where
         (divided_more grevlex out past rows j (division.initial_state out j.1).cofactors a
         (record {
           ends = ended_at _ _ (division.initial_state out j.1) (begun_run _ _) ended;
-          is =
-              refl;
+          is = refl;
         })))
       where
         go : (o : Option (Event × division.State Fraction))
@@ -335,13 +335,14 @@ module _ (A : Setting) (R : ℕ) (some : 0 < length A.forms) where
 
     -- ---- tidying
     good_tidy : (gs : List (Terms Fraction)) → LeadsTo (tidying.next rationals grevlex)
-        (free_part (block A w) t.list) gs → StepGood (tidy_from A R d w t gs)
+        (tidying.by_lead grevlex (free_part (block A w) t.list)) gs
+        → StepGood (tidy_from A R d w t gs)
     good_tidy gs l = go (tidying.next rationals grevlex gs) refl
       where
         go : (o : Option (Event × List (Terms Fraction))) → tidying.next rationals grevlex gs ≡ o
             → StepGood (next_or (tidying_up d w t) o
-            (link_from A R d w t (tidying.by_lead grevlex gs) [] (link_dividends A w t.list)))
-        go None h = good_link (tidying.by_lead grevlex gs) (record {
+            (link_from A R d w t gs [] (link_dividends A w t.list)))
+        go None h = good_link gs (record {
           ends = ended_at _ _ (gs) (l) h;
           is = refl;
         }) (link_dividends A w t.list) [] [] refl tt
@@ -356,7 +357,7 @@ module _ (A : Setting) (R : ℕ) (some : 0 < length A.forms) where
     unfolding divide_from
     good_divide [] past rows e a = good_tidy d w (record { list = gs; rows = rows }) stands comp
         (subst (λ js. AllDivided (order A w) gs js rows) (sym (e ∙ append-nil past)) a)
-        (free_part (block A w) gs) (begun_run _ _)
+        (tidying.by_lead grevlex (free_part (block A w) gs)) (begun_run _ _)
     good_divide ((Some b, p) ∷ left) past rows e a = (
       stands,
       comp,
@@ -370,8 +371,7 @@ module _ (A : Setting) (R : ℕ) (some : 0 < length A.forms) where
         (divided_more (order A w) gs past rows (None, p) (division.initial_state gs p).cofactors a
         (record {
           ends = ended_at _ _ (division.initial_state gs p) (begun_run _ _) ended;
-          is =
-              refl;
+          is = refl;
         })))
       where
         go : (o : Option (Event × division.State Fraction)) → division.next rationals (order A w) gs

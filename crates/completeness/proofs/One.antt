@@ -73,5 +73,5 @@ module _ {At : Type 0} (program : Program (Expr At)) (k : ℕ) where
       ≡ goes out.entry out.state) same out.comes.is in
       let less = ended_has_more (moves A k) es fs fresh x.state out.comes.state out.state out.entry
       x.follows.run (ap (move_of A k) x.is) run (ap (move_of A k) is) out.unit in
-      let spent = out.spent in
-      omega (arith, less, few, spent)
+      let exhausted = out.exhausted in
+      omega (arith, less, few, exhausted)

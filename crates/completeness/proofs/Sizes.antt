@@ -12,6 +12,7 @@ use Rattle.machines.specs.Cut.{monic}
 use Rattle.machines.specs.Elimination.{free_part}
 use Rattle.machines.specs.Event.{Pair}
 use Rattle.machines.specs.Journal.{Entry, Did, units_of}
+use Rattle.machines.specs.Tidying as tidying
 use Rattle.machines.proofs.Joined.{later_finished}
 use Rattle.machines.proofs.Lengths.{made, NothingKept, kept_made, list_few}
 use Rattle.machines.proofs.Units.{units_added}
@@ -70,7 +71,8 @@ module _ (k : ℕ) (O : Rank) (hs list out : List (Terms Fraction))
       let w = o.finished.work in
       let to = listed ++ map Did w.events in
       let e = later_finished rationals O grevlex (free_part k) hs before listed to m.last m.finished
-      (map (monic rationals) gs) begins o.last (record {
+      (tidying.initial_list rationals grevlex gs) (ap (tidying.by_lead grevlex) begins) o.last
+      (record {
         work = record { events = w.events; entries = refl; run = w.run };
         ended = o.finished.ended;
       }) in

@@ -1,5 +1,5 @@
 -- A division of what has all its terms below some monomial stays below it: each product of a cofactor with its element does.
---   Stays gs e s           at a state: the rest has no coefficient from e on, and the product of each term of a cofactor with the lead of its element is below e
+--   Stays gs e s           at a state: the remainder has no coefficient from e on, and the product of each term of a cofactor with the lead of its element is below e
 --   stays_run              at each state of a division that begins so
 --   products_below         so the leads of the products are below e
 use Rattle.std.proofs.Common.{◌≡◌, ℕ, zero, suc, List, [], ◌∷◌, ◌++◌, map, length, slice_get, Option, Some, None, refl, sym, ap, ap₂, subst, ◌∙◌, ◌⊎◌, inl, inr, Ordering, Less, Equal, Greater}
@@ -21,7 +21,7 @@ use Rattle.polynomials.proofs.Lead.{below-append, below-shift}
 use Rattle.polynomials.proofs.Order.{below_others}
 use Rattle.machines.specs.Basis.{AtPlaces}
 use Rattle.machines.specs.Cut.{lead_of, Cutting, find_cut, after_cut, all_places}
-use Rattle.machines.specs.Division.{State, initial_state, rest, with_term, next_cut, next_division, next}
+use Rattle.machines.specs.Division.{State, initial_state, remainder, with_term, next_cut, next_division, next}
 use Rattle.machines.specs.Event.{Event, Cut, Zero}
 use Rattle.machines.specs.Run.{IsRun}
 use Rattle.machines.proofs.Cofactors.{get_with_term, cofactors_fall}
@@ -47,8 +47,8 @@ module _ {A : Type 0} (K : Field A) (O : Rank) (o : IsMonomialOrder O) (m : ℕ)
   IsLow p = (d : List ℕ) → (compare O d l ≡ Less → ⊥) → coefficient N p d ≡ K.zero
 
   pub record Stays (s : State A) : Type 0 where
-    pub polynomial : IsPolynomial N O m (rest s)
-    pub low : IsLow (rest s)
+    pub polynomial : IsPolynomial N O m (remainder s)
+    pub low : IsLow (remainder s)
     pub products : (k : ℕ) (q g : Terms A) → slice_get s.cofactors k ≡ Some q
         → slice_get gs k ≡ Some g → (u : List ℕ × A) → In u q → compare O (plus u.0 (lead_of g)) l
         ≡ Less

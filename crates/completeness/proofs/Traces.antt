@@ -48,7 +48,7 @@ module _ (O : Rank) (o : IsMonomialOrder O) (n : ℕ) (gs : List (Terms Fraction
     → IsMember ℚ n gs (t ∷ q) → SomeLeadDivides gs t.0)
     (p : Terms Fraction) (hp : IsPolynomial ℚ O n p) (member : IsMember ℚ n gs p)
     (qs : List (Terms Fraction)) (d : IsDivided O gs p qs) where
-  no_rest : division.rest d.ends.last ≡ []
+  no_rest : division.remainder d.ends.last ≡ []
   no_rest =
       (rest_decides ℚ_field O o n gs (λ k g at. record {
         polynomial = (h k g at).0;
@@ -57,7 +57,8 @@ module _ (O : Rank) (o : IsMonomialOrder O) (n : ℕ) (gs : List (Terms Fraction
 
   pub divided_sum : Same ℚ p (combination ℚ qs gs)
   divided_sum =
-      let whole : Same ℚ p (combination ℚ d.ends.last.cofactors gs ++ division.rest d.ends.last) =
+      let whole : Same ℚ p (combination ℚ d.ends.last.cofactors gs ++ division.remainder
+      d.ends.last) =
       division_sum ℚ_field O o n gs p d.ends.last d.ends.events h hp d.ends.run in
       subst (λ l. Same ℚ p (combination ℚ l gs)) (sym d.is)
       (subst (Same ℚ p) (append-nil (combination ℚ d.ends.last.cofactors gs))

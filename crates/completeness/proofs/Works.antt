@@ -129,7 +129,8 @@ module _ (A : Setting) where
       ended = x.completed.ends.ended;
     }
 
-    second : WorkToEnd (tidying.next rationals grevlex) (free_part (block A w) x.list)
+    second : WorkToEnd (tidying.next rationals grevlex)
+        (tidying.by_lead grevlex (free_part (block A w) x.list))
         (map Did x.completed.ends.events)
         (map Did x.completed.ends.events ++ map Did x.tidied.ends.events) x.tidied.ends.last
     second = record {
@@ -137,15 +138,19 @@ module _ (A : Setting) where
       ended = x.tidied.ends.ended;
     }
 
+    kept_is : tidying.by_lead grevlex (free_part (block A w) x.list)
+        ≡ tidying.by_lead grevlex (free_part (block A w) x.completed.ends.last.basis)
+    kept_is = ap (λ gs. tidying.by_lead grevlex (free_part (block A w) gs)) x.completed.is
+
     ending : Ending rationals (order A w) grevlex (free_part (block A w)) (starting A w) []
         (map Did x.completed.ends.events)
         (map Did x.completed.ends.events ++ map Did x.tidied.ends.events) x.completed.ends.last
-        first (free_part (block A w) x.list) (ap (free_part (block A w)) x.completed.is)
+        first (tidying.by_lead grevlex (free_part (block A w) x.list)) kept_is
         x.tidied.ends.last
     ending = later_finished rationals (order A w) grevlex (free_part (block A w)) (starting A w) []
         (map Did x.completed.ends.events)
         (map Did x.completed.ends.events ++ map Did x.tidied.ends.events) x.completed.ends.last
-        first (free_part (block A w) x.list) (ap (free_part (block A w)) x.completed.is)
+        first (tidying.by_lead grevlex (free_part (block A w) x.list)) kept_is
         x.tidied.ends.last second
 
     pub work_ends : EndsWork A w

@@ -41,7 +41,7 @@ module _ (A : Setting) (rounds : ℕ) where
     pub following : State
     pub comes : Comes es (goes entry following)
     pub unit : counts entry ≡ true
-    pub spent : units_of es ≡ limit
+    pub exhausted : units_of es ≡ limit
 
   abbrev pub Refuses : Task → Journal → Refusal → Type 0
   Refuses task after too_wide = IsStopped task after.entries

@@ -42,7 +42,7 @@ module _ {At : Type 0} (program : Program (Expr At)) (rounds : ℕ) where
     pub state : State
     pub comes : ComesNext es (goes entry state)
     pub unit : counts entry ≡ true
-    pub spent : units_of es ≡ limit
+    pub exhausted : units_of es ≡ limit
 
 -- ---- what is past
 -- of the event of a division that comes next, or, where it has ended, of what comes later
@@ -64,11 +64,12 @@ module _ (A : Setting) where
   IsPastTidying w list gs =
       machine.IsPastTidying fractions rationals gs
       ⊎ (HasEnded (tidying.next rationals grevlex) gs
-      × IsPastDividends grevlex (tidying.by_lead grevlex gs) (link_dividends A w list) ⊥)
+      × IsPastDividends grevlex gs (link_dividends A w list) ⊥)
 
   abbrev pub IsPastDivided : Work → List (Terms Fraction) → List Dividend → Type 0
   IsPastDivided w gs left =
-      IsPastDividends (order A w) gs left (IsPastTidying w gs (free_part (block A w) gs))
+      IsPastDividends (order A w) gs left (IsPastTidying w gs
+      (tidying.by_lead grevlex (free_part (block A w) gs)))
 
   abbrev pub IsPastCompleting : Work → completion.State Fraction → Type 0
   IsPastCompleting w s =

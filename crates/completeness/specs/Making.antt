@@ -20,7 +20,6 @@ use Rattle.machines.specs.Elimination.{free_part}
 use Rattle.machines.specs.Journal.{Entry, Journal}
 use Rattle.machines.specs.Machine.{Refusal, out_of_memory, Stops}
 use Rattle.machines.specs.Machines as machines
-use Rattle.machines.specs.Tidying as tidying
 use Rattle.machines.specs.Work.{WorkToEnd}
 use Rattle.rounds.specs.Analysis.{Setting, Work, block, order, starting}
 use Rattle.completeness.specs.Representation.{pairs_of}
@@ -40,7 +39,7 @@ pub record IsOutMade (gs out : List (Terms Fraction)) (before after : List Entry
   pub last : List (Terms Fraction)
   pub finished : WorkToEnd (machines.tidying fractions grevlex gs).next
       (machines.tidying fractions grevlex gs).start before after last
-  pub is : out ≡ tidying.by_lead grevlex last
+  pub is : out ≡ last
 
 module _ (k : ℕ) (hs : List (Terms Fraction)) where
   pub record IsStageMade (s : Stage) (before after : List Entry) : Type 0 where

@@ -202,13 +202,14 @@ module _ (A : Setting) (rounds : ℕ) where
   abbrev pub tidy_from : Results → Work → CompletedList → List (Terms Fraction) → Step
   tidy_from done w t gs =
       next_or (tidying_up done w t) (tidying.next rationals grevlex gs)
-      (link_from done w t (tidying.by_lead grevlex gs) [] (link_dividends A w t.list))
+      (link_from done w t gs [] (link_dividends A w t.list))
 
   -- ---- the divisions by the completed list
   unfoldable pub divide_from : Results → Work → (gs : List (Terms Fraction))
       → List (List (Terms Fraction)) → List Dividend → Step
   divide_from done w gs rows [] =
-      tidy_from done w (record { list = gs; rows = rows }) (free_part (block A w) gs)
+      tidy_from done w (record { list = gs; rows = rows })
+      (tidying.by_lead grevlex (free_part (block A w) gs))
   divide_from done w gs rows ((Some a, p) ∷ left) =
       goes (Did (Pair a.0 a.1))
       (dividing done w gs (record { rows = rows; left = left }) (division.initial_state gs p))

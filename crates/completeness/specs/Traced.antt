@@ -1,7 +1,7 @@
 -- What the tasks of a trace give: the stages of a full certificate.
 --   IsDivided O gs p qs    a division of p by gs has ended, with the cofactors qs
 --   IsCompleted O hs gs    a completion of hs has ended with the list gs
---   IsTidied gs out        a tidying of gs has ended with out
+--   IsTidied gs out        a tidying of gs, which are monic, has ended with out
 --   IsTraced k hs s        the stage s tells how k variables are eliminated from hs: the completion, the divisions of hs and of the S-polynomials of all pairs by its list, what is given, and the divisions of what is kept by that
 use Rattle.std.specs.Prelude.{◌≡◌, ℕ, ◌<◌, List, [], get_or, length}
 use Rattle.algebra.specs.Fraction.{Fraction, rationals}
@@ -26,8 +26,8 @@ pub record IsCompleted (O : Rank) (hs gs : List (Terms Fraction)) : Type 0 where
   pub is : gs ≡ ends.last.basis
 
 pub record IsTidied (gs out : List (Terms Fraction)) : Type 0 where
-  pub ends : Ends (tidying.next rationals grevlex) gs
-  pub is : out ≡ tidying.by_lead grevlex ends.last
+  pub ends : Ends (tidying.next rationals grevlex) (tidying.by_lead grevlex gs)
+  pub is : out ≡ ends.last
 
 pub record IsTraced (k : ℕ) (hs : List (Terms Fraction)) (s : Stage) : Type 0 where
   pub list : IsCompleted (block_order k) hs s.list

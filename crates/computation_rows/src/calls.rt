@@ -44,7 +44,7 @@ fn division<K: Number, O: Order>(
     let list = divisors_of(alloc, order, names, list)?;
     let answer = divide(alloc, &p, &list, meter)?;
     let cofactors = text_of_list(alloc, &answer.cofactors, names)?;
-    let rest = text_of_poly(alloc, &answer.rest, names)?;
+    let rest = text_of_poly(alloc, &answer.remainder, names)?;
     Ok(format!(in alloc; "{cofactors} rest {rest}")?)
 }
 

@@ -7,7 +7,7 @@ use Rattle.polynomials.specs.Terms.{Terms}
 use Rattle.machines.specs.Event.{Event, is_unit}
 use Rattle.machines.specs.Journal.{Entry, Did, units_of}
 use Rattle.machines.specs.Run.{IsRun}
-use Rattle.machines.specs.Work.{WorkToEnd, IsSpent}
+use Rattle.machines.specs.Work.{WorkToEnd, IsExhausted}
 use Rattle.machines.proofs.Runs.{ended_unique}
 use Rattle.loops.specs.Program.{Expr, Program}
 use Rattle.rounds.specs.Analysis.{fresh, Step, finished, move_of, moves, next}
@@ -16,7 +16,7 @@ use Rattle.rounds.specs.Journal.{setting_of, IsFinished}
 use Rattle.rounds.proofs.Forms as forms
 use Rattle.rounds.proofs.Forms.{forms_are_one}
 use Rattle.rounds.proofs.Prefixes.{begins_ended, units-append, units-cons}
-use Rattle.corollaries.specs.Journal.{elimination_from, IsBehind, IsEnded, IsOut, IsSpentBehind}
+use Rattle.corollaries.specs.Journal.{elimination_from, IsBehind, IsEnded, IsOut, IsExhaustedBehind}
 
 map-append : (xs ys : List Event) → map Did (xs ++ ys) ≡ map Did xs ++ map Did ys
 map-append [] ys = refl
@@ -29,7 +29,7 @@ event_or e (Some x) = x.0
 -- a run that has ended has more units than a beginning behind which a unit comes next
 module _ {S : Type 0} (step : S → Option (Event × S)) (s : S) (before after other : List Entry)
     (last : S) (limit : ℕ) (done : WorkToEnd step s before after last)
-    (out : IsSpent step s limit before other) where
+    (out : IsExhausted step s limit before other) where
   pub more_units : limit < units_of after
   unfolding IsRun event_or
   more_units =
@@ -52,7 +52,7 @@ module _ {S : Type 0} (step : S → Option (Event × S)) (s : S) (before after o
           let e = units-cons (Did f) (map Did rest) (ap is_unit same ∙ out.unit) in
           let i = ap units_of out.work.entries in
           let j = units-append before (map Did out.work.events) in
-          let k = out.spent in
+          let k = out.exhausted in
           omega (arith, a, b, c, d, e, i, j, k)
 
 step_or : List (Terms Fraction) → Step → List (Terms Fraction)
@@ -90,15 +90,15 @@ module _ {At : Type 0} (program : Program (Expr At)) (is : List ℕ) (es fs : Li
       forms.enough_budget program None done.analysed fs done.rounds n done.basis done.finished
       (omega (arith, few, a, c)) out
 
-  in_elimination : IsBehind program is (λ gs ks. IsSpentBehind m is n gs fs ks) → ⊥
+  in_elimination : IsBehind program is (λ gs ks. IsExhaustedBehind m is n gs fs ks) → ⊥
   in_elimination out =
       let one = one_analysis program out.analysed done.analysed out.rounds done.rounds out.basis
       done.basis out.finished done.finished in
-      let at = subst (λ gs. IsSpentBehind m is n gs fs out.basis) one.0 out.behind in
-      let spent = subst (λ ks. IsSpentBehind m is n done.analysed fs ks) one.1 at in
+      let at = subst (λ gs. IsExhaustedBehind m is n gs fs out.basis) one.0 out.behind in
+      let exhausted = subst (λ ks. IsExhaustedBehind m is n done.analysed fs ks) one.1 at in
       let less = more_units (elimination_from m is done.basis).next
       (elimination_from m is done.basis).start done.analysed es fs done.behind.last n
-      done.behind.finished spent in
+      done.behind.finished exhausted in
       omega (arith, less, few)
 
   pub enough_budget : IsOut program is n fs → ⊥

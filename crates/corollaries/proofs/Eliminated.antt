@@ -68,5 +68,6 @@ module _ (k m : ℕ) (hs : List (Terms Fraction)) (arities : AllArity (k + m) hs
       (sym p.is)
       (eliminated ℚ_field k m grevlex grevlex grevlex_order grevlex_order hs arities p.last p.events
       p.run p.ended p.list p.more
-      (subst (λ l. IsRun (tidying.next rationals grevlex) l p.more p.list) (sym e) p.tidies)
+      (subst (λ l. IsRun (tidying.next rationals grevlex) (tidying.by_lead grevlex l) p.more p.list)
+      (sym e) p.tidies)
       p.tidy)

@@ -3,7 +3,7 @@
 --   led_reduced               what an elimination has ended with is a reduced basis
 --   led_generates             it generates the polynomials that are zero behind the code
 --   led_one                   and is the only one, with one list of entries
---   spent_led, past_led       where it is out of units, or past, it has begun
+--   exhausted_led, past_led       where it is out of units, or past, it has begun
 use Rattle.std.proofs.Common.{◌⊎◌, inl, inr, ◌≡◌, ◌↔◌, ℕ, ◌+◌, List, [], ◌∷◌, ◌++◌, map, length, sym, ap, subst, ◌∙◌}
 use Rattle.algebra.specs.Fraction.{Fraction, ℚ, rationals}
 use Rattle.algebra.proofs.Fractions.{ℚ_field, ℚ_ring}
@@ -33,7 +33,7 @@ use Rattle.rounds.specs.Orbit.{IsEliminated}
 use Rattle.rounds.specs.Results.{IsReducedList}
 use Rattle.rounds.proofs.Invariants.{reduced_for}
 use Rattle.corollaries.proofs.Eliminated.{eliminated_basis}
-use Rattle.corollaries.specs.Between.{between, list_of, Leads, IsLed, IsSpentLeading, IsPastLeading, HasLed}
+use Rattle.corollaries.specs.Between.{between, list_of, Leads, IsLed, IsExhaustedLeading, IsPastLeading, HasLed}
 use Rattle.loops.specs.Chain.{Chain, stages_of, state_behind, ChainRun, ChainInv}
 use Rattle.corollaries.specs.CodeBetween.{copies, code_list, LeadsOn}
 use Rattle.corollaries.proofs.CodeBetween.{code_leads_on, hs_arity}
@@ -178,10 +178,10 @@ led_one program (x ∷ code) gs es fs ks hs a b = leads_one program (x ∷ code)
 -- ---- what has begun
 module _ {At : Type 0} (program : Program (Expr At)) (gs : List (Terms Fraction)) (es : List Entry)
   where
-    pub spent_led : (code : List (Statement (Expr At))) (n : ℕ)
-        → IsSpentLeading program code gs n es → HasLed program code gs es
-    spent_led [] n h = absurd h
-    spent_led (a ∷ code) n h = record { at = h.at; work = h.work }
+    pub exhausted_led : (code : List (Statement (Expr At))) (n : ℕ)
+        → IsExhaustedLeading program code gs n es → HasLed program code gs es
+    exhausted_led [] n h = absurd h
+    exhausted_led (a ∷ code) n h = record { at = h.at; work = h.work }
 
     pub past_led : (code : List (Statement (Expr At))) → IsPastLeading program code gs es
         → (es ≡ []) ⊎ HasLed program code gs es

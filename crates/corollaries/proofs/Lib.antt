@@ -9,7 +9,7 @@ pub mod Ideal
 pub mod Led
 pub mod Kept
 pub mod Analysed
-pub mod Spent
+pub mod Exhausted
 pub mod Graph
 pub mod CodeBetween
 pub mod Horner

@@ -7,7 +7,7 @@
 --   between program code gs       the elimination, as a machine, with the making of that list;  list_of m code s: its list in the state s
 --   Leads program code gs es ks   the entries es are those of the elimination from the basis gs, which has ended with the list ks
 --   IsLed program code gs es ks   where there is code this is so; without code there are no entries, and ks is gs
---   IsSpentLeading program code gs limit es   there is code, the entries es are a beginning of that, have as many units as the limit, and what comes next is a unit
+--   IsExhaustedLeading program code gs limit es   there is code, the entries es are a beginning of that, have as many units as the limit, and what comes next is a unit
 --   IsPastLeading program code gs es      there is code, and the weight of making its list is past; or the es are a beginning of that, and the weight of what comes next is
 --   HasLed program code gs es     the es are a beginning of that, or none
 use Rattle.std.specs.Prelude.{◌≡◌, ◌⊎◌, ◌+◌, ℕ, List, [], ◌∷◌, map, get_or, length}
@@ -22,7 +22,7 @@ use Rattle.machines.specs.Elimination.{free_part}
 use Rattle.machines.specs.Journal.{Entry}
 use Rattle.machines.specs.Machine.{Machine}
 use Rattle.machines.specs.Machines as machines
-use Rattle.machines.specs.Work.{WorkFrom, WorkToEnd, IsSpent, PastAfter}
+use Rattle.machines.specs.Work.{WorkFrom, WorkToEnd, IsExhausted, PastAfter}
 use Rattle.loops.specs.Map.{branch_map}
 use Rattle.loops.specs.Program.{Expr, Program, Statement}
 use Rattle.corollaries.specs.CodeBetween.{variable_of, assigned_variables, copies, was, of_what_was, code_list}
@@ -79,11 +79,12 @@ module _ {At : Type 0} (program : Program (Expr At)) where
   IsLed [] gs es ks = (es ≡ []) × (ks ≡ gs)
   IsLed (a ∷ code) gs es ks = Leads program (a ∷ code) gs es ks
 
-  abbrev pub IsSpentLeading : List (Statement (Expr At)) → List (Terms Fraction) → ℕ → List Entry
+  abbrev pub IsExhaustedLeading : List (Statement (Expr At)) → List (Terms Fraction) → ℕ
+      → List Entry
       → Type 0
-  IsSpentLeading [] gs limit es = ⊥
-  IsSpentLeading (a ∷ code) gs limit es =
-      let M = between program (a ∷ code) gs in IsSpent M.next M.start limit [] es
+  IsExhaustedLeading [] gs limit es = ⊥
+  IsExhaustedLeading (a ∷ code) gs limit es =
+      let M = between program (a ∷ code) gs in IsExhausted M.next M.start limit [] es
 
   abbrev pub IsPastLeading : List (Statement (Expr At)) → List (Terms Fraction) → List Entry
       → Type 0

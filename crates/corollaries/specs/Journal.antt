@@ -18,7 +18,7 @@ use Rattle.machines.specs.Elimination as elimination
 use Rattle.machines.specs.Elimination.{free_part}
 use Rattle.machines.specs.Machine.{Machine}
 use Rattle.machines.specs.Machines as machines
-use Rattle.machines.specs.Work.{WorkFrom, WorkToEnd, IsSpent, PastAfter}
+use Rattle.machines.specs.Work.{WorkFrom, WorkToEnd, IsExhausted, PastAfter}
 use Rattle.loops.specs.Program.{Expr, Program}
 use Rattle.rounds.specs.Analysis as analysis
 use Rattle.rounds.specs.Journal as analysis_journal
@@ -57,9 +57,9 @@ module _ (m : ℕ) (is : List ℕ) where
       (elimination_from gs).start fs es
       ⊎ ((es ≡ fs) × (elimination_from gs).IsPastStart)
 
-  abbrev pub IsSpentBehind : ℕ → (fs es : List Entry) (gs : List (Terms Fraction)) → Type 0
-  IsSpentBehind limit fs es gs =
-      IsSpent (elimination_from gs).next (elimination_from gs).start limit fs es
+  abbrev pub IsExhaustedBehind : ℕ → (fs es : List Entry) (gs : List (Terms Fraction)) → Type 0
+  IsExhaustedBehind limit fs es gs =
+      IsExhausted (elimination_from gs).next (elimination_from gs).start limit fs es
 
   abbrev pub HasWorkedBehind : (fs es : List Entry) (gs : List (Terms Fraction)) → Type 0
   HasWorkedBehind fs es gs = WorkFrom (elimination_from gs).next (elimination_from gs).start fs es
@@ -78,7 +78,7 @@ module _ {At : Type 0} (program : Program (Expr At)) (is : List ℕ) where
   abbrev pub IsOut : ℕ → List Entry → Type 0
   IsOut limit es =
       analysis_journal.IsOut program None limit es
-      ⊎ IsBehind (λ fs gs. IsSpentBehind (length program.names) is limit fs es gs)
+      ⊎ IsBehind (λ fs gs. IsExhaustedBehind (length program.names) is limit fs es gs)
 
   abbrev pub IsStopped : List Entry → Type 0
   IsStopped es = IsBehind (λ fs gs. IsPastBehind (length program.names) is fs es gs)

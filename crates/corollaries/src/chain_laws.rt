@@ -13,7 +13,7 @@ ghost use Rattle.rounds.specs.Generate.{Generates};
 ghost use Rattle.rounds.specs.Journal.{IsOutFrom};
 ghost use Rattle.rounds.specs.Kept.{IsKept};
 ghost use Rattle.rounds.specs.Orbit.{IsEliminated};
-ghost use Rattle.corollaries.specs.Between.{Leads, IsLed, IsSpentLeading};
+ghost use Rattle.corollaries.specs.Between.{Leads, IsLed, IsExhaustedLeading};
 ghost use Rattle.loops.specs.Chain.{Chain, Stage, stages_of, loop_of, loop_at, code_at, followed_by, up_to, count_codes, chain_states, ChainRun, ChainInv, IsChain};
 ghost use Rattle.corollaries.specs.CodeBetween.{copies, code_list, LeadsOn};
 ghost use Rattle.corollaries.specs.Analysed.{Analysed, GivenTo, IsBasisOfChain};
@@ -55,8 +55,8 @@ pub fn chains_end_with_the_basis<At>()
         → Analysed c budget j gs → IsBasisOfChain (up_to j c) hs → gs ≡ hs }
 {}
 
-/// No budget is spent where each loop of the chain has a finished journal within it, with that of the code before it.
-pub fn no_budget_is_spent_where_each_loop_keeps_within_it<At>()
+/// No budget is exhausted where each loop of the chain has a finished journal within it, with that of the code before it.
+pub fn no_budget_is_exhausted_where_each_loop_keeps_within_it<At>()
     ensures loops { (c : Chain (Expr At)) → IsChain c → (budget n : ℕ) (gs : List (Terms Fraction))
         → Analysed c budget n gs
         → (j left : ℕ) (given : Option (List (Terms Fraction))) → j ≤ n
@@ -65,7 +65,7 @@ pub fn no_budget_is_spent_where_each_loop_keeps_within_it<At>()
     ensures code { (c : Chain (Expr At)) → IsChain c → (budget n : ℕ) (gs : List (Terms Fraction))
         → Analysed c budget n gs
         → (j : ℕ) (hs : List (Terms Fraction)) → suc j ≤ n → Analysed c budget j hs
-        → (es : List Entry) → IsSpentLeading c.first (code_at c (suc j)) hs budget es → ⊥ }
+        → (es : List Entry) → IsExhaustedLeading c.first (code_at c (suc j)) hs budget es → ⊥ }
 {}
 
 /// The invariants of a chain are an ideal, and one is none of them.

@@ -29,7 +29,7 @@ use Rattle.completeness.specs.Stage.{block_order}
 use Rattle.poly.specs.Seen.{terms_in, terms_each}
 use Rattle.divide.specs.Current.{AreDivisors}
 use Rattle.complete.specs.Completing.{completion_of, HasElements, IsBasis}
-use Rattle.reduced_basis.specs.Tidying.{tidying_of, HasSorted}
+use Rattle.reduced_basis.specs.Tidying.{tidying_of, HasTidied}
 use Rattle.task_lists.proofs.Monic.{monic_some}
 use Rattle.task_lists.proofs.Places.{pairs_within}
 use Rattle.task_lists.specs.Blocks.{Blocked, in_blocks}
@@ -86,13 +86,13 @@ pairs_inside n ab is = subst (All (λ (a : ℕ × ℕ). (a.0 < n) × (a.1 < n)))
 
 -- ---- the tidying
 module _ (m : ℕ) (o : Grevlex) (fs : List FracPoly) (v : Vec FracPoly) (old mid : Journal)
-    (r : Ran (tidying_of o fs) (HasSorted o m) old mid (done v)) (gs : List (Terms Fraction))
+    (r : Ran (tidying_of o fs) (HasTidied o m) old mid (done v)) (gs : List (Terms Fraction))
     (is : terms_each fs ≡ gs) where
   pub out_made : IsOutMade gs (terms_each v.items) old.entries mid.entries
   out_made = subst (λ hs. IsOutMade hs (terms_each v.items) old.entries mid.entries) is (record {
     last = r.to.last;
     finished = r.to.finished;
-    is = r.to.gives.sorted;
+    is = r.to.gives.list;
   })
 
 -- ---- refusals behind the completion
@@ -163,7 +163,7 @@ module _ (k m : ℕ) (begin : List Blocked) (v : Vec Blocked) (old mid : Journal
           Stops (machines.tidying fractions grevlex gs) paired after r) fs_is x))
 
       module _ (w : Vec FracPoly) (tidied : Journal)
-          (t : Ran (tidying_of o fs) (HasSorted o m) paired tidied (done w)) where
+          (t : Ran (tidying_of o fs) (HasTidied o m) paired tidied (done w)) where
         pub out_few : length (terms_each begin) ≤ 2 ^ 30 → units_of tidied.entries ≤ 2 ^ 28
             → (os : List FracPoly) → os ≡ w.items → length os ≤ 2 ^ 31
         out_few short units os same =
@@ -215,7 +215,7 @@ module _ (m : ℕ) (o : Grevlex) (starts : List FracPoly) (v : Vec FracPoly) (ol
   })
 
   module _ (w : Vec FracPoly) (tidied : Journal)
-      (t : Ran (tidying_of o ds) (HasSorted o m) mid tidied (done w)) where
+      (t : Ran (tidying_of o ds) (HasTidied o m) mid tidied (done w)) where
     start_out : IsOutMade (terms_each v.items) (terms_each w.items) mid.entries tidied.entries
     start_out = out_made m o ds w mid tidied t (terms_each v.items) (ap terms_each ds_is)
 

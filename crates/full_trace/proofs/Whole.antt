@@ -138,7 +138,7 @@ module _ (program : Program (Expr ℕ)) (w : IsWellFormed program) (s : Setting)
       is = h.comes.is;
     };
     unit = h.unit;
-    spent = h.spent;
+    exhausted = h.exhausted;
   }
   stopped_here after error.Memory h = going_here after.entries h
 

@@ -36,9 +36,9 @@ use std::alloc::Global;
 /// The trace of so many rounds of a loop, from its setting: the lists of the analysis of so many rounds, with the
 /// cofactors that show them. No map and no branch is refused.
 ///
-/// The entries that it makes are those of the trace of the loop (docs/DEFINITIONS.md, section 18), up to the
+/// The entries that it makes are those of the trace of the loop (docs/DEFINITIONS.md, section 20), up to the
 /// end or to the refusal. `Wide` only where the weight of making the starting list, or of the next event, of its
-/// task is past; `Budget` only where the units are spent and the next entry is one.
+/// task is past; `Budget` only where the units are exhausted and the next entry is one.
 pub fn trace(
     alloc: Global,
     setting: Setting,

@@ -46,7 +46,7 @@ fn pair_polynomial<O: Order>(
 }
 
 /// Divides the S-polynomial of two elements of a list by it, behind the entry of their pair, and gives the
-/// cofactors. `Budget` only where the units are spent and the next event is one; `Wide` only where the
+/// cofactors. `Budget` only where the units are exhausted and the next event is one; `Wide` only where the
 /// weight of the S-polynomial or of the next cancellation is past.
 fn divide_pair<O: Order>(
     alloc: Global,
@@ -78,7 +78,7 @@ fn divide_pair<O: Order>(
 }
 
 /// Divides the S-polynomials of these pairs of places of a list by it, each behind the entry of its pair, and
-/// gives the cofactors, a row for each. `Budget` only where the units are spent and the next event is one;
+/// gives the cofactors, a row for each. `Budget` only where the units are exhausted and the next event is one;
 /// `Wide` only where the weight of an S-polynomial or of the next cancellation is past.
 pub(crate) fn divide_pairs<O: Order>(
     alloc: Global,

@@ -17,7 +17,7 @@ use poly::Poly;
 use std::alloc::Global;
 
 /// Divides each of these polynomials by a list, and gives the cofactors, a row for each.
-/// `Budget` only where the units are spent and the next event is one; `Wide` only where the weight
+/// `Budget` only where the units are exhausted and the next event is one; `Wide` only where the weight
 /// of the next cancellation is past.
 pub(crate) fn divide_each<O: Order>(
     alloc: Global,

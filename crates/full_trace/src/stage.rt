@@ -23,7 +23,7 @@ use task_lists::{FullStage, all_pairs, free_elements};
 
 /// Eliminates the `front` first variables from a list, and gives all cofactors: the list is completed, and
 /// divided by what that gives, as are the S-polynomials of all its pairs; what has none of these variables is
-/// tidied, and divided by what that gives. `Budget` only where the units are spent and the next event is one;
+/// tidied, and divided by what that gives. `Budget` only where the units are exhausted and the next event is one;
 /// `Wide` only where the weight of making an element monic, of an S-polynomial, or of the next event, is past.
 pub(crate) fn stage(
     alloc: Global,

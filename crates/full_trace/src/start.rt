@@ -28,7 +28,7 @@ use std::alloc::Global;
 use task_lists::FullStart;
 
 /// Completes a list and tidies all that this gives, and divides the list by it. `Budget` only where the units
-/// are spent and the next event is one; `Wide` only where the weight of making an element monic, or of the
+/// are exhausted and the next event is one; `Wide` only where the weight of making an element monic, or of the
 /// next event, is past.
 fn start_lists(
     alloc: Global,

@@ -24,7 +24,7 @@ module _ {A : Type 0} (K : Field A) (O : Rank) (o : IsMonomialOrder O) (m : ℕ)
     (es : List Event)
     (run : IsRun (division.next (calculus K) O gs) (division.initial_state gs p) es s)
     (ended : HasEnded (division.next (calculus K) O gs) s) where
-  pub member_decided : IsMember (operations K.ring) m gs p ↔ (division.rest s ≡ [])
+  pub member_decided : IsMember (operations K.ring) m gs p ↔ (division.remainder s ≡ [])
   member_decided = rest_decides K O o m gs (λ k g at. record {
     polynomial = (el k g at).0;
     nonzero = (el k g at).1;
@@ -34,24 +34,25 @@ module _ {A : Type 0} (K : Field A) (O : Rank) (o : IsMonomialOrder O) (m : ℕ)
 module _ {A : Type 0} (F : FieldArithmetic A) (O : Rank) (gs : List (Terms A)) where
   put_away : (c : Option (Terms A)) (qs : List (Terms A)) → division.next_division F O gs c qs
       ≡ None
-      → division.rest_of c ≡ [] → c ≡ None
+      → division.remainder_of c ≡ [] → c ≡ None
   unfolding division.next_division division.next_cut find_cut
   put_away None qs n e = refl
   put_away (Some []) qs n e = absurd (let z : ⊥ = cc in z)
   put_away (Some (t ∷ p)) qs n e = absurd (let z : ⊥ = cc in z)
 
-  nothing_left : (s : division.State A) → HasEnded (division.next F O gs) s → division.rest s ≡ []
+  nothing_left : (s : division.State A) → HasEnded (division.next F O gs) s
+      → division.remainder s ≡ []
       → s.current ≡ None
   unfolding division.next
   nothing_left s n e = put_away s.current s.cofactors n e
 
   pub decided_by : (b : Bool) (s : division.State A) (q : Terms A)
-      → HasEnded (division.next F O gs) s → q ≡ division.rest s → (IsTrue b ↔ (q ≡ []))
+      → HasEnded (division.next F O gs) s → q ≡ division.remainder s → (IsTrue b ↔ (q ≡ []))
       → b ≡ not (is_some s.current)
   decided_by true s q n e h = sym (ap (λ c. not (is_some c)) (nothing_left s n (sym e ∙ h.0 refl)))
   decided_by false s q n e h = go s.current refl
     where
       go : (c : Option (Terms A)) → s.current ≡ c → false ≡ not (is_some s.current)
       go (Some p) i = sym (ap (λ c. not (is_some c)) i)
-      go None i = absurd (let f : false ≡ true = h.1 (e ∙ ap division.rest_of i) in let z : ⊥ =
+      go None i = absurd (let f : false ≡ true = h.1 (e ∙ ap division.remainder_of i) in let z : ⊥ =
           cc in z)

@@ -15,7 +15,7 @@ use ring_laws::Field;
 use std::alloc::Global;
 
 /// Whether a polynomial is in the ideal of a Gröbner basis, whose elements needn't be monic: whether its rest by the list is 0 (Cox, Little, O'Shea, "Ideals, Varieties, and Algorithms", chapter 2).
-/// `Budget` only where the units are spent and the next event is one; `Wide` only where the weight of the next cancellation is past.
+/// `Budget` only where the units are exhausted and the next event is one; `Wide` only where the weight of the next cancellation is past.
 pub fn contains<K: Field, O: Order>(
     alloc: Global,
     list: &[Poly<K, O>],
@@ -30,5 +30,5 @@ pub fn contains<K: Field, O: Order>(
     ensures member { IfOk result (λ b. IsTrue b ↔ IsInIdeal p.now.arity list.now p.now) }
 {
     let division = divide(alloc, p, list, meter)?;
-    Ok(division.rest.is_zero())
+    Ok(division.remainder.is_zero())
 }

@@ -19,7 +19,7 @@ use ring_laws::{Field, Ring};
 use std::alloc::{AllocError, Global};
 
 /// The reduced basis of the sum of two ideals, each of which is given by a list that generates it: their elements together are completed, then tidied (Cox, Little, O'Shea, "Ideals, Varieties, and Algorithms", chapter 4).
-/// `Budget` only where the units are spent and the next event is one; `Wide` only where the weight of making an element monic, or of the next event, is past.
+/// `Budget` only where the units are exhausted and the next event is one; `Wide` only where the weight of making an element monic, or of the next event, is past.
 pub fn sum<K: Field>(
     alloc: Global,
     a: &[Poly<K, Grevlex>],
@@ -37,7 +37,7 @@ pub fn sum<K: Field>(
 }
 
 /// The reduced basis of the intersection of two ideals, each of which is given by a list that generates it: t times the one list and 1 - t times the other are completed, and what has no t is tidied (Cox, Little, O'Shea, "Ideals, Varieties, and Algorithms", chapter 4).
-/// `Budget` only where the units are spent and the next event is one; `Wide` only where the weight of making an element monic, or of the next event, is past.
+/// `Budget` only where the units are exhausted and the next event is one; `Wide` only where the weight of making an element monic, or of the next event, is past.
 pub fn meet<K: Field>(
     alloc: Global,
     a: &[Poly<K, Grevlex>],
@@ -57,7 +57,7 @@ pub fn meet<K: Field>(
 }
 
 /// The reduced basis of what has none of the variables of the first block in the ideal of a list, in the other variables: the list is completed, and what has none of these variables is tidied (Cox, Little, O'Shea, "Ideals, Varieties, and Algorithms", chapter 3).
-/// `Budget` only where the units are spent and the next event is one; `Wide` only where the weight of making an element monic, or of the next event, is past.
+/// `Budget` only where the units are exhausted and the next event is one; `Wide` only where the weight of making an element monic, or of the next event, is past.
 pub fn eliminate<K: Field>(
     alloc: Global,
     gens: &[Poly<K, Blocks>],

@@ -21,7 +21,7 @@ use Rattle.machines.specs.Journal as journal
 use Rattle.machines.specs.Journal.{Begin, Entry, Journal}
 use Rattle.machines.specs.Machine.{Outcome, done, stopped, too_wide, out_of_units, out_of_memory, Stops, RanToEnd, Ran}
 use Rattle.machines.specs.Past.{IsPastDivision}
-use Rattle.machines.specs.Work.{WorkFrom, WorkToEnd, IsSpent, PastAfter}
+use Rattle.machines.specs.Work.{WorkFrom, WorkToEnd, IsExhausted, PastAfter}
 use Rattle.machines.proofs.ReducedLists.{division_decides}
 use Rattle.loops.specs.Inv.{Inv}
 use Rattle.loops.specs.Program.{Expr, Program}
@@ -117,7 +117,7 @@ module _ (p : FracPoly) (gs list : List FracPoly) (is : list ≡ gs) (old mid ne
 
     pub asked_out : e ≡ engine_error.Budget → IsAskingOutOfUnits (terms_each gs) (terms_in p) old
         new
-    asked_out w = asked_so (λ hs es. IsSpent (division.next rationals grevlex hs)
+    asked_out w = asked_so (λ hs es. IsExhausted (division.next rationals grevlex hs)
         (division.initial_state hs (terms_in p)) new.limit es new.entries)
         (refused engine_error.Budget w)
 
@@ -134,13 +134,13 @@ module _ (p : FracPoly) (gs list : List FracPoly) (is : list ≡ gs) (old mid ne
       (division.initial_state (terms_each l) (terms_in p)) mid.entries new.entries i.last) is
       i.finished)
 
-  gone : terms_in d.rest ≡ [] → i.last.current ≡ None
-  gone r = nothing_left (terms_each gs) i.last division_done.ended (sym i.gives.rest ∙ r)
+  gone : terms_in d.remainder ≡ [] → i.last.current ≡ None
+  gone r = nothing_left (terms_each gs) i.last division_done.ended (sym i.gives.remainder ∙ r)
 
-  left : terms_in d.rest ≢ [] → (q : Terms Fraction) × (i.last.current ≡ Some q)
-  left r = something_left i.last (λ z. r (i.gives.rest ∙ z))
+  left : terms_in d.remainder ≢ [] → (q : Terms Fraction) × (i.last.current ≡ Some q)
+  left r = something_left i.last (λ z. r (i.gives.remainder ∙ z))
 
-  pub says_yes : terms_in d.rest ≡ [] → (qs : Vec FracPoly Global) → qs ≡ d.cofactors
+  pub says_yes : terms_in d.remainder ≡ [] → (qs : Vec FracPoly Global) → qs ≡ d.cofactors
       → Answers (terms_each gs) (terms_in p) old new (Yes qs)
   says_yes r qs e = record {
     last = i.last;
@@ -148,7 +148,7 @@ module _ (p : FracPoly) (gs list : List FracPoly) (is : list ≡ gs) (old mid ne
     tells = (gone r, ap (λ (v : Vec FracPoly Global). terms_each v.items) e ∙ i.gives.cofactors);
   }
 
-  pub says_no : terms_in d.rest ≢ [] → Answers (terms_each gs) (terms_in p) old new No
+  pub says_no : terms_in d.remainder ≢ [] → Answers (terms_each gs) (terms_in p) old new No
   says_no r = let (q, e) = left r in record {
     last = i.last;
     finished = division_done;
@@ -159,9 +159,9 @@ module _ (p : FracPoly) (gs list : List FracPoly) (is : list ≡ gs) (old mid ne
   cofactors_over qs e = subst (λ (v : Vec FracPoly Global). AreOver p.arity v.items) (sym e)
       (λ k l x. (i.gives.like k l x).1)
 
-  pub yes_member : terms_in d.rest ≡ [] → (qs : Vec FracPoly Global) → qs ≡ d.cofactors
+  pub yes_member : terms_in d.remainder ≡ [] → (qs : Vec FracPoly Global) → qs ≡ d.cofactors
       → Same ℚ (terms_in p) (combination ℚ (terms_each d.cofactors.items) (terms_each list)
-      ++ terms_in d.rest)
+      ++ terms_in d.remainder)
       → (⊤ ↔ IsMember ℚ p.arity (terms_each gs) (terms_in p))
   yes_member r qs e s = (
     (λ t. record {
@@ -176,7 +176,7 @@ module _ (p : FracPoly) (gs list : List FracPoly) (is : list ≡ gs) (old mid ne
     (λ m. tt),
   )
 
-  pub no_member : terms_in d.rest ≢ [] → AreOver p.arity gs
+  pub no_member : terms_in d.remainder ≢ [] → AreOver p.arity gs
       → ∥ IsReducedList (arity_of gs) (terms_each gs) ∥₁
       → (⊥ ↔ IsMember ℚ p.arity (terms_each gs) (terms_in p))
   no_member r a t = (
@@ -195,7 +195,7 @@ module _ (p : FracPoly) (gs list : List FracPoly) (is : list ≡ gs) (old mid ne
     answered = asking_answered program (terms_in p) k (terms_each gs) old.entries new.entries done
         i.last division_done
 
-    pub yes_answered : terms_in d.rest ≡ [] → (qs : Vec FracPoly Global) → qs ≡ d.cofactors
+    pub yes_answered : terms_in d.remainder ≡ [] → (qs : Vec FracPoly Global) → qs ≡ d.cofactors
         → HasAnswered program (terms_in p) k (terms_each gs) new.entries (Yes qs)
     yes_answered r qs e = record {
       last = i.last;
@@ -203,7 +203,7 @@ module _ (p : FracPoly) (gs list : List FracPoly) (is : list ≡ gs) (old mid ne
       tells = (gone r, ap (λ (v : Vec FracPoly Global). terms_each v.items) e ∙ i.gives.cofactors);
     }
 
-    pub no_answered : terms_in d.rest ≢ [] → HasAnswered program (terms_in p) k (terms_each gs)
+    pub no_answered : terms_in d.remainder ≢ [] → HasAnswered program (terms_in p) k (terms_each gs)
         new.entries No
     no_answered r = let (q, e) = left r in record {
       last = i.last;
@@ -217,10 +217,10 @@ module _ (p : FracPoly) (gs list : List FracPoly) (is : list ≡ gs) (old mid ne
           (graded_polynomial (length program.names) p over) new.entries k (terms_each gs) i.last
           answered
 
-      pub yes_invariant : terms_in d.rest ≡ [] → (⊤ ↔ Inv program (terms_in p))
+      pub yes_invariant : terms_in d.remainder ≡ [] → (⊤ ↔ Inv program (terms_in p))
       yes_invariant r = ((λ t. decides.0 (gone r)), (λ v. tt))
 
-      pub no_invariant : terms_in d.rest ≢ [] → (⊥ ↔ Inv program (terms_in p))
+      pub no_invariant : terms_in d.remainder ≢ [] → (⊥ ↔ Inv program (terms_in p))
       no_invariant r = (
         (λ z. absurd z),
         (λ v. (let (q, e) = left r in let none = decides.1 v in let z : ⊥ = cc (none, e) in z)),

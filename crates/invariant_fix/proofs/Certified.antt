@@ -90,8 +90,9 @@ module _ (program : Program (Expr ℕ)) (w : IsWellFormed program)
         let a = (invariant_at i li).arity in
         let sum = division_sum ℚ_field grevlex grevlex_order m gs (pullback A b g) c.last
         c.leads.events places (turned_polynomial program given forms None b g lb) c.leads.run in
-        let rest : division.rest c.last ≡ [] = ap division.rest_of c.gone in
-        let is : combination ℚ c.last.cofactors gs ++ division.rest c.last ≡ combination ℚ qs gs =
+        let rest : division.remainder c.last ≡ [] = ap division.remainder_of c.gone in
+        let is : combination ℚ c.last.cofactors gs ++ division.remainder c.last ≡ combination ℚ qs
+        gs =
         ap (λ r. combination ℚ c.last.cofactors gs ++ r) rest
         ∙ append-nil (combination ℚ c.last.cofactors gs)
         ∙ ap (λ l. combination ℚ l gs) (sym c.cofactors) in

@@ -315,7 +315,7 @@ module _ (program : Program (Expr ℕ)) (w : IsWellFormed program) (s : Setting)
       is = follow_next h.comes.state (analysis.goes h.entry h.following) h.comes.is;
     };
     unit = h.unit;
-    spent = h.spent;
+    exhausted = h.exhausted;
   }
   is_stopped after error.Memory h =
       inr (record { state = h.state; follows = follows after.entries h.state h.run })

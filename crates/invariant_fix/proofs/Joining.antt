@@ -1,7 +1,7 @@
 -- The elimination behind a finished journal of the loop.
 --   ended_with_nothing     where the basis is empty
 --   followed               the journal of an analysis is a beginning
---   ended_by, wide_by, spent_by, worked_by     what the elimination has done
+--   ended_by, wide_by, exhausted_by, worked_by     what the elimination has done
 --   moved_so, stopped_so     what it did, told with as many variables as the loop, and from the list that is borrowed; stopped_so: where it was refused
 use Rattle.std.proofs.Common.{◌≡◌, inl, inr, ℕ, List, [], length, refl, sym, ap, subst, Vec, Global}
 use Rattle.machines.specs.Completion as completion
@@ -28,7 +28,7 @@ nothing_comes : (m : ℕ) (is : List ℕ)
     → HasEnded (elimination_from m is []).next (elimination_from m is []).start
 unfolding elimination.next completion.next completion.next_completion completion.next_pair
     completion.with_elements skip_covered starting tidying.next tidying.next_drop tidying.drop_from
-    tidying.next_tail tidying.tail_from free_part
+    tidying.next_tail tidying.tail_from tidying.by_lead free_part
 nothing_comes m is = refl
 
 nothing_is : (m : ℕ) (is : List ℕ) → [] ≡ list_of m is (elimination_from m is []).start
@@ -86,8 +86,8 @@ module _ (program : Program (Expr ℕ)) (is : List ℕ) where
       ];
     }
 
-    pub spent_by : Did (stopped out_of_units) → IsOut program is after.limit after.entries
-    spent_by r = inr (record {
+    pub exhausted_by : Did (stopped out_of_units) → IsOut program is after.limit after.entries
+    exhausted_by r = inr (record {
       analysed = before.entries;
       rounds = k;
       basis = terms_each gs;

@@ -189,7 +189,7 @@ nothing_comes : (k : ℕ) → HasEnded (elimination.next rationals (blocks k gre
 unfolding elimination.next completion.next completion.next_completion completion.next_pair
     completion.with_elements skip_covered tidying.next tidying.next_drop tidying.drop_from
     tidying.next_tail
-    tidying.tail_from free_part
+    tidying.tail_from tidying.by_lead free_part
 nothing_comes k = refl
 
 nothing_is : (k : ℕ) → [] ≡ elimination.list_of grevlex (free_part k)

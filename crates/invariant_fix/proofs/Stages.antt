@@ -3,15 +3,15 @@
 --   first_unformed, then_unformed   a refusal of the code's map, and one of the loop's maps and branches behind it;  no_memory: want of memory before there is an entry
 --   both_free                       where there is none
 --   led_has, led_refused            where the elimination of the code has ended
---   led_wide, led_spent, led_wanting     where it hasn't
---   stage_has, stage_refused, stage_wide, stage_spent, stage_wanting     the same of code that has a statement
+--   led_wide, led_exhausted, led_wanting     where it hasn't
+--   stage_has, stage_refused, stage_wide, stage_exhausted, stage_wanting     the same of code that has a statement
 use Rattle.std.proofs.Common.{◌≡◌, ◌≢◌, inl, inr, ℕ, zero, suc, ◌+◌, ◌≤◌, List, [], ◌∷◌, length, refl, sym, ap, subst, ◌∙◌, arith, Some, None, Vec, Global}
 use Rattle.std.proofs.lemmas.List.Elements.{All-append}
 use Rattle.algebra.specs.Fraction.{Fraction}
 use Rattle.polynomials.specs.Terms.{Terms}
 use Rattle.machines.specs.Journal.{Journal, units_of}
 use Rattle.machines.specs.Machine.{Outcome, Ran, done, stopped, too_wide, out_of_units, out_of_memory}
-use Rattle.machines.specs.Work.{WorkFrom, WorkToEnd, IsSpent, PastAfter}
+use Rattle.machines.specs.Work.{WorkFrom, WorkToEnd, IsExhausted, PastAfter}
 use Rattle.loops.specs.Program.{Expr, Program, Statement}
 use Rattle.poly.specs.Seen.{terms_each}
 use Rattle.loop_model.specs.FracPoly.{FracPoly}
@@ -228,15 +228,15 @@ module _ (p : Program (Expr ℕ)) (a : Statement (Expr ℕ)) (cs : List (Stateme
     ),
   )
 
-  pub led_spent : (m : Journal) → Formed m → Leading m (stopped out_of_units)
+  pub led_exhausted : (m : Journal) → Formed m → Leading m (stopped out_of_units)
       → IsRefusedStage p (a ∷ cs) bs xs budget m (loop_error.Analysis error.Budget)
-  led_spent m formed r =
+  led_exhausted m formed r =
       let M = between p (a ∷ cs) (terms_each xs) in (
         formed,
         inr (
           r.limit ∙ limit_is,
-          subst (λ n. IsSpent M.next M.start n [] m.entries)
-              (r.limit ∙ limit_is) (subst (λ es. IsSpent M.next M.start m.limit es m.entries)
+          subst (λ n. IsExhausted M.next M.start n [] m.entries)
+              (r.limit ∙ limit_is) (subst (λ es. IsExhausted M.next M.start m.limit es m.entries)
               none_yet r.to),
         ),
       )
@@ -271,13 +271,13 @@ module _ (p : Program (Expr ℕ)) (bs : List (List (Statement (Expr ℕ)))) (xs 
       → IsRefusedStage p code bs xs budget m loop_error.Between)
       (λ a cs f r. led_wide p a cs bs xs budget start begun m f r)
 
-  pub stage_spent : (m : Journal) (code : List (Statement (Expr ℕ))) → code ≢ []
+  pub stage_exhausted : (m : Journal) (code : List (Statement (Expr ℕ))) → code ≢ []
       → IsFormedStage p code bs xs budget m → CodeRuns code m (stopped out_of_units)
       → IsRefusedStage p code bs xs budget m (loop_error.Analysis error.Budget)
-  stage_spent m = some_code (λ code. IsFormedStage p code bs xs budget m
+  stage_exhausted m = some_code (λ code. IsFormedStage p code bs xs budget m
       → CodeRuns code m (stopped out_of_units)
       → IsRefusedStage p code bs xs budget m (loop_error.Analysis error.Budget))
-      (λ a cs f r. led_spent p a cs bs xs budget start begun m f r)
+      (λ a cs f r. led_exhausted p a cs bs xs budget start begun m f r)
 
   pub stage_wanting : (m : Journal) (code : List (Statement (Expr ℕ))) → code ≢ []
       → CodeRuns code m (stopped out_of_memory)

@@ -140,23 +140,24 @@ module _ (s : Setting) (k place i : ℕ) (gs : List FracPoly) (branch : Branch) 
             let b = units_begun old mid (journal.Closed k n j) begun in
             omega (arith, a, b)
 
-        pub step_open : terms_in d.rest ≢ [] → Comes (setting_of s) new.entries (turning (suc k) gs)
+        pub step_open : terms_in d.remainder ≢ []
+            → Comes (setting_of s) new.entries (turning (suc k) gs)
         step_open e =
-            let (q, f) = something_left t.last (λ z. e (t.gives.rest ∙ z)) in
+            let (q, f) = something_left t.last (λ z. e (t.gives.remainder ∙ z)) in
             test_failed (setting_of s) k place i (terms_each gs) (pullback_by branch element)
             element_at old
             mid new c begun_test t.last t.finished q f
 
-        gone : terms_in d.rest ≡ [] → t.last.current ≡ None
-        gone e = nothing_left (terms_each gs) t.last t.finished.ended (sym t.gives.rest ∙ e)
+        gone : terms_in d.remainder ≡ [] → t.last.current ≡ None
+        gone e = nothing_left (terms_each gs) t.last t.finished.ended (sym t.gives.remainder ∙ e)
 
-        pub step_next : terms_in d.rest ≡ []
+        pub step_next : terms_in d.remainder ≡ []
             → Comes (setting_of s) new.entries (closing s k place (suc i) gs)
         step_next e = test_passed (setting_of s) k place i (terms_each gs)
             (pullback_by branch element)
             element_at old mid new c begun_test t.last t.finished (gone e)
 
-        pub step_done : terms_in d.rest ≡ [] → (qs : Vec FracPoly Global) → qs ≡ d.cofactors
+        pub step_done : terms_in d.remainder ≡ [] → (qs : Vec FracPoly Global) → qs ≡ d.cofactors
             → IsClosing (setting_of s) place i (terms_each gs) (terms_each qs.items)
         step_done e qs is = record {
           last = t.last;

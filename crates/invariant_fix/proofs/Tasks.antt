@@ -16,7 +16,7 @@ use Rattle.machines.specs.Journal.{Begin, Did, Journal}
 use Rattle.machines.specs.Machine.{done, stopped, too_wide, Stops, Ran}
 use Rattle.machines.specs.Past as machine
 use Rattle.machines.specs.Run.{IsRun}
-use Rattle.machines.specs.Work.{Work as Done, IsSpent}
+use Rattle.machines.specs.Work.{Work as Done, IsExhausted}
 use Rattle.machines.proofs.Runs.{run_joined, run_then}
 use Rattle.poly.specs.Seen.{terms_each}
 use Rattle.loop_model.specs.FracPoly.{FracPoly}
@@ -125,7 +125,7 @@ module _ (A : Setting) (w : Work) where
               past = inl (past p);
             })
 
-        task_out : IsSpent step first new.limit mid.entries new.entries
+        task_out : IsExhausted step first new.limit mid.entries new.entries
             → IsOut A new.limit new.entries
         task_out h = record {
           entry = Did h.event;
@@ -137,7 +137,7 @@ module _ (A : Setting) (w : Work) where
                 ∙ ap (next_work A w h.at) h.comes;
           };
           unit = h.unit;
-          spent = h.spent;
+          exhausted = h.exhausted;
         }
 
         refused : (e : engine.EngineError) → Stops (with_past_start (elimination_of way_of) P) mid

@@ -18,7 +18,7 @@ use Rattle.machines.specs.Journal.{Begin, Did, Journal}
 use Rattle.machines.specs.Machine.{stopped, too_wide, Stops, Ran}
 use Rattle.machines.specs.Machines as machines
 use Rattle.machines.specs.Run.{IsRun, HasEnded}
-use Rattle.machines.specs.Work.{Work as Done, WorkToEnd, IsSpent}
+use Rattle.machines.specs.Work.{Work as Done, WorkToEnd, IsExhausted}
 use Rattle.machines.proofs.Runs.{run_joined}
 use Rattle.rounds.specs.Analysis.{Setting, State, fresh, closing, turning, goes, finished, pullback, after_closing, test, closing_from, after_test, closed_by, next, move_of, moves}
 use Rattle.divide.specs.Outcomes.{refusal_of}
@@ -34,22 +34,23 @@ use Rattle.invariant_fix.proofs.Tasks.{begun_task}
 
 -- ---- what is left
 pub nothing_left : (gs : List (Terms Fraction)) (s : division.State Fraction)
-    → HasEnded (division.next rationals grevlex gs) s → division.rest s ≡ [] → s.current ≡ None
+    → HasEnded (division.next rationals grevlex gs) s → division.remainder s ≡ [] → s.current ≡ None
 unfolding division.next division.next_division division.next_cut find_cut
 nothing_left gs s h e = go s.current h e
   where
     go : (o : Option (Terms Fraction)) → division.next_division rationals grevlex gs o s.cofactors
         ≡ None
-        → division.rest_of o ≡ [] → o ≡ None
+        → division.remainder_of o ≡ [] → o ≡ None
     go None h e = refl
     go (Some []) h e = absurd (let z : ⊥ = cc in z)
     go (Some (t ∷ p)) h e = absurd (let z : ⊥ = cc in z)
 
-pub something_left : (s : division.State Fraction) → division.rest s ≢ [] → (p : Terms Fraction)
+pub something_left : (s : division.State Fraction) → division.remainder s ≢ []
+    → (p : Terms Fraction)
     × (s.current ≡ Some p)
 something_left s n = go s.current n
   where
-    go : (o : Option (Terms Fraction)) → division.rest_of o ≢ [] → (p : Terms Fraction)
+    go : (o : Option (Terms Fraction)) → division.remainder_of o ≢ [] → (p : Terms Fraction)
         × (o ≡ Some p)
     go None n = absurd (n refl)
     go (Some p) n = (p, refl)
@@ -136,7 +137,7 @@ module _ (A : Setting) (k b i : ℕ) (gs : List (Terms Fraction)) where
       test_wide (inr (n, x)) = subst (λ (j : Journal). IsStopped A (view.task_of task) j.entries)
           (sym n) (record { state = start; run = here; is_task = sym named; past = inl (past x) })
 
-      test_out : IsSpent (division.next rationals grevlex gs) (division.initial_state gs p)
+      test_out : IsExhausted (division.next rationals grevlex gs) (division.initial_state gs p)
           new.limit
           mid.entries new.entries → IsOut A new.limit new.entries
       test_out s = record {
@@ -149,7 +150,7 @@ module _ (A : Setting) (k b i : ℕ) (gs : List (Terms Fraction)) where
               ∙ ap (closed_by A k b i gs s.at) s.comes;
         };
         unit = s.unit;
-        spent = s.spent;
+        exhausted = s.exhausted;
       }
 
       pub test_refused : {R : Type 0} {G : R → division.State Fraction → Type 0}

@@ -24,7 +24,7 @@ use Rattle.loop_model.specs.Operations.{Operation, IsFree}
 use Rattle.ideal_ops.specs.Calls.{AreOver}
 use Rattle.journal.specs.View as view
 use Rattle.rounds.specs.Journal.{IsFinishedBy, IsOutFrom}
-use Rattle.corollaries.specs.Between.{IsSpentLeading, IsPastLeading, HasLed}
+use Rattle.corollaries.specs.Between.{IsExhaustedLeading, IsPastLeading, HasLed}
 use Rattle.loops.specs.Chain.{Chain, code_at, loop_at}
 use Rattle.corollaries.specs.Analysed.{Analysed, GivenTo}
 use Rattle.corollaries.specs.CodeBetween.{copies}
@@ -85,7 +85,7 @@ module _ (c : Chain (Expr ℕ)) where
     IsRefusedAt (Analysis error.Budget) =
         IsFormed j
         × (InLoop (λ left given. IsOutFrom (loop_at c j) given None left m.entries)
-        ⊎ InCode (λ gs. IsSpentLeading c.first (code_at c j) gs budget m.entries))
+        ⊎ InCode (λ gs. IsExhaustedLeading c.first (code_at c j) gs budget m.entries))
     IsRefusedAt (Analysis error.Memory) = HasWorked
     IsRefusedAt Between =
         IsFormed j × InCode (λ gs. IsPastLeading c.first (code_at c j) gs m.entries)

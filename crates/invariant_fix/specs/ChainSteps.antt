@@ -14,7 +14,7 @@ use Rattle.loop_model.specs.Operations.{Operation, IsFree}
 use Rattle.ideal_ops.specs.Calls.{AreOver}
 use Rattle.journal.specs.View as view
 use Rattle.rounds.specs.Journal.{IsFinishedBy, IsFinishedFrom, IsOutFrom}
-use Rattle.corollaries.specs.Between.{IsLed, IsSpentLeading, IsPastLeading, HasLed}
+use Rattle.corollaries.specs.Between.{IsLed, IsExhaustedLeading, IsPastLeading, HasLed}
 use Rattle.loops.specs.Chain.{loop_of}
 use Rattle.corollaries.specs.CodeBetween.{copies}
 use Rattle.loop_model.specs.Maps.{maps_operations}
@@ -76,7 +76,7 @@ module _ (program : Program (Expr ℕ)) (code : List (Statement (Expr ℕ)))
   IsRefusedStage (Analysis error.Budget) =
       IsFormedStage
       × (LedFrom (λ left list. IsOutFrom (loop_of program bs) (Some list) None left m.entries)
-      ⊎ ((m.limit ≡ budget) × IsSpentLeading program code (terms_each before) budget m.entries))
+      ⊎ ((m.limit ≡ budget) × IsExhaustedLeading program code (terms_each before) budget m.entries))
   IsRefusedStage (Analysis error.Memory) = HasWorkedStage
   IsRefusedStage Between =
       IsFormedStage

@@ -34,7 +34,7 @@ module _ (A : Setting) where
     pub following : State
     pub comes : Comes es (goes entry following)
     pub unit : counts entry ≡ true
-    pub spent : units_of es ≡ limit
+    pub exhausted : units_of es ≡ limit
 
   abbrev pub Refuses : Journal → AnalyseError → Type 0
   Refuses after (Map e) = ⊥

@@ -17,7 +17,7 @@ use Rattle.machines.specs.Event.{Event}
 use Rattle.machines.specs.Journal as journal
 use Rattle.machines.specs.Journal.{Entry, Journal}
 use Rattle.machines.specs.Past.{IsPastDivision}
-use Rattle.machines.specs.Work.{WorkFrom, WorkToEnd, IsSpent, PastAfter}
+use Rattle.machines.specs.Work.{WorkFrom, WorkToEnd, IsExhausted, PastAfter}
 use Rattle.loops.specs.Program.{Expr, Program}
 use Rattle.rounds.specs.Journal.{IsAnswered}
 use Rattle.poly.specs.Seen.{terms_each}
@@ -59,7 +59,7 @@ module _ (gs : List (Terms Fraction)) (p : Terms Fraction) where
 
   abbrev pub IsAskingOutOfUnits : Journal → Journal → Type 0
   IsAskingOutOfUnits before after =
-      IsSpent step first after.limit (asks before.entries) after.entries
+      IsExhausted step first after.limit (asks before.entries) after.entries
 
 abbrev pub HasCofactorsOver : ℕ → Membership → Type 0
 HasCofactorsOver m (Yes qs) = AreOver m qs.items

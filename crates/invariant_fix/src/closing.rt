@@ -165,10 +165,10 @@ fn closing_division(
 /// The cofactors of a division. None exactly where its rest isn't 0.
 pub(crate) fn cofactors_of(division: Division<Frac, Grevlex>) -> Option<Vec<Poly<Frac, Grevlex>>>
     ensures some { IfSome result (λ qs.
-        (terms_in division.rest ≡ []) × (qs ≡ division.cofactors)) }
-    ensures none { IsNone result ↔ (terms_in division.rest ≢ []) }
+        (terms_in division.remainder ≡ []) × (qs ≡ division.cofactors)) }
+    ensures none { IsNone result ↔ (terms_in division.remainder ≢ []) }
 {
-    if division.rest.is_zero() {
+    if division.remainder.is_zero() {
         Some(division.cofactors)
     } else {
         None

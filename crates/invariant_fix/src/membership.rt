@@ -28,7 +28,7 @@ pub enum Membership {
 }
 
 /// Whether a polynomial, over the variables of the loop that was analysed, is an invariant: whether its rest by the basis is 0.
-/// `Budget` only where the units are spent and the next event is one; `Wide` only where the weight of the next cancellation is past.
+/// `Budget` only where the units are exhausted and the next event is one; `Wide` only where the weight of the next cancellation is past.
 pub fn member(
     alloc: Global,
     analysis: &Analysis,

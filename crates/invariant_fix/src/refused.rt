@@ -4,7 +4,7 @@ use crate::AnalyseError;
 /// Why a loop has no basis.
 #[derive(Drop)]
 pub enum LoopError {
-    /// A refusal of the maps, of a branch, or of the analysis; or the units are spent, in the analysis or in the elimination of the code before the loop.
+    /// A refusal of the maps, of a branch, or of the analysis; or the units are exhausted, in the analysis or in the elimination of the code before the loop.
     Analysis(AnalyseError),
     /// The weight of making the list of the code before the loop, or of the next event of its elimination, is past.
     Between,

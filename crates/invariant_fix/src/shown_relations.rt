@@ -33,7 +33,7 @@ use std::alloc::Global;
 /// The reduced basis of the polynomials over the variables at the positions shown, in declared order, that are zero at the end of every run: the analysis of the loop, and
 /// then the elimination of the other variables from its basis (Cox, Little, O'Shea, "Ideals, Varieties, and Algorithms", chapter 3).
 ///
-/// `Wide` only where the analysis has ended and the weight of making the list that the elimination begins with, or of its next event, is past; `Budget` only where the units are spent and the next entry is one.
+/// `Wide` only where the analysis has ended and the weight of making the list that the elimination begins with, or of its next event, is past; `Budget` only where the units are exhausted and the next entry is one.
 pub fn relations(
     alloc: Global,
     lp: &Loop,

@@ -25,8 +25,8 @@ module _ (S : Scalars) (r : IsRing S.arithmetic) (f : IsFieldOf S.arithmetic S.i
 
   pub reduced_of : (hs gs us : List (Terms S.Elem)) (before after : List Entry)
       → AtPlaces (IsPolynomial S.arithmetic O m) hs → IsBasisOf (field S) O m gs hs
-      → WorkToEnd (next (field S) O) gs before after us
-      → IsReducedBasis (field S) O m (by_lead O us) (IsMember S.arithmetic m hs)
+      → WorkToEnd (next (field S) O) (by_lead O gs) before after us
+      → IsReducedBasis (field S) O m us (IsMember S.arithmetic m hs)
   reduced_of hs gs us before after ph b fin =
-      reduced_basis K O o m hs ph (by_lead O us) (tidied K O o m hs gs ph b us fin.work.events
+      reduced_basis K O o m hs ph us (tidied K O o m hs gs ph b us fin.work.events
       fin.work.run fin.ended) (IsMember S.arithmetic m hs) (λ p hp. ((λ i. i), (λ i. i)))

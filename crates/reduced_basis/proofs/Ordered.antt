@@ -2,7 +2,8 @@
 --   put_here, put_next, put_none     where an element is put, by the first of the list
 --   put_at, put_last     what is seen of a list with an element put in at a place, and behind the last
 --   put_all, all_put, none_put, last_put     all elements of a list put into another, the last first
-use Rattle.std.proofs.Common.{◌≡◌, ℕ, ◌≤◌, List, [], ◌∷◌, ◌++◌, map, take, drop, length, refl, sym, ap, ap₂, ◌∙◌, arith, Ordering, Less, Equal, Greater}
+--   length-sorted        a list in order has as many elements
+use Rattle.std.proofs.Common.{◌≡◌, ℕ, ◌≤◌, suc, List, [], ◌∷◌, ◌++◌, map, take, drop, length, refl, sym, ap, ap₂, ◌∙◌, arith, Ordering, Less, Equal, Greater}
 use Rattle.std.specs.List.{insert}
 use Rattle.std.proofs.lemmas.List.{map-append, take_all, drop_all}
 use Rattle.polynomials.specs.Order.{Rank, compare}
@@ -76,3 +77,21 @@ pub last_put : {A : Type 0} (O : Rank) (gs hs : List (Terms A)) (g : Terms A)
 unfolding put_all
 last_put O [] hs g = refl
 last_put O (x ∷ gs) hs g = ap (put_by_lead O x) (last_put O gs hs g)
+
+length-put : {A : Type 0} (O : Rank) (g : Terms A) (gs : List (Terms A))
+    → length (put_by_lead O g gs) ≡ suc (length gs)
+unfolding put_by_lead ahead
+length-put O g [] = refl
+length-put O g (h ∷ gs) = go (compare O (lead_of g) (lead_of h)) (length-put O g gs)
+  where
+    go : (o : Ordering) → length (put_by_lead O g gs) ≡ suc (length gs)
+        → length (ahead O o g h gs (put_by_lead O g gs)) ≡ suc (suc (length gs))
+    go Less ih = refl
+    go Equal ih = ap suc ih
+    go Greater ih = ap suc ih
+
+pub length-sorted : {A : Type 0} (O : Rank) (gs : List (Terms A)) → length (by_lead O gs)
+    ≡ length gs
+unfolding by_lead
+length-sorted O [] = refl
+length-sorted O (g ∷ gs) = length-put O g (by_lead O gs) ∙ ap suc (length-sorted O gs)

@@ -1,9 +1,10 @@
 -- Tidyings as the program makes them.
---   start_of gs                       the list that a tidying of the gs begins at: each made monic
+--   monic_each gs                     the gs, each made monic
+--   start_of o gs                     the list that a tidying of the gs begins with: that in ascending order of leads
 --   elements_of s                     the elements of a tidying on its way
 --   FitsTidying o m s                        they have the order o and m variables and are not 0, the leads are theirs, and what comes next is found from the places on
 --   tidying_of o gs                   the tidying of the gs, as a machine
---   HasSorted o m gs hs               the gs are the elements of hs in ascending order of leads, of the order o and m variables, and not 0
+--   HasTidied o m gs hs               the gs are the list hs, of the order o and m variables, and not 0
 --   IsReducedOf o m gs hs             where the gs, made monic, are a Gröbner basis of an ideal, hs is its reduced basis
 -- Of the next event:
 --   IsNext s t before after b         b is whether an event comes next: it leads from s to t; else both states and both journals are the same
@@ -36,8 +37,11 @@ use Rattle.divide.specs.Limits.{list_limit}
 
 module _ {K O : Type 0} {g : Ring.Ghosts K} {h : PartialEq.Ghosts K} {k : Order.Ghosts O}
     {l : PartialEq.Ghosts O} where
-  abbrev pub start_of : List (Poly K O g h k l) → List (Terms g.scalars.Elem)
-  start_of gs = map (monic (field g.scalars)) (terms_each gs)
+  abbrev pub monic_each : List (Poly K O g h k l) → List (Terms g.scalars.Elem)
+  monic_each gs = map (monic (field g.scalars)) (terms_each gs)
+
+  abbrev pub start_of : O → List (Poly K O g h k l) → List (Terms g.scalars.Elem)
+  start_of o gs = tidying.initial_list (field g.scalars) (k.order o) (terms_each gs)
 
   abbrev pub elements_of : Tidying K O g h k l → List (Terms g.scalars.Elem)
   elements_of s = terms_each s.list.items
@@ -58,15 +62,15 @@ module _ {K O : Type 0} {g : Ring.Ghosts K} {h : PartialEq.Ghosts K} {k : Order.
   abbrev pub tidying_of : O → List (Poly K O g h k l) → Machine (List (Terms g.scalars.Elem))
   tidying_of o gs = machines.tidying g.scalars (k.order o) (terms_each gs)
 
-  pub record HasSorted (o : O) (m : ℕ) (gs : Vec (Poly K O g h k l))
+  pub record HasTidied (o : O) (m : ℕ) (gs : Vec (Poly K O g h k l))
       (hs : List (Terms g.scalars.Elem)) : Type 0 where
-    pub sorted : terms_each gs.items ≡ tidying.by_lead (k.order o) hs
+    pub list : terms_each gs.items ≡ hs
     pub elements : AreDivisors o m gs.items
 
   abbrev pub IsReducedOf : O → ℕ → List (Poly K O g h k l) → List (Poly K O g h k l) → Type 0
   IsReducedOf o m gs hs = (is : List (Terms g.scalars.Elem))
       → AtPlaces (IsPolynomial g.scalars.arithmetic (k.order o) m) is
-      → IsBasisOf (field g.scalars) (k.order o) m (start_of gs) is
+      → IsBasisOf (field g.scalars) (k.order o) m (monic_each gs) is
       → IsReducedBasis (field g.scalars) (k.order o) m (terms_each hs)
       (IsMember g.scalars.arithmetic m is)
 

@@ -16,7 +16,7 @@ use ring_laws::Field;
 use std::alloc::Global;
 
 /// The reduced basis of the ideal of a list of polynomials of this order and arity: the list is completed, then tidied, in one journal.
-/// `Budget` only where the units are spent and the next event is one; `Wide` only where the weight of making an element monic, or of the next event, is past.
+/// `Budget` only where the units are exhausted and the next event is one; `Wide` only where the weight of making an element monic, or of the next event, is past.
 pub fn reduced_basis_in<K: Field, O: Order>(
     alloc: Global,
     order: O,

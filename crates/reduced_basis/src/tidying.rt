@@ -7,7 +7,7 @@ ghost use Rattle.poly.specs.Seen.{terms_each};
 ghost use Rattle.divide.specs.Current.{AreDivisors};
 ghost use Rattle.divide.specs.Outcomes.{outcome_of};
 ghost use Rattle.divide.specs.Limits.{list_limit};
-ghost use Rattle.reduced_basis.specs.Tidying.{start_of, elements_of, FitsTidying, tidying_of, HasSorted, IsReducedOf, IsNext, IsPastNext, IsStopped};
+ghost use Rattle.reduced_basis.specs.Tidying.{monic_each, start_of, elements_of, FitsTidying, tidying_of, HasTidied, IsReducedOf, IsNext, IsPastNext, IsStopped};
 
 use crate::leads::first_redundant;
 use crate::sorting::by_lead;
@@ -32,8 +32,8 @@ struct Tidying<K: Ring, O: Order> {
     clean: usize,
 }
 
-/// Tidies a list of polynomials of this order and arity, none of which is 0, each made monic first: elements whose leads others' leads divide are taken out, then terms behind leads are cancelled, and the rest is sorted by leads. Of a Gröbner basis this is the reduced one (Cox, Little, O'Shea, "Ideals, Varieties, and Algorithms", chapter 2, section 7).
-/// `Budget` only where the units are spent and the next event is one; `Wide` only where the weight of making an element monic, or of the next event, is past.
+/// Tidies a list of polynomials of this order and arity, none of which is 0. Each is made monic, and the list is put in ascending order of leads, so that tails are cancelled from the least lead up, by elements whose own are done; then elements whose leads others' leads divide are taken out, and terms behind leads are cancelled. Of a Gröbner basis this is the reduced one (Cox, Little, O'Shea, "Ideals, Varieties, and Algorithms", chapter 2, section 7).
+/// `Budget` only where the units are exhausted and the next event is one; `Wide` only where the weight of making an element monic, or of the next event, is past.
 pub fn tidy_in<K: Field, O: Order>(
     alloc: Global,
     order: O,
@@ -43,17 +43,16 @@ pub fn tidy_in<K: Field, O: Order>(
 ) -> Result<Vec<Poly<K, O>>, EngineError>
     requires divisors { AreDivisors order arity list.now }
     requires few { length list.now ≤ list_limit }
-    ensures ran { Ran (tidying_of order list.now) (HasSorted order arity)
+    ensures ran { Ran (tidying_of order list.now) (HasTidied order arity)
         meter.old meter.new (outcome_of result) }
     ensures reduced { IfOk result (λ gs. IsReducedOf order arity list.now gs.items) }
 {
     let mut state = first_state(alloc, order, arity, list)?;
     while step(alloc, &mut state, meter)? {}
-    let sorted = by_lead(alloc, order, arity, state.list)?;
-    Ok(sorted)
+    Ok(state.list)
 }
 
-/// The first state of a tidying: each element made monic.
+/// The first state of a tidying: each element made monic, in ascending order of leads.
 fn first_state<K: Field, O: Order>(
     alloc: Global,
     order: O,
@@ -62,12 +61,13 @@ fn first_state<K: Field, O: Order>(
 ) -> Result<Tidying<K, O>, ArithmeticError>
     requires divisors { AreDivisors order arity list.now }
     requires few { length list.now ≤ list_limit }
-    ensures ok { IfOk result (λ s. elements_of s ≡ start_of list.now) }
+    ensures ok { IfOk result (λ s. elements_of s ≡ start_of order list.now) }
     ensures fits { IfOk result (FitsTidying order arity) }
     ensures wide { IsErrOf result ArithmeticError.Wide
         → IsPastStart K.scalars (field K.scalars) (terms_each list.now) }
 {
-    let list = all_monic(alloc, order, arity, list)?;
+    let monic = all_monic(alloc, order, arity, list)?;
+    let list = by_lead(alloc, order, arity, monic)?;
     let leads = leads_of(alloc, &list)?;
     Ok(Tidying {
         order,
@@ -87,7 +87,7 @@ fn all_monic<K: Field, O: Order>(
     list: &[Poly<K, O>],
 ) -> Result<Vec<Poly<K, O>>, ArithmeticError>
     requires divisors { AreDivisors order arity list.now }
-    ensures monic { IfOk result (λ gs. terms_each gs.items ≡ start_of list.now) }
+    ensures monic { IfOk result (λ gs. terms_each gs.items ≡ monic_each list.now) }
     ensures divisors { IfOk result (λ gs. AreDivisors order arity gs.items) }
     ensures wide { IsErrOf result ArithmeticError.Wide
         → IsPastStart K.scalars (field K.scalars) (terms_each list.now) }

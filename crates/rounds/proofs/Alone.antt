@@ -14,7 +14,7 @@ use Rattle.algebra.specs.Fraction.{Fraction, ℚ}
 use Rattle.algebra.proofs.Fractions.{ℚ_ring, ℚ_field}
 use Rattle.polynomials.specs.Terms.{Terms, coefficient, sum_of_products}
 use Rattle.polynomials.specs.Polynomial.{AllArity}
-use Rattle.solvable_maps.specs.Chain.{Reaches, reach}
+use Rattle.solvable_maps.specs.Dependency.{Reaches, reach}
 use Rattle.solvable_maps.specs.Class.{InClass, IsClassOf}
 use Rattle.solvable_maps.specs.Uses.{poly_at, uses, IsMap, unit}
 use Rattle.solvable_maps.proofs.Classes.{same_ascending}

@@ -28,7 +28,7 @@ use Rattle.rounds.specs.Form.{Form, IsClosedForm}
 use Rattle.rounds.specs.Journal.{AreForms, setting_from, ComesFrom, IsOutFrom}
 use Rattle.machines.specs.Run.{IsRun}
 use Rattle.rounds.specs.Analysis.{move_of, moves, fresh, next, goes, finished}
-use Rattle.rounds.proofs.Prefixes.{spent_is_more}
+use Rattle.rounds.proofs.Prefixes.{exhausted_is_more}
 
 sizes_among : (us vs : List Fraction) → ((x : Fraction) → In x us → In x vs) → (n : ℕ)
     → In n (sizes_of us) → In n (sizes_of vs)
@@ -193,7 +193,8 @@ enough_budget program given es fs k n gs done few out =
     out.comes.state) same out.comes.follows.run in
     let next_is = subst (λ l. next (setting_from program given l None) out.comes.state
     ≡ goes out.entry out.state) same out.comes.is in
-    let less = spent_is_more A es fs done.state out.comes.state out.state out.entry done.follows.run
+    let less = exhausted_is_more A es fs done.state out.comes.state out.state out.entry
+    done.follows.run
     (ap (move_of A) done.is) run (ap (move_of A) next_is) out.unit in
-    let spent = out.spent in
-    omega (arith, less, few, spent)
+    let exhausted = out.exhausted in
+    omega (arith, less, few, exhausted)

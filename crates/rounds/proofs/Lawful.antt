@@ -77,9 +77,9 @@ nothing-front p = retold_itself p
 -- ---- tidying what was kept
 module _ (m : ℕ) (hs gs list : List (Terms Fraction)) (ph : AtPlaces (IsPolynomial ℚ grevlex m) hs)
     (b : IsBasisOf rationals grevlex m hs hs)
-    (es : List Event) (c : IsRun (tidying.next rationals grevlex) hs es list)
-    (e : HasEnded (tidying.next rationals grevlex) list) (is : gs ≡ tidying.by_lead grevlex
-    list) where
+    (es : List Event) (c : IsRun (tidying.next rationals grevlex) (tidying.by_lead grevlex hs) es
+    list)
+    (e : HasEnded (tidying.next rationals grevlex) list) (is : gs ≡ list) where
   places_arity : AllArity m hs
   places_arity = at_each (Arity m) hs (λ k g at. (ph k g at).arity)
 
@@ -103,9 +103,9 @@ module _ (m : ℕ) (hs gs list : List (Terms Fraction)) (ph : AtPlaces (IsPolyno
 module _ (k m : ℕ) (hs basis gs list : List (Terms Fraction))
     (ph : AtPlaces (IsPolynomial ℚ (blocks k grevlex grevlex) (k + m)) hs)
     (b : IsBasisOf rationals (blocks k grevlex grevlex) (k + m) basis hs)
-    (es : List Event) (c : IsRun (tidying.next rationals grevlex) (free_part k basis) es list)
-    (e : HasEnded (tidying.next rationals grevlex) list) (is : gs ≡ tidying.by_lead grevlex
-    list) where
+    (es : List Event) (c : IsRun (tidying.next rationals grevlex)
+    (tidying.by_lead grevlex (free_part k basis)) es list)
+    (e : HasEnded (tidying.next rationals grevlex) list) (is : gs ≡ list) where
   kb : IsBasisOf rationals grevlex m (free_part k basis) (free_part k basis)
   kb = kept_basis ℚ_field k m grevlex grevlex grevlex_order grevlex_order basis hs ph b
 
@@ -143,9 +143,9 @@ module _ (k m : ℕ) (hs basis gs list : List (Terms Fraction))
 -- ---- the first work, which eliminates nothing
 module _ (m : ℕ) (hs basis gs list : List (Terms Fraction)) (ha : AllArity m hs)
     (ph : AtPlaces (IsPolynomial ℚ grevlex m) hs) (b : IsBasisOf rationals grevlex m basis hs)
-    (es : List Event) (c : IsRun (tidying.next rationals grevlex) (free_part 0 basis) es list)
-    (e : HasEnded (tidying.next rationals grevlex) list) (is : gs ≡ tidying.by_lead grevlex
-    list) where
+    (es : List Event) (c : IsRun (tidying.next rationals grevlex)
+    (tidying.by_lead grevlex (free_part 0 basis)) es list)
+    (e : HasEnded (tidying.next rationals grevlex) list) (is : gs ≡ list) where
   itself : IsBasisOf rationals grevlex m basis basis
   itself = record {
     polynomials = b.polynomials;
@@ -155,8 +155,9 @@ module _ (m : ℕ) (hs basis gs list : List (Terms Fraction)) (ha : AllArity m h
     led = λ t p h i. b.led t p h ((b.same (t ∷ p) h).0 i);
   }
 
-  c' : IsRun (tidying.next rationals grevlex) basis es list
-  c' = subst (λ l. IsRun (tidying.next rationals grevlex) l es list) (kept-nothing basis) c
+  c' : IsRun (tidying.next rationals grevlex) (tidying.by_lead grevlex basis) es list
+  c' = subst (λ l. IsRun (tidying.next rationals grevlex) (tidying.by_lead grevlex l) es list)
+      (kept-nothing basis) c
 
   first_reduces : IsReducedList m gs
   first_reduces = made_reduced m basis gs list b.polynomials itself es c' e is

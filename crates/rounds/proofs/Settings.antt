@@ -191,9 +191,10 @@ module _ (A : Setting) (ss : List (Terms Fraction)) (alike : map (collect ration
   past_event : (s : State) → IsPastEvent A s → IsPastEvent B s
   past_event fresh p = p
   past_event (working w s) p =
-      subst (λ O. machine.IsPastElimination fractions rationals O (free_part (block B w)) s)
+      subst (λ O. machine.IsPastElimination fractions rationals O grevlex (free_part (block B w)) s)
       (sym (same_order A B refl refl w))
-      (subst (λ k. machine.IsPastElimination fractions rationals (order A w) (free_part k) s)
+      (subst (λ k. machine.IsPastElimination fractions rationals (order A w) grevlex (free_part k)
+      s)
       (sym (same_block A B refl refl w)) p)
   past_event (closing k b i gs s) p = p
   past_event (turning k gs) p = p

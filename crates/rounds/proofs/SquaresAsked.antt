@@ -259,5 +259,5 @@ squares_out = record {
     is = then_cut;
   };
   unit = refl;
-  spent = refl;
+  exhausted = refl;
 }

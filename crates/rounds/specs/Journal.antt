@@ -66,7 +66,7 @@ module _ {At : Type 0} (program : Program (Expr At)) (given : Option (List (Term
     pub state : State
     pub comes : ComesFrom es (goes entry state)
     pub unit : counts entry ≡ true
-    pub spent : units_of es ≡ limit
+    pub exhausted : units_of es ≡ limit
 
 module _ {At : Type 0} (program : Program (Expr At)) (asked : Option (Terms Fraction)) where
   abbrev pub Follows : List Entry → State → Type 0

@@ -84,7 +84,7 @@ module _ (A : Setting) where
   abbrev pub IsPastEvent : State → Type 0
   IsPastEvent fresh = ⊥
   IsPastEvent (working w s) =
-      machine.IsPastElimination fractions rationals (order A w) (free_part (block A w)) s
+      machine.IsPastElimination fractions rationals (order A w) grevlex (free_part (block A w)) s
   IsPastEvent (closing k b i gs s) = machine.IsPastDivision fractions rationals gs s
   IsPastEvent (turning k gs) = ⊥
   IsPastEvent (asking k gs s) = machine.IsPastDivision fractions rationals gs s

@@ -124,7 +124,7 @@ returns-clause-ran g c =
     c.complete_in.new.meter c.tidy_in.new.meter first.limit first.to.last first.to.finished
     (terms_each c.deref-2.result.now)
     (begins g at.After-deref-2 ∙ ap (free_part c.args.first) first.to.gives.basis)
-    (ones g at.After-deref-2) (λ gs hs s l h. h.sorted ∙ sym l) _ c.tidy_in.ensures.ran
+    (ones g at.After-deref-2) (λ gs hs s l h. h.list ∙ sym l) _ c.tidy_in.ensures.ran
 
 pub returns-clause-elimination : goal.returns-clause-elimination
 returns-clause-elimination g c =

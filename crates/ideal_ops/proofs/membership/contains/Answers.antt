@@ -24,7 +24,7 @@ returns-clause-ran g c =
         finished = r.to.finished;
         gives = decided_by (field g.K.Ring.scalars) (g.O.Order.order c.args.p.now.order)
             (terms_each c.args.list.now) c.is_zero.result r.to.last
-            (terms_in c.in_ok-division.division.rest) r.to.finished.ended r.to.gives.rest
+            (terms_in c.in_ok-division.division.remainder) r.to.finished.ended r.to.gives.remainder
             c.is_zero.ensures;
       };
     }
@@ -48,6 +48,6 @@ returns-clause-member g c =
     c.requires.complete.led (terms_in p) p.polynomial d.last d.finished.work.events
     d.finished.work.run d.finished.ended in
     let zero = c.is_zero.ensures in (
-      (λ t. same.1 (sym d.gives.rest ∙ zero.0 t)),
-      (λ i. zero.1 (d.gives.rest ∙ same.0 i)),
+      (λ t. same.1 (sym d.gives.remainder ∙ zero.0 t)),
+      (λ i. zero.1 (d.gives.remainder ∙ same.0 i)),
     )

@@ -16,7 +16,7 @@ use Rattle.invariant_fix.specs.Bases.{empty_journal}
 use Rattle.invariant_fix.specs.Code.{IsListOf}
 use Rattle.invariant_fix.specs.ChainSteps.{HasList, IsRefusedStage}
 use Rattle.invariant_fix.proofs.Loops.{code_seen, body_is}
-use Rattle.invariant_fix.proofs.Stages.{plain_has, plain_refused, first_unformed, then_unformed, both_free, stage_has, stage_refused, stage_wide, stage_spent, stage_wanting}
+use Rattle.invariant_fix.proofs.Stages.{plain_has, plain_refused, first_unformed, then_unformed, both_free, stage_has, stage_refused, stage_wide, stage_exhausted, stage_wanting}
 use Rattle.invariant_fix.proofs.Staging.{no_code, has_code, code_free, code_stops, loop_free, loop_forms, leading_at, led_list, units_left}
 use Rattle.invariant_fix.proofs.Adding.{few_assigned}
 use Rattle.invariant_fix.proofs.chain_steps.stage_basis.Goals as goal
@@ -103,7 +103,7 @@ returns-in-Err-Budget-clause-err c = λ p is.
     c.args.budget c.led.new.meter (code_free p g is c.in-Ok-branch_map.ensures.free)
     (loop_free p g is c.in-Ok-setting_of.ensures.free)
     (loop_forms p g is c.in-Ok-setting_of.ensures.forms) in
-    stage_spent p (stage_of g).branches c.args.before.now c.args.budget c.open.new.self
+    stage_exhausted p (stage_of g).branches c.args.before.now c.args.budget c.open.new.self
     c.open.ensures c.led.new.meter (stage_of g).code some formed_here
     (leading_at p g is c.args.before.now c.open.new.self c.led.new.meter (stopped out_of_units)
     (subst (λ e. Ran (between (program_of g.code) (code_in g.code) (terms_each c.args.before.now))

@@ -12,7 +12,7 @@ use Rattle.invariant_fix.specs.Refusals as analysis
 use Rattle.corollaries.specs.Journal.{IsEnded}
 use Rattle.divide.specs.declared.EngineError.TheVariants.{Wide, Budget}
 use Rattle.corollaries.proofs.Ended.{ended_basis}
-use Rattle.invariant_fix.proofs.Joining.{ended_with_nothing, followed, ended_by, wide_by, spent_by, worked_by, moved_so, stopped_so}
+use Rattle.invariant_fix.proofs.Joining.{ended_with_nothing, followed, ended_by, wide_by, exhausted_by, worked_by, moved_so, stopped_so}
 use Rattle.invariant_fix.proofs.shown_relations.relations.Goals as goal
 
 pub returns-in-Err-Budget-clause-refused : goal.returns-in-Err-Budget-clause-refused
@@ -148,7 +148,7 @@ returns-in-Err-Budget-eliminated-clause-refused c =
     ∙ ap length c.names.ensures.names in (
       c.in-Ok.ensures.free,
       c.in-Ok.ensures.forms,
-      spent_by program c.args.shown.now c.analyse.new.meter c.eliminated.new.meter
+      exhausted_by program c.args.shown.now c.analyse.new.meter c.eliminated.new.meter
           c.in-Ok.analysis.rounds gs c.in-Ok.ensures.closed.finished
           (stopped_so c.args.shown.now c.analyse.new.meter c.eliminated.new.meter c.len.result
           (length program.names) c.deref.result.now gs c.in-Err-Budget-eliminated.field-0 Budget

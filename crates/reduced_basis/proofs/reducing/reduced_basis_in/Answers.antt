@@ -59,7 +59,7 @@ returns-clause-ran g c =
     (HasReduced c.args.order c.args.arity) c.args.meter.now c.complete_in.new.meter
     c.tidy_in.new.meter first.limit first.to.last first.to.finished
     (terms_each c.deref.result.now) (stays g at ∙ first.to.gives.basis) (ones g at) (λ gs hs s l h.
-    record { list = h.sorted ∙ sym l; elements = h.elements }) _ c.tidy_in.ensures.ran
+    record { list = h.list ∙ sym l; elements = h.elements }) _ c.tidy_in.ensures.ran
 
 pub returns-clause-reduced : goal.returns-clause-reduced
 returns-clause-reduced g c =

@@ -167,7 +167,7 @@ returns-in_err-note-clause-budget g c =
       comes = stop_comes (g.O.Order.order c.args.state.now.order) (cut_at g at.After-index-divisor)
           (still g at.Start);
       unit = refl;
-      spent = (c.in_err-note.ensures.budget.0
+      exhausted = (c.in_err-note.ensures.budget.0
           (cc (budget_of c.from_residual-in_err-note.result c.in_err-note.field-0.0
           c.from_residual-in_err-note.ensures.1 w))).1;
     }

@@ -1,17 +1,15 @@
-use Rattle.std.proofs.Common.{List, length, sym, subst}
+use Rattle.std.proofs.Common.{List, length, refl}
 use Rattle.algebra.specs.Scalars.{field}
 use Rattle.polynomials.specs.Terms.{Terms}
 use Rattle.machines.specs.Machine.{Machine}
 use Rattle.machines.specs.Machines as machines
-use Rattle.machines.specs.Reduced.{IsReducedBasis}
 use Rattle.machines.specs.Tidying.{next}
-use Rattle.ideals.specs.Members.{IsMember}
 use Rattle.machines.proofs.Going.{going_here, going_on, going_off, ran_done}
 use Rattle.machines.proofs.Measures.{tidying_holds}
 use Rattle.machines.proofs.Working.{falls, turned_on}
-use Rattle.divide.proofs.Refused.{unmade, out_of_room, step_refused}
+use Rattle.divide.proofs.Refused.{unmade, step_refused}
 use Rattle.poly.specs.Seen.{terms_each}
-use Rattle.reduced_basis.specs.Tidying.{start_of, elements_of, tidying_of}
+use Rattle.reduced_basis.specs.Tidying.{monic_each, elements_of, tidying_of}
 use Rattle.reduced_basis.proofs.Along.{fits_along}
 use Rattle.reduced_basis.proofs.Finished.{reduced_of}
 use Rattle.reduced_basis.proofs.tidying.tidy_in.Given.{Over}
@@ -60,27 +58,14 @@ returns-in_err-step-clause-ran g c =
     c.in_err-step.ensures.err c.in_err-step.ensures.wide c.in_err-step.ensures.budget
 
 -- ---- where it has ended
-pub by_lead-requires : goal.by_lead-requires
-by_lead-requires g c = let i = c.loop-state.invariant in
-    record {
-      divisors = (fits_along _ _ _ _ _ i.0.order i.0.arity c.in_ok-step.ensures.fits).elements;
-    }
-
-pub returns-in_err-sorted-clause-ran : goal.returns-in_err-sorted-clause-ran
-returns-in_err-sorted-clause-ran g c =
-    let i = c.loop-state.invariant in
-    let off = going_off (tidies g (goal.at.returns-in_err-sorted-clause-ran g c).Start) i.0.order
-    i.1 c.if-branch.false c.in_ok-step.ensures.ok in
-    out_of_room off.0 c.from_residual-in_err-sorted.result c.from_residual-in_err-sorted.ensures.1
-
 pub returns-clause-ran : goal.returns-clause-ran
 returns-clause-ran g c =
     let i = c.loop-state.invariant in
     let off = going_off (tidies g (goal.at.returns-clause-ran g c).Start) i.0.order i.1
     c.if-branch.false c.in_ok-step.ensures.ok in
     ran_done off.0 off.1 (record {
-      sorted = c.in_ok-sorted.ensures.sorted;
-      elements = c.in_ok-sorted.ensures.divisors;
+      list = refl;
+      elements = (fits_along _ _ _ _ _ i.0.order i.0.arity c.in_ok-step.ensures.fits).elements;
     })
 
 pub returns-clause-reduced : goal.returns-clause-reduced
@@ -90,8 +75,6 @@ returns-clause-reduced g c = λ hs ph b.
     let i = c.loop-state.invariant in
     let off = going_off (tidies g (goal.at.returns-clause-reduced g c).Start) i.0.order i.1
     c.if-branch.false c.in_ok-step.ensures.ok in
-    subst (λ l. IsReducedBasis (field S) O c.args.arity l (IsMember S.arithmetic c.args.arity hs))
-    (sym c.in_ok-sorted.ensures.sorted)
-    (reduced_of S g.met.K.Ring.ring g.met.K.Field.field g.met.K.Ring.zero_is O
-    (g.met.O.Order.is_order c.args.order) c.args.arity hs (start_of c.args.list.now)
-    (elements_of c.step.new.state) _ _ ph b (record { work = off.0.work; ended = off.1 }))
+    reduced_of S g.met.K.Ring.ring g.met.K.Field.field g.met.K.Ring.zero_is O
+    (g.met.O.Order.is_order c.args.order) c.args.arity hs (monic_each c.args.list.now)
+    (elements_of c.step.new.state) _ _ ph b (record { work = off.0.work; ended = off.1 })

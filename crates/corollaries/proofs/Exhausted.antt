@@ -1,9 +1,9 @@
--- No budget is spent where each loop has a finished journal within it, with that of the code before it.
+-- No budget is exhausted where each loop has a finished journal within it, with that of the code before it.
 --   Within c budget j       a finished journal of the loop at the place j, within what is left of the budget, from what is given to it
 --   within_at               each loop that is analysed has one
 --   same_given              what is given to a loop is one list, with one number of units left
---   never_spent             in a loop
---   never_spent_between     nor in the code before one
+--   never_exhausted             in a loop
+--   never_exhausted_between     nor in the code before one
 use Rattle.std.proofs.Common.{◌≡◌, ◌⊎◌, inl, inr, ℕ, zero, suc, ◌+◌, ◌≤◌, List, [], ◌∷◌, arith, refl, sym, ap, subst, Option, Some, None}
 use Rattle.algebra.specs.Fraction.{Fraction}
 use Rattle.polynomials.specs.Terms.{Terms}
@@ -12,18 +12,18 @@ use Rattle.loops.specs.Program.{Expr, Program, Statement}
 use Rattle.rounds.specs.Journal.{IsFinishedBy, IsOutFrom}
 use Rattle.rounds.proofs.Forms.{enough_budget}
 use Rattle.corollaries.proofs.Budgets.{more_units}
-use Rattle.corollaries.specs.Between.{between, IsLed, IsSpentLeading}
+use Rattle.corollaries.specs.Between.{between, IsLed, IsExhaustedLeading}
 use Rattle.loops.specs.Chain.{Chain, code_at, loop_at, IsChain}
 use Rattle.corollaries.specs.Analysed.{Analysed, first, further, GivenTo, at_first, behind}
 use Rattle.corollaries.proofs.Analysed.{analysed_basis, analysed_one}
 use Rattle.corollaries.proofs.Led.{led_one}
 
 -- code that has been led through within the budget doesn't spend it
-not_spent : {At : Type 0} (program : Program (Expr At)) (code : List (Statement (Expr At)))
+not_exhausted : {At : Type 0} (program : Program (Expr At)) (code : List (Statement (Expr At)))
     (gs : List (Terms Fraction)) (es fs : List Entry) (ks : List (Terms Fraction)) (n : ℕ)
-    → IsLed program code gs es ks → units_of es ≤ n → IsSpentLeading program code gs n fs → ⊥
-not_spent program [] gs es fs ks n led few out = absurd out
-not_spent program (a ∷ code) gs es fs ks n led few out =
+    → IsLed program code gs es ks → units_of es ≤ n → IsExhaustedLeading program code gs n fs → ⊥
+not_exhausted program [] gs es fs ks n led few out = absurd out
+not_exhausted program (a ∷ code) gs es fs ks n led few out =
     let M = between program (a ∷ code) gs in
     let l = more_units M.next M.start [] es fs led.last n led.finished out in omega (arith, few, l)
 
@@ -91,11 +91,11 @@ module _ {At : Type 0} (c : Chain (Expr At)) (w : IsChain c) (budget : ℕ) wher
       (subst (λ l. IsLed c.first (code_at c (suc j)) l fs ks) one led) led2 in
       let v = ap units_of u.0 in (omega (arith, e, f, v), ap Some u.1)
 
-  pub never_spent : (n : ℕ) (gs : List (Terms Fraction)) → Analysed c budget n gs
+  pub never_exhausted : (n : ℕ) (gs : List (Terms Fraction)) → Analysed c budget n gs
       → (j left : ℕ) (given : Option (List (Terms Fraction))) → j ≤ n
       → GivenTo c budget j left given → (es : List Entry) → IsOutFrom (loop_at c j) given None left
       es → ⊥
-  never_spent n gs a j left given l known es out =
+  never_exhausted n gs a j left given l known es out =
       let here = within_at n gs a j l in
       let same = same_given j here.left left here.given given here.known known in
       let few : units_of here.entries ≤ left = (let f = here.few in let e = same.0 in
@@ -104,21 +104,23 @@ module _ {At : Type 0} (c : Chain (Expr At)) (w : IsChain c) (budget : ℕ) wher
       (subst (λ o. IsFinishedBy (loop_at c j) o here.entries here.rounds here.list) same.1
       here.finished) few out
 
-  pub never_spent_between : (n : ℕ) (gs : List (Terms Fraction)) → Analysed c budget n gs
+  pub never_exhausted_between : (n : ℕ) (gs : List (Terms Fraction)) → Analysed c budget n gs
       → (j : ℕ) (hs : List (Terms Fraction)) → suc j ≤ n → Analysed c budget j hs
-      → (es : List Entry) → IsSpentLeading c.first (code_at c (suc j)) hs budget es → ⊥
-  never_spent_between _ _ (first es k gs done few) j hs l a fs out = absurd (omega (arith, l))
-  never_spent_between _ _ (further n gs fs ks es k ls before inside led done few) j hs l a gs2 out =
-      go (let z : (suc j ≤ n) ⊎ (j ≡ n) = grind arith in z) (λ m. never_spent_between n gs before j
+      → (es : List Entry) → IsExhaustedLeading c.first (code_at c (suc j)) hs budget es → ⊥
+  never_exhausted_between _ _ (first es k gs done few) j hs l a fs out = absurd (omega (arith, l))
+  never_exhausted_between _ _ (further n gs fs ks es k ls before inside led done few) j hs l a gs2
+      out =
+      go (let z : (suc j ≤ n) ⊎ (j ≡ n) = grind arith in z)
+      (λ m. never_exhausted_between n gs before j
       hs m a gs2 out)
     where
       here : j ≡ n → ⊥
       here z =
           let one : gs ≡ hs = analysed_one c w budget n gs hs before (analysed_basis c w budget n hs
           (subst (λ i. Analysed c budget i hs) z a)) in
-          not_spent c.first (code_at c (suc n)) hs fs gs2 ks budget
+          not_exhausted c.first (code_at c (suc n)) hs fs gs2 ks budget
           (subst (λ l. IsLed c.first (code_at c (suc n)) l fs ks) one led) (omega (arith, few))
-          (subst (λ i. IsSpentLeading c.first (code_at c (suc i)) hs budget gs2) z out)
+          (subst (λ i. IsExhaustedLeading c.first (code_at c (suc i)) hs budget gs2) z out)
 
       go : (suc j ≤ n) ⊎ (j ≡ n) → (suc j ≤ n → ⊥) → ⊥
       go (inl m) earlier = earlier m
