@@ -1,5 +1,7 @@
 -- Words with a letter in front, and their images.
 --   terms_are                 what stands for a list of terms has its terms, collected
+--   composed_forms            what is composed with images, within the limits, in terms of what they stand for
+--   composing_none, first_none     operations of a composition have the offset 0
 --   composition_of_word       what is composed with a letter's map, within the limits
 --   image_stands, image_stops the image, and where its operations stop
 --   limit_word, wide_word     the stops as those of the word
@@ -30,7 +32,7 @@ use Rattle.loop_model.specs.Operations.{Operation, IsFree, PassesLimit, IsFirst}
 use Rattle.loop_model.specs.Stops.{Stops, Forms}
 use Rattle.loop_model.specs.declared.map_error.MapError.{MapError}
 use Rattle.loop_model.specs.declared.map_error.MapError.TheVariants as map_error
-use Rattle.loop_model.proofs.OperationLaws.{AllSameOperations, same_forms, stops_behind, stops_front}
+use Rattle.loop_model.proofs.OperationLaws.{same_forms, stops_behind, stops_front}
 use Rattle.corollaries.specs.Image.{image}
 use Rattle.counter_run.specs.Composition.{factors, product_operations, term_product, composition_onto, composition_operations}
 use Rattle.counter_run.specs.Causes.{IsLimitWord, IsWideWord}
@@ -45,8 +47,39 @@ pub terms_are : (m : ℕ) (q : FracPoly) (p : Terms Fraction) → Arity m p → 
 terms_are m q p a s =
     collect-is ℚ_field grevlex grevlex_order m p (terms_in q) a (polynomial_over m q s.arity) s.same
 
+-- ---- a composition, in terms of what the images stand for
+module _ (m : ℕ) (q : FracPoly) (over : q.arity ≡ m) (p : Terms Fraction) (arity : Arity m p)
+    (same : Same ℚ (terms_in q) p) (images : List FracPoly) (maps : List (Terms Fraction))
+    (all : AllStandFor m images maps) (maps_arity : AllArity m maps) where
+  same_images : AllSame ℚ (terms_each images) maps
+  same_images = stands_same m images maps all
+
+  composed_is : Same ℚ (composition_onto m (terms_each images) [] (terms_in q))
+      (compose ℚ m p maps)
+  composed_is =
+      let many : AllArity m (terms_each images) =
+      arities_over m images (stands_over m images maps all) in
+      Same-trans ℚ (composition_onto_is m (terms_each images) (terms_in q) many)
+      (same_compose ℚ_ring m m (terms_in q) p (terms_each images) maps
+      (arity_over m q over) arity many maps_arity same same_images)
+
+  pub composed_forms : (r : Result FracPoly MapError)
+      → Forms q.arity (composition_operations q.arity (terms_each images) [] (terms_in q))
+      (composition_onto q.arity (terms_each images) [] (terms_in q)) r
+      → Forms m (composition_operations m maps [] (terms_in q)) (compose ℚ m p maps) r
+  composed_forms r h =
+      let here : Forms m (composition_operations m (terms_each images) [] (terms_in q))
+      (composition_onto m (terms_each images) [] (terms_in q)) r =
+      subst (λ n. Forms n (composition_operations n (terms_each images) [] (terms_in q))
+      (composition_onto n (terms_each images) [] (terms_in q)) r) over h in
+      same_forms m (composition_operations m (terms_each images) [] (terms_in q))
+      (composition_operations m maps [] (terms_in q))
+      (composition_onto m (terms_each images) [] (terms_in q)) (compose ℚ m p maps) r
+      (same_composing m (terms_each images) maps [] [] (terms_in q) same_images
+      (Same-refl ℚ [])) composed_is here
+
 -- ---- operations without a place in a text
-abbrev AtNone : List Operation → Type 0
+abbrev pub AtNone : List Operation → Type 0
 AtNone os = All (λ o. o.at ≡ 0) os
 
 products_none : (q : Terms Fraction) (fs : List (Terms Fraction)) → AtNone (product_operations q fs)
@@ -54,7 +87,7 @@ unfolding product_operations
 products_none q [] = All-nil _
 products_none q (f ∷ fs) = All-cons (λ o. o.at ≡ 0) _ _ refl (products_none (times ℚ q f) fs)
 
-composing_none : (m : ℕ) (images : List (Terms Fraction)) (s p : Terms Fraction)
+pub composing_none : (m : ℕ) (images : List (Terms Fraction)) (s p : Terms Fraction)
     → AtNone (composition_operations m images s p)
 unfolding composition_operations
 composing_none m images s [] = All-nil _
@@ -67,7 +100,7 @@ all_behind : (P : Operation → Type 0) (xs : List Operation) (y : Operation) (y
 all_behind P [] y ys a = All-head P y ys a
 all_behind P (x ∷ xs) y ys a = all_behind P xs y ys (All-tail P x (xs ++ y ∷ ys) a)
 
-first_none : (m : ℕ) (P : Operation → Type 0) (os : List Operation) (at : ℕ) → AtNone os
+pub first_none : (m : ℕ) (P : Operation → Type 0) (os : List Operation) (at : ℕ) → AtNone os
     → IsFirst m P os at → at ≡ 0
 first_none m P os at a f =
     sym f.offset ∙ all_behind (λ o. o.at ≡ 0) f.before f.operation f.behind (subst AtNone f.order a)
@@ -124,40 +157,17 @@ module _ (program : Program (Expr ℕ)) (p : Terms Fraction)
     collected : terms_in q ≡ collected_after program p w
     collected = terms_are m q (after_word program w p) (arity-after_word program w p arity) stands
 
-    same_images : AllSame ℚ (terms_each images) maps
-    same_images = stands_same m images maps all
-
-    composed_is : Same ℚ (composition_onto m (terms_each images) [] (terms_in q))
-        (compose ℚ m (after_word program w p) maps)
-    composed_is =
-        let same_q : Same ℚ (terms_in q) (after_word program w p) = stands.same in
-        let over : AllArity m (terms_each images) =
-        arities_over m images (stands_over m images maps all) in
-        Same-trans ℚ (composition_onto_is m (terms_each images) (terms_in q) over)
-        (same_compose ℚ_ring m m (terms_in q) (after_word program w p) (terms_each images) maps
-        (arity_over m q stands.arity) (arity-after_word program w p arity) over maps_arity
-        same_q same_images)
-
-    -- what is compose, in terms of the word
+    -- what is composed, in terms of the word
     pub composition_of_word : (r : Result FracPoly MapError)
         → Forms q.arity (composition_operations q.arity (terms_each images) [] (terms_in q))
         (composition_onto q.arity (terms_each images) [] (terms_in q)) r
         → Forms m (composition_operations m maps [] (collected_after program p w))
         (compose ℚ m (after_word program w p) maps) r
     composition_of_word r h =
-        let here : Forms m (composition_operations m (terms_each images) [] (terms_in q))
-        (composition_onto m (terms_each images) [] (terms_in q)) r =
-        subst (λ n. Forms n (composition_operations n (terms_each images) [] (terms_in q))
-        (composition_onto n (terms_each images) [] (terms_in q)) r) stands.arity h in
-        same_forms m (composition_operations m (terms_each images) [] (terms_in q))
-        (composition_operations m maps [] (collected_after program p w))
-        (composition_onto m (terms_each images) [] (terms_in q))
-        (compose ℚ m (after_word program w p) maps) r
-        (subst (λ x.
-        AllSameOperations (composition_operations m (terms_each images) [] (terms_in q))
-        (composition_operations m maps [] x)) collected
-        (same_composing m (terms_each images) maps [] [] (terms_in q) same_images
-        (Same-refl ℚ []))) composed_is here
+        subst (λ x. Forms m (composition_operations m maps [] x)
+        (compose ℚ m (after_word program w p) maps) r) collected
+        (composed_forms m q stands.arity (after_word program w p)
+        (arity-after_word program w p arity) stands.same images maps all maps_arity r h)
 
   -- ---- a letter
   pub letter_operations : (b : ℕ) (w : List ℕ)
@@ -324,7 +334,10 @@ module _ (program : Program (Expr ℕ)) (p : Terms Fraction)
         image_found y =
             record {
               free = image_free word composed.free (in_image (Ok q) h).1;
-              stands = (in_image (Ok q) h).0;
-              not_zero = λ s. let k : z ≡ true = tells.1 s in
-                  let f : true ≡ false = sym k ∙ y in cc;
+              nonzero =
+                  record {
+                    stands = (in_image (Ok q) h).0;
+                    not_zero = λ s. let k : z ≡ true = tells.1 s in
+                        let f : true ≡ false = sym k ∙ y in cc;
+                  };
             }

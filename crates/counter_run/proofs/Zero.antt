@@ -62,8 +62,8 @@ module _ (program : Program (Expr ℕ)) where
 
   pub zero_wide : (n : ℕ) (w : List ℕ) → IsWideCause program [] n w → ⊥
   zero_wide n w (inl h) = no_first m _ (image_operations program [] w) 0 (image_operations-zero w) h
-  zero_wide n w (inr (inl h)) = counters_not w h.counters
-  zero_wide n w (inr (inr h)) = counters_not w h.counters
+  zero_wide n w (inr (f, inl h)) = counters_not w h.counters
+  zero_wide n w (inr (f, inr h)) = counters_not w h.counters
 
   pub zero_none : (n : ℕ) → IsNone program [] n
   zero_none n = record {

@@ -1,0 +1,31 @@
+use Rattle.std.proofs.Common.{length}
+use Rattle.std.proofs.lemmas.Result.{IfOk-weaker}
+use Rattle.loops.specs.Map.{start_map}
+use Rattle.loops.proofs.Maps.{arity-start_map}
+use Rattle.loop_model.specs.View.{program_of}
+use Rattle.closing.proofs.Composing.{all_over}
+use Rattle.closing.proofs.candidates.from_start.Goals as goal
+
+pub composition_of-requires : goal.composition_of-requires
+composition_of-requires c =
+    let program = program_of c.args.lp.now in
+    record {
+      images =
+          all_over (length program.names) c.args.candidate.now.polynomial c.requires.arity
+          c.args.maps.now.start.items (start_map program) c.requires.maps.start
+          (arity-start_map program);
+    }
+
+pub returns-clause-image : goal.returns-clause-image
+returns-clause-image c =
+    let program = program_of c.args.lp.now in
+    IfOk-weaker c.composition_of.result _ _
+    (λ q h. record { arity = h.arity; terms = h.terms })
+    (c.composition_of.ensures.composed (length program.names) (start_map program)
+    c.requires.arity c.requires.maps.start (arity-start_map program))
+
+pub returns-clause-stopped : goal.returns-clause-stopped
+returns-clause-stopped c =
+    let program = program_of c.args.lp.now in
+    c.composition_of.ensures.stopped (length program.names) (start_map program)
+    c.requires.arity c.requires.maps.start (arity-start_map program)

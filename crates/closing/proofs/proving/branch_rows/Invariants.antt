@@ -1,0 +1,33 @@
+use Rattle.std.proofs.Common.{◌≡◌, ◌<◌, ◌≤◌, ◌++◌, ℕ, suc, [], List, get_or, drop, length, All}
+use Rattle.std.specs.Global.{Vec}
+use Rattle.algebra.specs.Fraction.{Fraction}
+use Rattle.polynomials.specs.Terms.{Terms}
+use Rattle.poly.specs.Seen.{terms_each}
+use Rattle.ideal_ops.specs.Calls.{AreOver}
+use Rattle.loop_model.specs.FracPoly.{FracPoly}
+use Rattle.loop_model.specs.View.{program_of}
+use Rattle.closures.specs.Certified.{IsRowOf}
+use Rattle.closures.specs.Proving.{Test, tests_of, AwaitsTests}
+use Rattle.closing.specs.Proving.{seen_rows}
+use Rattle.closing.proofs.proving.branch_rows.Given as goal
+
+abbrev pub invariant-loop-place : goal.invariant-loop-place
+invariant-loop-place l =
+    let bs = terms_each l.elements.list.items in
+    let gs = terms_each l.closure in
+    record {
+      limit : l.meter.limit ≡ l.fn.meter.limit;
+      within : l.place ≤ length l.elements.list.items;
+      count : length l.rows.items ≡ l.place;
+      each : (i : ℕ) → i < length (seen_rows l.rows.items)
+          → IsRowOf (program_of l.lp) gs l.elements.places.items (length bs) l.letter
+          (get_or bs i []) (get_or (seen_rows l.rows.items) i []);
+      widths : All (λ (row : Vec FracPoly). length row.items ≡ length l.elements.list.items)
+          l.rows.items;
+      arities : All (λ (row : Vec FracPoly). AreOver (length (program_of l.lp).names) row.items)
+          l.rows.items;
+      passes : (P : List (Terms Fraction)) (w : List Test)
+          → AwaitsTests (program_of l.lp) P gs bs l.fn.meter.entries (tests_of l.letter 1 bs ++ w)
+          → AwaitsTests (program_of l.lp) P gs bs l.meter.entries
+          (tests_of l.letter (suc l.place) (drop l.place bs) ++ w);
+    }

@@ -1,0 +1,5 @@
+pub mod Tasks
+pub mod Compositions
+pub mod Causes
+pub mod Progress
+pub mod Proving
