@@ -7,3 +7,4 @@ pub mod Polynomials
 pub mod Reading
 pub mod Refusals
 pub mod StateLaws
+pub mod Pushing

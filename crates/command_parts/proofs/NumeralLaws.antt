@@ -1,4 +1,4 @@
--- The letters and values of a command's words, as the code reads them.
+-- The letters and values of a command's arguments, as the code reads them.
 --   budget_is                 a budget, from the number of at most 9 digits;  budget_missing, budget_found: where there is none, and of one
 --   count_is, count_missing, count_found      the same of a number of loops
 --   letter_is                 a letter, from the number that its digits are
@@ -42,27 +42,35 @@ letter_is part z t short is fits = go (numeral_of part) refl is
         let within : FitsUnsigned w32 (pos n) = (omega (arith, ints), omega (arith, ints)) in
         rw (le-leb _ _ short) (ap result_ok (Ok-from_Ok_iff t _ n at within) ∙ sym e)
 
-pub budget_is : (word : List ℕ) → length word ≤ 7 → in_budgets (letter_of word) ≡ budget_of word
+pub budget_is : (argument : List ℕ) → length argument ≤ 7 → in_budgets (letter_of argument)
+    ≡ budget_of argument
 unfolding letter_of budget_of
-budget_is word short =
-    rw (le-leb (length word) 7 short) (rw (le-leb (length word) 9 (omega (arith, short))) refl)
+budget_is argument short =
+    rw (le-leb (length argument) 7 short) (rw (le-leb (length argument) 9 (omega (arith, short)))
+    refl)
 
-pub budget_missing : (word : List ℕ) → length word ≤ 7 → None ≡ letter_of word
-    → None ≡ budget_of word
-budget_missing word short none = ap (λ n. in_budgets n) none ∙ budget_is word short
+pub budget_missing : (argument : List ℕ) → length argument ≤ 7 → None ≡ letter_of argument
+    → None ≡ budget_of argument
+budget_missing argument short none = ap (λ n. in_budgets n) none ∙ budget_is argument short
 
-pub budget_found : (word : List ℕ) (n : ℕ) (b : Option ℕ) → length word ≤ 7
-    → Some n ≡ letter_of word → b ≡ in_budgets (Some n) → b ≡ budget_of word
-budget_found word n b short is found = found ∙ (ap (λ k. in_budgets k) is ∙ budget_is word short)
+pub budget_found : (argument : List ℕ) (n : ℕ) (b : Option ℕ) → length argument ≤ 7
+    → Some n ≡ letter_of argument → b ≡ in_budgets (Some n) → b ≡ budget_of argument
+budget_found argument n b short is found = found
+    ∙ (ap (λ k. in_budgets k) is ∙ budget_is argument short)
 
-pub count_is : (word : List ℕ) → length word ≤ 4 → in_counts (letter_of word) ≡ count_of word
+pub count_is : (argument : List ℕ) → length argument ≤ 4 → in_counts (letter_of argument)
+    ≡ count_of argument
 unfolding letter_of count_of
-count_is word short =
-    rw (le-leb (length word) 4 short) (rw (le-leb (length word) 9 (omega (arith, short))) refl)
+count_is argument short =
+    rw (le-leb (length argument) 4 short) (rw (le-leb (length argument) 9 (omega (arith, short)))
+    refl)
 
-pub count_missing : (word : List ℕ) → length word ≤ 4 → None ≡ letter_of word → None ≡ count_of word
-count_missing word short none = ap (λ n. in_counts n) none ∙ count_is word short
+pub count_missing : (argument : List ℕ) → length argument ≤ 4 → None ≡ letter_of argument
+    → None ≡ count_of argument
+count_missing argument short none = ap (λ n. in_counts n) none ∙ count_is argument short
 
-pub count_found : (word : List ℕ) (n : ℕ) (b : Option ℕ) → length word ≤ 4 → Some n ≡ letter_of word
-    → b ≡ in_counts (Some n) → b ≡ count_of word
-count_found word n b short is found = found ∙ (ap (λ k. in_counts k) is ∙ count_is word short)
+pub count_found : (argument : List ℕ) (n : ℕ) (b : Option ℕ) → length argument ≤ 4
+    → Some n ≡ letter_of argument
+    → b ≡ in_counts (Some n) → b ≡ count_of argument
+count_found argument n b short is found = found
+    ∙ (ap (λ k. in_counts k) is ∙ count_is argument short)

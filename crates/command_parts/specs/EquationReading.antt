@@ -1,4 +1,4 @@
--- What the word EQUATION says.
+-- What the argument EQUATION says.
 --   equation_refusal fault     what is answered to the first fault of the equation
 --   stop_answer x              to an operation of its polynomial that can't be done; want of memory
 --                              has none

@@ -6,7 +6,7 @@
 --   polynomial_of l e          this polynomial, with like terms collected
 --   Holds l e                  e is zero at the end of every run of l: the equation holds at every
 --                              state that any order of branches reaches from any start
---   HoldsAfter l e w           e is zero at the end of each run with the word w
+--   HoldsAfter l e w           e is zero at the end of each run with the argument w
 --   FormsFreely l e            no operation by which e is formed passes a limit
 use Rattle.std.specs.Prelude.{◌≡◌, ℕ, List, length, Result}
 use Rattle.algebra.specs.Fraction.{Fraction, ℚ, rationals}

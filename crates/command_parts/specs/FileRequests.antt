@@ -1,10 +1,10 @@
 -- `[--budget N] FILE`: a file, and the budget for what is computed of it.
 --   FileRequest            the budget, and the name of the file
 --   request_within n file  where there is a budget
---   request_in words       what the words ask for, if they are such words
+--   request_in arguments       what the arguments ask for, if they are such arguments
 use Rattle.std.specs.Prelude.{ℕ, List, [], ◌∷◌, Option, Some, None, ◌&&◌, codes, if◌then◌else◌}
 use Rattle.std.specs.Str.{bytes_eq}
-use Rattle.io_edge.specs.Words.{is_file}
+use Rattle.io_edge.specs.Arguments.{is_file}
 use Rattle.command_parts.specs.Numerals.{usual_budget, budget_of}
 
 pub record FileRequest : Type 0 where

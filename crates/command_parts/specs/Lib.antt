@@ -9,3 +9,5 @@ pub mod ChainReading
 pub mod Equations
 pub mod EquationReading
 pub mod StateTexts
+pub mod BasisTexts
+pub mod ReadBack

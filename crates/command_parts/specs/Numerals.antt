@@ -1,12 +1,12 @@
--- The budget of an analysis, the number of loops of the family, the letters of a run and the values of its start, as they stand in the words.
---   most_letters, most_values    how many may stand in a word
+-- The budget of an analysis, the number of loops of the family, the letters of a run and the values of its start, as they stand in the arguments.
+--   most_letters, most_values    how many may stand in a argument
 --   parts text           the parts of a text between its commas
 --   usual_budget         the budget where no other is given;  most_budget: the greatest
 --   in_budgets n         the number, where it is a budget: at least 1, and no greater than that
---   budget_of word       a budget: one digit, up to most_budget_digits
+--   budget_of argument       a budget: one digit, up to most_budget_digits
 --   most_counted         how many loops of the family may be asked for
 --   in_counts n          the number, where it is at least 1, and no greater than that
---   count_of word        how many loops: one digit, up to most_count_digits
+--   count_of argument        how many loops: one digit, up to most_count_digits
 --   letter_of part       a letter: one digit, up to most_letter_digits
 --   each_of f parts      what the parts are by f, if each is something
 --   letters_of text      the letters in the text, if it is empty, or at most most_letters letters with commas between them
@@ -40,8 +40,8 @@ in_budgets None = None
 in_budgets (Some n) = if nat_le 1 n && nat_le n most_budget then Some n else None
 
 unfoldable pub budget_of : List ℕ → Option ℕ
-budget_of word =
-    if nat_le (length word) most_budget_digits then in_budgets (numeral_of word) else None
+budget_of argument =
+    if nat_le (length argument) most_budget_digits then in_budgets (numeral_of argument) else None
 
 abbrev pub most_counted : ℕ
 most_counted = 1000
@@ -54,7 +54,8 @@ in_counts None = None
 in_counts (Some n) = if nat_le 1 n && nat_le n most_counted then Some n else None
 
 unfoldable pub count_of : List ℕ → Option ℕ
-count_of word = if nat_le (length word) most_count_digits then in_counts (numeral_of word) else None
+count_of argument = if nat_le (length argument) most_count_digits
+    then in_counts (numeral_of argument) else None
 
 abbrev pub most_letter_digits : ℕ
 most_letter_digits = 9

@@ -1,4 +1,4 @@
-// The words `[--budget N] FILE`.
+// The arguments `[--budget N] FILE`.
 ghost use Rattle.std.specs.Prelude.{◌≡◌, map, string_bytes, option_map};
 ghost use Rattle.command_parts.specs.Budgets.{units_of};
 ghost use Rattle.command_parts.specs.FileRequests.{request_in, request_within};
@@ -15,11 +15,11 @@ pub struct FileRequest<'a> {
     pub file: &'a String,
 }
 
-/// The file and the budget that the words give: the usual one where they give none. `None` where they are no such words.
-pub fn read_file_request(words: &[String]) -> Option<FileRequest<'_>>
-    ensures { option_map view result ≡ request_in (map string_bytes words.now) }
+/// The file and the budget that the arguments give: the usual one where they give none. `None` where they are no such arguments.
+pub fn read_file_request(arguments: &[String]) -> Option<FileRequest<'_>>
+    ensures { option_map view result ≡ request_in (map string_bytes arguments.now) }
 {
-    match words {
+    match arguments {
         [file] if names_a_file(file) => within_budget(Some(Budget::usual()), file),
         [option, number, file] if option.as_str() == "--budget" && names_a_file(file) => {
             within_budget(read_budget(number.as_bytes()), file)

@@ -5,19 +5,21 @@
 //! equation holds exactly where its polynomial is an invariant.
 #![tactic(auto)]
 
+mod bases;
 mod budget;
 mod chain_reading;
+mod equation_argument;
 pub mod equation_laws;
-mod equation_word;
 mod fault_texts;
 mod file_request;
 mod loop_reading;
 mod numerals;
 mod state_text;
 
+pub use bases::{basis_text, push_line};
 pub use budget::Budget;
 pub use chain_reading::read_file_chain;
-pub use equation_word::read_polynomial;
+pub use equation_argument::read_polynomial;
 pub use fault_texts::{fault_line, ordinal, text_refusal};
 pub use file_request::{FileRequest, read_file_request};
 pub use loop_reading::read_program;

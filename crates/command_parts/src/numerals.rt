@@ -1,5 +1,5 @@
 // The budget of an analysis, the number of loops of the family, the letters of a run and the values of its start, as
-// they stand in the words.
+// they stand in the arguments.
 ghost use Rattle.std.specs.Prelude.{◌≡◌, length, map, Some, Ok, option_map};
 ghost use Rattle.frac128.specs.FracMeaning.{fraction_of};
 ghost use Rattle.poly_text.specs.Number.{number_of};
@@ -26,15 +26,15 @@ const MOST_LETTERS: usize = 4096;
 
 const MOST_VALUES: usize = 12;
 
-/// The budget that the word is, if it is one: 1 to 7 digits, a number from 1 to 1,000,000.
+/// The budget that the argument is, if it is one: 1 to 7 digits, a number from 1 to 1,000,000.
 #[tactic(auto, unfolding(crate::specs::Numerals::budget_of))]
-pub fn read_budget(word: &[u8]) -> Option<Budget>
-    ensures { option_map units_of result ≡ numerals.budget_of word.now }
+pub fn read_budget(argument: &[u8]) -> Option<Budget>
+    ensures { option_map units_of result ≡ numerals.budget_of argument.now }
 {
-    if word.len() > MOST_BUDGET_DIGITS {
+    if argument.len() > MOST_BUDGET_DIGITS {
         return None;
     }
-    budget_of(u64::from(letter(word)?))
+    budget_of(u64::from(letter(argument)?))
 }
 
 /// The budget of so many units, if there is one.
@@ -48,15 +48,15 @@ fn budget_of(units: u64) -> Option<Budget>
     }
 }
 
-/// The number of loops of the family that the word is, if it is one: 1 to 4 digits, a number from 1 to 1,000.
+/// The number of loops of the family that the argument is, if it is one: 1 to 4 digits, a number from 1 to 1,000.
 #[tactic(auto, unfolding(crate::specs::Numerals::count_of))]
-pub fn read_count(word: &[u8]) -> Option<u32>
-    ensures { result ≡ numerals.count_of word.now }
+pub fn read_count(argument: &[u8]) -> Option<u32>
+    ensures { result ≡ numerals.count_of argument.now }
 {
-    if word.len() > MOST_COUNT_DIGITS {
+    if argument.len() > MOST_COUNT_DIGITS {
         return None;
     }
-    count_in(letter(word)?)
+    count_in(letter(argument)?)
 }
 
 /// The number, where so many loops may be asked for.
@@ -146,7 +146,7 @@ fn values_in(alloc: Global, text: &[u8]) -> Result<Option<Vec<Frac>>, AllocError
     values
 }
 
-/// The letters of a run that the word is, if it is empty, or at most 4,096 letters with commas between them; each is a
+/// The letters of a run that the argument is, if it is empty, or at most 4,096 letters with commas between them; each is a
 /// number of 1 to 9 digits. Memory is wanting only where there are letters.
 #[tactic(auto, unfolding(crate::specs::Numerals::letters_of))]
 pub fn read_letters(alloc: Global, text: &[u8]) -> Result<Option<Vec<u32>>, AllocError>
@@ -162,7 +162,7 @@ pub fn read_letters(alloc: Global, text: &[u8]) -> Result<Option<Vec<u32>>, Allo
     }
 }
 
-/// The values of a start that the word is, if it is 1 to 12 values with commas between them; each is a number or a
+/// The values of a start that the argument is, if it is 1 to 12 values with commas between them; each is a number or a
 /// fraction `n/d` of numbers of at most 128 bits, with an optional minus sign. Memory is wanting only where there are
 /// values.
 #[tactic(auto, unfolding(crate::specs::Numerals::values_of))]

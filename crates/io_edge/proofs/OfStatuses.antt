@@ -1,6 +1,6 @@
 -- Statuses of answers.
 --   status_of, text_of        of answers that are the same;  some_answer, some_status, no_answer: of answers that are given
---   settled_yes ..            of each status;  plain_yes ..: of one that isn't a spent budget
+--   settled_yes ..            of each status;  plain_yes ..: of one that isn't an exhausted budget
 --   refusing_fault, refusing_wide     a fault and a number that doesn't fit refuse
 --   unread_status             to a read that gave no bytes
 use Rattle.std.proofs.Common.{◌≡◌, ◌≢◌, ℕ, List, ap}

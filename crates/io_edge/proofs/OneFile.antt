@@ -1,5 +1,5 @@
 -- What a command promises that reads one file as something, and then ends.
---   Concludes t               a status that answers to what was read may have, and no refusal has;  concludes_yes ..: so a yes, a no, a spent budget
+--   Concludes t               a status that answers to what was read may have, and no refusal has;  concludes_yes ..: so a yes, a no, an exhausted budget
 --   OneFile X F               the file, how it is read, the answer to a fault, and the end behind what was read;  course_of: its course
 --   settled                   its answers are settled
 --   answered, ends_at_fault   the answer where the bytes are told
@@ -34,8 +34,12 @@ concludes_yes = record { settled = settled_yes _ refl; no_refusal = λ s r. r.ye
 pub concludes_no : Concludes status.No
 concludes_no = record { settled = settled_no _ refl; no_refusal = λ s r. r.no_not }
 
-pub concludes_spent : Concludes status.Budget
-concludes_spent = record { settled = settled_budget _ refl; no_refusal = λ s r. r.plain.budget_not }
+pub concludes_exhausted : Concludes status.Budget
+concludes_exhausted = record {
+  settled = settled_budget _ refl;
+  no_refusal =
+      λ s r. r.plain.budget_not;
+}
 
 pub record OneFile (X F : Type 0) : Type 1 where
   pub reading : List ℕ → Result X F
@@ -64,8 +68,7 @@ module _ {X F : Type 0} (c : OneFile X F) where
     -- ---- where the bytes are told
     pub answered : (x : X) → SaysOf c.reading call c.file (Ok x) → (s : Said course_of call)
         → c.Answers x m s.answer
-    answered x r s =
-        at_something c.reading c.refusal_of call c.file next m s.answer s.is x r
+    answered x r s = at_something c.reading c.refusal_of call c.file next m s.answer s.is x r
 
     pub ends_at_fault : (fault : F) → SaysOf c.reading call c.file (Err fault)
         → Ends call (c.refusal_of fault)
@@ -150,8 +153,7 @@ module _ {X F : Type 0} (c : OneFile X F) where
       ]
 
     pub kept : ((x : X) (j : Journal) → c.Leaves x j → ⊥) → m ≡ call.meter.before
-    kept none =
-        meter_kept course_of call f (is_silent c.reading c.refusal_of next c.file none)
+    kept none = meter_kept course_of call f (is_silent c.reading c.refusal_of next c.file none)
 
     pub long : IsLonger call.files.before c.file → EndsTooLong call c.file.name
     long h = too_long_told course_of call f c.file (inl refl) h

@@ -1,6 +1,6 @@
 -- Faults of the outside: told only where a read or a write ended so, and always there.
 --   outside           of each course whose answers are settled
---   outside_unasked   of words that are no command
+--   outside_unasked   of arguments that are no command
 --   usage_not         the usage line answers no command
 --   too_long_told     a file that is told to be longer than its limit is too long, where no read fails
 use Rattle.std.proofs.Common.{◌≡◌, ◌≢◌, ℕ, ◌<◌, ◌≤◌, List, [], ◌∷◌, ◌++◌, length, Ok, Err, inl, inr, refl, sym, ap, subst, ◌∙◌, arith}
@@ -225,7 +225,7 @@ module _ (course : Course) (call : Call) (f : IsCarriedOut course call) where
     usage_not = never course call f status.Usage (λ h. cc) (λ h. cc) (λ h. cc)
         (usages course settled)
 
--- ---- words that are no command
+-- ---- arguments that are no command
 module _ (usage : List ℕ) (call : Call) (f : IsUnasked (with_text status.Usage usage) call) where
   none_added : drop (length call.files.before.reads) call.files.after.reads ≡ []
   none_added = ap (drop (length call.files.before.reads)) (f.idle.unread

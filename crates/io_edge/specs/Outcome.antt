@@ -5,9 +5,9 @@
 --   IsReadOr file files result  the file was read, and the result is its bytes, or the answer that there are none
 --   Says course files meter answer      the course was gone, and the answer is by what its reads gave; or none, for want of memory
 --   IsIdle files meter          nothing was read, and the meter is as it was
---   Obeys course request files meter result     where the words ask for something, its course was gone, and the result is the answer or want of memory; where they ask for nothing, nothing was done, and the result says so
+--   Obeys course request files meter result     where the arguments ask for something, its course was gone, and the result is the answer or want of memory; where they ask for nothing, nothing was done, and the result says so
 --   reply_of r                  the result of a command that was asked for, by its answer
---   answer_to usage result      which answer is delivered to a result, with this one to words that are no command
+--   answer_to usage result      which answer is delivered to a result, with this one to arguments that are no command
 --   IsCarriedOut course call    the course was gone, and the answer by what its reads gave was delivered, or that of want of memory
 --   IsUnasked usage call        nothing was done, and this answer was delivered
 --   Finishes course request usage call  what was asked for was carried out; where nothing was, the call says so

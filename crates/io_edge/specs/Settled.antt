@@ -1,6 +1,6 @@
 -- Which statuses an answer by what the files hold may have.
---   IsSettled s     no status of the words, of memory or of the outside
---   IsPlain s       nor that of a spent budget
+--   IsSettled s     no status of the arguments, of memory or of the outside
+--   IsPlain s       nor that of an exhausted budget
 --   IsRefusing s    a plain one that is neither a yes nor a no
 use Rattle.std.specs.Prelude.{◌≢◌}
 use Rattle.io_edge.specs.declared.answer.Status.{Status}

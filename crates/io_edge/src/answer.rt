@@ -16,13 +16,13 @@ pub enum Status {
     Yes,
     /// The answer is no: an identity of the certificate fails, or the equation doesn't hold.
     No,
-    /// The words are no command.
+    /// The arguments are no command.
     Usage,
     /// A file isn't of its form.
     Fault,
     /// A number doesn't fit into 128 bits.
     Wide,
-    /// The budget is spent.
+    /// The budget is exhausted.
     Budget,
     /// There is no memory.
     Memory,
@@ -88,7 +88,7 @@ pub fn reply(answer: Result<Answer, AllocError>) -> Result<Option<Answer>, Alloc
 
 const MEMORY: &[u8] = b"memory\n";
 
-/// Writes the answer, or the usage line where the words are no command, or that memory is wanting; and gives its
+/// Writes the answer, or the usage line where the arguments are no command, or that memory is wanting; and gives its
 /// status, or `WriteFault` where the sink failed.
 pub fn finish<S: Sink>(
     out: &mut S,

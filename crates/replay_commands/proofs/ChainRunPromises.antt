@@ -22,12 +22,12 @@ use Rattle.io_edge.specs.Outcome.{Call, IsCarriedOut}
 use Rattle.io_edge.proofs.OfStatuses.{status_of, text_of, refusing_fault}
 use Rattle.io_edge.proofs.Outcomes.{ends_so}
 use Rattle.io_edge.proofs.OneFile as one_file
-use Rattle.io_edge.proofs.OneFile.{OneFile, concludes_yes, concludes_no, concludes_spent, answered, ends_at_fault, writes, refused, never_ends, kept, long}
+use Rattle.io_edge.proofs.OneFile.{OneFile, concludes_yes, concludes_no, concludes_exhausted, answered, ends_at_fault, writes, refused, never_ends, kept, long}
 use Rattle.command_parts.proofs.ChainCourses.{reading_chain}
 use Rattle.replay_commands.specs.RunTexts.{run_answer}
 use Rattle.replay_commands.proofs.RunPromises.{run_refuses, by_replay}
 use Rattle.replay_commands.specs.ChainrunTexts.{IsOfWords, count_answer, chain_run_answer}
-use Rattle.replay_commands.specs.ChainrunWords.{Request}
+use Rattle.replay_commands.specs.ChainrunArguments.{Request}
 use Rattle.replay_commands.specs.ChainrunCourse.{course}
 use Rattle.replay_commands.specs.ChainrunClauses.{ShowsChainRun, IsMiscounted, IsChainRunFault, ReplaysChain}
 
@@ -157,7 +157,7 @@ module _ (request : Request) where
           (λ text a. IsMiscounted text request a ⊎ IsChainRunFault text request a)
           (λ text c a e h same refusing. told_refused request c text e a h refusing.yes_not) refl;
       no = never_ends path call f concludes_no (λ c m a h. answer_not_no request c a h);
-      spent = never_ends path call f concludes_spent
+      exhausted = never_ends path call f concludes_exhausted
           (λ c m a h. (answer_plain request c a h).budget_not);
       journal = kept path call f (λ c m h. h);
       chain_fault = ends_at_fault path call f;

@@ -18,7 +18,7 @@ use Rattle.io_edge.specs.Outcome.{Call, IsCarriedOut}
 use Rattle.io_edge.specs.Clauses.{IsExcused}
 use Rattle.io_edge.proofs.Outcomes.{Said, or_excused, or_wide, ends_so}
 use Rattle.io_edge.proofs.OneFile as one_file
-use Rattle.io_edge.proofs.OneFile.{OneFile, concludes_yes, concludes_no, concludes_spent, answered, ends_at_fault, writes, refused, never_ends, kept, long}
+use Rattle.io_edge.proofs.OneFile.{OneFile, concludes_yes, concludes_no, concludes_exhausted, answered, ends_at_fault, writes, refused, never_ends, kept, long}
 use Rattle.command_parts.specs.FaultTexts.{loop_refusal}
 use Rattle.command_parts.proofs.MapLimits.{not_free}
 use Rattle.command_parts.proofs.LoopCourses.{reading_loop}
@@ -27,7 +27,7 @@ use Rattle.command_parts.specs.EquationReading.{equation_refusal}
 use Rattle.command_parts.proofs.Refusals.{equation_refuses, unformed_refuses, stopped_limit}
 use Rattle.replay_commands.specs.CounterSeeking.{Answers}
 use Rattle.replay_commands.specs.CounterTexts.{none_answer, limit_answer}
-use Rattle.replay_commands.specs.CounterWords.{Request}
+use Rattle.replay_commands.specs.CounterArguments.{Request}
 use Rattle.replay_commands.specs.CounterCourse.{course}
 use Rattle.replay_commands.specs.CounterClauses.{IsEquationFault, StopsSearch, ReadsEquation, IsWithin, EndsSeeking, Counters}
 use Rattle.replay_commands.specs.CounterHeadline.{IsQuestion, ShowsCounterRun, ShowsNoneUpTo}
@@ -144,7 +144,8 @@ module _ (request : Request) where
           ⊎ StopsSearch text request.equation request.most a)
           (λ text l a e h same refusing. refusal_at text request.equation request.most l a e
           (equation_in l.names request.equation) refl h refusing.no_not refusing.yes_not) refl;
-      spent = never_ends path call f concludes_spent (λ l m a h. (answer_plain l a h).budget_not);
+      exhausted = never_ends path call f concludes_exhausted (λ l m a h.
+          (answer_plain l a h).budget_not);
       journal = kept path call f (λ l m h. h);
       loop_fault = ends_at_fault path call f;
       equation_fault = λ l fault r.

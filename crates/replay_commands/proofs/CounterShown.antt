@@ -3,7 +3,8 @@
 --   holds_of_words              it holds where it does after each word
 --   same_question               one loop and one equation are asked about
 --   run_refutes                 a counter-run that is shown refutes it
---   stop_refuses, answers_plain     statuses of answers
+--   map_refuses, stop_refuses, answers_plain     statuses of answers
+--   run_shown                   what the run with the first word shows
 --   run_when_no, none_when_yes, stop_when_refusing      what each status shows
 use Rattle.std.proofs.Common.{◌≡◌, ◌≢◌, ℕ, ◌≤◌, Bool, true, false, List, length, refl, sym, ap₂, subst, ◌∙◌, inl, inr, arith, Result, Ok, Err, Some}
 use Rattle.algebra.specs.Fraction.{Fraction, ℚ}
@@ -17,9 +18,10 @@ use Rattle.loop_model.specs.declared.map_error.MapError.TheVariants as map_error
 use Rattle.loop_text.proofs.WellFormed.{loop_well}
 use Rattle.loop_runs.specs.Replay.{same_number}
 use Rattle.loop_runs.proofs.Turns.{same_number_decides}
-use Rattle.corollaries.specs.Counter.{Counters, start_of}
+use Rattle.corollaries.specs.Counter.{Counters, IsFirstWord, start_of}
 use Rattle.corollaries.specs.Point.{wholes}
 use Rattle.corollaries.proofs.Points.{length-wholes}
+use Rattle.counter_run.specs.Answers.{IsRunFrom}
 use Rattle.counter_run.proofs.Running.{start_is}
 use Rattle.io_edge.specs.declared.answer.Status.{Status}
 use Rattle.io_edge.specs.declared.answer.Status.TheVariants as status
@@ -30,7 +32,7 @@ use Rattle.command_parts.proofs.LoopCourses.{loop_refuses}
 use Rattle.command_parts.specs.Equations.{equation_in, polynomial_of, Holds, HoldsAfter}
 use Rattle.command_parts.proofs.Polynomials.{end_value}
 use Rattle.command_parts.proofs.Refusals.{equation_refuses, unformed_refuses}
-use Rattle.replay_commands.specs.CounterSeeking.{TellsRun, TellsNone, TellsStop, Seeks, Answers}
+use Rattle.replay_commands.specs.CounterSeeking.{TellsNone, TellsStop, Seeks, Answers}
 use Rattle.replay_commands.specs.CounterTexts.{run_text, map_answer}
 use Rattle.replay_commands.specs.CounterHeadline.{IsQuestion, ShowsCounterRun, ShowsNoneUpTo}
 
@@ -68,7 +70,7 @@ run_refutes text equation said n l e shows is holds =
     (same_question text equation l shows.loop e shows.difference is shows.question holds shows.run)
 
 -- ---- statuses
-map_refuses : (x : MapError) (a : Answer) → map_answer x ≡ Some a → IsRefusing a.status
+pub map_refuses : (x : MapError) (a : Answer) → map_answer x ≡ Some a → IsRefusing a.status
 map_refuses (map_error.Limit at) a says =
     loop_refuses (record { reason = limit; at = at }) a (some_answer _ a says)
 map_refuses (map_error.Wide at) a says =
@@ -93,37 +95,41 @@ answers_plain l (Ok e) n a (inl u) = (unformed_refuses l e a u).plain
 answers_plain l (Ok e) n a (inr h) = seeks_plain l (polynomial_of l e) n a h.1
 
 -- ---- what is shown
+-- the run with the first word, from its first start
+pub run_shown : (text equation : List ℕ) (l : Program (Expr ℕ)) (e : Expr ℕ)
+    → IsQuestion text equation l e → (n : ℕ) (word : List ℕ) (reached : List (List Fraction))
+    (x : Fraction) → IsFirstWord l (polynomial_of l e) word → length word ≤ n
+    → IsRunFrom l (polynomial_of l e) word reached x
+    → ShowsCounterRun text equation n (run_text l.names word reached x)
+run_shown text equation l e is n word reached x first short from =
+    let r : Run l = record {
+      start = start_of l from.numbers;
+      word = word;
+      end = from.end;
+      is_start =
+          start_is l (loop_well text l is.is_loop).formed (wholes from.numbers)
+          (length-wholes from.numbers ∙ from.start.count);
+      is_end = from.is_end;
+    } in
+    let v : x ≡ runs.value e from.end = from.is_value ∙ end_value l e r in
+    record {
+      loop = l;
+      difference = e;
+      question = is;
+      run = r;
+      fails = λ z. from.not_zero (v ∙ z);
+      short = short;
+      first = λ w earlier. holds_after l e w (first.first w earlier);
+      numbers = from.numbers;
+      is_start = refl;
+      first_start = from.start;
+      says = ap₂ (λ ss y. run_text l.names word ss y) from.are_states v;
+    }
+
 module _ (text equation : List ℕ) (l : Program (Expr ℕ)) (e : Expr ℕ)
     (is : IsQuestion text equation l e) (n : ℕ) (a : Answer) where
   abbrev p : Terms Fraction
   p = polynomial_of l e
-
-  run_shown : TellsRun l p n a → ShowsCounterRun text equation n a.text
-  run_shown t =
-      let from = t.is.run in
-      let r : Run l = record {
-        start = start_of l from.numbers;
-        word = t.word;
-        end = from.end;
-        is_start =
-            start_is l (loop_well text l is.is_loop).formed (wholes from.numbers)
-            (length-wholes from.numbers ∙ from.start.count);
-        is_end = from.is_end;
-      } in
-      let v : t.value ≡ runs.value e from.end = from.is_value ∙ end_value l e r in
-      record {
-        loop = l;
-        difference = e;
-        question = is;
-        run = r;
-        fails = λ z. from.not_zero (v ∙ z);
-        short = t.is.short;
-        first = λ w earlier. holds_after l e w (t.is.first.first w earlier);
-        numbers = from.numbers;
-        is_start = refl;
-        first_start = from.start;
-        says = text_of t.says ∙ ap₂ (λ ss x. run_text l.names t.word ss x) from.are_states v;
-      }
 
   none_shown : TellsNone l p n a → ShowsNoneUpTo text equation n a.text
   none_shown t = record {
@@ -135,7 +141,9 @@ module _ (text equation : List ℕ) (l : Program (Expr ℕ)) (e : Expr ℕ)
   }
 
   pub run_when_no : a.status ≡ status.No → Seeks l p n a → ShowsCounterRun text equation n a.text
-  run_when_no h (inl t) = run_shown t
+  run_when_no h (inl t) =
+      subst (ShowsCounterRun text equation n) (sym (text_of t.says))
+      (run_shown text equation l e is n t.word t.states t.value t.is.first t.is.short t.is.run)
   run_when_no h (inr (inl t)) =
       absurd (let x : status.No ≡ status.Yes = sym h ∙ status_of t.says in let y : ⊥ = cc in y)
   run_when_no h (inr (inr t)) = absurd ((stop_refuses l p n a t).no_not h)

@@ -1,6 +1,6 @@
-pub mod RunWords
+pub mod RunArguments
 pub mod RunPromises
-pub mod ChainRunWords
+pub mod ChainRunArguments
 pub mod ChainRunPromises
 pub mod CounterLetters
 pub mod CounterTold

@@ -18,10 +18,10 @@ use Rattle.io_edge.specs.Outcome.{Call, IsCarriedOut}
 use Rattle.io_edge.proofs.OfStatuses.{status_of, text_of, plain_yes, refusing_fault, refusing_wide}
 use Rattle.io_edge.proofs.Outcomes.{ends_so}
 use Rattle.io_edge.proofs.OneFile as one_file
-use Rattle.io_edge.proofs.OneFile.{OneFile, concludes_yes, concludes_no, concludes_spent, answered, ends_at_fault, writes, refused, never_ends, kept, long}
+use Rattle.io_edge.proofs.OneFile.{OneFile, concludes_yes, concludes_no, concludes_exhausted, answered, ends_at_fault, writes, refused, never_ends, kept, long}
 use Rattle.command_parts.proofs.LoopCourses.{reading_loop}
 use Rattle.replay_commands.specs.RunTexts.{run_answer}
-use Rattle.replay_commands.specs.RunWords.{Request}
+use Rattle.replay_commands.specs.RunArguments.{Request}
 use Rattle.replay_commands.specs.RunCourse.{course}
 use Rattle.replay_commands.specs.RunClauses.{ShowsRun, IsRunFault, Runs}
 
@@ -98,7 +98,7 @@ module _ (request : Request) where
           (replay_of l request.values request.word) refl h refusing.yes_not) refl;
       no = never_ends path call f concludes_no
           (λ l m a h. answer_no a l (replay_of l request.values request.word) h);
-      spent = never_ends path call f concludes_spent
+      exhausted = never_ends path call f concludes_exhausted
           (λ l m a h. (answers_plain l a h).budget_not);
       journal = kept path call f (λ l m h. h);
       loop_fault = ends_at_fault path call f;

@@ -21,7 +21,7 @@ use Rattle.command_parts.specs.ChainReading.{IsChainFault, ReadsChain}
 use Rattle.command_parts.specs.StateTexts.{states_text}
 use Rattle.replay_commands.specs.RunTexts.{run_answer}
 use Rattle.replay_commands.specs.ChainrunTexts.{IsOfWords, count_answer}
-use Rattle.replay_commands.specs.ChainrunWords.{Request}
+use Rattle.replay_commands.specs.ChainrunArguments.{Request}
 
 pub record ShowsChainRun (text : List ℕ) (request : Request) (said : List ℕ) : Type 0 where
   pub chain : Chain (Expr ℕ)
@@ -58,9 +58,9 @@ pub record ReplaysChain (request : Request) (call : Call) : Type 0 where
   -- a fault, or a number that doesn't fit: the text tells the first fault of CHAIN, that there
   -- isn't a word for each loop, or the first refusal of the run
   pub why : TellsWhy call (Refuses call request)
-  -- never no, nor a spent budget; and the meter is left alone
+  -- never no, nor an exhausted budget; and the meter is left alone
   pub no : call.status ≢ status.No
-  pub spent : call.status ≢ status.Budget
+  pub exhausted : call.status ≢ status.Budget
   pub journal : call.meter.after ≡ call.meter.before
   -- where the bytes are told, but for want of memory and faults of the outside
   pub chain_fault : (fault : Fault) → ReadsChain call request.file (Err fault)

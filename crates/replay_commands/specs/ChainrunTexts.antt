@@ -9,7 +9,7 @@ use Rattle.loop_runs.specs.ChainReplay.{chain_replay_of}
 use Rattle.io_edge.specs.declared.answer.Status.TheVariants as status
 use Rattle.io_edge.specs.Texts.{Answer, answer}
 use Rattle.replay_commands.specs.RunTexts.{run_answer}
-use Rattle.replay_commands.specs.ChainrunWords.{Request}
+use Rattle.replay_commands.specs.ChainrunArguments.{Request}
 
 abbrev pub IsOfWords : Chain (Expr ℕ) → List (List ℕ) → Type 0
 IsOfWords c words = length words ≡ length (stages_of c)

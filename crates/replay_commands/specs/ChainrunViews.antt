@@ -3,8 +3,8 @@
 use Rattle.std.specs.Prelude.{string_bytes}
 use Rattle.loop_runs.specs.Seen.{numbers_of}
 use Rattle.loop_runs.specs.ChainRunsSeen.{words_of}
-use Rattle.replay_commands.specs.declared.chainrun_words.Request as made
-use Rattle.replay_commands.specs.ChainrunWords.{Request}
+use Rattle.replay_commands.specs.declared.chainrun_arguments.Request as made
+use Rattle.replay_commands.specs.ChainrunArguments.{Request}
 
 abbrev pub view : made.Request → Request
 view request = record {

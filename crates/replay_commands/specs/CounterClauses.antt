@@ -42,7 +42,7 @@ use Rattle.command_parts.specs.Equations.{equation_in, operations_of, polynomial
 use Rattle.command_parts.specs.EquationReading.{equation_refusal, IsUnformed}
 use Rattle.replay_commands.specs.CounterSeeking.{TellsStop}
 use Rattle.replay_commands.specs.CounterTexts.{none_answer, limit_answer}
-use Rattle.replay_commands.specs.CounterWords.{Request}
+use Rattle.replay_commands.specs.CounterArguments.{Request}
 use Rattle.replay_commands.specs.CounterHeadline.{IsQuestion, ShowsCounterRun, ShowsNoneUpTo}
 
 pub record IsEquationFault (text equation : List ℕ) (a : Answer) : Type 0 where
@@ -115,8 +115,8 @@ pub record Counters (request : Request) (call : Call) : Type 0 where
   -- first operation that forms the equation's polynomial or a map of the loop and can't be done, or
   -- the word at which the search stopped
   pub why : TellsWhy call (Refuses call request)
-  -- never a spent budget; and the meter is left alone
-  pub spent : call.status ≢ status.Budget
+  -- never an exhausted budget; and the meter is left alone
+  pub exhausted : call.status ≢ status.Budget
   pub journal : call.meter.after ≡ call.meter.before
   -- where the bytes are told, but for want of memory and faults of the outside: the first fault;
   -- the

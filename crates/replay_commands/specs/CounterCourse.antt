@@ -4,7 +4,7 @@ use Rattle.io_edge.specs.Course.{Course, silent}
 use Rattle.command_parts.specs.LoopReading.{with_loop}
 use Rattle.command_parts.specs.Equations.{equation_in}
 use Rattle.replay_commands.specs.CounterSeeking.{Answers}
-use Rattle.replay_commands.specs.CounterWords.{Request}
+use Rattle.replay_commands.specs.CounterArguments.{Request}
 
 abbrev pub course : Request → Course
 course request = with_loop request.file (λ l.

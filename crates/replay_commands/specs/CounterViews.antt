@@ -10,9 +10,9 @@ use Rattle.counter_run.specs.declared.Found.TheVariants as found
 use Rattle.counter_run.specs.declared.error.CounterError.{CounterError}
 use Rattle.counter_run.specs.declared.error.CounterError.TheVariants as error
 use Rattle.io_edge.specs.Texts.{Answer}
-use Rattle.replay_commands.specs.declared.counter_words.Request as made
+use Rattle.replay_commands.specs.declared.counter_arguments.Request as made
 use Rattle.replay_commands.specs.CounterTexts.{run_answer, none_answer, limit_answer, wide_answer, map_answer}
-use Rattle.replay_commands.specs.CounterWords.{Request}
+use Rattle.replay_commands.specs.CounterArguments.{Request}
 
 abbrev pub view : made.Request → Request
 view request = record {

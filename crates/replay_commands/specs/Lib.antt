@@ -1,14 +1,14 @@
-pub mod RunWords
+pub mod RunArguments
 pub mod RunTexts
 pub mod RunCourse
 pub mod RunClauses
 pub mod RunViews
-pub mod ChainrunWords
+pub mod ChainrunArguments
 pub mod ChainrunTexts
 pub mod ChainrunCourse
 pub mod ChainrunClauses
 pub mod ChainrunViews
-pub mod CounterWords
+pub mod CounterArguments
 pub mod CounterTexts
 pub mod CounterSeeking
 pub mod CounterCourse

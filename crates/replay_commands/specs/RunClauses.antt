@@ -18,7 +18,7 @@ use Rattle.command_parts.specs.FaultTexts.{loop_refusal}
 use Rattle.command_parts.specs.LoopReading.{loop_at, IsLoopFault, ReadsLoop}
 use Rattle.command_parts.specs.StateTexts.{states_text}
 use Rattle.replay_commands.specs.RunTexts.{run_answer}
-use Rattle.replay_commands.specs.RunWords.{Request}
+use Rattle.replay_commands.specs.RunArguments.{Request}
 
 pub record ShowsRun (text : List ℕ) (request : Request) (said : List ℕ) : Type 0 where
   pub loop : Program (Expr ℕ)
@@ -46,9 +46,9 @@ pub record Runs (request : Request) (call : Call) : Type 0 where
       → IfTold call.files.before request.file (λ text. Wrote call.sink (ShowsRun text request))
   -- a fault, or a number that doesn't fit: the text tells the first fault of LOOP or of the run
   pub why : TellsWhy call (Refuses call request)
-  -- never no, nor a spent budget; and the meter is left alone
+  -- never no, nor an exhausted budget; and the meter is left alone
   pub no : call.status ≢ status.No
-  pub spent : call.status ≢ status.Budget
+  pub exhausted : call.status ≢ status.Budget
   pub journal : call.meter.after ≡ call.meter.before
   -- where the bytes are told, but for want of memory and faults of the outside
   pub loop_fault : (fault : Fault) → ReadsLoop call request.file (Err fault)

@@ -4,7 +4,7 @@ use Rattle.loop_runs.specs.Replay.{replay_of}
 use Rattle.io_edge.specs.Course.{Course, silent}
 use Rattle.command_parts.specs.LoopReading.{with_loop}
 use Rattle.replay_commands.specs.RunTexts.{run_answer}
-use Rattle.replay_commands.specs.RunWords.{Request}
+use Rattle.replay_commands.specs.RunArguments.{Request}
 
 abbrev pub course : Request → Course
 course request = with_loop request.file (λ l.

@@ -2,8 +2,8 @@
 --   view request        what is asked for
 use Rattle.std.specs.Prelude.{string_bytes}
 use Rattle.loop_runs.specs.Seen.{numbers_of}
-use Rattle.replay_commands.specs.declared.run_words.Request as made
-use Rattle.replay_commands.specs.RunWords.{Request}
+use Rattle.replay_commands.specs.declared.run_arguments.Request as made
+use Rattle.replay_commands.specs.RunArguments.{Request}
 
 abbrev pub view : made.Request → Request
 view request = record {

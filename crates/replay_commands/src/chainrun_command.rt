@@ -11,11 +11,11 @@ ghost use Rattle.io_edge.specs.Views.{answer_view, seen_answer};
 ghost use Rattle.io_edge.specs.Outcome.{Says, Obeys};
 ghost use Rattle.replay_commands.specs.RunTexts as run_texts;
 ghost use Rattle.replay_commands.specs.ChainrunTexts as texts;
-ghost use Rattle.replay_commands.specs.ChainrunWords.{request_in};
+ghost use Rattle.replay_commands.specs.ChainrunArguments.{request_in};
 ghost use Rattle.replay_commands.specs.ChainrunCourse.{course};
 ghost use Rattle.replay_commands.specs.ChainrunViews.{view};
 
-use crate::chainrun_words::{Request, read_words};
+use crate::chainrun_arguments::{Request, read_arguments};
 use crate::{run_refusal, states_answer};
 use command_parts::read_file_chain;
 use frac128::Frac;
@@ -23,16 +23,16 @@ use io_edge::{Answer, Files, Status};
 use loop_runs::{Chain, replay_chain};
 use std::alloc::{AllocError, Global};
 
-/// What `chainrun` answers to the words behind it; none where they ask for no run.
+/// What `chainrun` answers to the arguments behind it; none where they ask for no run.
 pub fn chainrun<F: Files>(
     alloc: Global,
-    words: &[String],
+    arguments: &[String],
     files: &mut F,
 ) -> Result<Option<Answer>, AllocError>
-    ensures { (m : Journal) → Obeys course (request_in (map string_bytes words.now))
+    ensures { (m : Journal) → Obeys course (request_in (map string_bytes arguments.now))
         (F.seen files.old ⟶ F.seen files.new) (m ⟶ m) result }
 {
-    match read_words(alloc, words) {
+    match read_arguments(alloc, arguments) {
         Ok(Some(request)) => io_edge::reply(answer_to(alloc, files, &request)),
         Ok(None) => Ok(None),
         Err(e) => Err(e),

@@ -3,7 +3,7 @@ ghost use Rattle.std.specs.Prelude.{◌≡◌, ℕ, List, Option, sum_by, min};
 ghost use Rattle.command_parts.specs.Lookup.{IsFound, list_with};
 ghost use Rattle.command_parts.specs.Numerals.{each_of, letters_of};
 ghost use Rattle.loop_runs.specs.ChainRunsSeen.{words_of};
-ghost use Rattle.replay_commands.specs.ChainrunWords as words;
+ghost use Rattle.replay_commands.specs.ChainrunArguments as words;
 
 use command_parts::read_letters;
 use std::alloc::{AllocError, Global};

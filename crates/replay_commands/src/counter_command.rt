@@ -9,12 +9,12 @@ ghost use Rattle.io_edge.specs.Views.{answer_view, seen_answer};
 ghost use Rattle.io_edge.specs.Outcome.{Says, Obeys};
 ghost use Rattle.command_parts.specs.Equations.{equation_in};
 ghost use Rattle.replay_commands.specs.CounterSeeking.{Seeks, Answers};
-ghost use Rattle.replay_commands.specs.CounterWords.{request_in};
+ghost use Rattle.replay_commands.specs.CounterArguments.{request_in};
 ghost use Rattle.replay_commands.specs.CounterCourse.{course};
 ghost use Rattle.replay_commands.specs.CounterViews.{view};
 
+use crate::counter_arguments::{Request, read_arguments};
 use crate::counter_texts::{found_answer, search_refusal};
-use crate::counter_words::{Request, read_words};
 use command_parts::{read_polynomial, read_program};
 use frac128::Frac;
 use io_edge::{Answer, Files};
@@ -23,16 +23,16 @@ use monos::Grevlex;
 use poly::Poly;
 use std::alloc::{AllocError, Global};
 
-/// What `counter` answers to the words behind it; none where they ask for no counter-run.
+/// What `counter` answers to the arguments behind it; none where they ask for no counter-run.
 pub fn counter<F: Files>(
     alloc: Global,
-    words: &[String],
+    arguments: &[String],
     files: &mut F,
 ) -> Result<Option<Answer>, AllocError>
-    ensures { (m : Journal) → Obeys course (request_in (map string_bytes words.now))
+    ensures { (m : Journal) → Obeys course (request_in (map string_bytes arguments.now))
         (F.seen files.old ⟶ F.seen files.new) (m ⟶ m) result }
 {
-    match read_words(words) {
+    match read_arguments(arguments) {
         Some(request) => io_edge::reply(answer_to(alloc, files, request)),
         None => Ok(None),
     }

@@ -50,10 +50,25 @@ fn run_answer(
         (states_of states.now) (fraction_of value.now)) }
 {
     let mut text = String::new(alloc);
-    push_word(&mut text, "word", word)?;
-    push_states(&mut text, names, states)?;
-    push_value(&mut text, value)?;
+    push_run(&mut text, names, word, states, value)?;
     Ok(Answer::new(Status::No, text))
+}
+
+/// Writes a run: its word, its states and the value at its end, one a line.
+pub fn push_run(
+    text: &mut String,
+    names: &Names,
+    word: &[u32],
+    states: &[Vec<Frac>],
+    value: &Frac,
+) -> Result<(), AllocError>
+    requires { All (λ s. length s.items ≡ length names.now) states.now }
+    ensures { OnOk result (string_bytes text.new ≡ string_bytes text.old ++
+        texts.run_text names.now word.now (states_of states.now) (fraction_of value.now)) }
+{
+    push_word(text, "word", word)?;
+    push_states(text, names, states)?;
+    push_value(text, value)
 }
 
 fn none_answer(alloc: Global, most: u32) -> Result<Answer, AllocError>
@@ -68,20 +83,26 @@ pub(crate) fn search_refusal(alloc: Global, why: &CounterError) -> Result<Answer
     ensures { IfOk result (λ a. tells_error why.now ≡ Some (answer_view a)) }
 {
     match why {
-        CounterError::Map(MapError::Limit { at }) => {
-            fault_line(alloc, Status::Fault, "loop: ", "limit", *at)
-        }
-        CounterError::Map(MapError::Wide { at }) => {
-            fault_line(alloc, Status::Wide, "loop: ", "wide", *at)
-        }
+        CounterError::Map(stop) => map_answer(alloc, stop),
         CounterError::Limit { word } => word_answer(alloc, Status::Fault, "limit: word", word),
         CounterError::Wide { word } => word_answer(alloc, Status::Wide, "wide: word", word),
-        CounterError::Map(MapError::Memory) | CounterError::Memory => Err(AllocError),
+        CounterError::Memory => Err(AllocError),
+    }
+}
+
+/// To a map of the loop that can't be formed.
+pub fn map_answer(alloc: Global, stop: &MapError) -> Result<Answer, AllocError>
+    ensures { IfOk result (λ a. texts.map_answer stop.now ≡ Some (answer_view a)) }
+{
+    match stop {
+        MapError::Limit { at } => fault_line(alloc, Status::Fault, "loop: ", "limit", *at),
+        MapError::Wide { at } => fault_line(alloc, Status::Wide, "loop: ", "wide", *at),
+        MapError::Memory => Err(AllocError),
     }
 }
 
 /// A word behind what is told of it.
-fn word_answer(
+pub fn word_answer(
     alloc: Global,
     status: Status,
     part: &str,

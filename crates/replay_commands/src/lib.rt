@@ -4,18 +4,19 @@
 //! there is none up to a length; or the first refusal.
 #![tactic(auto)]
 
+mod chainrun_arguments;
 mod chainrun_command;
 mod chainrun_letters;
-mod chainrun_words;
+mod counter_arguments;
 mod counter_command;
 pub mod counter_laws;
 mod counter_texts;
-mod counter_words;
+mod run_arguments;
 mod run_command;
 mod run_texts;
-mod run_words;
 
 pub use chainrun_command::chainrun;
 pub use counter_command::counter;
+pub use counter_texts::{map_answer, push_run, word_answer};
 pub use run_command::run;
 pub use run_texts::{run_refusal, states_answer};

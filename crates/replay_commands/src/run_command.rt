@@ -9,12 +9,12 @@ ghost use Rattle.io_edge.specs.Change.{◌⟶◌};
 ghost use Rattle.io_edge.specs.Views.{answer_view, seen_answer};
 ghost use Rattle.io_edge.specs.Outcome.{Says, Obeys};
 ghost use Rattle.replay_commands.specs.RunTexts as texts;
-ghost use Rattle.replay_commands.specs.RunWords.{request_in};
+ghost use Rattle.replay_commands.specs.RunArguments.{request_in};
 ghost use Rattle.replay_commands.specs.RunCourse.{course};
 ghost use Rattle.replay_commands.specs.RunViews.{view};
 
+use crate::run_arguments::{Request, read_arguments};
 use crate::run_texts::{run_refusal, states_answer};
-use crate::run_words::{Request, read_words};
 use command_parts::read_program;
 use frac128::Frac;
 use io_edge::{Answer, Files};
@@ -22,16 +22,16 @@ use loop_model::Loop;
 use loop_runs::replay;
 use std::alloc::{AllocError, Global};
 
-/// What `run` answers to the words behind it; none where they ask for no run.
+/// What `run` answers to the arguments behind it; none where they ask for no run.
 pub fn run<F: Files>(
     alloc: Global,
-    words: &[String],
+    arguments: &[String],
     files: &mut F,
 ) -> Result<Option<Answer>, AllocError>
-    ensures { (m : Journal) → Obeys course (request_in (map string_bytes words.now))
+    ensures { (m : Journal) → Obeys course (request_in (map string_bytes arguments.now))
         (F.seen files.old ⟶ F.seen files.new) (m ⟶ m) result }
 {
-    match read_words(alloc, words) {
+    match read_arguments(alloc, arguments) {
         Ok(Some(request)) => io_edge::reply(answer_to(alloc, files, &request)),
         Ok(None) => Ok(None),
         Err(e) => Err(e),

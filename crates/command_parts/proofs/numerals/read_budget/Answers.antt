@@ -8,8 +8,8 @@ pub returns-in_err-letter : goal.returns-in_err-letter
 returns-in_err-letter c =
     let none : c.from_residual.result ≡ None = search rules in
     ap (λ b. option_map units_of b) none
-    ∙ budget_missing c.args.word.now (omega arith) (search rules)
+    ∙ budget_missing c.args.argument.now (omega arith) (search rules)
 
 pub returns : goal.returns
-returns c = budget_found c.args.word.now c.in_ok-letter.field-0 _ (omega arith) (search rules)
+returns c = budget_found c.args.argument.now c.in_ok-letter.field-0 _ (omega arith) (search rules)
     (search rules)

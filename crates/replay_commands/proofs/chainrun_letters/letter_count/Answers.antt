@@ -3,7 +3,7 @@ use Rattle.std.proofs.lemmas.Bool.Decides.{nat_tests}
 use Rattle.std.proofs.lemmas.Iterator.Consumers.{count_from_yields_List}
 use Rattle.std.proofs.lemmas.Iterator.Splits.{YieldsList-from_slice_split}
 use Rattle.loop_model.specs.Ascii.{comma}
-use Rattle.replay_commands.proofs.ChainRunWords.{counts}
+use Rattle.replay_commands.proofs.ChainRunArguments.{counts}
 use Rattle.replay_commands.proofs.chainrun_letters.letter_count.Goals as goal
 
 pub returns : goal.returns

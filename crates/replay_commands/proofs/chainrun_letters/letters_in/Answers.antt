@@ -2,8 +2,8 @@ use Rattle.std.proofs.Common.{rules, tests, ◌==◌, ap, ◌∙◌, min, sum_by
 use Rattle.std.proofs.lemmas.Iterator.Consumers.{YieldsList-end}
 use Rattle.std.proofs.lemmas.Iterator.Splits.{YieldsList-from_slice_split}
 use Rattle.loop_model.specs.Ascii.{slash}
-use Rattle.replay_commands.specs.ChainrunWords.{letter_count}
-use Rattle.replay_commands.proofs.ChainRunWords.{letters_more}
+use Rattle.replay_commands.specs.ChainrunArguments.{letter_count}
+use Rattle.replay_commands.proofs.ChainRunArguments.{letters_more}
 use Rattle.replay_commands.proofs.chainrun_letters.letters_in.Goals as goal
 
 pub loop-word-preserved : goal.loop-word-preserved

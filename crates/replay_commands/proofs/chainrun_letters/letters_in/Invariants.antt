@@ -1,5 +1,5 @@
 use Rattle.std.proofs.Common.{◌≡◌, ◌^◌, ◌-◌, map, sum_by, min}
-use Rattle.replay_commands.specs.ChainrunWords.{letter_count}
+use Rattle.replay_commands.specs.ChainrunArguments.{letter_count}
 use Rattle.replay_commands.proofs.chainrun_letters.letters_in.Given as goal
 
 abbrev pub invariant-loop-word : goal.invariant-loop-word

@@ -1,7 +1,7 @@
 use Rattle.std.proofs.Common.{subst, sym, arith}
 use Rattle.command_parts.specs.Lookup.{IsFound}
 use Rattle.loop_runs.specs.ChainRunsSeen.{words_of}
-use Rattle.replay_commands.proofs.ChainRunWords.{words_few, words_many}
+use Rattle.replay_commands.proofs.ChainRunArguments.{words_few, words_many}
 use Rattle.replay_commands.proofs.chainrun_letters.read_letter_words.Goals as goal
 
 pub returns-then-letters_in-le-MOST_LETTERS : goal.returns-then-letters_in-le-MOST_LETTERS

@@ -5,7 +5,7 @@ use Rattle.loop_model.specs.Ascii.{slash}
 use Rattle.command_parts.specs.Lookup.{IsFound}
 use Rattle.command_parts.specs.Numerals.{each_of, letters_of}
 use Rattle.loop_runs.specs.ChainRunsSeen.{words_of}
-use Rattle.replay_commands.proofs.ChainRunWords.{words_more}
+use Rattle.replay_commands.proofs.ChainRunArguments.{words_more}
 use Rattle.replay_commands.proofs.chainrun_letters.words_in.Goals as goal
 
 pub loop-word-preserved : goal.loop-word-preserved

@@ -1,17 +1,18 @@
 use Rattle.std.proofs.Common.{rules, refl, map, string_bytes}
 use Rattle.io_edge.specs.Change.{◌⟶◌}
 use Rattle.io_edge.proofs.Going.{obeys, obeys_nothing}
-use Rattle.replay_commands.specs.CounterWords.{request_in}
+use Rattle.replay_commands.specs.CounterArguments.{request_in}
 use Rattle.replay_commands.specs.CounterCourse.{course}
 use Rattle.replay_commands.specs.CounterViews.{view}
 use Rattle.replay_commands.proofs.counter_command.counter.Goals as goal
 
 pub returns-in-Some : goal.returns-in-Some
 returns-in-Some g c m =
-    obeys course (request_in (map string_bytes c.args.words.now)) (view c.in-Some.request) _
+    obeys course (request_in (map string_bytes c.args.arguments.now)) (view c.in-Some.request) _
     (m ⟶ m) c.answer_to.result c.reply.result (search rules) (c.answer_to.ensures m) c.reply.ensures
 
 pub returns-in-None : goal.returns-in-None
 returns-in-None g c m =
-    obeys_nothing course (request_in (map string_bytes c.args.words.now)) _ m (search rules) refl
+    obeys_nothing course (request_in (map string_bytes c.args.arguments.now)) _ m (search rules)
+    refl
     refl

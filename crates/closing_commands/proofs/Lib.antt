@@ -1,0 +1,6 @@
+pub mod DecideTold
+pub mod DecideShown
+pub mod DecideBudgets
+pub mod DecideDecided
+pub mod DecidePromises
+pub mod DecideZero

@@ -1,0 +1,7 @@
+use Rattle.std.proofs.Common.{ap, append_assoc, ◌∙◌}
+use Rattle.io_edge.specs.Texts.{with_text}
+use Rattle.io_edge.specs.declared.answer.Status.TheVariants.{Wide}
+use Rattle.closing_commands.proofs.certificates.wide_test_answer.Goals as goal
+
+pub returns : goal.returns
+returns c = c.new.ensures ∙ ap (with_text Wide) (simp (c.in_ok-text.ensures.ok, append_assoc))

@@ -1,0 +1,30 @@
+use Rattle.std.proofs.Common.{inl, inr, refl, string_bytes}
+use Rattle.loop_model.specs.View.{program_of}
+use Rattle.closing_commands.proofs.DecideTold.{answers_equation, leaves_equation, answers_unread}
+use Rattle.closing_commands.proofs.decide_command.answer_to_equation.Goals as goal
+
+pub answer_by_maps-requires-clause-arity : goal.answer_by_maps-requires-clause-arity
+answer_by_maps-requires-clause-arity c = c.in-Ok.ensures.polynomial.arity
+
+pub returns-in-Ok-clause-answers : goal.returns-in-Ok-clause-answers
+returns-in-Ok-clause-answers c =
+    answers_equation c.args.evidence (program_of c.args.lp.now)
+    (string_bytes c.args.equation.now) c.args.budget.units c.args.meter.now
+    c.answer_by_maps.new.meter c.answer_by_maps.result c.in-Ok.polynomial
+    c.in-Ok.ensures.polynomial c.answer_by_maps.ensures.answer
+
+pub returns-in-Ok-clause-leaves : goal.returns-in-Ok-clause-leaves
+returns-in-Ok-clause-leaves c =
+    inr (leaves_equation c.args.evidence (program_of c.args.lp.now)
+    (string_bytes c.args.equation.now) c.args.budget.units c.args.meter.now
+    c.answer_by_maps.new.meter c.answer_by_maps.result c.in-Ok.polynomial
+    c.in-Ok.ensures.polynomial c.answer_by_maps.ensures.asked)
+
+pub returns-in-Err-clause-answers : goal.returns-in-Err-clause-answers
+returns-in-Err-clause-answers c =
+    answers_unread c.args.evidence (program_of c.args.lp.now) (string_bytes c.args.equation.now)
+    c.args.budget.units c.args.meter.now c.args.meter.now c.in-Err.refusal refl
+    c.in-Err.ensures.unread
+
+pub returns-in-Err-clause-leaves : goal.returns-in-Err-clause-leaves
+returns-in-Err-clause-leaves c = inl refl

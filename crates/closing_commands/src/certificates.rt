@@ -1,0 +1,101 @@
+//! The certificate of a closed equation.
+ghost use Rattle.std.specs.Prelude.{◌≡◌, ◌≤◌, [], ◌∷◌, Some, length, IfOk};
+ghost use Rattle.algebra.specs.Fraction.{Fraction};
+ghost use Rattle.polynomials.specs.Terms.{Terms};
+ghost use Rattle.machines.specs.Journal.{units_of};
+ghost use Rattle.loops.specs.WellFormed.{IsWellFormed};
+ghost use Rattle.poly.specs.Seen.{terms_each};
+ghost use Rattle.ideal_ops.specs.Calls.{AreOver};
+ghost use Rattle.loop_model.specs.Maps.{AreFree};
+ghost use Rattle.loop_model.specs.View.{program_of};
+ghost use Rattle.cert_form.specs.Form.{cert_in, most_elements, ReadsAs};
+ghost use Rattle.counter_run.specs.Maps.{AreMaps};
+ghost use Rattle.closures.specs.Closing.{closed};
+ghost use Rattle.closures.specs.Ends.{ComesNext};
+ghost use Rattle.closing.specs.Proving.{certificate_of, FitsProof};
+ghost use Rattle.io_edge.specs.Views.{answer_view};
+ghost use Rattle.closing_commands.specs.Deciding.{Decides, HasAsked};
+ghost use Rattle.closing_commands.specs.DecideTexts as texts;
+ghost use Rattle.closing_commands.specs.DecideViews.{proving_answer};
+ghost use Rattle.closing_commands.specs.declared.evidence.Evidence.TheVariants.{Certificate};
+
+use crate::decide_texts::exhausted_answer;
+use cert_form::{Cert, write_cert};
+use closing::{ClosureProof, ProvingError, proof_of};
+use command_parts::Budget;
+use counter_run::Maps;
+use frac128::Frac;
+use io_edge::{Answer, Status};
+use journal::Meter;
+use loop_model::{Loop, Names};
+use monos::Grevlex;
+use poly::Poly;
+use std::alloc::{AllocError, Global};
+
+/// The answer with the certificate, or by what the divisions stop that prove the list closed.
+pub(crate) fn certificate_answer(
+    alloc: Global,
+    lp: &Loop,
+    maps: &Maps,
+    budget: Budget,
+    polynomials: &[Poly<Frac, Grevlex>],
+    list: &[Poly<Frac, Grevlex>],
+    meter: &mut Meter,
+) -> Result<Answer, AllocError>
+    requires formed { IsWellFormed (program_of lp.now) }
+    requires maps { AreMaps (program_of lp.now) maps.now }
+    requires free { AreFree (program_of lp.now) }
+    requires limit { meter.old.limit ≡ budget.units }
+    requires over { AreOver (length (program_of lp.now).names) polynomials.now }
+    requires one { length polynomials.now ≡ 1 }
+    requires list_over { AreOver (length (program_of lp.now).names) list.now }
+    requires few { length list.now ≤ units_of meter.old.entries }
+    requires closed { ComesNext (program_of lp.now) (terms_each polynomials.now)
+        meter.old.entries (closed (terms_each list.now)) }
+    ensures answer { (p : Terms Fraction) → terms_each polynomials.now ≡ p ∷ []
+        → IfOk result (λ a.
+        Decides (program_of lp.now) p meter.new Certificate budget.units (answer_view a)) }
+    ensures asked { (p : Terms Fraction) → terms_each polynomials.now ≡ p ∷ []
+        → HasAsked (program_of lp.now) p meter.new Certificate budget.units }
+{
+    // for its contract, which tells the prover that no more units are used than are allowed
+    let _ = meter.used();
+    match proof_of(alloc, lp, maps, polynomials, list, meter) {
+        Ok(proof) => proof_answer(alloc, lp.names(), proof),
+        Err(error) => proving_refusal(alloc, budget.units, &error),
+    }
+}
+
+/// Yes: the proof as a certificate with version 2 over the loop's names, and a line feed (docs/FORMATS.md).
+fn proof_answer(alloc: Global, names: &Names, proof: ClosureProof) -> Result<Answer, AllocError>
+    requires { FitsProof (length names.now) proof }
+    ensures answer { IfOk result (λ a.
+        answer_view a ≡ texts.certificate_answer names.now (certificate_of proof)) }
+    ensures read_back { let c = certificate_of proof in IfOk result (λ a.
+        length c.basis ≤ most_elements
+        → ReadsAs (cert_in names.now (length c.steps) (answer_view a).text) c) }
+{
+    let cert = Cert::new(names.len(), proof.list, proof.steps);
+    let mut text = write_cert(alloc, &cert, names)?;
+    text.push('\n')?;
+    Ok(Answer::new(Status::Yes, text))
+}
+
+/// To a list that was not proved closed.
+fn proving_refusal(alloc: Global, budget: u64, why: &ProvingError) -> Result<Answer, AllocError>
+    ensures { IfOk result (λ a. proving_answer budget why.now ≡ Some (answer_view a)) }
+{
+    match why {
+        ProvingError::Wide { branch, element } => wide_test_answer(alloc, *branch, *element),
+        ProvingError::Budget => exhausted_answer(alloc, budget),
+        ProvingError::Memory => Err(AllocError),
+    }
+}
+
+/// To a number of the closing division of this element, with this branch, that may not fit.
+fn wide_test_answer(alloc: Global, branch: u32, element: u32) -> Result<Answer, AllocError>
+    ensures { IfOk result (λ a. answer_view a ≡ texts.wide_test_answer branch element) }
+{
+    let text = format!(in alloc; "wide: branch {branch}, element {element}\n")?;
+    Ok(Answer::new(Status::Wide, text))
+}

@@ -1,0 +1,18 @@
+use Rattle.std.proofs.Common.{rules, string_bytes}
+use Rattle.std.proofs.lemmas.Result.{IfOk-weaker}
+use Rattle.loop_model.specs.View.{program_of}
+use Rattle.io_edge.specs.Views.{answer_view}
+use Rattle.command_parts.proofs.Reading.{polynomial_read, refusal_read}
+use Rattle.command_parts.proofs.equation_argument.read_polynomial.Goals as goal
+
+pub returns-in-Ok-clause-polynomial : goal.returns-in-Ok-clause-polynomial
+returns-in-Ok-clause-polynomial c =
+    polynomial_read (program_of c.args.lp.now) (string_bytes c.args.equation.now) _
+    c.names.result.now (search rules) c.names.ensures.names c.in-Ok.polynomial c.in-Ok.ensures
+
+pub returns-in-Err-clause-unread : goal.returns-in-Err-clause-unread
+returns-in-Err-clause-unread c =
+    IfOk-weaker c.refusal.result _ _
+    (λ a says. refusal_read (program_of c.args.lp.now) (string_bytes c.args.equation.now) _
+    c.names.result.now (search rules) c.names.ensures.names c.in-Err.why c.in-Err.ensures
+    (answer_view a) says) c.refusal.ensures
