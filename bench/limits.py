@@ -4,8 +4,10 @@
 Usage: bench/limits.py        (after ./invar --prove has built the program)
 """
 import itertools
+import json
 import os
 import pathlib
+import random
 import subprocess
 import sys
 import tempfile
@@ -82,6 +84,39 @@ def large_certificate(size):
     return head + "+".join(terms) + tail, len(terms)
 
 
+def certificate(variables, basis, steps):
+    """The text of a certificate with these polynomials and, branch by branch, rows of cofactors."""
+    return json.dumps({"basis": basis, "steps": steps, "vars": variables, "version": 1})
+
+
+SUM_OF_TWELVE = "+".join("abcdefghijkl")
+# Each of 12 variables becomes the sum of all, so that a product of their squares would have 1,352,078 terms.
+TWELVE_SUMS = ("vars a, b, c, d, e, f, g, h, i, j, k, l; init a=0; branch { "
+               f"(a, b, c, d, e, f, g, h, i, j, k, l) = ({', '.join([SUM_OF_TWELVE] * 12)}); }}")
+TWELVE_SQUARES = certificate(list("abcdefghijkl"), ["*".join(f"{name}^2" for name in "abcdefghijkl")], [[["1"]]])
+
+
+def random_sum(terms, seed):
+    """A sum of this many terms in three variables with large exponents, each of them a multiple of x."""
+    random.seed(seed)
+    exponents = {tuple(random.randrange(1, 30_000) for _ in range(3)) for _ in range(terms)}
+    return "+".join(f"x^{a}*y^{b}*z^{c}" for a, b, c in sorted(exponents))
+
+
+def long_product():
+    """A certificate whose one identity has a product of two sums of 3,000 terms."""
+    return certificate(list("xyz"), [random_sum(3000, 1)], [[[random_sum(3000, 2)]]])
+
+
+def cancelling_products(branches, terms, cofactor_terms):
+    """A valid certificate of the elements 0, p and p, where 0 is a cofactor times p less the same, for branches that leave all as they are."""
+    names = list("xabc")
+    long = "+".join(f"x*{term}" for term in itertools.islice(monomials(names[1:]), terms))
+    cofactor = "+".join(f"x^{exponent}" for exponent in range(2, cofactor_terms + 2))
+    opposite = "-" + cofactor.replace("+", "-")
+    return certificate(names, ["0", long, long], [[["0", cofactor, opposite], ["0", "1", "0"], ["0", "0", "1"]]] * branches)
+
+
 # Loops whose analysis takes more steps than the usual budget: none of their numbers is too wide before.
 LONG_ANALYSES = {
     "a product by six branches": "vars a, b, x, y, p, q; init x=a, y=b, p=1, q=0; branch { x=x/2; y=y/2; p=4*p; } branch { x=x-1; q=q+y*p; } branch { y=y-1; q=q+x*p; } "
@@ -108,6 +143,13 @@ def main():
         pathlib.Path("large.json").write_text(text)
         # The polynomial isn't zero at every start, so the answer is a no, after the composition with the start map.
         row(f"check of one polynomial with {terms} terms in {len(text)} bytes", ["check", "same.loop", "large.json"], 1, 1, 100)
+        for what, loop, text, status, seconds, megabytes in (
+                ("twelve squares, each of a sum of twelve", TWELVE_SUMS, TWELVE_SQUARES, 3, 1, 50),
+                ("a product of two sums of 3,000 terms", "vars x, y, z; init x=0; branch { }", long_product(), 3, 1, 50),
+                ("products as long as they may be, at six branches", "vars x, a, b, c; init x=0;" + " branch { }" * 6, cancelling_products(6, 30_000, 14), 0, 60, 1000)):
+            pathlib.Path("some.loop").write_text(loop)
+            pathlib.Path("some.json").write_text(text)
+            row(f"check of {what}, in {len(text)} bytes", ["check", "some.loop", "some.json"], status, seconds, megabytes, 1)
         pathlib.Path("turns.loop").write_text(
             "vars a, b, c, d, e, f, g, h, i, j, k, l; branch { a=a+1; b=b+a; c=c+b; d=d+c; e=e+2*a; f=f-e; g=g+1/2; h=h+a*b; i=i+g; j=j-a; k=k+3*e; l=l+2; }")
         row("run of 4096 letters over 12 variables", ["run", "turns.loop", ",".join(["1"] * 4096), twelve], 0, 0.5)

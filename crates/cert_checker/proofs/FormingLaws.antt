@@ -11,7 +11,7 @@ use Rattle.loop_model.specs.declared.map_error.MapError.TheVariants as map_error
 use Rattle.loop_model.proofs.OperationLaws.{stops_behind}
 use Rattle.loop_model.specs.Maps.{start_operations, branches_operations}
 use Rattle.cert_checker.specs.declared.error.CheckError.{CheckError}
-use Rattle.cert_checker.specs.declared.error.CheckError.TheVariants.{Map, Wide, Memory}
+use Rattle.cert_checker.specs.declared.error.CheckError.TheVariants.{Map, Limit, Wide, Memory}
 use Rattle.cert_checker.specs.Forming.{refused_map, IfUnformed}
 use Rattle.cert_checker.specs.Wide.{IfRefused}
 
@@ -29,5 +29,6 @@ maps_unformed program c (Map (map_error.Limit at)) free h = stops_behind (length
 maps_unformed program c (Map (map_error.Wide at)) free h = stops_behind (length program.names)
     (start_operations program) (branches_operations program) (map_error.Wide at) free h
 maps_unformed program c (Map map_error.Memory) free h = absurd h
+maps_unformed program c (Limit branch i) free h = absurd h
 maps_unformed program c (Wide branch i) free h = absurd h
 maps_unformed program c Memory free h = tt

@@ -24,7 +24,7 @@ use Rattle.task_lists.specs.Images.{ArePolys, AreRows, IsFormOver, IsStageIn, Is
 use Rattle.task_lists.specs.View.{form_in, stage_in, branch_in, round_in, full_of}
 use Rattle.task_lists.specs.declared.parts.FullForm.{FullForm}
 use Rattle.task_lists.specs.declared.parts.FullStage.{FullStage}
-use Rattle.task_lists.proofs.Falling.{fall_over, rows_arity, stage_over}
+use Rattle.task_lists.proofs.Descending.{fall_over, rows_arity, stage_over}
 use Rattle.task_lists.specs.declared.parts.FullBranch.{FullBranch}
 use Rattle.task_lists.specs.declared.parts.FullCert.{FullCert}
 

@@ -1,6 +1,7 @@
 pub mod FormingLaws
 pub mod IdentityLaws
-pub mod SearchLaws
+pub mod LongLaws
+mod SearchLaws
 pub mod MapsLaws
 pub mod RowLaws
 pub mod VerdictLaws

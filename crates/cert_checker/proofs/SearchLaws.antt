@@ -1,6 +1,8 @@
 -- What the searches keep and find.
 --   start_at, step_at      the identity of the element at a place;  start_past, step_past: where it is too wide
+--   start_counted, step_counted     how many terms it multiplies out to
 --   kept_more, failed_here     all before hold, and so does this one; or it is the first that doesn't
+use Rattle.std.specs.Prelude.{Option}
 use Rattle.std.proofs.Common.{◌≡◌, ◌↔◌, ◌⊎◌, inl, inr, ℕ, ◌<◌, ◌≤◌, ◌+◌, Bool, true, false, List, [], get_or, length, IsTrue, arith, sym, ap, subst, ◌∙◌, true≢false, Vec, Global, vec_len}
 use Rattle.std.proofs.lemmas.List.{get_or-map}
 use borrow.Author.Count.{below_more}
@@ -13,7 +15,9 @@ use Rattle.loop_model.specs.FracPoly.{FracPoly}
 use Rattle.loop_model.proofs.Items.{in_list, item_of}
 use Rattle.cert_form.specs.Cert.{Polys, polys_in, rows_in}
 use Rattle.task_lists.specs.Past.{IsPastCombination}
+use Rattle.expansion.specs.Counts.{IsCount, composition_terms, combination_terms}
 use Rattle.cert_checker.specs.Identities.{StartHolds, StepHolds, StartIsPast, StepIsPast}
+use Rattle.cert_checker.specs.Long.{start_terms, step_terms}
 
 -- ---- the identity of the element that a loop over the basis has
 module _ (m : ℕ) (basis images items : List FracPoly) (value : items ≡ basis) (i : ℕ) (p : FracPoly)
@@ -29,6 +33,11 @@ module _ (m : ℕ) (basis images items : List FracPoly) (value : items ≡ basis
   pub start_past : IsPastComposition fractions (terms_in p) (terms_each images)
       → StartIsPast (terms_each basis) (terms_each images) i
   start_past h = subst (λ x. IsPastComposition fractions x (terms_each images)) found h
+
+  pub start_counted : (t : ℕ) (o : Option ℕ)
+      → IsCount (t + composition_terms (terms_in p) (terms_each images)) o
+      → IsCount (t + start_terms (terms_each basis) (terms_each images) i) o
+  start_counted t o h = subst (λ x. IsCount (t + composition_terms x (terms_each images)) o) found h
 
   module _ (rows : Vec Polys Global) (row : Polys) (height : vec_len rows ≡ length basis)
       (at : row ≡ get_or rows.items i row) where
@@ -55,6 +64,16 @@ module _ (m : ℕ) (basis images items : List FracPoly) (value : items ≡ basis
         → StepIsPast (terms_each basis) (terms_each images) (rows_in rows) i
     step_past (inl h) = inl (start_past h)
     step_past (inr h) = inr (subst (λ y. IsPastCombination y (terms_each basis)) row_is h)
+
+    pub step_counted : (t : ℕ) (o : Option ℕ)
+        → IsCount (t + (composition_terms (terms_in p) (terms_each images)
+        + combination_terms (polys_in row) (terms_each basis))) o
+        → IsCount (t + step_terms (terms_each basis) (terms_each images) (rows_in rows) i) o
+    step_counted t o h =
+        subst (λ x. IsCount (t + (composition_terms x (terms_each images)
+        + combination_terms (get_or (rows_in rows) i []) (terms_each basis))) o) found
+        (subst (λ y. IsCount (t + (composition_terms (terms_in p) (terms_each images)
+        + combination_terms y (terms_each basis))) o) row_is h)
 
 module _ (P : ℕ → Type 0) (n i : ℕ) (b : Bool) (before : (j : ℕ) → j < i → P j) (tells : IsTrue b
     ↔ P i) where

@@ -3,10 +3,11 @@
 --   start_count, branch_count          a map has an image for each
 --   images_over, basis_over            the images and the elements are polynomials in the loop's variables
 --   start_found, start_refused         what the search among the starts finds
+--   start_long, step_long              where the identities multiply out to too many terms;  start_short, step_short: where they don't
 --   step_found, step_refused           what the search among the steps finds
 --   refused_identity                   the refusal of an identity, where all maps are formed
 --   passed_more           the branches before pass
-use Rattle.std.proofs.Common.{◌≡◌, ◌↔◌, ℕ, ◌<◌, ◌+◌, List, [], get_or, length, arith, add-one, sym, ap, subst, ◌∙◌}
+use Rattle.std.proofs.Common.{◌≡◌, ◌↔◌, ℕ, ◌<◌, ◌≤◌, ◌+◌, List, [], get_or, length, arith, add-one, sym, ap, subst, ◌∙◌}
 use Rattle.std.specs.Prelude.{All, Option, Some, None}
 use borrow.Author.Count.{below_more}
 use Rattle.std.proofs.lemmas.List.{length-map}
@@ -35,7 +36,10 @@ use Rattle.cert_checker.specs.declared.error.CheckError.{CheckError}
 use Rattle.cert_checker.specs.declared.error.CheckError.TheVariants as error
 use Rattle.cert_checker.specs.Identities.{StartHolds, StepHolds, StartIsPast, StepIsPast, FirstFailure}
 use Rattle.cert_checker.specs.Stops.{Stops, IfStops}
-use Rattle.cert_checker.specs.Wide.{WideIdentity, IfRefused}
+use Rattle.expansion.specs.Counts.{most_terms}
+use Rattle.cert_checker.specs.Long.{start_terms, step_terms, total, IsFirstLong, IfLong}
+use Rattle.cert_checker.specs.Short.{ShortStart, ShortStep}
+use Rattle.cert_checker.specs.Wide.{WideIdentity, LongIdentity, IfRefused}
 
 module _ (lp : Loop) where
   pub some_variable : 0 < length (program_of lp).names
@@ -82,12 +86,14 @@ first_along P Q n k (Some i) h e f = record {
 -- an identity is too wide
 abbrev IfTooWide : Program (Expr ℕ) → Certificate → CheckError → Type 0
 IfTooWide program c (error.Map e) = ⊥
+IfTooWide program c (error.Limit branch i) = ⊥
 IfTooWide program c (error.Wide branch i) = WideIdentity program c branch i
 IfTooWide program c error.Memory = Unit {0}
 
 pub refused_identity : (program : Program (Expr ℕ)) (c : Certificate) (e : CheckError)
     → AreFree program → IfTooWide program c e → IfRefused program c e
 refused_identity program c (error.Map e) free h = absurd h
+refused_identity program c (error.Limit branch i) free h = absurd h
 refused_identity program c (error.Wide branch i) free h = (free, h)
 refused_identity program c error.Memory free h = tt
 
@@ -134,6 +140,7 @@ module _ (program : Program (Expr ℕ)) (c : Certificate) (over : IsOver program
       (StartIsPast (polys_in basis) (terms_each images)) (length basis.items))
       → IfTooWide program c e
   start_refused images stand (error.Map e) h = absurd h
+  start_refused images stand (error.Limit b i) h = absurd h
   start_refused images stand (error.Wide b i) h = subst (λ b. WideIdentity program c b i) (sym h.0)
       (record {
         within = let l : i < length basis.items = h.1.within in omega (arith, same_count);
@@ -147,6 +154,43 @@ module _ (program : Program (Expr ℕ)) (c : Certificate) (over : IsOver program
         past = subst (λ g. StartIsPast g (terms_each images) i) is h.1.cause;
       })
   start_refused images stand error.Memory h = tt
+
+  pub start_long : (images : List FracPoly) → AllStandFor (length program.names) images
+      (start_map program) → (e : CheckError) → AreFree program
+      → IfLong e 0 (IsFirstLong (start_terms (polys_in basis) (terms_each images))
+      (length basis.items)) → IfRefused program c e
+  start_long images stand (error.Map e) free h = absurd h
+  start_long images stand (error.Limit b i) free h = (
+    free,
+    subst (λ b. LongIdentity program c b i) (sym h.0) (record {
+      images = terms_each images;
+      is = record {
+        polynomials = polynomials_of (length program.names) images
+            (stands_over (length program.names) images (start_map program) stand);
+        same = stands_same (length program.names) images (start_map program) stand;
+      };
+      long = subst (λ n. IsFirstLong (start_terms c.basis (terms_each images)) n i) same_count
+          (subst (λ g. IsFirstLong (start_terms g (terms_each images)) (length basis.items) i) is
+          h.1);
+    }),
+  )
+  start_long images stand (error.Wide b i) free h = absurd h
+  start_long images stand error.Memory free h = absurd h
+
+  pub start_short : (images : List FracPoly) → AllStandFor (length program.names) images
+      (start_map program) → total (start_terms (polys_in basis) (terms_each images))
+      (length basis.items) ≤ most_terms → ShortStart program c
+  start_short images stand h = record {
+    images = terms_each images;
+    is = record {
+      polynomials = polynomials_of (length program.names) images
+          (stands_over (length program.names) images (start_map program) stand);
+      same = stands_same (length program.names) images (start_map program) stand;
+    };
+    few = subst (λ n. total (start_terms c.basis (terms_each images)) n ≤ most_terms) same_count
+        (subst (λ g. total (start_terms g (terms_each images)) (length basis.items) ≤ most_terms)
+        is h);
+  }
 
   module _ (b : ℕ) (images : List FracPoly) (stand : AllStandFor (length program.names) images
       (branch_map program (get_or program.branches b []))) (rows : List (List (Terms Fraction)))
@@ -178,6 +222,7 @@ module _ (program : Program (Expr ℕ)) (c : Certificate) (over : IsOver program
         (StepIsPast (polys_in basis) (terms_each images) rows) (length basis.items))
         → IfTooWide program c e
     step_refused inside starts earlier (error.Map e) h = absurd h
+    step_refused inside starts earlier (error.Limit k i) h = absurd h
     step_refused inside starts earlier (error.Wide k i) h = subst (λ k. WideIdentity program c k i)
         (sym (h.0 ∙ add-one b)) (record {
           branch_within = inside;
@@ -195,6 +240,53 @@ module _ (program : Program (Expr ℕ)) (c : Certificate) (over : IsOver program
               (subst (λ r. StepIsPast (polys_in basis) (terms_each images) r i) at h.1.cause);
         })
     step_refused inside starts earlier error.Memory h = tt
+
+    pub step_long : b < length program.branches → ((j : ℕ) → j < length c.basis
+        → PassesStart program c j) → ((a j : ℕ) → a < b → j < length c.basis
+        → PassesStep program c a j)
+        → (e : CheckError) → AreFree program
+        → IfLong e (b + 1) (IsFirstLong (step_terms (polys_in basis) (terms_each images) rows)
+        (length basis.items)) → IfRefused program c e
+    step_long inside starts earlier (error.Map e) free h = absurd h
+    step_long inside starts earlier (error.Limit k i) free h = (
+      free,
+      subst (λ k. LongIdentity program c k i) (sym (h.0 ∙ add-one b)) (record {
+        branch_within = inside;
+        starts = starts;
+        branches_before = earlier;
+        images = terms_each images;
+        is = record {
+          polynomials = polynomials_of (length program.names) images
+              (stands_over (length program.names) images _ stand);
+          same = stands_same (length program.names) images _ stand;
+        };
+        long = subst (λ n. IsFirstLong (step_terms c.basis (terms_each images)
+            (get_or c.steps b [])) n i) same_count
+            (subst (λ g. IsFirstLong (step_terms g (terms_each images) (get_or c.steps b []))
+            (length basis.items) i) is
+            (subst (λ r. IsFirstLong (step_terms (polys_in basis) (terms_each images) r)
+            (length basis.items) i) at h.1));
+      }),
+    )
+    step_long inside starts earlier (error.Wide k i) free h = absurd h
+    step_long inside starts earlier error.Memory free h = absurd h
+
+    pub step_short : total (step_terms (polys_in basis) (terms_each images) rows)
+        (length basis.items) ≤ most_terms → ShortStep program c b
+    step_short h = record {
+      images = terms_each images;
+      is = record {
+        polynomials = polynomials_of (length program.names) images
+            (stands_over (length program.names) images _ stand);
+        same = stands_same (length program.names) images _ stand;
+      };
+      few = subst (λ n. total (step_terms c.basis (terms_each images) (get_or c.steps b [])) n
+          ≤ most_terms) same_count
+          (subst (λ g. total (step_terms g (terms_each images) (get_or c.steps b []))
+          (length basis.items) ≤ most_terms) is
+          (subst (λ r. total (step_terms (polys_in basis) (terms_each images) r)
+          (length basis.items) ≤ most_terms) at h));
+    }
 
 -- ---- the branches in turn
 pub passed_more : (program : Program (Expr ℕ)) (c : Certificate) (b : ℕ)

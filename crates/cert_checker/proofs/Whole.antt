@@ -24,12 +24,12 @@ use Rattle.cert_checker.specs.declared.error.CheckError.TheVariants as check_err
 use Rattle.cert_checker.specs.Further.{further_parts}
 use Rattle.cert_checker.specs.Paths.{path_of}
 use Rattle.cert_checker.specs.FullStops.{Behind}
-use Rattle.cert_checker.specs.FullWide.{IsPastPart, IsWide, IsWideAt, IsRefusalOf, IfRefused}
+use Rattle.cert_checker.specs.FullWide.{IsPastPart, IsWide, IsLong, IsLimitAt, IsWideAt, IsRefusalOf, identity_part, IfRefused}
 use Rattle.cert_checker.specs.Verdicts.{IsFailing, IsVerdictOf}
 use Rattle.cert_checker.specs.declared.full_verdict.FullVerdict.{FullVerdict}
 use Rattle.cert_checker.specs.declared.full_verdict.FullVerdict.TheVariants.{Complete, Fails}
 use Rattle.cert_checker.specs.declared.full_error.FullError.{FullError}
-use Rattle.cert_checker.specs.declared.full_error.FullError.TheVariants.{Map, Wide, Memory}
+use Rattle.cert_checker.specs.declared.full_error.FullError.TheVariants.{Map, Limit, Wide, Memory}
 use Rattle.cert_checker.proofs.Stopping.{behind_in, numbers_hold, numbered, all_of_several, behind_several}
 
 module _ (program : Program (Expr ℕ)) (c : FullCertificate) where
@@ -145,14 +145,25 @@ module _ (program : Program (Expr ℕ)) (c : FullCertificate) where
   pub wide_refused : (path : List ℕ) (r : FullError) → AreFree program → IsWide program c path
       → IsWideAt path r → IfRefused program c r
   wide_refused path (Map e) free w is = absurd is
+  wide_refused path (Limit at) free w is = absurd is
   wide_refused path (Wide at) free w is = (free, subst (IsWide program c) (sym is) w)
   wide_refused path Memory free w is = tt
+
+  pub limit_refused : (path : List ℕ) (r : FullError) → AreFree program → IsLong program c path
+      → IsLimitAt path r → IfRefused program c r
+  limit_refused path (Map e) free w is = absurd is
+  limit_refused path (Limit at) free w is = (free, subst (IsLong program c) (sym is) w)
+  limit_refused path (Wide at) free w is = absurd is
+  limit_refused path Memory free w is = tt
 
   pub refusal : (e : CheckError) (r : FullError) → IfRefusedItself program (certificate c) e
       → IsRefusalOf e r → IfRefused program c r
   refusal (check_error.Map (map_error.Limit at)) r h is = subst (IfRefused program c) (sym is) h
   refusal (check_error.Map (map_error.Wide at)) r h is = subst (IfRefused program c) (sym is) h
   refusal (check_error.Map map_error.Memory) r h is = absurd h
+  refusal (check_error.Limit branch i) r h is =
+      limit_refused (path_of (identity_part branch i)) r h.0
+      (record { branch = branch; element = i; at = refl; is = h.1 }) is
   refusal (check_error.Wide zero i) r h is =
       wide_refused (path_of (in_basis i)) r h.0 (start_wide i h.1) is
   refusal (check_error.Wide (suc b) i) r h is =

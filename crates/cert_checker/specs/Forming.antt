@@ -6,7 +6,7 @@ use Rattle.loop_model.specs.Operations.{Operation, IsLimit, IsWide}
 use Rattle.loop_model.specs.declared.map_error.MapError.{MapError}
 use Rattle.loop_model.specs.declared.map_error.MapError.TheVariants as map_error
 use Rattle.cert_checker.specs.declared.error.CheckError.{CheckError}
-use Rattle.cert_checker.specs.declared.error.CheckError.TheVariants.{Map, Wide, Memory}
+use Rattle.cert_checker.specs.declared.error.CheckError.TheVariants.{Map, Limit, Wide, Memory}
 
 abbrev pub refused_map : MapError → CheckError
 refused_map (map_error.Limit at) = Map (map_error.Limit at)
@@ -17,5 +17,6 @@ abbrev pub IfUnformed : ℕ → List Operation → CheckError → Type 0
 IfUnformed m os (Map (map_error.Limit at)) = IsLimit m os at
 IfUnformed m os (Map (map_error.Wide at)) = IsWide m os at
 IfUnformed m os (Map map_error.Memory) = ⊥
+IfUnformed m os (Limit branch i) = ⊥
 IfUnformed m os (Wide branch i) = ⊥
 IfUnformed m os Memory = Unit {0}

@@ -1,12 +1,14 @@
 -- Where a part of a full certificate is too wide, and the causes of refusals.
 --   IsWideAt path e                e tells that the part with this path is too wide; want of memory is free
 --   IsRefusalOf e r                r is the refusal e of the certificate itself
---   IsPastOfMap program maps W     W of the polynomials of a map of the program, with their terms in falling order
+--   IsPastOfMap program maps W     W of the polynomials of a map of the program, with their terms in descending order
 --   IsPastBegun program c r b kind i     of making polynomial i that a stage begins with
 --   IsPastPart program c part      of an operation of the part
 --   IsWide program c path          so it is of the part with this path, and those before it hold
+--   IsLong program c path          the part with this path is an identity of the certificate itself that is too long
+--   IsLimitAt path e               e tells so of the part with this path; want of memory is free
 --   IsUnformed m os e              e is one of the operations os that can't be done
---   IfRefused program c e          the cause of the refusal e: a map of the loop can't be formed, or a part is too wide; want of memory is free
+--   IfRefused program c e          the cause of the refusal e: a map of the loop can't be formed, or a part is too long or too wide; want of memory is free
 use Rattle.std.specs.Prelude.{◌≡◌, ℕ, zero, suc, ◌-◌, ◌<◌, ◌≤◌, pred, List, [], get_or, length, string_bytes}
 use Rattle.algebra.specs.Fraction.{Fraction, fractions}
 use Rattle.polynomials.specs.Terms.{Terms}
@@ -21,16 +23,16 @@ use Rattle.loop_model.specs.Maps.{maps_operations, AreFree}
 use Rattle.cert_checker.specs.Passing.{IsPastForm}
 use Rattle.task_lists.specs.Past.{IsPastCombination}
 use Rattle.cert_checker.specs.Identities.{StartIsPast, StepIsPast}
-use Rattle.cert_checker.specs.Wide.{IsMapOf}
+use Rattle.cert_checker.specs.Wide.{IsMapOf, LongIdentity}
 use Rattle.cert_checker.specs.declared.error.CheckError.{CheckError}
 use Rattle.cert_checker.specs.declared.error.CheckError.TheVariants as check_error
-use Rattle.completeness.specs.Full.{FullCertificate, Kind, orbit, meet, form_of, stage_of, so_far, before}
+use Rattle.completeness.specs.Full.{FullCertificate, certificate, Kind, orbit, meet, form_of, stage_of, so_far, before}
 use Rattle.completeness.specs.Parts.{Part, in_basis, in_steps, in_forms, in_start, in_round, at_end, Holds, parts}
 use Rattle.cert_checker.specs.Paths.{path_of}
 use Rattle.cert_checker.specs.StageParts.{IsPastPlace}
 use Rattle.cert_checker.specs.FullStops.{Behind}
 use Rattle.cert_checker.specs.declared.full_error.FullError.{FullError}
-use Rattle.cert_checker.specs.declared.full_error.FullError.TheVariants.{Map, Wide, Memory}
+use Rattle.cert_checker.specs.declared.full_error.FullError.TheVariants.{Map, Limit, Wide, Memory}
 
 pub record IsPastOfMap (m : ℕ) (maps : List (Terms Fraction)) (W : List (Terms Fraction)
     → Type 0) : Type 0 where
@@ -70,6 +72,16 @@ module _ (program : Program (Expr ℕ)) (c : FullCertificate) where
     pub at : path_of part ≡ path
     pub is : Behind (Holds program c) (parts program c) part (IsPastPart part)
 
+abbrev pub identity_part : ℕ → ℕ → Part
+identity_part zero i = in_basis i
+identity_part (suc b) i = in_steps b i
+
+pub record IsLong (program : Program (Expr ℕ)) (c : FullCertificate) (path : List ℕ) : Type 0 where
+  pub branch : ℕ
+  pub element : ℕ
+  pub at : path_of (identity_part branch element) ≡ path
+  pub is : LongIdentity program (certificate c) branch element
+
 abbrev pub IsUnformed : ℕ → List Operation → MapError → Type 0
 IsUnformed m os (map_error.Limit at) = IsLimit m os at
 IsUnformed m os (map_error.Wide at) = IsWideOperation m os at
@@ -77,16 +89,25 @@ IsUnformed m os map_error.Memory = ⊥
 
 abbrev pub IfRefused : Program (Expr ℕ) → FullCertificate → FullError → Type 0
 IfRefused program c (Map e) = IsUnformed (length program.names) (maps_operations program) e
+IfRefused program c (Limit path) = AreFree program × IsLong program c (string_bytes path)
 IfRefused program c (Wide path) = AreFree program × IsWide program c (string_bytes path)
 IfRefused program c Memory = Unit {0}
 
 abbrev pub IsWideAt : List ℕ → FullError → Type 0
 IsWideAt path (Map e) = ⊥
+IsWideAt path (Limit at) = ⊥
 IsWideAt path (Wide at) = string_bytes at ≡ path
 IsWideAt path Memory = Unit {0}
 
+abbrev pub IsLimitAt : List ℕ → FullError → Type 0
+IsLimitAt path (Map e) = ⊥
+IsLimitAt path (Limit at) = string_bytes at ≡ path
+IsLimitAt path (Wide at) = ⊥
+IsLimitAt path Memory = Unit {0}
+
 abbrev pub IsRefusalOf : CheckError → FullError → Type 0
 IsRefusalOf (check_error.Map e) r = r ≡ Map e
+IsRefusalOf (check_error.Limit branch i) r = IsLimitAt (path_of (identity_part branch i)) r
 IsRefusalOf (check_error.Wide zero i) r = IsWideAt (path_of (in_basis i)) r
 IsRefusalOf (check_error.Wide (suc b) i) r = IsWideAt (path_of (in_steps b i)) r
 IsRefusalOf check_error.Memory r = r ≡ Memory

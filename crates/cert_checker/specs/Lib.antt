@@ -1,8 +1,10 @@
 pub mod Views
 pub mod Identities
 pub mod Stops
+pub mod Long
 pub mod Forming
 pub mod Wide
+pub mod Short
 pub mod Passing
 pub mod FullStops
 pub mod Parts

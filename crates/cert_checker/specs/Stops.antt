@@ -3,7 +3,7 @@
 --   IfStops e branch C   e names the branch and an element of which C holds; want of memory is free
 use Rattle.std.specs.Prelude.{◌≡◌, ℕ, ◌<◌}
 use Rattle.cert_checker.specs.declared.error.CheckError.{CheckError}
-use Rattle.cert_checker.specs.declared.error.CheckError.TheVariants.{Map, Wide, Memory}
+use Rattle.cert_checker.specs.declared.error.CheckError.TheVariants.{Map, Limit, Wide, Memory}
 
 pub record Stops (P W : ℕ → Type 0) (n i : ℕ) : Type 0 where
   pub within : i < n
@@ -12,5 +12,6 @@ pub record Stops (P W : ℕ → Type 0) (n i : ℕ) : Type 0 where
 
 abbrev pub IfStops : CheckError → ℕ → (ℕ → Type 0) → Type 0
 IfStops (Map e) branch C = ⊥
+IfStops (Limit b i) branch C = ⊥
 IfStops (Wide b i) branch C = (b ≡ branch) × C i
 IfStops Memory branch C = Unit {0}

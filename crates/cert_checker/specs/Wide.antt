@@ -1,7 +1,8 @@
 -- The causes of the checker's refusals.
---   IsMapOf m images maps                   the images are the maps' polynomials, in m variables, with their terms in falling order
+--   IsMapOf m images maps                   the images are the maps' polynomials, in m variables, with their terms in descending order
 --   WideIdentity program c branch i         all identities before it hold, and the weight of an operation of it is past: of element i, and of the branch, counted from 1, or of the start where it is 0
---   IfRefused program c e                   the cause of the refusal e: a map of the loop can't be formed, or all can and an identity is too wide; want of memory is free
+--   LongIdentity program c branch i         all identities of what is before the branch hold, and element i is the first of it up to which its identities multiply out to more than most_terms terms; so of the start where the branch is 0
+--   IfRefused program c e                   the cause of the refusal e: a map of the loop can't be formed, or all can and an identity is too long or too wide; want of memory is free
 use Rattle.std.specs.Prelude.{ℕ, zero, suc, ◌<◌, List, [], get_or, length, All}
 use Rattle.algebra.specs.Fraction.{Fraction, ℚ}
 use Rattle.polynomials.specs.Terms.{Terms, AllSame}
@@ -13,8 +14,9 @@ use Rattle.loops.specs.Certificate.{Certificate, PassesStart, PassesStep}
 use Rattle.loop_model.specs.Maps.{maps_operations, AreFree}
 use Rattle.cert_checker.specs.Forming.{IfUnformed}
 use Rattle.cert_checker.specs.Identities.{StartIsPast, StepIsPast}
+use Rattle.cert_checker.specs.Long.{start_terms, step_terms, IsFirstLong}
 use Rattle.cert_checker.specs.declared.error.CheckError.{CheckError}
-use Rattle.cert_checker.specs.declared.error.CheckError.TheVariants.{Map, Wide, Memory}
+use Rattle.cert_checker.specs.declared.error.CheckError.TheVariants.{Map, Limit, Wide, Memory}
 
 pub record IsMapOf (m : ℕ) (images maps : List (Terms Fraction)) : Type 0 where
   pub polynomials : All (IsPolynomial ℚ grevlex m) images
@@ -43,7 +45,27 @@ module _ (program : Program (Expr ℕ)) (c : Certificate) where
   WideIdentity zero i = WideStart i
   WideIdentity (suc b) i = WideStep b i
 
+module _ (program : Program (Expr ℕ)) (c : Certificate) where
+  pub record LongStart (i : ℕ) : Type 0 where
+    pub images : List (Terms Fraction)
+    pub is : IsMapOf (length program.names) images (start_map program)
+    pub long : IsFirstLong (start_terms c.basis images) (length c.basis) i
+
+  pub record LongStep (b i : ℕ) : Type 0 where
+    pub branch_within : b < length program.branches
+    pub starts : (j : ℕ) → j < length c.basis → PassesStart program c j
+    pub branches_before : (a j : ℕ) → a < b → j < length c.basis → PassesStep program c a j
+    pub images : List (Terms Fraction)
+    pub is : IsMapOf (length program.names) images
+        (branch_map program (get_or program.branches b []))
+    pub long : IsFirstLong (step_terms c.basis images (get_or c.steps b [])) (length c.basis) i
+
+  abbrev pub LongIdentity : ℕ → ℕ → Type 0
+  LongIdentity zero i = LongStart i
+  LongIdentity (suc b) i = LongStep b i
+
 abbrev pub IfRefused : Program (Expr ℕ) → Certificate → CheckError → Type 0
 IfRefused program c (Map e) = IfUnformed (length program.names) (maps_operations program) (Map e)
+IfRefused program c (Limit branch i) = AreFree program × LongIdentity program c branch i
 IfRefused program c (Wide branch i) = AreFree program × WideIdentity program c branch i
 IfRefused program c Memory = Unit {0}

@@ -12,6 +12,9 @@ pub enum CheckError {
     /// A map of the loop can't be formed. The maps are formed before any identity is looked at, the start's first and then the
     /// branches' in order. This is never want of memory.
     Map(MapError),
+    /// All identities of the start and of the branches before this one hold, and this is the first of its elements up to which its identities multiply out to
+    /// more than 2^20 terms. Branches count from 1, and 0 is the start; elements count from 0.
+    Limit { branch: usize, element: usize },
     /// All identities before this one hold, and it is too wide. Branches count from 1, and 0 is the start; elements count from 0.
     Wide { branch: usize, element: usize },
     /// No memory was left.

@@ -12,7 +12,7 @@ ghost use Rattle.completeness.specs.Counts.{IsCounted};
 ghost use Rattle.cert_checker.specs.Parts.{part_of};
 ghost use Rattle.cert_checker.specs.Paths.{path_of};
 ghost use Rattle.cert_checker.specs.Verdicts.{IsFailing, IsVerdictOf};
-ghost use Rattle.cert_checker.specs.FullWide.{IfRefused, IsRefusalOf, IsWideAt};
+ghost use Rattle.cert_checker.specs.FullWide.{IfRefused, IsLimitAt, IsRefusalOf, IsWideAt};
 
 use crate::full_error::FullError;
 use crate::full_further::judge_behind;
@@ -85,12 +85,24 @@ fn wide(alloc: Global, part: Part) -> FullError
     }
 }
 
+/// The refusal of a part that is too long.
+fn limit(alloc: Global, part: Part) -> FullError
+    ensures { IsLimitAt (path_of (part_of part)) result }
+{
+    match text_of(alloc, part) {
+        Ok(path) => FullError::Limit { path },
+        Err(_) => FullError::Memory,
+    }
+}
+
 /// The refusal of the certificate's first parts. The branch 0 is the start.
 fn refused(alloc: Global, error: CheckError) -> FullError
     ensures { IsRefusalOf error result }
 {
     match error {
         CheckError::Map(error) => FullError::Map(error),
+        CheckError::Limit { branch: 0, element } => limit(alloc, Part::Basis(element)),
+        CheckError::Limit { branch, element } => limit(alloc, Part::Step(branch - 1, element)),
         CheckError::Wide { branch: 0, element } => wide(alloc, Part::Basis(element)),
         CheckError::Wide { branch, element } => wide(alloc, Part::Step(branch - 1, element)),
         CheckError::Memory => FullError::Memory,

@@ -14,6 +14,7 @@ ghost use Rattle.loop_model.specs.Maps.{AreFree};
 ghost use Rattle.loop_model.specs.View.{program_of};
 ghost use Rattle.cert_form.specs.Cert.{IsKept, certificate_of};
 ghost use Rattle.cert_checker.specs.Views.{verdict_of, IsNumbered};
+ghost use Rattle.cert_checker.specs.Short.{AreShort};
 ghost use Rattle.cert_checker.specs.Wide.{IfRefused};
 
 mod base;
@@ -30,6 +31,7 @@ mod full_stop;
 mod full_verdict;
 mod identity;
 pub mod laws;
+mod limits;
 mod search;
 
 use cert_form::Cert;
@@ -38,6 +40,7 @@ pub use form_check::closed_form;
 use frac128::Frac;
 pub use full_error::FullError;
 pub use full_verdict::{FullVerdict, check_full};
+use limits::{test_start, test_step};
 use loop_model::Loop;
 use monos::Grevlex;
 use poly::Poly;
@@ -68,6 +71,7 @@ pub fn check(alloc: Global, lp: &Loop, cert: &Cert) -> Result<Verdict, CheckErro
     ensures valid { let c = cert.now.certificate in IfOk result (λ v. v ≡ Verdict.Valid →
         (i : ℕ) → i < length c.basis → Inv (program_of lp.now) (element c i)) }
     ensures free { IfOk result (λ v. AreFree (program_of lp.now)) }
+    ensures short { IfOk result (AreShort (program_of lp.now) cert.now.certificate) }
     ensures refused { IfErr result (IfRefused (program_of lp.now) cert.now.certificate) }
 {
     judge(alloc, lp, cert.basis(), cert.steps())
@@ -90,17 +94,21 @@ pub fn judge(
         v ≡ Verdict.Valid → (i : ℕ) → i < length c.basis
         → Inv (program_of lp.now) (element c i)) }
     ensures free { IfOk result (λ v. AreFree (program_of lp.now)) }
+    ensures short { IfOk result (AreShort (program_of lp.now)
+        (certificate_of basis.now steps.now)) }
     ensures refused { IfErr result (IfRefused (program_of lp.now)
         (certificate_of basis.now steps.now)) }
 {
     let start = lp.start_map(alloc)?;
     let maps = lp.branch_maps(alloc)?;
+    test_start(basis, &start)?;
     if let Some(element) = first_failing_start(alloc, basis, &start)? {
         return Ok(Verdict::StartFails { element });
     }
     for (index, images) in maps.iter().enumerate() {
         let branch = index + 1;
         let rows = &steps[index];
+        test_step(branch, basis, images, rows)?;
         if let Some(element) = first_failing_step(alloc, branch, basis, images, rows)? {
             return Ok(Verdict::StepFails { branch, element });
         }

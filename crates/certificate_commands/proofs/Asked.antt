@@ -1,6 +1,6 @@
 -- What commands on certificates promise, from the outcome of their course.
 --   Checker C             how CERT is read and judged, and how long it may be
---   settled, never_spent, kept     of their answers, and of the meter
+--   settled, never_exhausted, kept     of their answers, and of the meter
 --   told_certificate, loop_fault   the answer is by what CERT is, or LOOP
 --   shown                 what is written where the answer is a yes or a no
 --   refused               what is written where it is a fault, or a number doesn't fit
@@ -29,7 +29,7 @@ use Rattle.command_parts.specs.FaultTexts.{loop_refusal}
 use Rattle.command_parts.specs.LoopReading.{loop_at, by_loop, IsLoopFault, ReadsLoop}
 use Rattle.command_parts.proofs.LoopCourses.{loop_refuses}
 use Rattle.certificate_commands.specs.CertificateTexts.{certificate_refusal}
-use Rattle.certificate_commands.specs.CertificateWords.{Request}
+use Rattle.certificate_commands.specs.CertificateArguments.{Request}
 use Rattle.certificate_commands.specs.CertificateAsking.{AnswersCertificate, certificate_course, IsQuestion, IsCertificateFault, IsStopped, Refuses, ReadsCertificate, Decides}
 use Rattle.certificate_commands.proofs.Refusals.{certificate_refuses}
 
@@ -70,8 +70,8 @@ module _ {C : Type 0} (k : Checker C) (request : Request) where
     kept = meter_kept course call f
         (is_silent loop_of loop_refusal goes (loop_at request.file) (λ l bytes m h. h))
 
-    pub never_spent : call.status ≢ status.Budget
-    never_spent = never course call f status.Budget (λ h. cc) (λ h. cc) (λ h. cc)
+    pub never_exhausted : call.status ≢ status.Budget
+    never_exhausted = never course call f status.Budget (λ h. cc) (λ h. cc) (λ h. cc)
         (each_answer loop_of loop_refusal goes (λ a. a.status ≢ status.Budget)
         (loop_at request.file) (λ fault a h. (loop_refuses fault a h).plain.budget_not)
         (λ l bytes m a h. (certificate_plain l (k.reading l bytes) a h).budget_not))

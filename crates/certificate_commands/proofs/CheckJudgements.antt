@@ -15,7 +15,7 @@ use Rattle.cert_checker.specs.declared.error.CheckError.{CheckError}
 use Rattle.cert_checker.specs.declared.error.CheckError.TheVariants as check_error
 use Rattle.io_edge.specs.declared.answer.Status.TheVariants as status
 use Rattle.io_edge.specs.Texts.{Answer, answer}
-use Rattle.certificate_commands.specs.CheckTexts.{Judgement, verdict, map_limit, map_wide, wide_identity, judgement_answer}
+use Rattle.certificate_commands.specs.CheckTexts.{Judgement, verdict, map_limit, map_wide, limit_identity, wide_identity, judgement_answer}
 use Rattle.certificate_commands.specs.CheckViews.{judgement_of}
 use Rattle.certificate_commands.specs.CertificateAsking.{AnswersCertificate}
 use Rattle.certificate_commands.specs.CheckJudging.{IsJudgement, Judges, certificate_in}
@@ -63,6 +63,8 @@ module _ (l : Program (Expr ℕ)) (bytes : List ℕ) (kept : Certificate) (a : A
   refused_said (check_error.Map (map_error.Wide at)) cause says =
       judged_said l bytes kept a (map_wide at) read cause (cc)
   refused_said (check_error.Map map_error.Memory) cause says = absurd (cc)
+  refused_said (check_error.Limit branch i) cause says =
+      judged_said l bytes kept a (limit_identity branch i) read cause (cc)
   refused_said (check_error.Wide branch i) cause says =
       judged_said l bytes kept a (wide_identity branch i) read cause (cc)
   refused_said check_error.Memory cause says = absurd (cc)

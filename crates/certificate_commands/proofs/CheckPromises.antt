@@ -24,13 +24,14 @@ use Rattle.io_edge.proofs.OneFile.{concludes_yes, concludes_no}
 use Rattle.command_parts.specs.FaultTexts.{loop_refusal}
 use Rattle.command_parts.proofs.LoopCourses.{loop_refuses}
 use Rattle.command_parts.proofs.MapLimits.{limit_same, not_free}
-use Rattle.certificate_commands.specs.CheckTexts.{Judgement, verdict, map_limit, map_wide, wide_identity, judgement_answer}
+use Rattle.cert_checker.specs.Wide.{LongIdentity}
+use Rattle.certificate_commands.specs.CheckTexts.{Judgement, verdict, map_limit, map_wide, limit_identity, wide_identity, judgement_answer}
 use Rattle.certificate_commands.specs.CertificateAsking.{IsQuestion}
 use Rattle.certificate_commands.proofs.Asked as asked
 use Rattle.certificate_commands.proofs.Asked.{Checker, FreelyDecides}
-use Rattle.certificate_commands.specs.CheckJudging.{IsJudgement, Judges, certificate_in}
-use Rattle.certificate_commands.specs.CertificateWords.{Request}
-use Rattle.certificate_commands.specs.CheckWords.{most_certificate_bytes}
+use Rattle.certificate_commands.specs.CheckJudging.{IsJudgement, IsShort, Judges, certificate_in}
+use Rattle.certificate_commands.specs.CertificateArguments.{Request}
+use Rattle.certificate_commands.specs.CheckArguments.{most_certificate_bytes}
 use Rattle.certificate_commands.specs.CheckCourse.{course}
 use Rattle.certificate_commands.specs.CheckClauses.{IsRefuted, Checks}
 use Rattle.certificate_commands.specs.CheckHeadline.{ShowsValid}
@@ -42,6 +43,7 @@ by_judgement_plain (verdict (start_fails i)) = plain_no _ refl
 by_judgement_plain (verdict (step_fails b i)) = plain_no _ refl
 by_judgement_plain (map_limit at) = (refusing_fault _ refl).plain
 by_judgement_plain (map_wide at) = (refusing_wide _ refl).plain
+by_judgement_plain (limit_identity branch i) = (refusing_fault _ refl).plain
 by_judgement_plain (wide_identity branch i) = (refusing_wide _ refl).plain
 
 judges_plain : (l : Program (Expr ℕ)) (listed : Certificate) (a : Answer) → Judges l listed a
@@ -86,6 +88,8 @@ module _ (l : Program (Expr ℕ)) (kept listed : Certificate) (a : Answer) (same
       stopped l listed a (loop_refuses (record { reason = limit; at = at }) a says)
   by_judgement (map_wide at) is says =
       stopped l listed a (loop_refuses (record { reason = wide; at = at }) a says)
+  by_judgement (limit_identity branch i) is says =
+      stopped l listed a (refusing_fault a.status (status_of says))
   by_judgement (wide_identity branch i) is says =
       stopped l listed a (refusing_wide a.status (status_of says))
 
@@ -145,6 +149,8 @@ by_limit l kept at a f (map_limit at') is says =
     inl (says ∙ ap (λ k. loop_refusal (record { reason = limit; at = k }))
     (limit_same (length l.names) (maps_operations l) at' at is f))
 by_limit l kept at a f (map_wide at') is says = inr (status_of says)
+by_limit l kept at a f (limit_identity branch i) is says =
+    absurd (not_free (length l.names) (maps_operations l) at f is.0)
 by_limit l kept at a f (wide_identity branch i) is says =
     absurd (not_free (length l.names) (maps_operations l) at f is.0)
 
@@ -156,6 +162,7 @@ limit_decides l listed at a f judges =
 
 -- none does
 module _ (l : Program (Expr ℕ)) (kept listed : Certificate) (a : Answer) (free : AreFree l)
+    (short : (branch i : ℕ) → ¬ (LongIdentity l kept branch i))
     (same : (v : Verdict) → IsVerdict l kept v → IsVerdict l listed v) where
   by_failing : (v : Verdict) → v ≢ valid → IsVerdict l kept v → a.status ≡ status.No
       → FreelyDecides IsValid a.status l listed
@@ -171,15 +178,16 @@ module _ (l : Program (Expr ℕ)) (kept listed : Certificate) (a : Answer) (free
       by_failing (step_fails b i) (λ h. (cc)) is.1 (status_of says)
   by_free (map_limit at) is says = absurd (not_free (length l.names) (maps_operations l) at is free)
   by_free (map_wide at) is says = inr (inr (status_of says))
+  by_free (limit_identity branch i) is says = absurd (short branch i is.1)
   by_free (wide_identity branch i) is says = inr (inr (status_of says))
 
 free_decides : (l : Program (Expr ℕ)) (certificate : List ℕ) (listed : Certificate) (a : Answer)
-    → AreFree l → cert_in l.names (length l.branches) certificate ≡ Ok listed → Judges l listed a
-    → FreelyDecides IsValid a.status l listed
-free_decides l certificate listed a free is judges =
+    → AreFree l → IsShort l listed → cert_in l.names (length l.branches) certificate ≡ Ok listed
+    → Judges l listed a → FreelyDecides IsValid a.status l listed
+free_decides l certificate listed a free short is judges =
     let over : IsOver l listed =
     certificate_over l.names (length l.branches) certificate listed is in
-    by_free l judges.kept listed a free
+    by_free l judges.kept listed a free (short judges.kept judges.complete judges.same)
     (λ v. same_verdict l judges.kept listed v judges.over over judges.same) judges.judgement
     judges.is judges.says
 
@@ -202,7 +210,7 @@ module _ (request : Request) where
       valid = asked.shown checker request call f concludes_yes ShowsValid valid_at;
       refuted = asked.shown checker request call f concludes_no IsRefuted refuted_at;
       why = asked.refused checker request call f;
-      spent = asked.never_spent checker request call f;
+      exhausted = asked.never_exhausted checker request call f;
       journal = asked.kept checker request call f;
       loop_fault = asked.loop_fault checker request call f;
       certificate_fault = asked.certificate_fault checker request call f;
@@ -210,8 +218,8 @@ module _ (request : Request) where
           (loop_refusal (record { reason = limit; at = at }))
           (λ s. limit_decides l listed at s.answer first
           (asked.told_certificate checker request call f l (Ok listed) r s));
-      decided = λ l listed r free. asked.decided checker request call f IsValid l listed
-          (λ a judged. free_decides l r.certificate listed a free r.reads judged) r;
+      decided = λ l listed r free short. asked.decided checker request call f IsValid l listed
+          (λ a judged. free_decides l r.certificate listed a free short r.reads judged) r;
       long = asked.long checker request call f;
       long_certificate = asked.long_certificate checker request call f;
     }

@@ -18,7 +18,7 @@ use Rattle.cert_checker.specs.declared.full_error.FullError.{FullError}
 use Rattle.cert_checker.specs.declared.full_error.FullError.TheVariants as full_error
 use Rattle.io_edge.specs.Texts.{Answer}
 use Rattle.certificate_commands.specs.CertificateAsking.{AnswersCertificate}
-use Rattle.certificate_commands.specs.CheckfullTexts.{Judgement, complete, fails, map_limit, map_wide, wide_part, judgement_answer}
+use Rattle.certificate_commands.specs.CheckfullTexts.{Judgement, complete, fails, map_limit, map_wide, limit_part, wide_part, judgement_answer}
 use Rattle.certificate_commands.specs.CheckfullViews.{judgement_in, judgement_of}
 use Rattle.certificate_commands.specs.CheckfullJudging.{IsJudgement, Judges}
 
@@ -46,6 +46,8 @@ module _ (l : Program (Expr ℕ)) (bytes : List ℕ) (c : FullCertificate) (a : 
   refused_said (full_error.Map (map_error.Wide at)) cause says = judged_said (map_wide at) cause
       (cc)
   refused_said (full_error.Map map_error.Memory) cause says = absurd (cc)
+  refused_said (full_error.Limit path) cause says =
+      judged_said (limit_part (string_bytes path)) cause (cc)
   refused_said (full_error.Wide path) cause says =
       judged_said (wide_part (string_bytes path)) cause (cc)
   refused_said full_error.Memory cause says = absurd (cc)

@@ -25,13 +25,13 @@ use Rattle.io_edge.proofs.OneFile.{concludes_yes, concludes_no}
 use Rattle.command_parts.specs.FaultTexts.{loop_refusal}
 use Rattle.command_parts.proofs.LoopCourses.{loop_refuses}
 use Rattle.command_parts.proofs.MapLimits.{limit_same, not_free}
-use Rattle.certificate_commands.specs.CertificateWords.{Request}
+use Rattle.certificate_commands.specs.CertificateArguments.{Request}
 use Rattle.certificate_commands.specs.CertificateAsking.{IsQuestion}
 use Rattle.certificate_commands.proofs.Asked as asked
 use Rattle.certificate_commands.proofs.Asked.{Checker, FreelyDecides}
-use Rattle.certificate_commands.specs.CheckfullTexts.{Judgement, complete, fails, map_limit, map_wide, wide_part, judgement_answer}
-use Rattle.certificate_commands.specs.CheckfullJudging.{FailsFirst, IsJudgement, Judges}
-use Rattle.certificate_commands.specs.CheckfullWords.{most_certificate_bytes}
+use Rattle.certificate_commands.specs.CheckfullTexts.{Judgement, complete, fails, map_limit, map_wide, limit_part, wide_part, judgement_answer}
+use Rattle.certificate_commands.specs.CheckfullJudging.{FailsFirst, IsJudgement, IsShort, Judges}
+use Rattle.certificate_commands.specs.CheckfullArguments.{most_certificate_bytes}
 use Rattle.certificate_commands.specs.CheckfullCourse.{course}
 use Rattle.certificate_commands.specs.CheckfullClauses.{IsRefuted, ChecksFull}
 use Rattle.certificate_commands.specs.CheckfullHeadline.{ShowsComplete}
@@ -42,6 +42,7 @@ by_judgement_plain complete = plain_yes _ refl
 by_judgement_plain (fails path) = plain_no _ refl
 by_judgement_plain (map_limit at) = (refusing_fault _ refl).plain
 by_judgement_plain (map_wide at) = (refusing_wide _ refl).plain
+by_judgement_plain (limit_part path) = (refusing_fault _ refl).plain
 by_judgement_plain (wide_part path) = (refusing_wide _ refl).plain
 
 judges_plain : (l : Program (Expr ℕ)) (c : FullCertificate) (a : Answer) → Judges l c a
@@ -74,6 +75,8 @@ by_judgement l c a (map_limit at) is says =
     stopped l c a (loop_refuses (record { reason = limit; at = at }) a says)
 by_judgement l c a (map_wide at) is says =
     stopped l c a (loop_refuses (record { reason = wide; at = at }) a says)
+by_judgement l c a (limit_part path) is says =
+    stopped l c a (refusing_fault a.status (status_of says))
 by_judgement l c a (wide_part path) is says =
     stopped l c a (refusing_wide a.status (status_of says))
 
@@ -121,6 +124,8 @@ by_limit l c at a f (map_limit at') is says =
     inl (says ∙ ap (λ k. loop_refusal (record { reason = limit; at = k }))
     (limit_same (length l.names) (maps_operations l) at' at is f))
 by_limit l c at a f (map_wide at') is says = inr (status_of says)
+by_limit l c at a f (limit_part path) is says =
+    absurd (not_free (length l.names) (maps_operations l) at f is.0)
 by_limit l c at a f (wide_part path) is says =
     absurd (not_free (length l.names) (maps_operations l) at f is.0)
 
@@ -138,19 +143,22 @@ first_not_all l c part first all =
     first.fails (each-right (Holds l c) first.earlier (part ∷ first.later)
     (subst (Each (Holds l c)) first.is all.each)).0
 
-by_free : (l : Program (Expr ℕ)) (c : FullCertificate) (a : Answer) → AreFree l → (j : Judgement)
+by_free : (l : Program (Expr ℕ)) (c : FullCertificate) (a : Answer) → AreFree l → IsShort l c
+    → (j : Judgement)
     → IsJudgement l c j → a ≡ judgement_answer j → FreelyDecides AllHold a.status l c
-by_free l c a free complete is says = inl (status_of says, is.1)
-by_free l c a free (fails path) is says =
+by_free l c a free short complete is says = inl (status_of says, is.1)
+by_free l c a free short (fails path) is says =
     inr (inl (status_of says, first_not_all l c is.1.0 is.1.2))
-by_free l c a free (map_limit at) is says =
+by_free l c a free short (map_limit at) is says =
     absurd (not_free (length l.names) (maps_operations l) at is free)
-by_free l c a free (map_wide at) is says = inr (inr (status_of says))
-by_free l c a free (wide_part path) is says = inr (inr (status_of says))
+by_free l c a free short (map_wide at) is says = inr (inr (status_of says))
+by_free l c a free short (limit_part path) is says = absurd (short path is.1)
+by_free l c a free short (wide_part path) is says = inr (inr (status_of says))
 
-free_decides : (l : Program (Expr ℕ)) (c : FullCertificate) (a : Answer) → AreFree l → Judges l c a
-    → FreelyDecides AllHold a.status l c
-free_decides l c a free judges = by_free l c a free judges.judgement judges.is judges.says
+free_decides : (l : Program (Expr ℕ)) (c : FullCertificate) (a : Answer) → AreFree l
+    → IsShort l c → Judges l c a → FreelyDecides AllHold a.status l c
+free_decides l c a free short judges = by_free l c a free short judges.judgement judges.is
+    judges.says
 
 -- ---- the clauses
 abbrev checker : Checker FullCertificate
@@ -171,7 +179,7 @@ module _ (request : Request) where
       complete = asked.shown checker request call f concludes_yes ShowsComplete complete_at;
       refuted = asked.shown checker request call f concludes_no IsRefuted refuted_at;
       why = asked.refused checker request call f;
-      spent = asked.never_spent checker request call f;
+      exhausted = asked.never_exhausted checker request call f;
       journal = asked.kept checker request call f;
       loop_fault = asked.loop_fault checker request call f;
       certificate_fault = asked.certificate_fault checker request call f;
@@ -179,8 +187,8 @@ module _ (request : Request) where
           (loop_refusal (record { reason = limit; at = at }))
           (λ s. limit_decides l listed at s.answer first
           (asked.told_certificate checker request call f l (Ok listed) r s));
-      decided = λ l listed r free. asked.decided checker request call f AllHold l listed
-          (λ a judged. free_decides l listed a free judged) r;
+      decided = λ l listed r free short. asked.decided checker request call f AllHold l listed
+          (λ a judged. free_decides l listed a free short judged) r;
       long = asked.long checker request call f;
       long_certificate = asked.long_certificate checker request call f;
     }

@@ -21,7 +21,7 @@ use Rattle.io_edge.specs.Outcome.{Call}
 use Rattle.io_edge.specs.Clauses.{IfTold, IsExcused}
 use Rattle.command_parts.specs.LoopReading.{with_loop, IsLoopFault, ReadsLoop}
 use Rattle.certificate_commands.specs.CertificateTexts.{certificate_refusal}
-use Rattle.certificate_commands.specs.CertificateWords.{Request}
+use Rattle.certificate_commands.specs.CertificateArguments.{Request}
 
 module _ {C : Type 0} where
   abbrev pub AnswersCertificate : (Program (Expr ℕ) → C → Answer → Type 0) → Program (Expr ℕ)

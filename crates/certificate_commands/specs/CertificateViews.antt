@@ -5,8 +5,8 @@ use Rattle.std.specs.Prelude.{Option, Some, None, string_bytes}
 use Rattle.cert_form.specs.declared.error.CertError.{CertError}
 use Rattle.cert_form.specs.declared.error.CertError.TheVariants as cert_error
 use Rattle.cert_form.specs.Form as form
-use Rattle.certificate_commands.specs.declared.certificate_words.Request as made
-use Rattle.certificate_commands.specs.CertificateWords.{Request}
+use Rattle.certificate_commands.specs.declared.certificate_arguments.Request as made
+use Rattle.certificate_commands.specs.CertificateArguments.{Request}
 
 abbrev pub view : made.Request → Request
 view request = record {

@@ -1,9 +1,9 @@
 -- The course of `check`: LOOP is read, then CERT, and the answer is to what CERT is for the loop.
 use Rattle.io_edge.specs.Course.{Course}
-use Rattle.certificate_commands.specs.CertificateWords.{Request}
+use Rattle.certificate_commands.specs.CertificateArguments.{Request}
 use Rattle.certificate_commands.specs.CertificateAsking.{certificate_course}
 use Rattle.certificate_commands.specs.CheckJudging.{Judges, certificate_in}
-use Rattle.certificate_commands.specs.CheckWords.{most_certificate_bytes}
+use Rattle.certificate_commands.specs.CheckArguments.{most_certificate_bytes}
 
 abbrev pub course : Request → Course
 course request = certificate_course certificate_in Judges most_certificate_bytes request

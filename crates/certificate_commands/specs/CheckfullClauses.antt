@@ -16,11 +16,11 @@ use Rattle.io_edge.specs.Clauses.{Wrote, TellsWhy, IfTold, Ends, EndsOrWide, End
 use Rattle.command_parts.specs.FaultTexts.{loop_refusal}
 use Rattle.command_parts.specs.LoopReading.{loop_at, ReadsLoop}
 use Rattle.certificate_commands.specs.CertificateTexts.{certificate_refusal}
-use Rattle.certificate_commands.specs.CertificateWords.{Request}
+use Rattle.certificate_commands.specs.CertificateArguments.{Request}
 use Rattle.certificate_commands.specs.CertificateAsking.{IsQuestion, Refuses, ReadsCertificate, Decides}
 use Rattle.certificate_commands.specs.CheckfullTexts.{fails, judgement_answer}
-use Rattle.certificate_commands.specs.CheckfullJudging.{FailsFirst, Judges}
-use Rattle.certificate_commands.specs.CheckfullWords.{certificate_at}
+use Rattle.certificate_commands.specs.CheckfullJudging.{FailsFirst, IsShort, Judges}
+use Rattle.certificate_commands.specs.CheckfullArguments.{certificate_at}
 use Rattle.certificate_commands.specs.CheckfullHeadline.{ShowsComplete}
 
 pub record IsRefuted (text certificate said : List ℕ) : Type 0 where
@@ -45,13 +45,13 @@ pub record ChecksFull (request : Request) (call : Call) : Type 0 where
   -- a fault, or a number that doesn't fit: the text tells the first fault of LOOP or of CERT, or
   -- what stopped the judge
   pub why : TellsWhy call (Refuses full_in Judges call request)
-  -- never a spent budget; and the meter is left alone
-  pub spent : call.status ≢ status.Budget
+  -- never an exhausted budget; and the meter is left alone
+  pub exhausted : call.status ≢ status.Budget
   pub journal : call.meter.after ≡ call.meter.before
   -- where the bytes are told, but for want of memory and faults of the outside: the first fault;
   -- the first operation of the maps
-  -- that passes a limit, or a number that doesn't fit; where none passes one, yes exactly where all
-  -- parts hold, else no
+  -- that passes a limit, or a number that doesn't fit; where none passes one and no part is too long,
+  -- yes exactly where all parts hold, else no
   pub loop_fault : (fault : Fault) → ReadsLoop call request.file (Err fault)
       → Ends call (loop_refusal fault)
   pub certificate_fault : (l : Program (Expr ℕ)) (fault : form.Fault)
@@ -63,6 +63,7 @@ pub record ChecksFull (request : Request) (call : Call) : Type 0 where
       → EndsOrWide call (loop_refusal (record { reason = limit; at = at }))
   pub decided : (l : Program (Expr ℕ)) (c : FullCertificate)
       → ReadsCertificate full_in call request l (Ok c) → AreFree l
+      → IsShort l c
       → Decides AllHold call.status l c
   pub long : IsLonger call.files.before (loop_at request.file) → EndsTooLong call request.file
   pub long_certificate : (l : Program (Expr ℕ)) → ReadsLoop call request.file (Ok l)

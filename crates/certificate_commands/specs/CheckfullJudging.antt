@@ -1,6 +1,7 @@
 -- How `checkfull` answers a full certificate of a loop.
 --   FailsFirst l c path       the part with this path is the first that doesn't hold
 --   IsJudgement l c j         where each judgement of the full certificate c may come
+--   IsShort l c               no part of it is refused as too long
 --   Judges l c a              the answer a tells a judgement of it
 use Rattle.std.specs.Prelude.{◌≡◌, ℕ, List, length}
 use Rattle.loops.specs.Inv.{Inv}
@@ -11,9 +12,9 @@ use Rattle.loop_model.specs.Maps.{maps_operations, AreFree}
 use Rattle.completeness.specs.Full.{FullCertificate}
 use Rattle.completeness.specs.Parts.{Part, AllHold, IsFirst}
 use Rattle.cert_checker.specs.Paths.{path_of}
-use Rattle.cert_checker.specs.FullWide.{IsWide}
+use Rattle.cert_checker.specs.FullWide.{IsLong, IsWide}
 use Rattle.io_edge.specs.Texts.{Answer}
-use Rattle.certificate_commands.specs.CheckfullTexts.{Judgement, complete, fails, map_limit, map_wide, wide_part, judgement_answer}
+use Rattle.certificate_commands.specs.CheckfullTexts.{Judgement, complete, fails, map_limit, map_wide, limit_part, wide_part, judgement_answer}
 
 abbrev pub FailsFirst : Program (Expr ℕ) → FullCertificate → List ℕ → Type 0
 FailsFirst l c path = (part : Part) × (path_of part ≡ path) × IsFirst l c part
@@ -23,7 +24,11 @@ IsJudgement l c complete = AreFree l × AllHold l c × Generates (length l.names
 IsJudgement l c (fails path) = AreFree l × FailsFirst l c path
 IsJudgement l c (map_limit at) = IsLimit (length l.names) (maps_operations l) at
 IsJudgement l c (map_wide at) = IsWideOperation (length l.names) (maps_operations l) at
+IsJudgement l c (limit_part path) = AreFree l × IsLong l c path
 IsJudgement l c (wide_part path) = AreFree l × IsWide l c path
+
+abbrev pub IsShort : Program (Expr ℕ) → FullCertificate → Type 0
+IsShort l c = (path : List ℕ) → ¬ (IsLong l c path)
 
 pub record Judges (l : Program (Expr ℕ)) (c : FullCertificate) (a : Answer) : Type 0 where
   pub judgement : Judgement

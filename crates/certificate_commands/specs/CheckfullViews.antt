@@ -6,7 +6,7 @@ use Rattle.cert_checker.specs.declared.full_verdict.FullVerdict.{FullVerdict}
 use Rattle.cert_checker.specs.declared.full_verdict.FullVerdict.TheVariants as verdict
 use Rattle.cert_checker.specs.declared.full_error.FullError.{FullError}
 use Rattle.cert_checker.specs.declared.full_error.FullError.TheVariants as full_error
-use Rattle.certificate_commands.specs.CheckfullTexts.{Judgement, complete, fails, map_limit, map_wide, wide_part}
+use Rattle.certificate_commands.specs.CheckfullTexts.{Judgement, complete, fails, map_limit, map_wide, limit_part, wide_part}
 
 abbrev pub judgement_in : FullVerdict → Judgement
 judgement_in verdict.Complete = complete
@@ -16,5 +16,6 @@ abbrev pub judgement_of : FullError → Option Judgement
 judgement_of (full_error.Map (map_error.Limit at)) = Some (map_limit at)
 judgement_of (full_error.Map (map_error.Wide at)) = Some (map_wide at)
 judgement_of (full_error.Map map_error.Memory) = None
+judgement_of (full_error.Limit path) = Some (limit_part (string_bytes path))
 judgement_of (full_error.Wide path) = Some (wide_part (string_bytes path))
 judgement_of full_error.Memory = None

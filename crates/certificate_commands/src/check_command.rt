@@ -6,14 +6,14 @@ ghost use Rattle.loop_model.specs.View.{program_of};
 ghost use Rattle.io_edge.specs.Change.{◌⟶◌};
 ghost use Rattle.io_edge.specs.Views.{answer_view, seen_answer};
 ghost use Rattle.io_edge.specs.Outcome.{Says, Obeys};
-ghost use Rattle.certificate_commands.specs.CertificateWords.{request_in};
+ghost use Rattle.certificate_commands.specs.CertificateArguments.{request_in};
 ghost use Rattle.certificate_commands.specs.CertificateAsking.{AnswersCertificate};
 ghost use Rattle.certificate_commands.specs.CheckJudging.{Judges, certificate_in};
 ghost use Rattle.certificate_commands.specs.CheckCourse.{course};
 ghost use Rattle.certificate_commands.specs.CertificateViews.{view};
 
 use crate::check_texts::{check_refusal, verdict_answer};
-use crate::{Request, certificate_refusal, read_words};
+use crate::{Request, certificate_refusal, read_arguments};
 use cert_form::read_cert;
 use command_parts::read_program;
 use io_edge::{Answer, Files, read_file};
@@ -22,16 +22,16 @@ use std::alloc::{AllocError, Global};
 
 const CERTIFICATE_LIMIT: usize = 1_048_576;
 
-/// What `check` answers to the words behind it; none where they ask for no certificate.
+/// What `check` answers to the arguments behind it; none where they ask for no certificate.
 pub fn check<F: Files>(
     alloc: Global,
-    words: &[String],
+    arguments: &[String],
     files: &mut F,
 ) -> Result<Option<Answer>, AllocError>
-    ensures { (m : Journal) → Obeys course (request_in (map string_bytes words.now))
+    ensures { (m : Journal) → Obeys course (request_in (map string_bytes arguments.now))
         (F.seen files.old ⟶ F.seen files.new) (m ⟶ m) result }
 {
-    match read_words(words) {
+    match read_arguments(arguments) {
         Some(request) => io_edge::reply(answer_to(alloc, files, request)),
         None => Ok(None),
     }

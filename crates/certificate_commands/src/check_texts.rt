@@ -5,7 +5,7 @@ ghost use Rattle.cert_checker.specs.Views.{verdict_of, failing_in, IsNumbered};
 ghost use Rattle.io_edge.specs.Views.{answer_view};
 ghost use Rattle.certificate_commands.specs.CheckViews.{judgement_of};
 ghost use Rattle.certificate_commands.specs.CheckTexts as texts;
-ghost use Rattle.certificate_commands.specs.CheckTexts.{verdict, wide_identity, judgement_answer};
+ghost use Rattle.certificate_commands.specs.CheckTexts.{verdict, limit_identity, wide_identity, judgement_answer};
 
 use cert_checker::{CheckError, Verdict};
 use command_parts::{fault_line, ordinal};
@@ -37,6 +37,7 @@ pub(crate) fn check_refusal(alloc: Global, why: CheckError) -> Result<Answer, Al
         CheckError::Map(MapError::Wide { at }) => {
             fault_line(alloc, Status::Wide, "loop: ", "wide", at)
         }
+        CheckError::Limit { branch, element } => limit_at(alloc, branch, element),
         CheckError::Wide { branch, element } => wide_at(alloc, branch, element),
         CheckError::Map(MapError::Memory) | CheckError::Memory => Err(AllocError),
     }
@@ -59,6 +60,14 @@ fn step_fails(alloc: Global, branch: usize, element: usize) -> Result<Answer, Al
     let element = ordinal(element);
     let text = format!(in alloc; "step fails: branch {branch}, element {element}\n")?;
     Ok(Answer::new(Status::No, text))
+}
+
+fn limit_at(alloc: Global, branch: usize, element: usize) -> Result<Answer, AllocError>
+    ensures { IfOk result (λ a. answer_view a ≡ judgement_answer (limit_identity branch element)) }
+{
+    let element = ordinal(element);
+    let text = format!(in alloc; "limit: branch {branch}, element {element}\n")?;
+    Ok(Answer::new(Status::Fault, text))
 }
 
 fn wide_at(alloc: Global, branch: usize, element: usize) -> Result<Answer, AllocError>

@@ -7,14 +7,14 @@ ghost use Rattle.full_cert.specs.Form.{full_in};
 ghost use Rattle.io_edge.specs.Change.{◌⟶◌};
 ghost use Rattle.io_edge.specs.Views.{answer_view, seen_answer};
 ghost use Rattle.io_edge.specs.Outcome.{Says, Obeys};
-ghost use Rattle.certificate_commands.specs.CertificateWords.{request_in};
+ghost use Rattle.certificate_commands.specs.CertificateArguments.{request_in};
 ghost use Rattle.certificate_commands.specs.CertificateViews.{view};
 ghost use Rattle.certificate_commands.specs.CertificateAsking.{AnswersCertificate};
 ghost use Rattle.certificate_commands.specs.CheckfullJudging.{Judges};
 ghost use Rattle.certificate_commands.specs.CheckfullCourse.{course};
 
 use crate::checkfull_texts::{judge_refusal, verdict_answer};
-use crate::{Request, certificate_refusal, read_words};
+use crate::{Request, certificate_refusal, read_arguments};
 use cert_checker::check_full;
 use command_parts::read_program;
 use full_cert::read_full;
@@ -24,16 +24,16 @@ use std::alloc::{AllocError, Global};
 
 const CERTIFICATE_LIMIT: usize = 16_777_216;
 
-/// What `checkfull` answers to the words behind it; none where they ask for no certificate.
+/// What `checkfull` answers to the arguments behind it; none where they ask for no certificate.
 pub fn checkfull<F: Files>(
     alloc: Global,
-    words: &[String],
+    arguments: &[String],
     files: &mut F,
 ) -> Result<Option<Answer>, AllocError>
-    ensures { (m : Journal) → Obeys course (request_in (map string_bytes words.now))
+    ensures { (m : Journal) → Obeys course (request_in (map string_bytes arguments.now))
         (F.seen files.old ⟶ F.seen files.new) (m ⟶ m) result }
 {
-    match read_words(words) {
+    match read_arguments(arguments) {
         Some(request) => io_edge::reply(answer_to(alloc, files, request)),
         None => Ok(None),
     }

@@ -32,6 +32,7 @@ pub(crate) fn judge_refusal(alloc: Global, why: FullError) -> Result<Answer, All
         FullError::Map(MapError::Wide { at }) => {
             fault_line(alloc, Status::Wide, "loop: ", "wide", at)
         }
+        FullError::Limit { path } => line(alloc, Status::Fault, "limit: ", path.as_str()),
         FullError::Wide { path } => line(alloc, Status::Wide, "wide: ", path.as_str()),
         FullError::Map(MapError::Memory) | FullError::Memory => Err(AllocError),
     }

@@ -4,14 +4,14 @@
 //! or the first fault of a file.
 #![tactic(auto)]
 
+mod certificate_arguments;
 mod certificate_texts;
-mod certificate_words;
 mod check_command;
 mod check_texts;
 mod checkfull_command;
 mod checkfull_texts;
 
+pub use certificate_arguments::{Request, read_arguments};
 pub use certificate_texts::certificate_refusal;
-pub use certificate_words::{Request, read_words};
 pub use check_command::check;
 pub use checkfull_command::checkfull;

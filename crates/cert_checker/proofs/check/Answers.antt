@@ -6,6 +6,7 @@ use Rattle.loops.specs.Inv.{Inv}
 use Rattle.poly.specs.Seen.{terms_in}
 use Rattle.loop_model.specs.View.{program_of}
 use Rattle.cert_form.specs.Cert.{Polys, HaveArity, IsSquare, polys_in, blocks_in, rows_in, certificate_of}
+use Rattle.cert_checker.specs.Short.{AreShort}
 use Rattle.cert_checker.specs.Views.{verdict_of}
 use Rattle.cert_checker.specs.Wide.{IfRefused}
 use Rattle.cert_checker.specs.declared.Verdict.TheVariants.{Valid}
@@ -53,3 +54,9 @@ returns-clause-refused c =
     subst (λ d. IfErr c.judge.result (IfRefused (program_of c.args.lp.now) d))
     (sym (made_of c.args.cert.now.certificate c.basis.result.now c.steps.result.now
     c.basis.ensures.terms c.steps.ensures.terms)) c.judge.ensures.refused
+
+pub returns-clause-short : goal.returns-clause-short
+returns-clause-short c =
+    subst (λ d. IfOk c.judge.result (AreShort (program_of c.args.lp.now) d))
+    (sym (made_of c.args.cert.now.certificate c.basis.result.now c.steps.result.now
+    c.basis.ensures.terms c.steps.ensures.terms)) c.judge.ensures.short

@@ -1,6 +1,7 @@
-use Rattle.std.proofs.Common.{◌≡◌, ◌<◌, ℕ, [], get_or, length, rules, refl, add-one, arith, sym, subst, Some, None}
+use Rattle.std.proofs.Common.{◌≡◌, ◌<◌, ◌+◌, ℕ, [], get_or, length, rules, refl, add-one, arith, sym, subst, Some, None}
 use Rattle.std.proofs.lemmas.List.{length-map}
 use Rattle.std.proofs.lemmas.Result.{err_from_is_err_and}
+use borrow.Author.Count.{below_more}
 use Rattle.loops.specs.Program.{Expr, Program}
 use Rattle.loops.specs.Certificate.{Certificate, IsOver, PassesStart, PassesStep, IsVerdict}
 use Rattle.loops.proofs.Certificates.{certificate_lists_invariants}
@@ -11,12 +12,13 @@ use Rattle.loop_model.proofs.MapsFormed.{free_all}
 use Rattle.cert_form.specs.Cert.{certificate_of, rows_in}
 use Rattle.cert_form.proofs.Kept.{kept_over}
 use Rattle.cert_checker.specs.Identities.{FirstFailure}
+use Rattle.cert_checker.specs.Short.{ShortStart, ShortStep}
 use Rattle.cert_checker.specs.Views.{failing_in}
 use Rattle.cert_checker.proofs.FormingLaws.{stops_unformed, maps_unformed}
 use Rattle.cert_checker.proofs.MapsLaws.{branch_here, map_here}
 use Rattle.cert_checker.proofs.RowLaws.{inside, rows_at, square_at, square_over}
 use Rattle.loop_model.proofs.Items.{past_list}
-use Rattle.cert_checker.proofs.VerdictLaws.{some_variable, start_count, branch_count, some_images, images_over, basis_over, start_found, start_refused, step_found, step_refused, refused_identity, passed_more}
+use Rattle.cert_checker.proofs.VerdictLaws.{some_variable, start_count, branch_count, some_images, images_over, basis_over, start_found, start_refused, start_long, step_long, start_short, step_short, step_found, step_refused, refused_identity, passed_more}
 use Rattle.cert_checker.proofs.judge.Goals as goal
 use Rattle.cert_checker.proofs.judge.Goals.{Start, In_ok-element, In_ok-element-2, After-index-rows}
 
@@ -66,6 +68,16 @@ returns-in_err-element-clause-refused c =
     (start_refused (program e) (cert e) (over e) c.args.basis.now refl c.in_ok-start.start.items
     c.in_ok-start.ensures.maps _ c.in_err-element.ensures.stops))
 
+pub returns-in_err-test_start-clause-refused : goal.returns-in_err-test_start-clause-refused
+returns-in_err-test_start-clause-refused c =
+    let p = err_from_is_err_and c.from_residual-in_err-test_start.result
+    c.from_residual-in_err-test_start.ensures.1 in
+    let e = (goal.at.returns-in_err-test_start-clause-refused c).Start in
+    rw (p.1, p.2) (start_long (program e) (cert e) (over e) c.args.basis.now refl
+    c.in_ok-start.start.items c.in_ok-start.ensures.maps _
+    (free_all (program e) c.in_ok-start.ensures.free c.in_ok-maps.ensures.free)
+    c.in_err-test_start.ensures.limit)
+
 -- what the search among the starts has found, and that all hold where this is none
 starts_found : (c : In_ok-element) → FirstFailure
     (PassesStart (program_of c.args.lp.now) (certificate_of c.args.basis.now c.args.steps.now))
@@ -90,6 +102,25 @@ returns-in-Some-clause-verdict c =
     let f = subst (FirstFailure (PassesStart (program e) (cert e)) (length (cert e).basis)) is
     (starts_found (goal.at.returns-in-Some-clause-verdict c).In_ok-element) in
     record { within = f.within; fails = f.fails; before = f.before }
+
+-- the identities of the start aren't too long
+start_is_short : (c : In_ok-element) → ShortStart (program_of c.args.lp.now)
+    (certificate_of c.args.basis.now c.args.steps.now)
+start_is_short c =
+    start_short (program_of c.args.lp.now) (certificate_of c.args.basis.now c.args.steps.now)
+    (kept_over (length (program_of c.args.lp.now).names) c.args.basis.now c.args.steps.now
+    c.requires.kept) c.args.basis.now refl c.in_ok-start.start.items c.in_ok-start.ensures.maps
+    c.in_ok-test_start.ensures.few
+
+pub returns-in-Some-clause-short : goal.returns-in-Some-clause-short
+returns-in-Some-clause-short c =
+    start_is_short (goal.at.returns-in-Some-clause-short c).In_ok-element
+
+pub loop-index-init : goal.loop-index-init
+loop-index-init c = record {
+  passed = λ a j l k. absurd (omega arith);
+  short = λ a l. absurd (omega arith);
+}
 
 pub returns-in-Some-clause-free : goal.returns-in-Some-clause-free
 returns-in-Some-clause-free c = free_all (program_of c.args.lp.now) c.in_ok-start.ensures.free
@@ -128,6 +159,31 @@ module _ (c : After-index-rows) where
   rows_are = rows_at c.args.steps.now (cert entry).steps refl c.loop-index.index
       c.index-rows.result.now c.index-rows.ensures listed
 
+pub test_step-requires : goal.test_step-requires
+test_step-requires c =
+    let at = (goal.at.test_step-requires c).After-index-rows in
+    record {
+      square = square_over _ _ _ _ _ c.index-rows.result.now refl (count at)
+          (sym c.args.basis.now.ok.0)
+          (square_at _ _ c.loop-index.index c.args.steps.now.items c.index-rows.result.now
+          c.index-rows.ensures (inside c.args.steps.now (cert (entry at)).steps refl
+          c.loop-index.index (listed at)) c.requires.kept.squares);
+    }
+
+pub returns-in_err-test_step-clause-refused : goal.returns-in_err-test_step-clause-refused
+returns-in_err-test_step-clause-refused c =
+    let at = (goal.at.returns-in_err-test_step-clause-refused c).After-index-rows in
+    let e = entry at in
+    let starts = starts_hold (goal.at.returns-in_err-test_step-clause-refused c).In_ok-element
+    (search rules) in
+    let p = err_from_is_err_and c.from_residual-in_err-test_step.result
+    c.from_residual-in_err-test_step.ensures.1 in
+    rw (p.1, p.2) (step_long (program e) (cert e) (over e) c.args.basis.now refl
+    c.loop-index.index c.images-item.result.items (stand at) (rows_in c.index-rows.result.now)
+    (rows_are at) (here at) starts c.loop-index.invariant.passed _
+    (free_all (program e) c.in_ok-start.ensures.free c.in_ok-maps.ensures.free)
+    c.in_err-test_step.ensures.limit)
+
 pub first_failing_step-requires-clause-some : goal.first_failing_step-requires-clause-some
 first_failing_step-requires-clause-some c =
     some_images _ _
@@ -164,7 +220,7 @@ returns-in_err-element-2-clause-refused c =
     (free_all (program e) c.in_ok-start.ensures.free c.in_ok-maps.ensures.free)
     (step_refused (program e) (cert e) (over e) c.args.basis.now refl c.loop-index.index
     c.images-item.result.items (stand at) (rows_in c.index-rows.result.now) (rows_are at) (here at)
-    starts c.loop-index.invariant _ c.in_err-element-2.ensures.stops))
+    starts c.loop-index.invariant.passed _ c.in_err-element-2.ensures.stops))
 
 -- what the search among the steps of the branch has found
 module _ (c : In_ok-element-2) where
@@ -196,9 +252,27 @@ returns-in-Some-2-clause-verdict c =
       within = f.within;
       fails = f.fails;
       starts = starts;
-      branches_before = c.loop-index.invariant;
+      branches_before = c.loop-index.invariant.passed;
       before = f.before;
     })
+
+-- the identities of the branches so far aren't too long
+steps_are_short : (c : In_ok-element-2) → (a : ℕ) → a < c.loop-index.index + 1
+    → ShortStep (program_of c.args.lp.now) (certificate_of c.args.basis.now c.args.steps.now) a
+steps_are_short c =
+    let at = (goal.at.In_ok-element-2 c).After-index-rows in
+    below_more (ShortStep (program_of c.args.lp.now)
+    (certificate_of c.args.basis.now c.args.steps.now)) c.loop-index.index
+    c.loop-index.invariant.short
+    (step_short (program (entry at)) (cert (entry at)) (over (entry at)) c.args.basis.now refl
+    c.loop-index.index c.images-item.result.items (stand at) (rows_in c.index-rows.result.now)
+    (rows_are at) c.in_ok-test_step.ensures.few)
+
+pub returns-in-Some-2-clause-short : goal.returns-in-Some-2-clause-short
+returns-in-Some-2-clause-short c = (
+  start_is_short (goal.at.returns-in-Some-2-clause-short c).In_ok-element,
+  steps_are_short (goal.at.returns-in-Some-2-clause-short c).In_ok-element-2,
+)
 
 pub returns-in-Some-2-clause-free : goal.returns-in-Some-2-clause-free
 returns-in-Some-2-clause-free c =
@@ -208,9 +282,14 @@ pub loop-index-preserved : goal.loop-index-preserved
 loop-index-preserved c =
     let e = entry (goal.at.loop-index-preserved c).After-index-rows in
     let none : c.in_ok-element-2.field-0 ≡ None = search rules in
-    passed_more (program e) (cert e) c.loop-index.index c.loop-index.invariant
-    (subst (FirstFailure (PassesStep (program e) (cert e) c.loop-index.index)
-    (length (cert e).basis)) none (steps_found (goal.at.loop-index-preserved c).In_ok-element-2))
+    record {
+      passed =
+          passed_more (program e) (cert e) c.loop-index.index c.loop-index.invariant.passed
+          (subst (FirstFailure (PassesStep (program e) (cert e) c.loop-index.index)
+          (length (cert e).basis)) none
+          (steps_found (goal.at.loop-index-preserved c).In_ok-element-2));
+      short = steps_are_short (goal.at.loop-index-preserved c).In_ok-element-2;
+    }
 
 pub returns-clause-verdict : goal.returns-clause-verdict
 returns-clause-verdict c =
@@ -219,7 +298,7 @@ returns-clause-verdict c =
     record {
       starts = starts_hold (goal.at.returns-clause-verdict c).In_ok-element (search rules);
       steps = λ b i k l.
-          c.loop-index.invariant b i
+          c.loop-index.invariant.passed b i
           (omega (
             arith,
             past,
@@ -227,6 +306,22 @@ returns-clause-verdict c =
                 c.in_ok-maps.ensures.maps,
           )) l;
     }
+
+pub returns-clause-short : goal.returns-clause-short
+returns-clause-short c =
+    let past = past_list c.in_ok-maps.maps.items c.deref-images-items.result.now
+    c.deref-images-items.ensures.value c.loop-index.index c.loop-index-test.false in (
+      start_is_short (goal.at.returns-clause-short c).In_ok-element,
+      λ b k.
+          c.loop-index.invariant.short b
+          (omega (
+            arith,
+            past,
+            k,
+            maps_count (program_of c.args.lp.now) c.in_ok-maps.maps.items
+                c.in_ok-maps.ensures.maps,
+          )),
+    )
 
 pub returns-clause-valid : goal.returns-clause-valid
 returns-clause-valid c = λ same i l.

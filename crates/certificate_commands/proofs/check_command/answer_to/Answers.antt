@@ -10,7 +10,7 @@ use Rattle.io_edge.proofs.Readings.{refused_says, reading_says}
 use Rattle.command_parts.specs.FaultTexts.{loop_refusal}
 use Rattle.certificate_commands.specs.CertificateAsking.{AnswersCertificate}
 use Rattle.certificate_commands.specs.CheckJudging.{Judges, certificate_in}
-use Rattle.certificate_commands.specs.CheckWords.{certificate_at}
+use Rattle.certificate_commands.specs.CheckArguments.{certificate_at}
 use Rattle.certificate_commands.proofs.check_command.answer_to.Goals as goal
 
 pub returns-in-Err : goal.returns-in-Err

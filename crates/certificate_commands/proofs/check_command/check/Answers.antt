@@ -1,17 +1,17 @@
 use Rattle.std.proofs.Common.{rules, refl, map, string_bytes}
 use Rattle.io_edge.specs.Change.{◌⟶◌}
 use Rattle.io_edge.proofs.Going.{obeys, obeys_nothing}
-use Rattle.certificate_commands.specs.CertificateWords.{request_in}
+use Rattle.certificate_commands.specs.CertificateArguments.{request_in}
 use Rattle.certificate_commands.specs.CheckCourse.{course}
 use Rattle.certificate_commands.specs.CertificateViews.{view}
 use Rattle.certificate_commands.proofs.check_command.check.Goals as goal
 
 pub returns-in-Some : goal.returns-in-Some
 returns-in-Some g c m =
-    obeys course (request_in (map string_bytes c.args.words.now)) (view c.in-Some.request) _
+    obeys course (request_in (map string_bytes c.args.arguments.now)) (view c.in-Some.request) _
     (m ⟶ m) c.answer_to.result c.reply.result (search rules) (c.answer_to.ensures m) c.reply.ensures
 
 pub returns-in-None : goal.returns-in-None
 returns-in-None g c m =
-    obeys_nothing course (request_in (map string_bytes c.args.words.now)) _ m
+    obeys_nothing course (request_in (map string_bytes c.args.arguments.now)) _ m
     (search rules) refl refl

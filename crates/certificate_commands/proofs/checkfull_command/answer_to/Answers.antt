@@ -11,7 +11,7 @@ use Rattle.io_edge.proofs.Readings.{refused_says, reading_says}
 use Rattle.command_parts.specs.FaultTexts.{loop_refusal}
 use Rattle.certificate_commands.specs.CertificateAsking.{AnswersCertificate}
 use Rattle.certificate_commands.specs.CheckfullJudging.{Judges}
-use Rattle.certificate_commands.specs.CheckfullWords.{certificate_at}
+use Rattle.certificate_commands.specs.CheckfullArguments.{certificate_at}
 use Rattle.certificate_commands.proofs.checkfull_command.answer_to.Goals as goal
 
 pub returns-in-Err : goal.returns-in-Err

@@ -1,6 +1,6 @@
-// The words LOOP and CERT.
+// The arguments LOOP and CERT.
 ghost use Rattle.std.specs.Prelude.{◌≡◌, map, string_bytes, option_map};
-ghost use Rattle.certificate_commands.specs.CertificateWords.{request_in};
+ghost use Rattle.certificate_commands.specs.CertificateArguments.{request_in};
 ghost use Rattle.certificate_commands.specs.CertificateViews.{view};
 
 use io_edge::names_a_file;
@@ -12,11 +12,11 @@ pub struct Request<'a> {
     pub certificate: &'a String,
 }
 
-/// The certificate that the words ask for, or none.
-pub fn read_words(words: &[String]) -> Option<Request<'_>>
-    ensures { option_map view result ≡ request_in (map string_bytes words.now) }
+/// The certificate that the arguments ask for, or none.
+pub fn read_arguments(arguments: &[String]) -> Option<Request<'_>>
+    ensures { option_map view result ≡ request_in (map string_bytes arguments.now) }
 {
-    match words {
+    match arguments {
         [file, certificate] if names_a_file(file) && names_a_file(certificate) => {
             Some(Request { file, certificate })
         }

@@ -1,8 +1,8 @@
--- LOOP CERT, by the words behind a command.
+-- LOOP CERT, by the arguments behind a command.
 --   Request                the names of both files
---   request_in words       what the words ask for, if they are such words
+--   request_in arguments       what the arguments ask for, if they are such arguments
 use Rattle.std.specs.Prelude.{List, [], ◌∷◌, ℕ, Option, Some, None, ◌&&◌, if◌then◌else◌}
-use Rattle.io_edge.specs.Words.{is_file}
+use Rattle.io_edge.specs.Arguments.{is_file}
 
 pub record Request : Type 0 where
   pub file : List ℕ
