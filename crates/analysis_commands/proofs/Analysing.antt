@@ -1,10 +1,10 @@
 -- What the answers to analyses show, and where each comes.
 --   found_shown        a yes: the reduced basis of the loop's invariants, at the end of its analysis
 --   closed_shown       with the cofactors of the divisions that closed it
---   out_shown          a spent budget: an analysis that ran out of units
+--   out_shown          an exhausted budget: an analysis that ran out of units
 --   unanalysed         any other answer: why the analysis was refused
 --   limit_analysed     the answer where an operation of the maps passes a limit
---   formed_analysed    where none does and each branch splits: a yes, or a number that doesn't fit, or a spent budget
+--   formed_analysed    where none does and each branch splits: a yes, or a number that doesn't fit, or an exhausted budget
 --   unformed_analysed  where not each branch has one: a fault, or a number that doesn't fit
 --   all_analysed       where nothing refuses and a finished journal is within the budget: a yes
 --   branch_analysed    where the first that has none is refused for a cause of its own: this refusal, or a number that doesn't fit
@@ -42,28 +42,29 @@ use Rattle.command_parts.specs.FaultTexts.{loop_refusal}
 use Rattle.analysis_commands.specs.Headline.{ShowsAnalysis}
 use Rattle.analysis_commands.specs.Analyses.{empty_journal, Ending, found, refused, EndsWith, answer_of, Analyses}
 use Rattle.analysis_commands.specs.Completeness.{AllSplit}
-use Rattle.analysis_commands.specs.Causes.{HasFinished, IsClosed, IsSpent, IsNeverRefused, IsWithinBudget, IsExact, IsUnanalysed}
+use Rattle.analysis_commands.specs.Causes.{HasFinished, IsClosed, IsExhausted, IsNeverRefused, IsWithinBudget, IsExact, IsUnanalysed}
 use Rattle.io_edge.proofs.OfStatuses.{status_of, text_of, no_answer}
-use Rattle.analysis_commands.proofs.Refused.{refusal_parts, refusal_kind, Refused, at_fault, too_wide, spent}
+use Rattle.analysis_commands.proofs.Refused.{refusal_parts, refusal_kind, Refused, at_fault, too_wide, exhausted}
 use Rattle.command_parts.proofs.MapLimits.{limit_same, not_free}
 use Rattle.analysis_commands.proofs.BranchRefusals.{no_form, refusal_one, some_told}
 
 pub refused_not_yes : (e : AnalyseError) (s : Status) → Refused e s → s ≢ status.Yes
 refused_not_yes e s (at_fault is) h = cc
 refused_not_yes e s (too_wide is) h = cc
-refused_not_yes e s (spent is same) h = cc
+refused_not_yes e s (exhausted is same) h = cc
 
--- the refusal of an answer that tells a spent budget, and of one that doesn't
-pub spent_is : (e : AnalyseError) (s : Status) → Refused e s → s ≡ status.Budget → e ≡ error.Budget
-spent_is e s (at_fault is) h = absurd (cc)
-spent_is e s (too_wide is) h = absurd (cc)
-spent_is e s (spent is same) h = same
+-- the refusal of an answer that tells an exhausted budget, and of one that doesn't
+pub exhausted_is : (e : AnalyseError) (s : Status) → Refused e s → s ≡ status.Budget
+    → e ≡ error.Budget
+exhausted_is e s (at_fault is) h = absurd (cc)
+exhausted_is e s (too_wide is) h = absurd (cc)
+exhausted_is e s (exhausted is same) h = same
 
 pub at_fault_or_wide : (e : AnalyseError) (s : Status) → Refused e s → (e ≡ error.Budget → ⊥)
     → (s ≡ status.Fault) ⊎ (s ≡ status.Wide)
 at_fault_or_wide e s (at_fault is) not = inl is
 at_fault_or_wide e s (too_wide is) not = inr is
-at_fault_or_wide e s (spent is same) not = absurd (not same)
+at_fault_or_wide e s (exhausted is same) not = absurd (not same)
 
 module _ (kind : Kind) (l : Program (Expr ℕ)) (budget : ℕ) (m : Journal) (a : Answer) where
   refused_kind : (e : AnalyseError) → answer_of kind l.names budget (refused e) ≡ Some a
@@ -117,11 +118,11 @@ module _ (kind : Kind) (l : Program (Expr ℕ)) (budget : ℕ) (m : Journal) (a 
     closed (refused e) ends says h = absurd (refused_not_yes e a.status (refused_kind e says) h)
 
     out : (e : Ending) → EndsWith l budget m kind e → answer_of kind l.names budget e ≡ Some a
-        → a.status ≡ status.Budget → IsSpent text budget m a.text
+        → a.status ≡ status.Budget → IsExhausted text budget m a.text
     out (found c) ends says h =
         absurd (let x : status.Yes ≡ status.Budget = status_of (found_same c says) ∙ h in cc)
     out (refused e) ends says h =
-        let same : e ≡ error.Budget = spent_is e a.status (refused_kind e says) h in
+        let same : e ≡ error.Budget = exhausted_is e a.status (refused_kind e says) h in
         let cause : IsRefused l (empty_journal budget) m error.Budget =
         subst (IsRefused l (empty_journal budget) m) same ends.1 in
         record {
@@ -171,7 +172,7 @@ module _ (kind : Kind) (l : Program (Expr ℕ)) (budget : ℕ) (m : Journal) (a 
   -- a branch that is solvable, and whose classes split, isn't at fault
   branch_wide : (b : ℕ) (r : Refusal) → IsSolvable (map_of l (suc b)) × AllPass (map_of l (suc b))
       → IfRefused (map_of l (suc b)) r → cause_status r ≡ status.Wide
-  branch_wide b (not_solvable cycle) has is = absurd (has.0 cycle is.chain)
+  branch_wide b (not_solvable cycle) has is = absurd (has.0 cycle is.cycle)
   branch_wide b (eigenvalues class) has is = absurd (is.1.0 (has.1 class is.0.is).splits)
   branch_wide b (range class sum) has is =
       let within = (has.1 class is.0.is).within is.1.0 in
@@ -297,7 +298,7 @@ closed_shown kind text l budget m a is h = closed kind l budget m a text is h.en
 
 pub out_shown : (kind : Kind) (text : List ℕ) (l : Program (Expr ℕ)) (budget : ℕ) (m : Journal)
     (a : Answer) → loop_of text ≡ Ok l → Analyses kind l budget m a → a.status ≡ status.Budget
-    → IsSpent text budget m a.text
+    → IsExhausted text budget m a.text
 out_shown kind text l budget m a is h = out kind l budget m a text is h.ending h.ends h.says
 
 pub unanalysed : (kind : Kind) (text : List ℕ) (l : Program (Expr ℕ)) (budget : ℕ) (m : Journal)

@@ -9,8 +9,8 @@ use Rattle.algebra.specs.Fraction.{Fraction}
 use Rattle.polynomials.specs.Terms.{Terms}
 use Rattle.poly.specs.Seen.{terms_each}
 use Rattle.loop_model.specs.FracPoly.{FracPoly}
-use Rattle.analysis_commands.specs.AnalysisTexts.{basis_text}
-use Rattle.analysis_commands.specs.ReadBack.{IsReadBack}
+use Rattle.command_parts.specs.BasisTexts.{basis_text}
+use Rattle.command_parts.specs.ReadBack.{IsReadBack}
 use Rattle.analysis_commands.specs.Lists.{lists_of}
 use Rattle.analysis_commands.specs.ChainTexts.{part_line, bases_text}
 

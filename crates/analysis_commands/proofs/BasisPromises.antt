@@ -10,17 +10,17 @@ use Rattle.io_edge.specs.Course.{EachAnswer}
 use Rattle.io_edge.specs.Outcome.{Call, IsCarriedOut}
 use Rattle.io_edge.proofs.Outcomes.{or_wide, or_fault, or_yes}
 use Rattle.io_edge.proofs.OneFile as one_file
-use Rattle.io_edge.proofs.OneFile.{OneFile, concludes_yes, concludes_no, concludes_spent, answered, ends_at_fault, tells, writes, refused, never_ends, not_ended, left, long}
+use Rattle.io_edge.proofs.OneFile.{OneFile, concludes_yes, concludes_no, concludes_exhausted, answered, ends_at_fault, tells, writes, refused, never_ends, not_ended, left, long}
 use Rattle.command_parts.specs.FaultTexts.{loop_refusal}
 use Rattle.command_parts.proofs.LoopCourses.{reading_loop}
 use Rattle.analysis_commands.specs.Analyses.{Analyses, HasAnalysed}
 use Rattle.analysis_commands.specs.RefusalTexts.{branch_answer}
 use Rattle.analysis_commands.specs.Headline.{ShowsAnalysis}
-use Rattle.analysis_commands.specs.Causes.{HasFinished, IsClosed, IsSpent, IsAnalysed, IsUnanalysed}
+use Rattle.analysis_commands.specs.Causes.{HasFinished, IsClosed, IsExhausted, IsAnalysed, IsUnanalysed}
 use Rattle.analysis_commands.proofs.Settling.{analyses_settled, analyses_not_no}
 use Rattle.analysis_commands.proofs.Analysing.{found_shown, closed_shown, out_shown, unanalysed, limit_analysed, formed_analysed, unformed_analysed, all_analysed, branch_analysed}
-use Rattle.analysis_commands.proofs.Endings.{or_found, not_spent}
-use Rattle.analysis_commands.specs.BasisWords.{Request}
+use Rattle.analysis_commands.proofs.Endings.{or_found, not_exhausted}
+use Rattle.analysis_commands.specs.BasisArguments.{Request}
 use Rattle.analysis_commands.specs.BasisCourse.{course}
 use Rattle.analysis_commands.specs.BasisClauses.{Finds}
 
@@ -49,7 +49,7 @@ module _ (request : Request) where
           (λ text a. IsUnanalysed text request.budget m a)
           (λ text l a e h same refusing.
           unanalysed request.kind text l request.budget m a e h refusing.yes_not) refl;
-      spent = writes path call f concludes_spent (λ text. IsSpent text request.budget m)
+      exhausted = writes path call f concludes_exhausted (λ text. IsExhausted text request.budget m)
           (λ text l a e h out. out_shown request.kind text l request.budget m a e h out);
       no = never_ends path call f concludes_no
           (λ l j a h. analyses_not_no request.kind l request.budget a j h);
@@ -70,8 +70,8 @@ module _ (request : Request) where
       found = λ l r free forms. or_found (course request) call f
           (λ s. formed_analysed request.kind l request.budget m s.answer free forms
           (answered path call f l r s));
-      enough = λ l r within. not_ended path call f concludes_spent l r
-          (λ a h out. not_spent r.text l request.budget m a.text r.reads within
+      enough = λ l r within. not_ended path call f concludes_exhausted l r
+          (λ a h out. not_exhausted r.text l request.budget m a.text r.reads within
           (out_shown request.kind r.text l request.budget m a r.reads h out));
       completes = λ l r never_refused within. or_yes (course request) call f
           (λ s. all_analysed request.kind l request.budget m s.answer never_refused within

@@ -20,8 +20,8 @@ use Rattle.polynomials.proofs.Same.{Same-sym, Same-trans}
 use Rattle.loop_model.specs.Names.{AreNames}
 use Rattle.poly_text.specs.Flat.{flat_of}
 use Rattle.poly_text.specs.Printed.{polynomial_text}
-use Rattle.analysis_commands.specs.ReadBack.{ReadsBack, IsReadBack}
-use Rattle.analysis_commands.specs.AnalysisTexts.{line, equation_line, basis_text}
+use Rattle.command_parts.specs.ReadBack.{ReadsBack, IsReadBack}
+use Rattle.command_parts.specs.BasisTexts.{line, equation_line, basis_text}
 use Rattle.analysis_commands.specs.ChainTexts.{part_line, bases_text}
 use Rattle.analysis_commands.specs.ChainHeadline.{AreReadBack}
 use Rattle.analysis_commands.proofs.LineFeeds.{is_line, first_line, join_lines, decimal_line, printed_line}

@@ -8,9 +8,9 @@ use Rattle.std.specs.Prelude.{◌⊎◌, Option, Some, None, IsSomeAnd}
 use Rattle.std.proofs.lemmas.Bool.{cases_lt}
 use Rattle.algebra.specs.Fraction.{Fraction}
 use Rattle.polynomials.specs.Terms.{Terms}
-use Rattle.solvable_maps.specs.Chain.{IsChain, IsLeastChain}
+use Rattle.solvable_maps.specs.Dependency.{IsNonlinearCycle, IsLeastCycle}
 use Rattle.solvable_maps.specs.Uses.{uses, strongly, IsMap}
-use Rattle.solvable_maps.proofs.Chains.{chain_one}
+use Rattle.solvable_maps.proofs.Cycles.{cycle_one}
 use Rattle.vectors.specs.Matrices.{greatest_sum}
 use Rattle.vectors.specs.Causes.{IsTooWide}
 use Rattle.solvable_maps.specs.Classes.{class_matrix, Passes, first_of, IsReachedClass}
@@ -47,10 +47,10 @@ module _ (images : List (Terms Fraction)) where
   wide_fails g candidate power row none h p =
       p.narrow h.0 (wide_before g candidate power row none h)
 
-  module _ (solvable : (vs : List ℕ) → IsChain (uses images) (strongly images) vs → ⊥)
+  module _ (solvable : (vs : List ℕ) → IsNonlinearCycle (uses images) (strongly images) vs → ⊥)
       (pass : (g : List ℕ) → IsReachedClass images g → Passes images g) where
     pub all_pass : (r : Refusal) → IsExact r → IfRefused images r → ⊥
-    all_pass (not_solvable cycle) exact is = solvable cycle is.chain
+    all_pass (not_solvable cycle) exact is = solvable cycle is.cycle
     all_pass (eigenvalues class) exact is = eigen_fails class is.1 (pass class is.0)
     all_pass (range class sum) exact is = range_fails class sum is.1 (pass class is.0)
     all_pass (wide_split class candidate power row) exact is =
@@ -78,20 +78,20 @@ module _ (images : List (Terms Fraction)) (is : IsMap (length images) images) wh
     ]
   ]
 
-  same_chain : (cycle : List ℕ) (r : Refusal) → IsExact r → IfRefused images r
-      → IsLeastChain (uses images) (strongly images) cycle → not_solvable cycle ≡ r
-  same_chain cycle (not_solvable other) exact r h =
-      ap not_solvable (chain_one (uses images) (strongly images) cycle other h r)
-  same_chain cycle (eigenvalues class) exact r h = absurd (r.0.solvable cycle h.chain)
-  same_chain cycle (range class sum) exact r h = absurd (r.0.solvable cycle h.chain)
-  same_chain cycle (wide_split class candidate power row) exact r h =
-      absurd (r.0.solvable cycle h.chain)
-  same_chain cycle (wide_form variable) exact r h = absurd exact
+  same_cycle : (cycle : List ℕ) (r : Refusal) → IsExact r → IfRefused images r
+      → IsLeastCycle (uses images) (strongly images) cycle → not_solvable cycle ≡ r
+  same_cycle cycle (not_solvable other) exact r h =
+      ap not_solvable (cycle_one (uses images) (strongly images) cycle other h r)
+  same_cycle cycle (eigenvalues class) exact r h = absurd (r.0.solvable cycle h.cycle)
+  same_cycle cycle (range class sum) exact r h = absurd (r.0.solvable cycle h.cycle)
+  same_cycle cycle (wide_split class candidate power row) exact r h =
+      absurd (r.0.solvable cycle h.cycle)
+  same_cycle cycle (wide_form variable) exact r h = absurd exact
 
   same_eigen : (class : List ℕ) (r : Refusal) → IsExact r → IfRefused images r
       → IsReachedClass images class → IfRefusedMatrix images class eigen_error.Eigen
       → eigenvalues class ≡ r
-  same_eigen class (not_solvable cycle) exact r first h = absurd (first.solvable cycle r.chain)
+  same_eigen class (not_solvable cycle) exact r first h = absurd (first.solvable cycle r.cycle)
   same_eigen class (eigenvalues other) exact r first h =
       ap eigenvalues
       (class_one class other first r.0 (eigen_fails images class h) (eigen_fails images other r.1))
@@ -110,7 +110,7 @@ module _ (images : List (Terms Fraction)) (is : IsMap (length images) images) wh
   same_range : (class : List ℕ) (sum : ℤ) (r : Refusal) → IsExact r → IfRefused images r
       → IsReachedClass images class → IfRefusedMatrix images class (eigen_error.Range sum)
       → range class sum ≡ r
-  same_range class sum (not_solvable cycle) exact r first h = absurd (first.solvable cycle r.chain)
+  same_range class sum (not_solvable cycle) exact r first h = absurd (first.solvable cycle r.cycle)
   same_range class sum (eigenvalues other) exact r first h =
       let one = class_one other class r.0 first (eigen_fails images other r.1)
       (range_fails images class sum h) in
@@ -131,7 +131,7 @@ module _ (images : List (Terms Fraction)) (is : IsMap (length images) images) wh
 
   pub refusal_one : (r' r : Refusal) → IsExact r → IfRefused images r → IfRefused images r'
       → (r' ≡ r) ⊎ (cause_status r' ≡ status.Wide)
-  refusal_one (not_solvable cycle) r exact is h = inl (same_chain cycle r exact is h)
+  refusal_one (not_solvable cycle) r exact is h = inl (same_cycle cycle r exact is h)
   refusal_one (eigenvalues class) r exact is h = inl (same_eigen class r exact is h.0 h.1)
   refusal_one (range class sum) r exact is h = inl (same_range class sum r exact is h.0 h.1)
   refusal_one (wide_split class candidate power row) r exact is h = inr refl

@@ -1,13 +1,13 @@
 -- What the answers to analyses of chains show, and where each comes.
 --   analyses_settled, analyses_not_no      their statuses
 --   found_shown        a yes: the reduced bases of the chain's invariants, loop by loop, at the end of its analysis
---   out_shown          a spent budget: the analysis of a loop that ran out of units
+--   out_shown          an exhausted budget: the analysis of a loop that ran out of units
 --   unanalysed         any other answer: why the analysis of a loop was refused
 --   limit_analysed     the answer where an operation of a loop's maps passes a limit, behind loops that have their bases
 --   branch_analysed    where the first branch of a loop that has no closed form is refused for a cause of its own
 --   unformed_analysed  where it has one: a fault, or a number that doesn't fit
---   formed_analysed    where none is and each branch splits: a yes, or a number that doesn't fit, or a spent budget
---   not_spent          no budget is spent where each loop has a finished journal within it
+--   formed_analysed    where none is and each branch splits: a yes, or a number that doesn't fit, or an exhausted budget
+--   not_exhausted          no budget is exhausted where each loop has a finished journal within it
 --   all_analysed       where nothing refuses and that is so: a yes
 --   all_second         what holds of all of two lists holds of the second
 use Rattle.std.proofs.lemmas.List.{length-append, get_or-append-add}
@@ -23,11 +23,11 @@ use Rattle.loop_model.specs.Operations.{PassesLimit, IsFree, IsLimit, IsWide}
 use Rattle.loop_model.specs.declared.map_error.MapError.TheVariants as map_error
 use Rattle.loop_model.specs.Maps.{maps_operations, AreFree}
 use Rattle.rounds.specs.Journal.{IsOutFrom}
-use Rattle.corollaries.specs.Between.{IsSpentLeading}
+use Rattle.corollaries.specs.Between.{IsExhaustedLeading}
 use Rattle.loops.specs.Chain.{Chain, code_at, loop_at, IsChain}
 use Rattle.corollaries.specs.Analysed.{Analysed}
 use Rattle.corollaries.proofs.Analysed.{analysed_basis, analysed_generates}
-use Rattle.corollaries.proofs.Spent.{never_spent, never_spent_between}
+use Rattle.corollaries.proofs.Exhausted.{never_exhausted, never_exhausted_between}
 use Rattle.loop_text.specs.ChainReader.{chain_of}
 use Rattle.loop_text.proofs.ChainWell.{chain_well}
 use Rattle.closed_forms.specs.Refusal.{Refusal, refusal_in}
@@ -50,13 +50,13 @@ use Rattle.analysis_commands.specs.Completeness.{AllSplit}
 use Rattle.analysis_commands.specs.Causes.{IsExact}
 use Rattle.analysis_commands.specs.Statuses.{refusal_status}
 use Rattle.analysis_commands.specs.RefusalTexts.{refusal_answer, branch_answer}
-use Rattle.analysis_commands.proofs.Analysing.{refused_not_yes, spent_is, at_fault_or_wide, branch_told, formed, status_told}
+use Rattle.analysis_commands.proofs.Analysing.{refused_not_yes, exhausted_is, at_fault_or_wide, branch_told, formed, status_told}
 use Rattle.analysis_commands.proofs.BranchRefusals.{no_form, some_told}
 use Rattle.analysis_commands.proofs.Refused.{refusal_parts, refusal_kind, refused_settled, refused_not_no}
 use Rattle.analysis_commands.specs.ChainTexts.{bases_text, in_loop}
 use Rattle.analysis_commands.specs.ChainHeadline.{ShowsChain}
 use Rattle.analysis_commands.specs.ChainAnalyses.{Ending, found, refused, EndsWith, between_answer, error_answer, answer_of, refused_answer, Analyses}
-use Rattle.analysis_commands.specs.ChainCauses.{HasFinished, IsSpent, IsUnanalysed, AreFormedBefore, IsWithinBudget, IsNeverRefused, IsNeverRefusedAt}
+use Rattle.analysis_commands.specs.ChainCauses.{HasFinished, IsExhausted, IsUnanalysed, AreFormedBefore, IsWithinBudget, IsNeverRefused, IsNeverRefusedAt}
 
 -- ---- one loop
 -- the answer behind that of its loop
@@ -102,16 +102,16 @@ module _ (c : Chain (Expr ℕ)) (budget : ℕ) (m : Journal) (j : ℕ) (x : Answ
   between_wide : Says loop_error.Between → x.status ≡ status.Wide
   between_wide says = status_of (some_answer between_answer x says)
 
-  wide_or_spent : (e : AnalyseError) → Says (loop_error.Analysis e)
+  wide_or_exhausted : (e : AnalyseError) → Says (loop_error.Analysis e)
       → (x.status ≡ status.Yes) ⊎ ((x.status ≡ status.Wide) ⊎ (x.status ≡ status.Budget))
       → (x.status ≡ status.Wide) ⊎ (e ≡ error.Budget)
-  wide_or_spent e says h =
+  wide_or_exhausted e says h =
       let k = refusal_kind e x.status (refusal_parts p.names budget e x says).0 in
       elim h [
         | inl never ↦ absurd (refused_not_yes e x.status k never)
         | inr other ↦ elim other [
           | inl wide ↦ inl wide
-          | inr spent ↦ inr (spent_is e x.status k spent)
+          | inr exhausted ↦ inr (exhausted_is e x.status k exhausted)
         ]
       ]
 
@@ -130,11 +130,11 @@ module _ (c : Chain (Expr ℕ)) (budget : ℕ) (m : Journal) (j : ℕ) (x : Answ
   formed_refusal free split (loop_error.Analysis (error.Map map_error.Memory)) r says =
       absurd (no_answer x says)
   formed_refusal free split (loop_error.Analysis (error.Branch b y)) r says =
-      elim (wide_or_spent (error.Branch b y) says
+      elim (wide_or_exhausted (error.Branch b y) says
       (formed kinds.Basis p budget (alone.empty_journal budget) x (free_loop free) split
       (alone.refused (error.Branch b y)) (refl, (refl, (free_loop free, r.1.1))) says)) [
         | inl wide ↦ inl wide
-        | inr spent ↦ absurd (let z : error.Branch b y ≡ error.Budget = spent in cc)
+        | inr exhausted ↦ absurd (let z : error.Branch b y ≡ error.Budget = exhausted in cc)
       ]
   formed_refusal free split (loop_error.Analysis (error.Wide task)) r says =
       inl (told_wide (error.Wide task) refl says)
@@ -268,11 +268,11 @@ module _ (c : Chain (Expr ℕ)) (budget : ℕ) (a : Answer) where
       let z : status.Wide ≡ status.Yes = sym (status_of (some_answer between_answer x told)) ∙ h in
       let q : ⊥ = cc in q
 
-  spent_error : (e : LoopError) (x : Answer) → error_answer c.first.names budget e ≡ Some x
+  exhausted_error : (e : LoopError) (x : Answer) → error_answer c.first.names budget e ≡ Some x
       → x.status ≡ status.Budget → e ≡ loop_error.Analysis error.Budget
-  spent_error (loop_error.Analysis e) x told h = ap loop_error.Analysis (spent_is e x.status
+  exhausted_error (loop_error.Analysis e) x told h = ap loop_error.Analysis (exhausted_is e x.status
       (refusal_kind e x.status (refusal_parts c.first.names budget e x told).0) h)
-  spent_error loop_error.Between x told h =
+  exhausted_error loop_error.Between x told h =
       absurd (let z : status.Wide ≡ status.Budget =
       sym (status_of (some_answer between_answer x told)) ∙ h in cc)
 
@@ -281,9 +281,8 @@ module _ (c : Chain (Expr ℕ)) (budget : ℕ) (a : Answer) where
       → (x.status ≡ status.Fault) ⊎ (x.status ≡ status.Wide)
   fault_error (loop_error.Analysis e) x told not = at_fault_or_wide e x.status
       (refusal_kind e x.status (refusal_parts c.first.names budget e x told).0)
-      (λ spent. not (ap loop_error.Analysis spent))
-  fault_error loop_error.Between x told not =
-      inr (status_of (some_answer between_answer x told))
+      (λ exhausted. not (ap loop_error.Analysis exhausted))
+  fault_error loop_error.Between x told not = inr (status_of (some_answer between_answer x told))
 
   settled_so : (e : Ending) → answer_of c.first.names budget e ≡ Some a → IsSettled a.status
   settled_so (found bases) says = settled_yes a.status (status_of (found_is bases says))
@@ -305,7 +304,7 @@ module _ (c : Chain (Expr ℕ)) (budget : ℕ) (a : Answer) where
   budget_so : (r : bases.Refused) → Tells r → a.status ≡ status.Budget
       → r.error ≡ loop_error.Analysis error.Budget
   budget_so r says h =
-      let o = of_loop r says in spent_error r.error o.x o.told (sym (status_of o.is_told) ∙ h)
+      let o = of_loop r says in exhausted_error r.error o.x o.told (sym (status_of o.is_told) ∙ h)
 
 module _ (text : List ℕ) (c : Chain (Expr ℕ)) (budget : ℕ) (m : Journal) (a : Answer)
     (is : chain_of text ≡ Ok c) where
@@ -336,30 +335,30 @@ module _ (text : List ℕ) (c : Chain (Expr ℕ)) (budget : ℕ) (m : Journal) (
       )
   shown (refused r) ends says h = absurd (not_yes_so c budget a r says h)
 
-  -- ---- a spent budget
-  abbrev Spent : ℕ → Type 0
-  Spent j =
+  -- ---- an exhausted budget
+  abbrev Exhausted : ℕ → Type 0
+  Exhausted j =
       InLoop c budget m j (λ left given. IsOutFrom (loop_at c j) given None left m.entries)
-      ⊎ InCode c budget m j (λ gs. IsSpentLeading c.first (code_at c j) gs budget m.entries)
+      ⊎ InCode c budget m j (λ gs. IsExhaustedLeading c.first (code_at c j) gs budget m.entries)
 
   out_of : (r : bases.Refused) (ends : IsRefusedIn c budget m r)
-      → r.error ≡ loop_error.Analysis error.Budget → IsFormed c r.place × Spent r.place
+      → r.error ≡ loop_error.Analysis error.Budget → IsFormed c r.place × Exhausted r.place
   out_of r ends same = subst (IsRefusedAt c budget m r.place) same ends.refused
 
   -- none where a loop behind it, or it, is finished within the budget
-  unspent : (r : bases.Refused) (ends : IsRefusedIn c budget m r) → (n : ℕ)
+  unexhausted : (r : bases.Refused) (ends : IsRefusedIn c budget m r) → (n : ℕ)
       (gs : List (Terms Fraction)) → Analysed c budget n gs → r.place ≤ n
       → r.error ≡ loop_error.Analysis error.Budget → ⊥
-  unspent r ends n gs finished within same = elim (out_of r ends same).1 [
-    | inl l ↦ never_spent c (chain_formed text c is) budget n gs finished r.place l.left l.given
+  unexhausted r ends n gs finished within same = elim (out_of r ends same).1 [
+    | inl l ↦ never_exhausted c (chain_formed text c is) budget n gs finished r.place l.left l.given
         within l.known m.entries l.so
-    | inr l ↦ never_spent_between c (chain_formed text c is) budget n gs finished l.place l.list
+    | inr l ↦ never_exhausted_between c (chain_formed text c is) budget n gs finished l.place l.list
         (let e = l.is in omega (arith, e, within)) l.analysed m.entries
-        (subst (λ j. IsSpentLeading c.first (code_at c j) l.list budget m.entries) l.is l.so)
+        (subst (λ j. IsExhaustedLeading c.first (code_at c j) l.list budget m.entries) l.is l.so)
   ]
 
   out : (e : Ending) → EndsWith c budget m e → answer_of c.first.names budget e ≡ Some a
-      → a.status ≡ status.Budget → IsSpent text budget m a.text
+      → a.status ≡ status.Budget → IsExhausted text budget m a.text
   out (found bases) ends says h =
       absurd (let x : status.Yes ≡ status.Budget =
       sym (status_of (found_is c budget a bases says)) ∙ h in cc)
@@ -387,7 +386,7 @@ module _ (text : List ℕ) (c : Chain (Expr ℕ)) (budget : ℕ) (m : Journal) (
       record { chain = c; is_chain = is; refused = r; ends = ends; says = says }
 
   -- ---- where each comes
-  -- a refusal of a loop that is formed, where its budget isn't spent
+  -- a refusal of a loop that is formed, where its budget isn't exhausted
   wide_at : (r : bases.Refused) → Tells c budget a r → IsRefusedIn c budget m r
       → IsFree (length c.first.names) (operations_at c r.place) → AllSplit (loop_at c r.place)
       → (r.error ≡ loop_error.Analysis error.Budget → ⊥) → a.status ≡ status.Wide
@@ -396,7 +395,7 @@ module _ (text : List ℕ) (c : Chain (Expr ℕ)) (budget : ℕ) (m : Journal) (
       elim (formed_refusal c budget m r.place o.x (free_named c r.place free) split r.error
       ends.refused o.says) [
         | inl wide ↦ status_of o.is_told ∙ wide
-        | inr spent ↦ absurd (never spent)
+        | inr exhausted ↦ absurd (never exhausted)
       ]
 
   wide_before : (j : ℕ) → Reaches c budget j → AreFormedBefore c j → (r : bases.Refused)
@@ -406,7 +405,7 @@ module _ (text : List ℕ) (c : Chain (Expr ℕ)) (budget : ℕ) (m : Journal) (
       let f = before r.place l in
       let b = before_place c budget j r.place known l in
       wide_at r says ends f.0 (all_split (loop_at c r.place) f.1)
-      (unspent r ends b.0 b.1.0 b.1.1.0 b.1.1.1)
+      (unexhausted r ends b.0 b.1.0 b.1.1.0 b.1.1.1)
 
   module _ (j : ℕ) (within : j ≤ length c.further) (known : Reaches c budget j)
       (before : AreFormedBefore c j) where
@@ -492,8 +491,8 @@ module _ (text : List ℕ) (c : Chain (Expr ℕ)) (budget : ℕ) (m : Journal) (
         here same =
             let o = of_loop c budget a r says in
             elim (fault_error c budget a r.error o.x o.told
-            (λ spent. not (subst (λ k. AllHaveForms (loop_at c k)) (sym same)
-            (out_of r ends spent).0.1))) [
+            (λ exhausted. not (subst (λ k. AllHaveForms (loop_at c k)) (sym same)
+            (out_of r ends exhausted).0.1))) [
               | inl fault ↦ inl (status_of o.is_told ∙ fault)
               | inr wide ↦ inr (status_of o.is_told ∙ wide)
             ]
@@ -509,9 +508,9 @@ module _ (text : List ℕ) (c : Chain (Expr ℕ)) (budget : ℕ) (m : Journal) (
       elim (formed_refusal c budget m r.place o.x (free_named c r.place f.0) f.1 r.error
       ends.refused o.says) [
         | inl wide ↦ inr (inl (status_of o.is_told ∙ wide))
-        | inr spent ↦ inr (inr (status_of o.is_told
+        | inr exhausted ↦ inr (inr (status_of o.is_told
             ∙ status_told kinds.Basis (loop_at c r.place) budget m o.x error.Budget status.Budget
-            refl (subst (λ e. error_answer (loop_at c r.place).names budget e ≡ Some o.x) spent
+            refl (subst (λ e. error_answer (loop_at c r.place).names budget e ≡ Some o.x) exhausted
             o.says)))
       ]
 
@@ -521,7 +520,7 @@ module _ (text : List ℕ) (c : Chain (Expr ℕ)) (budget : ℕ) (m : Journal) (
       let x : status.Yes ≡ status.Budget = sym (status_of (found_is c budget a bases says)) ∙ h in
       let z : ⊥ = cc in z
   no_budget w (refused r) ends says h =
-      unspent r ends (length c.further) w.list w.analysed ends.within
+      unexhausted r ends (length c.further) w.list w.analysed ends.within
       (budget_so c budget a r says h)
 
   completed : IsNeverRefused c budget → IsWithinBudget c budget → (e : Ending)
@@ -529,7 +528,7 @@ module _ (text : List ℕ) (c : Chain (Expr ℕ)) (budget : ℕ) (m : Journal) (
   completed never w (found bases) ends says = status_of (found_is c budget a bases says)
   completed never w (refused r) ends says =
       let o = of_loop c budget a r says in
-      absurd (unspent r ends (length c.further) w.list w.analysed ends.within
+      absurd (unexhausted r ends (length c.further) w.list w.analysed ends.within
       (never_refused c budget m r.place o.x (never r.place ends.within) r.error ends.refused
       o.says))
 
@@ -548,8 +547,9 @@ module _ (text : List ℕ) (c : Chain (Expr ℕ)) (budget : ℕ) (m : Journal) (
       → ShowsChain text a.text × HasFinished text budget m
   found_shown h ended = shown text c budget m a is h.ending h.ends h.says ended
 
-  pub out_shown : Analyses c budget m a → a.status ≡ status.Budget → IsSpent text budget m a.text
-  out_shown h spent = out text c budget m a is h.ending h.ends h.says spent
+  pub out_shown : Analyses c budget m a → a.status ≡ status.Budget
+      → IsExhausted text budget m a.text
+  out_shown h exhausted = out text c budget m a is h.ending h.ends h.says exhausted
 
   pub unanalysed : Analyses c budget m a → a.status ≢ status.Yes → IsUnanalysed text budget m a
   unanalysed h not = cause text c budget m a is h.ending h.ends h.says not
@@ -583,8 +583,8 @@ module _ (text : List ℕ) (c : Chain (Expr ℕ)) (budget : ℕ) (m : Journal) (
       → (a.status ≡ status.Yes) ⊎ ((a.status ≡ status.Wide) ⊎ (a.status ≡ status.Budget))
   formed_analysed each h = all_formed text c budget m a is each h.ending h.ends h.says
 
-  pub not_spent : IsWithinBudget c budget → Analyses c budget m a → a.status ≢ status.Budget
-  not_spent w h = no_budget text c budget m a is w h.ending h.ends h.says
+  pub not_exhausted : IsWithinBudget c budget → Analyses c budget m a → a.status ≢ status.Budget
+  not_exhausted w h = no_budget text c budget m a is w h.ending h.ends h.says
 
   pub all_analysed : IsNeverRefused c budget → IsWithinBudget c budget → Analyses c budget m a
       → a.status ≡ status.Yes

@@ -11,16 +11,16 @@ use Rattle.io_edge.specs.Course.{EachAnswer}
 use Rattle.io_edge.specs.Outcome.{Call, IsCarriedOut}
 use Rattle.io_edge.proofs.Outcomes.{or_wide, or_fault, or_yes}
 use Rattle.io_edge.proofs.OneFile as one_file
-use Rattle.io_edge.proofs.OneFile.{OneFile, concludes_yes, concludes_no, concludes_spent, answered, ends_at_fault, tells, writes, refused, never_ends, not_ended, left, long}
+use Rattle.io_edge.proofs.OneFile.{OneFile, concludes_yes, concludes_no, concludes_exhausted, answered, ends_at_fault, tells, writes, refused, never_ends, not_ended, left, long}
 use Rattle.command_parts.specs.FaultTexts.{loop_refusal}
 use Rattle.command_parts.proofs.ChainCourses.{reading_chain}
 use Rattle.analysis_commands.specs.ChainAnalyses.{Analyses, HasAnalysed}
 use Rattle.analysis_commands.specs.RefusalTexts.{branch_answer}
 use Rattle.analysis_commands.specs.ChainTexts.{in_loop}
 use Rattle.analysis_commands.specs.ChainHeadline.{ShowsChain}
-use Rattle.analysis_commands.specs.ChainCauses.{HasFinished, IsSpent, IsAnalysed, IsUnanalysed}
+use Rattle.analysis_commands.specs.ChainCauses.{HasFinished, IsExhausted, IsAnalysed, IsUnanalysed}
 use Rattle.analysis_commands.proofs.Endings.{or_found}
-use Rattle.analysis_commands.proofs.ChainAnalysing.{analyses_settled, analyses_not_no, found_shown, out_shown, unanalysed, limit_analysed, branch_analysed, unformed_analysed, formed_analysed, not_spent, all_analysed}
+use Rattle.analysis_commands.proofs.ChainAnalysing.{analyses_settled, analyses_not_no, found_shown, out_shown, unanalysed, limit_analysed, branch_analysed, unformed_analysed, formed_analysed, not_exhausted, all_analysed}
 use Rattle.command_parts.specs.FileRequests.{FileRequest}
 use Rattle.analysis_commands.specs.ChainCourse.{course}
 use Rattle.analysis_commands.specs.ChainClauses.{FindsEach}
@@ -47,7 +47,7 @@ module _ (request : FileRequest) where
           (λ text a. IsUnanalysed text request.budget m a)
           (λ text c a e h same refusing.
           unanalysed text c request.budget m a e h refusing.yes_not) refl;
-      spent = writes path call f concludes_spent (λ text. IsSpent text request.budget m)
+      exhausted = writes path call f concludes_exhausted (λ text. IsExhausted text request.budget m)
           (λ text c a e h out. out_shown text c request.budget m a e h out);
       no = never_ends path call f concludes_no
           (λ c j a h. analyses_not_no c request.budget a j h);
@@ -68,8 +68,8 @@ module _ (request : FileRequest) where
       found = λ c r each. or_found (course request) call f
           (λ s. formed_analysed r.text c request.budget m s.answer r.reads each
           (answered path call f c r s));
-      enough = λ c r within. not_ended path call f concludes_spent c r
-          (λ a h out. not_spent r.text c request.budget m a r.reads within h out);
+      enough = λ c r within. not_ended path call f concludes_exhausted c r
+          (λ a h out. not_exhausted r.text c request.budget m a r.reads within h out);
       completes = λ c r never_refused within. or_yes (course request) call f
           (λ s. all_analysed r.text c request.budget m s.answer r.reads never_refused within
           (answered path call f c r s));

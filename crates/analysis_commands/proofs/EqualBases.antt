@@ -19,8 +19,8 @@ use Rattle.machines.proofs.Places.{in_slice}
 use Rattle.machines.proofs.Reducing.{one_reduced}
 use Rattle.loops.specs.Inv.{Inv}
 use Rattle.rounds.specs.Generate.{Generates}
-use Rattle.analysis_commands.specs.ReadBack.{ReadsBack}
-use Rattle.analysis_commands.specs.AnalysisTexts.{basis_text}
+use Rattle.command_parts.specs.ReadBack.{ReadsBack}
+use Rattle.command_parts.specs.BasisTexts.{basis_text}
 use Rattle.analysis_commands.proofs.BasisTexts.{same_bases}
 use Rattle.analysis_commands.specs.declared.kind.Kind.TheVariants as kinds
 use Rattle.analysis_commands.specs.Headline.{HaveSameInvariants, ShowsAnalysis}

@@ -10,8 +10,8 @@ use Rattle.polynomials.specs.Terms.{Terms}
 use Rattle.ideals.specs.Members.{IsMember}
 use Rattle.loops.specs.Relations.{IsRelation}
 use Rattle.loops.specs.Sequences.{Sequence, sequence_names}
-use Rattle.analysis_commands.specs.ReadBack.{ReadsBack}
-use Rattle.analysis_commands.specs.AnalysisTexts.{basis_text}
+use Rattle.command_parts.specs.ReadBack.{ReadsBack}
+use Rattle.command_parts.specs.BasisTexts.{basis_text}
 use Rattle.analysis_commands.proofs.BasisTexts.{same_bases}
 use Rattle.analysis_commands.specs.RelationsHeadline.{HaveSameRelations, ShowsRelations}
 use Rattle.analysis_commands.proofs.EqualBases.{Basis, same_list, graded}

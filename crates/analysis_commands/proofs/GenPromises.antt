@@ -19,14 +19,14 @@ use Rattle.io_edge.proofs.Outcomes.{Said, yes_said, said_with, refusal_told, wri
 use Rattle.analysis_commands.specs.declared.kind.Kind.TheVariants.{Basis}
 use Rattle.analysis_commands.specs.Analyses.{refused, Analyses}
 use Rattle.analysis_commands.specs.Completeness.{AllSplit}
-use Rattle.analysis_commands.specs.Causes.{IsSpent, IsNeverRefused, IsWithinBudget}
-use Rattle.analysis_commands.specs.Counting.{ShowsCounts, StopsAt, IsSpentAt, AnswersFamily, IsFamily}
+use Rattle.analysis_commands.specs.Causes.{IsExhausted, IsNeverRefused, IsWithinBudget}
+use Rattle.analysis_commands.specs.Counting.{ShowsCounts, StopsAt, IsExhaustedAt, AnswersFamily, IsFamily}
 use Rattle.analysis_commands.specs.GenCourse.{course}
 use Rattle.analysis_commands.specs.GenClauses.{Tallies}
 use Rattle.analysis_commands.proofs.Refused.{refusal_parts, refusal_kind}
 use Rattle.analysis_commands.proofs.Settling.{analyses_settled, analyses_not_no}
 use Rattle.analysis_commands.proofs.Analysing.{refused_not_yes, out_shown, formed_analysed, all_analysed}
-use Rattle.analysis_commands.proofs.Endings.{or_found, not_spent}
+use Rattle.analysis_commands.proofs.Endings.{or_found, not_exhausted}
 
 -- ---- the first loop that has no basis
 module _ (n : ℕ) (m : Journal) (a : Answer) (stop : StopsAt n m a) where
@@ -47,14 +47,14 @@ module _ (n : ℕ) (m : Journal) (a : Answer) (stop : StopsAt n m a) where
       let parts = refusal_parts stop_loop.names usual_budget r.error a r.says in
       refused_not_yes r.error a.status (refusal_kind r.error a.status parts.0)
 
-  stop_spent : a.status ≡ status.Budget → IsSpent stop_text usual_budget m a.text
-  stop_spent is =
+  stop_exhausted : a.status ≡ status.Budget → IsExhausted stop_text usual_budget m a.text
+  stop_exhausted is =
       out_shown Basis stop_text stop_loop usual_budget m a stop.refused.is_loop stop_analyses is
 
-  stop_not_spent : IsWithinBudget stop_loop usual_budget → a.status ≢ status.Budget
-  stop_not_spent within is =
-      not_spent stop_text stop_loop usual_budget m a.text stop.refused.is_loop within
-      (stop_spent is)
+  stop_not_exhausted : IsWithinBudget stop_loop usual_budget → a.status ≢ status.Budget
+  stop_not_exhausted within is =
+      not_exhausted stop_text stop_loop usual_budget m a.text stop.refused.is_loop within
+      (stop_exhausted is)
 
 module _ (n : ℕ) where
   each_settled : (m : Journal) (a : Answer) → AnswersFamily n m a → IsSettled a.status
@@ -80,15 +80,15 @@ module _ (n : ℕ) where
   stopped m a (inl told) not = absurd (not told.0)
   stopped m a (inr stop) not = stop
 
-  spent_at : (m : Journal) (a : Answer) (stop : StopsAt n m a) → a.status ≡ status.Budget
-      → IsSpentAt n m a.text
-  spent_at m a stop is = record {
+  exhausted_at : (m : Journal) (a : Answer) (stop : StopsAt n m a) → a.status ≡ status.Budget
+      → IsExhaustedAt n m a.text
+  exhausted_at m a stop is = record {
     place = stop.place;
     within = stop.within;
     counts = stop.counts;
     last = stop.last;
     counted = stop.counted;
-    spent = stop_spent n m a stop is;
+    exhausted = stop_exhausted n m a stop is;
   }
 
   -- ---- where it ends
@@ -105,7 +105,7 @@ module _ (n : ℕ) where
       → AnswersFamily n m a → a.status ≢ status.Budget
   enough m a each (inl told) h = let x : status.Yes ≡ status.Budget = sym told.0 ∙ h in cc
   enough m a each (inr stop) h =
-      stop_not_spent n m a stop
+      stop_not_exhausted n m a stop
       (each stop.place stop.refused.loop stop.within stop.refused.is_loop) h
 
   completes : (m : Journal) (a : Answer)
@@ -123,13 +123,14 @@ module _ (n : ℕ) where
     budget_said : call.status ≡ status.Budget → Said (course n) call
     budget_said is = said_with (course n) call f status.Budget is (λ h. cc) (λ h. cc) (λ h. cc)
 
-    spent_shown : call.status ≡ status.Budget → Wrote call.sink (IsSpentAt n left)
-    spent_shown is =
+    exhausted_shown : call.status ≡ status.Budget → Wrote call.sink (IsExhaustedAt n left)
+    exhausted_shown is =
         let s = budget_said is in
-        let spent : s.answer.status ≡ status.Budget = sym s.same ∙ is in
+        let exhausted : s.answer.status ≡ status.Budget = sym s.same ∙ is in
         let stop = stopped left s.answer s.is
-        (λ y. let x : status.Yes ≡ status.Budget = sym y ∙ spent in cc) in
-        written (course n) call f (IsSpentAt n left) s (spent_at left s.answer stop spent)
+        (λ y. let x : status.Yes ≡ status.Budget = sym y ∙ exhausted in cc) in
+        written (course n) call f (IsExhaustedAt n left) s (exhausted_at left s.answer stop
+        exhausted)
 
     pub tallies : Tallies n call
     tallies = record {
@@ -139,7 +140,7 @@ module _ (n : ℕ) where
           (shown left s.answer s.is (sym s.same ∙ is));
       why = λ is. refusal_told (course n) call f call.status is (StopsAt n left)
           (λ s same refusing. stopped left s.answer s.is refusing.yes_not) refl;
-      spent = spent_shown;
+      exhausted = exhausted_shown;
       no = never (course n) call f status.No (λ h. cc) (λ h. cc) (λ h. cc) each_not_no;
       journal = meter_left (course n) call f;
       found = λ each. or_found (course n) call f (λ s. found left s.answer each s.is);

@@ -3,7 +3,7 @@
 --   idle_code         the code x = x
 --   idle_led          its elimination has ended, with no entry and with no polynomial
 --   idle_fits         neither making its list nor what comes next is past
---   idle_unspent      no budget is spent in it
+--   idle_unexhausted      no budget is exhausted in it
 use Rattle.std.proofs.Common.{◌≡◌, inl, inr, ℕ, zero, suc, ◌<◌, pos, List, [], ◌∷◌, get_or, slice_get, refl, sym, ap, subst, ◌∙◌, arith, Option, Some, None}
 use Rattle.algebra.specs.Arithmetic.{power}
 use Rattle.algebra.specs.Sum.{sum_over}
@@ -35,7 +35,7 @@ use Rattle.machines.proofs.Working.{work_begun}
 use Rattle.loops.specs.Effect.{after_branch, after_statement, store, value_of}
 use Rattle.loops.specs.Map.{branch_map}
 use Rattle.loops.specs.Program.{Expr, Program, Statement, variable}
-use Rattle.corollaries.specs.Between.{starting, value_at_code, IsPastDifference, IsPastMaking, between, IsLed, IsSpentLeading, IsPastLeading}
+use Rattle.corollaries.specs.Between.{starting, value_at_code, IsPastDifference, IsPastMaking, between, IsLed, IsExhaustedLeading, IsPastLeading}
 use Rattle.corollaries.specs.CodeBetween.{variable_of, of_what_was, was}
 
 abbrev pub x_program : List (List (Statement (Expr ℕ))) → Program (Expr ℕ)
@@ -62,7 +62,8 @@ ended_here : HasEnded (elimination.next rationals (blocks 1 grevlex grevlex) gre
     (elimination.initial_state rationals (blocks 1 grevlex grevlex) (element ∷ []))
 unfolding elimination.next completion.next next_completion next_pair with_elements with_element
     with_new skip_covered
-    tidying.next next_drop drop_from next_tail tail_from free_part all_free lead_of lead_number
+    tidying.next next_drop drop_from next_tail tail_from by_lead free_part all_free lead_of
+    lead_number
     monic scale_terms
     exponents.same fraction fraction_words.product fraction_words.opposite fraction_words.inverse
     is_lowest reduce gcd
@@ -91,11 +92,12 @@ start_fits s = go s.place s.element s.at s.past
         monic_fits (subst (IsPastMonic fractions rationals) (sym same) past))
     go (suc n) e at past = cc
 
-next_fits : IsPastElimination fractions rationals (blocks 1 grevlex grevlex) (free_part 1)
+next_fits : IsPastElimination fractions rationals (blocks 1 grevlex grevlex) grevlex (free_part 1)
     (elimination.initial_state rationals (blocks 1 grevlex grevlex) (element ∷ [])) → ⊥
 unfolding with_elements with_element with_new skip_covered free_part all_free lead_of lead_number
     monic scale_terms
-    drop_from tail_from exponents.same fraction fraction_words.product fraction_words.opposite
+    drop_from tail_from by_lead exponents.same fraction fraction_words.product
+    fraction_words.opposite
     fraction_words.inverse is_lowest reduce gcd
 next_fits (inl h) = h
 next_fits (inr h) = h.1
@@ -195,15 +197,17 @@ module _ (bs : List (List (Statement (Expr ℕ)))) where
   pub idle_fits : (es : List Entry) → IsPastLeading (x_program bs) idle_code [] es → ⊥
   idle_fits es (inl p) =
       next_fits (subst (λ l. IsPastElimination fractions rationals (blocks 1 grevlex grevlex)
-      (free_part 1) (elimination.initial_state rationals (blocks 1 grevlex grevlex) l)) list_is
-      (subst (IsPastElimination fractions rationals (blocks 1 grevlex grevlex) (free_part 1))
+      grevlex (free_part 1) (elimination.initial_state rationals (blocks 1 grevlex grevlex) l))
+      list_is
+      (subst (IsPastElimination fractions rationals (blocks 1 grevlex grevlex) grevlex
+      (free_part 1))
       (sym (only_start p.work.events p.at p.work.run)) p.past))
   idle_fits es (inr (none, inl p)) = making_fits p
   idle_fits es (inr (none, inr p)) = start_fits (subst (IsPastStart fractions rationals) list_is p)
 
-  pub idle_unspent : (limit : ℕ) (es : List Entry)
-      → IsSpentLeading (x_program bs) idle_code [] limit es → ⊥
-  idle_unspent limit es h =
+  pub idle_unexhausted : (limit : ℕ) (es : List Entry)
+      → IsExhaustedLeading (x_program bs) idle_code [] limit es → ⊥
+  idle_unexhausted limit es h =
       let z : ◌≡◌ {A = Option (Event × elimination.State Fraction)} None
       (Some (h.event, h.following)) =
       sym ended ∙ ap (between (x_program bs) idle_code []).next

@@ -30,9 +30,8 @@ use Rattle.loop_model.specs.Maps.{maps_operations, AreFree, statements_operation
 use Rattle.loop_model.specs.Operations.{operations_all}
 use Rattle.solvable.specs.Refusal.{IsSolvable}
 use Rattle.closed_forms.specs.Refusal.{AllPass, Refusal, IfRefused}
-use Rattle.analysis_commands.proofs.IdentityMap.{still, still_solvable, still_passes, turned, turned_normal, still_base_is, same_turns}
+use Rattle.analysis_commands.proofs.IdentityMap.{still, still_solvable, still_passes, turned, turned_normal, still_base_is, same_turns, still_unrefused}
 use Rattle.analysis_commands.proofs.IdleRuns.{x_loop, x_run, x_ends, asked_run, zero_run, nothing_left, zero_answered, some_answered}
-use Rattle.analysis_commands.proofs.IdentityUnrefused.{still_unrefused}
 
 abbrev pub one_loop : Program (Expr ℕ)
 one_loop = x_loop ([] ∷ [])

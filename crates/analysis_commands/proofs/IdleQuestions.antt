@@ -1,6 +1,7 @@
 -- Questions to the loop of one variable that does nothing: is x zero, less itself, and is it zero.
 --   yes_question at, no_question at     x - x, and x - 0
 --   yes_stops, no_stops     no operation of their polynomials passes a limit or is past
+--   alone at o ..           of one operation, the one that a list of them has
 use Rattle.std.proofs.Common.{◌≡◌, inl, inr, ℕ, ◌<◌, pos, List, [], ◌∷◌, ◌++◌, length, refl, sym, ap, subst, ◌∙◌, arith, All}
 use Rattle.std.proofs.lemmas.List.Elements.{All-nil, All-cons}
 use Rattle.algebra.specs.Each.{Each}
@@ -25,8 +26,8 @@ use Rattle.loops.specs.Effect.{value_of}
 use Rattle.loops.specs.Program.{Expr, sub, variable, number}
 use Rattle.loop_model.specs.Operations.{Operation, HoldsCollected, difference_at, operations, value, most_terms, PassesLimit, IsPastOperation, IsFree, IsWide}
 use Rattle.loop_model.proofs.OperatorLaws.{only}
-use Rattle.analysis_commands.proofs.IdentityMap.{one}
-use Rattle.analysis_commands.proofs.IdentityUnrefused.{fits}
+use Rattle.analysis_commands.proofs.ScaledMap.{one}
+use Rattle.analysis_commands.proofs.ScaledUnrefused.{fits}
 
 abbrev pub yes_question : ℕ → Expr ℕ
 yes_question at = sub at (variable 0) (variable 0)
@@ -126,7 +127,7 @@ module _ (at : ℕ) where
       only 1 (λ q. IsPastSum fractions p q) q right b t
       (only 1 (λ p. HoldsCollected 1 (λ q. IsPastSum fractions p q) right) p left a s h)
 
-  alone : (o : Operation) (before behind : List Operation) (operation : Operation)
+  pub alone : (o : Operation) (before behind : List Operation) (operation : Operation)
       → o ∷ [] ≡ before ++ operation ∷ behind → o ≡ operation
   alone o [] behind operation e = same_head e
   alone o (b ∷ []) behind operation e = absurd (let z = ap length e in omega (arith, z))

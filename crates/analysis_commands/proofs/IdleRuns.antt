@@ -79,7 +79,7 @@ module _ (branches : List (List (Statement (Expr ℕ)))) (forms : List Form) whe
       go place e = cc
 
   fits_begun : (p : Option (Terms Fraction)) → IsPast (A p) begun → ⊥
-  unfolding starting start_list in_order skip_covered free_part block drop_from tail_from
+  unfolding starting start_list in_order skip_covered free_part block drop_from tail_from by_lead
       completion.with_elements
   fits_begun p (inl s) = no_start s
   fits_begun p (inr (inl h)) = h

@@ -143,7 +143,7 @@ module _ (l : Program (Expr ℕ)) (p : Terms Fraction) (budget : ℕ) (before af
       IsWithout = IsAskingOutOfUnits (terms_each gs) p before after
 
       module _ (x : EngineError) (wide : x ≡ engine_error.Wide → HasStopped)
-          (spent : x ≡ engine_error.Budget → IsWithout) where
+          (exhausted : x ≡ engine_error.Budget → IsWithout) where
         stopped : HasStopped → IsUndivided l p budget after engine_error.Wide
         stopped h =
             let at = asking_stopped l p f.rounds (terms_each gs) before after f.finished h in
@@ -159,7 +159,7 @@ module _ (l : Program (Expr ℕ)) (p : Terms Fraction) (budget : ℕ) (before af
 
         undivided_is : (y : EngineError) → x ≡ y → IsUndivided l p budget after y
         undivided_is engine_error.Wide e = stopped (wide e)
-        undivided_is engine_error.Budget e = out (spent e)
+        undivided_is engine_error.Budget e = out (exhausted e)
         undivided_is engine_error.Memory e = tt
 
         pub undivided_said : IfOk r (λ a. undivided_answer budget x ≡ Some (answer_view a))

@@ -1,13 +1,13 @@
 -- What the answers to questions show, and where each comes.
 --   never_stopped       where no operation of it stops, an equation has a polynomial
---   yes_asking, no_asking, spent_asking     what a yes, a no and a spent budget show
---   spent_out           a spent budget: by this loop and equation the entries can't go on within
+--   yes_asking, no_asking, exhausted_asking     what a yes, a no and an exhausted budget show
+--   exhausted_out           an exhausted budget: by this loop and equation the entries can't go on within
 --                       it
 --   limit_asking        where an operation of the loop's maps passes a limit: this limit, or a
 --                       number that doesn't fit
 --   decided_asking      where none does and each branch splits: yes exactly where the equation
 --                       holds, no exactly where it doesn't; or a number that doesn't fit, or a
---                       spent budget
+--                       exhausted budget
 --   unformed_asking     where not each branch has a closed form: a fault, or a number that doesn't
 --                       fit
 --   branch_asking       where the first that has none is refused for a cause of its own: this
@@ -44,16 +44,16 @@ use Rattle.analysis_commands.specs.Analyses.{empty_journal, refused, Analyses}
 use Rattle.analysis_commands.specs.Causes.{IsNeverRefused, IsExact}
 use Rattle.analysis_commands.specs.Completeness.{AllSplit}
 use Rattle.command_parts.specs.Equations.{equation_in, operations_of, polynomial_of}
-use Rattle.analysis_commands.specs.MemberCauses.{IsAsking, HasAffirmed, HasDenied, IsSpentAsking, NeverStops, NeverPast}
+use Rattle.analysis_commands.specs.MemberCauses.{IsAsking, HasAffirmed, HasDenied, IsExhaustedAsking, NeverStops, NeverPast}
 use Rattle.analysis_commands.specs.MemberClauses.{EndsDecided, limit_of_loop}
 use Rattle.analysis_commands.specs.MemberHeadline.{ShowsYes, ShowsNo}
 use Rattle.analysis_commands.specs.Questions.{Decision, unanalysed, undivided, yes, no, IsUndivided, DecidesWith, decision_answer, positive_answer, negative_answer, Asks}
 use Rattle.analysis_commands.specs.RefusalTexts.{refusal_answer, branch_answer}
-use Rattle.analysis_commands.proofs.Analysing.{refused_not_yes, spent_is, limit_analysed, formed_analysed, unformed_analysed, branch_analysed}
+use Rattle.analysis_commands.proofs.Analysing.{refused_not_yes, exhausted_is, limit_analysed, formed_analysed, unformed_analysed, branch_analysed}
 use Rattle.analysis_commands.proofs.BranchRefusals.{no_form, some_told}
 use Rattle.command_parts.proofs.Polynomials.{holds_invariant}
 use Rattle.analysis_commands.proofs.MemberJournals.{out_asked, enough_asked}
-use Rattle.analysis_commands.proofs.MemberStatuses.{Undivided, too_wide_to_divide, spent_dividing, division_parts, division_kind}
+use Rattle.analysis_commands.proofs.MemberStatuses.{Undivided, too_wide_to_divide, exhausted_dividing, division_parts, division_kind}
 use Rattle.analysis_commands.proofs.Refused.{refusal_parts, refusal_kind, refused_not_no}
 use Rattle.command_parts.specs.EquationReading.{IsUnformed, stop_answer}
 
@@ -74,25 +74,25 @@ module _ (l : Program (Expr ℕ)) (e : Expr ℕ) (a : Answer) where
 -- ---- a refused division
 undivided_not_yes : (x : EngineError) (s : Status) → Undivided x s → s ≢ status.Yes
 undivided_not_yes x s (too_wide_to_divide is) h = cc
-undivided_not_yes x s (spent_dividing is same) h = cc
+undivided_not_yes x s (exhausted_dividing is same) h = cc
 
 undivided_not_no : (x : EngineError) (s : Status) → Undivided x s → s ≢ status.No
 undivided_not_no x s (too_wide_to_divide is) h = cc
-undivided_not_no x s (spent_dividing is same) h = cc
+undivided_not_no x s (exhausted_dividing is same) h = cc
 
-undivided_spent : (x : EngineError) (s : Status) → Undivided x s → s ≡ status.Budget
+undivided_exhausted : (x : EngineError) (s : Status) → Undivided x s → s ≡ status.Budget
     → x ≡ engine_error.Budget
-undivided_spent x s (too_wide_to_divide is) h = absurd (let z : ⊥ = cc in z)
-undivided_spent x s (spent_dividing is same) h = same
+undivided_exhausted x s (too_wide_to_divide is) h = absurd (let z : ⊥ = cc in z)
+undivided_exhausted x s (exhausted_dividing is same) h = same
 
-wide_or_spent : (x : EngineError) (s : Status) → Undivided x s
+wide_or_exhausted : (x : EngineError) (s : Status) → Undivided x s
     → (s ≡ status.Wide) ⊎ (s ≡ status.Budget)
-wide_or_spent x s (too_wide_to_divide is) = inl is
-wide_or_spent x s (spent_dividing is same) = inr is
+wide_or_exhausted x s (too_wide_to_divide is) = inl is
+wide_or_exhausted x s (exhausted_dividing is same) = inr is
 
 -- ---- an equation that has one
--- a budget spent on this question
-record IsSpentHere (l : Program (Expr ℕ)) (p : Terms Fraction) (budget : ℕ) (m : Journal)
+-- a budget exhausted on this question
+record IsExhaustedHere (l : Program (Expr ℕ)) (p : Terms Fraction) (budget : ℕ) (m : Journal)
     (said : List ℕ) : Type 0 where
   free : AreFree l
   forms : AllHaveForms l
@@ -215,12 +215,12 @@ module _ (l : Program (Expr ℕ)) (e : Expr ℕ) (budget : ℕ) (m : Journal) (a
         → ShowsNo text equation a.text × HasDenied text equation budget m
     no_asking h = no_decided asks.decision asks.ends asks.says h
 
-  -- ---- a spent budget
-  spent_decided : (d : Decision) → Ends d → Says d → a.status ≡ status.Budget
-      → IsSpentHere l p budget m a.text
-  spent_decided (unanalysed x) ends says h =
+  -- ---- an exhausted budget
+  exhausted_decided : (d : Decision) → Ends d → Says d → a.status ≡ status.Budget
+      → IsExhaustedHere l p budget m a.text
+  exhausted_decided (unanalysed x) ends says h =
       let parts = refusal_parts l.names budget x a says in
-      let same : x ≡ error.Budget = spent_is x a.status (refusal_kind x a.status parts.0) h in
+      let same : x ≡ error.Budget = exhausted_is x a.status (refusal_kind x a.status parts.0) h in
       let cause : IsRefused l (empty_journal budget) m error.Budget =
       subst (IsRefused l (empty_journal budget) m) same ends.1 in
       let told = subst (λ y. refusal_answer l.names budget y ≡ Some a) same says in
@@ -232,8 +232,8 @@ module _ (l : Program (Expr ℕ)) (e : Expr ℕ) (budget : ℕ) (m : Journal) (a
             (subst (λ n. IsOut l None n m.entries) ends.0 cause.2);
         says = (refusal_parts l.names budget error.Budget a told).1;
       }
-  spent_decided (undivided x) ends says h =
-      let same : x ≡ engine_error.Budget = undivided_spent x a.status (division_is x says) h in
+  exhausted_decided (undivided x) ends says h =
+      let same : x ≡ engine_error.Budget = undivided_exhausted x a.status (division_is x says) h in
       let cause = subst (λ y. IsUndivided l p budget m y) same ends.1 in
       let told = subst (λ y. Says (undivided y)) same says in
       record {
@@ -243,22 +243,22 @@ module _ (l : Program (Expr ℕ)) (e : Expr ℕ) (budget : ℕ) (m : Journal) (a
         out = cause.2;
         says = (division_parts budget engine_error.Budget a told).1;
       }
-  spent_decided (yes qs) ends says h =
+  exhausted_decided (yes qs) ends says h =
       absurd (let z = yes_alone qs says status.Budget h in let f : ⊥ = cc in f)
-  spent_decided no ends says h =
+  exhausted_decided no ends says h =
       absurd (let z = no_alone says status.Budget h in let f : ⊥ = cc in f)
 
-  spent_here : a.status ≡ status.Budget → IsSpentHere l p budget m a.text
-  spent_here h = spent_decided asks.decision asks.ends asks.says h
+  exhausted_here : a.status ≡ status.Budget → IsExhaustedHere l p budget m a.text
+  exhausted_here h = exhausted_decided asks.decision asks.ends asks.says h
 
-  pub spent_out : a.status ≡ status.Budget → IsOut l (Some p) budget m.entries
-  spent_out h = (spent_here h).out
+  pub exhausted_out : a.status ≡ status.Budget → IsOut l (Some p) budget m.entries
+  exhausted_out h = (exhausted_here h).out
 
-  pub spent_asking : (text equation : List ℕ) → loop_of text ≡ Ok l
+  pub exhausted_asking : (text equation : List ℕ) → loop_of text ≡ Ok l
       → equation_in l.names equation ≡ Ok e → a.status ≡ status.Budget
-      → IsSpentAsking text equation budget m a.text
-  spent_asking text equation is_loop is_equation h =
-      let s = spent_here h in
+      → IsExhaustedAsking text equation budget m a.text
+  exhausted_asking text equation is_loop is_equation h =
+      let s = exhausted_here h in
       record {
         asking = asking text equation is_loop is_equation;
         free = s.free;
@@ -318,7 +318,7 @@ module _ (l : Program (Expr ℕ)) (e : Expr ℕ) (budget : ℕ) (m : Journal) (a
 
   undecided : (x : EngineError) → Says (undivided x)
       → (a.status ≡ status.Wide) ⊎ (a.status ≡ status.Budget)
-  undecided x says = wide_or_spent x a.status (division_is x says)
+  undecided x says = wide_or_exhausted x a.status (division_is x says)
 
   decided : AreFree l → AllSplit l → (d : Decision) → Ends d → Says d
       → IsDecided ⊎ ((a.status ≡ status.Wide) ⊎ (a.status ≡ status.Budget))

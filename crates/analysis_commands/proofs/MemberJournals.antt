@@ -2,7 +2,7 @@
 --   follows_asked        what follows a loop follows it where something is asked
 --   out_asked            so does what is out of units
 --   asking_stopped, asking_out     the division behind a finished analysis: its next cancellation
---                                  is past; or its units are spent
+--                                  is past; or its units are exhausted
 --   asking_worked        what it leaves follows the loop
 --   enough_asked         where an answered journal has at most as many units as the limit, none is
 --                        out of it
@@ -15,13 +15,13 @@ use Rattle.machines.specs.Event.{Event}
 use Rattle.machines.specs.Journal.{Entry, Did, Journal, units_of}
 use Rattle.machines.specs.Past.{IsPastDivision}
 use Rattle.machines.specs.Run.{IsRun}
-use Rattle.machines.specs.Work.{Work, IsSpent, PastAfter}
+use Rattle.machines.specs.Work.{Work, IsExhausted, PastAfter}
 use Rattle.loops.specs.Program.{Expr, Program}
 use Rattle.rounds.specs.Analysis.{State, fresh, asking, goes, asked_by, next, move_of, moves}
 use Rattle.rounds.specs.Journal.{setting_of, Follows, IsFinished, IsAnswered, IsOut}
 use Rattle.rounds.proofs.Asked.{goes_on, next_asked, run_asked}
 use Rattle.rounds.proofs.Forms.{forms_are_one}
-use Rattle.rounds.proofs.Prefixes.{spent_is_more}
+use Rattle.rounds.proofs.Prefixes.{exhausted_is_more}
 use Rattle.invariant_fix.specs.Membership.{asks, HasAsked as HasWorked}
 use Rattle.invariant_fix.proofs.Asking.{asking_next, asking_reaches}
 use Rattle.analysis_commands.specs.Questions.{IsStoppedAsking, IsFollowingAsked}
@@ -48,7 +48,7 @@ module _ (l : Program (Expr ℕ)) (p : Terms Fraction) where
           is = next_asked S p c.state ∙ ap (goes_on S p) c.is;
         };
         unit = out.unit;
-        spent = out.spent;
+        exhausted = out.exhausted;
       }
 
   -- ---- the division behind a finished analysis
@@ -84,7 +84,7 @@ module _ (l : Program (Expr ℕ)) (p : Terms Fraction) where
       past = inr h.past;
     }
 
-    pub asking_out : IsSpent step first after.limit (asks before.entries) after.entries
+    pub asking_out : IsExhausted step first after.limit (asks before.entries) after.entries
         → IsOut l (Some p) after.limit after.entries
     asking_out h =
         let S = setting_of l done.follows.forms (Some p) in
@@ -97,7 +97,7 @@ module _ (l : Program (Expr ℕ)) (p : Terms Fraction) where
             is = asking_next S k gs h.at ∙ ap (asked_by S k gs h.at) h.comes;
           };
           unit = h.unit;
-          spent = h.spent;
+          exhausted = h.exhausted;
         }
 
     pub asking_worked : HasWorked gs p before after → IsFollowingAsked l p after
@@ -127,7 +127,7 @@ module _ (l : Program (Expr ℕ)) (p : Terms Fraction) where
       subst (λ forms. next (setting_of l forms (Some p)) c.state ≡ goes out.entry out.state)
       same c.is in
       let less =
-      spent_is_more S es fs done.state c.state out.state out.entry done.follows.run
+      exhausted_is_more S es fs done.state c.state out.state out.entry done.follows.run
       (ap (move_of S) done.is) run (ap (move_of S) next_is) out.unit in
-      let spent = out.spent in
-      omega (arith, less, few, spent)
+      let exhausted = out.exhausted in
+      omega (arith, less, few, exhausted)

@@ -32,14 +32,14 @@ use Rattle.command_parts.proofs.MapLimits.{not_free}
 use Rattle.analysis_commands.specs.Causes.{IsNeverRefused, IsExact}
 use Rattle.analysis_commands.specs.Completeness.{AllSplit}
 use Rattle.command_parts.specs.Equations.{equation_in, operations_of, polynomial_of}
-use Rattle.analysis_commands.specs.MemberCauses.{IsAsking, IsEquationFault, HasAffirmed, HasDenied, IsSpentAsking, IsAsked, NeverStops, NeverPast}
+use Rattle.analysis_commands.specs.MemberCauses.{IsAsking, IsEquationFault, HasAffirmed, HasDenied, IsExhaustedAsking, IsAsked, NeverStops, NeverPast}
 use Rattle.analysis_commands.specs.MemberClauses.{AsksNothing, ReadsEquation, AsksOf, Refuses, EndsDecided, EndsAsked, limit_of_loop, limit_of_equation, Decides}
 use Rattle.analysis_commands.specs.MemberCourse.{HasAskedFor, AnswersEquation, by_equation, with_question, course}
 use Rattle.analysis_commands.specs.MemberHeadline.{ShowsYes, ShowsNo}
-use Rattle.analysis_commands.specs.MemberWords.{Request}
+use Rattle.analysis_commands.specs.MemberArguments.{Request}
 use Rattle.analysis_commands.specs.Questions.{Asks}
 use Rattle.analysis_commands.specs.RefusalTexts.{branch_answer}
-use Rattle.analysis_commands.proofs.MemberAsking.{never_stopped, yes_asking, no_asking, spent_asking, spent_out, limit_asking, decided_asking, unformed_asking, branch_asking, completed_asking}
+use Rattle.analysis_commands.proofs.MemberAsking.{never_stopped, yes_asking, no_asking, exhausted_asking, exhausted_out, limit_asking, decided_asking, unformed_asking, branch_asking, completed_asking}
 use Rattle.analysis_commands.proofs.MemberJournals.{enough_asked}
 use Rattle.analysis_commands.proofs.MemberStatuses.{equation_settled}
 use Rattle.command_parts.specs.EquationReading.{equation_refusal}
@@ -155,7 +155,7 @@ module _ (request : Request) (call : Call)
       (λ text h k. by_reading P s.answer nothing some text (loop_of text) refl h k) s.is
       (meter_left path call f)
 
-  -- ---- yes, no and a spent budget
+  -- ---- yes, no and an exhausted budget
   module _ (t : Status) (is : call.status ≡ t) (s : Said path call) where
     has : s.answer.status ≡ t
     has = sym s.same ∙ is
@@ -173,8 +173,8 @@ module _ (request : Request) (call : Call)
   no_here : call.status ≡ status.No → Said path call
   no_here is = said_with path call f status.No is (λ h. cc) (λ h. cc) (λ h. cc)
 
-  spent_here : call.status ≡ status.Budget → Said path call
-  spent_here is = said_with path call f status.Budget is (λ h. cc) (λ h. cc) (λ h. cc)
+  exhausted_here : call.status ≡ status.Budget → Said path call
+  exhausted_here is = said_with path call f status.Budget is (λ h. cc) (λ h. cc) (λ h. cc)
 
   yes_shown : (is : call.status ≡ status.Yes) → IfSome content (λ text.
       ShowsYes text request.equation (yes_here is).answer.text
@@ -194,13 +194,13 @@ module _ (request : Request) (call : Call)
       no_asking l e request.budget m s.answer asks text request.equation i j
       (has status.No is s))
 
-  spent_shown : (is : call.status ≡ status.Budget) → IfSome content (λ text.
-      Wrote call.sink (IsSpentAsking text request.equation request.budget m))
-  spent_shown is =
-      let s = spent_here is in
+  exhausted_shown : (is : call.status ≡ status.Budget) → IfSome content (λ text.
+      Wrote call.sink (IsExhaustedAsking text request.equation request.budget m))
+  exhausted_shown is =
+      let s = exhausted_here is in
       shown status.Budget is s _ (λ u r. r.plain.budget_not) (λ text l e i j asks.
-      written path call f (IsSpentAsking text request.equation request.budget m) s
-      (spent_asking l e request.budget m s.answer asks text request.equation i j
+      written path call f (IsExhaustedAsking text request.equation request.budget m) s
+      (exhausted_asking l e request.budget m s.answer asks text request.equation i j
       (has status.Budget is s)))
 
   -- ---- the meter
@@ -308,17 +308,18 @@ module _ (request : Request) (call : Call)
         (λ a is. inr (inl is)) s))) [ inl excused ↦ inr (inr (inr excused)) | inr h ↦ h ]
 
     not_both : (s : Status) → s ≡ status.Wide → s ≡ status.Budget → ⊥
-    not_both s wide spent = cc
+    not_both s wide exhausted = cc
 
     enough : (es : List Entry) (k : ℕ) (gs : List (Terms Fraction))
         (last : division.State Fraction) → IsAnswered l (polynomial_of l e) es k gs last
         → units_of es ≤ request.budget → call.status ≢ status.Budget
     enough es k gs last done few is =
-        let s = spent_here is in
+        let s = exhausted_here is in
         by_question (λ a. a.status ≡ status.Budget → ⊥)
-        (λ a asks spent. enough_asked l (polynomial_of l e) es m.entries k request.budget gs last
-        done few (spent_out l e request.budget m a asks spent))
-        (λ a wide spent. not_both a.status wide spent) s (sym s.same ∙ is)
+        (λ a asks exhausted. enough_asked l (polynomial_of l e) es m.entries k request.budget gs
+        last
+        done few (exhausted_out l e request.budget m a asks exhausted))
+        (λ a wide exhausted. not_both a.status wide exhausted) s (sym s.same ∙ is)
 
   completes : (l : Program (Expr ℕ)) (e : Expr ℕ) (es : List Entry) (k : ℕ)
       (gs : List (Terms Fraction)) (last : division.State Fraction)
@@ -353,7 +354,7 @@ module _ (request : Request) (call : Call)
           asking = record { loop = l; is_loop = i; difference = e; is_equation = j };
           asks = asks;
         }))) refl;
-    spent = spent_shown;
+    exhausted = exhausted_shown;
     journal = elim (meter_left path call f) [
       | inl kept ↦ inl kept
       | inr left ↦ inr (if_told content _ _ (λ text h. opened_by text (loop_of text) refl h) left)

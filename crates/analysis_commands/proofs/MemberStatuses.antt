@@ -1,8 +1,8 @@
 -- Which statuses the answers to questions have.
---   Undivided                          a refused division is a number that doesn't fit, or a spent
+--   Undivided                          a refused division is a number that doesn't fit, or an exhausted
 --                                      budget, and then it ran out of units
 --   division_parts, division_kind      status and text of a refused division, and what it may be
---   equation_settled                   none of the words, of memory or of the outside
+--   equation_settled                   none of the arguments, of memory or of the outside
 use Rattle.std.proofs.Common.{◌≡◌, ℕ, refl, inl, inr}
 use Rattle.std.specs.Prelude.{List, Some, None}
 use Rattle.machines.specs.Journal.{Journal}
@@ -23,7 +23,7 @@ use Rattle.command_parts.proofs.Refusals.{unformed_refuses}
 -- ---- a refused division
 pub data Undivided (x : EngineError) (s : Status) : Type 0 where
   too_wide_to_divide : s ≡ status.Wide → Undivided x s
-  spent_dividing : s ≡ status.Budget → x ≡ engine_error.Budget → Undivided x s
+  exhausted_dividing : s ≡ status.Budget → x ≡ engine_error.Budget → Undivided x s
 
 pub division_parts : (budget : ℕ) (x : EngineError) (a : Answer)
     → undivided_answer budget x ≡ Some a
@@ -32,13 +32,13 @@ division_parts budget x a is = by_status (division_status x) (member_text budget
 
 pub division_kind : (x : EngineError) (s : Status) → division_status x ≡ Some s → Undivided x s
 division_kind engine_error.Wide s is = too_wide_to_divide (some_status _ s is)
-division_kind engine_error.Budget s is = spent_dividing (some_status _ s is) refl
+division_kind engine_error.Budget s is = exhausted_dividing (some_status _ s is) refl
 division_kind engine_error.Memory s is =
     absurd (let none : None ≡ Some s = is in let z : ⊥ = cc in z)
 
 undivided_settled : (x : EngineError) (s : Status) → Undivided x s → IsSettled s
 undivided_settled x s (too_wide_to_divide is) = (refusing_wide s is).plain.settled
-undivided_settled x s (spent_dividing is same) = settled_budget s is
+undivided_settled x s (exhausted_dividing is same) = settled_budget s is
 
 -- ---- what is answered
 module _ (names : List (List ℕ)) (budget : ℕ) (a : Answer) where

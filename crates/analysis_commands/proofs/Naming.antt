@@ -1,5 +1,5 @@
 -- The variables that a refusal names are the loop's.
---   chain_below       each variable of a chain uses one
+--   cycle_below       each variable of a cycle uses one
 --   class_below       those of a class
 --   first_below       and its first
 --   named             those of a refusal
@@ -12,7 +12,7 @@ use Rattle.polynomials.specs.Terms.{Terms}
 use Rattle.loops.specs.Program.{Expr, Program}
 use Rattle.loops.proofs.Maps.{length-branch_map}
 use Rattle.machines.specs.Journal.{Journal}
-use Rattle.solvable_maps.specs.Chain.{Walks, IsChain, last_of}
+use Rattle.solvable_maps.specs.Dependency.{Walks, IsNonlinearCycle, last_of}
 use Rattle.solvable_maps.specs.Class.{IsClassOf}
 use Rattle.solvable_maps.specs.Uses.{uses, strongly, any, poly_at}
 use Rattle.solvable_maps.specs.Classes.{IsClass, first_of}
@@ -42,11 +42,11 @@ module _ (images : List (Terms Fraction)) where
   walk_below i (j ∷ vs) w l = All-cons IsBelow i (j ∷ vs) (user_below images i _ w.0)
       (walk_below j vs w.1 l)
 
-  pub chain_below : (vs : List ℕ) → IsChain (uses images) (strongly images) vs
+  pub cycle_below : (vs : List ℕ) → IsNonlinearCycle (uses images) (strongly images) vs
       → AreBelow (length images) vs
-  chain_below [] c = absurd c
-  chain_below (v ∷ []) c = absurd c
-  chain_below (v ∷ w ∷ vs) c =
+  cycle_below [] c = absurd c
+  cycle_below (v ∷ []) c = absurd c
+  cycle_below (v ∷ w ∷ vs) c =
       let l = user_below images v _ c.0 in
       All-cons IsBelow v (w ∷ vs) l (walk_below w vs c.1 (subst IsBelow (sym c.2) l))
 
@@ -71,7 +71,7 @@ module _ (images : List (Terms Fraction)) where
 
   pub refusal_named : (e : FormsError) → IsSomeAnd (refusal_in e) (IfRefused images)
       → AreNamedIn (length images) e
-  refusal_named (forms_error.NotSolvable cycle) r = chain_below cycle.items r.chain
+  refusal_named (forms_error.NotSolvable cycle) r = cycle_below cycle.items r.cycle
   refusal_named (forms_error.Eigen class) r = class_below class.items r.0.is
   refusal_named (forms_error.Range class sum) r = class_below class.items r.0.is
   refusal_named (forms_error.WideSplit class candidate power row) r = class_below class.items r.0.is

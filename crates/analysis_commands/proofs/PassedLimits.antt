@@ -27,7 +27,7 @@ use Rattle.loops.specs.Program.{Expr, Program, sub, variable, number, power}
 use Rattle.loop_model.specs.Operations.{Operation, product_at, difference_at, partial_powers, power_of, operations, operations_all, value, most_terms, PassesLimit, IsFree, IsLimit, IsHigh, HasHighDegree}
 use Rattle.loop_model.proofs.OperatorLaws.{only}
 use Rattle.loop_model.specs.Maps.{maps_operations, statements_operations}
-use Rattle.analysis_commands.proofs.IdentityMap.{one}
+use Rattle.analysis_commands.proofs.ScaledMap.{one}
 use Rattle.analysis_commands.proofs.IdleRuns.{x_loop}
 
 abbrev pub high_power : ℕ → ℕ → Expr ℕ

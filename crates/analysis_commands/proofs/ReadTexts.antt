@@ -17,7 +17,7 @@ use Rattle.poly_text.specs.Equations.{equation_of}
 use Rattle.loop_text.specs.LoopReader.{loop_of}
 use Rattle.io_edge.specs.Outcome.{Call}
 use Rattle.command_parts.specs.Equations.{equation_in}
-use Rattle.analysis_commands.specs.MemberWords.{Request}
+use Rattle.analysis_commands.specs.MemberArguments.{Request}
 use Rattle.analysis_commands.specs.MemberClauses.{AsksOf}
 use Rattle.analysis_commands.proofs.IdleRuns.{x_loop}
 use Rattle.analysis_commands.proofs.IdleLoops.{one_loop, two_loop}

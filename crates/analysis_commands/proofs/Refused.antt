@@ -31,12 +31,12 @@ pub refusal_parts : (names : List (List ℕ)) (budget : ℕ) (e : AnalyseError) 
     → (refusal_status e ≡ Some a.status) × (a.text ≡ refusal_text names budget e)
 refusal_parts names budget e a is = by_status (refusal_status e) (refusal_text names budget e) a is
 
--- a refusal is a fault, a number that doesn't fit, or a spent budget, and then an analysis ran out
+-- a refusal is a fault, a number that doesn't fit, or an exhausted budget, and then an analysis ran out
 -- of units
 pub data Refused (e : AnalyseError) (s : Status) : Type 0 where
   at_fault : s ≡ status.Fault → Refused e s
   too_wide : s ≡ status.Wide → Refused e s
-  spent : s ≡ status.Budget → e ≡ error.Budget → Refused e s
+  exhausted : s ≡ status.Budget → e ≡ error.Budget → Refused e s
 
 map_kind : (e : MapError) (s : Status) → map_status e ≡ Some s → Refused (error.Map e) s
 map_kind (map_error.Limit at) s is = at_fault (some_status _ s is)
@@ -56,15 +56,15 @@ pub refusal_kind : (e : AnalyseError) (s : Status) → refusal_status e ≡ Some
 refusal_kind (error.Map e) s is = map_kind e s is
 refusal_kind (error.Branch b e) s is = forms_kind b e s is
 refusal_kind (error.Wide task) s is = too_wide (some_status _ s is)
-refusal_kind error.Budget s is = spent (some_status _ s is) refl
+refusal_kind error.Budget s is = exhausted (some_status _ s is) refl
 refusal_kind error.Memory s is = absurd (cc)
 
 pub refused_settled : (e : AnalyseError) (s : Status) → Refused e s → IsSettled s
 refused_settled e s (at_fault is) = (refusing_fault s is).plain.settled
 refused_settled e s (too_wide is) = (refusing_wide s is).plain.settled
-refused_settled e s (spent is same) = settled_budget s is
+refused_settled e s (exhausted is same) = settled_budget s is
 
 pub refused_not_no : (e : AnalyseError) (s : Status) → Refused e s → s ≢ status.No
 refused_not_no e s (at_fault is) h = cc
 refused_not_no e s (too_wide is) h = cc
-refused_not_no e s (spent is same) h = cc
+refused_not_no e s (exhausted is same) h = cc

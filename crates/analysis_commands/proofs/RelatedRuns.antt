@@ -13,7 +13,6 @@ use Rattle.algebra.specs.Sum.{sum_over}
 use Rattle.algebra.specs.Arithmetic.{power}
 use Rattle.polynomials.specs.Algebra as Algebra
 use Rattle.polynomials.specs.Order.{grevlex, compare, blocks}
-use Rattle.polynomials.specs.Exponent as exponents
 use Rattle.polynomials.specs.Exponent.{unit_exponents, plus, same}
 use Rattle.polynomials.specs.Terms.{Terms, variables, constant, evaluate, monomial_at, retold}
 use Rattle.polynomials.specs.Weight.{IsPastComposition}
@@ -32,7 +31,6 @@ use Rattle.machines.specs.Tidying as tidying
 use Rattle.machines.specs.Tidying.{next_tail, next_drop, drop_from, tail_from, tail_or, by_lead, put_by_lead, ahead}
 use Rattle.machines.proofs.Runs.{ended_unique}
 use Rattle.loops.specs.Program.{Expr, Program}
-use Rattle.rounds.specs.Analysis as analysis
 use Rattle.rounds.specs.Analysis.{Setting, State, Step, fresh, finished, next, moves, move_of}
 use Rattle.rounds.specs.Form.{Form}
 use Rattle.rounds.specs.Journal.{setting_of, Follows, IsFinished}
@@ -40,7 +38,7 @@ use Rattle.rounds.specs.Past.{IsPast as IsPastAt}
 use Rattle.corollaries.specs.Order.{place_in, starting, block_order}
 use Rattle.corollaries.specs.Journal.{elimination_from, IsPastOrdering, IsPastBehind, IsEliminated, list_of}
 use Rattle.loops.specs.Turning.{places}
-use Rattle.analysis_commands.proofs.StartedRuns.{gens, one, still, tested, gone, A, run, ends, never_past, composed, no_start}
+use Rattle.analysis_commands.proofs.StartedRuns.{gens, still, tested, gone, A, run, ends, never_past, composed, no_start}
 
 abbrev pub the_entries : List Entry
 the_entries = Begin Start ∷ Begin (Closed 0 1 1) ∷ Did (Cut 0) ∷ Did Zero ∷ []
@@ -98,8 +96,7 @@ E0 = completing (record {
   sugars = 1 ∷ [];
   waiting = [];
   current = None;
-  pair_sugar =
-      0;
+  pair_sugar = 0;
 })
 
 start_is : (elimination_from 1 shown gens).start ≡ E0
@@ -111,7 +108,8 @@ start_is = refl
 
 at_rest : (elimination_from 1 shown gens).next E0 ≡ None
 unfolding places elimination.next completion.next next_completion skip_covered free_part all_free
-    tidying.next next_drop drop_from next_tail tail_from tail_or next_pair divides lead_of find_cut
+    tidying.next next_drop drop_from next_tail tail_from tail_or by_lead put_by_lead ahead next_pair
+    divides lead_of find_cut
     cut_by tail_of same retold
 at_rest = refl
 
@@ -130,8 +128,10 @@ ended_elimination es = record {
   list = sym list_is;
 }
 
-rest_fits : past.IsPastElimination fractions rationals (block_order 1 shown) (free_part 0) E0 → ⊥
-unfolding places skip_covered free_part all_free drop_from tail_from tail_or find_cut cut_by divides
+rest_fits : past.IsPastElimination fractions rationals (block_order 1 shown) grevlex (free_part 0)
+    E0 → ⊥
+unfolding places skip_covered free_part all_free by_lead put_by_lead ahead drop_from tail_from
+    tail_or find_cut cut_by divides
     lead_of tail_of retold same lead_number
 rest_fits (inl h) = h
 rest_fits (inr h) = h.1

@@ -30,7 +30,7 @@ use Rattle.invariant_fix.specs.declared.relations_error.RelationsError.{Relation
 use Rattle.invariant_fix.specs.declared.relations_error.RelationsError.TheVariants.{Analysis, Wide, Budget, Memory}
 use Rattle.loop_text.specs.declared.sequences.Seqs.{Seqs}
 use Rattle.loop_text.specs.SequenceSeen.{IsLoopOf}
-use Rattle.analysis_commands.specs.ReadBack.{IsReadBack}
+use Rattle.command_parts.specs.ReadBack.{IsReadBack}
 use Rattle.io_edge.specs.declared.answer.Answer as made
 use Rattle.io_edge.specs.Views.{answer_view}
 use Rattle.analysis_commands.specs.Analyses.{empty_journal}

@@ -1,14 +1,14 @@
 -- What the answers of `relations` show, and where each comes.
 --   relates_settled, relates_not_no     their statuses
 --   related_shown      a yes: the reduced basis of the relations, at the end of the journal
---   spent_shown        a spent budget: a journal that ran out of units
+--   exhausted_shown        an exhausted budget: a journal that ran out of units
 --   unrelated          any other answer: why there are no relations
 --   limit_related      the answer where an operation of the maps passes a limit
---   formed_related     where none does and the branch splits: a yes, or a number that doesn't fit, or a spent budget
+--   formed_related     where none does and the branch splits: a yes, or a number that doesn't fit, or an exhausted budget
 --   unformed_related   where the branch has no closed form: a fault, or a number that doesn't fit
 --   branch_related     where it is refused for a cause of its own: this refusal, or a number that doesn't fit
 --   all_related        where nothing refuses and some journal that has ended is within the budget: a yes
---   related_within     no budget is spent where some journal that has ended is within it
+--   related_within     no budget is exhausted where some journal that has ended is within it
 use Rattle.std.proofs.Common.{◌≡◌, ◌≢◌, ℕ, suc, List, length, refl, sym, ap, subst, ◌∙◌, Ok, inl, inr}
 use Rattle.std.specs.Prelude.{◌⊎◌, Some, ◌++◌, codes, decimal}
 use Rattle.algebra.specs.Fraction.{Fraction}
@@ -44,14 +44,14 @@ use Rattle.analysis_commands.specs.Completeness.{AllSplit}
 use Rattle.analysis_commands.specs.RefusalTexts.{refusal_answer, branch_answer}
 use Rattle.analysis_commands.specs.RelationsTexts.{sequences_refusal, map_answer, found_answer, wide_answer, relations_refusal}
 use Rattle.analysis_commands.specs.RelationsAnswers.{Ending, related, refused, EndsWith, answer_of, Relates}
-use Rattle.analysis_commands.specs.RelationsClauses.{HasEnded, IsSpentRelating, IsUnrelated, IsRelatedWithin, IsNeverStopped}
+use Rattle.analysis_commands.specs.RelationsClauses.{HasEnded, IsExhaustedRelating, IsUnrelated, IsRelatedWithin, IsNeverStopped}
 use Rattle.analysis_commands.specs.RelationsHeadline.{ShowsRelations}
-use Rattle.analysis_commands.proofs.Refused.{refusal_parts, refusal_kind, at_fault, too_wide, spent}
+use Rattle.analysis_commands.proofs.Refused.{refusal_parts, refusal_kind, at_fault, too_wide, exhausted}
 use Rattle.analysis_commands.proofs.Refused as refusals
 use Rattle.analysis_commands.proofs.Analysing.{formed_analysed, branch_analysed}
 use Rattle.analysis_commands.proofs.BranchRefusals.{no_form, some_told}
 
--- a refusal is a fault, a number that doesn't fit, or a spent budget
+-- a refusal is a fault, a number that doesn't fit, or an exhausted budget
 data Kind (e : RelationsError) (a : Answer) : Type 0 where
   a_fault : a.status ≡ status.Fault → Kind e a
   a_width : a.status ≡ status.Wide → Kind e a
@@ -83,7 +83,7 @@ module _ (ns : List (List ℕ)) (budget : ℕ) (a : Answer) where
       go : refusals.Refused e a.status → Kind (relating.Analysis e) a
       go (at_fault is) = a_fault is
       go (too_wide is) = a_width is
-      go (spent is same) = absurd (not same)
+      go (exhausted is same) = absurd (not same)
 
   budget_status : refusal_answer ns budget error.Budget ≡ Some a → a.status ≡ status.Budget
   budget_status says = some_status _ a.status (refusal_parts ns budget error.Budget a says).0
@@ -101,13 +101,13 @@ module _ (ns : List (List ℕ)) (budget : ℕ) (a : Answer) where
   kind_of relating.Budget says = a_budget (budget_status says) (inl refl)
   kind_of relating.Memory says = absurd (no_answer a says)
 
-  spent_text : (e : RelationsError)
+  exhausted_text : (e : RelationsError)
       → (e ≡ relating.Budget) ⊎ (e ≡ relating.Analysis error.Budget)
       → relations_refusal ns budget e ≡ Some a
       → a.text ≡ line (codes "budget: " ++ decimal budget)
-  spent_text e (inl is) says = (refusal_parts ns budget error.Budget a
+  exhausted_text e (inl is) says = (refusal_parts ns budget error.Budget a
       (subst (λ x. relations_refusal ns budget x ≡ Some a) is says)).1
-  spent_text e (inr is) says = (refusal_parts ns budget error.Budget a
+  exhausted_text e (inr is) says = (refusal_parts ns budget error.Budget a
       (subst (λ x. relations_refusal ns budget x ≡ Some a) is says)).1
 
 kind_settled : (e : RelationsError) (a : Answer) → Kind e a → IsSettled a.status
@@ -147,7 +147,7 @@ module _ (qs : List (Sequence (Expr ℕ))) (budget : ℕ) (m : Journal) (a : Ans
       let x : status.Yes ≡ status.No = sym (yes_of gs says) ∙ h in let z : ⊥ = cc in z
   not_no (refused e) says h = kind_not_no e a (refused_kind e says) h
 
-  -- what a spent budget tells
+  -- what an exhausted budget tells
   record IsOutOf : Type 0 where
     free : AreFree (program_of qs)
     forms : AllHaveForms (program_of qs)
@@ -197,12 +197,12 @@ module _ (qs : List (Sequence (Expr ℕ))) (budget : ℕ) (m : Journal) (a : Ans
     )
     yes_shown (refused e) ends says h = absurd (kind_not_yes e a (refused_kind e says) h)
 
-    spent_kind : (e : RelationsError) → EndsWith qs budget m (refused e)
+    exhausted_kind : (e : RelationsError) → EndsWith qs budget m (refused e)
         → relations_refusal (names qs) budget e ≡ Some a → Kind e a
-        → a.status ≡ status.Budget → IsSpentRelating text budget m a.text
-    spent_kind e ends says (a_fault f) h = absurd (cc)
-    spent_kind e ends says (a_width f) h = absurd (cc)
-    spent_kind e ends says (a_budget f same) h =
+        → a.status ≡ status.Budget → IsExhaustedRelating text budget m a.text
+    exhausted_kind e ends says (a_fault f) h = absurd (cc)
+    exhausted_kind e ends says (a_width f) h = absurd (cc)
+    exhausted_kind e ends says (a_budget f same) h =
         let o = out_of e ends same in
         record {
           sequences = qs;
@@ -211,14 +211,14 @@ module _ (qs : List (Sequence (Expr ℕ))) (budget : ℕ) (m : Journal) (a : Ans
           forms = o.forms;
           limit = ends.0;
           out = o.out;
-          says = spent_text (names qs) budget a e same says;
+          says = exhausted_text (names qs) budget a e same says;
         }
 
-    spent_at : (e : Ending) → EndsWith qs budget m e → answer_of qs budget e ≡ Some a
-        → a.status ≡ status.Budget → IsSpentRelating text budget m a.text
-    spent_at (related gs) ends says h =
+    exhausted_at : (e : Ending) → EndsWith qs budget m e → answer_of qs budget e ≡ Some a
+        → a.status ≡ status.Budget → IsExhaustedRelating text budget m a.text
+    exhausted_at (related gs) ends says h =
         absurd (let x : status.Yes ≡ status.Budget = sym (yes_of gs says) ∙ h in cc)
-    spent_at (refused e) ends says h = spent_kind e ends says (refused_kind e says) h
+    exhausted_at (refused e) ends says h = exhausted_kind e ends says (refused_kind e says) h
 
     cause_at : (e : Ending) → EndsWith qs budget m e → answer_of qs budget e ≡ Some a
         → a.status ≢ status.Yes → IsUnrelated text budget m a
@@ -309,8 +309,8 @@ module _ (qs : List (Sequence (Expr ℕ))) (budget : ℕ) (m : Journal) (a : Ans
   unformed not (refused e) ends says = unformed_kind not e ends (refused_kind e says)
 
   -- nothing refuses, and the budget is enough
-  unspent : IsRelatedWithin qs budget → IsOutOf → ⊥
-  unspent within o =
+  unexhausted : IsRelatedWithin qs budget → IsOutOf → ⊥
+  unexhausted within o =
       enough_budget (program_of qs) (first_places 0 qs) within.entries m.entries budget within.list
       within.ended within.few o.out
 
@@ -331,13 +331,13 @@ module _ (qs : List (Sequence (Expr ℕ))) (budget : ℕ) (m : Journal) (a : Ans
       let s = ends.1.2 in
       absurd (never.analysis.states m.entries s.state s.follows s.past)
   completed never within (refused (relating.Analysis error.Budget)) ends says =
-      absurd (unspent within (out_of (relating.Analysis error.Budget) ends (inr refl)))
+      absurd (unexhausted within (out_of (relating.Analysis error.Budget) ends (inr refl)))
   completed never within (refused (relating.Analysis error.Memory)) ends says =
       absurd (no_answer a says)
   completed never within (refused relating.Wide) ends says =
       absurd (never.elimination m.entries ends.1.2)
   completed never within (refused relating.Budget) ends says =
-      absurd (unspent within (out_of relating.Budget ends (inl refl)))
+      absurd (unexhausted within (out_of relating.Budget ends (inl refl)))
   completed never within (refused relating.Memory) ends says = absurd (no_answer a says)
 
   module _ (free : AreFree (program_of qs)) (b : ℕ) (r : Refusal) (exact : IsExact r)
@@ -378,9 +378,9 @@ module _ (qs : List (Sequence (Expr ℕ))) (budget : ℕ) (m : Journal) (a : Ans
       → ShowsRelations text a.text × HasEnded text budget m
   related_shown text is positive = yes_shown qs budget m a text is h.ending h.ends h.says positive
 
-  pub spent_shown : (text : List ℕ) → sequences_of text ≡ Ok qs → a.status ≡ status.Budget
-      → IsSpentRelating text budget m a.text
-  spent_shown text is out = spent_at qs budget m a text is h.ending h.ends h.says out
+  pub exhausted_shown : (text : List ℕ) → sequences_of text ≡ Ok qs → a.status ≡ status.Budget
+      → IsExhaustedRelating text budget m a.text
+  exhausted_shown text is out = exhausted_at qs budget m a text is h.ending h.ends h.says out
 
   pub unrelated : (text : List ℕ) → sequences_of text ≡ Ok qs → a.status ≢ status.Yes
       → IsUnrelated text budget m a
@@ -409,7 +409,7 @@ module _ (qs : List (Sequence (Expr ℕ))) (budget : ℕ) (m : Journal) (a : Ans
 
 pub related_within : (text : List ℕ) (qs : List (Sequence (Expr ℕ))) (budget : ℕ) (m : Journal)
     (said : List ℕ) → sequences_of text ≡ Ok qs → IsRelatedWithin qs budget
-    → IsSpentRelating text budget m said → ⊥
+    → IsExhaustedRelating text budget m said → ⊥
 related_within text qs budget m said is within out =
     let same : out.sequences ≡ qs =
     (let x : Ok out.sequences ≡ Ok qs = sym out.are_sequences ∙ is in cc) in

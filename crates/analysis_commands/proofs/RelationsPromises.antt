@@ -12,17 +12,17 @@ use Rattle.io_edge.specs.Course.{EachAnswer}
 use Rattle.io_edge.specs.Outcome.{Call, IsCarriedOut}
 use Rattle.io_edge.proofs.Outcomes.{or_wide, or_fault, or_yes}
 use Rattle.io_edge.proofs.OneFile as one_file
-use Rattle.io_edge.proofs.OneFile.{OneFile, concludes_yes, concludes_no, concludes_spent, answered, ends_at_fault, tells, writes, refused, never_ends, not_ended, left, long}
+use Rattle.io_edge.proofs.OneFile.{OneFile, concludes_yes, concludes_no, concludes_exhausted, answered, ends_at_fault, tells, writes, refused, never_ends, not_ended, left, long}
 use Rattle.analysis_commands.specs.RefusalTexts.{branch_answer}
 use Rattle.analysis_commands.specs.RelationsTexts.{sequences_refusal}
 use Rattle.analysis_commands.specs.RelationsAnswers.{Relates, HasRelated}
 use Rattle.command_parts.specs.FileRequests.{FileRequest}
 use Rattle.analysis_commands.specs.RelationsCourse.{course}
-use Rattle.analysis_commands.specs.RelationsClauses.{HasEnded, IsSpentRelating, IsUnrelated, IsRelating, FindsRelations}
+use Rattle.analysis_commands.specs.RelationsClauses.{HasEnded, IsExhaustedRelating, IsUnrelated, IsRelating, FindsRelations}
 use Rattle.analysis_commands.specs.RelationsHeadline.{ShowsRelations}
 use Rattle.analysis_commands.proofs.Endings.{or_found}
 use Rattle.analysis_commands.proofs.SequenceCourses.{reading_sequences}
-use Rattle.analysis_commands.proofs.RelationsEndings.{relates_settled, relates_not_no, related_shown, spent_shown, unrelated, limit_related, formed_related, unformed_related, branch_related, all_related, related_within}
+use Rattle.analysis_commands.proofs.RelationsEndings.{relates_settled, relates_not_no, related_shown, exhausted_shown, unrelated, limit_related, formed_related, unformed_related, branch_related, all_related, related_within}
 
 module _ (request : FileRequest) where
   abbrev path : OneFile (List (Sequence (Expr ℕ))) Fault
@@ -46,8 +46,9 @@ module _ (request : FileRequest) where
           (λ text a. IsUnrelated text request.budget m a)
           (λ text qs a e h same refusing.
           unrelated qs request.budget m a h text e refusing.yes_not) refl;
-      spent = writes path call f concludes_spent (λ text. IsSpentRelating text request.budget m)
-          (λ text qs a e h out. spent_shown qs request.budget m a h text e out);
+      exhausted = writes path call f concludes_exhausted (λ text.
+          IsExhaustedRelating text request.budget m)
+          (λ text qs a e h out. exhausted_shown qs request.budget m a h text e out);
       no = never_ends path call f concludes_no
           (λ qs j a h. relates_not_no qs request.budget j a h);
       journal = left path call f (λ text. IsRelating text request.budget m)
@@ -65,9 +66,9 @@ module _ (request : FileRequest) where
       found = λ qs r free split. or_found (course request) call f
           (λ s. formed_related qs request.budget m s.answer (answered path call f qs r s) free
           split);
-      enough = λ qs r within. not_ended path call f concludes_spent qs r
+      enough = λ qs r within. not_ended path call f concludes_exhausted qs r
           (λ a h out. related_within r.text qs request.budget m a.text r.reads within
-          (spent_shown qs request.budget m a h r.text r.reads out));
+          (exhausted_shown qs request.budget m a h r.text r.reads out));
       completes = λ qs r never within. or_yes (course request) call f
           (λ s. all_related qs request.budget m s.answer (answered path call f qs r s) never
           within);

@@ -14,7 +14,7 @@ use Rattle.polynomials.specs.Exponent.{unit_exponents}
 use Rattle.polynomials.specs.Order.{compare, grevlex}
 use Rattle.polynomials.specs.Terms.{Terms, constant, variables}
 use Rattle.machines.specs.Collect.{collect, insert, place}
-use Rattle.solvable_maps.specs.Chain.{IsChain}
+use Rattle.solvable_maps.specs.Dependency.{IsNonlinearCycle}
 use Rattle.solvable_maps.specs.Class.{IsClassOf}
 use Rattle.solvable_maps.specs.Uses.{uses, strongly}
 use Rattle.solvable_maps.proofs.Classes.{class_one}
@@ -56,7 +56,7 @@ weak : (i j : ℕ) → T (strongly gone i j) → ⊥
 weak zero j t = absurd t
 weak (suc i) j t = absurd t
 
-pub gone_solvable : (vs : List ℕ) → IsChain (uses gone) (strongly gone) vs → ⊥
+pub gone_solvable : (vs : List ℕ) → IsNonlinearCycle (uses gone) (strongly gone) vs → ⊥
 gone_solvable [] c = absurd c
 gone_solvable (v ∷ []) c = absurd c
 gone_solvable (v ∷ w ∷ vs) c = weak v w c.0

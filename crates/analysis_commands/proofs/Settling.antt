@@ -1,5 +1,5 @@
 -- Which statuses the answers to analyses have.
---   analyses_settled     none of the words, of memory or of the outside;  analyses_not_no: nor no
+--   analyses_settled     none of the arguments, of memory or of the outside;  analyses_not_no: nor no
 use Rattle.std.proofs.Common.{◌≡◌, ◌≢◌, ℕ, sym, ◌∙◌}
 use Rattle.std.specs.Prelude.{Some}
 use Rattle.machines.specs.Journal.{Journal}

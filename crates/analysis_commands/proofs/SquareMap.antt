@@ -1,5 +1,5 @@
 -- The map of one variable that squares it has no closed form: the variable uses itself non-linearly. So a loop with this branch has none.
---   squared            the map;  squared_cycle: the least chain, from the variable to itself
+--   squared            the map;  squared_cycle: the least cycle, from the variable to itself
 --   square_loop t      the loop whose one branch is x = x*x, by the operator at the offset t
 --   square_free        no operation of its maps passes a limit
 --   square_refused     its branch is the first that is refused
@@ -15,7 +15,7 @@ use Rattle.polynomials.specs.Exponent.{plus, unit_exponents}
 use Rattle.polynomials.specs.Order.{compare, grevlex}
 use Rattle.polynomials.specs.Terms.{Terms, variables, constant}
 use Rattle.machines.specs.Collect.{collect, insert, place}
-use Rattle.solvable_maps.specs.Chain.{AtMost, Least, IsChain, IsLeastChain}
+use Rattle.solvable_maps.specs.Dependency.{AtMost, Least, IsNonlinearCycle, IsLeastCycle}
 use Rattle.solvable_maps.specs.Uses.{uses, strongly}
 use Rattle.loops.specs.Effect.{after_branch, after_statement, store, value_of}
 use Rattle.loops.specs.Map.{branch_map}
@@ -37,15 +37,15 @@ first_places zero zero = inr (refl, inr (refl, tt))
 first_places zero (suc w) = inr (refl, inl (omega arith))
 first_places (suc v) w = inl (omega arith)
 
-no_earlier : (ws : List ℕ) → IsChain (uses squared) (strongly squared) ws
+no_earlier : (ws : List ℕ) → IsNonlinearCycle (uses squared) (strongly squared) ws
     → AtMost (0 ∷ 0 ∷ []) ws
 no_earlier [] c = absurd c
 no_earlier (v ∷ []) c = absurd c
 no_earlier (v ∷ w ∷ []) c = record { is = inr (refl, first_places v w) }
 no_earlier (v ∷ w ∷ u ∷ ws) c = record { is = inl (omega arith) }
 
-pub squared_cycle : IsLeastChain (uses squared) (strongly squared) (0 ∷ 0 ∷ [])
-squared_cycle = record { chain = (tt, tt, refl); least = no_earlier }
+pub squared_cycle : IsLeastCycle (uses squared) (strongly squared) (0 ∷ 0 ∷ [])
+squared_cycle = record { cycle = (tt, tt, refl); least = no_earlier }
 
 -- ---- a loop
 abbrev pub square_loop : ℕ → Program (Expr ℕ)

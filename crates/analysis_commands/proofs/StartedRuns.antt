@@ -5,7 +5,6 @@
 --   run                  the analysis
 use Rattle.std.proofs.Common.{◌≡◌, inl, inr, ℕ, zero, suc, pos, List, [], ◌∷◌, slice_get, refl, sym, ap, subst, ◌∙◌, Option, Some, None, arith}
 use Rattle.std.specs.Prelude.{◌<◌, slice_index}
-use Rattle.algebra.specs.Fraction as Fraction
 use Rattle.algebra.specs.Fraction.{Fraction, fraction, fractions, rationals, whole, opposite, product, sum, inverse}
 use Rattle.algebra.specs.Gcd.{gcd, lcm}
 use Rattle.algebra.specs.Ratio.{is_lowest, reduce}
@@ -214,7 +213,8 @@ module _ (form : Form) where
   fits_begun : IsPastAt (A form) begun → ⊥
   unfolding starting start_list start_polynomial in_order value_of variables unit_exponents constant
       collect insert place compare grevlex fraction is_lowest reduce gcd opposite Algebra.negate
-      skip_covered free_part all_free block drop_from tail_from tail_or find_cut cut_by divides
+      skip_covered free_part all_free block by_lead put_by_lead ahead drop_from tail_from tail_or
+      find_cut cut_by divides
       lead_of tail_of retold same lead_number
   fits_begun (inl s) = no_start s
   fits_begun (inr (inl h)) = h

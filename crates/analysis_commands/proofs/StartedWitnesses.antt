@@ -47,8 +47,7 @@ use Rattle.loop_text.specs.Seqs.{sequences_word, most_seqname}
 use Rattle.analysis_commands.specs.Causes.{IsNeverRefused, IsWithinBudget}
 use Rattle.analysis_commands.specs.Completeness.{AllSplit}
 use Rattle.analysis_commands.specs.RelationsClauses.{IsNeverStopped, IsRelatedWithin}
-use Rattle.analysis_commands.proofs.IdentityMap.{still, still_solvable, still_passes, turned_normal, still_base_is, same_turns}
-use Rattle.analysis_commands.proofs.IdentityUnrefused.{still_unrefused}
+use Rattle.analysis_commands.proofs.IdentityMap.{still, still_solvable, still_passes, turned_normal, still_base_is, same_turns, still_unrefused}
 use Rattle.analysis_commands.proofs.IdleLoops.{x_form}
 use Rattle.analysis_commands.proofs.StartedRuns.{one_program, gens, gone, tested, A, the_setting, run, ends}
 use Rattle.analysis_commands.proofs.RelatedRuns.{the_entries, never_past_of, one_basis, ended_elimination, behind_fits}

@@ -23,9 +23,10 @@
 -- What isn't shown:
 --   that the outside tells any bytes, and more of them than a limit (IsLonger)
 --   IsFamily of more than no loop, for any of the premises of `Tallies`
---   IsNeverRefused and IsWithinBudget of a loop with a branch that changes a variable
--- A loop with `init` is in StartedWitnesses.
+--   IsNeverRefused of a loop of two variables or more, or with an eigenvalue 0: that no number is past in a closed form is refuted by hand
 --   a branch that is refused for another exact cause than that it isn't solvable
+-- A loop with `init` is in StartedWitnesses, loops whose branch changes the variable in TurnedWitnesses. That no state of an analysis is past computes (Fitting);
+-- WorkedLoops has it of loops of three variables, and of one with the eigenvalue 0.
 use Rattle.std.proofs.Common.{ℕ, ◌≤◌, List, [], ◌∷◌, sym, subst, arith}
 use Rattle.algebra.specs.Fraction.{Fraction}
 use Rattle.polynomials.specs.Terms.{Terms}
@@ -41,7 +42,7 @@ use Rattle.command_parts.specs.Equations.{operations_of, polynomial_of}
 use Rattle.analysis_commands.specs.Causes.{IsNeverRefused, IsWithinBudget, IsExact}
 use Rattle.analysis_commands.specs.Completeness.{AllSplit}
 use Rattle.analysis_commands.specs.MemberCauses.{NeverStops, NeverPast}
-use Rattle.analysis_commands.proofs.IdentityMap.{one}
+use Rattle.analysis_commands.proofs.ScaledMap.{one}
 use Rattle.analysis_commands.proofs.IdleRuns.{nothing_left, never_past, never_past_asked}
 use Rattle.analysis_commands.proofs.IdleLoops.{one_loop, two_loop, x_free, x_narrow, two_narrow, x_split, two_split, x_branches, two_branches, x_finished, two_finished, zero_asked, some_asked}
 use Rattle.analysis_commands.proofs.IdleLoops as loops

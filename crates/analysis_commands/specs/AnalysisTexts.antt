@@ -1,28 +1,16 @@
--- What an analysis has found, as texts.
---   line text                    the text and a line feed
---   equation_line names p        that p is 0;  cofactor_line names q
---   basis_text names gs          an equation a line, in the order of the gs; `none` where there are no gs
+-- What a question has found, as texts.
+--   cofactor_line names q        the cofactor q
 --   yes_text names qs            `yes`, and a cofactor a line
-use Rattle.std.specs.Prelude.{ℕ, List, [], ◌∷◌, ◌++◌, codes}
+use Rattle.std.specs.Prelude.{ℕ, List, ◌++◌, codes}
 use Rattle.std.specs.List.{flat_map}
 use Rattle.algebra.specs.Fraction.{Fraction}
 use Rattle.polynomials.specs.Terms.{Terms}
 use Rattle.poly_text.specs.Printed.{polynomial_text}
-use Rattle.loop_model.specs.Ascii.{line_feed}
-
-abbrev pub line : List ℕ → List ℕ
-line text = text ++ line_feed ∷ []
+use Rattle.command_parts.specs.BasisTexts.{line}
 
 module _ (names : List (List ℕ)) where
-  abbrev pub equation_line : Terms Fraction → List ℕ
-  equation_line p = line (polynomial_text names p ++ codes " = 0")
-
   abbrev pub cofactor_line : Terms Fraction → List ℕ
   cofactor_line q = line (polynomial_text names q)
-
-  abbrev pub basis_text : List (Terms Fraction) → List ℕ
-  basis_text [] = line (codes "none")
-  basis_text (g ∷ gs) = flat_map equation_line (g ∷ gs)
 
   abbrev pub yes_text : List (Terms Fraction) → List ℕ
   yes_text qs = line (codes "yes") ++ flat_map cofactor_line qs

@@ -17,8 +17,8 @@ use Rattle.command_parts.specs.LoopReading.{loop_at, IsLoopFault, ReadsLoop}
 use Rattle.analysis_commands.specs.RefusalTexts.{branch_answer}
 use Rattle.analysis_commands.specs.Headline.{ShowsAnalysis}
 use Rattle.analysis_commands.specs.Completeness.{AllSplit, EndsFound}
-use Rattle.analysis_commands.specs.Causes.{HasFinished, IsClosed, IsSpent, IsAnalysed, IsUnanalysed, IsNeverRefused, IsWithinBudget, IsExact}
-use Rattle.analysis_commands.specs.BasisWords.{Request}
+use Rattle.analysis_commands.specs.Causes.{HasFinished, IsClosed, IsExhausted, IsAnalysed, IsUnanalysed, IsNeverRefused, IsWithinBudget, IsExact}
+use Rattle.analysis_commands.specs.BasisArguments.{Request}
 
 abbrev pub Refuses : Call → Request → Answer → Type 0
 Refuses call request a = IfTold call.files.before request.file
@@ -37,9 +37,9 @@ pub record Finds (request : Request) (call : Call) : Type 0 where
   -- a fault, or a number that doesn't fit: the text tells the first fault of LOOP, or why the
   -- analysis has no basis
   pub why : TellsWhy call (Refuses call request)
-  -- a spent budget: as many entries are units as the budget, and what comes next is a unit
-  pub spent : call.status ≡ status.Budget → IfTold call.files.before request.file
-      (λ text. Wrote call.sink (IsSpent text request.budget call.meter.after))
+  -- an exhausted budget: as many entries are units as the budget, and what comes next is a unit
+  pub exhausted : call.status ≡ status.Budget → IfTold call.files.before request.file
+      (λ text. Wrote call.sink (IsExhausted text request.budget call.meter.after))
   -- never no
   pub no : call.status ≢ status.No
   -- the meter is opened with the budget, and the entries follow the analysis of the loop
@@ -59,10 +59,10 @@ pub record Finds (request : Request) (call : Call) : Type 0 where
       → EndsOrWide call (branch_answer l.names b r)
   pub unformed : (l : Program (Expr ℕ)) → ReadsLoop call request.file (Ok l) → AreFree l
       → ¬ (AllHaveForms l) → EndsAtFault call.status
-  -- where none comes, a basis, but for numbers that don't fit and a spent budget
+  -- where none comes, a basis, but for numbers that don't fit and an exhausted budget
   pub found : (l : Program (Expr ℕ)) → ReadsLoop call request.file (Ok l) → AreFree l → AllSplit l
       → EndsFound call.status
-  -- the budget isn't spent where some finished journal has at most as many units
+  -- the budget isn't exhausted where some finished journal has at most as many units
   pub enough : (l : Program (Expr ℕ)) → ReadsLoop call request.file (Ok l)
       → IsWithinBudget l request.budget → call.status ≢ status.Budget
   -- and so, where nothing refuses, there is a basis

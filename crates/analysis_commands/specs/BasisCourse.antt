@@ -2,7 +2,7 @@
 use Rattle.analysis_commands.specs.Analyses.{Analyses, HasAnalysed}
 use Rattle.io_edge.specs.Course.{Course, ends}
 use Rattle.command_parts.specs.LoopReading.{with_loop}
-use Rattle.analysis_commands.specs.BasisWords.{Request}
+use Rattle.analysis_commands.specs.BasisArguments.{Request}
 
 abbrev pub course : Request → Course
 course request = with_loop request.file

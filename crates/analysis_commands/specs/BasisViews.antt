@@ -1,8 +1,8 @@
--- The words of `basis` and `cert` as the definitions see them.
+-- The arguments of `basis` and `cert` as the definitions see them.
 --   view request        what is asked for
 use Rattle.std.specs.Prelude.{string_bytes}
-use Rattle.analysis_commands.specs.declared.basis_words.Request as made
-use Rattle.analysis_commands.specs.BasisWords.{Request}
+use Rattle.analysis_commands.specs.declared.basis_arguments.Request as made
+use Rattle.analysis_commands.specs.BasisArguments.{Request}
 
 abbrev pub view : made.Request → Request
 view request = record {

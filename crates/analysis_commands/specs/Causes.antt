@@ -1,7 +1,7 @@
 -- How an analysis ends, over the bytes of LOOP.
 --   HasFinished text budget m        the bytes are a loop, no operation of its maps passes a limit, and the journal m, with this budget, is that of its finished analysis, after as few rounds as have all its invariants
 --   IsClosed kind text m said        they are a loop, m is the journal of its finished analysis, and what is said is its list, or the certificate with the cofactors of the divisions that closed it
---   IsSpent text budget m said       they are a loop whose maps are free and whose branches have closed forms, the entries of m follow its analysis, as many of them are units as the budget, what comes next is a unit, and the budget is said
+--   IsExhausted text budget m said       they are a loop whose maps are free and whose branches have closed forms, the entries of m follow its analysis, as many of them are units as the budget, what comes next is a unit, and the budget is said
 --   IsAnalysed text budget m         they are a loop, and the meter was opened for its analysis
 --   IsUnanalysed text budget m a     they are a loop, and a tells why its analysis, which left m, has no basis
 --   IsNeverRefused l                 no operation of the maps passes a limit or is past, no branch is refused, and no state of the analysis is past
@@ -49,7 +49,7 @@ pub record IsClosed (kind : Kind) (text : List ℕ) (m : Journal) (said : List �
       certificate.steps
   pub says : said ≡ found_text kind loop.names certificate
 
-pub record IsSpent (text : List ℕ) (budget : ℕ) (m : Journal) (said : List ℕ) : Type 0 where
+pub record IsExhausted (text : List ℕ) (budget : ℕ) (m : Journal) (said : List ℕ) : Type 0 where
   pub loop : Program (Expr ℕ)
   pub is_loop : loop_of text ≡ Ok loop
   pub free : AreFree loop

@@ -4,7 +4,7 @@
 use Rattle.std.specs.Prelude.{ℕ, List}
 use Rattle.loops.specs.Certificate.{Certificate}
 use Rattle.cert_form.specs.Written.{text_of}
-use Rattle.analysis_commands.specs.AnalysisTexts.{line, basis_text}
+use Rattle.command_parts.specs.BasisTexts.{line, basis_text}
 use Rattle.analysis_commands.specs.declared.kind.Kind.{Kind}
 use Rattle.analysis_commands.specs.declared.kind.Kind.TheVariants as kinds
 

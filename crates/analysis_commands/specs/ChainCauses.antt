@@ -1,6 +1,6 @@
 -- How an analysis of a chain ends, over the bytes of CHAIN.
 --   HasFinished text budget m        the bytes are a chain, and the journal m is that of the finished analysis of its last loop, from what is given to it, with what is left of the budget
---   IsSpent text budget m said       they are a chain; of one of its loops no operation of the maps, nor of the code before it, passes a limit and each branch has a closed form; the entries of m follow it from what is given to it, or the elimination of its code, as many of them are units as are left or allowed, what comes next is a unit, and the budget is said of this loop
+--   IsExhausted text budget m said       they are a chain; of one of its loops no operation of the maps, nor of the code before it, passes a limit and each branch has a closed form; the entries of m follow it from what is given to it, or the elimination of its code, as many of them are units as are left or allowed, what comes next is a unit, and the budget is said of this loop
 --   IsAnalysed text budget m         they are a chain, and the meter was opened for the analysis of one of its loops, or for the code before one
 --   IsUnanalysed text budget m a     they are a chain, and a tells why the analysis of one of its loops, which left m, has no basis
 --   AreFormedBefore c j              the loops before the place j are formed
@@ -18,7 +18,7 @@ use Rattle.rounds.specs.BranchMap.{map_of}
 use Rattle.rounds.specs.Journal.{setting_from, FollowsFrom, IsFinishedBy, IsOutFrom}
 use Rattle.rounds.specs.Past.{IsPast}
 use Rattle.closed_forms.specs.Refusal.{Refusal, IfRefused}
-use Rattle.corollaries.specs.Between.{IsSpentLeading, IsPastLeading}
+use Rattle.corollaries.specs.Between.{IsExhaustedLeading, IsPastLeading}
 use Rattle.loops.specs.Chain.{Chain, code_at, loop_at}
 use Rattle.corollaries.specs.Analysed.{Analysed, GivenTo}
 use Rattle.loop_text.specs.ChainReader.{chain_of}
@@ -35,7 +35,7 @@ pub record HasFinished (text : List ℕ) (budget : ℕ) (m : Journal) : Type 0 w
   pub done : InLoop chain budget m (length chain.further) (λ left given.
       IsFinishedBy (loop_at chain (length chain.further)) given m.entries rounds list)
 
-pub record IsSpent (text : List ℕ) (budget : ℕ) (m : Journal) (said : List ℕ) : Type 0 where
+pub record IsExhausted (text : List ℕ) (budget : ℕ) (m : Journal) (said : List ℕ) : Type 0 where
   pub chain : Chain (Expr ℕ)
   pub is_chain : chain_of text ≡ Ok chain
   pub place : ℕ
@@ -44,7 +44,7 @@ pub record IsSpent (text : List ℕ) (budget : ℕ) (m : Journal) (said : List �
   pub out : InLoop chain budget m place (λ left given.
       IsOutFrom (loop_at chain place) given None left m.entries)
       ⊎ InCode chain budget m place (λ gs.
-      IsSpentLeading chain.first (code_at chain place) gs budget m.entries)
+      IsExhaustedLeading chain.first (code_at chain place) gs budget m.entries)
   pub says : said ≡ codes "loop " ++ decimal (place + 1) ++ codes ": "
       ++ line (codes "budget: " ++ decimal budget)
 

@@ -21,7 +21,7 @@ use Rattle.analysis_commands.specs.Causes.{IsExact}
 use Rattle.analysis_commands.specs.ChainTexts.{in_loop}
 use Rattle.command_parts.specs.ChainReading.{IsChainFault, ReadsChain}
 use Rattle.analysis_commands.specs.ChainHeadline.{ShowsChain}
-use Rattle.analysis_commands.specs.ChainCauses.{HasFinished, IsSpent, IsAnalysed, IsUnanalysed, AreFormedBefore, IsWithinBudget, IsNeverRefused}
+use Rattle.analysis_commands.specs.ChainCauses.{HasFinished, IsExhausted, IsAnalysed, IsUnanalysed, AreFormedBefore, IsWithinBudget, IsNeverRefused}
 use Rattle.command_parts.specs.FileRequests.{FileRequest}
 
 abbrev pub Refuses : Call → FileRequest → Answer → Type 0
@@ -38,10 +38,10 @@ pub record FindsEach (request : FileRequest) (call : Call) : Type 0 where
   -- a fault, or a number that doesn't fit: the text tells the first fault of CHAIN, or why the
   -- analysis of a loop has no basis, said of this loop
   pub why : TellsWhy call (Refuses call request)
-  -- a spent budget: of a loop, or of the code before it, as many entries are units as are left, and
+  -- an exhausted budget: of a loop, or of the code before it, as many entries are units as are left, and
   -- what comes next is one
-  pub spent : call.status ≡ status.Budget → IfTold call.files.before request.file
-      (λ text. Wrote call.sink (IsSpent text request.budget call.meter.after))
+  pub exhausted : call.status ≡ status.Budget → IfTold call.files.before request.file
+      (λ text. Wrote call.sink (IsExhausted text request.budget call.meter.after))
   -- never no
   pub no : call.status ≢ status.No
   -- the meter is opened with what is left of the budget, and the entries follow the analysis of a
@@ -68,12 +68,12 @@ pub record FindsEach (request : FileRequest) (call : Call) : Type 0 where
   pub unformed : (c : Chain (Expr ℕ)) (j : ℕ) → ReadsChain call request.file (Ok c)
       → j ≤ length c.further → Reaches c request.budget j → AreFormedBefore c j
       → ¬ (AllHaveForms (loop_at c j)) → EndsAtFault call.status
-  -- where no loop is refused so, the bases, but for numbers that don't fit and a spent budget
+  -- where no loop is refused so, the bases, but for numbers that don't fit and an exhausted budget
   pub found : (c : Chain (Expr ℕ)) → ReadsChain call request.file (Ok c)
       → ((j : ℕ) → j ≤ length c.further
       → IsFree (length c.first.names) (operations_at c j) × AllSplit (loop_at c j))
       → EndsFound call.status
-  -- the budget isn't spent where each loop has a finished journal within it
+  -- the budget isn't exhausted where each loop has a finished journal within it
   pub enough : (c : Chain (Expr ℕ)) → ReadsChain call request.file (Ok c)
       → IsWithinBudget c request.budget → call.status ≢ status.Budget
   -- and so, where nothing refuses, there are the bases

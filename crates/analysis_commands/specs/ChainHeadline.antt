@@ -12,7 +12,7 @@ use Rattle.loops.specs.Program.{Expr}
 use Rattle.rounds.specs.Generate.{Generates}
 use Rattle.loops.specs.Chain.{Chain, up_to, ChainInv}
 use Rattle.loop_text.specs.ChainReader.{chain_of}
-use Rattle.analysis_commands.specs.ReadBack.{IsReadBack}
+use Rattle.command_parts.specs.ReadBack.{IsReadBack}
 use Rattle.analysis_commands.specs.ChainTexts.{bases_text}
 
 abbrev pub AreReadBack : List (List ℕ) → List (List (Terms Fraction)) → Type 0

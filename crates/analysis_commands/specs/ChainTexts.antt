@@ -5,7 +5,7 @@
 use Rattle.std.specs.Prelude.{ℕ, suc, ◌+◌, List, [], ◌∷◌, ◌++◌, codes, decimal}
 use Rattle.algebra.specs.Fraction.{Fraction}
 use Rattle.polynomials.specs.Terms.{Terms}
-use Rattle.analysis_commands.specs.AnalysisTexts.{basis_text}
+use Rattle.command_parts.specs.BasisTexts.{basis_text}
 use Rattle.io_edge.specs.Texts.{Answer, with_text}
 
 abbrev pub part_line : ℕ → List ℕ

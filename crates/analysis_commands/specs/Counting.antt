@@ -4,7 +4,7 @@
 --   AreCounted n m c             the first n loops have bases so, the last of them with the journal m, and c are the counts over these bases
 --   ShowsCounts n m said         the counts over the first n loops are said
 --   StopsAt n m a                a tells why the analysis of one of the first n loops, which left m, has no basis; those before it are counted
---   IsSpentAt n m said           so, and its analysis with the usual budget is spent
+--   IsExhaustedAt n m said           so, and its analysis with the usual budget is exhausted
 --   AnswersFamily n m a          a answers `gen` of n loops, one way or the other
 --   HasOpenedFor j m             the meter was opened with the usual budget for loop j, and its entries are none or follow its analysis
 --   HasCounted n m               so, for one of the first n loops
@@ -20,7 +20,7 @@ use Rattle.command_parts.specs.Numerals.{usual_budget}
 use Rattle.io_edge.specs.declared.answer.Status.TheVariants.{Yes}
 use Rattle.io_edge.specs.Texts.{Answer}
 use Rattle.analysis_commands.specs.Analyses.{HasFound, HasAnalysed}
-use Rattle.analysis_commands.specs.Causes.{IsSpent, IsUnanalysed}
+use Rattle.analysis_commands.specs.Causes.{IsExhausted, IsUnanalysed}
 
 pub record IsCounted (l : Program (Expr ℕ)) (m : Journal) (before after : Counts) : Type 0 where
   pub list : List (Terms Fraction)
@@ -52,13 +52,13 @@ pub record StopsAt (n : ℕ) (m : Journal) (a : Answer) : Type 0 where
   pub counted : AreCounted place last counts
   pub refused : IsUnanalysed (loop_text (suc place)) usual_budget m a
 
-pub record IsSpentAt (n : ℕ) (m : Journal) (said : List ℕ) : Type 0 where
+pub record IsExhaustedAt (n : ℕ) (m : Journal) (said : List ℕ) : Type 0 where
   pub place : ℕ
   pub within : place < n
   pub counts : Counts
   pub last : Journal
   pub counted : AreCounted place last counts
-  pub spent : IsSpent (loop_text (suc place)) usual_budget m said
+  pub exhausted : IsExhausted (loop_text (suc place)) usual_budget m said
 
 abbrev pub AnswersFamily : ℕ → Journal → Answer → Type 0
 AnswersFamily n m a = ((a.status ≡ Yes) × ShowsCounts n m a.text) ⊎ StopsAt n m a

@@ -8,7 +8,7 @@ use Rattle.io_edge.specs.Outcome.{Call}
 use Rattle.io_edge.specs.Clauses.{Wrote, TellsWhy, IsExcused}
 use Rattle.analysis_commands.specs.Completeness.{AllSplit, EndsFound}
 use Rattle.analysis_commands.specs.Causes.{IsNeverRefused, IsWithinBudget}
-use Rattle.analysis_commands.specs.Counting.{ShowsCounts, StopsAt, IsSpentAt, HasCounted, IsFamily}
+use Rattle.analysis_commands.specs.Counting.{ShowsCounts, StopsAt, IsExhaustedAt, HasCounted, IsFamily}
 
 pub record Tallies (n : ℕ) (call : Call) : Type 0 where
   -- yes: the text has the counts over the bases of the first n loops of the family; each has a
@@ -17,17 +17,17 @@ pub record Tallies (n : ℕ) (call : Call) : Type 0 where
   -- a fault, or a number that doesn't fit: the text tells why the first loop that has no basis has
   -- none
   pub why : TellsWhy call (StopsAt n call.meter.after)
-  -- a spent budget, of the first loop that has no basis
-  pub spent : call.status ≡ status.Budget → Wrote call.sink (IsSpentAt n call.meter.after)
+  -- an exhausted budget, of the first loop that has no basis
+  pub exhausted : call.status ≡ status.Budget → Wrote call.sink (IsExhaustedAt n call.meter.after)
   -- never no
   pub no : call.status ≢ status.No
   -- the meter is opened with the usual budget for a loop of the family, and the entries follow its
   -- analysis
   pub journal : (call.meter.after ≡ call.meter.before) ⊎ HasCounted n call.meter.after
-  -- the counts, but for numbers that don't fit and spent budgets, where the maps are free and each
+  -- the counts, but for numbers that don't fit and exhausted budgets, where the maps are free and each
   -- branch splits
   pub found : IsFamily n (λ l. AreFree l × AllSplit l) → EndsFound call.status
-  -- no budget is spent where each loop has a finished journal within it
+  -- no budget is exhausted where each loop has a finished journal within it
   pub enough : IsFamily n (λ l. IsWithinBudget l usual_budget) → call.status ≢ status.Budget
   -- and so, where nothing refuses, there are the counts
   pub completes : IsFamily n (λ l. IsNeverRefused l × IsWithinBudget l usual_budget)

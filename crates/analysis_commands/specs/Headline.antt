@@ -14,7 +14,7 @@ use Rattle.loops.specs.Program.{Expr, Program}
 use Rattle.loop_text.specs.LoopReader.{loop_of}
 use Rattle.rounds.specs.Generate.{Generates}
 use Rattle.cert_form.specs.Form.{cert_in, most_elements, ReadsAs}
-use Rattle.analysis_commands.specs.ReadBack.{IsReadBack}
+use Rattle.command_parts.specs.ReadBack.{IsReadBack}
 use Rattle.analysis_commands.specs.declared.kind.Kind.{Kind}
 use Rattle.analysis_commands.specs.declared.kind.Kind.TheVariants as kinds
 use Rattle.analysis_commands.specs.Certificates.{certificate_text, found_text}

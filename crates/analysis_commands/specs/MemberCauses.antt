@@ -13,7 +13,7 @@
 --                                          equation's polynomial by the basis
 --   HasAffirmed text equation budget m     so, and the division ended with nothing left
 --   HasDenied text equation budget m       so, and it ended with something left
---   IsSpentAsking text equation budget m said     they are a loop whose maps are free and whose
+--   IsExhaustedAsking text equation budget m said     they are a loop whose maps are free and whose
 --                                           branches have closed forms, and an equation; the
 --                                           entries of m follow the analysis and the division, as
 --                                           many of them are units as the budget, what comes next
@@ -86,7 +86,7 @@ module _ (text equation : List ℕ) where
       pub decided : HasDecided
       pub left : is_some decided.divides.last.current ≡ true
 
-    pub record IsSpentAsking (said : List ℕ) : Type 0 where
+    pub record IsExhaustedAsking (said : List ℕ) : Type 0 where
       pub asking : IsAsking text equation
       pub free : AreFree asking.loop
       pub forms : AllHaveForms asking.loop

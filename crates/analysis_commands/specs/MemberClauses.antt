@@ -9,7 +9,7 @@
 --                                    and the division that left it so have no answer
 --   EndsDecided s l e                it ends with yes, and the equation holds at the end of every
 --                                    run, or with no, and it doesn't
---   EndsAsked s l e                  so, or with a number that doesn't fit, or with a spent
+--   EndsAsked s l e                  so, or with a number that doesn't fit, or with an exhausted
 --                                    budget, or it is excused
 --   limit_of_loop at, limit_of_equation at     what is answered to an operation at this place that
 --                                           passes a limit: of the loop's maps, of the equation's
@@ -39,8 +39,8 @@ use Rattle.analysis_commands.specs.Completeness.{AllSplit}
 use Rattle.analysis_commands.specs.Causes.{IsNeverRefused, IsExact}
 use Rattle.command_parts.specs.Equations.{equation_in, operations_of, polynomial_of, Holds, FormsFreely}
 use Rattle.analysis_commands.specs.MemberHeadline.{ShowsYes, ShowsNo}
-use Rattle.analysis_commands.specs.MemberCauses.{IsEquationFault, IsEquationStop, IsUndecided, HasAffirmed, HasDenied, IsSpentAsking, IsAsked, NeverStops, NeverPast}
-use Rattle.analysis_commands.specs.MemberWords.{Request}
+use Rattle.analysis_commands.specs.MemberCauses.{IsEquationFault, IsEquationStop, IsUndecided, HasAffirmed, HasDenied, IsExhaustedAsking, IsAsked, NeverStops, NeverPast}
+use Rattle.analysis_commands.specs.MemberArguments.{Request}
 use Rattle.command_parts.specs.EquationReading.{equation_refusal}
 
 abbrev pub AsksNothing : List ℕ → List ℕ → Answer → Type 0
@@ -91,10 +91,10 @@ pub record Decides (request : Request) (call : Call) : Type 0 where
   -- or an operation of its polynomial, and the meter is as it was; or why the analysis or the
   -- division has no answer
   pub why : TellsWhy call (Refuses call request)
-  -- a spent budget: as many entries are units as the budget, and what comes next is a unit
-  pub spent : call.status ≡ status.Budget → IfTold call.files.before request.file
+  -- an exhausted budget: as many entries are units as the budget, and what comes next is a unit
+  pub exhausted : call.status ≡ status.Budget → IfTold call.files.before request.file
       (λ text.
-      Wrote call.sink (IsSpentAsking text request.equation request.budget call.meter.after))
+      Wrote call.sink (IsExhaustedAsking text request.equation request.budget call.meter.after))
   -- the meter is opened with the budget where no operation of the polynomial passes a limit, and
   -- the entries follow the analysis and the division; where one does, it is as it was
   pub journal : (call.meter.after ≡ call.meter.before)
@@ -121,7 +121,7 @@ pub record Decides (request : Request) (call : Call) : Type 0 where
   pub unformed : (l : Program (Expr ℕ)) (e : Expr ℕ) → AsksOf call request l e → AreFree l
       → ¬ (AllHaveForms l) → EndsAtFault call.status
   -- where none comes: yes exactly where the equation holds at the end of every run, no exactly
-  -- where it doesn't, but for numbers that don't fit and a spent budget; which isn't spent where
+  -- where it doesn't, but for numbers that don't fit and an exhausted budget; which isn't exhausted where
   -- some answered journal has at most as many units; and yes or no, where nothing refuses
   pub decided : (l : Program (Expr ℕ)) (e : Expr ℕ) → AsksOf call request l e → AreFree l
       → AllSplit l → EndsAsked call.status l e

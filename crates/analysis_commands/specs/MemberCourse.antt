@@ -19,7 +19,7 @@ use Rattle.io_edge.specs.Texts.{Answer}
 use Rattle.io_edge.specs.Course.{Course, ends, silent}
 use Rattle.command_parts.specs.LoopReading.{with_loop}
 use Rattle.command_parts.specs.Equations.{equation_in, polynomial_of, FormsFreely}
-use Rattle.analysis_commands.specs.MemberWords.{Request}
+use Rattle.analysis_commands.specs.MemberArguments.{Request}
 use Rattle.analysis_commands.specs.Questions.{Asks, HasAsked}
 use Rattle.command_parts.specs.EquationReading.{equation_refusal, IsUnformed}
 

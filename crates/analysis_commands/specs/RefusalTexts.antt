@@ -21,7 +21,7 @@ use Rattle.closed_forms.specs.declared.errors.FormsError.{FormsError}
 use Rattle.closed_forms.specs.Refusal.{Refusal, not_solvable, eigenvalues, range, wide_split, wide_form, refusal_in}
 use Rattle.invariant_fix.specs.declared.errors.AnalyseError.{AnalyseError}
 use Rattle.invariant_fix.specs.declared.errors.AnalyseError.TheVariants as refusal
-use Rattle.analysis_commands.specs.AnalysisTexts.{line}
+use Rattle.command_parts.specs.BasisTexts.{line}
 use Rattle.analysis_commands.specs.Statuses.{cause_status, refusal_status}
 use Rattle.io_edge.specs.Texts.{Answer, with_text, answer}
 

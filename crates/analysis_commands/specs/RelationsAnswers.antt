@@ -24,7 +24,7 @@ use Rattle.loop_text.specs.declared.sequences.Seqs.{Seqs}
 use Rattle.loop_text.specs.SequenceSeen.{IsLoopOf}
 use Rattle.invariant_fix.specs.RelationsRefusals.{IsRefused}
 use Rattle.invariant_fix.specs.declared.relations_error.RelationsError.{RelationsError}
-use Rattle.analysis_commands.specs.ReadBack.{IsReadBack}
+use Rattle.command_parts.specs.ReadBack.{IsReadBack}
 use Rattle.analysis_commands.specs.RelationsHeadline.{Generate}
 use Rattle.analysis_commands.specs.Analyses.{empty_journal}
 use Rattle.analysis_commands.specs.RelationsTexts.{found_answer, relations_refusal}

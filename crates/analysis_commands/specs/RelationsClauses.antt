@@ -1,6 +1,6 @@
 -- What `relations` promises.
 --   HasEnded text budget m        they are sequences, and the journal m, with this budget, is that of their relations, which has ended
---   IsSpentRelating text budget m said    they are sequences whose maps are free and whose loop has closed forms, the entries of m are a beginning of this journal, as many of them are units as the budget, what comes next is a unit, and the budget is said
+--   IsExhaustedRelating text budget m said    they are sequences whose maps are free and whose loop has closed forms, the entries of m are a beginning of this journal, as many of them are units as the budget, what comes next is a unit, and the budget is said
 --   IsUnrelated text budget m a   they are sequences, and a tells why there are no relations
 --   IsRelating text budget m      they are sequences, and the meter was opened for the journal of their relations
 --   IsRelatedWithin qs budget            some journal of relations that has ended has at most as many units as the budget
@@ -43,7 +43,8 @@ pub record HasEnded (text : List ℕ) (budget : ℕ) (m : Journal) : Type 0 wher
   pub list : List (Terms Fraction)
   pub ended : IsEnded (program_of sequences) (first_places 0 sequences) m.entries list
 
-pub record IsSpentRelating (text : List ℕ) (budget : ℕ) (m : Journal) (said : List ℕ) : Type 0 where
+pub record IsExhaustedRelating (text : List ℕ) (budget : ℕ) (m : Journal) (said : List ℕ) : Type
+    0 where
   pub sequences : List (Sequence (Expr ℕ))
   pub are_sequences : sequences_of text ≡ Ok sequences
   pub free : AreFree (program_of sequences)
@@ -86,9 +87,9 @@ pub record FindsRelations (request : FileRequest) (call : Call) : Type 0 where
   -- a fault, or a number that doesn't fit: the text tells the first fault of FILE, or why there are
   -- no relations
   pub why : TellsWhy call (Refuses call request)
-  -- a spent budget: as many entries are units as the budget, and what comes next is a unit
-  pub spent : call.status ≡ status.Budget → IfTold call.files.before request.file
-      (λ text. Wrote call.sink (IsSpentRelating text request.budget call.meter.after))
+  -- an exhausted budget: as many entries are units as the budget, and what comes next is a unit
+  pub exhausted : call.status ≡ status.Budget → IfTold call.files.before request.file
+      (λ text. Wrote call.sink (IsExhaustedRelating text request.budget call.meter.after))
   -- never no
   pub no : call.status ≢ status.No
   -- the meter is opened with the budget, and the entries are a beginning of the journal of
@@ -111,10 +112,10 @@ pub record FindsRelations (request : FileRequest) (call : Call) : Type 0 where
       → EndsOrWide call (branch_answer (names qs) b r)
   pub unformed : (qs : List (Sequence (Expr ℕ))) → ReadsSequences call request.file (Ok qs)
       → AreFree (program_of qs) → ¬ (AllHaveForms (program_of qs)) → EndsAtFault call.status
-  -- where it has one, the relations, but for numbers that don't fit and a spent budget
+  -- where it has one, the relations, but for numbers that don't fit and an exhausted budget
   pub found : (qs : List (Sequence (Expr ℕ))) → ReadsSequences call request.file (Ok qs)
       → AreFree (program_of qs) → AllSplit (program_of qs) → EndsFound call.status
-  -- the budget isn't spent where some journal that has ended has at most as many units
+  -- the budget isn't exhausted where some journal that has ended has at most as many units
   pub enough : (qs : List (Sequence (Expr ℕ))) → ReadsSequences call request.file (Ok qs)
       → IsRelatedWithin qs request.budget → call.status ≢ status.Budget
   -- and so, where nothing refuses, there are the relations

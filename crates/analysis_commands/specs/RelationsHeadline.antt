@@ -13,8 +13,8 @@ use Rattle.loops.specs.Program.{Expr}
 use Rattle.loops.specs.Sequences.{Sequence, sequence_names, AreFormed}
 use Rattle.loops.specs.Relations.{IsRelation}
 use Rattle.loop_text.specs.SeqReader.{sequences_of}
-use Rattle.analysis_commands.specs.ReadBack.{IsReadBack}
-use Rattle.analysis_commands.specs.AnalysisTexts.{basis_text}
+use Rattle.command_parts.specs.ReadBack.{IsReadBack}
+use Rattle.command_parts.specs.BasisTexts.{basis_text}
 
 abbrev pub Generate : ℕ → List (Terms Fraction) → (Terms Fraction → Type 0) → Type 0
 Generate n gs I = (p : Terms Fraction) → IsPolynomial ℚ grevlex n p → IsMember ℚ n gs p ↔ I p

@@ -13,7 +13,7 @@ use Rattle.loop_model.specs.declared.map_error.MapError.TheVariants as map_error
 use Rattle.invariant_fix.specs.declared.errors.AnalyseError.TheVariants as analysis
 use Rattle.invariant_fix.specs.declared.relations_error.RelationsError.{RelationsError}
 use Rattle.invariant_fix.specs.declared.relations_error.RelationsError.TheVariants as error
-use Rattle.analysis_commands.specs.AnalysisTexts.{basis_text}
+use Rattle.command_parts.specs.BasisTexts.{basis_text}
 use Rattle.analysis_commands.specs.RefusalTexts.{refusal_answer}
 use Rattle.io_edge.specs.declared.answer.Status.TheVariants as status
 use Rattle.io_edge.specs.Texts.{Answer, with_text, answer}

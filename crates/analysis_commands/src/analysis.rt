@@ -14,9 +14,9 @@ ghost use Rattle.analysis_commands.specs.Texts as texts;
 ghost use Rattle.analysis_commands.specs.RefusalTexts as refusal_texts;
 
 use crate::kind::Kind;
-use crate::{basis_text, certificate_text, refusal_text};
+use crate::{certificate_text, refusal_text};
 use closed_forms::FormsError;
-use command_parts::Budget;
+use command_parts::{Budget, basis_text};
 use invariant_fix::{AnalyseError, Analysis, analyse};
 use io_edge::{Answer, Status};
 use journal::Meter;

@@ -1,15 +1,14 @@
 // The bases of a chain, as a text.
 ghost use Rattle.std.specs.Prelude.{◌≡◌, ◌++◌, All, length, string_bytes, IfOk, OnOk};
 ghost use Rattle.poly.specs.Seen.{terms_each};
-ghost use Rattle.analysis_commands.specs.ReadBack.{IsReadBack};
-ghost use Rattle.analysis_commands.specs.AnalysisTexts.{basis_text};
+ghost use Rattle.command_parts.specs.ReadBack.{IsReadBack};
+ghost use Rattle.command_parts.specs.BasisTexts.{basis_text};
 ghost use Rattle.ideal_ops.specs.Calls.{AreOver};
 ghost use Rattle.analysis_commands.specs.ChainHeadline.{AreReadBack};
 ghost use Rattle.analysis_commands.specs.Lists.{lists_of};
 ghost use Rattle.analysis_commands.specs.ChainTexts.{bases_text, part_line};
 
-use crate::basis_text;
-use command_parts::ordinal;
+use command_parts::{basis_text, ordinal};
 use frac128::Frac;
 use loop_model::Names;
 use monos::Grevlex;

@@ -1,6 +1,6 @@
 //! The certificate of an analysis.
 ghost use Rattle.std.specs.Prelude.{◌≡◌, ◌≤◌, All, length, string_bytes, IfOk};
-ghost use Rattle.analysis_commands.specs.AnalysisTexts.{line};
+ghost use Rattle.command_parts.specs.BasisTexts.{line};
 ghost use Rattle.cert_form.specs.Form.{cert_in, most_elements, ReadsAs};
 ghost use Rattle.ideal_ops.specs.Calls.{AreOver};
 ghost use Rattle.invariant_fix.specs.Answers.{certificate_of};

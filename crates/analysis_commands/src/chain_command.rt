@@ -14,17 +14,17 @@ use io_edge::{Answer, Files, reply};
 use journal::Meter;
 use std::alloc::{AllocError, Global};
 
-/// What `chain` answers to the words behind it; none where they ask for no analysis.
+/// What `chain` answers to the arguments behind it; none where they ask for no analysis.
 pub fn chain<F: Files>(
     alloc: Global,
-    words: &[String],
+    arguments: &[String],
     files: &mut F,
     meter: &mut Meter,
 ) -> Result<Option<Answer>, AllocError>
-    ensures { Obeys course (request_in (map string_bytes words.now))
+    ensures { Obeys course (request_in (map string_bytes arguments.now))
         (F.seen files.old ⟶ F.seen files.new) (meter.old ⟶ meter.new) result }
 {
-    match read_file_request(words) {
+    match read_file_request(arguments) {
         Some(request) => reply(answer_to(alloc, request, files, meter)),
         None => Ok(None),
     }

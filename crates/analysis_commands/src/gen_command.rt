@@ -10,11 +10,11 @@ ghost use Rattle.io_edge.specs.Outcome.{Obeys};
 ghost use Rattle.analysis_commands.specs.Analyses.{AnswersRefusal, HasAnalysed};
 ghost use Rattle.analysis_commands.specs.Causes.{IsUnanalysed};
 ghost use Rattle.analysis_commands.specs.Counting.{IsCounted, IsNext, HasOpenedFor, HasCounted, AnswersFamily};
-ghost use Rattle.analysis_commands.specs.GenWords.{request_in};
+ghost use Rattle.analysis_commands.specs.GenArguments.{request_in};
 ghost use Rattle.analysis_commands.specs.GenCourse.{course};
 
 use crate::analysis::answer_to_refusal;
-use crate::gen_words::read_words;
+use crate::gen_arguments::read_arguments;
 use command_parts::Budget;
 use invariant_fix::analyse;
 use io_edge::{Answer, Status, reply};
@@ -23,16 +23,16 @@ use loop_model::Loop;
 use loop_text::{Counts, loop_text, read_loop};
 use std::alloc::{AllocError, Global};
 
-/// What `gen` answers to the words behind it; none where they ask for no loops. It reads no file.
+/// What `gen` answers to the arguments behind it; none where they ask for no loops. It reads no file.
 pub fn tally(
     alloc: Global,
-    words: &[String],
+    arguments: &[String],
     meter: &mut Meter,
 ) -> Result<Option<Answer>, AllocError>
-    ensures { (files : FilesView) → Obeys course (request_in (map string_bytes words.now))
+    ensures { (files : FilesView) → Obeys course (request_in (map string_bytes arguments.now))
         (files ⟶ files) (meter.old ⟶ meter.new) result }
 {
-    match read_words(words) {
+    match read_arguments(arguments) {
         Some(number) => reply(answer_to_family(alloc, number, meter)),
         None => Ok(None),
     }

@@ -8,24 +8,24 @@
 mod analysis;
 mod answers;
 mod bases;
+mod basis_arguments;
 mod basis_command;
-mod basis_words;
 mod certificates;
 mod chain_analysis;
 mod chain_command;
+mod gen_arguments;
 mod gen_command;
-mod gen_words;
 mod kind;
 pub mod laws;
+mod member_arguments;
 mod member_command;
-mod member_words;
 mod questions;
 mod refusals;
 mod relations_command;
 pub mod text_laws;
 
 pub use analysis::answer_to_refusal;
-pub use answers::{basis_text, yes_text};
+pub use answers::yes_text;
 pub use basis_command::basis;
 pub use certificates::certificate_text;
 pub use chain_command::chain;

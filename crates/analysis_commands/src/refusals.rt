@@ -2,7 +2,7 @@
 ghost use Rattle.std.specs.Prelude.{◌≡◌, ◌<◌, ◌+◌, ◌++◌, All, length, codes, decimal, string_bytes, IfOk, OnOk};
 ghost use Rattle.std.specs.Fmt.{signed_decimal};
 ghost use Rattle.analysis_commands.specs.Naming.{AreNamed, AreNamedIn};
-ghost use Rattle.analysis_commands.specs.AnalysisTexts.{line};
+ghost use Rattle.command_parts.specs.BasisTexts.{line};
 ghost use Rattle.analysis_commands.specs.RefusalTexts.{names_at, listed_behind, forms_text, place_text, map_text, refusal_text, member_text};
 
 use closed_forms::FormsError;

@@ -6,7 +6,7 @@ ghost use Rattle.loops.specs.Sequences.{Sequence};
 ghost use Rattle.loop_text.specs.SequenceSeen.{IsLoopOf};
 ghost use Rattle.poly.specs.Seen.{terms_each};
 ghost use Rattle.ideal_ops.specs.Calls.{AreOver};
-ghost use Rattle.analysis_commands.specs.ReadBack.{IsReadBack};
+ghost use Rattle.command_parts.specs.ReadBack.{IsReadBack};
 ghost use Rattle.io_edge.specs.Change.{◌⟶◌};
 ghost use Rattle.io_edge.specs.Views.{answer_view, seen_answer};
 ghost use Rattle.io_edge.specs.Outcome.{Says, Obeys};
@@ -19,8 +19,7 @@ ghost use Rattle.command_parts.specs.FileViews.{view};
 ghost use Rattle.analysis_commands.specs.RelationsViews.{AreNamedBy};
 
 use crate::analysis::answer_to_refusal;
-use crate::basis_text;
-use command_parts::{Budget, FileRequest, fault_line, read_file_request, text_refusal};
+use command_parts::{Budget, FileRequest, basis_text, fault_line, read_file_request, text_refusal};
 use frac128::Frac;
 use invariant_fix::{AnalyseError, RelationsError, relations};
 use io_edge::{Answer, Files, Refusal, Status, read_file, reply};
@@ -34,17 +33,17 @@ use std::alloc::{AllocError, Global};
 
 const FILE_LIMIT: usize = 65_536;
 
-/// What `relations` answers to the words behind it; none where they ask for no relations.
+/// What `relations` answers to the arguments behind it; none where they ask for no relations.
 pub fn relate<F: Files>(
     alloc: Global,
-    words: &[String],
+    arguments: &[String],
     files: &mut F,
     meter: &mut Meter,
 ) -> Result<Option<Answer>, AllocError>
-    ensures { Obeys course (request_in (map string_bytes words.now))
+    ensures { Obeys course (request_in (map string_bytes arguments.now))
         (F.seen files.old ⟶ F.seen files.new) (meter.old ⟶ meter.new) result }
 {
-    match read_file_request(words) {
+    match read_file_request(arguments) {
         Some(request) => reply(answer_to(alloc, request, files, meter)),
         None => Ok(None),
     }
@@ -67,7 +66,7 @@ fn answer_to<F: Files>(
 }
 
 /// The sequences of a file of at most 65,536 bytes as a loop, or the answer that the file can't be read or is too long,
-/// or what its first fault is (docs/SEQUENCES.md).
+/// or what its first fault is (docs/LANGUAGE.md).
 fn read_sequences<F: Files>(alloc: Global, files: &mut F, name: &String) -> Result<Seqs, Refusal>
     ensures { AreSequencesOr (string_bytes name.now) (F.seen files.old ⟶ F.seen files.new) result }
 {

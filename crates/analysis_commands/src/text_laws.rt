@@ -9,8 +9,8 @@ ghost use Rattle.machines.specs.Journal.{Journal};
 ghost use Rattle.invariant_fix.specs.Refusals.{IsRefused};
 ghost use Rattle.invariant_fix.specs.declared.errors.AnalyseError.{AnalyseError};
 ghost use Rattle.analysis_commands.specs.Naming.{AreNamed};
-ghost use Rattle.analysis_commands.specs.ReadBack.{IsReadBack};
-ghost use Rattle.analysis_commands.specs.AnalysisTexts.{basis_text};
+ghost use Rattle.command_parts.specs.ReadBack.{IsReadBack};
+ghost use Rattle.command_parts.specs.BasisTexts.{basis_text};
 
 /// The variables that a refusal of the analysis of a loop names are the loop's.
 pub fn refusals_name_variables()

@@ -20,7 +20,7 @@ use Rattle.polynomials.specs.Terms.{Terms}
 use Rattle.algebra.specs.Fraction.{Fraction}
 use Rattle.solvable_maps.specs.Class.{Above, Ascends}
 use Rattle.solvable_maps.specs.Uses.{IsMap}
-use Rattle.solvable_maps.proofs.Chains.{Once, once_short}
+use Rattle.solvable_maps.proofs.Cycles.{Once, once_short}
 use Rattle.linear.specs.Rows.{fractions_of}
 use Rattle.poly.specs.Seen.{terms_each}
 use Rattle.solvable.proofs.Using.{FracPoly, length_each}

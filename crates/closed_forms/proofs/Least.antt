@@ -4,7 +4,7 @@
 --   settling_before, settled_before     at one turn less all are
 --   wide_here, wide_before  what one of them is there is past
 --   itself_first, itself_of, passing_none, passing_marked     at n = 0
-use Rattle.std.proofs.Common.{◌≡◌, inl, inr, ℕ, zero, suc, ◌<◌, ◌≤◌, Bool, true, false, List, [], ◌∷◌, length, get_or, refl, sym, ap, subst, ◌∙◌, arith}
+use Rattle.std.proofs.Common.{◌≡◌, ◌⊎◌, inl, inr, ℕ, zero, suc, ◌<◌, ◌≤◌, Bool, true, false, List, [], ◌∷◌, length, get_or, refl, sym, ap, subst, ◌∙◌, arith}
 use Rattle.std.proofs.lemmas.Bool.{cases_lt}
 use Rattle.std.proofs.lemmas.List.{length-map}
 use Rattle.algebra.specs.In.{In}
@@ -181,12 +181,13 @@ module _ (images : List (Terms Fraction)) (base : List ℕ) (groups : List (List
       low = (let a = s.low in omega (arith, a, one));
     }
 
-  pub wide_here : (n v : ℕ) → n < since → IsPastOfClass groups es n v
-      → IsWideTurn base images since v
-  wide_here n v less w = record {
+  pub wide_here : (n v : ℕ) → n < since → (since ≤ suc n) ⊎ (n ≡ 0)
+      → IsPastOfClass groups es n v → IsWideTurn base images since v
+  wide_here n v less near w = record {
     turn = n;
     before = less;
     since = since;
+    near = near;
     polys = bodies_of es;
     closed = h.closed;
     normal = over_normals base (length images) es h.over;
@@ -224,6 +225,7 @@ wide_before base images n since v one w = record {
   turn = w.turn;
   before = (let b = w.before in omega (arith, b, one));
   since = w.since;
+  near = w.near;
   polys = w.polys;
   closed = w.closed;
   normal = w.normal;

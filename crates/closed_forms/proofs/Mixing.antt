@@ -163,7 +163,7 @@ mine_later g rest j e x b is y l h =
     ltb→lt 0 (exponent e j) t in omega (arith, z, y, l, w)))))
     ∙ ap (λ h. mine h e) (sym is)
 
--- ---- what is left of a polynomial in falling order is one
+-- ---- what is left of a polynomial in descending order is one
 rest-below : (g : List ℕ) (O : Rank) (e : List ℕ) (p : Terms Fraction) → Below O e p
     → Below O e (rest_of g p)
 unfolding Each

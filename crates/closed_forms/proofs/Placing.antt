@@ -4,8 +4,10 @@
 --   known_begun, known_ready, known_next, known_last     before the first class, before and after a class, after the last
 --   bodies-count                     how many polynomials there are
 --   over_normals, put_over           they stay over their base
-use Rattle.std.proofs.Common.{◌≡◌, ◌≢◌, ◌⊎◌, inl, inr, ◌<◌, ◌≤◌, ℕ, zero, suc, ◌+◌, List, [], ◌∷◌, ◌++◌, length, get_or, set, Option, Some, None, refl, sym, ap, subst, ◌∙◌, arith, below_more}
-use Rattle.std.proofs.lemmas.List.{length-map, length-set, length_push, get_or-set_same, get_or-set_other, get_or_append_left, get_or_push}
+use Rattle.std.proofs.Common.{◌≡◌, ◌≢◌, ◌⊎◌, inl, inr, ◌<◌, ◌≤◌, ℕ, zero, suc, ◌+◌, List, [], ◌∷◌, ◌++◌, length, get_or, set, Option, Some, None, refl, sym, ap, subst, ◌∙◌, arith, append_assoc, below_more}
+use Rattle.std.specs.List.{concat}
+use Rattle.std.proofs.lemmas.List.Folds.{concat-append}
+use Rattle.std.proofs.lemmas.List.{append-nil, length-map, length-set, length_push, get_or-set_same, get_or-set_other, get_or_append_left, get_or_push}
 use Rattle.std.proofs.lemmas.Bool.{cases_eq, cases_lt}
 use Rattle.algebra.specs.Each.{Each}
 use Rattle.algebra.specs.In.{In}
@@ -160,7 +162,10 @@ module _ (base : List ℕ) (images : List (Terms Fraction)) (splits : List (Opti
       → (ps : List (Terms Fraction)) → length ps ≡ m → zeros_in (values_in splits) ≡ z
       → AreKnown base images splits z groups ps
   known_begun groups classes ps size count = record {
+    before = [];
+    order = classes;
     earlier = [];
+    are = refl;
     whole = record { closed = λ i j h l c. absurd h };
     classes = classes;
     since = 0;
@@ -169,6 +174,17 @@ module _ (base : List ℕ) (images : List (Terms Fraction)) (splits : List (Opti
     others = λ k d out. refl;
     sum = omega (arith, count);
   }
+
+  -- the classes in their order
+  order_of : (groups rest : List (List ℕ)) (g : List ℕ) (ps : List (Terms Fraction))
+      (e : groups ≡ g ∷ rest) (h : AreKnown base images splits z groups ps)
+      → AreClasses (uses images) m [] (h.before ++ g ∷ rest)
+  order_of groups rest g ps e h =
+      subst (λ l. AreClasses (uses images) m [] (h.before ++ l)) e h.order
+
+  joined : (before : List (List ℕ)) (g : List ℕ) → concat (before ++ g ∷ []) ≡ concat before ++ g
+  joined before g = concat-append before (g ∷ [])
+      ∙ ap (λ l. concat before ++ l) (append-nil g)
 
   -- the splitting of the class that comes next, which is left, and how many zeros it has
   module _ (groups rest : List (List ℕ)) (g : List ℕ) (ps : List (Terms Fraction))
@@ -204,7 +220,11 @@ module _ (base : List ℕ) (images : List (Terms Fraction)) (splits : List (Opti
         go : AreClasses (uses images) m h.earlier (g ∷ rest)
             → IsReady base images z (zeros_in (fractions_of split.values.items)) g ps
         go (k, next, class, later) = record {
+          before = h.before;
+          behind = rest;
+          order = order_of groups rest g ps e h;
           earlier = h.earlier;
+          are = h.are;
           first = k;
           next = next;
           class = class;
@@ -226,7 +246,11 @@ module _ (base : List ℕ) (images : List (Terms Fraction)) (splits : List (Opti
       go : AreClasses (uses images) m h.earlier (g ∷ rest)
           → AreVariablesOf base images (h.since + zeros_in (fractions_of split.values.items)) g qs
       go (k, next, class, later) = f (record {
+        before = h.before;
+        behind = rest;
+        order = order_of groups rest g ps e h;
         earlier = h.earlier;
+        are = h.are;
         first = k;
         next = next;
         class = class;
@@ -285,7 +309,11 @@ module _ (base : List ℕ) (images : List (Terms Fraction)) (splits : List (Opti
       go : AreClasses (uses images) m h.earlier (g ∷ rest)
           → AreKnown base images splits z rest (bodies_of new)
       go (k, next, class, later) = record {
+        before = h.before ++ g ∷ [];
+        order = subst (AreClasses (uses images) m []) (sym (append_assoc h.before (g ∷ []) rest))
+            (order_of groups rest g (bodies_of old) e h);
         earlier = h.earlier ++ g;
+        are = ap (λ l. l ++ g) h.are ∙ sym (joined h.before g);
         whole = whole_more (uses images) m h.earlier g k h.whole class;
         classes = later;
         since = d;

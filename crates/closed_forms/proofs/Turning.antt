@@ -17,7 +17,7 @@ use Rattle.polynomials.specs.Polynomial.{Arity, AllArity}
 use Rattle.polynomials.specs.Terms.{Terms, value_at, compose, sum_of_products}
 use Rattle.polynomials.proofs.Arity.{arity-compose}
 use Rattle.polynomials.proofs.ValueAt.{value_at-append}
-use Rattle.solvable_maps.specs.Chain.{IsChain}
+use Rattle.solvable_maps.specs.Dependency.{IsNonlinearCycle}
 use Rattle.solvable_maps.specs.Uses.{uses, strongly, poly_at, IsMap}
 use Rattle.exponentials.specs.Base.{Coprime}
 use Rattle.vectors.specs.Causes.{row_at}
@@ -72,7 +72,7 @@ normal-arities base m (p ∷ ps) h = (h.0.polynomial.arity, normal-arities base 
 
 module _ (base : List ℕ) (c : Coprime base) (images : List (Terms Fraction))
     (is : IsMap (length images) images) (solvable : (vs : List ℕ)
-    → IsChain (uses images) (strongly images) vs → ⊥) (g : List ℕ)
+    → IsNonlinearCycle (uses images) (strongly images) vs → ⊥) (g : List ℕ)
     (class : IsClass images g) where
   abbrev m : ℕ
   m = length images

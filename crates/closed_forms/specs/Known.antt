@@ -2,15 +2,17 @@
 --   rests_in images g         what the polynomials of the class g have without its variables
 --   AreKnown base images splits z groups ps     from some number of turns on ps has the closed forms of the variables of all classes but these, which come next:
 --                             with as many turns more as the splittings that are left have zeros, z
---   IsReady base images z k g ps     the same where the class g comes next: with k turns more, at most z
+--   IsReady base images z k g ps     the same where, of the classes in their order, g comes next: with k turns more, at most z
 --   AreDone base images g forms done    from some number of turns on done are the closed forms of the first of the forms, as many as there are, normal
 --   IsNextForm .. y           y is made of a form's source, from the forms before it;  AreNextForms .. done: each is, one after another
 --   variable_in base row done     the polynomial of a variable, by a row of the inverse from those of the forms
 --   IsPastForm, IsPastVariable, IsPastClass     a number or a weight is past in making a form, a variable, or one of a class
 --   IsWideClass base images z v     that is so of the class whose first variable is v, with the forms and values that its matrix
 --                             is split into, once the closed forms of the classes before it are known
---   IsWideTurn base images z v      what all variables are at a number of turns below z is past for one of that class, where from one more turn on it is the state
-use Rattle.std.specs.Prelude.{◌≡◌, ◌⊎◌, ◌<◌, ◌≤◌, ◌+◌, ℕ, List, Option, map, take, length, get_or}
+--   IsWideTurn base images z v      what a variable of that class is at a number of turns below z is past, where from one more turn on all are the state; or at no turn,
+--                             by which it is seen whether the variable passes
+use Rattle.std.specs.Prelude.{◌≡◌, ◌⊎◌, ◌<◌, ◌≤◌, ◌+◌, ℕ, suc, List, [], ◌∷◌, ◌++◌, Option, map, take, length, get_or}
+use Rattle.std.specs.List.{concat}
 use Rattle.algebra.specs.Each.{Each}
 use Rattle.algebra.specs.In.{In}
 use Rattle.algebra.specs.Fraction.{Fraction, fraction_size}
@@ -41,7 +43,10 @@ rests_in images g = map (λ i. rest_of g (poly_at images i)) g
 
 pub record AreKnown (base : List ℕ) (images : List (Terms Fraction)) (splits : List (Option Split))
     (z : ℕ) (groups : List (List ℕ)) (ps : List (Terms Fraction)) : Type 0 where
+  pub before : List (List ℕ)
+  pub order : AreClasses (uses images) (length images) [] (before ++ groups)
   pub earlier : List ℕ
+  pub are : earlier ≡ concat before
   pub whole : AreWhole (uses images) (length images) earlier
   pub classes : AreClasses (uses images) (length images) earlier groups
   pub since : ℕ
@@ -52,7 +57,11 @@ pub record AreKnown (base : List ℕ) (images : List (Terms Fraction)) (splits :
 
 pub record IsReady (base : List ℕ) (images : List (Terms Fraction)) (z k : ℕ) (g : List ℕ)
     (ps : List (Terms Fraction)) : Type 0 where
+  pub before : List (List ℕ)
+  pub behind : List (List ℕ)
+  pub order : AreClasses (uses images) (length images) [] (before ++ g ∷ behind)
   pub earlier : List ℕ
+  pub are : earlier ≡ concat before
   pub first : ℕ
   pub next : IsNext (uses images) (length images) earlier first
   pub class : IsClassOf (uses images) (length images) first g
@@ -157,6 +166,7 @@ pub record IsWideTurn (base : List ℕ) (images : List (Terms Fraction)) (z v : 
   pub turn : ℕ
   pub before : turn < z
   pub since : ℕ
+  pub near : (since ≤ suc turn) ⊎ (turn ≡ 0)
   pub polys : List (Terms Fraction)
   pub closed : IsClosedFormFrom base images since polys
   pub normal : Each (IsNormalForm base grevlex (length images)) polys

@@ -4,16 +4,16 @@
 --   IsWideForm images z v   what may be past once the classes have split: what the branch does in up to z turns, for the first variable; the closed forms
 --                           of the class of v; or their values at a number of turns
 --   IsLater images v, IfLater images e     that is so, where the classes' values have z zeros
---   Refusal                 why a map has no closed forms here: the least chain; a class that doesn't split; one whose greatest
+--   Refusal                 why a map has no closed forms here: the least cycle; a class that doesn't split; one whose greatest
 --                           column sum is out of range; one with a row that is too wide in its splitting; the first variable of
 --                           one whose closed forms are too wide
---   IfRefused images e      the cause of each: that is the least chain; or the class is the first that is refused, and this is why
+--   IfRefused images e      the cause of each: that is the least cycle; or the class is the first that is refused, and this is why
 --                           its matrix isn't split; or all classes split, and the closed forms of that class are past
 --   refusal_in e            the refusal that an error tells; want of memory tells none;  IfRefusedBy images e: it has its cause
 use Rattle.std.specs.Prelude.{◌≡◌, ℕ, ℤ, List, length, Option, Some, None, IfSome}
 use Rattle.algebra.specs.Fraction.{Fraction}
 use Rattle.polynomials.specs.Terms.{Terms}
-use Rattle.solvable_maps.specs.Chain.{IsLeastChain}
+use Rattle.solvable_maps.specs.Dependency.{IsLeastCycle}
 use Rattle.solvable_maps.specs.Uses.{uses, strongly}
 use Rattle.solvable.specs.Refusal.{IsSolvable}
 use Rattle.solvable_maps.specs.Classes.{class_matrix, IsClass, Passes, IsFormBase, IsReachedClass}
@@ -69,7 +69,7 @@ pub record IsWide (images : List (Terms Fraction)) (v : ℕ) : Type 0 where
   pub later : IsLater images v
 
 abbrev pub IfRefused : List (Terms Fraction) → Refusal → Type 0
-IfRefused images (not_solvable cycle) = IsLeastChain (uses images) (strongly images) cycle
+IfRefused images (not_solvable cycle) = IsLeastCycle (uses images) (strongly images) cycle
 IfRefused images (eigenvalues class) =
     IsReachedClass images class × eigen.IsUnsplit (length class) (class_matrix images class)
 IfRefused images (range class sum) =

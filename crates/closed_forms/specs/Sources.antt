@@ -1,5 +1,5 @@
 -- The source of a form's recurrence, exactly as lists of terms, and what is past in making it.
---   collect_terms p                 like terms collected, in falling order
+--   collect_terms p                 like terms collected, in descending order
 --   part w rests                the form w of the rests
 --   part_by_forms base m w rests ps     composed with the closed forms ps of m variables
 --   IsBy w matrix back by       by is w times the matrix times the inverse of the forms

@@ -1,6 +1,6 @@
 -- What the closed form of a branch is, as the code has it.
 --   base_in form, polys_in form     its base, and its polynomials
---   AreNormal base m ps             each of the polynomials is over this base and m variables, in falling order, and normal
+--   AreNormal base m ps             each of the polynomials is over this base and m variables, in descending order, and normal
 --   IsLeastFrom base images ps since     they are a closed form from no smaller number of turns on
 --   ArePassing base m ps passing    it tells of each variable whether it isn't itself at n = 0
 --   IsFormOf images form            form is the closed form of the map

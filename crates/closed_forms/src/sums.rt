@@ -113,7 +113,7 @@ pub(crate) fn rest_of(
 {
     let mut terms = Vec::new(alloc);
     push_rest(alloc, &mut terms, poly.terms(), group)?;
-    Ok(Poly::from_falling(Grevlex, poly.arity(), terms))
+    Ok(Poly::from_descending(Grevlex, poly.arity(), terms))
 }
 
 /// Puts copies of the terms that have no variable of a class behind the others.

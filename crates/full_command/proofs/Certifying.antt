@@ -1,12 +1,12 @@
 -- What the answers of `full` show, and where each comes.
 --   certificate_shown      a yes: a full certificate, at the end of its trace
---   out_shown              a spent budget: an analysis, or a trace behind one, that ran out of units
+--   out_shown              an exhausted budget: an analysis, or a trace behind one, that ran out of units
 --   fault_told             a fault: why the analysis was refused, or the first branch that begins late
 --   wide_told              a number that doesn't fit: why the analysis was refused, or the trace behind it
 --   limit_told, branch_told, unformed_told     the answer where the maps pass a limit, or a branch has no closed form
 --   late_told              where a branch begins late: the first that does, or a number that doesn't fit
---   formed_told            where none does and each branch splits: a yes, or a number that doesn't fit, or a spent budget
---   within_told            where a finished journal and its trace are within the budget: no spent budget
+--   formed_told            where none does and each branch splits: a yes, or a number that doesn't fit, or an exhausted budget
+--   within_told            where a finished journal and its trace are within the budget: no exhausted budget
 --   all_told               and where nothing refuses: a yes
 --   settled, not_no        which statuses the answers have
 use Rattle.std.proofs.Common.{◌≡◌, ◌≢◌, ℕ, List, length, sym, ap, subst, ◌∙◌, Ok, inl, inr}
@@ -55,7 +55,7 @@ use Rattle.analysis_commands.proofs.Refused.{refusal_parts, refusal_kind, refuse
 use Rattle.full_command.specs.Texts.{certificate_answer, late_answer}
 use Rattle.full_command.specs.Headline.{ShowsFull}
 use Rattle.full_command.specs.Certified.{IsAnalysed, IsUntraced, Ending, certified, first_late, unanalysed, untraced, EndsWith, answer_of, Certifies}
-use Rattle.full_command.specs.Causes.{HasFinished, IsSpentTracing, IsSpent, IsToldLate, IsRefusedTrace, IsNeverRefused, IsWithinBudget}
+use Rattle.full_command.specs.Causes.{HasFinished, IsExhaustedTracing, IsExhausted, IsToldLate, IsRefusedTrace, IsNeverRefused, IsWithinBudget}
 use Rattle.full_trace.proofs.Late.{first_late_one, never_late}
 use Rattle.full_command.proofs.Late.{followed_at_zero}
 use Rattle.full_command.proofs.Refusing.{as_analysed, unformed_wide, untraced_ends}
@@ -153,9 +153,9 @@ module _ (l : Program (Expr ℕ)) (budget : ℕ) (m : Journal) (a : Answer) wher
     shown (unanalysed e) ends is h = absurd (refusal_not e is h)
     shown (untraced e) ends is h = absurd (refusal_not e is h)
 
-    spent_tracing : (e : AnalyseError) → e ≡ error.Budget → IsUntraced l budget m e
-        → refusal_answer l.names budget e ≡ Some a → IsSpent text budget m a.text
-    spent_tracing e same u is =
+    exhausted_tracing : (e : AnalyseError) → e ≡ error.Budget → IsUntraced l budget m e
+        → refusal_answer l.names budget e ≡ Some a → IsExhausted text budget m a.text
+    exhausted_tracing e same u is =
         let cause : trace.IsStopped l u.analysed.rounds m error.Budget =
         subst (trace.IsStopped l u.analysed.rounds m) same u.stopped in
         record {
@@ -173,7 +173,7 @@ module _ (l : Program (Expr ℕ)) (budget : ℕ) (m : Journal) (a : Answer) wher
         }
 
     out : (e : Ending) → EndsWith l budget m e → answer_of l.names budget e ≡ Some a
-        → a.status ≡ status.Budget → IsSpent text budget m a.text
+        → a.status ≡ status.Budget → IsExhausted text budget m a.text
     out (certified c) ends is h =
         absurd (let x : status.Yes ≡ status.Budget = sym (says_yes c is) ∙ h in cc)
     out (first_late b) ends is h =
@@ -192,7 +192,7 @@ module _ (l : Program (Expr ℕ)) (budget : ℕ) (m : Journal) (a : Answer) wher
         }
     out (untraced e) ends is h = elim (untraced_ends l budget m a e ends is) [
       | inl wide ↦ absurd (let x : status.Wide ≡ status.Budget = sym wide ∙ h in cc)
-      | inr spent ↦ spent_tracing e spent.1 ends is
+      | inr exhausted ↦ exhausted_tracing e exhausted.1 ends is
     ]
 
     at_fault : (e : Ending) → EndsWith l budget m e → answer_of l.names budget e ≡ Some a
@@ -211,7 +211,7 @@ module _ (l : Program (Expr ℕ)) (budget : ℕ) (m : Journal) (a : Answer) wher
         (refusal_not e is))
     at_fault (untraced e) ends is h = elim (untraced_ends l budget m a e ends is) [
       | inl wide ↦ absurd (let x : status.Wide ≡ status.Fault = sym wide ∙ h in cc)
-      | inr spent ↦ absurd (let x : status.Budget ≡ status.Fault = sym spent.0 ∙ h in cc)
+      | inr exhausted ↦ absurd (let x : status.Budget ≡ status.Fault = sym exhausted.0 ∙ h in cc)
     ]
 
     cause : (e : Ending) → EndsWith l budget m e → answer_of l.names budget e ≡ Some a
@@ -301,7 +301,7 @@ module _ (l : Program (Expr ℕ)) (budget : ℕ) (m : Journal) (a : Answer) wher
       analysing.formed_analysed kinds.Basis l budget m a free split (refusal e ends.unfound is)
   formed free split at_zero (untraced e) ends is = elim (untraced_ends l budget m a e ends is) [
     | inl wide ↦ inr (inl wide)
-    | inr spent ↦ inr (inr spent.0)
+    | inr exhausted ↦ inr (inr exhausted.0)
   ]
 
   completed : (within : IsWithinBudget l budget) → IsNeverRefused l within.analysis.rounds
@@ -351,7 +351,7 @@ certificate_shown text l budget m a is h = shown l budget m a text is h.ending h
 
 pub out_shown : (text : List ℕ) (l : Program (Expr ℕ)) (budget : ℕ) (m : Journal) (a : Answer)
     → loop_of text ≡ Ok l → Certifies l budget m a → a.status ≡ status.Budget
-    → IsSpent text budget m a.text
+    → IsExhausted text budget m a.text
 out_shown text l budget m a is h = out l budget m a text is h.ending h.ends h.says
 
 pub fault_told : (text : List ℕ) (l : Program (Expr ℕ)) (budget : ℕ) (m : Journal) (a : Answer)
@@ -398,13 +398,13 @@ pub all_told : (l : Program (Expr ℕ)) (budget : ℕ) (m : Journal) (a : Answer
 all_told l budget m a within never h = completed l budget m a within never h.ending h.ends h.says
 
 pub within_told : (text : List ℕ) (l : Program (Expr ℕ)) (budget : ℕ) (m : Journal)
-    (said : List ℕ) → loop_of text ≡ Ok l → IsWithinBudget l budget → IsSpent text budget m said
+    (said : List ℕ) → loop_of text ≡ Ok l → IsWithinBudget l budget → IsExhausted text budget m said
     → ⊥
-within_told text l budget m said is within spent =
-    let same : spent.loop ≡ l =
-    (let x : Ok spent.loop ≡ Ok l = sym spent.is_loop ∙ is in cc) in
-    elim (subst (λ p. journal.IsOut p None budget m.entries ⊎ IsSpentTracing p budget m) same
-    spent.out) [
+within_told text l budget m said is within exhausted =
+    let same : exhausted.loop ≡ l =
+    (let x : Ok exhausted.loop ≡ Ok l = sym exhausted.is_loop ∙ is in cc) in
+    elim (subst (λ p. journal.IsOut p None budget m.entries ⊎ IsExhaustedTracing p budget m) same
+    exhausted.out) [
       | inl out ↦ let w = within.analysis in
           enough_budget l None w.entries m.entries w.rounds budget w.list w.finished w.few out
       | inr out ↦ enough_traced l budget m out.analysed within out.out

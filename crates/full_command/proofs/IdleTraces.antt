@@ -55,7 +55,7 @@ module _ (branches : List (List (Statement (Expr ℕ)))) (forms : List Form) whe
       go place e = cc
 
   fits_begun : IsPast A begun → ⊥
-  unfolding starting start_list in_order skip_covered free_part block drop_from tail_from
+  unfolding starting start_list in_order skip_covered free_part block drop_from tail_from by_lead
       completion.with_elements list_dividends link_dividends IsPastDividends
   fits_begun (inl s) = no_start s
   fits_begun (inr (inl h)) = h

@@ -3,6 +3,8 @@ pub mod Making
 pub mod Refusing
 pub mod Certifying
 pub mod Promises
+pub mod TraceFitting
+pub mod TurnedTraces
 pub mod IdleTraces
 pub mod LateLoop
 pub mod Witnesses

@@ -12,7 +12,7 @@ use Rattle.io_edge.specs.Course.{EachAnswer}
 use Rattle.io_edge.specs.Outcome.{Call, IsCarriedOut}
 use Rattle.io_edge.proofs.Outcomes.{or_wide, or_fault, or_yes}
 use Rattle.io_edge.proofs.OneFile as one_file
-use Rattle.io_edge.proofs.OneFile.{OneFile, concludes_yes, concludes_no, concludes_spent, answered, ends_at_fault, tells, writes, refused, never_ends, not_ended, left, long}
+use Rattle.io_edge.proofs.OneFile.{OneFile, concludes_yes, concludes_no, concludes_exhausted, answered, ends_at_fault, tells, writes, refused, never_ends, not_ended, left, long}
 use Rattle.command_parts.specs.FaultTexts.{loop_refusal}
 use Rattle.command_parts.proofs.LoopCourses.{reading_loop}
 use Rattle.command_parts.specs.FileRequests.{FileRequest}
@@ -22,7 +22,7 @@ use Rattle.analysis_commands.proofs.Endings.{or_found}
 use Rattle.full_command.specs.Texts.{late_answer}
 use Rattle.full_command.specs.Headline.{ShowsFull}
 use Rattle.full_command.specs.Certified.{Certifies, HasWorked}
-use Rattle.full_command.specs.Causes.{HasFinished, IsSpent, IsToldLate, HasBegun, IsRefusedTrace}
+use Rattle.full_command.specs.Causes.{HasFinished, IsExhausted, IsToldLate, HasBegun, IsRefusedTrace}
 use Rattle.full_command.specs.Course.{course}
 use Rattle.full_command.specs.Clauses.{FindsFull}
 use Rattle.full_command.proofs.Certifying as certifying
@@ -52,7 +52,7 @@ module _ (request : FileRequest) where
       wide = refused path call f status.Wide (inr refl)
           (λ text a. IsUnanalysed text request.budget m a ⊎ IsRefusedTrace text request.budget m a)
           (λ text l a e h same refusing. wide_told text l request.budget m a e h same);
-      spent = writes path call f concludes_spent (λ text. IsSpent text request.budget m)
+      exhausted = writes path call f concludes_exhausted (λ text. IsExhausted text request.budget m)
           (λ text l a e h out. out_shown text l request.budget m a e h out);
       no = never_ends path call f concludes_no (λ l j a h. not_no l request.budget j a h);
       journal = left path call f (λ text. HasBegun text request.budget m)
@@ -73,7 +73,7 @@ module _ (request : FileRequest) where
       found = λ l r free split at_zero. or_found (course request) call f
           (λ s. formed_told l request.budget m s.answer free split at_zero
           (answered path call f l r s));
-      enough = λ l r within. not_ended path call f concludes_spent l r
+      enough = λ l r within. not_ended path call f concludes_exhausted l r
           (λ a h out. within_told r.text l request.budget m a.text r.reads within
           (out_shown r.text l request.budget m a r.reads h out));
       completes = λ l r within never. or_yes (course request) call f

@@ -1,7 +1,7 @@
 -- Refusals of a trace behind an analysis that has ended.
 --   as_analysed         an analysis that was refused, as `basis` answers it
 --   unformed_wide       where all branches have closed forms, a map or a branch is refused for a number that doesn't fit
---   untraced_ends       a trace is refused for a number that doesn't fit, or for a spent budget
+--   untraced_ends       a trace is refused for a number that doesn't fit, or for an exhausted budget
 --   stopped_named       it names no variable;  unformed_named: those that a refusal of a map or a branch names are the loop's
 use Rattle.std.proofs.Common.{◌≡◌, ◌≢◌, ℕ, List, [], length, refl, sym, subst, inl, inr}
 use Rattle.std.specs.Prelude.{◌⊎◌, Some}
@@ -23,7 +23,7 @@ use Rattle.analysis_commands.specs.Statuses.{refusal_status}
 use Rattle.analysis_commands.specs.RefusalTexts.{refusal_answer}
 use Rattle.io_edge.proofs.OfStatuses.{no_answer}
 use Rattle.analysis_commands.proofs.Analysing.{formed_analysed, status_told}
-use Rattle.analysis_commands.proofs.Refused.{refusal_parts, refusal_kind, Refused, at_fault, too_wide, spent}
+use Rattle.analysis_commands.proofs.Refused.{refusal_parts, refusal_kind, Refused, at_fault, too_wide, exhausted}
 use Rattle.full_command.specs.Certified.{IsUntraced}
 
 pub as_analysed : (l : Program (Expr ℕ)) (budget : ℕ) (m : Journal) (a : Answer) (e : AnalyseError)
@@ -31,27 +31,27 @@ pub as_analysed : (l : Program (Expr ℕ)) (budget : ℕ) (m : Journal) (a : Ans
     → Analyses kinds.Basis l budget m a
 as_analysed l budget m a e ends says = record { ending = refused e; ends = ends; says = says }
 
--- a refusal of another kind than a spent budget, where maps are formed and classes split
+-- a refusal of another kind than an exhausted budget, where maps are formed and classes split
 wide_alone : (e : AnalyseError) (s : Status) → e ≢ error.Budget → Refused e s
     → (s ≡ status.Yes) ⊎ ((s ≡ status.Wide) ⊎ (s ≡ status.Budget)) → s ≡ status.Wide
 wide_alone e s other (at_fault is) (inl said) = absurd (cc)
 wide_alone e s other (at_fault is) (inr (inl wide)) = wide
 wide_alone e s other (at_fault is) (inr (inr budget)) = absurd (cc)
 wide_alone e s other (too_wide is) h = is
-wide_alone e s other (spent is same) h = absurd (other same)
+wide_alone e s other (exhausted is same) h = absurd (other same)
 
-not_spent : (l : Program (Expr ℕ)) (e : AnalyseError) → IfUnformedLoop l e → e ≢ error.Budget
-not_spent l (error.Map e) h = λ same. cc
-not_spent l (error.Branch b e) h = λ same. cc
-not_spent l (error.Wide task) h = λ same. cc
-not_spent l error.Budget h = absurd h
-not_spent l error.Memory h = λ same. cc
+not_exhausted : (l : Program (Expr ℕ)) (e : AnalyseError) → IfUnformedLoop l e → e ≢ error.Budget
+not_exhausted l (error.Map e) h = λ same. cc
+not_exhausted l (error.Branch b e) h = λ same. cc
+not_exhausted l (error.Wide task) h = λ same. cc
+not_exhausted l error.Budget h = absurd h
+not_exhausted l error.Memory h = λ same. cc
 
 module _ (l : Program (Expr ℕ)) (budget : ℕ) (m : Journal) (a : Answer) where
   pub unformed_wide : AreFree l → AllHaveForms l → (e : AnalyseError) → IsUnfound l budget m e
       → IfUnformedLoop l e → refusal_answer l.names budget e ≡ Some a → a.status ≡ status.Wide
   unformed_wide free forms e ends cause says =
-      wide_alone e a.status (not_spent l e cause)
+      wide_alone e a.status (not_exhausted l e cause)
       (refusal_kind e a.status (refusal_parts l.names budget e a says).0)
       (formed_analysed kinds.Basis l budget m a free
       (λ b inside. let h = forms b inside in (h.solvable, h.pass))

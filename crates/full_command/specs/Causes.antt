@@ -1,7 +1,7 @@
 -- How `full` ends, over the bytes of LOOP.
 --   HasFinished text budget m        the bytes are a loop whose maps are free, and the journal m, with this budget, is that of its finished trace of as few rounds as have all its invariants
---   IsSpentTracing l budget m        the analysis has ended within the budget, and the trace behind it is out of units
---   IsSpent text budget m said       they are a loop whose maps are free and whose branches have closed forms; the entries of m follow its analysis, or behind an analysis that has ended within the budget its trace,
+--   IsExhaustedTracing l budget m        the analysis has ended within the budget, and the trace behind it is out of units
+--   IsExhausted text budget m said       they are a loop whose maps are free and whose branches have closed forms; the entries of m follow its analysis, or behind an analysis that has ended within the budget its trace,
 --                                    as many of them are units as the budget, what comes next is a unit, and the budget is said
 --   IsToldLate text budget m a       they are a loop whose maps are free and whose branches have closed forms, and a tells the first that begins later than at 0; m was opened, and nothing was done
 --   HasBegun text budget m           they are a loop, and the meter was opened for its analysis or for the trace behind it
@@ -37,17 +37,17 @@ pub record HasFinished (text : List ℕ) (budget : ℕ) (m : Journal) : Type 0 w
   pub given : Results
   pub finished : IsFinished loop rounds m.entries given
 
-pub record IsSpentTracing (l : Program (Expr ℕ)) (budget : ℕ) (m : Journal) : Type 0 where
+pub record IsExhaustedTracing (l : Program (Expr ℕ)) (budget : ℕ) (m : Journal) : Type 0 where
   pub analysed : IsAnalysed l budget
   pub out : IsOut l analysed.rounds budget m.entries
 
-pub record IsSpent (text : List ℕ) (budget : ℕ) (m : Journal) (said : List ℕ) : Type 0 where
+pub record IsExhausted (text : List ℕ) (budget : ℕ) (m : Journal) (said : List ℕ) : Type 0 where
   pub loop : Program (Expr ℕ)
   pub is_loop : loop_of text ≡ Ok loop
   pub free : AreFree loop
   pub forms : AllHaveForms loop
   pub limit : m.limit ≡ budget
-  pub out : journal.IsOut loop None budget m.entries ⊎ IsSpentTracing loop budget m
+  pub out : journal.IsOut loop None budget m.entries ⊎ IsExhaustedTracing loop budget m
   pub says : said ≡ line (codes "budget: " ++ decimal budget)
 
 pub record IsToldLate (text : List ℕ) (budget : ℕ) (m : Journal) (a : Answer) : Type 0 where

@@ -22,7 +22,7 @@ use Rattle.command_parts.specs.FileRequests.{FileRequest}
 use Rattle.full_trace.specs.Late.{AllBeginAtZero, IsFirstLate}
 use Rattle.full_command.specs.Texts.{late_answer}
 use Rattle.full_command.specs.Headline.{ShowsFull}
-use Rattle.full_command.specs.Causes.{HasFinished, IsSpent, IsToldLate, HasBegun, IsRefusedTrace, IsNeverRefused, IsWithinBudget}
+use Rattle.full_command.specs.Causes.{HasFinished, IsExhausted, IsToldLate, HasBegun, IsRefusedTrace, IsNeverRefused, IsWithinBudget}
 
 abbrev pub Refuses : Call → FileRequest → Answer → Type 0
 Refuses call request a = IfTold call.files.before request.file
@@ -48,9 +48,9 @@ pub record FindsFull (request : FileRequest) (call : Call) : Type 0 where
       → Wrote call.sink (λ said. Refuses call request (with_text status.Fault said))
   pub wide : call.status ≡ status.Wide
       → Wrote call.sink (λ said. RefusesOrStops call request (with_text status.Wide said))
-  -- a spent budget: as many entries are units as the budget, and what comes next is a unit
-  pub spent : call.status ≡ status.Budget → IfTold call.files.before request.file
-      (λ text. Wrote call.sink (IsSpent text request.budget call.meter.after))
+  -- an exhausted budget: as many entries are units as the budget, and what comes next is a unit
+  pub exhausted : call.status ≡ status.Budget → IfTold call.files.before request.file
+      (λ text. Wrote call.sink (IsExhausted text request.budget call.meter.after))
   -- never no
   pub no : call.status ≢ status.No
   -- the meter is opened with the budget, and the entries follow the analysis or the trace
@@ -73,10 +73,10 @@ pub record FindsFull (request : FileRequest) (call : Call) : Type 0 where
   -- where all have one, the first that begins late
   pub begins_late : (l : Program (Expr ℕ)) (b : ℕ) → ReadsLoop call request.file (Ok l)
       → AreFree l → AllHaveForms l → IsFirstLate l b → EndsOrWide call (late_answer b)
-  -- where none comes, a certificate, but for numbers that don't fit and a spent budget
+  -- where none comes, a certificate, but for numbers that don't fit and an exhausted budget
   pub found : (l : Program (Expr ℕ)) → ReadsLoop call request.file (Ok l) → AreFree l → AllSplit l
       → AllBeginAtZero l → EndsFound call.status
-  -- the budget isn't spent where a finished journal and the trace have at most as many units
+  -- the budget isn't exhausted where a finished journal and the trace have at most as many units
   pub enough : (l : Program (Expr ℕ)) → ReadsLoop call request.file (Ok l)
       → IsWithinBudget l request.budget → call.status ≢ status.Budget
   -- and so, where nothing refuses, there is a certificate

@@ -1,4 +1,4 @@
-use Rattle.std.proofs.Common.{◌≡◌, ◌≢◌, ◌≤◌, ◌<◌, inl, inr, ℕ, All, List, Vec, Global, length, sym, ap, subst, ◌∙◌, arith}
+use Rattle.std.proofs.Common.{◌≡◌, ◌≢◌, ◌≤◌, ◌<◌, inl, inr, ℕ, All, List, Vec, Global, length, refl, sym, ap, subst, ◌∙◌, arith}
 use Rattle.std.proofs.lemmas.Bool.{cases_eq}
 use Rattle.std.proofs.lemmas.List.{length-map}
 use Rattle.polynomials.specs.Terms.{Terms}
@@ -135,7 +135,7 @@ returns-in-Err-passing-clause-refused c =
     of_class (λ v. (since ≢ 0) × IsPastOfClass gs c.deref-in-Ok.result.now 0 v)
     (IsWideTurn (bs at) (M at) c.args.turns)
     (λ v w. wide_here (M at) (bs at) gs (told c.args.states.now) (es at) c.args.turns (known at)
-    0 v (some since c.args.turns w.0 low)
+    0 v (some since c.args.turns w.0 low) (inr refl)
     (subst (λ (l : List Expo). IsPastOfClass gs l 0 v) c.deref-in-Ok.ensures.value w.1))
     c.in-Err-passing.error c.in-Err-passing.ensures.refused
   where

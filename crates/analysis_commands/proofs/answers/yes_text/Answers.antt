@@ -1,7 +1,8 @@
 use Rattle.std.proofs.Common.{rules, string_bytes, arith}
 use Rattle.std.specs.Prelude.{codes}
-use Rattle.analysis_commands.specs.AnalysisTexts.{line}
-use Rattle.analysis_commands.proofs.Pushing.{pushed, all_pushed, yes_pushed, cofactor_of}
+use Rattle.command_parts.specs.BasisTexts.{line}
+use Rattle.command_parts.proofs.Pushing.{pushed, all_pushed}
+use Rattle.analysis_commands.proofs.Pushing.{yes_pushed, cofactor_of}
 use Rattle.analysis_commands.proofs.answers.yes_text.Goals as goal
 
 pub loop-cofactor-preserved : goal.loop-cofactor-preserved

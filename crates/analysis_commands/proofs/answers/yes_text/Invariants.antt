@@ -1,7 +1,7 @@
 use Rattle.std.proofs.Common.{◌≡◌, ◌++◌, string_bytes, take}
 use Rattle.std.specs.Prelude.{codes}
 use Rattle.std.specs.List.{flat_map}
-use Rattle.analysis_commands.specs.AnalysisTexts.{line}
+use Rattle.command_parts.specs.BasisTexts.{line}
 use Rattle.analysis_commands.proofs.Pushing.{cofactor_of}
 use Rattle.analysis_commands.proofs.answers.yes_text.Given as goal
 

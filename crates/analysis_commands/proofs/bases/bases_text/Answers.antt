@@ -1,7 +1,7 @@
 use Rattle.std.proofs.Common.{◌≡◌, All, rules, string_bytes, subst}
 use Rattle.std.proofs.lemmas.List.{take_all}
 use Rattle.std.proofs.lemmas.List.Elements.{All-nil}
-use Rattle.analysis_commands.specs.ReadBack.{IsReadBack}
+use Rattle.command_parts.specs.ReadBack.{IsReadBack}
 use Rattle.analysis_commands.specs.Lists.{lists_of}
 use Rattle.analysis_commands.specs.ChainTexts.{bases_text}
 use Rattle.analysis_commands.proofs.BasesPushing.{bases_more, read_more}

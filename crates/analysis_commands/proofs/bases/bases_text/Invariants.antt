@@ -1,5 +1,5 @@
 use Rattle.std.proofs.Common.{◌≡◌, string_bytes, take, All}
-use Rattle.analysis_commands.specs.ReadBack.{IsReadBack}
+use Rattle.command_parts.specs.ReadBack.{IsReadBack}
 use Rattle.analysis_commands.specs.Lists.{lists_of}
 use Rattle.analysis_commands.specs.ChainTexts.{bases_text}
 use Rattle.analysis_commands.proofs.bases.bases_text.Given as goal

@@ -1,17 +1,17 @@
 use Rattle.std.proofs.Common.{rules, refl, map, string_bytes}
 use Rattle.io_edge.proofs.Going.{obeys, obeys_nothing}
-use Rattle.analysis_commands.specs.BasisWords.{request_in}
+use Rattle.analysis_commands.specs.BasisArguments.{request_in}
 use Rattle.analysis_commands.specs.BasisCourse.{course}
 use Rattle.analysis_commands.specs.BasisViews.{view}
 use Rattle.analysis_commands.proofs.basis_command.basis.Goals as goal
 
 pub returns-in-Some : goal.returns-in-Some
 returns-in-Some g c =
-    obeys course (request_in c.args.kind (map string_bytes c.args.words.now))
+    obeys course (request_in c.args.kind (map string_bytes c.args.arguments.now))
     (view c.in-Some.request) _ _ c.answer_to.result c.reply.result (search rules)
     c.answer_to.ensures c.reply.ensures
 
 pub returns-in-None : goal.returns-in-None
 returns-in-None g c =
-    obeys_nothing course (request_in c.args.kind (map string_bytes c.args.words.now)) _ _
+    obeys_nothing course (request_in c.args.kind (map string_bytes c.args.arguments.now)) _ _
     (search rules) refl refl

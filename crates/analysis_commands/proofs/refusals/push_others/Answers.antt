@@ -1,7 +1,8 @@
 use Rattle.std.proofs.Common.{◌++◌, rules, string_bytes, arith}
 use Rattle.std.specs.Prelude.{codes}
 use Rattle.analysis_commands.specs.RefusalTexts.{name_of}
-use Rattle.analysis_commands.proofs.Pushing.{other_pushed, all_pushed}
+use Rattle.command_parts.proofs.Pushing.{all_pushed}
+use Rattle.analysis_commands.proofs.Pushing.{other_pushed}
 use Rattle.analysis_commands.proofs.refusals.push_others.Goals as goal
 
 pub loop-variable-preserved : goal.loop-variable-preserved

@@ -7,10 +7,10 @@ use Rattle.analysis_commands.proofs.relations_command.relate.Goals as goal
 
 pub returns-in-Some : goal.returns-in-Some
 returns-in-Some g c =
-    obeys course (request_in (map string_bytes c.args.words.now)) (view c.in-Some.request) _ _
+    obeys course (request_in (map string_bytes c.args.arguments.now)) (view c.in-Some.request) _ _
     c.answer_to.result c.reply.result (search rules) c.answer_to.ensures c.reply.ensures
 
 pub returns-in-None : goal.returns-in-None
 returns-in-None g c =
-    obeys_nothing course (request_in (map string_bytes c.args.words.now)) _ _
+    obeys_nothing course (request_in (map string_bytes c.args.arguments.now)) _ _
     (search rules) refl refl

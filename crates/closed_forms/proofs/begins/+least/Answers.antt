@@ -1,4 +1,4 @@
-use Rattle.std.proofs.Common.{◌≡◌, ◌<◌, ◌∙◌, ℕ, suc, ◌-◌, Bool, true, false, List, length, get_or, sym, ap, subst, arith}
+use Rattle.std.proofs.Common.{◌≡◌, inl, ◌<◌, ◌∙◌, ℕ, suc, ◌-◌, Bool, true, false, List, length, get_or, sym, ap, subst, arith}
 use Rattle.std.proofs.lemmas.Result.{IfOk-weaker, IfErr-weaker}
 use Rattle.polynomials.specs.Terms.{Terms}
 use Rattle.algebra.specs.Fraction.{Fraction}
@@ -86,5 +86,6 @@ returns-in-Err-clause-refused t c = λ images base h.
     (IsWideTurn base images c.args.since)
     (λ v w. wide_here images base (groups_in c.args.groups.now) (told c.args.states.now)
     c.args.polys.now c.args.since h (c.args.since - 1) v
-    (let o = one_more c.args.since c.if-since-eq0.false in omega (arith, o)) w)
+    (let o = one_more c.args.since c.if-since-eq0.false in omega (arith, o))
+    (inl (let o = one_more c.args.since c.if-since-eq0.false in omega (arith, o))) w)
     c.in-Err.error c.in-Err.ensures.refused

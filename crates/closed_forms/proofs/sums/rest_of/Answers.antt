@@ -18,8 +18,8 @@ push_rest-requires c = λ k d l k' d' l'.
     c.args.poly.now.polynomial.arity) k d l))
     (c.requires k' d' l')
 
-pub from_falling-requires-clause-falling : goal.from_falling-requires-clause-falling
-from_falling-requires-clause-falling c =
+pub from_descending-requires-clause-descending : goal.from_descending-requires-clause-descending
+from_descending-requires-clause-descending c =
     subst (λ m. IsPolynomial ℚ grevlex m (tell c.push_rest.new.out.items))
     (sym c.arity.ensures.arity)
     (subst (IsPolynomial ℚ grevlex c.args.poly.now.arity)

@@ -1,11 +1,11 @@
--- `basis [--budget N] LOOP` and `cert [--budget N] LOOP`, by the words behind the first.
+-- `basis [--budget N] LOOP` and `cert [--budget N] LOOP`, by the arguments behind the first.
 --   Request                what is to be told, the budget, and the name of the file
 --   request_within kind n file      where there is a budget
---   request_in kind words  what the words ask for, if they are such words
+--   request_in kind arguments  what the arguments ask for, if they are such arguments
 use Rattle.std.specs.Prelude.{ℕ, List, [], ◌∷◌, Option, Some, None, ◌&&◌, codes, if◌then◌else◌}
 use Rattle.std.specs.Str.{bytes_eq}
 use Rattle.command_parts.specs.Numerals.{usual_budget, budget_of}
-use Rattle.io_edge.specs.Words.{is_file}
+use Rattle.io_edge.specs.Arguments.{is_file}
 use Rattle.analysis_commands.specs.declared.kind.Kind.{Kind}
 
 pub record Request : Type 0 where

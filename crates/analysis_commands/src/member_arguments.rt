@@ -1,7 +1,7 @@
-// The words behind `member`.
+// The arguments behind `member`.
 ghost use Rattle.std.specs.Prelude.{◌≡◌, map, string_bytes, option_map};
 ghost use Rattle.command_parts.specs.Budgets.{units_of};
-ghost use Rattle.analysis_commands.specs.MemberWords.{request_in, request_within};
+ghost use Rattle.analysis_commands.specs.MemberArguments.{request_in, request_within};
 ghost use Rattle.analysis_commands.specs.MemberViews.{view};
 
 use command_parts::{Budget, read_budget};
@@ -15,11 +15,11 @@ pub(crate) struct Request<'a> {
     pub(crate) equation: &'a String,
 }
 
-/// The question that the words ask, or none.
-pub(crate) fn read_words(words: &[String]) -> Option<Request<'_>>
-    ensures { option_map view result ≡ request_in (map string_bytes words.now) }
+/// The question that the arguments ask, or none.
+pub(crate) fn read_arguments(arguments: &[String]) -> Option<Request<'_>>
+    ensures { option_map view result ≡ request_in (map string_bytes arguments.now) }
 {
-    match words {
+    match arguments {
         [file, equation] if names_a_file(file) => {
             within_budget(Some(Budget::usual()), file, equation)
         }

@@ -1,7 +1,7 @@
-// The words behind `basis` and `cert`.
+// The arguments behind `basis` and `cert`.
 ghost use Rattle.std.specs.Prelude.{◌≡◌, map, string_bytes, option_map};
 ghost use Rattle.command_parts.specs.Budgets.{units_of};
-ghost use Rattle.analysis_commands.specs.BasisWords.{request_in, request_within};
+ghost use Rattle.analysis_commands.specs.BasisArguments.{request_in, request_within};
 ghost use Rattle.analysis_commands.specs.BasisViews.{view};
 
 use crate::kind::Kind;
@@ -16,11 +16,11 @@ pub(crate) struct Request<'a> {
     pub(crate) file: &'a String,
 }
 
-/// The analysis that the words ask for, or none.
-pub(crate) fn read_words(kind: Kind, words: &[String]) -> Option<Request<'_>>
-    ensures { option_map view result ≡ request_in kind (map string_bytes words.now) }
+/// The analysis that the arguments ask for, or none.
+pub(crate) fn read_arguments(kind: Kind, arguments: &[String]) -> Option<Request<'_>>
+    ensures { option_map view result ≡ request_in kind (map string_bytes arguments.now) }
 {
-    match words {
+    match arguments {
         [file] if names_a_file(file) => within_budget(kind, Some(Budget::usual()), file),
         [option, number, file] if option.as_str() == "--budget" && names_a_file(file) => {
             within_budget(kind, read_budget(number.as_bytes()), file)

@@ -1,11 +1,11 @@
--- `member [--budget N] LOOP EQUATION`, by the words behind the first.
+-- `member [--budget N] LOOP EQUATION`, by the arguments behind the first.
 --   Request                           the budget, the name of the file, and the equation
 --   request_within n file equation    where there is a budget
---   request_in words                  what the words ask for, if they are such words
+--   request_in arguments                  what the arguments ask for, if they are such arguments
 use Rattle.std.specs.Prelude.{ℕ, List, [], ◌∷◌, Option, Some, None, ◌&&◌, codes, if◌then◌else◌}
 use Rattle.std.specs.Str.{bytes_eq}
 use Rattle.command_parts.specs.Numerals.{usual_budget, budget_of}
-use Rattle.io_edge.specs.Words.{is_file}
+use Rattle.io_edge.specs.Arguments.{is_file}
 
 pub record Request : Type 0 where
   pub budget : ℕ

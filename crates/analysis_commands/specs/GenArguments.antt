@@ -1,5 +1,5 @@
--- `gen NUMBER`, by the words behind `gen`.
---   request_in words       how many loops of the family the words ask for, if they are such words
+-- `gen NUMBER`, by the arguments behind `gen`.
+--   request_in arguments       how many loops of the family the arguments ask for, if they are such arguments
 use Rattle.std.specs.Prelude.{ℕ, List, [], ◌∷◌, Option, None}
 use Rattle.command_parts.specs.Numerals.{count_of}
 
