@@ -32,7 +32,7 @@ head -c 50 fractions.json >cut.json
 head -c 65537 /dev/zero | tr '\0' ' ' >long.loop
 head -c 1048577 /dev/zero | tr '\0' ' ' >long.json
 head -c 1048576 /dev/zero | tr '\0' ' ' >spaces.json
-usage='usage: invar basis [--budget N] LOOP | member [--budget N] LOOP EQUATION | cert [--budget N] LOOP | check LOOP CERT | run LOOP WORD VALUES | gen NUMBER | chain [--budget N] CHAIN | chainrun CHAIN WORDS VALUES | counter [--length N] LOOP EQUATION | full [--budget N] LOOP | checkfull LOOP CERT | relations [--budget N] FILE; invar --help says more'
+usage='usage: invar basis [--budget N] LOOP | member [--budget N] LOOP EQUATION | cert [--budget N] LOOP | check LOOP CERT | run LOOP WORD VALUES | gen NUMBER | chain [--budget N] CHAIN | chainrun CHAIN WORDS VALUES | counter [--length N] LOOP EQUATION | full [--budget N] LOOP | checkfull LOOP CERT | relations [--budget N] FILE | decide [--budget N] LOOP EQUATION | prove [--budget N] LOOP EQUATION; invar --help says more'
 failed=0
 row() {
     want_status=$1 want_text=$2
@@ -82,7 +82,23 @@ row 3 'loop: limit at 38' basis high.loop
 row 4 'loop: wide at 60' basis wide.loop
 row 7 'read fault: none' basis none
 row 7 'too long: long.loop' basis long.loop
-row 0 'invar 1.0.0' --version
+row 0 'yes
+a^2 + a*b - b^2 - s = 0' decide fibonacci.loop 'b^2 - a*b - a^2 = -s'
+row 1 'no
+word 1
+a = 1, b = 1, s = 1
+a = 1, b = 2, s = -1
+value -1' decide fibonacci.loop 'a = b'
+row 0 'yes
+x^2 + y^2 - 1 = 0' decide rotation.loop 'x^2+y^2 = 1'
+row 0 'yes
+x*v*h - x^2 - v^2 + e = 0' decide leapfrog.loop 'x^2+v^2-h*x*v = e'
+row 0 'yes
+x*z - y*z - x + 1 = 0' decide geometric-sum.loop 'x*(z-1) = y*z - 1'
+row 0 'yes
+x*y - z = 0' decide squaring.loop 'z = x*y'
+row 0 '{"basis":["-x*y + z","x*y - z"],"steps":[[[[1,"-x*y - z"]],[[1,"x*y + z"]]]],"vars":["x","y","z"],"version":2}' prove squaring.loop 'z = x*y'
+row 0 'invar 1.1.0' --version
 row 0 "$("$program" help)" --help
 row 0 'invar gen NUMBER
 Analyses the first so many loops of a family, 1 to 1000, and prints how many

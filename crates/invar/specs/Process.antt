@@ -7,7 +7,7 @@ use Rattle.io_edge.specs.declared.answer.Status.{Status}
 use Rattle.io_edge.specs.Change.{Change, ◌⟶◌}
 use Rattle.io_edge.specs.Outcome.{call_of}
 use Rattle.io_edge.specs.Statuses.{code_of}
-use Rattle.invar_app.specs.Words.{Command}
+use Rattle.invar_app.specs.Arguments.{Command}
 use Rattle.invar_app.specs.Promises.{Promises}
 
 abbrev pub no_entries : Journal

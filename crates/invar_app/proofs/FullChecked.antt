@@ -11,9 +11,10 @@ use Rattle.io_edge.specs.declared.answer.Status.{Status}
 use Rattle.io_edge.specs.declared.answer.Status.TheVariants as status
 use Rattle.io_edge.specs.Outcome.{Call}
 use Rattle.io_edge.specs.Clauses.{IsExcused}
-use Rattle.certificate_commands.specs.CertificateWords.{Request}
+use Rattle.certificate_commands.specs.CertificateArguments.{Request}
 use Rattle.certificate_commands.specs.CertificateAsking.{Decides}
 use Rattle.certificate_commands.specs.CheckfullClauses.{ChecksFull}
+use Rattle.certificate_commands.specs.CheckfullJudging.{IsShort}
 use Rattle.full_command.specs.Headline.{ShowsFull}
 use Rattle.full_command.specs.Causes.{HasFinished}
 
@@ -26,11 +27,13 @@ decided_complete s l c holds (inl said) = inl said.0
 decided_complete s l c holds (inr (inl said)) = absurd (said.1 holds)
 decided_complete s l c holds (inr (inr rest)) = inr rest
 
-pub called_complete : (text said : List ℕ) (budget : ℕ) (m : Journal) → ShowsFull text said
-    → HasFinished text budget m → (request : Request) (call : Call) → ChecksFull request call
+pub called_complete : (text said : List ℕ) (budget : ℕ) (m : Journal)
+    (shows : ShowsFull text said) → HasFinished text budget m
+    → IsShort shows.loop shows.certificate → (request : Request) (call : Call)
+    → ChecksFull request call
     → call.files.before.told request.file ≡ Some text
     → call.files.before.told request.certificate ≡ Some said → EndsComplete call.status
-called_complete text said budget m shows done request call checks loop_told certificate_told =
+called_complete text said budget m shows done short request call checks loop_told certificate_told =
     let l = shows.loop in
     let same : done.loop ≡ l =
     (let x : Ok done.loop ≡ Ok l = sym done.is_loop ∙ shows.is_loop in cc) in
@@ -41,4 +44,4 @@ called_complete text said budget m shows done request call checks loop_told cert
       certificate = said;
       is_told = certificate_told;
       reads = shows.reads_back;
-    }) free)
+    }) free short)

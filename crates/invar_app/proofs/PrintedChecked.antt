@@ -1,5 +1,5 @@
--- What `cert` said, `check` calls valid.
---   called_valid     but for numbers that don't fit there and the excuses
+-- What `cert` and `prove` said, `check` calls valid.
+--   called_valid     but for numbers that don't fit there and the excuses;  proof_called_valid: so what `prove` said
 use Rattle.std.proofs.Common.{◌≡◌, ℕ, ◌≤◌, List, length, sym, subst, ◌∙◌, Ok, inl, inr}
 use Rattle.std.specs.Prelude.{◌⊎◌, Some}
 use Rattle.machines.specs.Journal.{Journal}
@@ -7,6 +7,7 @@ use Rattle.loops.specs.Certificate.{Certificate, IsValid}
 use Rattle.loops.specs.Program.{Expr, Program}
 use Rattle.loop_model.specs.Maps.{AreFree}
 use Rattle.cert_form.specs.Form.{most_elements}
+use Rattle.cert_form.proofs.Over.{certificate_over}
 use Rattle.io_edge.specs.declared.answer.Status.{Status}
 use Rattle.io_edge.specs.declared.answer.Status.TheVariants as status
 use Rattle.io_edge.specs.Outcome.{Call}
@@ -14,10 +15,14 @@ use Rattle.io_edge.specs.Clauses.{IsExcused}
 use Rattle.analysis_commands.specs.declared.kind.Kind.TheVariants as kinds
 use Rattle.analysis_commands.specs.Headline.{ShowsAnalysis}
 use Rattle.analysis_commands.specs.Causes.{HasFinished}
-use Rattle.analysis_commands.proofs.PrintedCertificates.{printed_valid}
-use Rattle.certificate_commands.specs.CertificateWords.{Request}
+use Rattle.analysis_commands.proofs.PrintedCertificates.{printed_valid, valid_again}
+use Rattle.closing_commands.specs.declared.evidence.Evidence.TheVariants as evidence
+use Rattle.closing_commands.specs.DecideClauses as decide_clauses
+use Rattle.closing_commands.specs.DecideHeadline.{ShowsCertificate}
+use Rattle.certificate_commands.specs.CertificateArguments.{Request}
 use Rattle.certificate_commands.specs.CertificateAsking.{Decides}
 use Rattle.certificate_commands.specs.CheckClauses.{Checks}
+use Rattle.certificate_commands.specs.CheckJudging.{IsShort, certificate_in}
 
 abbrev EndsValid : Status → Type 0
 EndsValid s = (s ≡ status.Yes) ⊎ ((s ≡ status.Wide) ⊎ IsExcused s)
@@ -30,10 +35,13 @@ decided_valid s l c valid (inr (inr rest)) = inr rest
 
 pub called_valid : (text said : List ℕ) (budget : ℕ) (m : Journal)
     (shows : ShowsAnalysis kinds.Certificate text said) → HasFinished text budget m
-    → length shows.certificate.basis ≤ most_elements → (request : Request) (call : Call)
+    → length shows.certificate.basis ≤ most_elements
+    → ((listed : Certificate) → certificate_in shows.loop said ≡ Ok listed
+    → IsShort shows.loop listed) → (request : Request) (call : Call)
     → Checks request call → call.files.before.told request.file ≡ Some text
     → call.files.before.told request.certificate ≡ Some said → EndsValid call.status
-called_valid text said budget m shows done few request call checks loop_told certificate_told =
+called_valid text said budget m shows done few short request call checks loop_told
+    certificate_told =
     let l = shows.loop in
     let read = printed_valid text said shows few in
     let same : done.loop ≡ l =
@@ -45,4 +53,30 @@ called_valid text said budget m shows done few request call checks loop_told cer
       certificate = said;
       is_told = certificate_told;
       reads = read.1;
-    }) free)
+    }) free (short read.0 read.1))
+
+pub proof_called_valid : (text equation said : List ℕ) (budget : ℕ) (m : Journal)
+    (shows : ShowsCertificate text equation said)
+    → decide_clauses.HasEnded text equation budget m evidence.Certificate
+    → length shows.certificate.basis ≤ most_elements
+    → ((listed : Certificate) → certificate_in shows.loop said ≡ Ok listed
+    → IsShort shows.loop listed) → (request : Request) (call : Call)
+    → Checks request call → call.files.before.told request.file ≡ Some text
+    → call.files.before.told request.certificate ≡ Some said → EndsValid call.status
+proof_called_valid text equation said budget m shows done few short request call checks loop_told
+    certificate_told =
+    let l = shows.loop in
+    let read = shows.reads_back few in
+    let same : done.loop ≡ l =
+    (let x : Ok done.loop ≡ Ok l = sym done.question.is_loop ∙ shows.question.is_loop in cc) in
+    let free : AreFree l = subst (λ p. AreFree p) same done.free in
+    let valid = valid_again l shows.certificate read.raw shows.proof.arities
+    (certificate_over l.names (length l.branches) said read.raw read.is) read.same
+    shows.identities in
+    decided_valid call.status l read.raw valid
+    (checks.decided l read.raw (record {
+      loop = record { text = text; is_told = loop_told; reads = shows.question.is_loop };
+      certificate = said;
+      is_told = certificate_told;
+      reads = read.is;
+    }) free (short read.raw read.is))

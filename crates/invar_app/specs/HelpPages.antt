@@ -1,6 +1,6 @@
--- The pages of help, and which words ask for which.
+-- The pages of help, and which arguments ask for which.
 --   page_named name        the page of the command of this name
---   page_behind_help words the page that the words behind `help` ask for;  page_alone page words: this one, where there are none
+--   page_behind_help arguments the page that the arguments behind `help` ask for;  page_alone page arguments: this one, where there are none
 --   text_of page           what is printed, byte for byte
 use Rattle.std.specs.Prelude.{ℕ, List, [], ◌∷◌, ◌++◌, Option, Some, None, codes, if◌then◌else◌}
 use Rattle.std.specs.Str.{bytes_eq}
@@ -12,6 +12,8 @@ abbrev pub page_named : List ℕ → Option Page
 page_named name =
     if bytes_eq name (codes "basis") then Some page.Basis
     else (if bytes_eq name (codes "member") then Some page.Member
+    else (if bytes_eq name (codes "decide") then Some page.Decide
+    else (if bytes_eq name (codes "prove") then Some page.Prove
     else (if bytes_eq name (codes "counter") then Some page.Counter
     else (if bytes_eq name (codes "cert") then Some page.Cert
     else (if bytes_eq name (codes "check") then Some page.Check
@@ -22,7 +24,7 @@ page_named name =
     else (if bytes_eq name (codes "chainrun") then Some page.ChainRun
     else (if bytes_eq name (codes "relations") then Some page.Relations
     else (if bytes_eq name (codes "gen") then Some page.Gen
-    else None)))))))))))
+    else None)))))))))))))
 
 abbrev pub page_behind_help : List (List ℕ) → Option Page
 page_behind_help [] = Some page.Overview
@@ -31,7 +33,7 @@ page_behind_help (name ∷ more ∷ rest) = None
 
 abbrev pub page_alone : Page → List (List ℕ) → Option Page
 page_alone it [] = Some it
-page_alone it (word ∷ rest) = None
+page_alone it (argument ∷ rest) = None
 
 abbrev pub loop_commands : List ℕ
 loop_commands =
@@ -41,6 +43,8 @@ loop_commands =
     ++ line (codes "About a loop:")
     ++ line (codes "  basis [--budget N] LOOP              the reduced basis of all invariants")
     ++ line (codes "  member [--budget N] LOOP EQUATION    yes with its proof, or no")
+    ++ line (codes "  decide [--budget N] LOOP EQUATION    yes or no, whatever the branches")
+    ++ line (codes "  prove [--budget N] LOOP EQUATION     its certificate, or no")
     ++ line (codes "  counter [--length N] LOOP EQUATION   the first run after which it is wrong")
     ++ line (codes "  cert [--budget N] LOOP               the basis as a certificate")
     ++ line (codes "  check LOOP CERT                      is each polynomial listed an invariant?")
@@ -74,13 +78,15 @@ other_commands =
 
 abbrev pub version : List ℕ
 version =
-    line (codes "invar 1.0.0")
+    line (codes "invar 1.1.0")
 
 abbrev pub head_of : Page → List ℕ
 head_of page.Overview = loop_commands
 head_of page.Version = version
 head_of page.Basis = line (codes "invar basis [--budget N] LOOP")
 head_of page.Member = line (codes "invar member [--budget N] LOOP EQUATION")
+head_of page.Decide = line (codes "invar decide [--budget N] LOOP EQUATION")
+head_of page.Prove = line (codes "invar prove [--budget N] LOOP EQUATION")
 head_of page.Counter = line (codes "invar counter [--length N] LOOP EQUATION")
 head_of page.Cert = line (codes "invar cert [--budget N] LOOP")
 head_of page.Check = line (codes "invar check LOOP CERT")
@@ -103,6 +109,20 @@ about_member =
     ++ line (codes "of the loop, and a cofactor for each element of the basis: the products of the")
     ++ line (codes "two add up to the left side minus the right side. Prints `no`, with status 1,")
     ++ line (codes "where it fails at the end of some run.")
+
+abbrev pub about_decide : List ℕ
+about_decide =
+    line (codes "Prints `yes`, with status 0, where the equation holds at the end of every run")
+    ++ line (codes "of the loop, whatever its branches, and the reduced basis of its closure:")
+    ++ line (codes "equations that hold at the start and that each branch keeps, from which it")
+    ++ line (codes "follows. Prints `no`, with status 1, and the first run after which it is wrong.")
+
+abbrev pub about_prove : List ℕ
+about_prove =
+    line (codes "Prints a certificate, with status 0, where the equation holds at the end of")
+    ++ line (codes "every run of the loop, whatever its branches: its polynomial first, and then the")
+    ++ line (codes "others that the proof needs. `invar check` reads it. Prints `no`, with status 1,")
+    ++ line (codes "and the first run after which the equation is wrong.")
 
 abbrev pub about_counter : List ℕ
 about_counter =
@@ -162,6 +182,8 @@ body_of page.Overview = other_commands
 body_of page.Version = []
 body_of page.Basis = about_basis
 body_of page.Member = about_member
+body_of page.Decide = about_decide
+body_of page.Prove = about_prove
 body_of page.Counter = about_counter
 body_of page.Cert = about_cert
 body_of page.Check = about_check

@@ -1,5 +1,5 @@
 //! Laws over two commands, each as the contract of a function that does nothing.
-ghost use Rattle.std.specs.Prelude.{◌≡◌, ◌⊎◌, ◌≤◌, List, length, ℕ, Some};
+ghost use Rattle.std.specs.Prelude.{◌≡◌, ◌⊎◌, ◌≤◌, List, length, ℕ, Some, Ok};
 ghost use Rattle.machines.specs.Journal.{Journal};
 ghost use Rattle.cert_form.specs.Form.{most_elements};
 ghost use Rattle.io_edge.specs.Clauses.{IsExcused};
@@ -7,9 +7,16 @@ ghost use Rattle.io_edge.specs.Outcome.{Call};
 ghost use Rattle.analysis_commands.specs.declared.kind.Kind.TheVariants.{Certificate};
 ghost use Rattle.analysis_commands.specs.Headline.{ShowsAnalysis};
 ghost use Rattle.analysis_commands.specs.Causes.{HasFinished};
-ghost use Rattle.certificate_commands.specs.CertificateWords.{Request};
+ghost use Rattle.loops.specs.Certificate as certificate;
+ghost use Rattle.certificate_commands.specs.CertificateArguments.{Request};
 ghost use Rattle.certificate_commands.specs.CheckClauses.{Checks};
+ghost use Rattle.certificate_commands.specs.CheckJudging.{IsShort, certificate_in};
 ghost use Rattle.certificate_commands.specs.CheckfullClauses.{ChecksFull};
+ghost use Rattle.certificate_commands.specs.CheckfullJudging as checkfull;
+ghost use Rattle.closing_commands.specs.declared.evidence.Evidence.{Evidence};
+ghost use Rattle.closing_commands.specs.declared.evidence.Evidence.TheVariants as kinds;
+ghost use Rattle.closing_commands.specs.DecideClauses as decide_clauses;
+ghost use Rattle.closing_commands.specs.DecideHeadline.{Shows, ShowsCertificate, ShowsCounter};
 ghost use Rattle.full_command.specs.Headline.{ShowsFull};
 ghost use Rattle.full_command.specs.Causes as full_causes;
 ghost use Rattle.loops.specs.Program.{Expr, Program};
@@ -19,23 +26,42 @@ ghost use Rattle.replay_commands.specs.CounterHeadline.{IsQuestion, ShowsCounter
 
 use io_edge::Status;
 
-/// What `cert` said of a text, where it has at most as many polynomials as a file may have, `check` of the same text calls
-/// valid, unless a number doesn't fit there, memory is wanting, or a file or the sink fails.
+/// What `cert` said of a text, where it has at most as many polynomials as a file may have and no identity of what is read there is too
+/// long, `check` of the same text calls valid, unless a number doesn't fit there, memory is wanting, or a file or the sink fails.
 pub fn printed_certificates_are_called_valid()
     ensures { (text said : List ℕ) (budget : ℕ) (m : Journal)
         (shows : ShowsAnalysis Certificate text said) → HasFinished text budget m →
         length shows.certificate.basis ≤ most_elements →
+        ((listed : certificate.Certificate) → certificate_in shows.loop said ≡ Ok listed →
+        IsShort shows.loop listed) →
         (request : Request) (call : Call) → Checks request call →
         call.files.before.told request.file ≡ Some text →
         call.files.before.told request.certificate ≡ Some said →
         (call.status ≡ Status.Yes) ⊎ ((call.status ≡ Status.Wide) ⊎ IsExcused call.status) }
 {}
 
-/// What `full` said of a text, `checkfull` of the same text calls complete, unless a number doesn't fit there, memory is wanting,
+/// What `prove` said of a text and an equation, where it has at most as many polynomials as a file may have and no identity of what is
+/// read there is too long, `check` of the same text calls valid, unless a number doesn't fit there, memory is wanting, or a file or the
+/// sink fails.
+pub fn printed_proofs_are_called_valid()
+    ensures { (text equation said : List ℕ) (budget : ℕ) (m : Journal)
+        (shows : ShowsCertificate text equation said) →
+        decide_clauses.HasEnded text equation budget m kinds.Certificate →
+        length shows.certificate.basis ≤ most_elements →
+        ((listed : certificate.Certificate) → certificate_in shows.loop said ≡ Ok listed →
+        IsShort shows.loop listed) →
+        (request : Request) (call : Call) → Checks request call →
+        call.files.before.told request.file ≡ Some text →
+        call.files.before.told request.certificate ≡ Some said →
+        (call.status ≡ Status.Yes) ⊎ ((call.status ≡ Status.Wide) ⊎ IsExcused call.status) }
+{}
+
+/// What `full` said of a text, where no identity of the certificate itself is too long, `checkfull` of the same text calls complete, unless a number doesn't fit there, memory is wanting,
 /// or a file, which may be too long, or the sink fails.
 pub fn full_certificates_are_called_complete()
     ensures { (text said : List ℕ) (budget : ℕ) (m : Journal)
-        → ShowsFull text said → full_causes.HasFinished text budget m →
+        (shows : ShowsFull text said) → full_causes.HasFinished text budget m →
+        checkfull.IsShort shows.loop shows.certificate →
         (request : Request) (call : Call) → ChecksFull request call →
         call.files.before.told request.file ≡ Some text →
         call.files.before.told request.certificate ≡ Some said →
@@ -50,4 +76,12 @@ pub fn counter_runs_are_of_equations_that_do_not_hold()
     ensures never_none { (text equation said : List ℕ) (l : Program (Expr ℕ)) (e : Expr ℕ)
         → ShowsNo text equation said → IsQuestion text equation l e
         → ((n : ℕ) (w : List ℕ) → length w ≤ n → HoldsAfter l e w) → ⊥ }
+{}
+
+/// Where `member`, and `decide` or `prove`, both answer of the same loop and equation, both say yes or both say no.
+pub fn questions_have_one_answer()
+    ensures yes { (evidence : Evidence) (text equation said other : List ℕ)
+        → Shows text equation evidence said → ShowsNo text equation other → ⊥ }
+    ensures no { (text equation said other : List ℕ)
+        → ShowsCounter text equation said → ShowsYes text equation other → ⊥ }
 {}

@@ -1,4 +1,4 @@
-// `help`, `--help` and `--version`: the pages that they show, and which words ask for which.
+// `help`, `--help` and `--version`: the pages that they show, and which arguments ask for which.
 ghost use Rattle.std.specs.Prelude.{◌≡◌, IfOk, map, string_bytes};
 ghost use Rattle.machines.specs.Journal.{Journal};
 ghost use Rattle.io_edge.specs.Outside.{FilesView};
@@ -29,6 +29,8 @@ pub enum Page {
     Version,
     Basis,
     Member,
+    Decide,
+    Prove,
     Counter,
     Cert,
     Check,
@@ -42,11 +44,11 @@ pub enum Page {
 }
 
 impl Page {
-    /// The page that the words behind `help` ask for; none where they ask for none.
-    pub(crate) fn behind_help(words: &[String]) -> Option<Page>
-        ensures { result ≡ page_behind_help (map string_bytes words.now) }
+    /// The page that the arguments behind `help` ask for; none where they ask for none.
+    pub(crate) fn behind_help(arguments: &[String]) -> Option<Page>
+        ensures { result ≡ page_behind_help (map string_bytes arguments.now) }
     {
-        match words {
+        match arguments {
             [] => Some(Page::Overview),
             [name] => Page::named(name),
             _ => None,
@@ -54,10 +56,10 @@ impl Page {
     }
 
     /// This page, where no words are behind the one that asks for it.
-    pub(crate) fn alone(self, words: &[String]) -> Option<Page>
-        ensures { result ≡ page_alone self (map string_bytes words.now) }
+    pub(crate) fn alone(self, arguments: &[String]) -> Option<Page>
+        ensures { result ≡ page_alone self (map string_bytes arguments.now) }
     {
-        match words {
+        match arguments {
             [] => Some(self),
             _ => None,
         }
@@ -70,6 +72,8 @@ impl Page {
         match name.as_str() {
             "basis" => Some(Page::Basis),
             "member" => Some(Page::Member),
+            "decide" => Some(Page::Decide),
+            "prove" => Some(Page::Prove),
             "counter" => Some(Page::Counter),
             "cert" => Some(Page::Cert),
             "check" => Some(Page::Check),
@@ -84,7 +88,7 @@ impl Page {
         }
     }
 
-    /// The first part of the text: of a command its words.
+    /// The first part of the text: of a command its arguments.
     fn head(&self) -> &'static str
         ensures { result.now ≡ head_of self.now }
     {
@@ -93,6 +97,8 @@ impl Page {
             Page::Version => VERSION,
             Page::Basis => "invar basis [--budget N] LOOP\n",
             Page::Member => "invar member [--budget N] LOOP EQUATION\n",
+            Page::Decide => "invar decide [--budget N] LOOP EQUATION\n",
+            Page::Prove => "invar prove [--budget N] LOOP EQUATION\n",
             Page::Counter => "invar counter [--length N] LOOP EQUATION\n",
             Page::Cert => "invar cert [--budget N] LOOP\n",
             Page::Check => "invar check LOOP CERT\n",
@@ -115,6 +121,8 @@ impl Page {
             Page::Version => "",
             Page::Basis => BASIS,
             Page::Member => MEMBER,
+            Page::Decide => DECIDE,
+            Page::Prove => PROVE,
             Page::Counter => COUNTER,
             Page::Cert => CERT,
             Page::Check => CHECK,
@@ -146,6 +154,8 @@ machine-checked proof says that each of them holds and that none is missing.
 About a loop:
   basis [--budget N] LOOP              the reduced basis of all invariants
   member [--budget N] LOOP EQUATION    yes with its proof, or no
+  decide [--budget N] LOOP EQUATION    yes or no, whatever the branches
+  prove [--budget N] LOOP EQUATION     its certificate, or no
   counter [--length N] LOOP EQUATION   the first run after which it is wrong
   cert [--budget N] LOOP               the basis as a certificate
   check LOOP CERT                      is each polynomial listed an invariant?
@@ -177,7 +187,7 @@ Examples:
   invar member examples/squares.loop 's = (a+1)^2'
 ";
 
-const VERSION: &str = "invar 1.0.0\n";
+const VERSION: &str = "invar 1.1.0\n";
 
 const BASIS: &str = "Prints the reduced basis of all polynomial invariants of the loop in the file
 LOOP, an equation a line, or `none`. Each invariant is a combination of these.
@@ -187,6 +197,18 @@ const MEMBER: &str = "Prints `yes`, with status 0, where the equation holds at t
 of the loop, and a cofactor for each element of the basis: the products of the
 two add up to the left side minus the right side. Prints `no`, with status 1,
 where it fails at the end of some run.
+";
+
+const DECIDE: &str = "Prints `yes`, with status 0, where the equation holds at the end of every run
+of the loop, whatever its branches, and the reduced basis of its closure:
+equations that hold at the start and that each branch keeps, from which it
+follows. Prints `no`, with status 1, and the first run after which it is wrong.
+";
+
+const PROVE: &str = "Prints a certificate, with status 0, where the equation holds at the end of
+every run of the loop, whatever its branches: its polynomial first, and then the
+others that the proof needs. `invar check` reads it. Prints `no`, with status 1,
+and the first run after which the equation is wrong.
 ";
 
 const COUNTER: &str = "Prints the first word of at most N branches after which the equation doesn't

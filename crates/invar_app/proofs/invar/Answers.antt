@@ -1,13 +1,13 @@
 use Rattle.std.proofs.Common.{ap, map, string_bytes}
 use Rattle.io_edge.proofs.Going.{finishes, obeys_same}
-use Rattle.invar_app.specs.Words.{command_of, command_in, course_of, usage_answer}
+use Rattle.invar_app.specs.Arguments.{command_of, command_in, course_of, usage_answer}
 use Rattle.invar_app.proofs.TopPromises.{promises, refuted}
 use Rattle.invar_app.proofs.invar.Goals as goal
 
 pub returns-clause-promises : goal.returns-clause-promises
 returns-clause-promises g c =
     let before = c.args.meter.now in
-    let command = command_in c.args.words.now in
+    let command = command_in c.args.arguments.now in
     promises _ command
     (finishes (course_of before) command usage_answer _ c.answer_to-answer.result
     (obeys_same (course_of before) (command_of (map string_bytes c.deref.result.now)) command _ _
@@ -26,8 +26,18 @@ pub returns-clause-holds : goal.returns-clause-holds
 returns-clause-holds g c =
     λ request is yes. ((returns-clause-promises g c).decides request is).holds yes
 
+pub returns-clause-closes : goal.returns-clause-closes
+returns-clause-closes g c =
+    λ request is yes. ((returns-clause-promises g c).decides_any request is).holds yes
+
+pub returns-clause-decides_any : goal.returns-clause-decides_any
+returns-clause-decides_any g c =
+    λ request l e is reads formed maps.
+    ((returns-clause-promises g c).decides_any request is).decided l e reads formed maps
+
 pub returns-clause-refuted : goal.returns-clause-refuted
-returns-clause-refuted g c = refuted _ (command_in c.args.words.now) (returns-clause-promises g c)
+returns-clause-refuted g c = refuted _ (command_in c.args.arguments.now)
+    (returns-clause-promises g c)
 
 pub returns-clause-valid : goal.returns-clause-valid
 returns-clause-valid g c =
