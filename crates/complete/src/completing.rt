@@ -25,7 +25,7 @@ use std::alloc::Global;
 /// Completes a list of polynomials of this order and arity to a Gröbner basis of their ideal, of monic polynomials.
 /// It is Buchberger's algorithm with both criteria for pairs (Cox, Little, O'Shea, "Ideals, Varieties, and Algorithms", chapter 2, sections 7, 9 and 10), which are taken by
 /// sugar in an order that mixes degrees (Giovini, Mora, Niesi, Robbiano, Traverso, "One sugar cube, please", 1991), and else by degree.
-/// `Budget` only where the units are spent and the next event is one; `Wide` only where the weight of making an element monic, or of the next event, is past.
+/// `Budget` only where the units are exhausted and the next event is one; `Wide` only where the weight of making an element monic, or of the next event, is past.
 pub fn complete_in<K: Field, O: Order>(
     alloc: Global,
     order: O,

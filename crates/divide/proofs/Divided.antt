@@ -4,7 +4,7 @@
 --   cut_step, zero_step        a Cut; the Zero
 --   away_ended, nothing_left   where nothing comes next
 --   place_below                the element is one of the list
---   cut_stops, cut_past        where the units are spent; where the cancellation is past
+--   cut_stops, cut_past        where the units are exhausted; where the cancellation is past
 --   appended, pushed     a term more of a cofactor
 --   begun_is                   the first state
 --   wide_of, budget_of         what an error was before it was passed on
@@ -122,7 +122,7 @@ module _ (S : Scalars) (O : Rank) (gs : List (Terms S.Elem)) (b : Bool) (p : Ter
       following = _;
       comes = comes _ (cut_comes c e);
       unit = refl;
-      spent = u;
+      exhausted = u;
     }
 
     pub cut_past : IsPastReduction S F gs p → IsPastDivision S F gs (state b p qs)

@@ -1,7 +1,7 @@
 -- What holds where a division has ended, as the program sees it.
 --   places_of, all_of          of each element of the program's list, and at each place of what it stands for
---   rest_is                    what is left, as the rest
---   sum_of, falling_of     the laws of machines for this division
+--   rest_is                    what is left, as the remainder
+--   sum_of, descending_of     the laws of machines for this division
 use Rattle.std.proofs.Common.{◌≡◌, ◌≢◌, ◌↔◌, ℕ, zero, suc, Bool, true, false, List, [], ◌∷◌, ◌++◌, map, refl, subst}
 use Rattle.std.specs.List.{All}
 use Rattle.std.proofs.lemmas.List.Elements.{All-nil, All-cons, All-map}
@@ -14,7 +14,7 @@ use Rattle.polynomials.specs.Terms.{Terms, Same, combination}
 use Rattle.polynomials.specs.Order.{Rank, IsMonomialOrder}
 use Rattle.polynomials.specs.Polynomial.{IsPolynomial}
 use Rattle.machines.specs.Basis.{AtPlaces}
-use Rattle.machines.specs.Division.{State, next, initial_state, rest}
+use Rattle.machines.specs.Division.{State, next, initial_state, remainder}
 use Rattle.machines.specs.Journal.{Entry}
 use Rattle.machines.specs.Work.{WorkToEnd}
 use Rattle.machines.proofs.Cofactors.{cofactors_fall}
@@ -32,7 +32,7 @@ module _ {X A : Type 0} (seen : X → A) (P : A → Type 0) where
       (all_of xs (λ k g e. h (suc k) g e))
 
 pub rest_is : {A : Type 0} (b : Bool) (p : Terms A) (qs : List (Terms A)) → (b ≡ true → p ≡ [])
-    → p ≡ rest (state b p qs)
+    → p ≡ remainder (state b p qs)
 rest_is true p qs h = h refl
 rest_is false p qs h = refl
 
@@ -47,10 +47,10 @@ module _ (S : Scalars) (r : IsRing S.arithmetic) (f : IsFieldOf S.arithmetic S.i
   abbrev K : Field S.Elem
   K = field_of (field S) (is_field S r f z)
 
-  pub sum_of : Same S.arithmetic p (combination S.arithmetic s.cofactors gs ++ rest s)
+  pub sum_of : Same S.arithmetic p (combination S.arithmetic s.cofactors gs ++ remainder s)
   sum_of = division_sum K O o m gs p s fin.work.events hg hp fin.work.run
 
-  pub falling_of : AtPlaces (IsPolynomial S.arithmetic O m) s.cofactors
-  falling_of = cofactors_fall K O o m gs (λ k g at.
+  pub descending_of : AtPlaces (IsPolynomial S.arithmetic O m) s.cofactors
+  descending_of = cofactors_fall K O o m gs (λ k g at.
       (let two = hg k g at in record { polynomial = two.0; nonzero = two.1 })) p hp s
       fin.work.events fin.work.run

@@ -123,7 +123,7 @@ module _ {A : Type 0} (F : FieldArithmetic A) (O : Rank) where
 -- ---- a cancellation of the first of the other terms
 pub record CutBehind (S : Scalars) (O : Rank) (m : ℕ) (done rest left g : Terms S.Elem)
     (by : List ℕ) (c : S.Elem) : Type 0 where
-  pub falling : IsPolynomial S.arithmetic O m (done ++ left)
+  pub descending : IsPolynomial S.arithmetic O m (done ++ left)
   pub cuts : Cuts S O (done ++ rest) (term_at S rest 0) g by c (done ++ left)
 
 module _ (S : Scalars) (r : IsRing S.arithmetic) (f : IsFieldOf S.arithmetic S.inverse)
@@ -198,7 +198,7 @@ module _ (S : Scalars) (r : IsRing S.arithmetic) (f : IsFieldOf S.arithmetic S.i
       ∙ ap₂ (λ x y. collect (field S) O (rest ++ negate N (shift N x y g))) (sym cut.by_is)
       (sym cut.number_is) in
       let parts = over_parts O done rest h.falls in
-      let falling : IsPolynomial N O m (done ++ left) = polynomial_append O S m done left
+      let descending : IsPolynomial N O m (done ++ left) = polynomial_append O S m done left
       (polynomial_front O S m done rest h) hl
       (subst (Over O done) (sym is) (over_all done rest by c (term_at S rest 0) g long hg fac parts
       (over_first done rest k parts))) in
@@ -207,9 +207,9 @@ module _ (S : Scalars) (r : IsRing S.arithmetic) (f : IsFieldOf S.arithmetic S.i
       (same_append (ring_of N r) (Same-refl N done) (subst (λ (q : Terms S.Elem).
       Same N q (rest ++ M)) (sym is) (collect-same K O o (rest ++ M)))) in
       record {
-        falling = falling;
+        descending = descending;
         cuts = cuts S r f z O o m (done ++ rest) g (done ++ left) (term_at S rest 0) by c h hg
-            falling long cut.by_is cut.number_is same;
+            descending long cut.by_is cut.number_is same;
       }
 
   pub past_behind : IsBounded S.arithmetic S.size → (done rest g : Terms S.Elem) (k : ℕ) (t : List ℕ

@@ -98,5 +98,5 @@ module _ {X S A : Type 0} (M : X → Machine S) {G : A → S → Type 0} {x y : 
             following = s.following;
             comes = s.comes;
             unit = s.unit;
-            spent = s.spent;
+            exhausted = s.exhausted;
           }))

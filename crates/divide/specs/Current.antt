@@ -36,7 +36,8 @@ module _ {K O : Type 0} {g : Ring.Ghosts K} {h : PartialEq.Ghosts K} {k : Order.
   left_of c = done_of c ++ terms_in c.rest
 
   pub record IsCurrent (ls : List (List ℕ)) (c : Current K O g h k l) : Type 0 where
-    pub falling : IsPolynomial g.scalars.arithmetic (k.order c.rest.order) c.rest.arity (left_of c)
+    pub descending : IsPolynomial g.scalars.arithmetic (k.order c.rest.order) c.rest.arity
+        (left_of c)
     pub undivided : AreUndivided ls (done_of c)
 
   abbrev pub IsLike : (c d : Current K O g h k l) → Type 0

@@ -4,7 +4,7 @@
 --   order_of s, arity_of s     of what is left
 --   IsBegun p n s          nothing is done of a division of p by n elements
 --   division_of p gs       the division of p by the gs, as a machine
---   HasCofactors o m d s   d has the cofactors and the rest of the state s, polynomials of the order o in m variables
+--   HasCofactors o m d s   d has the cofactors and the remainder of the state s, polynomials of the order o in m variables
 -- Of the next event, by the gs in the order of s:
 --   IsNext gs s t before after b       b is whether an event comes next: it leads from s to t; else both states and both journals are the same
 --   IsPastNext gs s                    the next event is past
@@ -58,10 +58,10 @@ module _ {K O : Type 0} {g : Ring.Ghosts K} {h : PartialEq.Ghosts K} {k : Order.
   pub record HasCofactors (o : O) (m : ℕ) (d : Division K O g h k l)
       (s : division.State g.scalars.Elem) : Type 0 where
     pub cofactors : terms_each d.cofactors.items ≡ s.cofactors
-    pub rest : terms_in d.rest ≡ division.rest s
+    pub remainder : terms_in d.remainder ≡ division.remainder s
     pub like : All (λ q. (q.order ≡ o) × (q.arity ≡ m)) d.cofactors.items
-    pub rest_order : d.rest.order ≡ o
-    pub rest_arity : d.rest.arity ≡ m
+    pub remainder_order : d.remainder.order ≡ o
+    pub remainder_arity : d.remainder.arity ≡ m
 
   abbrev pub IsNext : List (Poly K O g h k l) → (s t : Dividing K O g h k l)
       → (before after : Journal) → Bool → Type 0

@@ -56,7 +56,7 @@ impl<K: Ring, O: Order> Current<K, O> {
 
     /// What is left.
     pub fn into_poly(self) -> Result<Poly<K, O>, AllocError>
-        requires falling { IsPolynomial K.scalars.arithmetic (O.order self.rest.order)
+        requires descending { IsPolynomial K.scalars.arithmetic (O.order self.rest.order)
             self.rest.arity (left_of self) }
         ensures terms { IfOk result (λ p. terms_in p ≡ left_of self) }
         ensures order { IfOk result (λ p. p.order ≡ self.rest.order) }
@@ -65,7 +65,7 @@ impl<K: Ring, O: Order> Current<K, O> {
         let (order, arity) = (self.rest.order(), self.rest.arity());
         let mut terms = self.done;
         terms.append(&mut self.rest.into_terms())?;
-        Ok(Poly::from_falling(order, arity, terms))
+        Ok(Poly::from_descending(order, arity, terms))
     }
 
     /// Whether nothing is left.
@@ -91,7 +91,7 @@ impl<K: Ring, O: Order> Current<K, O> {
         let mut front = mem::replace(&mut self.rest, zero).into_terms();
         let back = front.split_off(count)?;
         self.done.append(&mut front)?;
-        self.rest = Poly::from_falling(order, arity, back);
+        self.rest = Poly::from_descending(order, arity, back);
         Ok(())
     }
 }
@@ -150,10 +150,10 @@ impl<K: Field, O: Order> Current<K, O> {
         requires first { 0 < length (terms_in self.old.rest) }
         requires divided { divides (lead_of (terms_in g.now))
             (term_at K.scalars (terms_in self.old.rest) 0).0 ≡ true }
-        requires falling { IsPolynomial K.scalars.arithmetic (O.order self.old.rest.order)
+        requires descending { IsPolynomial K.scalars.arithmetic (O.order self.old.rest.order)
             self.old.rest.arity (left_of self.old) }
         ensures cutting { IfOk result (CutsFirst self.old g.now self.new) }
-        ensures falling { IfOk result (λ _. IsPolynomial K.scalars.arithmetic
+        ensures descending { IfOk result (λ _. IsPolynomial K.scalars.arithmetic
             (O.order self.new.rest.order) self.new.rest.arity (left_of self.new)) }
         ensures done { IfOk result (λ _. self.new.done ≡ self.old.done) }
         ensures like { IfOk result (λ _. IsLike self.old self.new) }

@@ -28,15 +28,15 @@ struct Dividing<K: Ring, O: Order> {
     cofactors: Vec<Vec<Term<K>>>,
 }
 
-/// The cofactors of the elements in their order, and the rest.
+/// The cofactors of the elements in their order, and the remainder.
 #[derive(Drop)]
 pub struct Division<K: Ring, O: Order> {
     pub cofactors: Vec<Poly<K, O>>,
-    pub rest: Poly<K, O>,
+    pub remainder: Poly<K, O>,
 }
 
 /// Divides a polynomial by a list: the greatest term that some lead divides is cancelled by the first element whose lead divides it, until there is none (Cox, Little, O'Shea, "Ideals, Varieties, and Algorithms", chapter 2, section 3).
-/// `Budget` only where the units are spent and the next event is one; `Wide` only where the weight of the next cancellation is past.
+/// `Budget` only where the units are exhausted and the next event is one; `Wide` only where the weight of the next cancellation is past.
 pub fn divide<K: Field, O: Order>(
     alloc: Global,
     p: &Poly<K, O>,
@@ -49,10 +49,10 @@ pub fn divide<K: Field, O: Order>(
         meter.old meter.new (outcome_of result) }
     ensures sum { IfOk result (λ d. Same K.scalars.arithmetic (terms_in p.now)
         (combination K.scalars.arithmetic (terms_each d.cofactors.items) (terms_each list.now)
-        ++ terms_in d.rest)) }
+        ++ terms_in d.remainder)) }
     ensures undivided { IfOk result (λ d. AtPlaces
         (λ t. AtPlaces (λ g. divides (lead_of g) t.0 ≡ false) (terms_each list.now))
-        (terms_in d.rest)) }
+        (terms_in d.remainder)) }
 {
     let leads = leads_of(alloc, list)?;
     let order = p.order();
@@ -60,8 +60,11 @@ pub fn divide<K: Field, O: Order>(
     let mut state = first_state(alloc, p, list.len())?;
     while step(alloc, &mut state, list, &leads, meter)? {}
     let cofactors = polynomials_of(alloc, order, arity, state.cofactors)?;
-    let rest = state.current.into_poly()?;
-    Ok(Division { cofactors, rest })
+    let remainder = state.current.into_poly()?;
+    Ok(Division {
+        cofactors,
+        remainder,
+    })
 }
 
 /// Copies of the leads of a list.
@@ -154,7 +157,7 @@ fn step<K: Field, O: Order>(
     }
 }
 
-/// The polynomials of lists of terms that stand in falling order.
+/// The polynomials of lists of terms that stand in descending order.
 fn polynomials_of<K: Ring, O: Order>(
     alloc: Global,
     order: O,
@@ -162,7 +165,7 @@ fn polynomials_of<K: Ring, O: Order>(
     lists: Vec<Vec<Term<K>>>,
 ) -> Result<Vec<Poly<K, O>>, AllocError>
     requires few { arity ≤ most_variables }
-    requires falling { All (λ v. IsPolynomial K.scalars.arithmetic (O.order order) arity
+    requires descending { All (λ v. IsPolynomial K.scalars.arithmetic (O.order order) arity
         (terms_of K.meaning v.items)) lists.items }
     ensures terms { IfOk result (λ ps.
         terms_each ps.items ≡ map (λ v. terms_of K.meaning v.items) lists.items) }
@@ -170,7 +173,7 @@ fn polynomials_of<K: Ring, O: Order>(
 {
     let mut out = Vec::with_capacity(alloc, lists.len())?;
     for terms in lists {
-        out.push(Poly::from_falling(order, arity, terms))?;
+        out.push(Poly::from_descending(order, arity, terms))?;
     }
     Ok(out)
 }

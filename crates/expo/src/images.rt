@@ -124,7 +124,7 @@ fn one_more(alloc: Global, arity: usize) -> Result<Poly<Frac, Grevlex>, AllocErr
             coef: Frac::one()
         },
     ]?;
-    Ok(Poly::from_falling(Grevlex, arity, terms))
+    Ok(Poly::from_descending(Grevlex, arity, terms))
 }
 
 /// A multiple of a variable.

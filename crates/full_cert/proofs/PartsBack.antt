@@ -1,5 +1,5 @@
 -- The parts of a full certificate that are written are read as themselves.
---   IsReadable O m p         a polynomial in falling order that is narrow;  AreReadable, AreRowsReadable: lists of these
+--   IsReadable O m p         a polynomial in descending order that is narrow;  AreReadable, AreRowsReadable: lists of these
 --   IsTable rows n table     so many lists of so many
 --   each_back, parts_back, with_count     lists whose elements are read as themselves
 --   form_reads, start_reads, stage_reads     a form, a start, a stage

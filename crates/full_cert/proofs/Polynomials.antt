@@ -1,4 +1,4 @@
--- The polynomial of the terms that were read is the one in falling order.
+-- The polynomial of the terms that were read is the one in descending order.
 --   arity_of_read     terms that were read have as many exponents as variables
 --   raw_is            a polynomial of these terms is what the list is
 use Rattle.std.proofs.Common.{◌≡◌, ℕ, Bool, true, List, [], ◌∷◌, Ok, length, sym, ap, ◌∙◌}

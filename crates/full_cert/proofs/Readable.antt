@@ -25,7 +25,7 @@ use Rattle.task_lists.specs.Images.{most_bases, in_blocks, ArePolys, AreRows, Is
 use Rattle.task_lists.specs.View.{form_in, stage_in, branch_in, round_in, full_of}
 use Rattle.task_lists.specs.declared.parts.FullForm.{FullForm}
 use Rattle.task_lists.specs.declared.parts.FullStage.{FullStage}
-use Rattle.task_lists.proofs.Falling.{fall_images, fall_rows, fall_over}
+use Rattle.task_lists.proofs.Descending.{fall_images, fall_rows, fall_over}
 use Rattle.completeness.specs.Counts.{no_branch, IsCounted}
 use Rattle.task_lists.specs.declared.parts.FullBranch.{FullBranch}
 use Rattle.task_lists.specs.declared.parts.FullCert.{FullCert}

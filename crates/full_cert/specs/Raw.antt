@@ -1,11 +1,11 @@
--- Raw polynomials in JSON: lists of terms, each a list of a number's text and a list of exponents. What a list of terms is in falling order.
+-- Raw polynomials in JSON: lists of terms, each a list of a number's text and a list of exponents. What a list of terms is in descending order.
 --   every f ds              each value passes the test f
 --   has_term_form d         a list of the text of a number and a list of JSON numbers
 --   most_exponent           the greatest exponent
 --   exponent_of d           the exponent that the value is;  exponents_of ds: those of a list
 --   term_of m d             the term with m exponents whose number isn't 0
 --   terms_after m found ds  these terms and behind them those of ds, if no two have the same exponents;  terms_of m ds: those of ds
---   raw_in, raw_at O m path d      the polynomial in m variables that a list is, that the value is, in falling order
+--   raw_in, raw_at O m path d      the polynomial in m variables that a list is, that the value is, in descending order
 use Rattle.std.specs.Prelude.{ℕ, List, [], ◌∷◌, ◌++◌, length, Bool, true, false, ◌&&◌, not, nat_le, Option, Some, None, option_map, option_and_then, Ok, if◌then◌else◌, ◌==◌, is_some}
 use Rattle.std.specs.Option.{ok_or, option_map_or}
 use Rattle.serde_json.specs.Data.{Data, Items, no_items, item}

@@ -1,4 +1,4 @@
--- How a raw polynomial is written: its terms in falling order, each the text of its number and its exponents.
+-- How a raw polynomial is written: its terms in descending order, each the text of its number and its exponents.
 --   exponents_data e     a list of exponents
 --   term_data t          a term
 --   raw_data p           a polynomial

@@ -1,4 +1,4 @@
--- How a full certificate is written: as an object, with the members of each object in the order of their names, and polynomials as lists of terms in falling order.
+-- How a full certificate is written: as an object, with the members of each object in the order of their names, and polynomials as lists of terms in descending order.
 --   raws_data ps, rows_data rows     lists of polynomials, and lists of these
 --   form_data f, start_data s, stage_data s     a form, a start, a stage
 --   branch_data b, round_data bs     the stages of a branch, and those of a round

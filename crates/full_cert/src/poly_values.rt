@@ -66,7 +66,7 @@ fn terms_value(alloc: Global, terms: &[Term<Frac>]) -> Result<Value, AllocError>
     Ok(Value::from(values))
 }
 
-/// The polynomial as a list of its terms in falling order, each a list of the text of its number and
+/// The polynomial as a list of its terms in descending order, each a list of the text of its number and
 /// its exponents.
 pub(crate) fn raw_value<O: Order>(alloc: Global, p: &Poly<Frac, O>) -> Result<Value, AllocError>
     ensures { IfOk result (IsWritten raw_data (All IsNarrow) (terms_in p.now)) }

@@ -1,4 +1,4 @@
--- Lists of terms in falling order, put together and taken apart.
+-- Lists of terms in descending order, put together and taken apart.
 --   Over O p q                   each term of p is above each of q
 --   polynomial_nil               no terms are the polynomial 0
 --   polynomial_one               a term that is not zero is a polynomial

@@ -155,11 +155,11 @@ module _ (S : Scalars) (r : IsRing S.arithmetic) (O : Rank) (law : IsMonomialOrd
     raised : (news rest : Terms S.Elem) → Merged S r O law (length e) (front ++ back) ((e, a) ∷ [])
         (news ++ rest) → Each (λ t. compare O t.0 e ≢ Less) news
         → IsRaised S O e a (front ++ back) news rest
-    raised news rest m n = record { falling = m.is; sum = m.sum; none_below = n }
+    raised news rest m n = record { descending = m.is; sum = m.sum; none_below = n }
 
     pub raised_none : a ≡ S.zero → IsRaised S O e a (front ++ back) front back
     raised_none z = record {
-      falling = h;
+      descending = h;
       sum = same_of_algebra exponents exponents_monoid (ring_of S.arithmetic r) (front ++ back)
           ((front ++ back) ++ (e, a) ∷ [])
           (let p = merging.poly S r O law (length e) in
@@ -270,7 +270,7 @@ images f a b c d h = sym (map-append f a b) ∙ ap (map f) h ∙ map-append f c 
 -- of p and c times d times the terms that are done, with others left
 pub record Raising (S : Scalars) (O : Rank) (m : ℕ) (d : List ℕ) (c : S.Elem)
     (p done left front back : Terms S.Elem) : Type 0 where
-  pub falling : IsPolynomial S.arithmetic O m (front ++ back)
+  pub descending : IsPolynomial S.arithmetic O m (front ++ back)
   pub sum : Same S.arithmetic (front ++ back) (p ++ shift S.arithmetic d c done)
   pub above : Each (λ t. Exceeds O (plus d t.0) front) left
 
@@ -282,7 +282,7 @@ begin_raising S O m d c p left front back f b h =
     subst (λ (q : Terms S.Elem). Raising S O m d c p [] left q back) (sym f)
     (subst (λ (q : Terms S.Elem). Raising S O m d c p [] left [] q) (sym b)
     (record {
-      falling = h;
+      descending = h;
       sum = subst (λ (q : Terms S.Elem). Same S.arithmetic p q) (sym (append-nil p))
           (Same-refl S.arithmetic p);
       above = each_of (λ (t : List ℕ × S.Elem). Exceeds O {A = S.Elem} (plus d t.0) []) (λ t. tt)
@@ -300,7 +300,7 @@ begin_cancelled S r O law m d c f p rest left front back t x e is parts none sam
     subst (λ (q : Terms S.Elem). Raising S O m d c p (t ∷ []) left q back) (sym none)
     (subst (λ (q : Terms S.Elem). Raising S O m d c p (t ∷ []) left [] q) (sym same)
     (record {
-      falling = polynomial_tail O S m x rest (subst (IsPolynomial S.arithmetic O m) parts h);
+      descending = polynomial_tail O S m x rest (subst (IsPolynomial S.arithmetic O m) parts h);
       sum = subst (λ (q : Terms S.Elem). Same S.arithmetic rest (q ++ shift S.arithmetic d c
           (t ∷ []))) (sym (parts ∙ ap (λ (y : List ℕ × S.Elem). y ∷ rest) is))
           (merging.lead_cancels S r O law m (plus d t.0) (S.mul f t.1)
@@ -349,7 +349,8 @@ module _ (S : Scalars) (r : IsRing S.arithmetic) (O : Rank) (law : IsMonomialOrd
   step_raising p done left done' later front back front' back' t is more h raised i =
       let long : length (plus d t.0) ≡ m = length-plus d t.0 m l (head_arity O S m t later h) in
       record {
-        falling = subst (λ n. IsPolynomial S.arithmetic O n (front' ++ back')) long raised.falling;
+        descending = subst (λ n. IsPolynomial S.arithmetic O n (front' ++ back')) long
+            raised.descending;
         sum = Same-trans S.arithmetic raised.sum
             (subst (Same S.arithmetic ((front ++ back) ++ (plus d t.0, S.mul c t.1) ∷ []))
             (append_assoc p (shift S.arithmetic d c done) ((plus d t.0, S.mul c t.1) ∷ [])

@@ -23,7 +23,7 @@ Begins O e b (t ∷ p) = compare O t.0 e ≡ cond b Equal Less
 module _ (S : Scalars) where
   pub record IsRaised (O : Rank) (e : List ℕ) (a : S.Elem) (olds front back : Terms S.Elem) : Type
       0 where
-    pub falling : IsPolynomial S.arithmetic O (length e) (front ++ back)
+    pub descending : IsPolynomial S.arithmetic O (length e) (front ++ back)
     pub sum : Same S.arithmetic (front ++ back) (olds ++ (e, a) ∷ [])
     pub none_below : Each (λ t. compare O t.0 e ≢ Less) front
 

@@ -91,10 +91,10 @@ impl<K: Ring, O: Order> Poly<K, O> {
         sum_of_distinct(alloc, order, arity, terms)
     }
 
-    /// The polynomial of terms that stand in falling order, none with the coefficient 0.
-    pub fn from_falling(order: O, arity: usize, terms: Vec<Term<K>>) -> Poly<K, O>
+    /// The polynomial of terms that stand in descending order, none with the coefficient 0.
+    pub fn from_descending(order: O, arity: usize, terms: Vec<Term<K>>) -> Poly<K, O>
         requires few { arity ≤ most_variables }
-        requires falling { IsPolynomial K.scalars.arithmetic (O.order order) arity
+        requires descending { IsPolynomial K.scalars.arithmetic (O.order order) arity
             (terms_of K.meaning terms.items) }
         ensures order { result.order ≡ order }
         ensures arity { result.arity ≡ arity }

@@ -1,4 +1,4 @@
-//! `Poly<K, O>`: polynomials over a ring of checked numbers, with their terms in falling order.
+//! `Poly<K, O>`: polynomials over a ring of checked numbers, with their terms in descending order.
 //!
 //! Proved: each operation gives the one sorted list of the definition's polynomial, and is `Wide` only where its weight is past or an
 //! exponent that it forms doesn't fit; equal polynomials have equal terms.

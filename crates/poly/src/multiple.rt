@@ -174,7 +174,7 @@ fn put_product<K: Ring, O: Order>(
     term: &Term<K>,
 ) -> Result<(), ArithmeticError>
     requires long { length by.now ≡ length term.now.mono }
-    requires falling { IsPolynomial K.scalars.arithmetic (O.order order) (length by.now)
+    requires descending { IsPolynomial K.scalars.arithmetic (O.order order) (length by.now)
         (terms_of K.meaning front.old.items ++ terms_of K.meaning back.old.items) }
     requires above { Exceeds (O.order order) (plus by.now term.now.mono)
         (terms_of K.meaning front.old.items) }
@@ -208,7 +208,7 @@ fn put<K: Ring, O: Order>(
     coef: K,
 ) -> Result<(), ArithmeticError>
     requires nonzero { K.meaning coef ≢ K.scalars.zero }
-    requires falling { IsPolynomial K.scalars.arithmetic (O.order order) (length mono)
+    requires descending { IsPolynomial K.scalars.arithmetic (O.order order) (length mono)
         (terms_of K.meaning front.old.items ++ terms_of K.meaning back.old.items) }
     requires above { Exceeds (O.order order) mono (terms_of K.meaning front.old.items) }
     requires room { length front.old.items + length back.old.items < vec_capacity front.old }

@@ -111,7 +111,7 @@ impl<K: Ring, O: Order> Poly<K, O> {
     }
 }
 
-/// The sum of the terms of two sources, each in falling order.
+/// The sum of the terms of two sources, each in descending order.
 fn merge<K: Ring, O: Order, L: Source<K>, R: Source<K>>(
     alloc: Global,
     order: O,

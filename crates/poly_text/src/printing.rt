@@ -19,7 +19,7 @@ use monos::Grevlex;
 use poly::{Poly, Term};
 use std::alloc::{AllocError, Global};
 
-/// The text of the polynomial: its terms in falling order, each a coefficient and powers of the names joined by `*`.
+/// The text of the polynomial: its terms in descending order, each a coefficient and powers of the names joined by `*`.
 /// A coefficient 1 is left out before a power, and an exponent 1 behind a name.
 pub fn print_poly(
     alloc: Global,

@@ -4,7 +4,7 @@ use lib.Dec.{eqb_refl}
 use Rattle.std.specs.List.{list_any}
 use Rattle.std.proofs.lemmas.Bool.{cases_lt}
 use Rattle.algebra.specs.In.{In}
-use Rattle.solvable_maps.specs.Chain.{Reaches}
+use Rattle.solvable_maps.specs.Dependency.{Reaches}
 use Rattle.solvable_maps.specs.Class.{Above, Ascends, InClass, Ready, IsClassOf, IsNext, AreClasses}
 use Rattle.algebra.proofs.Basics.{both_in, both_out, not_out}
 use Rattle.algebra.proofs.In.{in_left, in_right, in_push}

@@ -7,7 +7,7 @@ use Rattle.algebra.proofs.Basics.{to_true, both_in, both_out}
 use Rattle.algebra.specs.Fraction.{Fraction}
 use Rattle.polynomials.specs.Terms.{Terms}
 use Rattle.polynomials.specs.Polynomial.{Arity}
-use Rattle.solvable_maps.specs.Chain.{IsChain, IsLeastChain}
+use Rattle.solvable_maps.specs.Dependency.{IsNonlinearCycle, IsLeastCycle}
 use Rattle.solvable_maps.specs.Class.{AreClasses}
 use Rattle.solvable.specs.Refusal.{IsAnswer}
 use Rattle.solvable_maps.specs.Uses.{any, has, exponent, degree, poly_at, uses, strongly, IsMap}
@@ -182,9 +182,9 @@ module _ (images : List FracPoly) (a : All (λ p. p.arity ≡ length images) ima
 
 pub some_answer : (uses strongly : ℕ → ℕ → Bool) (found : Option (Vec ℕ Global))
     (cycle : Vec ℕ Global) → found ≡ Some cycle → IsAnswer uses strongly found
-    → IsLeastChain uses strongly cycle.items
+    → IsLeastCycle uses strongly cycle.items
 some_answer uses strongly found cycle e h = subst (IsAnswer uses strongly) e h
 
 pub no_answer : (uses strongly : ℕ → ℕ → Bool) (found : Option (Vec ℕ Global)) → found ≡ None
-    → IsAnswer uses strongly found → (vs : List ℕ) → IsChain uses strongly vs → ⊥
+    → IsAnswer uses strongly found → (vs : List ℕ) → IsNonlinearCycle uses strongly vs → ⊥
 no_answer uses strongly found e h = subst (IsAnswer uses strongly) e h

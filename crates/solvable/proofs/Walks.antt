@@ -3,11 +3,11 @@ use Rattle.std.proofs.Common.{◌≡◌, inl, inr, ◌<◌, ◌≤◌, ◌↔◌
 use lib.Dec.{eqb_refl}
 use Rattle.std.proofs.lemmas.Bool.{cases_lt}
 use Rattle.std.proofs.lemmas.List.{append-nil, get_or_append_left, get_or_push}
-use Rattle.solvable_maps.specs.Chain.{Least, IsChain, IsLeastChain}
+use Rattle.solvable_maps.specs.Dependency.{Least, IsNonlinearCycle, IsLeastCycle}
 use Rattle.algebra.proofs.Basics.{both_in, both_out}
-use Rattle.solvable_maps.proofs.Chains as C
+use Rattle.solvable_maps.proofs.Cycles as C
 use Rattle.solvable.specs.Tables.{at, IsSquare, First, Found}
-use Rattle.solvable.specs.Walking.{Table, IsWalk, IsLeastWalk, IsWalks, AreWalks, IsStart, IsCycle}
+use Rattle.solvable.specs.Walking.{Table, IsWalk, IsLeastWalk, IsWalks, AreWalks, IsStart, IsClosedWalk}
 use Rattle.solvable.proofs.Rows.{Rows, at_inside}
 
 module _ (uses : ℕ → ℕ → Bool) where
@@ -92,12 +92,12 @@ longer_is m k used walks s w i j b h l f = (there, back)
         f.back r.0 (both_in (at used i r.0) (at walks r.0 j) r.3
         ((w.each r.0 j (at_inside m used s i r.0 r.3).1 l).1 (r.1, r.4)))
 
--- ---- the chain that goes on
+-- ---- the cycle that goes on
 pub record Going (uses : ℕ → ℕ → Bool) (k first second left from : ℕ) (cycle : List ℕ) : Type
     0 where
   pub walk : (vs : List ℕ) × IsWalk uses left from first vs
   pub whole : (ws : List ℕ) → IsLeastWalk uses left from first ws
-      → IsCycle uses k first second (cycle ++ ws)
+      → IsClosedWalk uses k first second (cycle ++ ws)
 
 pub going_first : (uses : ℕ → ℕ → Bool) (k first second : ℕ) (cycle : List ℕ)
     → cycle ≡ first ∷ second ∷ [] → ((vs : List ℕ) × IsWalk uses k second first vs)
@@ -118,7 +118,7 @@ going_more m k first second left from next used walks cycle more s h w f e g =
     record {
       walk = (w.each next first f.within h).0 p.1;
       whole = λ ws l.
-          subst (IsCycle (at used) k first second) (sym (append_assoc cycle (next ∷ []) ws)
+          subst (IsClosedWalk (at used) k first second) (sym (append_assoc cycle (next ∷ []) ws)
           ∙ ap (λ c. c ++ ws) (sym e))
           (g.whole (next ∷ ws) (least_more (at used) left from first next ws p.0
           (λ d us t v.
@@ -137,10 +137,10 @@ going_on m k first second left from used walks cycle s h w g none =
     ((w.each r.0 first (at_inside m used s from r.0 r.3).1 h).1 (r.1, r.4)))
 
 pub going_done : (uses : ℕ → ℕ → Bool) (k first second left from : ℕ) (cycle : List ℕ) → left ≡ 0
-    → Going uses k first second left from cycle → IsCycle uses k first second cycle
+    → Going uses k first second left from cycle → IsClosedWalk uses k first second cycle
 going_done uses k first second left from cycle e g =
     let w = subst (λ n. (vs : List ℕ) × IsWalk uses n from first vs) e g.walk in
-    subst (IsCycle uses k first second) (append-nil cycle)
+    subst (IsClosedWalk uses k first second) (append-nil cycle)
     (g.whole [] (subst (λ n. IsLeastWalk uses n from first []) (sym e)
     (least_none uses from first (none_walk uses from first w.0 w.1))))
 
@@ -152,7 +152,7 @@ pub no_start : (m : ℕ) (strong walks : Rows) → IsSquare m strong
 no_start m strong walks s none x y t =
     none x y (at_inside m strong s x y (both_out (at strong x y) (at walks y x) t).0).0 t
 
--- ---- one turn of the loop that goes on with the chain
+-- ---- one turn of the loop that goes on with the cycle
 module _ (m first second : ℕ) (used : Rows) (walks : List Table) (s : IsSquare m used)
     (h : first < m) (are : AreWalks (at used) m walks) (left from : ℕ) (l : left < length walks)
     (some : 0 < left) (table : Table) (is : table ≡ get_or walks (left - 1) table) where
@@ -225,7 +225,7 @@ module _ (used strong : Rows) (m : ℕ) (s : IsSquare m used) (q : IsSquare m st
   table_at steps walks t r e = subst (λ (x : Table). IsWalks (at used) m steps x.items) (sym e)
       (r.are steps t (let c = r.count in omega arith))
 
-  -- a walk that closes a chain is told by the table
+  -- a walk that closes a cycle is told by the table
   told : (k : ℕ) (t : Rows) → IsWalks (at used) m k t → (x y : ℕ) → T (at strong x y)
       → (vs : List ℕ) → IsWalk (at used) k y x vs → T (at strong x y && at t y x)
   told k t w x y h vs v =
@@ -270,11 +270,11 @@ module _ (used strong : Rows) (m : ℕ) (s : IsSquare m used) (q : IsSquare m st
 
   pub cycle_least : (steps v w : ℕ) (walks : List Table) (t : Rows) (cycle : List ℕ)
       → Searching used strong m steps walks → IsWalks (at used) m steps t
-      → IsStart (at strong) (at t) (length t) v w → IsCycle (at used) steps v w cycle
-      → IsLeastChain (at used) (at strong) cycle
+      → IsStart (at strong) (at t) (length t) v w → IsClosedWalk (at used) steps v w cycle
+      → IsLeastCycle (at used) (at strong) cycle
   cycle_least steps v w walks t cycle r is s c =
-      subst (IsLeastChain (at used) (at strong)) (sym c.is)
-      (C.least_chain (at used) (at strong) m bounded linear steps v w c.others
+      subst (IsLeastCycle (at used) (at strong)) (sym c.is)
+      (C.least_cycle (at used) (at strong) m bounded linear steps v w c.others
       (both_out (at strong v w) (at t w v) s.passes).0
       (record {
         is = steps_of steps w v c.others c.least.is;
@@ -286,6 +286,7 @@ module _ (used strong : Rows) (m : ℕ) (s : IsSquare m used) (q : IsSquare m st
       (λ k x y l h. (let b = started k x y h in r.none k x y l b.0 b.1.0 b.1.1)))
 
   pub none_at_all : (steps : ℕ) (walks : List Table) → m ≤ steps
-      → Searching used strong m steps walks → (vs : List ℕ) → IsChain (at used) (at strong) vs → ⊥
+      → Searching used strong m steps walks → (vs : List ℕ) → IsNonlinearCycle (at used) (at strong)
+      vs → ⊥
   none_at_all steps walks l r = C.no_short_none (at used) (at strong) m bounded linear (λ k x y h t.
       (let b = started k x y t in r.none k x y (omega arith) b.0 b.1.0 b.1.1))

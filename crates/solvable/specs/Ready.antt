@@ -9,7 +9,7 @@ use Rattle.std.specs.declared.alloc.Global.{Global}
 use Rattle.std.specs.declared.vec.Vec.{Vec}
 use Rattle.algebra.specs.In.{In}
 use Rattle.solvable_maps.specs.Class.{Ascends}
-use Rattle.solvable_maps.specs.Chain.{reach as reach_through}
+use Rattle.solvable_maps.specs.Dependency.{reach as reach_through}
 use Rattle.solvable.specs.Tables.{IsTable}
 
 module _ (reach : ℕ → ℕ → Bool) where

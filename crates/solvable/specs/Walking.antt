@@ -4,11 +4,11 @@
 --   IsWalks uses m k t           the table t tells between which variables there is a walk of k steps
 --   AreWalks uses m ts           the k-th of ts tells it for k steps
 --   IsStart strongly walks v w   the least v and then w such that v uses w strongly and walks lead from w to v
---   IsCycle uses k v w vs        v, w and then a least walk of k steps from w to v
+--   IsClosedWalk uses k v w vs        v, w and then a least walk of k steps from w to v
 use Rattle.std.specs.Prelude.{◌≡◌, ◌<◌, ◌≤◌, ◌↔◌, ℕ, Bool, List, ◌∷◌, ◌&&◌, length, get_or, T}
 use Rattle.std.specs.declared.alloc.Global.{Global}
 use Rattle.std.specs.declared.vec.Vec.{Vec}
-use Rattle.solvable_maps.specs.Chain.{Walks, last_of, Least}
+use Rattle.solvable_maps.specs.Dependency.{Walks, last_of, Least}
 use Rattle.solvable.specs.Tables.{IsTable}
 
 abbrev pub Table : Type 0
@@ -30,7 +30,7 @@ module _ (uses : ℕ → ℕ → Bool) where
   abbrev pub AreWalks : ℕ → List Table → Type 0
   AreWalks m ts = (k : ℕ) (d : Table) → k < length ts → IsWalks m k (get_or ts k d).items
 
-  pub record IsCycle (k v w : ℕ) (cycle : List ℕ) : Type 0 where
+  pub record IsClosedWalk (k v w : ℕ) (cycle : List ℕ) : Type 0 where
     pub others : List ℕ
     pub is : cycle ≡ v ∷ w ∷ others
     pub least : IsLeastWalk k w v others

@@ -1,14 +1,14 @@
-//! The least chain: walks with more and more steps, until one closes a chain.
+//! The least cycle: walks with more and more steps, until one closes a cycle.
 ghost use Rattle.std.specs.Prelude.{◌≡◌, ◌<◌, ◌+◌, ℕ, Bool, List, ◌&&◌, T, IfOk, IfSome, IfNone, length};
 ghost use Rattle.solvable.specs.Tables.{at, IsSquare, Found};
-ghost use Rattle.solvable.specs.Walking.{IsWalk, IsWalks, AreWalks, IsStart, IsCycle};
+ghost use Rattle.solvable.specs.Walking.{IsWalk, IsWalks, AreWalks, IsStart, IsClosedWalk};
 ghost use Rattle.solvable.specs.Refusal.{IsAnswer};
 
 use crate::tables::{between, table};
 use std::alloc::{AllocError, Global};
 
-/// The least chain of variables that use one another, the first one the second strongly. None exactly where there is none.
-pub(crate) fn least_chain(
+/// The least cycle of variables that use one another, the first one the second strongly. None exactly where there is none.
+pub(crate) fn least_cycle(
     alloc: Global,
     used: &Vec<Vec<bool>>,
     strong: &Vec<Vec<bool>>,
@@ -23,7 +23,7 @@ pub(crate) fn least_chain(
     for steps in 0..used.len() {
         let told = &walks[steps];
         if let Some((first, second)) = start(strong, told) {
-            let cycle = close_chain(alloc, used, &walks, first, second)?;
+            let cycle = close_cycle(alloc, used, &walks, first, second)?;
             return Ok(Some(cycle));
         }
         let more = longer(alloc, used, told)?;
@@ -86,8 +86,8 @@ fn start(strong: &Vec<Vec<bool>>, walks: &Vec<Vec<bool>>) -> Option<(usize, usiz
     None
 }
 
-/// The chain that begins with these two variables, and goes on by the least walk of as many steps as the last table tells.
-fn close_chain(
+/// The cycle that begins with these two variables, and goes on by the least walk of as many steps as the last table tells.
+fn close_cycle(
     alloc: Global,
     used: &Vec<Vec<bool>>,
     walks: &Vec<Vec<Vec<bool>>>,
@@ -102,7 +102,7 @@ fn close_chain(
     requires walk { (k : ℕ) → k + 1 ≡ length walks.now.items
         → (vs : List ℕ) × IsWalk (at used.now.items) k second first vs }
     ensures { IfOk result (λ cycle. (k : ℕ) → k + 1 ≡ length walks.now.items
-        → IsCycle (at used.now.items) k first second cycle.items) }
+        → IsClosedWalk (at used.now.items) k first second cycle.items) }
 {
     let mut cycle = Vec::new(alloc);
     cycle.push(first)?;

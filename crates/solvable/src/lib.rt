@@ -16,7 +16,7 @@ mod groups;
 mod tables;
 mod variables;
 
-use cycle::least_chain;
+use cycle::least_cycle;
 use frac128::Frac;
 pub use groups::Classes;
 use groups::classes_of_uses;
@@ -30,7 +30,7 @@ use variables::uses_at;
 /// Why a map has no classes.
 #[derive(Debug, Drop, Error)]
 pub enum SolvableError {
-    /// The least chain: each variable uses the next, the first one non-linearly, and the last is the first again.
+    /// The least cycle: each variable uses the next, the first one non-linearly, and the last is the first again.
     #[error("a variable uses itself non-linearly")]
     NotSolvable { cycle: Vec<usize> },
     #[error("out of memory")]
@@ -48,8 +48,8 @@ impl From<AllocError> for SolvableError {
 }
 
 /// The classes of a map, which has one polynomial for each variable: each class ascending, and so listed that each uses but itself and earlier ones; of those that may come next, the one with the first variable comes.
-/// A map without a chain is a solvable one (Rodríguez-Carbonell and Kapur, "Generating all polynomial invariants in simple loops", 2007).
-/// `NotSolvable` exactly where the map has a chain, with the least one: shorter chains come first, and then those with the lesser first place that differs.
+/// A map without a cycle is a solvable one (Rodríguez-Carbonell and Kapur, "Generating all polynomial invariants in simple loops", 2007).
+/// `NotSolvable` exactly where the map has a cycle, with the least one: shorter cycles come first, and then those with the lesser first place that differs.
 pub fn classes(alloc: Global, images: &Vec<Poly<Frac, Grevlex>>) -> Result<Classes, SolvableError>
     requires { All (λ p. p.arity ≡ length images.now.items) images.now.items }
     ensures classes { IfOk result (λ c. AreClassesOf (terms_each images.now.items) c.groups.items) }
@@ -58,7 +58,7 @@ pub fn classes(alloc: Global, images: &Vec<Poly<Frac, Grevlex>>) -> Result<Class
 {
     let used = users(alloc, images, 0)?;
     let strong = users(alloc, images, 1)?;
-    match least_chain(alloc, &used, &strong)? {
+    match least_cycle(alloc, &used, &strong)? {
         Some(cycle) => Err(SolvableError::NotSolvable { cycle }),
         None => Ok(Classes {
             groups: classes_of_uses(alloc, used)?,

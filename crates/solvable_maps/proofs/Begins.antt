@@ -17,7 +17,7 @@ use Rattle.algebra.proofs.In.{each_from}
 use Rattle.algebra.proofs.RingLaws as L
 use Rattle.algebra.specs.Fraction.{Fraction, ℚ}
 use Rattle.algebra.proofs.Fractions.{ℚ_ring, ℚ_field}
-use Rattle.solvable_maps.specs.Chain.{IsChain, Reaches}
+use Rattle.solvable_maps.specs.Dependency.{IsNonlinearCycle, Reaches}
 use Rattle.solvable_maps.specs.Class.{Above, Ascends, InClass}
 use Rattle.solvable_maps.specs.Uses.{any, has, uses, strongly, poly_at, IsMap}
 use Rattle.solvable_maps.proofs.Linear.{any_in, any_out, map_bounded}
@@ -128,7 +128,7 @@ module _ (base : List ℕ) (c : Coprime base) (m : ℕ) where
 
 module _ (base : List ℕ) (c : Coprime base) (images : List (Terms Fraction))
     (is : IsMap (length images) images)
-    (none : (vs : List ℕ) → IsChain (uses images) (strongly images) vs → ⊥)
+    (none : (vs : List ℕ) → IsNonlinearCycle (uses images) (strongly images) vs → ⊥)
     (ps : List (Terms Fraction)) (form : IsClosedForm base images ps) (g : List ℕ)
     (class : IsClass images g) where
   abbrev m : ℕ
@@ -345,7 +345,7 @@ module _ (base : List ℕ) (c : Coprime base) (images : List (Terms Fraction))
 
 pub never_zero : (base : List ℕ) → Coprime base → (images : List (Terms Fraction))
     → IsMap (length images) images
-    → ((vs : List ℕ) → IsChain (uses images) (strongly images) vs → ⊥)
+    → ((vs : List ℕ) → IsNonlinearCycle (uses images) (strongly images) vs → ⊥)
     → (ps : List (Terms Fraction)) → IsClosedForm base images ps → IsEigenvalue images ℚ.zero → ⊥
 never_zero base c images is none ps form e =
     e.nonzero (each_zero e.vector (λ i l.

@@ -18,7 +18,7 @@ use Rattle.algebra.specs.Fraction.{Fraction, ℚ}
 use Rattle.algebra.proofs.Fractions.{ℚ_ring, ℚ_field}
 use Rattle.polynomials.specs.Terms.{Terms, value_at, compose, sum_of_products}
 use Rattle.polynomials.proofs.ValueAt.{value_at-compose}
-use Rattle.solvable_maps.specs.Chain.{IsChain, Reaches}
+use Rattle.solvable_maps.specs.Dependency.{IsNonlinearCycle, Reaches}
 use Rattle.solvable_maps.specs.Class.{IsClassOf, IsNext, InClass, Above, Ascends}
 use Rattle.solvable_maps.specs.Uses.{uses, strongly, poly_at, has, any, IsMap, unit}
 use Rattle.solvable_maps.proofs.Linear.{any_in, any_out, map_bounded}
@@ -198,7 +198,7 @@ total_form (x ∷ w) (j ∷ g) f l = ap (F.add (F.mul x (f j))) (total_form w g 
 
 module _ (base : List ℕ) (images : List (Terms Fraction)) (since : ℕ)
     (is : IsMap (length images) images) (none : (vs : List ℕ)
-    → IsChain (uses images) (strongly images) vs → ⊥) (g : List ℕ)
+    → IsNonlinearCycle (uses images) (strongly images) vs → ⊥) (g : List ℕ)
     (class : IsClass images g) where
   abbrev c : ℕ
   c = length g

@@ -1,7 +1,7 @@
 -- One turn of the variables of a class: its matrix times them, and the rest at the whole state.
 --   matrix_of cs f        the linear parts of its polynomials in its own variables
 --   class_next            the law
---   own_terms             where there is no chain, each monomial with a variable of the class is that variable
+--   own_terms             where there is no cycle, each monomial with a variable of the class is that variable
 --   entries_decide        lists of one length with the same entries are one
 use Rattle.std.proofs.Common.{◌≡◌, inl, inr, ℕ, zero, suc, ◌<◌, List, [], ◌∷◌, length, T, refl, sym, ap, ◌∙◌, arith, ltb→lt}
 use Rattle.algebra.specs.Each.{Each}
@@ -10,7 +10,7 @@ use Rattle.algebra.specs.In.{In}
 use Rattle.algebra.specs.Ring.{Field, operations}
 use Rattle.algebra.specs.Sum.{sum_over}
 use Rattle.polynomials.specs.Terms.{Terms, coefficient, evaluate, value_at}
-use Rattle.solvable_maps.specs.Chain.{IsChain}
+use Rattle.solvable_maps.specs.Dependency.{IsNonlinearCycle}
 use Rattle.solvable_maps.specs.Class.{InClass}
 use Rattle.solvable_maps.specs.Uses.{exponent, has, uses, strongly, poly_at, IsMap, unit}
 use Rattle.solvable_maps.proofs.Reach.{or_out}
@@ -26,9 +26,9 @@ use Rattle.vectors.proofs.EchelonKernel.{total_same}
 use Rattle.vectors.proofs.ListLaws.{below-entry}
 use Rattle.solvable_maps.proofs.Values.{values, turns, turns-length}
 
--- ---- where there is no chain
+-- ---- where there is no cycle
 module _ {A : Type 0} (m : ℕ) (f : List (Terms A)) (is : IsMap m f) (none : (vs : List ℕ)
-    → IsChain (uses f) (strongly f) vs → ⊥) where
+    → IsNonlinearCycle (uses f) (strongly f) vs → ⊥) where
   mine_out : (cs : List ℕ) (e : List ℕ) → T (mine cs e) → (j : ℕ) × In j cs × T (has j e)
   mine_out [] e h = absurd h
   mine_out (k ∷ cs) e h =

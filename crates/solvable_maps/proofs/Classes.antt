@@ -7,7 +7,7 @@
 use Rattle.std.proofs.Common.{◌≡◌, ◌⊎◌, inl, inr, ℕ, zero, suc, ◌<◌, ◌≤◌, List, [], ◌∷◌, ◌++◌, Bool, true, false, T, eqb, eqb→eq, refl, sym, ap, ap₂, subst, arith}
 use lib.Dec.{eqb_refl}
 use Rattle.std.proofs.lemmas.Bool.{cases_lt}
-use Rattle.solvable_maps.specs.Chain.{Reaches, Walks, last_of, reach}
+use Rattle.solvable_maps.specs.Dependency.{Reaches, Walks, last_of, reach}
 use Rattle.solvable_maps.specs.Class.{Above, Ascends, InClass, Ready, IsClassOf, IsNext, AreClasses}
 use Rattle.solvable_maps.proofs.Reach.{reach_walk, reach_all}
 use Rattle.solvable_maps.proofs.Ranks.{size, size_less}

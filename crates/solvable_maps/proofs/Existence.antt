@@ -15,7 +15,7 @@ use Rattle.algebra.proofs.FieldLaws as FL
 use Rattle.algebra.proofs.In.{each_from}
 use Rattle.algebra.specs.Fraction.{Fraction, ℚ}
 use Rattle.algebra.proofs.Fractions.{ℚ_ring, ℚ_field}
-use Rattle.solvable_maps.specs.Chain.{IsChain}
+use Rattle.solvable_maps.specs.Dependency.{IsNonlinearCycle}
 use Rattle.solvable_maps.specs.Class.{AreClasses, AreWhole, IsClassOf, IsNext}
 use Rattle.solvable_maps.specs.Uses.{uses, strongly, poly_at, IsMap}
 use Rattle.solvable_maps.proofs.Classes.{member_dec}
@@ -98,7 +98,7 @@ weighted-arity k w qs a = arity-combination k ℚ (map (constant k) w) qs (arity
 
 module _ (base : List ℕ) (c : Coprime base) (images : List (Terms Fraction))
     (is : IsMap (length images) images)
-    (none : (vs : List ℕ) → IsChain (uses images) (strongly images) vs → ⊥) where
+    (none : (vs : List ℕ) → IsNonlinearCycle (uses images) (strongly images) vs → ⊥) where
   abbrev m : ℕ
   m = length images
 

@@ -3,7 +3,7 @@ pub mod Ranks
 pub mod Linear
 pub mod Exponents
 pub mod Classes
-pub mod Chains
+pub mod Cycles
 pub mod Shifts
 pub mod Values
 pub mod Back

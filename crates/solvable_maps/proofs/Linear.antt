@@ -1,4 +1,4 @@
--- Where there is no chain, a polynomial is linear in the variables of its own class.
+-- Where there is no cycle, a polynomial is linear in the variables of its own class.
 --   map_bounded           only variables of the map are used
 --   strongly_uses         what is used strongly is used
 --   own_is_unit           a monomial of f_i with a variable j of i's class is that variable
@@ -6,7 +6,7 @@ use Rattle.std.proofs.Common.{◌≡◌, inl, inr, ℕ, zero, suc, ◌<◌, ◌�
 use Rattle.algebra.specs.Each.{Each}
 use Rattle.polynomials.specs.Terms.{Terms}
 use Rattle.polynomials.specs.Polynomial.{Arity, AllArity}
-use Rattle.solvable_maps.specs.Chain.{IsChain}
+use Rattle.solvable_maps.specs.Dependency.{IsNonlinearCycle}
 use Rattle.solvable_maps.specs.Class.{InClass}
 use Rattle.algebra.specs.In.{In}
 use Rattle.solvable_maps.specs.Uses.{exponent, degree, any, has, has_strongly, poly_at, uses, strongly, IsMap, unit}
@@ -93,7 +93,7 @@ module _ {A : Type 0} where
         r.2).0)
 
     -- a monomial of i with a variable of its class has degree 1
-    pub own_degree : ((vs : List ℕ) → IsChain (uses map) (strongly map) vs → ⊥) → (i j : ℕ)
+    pub own_degree : ((vs : List ℕ) → IsNonlinearCycle (uses map) (strongly map) vs → ⊥) → (i j : ℕ)
         → InClass (uses map) i j → (t : List ℕ × A) → In t (poly_at map i) → 0 < exponent t.0 j
         → degree t.0 ≡ 1
     own_degree none i j k t h l = go (ltb 1 (degree t.0)) refl
@@ -101,22 +101,23 @@ module _ {A : Type 0} where
         some : T (has j t.0)
         some = lt→ltb 0 (exponent t.0 j) l
 
-        chain : T (strongly map i j) → InClass (uses map) i j → ⊥
-        chain s (inl e) = none (i ∷ j ∷ []) (s, tt, sym e)
-        chain s (inr r) = none (i ∷ j ∷ r.1.first ∷ r.1.others) (s, r.1.walks, r.1.ends)
+        cycle : T (strongly map i j) → InClass (uses map) i j → ⊥
+        cycle s (inl e) = none (i ∷ j ∷ []) (s, tt, sym e)
+        cycle s (inr r) = none (i ∷ j ∷ r.1.first ∷ r.1.others) (s, r.1.walks, r.1.ends)
 
         low : (b : Bool) → ltb 1 (degree t.0) ≡ b → (T b → ⊥) → degree t.0 ≤ 1
         low b e n = grind (arith, lt→ltb 1 (degree t.0), subst T e)
 
         go : (b : Bool) → ltb 1 (degree t.0) ≡ b → degree t.0 ≡ 1
         go true e =
-            absurd (chain (any_in (has_strongly j) (poly_at map i) t h
+            absurd (cycle (any_in (has_strongly j) (poly_at map i) t h
             (both_in (has j t.0) (ltb 1 (degree t.0)) some (subst T (sym e) tt))) k)
         go false e = (let a = exponent_degree t.0 j in let b = low false e (λ x. x) in
             omega (arith, a, b, l))
 
     -- so it is that variable
-    pub own_is_unit : ((vs : List ℕ) → IsChain (uses map) (strongly map) vs → ⊥) → (i j : ℕ)
+    pub own_is_unit : ((vs : List ℕ) → IsNonlinearCycle (uses map) (strongly map) vs → ⊥)
+        → (i j : ℕ)
         → InClass (uses map) i j → (t : List ℕ × A) → In t (poly_at map i) → 0 < exponent t.0 j
         → t.0 ≡ unit m j
     own_is_unit none i j k t h l =

@@ -8,7 +8,7 @@ use Rattle.algebra.proofs.In.{in_either}
 use Rattle.algebra.specs.Fraction.{Fraction, ℚ}
 use Rattle.polynomials.specs.Terms.{Terms, value_at, sum_of_products}
 use Rattle.solvable_maps.specs.Class.{IsNext, IsClassOf}
-use Rattle.solvable_maps.specs.Chain.{IsChain}
+use Rattle.solvable_maps.specs.Dependency.{IsNonlinearCycle}
 use Rattle.solvable_maps.specs.Uses.{uses, strongly, poly_at, IsMap}
 use Rattle.solvable_maps.specs.Classes.{IsClass}
 use Rattle.solvable_maps.specs.AfterTurns.{place, rests_at, IsAfterTurns, AreAfterTurns, IsFormAfterTurns, Done, values_done}
@@ -27,7 +27,7 @@ in_place (j ∷ g) i (inr h) = let r = in_place g i h in (
 )
 
 module _ (base : List ℕ) (images ps : List (Terms Fraction)) (is : IsMap (length images) images)
-    (no_chain : (vs : List ℕ) → IsChain (uses images) (strongly images) vs → ⊥) where
+    (no_cycle : (vs : List ℕ) → IsNonlinearCycle (uses images) (strongly images) vs → ⊥) where
   module _ (since k : ℕ) (earlier g : List ℕ) (next : IsNext (uses images) (length images) earlier
       k) (of : IsClassOf (uses images) (length images) k g) (known : AreAfterTurns base images since
       earlier ps) where
@@ -63,7 +63,7 @@ module _ (base : List ℕ) (images ps : List (Terms Fraction)) (is : IsMap (leng
     forms_made _ _ none = tt
     forms_made _ _ (stays z d before w by l q y start made width splits some source rec value) =
         let done = forms_made z before made in (
-          later_form_turned base images (since + z) is no_chain g the_class before done w width l by
+          later_form_turned base images (since + z) is no_cycle g the_class before done w width l by
               splits q (source_is z before w by q source) some start y rec d value,
           done,
         )
@@ -71,7 +71,7 @@ module _ (base : List ℕ) (images ps : List (Terms Fraction)) (is : IsMap (leng
         let done = forms_made z before made in
         let e : suc (since + z) ≡ since + suc z = omega arith in (
           subst (λ d. IsFormAfterTurns base images d g w y) e
-              (zero_form_turned base images (since + z) is no_chain g the_class before done w width
+              (zero_form_turned base images (since + z) is no_cycle g the_class before done w width
               l by splits q (source_is z before w by q source) nothing start y rec),
           all_later z before done,
         )
@@ -94,6 +94,6 @@ module _ (base : List ℕ) (images ps : List (Terms Fraction)) (is : IsMap (leng
           let r = in_place g i h in
           let m = makes r.0 r.1 in
           subst (λ j. IsAfterTurns base images (since + z) j (poly_at ps j)) r.2
-          (variable_turned base images (since + z) is no_chain g
+          (variable_turned base images (since + z) is no_cycle g
           (next_is_class images earlier g k next of) forms done r.0 r.1 m.by m.makes
           (poly_at ps (place g r.0)) m.values)

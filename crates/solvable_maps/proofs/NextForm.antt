@@ -10,7 +10,7 @@ use Rattle.algebra.specs.Ring.{Field}
 use Rattle.algebra.specs.Fraction.{Fraction, ℚ}
 use Rattle.algebra.proofs.Fractions.{ℚ_field}
 use Rattle.polynomials.specs.Terms.{Terms, coefficient, value_at, sum_of_products}
-use Rattle.solvable_maps.specs.Chain.{IsChain}
+use Rattle.solvable_maps.specs.Dependency.{IsNonlinearCycle}
 use Rattle.solvable_maps.specs.Uses.{uses, strongly, poly_at, IsMap, unit}
 use Rattle.std.proofs.lemmas.List.{length-map, length-take-le}
 use Rattle.vectors.specs.Causes.{row_at}
@@ -94,7 +94,7 @@ split_at images g forms back values are inverse k l done count turned by product
 
 module _ (base : List ℕ) (images : List (Terms Fraction)) (since : ℕ)
     (is : IsMap (length images) images)
-    (none : (vs : List ℕ) → IsChain (uses images) (strongly images) vs → ⊥) (g : List ℕ)
+    (none : (vs : List ℕ) → IsNonlinearCycle (uses images) (strongly images) vs → ⊥) (g : List ℕ)
     (class : IsClass images g) where
   abbrev c : ℕ
   c = length g

@@ -1,11 +1,11 @@
--- There is no chain exactly where there are ranks.
+-- There is no cycle exactly where there are ranks.
 --   count m test        how many numbers below m pass the test
---   ranks_no_chain      where there are ranks there is no chain
---   size uses m i       how many variables i is or reaches: the ranks where there is no chain
+--   ranks_no_cycle      where there are ranks there is no cycle
+--   size uses m i       how many variables i is or reaches: the ranks where there is no cycle
 use Rattle.std.proofs.Common.{◌≡◌, ◌⊎◌, inl, inr, ℕ, zero, suc, ◌+◌, ◌<◌, ◌≤◌, List, [], ◌∷◌, Bool, true, false, T, cond, eqb, eqb→eq, ◌||◌, sym, ap, subst, arith}
 use lib.Dec.{eqb_refl}
 use Rattle.std.proofs.lemmas.Bool.{cases_lt}
-use Rattle.solvable_maps.specs.Chain.{Walks, last_of, Reaches, IsChain, Ranks, reach}
+use Rattle.solvable_maps.specs.Dependency.{Walks, last_of, Reaches, IsNonlinearCycle, Ranks, reach}
 use Rattle.solvable_maps.proofs.Reach.{or_out, or_left, or_right, reach_walk, reach_all, reaches_step, reaches_trans}
 
 abbrev pub count : ℕ → (ℕ → Bool) → ℕ
@@ -55,11 +55,11 @@ module _ (uses strongly : ℕ → ℕ → Bool) where
   walk_falls rank r i (j ∷ vs) w = (let a = r.at_most i j w.0 in let b =
       walk_falls rank r j vs w.1 in omega (arith, a, b))
 
-  pub ranks_no_chain : (rank : ℕ → ℕ) → Ranks uses strongly rank → (vs : List ℕ)
-      → IsChain uses strongly vs → ⊥
-  ranks_no_chain rank r [] c = c
-  ranks_no_chain rank r (v ∷ []) c = c
-  ranks_no_chain rank r (v ∷ w ∷ vs) c =
+  pub ranks_no_cycle : (rank : ℕ → ℕ) → Ranks uses strongly rank → (vs : List ℕ)
+      → IsNonlinearCycle uses strongly vs → ⊥
+  ranks_no_cycle rank r [] c = c
+  ranks_no_cycle rank r (v ∷ []) c = c
+  ranks_no_cycle rank r (v ∷ w ∷ vs) c =
       let a = r.lower v w c.0 in
       let b = walk_falls rank r w vs c.1 in
       let e : rank (last_of w vs) ≡ rank v = ap rank c.2 in
@@ -110,17 +110,18 @@ module _ (uses strongly : ℕ → ℕ → Bool) where
               ↦ none s
         ]) (self_in i)
 
-    chain_of : (i j : ℕ) → T (strongly i j) → ((i ≡ j) ⊎ Reaches uses j i) → (vs : List ℕ)
-        × IsChain uses strongly vs
-    chain_of i j t (inl e) = (i ∷ j ∷ [], (t, tt, sym e))
-    chain_of i j t (inr r) = (i ∷ j ∷ r.first ∷ r.others, (t, r.walks, r.ends))
+    cycle_of : (i j : ℕ) → T (strongly i j) → ((i ≡ j) ⊎ Reaches uses j i) → (vs : List ℕ)
+        × IsNonlinearCycle uses strongly vs
+    cycle_of i j t (inl e) = (i ∷ j ∷ [], (t, tt, sym e))
+    cycle_of i j t (inr r) = (i ∷ j ∷ r.first ∷ r.others, (t, r.walks, r.ends))
 
-    pub no_chain_ranks : ((vs : List ℕ) → IsChain uses strongly vs → ⊥) → Ranks uses strongly size
-    no_chain_ranks none = record {
+    pub no_cycle_ranks : ((vs : List ℕ) → IsNonlinearCycle uses strongly vs → ⊥)
+        → Ranks uses strongly size
+    no_cycle_ranks none = record {
       at_most = λ i j t. size_at_most i j (reaches_step uses i j t);
       lower = λ i j t.
           let out : (i ≡ j) ⊎ Reaches uses j i → ⊥ =
-          λ e. (let c = chain_of i j t e in none c.0 c.1) in
+          λ e. (let c = cycle_of i j t e in none c.0 c.1) in
           size_less i j (bounded i j (linear i j t)).0 (reaches_step uses i j (linear i j t))
           (λ e. out (inl e)) (λ r. out (inr r));
     }

@@ -4,7 +4,7 @@
 use Rattle.std.proofs.Common.{◌≡◌, ◌⊎◌, inl, inr, ℕ, zero, suc, ◌<◌, List, [], ◌∷◌, ◌++◌, Bool, true, false, T, ◌||◌, ◌&&◌, refl, sym, subst, ◌∙◌, arith}
 use Rattle.std.proofs.lemmas.Bool.{cases_lt}
 use Rattle.algebra.proofs.Basics.{both_in, both_out}
-use Rattle.solvable_maps.specs.Chain.{Walks, last_of, Reaches, reach}
+use Rattle.solvable_maps.specs.Dependency.{Walks, last_of, Reaches, reach}
 
 pub or_out : (a b : Bool) → T (a || b) → T a ⊎ T b
 or_out true b t = inl tt

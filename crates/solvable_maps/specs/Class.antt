@@ -6,7 +6,7 @@
 --   AreClasses uses m earlier groups     the classes of the variables below m that aren't among the earlier ones, in order: each is the class, ascending, of the first variable that is ready
 --   AreWhole uses m earlier     the earlier ones are whole classes
 use Rattle.std.specs.Prelude.{◌≡◌, ◌⊎◌, ℕ, ◌<◌, ◌≤◌, List, [], ◌∷◌, ◌++◌, Bool}
-use Rattle.solvable_maps.specs.Chain.{Reaches}
+use Rattle.solvable_maps.specs.Dependency.{Reaches}
 use Rattle.algebra.specs.In.{In}
 
 abbrev pub Above : ℕ → List ℕ → Type 0

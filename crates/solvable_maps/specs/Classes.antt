@@ -14,7 +14,7 @@ use Rattle.algebra.specs.In.{In}
 use Rattle.algebra.specs.Fraction.{Fraction, ℚ}
 use Rattle.polynomials.specs.Terms.{Terms, coefficient, sum_of_products}
 use Rattle.exponentials.specs.Base.{IsTheBase}
-use Rattle.solvable_maps.specs.Chain.{IsChain}
+use Rattle.solvable_maps.specs.Dependency.{IsNonlinearCycle}
 use Rattle.solvable_maps.specs.Class.{IsClassOf}
 use Rattle.solvable_maps.specs.Uses.{uses, strongly, poly_at, unit}
 use Rattle.vectors.specs.Matrices.{SplitsAt, greatest_sum}
@@ -60,6 +60,6 @@ first_of [] = 0
 first_of (i ∷ g) = i
 
 pub record IsReachedClass (images : List (Terms Fraction)) (g : List ℕ) : Type 0 where
-  pub solvable : (vs : List ℕ) → IsChain (uses images) (strongly images) vs → ⊥
+  pub solvable : (vs : List ℕ) → IsNonlinearCycle (uses images) (strongly images) vs → ⊥
   pub is : IsClass images g
   pub before : (h : List ℕ) → IsClass images h → first_of h < first_of g → Passes images h

@@ -1,4 +1,4 @@
-pub mod Chain
+pub mod Dependency
 pub mod Class
 pub mod Uses
 pub mod Shifts

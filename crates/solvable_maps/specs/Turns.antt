@@ -6,7 +6,7 @@
 --   turns map n s           n times the values of the map
 --   width r m               how many variables: n, s, u and v for each of the r numbers of the base, and m
 --   IsNormal base p         no monomial of p has s s, or both u and v of one b
---   IsNormalForm base O m p     p in falling order, and normal
+--   IsNormalForm base O m p     p in descending order, and normal
 --   IsClosedFormFrom base map since ps     from `since` turns on, the values of ps at n are the state after n turns
 --   IsClosedForm base map ps     so from 0 on
 --   IsItself base m ps i            at n = 0 the variable i is itself; one that doesn't stay passes

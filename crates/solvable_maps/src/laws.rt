@@ -3,7 +3,7 @@
 ghost use Rattle.std.specs.Prelude.{◌≡◌, ◌≢◌, ◌<◌, ◌≤◌, ◌+◌, ℕ, suc, ℤ, Bool, List, [], length, map, take, drop};
 ghost use Rattle.algebra.specs.In.{In};
 ghost use Rattle.solvable_maps.specs.Class.{IsNext, IsClassOf, AreClasses};
-ghost use Rattle.solvable_maps.specs.Chain.{IsChain};
+ghost use Rattle.solvable_maps.specs.Dependency.{IsNonlinearCycle};
 ghost use Rattle.solvable_maps.specs.Uses.{uses, strongly, IsMap};
 ghost use Rattle.vectors.specs.Adding.{IsEchelonOf};
 ghost use Rattle.vectors.specs.Matrices.{AreForms};
@@ -187,7 +187,7 @@ pub fn forms_come_one_after_another()
         (rests_at images g (turns images n s)) }
     ensures first { (base : List ℕ) (images : List (Terms Fraction)) (since : ℕ)
         → IsMap (length images) images
-        → ((vs : List ℕ) → IsChain (uses images) (strongly images) vs → ⊥) → (g : List ℕ)
+        → ((vs : List ℕ) → IsNonlinearCycle (uses images) (strongly images) vs → ⊥) → (g : List ℕ)
         → IsClass images g → (before : Done)
         → Each (λ t. IsFormAfterTurns base images since g t.0 t.1) before → (w : List Fraction)
         → length w ≡ length g → (l : Fraction) (by : List Fraction)
@@ -201,7 +201,7 @@ pub fn forms_come_one_after_another()
         → HasValueAfter base images g w since y → IsFormAfterTurns base images since g w y }
     ensures later { (base : List ℕ) (images : List (Terms Fraction)) (since : ℕ)
         → IsMap (length images) images
-        → ((vs : List ℕ) → IsChain (uses images) (strongly images) vs → ⊥) → (g : List ℕ)
+        → ((vs : List ℕ) → IsNonlinearCycle (uses images) (strongly images) vs → ⊥) → (g : List ℕ)
         → IsClass images g → (before : Done)
         → Each (λ t. IsFormAfterTurns base images since g t.0 t.1) before → (w : List Fraction)
         → length w ≡ length g → (l : Fraction) (by : List Fraction)
@@ -215,7 +215,7 @@ pub fn forms_come_one_after_another()
         → HasValueAfter base images g w (since + d) y → IsFormAfterTurns base images since g w y }
     ensures zero { (base : List ℕ) (images : List (Terms Fraction)) (since : ℕ)
         → IsMap (length images) images
-        → ((vs : List ℕ) → IsChain (uses images) (strongly images) vs → ⊥) → (g : List ℕ)
+        → ((vs : List ℕ) → IsNonlinearCycle (uses images) (strongly images) vs → ⊥) → (g : List ℕ)
         → IsClass images g → (before : Done)
         → Each (λ t. IsFormAfterTurns base images since g t.0 t.1) before → (w : List Fraction)
         → length w ≡ length g → (l : Fraction) (by : List Fraction)
@@ -229,7 +229,7 @@ pub fn forms_come_one_after_another()
         → IsFormAfterTurns base images (suc since) g w y }
     ensures variable { (base : List ℕ) (images : List (Terms Fraction)) (since : ℕ)
         → IsMap (length images) images
-        → ((vs : List ℕ) → IsChain (uses images) (strongly images) vs → ⊥) → (g : List ℕ)
+        → ((vs : List ℕ) → IsNonlinearCycle (uses images) (strongly images) vs → ⊥) → (g : List ℕ)
         → IsClass images g → (forms : Done)
         → Each (λ t. IsFormAfterTurns base images since g t.0 t.1) forms
         → (a : ℕ) → a < length g → (by : List Fraction)
@@ -276,12 +276,12 @@ pub fn classes_end_with_the_closed_form()
 pub fn as_many_turns_as_zeros_suffice()
     ensures known { (base : List ℕ) (images ps : List (Terms Fraction))
         → IsMap (length images) images
-        → ((vs : List ℕ) → IsChain (uses images) (strongly images) vs → ⊥)
+        → ((vs : List ℕ) → IsNonlinearCycle (uses images) (strongly images) vs → ⊥)
         → (zeros : ℕ) (vs : List ℕ) → Made base images ps zeros vs
         → AreAfterTurns base images zeros vs ps }
     ensures whole { (base : List ℕ) (images ps : List (Terms Fraction))
         → IsMap (length images) images
-        → ((vs : List ℕ) → IsChain (uses images) (strongly images) vs → ⊥)
+        → ((vs : List ℕ) → IsNonlinearCycle (uses images) (strongly images) vs → ⊥)
         → (zeros : ℕ) (vs : List ℕ) → Made base images ps zeros vs
         → AreClasses (uses images) (length images) vs []
         → AllArity (width (length base) (length images)) ps
@@ -292,7 +292,7 @@ pub fn as_many_turns_as_zeros_suffice()
 pub fn solvable_maps_have_a_closed_form()
     ensures { (base : List ℕ) → Coprime base → (images : List (Terms Fraction))
         → IsMap (length images) images
-        → ((vs : List ℕ) → IsChain (uses images) (strongly images) vs → ⊥)
+        → ((vs : List ℕ) → IsNonlinearCycle (uses images) (strongly images) vs → ⊥)
         → (groups : List (List ℕ)) → AreClasses (uses images) (length images) [] groups
         → (splits : (g : List ℕ) → IsClass images g → HasForms base images g)
         → (since : ℕ) × (ps : List (Terms Fraction)) × IsClosedFormFrom base images since ps
@@ -304,7 +304,7 @@ pub fn solvable_maps_have_a_closed_form()
 pub fn no_eigenvalue_is_zero_where_a_form_begins_at_once()
     ensures { (base : List ℕ) → Coprime base → (images : List (Terms Fraction))
         → IsMap (length images) images
-        → ((vs : List ℕ) → IsChain (uses images) (strongly images) vs → ⊥)
+        → ((vs : List ℕ) → IsNonlinearCycle (uses images) (strongly images) vs → ⊥)
         → (ps : List (Terms Fraction)) → IsClosedForm base images ps
         → IsEigenvalue images ℚ.zero → ⊥ }
 {}

@@ -25,4 +25,4 @@ mod OneTurnBack
 mod Placing
 mod LateLists
 mod LateFormLists
-pub mod Falling
+pub mod Descending

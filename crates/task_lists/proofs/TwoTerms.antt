@@ -3,7 +3,7 @@
 --   two_items                                a list to which two were pushed
 --   terms_relation                           a relation, of its two terms
 --   terms_apart, terms_long                  these have different exponents, as many as they are of
---   relation_is                              the one in falling order
+--   relation_is                              the one in descending order
 use Rattle.std.proofs.Common.{◌≡◌, ◌≢◌, ℕ, ◌+◌, ◌<◌, List, [], ◌∷◌, ◌++◌, length, replicate, sym, ap, ap₂, subst, ◌∙◌, arith}
 use Rattle.std.specs.List.{All}
 use Rattle.std.proofs.lemmas.List.Elements.{All-nil, All-cons}

@@ -3,7 +3,7 @@ use frac128::{Frac, Whole};
 use monos::{Blocks, Grevlex};
 use poly::Poly;
 
-/// Polynomials in falling order.
+/// Polynomials in descending order.
 pub type Polys = Vec<Poly<Frac, Grevlex>>;
 
 /// Polynomials in the order that eliminates the variables in front.

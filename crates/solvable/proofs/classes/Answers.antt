@@ -4,8 +4,8 @@ use Rattle.poly.specs.Seen.{terms_each}
 use Rattle.solvable.proofs.Using.{is_map, linear_tables, answer_is, classes_are, some_answer, no_answer}
 use Rattle.solvable.proofs.classes.Goals as goal
 
-pub least_chain-requires-clause-linear : goal.least_chain-requires-clause-linear
-least_chain-requires-clause-linear c =
+pub least_cycle-requires-clause-linear : goal.least_cycle-requires-clause-linear
+least_cycle-requires-clause-linear c =
     linear_tables (length c.args.images.now.items) (terms_each c.args.images.now.items)
     (is_map c.args.images.now.items c.requires) c.in_ok-used.used.items
     c.in_ok-strong.strong.items c.in_ok-used.ensures c.in_ok-strong.ensures

@@ -98,7 +98,7 @@ returns-in_err-note-clause-budget g c =
           s.sugars.items s.pair_sugar (map pair_of (waiting_pairs s.queue)) (current_of s.current)
           (left_of p) (ap current_of (was g at)) t.cutting _ _ t.found refl refl;
       unit = refl;
-      spent = (c.in_err-note.ensures.budget.0
+      exhausted = (c.in_err-note.ensures.budget.0
           (cc (budget_of c.from_residual-in_err-note.result c.in_err-note.field-0.0
           c.from_residual-in_err-note.ensures.1 w))).1;
     }
@@ -164,7 +164,7 @@ returns-then-is_zero-clause-fits g c =
     fits_idle _ _ c.take.new.self c.args.state.now c.in-Some.ensures.after c.requires.fits
 
 pub into_poly-requires : goal.into_poly-requires
-into_poly-requires g c = record { falling = c.in_ok-cut.ensures.current.falling }
+into_poly-requires g c = record { descending = c.in_ok-cut.ensures.current.descending }
 
 pub made_monic-requires : goal.made_monic-requires
 made_monic-requires g c =

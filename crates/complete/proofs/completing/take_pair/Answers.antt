@@ -261,7 +261,7 @@ returns-in_err-note-clause-budget g c = λ w. record {
   following = _;
   comes = comes g (goal.at.returns-in_err-note-clause-budget g c).In_ok-p;
   unit = refl;
-  spent = (c.in_err-note.ensures.budget.0
+  exhausted = (c.in_err-note.ensures.budget.0
       (cc (budget_of c.from_residual-in_err-note.result c.in_err-note.field-0.0
       c.from_residual-in_err-note.ensures.1 w))).1;
 }

@@ -16,12 +16,12 @@ use Rattle.poly.specs.View.{terms_of}
 use Rattle.divide.specs.Current.{left_of, IsCurrent}
 use Rattle.divide.specs.Division.{state_of, division_of}
 use Rattle.machines.proofs.Dividing.{division_undivided}
-use Rattle.divide.proofs.Ended.{places_of, all_of, rest_is, sum_of, falling_of}
+use Rattle.divide.proofs.Ended.{places_of, all_of, rest_is, sum_of, descending_of}
 use Rattle.divide.proofs.Like.{divisors_along, fits_along, starts}
 use Rattle.divide.proofs.OneCut.{along}
 use Rattle.divide.proofs.Refused.{out_of_memory, out_of_room, step_refused}
 use Rattle.divide.proofs.dividing.divide.Given.{Over}
-use Rattle.divide.proofs.dividing.divide.Goals.{Start, In_ok-rest}
+use Rattle.divide.proofs.dividing.divide.Goals.{Start, In_ok-remainder}
 use Rattle.divide.proofs.dividing.divide.Goals as goal
 
 -- the division, of an element of each order
@@ -96,22 +96,22 @@ elements g c =
       one.2,
     ))
 
-pub polynomials_of-requires-clause-falling : goal.polynomials_of-requires-clause-falling
-polynomials_of-requires-clause-falling g c =
-    let start = (goal.at.polynomials_of-requires-clause-falling g c).Start in
+pub polynomials_of-requires-clause-descending : goal.polynomials_of-requires-clause-descending
+polynomials_of-requires-clause-descending g c =
+    let start = (goal.at.polynomials_of-requires-clause-descending g c).Start in
     let S = g.K.Ring.scalars in
     let p = c.args.p.now in
     let O = g.O.Order.order p.order in
     let off = going_off (dividing g start) c.loop-state.invariant.0.order c.loop-state.invariant.1
     c.if-branch.false c.in_ok-step.ensures.ok in
-    let falling = all_of (λ v. terms_of g.K.Ring.meaning v.items)
+    let descending = all_of (λ v. terms_of g.K.Ring.meaning v.items)
     (IsPolynomial S.arithmetic O p.arity) c.step.new.state.cofactors.items
-    (falling_of S g.met.K.Ring.ring g.met.K.Field.field g.met.K.Ring.zero_is O
+    (descending_of S g.met.K.Ring.ring g.met.K.Field.field g.met.K.Ring.zero_is O
     (g.met.O.Order.is_order p.order) p.arity (terms_each c.args.list.now) (terms_in p)
     (state_of c.step.new.state) _ _ (elements g start) p.polynomial
     (record { work = off.0.work; ended = off.1 })) in
     λ k d l. along S g.O.Order.order _ _ _ _ _ (sym c.order-order.ensures)
-    (sym c.arity-arity.ensures.arity) (falling k d l)
+    (sym c.arity-arity.ensures.arity) (descending k d l)
 
 pub returns-in_err-cofactors-clause-ran : goal.returns-in_err-cofactors-clause-ran
 returns-in_err-cofactors-clause-ran g c =
@@ -122,54 +122,57 @@ returns-in_err-cofactors-clause-ran g c =
     c.from_residual-in_err-cofactors.ensures.1
 
 pub into_poly-requires : goal.into_poly-requires
-into_poly-requires g c = record { falling = c.in_ok-step.ensures.current.falling }
+into_poly-requires g c = record { descending = c.in_ok-step.ensures.current.descending }
 
-pub returns-in_err-rest-clause-ran : goal.returns-in_err-rest-clause-ran
-returns-in_err-rest-clause-ran g c =
+pub returns-in_err-remainder-clause-ran : goal.returns-in_err-remainder-clause-ran
+returns-in_err-remainder-clause-ran g c =
     let i = c.loop-state.invariant in
-    let off = going_off (dividing g (goal.at.returns-in_err-rest-clause-ran g c).Start) i.0.order
+    let off = going_off (dividing g (goal.at.returns-in_err-remainder-clause-ran g c).Start)
+    i.0.order
     i.1 c.if-branch.false c.in_ok-step.ensures.ok in
-    out_of_room off.0 c.from_residual-in_err-rest.result c.from_residual-in_err-rest.ensures.1
+    out_of_room off.0 c.from_residual-in_err-remainder.result
+    c.from_residual-in_err-remainder.ensures.1
 
 -- ---- what it gives
-over : (g : Over) (c : In_ok-rest g) → Going (division_of c.args.p.now c.args.list.now)
+over : (g : Over) (c : In_ok-remainder g) → Going (division_of c.args.p.now c.args.list.now)
     c.args.meter.now c.step.new.meter (state_of c.step.new.state)
     × HasEnded (division_of c.args.p.now c.args.list.now).next (state_of c.step.new.state)
-over g c = going_off (dividing g (goal.at.In_ok-rest g c).Start) c.loop-state.invariant.0.order
+over g c = going_off (dividing g (goal.at.In_ok-remainder g c).Start) c.loop-state.invariant.0.order
     c.loop-state.invariant.1 c.if-branch.false c.in_ok-step.ensures.ok
 
-rest_is_left : (g : Over) (c : In_ok-rest g) → terms_in c.in_ok-rest.rest ≡ division.rest
+remainder_is_left : (g : Over) (c : In_ok-remainder g) → terms_in c.in_ok-remainder.remainder
+    ≡ division.remainder
     (state_of c.step.new.state)
-rest_is_left g c = c.in_ok-rest.ensures.terms
+remainder_is_left g c = c.in_ok-remainder.ensures.terms
     ∙ rest_is c.step.new.state.put_away (left_of c.step.new.state.current)
     (map (λ v. terms_of g.K.Ring.meaning v.items) c.step.new.state.cofactors.items)
     c.in_ok-step.ensures.fits.away
 
 pub returns-clause-ran : goal.returns-clause-ran
 returns-clause-ran g c =
-    let at = (goal.at.returns-clause-ran g c).In_ok-rest in
+    let at = (goal.at.returns-clause-ran g c).In_ok-remainder in
     let f = fits_along _ _ _ _ _ _ c.loop-state.invariant.0.order c.loop-state.invariant.0.arity
     c.in_ok-step.ensures.fits in
     ran_done (over g at).0 (over g at).1
     (record {
       cofactors = c.in_ok-cofactors.ensures.terms;
-      rest = rest_is_left g at;
+      remainder = remainder_is_left g at;
       like = λ k d l. let one = c.in_ok-cofactors.ensures.like k d l in
           (one.0 ∙ c.order-order.ensures, one.1 ∙ c.arity-arity.ensures.arity);
-      rest_order = c.in_ok-rest.ensures.order ∙ f.order;
-      rest_arity = c.in_ok-rest.ensures.arity ∙ f.arity;
+      remainder_order = c.in_ok-remainder.ensures.order ∙ f.order;
+      remainder_arity = c.in_ok-remainder.ensures.arity ∙ f.arity;
     })
 
 pub returns-clause-sum : goal.returns-clause-sum
 returns-clause-sum g c =
     let at = goal.at.returns-clause-sum g c in
-    let end = over g at.In_ok-rest in
+    let end = over g at.In_ok-remainder in
     let S = g.K.Ring.scalars in
     let gs = terms_each c.args.list.now in
     let p = c.args.p.now in
     subst (λ (q : Terms S.Elem). Same S.arithmetic (terms_in p) q)
     (ap₂ (λ (qs : List (Terms S.Elem)) (q : Terms S.Elem). combination S.arithmetic qs gs ++ q)
-    (sym c.in_ok-cofactors.ensures.terms) (sym (rest_is_left g at.In_ok-rest)))
+    (sym c.in_ok-cofactors.ensures.terms) (sym (remainder_is_left g at.In_ok-remainder)))
     (sum_of S g.met.K.Ring.ring g.met.K.Field.field g.met.K.Ring.zero_is (g.O.Order.order p.order)
     (g.met.O.Order.is_order p.order) p.arity gs (terms_in p) (state_of c.step.new.state) _ _
     (elements g at.Start) p.polynomial (record { work = end.0.work; ended = end.1 }))
@@ -178,6 +181,6 @@ pub returns-clause-undivided : goal.returns-clause-undivided
 returns-clause-undivided g c =
     let at = goal.at.returns-clause-undivided g c in
     subst (AtPlaces (λ t. AtPlaces (λ q. divides (lead_of q) t.0 ≡ false)
-    (terms_each c.args.list.now))) (sym (rest_is_left g at.In_ok-rest))
+    (terms_each c.args.list.now))) (sym (remainder_is_left g at.In_ok-remainder))
     (division_undivided (field g.K.Ring.scalars) (g.O.Order.order c.args.p.now.order)
-    (terms_each c.args.list.now) (state_of c.step.new.state) (over g at.In_ok-rest).1)
+    (terms_each c.args.list.now) (state_of c.step.new.state) (over g at.In_ok-remainder).1)

@@ -10,14 +10,14 @@ pub loop-terms-preserved : goal.loop-terms-preserved
 loop-terms-preserved g c =
     let i = c.loop-terms.invariant in
     let seen = λ (v : _). terms_of g.K.Ring.meaning v.items in (
-      pushed terms_in c.loop-terms.out.items c.push.new.self.items c.from_falling.result
-          c.in_ok-push.ensures.items ∙ ap₂ (λ l q. l ++ q ∷ []) i.0 c.from_falling.ensures.terms
+      pushed terms_in c.loop-terms.out.items c.push.new.self.items c.from_descending.result
+          c.in_ok-push.ensures.items ∙ ap₂ (λ l q. l ++ q ∷ []) i.0 c.from_descending.ensures.terms
           ∙ sym (map-append seen c.loop-terms.yielded (c.in-Some.terms ∷ [])),
       All-same (λ q. (q.order ≡ c.args.order) × (q.arity ≡ c.args.arity)) c.push.new.self.items
-          (c.loop-terms.out.items ++ c.from_falling.result ∷ []) c.in_ok-push.ensures.items
+          (c.loop-terms.out.items ++ c.from_descending.result ∷ []) c.in_ok-push.ensures.items
           (All-push (λ q. (q.order ≡ c.args.order) × (q.arity ≡ c.args.arity))
-          c.loop-terms.out.items c.from_falling.result i.1 (
-            c.from_falling.ensures.order,
-            c.from_falling.ensures.arity,
+          c.loop-terms.out.items c.from_descending.result i.1 (
+            c.from_descending.ensures.order,
+            c.from_descending.ensures.arity,
           )),
     )

@@ -8,8 +8,8 @@ use Rattle.expo.specs.Images.{more}
 use Rattle.expo.proofs.Single.{more_made, more_falls}
 use Rattle.expo.proofs.images.one_more.Goals as goal
 
-pub from_falling-requires-clause-falling : goal.from_falling-requires-clause-falling
-from_falling-requires-clause-falling c =
+pub from_descending-requires-clause-descending : goal.from_descending-requires-clause-descending
+from_descending-requires-clause-descending c =
     let m = c.args.arity in
     let is : terms_of fraction_of c.in_ok-terms.terms.items ≡ more m =
     ap (terms_of fraction_of) c.in_ok-terms.ensures.items
@@ -19,6 +19,6 @@ from_falling-requires-clause-falling c =
 
 pub returns-clause-terms : goal.returns-clause-terms
 returns-clause-terms c =
-    c.from_falling.ensures.terms ∙ ap (terms_of fraction_of) c.in_ok-terms.ensures.items
+    c.from_descending.ensures.terms ∙ ap (terms_of fraction_of) c.in_ok-terms.ensures.items
     ∙ more_made c.args.arity _ _ _ _ c.requires.some c.in_ok-variable.ensures.ok
     c.in_ok-one.ensures.ok c.one-2.ensures c.one-3.ensures

@@ -7,7 +7,7 @@ use Rattle.full_cert.specs.PartsForm.{block_at}
 use Rattle.task_lists.specs.Images.{AreRows}
 use Rattle.full_cert.proofs.Each.{each_more}
 use Rattle.cert_form.proofs.Paths.{place_is}
-use Rattle.task_lists.proofs.Falling.{rows_over}
+use Rattle.task_lists.proofs.Descending.{rows_over}
 use Rattle.full_cert.proofs.start.read_blocks.Goals as goal
 
 pub loop-i-preserved : goal.loop-i-preserved

@@ -42,11 +42,11 @@ put_product-requires-clause-long g c =
     ∙ sym (arity_at c.args.other.now.arity (map t c.deref-term-items.result.now) _ _ _
     kept.arity (at_index t _ _ _ c.loop-term-test.true c.term-item.is))
 
-pub put_product-requires-clause-falling : goal.put_product-requires-clause-falling
-put_product-requires-clause-falling g c =
+pub put_product-requires-clause-descending : goal.put_product-requires-clause-descending
+put_product-requires-clause-descending g c =
     subst (λ n. IsPolynomial g.K.Ring.scalars.arithmetic (g.O.Order.order c.args.self.order) n
     (terms_of g.K.Ring.meaning c.loop-term.front.items ++ terms_of g.K.Ring.meaning
-    c.loop-term.back.items)) (sym c.requires.factor) c.loop-term.invariant.0.falling
+    c.loop-term.back.items)) (sym c.requires.factor) c.loop-term.invariant.0.descending
 
 pub put_product-requires-clause-above : goal.put_product-requires-clause-above
 put_product-requires-clause-above g c =
@@ -121,7 +121,7 @@ invariant_of-result g c =
       few = c.args.self.few;
       polynomial =
           subst (IsPolynomial g.K.Ring.scalars.arithmetic (g.O.Order.order c.args.self.order)
-          c.args.self.arity) (sym whole) c.loop-term.invariant.0.falling;
+          c.args.self.arity) (sym whole) c.loop-term.invariant.0.descending;
     }
 
 pub returns-clause-difference : goal.returns-clause-difference

@@ -14,7 +14,7 @@ pass_greater-requires g c =
     record {
       long = all_arity g.K.Ring.meaning (length c.args.mono) c.args.back.now.items
           (each-right (λ t. length t.0 ≡ length c.args.mono) (k c.args.front.now.items)
-          (k c.args.back.now.items) c.requires.falling.arity);
+          (k c.args.back.now.items) c.requires.descending.arity);
       room = let room = c.requires.room in omega (arith, room);
     }
 
@@ -58,7 +58,7 @@ pub returns-then-not-pass_greater-clause-ok : goal.returns-then-not-pass_greater
 returns-then-not-pass_greater-clause-ok g c =
     let t = term_of g.K.Ring.meaning in
     put_less g.K.Ring.scalars g.met.K.Ring.ring _ (g.met.O.Order.is_order c.args.order) _ _ _ _ _
-    c.requires.falling (images t _ _ _ _ c.pass_greater.ensures.terms)
+    c.requires.descending (images t _ _ _ _ c.pass_greater.ensures.terms)
     (c.pass_greater.ensures.above c.requires.above)
     c.pass_greater.result _ c.requires.nonzero c.if-not-pass_greater.true
     c.pass_greater.ensures.begins (pushed t _ _ _ _ c.push_reserved.ensures.items refl)
@@ -67,7 +67,7 @@ pub returns-in_err-sum-clause-wide : goal.returns-in_err-sum-clause-wide
 returns-in_err-sum-clause-wide g c =
     let t = term_of g.K.Ring.meaning in
     λ _. put_past g.K.Ring.scalars g.met.K.Ring.ring _ (g.met.O.Order.is_order c.args.order) _ _ _ _
-    _ c.requires.falling (images t _ _ _ _ c.pass_greater.ensures.terms)
+    _ c.requires.descending (images t _ _ _ _ c.pass_greater.ensures.terms)
     (c.pass_greater.ensures.above c.requires.above)
     c.pass_greater.result _ _ c.if-not-pass_greater.false c.pass_greater.ensures.begins
     (ap (map t) c.in-Some.ensures.items) (c.in_err-sum.ensures.wide refl)
@@ -76,7 +76,7 @@ pub returns-clause-ok : goal.returns-clause-ok
 returns-clause-ok g c =
     let t = term_of g.K.Ring.meaning in
     put_equal g.K.Ring.scalars g.met.K.Ring.ring _
-    (g.met.O.Order.is_order c.args.order) _ _ _ _ _ c.requires.falling
+    (g.met.O.Order.is_order c.args.order) _ _ _ _ _ c.requires.descending
     (images t _ _ _ _ c.pass_greater.ensures.terms) (c.pass_greater.ensures.above
     c.requires.above)
     c.pass_greater.result _ _ _ c.requires.nonzero c.if-not-pass_greater.false

@@ -15,14 +15,14 @@ returns-then-is_zero-clause-ok g c =
     (g.met.O.Order.is_order c.args.order) (k c.args.front.now.items) (k c.args.back.now.items) _
     _
     (subst (λ n. IsPolynomial g.K.Ring.scalars.arithmetic (g.O.Order.order c.args.order) n
-    (k c.args.front.now.items ++ k c.args.back.now.items)) (sym long) c.requires.falling)
+    (k c.args.front.now.items ++ k c.args.back.now.items)) (sym long) c.requires.descending)
     c.requires.above
     (sym c.in_ok-coef.ensures.ok ∙ c.is_zero.ensures.0 c.if-is_zero.true)
 
-pub put-requires-clause-falling : goal.put-requires-clause-falling
-put-requires-clause-falling g c =
+pub put-requires-clause-descending : goal.put-requires-clause-descending
+put-requires-clause-descending g c =
     let k = terms_of g.K.Ring.meaning in
     let long : length c.in_ok-mono.mono ≡ length c.args.by.now = ap length c.in_ok-mono.ensures.ok
     ∙ length-plus _ _ _ refl (sym c.requires.long) in
     subst (λ n. IsPolynomial g.K.Ring.scalars.arithmetic (g.O.Order.order c.args.order) n
-    (k c.args.front.now.items ++ k c.args.back.now.items)) (sym long) c.requires.falling
+    (k c.args.front.now.items ++ k c.args.back.now.items)) (sym long) c.requires.descending

@@ -38,7 +38,7 @@ behind g c =
     c.in_ok-left.ensures.cutting in
     cut_behind S g.met.K.Ring.ring g.met.K.Field.field g.met.K.Ring.zero_is
     (g.O.Order.order s.rest.order) (g.met.O.Order.is_order s.rest.order) s.rest.arity (done_of s)
-    (terms_in s.rest) (terms_in c.in_ok-left.left) (terms_in c.args.g.now) _ _ c.requires.falling
+    (terms_in s.rest) (terms_in c.in_ok-left.left) (terms_in c.args.g.now) _ _ c.requires.descending
     (along S g.O.Order.order _ _ _ _ _ c.requires.order c.requires.arity
     c.args.g.now.polynomial)
     (along S g.O.Order.order _ _ _ _ _ (c.in_ok-left.ensures.order ∙ ap (λ r. r.order) was)
@@ -61,10 +61,10 @@ returns-in_err-left-clause-wide g c =
 pub returns-clause-cutting : goal.returns-clause-cutting
 returns-clause-cutting g c = (behind g (goal.at.returns-clause-cutting g c).In_ok-left).cuts
 
-pub returns-clause-falling : goal.returns-clause-falling
-returns-clause-falling g c =
+pub returns-clause-descending : goal.returns-clause-descending
+returns-clause-descending g c =
     let was = c.replace-rest.ensures.value in
     along g.K.Ring.scalars g.O.Order.order _ _ _ _ _
     (sym (c.in_ok-left.ensures.order ∙ ap (λ r. r.order) was))
     (sym (c.in_ok-left.ensures.arity ∙ ap (λ r. r.arity) was))
-    (behind g (goal.at.returns-clause-falling g c).In_ok-left).falling
+    (behind g (goal.at.returns-clause-descending g c).In_ok-left).descending

@@ -44,13 +44,13 @@ rest g c = ap (terms_of g.K.Ring.meaning) (c.in_ok-back.ensures.tail
     ∙ ap (λ v. drop c.args.count v.items) (out g (goal.at.In_ok-back g c).After-into_terms-front))
     ∙ sym (drop-map (term_of g.K.Ring.meaning) c.args.count c.args.self.now.rest.terms.items)
 
-pub from_falling-requires-clause-falling : goal.from_falling-requires-clause-falling
-from_falling-requires-clause-falling g c =
+pub from_descending-requires-clause-descending : goal.from_descending-requires-clause-descending
+from_descending-requires-clause-descending g c =
     let S = g.K.Ring.scalars in
     let s = c.args.self.now in
     let O = g.O.Order.order s.rest.order in
     let p = terms_in s.rest in
-    let at = (goal.at.from_falling-requires-clause-falling g c).In_ok-back in
+    let at = (goal.at.from_descending-requires-clause-descending g c).In_ok-back in
     let whole = subst (IsPolynomial S.arithmetic O s.rest.arity)
     (sym (take-append-drop c.args.count p))
     s.rest.polynomial in
@@ -71,4 +71,4 @@ returns-clause-done g c =
 
 pub returns-clause-rest : goal.returns-clause-rest
 returns-clause-rest g c =
-    c.from_falling.ensures.terms ∙ rest g (goal.at.returns-clause-rest g c).In_ok-back
+    c.from_descending.ensures.terms ∙ rest g (goal.at.returns-clause-rest g c).In_ok-back

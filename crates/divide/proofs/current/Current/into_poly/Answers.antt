@@ -15,14 +15,14 @@ all g c = joined (term_of g.K.Ring.meaning) c.args.self.done.items c.args.self.r
     (c.in_ok-append.ensures.items
     ∙ ap (λ v. c.args.self.done.items ++ v.items) c.into_terms.ensures)
 
-pub from_falling-requires-clause-falling : goal.from_falling-requires-clause-falling
-from_falling-requires-clause-falling g c =
+pub from_descending-requires-clause-descending : goal.from_descending-requires-clause-descending
+from_descending-requires-clause-descending g c =
     let S = g.K.Ring.scalars in
-    let at = (goal.at.from_falling-requires-clause-falling g c).In_ok-append in
+    let at = (goal.at.from_descending-requires-clause-descending g c).In_ok-append in
     along S g.O.Order.order _ _ _ _ _ (sym c.order-order.ensures) (sym c.arity-arity.ensures.arity)
     (subst (IsPolynomial S.arithmetic (g.O.Order.order c.args.self.rest.order)
-    c.args.self.rest.arity) (sym (all g at)) c.requires.falling)
+    c.args.self.rest.arity) (sym (all g at)) c.requires.descending)
 
 pub returns-clause-terms : goal.returns-clause-terms
 returns-clause-terms g c =
-    c.from_falling.ensures.terms ∙ all g (goal.at.returns-clause-terms g c).In_ok-append
+    c.from_descending.ensures.terms ∙ all g (goal.at.returns-clause-terms g c).In_ok-append

@@ -11,7 +11,7 @@ returns-clause-left g c = ap (λ l. terms_of g.K.Ring.meaning l ++ terms_in c.ar
 
 pub returns-clause-current : goal.returns-clause-current
 returns-clause-current g c = λ ls. record {
-  falling =
+  descending =
       subst (IsPolynomial g.K.Ring.scalars.arithmetic (g.O.Order.order c.args.poly.order)
       c.args.poly.arity)
       (sym (ap (λ l. terms_of g.K.Ring.meaning l ++ terms_in c.args.poly) c.new.ensures.items))

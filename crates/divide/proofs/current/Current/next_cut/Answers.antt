@@ -79,14 +79,14 @@ cancel_first-requires g c =
           (done_of t) (terms_in t.rest) (terms_in e) c.in-Some.place.term c.in-Some.place.element
           c.requires.leads c.requires.current.undivided f is c.in_ok-finish.ensures.done
           c.in_ok-finish.ensures.rest;
-      falling = along g.K.Ring.scalars g.O.Order.order _ _ _ _ _
+      descending = along g.K.Ring.scalars g.O.Order.order _ _ _ _ _
           (sym c.in_ok-finish.ensures.like.0) (sym c.in_ok-finish.ensures.like.1)
           (subst (λ q. IsPolynomial g.K.Ring.scalars.arithmetic (g.O.Order.order s.rest.order)
           s.rest.arity q) (sym (moved_same g.K.Ring.scalars c.args.leads.now gs (done_of s)
           (terms_in s.rest) (done_of t) (terms_in t.rest) (terms_in e) c.in-Some.place.term
           c.in-Some.place.element c.requires.leads c.requires.current.undivided f is
           c.in_ok-finish.ensures.done c.in_ok-finish.ensures.rest))
-          c.requires.current.falling);
+          c.requires.current.descending);
     }
 
 pub returns-in_err-factor-clause-wide : goal.returns-in_err-factor-clause-wide
@@ -143,7 +143,7 @@ pub returns-clause-current : goal.returns-clause-current
 returns-clause-current g c =
     let s = c.args.self.now in
     record {
-      falling = c.in_ok-factor.ensures.falling;
+      descending = c.in_ok-factor.ensures.descending;
       undivided = undivided_more c.args.leads.now (done_of s)
           (take c.in-Some.place.term (terms_in s.rest)) _
           (ap (λ v. terms_of g.K.Ring.meaning v.items) c.in_ok-factor.ensures.done

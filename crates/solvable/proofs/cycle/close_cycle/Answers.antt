@@ -1,7 +1,7 @@
 use Rattle.std.proofs.Common.{length, arith, rules, subst}
 use Rattle.solvable.specs.Tables.{at}
 use Rattle.solvable.proofs.Walks.{turn, no_turn, going_first, going_done, Going}
-use Rattle.solvable.proofs.cycle.close_chain.Goals as goal
+use Rattle.solvable.proofs.cycle.close_cycle.Goals as goal
 
 pub loop-left-init : goal.loop-left-init
 loop-left-init c = record {

@@ -1,7 +1,7 @@
 use Rattle.std.proofs.Common.{◌≡◌, ◌<◌, ◌+◌, ℕ, length}
 use Rattle.solvable.specs.Tables.{at}
 use Rattle.solvable.proofs.Walks.{Going}
-use Rattle.solvable.proofs.cycle.close_chain.Given as goal
+use Rattle.solvable.proofs.cycle.close_cycle.Given as goal
 
 abbrev pub invariant-loop-left : goal.invariant-loop-left
 invariant-loop-left l = record {

@@ -1,14 +1,14 @@
--- The least chain: walks of a given length as a test, no chain needs more steps than there are variables, and the choice place by place.
+-- The least cycle: walks of a given length as a test, no cycle needs more steps than there are variables, and the choice place by place.
 --   any_below m test         some number below m passes the test
 --   walk uses m k i j        a walk of just k steps leads from i to j, as a test; walk_out, walk_in: that it is one
 --   simple_walk              a walk can be had that meets no variable twice
---   short_chain              where there is a chain there is one of at most m steps
+--   short_cycle              where there is a cycle there is one of at most m steps
 --   IsLeastWalk              the least walk of k steps
---   least_chain              the least chain;  chain_one: two least chains are one
+--   least_cycle              the least cycle;  cycle_one: two least cycles are one
 use Rattle.std.proofs.Common.{◌≡◌, ◌⊎◌, inl, inr, ℕ, zero, suc, ◌<◌, ◌≤◌, List, [], ◌∷◌, length, Bool, true, false, T, cond, eqb, eqb→eq, ◌||◌, ◌&&◌, refl, sym, ap, ap₂, subst, ◌∙◌, arith}
 use lib.Dec.{eqb_refl}
 use Rattle.std.proofs.lemmas.Bool.{cases_lt}
-use Rattle.solvable_maps.specs.Chain.{Walks, last_of, IsChain, Least, AtMost, IsLeastChain}
+use Rattle.solvable_maps.specs.Dependency.{Walks, last_of, IsNonlinearCycle, Least, AtMost, IsLeastCycle}
 use Rattle.algebra.proofs.Basics.{both_in, both_out}
 use Rattle.solvable_maps.proofs.Reach.{or_out, or_left, or_right}
 use Rattle.solvable_maps.proofs.Ranks.{count, count_less}
@@ -117,11 +117,12 @@ module _ (uses strongly : ℕ → ℕ → Bool) (m : ℕ) (bounded : (i j : ℕ)
   walk_below i [] w = tt
   walk_below i (j ∷ vs) w = ((bounded i j w.0).1, walk_below j vs w.1)
 
-  pub short_chain : (vs : List ℕ) → IsChain uses strongly vs → (v : ℕ) × (w : ℕ) × (ws : List ℕ)
-      × IsChain uses strongly (v ∷ w ∷ ws) × (length ws < m)
-  short_chain [] c = absurd c
-  short_chain (v ∷ []) c = absurd c
-  short_chain (v ∷ w ∷ vs) c =
+  pub short_cycle : (vs : List ℕ) → IsNonlinearCycle uses strongly vs → (v : ℕ) × (w : ℕ)
+      × (ws : List ℕ)
+      × IsNonlinearCycle uses strongly (v ∷ w ∷ ws) × (length ws < m)
+  short_cycle [] c = absurd c
+  short_cycle (v ∷ []) c = absurd c
+  short_cycle (v ∷ w ∷ vs) c =
       let r = simple_walk uses w vs c.1 in
       let l = once_short m (w ∷ r.0) r.1.once (
         (bounded v w (linear v w c.0)).1,
@@ -166,25 +167,25 @@ module _ (uses strongly : ℕ → ℕ → Bool) (m : ℕ) (bounded : (i j : ℕ)
     pub is : Steps k i j vs
     pub least : (ws : List ℕ) → Steps k i j ws → Least vs ws
 
-  -- a chain of k + 1 steps
+  -- a cycle of k + 1 steps
   abbrev pub starts : ℕ → ℕ → ℕ → Bool
   starts k v w = strongly v w && walk k w v
 
-  pub chain_starts : (k : ℕ) (v w : ℕ) (vs : List ℕ) → length vs ≡ k
-      → IsChain uses strongly (v ∷ w ∷ vs) → T (starts k v w)
-  chain_starts k v w vs e c = both_in (strongly v w) (walk k w v) c.0
+  pub cycle_starts : (k : ℕ) (v w : ℕ) (vs : List ℕ) → length vs ≡ k
+      → IsNonlinearCycle uses strongly (v ∷ w ∷ vs) → T (starts k v w)
+  cycle_starts k v w vs e c = both_in (strongly v w) (walk k w v) c.0
       (walk_in k w v vs (record { size = e; walks = c.1; ends = c.2 }))
 
-  pub least_chain : (k v w : ℕ) (vs : List ℕ) → T (strongly v w) → IsLeastWalk k w v vs
+  pub least_cycle : (k v w : ℕ) (vs : List ℕ) → T (strongly v w) → IsLeastWalk k w v vs
       → ((x y : ℕ) → T (starts k x y) → v ≤ x) → ((y : ℕ) → T (starts k v y) → w ≤ y)
       → ((j x y : ℕ) → j < k → T (starts j x y) → ⊥)
-      → IsLeastChain uses strongly (v ∷ w ∷ vs)
-  least_chain k v w vs t l first second shorter = record {
-    chain = (t, l.is.walks, l.is.ends);
+      → IsLeastCycle uses strongly (v ∷ w ∷ vs)
+  least_cycle k v w vs t l first second shorter = record {
+    cycle = (t, l.is.walks, l.is.ends);
     least = other;
   }
     where
-      other : (ws : List ℕ) → IsChain uses strongly ws → AtMost (v ∷ w ∷ vs) ws
+      other : (ws : List ℕ) → IsNonlinearCycle uses strongly ws → AtMost (v ∷ w ∷ vs) ws
       other [] c = absurd c
       other (x ∷ []) c = absurd c
       other (x ∷ y ∷ ws) c = go (cases_lt (length ws) k)
@@ -192,7 +193,7 @@ module _ (uses strongly : ℕ → ℕ → Bool) (m : ℕ) (bounded : (i j : ℕ)
           same_length : k ≤ length ws → length ws ≤ k → AtMost (v ∷ w ∷ vs) (x ∷ y ∷ ws)
           same_length a b =
               let e : length ws ≡ k = omega (arith, a, b) in
-              let p = first x y (chain_starts k x y ws e c) in
+              let p = first x y (cycle_starts k x y ws e c) in
               let size : length vs ≡ k = l.is.size in
               record {
                 is = inr (
@@ -203,7 +204,7 @@ module _ (uses strongly : ℕ → ℕ → Bool) (m : ℕ) (bounded : (i j : ℕ)
                     | inr more ↦
                         let same : v ≡ x = omega (arith, p, more) in
                         let q = second y (subst (λ z. T (starts k z y)) (sym same)
-                        (chain_starts k x y ws e c)) in
+                        (cycle_starts k x y ws e c)) in
                         inr (
                           same,
                           (elim (cases_lt w y) [
@@ -222,18 +223,18 @@ module _ (uses strongly : ℕ → ℕ → Bool) (m : ℕ) (bounded : (i j : ℕ)
 
           go : (length ws < k) ⊎ (k ≤ length ws) → AtMost (v ∷ w ∷ vs) (x ∷ y ∷ ws)
           go (inl less) =
-              absurd (shorter (length ws) x y less (chain_starts (length ws) x y ws refl c))
+              absurd (shorter (length ws) x y less (cycle_starts (length ws) x y ws refl c))
           go (inr more) = elim (cases_lt k (length ws)) [
             | inl longer ↦ (let size : length vs ≡ k = l.is.size in
                 record { is = inl (omega (arith, size, longer)) })
             | inr small ↦ same_length more small
           ]
 
-  -- where no chain of at most m steps is found there is none
+  -- where no cycle of at most m steps is found there is none
   pub no_short_none : ((k x y : ℕ) → k < m → T (starts k x y) → ⊥) → (vs : List ℕ)
-      → IsChain uses strongly vs → ⊥
+      → IsNonlinearCycle uses strongly vs → ⊥
   no_short_none none vs c =
-      (let r = short_chain vs c in none (length r.2) r.0 r.1 r.4 (chain_starts (length r.2) r.0 r.1
+      (let r = short_cycle vs c in none (length r.2) r.0 r.1 r.4 (cycle_starts (length r.2) r.0 r.1
       r.2 refl r.3))
 
 -- a place by place comparison both ways
@@ -259,6 +260,6 @@ at_most_both vs ws f g = go f.is g.is
     go (inr l) (inl k) = absurd (let same : length vs ≡ length ws = l.0 in omega (arith, k, same))
     go (inr l) (inr k) = same_places vs ws l.0 l.1 k.1
 
-pub chain_one : (uses strongly : ℕ → ℕ → Bool) (vs ws : List ℕ) → IsLeastChain uses strongly vs
-    → IsLeastChain uses strongly ws → vs ≡ ws
-chain_one uses strongly vs ws f g = at_most_both vs ws (f.least ws g.chain) (g.least vs f.chain)
+pub cycle_one : (uses strongly : ℕ → ℕ → Bool) (vs ws : List ℕ) → IsLeastCycle uses strongly vs
+    → IsLeastCycle uses strongly ws → vs ≡ ws
+cycle_one uses strongly vs ws f g = at_most_both vs ws (f.least ws g.cycle) (g.least vs f.cycle)

@@ -2,9 +2,9 @@
 --   Walks uses i vs          from i on, each uses the next of vs
 --   last_of i vs             the last of i and vs
 --   Reaches uses i j         some walk of at least one step leads from i to j
---   IsChain                  v0, v1, up to vk = v0: each uses the next, v0 the variable v1 strongly
+--   IsNonlinearCycle                  v0, v1, up to vk = v0: each uses the next, v0 the variable v1 strongly
 --   AtMost vs ws             vs is ws or comes before it: a shorter list comes first, and of equal lengths the one with the lesser first place that differs
---   IsLeastChain             a chain that no other comes before
+--   IsLeastCycle             a cycle that no other comes before
 --   Ranks                    what is used has at most the user's rank, what is used strongly a lower one
 --   reach uses k i j     a walk from i to j whose variables in between are below k, as a test
 use Rattle.std.specs.Prelude.{◌≡◌, ◌⊎◌, ℕ, ◌<◌, ◌≤◌, List, [], ◌∷◌, length, Bool, T, zero, suc, ◌||◌, ◌&&◌}
@@ -34,14 +34,14 @@ module _ (uses : ℕ → ℕ → Bool) where
     pub ends : last_of first others ≡ j
 
 module _ (uses strongly : ℕ → ℕ → Bool) where
-  abbrev pub IsChain : List ℕ → Type 0
-  IsChain [] = ⊥
-  IsChain (v ∷ []) = ⊥
-  IsChain (v ∷ w ∷ vs) = T (strongly v w) × Walks uses w vs × (last_of w vs ≡ v)
+  abbrev pub IsNonlinearCycle : List ℕ → Type 0
+  IsNonlinearCycle [] = ⊥
+  IsNonlinearCycle (v ∷ []) = ⊥
+  IsNonlinearCycle (v ∷ w ∷ vs) = T (strongly v w) × Walks uses w vs × (last_of w vs ≡ v)
 
-  pub record IsLeastChain (vs : List ℕ) : Type 0 where
-    pub chain : IsChain vs
-    pub least : (ws : List ℕ) → IsChain ws → AtMost vs ws
+  pub record IsLeastCycle (vs : List ℕ) : Type 0 where
+    pub cycle : IsNonlinearCycle vs
+    pub least : (ws : List ℕ) → IsNonlinearCycle ws → AtMost vs ws
 
   pub record Ranks (rank : ℕ → ℕ) : Type 0 where
     pub at_most : (i j : ℕ) → T (uses i j) → rank j ≤ rank i

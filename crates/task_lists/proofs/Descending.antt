@@ -1,4 +1,4 @@
--- Polynomials of an order and so many variables are polynomials in falling order.
+-- Polynomials of an order and so many variables are polynomials in descending order.
 --   fall_images, fall_rows     of lists, and of lists of these
 --   rows_over                  and over so many variables
 --   fall_over, rows_arity      where all are of one order

@@ -1,7 +1,7 @@
 use Rattle.std.proofs.Common.{length, arith, sym, subst, ◌∙◌}
 use Rattle.solvable.specs.Walking.{IsWalks}
 use Rattle.solvable.proofs.Walks.{searching_first, searching_more, table_at, cycle_least, none_at_all}
-use Rattle.solvable.proofs.cycle.least_chain.Goals as goal
+use Rattle.solvable.proofs.cycle.least_cycle.Goals as goal
 
 pub loop-steps-init : goal.loop-steps-init
 loop-steps-init c =
