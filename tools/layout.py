@@ -19,6 +19,7 @@ With --since, of each file only where it changed since that revision; with --rul
   named      crates.txt lists a library for a crate, none of whose files names it; or a file names one that isn't listed
   pages      docs/CRATES.md isn't what tools/crates.py writes; a page names a file, a crate or a word of the sources that isn't there; or the picture
              in docs/ARCHITECTURE.md leaves a crate out, or draws it before one that it names
+  words      a word that is out of use stands in a source or on a page, outside of texts in quotes
   edges      a note, and no finding: a crate stands on another by at most three import lines, through which alone something is below it
 
 Each row is a file, a line (0: the whole file), and what is wrong there. The status is 1 where there is a row. Those on crates and pages are about
@@ -55,13 +56,23 @@ ANY_IMPORT = re.compile(r"^\s*(?:(?:pub|ghost|unfoldable)\s+)*use\s+(?:Rattle\.(
 # What specs may take from proofs. A structure has its laws as parts, so it stands where they are proved, and so do its operations, which
 # are told by it. A type that keeps a fact of its values (a fraction in lowest terms, a row of a width, a residue below its modulus) has
 # lemmas in what makes a value.
-STRUCTURES = {"ℚ_field", "ℚ_ring", "algebra_ring", "Algebra", "algebra", "coef", "monomial", "poly_ring", "Poly", "poly", "poly_constant", "poly_evaluate"}
+STRUCTURES = {"ℚ_field", "ℚ_ring", "ℤ_ring", "algebra_ring", "Algebra", "algebra", "coef", "monomial", "poly_ring", "Poly", "poly", "poly_constant", "poly_evaluate"}
 KEPT_FACTS = {"RingLaws", "abs-pos", "same_abs", "is_lowest-in", "lowest-whole", "rest-residue", "each_prop"}
 
 # What a crate may stand on neither itself nor through others. What judges certificates completes nothing and finds no closed form; who asks for
 # a judgement knows besides what a meter is, since every command does.
 COMPUTATIONS = {"divide", "complete", "reduced_basis", "ideal_ops", "linear", "solvable", "eigen_split", "closed_forms", "invariant_fix"}
 WITHOUT = {"cert_checker": COMPUTATIONS | {"journal"}, "full_cert": COMPUTATIONS | {"journal"}, "certificate_commands": COMPUTATIONS}
+
+# Words that are out of use: what is said in their place, and below which path they had that meaning (everywhere, where none is given).
+RETIRED = (
+    (re.compile(r"(?<![A-Za-z])falling(?![A-Za-z])|Falling"), "descending", ""),
+    (re.compile(r"(?<![A-Za-z])(?:un)?spent(?![A-Za-z])|Spent"), "exhausted", ""),
+    (re.compile(r"[Cc]hain"), "cycle, for variables that use one another", "crates/solvable"),
+    (re.compile(r"\bdivision\.rest\b"), "remainder", "crates"),
+    (re.compile(r"\bwords behind\b|[a-z]_words\.rt\b|\bread_words\b|(?<=[a-z])(?<!Of)Words\b"), "arguments, for what a command is given", "crates/[a-z_]*(?:app|commands|parts)/"),
+)
+TEXT_IN_QUOTES = re.compile(r"""b?'(?:\\.|[^'\\\n])'|"(?:[^"\\]|\\.)*\"""")
 
 # In pages: a text in backticks, a path anywhere, the crates in a heading, and parts of paths that stand for others.
 TICKED = re.compile(r"`([^`\n]+)`")
@@ -203,6 +214,21 @@ def borrowed(source: Source) -> Iterator[Finding]:
             taken = [name for name in names if name.split(" as ")[0] not in STRUCTURES | KEPT_FACTS]
             if taken:
                 yield Finding("borrowed", source.path, number, ", ".join(taken))
+
+
+def retired_in(path: Path, text: str) -> Iterator[Finding]:
+    name = path.relative_to(TOP).as_posix()
+    words = [(word, instead) for word, instead, below in RETIRED if re.match(below, name)]
+    text = TEXT_IN_QUOTES.sub(lambda quoted: "\n" * quoted[0].count("\n"), text) if path.suffix != ".md" else text
+    for number, line in enumerate(text.split("\n"), 1):
+        yield from (Finding("words", path, number, f"`{found[0]}` is out of use: {instead}") for word, instead in words if (found := word.search(line)))
+
+
+def words() -> Iterator[Finding]:
+    for source in sources():
+        yield from retired_in(source.path, source.text)
+    for page in page_files():
+        yield from retired_in(page, page.read_text(encoding="utf-8"))
 
 
 @cache
@@ -380,7 +406,7 @@ def pages() -> Iterator[Finding]:
                     yield Finding("pages", page, number, f"no crate {name}")
 
 
-OF_TREE = {"edits": edits, "modules": modules, "order": order, "theory": theory, "below": below, "named": named, "pages": pages}
+OF_TREE = {"edits": edits, "modules": modules, "order": order, "theory": theory, "below": below, "named": named, "pages": pages, "words": words}
 OF_FILE = {
     "imports": imports, "columns": columns, "lengths": lengths, "heads": heads, "digits": digits, "borrowed": borrowed,
 }

@@ -1,5 +1,5 @@
 #!/usr/bin/env python3
-"""Lists the functions that call themselves, directly or in a circle within their crate, and compares them with the table in docs/DECISIONS.md.
+"""Lists the functions that call themselves, directly or in a circle within their crate, and compares them with the table in tools/recursions.md.
 
 Usage: tools/recursions.py        (status 1 where they differ from the table)
 
@@ -17,7 +17,7 @@ from dataclasses import dataclass
 from pathlib import Path
 
 TOP = Path(__file__).resolve().parent.parent
-TABLE = TOP / "docs/DECISIONS.md"
+TABLE = TOP / "tools/recursions.md"
 ROW = re.compile(r"^\| `(\w+)` \| (`.+`) \| .+ \|$")
 CLAUSE = re.compile(r"\b(?:requires|ensures|narrow)(?:\s+[a-z_]\w*)?\s*$")
 TYPE = re.compile(r"^(?:pub(?:\(crate\))? )?(?:struct|enum)\s+(\w+)[^;{]*\{", re.MULTILINE)
