@@ -9,6 +9,7 @@ pub mod Sound
 pub mod Ended
 pub mod UpTo
 pub mod Fibonacci
+pub mod Congruent
 pub mod Modulo
 pub mod Samples
 pub mod Follows
@@ -22,3 +23,5 @@ pub mod Proving
 pub mod Listed
 pub mod Tests
 pub mod Residues
+pub mod Monomials
+pub mod SameUpTo

@@ -26,6 +26,7 @@ use Rattle.ideals.proofs.Ideal.{in_ideal_same, in_ideal_zero, in_ideal_add, in_i
 use Rattle.ideals.proofs.Congruence.{congruent_refl, congruent_same, congruent_mul}
 use Rattle.vectors.proofs.FractionEigen.{times_bottom}
 use Rattle.closures.specs.Modulo.{IsMultiple, IsResidueOf, AreResidues, IsIndependentModulo}
+use Rattle.closures.proofs.Congruent.{quotient_of}
 
 -- ---- identities of rings
 module _ {A : Type 0} (R : CommRing A) where
@@ -155,21 +156,11 @@ record IsTimes (q : ℤ) (z : List ℤ) : Type 0 where
   quotients : List ℤ
   is : z ≡ times_q q quotients
 
-one_quotient : (q x : ℤ) → IsMultiple q x → (y : ℤ) × (x ≡ q *ℤ y)
-unfolding sum_of_products
-one_quotient q x i = go i.cofactors i.is
-  where
-    go : (cs : List ℤ) → x ≡ sum_of_products (operations ℤ_ring) cs (q ∷ [])
-        → (y : ℤ) × (x ≡ q *ℤ y)
-    go [] e = (pos 0, e ∙ sym (mul-zero ℤ_ring q))
-    go (c ∷ []) e = (c, e ∙ ℤ_ring.add-zero (c *ℤ q) ∙ ℤ_ring.mul_comm c q)
-    go (c ∷ d ∷ cs) e = (c, e ∙ ℤ_ring.add-zero (c *ℤ q) ∙ ℤ_ring.mul_comm c q)
-
 all_quotients : (q : ℤ) (z : List ℤ) → Each (IsMultiple q) z → IsTimes q z
 unfolding Each times_q
 all_quotients q [] h = record { quotients = []; is = refl }
 all_quotients q (x ∷ z) h =
-    let (y, e) = one_quotient q x h.0 in
+    let (y, e) = quotient_of q x h.0 in
     let r = all_quotients q z h.1 in
     record { quotients = y ∷ r.quotients; is = ap₂ ◌∷◌ e r.is }
 

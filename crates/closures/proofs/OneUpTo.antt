@@ -1,4 +1,5 @@
 -- The reduced list of an ideal up to a degree is one.
+--   term_at              a term with some exponents, or none
 --   shared               an element of one list is one of the other
 --   one_up_to            so there is one list
 --   low_part_is          the elements of a reduced basis up to the degree are it
@@ -61,7 +62,7 @@ both_divide d e l h k = go (compare grevlex d e) refl
     go Greater c = absurd (not_below d e l h (greater_less grevlex grevlex_order d e c))
 
 -- a term with these exponents, or none
-term_at : (e : List ℕ) (p : Terms Fraction)
+pub term_at : (e : List ℕ) (p : Terms Fraction)
     → ((w : List ℕ × Fraction) × In w p × (w.0 ≡ e)) ⊎ Apart e p
 unfolding Each
 term_at e [] = inr tt

@@ -1,4 +1,6 @@
 -- Invariants whose standard monomials have no combination that is one are the reduced basis up to a degree.
+--   less_degree          a lesser monomial has no greater degree
+--   each_negate          what holds of the monomials of terms
 --   from_ideal           a member of the ideal of elements of an ideal is one
 --   Normal               what differs from a polynomial by an element of the ideal, and has standard monomials alone
 --   normal_list, normal_one     a polynomial below a monomial has one, where monomials have; each monomial has
@@ -52,7 +54,7 @@ less_degree d e l h = go bound
         (sym (nat_cmp_is (sum e) (sum d) Less lt))))
     go (inr le) = le
 
-each_negate : (Q : List ℕ → Type 0) (p : Terms Fraction) → Each (λ t. Q t.0) p
+pub each_negate : (Q : List ℕ → Type 0) (p : Terms Fraction) → Each (λ t. Q t.0) p
     → Each (λ t. Q t.0) (negate ℚ p)
 unfolding Each Algebra.negate
 each_negate Q [] h = tt

@@ -5,4 +5,5 @@ pub mod Follows
 pub mod Certified
 pub mod Proving
 pub mod UpTo
+pub mod Monomials
 pub mod Modulo

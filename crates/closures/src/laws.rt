@@ -1,6 +1,6 @@
 //! The laws of closures, each as the contract of a function that does nothing.
 
-ghost use Rattle.std.specs.Prelude.{◌≡◌, ◌↔◌, ◌≤◌, ℕ, ℤ, pos, ◌+ℤ◌, ◌*ℤ◌, List, [], ◌∷◌, map, length, None};
+ghost use Rattle.std.specs.Prelude.{◌≡◌, ◌↔◌, ◌≤◌, ℕ, ℤ, pos, ◌+ℤ◌, ◌*ℤ◌, List, [], ◌∷◌, map, length, sum, None};
 ghost use Rattle.algebra.specs.Each.{Each};
 ghost use Rattle.algebra.specs.Ring.{operations};
 ghost use Rattle.algebra.proofs.IntRing.{ℤ_ring};
@@ -25,7 +25,8 @@ ghost use Rattle.corollaries.specs.Counter.{IsFirstWord};
 ghost use Rattle.closures.specs.Follows.{IsOut};
 ghost use Rattle.closures.specs.Closing.{State, Step, fresh, move_of, moves, Candidate, closed, countered};
 ghost use Rattle.closures.specs.Ends.{HoldsAt, ComesNext, IsClosure, IsFirstCounter};
-ghost use Rattle.closures.specs.Modulo.{IsMultiple, IsResidueOf, AreResidues, IsSampleRow, IsIndependentModulo, IsTriangularFrom, IsCombinationModulo};
+ghost use Rattle.closures.specs.Monomials.{monomials_up_to, AreAscending, AreMonomialsUpTo};
+ghost use Rattle.closures.specs.Modulo.{IsMultiple, AreCongruent, IsResidueOf, AreResidues, IsSampleRow, IsIndependentModulo, IsTriangularFrom, IsCombinationModulo};
 ghost use Rattle.closures.specs.UpTo.{low_part, AreDistinct, AreTidy, HasStandard, HasNoCombination, IsReducedUpTo};
 ghost use Rattle.loops.specs.Certificate.{Certificate, IsValid};
 ghost use Rattle.closures.specs.Certified.{IsProofBy};
@@ -126,6 +127,20 @@ pub fn residues_compute()
         (map (monomial_at (operations ℤ_ring) xs) es) }
 {}
 
+/// The residues of a fraction are the numbers that are congruent to one of them.
+pub fn residues_are_congruent()
+    ensures same { (q : ℤ) (f : Fraction) (a b : ℤ) → IsResidueOf q f a → AreCongruent q a b
+        → IsResidueOf q f b }
+    ensures agree { (q : ℤ) (f : Fraction) (a b : ℤ) → IsResidueOf q f a → IsResidueOf q f b
+        → AreCongruent q a b }
+{}
+
+/// The monomials up to a degree are all that have at most this degree, in ascending order; so each stands there once.
+pub fn monomials_up_to_a_degree_are_all()
+    ensures all { (m d : ℕ) → AreMonomialsUpTo m d (monomials_up_to m d) }
+    ensures distinct { (es : List (List ℕ)) → AreAscending es → AreDistinct es }
+{}
+
 /// A closing has one end, with one journal, and where it ends within a budget it is never out of it. That of one polynomial ends with a list only for an invariant and with a candidate only for none: so it agrees with the division by the basis of all invariants. By its list the division of what a turn makes of a member ends with nothing.
 pub fn closings_have_one_end<At>()
     ensures one { (program : Program (Expr At)) (P : List (Terms Fraction))
@@ -176,7 +191,8 @@ pub fn closed_searches_find_the_reduced_list<At>()
         → IsReducedUpTo (length program.names) d P (Inv program) }
 {}
 
-/// The list that is reduced up to a degree is one, and of a reduced basis its elements up to the degree are it.
+/// The list that is reduced up to a degree is one, and of a reduced basis its elements up to the degree are it. Those of two loops over as many
+/// variables are the same exactly where the invariants up to the degree are.
 pub fn lists_up_to_a_degree_are_one<At>()
     ensures one { (program : Program (Expr At)) (d : ℕ) (gs hs : List (Terms Fraction))
         → IsReducedUpTo (length program.names) d gs (Inv program)
@@ -184,4 +200,10 @@ pub fn lists_up_to_a_degree_are_one<At>()
     ensures low { (program : Program (Expr At)) (d : ℕ) (bs : List (Terms Fraction))
         → IsReducedFor rationals grevlex (length program.names) bs (Inv program)
         → IsReducedUpTo (length program.names) d (low_part d bs) (Inv program) }
+    ensures same { (program other : Program (Expr At)) (d : ℕ) (gs hs : List (Terms Fraction))
+        → length program.names ≡ length other.names
+        → IsReducedUpTo (length program.names) d gs (Inv program)
+        → IsReducedUpTo (length other.names) d hs (Inv other)
+        → (gs ≡ hs) ↔ ((p : Terms Fraction) → Each (λ t. sum t.0 ≤ d) p
+        → Inv program p ↔ Inv other p) }
 {}
