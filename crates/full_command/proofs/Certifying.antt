@@ -55,7 +55,7 @@ use Rattle.analysis_commands.proofs.Refused.{refusal_parts, refusal_kind, refuse
 use Rattle.full_command.specs.Texts.{certificate_answer, late_answer}
 use Rattle.full_command.specs.Headline.{ShowsFull}
 use Rattle.full_command.specs.Certified.{IsAnalysed, IsUntraced, Ending, certified, first_late, unanalysed, untraced, EndsWith, answer_of, Certifies}
-use Rattle.full_command.specs.Causes.{HasFinished, IsExhaustedTracing, IsExhausted, IsToldLate, IsRefusedTrace, IsNeverRefused, IsWithinBudget}
+use Rattle.full_command.specs.Causes.{HasFinished, IsCertificateOf, IsExhaustedTracing, IsExhausted, IsToldLate, IsRefusedTrace, IsNeverRefused, IsWithinBudget}
 use Rattle.full_trace.proofs.Late.{first_late_one, never_late}
 use Rattle.full_command.proofs.Late.{followed_at_zero}
 use Rattle.full_command.proofs.Refusing.{as_analysed, unformed_wide, untraced_ends}
@@ -119,7 +119,9 @@ module _ (l : Program (Expr ℕ)) (budget : ℕ) (m : Journal) (a : Answer) wher
 
   module _ (text : List ℕ) (is_loop : loop_of text ≡ Ok l) where
     shown : (e : Ending) → EndsWith l budget m e → answer_of l.names budget e ≡ Some a
-        → a.status ≡ status.Yes → ShowsFull text a.text × HasFinished text budget m
+        → a.status ≡ status.Yes
+        → ShowsFull text a.text × (HasFinished text budget m
+        × IsCertificateOf text budget m a.text)
     shown (certified c) ends is h =
         let x = ends.1 in
         let same : c.basis ≡ x.analysed.list = ap (λ (d : FullCertificate). d.basis) x.is in
@@ -137,16 +139,25 @@ module _ (l : Program (Expr ℕ)) (budget : ℕ) (m : Journal) (a : Answer) wher
             says = t;
             reads_back = subst (λ bytes. full_in l bytes ≡ Ok c) (sym t) x.reads_back;
           },
-          record {
-            loop = l;
-            is_loop = is_loop;
-            free = x.analysed.free;
-            limit = ends.0;
-            rounds = x.analysed.rounds;
-            least = x.analysed.least;
-            given = x.given;
-            finished = x.finished;
-          },
+          (
+            record {
+              loop = l;
+              is_loop = is_loop;
+              free = x.analysed.free;
+              limit = ends.0;
+              rounds = x.analysed.rounds;
+              least = x.analysed.least;
+              given = x.given;
+              finished = x.finished;
+            },
+            record {
+              loop = l;
+              is_loop = is_loop;
+              certificate = c;
+              certified = x;
+              says = t;
+            },
+          ),
         )
     shown (first_late b) ends is h =
         absurd (let x : status.Fault ≡ status.Yes = sym (says_fault b is) ∙ h in cc)
@@ -346,7 +357,7 @@ module _ (l : Program (Expr ℕ)) (budget : ℕ) (m : Journal) (a : Answer) wher
 
 pub certificate_shown : (text : List ℕ) (l : Program (Expr ℕ)) (budget : ℕ) (m : Journal)
     (a : Answer) → loop_of text ≡ Ok l → Certifies l budget m a → a.status ≡ status.Yes
-    → ShowsFull text a.text × HasFinished text budget m
+    → ShowsFull text a.text × (HasFinished text budget m × IsCertificateOf text budget m a.text)
 certificate_shown text l budget m a is h = shown l budget m a text is h.ending h.ends h.says
 
 pub out_shown : (text : List ℕ) (l : Program (Expr ℕ)) (budget : ℕ) (m : Journal) (a : Answer)

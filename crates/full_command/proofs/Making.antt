@@ -5,7 +5,7 @@
 --   unformed_said        to a loop of which a map or a branch was refused before;  late_said: to one with a branch that begins late
 --   has_opened, has_analysed, has_traced     what the meter has
 use Rattle.std.proofs.Common.{◌≡◌, ◌≤◌, ℕ, List, length, map, sym, ap, subst, ◌∙◌, Ok, inl, inr, arith}
-use Rattle.std.specs.Prelude.{All, Some, IfOk, Result, Vec}
+use Rattle.std.specs.Prelude.{All, Some, None, IfOk, Result, Vec}
 use Rattle.std.specs.declared.alloc.AllocError.{AllocError}
 use Rattle.std.specs.declared.alloc.Global.{Global}
 use Rattle.std.proofs.lemmas.List.{length-map}
@@ -22,9 +22,10 @@ use Rattle.loop_model.specs.Maps.{AreFree}
 use Rattle.loop_model.specs.View.{program_of}
 use Rattle.loop_model.specs.declared.loop_.Loop.{Loop}
 use Rattle.poly.specs.Seen.{terms_each}
+use Rattle.rounds.specs.Journal.{setting_of}
 use Rattle.loop_model.specs.FracPoly.{FracPoly}
 use Rattle.ideal_ops.specs.Calls.{AreOver}
-use Rattle.invariant_fix.specs.Closing.{IsSquare, seen_steps, seen_branch_steps}
+use Rattle.invariant_fix.specs.Closing.{IsSquare, AreSteps, seen_steps, seen_branch_steps}
 use Rattle.invariant_fix.specs.Answers.{certificate_of, IsClosedBy, IsLeastLevel}
 use Rattle.invariant_fix.specs.Refusals.{AllHaveForms, HasFollowed, IfUnformedLoop, IsRefused}
 use Rattle.invariant_fix.specs.declared.errors.AnalyseError.{AnalyseError}
@@ -174,6 +175,13 @@ module _ (l : Program (Expr ℕ)) (budget : ℕ) (a : Analysis) (found : IsFound
     basis_is = subst (IsBasisOf l)
         (sym (ap (λ (ps : Vec FracPoly Global). terms_each ps.items) is_made.basis)) found.is_basis
 
+    -- its cofactors are those of the divisions that closed the list
+    steps_are : AreSteps (setting_of l found.closed.finished.follows.forms None)
+        (terms_each a.basis.items) (full_of cert).steps
+    steps_are = subst (AreSteps (setting_of l found.closed.finished.follows.forms None)
+        (terms_each a.basis.items))
+        (sym (ap (λ (s : Vec Rows Global). seen_steps s.items) is_made.steps)) found.closed.steps
+
     is_parts : full_of cert ≡ full_from (terms_each a.basis.items) (full_of cert).steps
         traced.finished.follows.forms traced.given
     is_parts =
@@ -245,6 +253,7 @@ module _ (lp : Loop) (budget : ℕ) (before m : Journal) (is : before ≡ empty_
               given = traced.given;
               finished = traced.finished;
               is = is_parts l budget a found w m t cert traced is_made;
+              steps = steps_are l budget a found w m t cert traced is_made;
               holds = all_hold l budget a found w m t cert traced is_made;
               is_basis = basis_is l budget a found w m t cert traced is_made;
               reads_back = subst (λ (y : Answer). full_in l y.text ≡ Ok c) says

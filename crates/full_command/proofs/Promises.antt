@@ -22,7 +22,7 @@ use Rattle.analysis_commands.proofs.Endings.{or_found}
 use Rattle.full_command.specs.Texts.{late_answer}
 use Rattle.full_command.specs.Headline.{ShowsFull}
 use Rattle.full_command.specs.Certified.{Certifies, HasWorked}
-use Rattle.full_command.specs.Causes.{HasFinished, IsExhausted, IsToldLate, HasBegun, IsRefusedTrace}
+use Rattle.full_command.specs.Causes.{HasFinished, IsCertificateOf, IsExhausted, IsToldLate, HasBegun, IsRefusedTrace}
 use Rattle.full_command.specs.Course.{course}
 use Rattle.full_command.specs.Clauses.{FindsFull}
 use Rattle.full_command.proofs.Certifying as certifying
@@ -45,7 +45,9 @@ module _ (request : FileRequest) where
       certified = writes path call f concludes_yes ShowsFull
           (λ text l a e h yes. (certificate_shown text l request.budget m a e h yes).0);
       finished = tells path call f concludes_yes (λ text. HasFinished text request.budget m)
-          (λ text l a e h yes. (certificate_shown text l request.budget m a e h yes).1);
+          (λ text l a e h yes. (certificate_shown text l request.budget m a e h yes).1.0);
+      made = writes path call f concludes_yes (λ text. IsCertificateOf text request.budget m)
+          (λ text l a e h yes. (certificate_shown text l request.budget m a e h yes).1.1);
       fault = refused path call f status.Fault (inl refl)
           (λ text a. IsUnanalysed text request.budget m a ⊎ IsToldLate text request.budget m a)
           (λ text l a e h same refusing. fault_told text l request.budget m a e h same);

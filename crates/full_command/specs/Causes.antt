@@ -1,5 +1,6 @@
 -- How `full` ends, over the bytes of LOOP.
 --   HasFinished text budget m        the bytes are a loop whose maps are free, and the journal m, with this budget, is that of its finished trace of as few rounds as have all its invariants
+--   IsCertificateOf text budget m said     they are a loop, and what is said is the full certificate of its analysis, which has ended within the budget, and of the finished trace behind it, with the journal m
 --   IsExhaustedTracing l budget m        the analysis has ended within the budget, and the trace behind it is out of units
 --   IsExhausted text budget m said       they are a loop whose maps are free and whose branches have closed forms; the entries of m follow its analysis, or behind an analysis that has ended within the budget its trace,
 --                                    as many of them are units as the budget, what comes next is a unit, and the budget is said
@@ -18,14 +19,14 @@ use Rattle.rounds.specs.Journal.{setting_of}
 use Rattle.invariant_fix.specs.Answers.{IsLeastLevel}
 use Rattle.invariant_fix.specs.Refusals.{AllHaveForms}
 use Rattle.invariant_fix.specs.declared.errors.AnalyseError.{AnalyseError}
-use Rattle.completeness.specs.Full.{as_form}
+use Rattle.completeness.specs.Full.{FullCertificate, as_form}
 use Rattle.completeness.specs.Trace.{Results, State}
 use Rattle.completeness.specs.Followed.{Follows, IsFinished, IsOut, IsPast}
 use Rattle.io_edge.specs.Texts.{Answer, line}
 use Rattle.analysis_commands.specs.Causes as causes
 use Rattle.analysis_commands.specs.RefusalTexts.{refusal_answer}
-use Rattle.full_command.specs.Certified.{IsAnalysed, IsLate, IsUntraced, HasWorked}
-use Rattle.full_command.specs.Texts.{late_answer}
+use Rattle.full_command.specs.Certified.{IsAnalysed, IsCertified, IsLate, IsUntraced, HasWorked}
+use Rattle.full_command.specs.Texts.{certificate_answer, late_answer}
 
 pub record HasFinished (text : List ℕ) (budget : ℕ) (m : Journal) : Type 0 where
   pub loop : Program (Expr ℕ)
@@ -36,6 +37,14 @@ pub record HasFinished (text : List ℕ) (budget : ℕ) (m : Journal) : Type 0 w
   pub least : IsLeastLevel loop rounds
   pub given : Results
   pub finished : IsFinished loop rounds m.entries given
+
+pub record IsCertificateOf (text : List ℕ) (budget : ℕ) (m : Journal) (said : List ℕ) : Type
+    0 where
+  pub loop : Program (Expr ℕ)
+  pub is_loop : loop_of text ≡ Ok loop
+  pub certificate : FullCertificate
+  pub certified : IsCertified loop budget m certificate
+  pub says : said ≡ (certificate_answer loop.names certificate).text
 
 pub record IsExhaustedTracing (l : Program (Expr ℕ)) (budget : ℕ) (m : Journal) : Type 0 where
   pub analysed : IsAnalysed l budget

@@ -1,6 +1,7 @@
 -- How the analysis of a loop and the trace behind it end, and what `full` answers then.
 --   IsAnalysed l budget         l is formed, and its analysis has ended within the budget, after as few rounds as have all its invariants
---   IsCertified l budget m c    and the trace of as many rounds has ended, with the journal m; c is the full certificate of both, all parts of which hold, and it is read back from its text
+--   IsCertified l budget m c    and the trace of as many rounds has ended, with the journal m; c is the full certificate of both, with the cofactors of the divisions that closed the list; all parts
+--                               of it hold, and it is read back from its text
 --   IsLate l budget m b         the maps of l are free and its branches have closed forms, that of the branch b, which counts from 0, is the first that begins later than at 0,
 --                               and the meter was opened and nothing was done
 --   HasNoBasis l budget m e     the analysis has no basis for the reason e, and left m; a map or a branch is refused, or all branches begin at 0
@@ -11,14 +12,16 @@
 --   Certifies l budget m a      a is the answer to an ending that leaves m
 --   IsTracing l budget m        the analysis has ended within the budget, and the entries of m are none or follow the trace behind it
 --   HasWorked l budget m        the meter was opened for the analysis of l, or behind an analysis that has ended for the trace, and its entries are none or follow it
-use Rattle.std.specs.Prelude.{◌≡◌, ◌⊎◌, ℕ, ◌≤◌, List, Option, Some, Ok}
+use Rattle.std.specs.Prelude.{◌≡◌, ◌⊎◌, ℕ, ◌≤◌, List, Option, Some, None, Ok}
 use Rattle.algebra.specs.Fraction.{Fraction}
 use Rattle.polynomials.specs.Terms.{Terms}
 use Rattle.machines.specs.Journal.{Journal, Entry, units_of}
 use Rattle.loops.specs.Program.{Expr, Program}
 use Rattle.loop_model.specs.Maps.{AreFree}
 use Rattle.rounds.specs.Journal as analysis
+use Rattle.rounds.specs.Journal.{setting_of}
 use Rattle.invariant_fix.specs.Answers.{IsLeastLevel}
+use Rattle.invariant_fix.specs.Closing.{AreSteps}
 use Rattle.invariant_fix.specs.Refusals.{AllHaveForms, HasFollowed, IfUnformedLoop}
 use Rattle.invariant_fix.specs.declared.errors.AnalyseError.{AnalyseError}
 use Rattle.completeness.specs.Full.{FullCertificate}
@@ -51,6 +54,7 @@ pub record IsCertified (l : Program (Expr ℕ)) (budget : ℕ) (m : Journal) (c 
   pub given : Results
   pub finished : IsFinished l analysed.rounds m.entries given
   pub is : c ≡ full_from analysed.list c.steps finished.follows.forms given
+  pub steps : AreSteps (setting_of l analysed.finished.follows.forms None) analysed.list c.steps
   pub holds : AllHold l c
   pub is_basis : IsBasisOf l c.basis
   pub reads_back : full_in l (certificate_answer l.names c).text ≡ Ok c

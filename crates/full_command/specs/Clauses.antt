@@ -22,7 +22,7 @@ use Rattle.command_parts.specs.FileRequests.{FileRequest}
 use Rattle.full_trace.specs.Late.{AllBeginAtZero, IsFirstLate}
 use Rattle.full_command.specs.Texts.{late_answer}
 use Rattle.full_command.specs.Headline.{ShowsFull}
-use Rattle.full_command.specs.Causes.{HasFinished, IsExhausted, IsToldLate, HasBegun, IsRefusedTrace, IsNeverRefused, IsWithinBudget}
+use Rattle.full_command.specs.Causes.{HasFinished, IsCertificateOf, IsExhausted, IsToldLate, HasBegun, IsRefusedTrace, IsNeverRefused, IsWithinBudget}
 
 abbrev pub Refuses : Call → FileRequest → Answer → Type 0
 Refuses call request a = IfTold call.files.before request.file
@@ -41,6 +41,9 @@ pub record FindsFull (request : FileRequest) (call : Call) : Type 0 where
       (λ text. Wrote call.sink (ShowsFull text))
   pub finished : call.status ≡ status.Yes → IfTold call.files.before request.file
       (λ text. HasFinished text request.budget call.meter.after)
+  -- and the text is what is made of both, with the cofactors of the divisions that closed the basis
+  pub made : call.status ≡ status.Yes → IfTold call.files.before request.file
+      (λ text. Wrote call.sink (IsCertificateOf text request.budget call.meter.after))
   -- a fault: the text tells the first fault of LOOP, or why the analysis has no basis, or the
   -- first branch that begins late; a number that doesn't fit: the first fault, or why there is no
   -- basis, or no trace behind an analysis that has ended

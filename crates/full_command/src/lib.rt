@@ -1,7 +1,7 @@
 //! The command `full [--budget N] LOOP`: a full certificate of the reduced basis of a loop's invariants.
 //!
-//! Proved: all parts of the certificate hold, its polynomials are the reduced basis of exactly the invariants, and its text is read as
-//! itself. Each refusal has its cause.
+//! Proved: all parts of the certificate hold, its polynomials are the reduced basis of exactly the invariants, its cofactors are those of the
+//! divisions that closed it, and its text is read as itself. Each refusal has its cause.
 #![tactic(auto)]
 
 ghost use Rattle.std.specs.Prelude.{map, string_bytes};
