@@ -1,0 +1,12 @@
+pub mod Limits
+pub mod Draws
+pub mod Modulo
+pub mod Maps
+pub mod Samples
+pub mod Elements
+pub mod ElementParts
+pub mod Search
+pub mod Causes
+pub mod Found
+pub mod Sampling
+pub mod Closings

@@ -1,0 +1,9 @@
+pub mod Added
+pub mod Dots
+pub mod Entries
+pub mod Forms
+pub mod Fractions
+pub mod Picked
+pub mod Products
+pub mod Rests
+pub mod Turns
