@@ -32,7 +32,7 @@ head -c 50 fractions.json >cut.json
 head -c 65537 /dev/zero | tr '\0' ' ' >long.loop
 head -c 1048577 /dev/zero | tr '\0' ' ' >long.json
 head -c 1048576 /dev/zero | tr '\0' ' ' >spaces.json
-usage='usage: invar basis [--budget N] LOOP | member [--budget N] LOOP EQUATION | cert [--budget N] LOOP | check LOOP CERT | run LOOP WORD VALUES | gen NUMBER | chain [--budget N] CHAIN | chainrun CHAIN WORDS VALUES | counter [--length N] LOOP EQUATION | full [--budget N] LOOP | checkfull LOOP CERT | relations [--budget N] FILE | decide [--budget N] LOOP EQUATION | prove [--budget N] LOOP EQUATION; invar --help says more'
+usage='usage: invar basis [--budget N] [--degree D] LOOP | member [--budget N] LOOP EQUATION | cert [--budget N] [--degree D] LOOP | check LOOP CERT | run LOOP WORD VALUES | gen NUMBER | chain [--budget N] CHAIN | chainrun CHAIN WORDS VALUES | counter [--length N] LOOP EQUATION | full [--budget N] LOOP | checkfull LOOP CERT | relations [--budget N] FILE | decide [--budget N] LOOP EQUATION | prove [--budget N] LOOP EQUATION; invar --help says more'
 failed=0
 row() {
     want_status=$1 want_text=$2
@@ -98,7 +98,14 @@ x*z - y*z - x + 1 = 0' decide geometric-sum.loop 'x*(z-1) = y*z - 1'
 row 0 'yes
 x*y - z = 0' decide squaring.loop 'z = x*y'
 row 0 '{"basis":["-x*y + z","x*y - z"],"steps":[[[[1,"-x*y - z"]],[[1,"x*y + z"]]]],"vars":["x","y","z"],"version":2}' prove squaring.loop 'z = x*y'
-row 0 'invar 1.1.0' --version
+row 0 's^2 - 1 = 0
+a^2 + a*b - b^2 - s = 0' basis --degree 4 fibonacci.loop
+row 0 'x^2 + y^2 - 1 = 0' basis --degree 2 rotation.loop
+row 0 'x*v*h - x^2 - v^2 + e = 0' basis --degree 3 leapfrog.loop
+row 0 '{"basis":["x*z - y*z - x + 1"],"steps":[[[[0,"z"]]]],"vars":["x","y","z"],"version":2}' cert --degree 2 geometric-sum.loop
+row 5 'budget: 10' basis --budget 10 --degree 2 squaring.loop
+row 3 'limit: degree 16' basis --degree 16 leapfrog.loop
+row 0 'invar 1.2.0' --version
 row 0 "$("$program" help)" --help
 row 0 'invar gen NUMBER
 Analyses the first so many loops of a family, 1 to 1000, and prints how many
@@ -108,6 +115,8 @@ row 2 "$usage" --version basis
 row 2 "$usage" basis
 row 2 "$usage" basis -x
 row 2 "$usage" basis --budget 0 product.loop
+row 2 "$usage" basis --degree 0 product.loop
+row 2 "$usage" basis --degree 2 --budget 10 product.loop
 row 0 't - 2*q + f = 0
 q^2 - 4/3*q*f + 4/9*f^2 - 1/9*q = 0' relations figurate.seqs
 row 0 'g - 1/2*p + 1/2 = 0' relations geometric-sums.seqs

@@ -13,7 +13,7 @@ import re
 import subprocess
 import sys
 
-OPTIONS = {"--budget": range(1, 1_000_001), "--length": range(7)}
+OPTIONS = {"--budget": range(1, 1_000_001), "--degree": range(1, 17), "--length": range(7)}
 TOLD = re.compile(r"(?:loop \d+: )?(loop|equation|sequences): (\w+(?: \w+)*) at (\d+)\n", re.A)
 TOKEN = re.compile(r"[A-Za-z]\w*|\d+\.\d+|\d+|[-+*/]=|\+\+|--|\*\*|//|/\*|:=|[=<>!]=|&&|\|\||.", re.A | re.S)
 SECONDS, WIDTH = 5, 100
@@ -120,8 +120,10 @@ def shown(name, text, offset, kind, reason):
 
 
 def file_and_equation(words):
-    """The words behind the command and its option."""
-    rest = words[3:] if words[1:2] and words[1] in OPTIONS else words[1:]
+    """The words behind the command and its options."""
+    rest = words[1:]
+    while rest and rest[0] in OPTIONS:
+        rest = rest[2:]
     return [*rest, "", ""][:2]
 
 
@@ -138,10 +140,13 @@ def of_words(words, usage):
         if word in OPTIONS and words[1] not in OPTIONS:
             rest = [*words[1:place], *words[place + 2 :]]
             return f"an option stands before the file: invar {' '.join([command, *words[place : place + 2], *rest])}"
-    if words[1:2] and words[1] in OPTIONS:
-        numbers = OPTIONS[words[1]]
-        if not words[2:] or not re.fullmatch("[0-9]{1,7}", words[2]) or int(words[2]) not in numbers:
-            return f"{words[1]} takes a number, {numbers[0]} to {numbers[-1]}"
+    if words[1:2] == ["--degree"] and words[3:4] == ["--budget"]:
+        return f"--budget stands before --degree: invar {' '.join([command, *words[3:5], *words[1:3], *words[5:]])}"
+    for place, word in enumerate(words):
+        if word in OPTIONS:
+            numbers, number = OPTIONS[word], "".join(words[place + 1 : place + 2])
+            if not re.fullmatch("[0-9]{1,7}", number) or int(number) not in numbers:
+                return f"{word} takes a number, {numbers[0]} to {numbers[-1]}"
     if "-" in words[1:]:
         return "`-` is no file; standard input is /dev/stdin"
     return f"the words of this command: invar {commands[command]}"

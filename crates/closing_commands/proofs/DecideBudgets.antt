@@ -18,7 +18,8 @@ use Rattle.closures.proofs.Agrees.{ends_once}
 use Rattle.closures.proofs.Budgets.{more_units, enough}
 use Rattle.closing_commands.specs.declared.evidence.Evidence.{Evidence}
 use Rattle.closing_commands.specs.declared.evidence.Evidence.TheVariants as kinds
-use Rattle.closing_commands.specs.Deciding.{AreProved, AreExhausted, HasClosed, HasCountered, IsOutOf}
+use Rattle.closing_commands.specs.ProvedLists.{AreProved, AreExhausted}
+use Rattle.closing_commands.specs.Deciding.{HasClosed, HasCountered, IsOutOf}
 use Rattle.closing_commands.specs.DecideClauses.{HasEnd}
 
 others_same : (P gs qs rs : List (Terms Fraction)) → AreOthers P gs qs → AreOthers P gs rs
@@ -88,22 +89,22 @@ module _ (l : Program (Expr ℕ)) (p : Terms Fraction) where
       f
 
   enough_tests : (es fs : List Entry) (n : ℕ) (gs hs : List (Terms Fraction))
-      → AreProved l p es gs → units_of es ≤ n → AreExhausted l p fs hs n → ⊥
+      → AreProved l P es gs → units_of es ≤ n → AreExhausted l P fs hs n → ⊥
   unfolding begin
   enough_tests es fs n gs hs a few s =
       let same = closings_same a.over.follows.before s.out.follows.before gs hs
       a.over.follows.closes
       s.out.follows.closes in
-      let t = subst (λ x. AreExhausted l p fs x n) (sym same) s in
+      let t = subst (λ x. AreExhausted l P fs x n) (sym same) s in
       out_not gs a.elements es fs a.over.state n a.over.follows a.over.is few
       (subst (λ x. IsOutProof l P gs x n fs) (list_same P gs t.elements a.elements t.listed
       a.listed) t.out)
 
   pub enough_end : (evidence : Evidence) (n : ℕ) (fs : List Entry) → HasEnd l p evidence n
       → IsOutOf l p fs evidence n → ⊥
-  enough_end kinds.Closure n fs h o = go h.ends
+  enough_end kinds.Basis n fs h o = go h.ends
     where
-      go : ((gs : List (Terms Fraction)) × HasClosed l p h.entries kinds.Closure gs)
+      go : ((gs : List (Terms Fraction)) × HasClosed l p h.entries kinds.Basis gs)
           ⊎ ((w : List ℕ) × HasCountered l p h.entries w) → ⊥
       go (inl (gs, c)) = enough l P h.entries fs (closed gs) n refl c h.few o
       go (inr (w, c)) = enough l P h.entries fs (countered c.candidate c.image) n refl c.ends h.few
@@ -112,7 +113,7 @@ module _ (l : Program (Expr ℕ)) (p : Terms Fraction) where
     where
       go : ((gs : List (Terms Fraction)) × HasClosed l p h.entries kinds.Certificate gs)
           ⊎ ((w : List ℕ) × HasCountered l p h.entries w)
-          → IsOut l P n fs ⊎ ((gs : List (Terms Fraction)) × AreExhausted l p fs gs n) → ⊥
+          → IsOut l P n fs ⊎ ((gs : List (Terms Fraction)) × AreExhausted l P fs gs n) → ⊥
       go (inl (gs, a)) (inl out) =
           enough l P a.over.follows.before fs (closed gs) n refl a.over.follows.closes
           (before_few gs a.elements h.entries a.over.state n a.over.follows h.few) out

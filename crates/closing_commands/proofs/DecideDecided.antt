@@ -3,13 +3,13 @@
 --   complete           one of the answers, by its cause
 --   enough_said        no exhausted budget where all ends within it
 --   equation_limited   where an operation of the equation's polynomial passes a limit
-use Rattle.std.proofs.Common.{◌≡◌, ◌≢◌, ℕ, length, ap, ◌∙◌, inl, inr, Ok, Some}
+use Rattle.std.proofs.Common.{◌≡◌, ◌≢◌, ℕ, length, inl, inr, Ok, Some}
 use Rattle.std.specs.Prelude.{◌⊎◌}
 use Rattle.algebra.specs.Fraction.{Fraction}
 use Rattle.polynomials.specs.Terms.{Terms}
 use Rattle.machines.specs.Journal.{Journal}
 use Rattle.loops.specs.Program.{Expr, Program}
-use Rattle.poly_text.specs.Reasons.{limit, wide}
+use Rattle.poly_text.specs.Reasons.{limit}
 use Rattle.loop_model.specs.Operations.{IsLimit, IsWide}
 use Rattle.loop_model.specs.Stops.{Stops}
 use Rattle.loop_model.specs.declared.map_error.MapError.{MapError}
@@ -17,17 +17,17 @@ use Rattle.loop_model.specs.declared.map_error.MapError.TheVariants as map_error
 use Rattle.loop_model.specs.Maps.{maps_operations, AreFree}
 use Rattle.io_edge.specs.declared.answer.Status.TheVariants as status
 use Rattle.io_edge.specs.Texts.{Answer}
-use Rattle.io_edge.proofs.OfStatuses.{status_of, no_answer, some_answer}
+use Rattle.io_edge.proofs.OfStatuses.{status_of, no_answer}
 use Rattle.command_parts.specs.FaultTexts.{loop_refusal}
-use Rattle.command_parts.proofs.MapLimits.{limit_same, not_free}
+use Rattle.command_parts.proofs.MapLimits.{not_free}
 use Rattle.command_parts.specs.Equations.{operations_of, polynomial_of, FormsFreely}
 use Rattle.command_parts.specs.EquationReading.{equation_refusal, stop_answer, IsUnformed}
 use Rattle.command_parts.proofs.Polynomials.{holds_invariant}
 use Rattle.command_parts.proofs.Refusals.{unformed_refuses, stopped_limit, stopped_wide}
-use Rattle.replay_commands.specs.CounterTexts.{map_answer}
 use Rattle.closing_commands.specs.declared.evidence.Evidence.{Evidence}
 use Rattle.closing_commands.specs.Deciding.{Answers}
 use Rattle.closing_commands.specs.DecideClauses.{HasWide, HasEnd, EndsAny}
+use Rattle.closing_commands.proofs.MapsTold.{map_stopped, map_wide}
 use Rattle.closing_commands.proofs.DecideBudgets.{enough_end}
 use Rattle.closing_commands.proofs.DecideShown.{tells_yes, yes_invariant, yes_maps, exhausted_when_budget, not_invariant}
 
@@ -57,25 +57,13 @@ module _ (evidence : Evidence) (l : Program (Expr ℕ)) (e : Expr ℕ) (n : ℕ)
         free : AreFree l → ⊥
         free maps = not_free (length l.names) (maps_operations l) at first maps
 
-        told : (x : MapError) → Stops (length l.names) (maps_operations l) x
-            → map_answer x ≡ Some a
-            → (a ≡ loop_refusal (record { reason = limit; at = at })) ⊎ (a.status ≡ status.Wide)
-        told (map_error.Limit other) is says =
-            inl (some_answer (loop_refusal (record { reason = limit; at = other })) a says
-            ∙ ap (λ k. loop_refusal (record { reason = limit; at = k }))
-            (limit_same (length l.names) (maps_operations l) other at is first))
-        told (map_error.Wide other) is says =
-            inr (status_of
-            (some_answer (loop_refusal (record { reason = wide; at = other })) a says))
-        told map_error.Memory is says = absurd (no_answer a says)
-
         go : Answers evidence l (Ok e) n before m a
             → (a ≡ loop_refusal (record { reason = limit; at = at })) ⊎ (a.status ≡ status.Wide)
         go (inl u) = inr (wide_unformed u.0).0
         go (inr (f, d)) = elim d.tells [
           | inl t ↦ absurd (free (yes_maps l p m evidence a t))
           | inr (inl t) ↦ absurd (free t.maps)
-          | inr (inr (inl (inl t))) ↦ told t.stop t.is t.says
+          | inr (inr (inl (inl t))) ↦ map_stopped l m a at first t
           | inr (inr (inl (inr (inl t)))) ↦ absurd (free t.maps)
           | inr (inr (inl (inr (inr (inl t))))) ↦ absurd (free t.maps)
           | inr (inr (inl (inr (inr (inr t))))) ↦ absurd (free t.maps)
@@ -83,16 +71,6 @@ module _ (evidence : Evidence) (l : Program (Expr ℕ)) (e : Expr ℕ) (n : ℕ)
         ]
 
     module _ (maps : AreFree l) where
-      wide_map : (x : MapError) → Stops (length l.names) (maps_operations l) x
-          → map_answer x ≡ Some a → WideSaid
-      wide_map (map_error.Limit at) is says =
-          absurd (not_free (length l.names) (maps_operations l) at is maps)
-      wide_map (map_error.Wide at) is says = (
-        status_of (some_answer (loop_refusal (record { reason = wide; at = at })) a says),
-        inr (inl (at, is)),
-      )
-      wide_map map_error.Memory is says = absurd (no_answer a says)
-
       pub complete : EndsAny l e evidence a.status
       complete = go h
         where
@@ -109,7 +87,8 @@ module _ (evidence : Evidence) (l : Program (Expr ℕ)) (e : Expr ℕ) (n : ℕ)
                 ))
             | inr (inl t) ↦
                 inl (inr (status_of t.tells.says, λ k. not_invariant l e m t.word t.is k))
-            | inr (inr (inl (inl t))) ↦ wide_end (wide_map t.stop t.is t.says)
+            | inr (inr (inl (inl t)))
+                ↦ (let w = map_wide l m a maps t in wide_end (w.0, inr (inl w.1)))
             | inr (inr (inl (inr (inl t)))) ↦
                 inr (inl (
                   status_of t.says,

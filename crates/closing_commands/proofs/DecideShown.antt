@@ -34,21 +34,21 @@ use Rattle.closing_commands.specs.DecideHeadline.{ShowsClosure, ShowsCertificate
 module _ (l : Program (Expr ℕ)) (p : Terms Fraction) (m : Journal) where
   pub tells_yes : (evidence : Evidence) (a : Answer) → Tells l p m evidence a
       → a.status ≡ status.Yes
-  tells_yes kinds.Closure a t = status_of t.says
-  tells_yes kinds.Certificate a t = status_of t.says
+  tells_yes kinds.Basis a t = status_of t.says
+  tells_yes kinds.Certificate a t = t.proof.yes
 
   pub yes_invariant : (evidence : Evidence) (a : Answer) → Tells l p m evidence a → Inv l p
-  yes_invariant kinds.Closure a t = t.invariant
+  yes_invariant kinds.Basis a t = t.invariant
   yes_invariant kinds.Certificate a t = t.invariant
 
   pub yes_maps : (evidence : Evidence) (a : Answer) → Tells l p m evidence a → AreFree l
-  yes_maps kinds.Closure a t = t.maps
+  yes_maps kinds.Basis a t = t.maps
   yes_maps kinds.Certificate a t = t.maps
 
   pub yes_ends : (evidence : Evidence) (a : Answer) → Tells l p m evidence a
       → (gs : List (Terms Fraction)) × HasClosed l p m.entries evidence gs
-  yes_ends kinds.Closure a t = (t.list, t.ends)
-  yes_ends kinds.Certificate a t = (t.list, t.ends)
+  yes_ends kinds.Basis a t = (t.list, t.ends)
+  yes_ends kinds.Certificate a t = (t.list, t.proof.ends)
 
   module _ (evidence : Evidence) (n : ℕ) (a : Answer) where
     pub stop_refuses : TellsStop l p m evidence a → IsRefusing a.status
@@ -135,18 +135,12 @@ module _ (text equation : List ℕ) (l : Program (Expr ℕ)) (e : Expr ℕ)
     holds = (holds_invariant l e).0 t.invariant;
     list = t.list;
     closure = t.closure;
-    certificate = t.certificate;
-    listed = t.listed;
-    places = t.places;
-    proof = t.proof;
-    identities = t.valid;
-    reads_back = t.reads_back;
-    says = text_of t.says;
+    proof = t.proof.shows;
   }
 
   pub yes_shown : (evidence : Evidence) → Tells l p m evidence a
       → Shows text equation evidence a.text
-  yes_shown kinds.Closure t = closure_shown t
+  yes_shown kinds.Basis t = closure_shown t
   yes_shown kinds.Certificate t = certificate_shown t
 
   pub counter_shown : TellsRun l p m a → ShowsCounter text equation a.text
@@ -164,7 +158,7 @@ module _ (text equation : List ℕ) (l : Program (Expr ℕ)) (e : Expr ℕ)
 pub holds_shown : (text equation said : List ℕ) (evidence : Evidence)
     → Shows text equation evidence said → (l : Program (Expr ℕ)) (e : Expr ℕ)
     → IsQuestion text equation l e → Holds l e
-holds_shown text equation said kinds.Closure s l e q =
+holds_shown text equation said kinds.Basis s l e q =
     same_question text equation s.loop l s.difference e s.question q s.holds
 holds_shown text equation said kinds.Certificate s l e q =
     same_question text equation s.loop l s.difference e s.question q s.holds

@@ -1,21 +1,20 @@
 -- What a closing of one polynomial ends with is told.
 --   polynomial_alone          the polynomial of a list of one
---   closure_told, certificate_told     a list, and the certificate of it
+--   closure_told, proving_told     a list, and how the divisions end that prove it closed
 --   counter_letters, counter_image     a word that counters, and its image
 --   run_found, run_told       its run
 --   counter_told              a run with it, or a number that may not fit
---   stop_told, test_told      why it stopped, and why the divisions behind it did
+--   stop_told                 why it stopped
 --   map_told                  a map that can't be formed
 --   asked_none                the meter was opened, and no entry is made
 --   closes_counter, counter_fits       a verdict, as it is matched
---   closure_answered, certificate_answered, unproved_answered     answers over a list of one polynomial
+--   closure_answered, proving_answered, begun_asked     answers over a list of one polynomial
 --   answers_equation, leaves_equation, answers_unread     the answer by what the equation is
-use Rattle.std.proofs.Common.{◌≡◌, inl, inr, ℕ, ◌≤◌, List, [], ◌∷◌, length, refl, sym, ap, ap₂, subst, ◌∙◌, All, Ok, Err, Result}
+use Rattle.std.proofs.Common.{◌≡◌, ◌⊎◌, inl, inr, ℕ, List, [], ◌∷◌, length, refl, sym, ap, ap₂, subst, ◌∙◌, All, Ok, Err, Result}
 use Rattle.std.specs.Prelude.{Some, IfOk}
 use Rattle.std.specs.Global.{Vec}
 use Rattle.std.specs.declared.alloc.AllocError.{AllocError}
 use Rattle.std.proofs.lemmas.Result.{IfOk-weaker}
-use Rattle.std.proofs.lemmas.List.{length-map}
 use Rattle.std.proofs.lemmas.List.Elements.{All-head}
 use Rattle.algebra.specs.Each.{Each}
 use Rattle.algebra.specs.Fraction.{Fraction, ℚ}
@@ -28,6 +27,7 @@ use Rattle.polynomials.proofs.Canonical.{polynomial_unique}
 use Rattle.polynomials.proofs.Orders.{grevlex_order}
 use Rattle.polynomials.proofs.Same.{Same-trans}
 use Rattle.machines.specs.Journal.{Journal, Entry}
+use Rattle.machines.specs.Run.{IsRun}
 use Rattle.loops.specs.Program.{Expr, Program}
 use Rattle.loops.specs.WellFormed.{IsWellFormed}
 use Rattle.rounds.specs.Word.{IsLetter}
@@ -38,7 +38,6 @@ use Rattle.loop_model.specs.FracPoly.{FracPoly}
 use Rattle.loop_model.specs.Stops.{Stops}
 use Rattle.loop_model.specs.declared.map_error.MapError.{MapError}
 use Rattle.loop_model.specs.Maps.{maps_operations, AreFree}
-use Rattle.cert_form.specs.Form.{cert_in, most_elements, ReadsAs}
 use Rattle.ideal_ops.specs.Calls.{AreOver}
 use Rattle.frac128.specs.declared.fraction.Frac.{Frac}
 use Rattle.frac128.specs.FracMeaning.{fraction_of}
@@ -47,24 +46,18 @@ use Rattle.counter_run.specs.declared.Found.{Found}
 use Rattle.counter_run.specs.declared.Found.TheVariants as found
 use Rattle.counter_run.specs.Search.{IsNonzeroImage}
 use Rattle.corollaries.specs.Image.{image}
-use Rattle.closures.specs.Closing.{Candidate, closed, countered, fresh}
+use Rattle.closures.specs.Closing.{Candidate, closed, countered, fresh, moves}
 use Rattle.closures.specs.Ends.{ComesNext, IsFirstCounter}
 use Rattle.closures.specs.Follows.{IsOut}
-use Rattle.closures.specs.Proving.{IsOutProof}
 use Rattle.closures.proofs.Agrees.{closed_yes}
-use Rattle.closures.proofs.Certified.{proof_valid}
 use Rattle.closures.proofs.Ended.{closed_is, countered_is, countered_first}
 use Rattle.closures.proofs.Follows.{follows_begun}
 use Rattle.closing.specs.Progress.{IsGoing, IfStops, candidate_of, Closes, FitsVerdict}
-use Rattle.closing.specs.Proving.{certificate_of, HasProof, IfUnproved}
 use Rattle.closing.specs.declared.error.ClosingError.{ClosingError}
 use Rattle.closing.specs.declared.error.ClosingError.TheVariants as error
 use Rattle.closing.specs.declared.joining.Counter.{Counter}
 use Rattle.closing.specs.declared.levels.Verdict.{Verdict}
 use Rattle.closing.specs.declared.levels.Verdict.TheVariants as verdict
-use Rattle.closing.specs.declared.proving.ClosureProof.{ClosureProof}
-use Rattle.closing.specs.declared.proving.ProvingError.{ProvingError}
-use Rattle.closing.specs.declared.proving.ProvingError.TheVariants as proving_error
 use Rattle.io_edge.specs.declared.answer.Answer as made
 use Rattle.io_edge.specs.Texts.{Answer}
 use Rattle.io_edge.specs.Views.{answer_view}
@@ -76,8 +69,10 @@ use Rattle.replay_commands.specs.CounterTexts.{limit_answer, wide_answer, map_an
 use Rattle.closing_commands.specs.declared.evidence.Evidence.{Evidence}
 use Rattle.closing_commands.specs.declared.evidence.Evidence.TheVariants as kinds
 use Rattle.closing_commands.specs.Deciding.{HasCountered, IsOnTheWay, IsOutOf, TellsCounter, Decides, HasAsked, Answers, Leaves}
-use Rattle.closing_commands.specs.DecideTexts.{closure_answer, certificate_answer, no_answer as told_no, exhausted_answer, wide_test_answer}
-use Rattle.closing_commands.specs.DecideViews.{stop_answer, proving_answer}
+use Rattle.closing_commands.specs.ProvedLists.{AreBegun, AreExhausted, TellsProving}
+use Rattle.closing_commands.specs.ProvedTexts.{exhausted_answer}
+use Rattle.closing_commands.specs.DecideTexts.{closure_answer, no_answer as told_no}
+use Rattle.closing_commands.specs.DecideViews.{stop_answer}
 
 no_terms : (m : ℕ) → IsPolynomial ℚ grevlex m []
 unfolding Each Falls
@@ -114,12 +109,12 @@ module _ (l : Program (Expr ℕ)) (p : Terms Fraction) (m : Journal) where
 
   -- ---- the entries
   on_the_way : (evidence : Evidence) → IsGoing l P m.entries → IsOnTheWay l p m.entries evidence
-  on_the_way kinds.Closure g = g
+  on_the_way kinds.Basis g = g
   on_the_way kinds.Certificate g = inl g
 
   out_of : (evidence : Evidence) (n : ℕ) → IsOut l P n m.entries
       → IsOutOf l p m.entries evidence n
-  out_of kinds.Closure n o = o
+  out_of kinds.Basis n o = o
   out_of kinds.Certificate n o = inl o
 
   module _ (evidence : Evidence) (n : ℕ) (limit : m.limit ≡ n) where
@@ -252,7 +247,7 @@ module _ (l : Program (Expr ℕ)) (p : Terms Fraction) (m : Journal) where
 
       pub closure_told : (gs : List (Terms Fraction)) → ComesNext l P m.entries (closed gs)
           → IsReadBack l.names gs → (a : Answer) → a ≡ closure_answer l.names gs
-          → Decides l p m kinds.Closure n a
+          → Decides l p m kinds.Basis n a
       closure_told gs c back a says = record {
         limit = limit;
         tells =
@@ -267,80 +262,43 @@ module _ (l : Program (Expr ℕ)) (p : Terms Fraction) (m : Journal) where
             });
       }
 
-      -- ---- a certificate
-      module _ (gs : List (Terms Fraction)) (d : ClosureProof)
-          (h : HasProof l P gs m.entries d) where
-        pub certificate_told : (a : Answer) → a ≡ certificate_answer l.names (certificate_of d)
-            → (length (certificate_of d).basis ≤ most_elements
-            → ReadsAs (cert_in l.names (length (certificate_of d).steps) a.text)
-            (certificate_of d))
-            → Decides l p m kinds.Certificate n a
-        certificate_told a says back =
-            let closes = h.ends.follows.closes in
-            let before = h.ends.follows.before in
-            record {
-              limit = limit;
-              tells =
-                  inl (record {
-                    maps = maps;
-                    list = gs;
-                    ends = record { elements = _; listed = h.list; over = h.ends };
-                    closure = closed_is l P all before gs closes;
-                    invariant = closed_yes l well p hp before gs closes;
-                    certificate = certificate_of d;
-                    listed = h.list;
-                    places = h.places;
-                    proof = h.proof;
-                    valid = proof_valid l P all before gs closes h.places (certificate_of d)
-                        h.proof;
-                    reads_back = λ few. subst (λ k. ReadsAs (cert_in l.names k a.text)
-                        (certificate_of d)) (length-map d.steps.items _ ∙ h.count) (back few);
-                    says = says;
-                  });
-            }
-
-    pub test_told : (gs : List (Terms Fraction)) (e : ProvingError)
-        → IfUnproved l P gs m.limit m.entries e → (a : Answer) → proving_answer n e ≡ Some a
-        → Decides l p m kinds.Certificate n a
-    test_told gs (proving_error.Wide b i) s a says = record {
-      limit = limit;
-      tells =
-          inr (inr (inl (inr (inr (inr (record {
-            maps = maps;
-            branch = b;
-            number = i;
-            is = (
-              gs,
-              record {
-                elements = s.list;
-                listed = s.is;
-                test = s.stopped.test;
-                is_branch = s.stopped.is_branch;
-                is_number = s.stopped.is_number;
-                past = s.stopped.past;
-              },
-            );
-            says = some_answer (wide_test_answer b i) a says;
-          }))))));
-    }
-    test_told gs proving_error.Budget s a says = record {
-      limit = limit;
-      tells =
-          inr (inr (inr (record {
-            maps = maps;
-            out =
-                inr (
-                  gs,
-                  record {
-                    elements = s.list;
-                    listed = s.is;
-                    out = subst (λ k. IsOutProof l P gs s.list k m.entries) limit s.stopped;
-                  },
-                );
-            says = some_answer (exhausted_answer n) a says;
-          })));
-    }
-    test_told gs proving_error.Memory s a says = absurd (no_answer a says)
+      -- ---- the divisions that prove it closed
+      pub proving_told : (gs : List (Terms Fraction)) (a : Answer) → TellsProving l P gs m n a
+          → Decides l p m kinds.Certificate n a
+      proving_told gs a (inl t) =
+          let closes = t.ends.over.follows.closes in
+          let before = t.ends.over.follows.before in
+          record {
+            limit = limit;
+            tells =
+                inl (record {
+                  maps = maps;
+                  list = gs;
+                  closure = closed_is l P all before gs closes;
+                  invariant = closed_yes l well p hp before gs closes;
+                  proof = t;
+                });
+          }
+      proving_told gs a (inr (inl t)) = record {
+        limit = limit;
+        tells =
+            inr (inr (inl (inr (inr (inr (record {
+              maps = maps;
+              branch = t.branch;
+              number = t.number;
+              is = (gs, t.is);
+              says = t.says;
+            }))))));
+      }
+      proving_told gs a (inr (inr (out, says))) = record {
+        limit = limit;
+        tells =
+            inr (inr (inr (record {
+              maps = maps;
+              out = inr (gs, subst (AreExhausted l P m.entries gs) limit out);
+              says = says;
+            })));
+      }
 
 -- ---- a verdict, as it is matched
 module _ (l : Program (Expr ℕ)) (P : List (Terms Fraction)) (es : List Entry) (v : Verdict)
@@ -367,13 +325,13 @@ module _ (l : Program (Expr ℕ)) (well : IsWellFormed l) (ps : List FracPoly)
   pub closure_answered : ComesNext l (terms_each ps) m.entries (closed gs)
       → IfOk r (λ a. answer_view a ≡ closure_answer names gs)
       → IfOk r (λ a. IsReadBack names gs)
-      → IfOk r (λ a. Decides l p m kinds.Closure n (answer_view a))
+      → IfOk r (λ a. Decides l p m kinds.Basis n (answer_view a))
   closure_answered c says back = go r says back
     where
       go : (r : Result made.Answer AllocError)
           → IfOk r (λ a. answer_view a ≡ closure_answer names gs)
           → IfOk r (λ a. IsReadBack names gs)
-          → IfOk r (λ a. Decides l p m kinds.Closure n (answer_view a))
+          → IfOk r (λ a. Decides l p m kinds.Basis n (answer_view a))
       go (Ok a) says back =
           closure_told l p m n limit maps well alone gs
           (subst (λ P. ComesNext l P m.entries (closed gs)) one c)
@@ -381,37 +339,28 @@ module _ (l : Program (Expr ℕ)) (well : IsWellFormed l) (ps : List FracPoly)
           (says ∙ ap (λ ns. closure_answer ns gs) same)
       go (Err e) says back = tt
 
-  pub certificate_answered : (d : ClosureProof) → HasProof l (terms_each ps) gs m.entries d
-      → IfOk r (λ a. answer_view a ≡ certificate_answer names (certificate_of d))
-      → IfOk r (λ a. length (certificate_of d).basis ≤ most_elements
-      → ReadsAs (cert_in names (length (certificate_of d).steps) (answer_view a).text)
-      (certificate_of d))
+  pub proving_answered : IfOk r (λ a. TellsProving l (terms_each ps) gs m n (answer_view a))
       → IfOk r (λ a. Decides l p m kinds.Certificate n (answer_view a))
-  certificate_answered d h says back = go r says back
-    where
-      go : (r : Result made.Answer AllocError)
-          → IfOk r (λ a. answer_view a ≡ certificate_answer names (certificate_of d))
-          → IfOk r (λ a. length (certificate_of d).basis ≤ most_elements
-          → ReadsAs (cert_in names (length (certificate_of d).steps) (answer_view a).text)
-          (certificate_of d))
-          → IfOk r (λ a. Decides l p m kinds.Certificate n (answer_view a))
-      go (Ok a) says back =
-          certificate_told l p m n limit maps well alone gs d
-          (subst (λ P. HasProof l P gs m.entries d) one h) (answer_view a)
-          (says ∙ ap (λ ns. certificate_answer ns (certificate_of d)) same)
-          (λ few. subst
-          (λ ns. ReadsAs (cert_in ns (length (certificate_of d).steps) (answer_view a).text)
-          (certificate_of d)) same (back few))
-      go (Err e) says back = tt
-
-  pub unproved_answered : (e : ProvingError)
-      → IfUnproved l (terms_each ps) gs m.limit m.entries e
-      → IfOk r (λ a. proving_answer n e ≡ Some (answer_view a))
-      → IfOk r (λ a. Decides l p m kinds.Certificate n (answer_view a))
-  unproved_answered e stops says =
+  proving_answered told =
       IfOk-weaker r _ _
-      (λ a is. test_told l p m n limit maps gs e
-      (subst (λ P. IfUnproved l P gs m.limit m.entries e) one stops) (answer_view a) is) says
+      (λ a t. proving_told l p m n limit maps well alone gs (answer_view a)
+      (subst (λ P. TellsProving l P gs m n (answer_view a)) one t)) told
+
+  pub begun_asked : ComesNext l (terms_each ps) m.entries (closed gs)
+      ⊎ AreBegun l (terms_each ps) m.entries gs → HasAsked l p m kinds.Certificate n
+  begun_asked (inl c) = record {
+    limit = limit;
+    going =
+        inl (record {
+          state = c.state;
+          follows =
+              record { run = subst (λ P. IsRun (moves l P) fresh m.entries c.state) one c.run };
+        });
+  }
+  begun_asked (inr b) = record {
+    limit = limit;
+    going = inr (gs, subst (λ P. AreBegun l P m.entries gs) one b);
+  }
 
 -- ---- by what the equation is
 module _ (evidence : Evidence) (l : Program (Expr ℕ)) (text : List ℕ) (n : ℕ) (before m : Journal)

@@ -1,7 +1,8 @@
 -- The closing of the polynomial 0, of any loop: one division, which leaves nothing. Nothing stops it.
 --   leads_to         where its entries lead
 --   zero_unlimited, zero_not_wide     no composition of it passes a limit, and nothing may not fit
---   zero_ends        it ends within one unit
+--   zero_closed      it ends with the empty list
+--   zero_ends        and so within one unit
 use Rattle.std.proofs.Common.{◌≡◌, ◌⊎◌, inl, inr, ℕ, zero, suc, ◌≤◌, List, [], ◌∷◌, length, refl, sym, ap, subst, ◌∙◌, Option, Some, None, arith}
 use Rattle.algebra.specs.Fraction.{Fraction, fractions, rationals}
 use Rattle.polynomials.specs.Terms.{Terms}
@@ -109,7 +110,7 @@ module _ (l : Program (Expr ℕ)) where
       (goes (Begin (Image 0)) begun ≡ step)
       ⊎ ((goes (Did Zero) ended ≡ step) ⊎ (closed [] ≡ step))
 
-  comes_one : (es : List Entry) (step : Step) → ComesNext l P es step → ComesOne step
+  pub comes_one : (es : List Entry) (step : Step) → ComesNext l P es step → ComesOne step
   comes_one es step c = elim (from_fresh es c.state c.run) [
     | inl e ↦ inl (sym first_step ∙ ap (next l P) e ∙ c.is)
     | inr (inl e) ↦ inr (inl (sym second_step ∙ ap (next l P) e ∙ c.is))
@@ -189,22 +190,20 @@ module _ (l : Program (Expr ℕ)) where
   unfolding units_of
   one_unit = omega arith
 
-  pub zero_ends : HasEnd l Z kinds.Closure 1
+  abbrev pub zero_entries : List Entry
+  zero_entries = Begin (Image 0) ∷ Did Zero ∷ []
+
+  pub zero_closed : ComesNext l P zero_entries (closed [])
   unfolding IsRun
-  zero_ends = record {
-    entries = Begin (Image 0) ∷ Did Zero ∷ [];
-    ends =
-        inl (
-          [],
-          record {
-            state = ended;
-            run = (
-              begun,
-              ap (move_of l P) first_step,
-              (ended, ap (move_of l P) second_step, refl),
-            );
-            is = last_step;
-          },
-        );
-    few = one_unit;
+  zero_closed = record {
+    state = ended;
+    run = (
+      begun,
+      ap (move_of l P) first_step,
+      (ended, ap (move_of l P) second_step, refl),
+    );
+    is = last_step;
   }
+
+  pub zero_ends : HasEnd l Z kinds.Basis 1
+  zero_ends = record { entries = zero_entries; ends = inl ([], zero_closed); few = one_unit }

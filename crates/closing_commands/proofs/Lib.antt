@@ -1,6 +1,13 @@
+pub mod ProvedTold
+pub mod MapsTold
 pub mod DecideTold
 pub mod DecideShown
 pub mod DecideBudgets
 pub mod DecideDecided
 pub mod DecidePromises
 pub mod DecideZero
+pub mod ProveZero
+pub mod DegreeTold
+pub mod DegreeShown
+pub mod DegreeDecided
+pub mod DegreePromises

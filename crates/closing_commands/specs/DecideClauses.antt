@@ -35,7 +35,7 @@ use Rattle.replay_commands.specs.CounterHeadline.{IsQuestion}
 use Rattle.closing_commands.specs.declared.evidence.Evidence.{Evidence}
 use Rattle.closing_commands.specs.Deciding.{HasClosed, HasCountered, IsOutOf, IsWideAtWord, IsWideTest, TellsStop, HasAsked}
 use Rattle.closing_commands.specs.DecideHeadline.{Shows, ShowsCounter}
-use Rattle.closing_commands.specs.DecideTexts.{exhausted_answer}
+use Rattle.closing_commands.specs.ProvedTexts.{exhausted_answer}
 use Rattle.closing_commands.specs.DecideArguments.{Request}
 
 -- ---- over the bytes of the file, and the meter

@@ -1,17 +1,14 @@
 -- What a user takes away of `decide` and `prove`, over the bytes of the file and the equation.
 --   ShowsClosure text equation said   the bytes are a loop and an equation that holds at the end of every run of it; the reduced basis of the closure of the equation's polynomial is said, invariants from which it follows and which each branch keeps; it can be read back
---   ShowsCertificate text equation said   they are, and a valid certificate is said, which lists the equation's polynomial first, and behind it what of this basis isn't the same, with the cofactors of their divisions by this basis; it can be read back where it has at most as many polynomials as a file may have
+--   ShowsCertificate text equation said   they are, and a valid certificate is said, which lists the equation's polynomial first, and behind it what of this basis isn't the same
 --   Shows evidence text equation said     the one or the other
 --   ShowsCounter text equation said   they are, and it doesn't hold: no is said, and what `counter` says of it, the first word after which it doesn't hold, with its run from its first start
-use Rattle.std.specs.Prelude.{◌≡◌, ℕ, ◌≤◌, List, [], ◌∷◌, ◌++◌, length, codes}
+use Rattle.std.specs.Prelude.{◌≡◌, ℕ, List, [], ◌∷◌, ◌++◌, codes}
 use Rattle.algebra.specs.Each.{Each}
 use Rattle.algebra.specs.Fraction.{Fraction}
 use Rattle.polynomials.specs.Terms.{Terms}
-use Rattle.loops.specs.Certificate.{Certificate, IsValid}
 use Rattle.loops.specs.Inv.{Inv}
 use Rattle.loops.specs.Program.{Expr, Program}
-use Rattle.cert_form.specs.Form.{cert_in, most_elements, ReadsAs}
-use Rattle.closures.specs.Certified.{IsListOf, IsProofBy}
 use Rattle.closures.specs.Ends.{IsClosure}
 use Rattle.io_edge.specs.Texts.{line}
 use Rattle.command_parts.specs.Equations.{polynomial_of, Holds}
@@ -19,7 +16,8 @@ use Rattle.command_parts.specs.ReadBack.{IsReadBack}
 use Rattle.replay_commands.specs.CounterHeadline.{IsQuestion, ShowsCounterRun}
 use Rattle.closing_commands.specs.declared.evidence.Evidence.{Evidence}
 use Rattle.closing_commands.specs.declared.evidence.Evidence.TheVariants as kinds
-use Rattle.closing_commands.specs.DecideTexts.{closure_answer, certificate_answer}
+use Rattle.closing_commands.specs.ProvedLists.{ShowsProof}
+use Rattle.closing_commands.specs.DecideTexts.{closure_answer}
 
 module _ (text equation : List ℕ) where
   pub record ShowsClosure (said : List ℕ) : Type 0 where
@@ -40,17 +38,10 @@ module _ (text equation : List ℕ) where
     pub holds : Holds loop difference
     pub list : List (Terms Fraction)
     pub closure : IsClosure loop (polynomial_of loop difference ∷ []) list
-    pub certificate : Certificate
-    pub listed : IsListOf (polynomial_of loop difference ∷ []) list certificate.basis
-    pub places : List ℕ
-    pub proof : IsProofBy loop list places certificate
-    pub identities : IsValid loop certificate
-    pub reads_back : length certificate.basis ≤ most_elements
-        → ReadsAs (cert_in loop.names (length loop.branches) said) certificate
-    pub says : said ≡ (certificate_answer loop.names certificate).text
+    pub proof : ShowsProof loop (polynomial_of loop difference ∷ []) list said
 
   abbrev pub Shows : Evidence → List ℕ → Type 0
-  Shows kinds.Closure said = ShowsClosure said
+  Shows kinds.Basis said = ShowsClosure said
   Shows kinds.Certificate said = ShowsCertificate said
 
   pub record ShowsCounter (said : List ℕ) : Type 0 where

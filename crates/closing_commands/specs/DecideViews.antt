@@ -1,16 +1,13 @@
 -- The values of `decide` and `prove` as the definitions see them.
 --   view request        what is asked for
 --   stop_answer n e     what is answered, with the budget n, to a closing that stopped; want of memory has none
---   proving_answer n e  so to the divisions behind it
 use Rattle.std.specs.Prelude.{ℕ, Option, Some, None, string_bytes}
 use Rattle.closing.specs.declared.error.ClosingError.{ClosingError}
 use Rattle.closing.specs.declared.error.ClosingError.TheVariants as error
-use Rattle.closing.specs.declared.proving.ProvingError.{ProvingError}
-use Rattle.closing.specs.declared.proving.ProvingError.TheVariants as proving_error
 use Rattle.io_edge.specs.Texts.{Answer}
 use Rattle.replay_commands.specs.CounterTexts.{limit_answer, wide_answer}
 use Rattle.closing_commands.specs.declared.decide_arguments.Request as made
-use Rattle.closing_commands.specs.DecideTexts.{exhausted_answer, wide_test_answer}
+use Rattle.closing_commands.specs.ProvedTexts.{exhausted_answer}
 use Rattle.closing_commands.specs.DecideArguments.{Request}
 
 abbrev pub view : made.Request → Request
@@ -26,8 +23,3 @@ stop_answer n (error.Limit word) = Some (limit_answer word.items)
 stop_answer n (error.Wide word) = Some (wide_answer word.items)
 stop_answer n error.Budget = Some (exhausted_answer n)
 stop_answer n error.Memory = None
-
-abbrev pub proving_answer : ℕ → ProvingError → Option Answer
-proving_answer n (proving_error.Wide branch element) = Some (wide_test_answer branch element)
-proving_answer n proving_error.Budget = Some (exhausted_answer n)
-proving_answer n proving_error.Memory = None

@@ -8,93 +8,61 @@
 --   TellsRun l p m a           it has ended with the first word that counters p, and a tells the run with it from its first start
 --   IsWideWord l p w           a number on the way to this start, or of this run, may not fit
 --   TellsCounter l p w a       one of the two is told
---   TellsMap l p m a           a tells the first operation of the loop's maps that can't be done, and no entry is made
 --   TellsLimit l p m a         a tells the word of the candidate of which a composition passes a limit
 --   IsWideAtWord l p m w       of the candidate of w a composition, or what comes next in its task, may not fit; or w is the first word that counters p, and a number of its run may not fit
 --   TellsWide, TellsWideTest   a tells such a word, or such a division
---   TellsStop evidence l p m a     one of these four
+--   TellsStop evidence l p m a     one of these three, or the first operation of the loop's maps that can't be done
 --   TellsExhausted evidence l p n m a  the budget n is exhausted, and a tells it
 --   Decides evidence l p n m a     one of all, where the meter was opened with the budget n
 --   HasAsked evidence l p n m  the meter was opened so, and the entries follow
 --   Answers evidence l reading n before m a     a answers by what the equation is; where it has no polynomial the meter is as it was before
 --   Leaves evidence l reading n m     where it has one, the meter was opened for it
-use Rattle.std.specs.Prelude.{◌≡◌, ◌⊎◌, ◌≤◌, ℕ, List, [], ◌∷◌, length, Some, Result, Ok, Err}
+use Rattle.std.specs.Prelude.{◌≡◌, ◌⊎◌, ℕ, List, [], ◌∷◌, Result, Ok, Err}
 use Rattle.algebra.specs.Fraction.{Fraction}
 use Rattle.polynomials.specs.Terms.{Terms}
 use Rattle.machines.specs.Journal.{Journal, Entry}
-use Rattle.loops.specs.Certificate.{Certificate, IsValid}
 use Rattle.loops.specs.Inv.{Inv}
 use Rattle.loops.specs.Program.{Expr, Program}
 use Rattle.poly_text.specs.Reasons.{Fault}
-use Rattle.loop_model.specs.Stops.{Stops}
-use Rattle.loop_model.specs.declared.map_error.MapError.{MapError}
-use Rattle.loop_model.specs.Maps.{maps_operations, AreFree}
+use Rattle.loop_model.specs.Maps.{AreFree}
 use Rattle.corollaries.specs.Counter.{IsFirstWord}
 use Rattle.counter_run.specs.Answers.{IsRunFrom}
 use Rattle.counter_run.specs.Causes.{IsWideStart, IsWideRun}
-use Rattle.cert_form.specs.Form.{cert_in, most_elements, ReadsAs}
-use Rattle.closures.specs.Certified.{IsListOf, IsProofBy}
 use Rattle.closures.specs.Closing.{Candidate, closed, countered}
 use Rattle.closures.specs.Ends.{ComesNext, IsClosure}
 use Rattle.closures.specs.Follows.{IsOut, IsPastTask}
-use Rattle.closures.specs.Proving.{Test, State, AwaitsTests, FollowsProof, IsOutProof, IsPastProof}
 use Rattle.closing.specs.Causes.{IsLimitAt, IsWideAt}
 use Rattle.closing.specs.Progress.{IsGoing, StopsAt}
 use Rattle.io_edge.specs.Texts.{Answer}
 use Rattle.command_parts.specs.Equations.{polynomial_of, FormsFreely}
 use Rattle.command_parts.specs.EquationReading.{equation_refusal, IsUnformed}
 use Rattle.command_parts.specs.ReadBack.{IsReadBack}
-use Rattle.replay_commands.specs.CounterTexts.{limit_answer, wide_answer, map_answer}
+use Rattle.replay_commands.specs.CounterTexts.{limit_answer, wide_answer}
 use Rattle.closing_commands.specs.declared.evidence.Evidence.{Evidence}
 use Rattle.closing_commands.specs.declared.evidence.Evidence.TheVariants as kinds
-use Rattle.closing_commands.specs.DecideTexts.{closure_answer, certificate_answer, no_answer, exhausted_answer, wide_test_answer}
+use Rattle.closing_commands.specs.ProvedTexts.{exhausted_answer, wide_test_answer}
+use Rattle.closing_commands.specs.ProvedLists.{AreProved, AreBegun, AreExhausted, IsPastTest, TellsMap, TellsProof}
+use Rattle.closing_commands.specs.DecideTexts.{closure_answer, no_answer}
 
 -- ---- where the entries lead
 module _ (l : Program (Expr ℕ)) (p : Terms Fraction) (es : List Entry) where
-  -- the divisions of p, and of the list, by the list, behind the closing: all; some; as many of the
-  -- entries are units as the budget, and a unit comes next; what comes next may not fit
-  pub record AreProved (gs : List (Terms Fraction)) : Type 0 where
-    pub elements : List (Terms Fraction)
-    pub listed : IsListOf (p ∷ []) gs elements
-    pub over : AwaitsTests l (p ∷ []) gs elements es []
-
-  module _ (gs : List (Terms Fraction)) where
-    pub record AreBegun : Type 0 where
-      pub elements : List (Terms Fraction)
-      pub listed : IsListOf (p ∷ []) gs elements
-      pub state : State
-      pub follows : FollowsProof l (p ∷ []) gs elements es state
-
-    pub record AreExhausted (n : ℕ) : Type 0 where
-      pub elements : List (Terms Fraction)
-      pub listed : IsListOf (p ∷ []) gs elements
-      pub out : IsOutProof l (p ∷ []) gs elements n es
-
-    pub record IsPastTest (b i : ℕ) : Type 0 where
-      pub elements : List (Terms Fraction)
-      pub listed : IsListOf (p ∷ []) gs elements
-      pub test : Test
-      pub is_branch : test.branch ≡ b
-      pub is_number : test.number ≡ i
-      pub past : IsPastProof l (p ∷ []) gs elements es test
-
   abbrev pub HasClosed : Evidence → List (Terms Fraction) → Type 0
-  HasClosed kinds.Closure gs = ComesNext l (p ∷ []) es (closed gs)
-  HasClosed kinds.Certificate gs = AreProved gs
+  HasClosed kinds.Basis gs = ComesNext l (p ∷ []) es (closed gs)
+  HasClosed kinds.Certificate gs = AreProved l (p ∷ []) es gs
 
   abbrev pub IsOnTheWay : Evidence → Type 0
-  IsOnTheWay kinds.Closure = IsGoing l (p ∷ []) es
+  IsOnTheWay kinds.Basis = IsGoing l (p ∷ []) es
   IsOnTheWay kinds.Certificate =
-      IsGoing l (p ∷ []) es ⊎ ((gs : List (Terms Fraction)) × AreBegun gs)
+      IsGoing l (p ∷ []) es ⊎ ((gs : List (Terms Fraction)) × AreBegun l (p ∷ []) es gs)
 
   abbrev pub IsOutOf : Evidence → ℕ → Type 0
-  IsOutOf kinds.Closure n = IsOut l (p ∷ []) n es
+  IsOutOf kinds.Basis n = IsOut l (p ∷ []) n es
   IsOutOf kinds.Certificate n =
-      IsOut l (p ∷ []) n es ⊎ ((gs : List (Terms Fraction)) × AreExhausted gs n)
+      IsOut l (p ∷ []) n es ⊎ ((gs : List (Terms Fraction)) × AreExhausted l (p ∷ []) es gs n)
 
   abbrev pub IsWideTest : Evidence → ℕ → ℕ → Type 0
-  IsWideTest kinds.Closure b i = ⊥
-  IsWideTest kinds.Certificate b i = (gs : List (Terms Fraction)) × IsPastTest gs b i
+  IsWideTest kinds.Basis b i = ⊥
+  IsWideTest kinds.Certificate b i = (gs : List (Terms Fraction)) × IsPastTest l (p ∷ []) es gs b i
 
   pub record HasCountered (w : List ℕ) : Type 0 where
     pub candidate : Candidate
@@ -122,7 +90,7 @@ module _ (l : Program (Expr ℕ)) (p : Terms Fraction) (m : Journal) where
   pub record TellsClosure (a : Answer) : Type 0 where
     pub maps : AreFree l
     pub list : List (Terms Fraction)
-    pub ends : HasClosed l p m.entries kinds.Closure list
+    pub ends : HasClosed l p m.entries kinds.Basis list
     pub closure : IsClosure l (p ∷ []) list
     pub invariant : Inv l p
     pub reads_back : IsReadBack l.names list
@@ -131,20 +99,12 @@ module _ (l : Program (Expr ℕ)) (p : Terms Fraction) (m : Journal) where
   pub record TellsCertificate (a : Answer) : Type 0 where
     pub maps : AreFree l
     pub list : List (Terms Fraction)
-    pub ends : HasClosed l p m.entries kinds.Certificate list
     pub closure : IsClosure l (p ∷ []) list
     pub invariant : Inv l p
-    pub certificate : Certificate
-    pub listed : IsListOf (p ∷ []) list certificate.basis
-    pub places : List ℕ
-    pub proof : IsProofBy l list places certificate
-    pub valid : IsValid l certificate
-    pub reads_back : length certificate.basis ≤ most_elements
-        → ReadsAs (cert_in l.names (length l.branches) a.text) certificate
-    pub says : a ≡ certificate_answer l.names certificate
+    pub proof : TellsProof l (p ∷ []) list m a
 
   abbrev pub Tells : Evidence → Answer → Type 0
-  Tells kinds.Closure a = TellsClosure a
+  Tells kinds.Basis a = TellsClosure a
   Tells kinds.Certificate a = TellsCertificate a
 
   pub record TellsRun (a : Answer) : Type 0 where
@@ -152,12 +112,6 @@ module _ (l : Program (Expr ℕ)) (p : Terms Fraction) (m : Journal) where
     pub word : List ℕ
     pub is : HasCountered l p m.entries word
     pub tells : TellsStates l p word a
-
-  pub record TellsMap (a : Answer) : Type 0 where
-    pub stop : MapError
-    pub is : Stops (length l.names) (maps_operations l) stop
-    pub none : m.entries ≡ []
-    pub says : map_answer stop ≡ Some a
 
   pub record TellsLimit (a : Answer) : Type 0 where
     pub maps : AreFree l
@@ -186,7 +140,7 @@ module _ (l : Program (Expr ℕ)) (p : Terms Fraction) (m : Journal) where
       pub says : a ≡ wide_test_answer branch number
 
     abbrev pub TellsStop : Answer → Type 0
-    TellsStop a = TellsMap a ⊎ (TellsLimit a ⊎ (TellsWide a ⊎ TellsWideTest a))
+    TellsStop a = TellsMap l m a ⊎ (TellsLimit a ⊎ (TellsWide a ⊎ TellsWideTest a))
 
     pub record TellsExhausted (n : ℕ) (a : Answer) : Type 0 where
       pub maps : AreFree l

@@ -1,3 +1,7 @@
+pub mod Rows
+pub mod ProvedTexts
+pub mod ProvedLists
+pub mod ProvedViews
 pub mod DecideArguments
 pub mod DecideTexts
 pub mod Deciding
@@ -5,3 +9,10 @@ pub mod DecideCourse
 pub mod DecideViews
 pub mod DecideHeadline
 pub mod DecideClauses
+pub mod DegreeArguments
+pub mod DegreeTexts
+pub mod Degrees
+pub mod DegreeCourse
+pub mod DegreeViews
+pub mod DegreeHeadline
+pub mod DegreeClauses

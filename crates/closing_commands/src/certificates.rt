@@ -1,12 +1,9 @@
-//! The certificate of a closed equation.
-ghost use Rattle.std.specs.Prelude.{◌≡◌, ◌≤◌, [], ◌∷◌, Some, length, IfOk};
-ghost use Rattle.algebra.specs.Fraction.{Fraction};
-ghost use Rattle.polynomials.specs.Terms.{Terms};
-ghost use Rattle.machines.specs.Journal.{units_of};
+//! The certificate of a list that was closed.
+ghost use Rattle.std.specs.Prelude.{◌≡◌, ◌⊎◌, ◌+◌, ◌<◌, ◌≤◌, Some, length, IfOk};
 ghost use Rattle.loops.specs.WellFormed.{IsWellFormed};
 ghost use Rattle.poly.specs.Seen.{terms_each};
+ghost use Rattle.divide.specs.Limits.{list_limit};
 ghost use Rattle.ideal_ops.specs.Calls.{AreOver};
-ghost use Rattle.loop_model.specs.Maps.{AreFree};
 ghost use Rattle.loop_model.specs.View.{program_of};
 ghost use Rattle.cert_form.specs.Form.{cert_in, most_elements, ReadsAs};
 ghost use Rattle.counter_run.specs.Maps.{AreMaps};
@@ -14,12 +11,11 @@ ghost use Rattle.closures.specs.Closing.{closed};
 ghost use Rattle.closures.specs.Ends.{ComesNext};
 ghost use Rattle.closing.specs.Proving.{certificate_of, FitsProof};
 ghost use Rattle.io_edge.specs.Views.{answer_view};
-ghost use Rattle.closing_commands.specs.Deciding.{Decides, HasAsked};
-ghost use Rattle.closing_commands.specs.DecideTexts as texts;
-ghost use Rattle.closing_commands.specs.DecideViews.{proving_answer};
-ghost use Rattle.closing_commands.specs.declared.evidence.Evidence.TheVariants.{Certificate};
+ghost use Rattle.closing_commands.specs.ProvedLists.{AreBegun, TellsProving};
+ghost use Rattle.closing_commands.specs.ProvedTexts as texts;
+ghost use Rattle.closing_commands.specs.ProvedViews.{proving_answer};
 
-use crate::decide_texts::exhausted_answer;
+use crate::exhausted::exhausted_answer;
 use cert_form::{Cert, write_cert};
 use closing::{ClosureProof, ProvingError, proof_of};
 use command_parts::Budget;
@@ -32,7 +28,8 @@ use monos::Grevlex;
 use poly::Poly;
 use std::alloc::{AllocError, Global};
 
-/// The answer with the certificate, or by what the divisions stop that prove the list closed.
+/// The answer with the certificate that lists the polynomials first, or by what the divisions stop that prove the list closed with
+/// which their closing has ended; `budget` is told where what the meter allows is exhausted.
 pub(crate) fn certificate_answer(
     alloc: Global,
     lp: &Loop,
@@ -44,22 +41,19 @@ pub(crate) fn certificate_answer(
 ) -> Result<Answer, AllocError>
     requires formed { IsWellFormed (program_of lp.now) }
     requires maps { AreMaps (program_of lp.now) maps.now }
-    requires free { AreFree (program_of lp.now) }
-    requires limit { meter.old.limit ≡ budget.units }
     requires over { AreOver (length (program_of lp.now).names) polynomials.now }
-    requires one { length polynomials.now ≡ 1 }
     requires list_over { AreOver (length (program_of lp.now).names) list.now }
-    requires few { length list.now ≤ units_of meter.old.entries }
+    requires few { length polynomials.now + length list.now < list_limit }
     requires closed { ComesNext (program_of lp.now) (terms_each polynomials.now)
         meter.old.entries (closed (terms_each list.now)) }
-    ensures answer { (p : Terms Fraction) → terms_each polynomials.now ≡ p ∷ []
-        → IfOk result (λ a.
-        Decides (program_of lp.now) p meter.new Certificate budget.units (answer_view a)) }
-    ensures asked { (p : Terms Fraction) → terms_each polynomials.now ≡ p ∷ []
-        → HasAsked (program_of lp.now) p meter.new Certificate budget.units }
+    ensures limit { meter.new.limit ≡ meter.old.limit }
+    ensures answer { IfOk result (λ a. TellsProving (program_of lp.now)
+        (terms_each polynomials.now) (terms_each list.now) meter.new budget.units (answer_view a)) }
+    ensures begun { ComesNext (program_of lp.now) (terms_each polynomials.now)
+        meter.new.entries (closed (terms_each list.now))
+        ⊎ AreBegun (program_of lp.now) (terms_each polynomials.now) meter.new.entries
+        (terms_each list.now) }
 {
-    // for its contract, which tells the prover that no more units are used than are allowed
-    let _ = meter.used();
     match proof_of(alloc, lp, maps, polynomials, list, meter) {
         Ok(proof) => proof_answer(alloc, lp.names(), proof),
         Err(error) => proving_refusal(alloc, budget.units, &error),

@@ -195,8 +195,10 @@ fn answer_by_list(
     ensures asked { (p : Terms Fraction) → terms_each polynomials.now ≡ p ∷ []
         → HasAsked (program_of lp.now) p meter.new evidence budget.units }
 {
+    // for its contract, which tells the prover that no more units are used than are allowed
+    let _ = meter.used();
     match evidence {
-        Evidence::Closure => closure_answer(alloc, lp.names(), &list),
+        Evidence::Basis => closure_answer(alloc, lp.names(), &list),
         Evidence::Certificate => {
             certificate_answer(alloc, lp, maps, budget, polynomials, &list, meter)
         }

@@ -9,6 +9,7 @@ ghost use Rattle.command_parts.specs.ReadBack.{IsReadBack};
 ghost use Rattle.closing_commands.specs.DecideTexts as texts;
 ghost use Rattle.closing_commands.specs.DecideViews.{stop_answer};
 
+use crate::exhausted::exhausted_answer;
 use closing::ClosingError;
 use command_parts::basis_text;
 use frac128::Frac;
@@ -67,12 +68,4 @@ pub(crate) fn closing_refusal(
         ClosingError::Budget => exhausted_answer(alloc, budget),
         ClosingError::Memory => Err(AllocError),
     }
-}
-
-/// To an exhausted budget.
-pub(crate) fn exhausted_answer(alloc: Global, budget: u64) -> Result<Answer, AllocError>
-    ensures { IfOk result (λ a. answer_view a ≡ texts.exhausted_answer budget) }
-{
-    let text = format!(in alloc; "budget: {budget}\n")?;
-    Ok(Answer::new(Status::Budget, text))
 }

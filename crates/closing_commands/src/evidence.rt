@@ -1,8 +1,8 @@
 // What a yes shows.
 
-/// The reduced basis of an equation's closure, or a certificate that lists the equation's polynomial first.
+/// A reduced basis, of an equation's closure or of the invariants up to a degree; or a certificate that lists first what was asked for.
 #[derive(Clone, Copy)]
 pub enum Evidence {
-    Closure,
+    Basis,
     Certificate,
 }

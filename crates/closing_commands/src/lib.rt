@@ -1,8 +1,9 @@
-//! The commands that close an equation under the branches of a loop: `decide` and `prove`, which differ in what a yes shows. They
-//! take every loop; none needs an analysis.
+//! The commands that close equations under the branches of a loop: `decide` and `prove`, and `basis` and `cert` up to a degree. Of two
+//! commands the one shows a reduced basis, the other a certificate. They take every loop; none needs an analysis.
 //!
-//! Proved: yes exactly where the equation holds at the end of every run, whatever the branches, with the reduced basis of its closure or a
-//! valid certificate that lists it first; no with the first word after which it doesn't hold, and its run. Each refusal has its cause.
+//! Proved: `decide` and `prove` say yes exactly where the equation holds at the end of every run, whatever the branches, with the reduced basis
+//! of its closure or a valid certificate that lists it first; no with the first word after which it doesn't hold, and its run. Up to a degree
+//! what is printed is the part of the reduced basis of all invariants, or a valid certificate that lists it first. Each refusal has its cause.
 #![tactic(auto)]
 
 mod certificates;
@@ -10,7 +11,13 @@ mod decide_arguments;
 mod decide_command;
 pub mod decide_laws;
 mod decide_texts;
+mod degree_arguments;
+mod degree_command;
+mod degree_texts;
 mod evidence;
+mod exhausted;
 
 pub use decide_command::decide;
+pub use degree_arguments::names_degree;
+pub use degree_command::basis_up_to;
 pub use evidence::Evidence;

@@ -34,14 +34,17 @@ use Rattle.replay_commands.proofs.CounterPromises as counter_promises
 use Rattle.closing_commands.specs.DecideArguments as decide_arguments
 use Rattle.closing_commands.specs.DecideHeadline.{ShowsCounter}
 use Rattle.closing_commands.proofs.DecidePromises as decide_promises
+use Rattle.closing_commands.specs.DegreeArguments as degree_arguments
+use Rattle.closing_commands.proofs.DegreePromises as degree_promises
 use Rattle.full_command.proofs.Promises as full_promises
 use Rattle.invar_app.proofs.HelpPromises as help_promises
-use Rattle.invar_app.specs.Arguments.{Command, basis, member, check, checkfull, run, gen, chain, chainrun, counter, full, relations, decide, help, course_of, usage, usage_answer}
+use Rattle.invar_app.specs.Arguments.{Command, basis, basis_up_to, member, check, checkfull, run, gen, chain, chainrun, counter, full, relations, decide, help, course_of, usage, usage_answer}
 use Rattle.invar_app.specs.Promises.{Promises}
 
 each_settled : (m : Journal) (command : Command)
     → EachAnswer (λ a. IsSettled a.status) (course_of m command)
 each_settled m (basis request) = basis_promises.settled request
+each_settled m (basis_up_to request) = degree_promises.settled request
 each_settled m (member request) = member_promises.settled m request
 each_settled m (check request) = check_promises.settled request
 each_settled m (checkfull request) = checkfull_promises.settled request
@@ -92,7 +95,8 @@ module _ (call : Call) where
       ⊎ (((request : file_requests.FileRequest) × (command ≡ Some (chain request)))
       ⊎ (((request : file_requests.FileRequest) × (command ≡ Some (full request)))
       ⊎ (((request : file_requests.FileRequest) × (command ≡ Some (relations request)))
-      ⊎ ((request : decide_arguments.Request) × (command ≡ Some (decide request))))))))
+      ⊎ (((request : decide_arguments.Request) × (command ≡ Some (decide request)))
+      ⊎ ((request : degree_arguments.Request) × (command ≡ Some (basis_up_to request)))))))))
 
   exhausted_by : (command : Option Command) → Ended command → call.status ≡ status.Budget
       → Spends command
@@ -112,7 +116,10 @@ module _ (call : Call) where
       absurd ((chainrun_promises.replays_chain request call f).exhausted is)
   exhausted_by (Some (full request)) f is = inr (inr (inr (inr (inl (request, refl)))))
   exhausted_by (Some (relations request)) f is = inr (inr (inr (inr (inr (inl (request, refl))))))
-  exhausted_by (Some (decide request)) f is = inr (inr (inr (inr (inr (inr (request, refl))))))
+  exhausted_by (Some (decide request)) f is =
+      inr (inr (inr (inr (inr (inr (inl (request, refl)))))))
+  exhausted_by (Some (basis_up_to request)) f is =
+      inr (inr (inr (inr (inr (inr (inr (request, refl)))))))
   exhausted_by (Some (help page)) f is =
       absurd (help_promises.ends_else page call f status.Budget is (λ h. cc) (λ h. cc) (λ h. cc))
 
@@ -127,6 +134,8 @@ module _ (call : Call) where
   no_by : (command : Option Command) → Ended command → call.status ≡ status.No → SaysNo command
   no_by None f is = absurd (not_unasked status.No f is (λ h. (cc)) (λ h. (cc)))
   no_by (Some (basis request)) f is = absurd ((basis_promises.finds request call f).no is)
+  no_by (Some (basis_up_to request)) f is =
+      absurd ((degree_promises.finds_up_to request call f).no is)
   no_by (Some (member request)) f is = inr (inr (inl (request, refl)))
   no_by (Some (check request)) f is = inl (request, refl)
   no_by (Some (checkfull request)) f is = inr (inl (request, refl))
@@ -147,6 +156,7 @@ module _ (call : Call) where
   promises command f = record {
     finishes = f;
     finds = λ request is. basis_promises.finds request call (subst Ended is f);
+    finds_up_to = λ request is. degree_promises.finds_up_to request call (subst Ended is f);
     decides = λ request is. member_promises.decides request call (subst Ended is f);
     checks = λ request is. check_promises.checks request call (subst Ended is f);
     checks_full = λ request is. checkfull_promises.checks request call (subst Ended is f);

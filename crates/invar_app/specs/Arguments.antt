@@ -1,5 +1,7 @@
 -- Which arguments are a command.
 --   Command                what the arguments ask for, of each command
+--   evidence_of kind       what is shown up to a degree, by what is told of all invariants
+--   basis_by kind arguments    what `basis` or `cert` asks for: the invariants up to a degree, where the arguments name one, or all
 --   command_by name arguments  the command of this name, by the arguments behind it: what it asks for is said by its own arguments
 --   command_of arguments       the command that the arguments are, or none
 --   command_in arguments       the same of arguments as the program gets them
@@ -13,6 +15,7 @@ use Rattle.machines.specs.Journal.{Journal}
 use Rattle.io_edge.specs.declared.answer.Status.TheVariants as status
 use Rattle.io_edge.specs.Texts.{Answer, line, with_text}
 use Rattle.io_edge.specs.Course.{Course}
+use Rattle.analysis_commands.specs.declared.kind.Kind.{Kind}
 use Rattle.analysis_commands.specs.declared.kind.Kind.TheVariants as kinds
 use Rattle.analysis_commands.specs.BasisArguments as basis_arguments
 use Rattle.analysis_commands.specs.BasisCourse as basis_course
@@ -32,9 +35,12 @@ use Rattle.replay_commands.specs.ChainrunArguments as chainrun_arguments
 use Rattle.replay_commands.specs.ChainrunCourse as chainrun_course
 use Rattle.replay_commands.specs.CounterArguments as counter_arguments
 use Rattle.replay_commands.specs.CounterCourse as counter_course
+use Rattle.closing_commands.specs.declared.evidence.Evidence.{Evidence}
 use Rattle.closing_commands.specs.declared.evidence.Evidence.TheVariants as evidence
 use Rattle.closing_commands.specs.DecideArguments as decide_arguments
 use Rattle.closing_commands.specs.DecideCourse as decide_course
+use Rattle.closing_commands.specs.DegreeArguments as degree_arguments
+use Rattle.closing_commands.specs.DegreeCourse as degree_course
 use Rattle.full_command.specs.Course as full_course
 use Rattle.invar_app.specs.declared.pages.Page.{Page}
 use Rattle.invar_app.specs.declared.pages.Page.TheVariants.{Overview, Version}
@@ -43,6 +49,7 @@ use Rattle.invar_app.specs.HelpClauses as help_course
 
 pub data Command : Type 0 where
   basis : basis_arguments.Request → Command
+  basis_up_to : degree_arguments.Request → Command
   member : member_arguments.Request → Command
   check : check_arguments.Request → Command
   checkfull : check_arguments.Request → Command
@@ -56,14 +63,24 @@ pub data Command : Type 0 where
   decide : decide_arguments.Request → Command
   help : Page → Command
 
+abbrev pub evidence_of : Kind → Evidence
+evidence_of kinds.Basis = evidence.Basis
+evidence_of kinds.Certificate = evidence.Certificate
+
+abbrev pub basis_by : Kind → List (List ℕ) → Option Command
+basis_by kind arguments =
+    if degree_arguments.has_degree arguments
+    then option_map basis_up_to (degree_arguments.request_in (evidence_of kind) arguments)
+    else option_map basis (basis_arguments.request_in kind arguments)
+
 abbrev pub command_by : List ℕ → List (List ℕ) → Option Command
 command_by name arguments =
     if bytes_eq name (codes "basis")
-    then option_map basis (basis_arguments.request_in kinds.Basis arguments)
+    then basis_by kinds.Basis arguments
     else (if bytes_eq name (codes "member")
     then option_map member (member_arguments.request_in arguments)
     else (if bytes_eq name (codes "cert")
-    then option_map basis (basis_arguments.request_in kinds.Certificate arguments)
+    then basis_by kinds.Certificate arguments
     else (if bytes_eq name (codes "check") then option_map check (check_arguments.request_in arguments)
     else (if bytes_eq name (codes "checkfull")
     then option_map checkfull (check_arguments.request_in arguments)
@@ -79,7 +96,7 @@ command_by name arguments =
     else (if bytes_eq name (codes "full")
     then option_map full (file_requests.request_in arguments)
     else (if bytes_eq name (codes "decide")
-    then option_map decide (decide_arguments.request_in evidence.Closure arguments)
+    then option_map decide (decide_arguments.request_in evidence.Basis arguments)
     else (if bytes_eq name (codes "prove")
     then option_map decide (decide_arguments.request_in evidence.Certificate arguments)
     else (if bytes_eq name (codes "help") then option_map help (page_behind_help arguments)
@@ -96,6 +113,7 @@ command_in arguments = command_of (map string_bytes arguments.items)
 
 abbrev pub course_of : Journal → Command → Course
 course_of m (basis request) = basis_course.course request
+course_of m (basis_up_to request) = degree_course.course request
 course_of m (member request) = member_course.course m request
 course_of m (check request) = check_course.course request
 course_of m (checkfull request) = checkfull_course.course request
@@ -111,7 +129,7 @@ course_of m (help page) = help_course.course page
 
 abbrev pub usage : List ℕ
 usage = line
-    (codes "usage: invar basis [--budget N] LOOP | member [--budget N] LOOP EQUATION | cert [--budget N] LOOP | check LOOP CERT | run LOOP WORD VALUES | gen NUMBER | chain [--budget N] CHAIN | chainrun CHAIN WORDS VALUES | counter [--length N] LOOP EQUATION | full [--budget N] LOOP | checkfull LOOP CERT | relations [--budget N] FILE | decide [--budget N] LOOP EQUATION | prove [--budget N] LOOP EQUATION; invar --help says more")
+    (codes "usage: invar basis [--budget N] [--degree D] LOOP | member [--budget N] LOOP EQUATION | cert [--budget N] [--degree D] LOOP | check LOOP CERT | run LOOP WORD VALUES | gen NUMBER | chain [--budget N] CHAIN | chainrun CHAIN WORDS VALUES | counter [--length N] LOOP EQUATION | full [--budget N] LOOP | checkfull LOOP CERT | relations [--budget N] FILE | decide [--budget N] LOOP EQUATION | prove [--budget N] LOOP EQUATION; invar --help says more")
 
 abbrev pub usage_answer : Answer
 usage_answer = with_text status.Usage usage

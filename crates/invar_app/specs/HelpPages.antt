@@ -41,12 +41,12 @@ loop_commands =
     ++ line (codes "machine-checked proof says that each of them holds and that none is missing.")
     ++ line (codes "")
     ++ line (codes "About a loop:")
-    ++ line (codes "  basis [--budget N] LOOP              the reduced basis of all invariants")
+    ++ line (codes "  basis [--budget N] [--degree D] LOOP the reduced basis of all invariants")
     ++ line (codes "  member [--budget N] LOOP EQUATION    yes with its proof, or no")
     ++ line (codes "  decide [--budget N] LOOP EQUATION    yes or no, whatever the branches")
     ++ line (codes "  prove [--budget N] LOOP EQUATION     its certificate, or no")
     ++ line (codes "  counter [--length N] LOOP EQUATION   the first run after which it is wrong")
-    ++ line (codes "  cert [--budget N] LOOP               the basis as a certificate")
+    ++ line (codes "  cert [--budget N] [--degree D] LOOP  the basis as a certificate")
     ++ line (codes "  check LOOP CERT                      is each polynomial listed an invariant?")
     ++ line (codes "  full [--budget N] LOOP               a certificate that none is missing")
     ++ line (codes "  checkfull LOOP CERT                  do they generate all invariants?")
@@ -63,8 +63,9 @@ other_commands =
     ++ line (codes "  help [COMMAND], --help               this text, or more about one command")
     ++ line (codes "  --version                            the version")
     ++ line (codes "")
-    ++ line (codes "An option stands before the file:")
+    ++ line (codes "Options stand before the file, in this order:")
     ++ line (codes "  --budget N   at most N steps of an analysis, 1 to 1000000; else 200000")
+    ++ line (codes "  --degree D   equations up to degree D, 1 to 16, whatever the branches are")
     ++ line (codes "  --length N   words of at most N branches, 0 to 6; else 4")
     ++ line (codes "")
     ++ line (codes "Status: 0 an answer, or yes; 1 no; 2 the words are no command; 3 a fault of a")
@@ -78,17 +79,17 @@ other_commands =
 
 abbrev pub version : List ℕ
 version =
-    line (codes "invar 1.1.0")
+    line (codes "invar 1.2.0")
 
 abbrev pub head_of : Page → List ℕ
 head_of page.Overview = loop_commands
 head_of page.Version = version
-head_of page.Basis = line (codes "invar basis [--budget N] LOOP")
+head_of page.Basis = line (codes "invar basis [--budget N] [--degree D] LOOP")
 head_of page.Member = line (codes "invar member [--budget N] LOOP EQUATION")
 head_of page.Decide = line (codes "invar decide [--budget N] LOOP EQUATION")
 head_of page.Prove = line (codes "invar prove [--budget N] LOOP EQUATION")
 head_of page.Counter = line (codes "invar counter [--length N] LOOP EQUATION")
-head_of page.Cert = line (codes "invar cert [--budget N] LOOP")
+head_of page.Cert = line (codes "invar cert [--budget N] [--degree D] LOOP")
 head_of page.Check = line (codes "invar check LOOP CERT")
 head_of page.Full = line (codes "invar full [--budget N] LOOP")
 head_of page.CheckFull = line (codes "invar checkfull LOOP CERT")
@@ -102,6 +103,8 @@ abbrev pub about_basis : List ℕ
 about_basis =
     line (codes "Prints the reduced basis of all polynomial invariants of the loop in the file")
     ++ line (codes "LOOP, an equation a line, or `none`. Each invariant is a combination of these.")
+    ++ line (codes "With `--degree D` the branches may be any, and those of these equations are")
+    ++ line (codes "printed that have degree at most D.")
 
 abbrev pub about_member : List ℕ
 about_member =
@@ -133,7 +136,8 @@ about_counter =
 abbrev pub about_cert : List ℕ
 about_cert =
     line (codes "Prints the basis as a certificate, with the cofactors that show that a turn of")
-    ++ line (codes "each branch keeps it zero. `invar check` reads it.")
+    ++ line (codes "each branch keeps it zero. `invar check` reads it. With `--degree D` the")
+    ++ line (codes "branches may be any, and the equations up to degree D are listed first.")
 
 abbrev pub about_check : List ℕ
 about_check =

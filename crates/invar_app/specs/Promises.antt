@@ -23,10 +23,12 @@ use Rattle.replay_commands.specs.CounterArguments as counter_arguments
 use Rattle.replay_commands.specs.CounterClauses.{Counters}
 use Rattle.closing_commands.specs.DecideArguments as decide_arguments
 use Rattle.closing_commands.specs.DecideClauses.{DecidesAny}
+use Rattle.closing_commands.specs.DegreeArguments as degree_arguments
+use Rattle.closing_commands.specs.DegreeClauses.{FindsUpTo}
 use Rattle.full_command.specs.Clauses.{FindsFull}
 use Rattle.invar_app.specs.declared.pages.Page.{Page}
 use Rattle.invar_app.specs.HelpClauses.{Helps}
-use Rattle.invar_app.specs.Arguments.{Command, basis, member, check, checkfull, run, gen, chain, chainrun, counter, full, relations, decide, help, course_of, usage_answer}
+use Rattle.invar_app.specs.Arguments.{Command, basis, basis_up_to, member, check, checkfull, run, gen, chain, chainrun, counter, full, relations, decide, help, course_of, usage_answer}
 
 pub record Promises (command : Option Command) (call : Call) : Type 0 where
   -- the reads, the answer by what they gave, and how it was delivered
@@ -34,6 +36,8 @@ pub record Promises (command : Option Command) (call : Call) : Type 0 where
   -- each command
   pub finds : (request : basis_arguments.Request) → command ≡ Some (basis request)
       → Finds request call
+  pub finds_up_to : (request : degree_arguments.Request) → command ≡ Some (basis_up_to request)
+      → FindsUpTo request call
   pub decides : (request : member_arguments.Request) → command ≡ Some (member request)
       → Decides request call
   pub checks : (request : check_arguments.Request) → command ≡ Some (check request)
@@ -68,7 +72,8 @@ pub record Promises (command : Option Command) (call : Call) : Type 0 where
       ⊎ (((request : file_requests.FileRequest) × (command ≡ Some (chain request)))
       ⊎ (((request : file_requests.FileRequest) × (command ≡ Some (full request)))
       ⊎ (((request : file_requests.FileRequest) × (command ≡ Some (relations request)))
-      ⊎ ((request : decide_arguments.Request) × (command ≡ Some (decide request))))))))
+      ⊎ (((request : decide_arguments.Request) × (command ≡ Some (decide request)))
+      ⊎ ((request : degree_arguments.Request) × (command ≡ Some (basis_up_to request)))))))))
   pub no : call.status ≡ status.No
       → ((request : check_arguments.Request) × (command ≡ Some (check request)))
       ⊎ (((request : check_arguments.Request) × (command ≡ Some (checkfull request)))

@@ -28,17 +28,21 @@ ghost use Rattle.replay_commands.specs.CounterHeadline.{ShowsCounterRun, ShowsNo
 ghost use Rattle.loops.specs.Program.{Expr, Program};
 ghost use Rattle.loop_model.specs.Maps.{AreFree};
 ghost use Rattle.command_parts.specs.Equations.{FormsFreely};
+ghost use Rattle.command_parts.specs.LoopReading.{ReadsLoop};
 ghost use Rattle.closing_commands.specs.DecideArguments as decide_arguments;
 ghost use Rattle.closing_commands.specs.DecideClauses.{ReadsEquation, EndsAny};
 ghost use Rattle.closing_commands.specs.DecideHeadline.{Shows, ShowsCounter};
+ghost use Rattle.closing_commands.specs.DegreeArguments as degree_arguments;
+ghost use Rattle.closing_commands.specs.DegreeClauses.{EndsUpTo};
+ghost use Rattle.closing_commands.specs.DegreeHeadline.{ShowsUpTo};
 ghost use Rattle.full_command.specs.Headline.{ShowsFull};
 ghost use Rattle.invar_app.specs.Arguments as command;
-ghost use Rattle.invar_app.specs.Arguments.{command_by, command_of, command_in, course_of};
+ghost use Rattle.invar_app.specs.Arguments.{basis_by, command_by, command_of, command_in, course_of};
 ghost use Rattle.invar_app.specs.Promises.{Promises};
 
 use analysis_commands::{Kind, basis, chain, member, relate, tally};
 use certificate_commands::{check, checkfull};
-use closing_commands::{Evidence, decide};
+use closing_commands::{Evidence, basis_up_to, decide, names_degree};
 use full_command::full;
 pub use io_edge::Status;
 use io_edge::{Answer, Files, Sink, finish};
@@ -48,7 +52,7 @@ use replay_commands::{chainrun, counter, run};
 use std::alloc::{AllocError, Global};
 
 const USAGE: &[u8] =
-    b"usage: invar basis [--budget N] LOOP | member [--budget N] LOOP EQUATION | cert [--budget N] LOOP | check LOOP CERT | run LOOP WORD VALUES | gen NUMBER | chain [--budget N] CHAIN | chainrun CHAIN WORDS VALUES | counter [--length N] LOOP EQUATION | full [--budget N] LOOP | checkfull LOOP CERT | relations [--budget N] FILE | decide [--budget N] LOOP EQUATION | prove [--budget N] LOOP EQUATION; invar --help says more\n";
+    b"usage: invar basis [--budget N] [--degree D] LOOP | member [--budget N] LOOP EQUATION | cert [--budget N] [--degree D] LOOP | check LOOP CERT | run LOOP WORD VALUES | gen NUMBER | chain [--budget N] CHAIN | chainrun CHAIN WORDS VALUES | counter [--length N] LOOP EQUATION | full [--budget N] LOOP | checkfull LOOP CERT | relations [--budget N] FILE | decide [--budget N] LOOP EQUATION | prove [--budget N] LOOP EQUATION; invar --help says more\n";
 
 /// Does what the arguments say, and writes its answer to the sink.
 ///
@@ -63,7 +67,7 @@ pub fn invar<F: Files, S: Sink>(
     meter: &mut Meter,
 ) -> Status
     requires { (S.seen out.old).faults < most_counted }
-    // All that the call promises: the outcome, the clauses of each command (`Finds` of `basis` and `cert`, `Decides` of
+    // All that the call promises: the outcome, the clauses of each command (`Finds` of `basis` and `cert`, `FindsUpTo` of them up to a degree, `Decides` of
     // `member`, `Checks`, `ChecksFull`, `Runs`, `Tallies` of `gen`, `FindsEach` of `chain`, `ReplaysChain` of `chainrun`, `Counters`,
     // `FindsFull`, `FindsRelations`, `DecidesAny` of `decide` and `prove`, and `Helps` of `help`), and those of all. The clauses behind
     // it are its headline.
@@ -77,6 +81,21 @@ pub fn invar<F: Files, S: Sink>(
         command_in arguments.now ≡ Some (command.basis request) → result ≡ Status.Yes →
         IfTold (F.seen files.old) request.file (λ text.
         Wrote (S.seen out.old ⟶ S.seen out.new) (ShowsAnalysis request.kind text)) }
+
+    // Yes to `basis` and `cert` up to a degree: what is written is the part up to the degree of the reduced basis of the loop's
+    // invariants, whatever the branches are; or a valid certificate, which lists it first.
+    ensures up_to { (request : degree_arguments.Request) →
+        command_in arguments.now ≡ Some (command.basis_up_to request) → result ≡ Status.Yes →
+        IfTold (F.seen files.old) request.file (λ text.
+        Wrote (S.seen out.old ⟶ S.seen out.new)
+        (ShowsUpTo text request.degree request.evidence)) }
+
+    // And of every loop whose maps are within the limits: yes, but for the causes of the other statuses.
+    ensures finds_up_to { (request : degree_arguments.Request) (l : Program (Expr ℕ)) →
+        command_in arguments.now ≡ Some (command.basis_up_to request) →
+        ReadsLoop (call_of (F.seen files.old ⟶ F.seen files.new)
+        (S.seen out.old ⟶ S.seen out.new) (meter.old ⟶ meter.new) result) request.file (Ok l) →
+        AreFree l → EndsUpTo l request.degree request.evidence result }
 
     // Yes to `chain`: what is written has for each loop the reduced basis of the polynomials that are zero at the end of
     // every run of the chain up to this loop.
@@ -209,9 +228,9 @@ fn answer_by<F: Files>(
         (F.seen files.old ⟶ F.seen files.new) (meter.old ⟶ meter.new) result }
 {
     match name.as_str() {
-        "basis" => basis(alloc, Kind::Basis, arguments, files, meter),
+        "basis" => basis_or_up_to(alloc, Kind::Basis, arguments, files, meter),
         "member" => member(alloc, arguments, files, meter),
-        "cert" => basis(alloc, Kind::Certificate, arguments, files, meter),
+        "cert" => basis_or_up_to(alloc, Kind::Certificate, arguments, files, meter),
         "check" => check(alloc, arguments, files),
         "checkfull" => checkfull(alloc, arguments, files),
         "run" => run(alloc, arguments, files),
@@ -221,11 +240,39 @@ fn answer_by<F: Files>(
         "counter" => counter(alloc, arguments, files),
         "relations" => relate(alloc, arguments, files, meter),
         "full" => full(alloc, arguments, files, meter),
-        "decide" => decide(alloc, Evidence::Closure, arguments, files, meter),
+        "decide" => decide(alloc, Evidence::Basis, arguments, files, meter),
         "prove" => decide(alloc, Evidence::Certificate, arguments, files, meter),
         "help" => show(alloc, Page::behind_help(arguments)),
         "--help" => show(alloc, Page::Overview.alone(arguments)),
         "--version" => show(alloc, Page::Version.alone(arguments)),
         _ => Ok(None),
+    }
+}
+
+/// What `basis` or `cert` answers: up to a degree where the arguments name one, or else of all invariants.
+fn basis_or_up_to<F: Files>(
+    alloc: Global,
+    kind: Kind,
+    arguments: &[String],
+    files: &mut F,
+    meter: &mut Meter,
+) -> Result<Option<Answer>, AllocError>
+    ensures { Obeys (course_of meter.old) (basis_by kind (map string_bytes arguments.now))
+        (F.seen files.old ⟶ F.seen files.new) (meter.old ⟶ meter.new) result }
+{
+    if names_degree(arguments) {
+        basis_up_to(alloc, evidence_of(kind), arguments, files, meter)
+    } else {
+        basis(alloc, kind, arguments, files, meter)
+    }
+}
+
+/// What is shown up to a degree, by what is told of all invariants.
+fn evidence_of(kind: Kind) -> Evidence
+    ensures { result ≡ command.evidence_of kind }
+{
+    match kind {
+        Kind::Basis => Evidence::Basis,
+        Kind::Certificate => Evidence::Certificate,
     }
 }

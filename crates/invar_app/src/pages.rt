@@ -95,12 +95,12 @@ impl Page {
         match self {
             Page::Overview => LOOP_COMMANDS,
             Page::Version => VERSION,
-            Page::Basis => "invar basis [--budget N] LOOP\n",
+            Page::Basis => "invar basis [--budget N] [--degree D] LOOP\n",
             Page::Member => "invar member [--budget N] LOOP EQUATION\n",
             Page::Decide => "invar decide [--budget N] LOOP EQUATION\n",
             Page::Prove => "invar prove [--budget N] LOOP EQUATION\n",
             Page::Counter => "invar counter [--length N] LOOP EQUATION\n",
-            Page::Cert => "invar cert [--budget N] LOOP\n",
+            Page::Cert => "invar cert [--budget N] [--degree D] LOOP\n",
             Page::Check => "invar check LOOP CERT\n",
             Page::Full => "invar full [--budget N] LOOP\n",
             Page::CheckFull => "invar checkfull LOOP CERT\n",
@@ -152,12 +152,12 @@ const LOOP_COMMANDS: &str =
 machine-checked proof says that each of them holds and that none is missing.
 
 About a loop:
-  basis [--budget N] LOOP              the reduced basis of all invariants
+  basis [--budget N] [--degree D] LOOP the reduced basis of all invariants
   member [--budget N] LOOP EQUATION    yes with its proof, or no
   decide [--budget N] LOOP EQUATION    yes or no, whatever the branches
   prove [--budget N] LOOP EQUATION     its certificate, or no
   counter [--length N] LOOP EQUATION   the first run after which it is wrong
-  cert [--budget N] LOOP               the basis as a certificate
+  cert [--budget N] [--degree D] LOOP  the basis as a certificate
   check LOOP CERT                      is each polynomial listed an invariant?
   full [--budget N] LOOP               a certificate that none is missing
   checkfull LOOP CERT                  do they generate all invariants?
@@ -173,8 +173,9 @@ Other:
   help [COMMAND], --help               this text, or more about one command
   --version                            the version
 
-An option stands before the file:
+Options stand before the file, in this order:
   --budget N   at most N steps of an analysis, 1 to 1000000; else 200000
+  --degree D   equations up to degree D, 1 to 16, whatever the branches are
   --length N   words of at most N branches, 0 to 6; else 4
 
 Status: 0 an answer, or yes; 1 no; 2 the words are no command; 3 a fault of a
@@ -187,10 +188,12 @@ Examples:
   invar member examples/squares.loop 's = (a+1)^2'
 ";
 
-const VERSION: &str = "invar 1.1.0\n";
+const VERSION: &str = "invar 1.2.0\n";
 
 const BASIS: &str = "Prints the reduced basis of all polynomial invariants of the loop in the file
 LOOP, an equation a line, or `none`. Each invariant is a combination of these.
+With `--degree D` the branches may be any, and those of these equations are
+printed that have degree at most D.
 ";
 
 const MEMBER: &str = "Prints `yes`, with status 0, where the equation holds at the end of every run
@@ -217,7 +220,8 @@ its end, with status 1; or `none up to N`, with status 0.
 ";
 
 const CERT: &str = "Prints the basis as a certificate, with the cofactors that show that a turn of
-each branch keeps it zero. `invar check` reads it.
+each branch keeps it zero. `invar check` reads it. With `--degree D` the
+branches may be any, and the equations up to degree D are listed first.
 ";
 
 const CHECK: &str =

@@ -4,9 +4,6 @@ use Rattle.std.specs.Str.{bytes_eq}
 use Rattle.std.proofs.lemmas.Slice.Eq.{bytes_eq-Decides}
 use Rattle.io_edge.specs.Change.{◌⟶◌}
 use Rattle.io_edge.proofs.Going.{obeys_as, obeys_nothing, obeys_same}
-use Rattle.analysis_commands.specs.declared.kind.Kind.TheVariants as kinds
-use Rattle.analysis_commands.specs.BasisArguments as basis_arguments
-use Rattle.analysis_commands.specs.BasisCourse as basis_course
 use Rattle.analysis_commands.specs.MemberArguments as member_arguments
 use Rattle.analysis_commands.specs.MemberCourse as member_course
 use Rattle.analysis_commands.specs.GenArguments as gen_arguments
@@ -30,7 +27,7 @@ use Rattle.full_command.specs.Course as full_course
 use Rattle.invar_app.specs.declared.pages.Page.TheVariants.{Overview, Version}
 use Rattle.invar_app.specs.HelpPages.{page_behind_help, page_alone}
 use Rattle.invar_app.specs.HelpClauses as help_course
-use Rattle.invar_app.specs.Arguments.{basis, member, check, checkfull, run, gen, chain, chainrun, counter, full, relations, decide, help, command_by, course_of}
+use Rattle.invar_app.specs.Arguments.{member, check, checkfull, run, gen, chain, chainrun, counter, full, relations, decide, help, command_by, course_of}
 use Rattle.invar_app.proofs.answer_by.Goals as goal
 
 otherwise : {A : Type 0} (name argument : List ℕ) (x y : A) → (name ≡ argument → ⊥)
@@ -87,10 +84,9 @@ returns-in-basis g c =
     let arguments = map string_bytes c.args.arguments.now in
     let m = c.args.meter.now in
     obeys_same (course_of m) (command_by (codes "basis") arguments)
-    (command_by (string_bytes c.args.name.now) arguments) _ _ c.basis.result
+    (command_by (string_bytes c.args.name.now) arguments) _ _ c.basis_or_up_to.result
     (ap (λ n. command_by n arguments) (sym c.in-basis.is ∙ c.as_str.ensures.value))
-    (obeys_as basis_course.course (course_of m) basis (λ a. refl)
-    (basis_arguments.request_in kinds.Basis arguments) _ _ c.basis.result c.basis.ensures)
+    c.basis_or_up_to.ensures
 
 pub returns-in-member : goal.returns-in-member
 returns-in-member g c =
@@ -107,11 +103,9 @@ returns-in-cert g c =
     let arguments = map string_bytes c.args.arguments.now in
     let m = c.args.meter.now in
     obeys_same (course_of m) (command_by (codes "cert") arguments)
-    (command_by (string_bytes c.args.name.now) arguments) _ _ c.basis-in-cert.result
+    (command_by (string_bytes c.args.name.now) arguments) _ _ c.basis_or_up_to-in-cert.result
     (ap (λ n. command_by n arguments) (sym c.in-cert.is ∙ c.as_str.ensures.value))
-    (obeys_as basis_course.course (course_of m) basis (λ a. refl)
-    (basis_arguments.request_in kinds.Certificate arguments) _ _ c.basis-in-cert.result
-    c.basis-in-cert.ensures)
+    c.basis_or_up_to-in-cert.ensures
 
 pub returns-in-check : goal.returns-in-check
 returns-in-check g c =
@@ -211,7 +205,7 @@ returns-in-decide g c =
     (command_by (string_bytes c.args.name.now) arguments) _ _ c.decide.result
     (ap (λ n. command_by n arguments) (sym c.in-decide.is ∙ c.as_str.ensures.value))
     (obeys_as (decide_course.course m) (course_of m) decide (λ a. refl)
-    (decide_arguments.request_in evidence.Closure arguments) _ _ c.decide.result c.decide.ensures)
+    (decide_arguments.request_in evidence.Basis arguments) _ _ c.decide.result c.decide.ensures)
 
 pub returns-in-prove : goal.returns-in-prove
 returns-in-prove g c =

@@ -18,6 +18,15 @@ pub returns-clause-basis : goal.returns-clause-basis
 returns-clause-basis g c =
     λ request is yes. ((returns-clause-promises g c).finds request is).basis yes
 
+pub returns-clause-up_to : goal.returns-clause-up_to
+returns-clause-up_to g c =
+    λ request is yes. ((returns-clause-promises g c).finds_up_to request is).found yes
+
+pub returns-clause-finds_up_to : goal.returns-clause-finds_up_to
+returns-clause-finds_up_to g c =
+    λ request l is reads maps.
+    ((returns-clause-promises g c).finds_up_to request is).decided l reads maps
+
 pub returns-clause-bases : goal.returns-clause-bases
 returns-clause-bases g c =
     λ request is yes. ((returns-clause-promises g c).finds_each request is).bases yes
