@@ -30,12 +30,13 @@ def clauses_of(annotation: str) -> list[str]:
 
 
 def written(note: Note, there: list[str]) -> str:
-    """The annotation of a note with the clauses that are there, without blanks before its lines."""
+    """The annotation of a note with the clauses that are there, without blanks before its lines; nothing where there are none."""
     found = [f"{FOUND}{equation} == 0;" for equation in note.equations]
     end = next((place for place, line in enumerate(there) if line.startswith("loop variant")), len(there))
     given = note.assigns is None or any(line.startswith("loop assigns") for line in there)
     assigns = [] if given else [f"loop assigns {listed(note.assigns)};"]
-    return "/*@ " + "\n    ".join([*found, *there[:end], *assigns, *there[end:]]) + " */"
+    clauses = [*found, *there[:end], *assigns, *there[end:]]
+    return "/*@ " + "\n    ".join(clauses) + " */" if clauses else ""
 
 
 def listed(names: Iterable[str]) -> str:
@@ -56,6 +57,17 @@ def has_assigns(source: Source, loop: Loop) -> bool:
     return found is not None and re.search(r"\bloop assigns\b", found[0]) is not None
 
 
+ASKED = re.compile(r"(/\*|//)@(\s*invar\s*:)")
+"""How an equation begins that is asked of a loop: it is no annotation of Frama-C, and becomes a comment."""
+
+
+def has_found(source: Source, loop: Loop) -> bool:
+    """Whether a loop has clauses that were written here at an earlier time."""
+    at = source.offset_of(loop)
+    found = None if at is None else annotation_before(source, at)
+    return found is not None and FOUND in found[0]
+
+
 def annotated(source: Source, notes: Iterable[Note]) -> str:
     """The text of a source with notes at its loops."""
     text = source.text
@@ -65,6 +77,7 @@ def annotated(source: Source, notes: Iterable[Note]) -> str:
         begin, end = found.span() if found else (at, at)
         there = clauses_of(found[1] or found[2]) if found else []
         blanks = " " * (begin - text.rfind("\n", 0, begin) - 1)
-        behind = "" if found else "\n" + blanks
-        text = text[:begin] + written(note, there).replace("\n", "\n" + blanks) + behind + text[end:]
-    return text
+        annotation = written(note, there).replace("\n", "\n" + blanks)
+        behind = "\n" + blanks if annotation and not found else ""
+        text = text[:begin] + annotation + behind + (text[end:] if annotation else text[end:].lstrip())
+    return ASKED.sub(r"\1\2", text)

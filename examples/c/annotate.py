@@ -5,9 +5,10 @@ Usage: examples/c/annotate.py [--keep] [--entries] [-I FOLDER] [-D MACRO] [--out
 
 Each loop whose variables are whole numbers, and whose paths change them by polynomials or give them values of which nothing is known,
 is written as a loop text for `invar`. The equations of its basis come into the file as clauses `loop invariant invar: ..`, without
-denominators, beside the clauses that were there. A loop that isn't taken is told on standard error with its line, gets no equation,
-and makes the status 1; where no loop is taken nothing is written. With --keep the loop texts and their certificates stay beside the
-file. docs/VERIFYING.md begins at the beginning.
+denominators, beside the clauses that were there. So does an equation that the author states behind a loop, by `assert` or `ensures`, or
+at it, by `/*@ invar: s == i*i */`, with those that it needs to be kept by each turn. A loop that isn't taken is told on standard error
+with its line, gets no equation, and makes the status 1; where no loop is taken nothing is written. With --keep the loop texts and their
+certificates stay beside the file. docs/VERIFYING.md begins at the beginning.
 """
 from __future__ import annotations
 
@@ -15,71 +16,46 @@ import argparse
 import contextlib
 import sys
 import tempfile
-from collections.abc import Container, Iterable, Mapping
-from dataclasses import dataclass, field
+from collections.abc import Iterable, Mapping
+from dataclasses import dataclass, field, replace
 from pathlib import Path
 
 sys.path.append(str(Path(__file__).resolve().parent.parent))
 
-from acsl import Note, annotated, has_assigns  # noqa: E402
+from acsl import Note, annotated, has_assigns, has_found  # noqa: E402
 from declarations import Declarations  # noqa: E402
 from effects import assigned  # noqa: E402
 from lowering import lowered  # noqa: E402
-from paths import Stage, stages  # noqa: E402
+from paths import Stage, State, stages  # noqa: E402
 from polynomials import Polynomial  # noqa: E402
-from program import Files, Refused, basis, build, chain  # noqa: E402
+from program import NO, Files, Refused, basis, bounded, build, chain, proof  # noqa: E402
 from pycparser import c_ast  # noqa: E402
+from questions import Question, follows, others, questions_at  # noqa: E402
+from results import Found, Result, left_out, nothing  # noqa: E402
 from sources import Refusal, Source, line_of, loops_in, read_source, write_source  # noqa: E402
+from stated import PROMISE  # noqa: E402
 from starts import Sequence, Starts, starts_of  # noqa: E402
-from statements import Set, Statement, Touch, Turns, Within, every, turns_in  # noqa: E402
+from statements import Equation, Set, Statement, Touch, Turns, Within, every, turns_in  # noqa: E402
 from texts import LoopText, Names, idle, is_any, loop_text, spelled  # noqa: E402
 
 
-MOST_TERMS = 10
-"""Of an equation that is written."""
+DEGREES = (2, 3)
+"""Up to which the equations of a loop are asked for that `invar basis` refuses."""
 
 
 @dataclass(frozen=True)
-class Found:
-    """The basis of a loop text with its names, at a loop of it."""
+class Asked:
+    """A loop, with those inside of it, as it is asked by itself."""
 
-    elements: list[Polynomial]
-    names: Names
-    first: bool
-    asked: tuple[str, ...]
-    """The variables of the text that change, by their keys."""
-    without: Mapping[str, str]
-    """Why other variables that the loop changes aren't in the text."""
-    refused: str = ""
-    """Why `invar` took the loop only without some variables."""
-    wrapping: frozenset[str] = frozenset()
-    """The names in the text of variables that change and are unsigned, or get values of wider types."""
+    sequence: Sequence
+    starts: Starts
+    stage: Stage
 
-    def equations(self, visible: Container[str], entries: bool) -> list[str]:
-        """The left sides over names that are visible; with entries also over values at the first arrival at the first loop."""
-        known = {text for text, key in self.names.base.items() if key in visible}
-        known -= set() if entries and self.first else self.names.first_only
-        return [element.whole(self.names.spelling) for element in self.elements if element.names() <= known and not self.is_heavy(element)]
+    def text(self, title: str, out: frozenset[str], wanted: frozenset[str] = frozenset()) -> LoopText:
+        return loop_text([self.stage], self.start(), title, out, wanted)
 
-    def is_heavy(self, element: Polynomial) -> bool:
-        """Whether provers lose themselves in an equation: it is long, or a product has a variable that might be cut off or wrap around."""
-        products = (term for term in element.terms if sum(exponent for _, exponent in term) > 1)
-        return len(element.terms) > MOST_TERMS or any(name in self.wrapping for term in products for name, _ in term)
-
-
-@dataclass
-class Result:
-    """What was found at a loop."""
-
-    found: list[Found] = field(default_factory=list)
-    fault: str = ""
-
-    def equations(self, loop: Turns, entries: bool) -> tuple[str, ...]:
-        """All equations. Values at the first arrival stand in them only where there are no others, or where they are wanted."""
-        equations = [] if entries else [one for found in self.found for one in found.equations(loop.visible, False)]
-        if not equations:
-            equations = [one for found in self.found for one in found.equations(loop.visible, True)]
-        return tuple(dict.fromkeys(equations))
+    def start(self) -> State:
+        return self.starts.at[self.sequence.items[0]]
 
 
 @dataclass
@@ -93,6 +69,8 @@ class Annotator:
     notes: list[Note] = field(default_factory=list)
     refusals: list[tuple[int, str]] = field(default_factory=list)
     remarks: list[tuple[int, str]] = field(default_factory=list)
+    answers: dict[tuple[Equation, str], str] = field(default_factory=dict)
+    """What is told of each equation that the author states, once for each form that it has at a head: nothing where it is settled."""
 
     def refuse(self, line: int, reason: str) -> None:
         self.refusals.append((line, f"loop not taken: {reason}"))
@@ -101,22 +79,27 @@ class Annotator:
         declared = Declarations(whole=not self.source.missing)
         for piece in self.source.pieces:
             declared.take(piece.tree)
+        promised: list[c_ast.Node] = []
         for piece in self.source.pieces:
             for line in piece.loops if piece.fault is not None else []:
                 self.refuse(line, str(piece.fault))
             if piece.fault is not None and not self.source.missing and not piece.loops:
                 self.refusals.append((piece.fault.line, piece.fault.reason))
             for node in piece.tree:
+                if is_promise(node):
+                    promised.append(node.cond)
+                    continue
                 if isinstance(node, c_ast.FuncDef) and piece.own:
-                    self.function(node, declared)
+                    self.function(node, declared, promised)
+                promised = []
 
     def is_framed(self, loop: Turns) -> bool:
         """Whether a loop says what it assigns, or may be made to say so."""
         return has_assigns(self.source, loop.node) or assigned(loop) is not None and self.source.offset_of(loop.node) is not None
 
-    def function(self, node: c_ast.FuncDef, declared: Declarations) -> None:
+    def function(self, node: c_ast.FuncDef, declared: Declarations, promised: list[c_ast.Node]) -> None:
         try:
-            function = lowered(node, declared)
+            function = lowered(node, declared, promised)
             starts = starts_of(function, self.is_framed)
         except Refusal as fault:
             for loop in loops_in(node):
@@ -126,8 +109,12 @@ class Annotator:
             self.results[loop] = Result()
         for sequence in starts.sequences.get(None, []):
             self.take(sequence, starts)
+        for sequence in starts.sequences.get(None, []):
+            self.ask(sequence, starts)
         for loop in turns_in(function.items):
             self.conclude(loop)
+        for equation in function.homeless:
+            self.answers[equation, ""] = f"not asked: {equation.text}: no loop is behind or around it"
         self.notes += self.written(turns_in(function.items))
 
     def take(self, sequence: Sequence, starts: Starts) -> None:
@@ -151,7 +138,7 @@ class Annotator:
     def analysed(self, sequence: Sequence, starts: Starts) -> dict[Turns, Found]:
         """The basis at a loop and at those inside, first without temporaries that are variables, and with them where there is none.
 
-        Where `invar` refuses, the loop is asked without the variables that it names.
+        Where `invar` refuses, the equations up to small degrees are asked for; then the loop without the variables that it names.
         """
         brief = idle(self.stages(sequence, starts), starts.at[sequence.items[0]])
         with contextlib.suppress(Refusal, Refused):
@@ -164,36 +151,138 @@ class Annotator:
             try:
                 return self.asked(sequence, starts, out, first)
             except (Refusal, Refused) as fault:
+                if not first and isinstance(fault, Refused) and self.is_bounded(self.asking(sequence, starts), brief, str(fault)):
+                    raise
                 first = first or str(fault)
                 more = frozenset(getattr(fault, "keys", ())) - out
                 if not more:
                     raise Refusal(0, first) from fault
                 out |= more
 
+    def is_bounded(self, asked: Asked, out: frozenset[str], fault: str) -> bool:
+        """Whether a loop whose basis is refused has equations of small degrees: these are kept, with those that they need."""
+        text = asked.text(self.title(asked.sequence), out)
+        name = f"{self.name(asked.sequence)}-degree"
+        results = [self.results[head] for head in asked.stage.walk.heads]
+        for degree in DEGREES:
+            try:
+                elements = bounded(text.text, degree, self.folder / f"{name}-{degree}.loop")
+            except Refused as other:
+                fault += f"\n    of equations up to degree {degree} {other}"
+                break
+            if elements is None:
+                return False
+            for result in results:
+                result.degree, result.has_some = degree, elements != []
+            for number, element in enumerate(elements, 1):
+                with contextlib.suppress(Refusal, Refused):
+                    self.prove(asked, text, element, f"{name}-{degree}-{number}")
+            if elements:
+                break
+        for result in results:
+            result.fault = fault
+        return any(result.proved for result in results)
+
+    def title(self, sequence: Sequence) -> str:
+        return f"{self.source.path.name}, line {' and line '.join(str(line_of(loop.node)) for loop in sequence.loops())}"
+
+    def name(self, sequence: Sequence) -> str:
+        """The name of files on loops, without its suffix."""
+        return "-".join([self.source.path.stem, *(str(line_of(loop.node)) for loop in sequence.loops())])
+
     def asked(self, sequence: Sequence, starts: Starts, out: frozenset[str] = frozenset(), refused: str = "") -> dict[Turns, Found]:
         """The basis at each loop of a sequence and at those inside."""
         start = starts.at[sequence.items[0]]
         parts = self.stages(sequence, starts)
         edges = [edge for part in parts for edge in part.walk.edges]
-        lines = [str(line_of(loop.node)) for loop in sequence.loops()]
         text: LoopText | None = None
         try:
-            text = loop_text(parts, start, f"{self.source.path.name}, line {' and line '.join(lines)}", out)
-            bases = self.bases(text, "-".join([self.source.path.stem, *lines]), len(parts))
+            text = loop_text(parts, start, self.title(sequence), out)
+            bases = self.bases(text, self.name(sequence), len(parts))
         except (Refusal, Refused) as fault:
             named = [key for key, name in text.names.variables.items() if name in fault.names] if isinstance(fault, Refused) else []
             loose = [key for edge in edges for key, value in edge.values.items() if any(map(is_any, value.names()))]
             fault.keys = named or loose
             raise
-        asked = tuple(key for key in text.names.variables if any(key in edge.values for edge in edges))
-        types = starts.function.types
-        cut = {key for part in parts for head in part.walk.heads for key in cut_off([*head.body, *head.next])}
-        wrapping = frozenset(text.names.variables[key] for key in asked if key in cut or not types[key].signed)
         return {
-            loop: Found(elements, text.names, part is parts[0] and loop is sequence.items[0], asked, text.without, refused, wrapping)
+            loop: replace(self.found(parts, starts, text, elements), first=part is parts[0] and loop is sequence.items[0], refused=refused)
             for part, elements in zip(parts, bases)
             for loop in part.walk.heads
         }
+
+    def found(self, parts: list[Stage], starts: Starts, text: LoopText, elements: list[Polynomial]) -> Found:
+        """Equations in the names of a loop text."""
+        asked = tuple(key for key in text.names.variables if any(key in edge.values for part in parts for edge in part.walk.edges))
+        heads = [head for part in parts for head in part.walk.heads]
+        cut = {key for head in heads for key in cut_off([*head.body, *head.next])}
+        types = starts.function.types
+        wrapping = frozenset(text.names.variables[key] for key in asked if key in cut or not types[key].signed)
+        return Found(elements, text, len(heads) == 1, asked, wrapping=wrapping)
+
+    def asking(self, sequence: Sequence, starts: Starts) -> Asked:
+        return Asked(sequence, starts, self.stages(sequence, starts)[0])
+
+    def prove(self, asked: Asked, text: LoopText, equation: Polynomial, name: str) -> None:
+        """Has an equation in the names of a text proved, and keeps it at each loop with those that it needs."""
+        stem = self.folder / name
+        elements = proof(text.text, Files(stem.with_name(f"{name}.loop"), stem.with_name(f"{name}.json")), equation)
+        heads = asked.stage.walk.heads
+        found = self.found([asked.stage], asked.starts, text, elements)
+        if not all(found.is_written(head.visible) for head in heads):
+            raise Refusal(0, "it holds at each turn, with equations that can't be written here")
+        for head in heads:
+            self.results[head].proved.append(found)
+
+    def ask(self, sequence: Sequence, starts: Starts) -> None:
+        """Asks what the author states at the loops of a sequence, at those inside of them, and behind them."""
+        for loop, part in zip(sequence.loops(), sequence.parts()):
+            with contextlib.suppress(Refusal):
+                self.ask_one(self.asking(part, starts))
+            for inner in starts.sequences.get(loop, []):
+                self.ask(inner, starts)
+
+    def ask_one(self, asked: Asked) -> None:
+        """Asks what the author states at a loop, at those inside of it, and behind them; what is settled isn't asked again."""
+        for head in asked.stage.walk.heads:
+            for number, question in enumerate(questions_at(head, asked.stage.walk, asked.starts.function, asked.start()), 1):
+                form = question.equation, question.value.flat()
+                if self.answers.get(form, "it isn't asked yet"):
+                    name = f"{self.name(asked.sequence)}-asked-{question.equation.line}-{number}"
+                    self.answers[form] = self.answer(question, head, asked, name)
+
+    def answer(self, question: Question, head: Turns, asked: Asked, name: str) -> str:
+        """What is told of an equation that the author states: nothing where it is settled."""
+        equation = question.equation
+        if equation.value is None:
+            return f"not asked: {equation.text} is no equation of polynomials in variables for whole numbers"
+        if question.silent:
+            return f"not asked: {equation.text}: {question.silent}"
+        told: list[str] = []
+        for value in question.at_bounds():
+            out = others(asked.stage, value.names())
+            if out is None:
+                continue
+            try:
+                text = asked.text(f"{self.title(asked.sequence)}: {equation.text}", out, frozenset(value.names()))
+            except Refusal as fault:
+                told.append(f"not asked: {equation.text}: {fault}")
+                continue
+            try:
+                self.prove(asked, text, text.renamed(value), name)
+                return ""
+            except Refusal as fault:
+                told.append(f"not written: {equation.text}: {fault}")
+            except Refused as fault:
+                told.append(denied(equation, text.renamed(value).whole(text.names.spelling), head, fault))
+        known = any(follows(question, found) for found in [*self.results[head].found, *self.results[head].proved])
+        return "" if known else max(told, key=lambda one: one.count("\n"), default="")
+
+    def stated(self) -> None:
+        """Tells what of the author's equations isn't written. What is asked by `invar:` and isn't makes the status 1."""
+        for (equation, _), told in self.answers.items():
+            if told:
+                (self.refusals if equation.word == "invar" else self.remarks).append((equation.line, told))
+        self.refusals += self.source.unread
 
     def stages(self, sequence: Sequence, starts: Starts) -> list[Stage]:
         return stages(sequence.items, starts.at[sequence.items[0]].of, sequence.scope, starts.function.types)
@@ -209,12 +298,19 @@ class Annotator:
         result, line = self.results[loop], line_of(loop.node)
         equations = result.equations(loop, self.entries)
         refused = next((found.refused for found in result.found if found.refused), "")
-        if not result.found or refused and not equations:
+        some = f"up to degree {result.degree}" if result.has_some else "that are stated"
+        if equations and not result.found and self.source.offset_of(loop.node) is not None:
+            self.refusals.append((line, f"loop taken for the equations {some} alone: {result.fault}"))
+        elif not equations and result.degree:
+            holds = "can be written here" if result.has_some else "holds at each turn"
+            self.refuse(line, f"no equation up to degree {result.degree} {holds}: {refused or result.fault}")
+        elif not result.found or refused and not equations:
             self.refuse(line, refused or result.fault or "it isn't reached")
         elif equations and self.source.offset_of(loop.node) is None:
             self.refuse(line, "a loop that a macro makes")
         elif refused:
-            self.refusals.append((line, f"loop taken without {', '.join(left_out(result.found[-1]))}: {refused}"))
+            but = f", but for the equations {some}" if result.proved else ""
+            self.refusals.append((line, f"loop taken without {', '.join(left_out(result.found[-1]))}{but}: {refused}"))
         elif not equations:
             self.remarks.append((line, nothing(result.found[-1])))
         else:
@@ -222,13 +318,18 @@ class Annotator:
             self.remarks += [(line, f"any value: {', '.join(lost)}")] if lost else []
 
     def written(self, loops: list[Turns]) -> list[Note]:
-        """The notes of a function's loops: equations, and what loops before those or inside of them assign, since provers ask for it."""
+        """The notes of a function's loops: equations, and what loops before those or inside of them assign, since provers ask for it.
+
+        A loop that has equations of an earlier time and none now gets a note without any.
+        """
         placed = [loop for loop in loops if self.source.offset_of(loop.node) is not None]
         equations = {loop: self.results[loop].equations(loop, self.entries) for loop in placed}
         last = max((place for place, loop in enumerate(placed) if equations[loop]), default=-1)
         wanted = placed[: last + 1] + (turns_in([*placed[last].body, *placed[last].next]) if last >= 0 else [])
         notes = [Note(loop.node, equations[loop], assigned(loop)) for loop in placed if loop in wanted]
-        return [note for note in notes if note.equations or note.assigns is not None and not has_assigns(self.source, note.loop)]
+        missing = [note for note in notes if note.equations or note.assigns is not None and not has_assigns(self.source, note.loop)]
+        told = {note.loop for note in missing}
+        return missing + [Note(loop.node, (), None) for loop in placed if loop.node not in told and has_found(self.source, loop.node)]
 
     def told(self) -> list[str]:
         """The lines that are told, in the order of the text."""
@@ -236,21 +337,22 @@ class Annotator:
         return [f"{self.source.path}:{line}: {text}" for line, text in lines]
 
 
-def left_out(found: Found) -> list[str]:
-    return [spelled(key) for key in found.without]
-
-
-def nothing(found: Found) -> str:
-    """What is told of a loop for which `invar` finds no equation."""
-    asked = ", ".join(dict.fromkeys(map(spelled, found.asked)))
-    left = [f"{spelled(key)} ({why})" if why else spelled(key) for key, why in found.without.items()]
-    said = "can be written here" if found.elements else "holds at each turn"
-    return f"no equation between {asked} {said}" + (f"; any value: {', '.join(left)}" if left else "")
-
-
 def cut_off(items: Iterable[Statement]) -> set[str]:
     """The variables for which it has to be known that a value fits."""
     return {item.key for item in every(items) if isinstance(item, Set) and any(isinstance(need, Within) for need in item.term.needs)}
+
+
+def denied(equation: Equation, asked: str, head: Turns, fault: Refused) -> str:
+    """What is told where an equation isn't proved: the run at whose end it fails, or why there is no answer."""
+    if fault.status != NO:
+        return f"not decided: {equation.text}: {fault}"
+    run = "\n    ".join(fault.told.splitlines()[1:])
+    return f"not written: {equation.text}: at the loop in line {line_of(head.node)} a run ends without {asked} == 0\n    {run}"
+
+
+def is_promise(node: c_ast.Node) -> bool:
+    """Whether a node stands for a postcondition of the function that follows."""
+    return isinstance(node, c_ast.StaticAssert) and node.message is not None and node.message.value == f'"{PROMISE}"'
 
 
 def unforeseen(loop: Turns, found: Found) -> list[str]:
@@ -294,6 +396,7 @@ def main() -> int:
     with tempfile.TemporaryDirectory() as name:
         annotator = Annotator(source, Path(name), asked.entries)
         annotator.whole_file()
+        annotator.stated()
         if annotator.notes:
             write_source(target, annotated(source, annotator.notes))
         if annotator.notes and asked.keep:

@@ -3,7 +3,7 @@ from __future__ import annotations
 
 from pycparser import c_ast
 
-from sources import ASSERTION, Refusal, line_of, nodes, statements
+from sources import Refusal, is_stated, line_of, nodes, statements
 from statements import Turns
 
 STEPS = {"++": 1, "p++": 1, "--": -1, "p--": -1}
@@ -50,7 +50,7 @@ def assigned(loop: Turns) -> tuple[str, ...] | None:
     node = loop.node
     turn = [node.stmt, *statements(node.next if isinstance(node, c_ast.For) else None), *([node.cond] if node.cond is not None else [])]
     parts = [part for one in turn for part in nodes(one)]
-    if any(isinstance(part, c_ast.FuncCall) and getattr(part.name, "name", None) != ASSERTION for part in parts):
+    if any(isinstance(part, c_ast.FuncCall) and not is_stated(part) for part in parts):
         return None
     targets = [target for part in parts if (target := modified(part)) is not None]
     if not all(isinstance(target, c_ast.ID) for target in targets):

@@ -9,10 +9,12 @@ from pycparser import c_ast, c_generator
 
 from declarations import Declarations, Variable, number_of
 from effects import STEPS, accesses, has_effects
+from equations import conjuncts, equations_of, is_remainder
 from polynomials import Polynomial
-from sources import ASSERTION, Loop, line_of, nodes, statements
+from sources import Loop, is_stated, line_of, nodes, statements
+from stated import PROMISE, QUESTION, RESULT
 from statements import (
-    AtLeast, Block, Cases, Choice, Claim, Declared, Fact, Leave, Rest, Set, Statement, Target, Term, Test, Touch, Turns,
+    BEFORE, AtLeast, Block, Cases, Choice, Claim, Declared, Equation, Fact, Leave, Rest, Set, Statement, Target, Term, Test, Touch, Turns,
     turns_in,
 )
 from terms import bits, combined, compared, constant, converted, literal, quotient, settled, unknown
@@ -45,6 +47,17 @@ class Lowering:
     """What is done once the value of an expression is known."""
     temporaries: int = 0
     loops: int = 0
+    begins: Mapping[str, str] = field(default_factory=dict)
+    """The variables that have values where the function begins."""
+    promised: tuple[Equation, ...] = ()
+    """What the author states of the end of the function."""
+    result: Variable | None = None
+    waiting: list[c_ast.FuncCall] = field(default_factory=list)
+    """The equations before the next statement that are asked of a loop."""
+    asked: list[list[c_ast.FuncCall]] = field(default_factory=list)
+    """For each loop around the statement the equations that are asked of it."""
+    homeless: list[c_ast.FuncCall] = field(default_factory=list)
+    """The equations that are asked where no loop is."""
 
     # names
 
@@ -92,6 +105,7 @@ class Lowering:
             if item is not None:
                 self.statement(item)
                 self.flush()
+        self.settle()
         result, self.out, self.behind = tuple(self.out), outer, waiting
         return result
 
@@ -103,6 +117,11 @@ class Lowering:
         return Block(inside, own)
 
     def statement(self, node: c_ast.Node) -> None:
+        if is_stated(node):
+            self.stated(node)
+            return
+        if not isinstance(node, Loop):
+            self.settle()
         if isinstance(node, c_ast.Compound):
             self.emit(self.block(node.block_items or []))
         elif isinstance(node, c_ast.DeclList):
@@ -119,8 +138,7 @@ class Lowering:
         elif isinstance(node, (c_ast.Break, c_ast.Continue)):
             self.emit(Leave(type(node).__name__.lower()))
         elif isinstance(node, c_ast.Return):
-            if node.expr is not None:
-                self.effects(node.expr)
+            self.returned(node)
             self.emit(Leave("return"))
         elif isinstance(node, c_ast.Goto):
             self.emit(Leave("return"))
@@ -128,13 +146,63 @@ class Lowering:
             self.emit(Target(self.in_scope(), line_of(node), "a label"))
             for part in [node.stmt] if isinstance(node, c_ast.Label) else node.stmts or []:
                 self.statement(part)
-        elif isinstance(node, c_ast.FuncCall) and getattr(node.name, "name", None) == ASSERTION:
-            self.emit(Claim(self.test(node.args.exprs[0]).holds))
         elif isinstance(node, c_ast.Typedef):
             known = self.declared.types
             self.declared.types = {**known, node.name: None if node.name in known else node.type}
         elif not isinstance(node, (c_ast.EmptyStatement, c_ast.Pragma, c_ast.StaticAssert)):
             self.effects(node)
+
+    # what annotations state
+
+    def value_here(self, name: str) -> Polynomial | None:
+        """The value of a name where an annotation stands."""
+        variable = self.resolve(name)
+        if variable is None and name in self.declared.constants:
+            return Polynomial.constant(self.declared.constants[name])
+        return None if variable is None or variable.key is None else Polynomial.variable(variable.key)
+
+    def value_before(self, name: str) -> Polynomial | None:
+        """The value of a parameter or of a global variable where the function begins."""
+        variable = self.resolve(name)
+        known = variable is not None and variable.key in self.begins
+        return Polynomial.variable(variable.key + BEFORE) if known else self.value_here(name) if variable is None else None
+
+    def value_behind(self, name: str) -> Polynomial | None:
+        """The value of a name where the function ends: a parameter keeps that of its beginning."""
+        if name == RESULT:
+            return Polynomial.variable(RESULT)
+        return self.value_before(name) if name in self.scopes[0] else self.value_here(name)
+
+    def stated(self, node: c_ast.FuncCall) -> None:
+        """An assertion, or an equation that is asked of the loop that follows, or of the one around."""
+        inside = node.args.exprs[0]
+        if node.name.name == QUESTION:
+            self.waiting.append(node)
+            return
+        facts = tuple(fact for part in conjuncts(inside) if is_remainder(part) for fact in self.test(part).holds)
+        self.emit(Claim(facts, tuple(equations_of(inside, "assert", line_of(node), self.value_here, self.value_before))))
+
+    def settle(self) -> None:
+        """Equations that are asked with no loop behind them are asked of the one around."""
+        (self.asked[-1] if self.asked else self.homeless).extend(self.waiting)
+        self.waiting = []
+
+    def questions(self, calls: Iterable[c_ast.FuncCall]) -> tuple[Equation, ...]:
+        found = [equations_of(one.args.exprs[0], "invar", line_of(one), self.value_here, self.value_before) for one in calls]
+        return tuple(equation for part in found for equation in part)
+
+    def returned(self, node: c_ast.Return) -> None:
+        """The end of a path, with the function's value, where the author states something of it."""
+        if node.expr is not None and self.promised and self.result is not None:
+            self.careful(node.expr)
+            self.store(self.result, self.term(node.expr), line_of(node))
+            self.flush()
+        elif node.expr is not None:
+            self.effects(node.expr)
+        if self.promised:
+            self.emit(Claim((), self.promised))
+
+    # statements that declare, and loops
 
     def declaration(self, node: c_ast.Decl) -> None:
         self.declared.constants = {**self.declared.constants, **self.declared.enumerated(node)}
@@ -159,6 +227,8 @@ class Lowering:
     def loop(self, node: Loop) -> None:
         around = self.in_scope()
         self.scopes.append({})
+        self.asked.append(self.waiting)
+        self.waiting = []
         self.loops += 1
         init = self.listed([node.init]) if isinstance(node, c_ast.For) else ()
         own = frozenset(variable.key for variable in self.scopes[-1].values() if variable.key is not None)
@@ -172,8 +242,9 @@ class Lowering:
             body = self.captured(lambda: self.branch(node.cond, inside, lambda: leave)) if node.cond is not None else inside()
             following = self.listed([node.next]) if isinstance(node, c_ast.For) else ()
         self.loops -= 1
+        asked = self.questions(self.asked.pop())
         self.scopes.pop()
-        self.emit(Turns(node, init, body, following, own, around, visible))
+        self.emit(Turns(node, init, body, following, own, around, visible, asked))
 
     def captured(self, make: Callable[[], object]) -> tuple[Statement, ...]:
         """The statements that a call emits."""
@@ -498,10 +569,12 @@ class Function:
     items: tuple[Statement, ...]
     types: Mapping[str, Whole]
     begins: Mapping[str, str]
+    homeless: tuple[Equation, ...] = ()
+    """The equations that are asked where no loop is."""
 
 
-def lowered(function: c_ast.FuncDef, declared: Declarations) -> Function:
-    """The statements of a function."""
+def lowered(function: c_ast.FuncDef, declared: Declarations, promised: Iterable[c_ast.Node] = ()) -> Function:
+    """The statements of a function, of which an author states predicates at its end."""
     lowering = Lowering(replace(declared, constants=dict(declared.constants)))
     lowering.types = {variable.key: variable.type for variable in declared.globals.values() if variable.key is not None}
     pointed = [node.expr for node in nodes(function) if isinstance(node, c_ast.UnaryOp) and node.op == "&"]
@@ -511,6 +584,12 @@ def lowered(function: c_ast.FuncDef, declared: Declarations) -> Function:
     for node in [*arguments, *(function.param_decls or [])]:
         if isinstance(node, c_ast.Decl) and node.name is not None:
             lowering.declare(node.name, replace(declared.variable(node, node.name), declared=None))
-    begins = {key: key for key in lowering.in_scope()}
+    lowering.begins = begins = {key: key for key in lowering.in_scope()}
+    kind = declared.whole_type(function.decl.type.type)
+    if kind is not None:
+        lowering.result = Variable(RESULT, kind)
+        lowering.types[RESULT] = kind
+    found = [equations_of(one, PROMISE, line_of(one), lowering.value_behind, lowering.value_before) for one in promised]
+    lowering.promised = tuple(equation for part in found for equation in part)
     block = lowering.block(function.body.block_items or [])
-    return Function((block,), lowering.types, begins)
+    return Function((block, Claim((), lowering.promised)), lowering.types, begins, lowering.questions(lowering.homeless))

@@ -1,6 +1,7 @@
-"""Calls of `invar`: the basis of a loop text with its certificate, and what docs/USING.md says of a refusal."""
+"""Calls of `invar`: the basis of a loop text with its certificate, proofs of equations, and what docs/USING.md says of a refusal."""
 from __future__ import annotations
 
+import json
 import re
 import subprocess
 from dataclasses import dataclass
@@ -14,11 +15,16 @@ MOST_SECONDS = 60
 """For an analysis: most take milliseconds, and the usual budget of one that grows may last for many minutes."""
 
 
-class Refused(Exception):
-    """What `invar` answers instead of a basis; `names` are the variables that it speaks of."""
+NO, USAGE = 1, 2
+"""The status of an answer `no`, and that of words which are no command of the program."""
 
-    def __init__(self, told: str, text: str) -> None:
+
+class Refused(Exception):
+    """What `invar` answers instead of what was asked; `names` are the variables that it speaks of."""
+
+    def __init__(self, told: str, text: str, status: int | None = None) -> None:
         """Of a loop with this text. Where a branch is named, it is shown."""
+        self.status = status
         branches = [line.removeprefix("branch ") for line in text.splitlines() if line.startswith("branch ")]
         number = re.match(r"branch (\d+):", told)
         named = re.match(r"branch \d+: (?:not solvable|eigenvalues|range: \d+|wide in splitting|wide in forms): (.*)", told)
@@ -48,7 +54,7 @@ def answer(text: str, *words: str | Path) -> str:
     except subprocess.TimeoutExpired as fault:
         raise Refused(f"nothing within {MOST_SECONDS} seconds", text) from fault
     if done.returncode != 0:
-        raise Refused((done.stdout or done.stderr).strip(), text)
+        raise Refused((done.stdout or done.stderr).strip(), text, done.returncode)
     return done.stdout
 
 
@@ -64,6 +70,34 @@ def basis(text: str, files: Files) -> list[Polynomial]:
         files.certificate.unlink(missing_ok=True)
         raise
     return elements
+
+
+def bounded(text: str, degree: int, file: Path) -> list[Polynomial] | None:
+    """The elements up to a degree of the basis of a loop text, which stays in a file; None where this program has no such question."""
+    file.write_text(text)
+    try:
+        return read_basis(answer(text, "basis", "--degree", str(degree), file))
+    except Refused as fault:
+        file.unlink()
+        if fault.status == USAGE:
+            return None
+        raise
+
+
+def proof(text: str, files: Files, equation: Polynomial) -> list[Polynomial]:
+    """An equation of a loop text and those that it needs, so that each turn keeps all of them. A `no` is a refusal with its run.
+
+    The text and the certificate stay in files, once `invar check` has found it valid.
+    """
+    files.loop.write_text(text)
+    try:
+        files.certificate.write_text(answer(text, "prove", files.loop, f"{equation.flat()} = 0"))
+        answer(text, "check", files.loop, files.certificate)
+    except Refused:
+        files.loop.unlink()
+        files.certificate.unlink(missing_ok=True)
+        raise
+    return [Polynomial.read(element) for element in json.loads(files.certificate.read_text())["basis"]]
 
 
 def chain(text: str, file: Path) -> list[list[Polynomial]]:

@@ -2,16 +2,14 @@
 from __future__ import annotations
 
 import re
-from collections.abc import Callable, Iterator
+from collections.abc import Callable, Container, Iterator
 from dataclasses import dataclass, field
 from pathlib import Path
 
 from pycparser import c_ast, c_parser
 
 from preprocessor import STANDARD_INPUT, Line, preprocessed
-
-ASSERTION = "_assert"
-"""The name under which an ACSL assertion on rests stands in a syntax tree, as a call."""
+from stated import ASSERTION, QUESTION, Reader as Stated
 
 Loop = c_ast.While | c_ast.DoWhile | c_ast.For
 
@@ -60,6 +58,8 @@ class Source:
     """Where loops of the text begin, by their line and column in what the preprocessor makes."""
     missing: list[str] = field(default_factory=list)
     """The headers that aren't found."""
+    unread: list[tuple[int, str]] = field(default_factory=list)
+    """The lines of equations that are asked of a loop and aren't read, and why."""
 
     def offset_of(self, node: c_ast.Node) -> int | None:
         """Where the text of a loop begins, if it stands there as it is."""
@@ -69,8 +69,6 @@ class Source:
 LEXEME = re.compile(
     r"""//(?:\\\n|[^\n])*|/\*.*?\*/|"(?:\\.|[^"\\\n])*"|'(?:\\.|[^'\\\n])*'|(?m:^[ \t]*\#(?:\\\n|[^\n])*)""", re.DOTALL
 )
-REST = r"\w+\s*%\s*\d+\s*==\s*\d+"
-REST_ASSERTION = re.compile(rf"/[/*]@ assert\b(\s*{REST}(?:\s*&&\s*{REST})*\s*);\s*(?:\*/)?\s*")
 KEYWORD = re.compile(r"\b(?:for|while|do)\b")
 
 
@@ -89,27 +87,28 @@ def bare(text: str) -> str:
     return LEXEME.sub(lambda found: blanks(found[0]), text)
 
 
-def with_assertions(text: str) -> str:
-    """A C text with calls in the places of ACSL assertions on rests, as `x % 2 == 0`, and without `#error` and `#line`."""
+def with_statements(text: str) -> tuple[str, list[tuple[int, str]]]:
+    """A C text with what annotations state in their places, as C, and without `#error` and `#line`; and what of that isn't read."""
+    reader = Stated(bare(text))
 
-    def call(found: re.Match) -> str:
+    def in_c(found: re.Match) -> str:
         if re.match(r"\s*#\s*(?:error|line|\d+)\b", found[0]):
             return blanks(found[0])
-        said = REST_ASSERTION.fullmatch(found[0])
-        return f" {ASSERTION}({said[1]});".ljust(len(found[0])) if said else found[0]
+        return reader.in_c(found[0], found.start()) if found[0].startswith(("//", "/*")) else found[0]
 
-    return LEXEME.sub(call, text)
+    return LEXEME.sub(in_c, text), reader.unread
 
 
 def read_source(path: Path, folders: list[Path], macros: list[str]) -> Source:
     """The source of a file, read with folders of headers and with macros; what the preprocessor refuses is a refusal."""
     text = path.read_bytes().decode(errors="surrogateescape")
-    made = preprocessed(with_assertions(text).replace("\r\n", "\n"), path, folders, macros)
+    said, unread = with_statements(text.replace("\r\n", "\n"))
+    made = preprocessed(said, path, folders, macros)
     if made.fault is not None:
         raise Refusal(made.fault[0], f"the preprocessor says: {made.fault[1]}")
     code = re.sub(r"[\r\f]", " ", "\n".join(line.text for line in made.lines))
-    pieces = list(Reader().pieces(code, made.lines))
-    return Source(path, text, without_comments(text, blanks), pieces, places(text, bare(code), made.lines), made.missing)
+    pieces = list(Reader(is_whole=not made.missing).pieces(code, made.lines))
+    return Source(path, text, without_comments(text, blanks), pieces, places(text, bare(code), made.lines), made.missing, unread)
 
 
 def places(text: str, code: str, lines: list[Line]) -> dict[tuple[int, int], int]:
@@ -138,6 +137,10 @@ WORDS = set(
     "short signed sizeof static struct switch typedef union unsigned void volatile while _Bool _Complex _Noreturn _Alignas _Alignof _Atomic "
     "_Static_assert _Thread_local __int128".split()
 )
+BASE_TYPES = "unsigned|signed|char|short|int|long|float|double|void"
+MACRO_BEFORE = re.compile(rf"(?:[;{{}}(,]|^)\s*([A-Za-z_]\w*)(?=\s+(?:{BASE_TYPES})\b)", re.MULTILINE)
+MACRO_BEHIND = re.compile(rf"(?:\b(?:{BASE_TYPES})\s|\*)\s*([A-Za-z_]\w*)\s+([A-Z_][A-Z_0-9]*)(?=\s*[,)])")
+"""A word before a type, as `z_const unsigned x`, and one behind a parameter, as `int x UNUSED`."""
 BEFORE_TYPES = set("const static extern register volatile inline typedef auto restrict _Noreturn".split())
 
 
@@ -147,6 +150,8 @@ class Reader:
 
     types: dict[str, None] = field(default_factory=dict)
     parser: c_parser.CParser = field(default_factory=c_parser.CParser)
+    is_whole: bool = True
+    """Whether all headers are there: else words may be macros of those that aren't."""
 
     def pieces(self, code: str, lines: list[Line]) -> Iterator[Piece]:
         number = column = 0
@@ -161,11 +166,15 @@ class Reader:
     def read(self, piece: str, lines: list[Line], own: bool) -> Piece:
         """The piece of a text; of a header only what it declares counts."""
         loops = [lines[row].number for row in loop_rows(bare(piece))] if own else []
-        known = [*self.types, *(name for name in guessed_types(bare(piece)) if name not in self.types)]
+        guessed = {} if is_promise(piece) else guessed_types(bare(piece))
+        known = [*self.types, *(name for name in guessed if name not in self.types)]
         prelude = f"typedef int {', '.join(known)};" if known else ""
+        piece = piece if self.is_whole else without_macros(piece, self.types)
         try:
             tree = self.parser.parse(prelude + piece, STANDARD_INPUT).ext[len(known) :]
         except c_parser.ParseError as fault:
+            if is_promise(piece):
+                return Piece([], None, [], own)
             place = re.search(r":(\d+)(?::\d+)?: (.*)", str(fault))
             row, what = (int(place[1]) - 1, place[2]) if place else (0, str(fault))
             return Piece([], Refusal(lines[min(row, len(lines) - 1)].number, f"no C that is read here ({what})"), loops, own)
@@ -174,6 +183,23 @@ class Reader:
         shift(tree, lines, len(prelude))
         self.types.update((node.name, None) for node in tree if isinstance(node, c_ast.Typedef))
         return Piece(tree, None, loops, own)
+
+
+def without_macros(piece: str, types: Container[str]) -> str:
+    """A piece with blanks for words that can only be macros of headers that aren't found."""
+    shown = bare(piece)
+    for pattern in (MACRO_BEFORE, MACRO_BEHIND):
+        for found in pattern.finditer(shown):
+            words = set(found.groups())
+            if not words & WORDS and found[pattern.groups] not in types:
+                begin, end = found.span(pattern.groups)
+                piece = piece[:begin] + " " * (end - begin) + piece[end:]
+    return piece
+
+
+def is_promise(piece: str) -> bool:
+    """Whether a piece is a static assertion, as postconditions are here."""
+    return piece.lstrip().startswith("_Static_assert")
 
 
 def shift(tree: list[c_ast.Node], lines: list[Line], columns: int) -> None:
@@ -254,13 +280,18 @@ def guessed_types(piece: str) -> dict[str, None]:
     return found
 
 
+def is_stated(node: c_ast.Node) -> bool:
+    """Whether a node stands for what an annotation states, and is no call of the code."""
+    return isinstance(node, c_ast.FuncCall) and getattr(node.name, "name", None) in (ASSERTION, QUESTION)
+
+
 def nodes(node: c_ast.Node) -> list[c_ast.Node]:
-    """A node and all its parts."""
+    """A node and all its parts, but for those of what annotations state."""
     found, pending = [], [node]
     while pending:
         part = pending.pop()
         found.append(part)
-        pending += [child for _, child in reversed(part.children())]
+        pending += [child for _, child in reversed(part.children())] if not is_stated(part) else []
     return found
 
 

@@ -8,10 +8,7 @@ from dataclasses import dataclass, field, replace
 from lowering import Function
 from paths import State
 from polynomials import Polynomial
-from statements import Block, Cases, Choice, Claim, Declared, Leave, Set, Statement, Target, Touch, Turns, changed
-
-BEFORE = "@"
-"""Behind the name of a parameter or of a global variable: its value where the function begins."""
+from statements import BEFORE, Block, Cases, Choice, Claim, Declared, Leave, Set, Statement, Target, Touch, Turns, changed
 
 STRAIGHT = (Set, Declared, Touch, Claim)
 

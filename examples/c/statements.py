@@ -9,6 +9,10 @@ from sources import Loop
 from whole import Whole
 
 
+BEFORE = "@"
+"""Behind the name of a parameter or of a global variable: its value where the function begins."""
+
+
 @dataclass(frozen=True)
 class Divides:
     """Has to be known of a quotient: that it leaves no rest."""
@@ -96,11 +100,23 @@ class Touch:
     reason: str
 
 
+@dataclass(frozen=True, eq=False)
+class Equation:
+    """An equation that the author states, by a word of the annotation in a line: what is zero where it stands."""
+
+    line: int
+    word: str
+    text: str
+    value: Polynomial | None
+    """Over variables by their keys, and values at the beginning of the function; None where the equation is none of polynomials in these."""
+
+
 @dataclass(frozen=True)
 class Claim:
-    """An assertion that the author makes."""
+    """What the author states at a place."""
 
-    facts: tuple[Fact, ...]
+    facts: tuple[Fact, ...] = ()
+    equations: tuple[Equation, ...] = ()
 
 
 @dataclass(frozen=True)
@@ -155,6 +171,8 @@ class Turns:
     """The variables in scope before the loop."""
     visible: Mapping[str, str] = field(default_factory=dict)
     """The variables at the head by their keys, with the names that they have there."""
+    asked: tuple[Equation, ...] = ()
+    """The equations that the author asks of the head."""
 
 
 Statement = Set | Declared | Touch | Claim | Choice | Block | Cases | Leave | Target | Turns

@@ -28,6 +28,11 @@ DIVISION = """int quotient(int a, int b)
 """
 
 
+INVAR = FOLDER.parent.parent / "invar"
+HAS_DEGREES = subprocess.run([INVAR, "basis", "--degree", "2", FOLDER.parent / "squares.loop"], capture_output=True, check=False).returncode == 0
+"""Whether the program at hand answers with the equations up to a degree."""
+
+
 @dataclass(frozen=True)
 class Result:
     """How a call ended: its status, what it told, the text of the file, and the names beside it."""
@@ -38,7 +43,7 @@ class Result:
     beside: list[str]
 
 
-class Annotations(unittest.TestCase):
+class Calls(unittest.TestCase):
     """Calls of annotate.py on files in a new folder."""
 
     def setUp(self) -> None:
@@ -51,6 +56,14 @@ class Annotations(unittest.TestCase):
         done = subprocess.run([FOLDER / "annotate.py", *words, self.file], capture_output=True, text=True, check=False)
         told = done.stderr.replace(str(self.file), "test.c")
         return Result(done.returncode, told, self.file.read_text(), sorted(file.name for file in self.file.parent.iterdir()))
+
+    def clauses(self, text: str) -> list[str]:
+        """The left sides of the equations in a text."""
+        return re.findall(r"loop invariant invar: (.*?) == 0;", text)
+
+
+class Annotations(Calls):
+    """What is refused with its line, and what is written."""
 
     def refused(self, text: str, *wanted: str) -> None:
         """The file stays as it was, and what is told has these parts."""
@@ -111,7 +124,8 @@ class Annotations(unittest.TestCase):
 
     def test_a_product_of_two_changing_variables(self) -> None:
         text = "int f(int n)\n{\n    int x = 1, y = 1;\n    while (x < n) {\n        x = x * y;\n        y = y + x;\n    }\n    return x;\n}\n"
-        self.refused(text, "test.c:4: loop not taken: invar says branch 1: not solvable: x", "Each variable named uses the next")
+        asked = "no equation up to degree 3 holds at each turn: " if HAS_DEGREES else ""
+        self.refused(text, f"test.c:4: loop not taken: {asked}invar says branch 1: not solvable: x", "Each variable named uses the next")
 
     def test_what_is_no_whole_number(self) -> None:
         self.refused("int f(double x)\n{\n    while (x > 1)\n        x = x - 1;\n    return 0;\n}\n", "test.c:3: loop not taken: x, which is no")
@@ -178,6 +192,8 @@ class Annotations(unittest.TestCase):
         result = self.annotate(unknown)
         self.assertEqual((result.status, result.told), (0, "test.c: the header nowhere.h isn't found, and counts as empty\n"))
         self.assertIn("invar: 2*i - s == 0;", result.text)
+        macros = "#include <nowhere.h>\nint f(int n, char **p UNUSED)\n{\n    z_const unsigned char *next = 0;\n    int i = 0, s = 0;\n    while (i < n) { s += 2; i++; }\n    return s;\n}\n"
+        self.assertIn("invar: 2*i - s == 0;", self.annotate(macros).text)
         written = unknown.replace("use(t, (thing *) o)", "use(t, s)")
         self.assertIn("any value: s (a call in line 6)", self.annotate(written).told)
 
@@ -258,7 +274,8 @@ class Annotations(unittest.TestCase):
         text = "int f(int n)\n{\n    int i = 1, p = 1, s = 0;\n    while (i < n) { p = p * i; i++; s += 2; }\n    return p;\n}\n"
         result = self.annotate(text)
         self.assertEqual(result.status, 1)
-        self.assertIn("test.c:4: loop taken without p: invar says branch 1: not solvable: p", result.told)
+        taken = "for the equations up to degree 2 alone" if HAS_DEGREES else "without p"
+        self.assertIn(f"test.c:4: loop taken {taken}: invar says branch 1: not solvable: p", result.told)
         self.assertIn("2*i - s - 2 == 0", result.text)
 
     def test_that_other_loops_of_the_file_are_annotated(self) -> None:
@@ -273,6 +290,13 @@ class Annotations(unittest.TestCase):
         self.assertEqual(result.text, DIVISION.replace("    //@ loop variant r;\n", annotation))
         self.assertEqual(self.annotate(result.text).text, result.text)
 
+    def test_clauses_of_an_earlier_time(self) -> None:
+        text = "int f(int n, int *p)\n{\n    int i = 0, s = 0;\n%s    while (i < n) {\n        i++;\n        s += p[i];\n    }\n    return s;\n}\n"
+        found = "loop invariant invar: 2*i - s == 0;"
+        self.assertEqual(self.annotate(text % f"    /*@ {found} */\n").text, text % "")
+        kept = self.annotate(text % f"    /*@ {found}\n        loop assigns i, s; */\n")
+        self.assertEqual((kept.status, kept.text), (0, text % "    /*@ loop assigns i, s; */\n"))
+
     def test_clauses_on_one_line_and_lines_with_signs(self) -> None:
         wanted = "/*@ loop invariant invar: b*q - a + r == 0;\n        loop invariant 0 <= r;\n        loop assigns r, q;\n        loop variant r; */\n"
         for there in ("loop invariant 0 <= r; loop variant r; */", "loop invariant 0 <= r;\n      @ loop variant r;\n      @*/"):
@@ -282,7 +306,7 @@ class Annotations(unittest.TestCase):
     def test_that_texts_and_certificates_are_kept(self) -> None:
         self.assertEqual(self.annotate(DIVISION, "--keep").beside, ["test-5.json", "test-5.loop", "test.c"])
         files = [self.file.parent / name for name in ("test-5.loop", "test-5.json")]
-        judged = subprocess.run([FOLDER.parent.parent / "invar", "check", *files], capture_output=True, text=True, check=False)
+        judged = subprocess.run([INVAR, "check", *files], capture_output=True, text=True, check=False)
         self.assertEqual(judged.stdout, "valid\n")
 
     def test_temporaries(self) -> None:
@@ -324,6 +348,114 @@ class Annotations(unittest.TestCase):
         text = "int f(int n)\n{\n    int x = 0, y = 0, i;\n    for (i = 0; i < n; i++) x += 2;\n    for (i = 0; i < n; i++) y += 3;\n    return x + y;\n}\n"
         self.assertEqual(sorted(self.equations(text)), ["x - 2*i == 0", "y - 3*i == 0", "y == 0"])
         self.assertEqual(self.kept_text(text, "test-4-5.chain")[3], "then do { i = 0; }")
+
+
+class Stated(Calls):
+    """Equations that the author states."""
+
+    def behind(self, begin: str, body: str, *stated: str, test: str = "i < n") -> Result:
+        """A loop with this body, with assertions behind it."""
+        assertions = "".join(f"    //@ assert {one};\n" for one in stated)
+        return self.annotate(f"int g(int n, int h, int *p)\n{{\n    {begin}\n    while ({test}) {{\n        {body}\n    }}\n{assertions}    return 0;\n}}\n")
+
+    def test_one_that_needs_another(self) -> None:
+        result = self.behind("int a = 0, s = 1, t = 1;", "a++; t += 2; s += t;", "s == (a + 1) * (a + 1)", test="s <= n")
+        self.assertEqual((result.status, result.told), (0, ""))
+        self.assertEqual(self.clauses(result.text), ["2*a - t + 1", "t*t - 4*s + 2*t + 1", "-a*a - 2*a + s - 1"])
+
+    def test_one_that_needs_another_behind_a_loop_that_is_refused(self) -> None:
+        begin, body = "int i = 0, p = 0, q = 1, r = 0, s = 1;", "int u = q + 2 * r + p; r = r + q; p = q; q = u; s = -s; i++;"
+        clauses = self.clauses(self.behind(begin, body, "q - r - p + r * r == s + p * q").text)
+        self.assertIn("-p*q + r*r - p + q - r - s", clauses)
+        self.assertIn("p - q + r + s", clauses)
+
+    def test_one_that_holds_at_the_first_turn_alone(self) -> None:
+        result = self.behind("int i = 0, s = 0;", "s += 2 * i + 1; i++;", "s == i")
+        self.assertEqual(self.clauses(result.text), ["i*i - s"])
+        self.assertEqual((result.status, result.told), (0,
+            "test.c:7: not written: s == i: at the loop in line 4 a run ends without s - i == 0\n"
+            "    word 1 1\n    i = 0, s = 0\n    i = 1, s = 1\n    i = 2, s = 4\n    value 2\n"))
+
+    def test_loops_that_are_refused(self) -> None:
+        for begin, body, equation, wanted in (
+            ("int i = 0, a = 0, b = 1, s = 1;", "int t = a + b; a = b; b = t; s = -s; i++;", "b * b - a * b - a * a == s", "a*a + a*b - b*b + s"),
+            ("int i = 0, x = 1, y = 0, r = 1;", "int t = 3 * x - 4 * y; y = 4 * x + 3 * y; x = t; r = 25 * r; i++;", "x * x + y * y == r", "x*x + y*y - r"),
+            ("int i = 0, x = 3, v = 2;", "v = v - h * x; x = x + h * v; i++;", "x * x + v * v - h * x * v == 13 - 6 * h", "-h*x*v + x*x + v*v + 6*h - 13"),
+        ):
+            result = self.behind(begin, body, equation)
+            self.assertEqual(result.status, 1)
+            self.assertRegex(result.told, r"^test.c:4: loop taken (without|for the equations) .*: invar says branch 1: ")
+            self.assertTrue({wanted, negative(wanted)} & {*self.clauses(result.text)}, self.clauses(result.text))
+
+    def test_what_is_no_equation_of_polynomials(self) -> None:
+        result = self.behind("int i = 0, s = 0;", "s += 2; i++;", "s == p[0]", "i % 2 == 0", "0 <= s", "s % h == 0", r"\forall integer k; k == k")
+        self.assertEqual((result.status, self.clauses(result.text)), (0, ["2*i - s"]))
+        self.assertEqual(result.told, "".join(
+            f"test.c:{line}: not asked: {text} is no equation of polynomials in variables for whole numbers\n"
+            for line, text in ((7, "s == p[0]"), (10, "s % h == 0"))))
+
+    def test_a_value_of_which_nothing_is_known(self) -> None:
+        result = self.behind("int i = 0, y = 0, z = 0;", "int t = p[i]; y += t; z -= 2 * t; i++;", "2 * y + z == 0", "y == i")
+        self.assertEqual(self.clauses(result.text), ["2*y + z"])
+        self.assertEqual((result.status, result.told), (0, "test.c:8: not asked: y == i: y may have any value (an array in line 5)\n"))
+
+    def test_postconditions(self) -> None:
+        text = (
+            "/*@ requires 0 <= n;\n    ensures \\result == n * n && 0 <= \\result;\n    behavior odd:\n      ensures n == 1; */\n"
+            "int f(int n)\n{\n    int s = 0, k = 0;\n    for (int i = 0; i < n; i++) {\n        s += 2 * i + 1;\n        k++;\n    }\n    return s;\n}\n"
+        )
+        result = self.annotate(text)
+        self.assertEqual((result.status, result.told), (0, ""))
+        self.assertIn("-i*i + s", [*self.clauses(result.text), *map(negative, self.clauses(result.text))])
+        result = self.annotate(text.replace("n * n", "3 * n"))
+        self.assertIn("test.c:2: not written: \\result == 3 * n: at the loop in line 8 a run ends without ", result.told)
+
+    def test_values_at_the_beginning_of_the_function(self) -> None:
+        text = "/*@ ensures \\result == 2 * \\old(n); */\nint f(int n)\n{\n    int s = 0, p = 1;\n    while (n > 0) { s += 2; p = p * n; n--; }\n    //@ assert s == 2 * \\at(n, Pre) - 2 * n;\n    return s;\n}\n"
+        result = self.annotate(text)
+        self.assertIn(r"2*\at(n, Pre) - 2*n - s", [*self.clauses(result.text), *map(negative, self.clauses(result.text))])
+        self.assertNotIn("not written", result.told)
+
+    def test_equations_at_a_loop(self) -> None:
+        text = "int f(int n)\n{\n    int f = 1, g = 1, i = 0;\n    while (i < n) {\n        %s\n        g = g + g * i;\n        i++;\n        f = f * i;\n    }\n    return f - g;\n}\n"
+        result = self.annotate(text % "/*@ invar: f == g */")
+        self.assertEqual(self.clauses(result.text), ["f - g"])
+        self.assertIn("        /* invar: f == g */\n", result.text)
+        self.assertEqual(self.annotate(result.text).text, result.text)
+        result = self.annotate(text % "//@ invar: f == n * g;")
+        self.assertEqual(result.status, 1)
+        self.assertIn("test.c:5: not written: f == n * g: at the loop in line 4 a run ends without f - g*n == 0\n    word\n", result.told)
+
+    def test_where_equations_are_asked(self) -> None:
+        before = "int f(int n)\n{\n    int s = 0;\n    /*@ invar: s == 2 * i */\n    for (int i = 0; i < n; i++) s += 2;\n    return s;\n}\n"
+        self.assertEqual(self.clauses(self.annotate(before).text), ["s - 2*i"])
+        text = "/*@ invar: 1 == 1 */\nint f(int n)\n{\n    int s = 0;\n    /*@ invar: s == n */\n    s++;\n    while (s < n) {\n        s++;\n        //@ invar: s <= n\n        //@ invar: s\n    }\n    return s;\n}\n"
+        result = self.annotate(text)
+        self.assertEqual((result.status, result.text), (1, text))
+        self.assertEqual(result.told, "test.c:1: not asked: 1 == 1: it stands where no statement can\ntest.c:5: not asked: s == n: no loop is behind or around it\ntest.c:7: no equation between s holds at each turn\ntest.c:9: not asked: s <= n: it is no equation that is read here\ntest.c:10: not asked: s: it is no equation that is read here\n")
+
+    def test_assertions_that_a_test_guards(self) -> None:
+        text = "int f(int n, int *p)\n{\n    int i = 0, s = 0;\n    while (i < n) {\n        i++;\n        if (p[i])\n            //@ assert i % 2 == 0;\n            s += 2;\n    }\n    return s;\n}\n"
+        self.assertEqual(self.annotate(text).told, "test.c:4: no equation between i, s holds at each turn\n")
+
+    def test_loops_inside_of_loops(self) -> None:
+        text = "int f(int n, int m)\n{\n    int z = 0, f = 1;\n    while (n > 0) {\n        int j = 0, t = z;\n        while (j < m) { z++; j++; f = f * 2; }\n        //@ assert z == t + j;\n        n--;\n    }\n    return z;\n}\n"
+        self.assertEqual(self.annotate(text).told.count("not written"), 0)
+
+    def test_that_texts_and_certificates_are_kept(self) -> None:
+        text = "int f(int n)\n{\n    int i = 0, s = 0;\n    while (i < n) { s += 2 * i + 1; i++; }\n    //@ assert s == i * i;\n    return s;\n}\n"
+        self.assertEqual(self.annotate(text, "--keep").beside, ["test-4-asked-5-1.json", "test-4-asked-5-1.loop", "test-4.json", "test-4.loop", "test.c"])
+
+    @unittest.skipUnless(HAS_DEGREES, "this program has no answer with the equations up to a degree")
+    def test_equations_up_to_a_degree(self) -> None:
+        result = self.behind("int i = 0, x = 1, y = 1, s = 0;", "s = s * h + 1; x = x * h; i++;")
+        self.assertEqual(self.clauses(result.text), ["h*s - x - s + 1"])
+        self.assertIn("test.c:4: loop taken for the equations up to degree 2 alone: invar says branch 1: not solvable: ", result.told)
+
+
+def negative(text: str) -> str:
+    """The left side of an equation with all signs turned."""
+    return Polynomial.read(text.replace(r"\at(n, Pre)", "before")).scaled(-1).whole({"before": r"\at(n, Pre)"})
 
 
 class Texts(unittest.TestCase):

@@ -2,14 +2,13 @@
 from __future__ import annotations
 
 import re
-from collections.abc import Iterable
+from collections.abc import Iterable, Mapping
 from dataclasses import dataclass, field, replace
 
 from paths import Edge, Stage, State, Step
 from polynomials import Polynomial
 from sources import Refusal
-from starts import BEFORE
-from statements import Touch, every
+from statements import BEFORE, Touch, every
 
 MOST_VARIABLES = 12
 MOST_BRANCHES = 6
@@ -94,6 +93,13 @@ class LoopText:
     names: Names
     without: dict[str, str]
     """Why a variable that the loop changes isn't in the text."""
+    symbols: Mapping[str, str | None] = field(default_factory=dict)
+    """The name in the text of each value before the loop, if it has one."""
+
+    def renamed(self, value: Polynomial) -> Polynomial:
+        """A polynomial in variables and in values at the beginning of the function, in the names of the text."""
+        images = {name: self.symbols.get(name) or self.names.variables[name] for name in value.names()}
+        return value.substituted({name: Polynomial.variable(image) for name, image in images.items()})
 
 
 def is_sink(key: str, kept: Iterable[str], edges: Iterable[Edge]) -> str | None:
@@ -163,11 +169,14 @@ class Writer:
     start: State
     out: frozenset[str] = frozenset()
     """Variables that are to be left out, with all that is computed from them."""
+    wanted: frozenset[str] = frozenset()
+    """Variables, and values at the beginning of the function, that have to be in the text."""
     names: Names = field(default_factory=Names)
 
     def __post_init__(self) -> None:
         kept, self.without = variables_of(self.stages, self.out)
         declared = list(self.start.of)
+        kept += [name for name in declared if name in self.wanted and name not in kept and name not in self.without]
         self.kept = [name for name in declared if name in kept] + [name for name in kept if name not in declared]
         changed = {name for stage in self.stages for edge in [stage.code, *stage.walk.edges] for name in edge.values}
         self.constants = [name for name in declared if name not in changed]
@@ -284,12 +293,17 @@ class Writer:
         return next(told, "nothing that changes")
 
     def written(self, title: str) -> LoopText:
+        for name in sorted(self.wanted & self.without.keys()):
+            raise Refusal(0, f"{spelled(name)} may have any value{f' ({self.without[name]})' if self.without[name] else ''}")
         if not self.moving:
             raise Refusal(0, next(filter(None, self.without.values()), self.nothing()))
         for name in self.kept:
             if name not in self.moving:
                 self.names.variable(name)
         beginnings = {name: self.begins(name) for name in self.kept}
+        for name in sorted(self.wanted):
+            if name.endswith(BEFORE):
+                self.symbol(name)
         parts = [self.loop(stage) for stage in self.stages]
         other = [f"branch {{ {name} = {name} + 1; }}" for name in self.names.any]
         if max(len([line for line in part if line.startswith("branch")]) + len(other) for part in parts) > MOST_BRANCHES:
@@ -305,9 +319,11 @@ class Writer:
         lines = [f"# {title}", f"vars {', '.join(order)};", *known, *init, *loops]
         if len(order) > MOST_VARIABLES:
             raise Refusal(0, f"a loop of more than {MOST_VARIABLES} variables")
-        return LoopText("\n".join(lines) + "\n", self.names, self.without)
+        return LoopText("\n".join(lines) + "\n", self.names, self.without, self.symbols)
 
 
-def loop_text(stages: list[Stage], start: State, title: str, out: frozenset[str] = frozenset()) -> LoopText:
+def loop_text(
+    stages: list[Stage], start: State, title: str, out: frozenset[str] = frozenset(), wanted: frozenset[str] = frozenset()
+) -> LoopText:
     """The text of loops, one after another, that begin with given values: a loop text where there is one."""
-    return Writer(stages, start, out).written(title)
+    return Writer(stages, start, out, wanted).written(title)
