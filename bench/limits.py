@@ -89,7 +89,8 @@ def certificate(variables, basis, steps):
     return json.dumps({"basis": basis, "steps": steps, "vars": variables, "version": 1})
 
 
-SUM_OF_TWELVE = "+".join("abcdefghijkl")
+NAMES = "abcdefghijkl"
+SUM_OF_TWELVE = "+".join(NAMES)
 # Each of 12 variables becomes the sum of all, so that a product of their squares would have 1,352,078 terms.
 TWELVE_SUMS = ("vars a, b, c, d, e, f, g, h, i, j, k, l; init a=0; branch { "
                f"(a, b, c, d, e, f, g, h, i, j, k, l) = ({', '.join([SUM_OF_TWELVE] * 12)}); }}")
@@ -130,6 +131,10 @@ LONG_ANALYSES = {
 # Sums of seven variables, whose sixth powers have 924 terms each, and are composed with one another.
 SIXTH_POWERS = "vars a, b, c, d, e, f, g, h, p, q, r; init p=0, q=0, r=0; branch { p=p+(b+c+d+e+f+g+h)^6; q=q+(a+c+d+e+f+g+h)^6; r=r+(a+b+d+e+f+g+h)^6; }"
 
+# Each of twelve variables but the last becomes the cube of the sum of those behind it: its third turn has millions of terms.
+SUMS_OF_CUBES = ("vars a, b, c, d, e, f, g, h, i, j, k, l; branch { "
+                 + " ".join(f"{name}=({'+'.join(NAMES[place + 1:])})^3;" for place, name in enumerate(NAMES[:-1])) + " }")
+
 
 def main():
     with tempfile.TemporaryDirectory() as folder:
@@ -156,6 +161,8 @@ def main():
         for name, text in LONG_ANALYSES.items():
             pathlib.Path("long.loop").write_text(text)
             row(f"basis of {name}, up to the usual budget", ["basis", "long.loop"], 5, 60, 100, 1)
+        pathlib.Path("long.loop").write_text(SUMS_OF_CUBES)
+        row("basis of sums of cubes, eleven behind one another", ["basis", "long.loop"], 3, 0.5, 50)
         pathlib.Path("long.loop").write_text(SIXTH_POWERS)
         row("basis of three sums of sixth powers of seven variables", ["basis", "long.loop"], 0, 24, 200, 1)
     sys.exit(1 if failed else 0)

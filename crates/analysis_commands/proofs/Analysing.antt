@@ -26,7 +26,8 @@ use Rattle.rounds.proofs.Forms.{enough_budget}
 use Rattle.rounds.proofs.Theorem.{finished_generates}
 use Rattle.loop_text.proofs.WellFormed.{loop_well}
 use Rattle.solvable.specs.Refusal.{IsSolvable}
-use Rattle.closed_forms.specs.Refusal.{AllPass, Refusal, not_solvable, eigenvalues, range, wide_split, wide_form, IfRefused, refusal_in}
+use Rattle.closed_forms.specs.Lengths.{IsShort}
+use Rattle.closed_forms.specs.Refusal.{AllPass, Refusal, not_solvable, eigenvalues, range, wide_split, limit_form, wide_form, IfRefused, refusal_in}
 use Rattle.closed_forms.specs.declared.errors.FormsError.{FormsError}
 use Rattle.invariant_fix.specs.Refusals.{AllHaveForms, HasForm, IsRefusedBranch, TellsBranch, IsRefused}
 use Rattle.invariant_fix.specs.declared.errors.AnalyseError.{AnalyseError}
@@ -46,7 +47,7 @@ use Rattle.analysis_commands.specs.Causes.{HasFinished, IsClosed, IsExhausted, I
 use Rattle.io_edge.proofs.OfStatuses.{status_of, text_of, no_answer}
 use Rattle.analysis_commands.proofs.Refused.{refusal_parts, refusal_kind, Refused, at_fault, too_wide, exhausted}
 use Rattle.command_parts.proofs.MapLimits.{limit_same, not_free}
-use Rattle.analysis_commands.proofs.BranchRefusals.{no_form, refusal_one, some_told}
+use Rattle.analysis_commands.proofs.BranchRefusals.{map_not_both, no_form, refusal_one, some_told}
 
 pub refused_not_yes : (e : AnalyseError) (s : Status) → Refused e s → s ≢ status.Yes
 refused_not_yes e s (at_fault is) h = cc
@@ -170,7 +171,8 @@ module _ (kind : Kind) (l : Program (Expr ℕ)) (budget : ℕ) (m : Journal) (a 
   limited at first (refused error.Memory) ends says = absurd (no_answer a says)
 
   -- a branch that is solvable, and whose classes split, isn't at fault
-  branch_wide : (b : ℕ) (r : Refusal) → IsSolvable (map_of l (suc b)) × AllPass (map_of l (suc b))
+  branch_wide : (b : ℕ) (r : Refusal)
+      → IsSolvable (map_of l (suc b)) × AllPass (map_of l (suc b)) × IsShort (map_of l (suc b))
       → IfRefused (map_of l (suc b)) r → cause_status r ≡ status.Wide
   branch_wide b (not_solvable cycle) has is = absurd (has.0 cycle is.cycle)
   branch_wide b (eigenvalues class) has is = absurd (is.1.0 (has.1 class is.0.is).splits)
@@ -178,6 +180,8 @@ module _ (kind : Kind) (l : Program (Expr ℕ)) (budget : ℕ) (m : Journal) (a 
       let within = (has.1 class is.0.is).within is.1.0 in
       absurd (omega (arith, within, is.1.2))
   branch_wide b (wide_split class candidate power row) has is = refl
+  branch_wide b (limit_form variable) has is =
+      absurd (map_not_both (map_of l (suc b)) (branch_is_map l (suc b)) variable is.long has.2)
   branch_wide b (wide_form variable) has is = refl
 
   -- what a refused branch is answered
@@ -244,7 +248,8 @@ module _ (kind : Kind) (l : Program (Expr ℕ)) (budget : ℕ) (m : Journal) (a 
   module _ (free : AreFree l) (b : ℕ) (r : Refusal) (exact : IsExact r)
       (first : IsRefusedBranch l b r) where
     has_split : {c : ℕ} → HasForm l c → IsSolvable (map_of l c) × AllPass (map_of l c)
-    has_split h = (h.solvable, h.pass)
+        × IsShort (map_of l c)
+    has_split h = (h.solvable, h.pass, h.short)
 
     abbrev Told : Type 0
     Told = (a ≡ branch_answer l.names b r) ⊎ (a.status ≡ status.Wide)

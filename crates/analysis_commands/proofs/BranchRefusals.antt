@@ -1,30 +1,61 @@
 -- The first branch that has no closed form, and why, is one.
+--   map_not_both          a map isn't both too long and short;  long_one: its first class that is too long is one
 --   class_fails           a class that is told of doesn't pass;  no_form: its branch has no closed form
 --   class_one             two classes that are told of are one
 --   refusal_one           another refusal of the branch is that one, or a number that doesn't fit
 --   some_told             what an error tells
-use Rattle.std.proofs.Common.{◌≡◌, inl, inr, ℕ, ℤ, pos, List, length, refl, sym, ap, ap₂, subst, ◌∙◌, arith}
+use Rattle.std.proofs.Common.{◌≡◌, inl, inr, ℕ, ℤ, pos, List, [], ◌∷◌, length, replicate, refl, sym, ap, ap₂, subst, ◌∙◌, arith}
 use Rattle.std.specs.Prelude.{◌⊎◌, Option, Some, None, IsSomeAnd}
 use Rattle.std.proofs.lemmas.Bool.{cases_lt}
 use Rattle.algebra.specs.Fraction.{Fraction}
 use Rattle.polynomials.specs.Terms.{Terms}
 use Rattle.solvable_maps.specs.Dependency.{IsNonlinearCycle, IsLeastCycle}
 use Rattle.solvable_maps.specs.Uses.{uses, strongly, IsMap}
+use Rattle.solvable_maps.proofs.Classes.{classes_one}
 use Rattle.solvable_maps.proofs.Cycles.{cycle_one}
 use Rattle.vectors.specs.Matrices.{greatest_sum}
 use Rattle.vectors.specs.Causes.{IsTooWide}
 use Rattle.solvable_maps.specs.Classes.{class_matrix, Passes, first_of, IsReachedClass}
 use Rattle.loops.specs.Program.{Expr, Program}
+use Rattle.solvable_maps.proofs.Linear.{map_bounded}
 use Rattle.rounds.specs.BranchMap.{map_of}
+use Rattle.rounds.proofs.BranchMaps.{branch_is_map}
 use Rattle.eigen_split.specs.Refusal.{IsPastRow}
 use Rattle.eigen_split.specs.declared.EigenError.TheVariants as eigen_error
-use Rattle.closed_forms.specs.Refusal.{Refusal, not_solvable, eigenvalues, range, wide_split, wide_form, IfRefused}
+use Rattle.closed_forms.specs.Refusal.{Refusal, not_solvable, eigenvalues, range, wide_split, limit_form, wide_form, IsTooLong, IfRefused}
+use Rattle.closed_forms.specs.Lengths.{with_class, IsLongAmong, IsLong, IsShort}
 use Rattle.closed_forms.specs.Splits.{IfRefusedMatrix}
+use Rattle.closed_forms.proofs.LengthLaws.{long_or_short}
 use Rattle.closed_forms.proofs.Splitting.{same_first}
 use Rattle.invariant_fix.specs.Refusals.{HasForm}
 use Rattle.io_edge.specs.declared.answer.Status.TheVariants as status
 use Rattle.analysis_commands.specs.Statuses.{cause_status}
 use Rattle.analysis_commands.specs.Causes.{IsExact}
+
+-- ---- lengths
+pub map_not_both : (images : List (Terms Fraction)) → IsMap (length images) images → (v : ℕ)
+    → IsLong images v → IsShort images → ⊥
+map_not_both images is v long short =
+    long_or_short images (map_bounded (length images) images is) v long short
+
+among_same : (images : List (Terms Fraction)) (groups : List (List ℕ)) (ns : List ℕ) (v w : ℕ)
+    → IsLongAmong images groups ns v → IsLongAmong images groups ns w → v ≡ w
+among_same images [] ns v w h k = absurd h
+among_same images (g ∷ groups) ns v w (inl h) (inl k) = sym h.0 ∙ k.0
+among_same images (g ∷ groups) ns v w (inl h) (inr k) =
+    absurd (let more = h.1 in let few = k.0 in omega (arith, more, few))
+among_same images (g ∷ groups) ns v w (inr h) (inl k) =
+    absurd (let more = k.1 in let few = h.0 in omega (arith, more, few))
+among_same images (g ∷ groups) ns v w (inr h) (inr k) =
+    among_same images groups (with_class images g ns) v w h.1 k.1
+
+long_one : (images : List (Terms Fraction)) → IsMap (length images) images → (v w : ℕ)
+    → IsLong images v → IsLong images w → v ≡ w
+long_one images is v w l k =
+    among_same images l.groups (replicate (length images) 1) v w l.long
+    (subst (λ gs. IsLongAmong images gs (replicate (length images) 1) w)
+    (classes_one (uses images) (length images) (map_bounded (length images) images is) k.groups
+    l.groups [] k.are l.are) k.long)
 
 -- ---- refusals of one map
 module _ (images : List (Terms Fraction)) where
@@ -48,19 +79,23 @@ module _ (images : List (Terms Fraction)) where
       p.narrow h.0 (wide_before g candidate power row none h)
 
   module _ (solvable : (vs : List ℕ) → IsNonlinearCycle (uses images) (strongly images) vs → ⊥)
-      (pass : (g : List ℕ) → IsReachedClass images g → Passes images g) where
+      (pass : (g : List ℕ) → IsReachedClass images g → Passes images g)
+      (is_map : IsMap (length images) images) (short : IsShort images) where
     pub all_pass : (r : Refusal) → IsExact r → IfRefused images r → ⊥
     all_pass (not_solvable cycle) exact is = solvable cycle is.cycle
     all_pass (eigenvalues class) exact is = eigen_fails class is.1 (pass class is.0)
     all_pass (range class sum) exact is = range_fails class sum is.1 (pass class is.0)
     all_pass (wide_split class candidate power row) exact is =
         wide_fails class candidate power row exact is.1 (pass class is.0)
+    all_pass (limit_form variable) exact is = map_not_both images is_map variable is.long short
     all_pass (wide_form variable) exact is = exact
 
 pub no_form : (l : Program (Expr ℕ)) (b : ℕ) (r : Refusal) → IsExact r → IfRefused (map_of l b) r
     → HasForm l b → ⊥
 no_form l b r exact is has =
-    all_pass (map_of l b) has.solvable (λ g first. has.pass g first.is) r exact is
+    all_pass (map_of l b) has.solvable (λ g first. has.pass g first.is) (branch_is_map l b)
+    has.short
+    r exact is
 
 -- what an error tells
 pub some_told : {A : Type 0} (o : Option A) (P : A → Type 0) → IsSomeAnd o P → (x : A) × P x
@@ -86,6 +121,7 @@ module _ (images : List (Terms Fraction)) (is : IsMap (length images) images) wh
   same_cycle cycle (range class sum) exact r h = absurd (r.0.solvable cycle h.cycle)
   same_cycle cycle (wide_split class candidate power row) exact r h =
       absurd (r.0.solvable cycle h.cycle)
+  same_cycle cycle (limit_form variable) exact r h = absurd (r.solvable cycle h.cycle)
   same_cycle cycle (wide_form variable) exact r h = absurd exact
 
   same_eigen : (class : List ℕ) (r : Refusal) → IsExact r → IfRefused images r
@@ -105,6 +141,8 @@ module _ (images : List (Terms Fraction)) (is : IsMap (length images) images) wh
       (wide_fails images other candidate power row exact r.1) (eigen_fails images class h) in
       let here = subst (λ g. IfRefusedMatrix images g eigen_error.Eigen) (sym one) h in
       absurd ((here.1 r.1.0).1 (wide_before images other candidate power row exact r.1))
+  same_eigen class (limit_form variable) exact r first h =
+      absurd (eigen_fails images class h (r.pass class first.is))
   same_eigen class (wide_form variable) exact r first h = absurd exact
 
   same_range : (class : List ℕ) (sum : ℤ) (r : Refusal) → IsExact r → IfRefused images r
@@ -127,7 +165,22 @@ module _ (images : List (Terms Fraction)) (is : IsMap (length images) images) wh
       (range_fails images class sum h) in
       let here = subst (λ g. IfRefusedMatrix images g (eigen_error.Range sum)) (sym one) h in
       absurd (here.3 (wide_before images other candidate power row exact r.1))
+  same_range class sum (limit_form variable) exact r first h =
+      absurd (range_fails images class sum h (r.pass class first.is))
   same_range class sum (wide_form variable) exact r first h = absurd exact
+
+  same_long : (v : ℕ) (r : Refusal) → IsExact r → IfRefused images r → IsTooLong images v
+      → limit_form v ≡ r
+  same_long v (not_solvable cycle) exact r h = absurd (h.solvable cycle r.cycle)
+  same_long v (eigenvalues class) exact r h =
+      absurd (eigen_fails images class r.1 (h.pass class r.0.is))
+  same_long v (range class sum) exact r h =
+      absurd (range_fails images class sum r.1 (h.pass class r.0.is))
+  same_long v (wide_split class candidate power row) exact r h =
+      absurd (wide_fails images class candidate power row exact r.1 (h.pass class r.0.is))
+  same_long v (limit_form other) exact r h =
+      ap limit_form (long_one images is v other h.long r.long)
+  same_long v (wide_form other) exact r h = absurd exact
 
   pub refusal_one : (r' r : Refusal) → IsExact r → IfRefused images r → IfRefused images r'
       → (r' ≡ r) ⊎ (cause_status r' ≡ status.Wide)
@@ -135,4 +188,5 @@ module _ (images : List (Terms Fraction)) (is : IsMap (length images) images) wh
   refusal_one (eigenvalues class) r exact is h = inl (same_eigen class r exact is h.0 h.1)
   refusal_one (range class sum) r exact is h = inl (same_range class sum r exact is h.0 h.1)
   refusal_one (wide_split class candidate power row) r exact is h = inr refl
+  refusal_one (limit_form variable) r exact is h = inl (same_long variable r exact is h)
   refusal_one (wide_form variable) r exact is h = inr refl

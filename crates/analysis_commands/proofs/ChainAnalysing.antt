@@ -66,7 +66,7 @@ told_of place None a e = absurd (no_answer a e)
 told_of place (Some x) a e = (x, refl, some_answer (in_loop place x) a e)
 
 all_split : (p : Program (Expr ℕ)) → AllHaveForms p → AllSplit p
-all_split p forms b l = let h = forms b l in (h.solvable, h.pass)
+all_split p forms b l = let h = forms b l in (h.solvable, h.pass, h.short)
 
 pub all_second : {X : Type 0} (P : X → Type 0) (xs ys : List X) → All P (xs ++ ys) → All P ys
 all_second P xs ys h = λ i d l.

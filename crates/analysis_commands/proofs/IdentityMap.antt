@@ -1,6 +1,6 @@
 -- The map of one variable that leaves it as it is: that of ScaledMap with the number 1.
 --   still               the map
---   still_solvable      no variable uses itself non-linearly;  still_passes: its class passes
+--   still_solvable      no variable uses itself non-linearly;  still_passes, still_short: its class passes, and isn't too long
 --   still_base_is       the base of its eigenvalues is empty
 --   turned              its closed form, which is normal;  same_turns: it is the state after so many turns
 --   still_unrefused     it has no cause of a refusal
@@ -13,8 +13,9 @@ use Rattle.solvable_maps.specs.Classes.{IsClass, Passes, IsFormBase}
 use Rattle.solvable_maps.specs.Turns.{IsNormalForm, point, turns, values_at}
 use Rattle.solvable_maps.specs.Uses.{uses, strongly}
 use Rattle.closed_forms.specs.Refusal.{Refusal, IfRefused}
+use Rattle.closed_forms.specs.Lengths.{IsShort}
 use Rattle.analysis_commands.proofs.ScaledMap as map
-use Rattle.analysis_commands.proofs.ScaledMap.{one, scaled, scaled_solvable, scaled_passes, scaled_base_is}
+use Rattle.analysis_commands.proofs.ScaledMap.{one, scaled, scaled_solvable, scaled_passes, scaled_short, scaled_base_is}
 use Rattle.analysis_commands.proofs.ScaledNumbers.{one_scaled, one_narrow}
 use Rattle.analysis_commands.proofs.ScaledUnrefused.{scaled_unrefused}
 
@@ -29,6 +30,9 @@ turned = (0 ∷ 0 ∷ 1 ∷ [], one) ∷ []
 
 pub still_solvable : (vs : List ℕ) → IsNonlinearCycle (uses still) (strongly still) vs → ⊥
 still_solvable = scaled_solvable one
+
+pub still_short : IsShort still
+still_short = scaled_short one
 
 pub still_passes : (g : List ℕ) → IsClass still g → Passes still g
 still_passes = scaled_passes one

@@ -29,8 +29,9 @@ use Rattle.loop_model.specs.Operations.{IsWide, PassesLimit}
 use Rattle.loop_model.specs.Maps.{maps_operations, AreFree, statements_operations}
 use Rattle.loop_model.specs.Operations.{operations_all}
 use Rattle.solvable.specs.Refusal.{IsSolvable}
+use Rattle.closed_forms.specs.Lengths.{IsShort}
 use Rattle.closed_forms.specs.Refusal.{AllPass, Refusal, IfRefused}
-use Rattle.analysis_commands.proofs.IdentityMap.{still, still_solvable, still_passes, turned, turned_normal, still_base_is, same_turns, still_unrefused}
+use Rattle.analysis_commands.proofs.IdentityMap.{still, still_solvable, still_passes, still_short, turned, turned_normal, still_base_is, same_turns, still_unrefused}
 use Rattle.analysis_commands.proofs.IdleRuns.{x_loop, x_run, x_ends, asked_run, zero_run, nothing_left, zero_answered, some_answered}
 
 abbrev pub one_loop : Program (Expr ℕ)
@@ -83,14 +84,17 @@ map_two (suc (suc b)) l = absurd (omega (arith, l))
 
 pub x_split : (b : ℕ) → b < 1
     → IsSolvable (map_of one_loop (suc b)) × AllPass (map_of one_loop (suc b))
-x_split zero l = subst (λ ms. IsSolvable ms × AllPass ms) (sym map_one)
-    (still_solvable, still_passes)
+    × IsShort (map_of one_loop (suc b))
+x_split zero l = subst (λ ms. IsSolvable ms × AllPass ms × IsShort ms) (sym map_one)
+    (still_solvable, still_passes, still_short)
 x_split (suc b) l = absurd (omega (arith, l))
 
 pub two_split : (b : ℕ) → b < 2
     → IsSolvable (map_of two_loop (suc b)) × AllPass (map_of two_loop (suc b))
+    × IsShort (map_of two_loop (suc b))
 two_split b l =
-    subst (λ ms. IsSolvable ms × AllPass ms) (sym (map_two b l)) (still_solvable, still_passes)
+    subst (λ ms. IsSolvable ms × AllPass ms × IsShort ms) (sym (map_two b l))
+    (still_solvable, still_passes, still_short)
 
 pub x_branches : (b : ℕ) (r : Refusal) → b < 1 → IfRefused (map_of one_loop (suc b)) r → ⊥
 x_branches zero r l h = still_unrefused r (subst (λ ms. IfRefused ms r) map_one h)

@@ -36,6 +36,9 @@ pub mod IdleRuns
 pub mod IdleLoops
 pub mod IdleQuestions
 pub mod ResetMap
+pub mod ResetUnrefused
+pub mod ResetRuns
+pub mod ResetWitnesses
 pub mod SquareMap
 pub mod PassedLimits
 pub mod ReadTexts

@@ -3,7 +3,7 @@
 --   class_below       those of a class
 --   first_below       and its first
 --   named             those of a refusal
-use Rattle.std.proofs.Common.{◌≡◌, inl, inr, ℕ, zero, suc, ◌<◌, List, [], ◌∷◌, length, Bool, T, refl, sym, subst, ◌∙◌, arith, Option, Some, None, IsSomeAnd}
+use Rattle.std.proofs.Common.{◌≡◌, inl, inr, ℕ, zero, suc, ◌<◌, List, [], ◌∷◌, ◌++◌, length, replicate, Bool, T, refl, sym, subst, ◌∙◌, arith, Option, Some, None, IsSomeAnd}
 use Rattle.std.proofs.lemmas.List.{length-map}
 use Rattle.std.proofs.lemmas.List.Elements.{All-nil, All-cons}
 use Rattle.algebra.specs.In.{In}
@@ -13,11 +13,12 @@ use Rattle.loops.specs.Program.{Expr, Program}
 use Rattle.loops.proofs.Maps.{length-branch_map}
 use Rattle.machines.specs.Journal.{Journal}
 use Rattle.solvable_maps.specs.Dependency.{Walks, IsNonlinearCycle, last_of}
-use Rattle.solvable_maps.specs.Class.{IsClassOf}
+use Rattle.solvable_maps.specs.Class.{IsClassOf, AreClasses}
 use Rattle.solvable_maps.specs.Uses.{uses, strongly, any, poly_at}
 use Rattle.solvable_maps.specs.Classes.{IsClass, first_of}
 use Rattle.rounds.specs.BranchMap.{map_of}
 use Rattle.rounds.specs.Word.{branch_of}
+use Rattle.closed_forms.specs.Lengths.{with_class, IsLongAmong}
 use Rattle.closed_forms.specs.Refusal.{IfRefused, refusal_in, IsWideForm, state_past, class_past, turn_past}
 use Rattle.closed_forms.specs.declared.errors.FormsError.{FormsError}
 use Rattle.closed_forms.specs.declared.errors.FormsError.TheVariants as forms_error
@@ -69,12 +70,23 @@ module _ (images : List (Terms Fraction)) where
   wide_below base z v (turn_past w) =
       subst IsBelow w.first (first_below w.is.of w.class w.is.within w.is.is)
 
+  long_below : (groups : List (List ℕ)) (earlier ns : List ℕ) (v : ℕ)
+      → AreClasses (uses images) (length images) earlier groups → IsLongAmong images groups ns v
+      → IsBelow v
+  long_below [] earlier ns v are h = absurd h
+  long_below (g ∷ groups) earlier ns v are (inl h) =
+      subst IsBelow h.0 (first_below are.0 g are.1.within are.2)
+  long_below (g ∷ groups) earlier ns v are (inr h) =
+      long_below groups (earlier ++ g) (with_class images g ns) v are.3 h.1
+
   pub refusal_named : (e : FormsError) → IsSomeAnd (refusal_in e) (IfRefused images)
       → AreNamedIn (length images) e
   refusal_named (forms_error.NotSolvable cycle) r = cycle_below cycle.items r.cycle
   refusal_named (forms_error.Eigen class) r = class_below class.items r.0.is
   refusal_named (forms_error.Range class sum) r = class_below class.items r.0.is
   refusal_named (forms_error.WideSplit class candidate power row) r = class_below class.items r.0.is
+  refusal_named (forms_error.LimitForm variable) r =
+      long_below r.long.groups [] (replicate (length images) 1) variable r.long.are r.long.long
   refusal_named (forms_error.WideForm variable) r =
       wide_below r.later.base r.later.zeros variable r.later.wide
   refusal_named forms_error.Memory r = tt

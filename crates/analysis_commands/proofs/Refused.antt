@@ -49,6 +49,7 @@ forms_kind b (forms_error.NotSolvable cycle) s is = at_fault (some_status _ s is
 forms_kind b (forms_error.Eigen class) s is = at_fault (some_status _ s is)
 forms_kind b (forms_error.Range class sum) s is = at_fault (some_status _ s is)
 forms_kind b (forms_error.WideSplit class candidate power row) s is = too_wide (some_status _ s is)
+forms_kind b (forms_error.LimitForm variable) s is = at_fault (some_status _ s is)
 forms_kind b (forms_error.WideForm variable) s is = too_wide (some_status _ s is)
 forms_kind b forms_error.Memory s is = absurd (cc)
 

@@ -1,5 +1,6 @@
 -- The map of one variable that makes it 0: its one eigenvalue is 0, and its class splits.
---   gone               the map;  gone_solvable, gone_passes: it is solvable, and no class is refused
+--   gone               the map;  gone_solvable, gone_passes, gone_short: it is solvable, and no class is refused or too long
+--   gone_class, gone_is      its one class;  gone_matrix, gone_splits: that class's matrix, which splits
 --   reset_loop         the loop whose one branch is x = 0
 --   reset_free         no operation of its maps passes a limit
 --   reset_splits       its branch is solvable, and each of its classes splits
@@ -14,6 +15,7 @@ use Rattle.polynomials.specs.Exponent.{unit_exponents}
 use Rattle.polynomials.specs.Order.{compare, grevlex}
 use Rattle.polynomials.specs.Terms.{Terms, constant, variables}
 use Rattle.machines.specs.Collect.{collect, insert, place}
+use Rattle.vectors.specs.Matrices.{SplitsAt}
 use Rattle.solvable_maps.specs.Dependency.{IsNonlinearCycle}
 use Rattle.solvable_maps.specs.Class.{IsClassOf}
 use Rattle.solvable_maps.specs.Uses.{uses, strongly}
@@ -26,7 +28,9 @@ use Rattle.rounds.specs.BranchMap.{map_of}
 use Rattle.loop_model.specs.Operations.{operations, operations_all, PassesLimit}
 use Rattle.loop_model.specs.Maps.{maps_operations, statements_operations, AreFree}
 use Rattle.solvable.specs.Refusal.{IsSolvable}
+use Rattle.closed_forms.specs.Lengths.{class_length, sum_length, IsShort}
 use Rattle.closed_forms.specs.Refusal.{AllPass}
+use Rattle.closed_forms.proofs.LengthLaws.{single_short}
 use Rattle.eigen_split.proofs.OneNumber.{single_splits}
 use Rattle.analysis_commands.specs.Completeness.{AllSplit}
 use Rattle.analysis_commands.proofs.IdleRuns.{x_loop}
@@ -42,13 +46,16 @@ gone_class_is = record {
   whole = λ j l c. inl (omega (arith, l));
 }
 
-bounded : (i j : ℕ) → T (uses gone i j) → (i < 1) × (j < 1)
-bounded zero j t = absurd t
-bounded (suc i) j t = absurd t
+pub gone_bounded : (i j : ℕ) → T (uses gone i j) → (i < 1) × (j < 1)
+gone_bounded zero j t = absurd t
+gone_bounded (suc i) j t = absurd t
 
-gone_class : (g : List ℕ) → IsClass gone g → g ≡ 0 ∷ []
+pub gone_is : IsClass gone (0 ∷ [])
+gone_is = record { of = 0; within = omega arith; is = gone_class_is }
+
+pub gone_class : (g : List ℕ) → IsClass gone g → g ≡ 0 ∷ []
 gone_class g c =
-    class_one (uses gone) 1 bounded c.of g (0 ∷ []) c.is
+    class_one (uses gone) 1 gone_bounded c.of g (0 ∷ []) c.is
     (subst (λ k. IsClassOf (uses gone) 1 k (0 ∷ []))
     (let within = c.within in let e : 0 ≡ c.of = omega (arith, within) in e) gone_class_is)
 
@@ -61,17 +68,29 @@ gone_solvable [] c = absurd c
 gone_solvable (v ∷ []) c = absurd c
 gone_solvable (v ∷ w ∷ vs) c = weak v w c.0
 
-gone_matrix : class_matrix gone (0 ∷ []) ≡ (ℚ.zero ∷ []) ∷ []
+pub gone_matrix : class_matrix gone (0 ∷ []) ≡ (ℚ.zero ∷ []) ∷ []
 unfolding Algebra.coefficient sum_over
 gone_matrix = refl
 
+pub gone_splits : SplitsAt 1 (class_matrix gone (0 ∷ []))
+gone_splits = single_splits 1 (class_matrix gone (0 ∷ [])) ((ℚ.one ∷ []) ∷ []) (ℚ.zero ∷ [])
+    ℚ.zero refl gone_matrix (record { forms_are = refl; values_are = refl })
+
 pub gone_passes : (g : List ℕ) → IsClass gone g → Passes gone g
 gone_passes g c = subst (Passes gone) (sym (gone_class g c)) (record {
-  splits = single_splits 1 (class_matrix gone (0 ∷ [])) ((ℚ.one ∷ []) ∷ []) (ℚ.zero ∷ [])
-      ℚ.zero refl gone_matrix (record { forms_are = refl; values_are = refl });
+  splits = gone_splits;
   within = λ some. absurd (omega (arith, some));
   narrow = λ some h. omega (arith, some);
 })
+
+-- ---- its length
+gone_length : class_length gone (0 ∷ []) (1 ∷ []) ≡ 0
+unfolding class_length sum_length
+gone_length = refl
+
+pub gone_short : IsShort gone
+gone_short = single_short gone gone_bounded refl gone_class_is
+    (let e = gone_length in omega (arith, e))
 
 -- ---- a loop
 abbrev pub reset_loop : Program (Expr ℕ)
@@ -92,5 +111,6 @@ reset_free =
 
 pub reset_splits : AllSplit reset_loop
 reset_splits zero l =
-    subst (λ ms. IsSolvable ms × AllPass ms) (sym reset_map) (gone_solvable, gone_passes)
+    subst (λ ms. IsSolvable ms × AllPass ms × IsShort ms) (sym reset_map)
+    (gone_solvable, gone_passes, gone_short)
 reset_splits (suc b) l = absurd (omega (arith, l))

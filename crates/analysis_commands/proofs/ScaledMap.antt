@@ -2,7 +2,7 @@
 --   scaled c               the map
 --   scaled_class, scaled_is     its one class
 --   scaled_solvable        no variable uses itself non-linearly
---   scaled_splits, scaled_passes     its class splits, so it passes
+--   scaled_splits, scaled_passes     its class splits, so it passes;  scaled_short: it isn't too long
 --   scaled_behind          the inverse of its one form
 --   IsScaled c base key    the number isn't 0, this is the base of its size, and this are the exponents of its power
 --   scaled_base, scaled_base_is      that base is the one of its eigenvalues
@@ -54,6 +54,8 @@ use Rattle.solvable_maps.proofs.Numbers.{one_form}
 use Rattle.solvable_maps.proofs.OneForm.{all_values}
 use Rattle.eigen_split.specs.Refusal.{IsSingle}
 use Rattle.eigen_split.proofs.OneNumber.{single_splits}
+use Rattle.closed_forms.specs.Lengths.{power_length, product_length, sum_length, class_length, IsShort}
+use Rattle.closed_forms.proofs.LengthLaws.{ones, single_short}
 use Rattle.rounds.proofs.Alone.{own, own_is_eigenvalue, eigenvalue_is_own}
 
 abbrev pub one : Fraction
@@ -71,15 +73,15 @@ module _ (c : Fraction) where
     whole = λ j l c. inl (omega (arith, l));
   }
 
-  bounded : (i j : ℕ) → T (uses (scaled c) i j) → (i < 1) × (j < 1)
-  bounded zero zero t = (omega arith, omega arith)
-  bounded zero (suc j) t = absurd t
-  bounded (suc i) j t = absurd t
+  pub scaled_bounded : (i j : ℕ) → T (uses (scaled c) i j) → (i < 1) × (j < 1)
+  scaled_bounded zero zero t = (omega arith, omega arith)
+  scaled_bounded zero (suc j) t = absurd t
+  scaled_bounded (suc i) j t = absurd t
 
   pub scaled_class_of : (i : ℕ) (g : List ℕ) → i < 1 → IsClassOf (uses (scaled c)) 1 i g → g
       ≡ 0 ∷ []
   scaled_class_of i g l d =
-      class_one (uses (scaled c)) 1 bounded i g (0 ∷ []) d
+      class_one (uses (scaled c)) 1 scaled_bounded i g (0 ∷ []) d
       (subst (λ k. IsClassOf (uses (scaled c)) 1 k (0 ∷ [])) (let e : 0 ≡ i = omega (arith, l) in
       e) zero_class)
 
@@ -121,6 +123,15 @@ module _ (c : Fraction) where
     within = λ some. absurd (omega (arith, some));
     narrow = λ some h. omega (arith, some);
   })
+
+  -- ---- its length
+  scaled_length : class_length (scaled c) (0 ∷ []) (1 ∷ []) ≡ 1
+  unfolding class_length sum_length product_length power_length
+  scaled_length = refl
+
+  pub scaled_short : IsShort (scaled c)
+  scaled_short = single_short (scaled c) scaled_bounded refl zero_class
+      (let e = scaled_length in let f = (ones 1).1 in omega (arith, e, f))
 
   -- ---- its eigenvalue
   pub eigenvalue_own : (x : Fraction) → IsEigenvalue (scaled c) x → x ≡ c

@@ -115,7 +115,7 @@ one_scaled = record {
 
 pub double_narrow : IsNarrow two
 unfolding fraction Fraction.sum Fraction.product is_lowest reduce gcd lcm sum_of_products
-double_narrow = record { before = before; behind = behind; zeros = refl }
+double_narrow = record { before = before; behind = behind }
   where
     before : IsPastDot (one ∷ []) (two ∷ []) → ⊥
     before (inl p) = fits (size 2 1) (omega arith) (omega arith) p
@@ -135,7 +135,7 @@ double_narrow = record { before = before; behind = behind; zeros = refl }
 
 pub minus_narrow : IsNarrow minus
 unfolding fraction Fraction.sum Fraction.product is_lowest reduce gcd lcm sum_of_products
-minus_narrow = record { before = before; behind = behind; zeros = refl }
+minus_narrow = record { before = before; behind = behind }
   where
     before : IsPastDot (one ∷ []) (minus ∷ []) → ⊥
     before (inl p) = fits (size 1 1) (omega arith) (omega arith) p
@@ -155,7 +155,7 @@ minus_narrow = record { before = before; behind = behind; zeros = refl }
 
 pub one_narrow : IsNarrow one
 unfolding fraction Fraction.sum Fraction.product is_lowest reduce gcd lcm sum_of_products
-one_narrow = record { before = dot; behind = dot; zeros = refl }
+one_narrow = record { before = dot; behind = dot }
   where
     dot : IsPastDot (one ∷ []) (one ∷ []) → ⊥
     dot (inl p) = fits (size 1 1) (omega arith) (omega arith) p

@@ -1,6 +1,8 @@
 -- The map of one variable that is a number times it has no cause of a refusal, where the products of the number with 1 fit.
 --   fits                a weight with small numbers isn't past
---   IsNarrow c          the products fit, and the number isn't 0
+--   IsNarrow c          the products fit
+--   inverse_fits, back_is     the inverse of its one form does, and is that form
+--   source_none, source_fits     the source of the form is 0, and making it isn't past, also where the number is 0
 --   scaled_unrefused    so it is
 use Rattle.std.proofs.Common.{Option, None, Some, ◌≡◌, inl, inr, ℕ, zero, suc, ◌<◌, ◌≤◌, List, [], ◌∷◌, ◌++◌, take, length, refl, sym, ap, subst, ◌∙◌, arith}
 use Rattle.std.proofs.lemmas.List.{append-nil}
@@ -36,24 +38,28 @@ use Rattle.closed_forms.specs.Splits.{AreSplits, IsSplitOf}
 use Rattle.closed_forms.specs.States.{zeros_in}
 use Rattle.closed_forms.specs.Values.{values_in}
 use Rattle.closed_forms.specs.Products.{IsPastDot, IsPastRow}
-use Rattle.closed_forms.specs.Refusal.{Refusal, not_solvable, eigenvalues, range, wide_split, wide_form, IfRefused, IsWideForm, state_past, class_past, turn_past}
+use Rattle.closed_forms.specs.Refusal.{Refusal, not_solvable, eigenvalues, range, wide_split, limit_form, wide_form, IfRefused, IsWideForm, state_past, class_past, turn_past}
 use Rattle.closed_forms.specs.Solved.{homogeneous_part, IsWhole, IsPastSolved, term as term_past, sum as whole_past, normal as made_past}
 use Rattle.closed_forms.specs.Sources.{collect_terms, part, both, part_by_forms, IsSource, IsPastMoved, IsPastBefore, turned as turned_past, back as back_past, before, IsPastSource, moved_past, before_past, sum_past, normal_past}
 use Rattle.closed_forms.specs.Sums.{mix, IsPastScaled, IsPastMix}
-use Rattle.analysis_commands.proofs.ScaledMap.{one, scaled, scaled_class, scaled_is, scaled_class_of, scaled_solvable, scaled_matrix, scaled_splits, echelons_one, scaled_behind, form_own, IsScaled, scaled_base, scaled_turned}
+use Rattle.closed_forms.proofs.Ahead.{zeros_none}
+use Rattle.closed_forms.proofs.LengthLaws.{long_or_short}
+use Rattle.analysis_commands.proofs.ScaledMap.{one, scaled, scaled_class, scaled_is, scaled_class_of, scaled_solvable, scaled_matrix, scaled_splits, echelons_one, scaled_behind, form_own, IsScaled, scaled_base, scaled_turned, scaled_bounded, scaled_short}
 
 -- ---- what fits
 pub fits : (a : Size) → a.size < 1000 → a.den < 1000 → IsPast a → ⊥
 fits a s d (inl l) = omega (arith, s, l)
 fits a s d (inr l) = omega (arith, d, l)
 
-abbrev rows : List (List Fraction)
+abbrev pub rows : List (List Fraction)
 rows = (one ∷ []) ∷ []
+
+abbrev pub matrix_of : Fraction → List (List Fraction)
+matrix_of c = (c ∷ []) ∷ []
 
 pub record IsNarrow (c : Fraction) : Type 0 where
   pub before : IsPastDot (one ∷ []) (c ∷ []) → ⊥
   pub behind : IsPastDot (c ∷ []) (one ∷ []) → ⊥
-  pub zeros : zeros_in (c ∷ []) ≡ 0
 
 nothing_mixed : (cs : List Fraction) → mix cs [] ≡ []
 nothing_mixed [] = refl
@@ -69,7 +75,7 @@ none_past (c ∷ cs) (inl h) = h
 none_past cs (inr p) =
     weight_none (subst (λ m. IsPast (weight fraction_size m)) (nothing_mixed cs) p)
 
-abbrev nothing : List (Terms Fraction)
+abbrev pub nothing : List (Terms Fraction)
 nothing = [] ∷ []
 
 part_of_none : (by : List Fraction) → part by [] ≡ []
@@ -94,7 +100,7 @@ unfolding fraction Fraction.product Fraction.inverse is_lowest reduce gcd lcm
 added (inl p) = fits (size 2 1) (omega arith) (omega arith) p
 added (inr p) = fits (size 2 1) (omega arith) (omega arith) p
 
-inverse_fits : IsPastInverse rows → ⊥
+pub inverse_fits : IsPastInverse rows → ⊥
 inverse_fits h = at h.place h.within h.echelon h.is h.target h.past
   where
     first : (echelon : List (List Fraction)) → echelon ≡ [] → (target : ℕ)
@@ -110,7 +116,7 @@ inverse_fits h = at h.place h.within h.echelon h.is h.target h.past
         first echelon (echelons_one 2 [] echelon [] e (echelon_none 2)) target p
     at (suc i) l echelon e target p = omega (arith, l)
 
-back_is : (back : List (List Fraction)) → IsBehind rows back → back ≡ rows
+pub back_is : (back : List (List Fraction)) → IsBehind rows back → back ≡ rows
 back_is back b = b.behind ∙ scaled_behind b.echelon b.is
 
 -- ---- the variable
@@ -149,18 +155,11 @@ module _ (key : List ℕ) where
       at zero l (inr p) = part_fits p
       at (suc i) l p = omega (arith, l)
 
-module _ (c : Fraction) (base key : List ℕ) (known : IsScaled c base key)
-    (narrow : IsNarrow c) where
-  abbrev matrix : List (List Fraction)
-  matrix = (c ∷ []) ∷ []
-
-  abbrev at_start : Ahead
-  at_start = ahead_of (scaled c) (0 ∷ []) 0
-
-  before_row : IsPastRow 1 (one ∷ []) matrix → ⊥
+module _ (c : Fraction) (base : List ℕ) (narrow : IsNarrow c) where
+  before_row : IsPastRow 1 (one ∷ []) (matrix_of c) → ⊥
   before_row r = at r.place r.within r.past
     where
-      at : (place : ℕ) → place < 1 → IsPastDot (one ∷ []) (numbers_at place matrix) → ⊥
+      at : (place : ℕ) → place < 1 → IsPastDot (one ∷ []) (numbers_at place (matrix_of c)) → ⊥
       at zero l p = narrow.before p
       at (suc i) l p = omega (arith, l)
 
@@ -171,14 +170,14 @@ module _ (c : Fraction) (base key : List ℕ) (known : IsScaled c base key)
       at zero l p = narrow.behind p
       at (suc i) l p = omega (arith, l)
 
-  product_own : (out : List Fraction) → IsProduct 1 (one ∷ []) matrix out → out ≡ c ∷ []
+  product_own : (out : List Fraction) → IsProduct 1 (one ∷ []) (matrix_of c) out → out ≡ c ∷ []
   unfolding sum_of_products
   product_own [] p = absurd (let s = p.size in omega (arith, s))
   product_own (x ∷ []) p = ap (λ y. y ∷ []) (p.each 0 (omega arith) ∙ form_own ℚ_ring c)
   product_own (x ∷ y ∷ out) p = absurd (let s = p.size in omega (arith, s))
 
   -- ---- the source of its form is 0
-  before_fits : IsPastBefore (one ∷ []) matrix rows [] → ⊥
+  before_fits : IsPastBefore (one ∷ []) (matrix_of c) rows [] → ⊥
   before_fits (turned_past p) = before_row p
   before_fits (back_past t is p) = behind_row (subst (λ t. IsPastRow 1 t rows) (product_own t is) p)
   before_fits (before by is p) = none_past by p
@@ -201,13 +200,14 @@ module _ (c : Fraction) (base key : List ℕ) (known : IsScaled c base key)
     both_none by = ap (λ p. collect_terms (p ++ part by [])) moved_none
         ∙ ap collect_terms (part_of_none by)
 
-    source_none : (q : Terms Fraction) → IsSource base 1 (one ∷ []) nothing polys matrix rows [] q
+    pub source_none : (q : Terms Fraction) → IsSource base 1 (one ∷ []) nothing polys (matrix_of c)
+        rows [] q
         → q ≡ []
     unfolding collect
     source_none q s =
         s.terms ∙ ap (λ p. collect_terms (with_normal_keys (length base) p)) (both_none s.by)
 
-    source_fits : IsPastSource base 1 (one ∷ []) nothing polys matrix rows [] → ⊥
+    pub source_fits : IsPastSource base 1 (one ∷ []) nothing polys (matrix_of c) rows [] → ⊥
     source_fits (moved_past p) = moved_fits p
     source_fits (before_past p) = before_fits p
     source_fits (sum_past by is p) =
@@ -217,6 +217,13 @@ module _ (c : Fraction) (base key : List ℕ) (known : IsScaled c base key)
     source_fits (normal_past by is p) =
         weight_none (subst (λ x. IsPast (weight fraction_size x)) (both_none by) p)
 
+-- ---- where the number isn't 0
+module _ (c : Fraction) (base key : List ℕ) (known : IsScaled c base key)
+    (narrow : IsNarrow c) where
+  abbrev at_start : Ahead
+  at_start = ahead_of (scaled c) (0 ∷ []) 0
+
+  module _ (polys : List (Terms Fraction)) where
     -- ---- what is solved is the form itself
     whole_is : (p : Terms Fraction) → IsWhole base 1 (one ∷ []) (0 ∷ []) c [] p
         → (e : List ℕ) × (p ≡ (e, one) ∷ [])
@@ -245,9 +252,10 @@ module _ (c : Fraction) (base key : List ℕ) (known : IsScaled c base key)
     from_fits q e (later_past some turns p) = turns refl
     from_fits q e (one_later_past none p) = known.some none
 
-    form_fits : IsPastForm base 1 (0 ∷ []) nothing polys matrix rows at_start (one ∷ []) c [] → ⊥
-    form_fits (source_past p) = source_fits p
-    form_fits (making_past q is p) = from_fits q (source_none q is) p
+    form_fits : IsPastForm base 1 (0 ∷ []) nothing polys (matrix_of c) rows at_start (one ∷ []) c []
+        → ⊥
+    form_fits (source_past p) = source_fits c base narrow polys p
+    form_fits (making_past q is p) = from_fits q (source_none c base narrow polys q is) p
 
   normal_first : (y : Terms Fraction) → Each (IsNormalForm base grevlex 1) (y ∷ [])
       → IsNormalForm base grevlex 1 y
@@ -272,11 +280,12 @@ module _ (c : Fraction) (base key : List ℕ) (known : IsScaled c base key)
       (entries ℚ_field (c ∷ []) (length p.done)) p.done) (scaled_matrix c) p.past)
     where
       form_at : (done : List (Terms Fraction)) → length done < 1
-          → IsPastForm base 1 (0 ∷ []) nothing polys matrix back at_start
+          → IsPastForm base 1 (0 ∷ []) nothing polys (matrix_of c) back at_start
           (row_at rows (length done))
           (entries ℚ_field (c ∷ []) (length done)) done → ⊥
       form_at [] l h = form_fits polys
-          (subst (λ k. IsPastForm base 1 (0 ∷ []) nothing polys matrix k at_start (one ∷ []) c [])
+          (subst (λ k. IsPastForm base 1 (0 ∷ []) nothing polys (matrix_of c) k at_start (one ∷ [])
+          c [])
           (back_is back b) h)
       form_at (y ∷ done) l h = omega (arith, l)
   class_fits polys (variable_past back b p) =
@@ -289,7 +298,7 @@ module _ (c : Fraction) (base key : List ℕ) (known : IsScaled c base key)
       let here = subst (λ g. IsSplitInto (length g) (class_matrix (scaled c) g) f.forms f.values)
       class f.are in
       let single = here.single refl c (scaled_matrix c) in
-      let zeros : zeros_in f.values ≡ 0 = ap zeros_in single.values_are ∙ narrow.zeros in
+      let zeros : zeros_in f.values ≡ 0 = ap zeros_in single.values_are ∙ zeros_none c known.some in
       class_fits f.polys
       (subst (λ vs. IsPastClass base (scaled c) 0 (0 ∷ []) rows vs f.polys) single.values_are
       (subst (λ fs. IsPastClass base (scaled c) 0 (0 ∷ []) fs f.values f.polys) single.forms_are
@@ -301,7 +310,7 @@ module _ (c : Fraction) (base key : List ℕ) (known : IsScaled c base key)
   no_zero split g e s =
       let here = subst (λ g. IsSplitInto (length g) (class_matrix (scaled c) g)
       (rows_of split.forms.items) (fractions_of split.values.items)) e s.found in
-      ap zeros_in (here.single refl c (scaled_matrix c)).values_are ∙ narrow.zeros
+      ap zeros_in (here.single refl c (scaled_matrix c)).values_are ∙ zeros_none c known.some
 
   zeros_are : (splits : List (Option Split)) → AreSplits (scaled c) splits
       → zeros_in (values_in splits) ≡ 0
@@ -336,6 +345,8 @@ module _ (c : Fraction) (base key : List ℕ) (known : IsScaled c base key)
   scaled_unrefused (wide_split class candidate power row) h =
       let some = subst (λ g. 2 ≤ length g) (scaled_class c class h.0.is) h.1.0 in
       omega (arith, some)
+  scaled_unrefused (limit_form variable) h =
+      long_or_short (scaled c) (scaled_bounded c) variable h.long (scaled_short c)
   scaled_unrefused (wide_form variable) h =
       wide_fits variable
       (subst (λ z. IsWideForm base (scaled c) z variable)

@@ -37,6 +37,7 @@ use Rattle.loop_model.specs.Operations.{IsWide, PassesLimit, operations, operati
 use Rattle.loop_model.specs.Maps.{maps_operations, AreFree, statements_operations}
 use Rattle.loop_model.specs.Words.{keyword_of}
 use Rattle.solvable.specs.Refusal.{IsSolvable}
+use Rattle.closed_forms.specs.Lengths.{IsShort}
 use Rattle.closed_forms.specs.Refusal.{AllPass, Refusal, IfRefused}
 use Rattle.corollaries.specs.Journal.{IsEnded, IsEliminated, IsStopped, IsPastBehind}
 use Rattle.poly_text.specs.Lexemes.{lexeme_at, placed_behind}
@@ -47,13 +48,14 @@ use Rattle.loop_text.specs.Seqs.{sequences_word, most_seqname}
 use Rattle.analysis_commands.specs.Causes.{IsNeverRefused, IsWithinBudget}
 use Rattle.analysis_commands.specs.Completeness.{AllSplit}
 use Rattle.analysis_commands.specs.RelationsClauses.{IsNeverStopped, IsRelatedWithin}
-use Rattle.analysis_commands.proofs.IdentityMap.{still, still_solvable, still_passes, turned_normal, still_base_is, same_turns, still_unrefused}
+use Rattle.analysis_commands.proofs.IdentityMap.{still, still_solvable, still_passes, still_short, turned_normal, still_base_is, same_turns, still_unrefused}
 use Rattle.analysis_commands.proofs.IdleLoops.{x_form}
 use Rattle.analysis_commands.proofs.StartedRuns.{one_program, gens, gone, tested, A, the_setting, run, ends}
 use Rattle.analysis_commands.proofs.RelatedRuns.{the_entries, never_past_of, one_basis, ended_elimination, behind_fits}
 
 -- ---- loops of one variable with one branch, whose map leaves it as it is
-none_of : {X : Type 0} (xs before behind : List X) (x : X) → xs ≡ [] → xs ≡ before ++ x ∷ behind → ⊥
+pub none_of : {X : Type 0} (xs before behind : List X) (x : X) → xs ≡ [] → xs ≡ before ++ x ∷ behind
+    → ⊥
 none_of xs [] behind x e h = (let z = ap length (sym e ∙ h) in omega (arith, z))
 none_of xs (y ∷ before) behind x e h = (let z = ap length (sym e ∙ h) in omega (arith, z))
 
@@ -69,8 +71,8 @@ module _ (l : Program (Expr ℕ)) (single : length l.branches ≡ 1)
   narrow_of at w = none_of (maps_operations l) w.before w.behind w.operation none w.order
 
   splits_of : AllSplit l
-  splits_of zero less = subst (λ ms. IsSolvable ms × AllPass ms) (sym map_is)
-      (still_solvable, still_passes)
+  splits_of zero less = subst (λ ms. IsSolvable ms × AllPass ms × IsShort ms) (sym map_is)
+      (still_solvable, still_passes, still_short)
   splits_of (suc b) less = absurd (omega (arith, less, single))
 
   unrefused_of : (b : ℕ) (r : Refusal) → b < length l.branches

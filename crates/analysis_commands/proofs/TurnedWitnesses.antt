@@ -45,6 +45,7 @@ use Rattle.loop_model.specs.Maps.{maps_operations, AreFree, statements_operation
 use Rattle.loop_model.proofs.OperatorLaws.{only}
 use Rattle.loop_model.specs.Words.{keyword_of}
 use Rattle.solvable.specs.Refusal.{IsSolvable}
+use Rattle.closed_forms.specs.Lengths.{IsShort}
 use Rattle.closed_forms.specs.Refusal.{AllPass, Refusal, IfRefused}
 use Rattle.poly_text.specs.Lexemes.{lexeme_at, placed_behind}
 use Rattle.poly_text.specs.Sums.{most_depth}
@@ -53,7 +54,7 @@ use Rattle.analysis_commands.specs.Causes.{IsNeverRefused, IsWithinBudget}
 use Rattle.analysis_commands.specs.Completeness.{AllSplit}
 use Rattle.analysis_commands.specs.MemberCauses.{NeverPast}
 use Rattle.analysis_commands.proofs.IdleQuestions.{alone}
-use Rattle.analysis_commands.proofs.ScaledMap.{one, scaled, scaled_solvable, scaled_passes, IsScaled, scaled_base_is, same_turns}
+use Rattle.analysis_commands.proofs.ScaledMap.{one, scaled, scaled_solvable, scaled_passes, scaled_short, IsScaled, scaled_base_is, same_turns}
 use Rattle.analysis_commands.proofs.ScaledUnrefused.{fits, IsNarrow, scaled_unrefused}
 use Rattle.analysis_commands.proofs.ScaledNumbers.{two, minus, double_scaled, minus_scaled, double_narrow, minus_narrow}
 use Rattle.analysis_commands.proofs.Traces.{never_past, comes_by}
@@ -90,8 +91,8 @@ module _ (l : Program (Expr ℕ)) (c : Fraction) (base key : List ℕ) (known : 
       go (suc b) d less = absurd (omega (arith, less))
 
   splits_of : AllSplit l
-  splits_of zero less = subst (λ ms. IsSolvable ms × AllPass ms) (sym map_is)
-      (scaled_solvable c, scaled_passes c)
+  splits_of zero less = subst (λ ms. IsSolvable ms × AllPass ms × IsShort ms) (sym map_is)
+      (scaled_solvable c, scaled_passes c, scaled_short c)
   splits_of (suc b) less = absurd (omega (arith, less, single))
 
   unrefused_of : IsNarrow c → (b : ℕ) (r : Refusal) → b < length l.branches

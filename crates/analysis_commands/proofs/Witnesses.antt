@@ -3,7 +3,7 @@
 --   one_..     of the loop with one branch, which does nothing;  two_..: with two such branches
 --   yes_..     of the question whether x is x, whose polynomial is 0
 --   no_..      of the question whether x is 0, whose polynomial is x
---   reset_..   of the loop with the branch x = 0, whose eigenvalue is 0
+--   reset_..   of the loop with the branch x = 0, whose eigenvalue is 0 (with init it is in ResetWitnesses)
 --   square_..  of the loop with the branch x = x*x, which has no closed form
 --   high_..    of the 80th power of x, which passes the limit of degrees
 -- What meets each premise, here or in the file that is named:
@@ -23,10 +23,10 @@
 -- What isn't shown:
 --   that the outside tells any bytes, and more of them than a limit (IsLonger)
 --   IsFamily of more than no loop, for any of the premises of `Tallies`
---   IsNeverRefused of a loop of two variables or more, or with an eigenvalue 0: that no number is past in a closed form is refuted by hand
+--   IsNeverRefused of a loop of two variables or more: that a number is past in a closed form is refuted by hand
 --   a branch that is refused for another exact cause than that it isn't solvable
--- A loop with `init` is in StartedWitnesses, loops whose branch changes the variable in TurnedWitnesses. That no state of an analysis is past computes (Fitting);
--- WorkedLoops has it of loops of three variables, and of one with the eigenvalue 0.
+-- A loop with `init` is in StartedWitnesses, loops whose branch changes the variable in TurnedWitnesses and ResetWitnesses. That no state of an analysis is past
+-- computes (Fitting); WorkedLoops has it of loops of three variables, and of one with the eigenvalue 0.
 use Rattle.std.proofs.Common.{ℕ, ◌≤◌, List, [], ◌∷◌, sym, subst, arith}
 use Rattle.algebra.specs.Fraction.{Fraction}
 use Rattle.polynomials.specs.Terms.{Terms}

@@ -6,7 +6,7 @@
 --   IsUnanalysed text budget m a     they are a loop, and a tells why its analysis, which left m, has no basis
 --   IsNeverRefused l                 no operation of the maps passes a limit or is past, no branch is refused, and no state of the analysis is past
 --   IsWithinBudget l budget          some finished journal of the loop has at most as many units as the budget
---   IsExact r                        the refusal r of a branch has a cause that is no weight: a chain, a class that doesn't split, one whose sums are out of range, or one that is too wide before its splitting
+--   IsExact r                        the refusal r of a branch has a cause that is no weight: a chain, a class that doesn't split, one whose sums are out of range, one that is too wide before its splitting, or one that is too long
 use Rattle.std.specs.Prelude.{◌≡◌, ◌<◌, ◌≤◌, ⊤, ℕ, suc, List, ◌++◌, length, None, Ok, codes, decimal}
 use Rattle.algebra.specs.Fraction.{Fraction}
 use Rattle.polynomials.specs.Terms.{Terms}
@@ -20,7 +20,7 @@ use Rattle.rounds.specs.Analysis.{State}
 use Rattle.rounds.specs.BranchMap.{map_of}
 use Rattle.rounds.specs.Journal.{setting_of, Follows, IsFinished, IsOut}
 use Rattle.rounds.specs.Past.{IsPast}
-use Rattle.closed_forms.specs.Refusal.{Refusal, not_solvable, eigenvalues, range, wide_split, wide_form, IfRefused}
+use Rattle.closed_forms.specs.Refusal.{Refusal, not_solvable, eigenvalues, range, wide_split, limit_form, wide_form, IfRefused}
 use Rattle.invariant_fix.specs.Answers.{IsLeastLevel}
 use Rattle.invariant_fix.specs.Closing.{AreSteps}
 use Rattle.invariant_fix.specs.Refusals.{AllHaveForms}
@@ -88,4 +88,5 @@ IsExact (not_solvable cycle) = ⊤
 IsExact (eigenvalues class) = ⊤
 IsExact (range class sum) = ⊤
 IsExact (wide_split class candidate power row) = power ≡ 0
+IsExact (limit_form variable) = ⊤
 IsExact (wide_form variable) = ⊥

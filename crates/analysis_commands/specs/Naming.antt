@@ -15,6 +15,7 @@ AreNamedIn n (forms_error.NotSolvable cycle) = AreBelow n cycle.items
 AreNamedIn n (forms_error.Eigen class) = AreBelow n class.items
 AreNamedIn n (forms_error.Range class sum) = AreBelow n class.items
 AreNamedIn n (forms_error.WideSplit class candidate power row) = AreBelow n class.items
+AreNamedIn n (forms_error.LimitForm variable) = variable < n
 AreNamedIn n (forms_error.WideForm variable) = variable < n
 AreNamedIn n forms_error.Memory = ⊤
 

@@ -18,7 +18,7 @@ use Rattle.divide.specs.declared.EngineError.TheVariants as engine_error
 use Rattle.loop_model.specs.declared.map_error.MapError.{MapError}
 use Rattle.loop_model.specs.declared.map_error.MapError.TheVariants as map_error
 use Rattle.closed_forms.specs.declared.errors.FormsError.{FormsError}
-use Rattle.closed_forms.specs.Refusal.{Refusal, not_solvable, eigenvalues, range, wide_split, wide_form, refusal_in}
+use Rattle.closed_forms.specs.Refusal.{Refusal, not_solvable, eigenvalues, range, wide_split, limit_form, wide_form, refusal_in}
 use Rattle.invariant_fix.specs.declared.errors.AnalyseError.{AnalyseError}
 use Rattle.invariant_fix.specs.declared.errors.AnalyseError.TheVariants as refusal
 use Rattle.command_parts.specs.BasisTexts.{line}
@@ -44,6 +44,7 @@ module _ (names : List (List ℕ)) where
       codes "wide in splitting: candidate " ++ signed_decimal candidate
       ++ codes ", power " ++ decimal power ++ codes ", row " ++ decimal row
       ++ codes ": " ++ names_at class
+  cause_text (limit_form variable) = codes "limit in forms: " ++ name_of variable
   cause_text (wide_form variable) = codes "wide in forms: " ++ name_of variable
 
   abbrev pub cause_or_memory : Option Refusal → List ℕ

@@ -133,6 +133,7 @@ fn forms_status(error: &FormsError) -> Option<Status>
         FormsError::Eigen { .. } => Some(Status::Fault),
         FormsError::Range { .. } => Some(Status::Fault),
         FormsError::WideSplit { .. } => Some(Status::Wide),
+        FormsError::LimitForm { .. } => Some(Status::Fault),
         FormsError::WideForm { .. } => Some(Status::Wide),
         FormsError::Memory => None,
     }

@@ -94,6 +94,10 @@ fn forms_text(alloc: Global, names: &Names, error: &FormsError) -> Result<String
             power,
             row,
         } => split_text(alloc, names, class, *candidate, *power, *row),
+        FormsError::LimitForm { variable } => {
+            let name = names.name(*variable);
+            format!(in alloc; "limit in forms: {name}")
+        }
         FormsError::WideForm { variable } => {
             let name = names.name(*variable);
             format!(in alloc; "wide in forms: {name}")

@@ -1,9 +1,10 @@
 -- The closed form of a map from what its calls give.
 --   form_base_is                     the base of the values of the classes' forms, but zero, is the map's
 --   all_pass                         no class is refused
---   of_class, later_class, later_turn, later_state, memory_later, out_of_memory, refused_first, refused_later     what a refusal tells
+--   of_class, later_class, later_turn, later_state, memory_later, out_of_memory, refused_first, refused_later     what a refusal tells;  is_too_long: that a class is too long
 --   closed_is, closed_count          the polynomials are a closed form, as many as variables;  normal_in, told_in, passes_in, over_in, count_in, few_in: what is told of it, with the map's polynomials as the code has them
 use Rattle.std.proofs.Common.{◌≡◌, inl, inr, ◌<◌, ◌≤◌, ℕ, zero, suc, List, [], ◌∷◌, length, replicate, get_or, All, Option, Some, None, Result, Ok, Err, refl, sym, ap, ap₂, subst, ◌∙◌, arith}
+use Rattle.std.specs.Prelude.{MatchOption}
 use Rattle.std.specs.Result.{IfErr, IsErrAnd}
 use Rattle.std.proofs.lemmas.List.{length-map}
 use Rattle.algebra.specs.Each.{Each}
@@ -12,7 +13,8 @@ use Rattle.algebra.proofs.In.{in_either, in_left, in_right}
 use Rattle.algebra.specs.Fraction.{Fraction, ℚ}
 use Rattle.polynomials.specs.Polynomial.{Arity, AllArity}
 use Rattle.polynomials.specs.Terms.{Terms}
-use Rattle.solvable_maps.specs.Uses.{IsMap}
+use Rattle.solvable_maps.specs.Class.{AreClasses}
+use Rattle.solvable_maps.specs.Uses.{uses, IsMap}
 use Rattle.exponentials.specs.Base.{IsTheBase}
 use Rattle.linear.specs.Rows.{fractions_of, rows_of}
 use Rattle.eigen_split.specs.declared.splitting.Split.{Split}
@@ -25,9 +27,10 @@ use Rattle.solvable_maps.proofs.Values.{turns-length}
 use Rattle.solvable_maps.proofs.Classwise.{form_base}
 use Rattle.expo.specs.declared.exponential.Expo.{Expo}
 use Rattle.closed_forms.specs.declared.errors.FormsError.{FormsError}
-use Rattle.closed_forms.specs.declared.errors.FormsError.TheVariants.{NotSolvable, Eigen, Range, WideSplit, WideForm, Memory}
+use Rattle.closed_forms.specs.declared.errors.FormsError.TheVariants.{NotSolvable, Eigen, Range, WideSplit, LimitForm, WideForm, Memory}
 use Rattle.closed_forms.specs.Known.{AreKnown}
-use Rattle.closed_forms.specs.Refusal.{AllPass, IfOfClass, IfWide, IfWideTurn, IsWideForm, state_past, class_past, turn_past, IsLater, IfLater, IfRefusedBy}
+use Rattle.closed_forms.specs.Lengths.{IsLongAmong, AreShort}
+use Rattle.closed_forms.specs.Refusal.{AllPass, IsTooLong, IfOfClass, IfWide, IfWideTurn, IsWideForm, state_past, class_past, turn_past, IsLater, IfLater, IfRefusedBy}
 use Rattle.closed_forms.specs.Splits.{AreSplits, IfRefusedAt}
 use Rattle.closed_forms.specs.States.{some_of, AreZeros, IsPastState}
 use Rattle.closed_forms.specs.Values.{values_in, bodies_of, AreOver}
@@ -119,6 +122,7 @@ of_class P Q f (NotSolvable cycle) h = absurd h
 of_class P Q f (Eigen class) h = absurd h
 of_class P Q f (Range class sum) h = absurd h
 of_class P Q f (WideSplit class candidate power row) h = absurd h
+of_class P Q f (LimitForm variable) h = absurd h
 of_class P Q f (WideForm variable) h = f variable h
 of_class P Q f Memory h = tt
 
@@ -150,6 +154,7 @@ refused_first images (NotSolvable cycle) h = absurd h
 refused_first images (Eigen class) h = h
 refused_first images (Range class sum) h = h
 refused_first images (WideSplit class candidate power row) h = h
+refused_first images (LimitForm variable) h = absurd h
 refused_first images (WideForm variable) h = absurd h
 refused_first images Memory h = tt
 
@@ -159,12 +164,31 @@ refused_later images none pass (NotSolvable cycle) h = absurd h
 refused_later images none pass (Eigen class) h = absurd h
 refused_later images none pass (Range class sum) h = absurd h
 refused_later images none pass (WideSplit class candidate power row) h = absurd h
+refused_later images none pass (LimitForm variable) h = absurd h
 refused_later images none pass (WideForm variable) h = record {
   solvable = none;
   pass = pass;
   later = h;
 }
 refused_later images none pass Memory h = tt
+
+-- ---- lengths
+pub is_too_long : (images : List (Terms Fraction)) → IsSolvable images → AllPass images
+    → (groups : List (List ℕ)) → AreClasses (uses images) (length images) [] groups
+    → (n v : ℕ) (o : Option ℕ) → n ≡ length images → o ≡ Some v
+    → MatchOption o (AreShort images groups (replicate n 1))
+    (IsLongAmong images groups (replicate n 1)) → IsTooLong images v
+is_too_long images none pass groups are n v o size e h = record {
+  solvable = none;
+  pass = pass;
+  long = record {
+    groups = groups;
+    are = are;
+    long = subst (λ k. IsLongAmong images groups (replicate k 1) v) size
+        (subst (λ x. MatchOption x (AreShort images groups (replicate n 1))
+        (IsLongAmong images groups (replicate n 1))) e h);
+  };
+}
 
 -- ---- the closed form
 all_arities : (base : List ℕ) (m : ℕ) (es : List Expo) → AreOver base m es

@@ -22,3 +22,4 @@ pub mod Marks
 pub mod Least
 pub mod Forming
 pub mod FormsFrom
+pub mod LengthLaws

@@ -30,7 +30,7 @@ use Rattle.eigen_split.specs.declared.splitting.Split.{Split}
 use Rattle.solvable_maps.specs.Classes.{class_matrix, IsClass, first_of, IsReachedClass}
 use Rattle.solvable_maps.proofs.Classwise.{class_shared, next_is_class}
 use Rattle.closed_forms.specs.declared.errors.FormsError.{FormsError}
-use Rattle.closed_forms.specs.declared.errors.FormsError.TheVariants.{NotSolvable, Eigen, Range, WideSplit, WideForm, Memory}
+use Rattle.closed_forms.specs.declared.errors.FormsError.TheVariants.{NotSolvable, Eigen, Range, WideSplit, LimitForm, WideForm, Memory}
 use Rattle.closed_forms.specs.Refusal.{AllPass}
 use Rattle.closed_forms.specs.Splits.{groups_in, IsSplitOf, IsSplitAmong, IsSplitAt, AreSplits, AreSplitsTo, IfRefusedAt, IfRefusedMatrix}
 
@@ -41,6 +41,7 @@ refused_moved images P Q f (NotSolvable cycle) h = absurd h
 refused_moved images P Q f (Eigen class) h = (f class.items h.0, h.1)
 refused_moved images P Q f (Range class sum) h = (f class.items h.0, h.1)
 refused_moved images P Q f (WideSplit class candidate power row) h = (f class.items h.0, h.1)
+refused_moved images P Q f (LimitForm variable) h = absurd h
 refused_moved images P Q f (WideForm variable) h = absurd h
 refused_moved images P Q f Memory h = tt
 

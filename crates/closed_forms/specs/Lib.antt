@@ -13,5 +13,6 @@ pub mod ClassForms
 pub mod Put
 pub mod View
 pub mod Settling
+pub mod Lengths
 pub mod Refusal
 pub mod Limits

@@ -6,9 +6,10 @@
 --   IsLater images v, IfLater images e     that is so, where the classes' values have z zeros
 --   Refusal                 why a map has no closed forms here: the least cycle; a class that doesn't split; one whose greatest
 --                           column sum is out of range; one with a row that is too wide in its splitting; the first variable of
---                           one whose closed forms are too wide
+--                           the first one that is too long, or of one whose closed forms are too wide
+--   IsTooLong images v      all classes split, and v is the first variable of the first that is too long
 --   IfRefused images e      the cause of each: that is the least cycle; or the class is the first that is refused, and this is why
---                           its matrix isn't split; or all classes split, and the closed forms of that class are past
+--                           its matrix isn't split; or all classes split, and it is the first that is too long, or its closed forms are past
 --   refusal_in e            the refusal that an error tells; want of memory tells none;  IfRefusedBy images e: it has its cause
 use Rattle.std.specs.Prelude.{◌≡◌, ℕ, ℤ, List, length, Option, Some, None, IfSome}
 use Rattle.algebra.specs.Fraction.{Fraction}
@@ -19,15 +20,17 @@ use Rattle.solvable.specs.Refusal.{IsSolvable}
 use Rattle.solvable_maps.specs.Classes.{class_matrix, IsClass, Passes, IsFormBase, IsReachedClass}
 use Rattle.eigen_split.specs.Refusal as eigen
 use Rattle.closed_forms.specs.Known.{IsWideClass, IsWideTurn}
+use Rattle.closed_forms.specs.Lengths.{IsLong}
 use Rattle.closed_forms.specs.States.{AreZeros, IsPastState}
 use Rattle.closed_forms.specs.declared.errors.FormsError.{FormsError}
-use Rattle.closed_forms.specs.declared.errors.FormsError.TheVariants.{NotSolvable, Eigen, Range, WideSplit, WideForm, Memory}
+use Rattle.closed_forms.specs.declared.errors.FormsError.TheVariants.{NotSolvable, Eigen, Range, WideSplit, LimitForm, WideForm, Memory}
 
 pub data Refusal : Type 0 where
   not_solvable : (cycle : List ℕ) → Refusal
   eigenvalues : (class : List ℕ) → Refusal
   range : (class : List ℕ) (sum : ℤ) → Refusal
   wide_split : (class : List ℕ) (candidate : ℤ) (power row : ℕ) → Refusal
+  limit_form : (variable : ℕ) → Refusal
   wide_form : (variable : ℕ) → Refusal
 
 abbrev pub AllPass : List (Terms Fraction) → Type 0
@@ -39,6 +42,7 @@ IfOfClass Q (NotSolvable cycle) = ⊥
 IfOfClass Q (Eigen class) = ⊥
 IfOfClass Q (Range class sum) = ⊥
 IfOfClass Q (WideSplit class candidate power row) = ⊥
+IfOfClass Q (LimitForm variable) = ⊥
 IfOfClass Q (WideForm variable) = Q variable
 IfOfClass Q Memory = Unit {0}
 
@@ -63,6 +67,11 @@ pub record IsLater (images : List (Terms Fraction)) (v : ℕ) : Type 0 where
 abbrev pub IfLater : List (Terms Fraction) → FormsError → Type 0
 IfLater images e = IfOfClass (IsLater images) e
 
+pub record IsTooLong (images : List (Terms Fraction)) (v : ℕ) : Type 0 where
+  pub solvable : IsSolvable images
+  pub pass : AllPass images
+  pub long : IsLong images v
+
 pub record IsWide (images : List (Terms Fraction)) (v : ℕ) : Type 0 where
   pub solvable : IsSolvable images
   pub pass : AllPass images
@@ -77,6 +86,7 @@ IfRefused images (range class sum) =
 IfRefused images (wide_split class candidate power row) =
     IsReachedClass images class
     × eigen.IsWideAt (length class) (class_matrix images class) candidate power row
+IfRefused images (limit_form variable) = IsTooLong images variable
 IfRefused images (wide_form variable) = IsWide images variable
 
 abbrev pub refusal_in : FormsError → Option Refusal
@@ -84,6 +94,7 @@ refusal_in (NotSolvable cycle) = Some (not_solvable cycle.items)
 refusal_in (Eigen class) = Some (eigenvalues class.items)
 refusal_in (Range class sum) = Some (range class.items sum)
 refusal_in (WideSplit class candidate power row) = Some (wide_split class.items candidate power row)
+refusal_in (LimitForm variable) = Some (limit_form variable)
 refusal_in (WideForm variable) = Some (wide_form variable)
 refusal_in Memory = None
 

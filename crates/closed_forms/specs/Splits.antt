@@ -18,7 +18,7 @@ use Rattle.eigen_split.specs.declared.EigenError.{EigenError}
 use Rattle.eigen_split.specs.declared.EigenError.TheVariants as eigen_error
 use Rattle.eigen_split.specs.declared.splitting.Split.{Split}
 use Rattle.closed_forms.specs.declared.errors.FormsError.{FormsError}
-use Rattle.closed_forms.specs.declared.errors.FormsError.TheVariants.{NotSolvable, Eigen, Range, WideSplit, WideForm, Memory}
+use Rattle.closed_forms.specs.declared.errors.FormsError.TheVariants.{NotSolvable, Eigen, Range, WideSplit, LimitForm, WideForm, Memory}
 
 abbrev pub groups_in : List (Vec ℕ Global) → List (List ℕ)
 groups_in groups = map (λ g. g.items) groups
@@ -65,5 +65,6 @@ IfRefusedAt images P (Range class sum) =
     P class.items × IfRefusedMatrix images class.items (eigen_error.Range sum)
 IfRefusedAt images P (WideSplit class candidate power row) =
     P class.items × IfRefusedMatrix images class.items (eigen_error.Wide candidate power row)
+IfRefusedAt images P (LimitForm variable) = ⊥
 IfRefusedAt images P (WideForm variable) = ⊥
 IfRefusedAt images P Memory = Unit {0}

@@ -29,6 +29,12 @@ pub enum FormsError {
         power: u32,
         row: u32,
     },
+    /// The class with this first variable is the first that is too long: its polynomials multiply out to more than 2^20 terms, where each variable of an earlier class is a sum of as many terms
+    /// as its class's polynomials multiply out to, and products that are equal but for their order count once.
+    #[error("the closed form of variable {variable} is too long")]
+    LimitForm {
+        variable: usize,
+    },
     /// A number or a weight on the way from the forms of the class with this first variable, as `split` gives them, to its closed forms does not fit, or one in what these are at a number of turns;
     /// with the first variable also one in the branch after a number of turns.
     #[error("the closed form of variable {variable} is too wide")]

@@ -63,6 +63,7 @@ fn refused(alloc: Global, error: &FormsError) -> Result<String, RowError> {
             let class = places_text(alloc, class.as_slice())?;
             Ok(format!(in alloc; "wide split {candidate} {power} {row}: {class}")?)
         }
+        FormsError::LimitForm { variable } => { Ok(format!(in alloc; "limit form: {variable}")?) }
         FormsError::WideForm { variable } => { Ok(format!(in alloc; "wide form: {variable}")?) }
         FormsError::Memory => Err(RowError::Memory),
     }

@@ -128,6 +128,7 @@ reset_have_forms b l =
       is = reset_forms.each b reset_form l;
       solvable = split.0;
       pass = split.1;
+      short = split.2;
     }
 
 pub reset_late : IsFirstLate reset_loop 0

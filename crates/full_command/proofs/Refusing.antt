@@ -54,7 +54,7 @@ module _ (l : Program (Expr ℕ)) (budget : ℕ) (m : Journal) (a : Answer) wher
       wide_alone e a.status (not_exhausted l e cause)
       (refusal_kind e a.status (refusal_parts l.names budget e a says).0)
       (formed_analysed kinds.Basis l budget m a free
-      (λ b inside. let h = forms b inside in (h.solvable, h.pass))
+      (λ b inside. let h = forms b inside in (h.solvable, h.pass, h.short))
       (as_analysed l budget m a e ends says))
 
   abbrev EndsUntraced : AnalyseError → Type 0

@@ -43,7 +43,8 @@ use Rattle.rounds.proofs.Passing.{stays_of, passes_of}
 use Rattle.rounds.specs.Word.{branch_of}
 use Rattle.ideal_ops.specs.Calls as ideal
 use Rattle.solvable.specs.Refusal.{IsSolvable}
-use Rattle.closed_forms.specs.Refusal.{AllPass, Refusal, not_solvable, eigenvalues, range, wide_split, wide_form, IfRefused, IfRefusedBy}
+use Rattle.closed_forms.specs.Lengths.{IsShort}
+use Rattle.closed_forms.specs.Refusal.{AllPass, Refusal, not_solvable, eigenvalues, range, wide_split, limit_form, wide_form, IfRefused, IfRefusedBy}
 use Rattle.closed_forms.specs.View.{ArePassing, IsFormOf}
 use Rattle.closed_forms.specs.Values.{bodies_of, AreOver, IsExpoOver}
 use Rattle.closed_forms.specs.declared.Form.{Form}
@@ -256,6 +257,7 @@ module _ (program : Program (Expr ℕ)) where
     is = i.form;
     solvable = i.solvable;
     pass = i.pass;
+    short = i.short;
   }
 
   pub all_forms : (cs : List Branch) (n : ℕ) → AreBranchesTo program n cs → (b : ℕ) → b < n
@@ -267,14 +269,16 @@ module _ (program : Program (Expr ℕ)) where
   pub branch_is : (n : ℕ) (images : Vec Polynomial Global) (c : Branch)
       → IsMapIn program (suc n) images → FitsBranch (length images.items) c → c.images ≡ images
       → IsFormOf (terms_each images.items) c.form → IsSolvable (terms_each images.items)
-      → AllPass (terms_each images.items) → IsBranchOf program (suc n) c
-  branch_is n images c i f e h s p = record {
+      → AllPass (terms_each images.items) → IsShort (terms_each images.items)
+      → IsBranchOf program (suc n) c
+  branch_is n images c i f e h s p few = record {
     fits = subst (λ m. FitsBranch m c) i.count f;
     images = ap (λ (v : Vec Polynomial Global). terms_each v.items) e ∙ i.is;
     form = has_closed_form program (suc n) c.form (terms_each images.items) i.is
         (length-map images.items terms_in ∙ i.count) h;
     solvable = subst IsSolvable i.is s;
     pass = subst AllPass i.is p;
+    short = subst IsShort i.is few;
   }
 
   pub refused_here : (n : ℕ) (images : Vec Polynomial Global) (cs : List Branch) (r : Refusal)
@@ -297,6 +301,8 @@ module _ (program : Program (Expr ℕ)) where
       refused_here n images cs (range class.items sum) l i h r
   refused_at n images cs (forms_error.WideSplit class candidate power row) l i h r =
       refused_here n images cs (wide_split class.items candidate power row) l i h r
+  refused_at n images cs (forms_error.LimitForm variable) l i h r =
+      refused_here n images cs (limit_form variable) l i h r
   refused_at n images cs (forms_error.WideForm variable) l i h r =
       refused_here n images cs (wide_form variable) l i h r
   refused_at n images cs forms_error.Memory l i h r = tt

@@ -1,7 +1,7 @@
 -- Why an analysis gave no basis, over the program.
 --   analysis_error_of e                   what an analysis answers to the refusal e of a map
 --   refused_branch b e          what it answers to the refusal e of the branch b, which counts from 0
---   HasForm program b            the branch b, which counts from 1, has a closed form, and no class of its map is refused
+--   HasForm program b            the branch b, which counts from 1, has a closed form, and no class of its map is refused or too long
 --   AllHaveForms program         that is so of each branch
 --   IsRefusedBranch program b r  the branch b, which counts from 0, is the first that is refused, and r says why
 --   TellsBranch program b e      so, for the refusal that the error e tells; it isn't want of memory
@@ -29,6 +29,7 @@ use Rattle.loop_model.specs.declared.map_error.MapError.{MapError}
 use Rattle.loop_model.specs.declared.map_error.MapError.TheVariants as map_error
 use Rattle.loop_model.specs.Maps.{branches_operations, maps_operations, AreFree}
 use Rattle.solvable.specs.Refusal.{IsSolvable}
+use Rattle.closed_forms.specs.Lengths.{IsShort}
 use Rattle.closed_forms.specs.Refusal.{AllPass, Refusal, IfRefused, refusal_in}
 use Rattle.closed_forms.specs.declared.errors.FormsError.{FormsError}
 use Rattle.closed_forms.specs.declared.errors.FormsError.TheVariants as forms_error
@@ -47,6 +48,7 @@ refused_branch b (forms_error.Eigen class) = Branch b (forms_error.Eigen class)
 refused_branch b (forms_error.Range class sum) = Branch b (forms_error.Range class sum)
 refused_branch b (forms_error.WideSplit class candidate power row) =
     Branch b (forms_error.WideSplit class candidate power row)
+refused_branch b (forms_error.LimitForm variable) = Branch b (forms_error.LimitForm variable)
 refused_branch b (forms_error.WideForm variable) = Branch b (forms_error.WideForm variable)
 refused_branch b forms_error.Memory = Memory
 
@@ -56,6 +58,7 @@ module _ (program : Program (Expr ℕ)) where
     pub is : IsClosedForm program b form
     pub solvable : IsSolvable (map_of program b)
     pub pass : AllPass (map_of program b)
+    pub short : IsShort (map_of program b)
 
   abbrev pub AllHaveForms : Type 0
   AllHaveForms = (b : ℕ) → b < length program.branches → HasForm (suc b)

@@ -6,7 +6,7 @@
 --   FitsBranch m b       the parts of the branch b are over m variables, its form over its base too, which is short, and its form backward is that of its form
 --   FitsSetting s               the parts of s are over its variables, of which there are 1 to 12, and it has 1 to 6 branches
 --   IsMapIn program b images    they are the polynomials of the branch b, which counts from 1, as the analysis has them
---   IsBranchOf program b c      c has the map and a closed form of the branch b, fits, and no class of its map is refused
+--   IsBranchOf program b c      c has the map and a closed form of the branch b, fits, and no class of its map is refused or too long
 --   AreMapsTo program n maps, AreBranchesTo program n cs    that is so of the first n branches
 --   AreMaps program maps, AreBranches program cs            of all
 --   IsSettingOf program s       s has what the definitions make of the program
@@ -29,6 +29,7 @@ use Rattle.coprime_base.specs.Sizes.{sizes}
 use Rattle.expo.specs.Bases.{IsCoprimeBase}
 use Rattle.solvable.specs.Refusal.{IsSolvable}
 use Rattle.closed_forms.specs.Limits.{most_in_base}
+use Rattle.closed_forms.specs.Lengths.{IsShort}
 use Rattle.closed_forms.specs.Refusal.{AllPass}
 use Rattle.closed_forms.specs.Values as values
 use Rattle.closed_forms.specs.Values.{bodies_of}
@@ -116,6 +117,7 @@ module _ (program : Program (Expr ℕ)) where
     pub form : IsClosedForm program b (form_of c.form)
     pub solvable : IsSolvable (map_of program b)
     pub pass : AllPass (map_of program b)
+    pub short : IsShort (map_of program b)
 
   pub record AreMapsTo (n : ℕ) (maps : List (Vec FracPoly)) : Type 0 where
     pub count : length maps ≡ n

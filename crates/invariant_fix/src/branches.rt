@@ -6,6 +6,7 @@ ghost use Rattle.rounds.specs.Form.{backward};
 ghost use Rattle.polynomials.specs.Order.{grevlex};
 ghost use Rattle.loop_model.specs.Operations.{IsFree};
 ghost use Rattle.loop_model.specs.Stops.{Stops};
+ghost use Rattle.closed_forms.specs.Lengths.{IsShort};
 ghost use Rattle.closed_forms.specs.Refusal.{AllPass, IfRefusedBy};
 ghost use Rattle.closed_forms.specs.View.{IsFormOf};
 ghost use Rattle.expo.specs.declared.exponential.Expo.{Expo};
@@ -94,6 +95,7 @@ fn form_branch(alloc: Global, images: Vec<Poly<Frac, Grevlex>>) -> Result<Branch
     ensures form { IfOk result (λ b. IsFormOf (terms_each images.items) b.form) }
     ensures solvable { IfOk result (λ _. IsSolvable (terms_each images.items)) }
     ensures pass { IfOk result (λ _. AllPass (terms_each images.items)) }
+    ensures short { IfOk result (λ _. IsShort (terms_each images.items)) }
     ensures refused { IfErr result (IfRefusedBy (terms_each images.items)) }
 {
     let form = forms(alloc, &images)?;

@@ -28,7 +28,7 @@ loop-images-preserved c =
           (c.loop-images.invariant.branches program m) push
           (branch_is program n c.in-Some.images c.in-Ok.branch (subst (IsMapIn program (suc n))
           (sym t.1) (m.each n c.in-Some.images (let a = m.count in let b = t.0 in
-          omega (arith, a, b)))) ens.fits ens.images ens.form ens.solvable ens.pass));
+          omega (arith, a, b)))) ens.fits ens.images ens.form ens.solvable ens.pass ens.short));
     }
 
 pub returns-in-Err : goal.returns-in-Err

@@ -41,3 +41,6 @@ returns-clause-fits c =
 
 pub returns-clause-pass : goal.returns-clause-pass
 returns-clause-pass c = c.in_ok-form.ensures.pass refl
+
+pub returns-clause-short : goal.returns-clause-short
+returns-clause-short c = c.in_ok-form.ensures.lengths refl

@@ -1,0 +1,354 @@
+-- How long classes are, as the code counts it.
+--   of_limited              a number that is counted
+--   power_none, power_more, power_past     the powers of a sum, one factor after another
+--   power_next, power_long      the same of a count so far
+--   factor_fits             what is multiplied fits
+--   some_first, few_first, rest_lengths     the first of some lengths, and the others
+--   products_none, products_more, products_past      a product
+--   sums_none, sums_one, sums_parts, sums_past     a sum
+--   none_of_class, class_more, class_past_rest, class_past_own     a class
+--   set-count, set_lengths, some_lengths     lengths with those of a class
+--   long_not, long_or_short     a map isn't both too long and short;  single_short: one of one variable
+--   ones                    each variable is one term to begin with
+use Rattle.std.proofs.Common.{◌≡◌, ◌⊎◌, inl, inr, ℕ, zero, suc, ◌+◌, ◌-◌, ◌*◌, ◌/◌, ◌^◌, ◌<◌, ◌≤◌, List, [], ◌∷◌, ◌++◌, T, length, set, replicate, Vec, Global, All, refl, sym, ap, ap₂, subst, ◌∙◌, arith, Option, Some, None}
+use native.Mathlib.Nat as N
+use Rattle.std.specs.Prelude.{MatchOption}
+use Rattle.std.proofs.Math.Nat.{le-div_iff_mul-le}
+use Rattle.std.proofs.lemmas.List.{length-set}
+use Rattle.algebra.proofs.RatioLaws.{mul-pos}
+use Rattle.algebra.specs.Fraction.{Fraction}
+use Rattle.polynomials.specs.Terms.{Terms}
+use Rattle.expansion.specs.Counts.{most_terms, IsCount}
+use Rattle.expansion.proofs.Counting.{most_is, one_fits, count_of, of_zero}
+use Rattle.algebra.specs.Each.{Each}
+use Rattle.solvable_maps.specs.Classes.{IsClass, first_of}
+use Rattle.solvable_maps.proofs.Classwise.{class_some}
+use Rattle.solvable.specs.Refusal.{AreClassesOf}
+use Rattle.closed_forms.specs.Splits.{groups_in}
+use Rattle.closed_forms.proofs.Splitting.{classes_are}
+use Rattle.solvable_maps.specs.Class.{IsClassOf, IsNext, AreClasses}
+use Rattle.solvable_maps.specs.Uses.{uses, poly_at}
+use Rattle.solvable_maps.proofs.Classes.{classes_one, reached_within}
+use Rattle.closed_forms.specs.Lengths.{AreLengths, power_length, product_length, sum_length, class_length, with_length, at_least_one, with_class, IsLongAmong, AreShort, IsLong, IsShort}
+
+pub of_limited : (n : ℕ) (o : Option ℕ) → IsCount (n + 0) o → IsCount n o
+of_limited n o h = count_of (n + 0) n o (N.add-zero n) h
+
+-- ---- powers
+pub power_none : (n : ℕ) → power_length n 0 ≡ 1
+unfolding power_length
+power_none n = refl
+
+power_step : (n e : ℕ) → power_length n (suc e) ≡ power_length n e * (n + e) / (e + 1)
+unfolding power_length
+power_step n e = refl
+
+pub power_more : (n e : ℕ) → power_length n (e + 1) ≡ power_length n e * (n + e) / (e + 1)
+power_more n e = let o : e + 1 ≡ suc e = omega arith in ap (power_length n) o ∙ power_step n e
+
+grown : (c n e : ℕ) → 0 < n → c ≤ c * (n + e) / (e + 1)
+grown c n e h =
+    (le-div_iff_mul-le (let o : zero < e + 1 = omega arith in o)).1
+    (N.mul-le-mul_left c (let o : e + 1 ≤ n + e = omega (arith, h) in o))
+
+pub power_later : (n e k : ℕ) → 0 < n → power_length n e ≤ power_length n (e + k)
+power_later n e zero h = let o : e + 0 ≡ e = omega arith in N.le_of_eq (sym (ap (power_length n) o))
+power_later n e (suc k) h =
+    let before = power_later n e k h in
+    let more = power_more n (e + k) in
+    let step = grown (power_length n (e + k)) n (e + k) h in
+    let o : e + suc k ≡ e + k + 1 = omega arith in
+    let last = ap (power_length n) o in omega (arith, before, more, step, last)
+
+pub power_past : (n e f : ℕ) → 0 < n → e ≤ f → most_terms < power_length n e
+    → most_terms < power_length n f
+power_past n e f h l past =
+    let o : e + (f - e) ≡ f = omega (arith, l) in
+    let later = power_later n e (f - e) h in
+    let last = ap (power_length n) o in omega (arith, past, later, last)
+
+power_some : (n e : ℕ) → 0 < n → 0 < power_length n e
+power_some n e h =
+    let o : 0 + e ≡ e = omega arith in
+    let later = power_later n 0 e h in
+    let last = ap (power_length n) o in
+    let first = power_none n in omega (arith, later, last, first)
+
+-- what is next, where the count so far is at most the limit, and what it says where it isn't
+pub power_next : (n e found next : ℕ) → found ≡ power_length n e
+    → next ≡ found * (n + e) / (e + 1) → next ≡ power_length n (e + 1)
+power_next n e found next is f =
+    f ∙ ap (λ x. x * (n + e) / (e + 1)) is ∙ sym (power_more n e)
+
+pub power_long : (n e times found : ℕ) → 0 < n → e < times → found ≡ power_length n e
+    → most_terms < found * (n + e) / (e + 1) → most_terms < power_length n times
+power_long n e times found h l is past =
+    power_past n (e + 1) times h (let o : e + 1 ≤ times = omega (arith, l) in o)
+    (subst (λ k. most_terms < k)
+    (power_next n e found (found * (n + e) / (e + 1)) is refl) past)
+
+-- ---- what is multiplied fits
+pub factor_fits : (a b : ℕ) → a ≤ most_terms → b ≤ most_terms + 65536 → a * b < 2 ^ 64
+factor_fits a b h l =
+    let e = most_is in
+    let x : a * b ≤ 1048576 * 1114112 = N.mul-le-mul (let o : a ≤ 1048576 = omega (arith, h, e) in
+    o)
+    (let o : b ≤ 1114112 = omega (arith, l, e) in o) in
+    omega (arith, x)
+
+-- ---- lengths of sums
+pub some_first : (n : ℕ) (ns all : List ℕ) → all ≡ n ∷ ns → AreLengths all → 0 < n
+some_first n ns all e are = (subst AreLengths e are).0
+
+pub few_first : (n : ℕ) (ns all : List ℕ) → all ≡ n ∷ ns → AreLengths all → n ≤ most_terms
+few_first n ns all e are = (subst AreLengths e are).1
+
+pub rest_lengths : (n : ℕ) (ns all : List ℕ) → all ≡ n ∷ ns → AreLengths all → AreLengths ns
+rest_lengths n ns all e are = (subst AreLengths e are).2
+
+-- ---- products
+pub products_none : (ns e : List ℕ) → (length ns ≡ 0) ⊎ (length e ≡ 0) → 1 ≡ product_length ns e
+unfolding product_length
+products_none [] e h = refl
+products_none (n ∷ ns) [] h = refl
+products_none (n ∷ ns) (k ∷ e) (inl h) = absurd (omega (arith, h))
+products_none (n ∷ ns) (k ∷ e) (inr h) = absurd (omega (arith, h))
+
+products_some : (ns e : List ℕ) → AreLengths ns → 0 < product_length ns e
+unfolding product_length
+products_some [] e h = omega arith
+products_some (n ∷ ns) [] h = omega arith
+products_some (n ∷ ns) (k ∷ e) h = mul-pos (power_length n k) (product_length ns e)
+    (power_some n k h.0) (products_some ns e h.2)
+
+products-cons : (n : ℕ) (ns : List ℕ) (k : ℕ) (e : List ℕ)
+    → product_length (n ∷ ns) (k ∷ e) ≡ power_length n k * product_length ns e
+unfolding product_length
+products-cons n ns k e = refl
+
+at_least : (x y : ℕ) → 0 < y → x ≤ x * y
+at_least x y h = subst (λ z. z ≤ x * y) (N.mul-one x) (N.mul-le-mul_left x (let o : 1 ≤ y =
+    omega (arith, h) in o))
+
+at_least_right : (x y : ℕ) → 0 < x → y ≤ x * y
+at_least_right x y h = subst (λ z. y ≤ z) (N.mul_comm y x) (at_least y x h)
+
+pub products_more : (n : ℕ) (ns all : List ℕ) (k : ℕ) (e whole : List ℕ) (rest power : ℕ)
+    (o : Option ℕ) → all ≡ n ∷ ns → whole ≡ k ∷ e → rest ≡ product_length ns e
+    → power ≡ power_length n k → IsCount (power * rest) o → IsCount (product_length all whole) o
+products_more n ns all k e whole rest power o f g r p h =
+    count_of (power * rest) (product_length all whole) o
+    (ap₂ ◌*◌ p r ∙ sym (products-cons n ns k e) ∙ sym (ap₂ product_length f g)) h
+
+pub products_past : (n : ℕ) (ns all : List ℕ) (k : ℕ) (e whole : List ℕ) → all ≡ n ∷ ns
+    → whole ≡ k ∷ e → AreLengths all
+    → (most_terms < product_length ns e) ⊎ (most_terms < power_length n k)
+    → most_terms < product_length all whole
+products_past n ns all k e whole f g are h =
+    let cut = subst AreLengths f are in
+    let is = ap₂ product_length f g ∙ products-cons n ns k e in
+    let left = at_least (power_length n k) (product_length ns e) (products_some ns e cut.2) in
+    let right = at_least_right (power_length n k) (product_length ns e) (power_some n k cut.0) in
+    elim h [
+      | inl past ↦ omega (arith, is, right, past)
+      | inr past ↦ omega (arith, is, left, past)
+    ]
+
+-- ---- sums
+sums-append : (p q : Terms Fraction) (ns : List ℕ)
+    → sum_length (p ++ q) ns ≡ sum_length p ns + sum_length q ns
+unfolding sum_length
+sums-append [] q ns = sym (N.zero-add (sum_length q ns))
+sums-append (t ∷ p) q ns = let rest = sums-append p q ns in omega (arith, rest)
+
+pub sums_none : (ns : List ℕ) → sum_length [] ns ≡ 0
+unfolding sum_length
+sums_none ns = refl
+
+pub sums_one : (t : List ℕ × Fraction) (ns : List ℕ) → product_length ns t.0
+    ≡ sum_length (t ∷ []) ns
+unfolding sum_length
+sums_one t ns = sym (N.add-zero (product_length ns t.0))
+
+pub sums_past : (ts front back : Terms Fraction) (ns : List ℕ) → front ++ back ≡ ts
+    → (most_terms < sum_length front ns) ⊎ (most_terms < sum_length back ns)
+    → most_terms < sum_length ts ns
+sums_past ts front back ns e h =
+    let f = ap (λ p. sum_length p ns) (sym e) ∙ sums-append front back ns in
+    elim h [ inl past ↦ omega (arith, f, past) | inr past ↦ omega (arith, f, past) ]
+
+pub sums_parts : (ts front back : Terms Fraction) (ns : List ℕ) (left right : ℕ) (o : Option ℕ)
+    → front ++ back ≡ ts → left ≡ sum_length front ns → right ≡ sum_length back ns
+    → IsCount (left + right) o → IsCount (sum_length ts ns) o
+sums_parts ts front back ns left right o e l r h =
+    count_of (left + right) (sum_length ts ns) o
+    (ap₂ ◌+◌ l r ∙ sym (sums-append front back ns) ∙ ap (λ p. sum_length p ns) e) h
+
+-- ---- classes
+module _ (images : List (Terms Fraction)) where
+  class_none : (g ns : List ℕ) → length g ≡ 0 → class_length images g ns ≡ 0
+  unfolding class_length
+  class_none [] ns e = refl
+  class_none (i ∷ g) ns e = absurd (omega (arith, e))
+
+  pub none_of_class : (g ns : List ℕ) → length g ≡ 0 → (0 ≡ class_length images g ns)
+      × (class_length images g ns ≤ most_terms)
+  none_of_class g ns e = of_zero (class_length images g ns) (class_none g ns e)
+
+  pub class-cons : (i : ℕ) (g ns : List ℕ) → class_length images (i ∷ g) ns
+      ≡ sum_length (poly_at images i) ns + class_length images g ns
+  unfolding class_length
+  class-cons i g ns = refl
+
+  pub class_past_rest : (i : ℕ) (g all ns : List ℕ) → all ≡ i ∷ g
+      → most_terms < class_length images g ns → most_terms < class_length images all ns
+  class_past_rest i g all ns e past =
+      let is = ap (λ x. class_length images x ns) e ∙ class-cons i g ns in omega (arith, is, past)
+
+  pub class_past_own : (i : ℕ) (g all ns : List ℕ) (p : Terms Fraction) → all ≡ i ∷ g
+      → p ≡ poly_at images i → most_terms < sum_length p ns
+      → most_terms < class_length images all ns
+  class_past_own i g all ns p e f past =
+      let is = ap (λ x. class_length images x ns) e ∙ class-cons i g ns in
+      let own = ap (λ x. sum_length x ns) f in omega (arith, is, own, past)
+
+  pub class_more : (i : ℕ) (g all ns : List ℕ) (p : Terms Fraction) (own rest : ℕ) (o : Option ℕ)
+      → all ≡ i ∷ g → p ≡ poly_at images i → own ≡ sum_length p ns
+      → rest ≡ class_length images g ns → IsCount (own + rest) o
+      → IsCount (class_length images all ns) o
+  class_more i g all ns p own rest o e f l r h =
+      count_of (own + rest) (class_length images all ns) o
+      (ap₂ ◌+◌ (l ∙ ap (λ x. sum_length x ns) f) r ∙ sym (class-cons i g ns)
+      ∙ sym (ap (λ x. class_length images x ns) e)) h
+
+-- ---- lengths with those of a class
+pub with_none : (g : List ℕ) (n : ℕ) (ns : List ℕ) → length g ≡ 0 → ns ≡ with_length g n ns
+with_none [] n ns e = refl
+with_none (i ∷ g) n ns e = absurd (omega (arith, e))
+
+pub with_more : (i : ℕ) (g all : List ℕ) (n : ℕ) (ns mid new : List ℕ) → all ≡ i ∷ g
+    → mid ≡ set ns i n → new ≡ with_length g n mid → new ≡ with_length all n ns
+with_more i g all n ns mid new e f h =
+    h ∙ ap (with_length g n) f ∙ sym (ap (λ x. with_length x n ns) e)
+
+pub set-count : (g : List ℕ) (n : ℕ) (ns : List ℕ) → length (with_length g n ns) ≡ length ns
+set-count [] n ns = refl
+set-count (i ∷ g) n ns = set-count g n (set ns i n) ∙ length-set ns i n
+
+set_all : (ns : List ℕ) (i n : ℕ) → (0 < n) × (n ≤ most_terms) → AreLengths ns
+    → AreLengths (set ns i n)
+set_all [] i n h are = are
+set_all (m ∷ ns) zero n h are = (h.0, h.1, are.2)
+set_all (m ∷ ns) (suc i) n h are = (are.0, are.1, set_all ns i n h are.2)
+
+pub set_lengths : (g : List ℕ) (n : ℕ) (ns : List ℕ) → (0 < n) × (n ≤ most_terms) → AreLengths ns
+    → AreLengths (with_length g n ns)
+set_lengths [] n ns h are = are
+set_lengths (i ∷ g) n ns h are = set_lengths g n (set ns i n) h (set_all ns i n h are)
+
+pub some_lengths : (n : ℕ) → n ≤ most_terms → (0 < at_least_one n) × (at_least_one n ≤ most_terms)
+some_lengths zero h = (omega arith, one_fits)
+some_lengths (suc n) h = (omega arith, h)
+
+pub least_none : (n : ℕ) → n ≡ 0 → 1 ≡ at_least_one n
+least_none zero e = refl
+least_none (suc n) e = absurd (cc)
+
+pub least_some : (n : ℕ) → ¬ (n ≡ 0) → n ≡ at_least_one n
+least_some zero e = absurd (e refl)
+least_some (suc n) e = refl
+
+-- ---- one class after another
+module _ (images : List (Terms Fraction)) where
+  pub among_none : (groups : List (List ℕ)) (ns : List ℕ) → length groups ≡ 0
+      → AreShort images groups ns
+  among_none [] ns e = tt
+  among_none (g ∷ groups) ns e = absurd (omega (arith, e))
+
+  pub among_here : (g : List ℕ) (groups all : List (List ℕ)) (ns : List ℕ) (v : ℕ)
+      → all ≡ g ∷ groups → first_of g ≡ v → most_terms < class_length images g ns
+      → IsLongAmong images all ns v
+  among_here g groups all ns v e f h = subst (λ x. IsLongAmong images x ns v) (sym e) (inl (f, h))
+
+  pub among_later : (g : List ℕ) (groups all : List (List ℕ)) (ns new : List ℕ) (o : Option ℕ)
+      → all ≡ g ∷ groups → class_length images g ns ≤ most_terms → new ≡ with_class images g ns
+      → MatchOption o (AreShort images groups new) (IsLongAmong images groups new)
+      → MatchOption o (AreShort images all ns) (IsLongAmong images all ns)
+  among_later g groups all ns new None e few is h =
+      subst (λ x. AreShort images x ns) (sym e) (few, subst (AreShort images groups) is h)
+  among_later g groups all ns new (Some v) e few is h =
+      subst (λ x. IsLongAmong images x ns v) (sym e)
+      (inr (few, subst (λ x. IsLongAmong images groups x v) is h))
+
+  -- the lengths with one class more
+  pub class_counted : (g : List ℕ) (ns new : List ℕ) (terms clamped : ℕ)
+      → terms ≡ class_length images g ns → clamped ≡ at_least_one terms
+      → new ≡ with_length g clamped ns → new ≡ with_class images g ns
+  class_counted g ns new terms clamped e f h =
+      h ∙ ap (λ n. with_length g n ns) (f ∙ ap at_least_one e)
+
+  pub lengths_counted : (g : List ℕ) (ns new : List ℕ) → class_length images g ns ≤ most_terms
+      → new ≡ with_class images g ns → AreLengths ns → AreLengths new
+  lengths_counted g ns new few is are =
+      subst AreLengths (sym is) (set_lengths g (at_least_one (class_length images g ns)) ns
+      (some_lengths (class_length images g ns) few) are)
+
+  pub count_counted : (g : List ℕ) (ns new : List ℕ) → new ≡ with_class images g ns
+      → length new ≡ length ns
+  count_counted g ns new is =
+      ap length is ∙ set-count g (at_least_one (class_length images g ns)) ns
+
+  -- each has a variable
+  pub each_some : (groups : List (Vec ℕ Global)) → Each (IsClass images) (groups_in groups)
+      → All (λ (g : Vec ℕ Global). 0 < length g.items) groups
+  unfolding Each
+  each_some [] h k d l = absurd (omega (arith, l))
+  each_some (g ∷ groups) h zero d l = class_some images g.items h.0
+  each_some (g ∷ groups) h (suc k) d l = each_some groups h.1 k d (omega (arith, l))
+
+  pub classes_some : (groups : List (Vec ℕ Global)) → AreClassesOf images groups
+      → All (λ (g : Vec ℕ Global). 0 < length g.items) groups
+  classes_some groups h = each_some groups (classes_are images [] (groups_in groups) h)
+
+-- ---- to begin with
+pub ones : (n : ℕ) → AreLengths (replicate n 1)
+ones zero = tt
+ones (suc n) = (omega arith, one_fits, ones n)
+
+-- ---- a map isn't both
+pub long_not : (images : List (Terms Fraction)) (groups : List (List ℕ)) (ns : List ℕ) (v : ℕ)
+    → IsLongAmong images groups ns v → AreShort images groups ns → ⊥
+long_not images [] ns v h s = h
+long_not images (g ∷ groups) ns v (inl h) s =
+    let more = h.1 in let few = s.0 in omega (arith, more, few)
+long_not images (g ∷ groups) ns v (inr h) s =
+    long_not images groups (with_class images g ns) v h.1 s.1
+
+module _ (images : List (Terms Fraction)) (bounded : (i j : ℕ) → T (uses images i j)
+    → (i < length images) × (j < length images)) where
+  pub long_or_short : (v : ℕ) → IsLong images v → IsShort images → ⊥
+  long_or_short v l s =
+      long_not images l.groups (replicate (length images) 1) v l.long
+      (subst (λ gs. AreShort images gs (replicate (length images) 1))
+      (classes_one (uses images) (length images) bounded s.groups l.groups [] s.are l.are) s.short)
+
+  -- one of one variable
+  pub single_short : length images ≡ 1 → IsClassOf (uses images) 1 0 (0 ∷ [])
+      → class_length images (0 ∷ []) (1 ∷ []) ≤ most_terms → IsShort images
+  single_short size class few = record {
+    groups = (0 ∷ []) ∷ [];
+    are = subst (λ m. AreClasses (uses images) m [] ((0 ∷ []) ∷ [])) (sym size)
+        (0, next, class, λ i l. inl (omega (arith, l)));
+    short = subst (λ m. AreShort images ((0 ∷ []) ∷ []) (replicate m 1)) (sym size) (few, tt);
+  }
+    where
+      next : IsNext (uses images) 1 [] 0
+      next = record {
+        within = omega arith;
+        ready = record {
+          new = λ i. i;
+          inside = λ j r. inl (inl (let l = (reached_within (uses images) (length images) bounded 0
+              j r).1 in omega (arith, l, size)));
+        };
+        least = λ j l r. omega arith;
+      }

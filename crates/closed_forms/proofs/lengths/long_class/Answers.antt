@@ -1,0 +1,20 @@
+use Rattle.std.proofs.Common.{length, sym, ap, subst}
+use Rattle.poly.specs.Seen.{terms_each}
+use Rattle.closed_forms.specs.Lengths.{AreLengths}
+use Rattle.closed_forms.proofs.Forming.{groups_inside}
+use Rattle.closed_forms.proofs.LengthLaws.{ones, classes_some}
+use Rattle.closed_forms.proofs.lengths.long_class.Goals as goal
+
+pub first_long-requires-clause-sums : goal.first_long-requires-clause-sums
+first_long-requires-clause-sums c =
+    subst AreLengths (sym (c.in_ok-sums.ensures.items_if_clones_equal (λ y h. h)))
+    (ones c.len.result)
+
+pub first_long-requires-clause-some : goal.first_long-requires-clause-some
+first_long-requires-clause-some c =
+    classes_some (terms_each c.args.images.now.items) c.args.groups.now c.requires
+
+pub first_long-requires-clause-inside : goal.first_long-requires-clause-inside
+first_long-requires-clause-inside c =
+    groups_inside c.args.images.now.items c.args.groups.now (length c.as_slice.result.now)
+    (sym (ap length c.as_slice.ensures.value)) c.requires
