@@ -11,3 +11,4 @@ pub mod DegreeTold
 pub mod DegreeShown
 pub mod DegreeDecided
 pub mod DegreePromises
+pub mod DegreeWorked

@@ -13,6 +13,7 @@ pub mod decide_laws;
 mod decide_texts;
 mod degree_arguments;
 mod degree_command;
+pub mod degree_laws;
 mod degree_texts;
 mod evidence;
 mod exhausted;

@@ -49,7 +49,8 @@ module _ {X : Type 0} (f : ℕ → List X) where
 
   pub longer_below : (s t : ℕ) → s ≤ t → length (join_below f s) ≤ length (join_below f t)
   unfolding join_below
-  longer_below s zero l = subst (λ k. length (join_below f k) ≤ 0) (let e : 0 ≡ s = omega arith in e) (omega arith)
+  longer_below s zero l = subst (λ k. length (join_below f k) ≤ 0) (let e : 0 ≡ s = omega arith in
+      e) (omega arith)
   longer_below s (suc t) l = go (cases_lt t s) (λ k. longer_below s t k)
     where
       go : (t < s) ⊎ (s ≤ t) → (s ≤ t → length (join_below f s) ≤ length (join_below f t))

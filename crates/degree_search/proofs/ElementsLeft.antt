@@ -18,7 +18,7 @@ use Rattle.closures.proofs.Monomials.{are_monomials_up_to}
 use Rattle.residues.specs.Modulus.{modulus}
 use Rattle.residues.specs.EchelonForm.{Led, IsEchelonOf}
 use Rattle.degree_search.specs.Causes.{HasNoElement}
-use Rattle.degree_search.specs.ElementParts.{IsElementOf}
+use Rattle.degree_search.specs.ElementParts.{IsElementOf, LeadsElement}
 use Rattle.degree_search.specs.Elements.{IsValueRow, IsZeroRow, IsCandidate, standard_in}
 use Rattle.degree_search.specs.Limits.{most_monomials}
 use Rattle.degree_search.specs.Sampling.{IsAt}
@@ -82,7 +82,8 @@ module _ (program : Program (Expr ℕ)) (d : ℕ) (ps : List Part) (s : Sampling
     }
 
     module _ (column : ℕ) (within : column < length es) (e : List ℕ)
-        (is : e ≡ get_or es column []) (enough : ¬ (GoesOn (length (monomials program d)) ps)) where
+        (is : e ≡ get_or es column []) (leads : LeadsElement (pos modulus) es ls column)
+        (enough : ¬ (GoesOn (length (monomials program d)) ps)) where
       pub no_element_at : ((p : Terms Fraction) → IsPolynomial ℚ grevlex n p
           → IsCandidate (pos modulus) es ls column p
           → ¬ (Each (IsZeroRow (pos modulus) es p) (rows_of ps)))
@@ -97,6 +98,7 @@ module _ (program : Program (Expr ℕ)) (d : ℕ) (ps : List Part) (s : Sampling
         column = column;
         within = subst (λ (fs : List (List ℕ)). column < length fs) a.listed within;
         is = is ∙ ap (λ fs. get_or fs column []) a.listed;
+        leads = subst (λ fs. LeadsElement (pos modulus) fs ls column) a.listed leads;
         arity =
             ap length is
             ∙ each_in (λ e. length e ≡ length program.names) es (get_or es column [])
@@ -126,15 +128,16 @@ module _ (program : Program (Expr ℕ)) (d : ℕ) (ps : List Part) (s : Sampling
           (subst (λ ds. Each (IsElementOf (pos modulus) ds ls (length ds)) gs) same told)
 
       pub none_left : (column : ℕ) (e x : List ℕ) → column < length fs → e ≡ get_or es column x
-          → ¬ (GoesOn (length (monomials program d)) ps)
+          → LeadsElement (pos modulus) fs ls column → ¬ (GoesOn (length (monomials program d)) ps)
           → ((given : List (List ℤ)) (p : Terms Fraction)
           → IsEchelonOf (pos modulus) s.echelon.width given ls → IsPolynomial ℚ grevlex n p
           → IsCandidate (pos modulus) fs ls column p
           → ¬ (Each (IsZeroRow (pos modulus) fs p) given))
           → HasNoElement program d (entries_of ps) e
-      none_left column e x within is enough none =
+      none_left column e x within is leads enough none =
           let low = subst (λ (ds : List (List ℕ)). column < length ds) same within in
-          no_element_at column low e (is ∙ get_or_default es column x [] low) enough
+          no_element_at column low e (is ∙ get_or_default es column x [] low)
+          (subst (λ ds. LeadsElement (pos modulus) ds ls column) same leads) enough
           (λ p poly candidate zeros.
           none (rows_of ps) p a.echelon poly
           (subst (λ ds. IsCandidate (pos modulus) ds ls column p) (sym same) candidate)

@@ -56,7 +56,7 @@ find_divisor (g ∷ gs) e h = go (divides (lead_of g) e) refl h (find_divisor gs
     go false is k f =
         let r = f k in record { by = r.by; within = inr r.within; divides_it = r.divides_it }
 
-none_divides : (gs : List (Terms Fraction)) (e : List ℕ)
+pub none_divides : (gs : List (Terms Fraction)) (e : List ℕ)
     → has_divisor (map lead_of gs) e ≡ false → Each (λ g. divides (lead_of g) e ≡ false) gs
 unfolding Each
 none_divides [] e h = tt

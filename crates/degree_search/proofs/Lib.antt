@@ -10,10 +10,14 @@ mod Shares
 mod Spans
 mod Clean
 mod Leads
+mod Leading
 mod Untold
 mod Steps
 mod Parts
-mod Countered
+pub mod Countered
+pub mod TwoRows
+pub mod TwoSamples
+pub mod Squaring
 mod Reduced
 mod ZeroRows
 mod Stopped

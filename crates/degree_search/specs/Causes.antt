@@ -11,7 +11,7 @@
 --   HasNoPivot program d es        in the row of the sample that comes last what isn't a combination of the rows before has no inverse for its first number
 --   HasNoNews program d es         the row of the run with the word that counters the list, in a closing that has ended so, is a combination of the rows before, or has no such inverse
 --   IsNoSample program d es        one of these, or a coefficient of a map has no residue
---   HasNoElement program d es e    enough samples were taken, and no polynomial with the lead e, of standard monomials besides, is an invariant with numbers whose numerators and denominators are at most 2^62
+--   HasNoElement program d es e    enough samples were taken, e leads an element by an echelon form of their rows, and no polynomial with the lead e, of standard monomials besides, is an invariant with numbers whose numerators and denominators are at most 2^62
 use Rattle.std.specs.Prelude.{◌≡◌, ◌⊎◌, ℕ, ◌+◌, ◌<◌, ℤ, pos, List, [], ◌∷◌, ◌++◌, length, get_or}
 use Rattle.algebra.specs.Fraction.{Fraction, ℚ}
 use Rattle.polynomials.specs.Order.{grevlex}
@@ -28,6 +28,7 @@ use Rattle.closing.specs.Progress as progress
 use Rattle.residues.specs.Modulus.{modulus}
 use Rattle.residues.specs.EchelonForm.{Led, IsEchelonOf, IsStuck}
 use Rattle.degree_search.specs.Modulo.{HasNoMapsModulo}
+use Rattle.degree_search.specs.ElementParts.{LeadsElement}
 use Rattle.degree_search.specs.Elements.{IsCandidate}
 use Rattle.degree_search.specs.Search.{Part, samples_of, rows_of, entries_of, GoesOn, monomials, word_of, IsRow, HasLeft, IsSearch}
 
@@ -132,6 +133,7 @@ module _ (program : Program (Expr ℕ)) (d : ℕ) where
       pub column : ℕ
       pub within : column < length (monomials program d)
       pub is : e ≡ get_or (monomials program d) column []
+      pub leads : LeadsElement (pos modulus) (monomials program d) form column
       pub arity : length e ≡ length program.names
       pub none : (p : Terms Fraction) → IsPolynomial ℚ grevlex (length program.names) p
           → IsCandidate (pos modulus) (monomials program d) form column p → ¬ (Inv program p)

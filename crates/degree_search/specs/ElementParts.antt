@@ -6,17 +6,18 @@
 --   Falls ks                 each column is above all later ones
 --   IsElementTo q es ls c i p     the terms of the rows that lead in the columns from i on to c
 --   IsElementOf q es ls c g       an element of a column before c
+--   LeadsElement q es ls c        the monomial of the column c leads an element: no row leads there, and no lead of an element of a column before divides it
 --   HasNoFraction q x        the opposite of x has no limited fraction modulo q;  IsTold q x f: it has f, and is no multiple of q
 --   IsUntold q ls c          an entry of the column c has none
 --   IsPushed q e x olds news     behind olds is the monomial e with the opposite of x, unless that is 0
 --   has_divisor ls e         some of the monomials ls divides e
-use Rattle.std.specs.Prelude.{◌≡◌, ◌<◌, ◌≤◌, ◌⊎◌, ◌++◌, ℕ, ℤ, pos, ◌+ℤ◌, neg_ℤ, Bool, false, ◌||◌, List, [], ◌∷◌, map, get_or}
+use Rattle.std.specs.Prelude.{◌≡◌, ◌≢◌, ◌<◌, ◌≤◌, ◌⊎◌, ◌++◌, ℕ, ℤ, pos, ◌+ℤ◌, neg_ℤ, Bool, false, ◌||◌, List, [], ◌∷◌, map, get_or}
 use Rattle.std.specs.List.{AllZip}
 use Rattle.algebra.specs.Each.{Each}
 use Rattle.algebra.specs.In.{In}
 use Rattle.algebra.specs.Fraction.{Fraction, ℚ}
 use Rattle.polynomials.specs.Terms.{Terms}
-use Rattle.machines.specs.Cut.{divides}
+use Rattle.machines.specs.Cut.{divides, lead_of}
 use Rattle.closures.specs.Modulo.{IsMultiple, AreCongruent}
 use Rattle.residues.specs.Limited.{IsFractionOf}
 use Rattle.residues.specs.EchelonForm.{dot, entry, pick, Led, leads_in}
@@ -61,6 +62,11 @@ pub record IsElementOf (q : ℤ) (es : List (List ℕ)) (ls : List Led) (c : ℕ
   pub column : ℕ
   pub low : column < c
   pub is : IsElementTo q es ls column 0 g
+
+pub record LeadsElement (q : ℤ) (es : List (List ℕ)) (ls : List Led) (c : ℕ) : Type 0 where
+  pub free : Each (λ l. l.lead ≢ c) ls
+  pub undivided : (g : Terms Fraction) → IsElementOf q es ls c g
+      → divides (lead_of g) (get_or es c []) ≡ false
 
 pub record HasNoFraction (q x : ℤ) : Type 0 where
   pub number : ℤ

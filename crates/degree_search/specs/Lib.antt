@@ -10,3 +10,4 @@ pub mod Causes
 pub mod Found
 pub mod Sampling
 pub mod Closings
+pub mod Worked

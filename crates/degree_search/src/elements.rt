@@ -16,7 +16,7 @@ ghost use Rattle.poly.specs.View.{terms_of};
 ghost use Rattle.residues.specs.Modulus.{modulus};
 ghost use Rattle.residues.specs.EchelonForm.{entry, leads_in, IsEchelonOf, IsKept};
 ghost use Rattle.residues.specs.Numbers.{numbers_of};
-ghost use Rattle.degree_search.specs.ElementParts.{IsElementOf, IsElementTo, IsUntold, IsPushed, HasNoFraction, has_divisor};
+ghost use Rattle.degree_search.specs.ElementParts.{IsElementOf, IsElementTo, LeadsElement, IsUntold, IsPushed, HasNoFraction, has_divisor};
 ghost use Rattle.degree_search.specs.Elements.{IsValueRow, IsZeroRow, IsCandidate, standard_in};
 
 use frac128::Frac;
@@ -60,7 +60,7 @@ impl<T: Drop> From<AllocFailed<T>> for ElementsError {
 
 /// The elements that the form tells, each with another lead, in ascending order of these: of the monomials in which no row leads those that no lead before divides.
 /// `monomials` are those of the columns, in ascending order.
-/// `Wide { lead }` only where no polynomial with the lead at that place, of standard monomials besides and of limited numbers, is 0 wherever the rows were taken.
+/// `Wide { lead }` only where the monomial at that place leads an element, and no polynomial with this lead, of standard monomials besides and of limited numbers, is 0 wherever the rows were taken.
 pub fn elements_of(
     alloc: Global,
     arity: usize,
@@ -84,6 +84,8 @@ pub fn elements_of(
         (standard_in monomials.now echelon.now.rows)) }
     ensures place { (lead : ℕ) → IsErrOf result (ElementsError.Wide lead)
         → lead < length monomials.now }
+    ensures leads { (lead : ℕ) → IsErrOf result (ElementsError.Wide lead)
+        → LeadsElement (pos modulus) monomials.now echelon.now.rows lead }
     ensures wide { (lead : ℕ) → IsErrOf result (ElementsError.Wide lead)
         → (given : List (List ℤ)) (p : Terms Fraction)
         → IsEchelonOf (pos modulus) echelon.now.width given echelon.now.rows

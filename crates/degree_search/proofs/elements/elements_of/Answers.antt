@@ -7,9 +7,10 @@ use Rattle.algebra.specs.In.{In}
 use Rattle.machines.specs.Cut.{lead_of}
 use Rattle.poly.specs.Seen.{terms_in, terms_each}
 use Rattle.residues.specs.Modulus.{modulus}
-use Rattle.residues.specs.EchelonForm.{leads_in, IsEchelonOf}
-use Rattle.degree_search.specs.ElementParts.{has_divisor}
+use Rattle.residues.specs.EchelonForm.{leads_in, IsEchelonOf, IsKept}
+use Rattle.degree_search.specs.ElementParts.{LeadsElement, has_divisor}
 use Rattle.degree_search.specs.Elements.{IsCandidate}
+use Rattle.degree_search.proofs.Leading.{leads_at}
 use Rattle.degree_search.proofs.Leads.{IsFoundTo, found_first, found_no, found_push, found_tidy, found_standard}
 use Rattle.degree_search.proofs.Steps.{no_one, leads_wide, leads_some, found_all, mono_read}
 use Rattle.degree_search.proofs.Untold.{no_candidate}
@@ -51,6 +52,26 @@ returns-in_err-element_at-clause-wide c =
     q poly
     (subst (λ k. IsCandidate (pos modulus) c.args.monomials.now c.args.echelon.now.rows k q) w.0
     can)
+
+pub returns-in_err-element_at-clause-leads : goal.returns-in_err-element_at-clause-leads
+returns-in_err-element_at-clause-leads c =
+    let p = err_from_is_err_and c.from_residual.result c.from_residual.ensures.1 in
+    let es = c.args.monomials.now in
+    let ls = c.args.echelon.now.rows in
+    let olds = c.loop-column.elements.items in
+    let mono = mono_read es c.loop-column.column c.index-monomials-column.result
+    c.loop-column-test.true c.index-monomials-column.is in
+    λ lead h.
+    let w = c.in_err-element_at.ensures.wide lead (cc (p.1, p.2, h)) in
+    subst (LeadsElement (pos modulus) es ls) (sym w.0)
+    (leads_at (pos modulus) no_one (length es) es ls
+    (subst (λ n. IsKept (pos modulus) n ls) c.requires.width c.leads_element.ensures.kept)
+    c.args.arity c.loop-column.column c.loop-column-test.true c.requires.arities (terms_each olds)
+    c.loop-column.invariant.found
+    (subst (λ e. has_divisor (map lead_of (terms_each olds)) e ≡ false) mono
+    (subst (λ l. has_divisor (map lead_of (terms_each l)) c.index-monomials-column.result ≡ false)
+    c.deref.ensures.value (c.leads_element.ensures.undivided c.if-leads_element.true)))
+    (c.leads_element.ensures.free c.if-leads_element.true))
 
 pub loop-column-preserved : goal.loop-column-preserved
 loop-column-preserved c =

@@ -63,7 +63,8 @@ returns-in_ok-copy-in-Err-Wide-clause-stopped c = λ d ps a enough limit.
     (c.len.ensures.len ∙ ap length c.names.ensures.names) c.deref.result.now
     c.deref.ensures.value c.in-Err-Wide.lead c.in_ok-copy-in-Err-Wide.field-0 _
     (c.in-Err-Wide.ensures.place c.in-Err-Wide.lead (ap Err is))
-    (c.in_ok-copy-in-Err-Wide.ensures.ok ∙ c.index.ensures) enough
+    (c.in_ok-copy-in-Err-Wide.ensures.ok ∙ c.index.ensures)
+    (c.in-Err-Wide.ensures.leads c.in-Err-Wide.lead (ap Err is)) enough
     (λ given p form poly candidate.
     c.in-Err-Wide.ensures.wide c.in-Err-Wide.lead (ap Err is) given p form poly candidate)
 
