@@ -10,7 +10,14 @@ from sources import Loop, Source
 FOUND = "loop invariant invar: "
 """How each clause begins that was written here; clauses of an earlier time are replaced."""
 
-ANNOTATION = re.compile(r"/\*@\s*(loop\b.*?)\*/|//@\s*(loop\b[^\n]*)", re.DOTALL)
+BEHAVIOR = r"for\b[^:;]*:"
+ANNOTATION = re.compile(rf"/\*@\s*((?:{BEHAVIOR}\s*)?loop\b.*?)\*/|//@\s*((?:{BEHAVIOR}\s*)?loop\b[^\n]*)", re.DOTALL)
+LAST = re.compile(rf"{BEHAVIOR}|loop variant\b")
+"""Before the clauses of a behavior, and before the variant, stand those for all cases."""
+
+
+RESERVED = {"assert", "boolean", "integer", "real"}
+"""Names that a variable may have and that mean something else in an annotation."""
 
 
 @dataclass(frozen=True)
@@ -24,7 +31,7 @@ class Note:
 
 def clauses_of(annotation: str) -> list[str]:
     """The lines of an annotation, each clause on lines of its own, without those that were written here."""
-    apart = re.sub(r";[ \t]*(?=loop\b)", ";\n", annotation.strip().removesuffix("@"))
+    apart = re.sub(r";[ \t]*(?=(?:loop|for)\b)", ";\n", annotation.strip().removesuffix("@"))
     lines = [line.strip().lstrip("@").strip() for line in apart.splitlines()]
     return [line for line in lines if line and not line.startswith(FOUND)]
 
@@ -32,7 +39,7 @@ def clauses_of(annotation: str) -> list[str]:
 def written(note: Note, there: list[str]) -> str:
     """The annotation of a note with the clauses that are there, without blanks before its lines; nothing where there are none."""
     found = [f"{FOUND}{equation} == 0;" for equation in note.equations]
-    end = next((place for place, line in enumerate(there) if line.startswith("loop variant")), len(there))
+    end = next((place for place, line in enumerate(there) if LAST.match(line)), len(there))
     given = note.assigns is None or any(line.startswith("loop assigns") for line in there)
     assigns = [] if given else [f"loop assigns {listed(note.assigns)};"]
     clauses = [*found, *there[:end], *assigns, *there[end:]]

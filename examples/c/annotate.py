@@ -31,7 +31,7 @@ from polynomials import Polynomial  # noqa: E402
 from program import NO, Files, Refused, basis, bounded, build, chain, proof  # noqa: E402
 from pycparser import c_ast  # noqa: E402
 from questions import Question, follows, others, questions_at  # noqa: E402
-from results import Found, Result, left_out, nothing  # noqa: E402
+from results import ALWAYS, Found, Result, left_out, nothing  # noqa: E402
 from sources import Refusal, Source, line_of, loops_in, read_source, write_source  # noqa: E402
 from stated import PROMISE  # noqa: E402
 from starts import Sequence, Starts, starts_of  # noqa: E402
@@ -39,7 +39,7 @@ from statements import Equation, Set, Statement, Touch, Turns, Within, every, tu
 from texts import LoopText, Names, idle, is_any, loop_text, spelled  # noqa: E402
 
 
-DEGREES = (2, 3)
+DEGREES = (2, 3, 4)
 """Up to which the equations of a loop are asked for that `invar basis` refuses."""
 
 
@@ -105,17 +105,21 @@ class Annotator:
             for loop in loops_in(node):
                 self.refuse(line_of(loop), str(fault))
             return
-        for loop in turns_in(function.items):
+        loops = turns_in(function.items)
+        for lost in loops_in(node):
+            if all(loop.node is not lost for loop in loops):
+                self.refuse(line_of(lost), "it isn't reached")
+        for loop in loops:
             self.results[loop] = Result()
         for sequence in starts.sequences.get(None, []):
             self.take(sequence, starts)
         for sequence in starts.sequences.get(None, []):
             self.ask(sequence, starts)
-        for loop in turns_in(function.items):
+        for loop in loops:
             self.conclude(loop)
         for equation in function.homeless:
             self.answers[equation, ""] = f"not asked: {equation.text}: no loop is behind or around it"
-        self.notes += self.written(turns_in(function.items))
+        self.notes += self.written(loops)
 
     def take(self, sequence: Sequence, starts: Starts) -> None:
         """Takes the loops of a sequence one after another, where there are several, and each for itself."""
@@ -126,7 +130,8 @@ class Annotator:
             try:
                 self.keep(self.analysed(part, starts))
             except (Refusal, Refused) as fault:
-                self.results[loop].fault = str(fault)
+                if not self.results[loop].fault.startswith(str(fault)):
+                    self.results[loop].fault = str(fault)
             for inner in starts.sequences.get(loop, []):
                 if not all(self.results[one].equations(one, False) for one in turns_in(inner.items)):
                     self.take(inner, starts)
@@ -168,10 +173,8 @@ class Annotator:
             try:
                 elements = bounded(text.text, degree, self.folder / f"{name}-{degree}.loop")
             except Refused as other:
-                fault += f"\n    of equations up to degree {degree} {other}"
+                fault += "" if results[0].degree else f"\n    of equations up to degree {degree} {other}"
                 break
-            if elements is None:
-                return False
             for result in results:
                 result.degree, result.has_some = degree, elements != []
             for number, element in enumerate(elements, 1):
@@ -302,7 +305,7 @@ class Annotator:
         if equations and not result.found and self.source.offset_of(loop.node) is not None:
             self.refusals.append((line, f"loop taken for the equations {some} alone: {result.fault}"))
         elif not equations and result.degree:
-            holds = "can be written here" if result.has_some else "holds at each turn"
+            holds = "can be written here" if result.has_some else ALWAYS
             self.refuse(line, f"no equation up to degree {result.degree} {holds}: {refused or result.fault}")
         elif not result.found or refused and not equations:
             self.refuse(line, refused or result.fault or "it isn't reached")

@@ -1,8 +1,8 @@
 """Effects inside of expressions: which variables an expression reads and changes, and whether an order of evaluation is given."""
 from __future__ import annotations
 
+from acsl import RESERVED
 from pycparser import c_ast
-
 from sources import Refusal, is_stated, line_of, nodes, statements
 from statements import Turns
 
@@ -46,7 +46,7 @@ def accesses(node: c_ast.Node, hidden: set[str]) -> tuple[set[str], set[str]]:
 
 
 def assigned(loop: Turns) -> tuple[str, ...] | None:
-    """The names at a head that its turns assign; None where they may also assign what has no name there."""
+    """The names at a head that its turns assign; None where they may also assign what has no name there, or none in an annotation."""
     node = loop.node
     turn = [node.stmt, *statements(node.next if isinstance(node, c_ast.For) else None), *([node.cond] if node.cond is not None else [])]
     parts = [part for one in turn for part in nodes(one)]
@@ -59,4 +59,5 @@ def assigned(loop: Turns) -> tuple[str, ...] | None:
     lasting = {part.name for part in parts if isinstance(part, c_ast.Decl) and part.storage}
     names = dict.fromkeys(target.name for target in targets)
     unclear = {name for name in names if name in lasting or name in inside and name in loop.visible.values()}
-    return None if unclear else tuple(name for name in names if name not in inside)
+    found = tuple(name for name in names if name not in inside)
+    return None if unclear or RESERVED & {*found} else found

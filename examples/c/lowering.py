@@ -7,11 +7,12 @@ from functools import cache
 
 from pycparser import c_ast, c_generator
 
+from acsl import RESERVED
 from declarations import Declarations, Variable, number_of
 from effects import STEPS, accesses, has_effects
 from equations import conjuncts, equations_of, is_remainder
 from polynomials import Polynomial
-from sources import Loop, is_stated, line_of, nodes, statements
+from sources import Loop, Refusal, is_stated, line_of, nodes, statements
 from stated import PROMISE, QUESTION, RESULT
 from statements import (
     BEFORE, AtLeast, Block, Cases, Choice, Claim, Declared, Equation, Fact, Leave, Rest, Set, Statement, Target, Term, Test, Touch, Turns,
@@ -24,12 +25,6 @@ Arm = Callable[[], tuple[Statement, ...]]
 """Makes the statements of an arm of a choice."""
 
 ORDERS = {"<", ">", "<=", ">=", "==", "!="}
-ACSL_WORDS = set(
-    "allocates assert assigns assumes axiom axiomatic behavior behaviors boolean breaks case check complete continues contract decreases "
-    "disjoint ensures exits for frees ghost global if import inductive integer invariant label lambda lemma let logic loop model module "
-    "predicate pragma real reads requires returns sizeof slice strong struct terminates type union variant volatile writes".split()
-)
-"""Names that mean something else in an annotation."""
 
 
 @dataclass
@@ -69,7 +64,7 @@ class Lowering:
         names = dict(self.declared.globals)
         for scope in self.scopes:
             names.update(scope)
-        return {variable.key: name for name, variable in names.items() if variable.key is not None and name not in ACSL_WORDS}
+        return {variable.key: name for name, variable in names.items() if variable.key is not None and name not in RESERVED}
 
     def in_scope(self) -> frozenset[str]:
         """The keys of all variables that have a value here, also of those whose name means another one here."""
@@ -377,6 +372,8 @@ class Lowering:
             for part in node.exprs[:-1]:
                 self.effects(part)
             return self.term(node.exprs[-1])
+        if isinstance(node, c_ast.Compound):
+            raise Refusal(line_of(node), "a statement inside of an expression")
         for _, part in node.children():
             if isinstance(part, (c_ast.Typename, c_ast.TypeDecl)) or isinstance(node, c_ast.StructRef) and part is node.field:
                 continue

@@ -8,7 +8,7 @@ from dataclasses import dataclass, field, replace
 from polynomials import Polynomial
 from sources import Refusal
 from statements import (
-    AtLeast, Block, Cases, Choice, Claim, Declared, Divides, Fact, Leave, Need, Rest, Set, Statement, Target, Term, Touch, Turns,
+    AtLeast, Below, Block, Cases, Choice, Claim, Declared, Divides, Fact, Leave, Need, Rest, Set, Statement, Target, Term, Touch, Turns,
 )
 from whole import Whole
 
@@ -103,6 +103,7 @@ class State:
     def is_at_least(self, value: Polynomial) -> bool:
         """Whether it is seen that a value isn't negative: it is a sum of at most two that aren't, and of a number."""
         known = [fact.value for fact in self.facts if isinstance(fact, AtLeast)]
+        known += [limits(fact.type)[1] - fact.value - Polynomial.constant(1) for fact in self.facts if isinstance(fact, Below)]
         for name in sorted(value.names() | {name for one in known for name in one.names()}):
             if name in self.types and not is_unknown(name):
                 low, high = limits(self.types[name], True)
@@ -268,19 +269,37 @@ def stages(items: tuple[Statement, ...], first: Iterable[str], scope: Iterable[s
     """The loops of a sequence with the straight code between them, over the variables in scope at the first head and before it."""
     result = [Stage(Edge({}, (), ()), walk(items[0], first, types))]
     state = fresh(scope, types)
-    for item in items[1:]:
+    for before, item in itertools.pairwise(items):
+        if isinstance(before, Turns):
+            state = behind(before, result[-1].walk, scope)
         if isinstance(item, Turns):
             code = straight(item.init, state, types)
             result.append(Stage(code.edge(), walk(item, code.of, types)))
-            state = fresh((key for key in code.of if key not in item.own), types)
+            scope = [key for key in code.of if key not in item.own]
         else:
             state = straight((item,), state, types)
     return result
 
 
+def behind(loop: Turns, walk: Walk, scope: Iterable[str]) -> State:
+    """The state behind a loop, in one at its head: the same where each way out changes nothing, or what a turn changes as well."""
+    exits = walk.exits[loop]
+    if all(any(does(edge, state) for edge in [Edge({}, (), ()), *walk.edges]) for state in exits):
+        return fresh(scope, walk.types)
+    return single(exits)
+
+
+def does(edge: Edge, state: State) -> bool:
+    """Whether a path changes the variables of a state as the state does."""
+    return all(edge.values.get(key, Polynomial.variable(key)) == value for key, value in state.of.items())
+
+
 def straight(items: tuple[Statement, ...], state: State, types: Mapping[str, Whole]) -> State:
     """The state behind code without a choice."""
-    behind = Walk(types).run(items, [state]).behind
-    if len(behind) != 1:
+    return single(Walk(types).run(items, [state]).behind)
+
+
+def single(states: list[State]) -> State:
+    if len(states) != 1:
         raise Refusal(0, "code between loops that branches")
-    return behind[0]
+    return states[0]

@@ -15,8 +15,8 @@ MOST_SECONDS = 60
 """For an analysis: most take milliseconds, and the usual budget of one that grows may last for many minutes."""
 
 
-NO, USAGE = 1, 2
-"""The status of an answer `no`, and that of words which are no command of the program."""
+NO = 1
+"""The status of an answer `no`."""
 
 
 class Refused(Exception):
@@ -72,15 +72,13 @@ def basis(text: str, files: Files) -> list[Polynomial]:
     return elements
 
 
-def bounded(text: str, degree: int, file: Path) -> list[Polynomial] | None:
-    """The elements up to a degree of the basis of a loop text, which stays in a file; None where this program has no such question."""
+def bounded(text: str, degree: int, file: Path) -> list[Polynomial]:
+    """The elements up to a degree of the basis of a loop text, which stays in a file."""
     file.write_text(text)
     try:
         return read_basis(answer(text, "basis", "--degree", str(degree), file))
-    except Refused as fault:
+    except Refused:
         file.unlink()
-        if fault.status == USAGE:
-            return None
         raise
 
 

@@ -11,6 +11,9 @@ from texts import LoopText, spelled
 MOST_TERMS = 10
 """Of an equation that is written."""
 
+ALWAYS = "holds at each turn whatever the tests say"
+"""What is told of equations that there aren't: each path is taken at any turn."""
+
 Terms = frozenset
 """The terms of an equation in the words of ACSL, up to a factor: equations that say the same have the same."""
 
@@ -92,5 +95,5 @@ def nothing(found: Found) -> str:
     """What is told of a loop for which `invar` finds no equation."""
     asked = ", ".join(dict.fromkeys(map(spelled, found.asked)))
     left = [f"{spelled(key)} ({why})" if why else spelled(key) for key, why in found.without.items()]
-    said = "can be written here" if found.elements else "holds at each turn"
+    said = "can be written here" if found.elements else ALWAYS
     return f"no equation between {asked} {said}" + (f"; any value: {', '.join(left)}" if left else "")

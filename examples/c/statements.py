@@ -65,7 +65,16 @@ class AtLeast:
     needs: tuple[Need, ...] = ()
 
 
-Fact = Rest | AtLeast
+@dataclass(frozen=True)
+class Below:
+    """What a test says: a value isn't the greatest of a type."""
+
+    value: Polynomial
+    type: Whole
+    needs: tuple[Need, ...] = ()
+
+
+Fact = Rest | AtLeast | Below
 
 
 @dataclass(frozen=True)

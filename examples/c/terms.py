@@ -8,7 +8,7 @@ from pycparser import c_ast
 
 from polynomials import Polynomial
 from sources import line_of
-from statements import AtLeast, Divides, Fact, Need, Term, Within
+from statements import AtLeast, Below, Divides, Fact, Need, Term, Within
 from whole import INT, NAMED, Whole, common
 
 
@@ -130,6 +130,11 @@ def bits(sign: str, left: Term, right: Term, line: int) -> Term:
     return constant(number, kind) if kind.has(number) else strange
 
 
+def below(term: Term, kind: Whole) -> tuple[Fact, ...]:
+    """What it says that a value is less than another one of its type: where that is unsigned, one more fits."""
+    return () if kind.signed else (Below(term.value, kind, term.needs),)
+
+
 def compared(sign: str, left: Term, right: Term) -> tuple[tuple[Fact, ...], tuple[Fact, ...]]:
     """What it says that a comparison holds, and that it fails."""
     if left.value is None or right.value is None or left.type is None or right.type is None:
@@ -145,7 +150,7 @@ def compared(sign: str, left: Term, right: Term) -> tuple[tuple[Fact, ...], tupl
 
     one = Polynomial.constant(1)
     over, under = left.value - right.value, right.value - left.value
-    less, more = (at_least(under - one),), (at_least(over - one),)
+    less, more = (at_least(under - one), *below(left, kind)), (at_least(over - one), *below(right, kind))
     up_to, from_there = (at_least(under),), (at_least(over),)
     apart = more if not kind.signed and right.value.value() == 0 else ()
     table = {

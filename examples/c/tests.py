@@ -29,8 +29,7 @@ DIVISION = """int quotient(int a, int b)
 
 
 INVAR = FOLDER.parent.parent / "invar"
-HAS_DEGREES = subprocess.run([INVAR, "basis", "--degree", "2", FOLDER.parent / "squares.loop"], capture_output=True, check=False).returncode == 0
-"""Whether the program at hand answers with the equations up to a degree."""
+ALWAYS = "holds at each turn whatever the tests say"
 
 
 @dataclass(frozen=True)
@@ -81,7 +80,7 @@ class Annotations(Calls):
         text = f"int g(int n, int *p)\n{{\n    int x = 0, y = 1;\n    while (x < n) {{\n        {body}\n    }}\n    return y;\n}}\n"
         result = self.annotate(text)
         self.assertEqual((result.status, result.text), (0, text))
-        self.assertEqual(result.told, f"test.c:4: no equation between {asked} holds at each turn{'; any value: ' + left if left else ''}\n")
+        self.assertEqual(result.told, f"test.c:4: no equation between {asked} {ALWAYS}{'; any value: ' + left if left else ''}\n")
 
     def turned(self, body: str, before: str = "int x = 0, y = 0;", test: str = "x < n") -> list[str]:
         """The equations of a loop with this body."""
@@ -110,6 +109,7 @@ class Annotations(Calls):
         self.body_refused("int t; x = t;", "it has no value at first")
         self.body_refused("x = x++ + 1;", "x, which is changed and read in one expression,")
         self.body_refused("again: x++; if (x == 3) goto again;", "a label")
+        self.body_refused("x += ({ int t = n; t + 1; });", "a statement inside of an expression")
 
     def test_what_has_no_equation(self) -> None:
         self.body_without("x++; if (x == 7) break;", "x")
@@ -124,8 +124,7 @@ class Annotations(Calls):
 
     def test_a_product_of_two_changing_variables(self) -> None:
         text = "int f(int n)\n{\n    int x = 1, y = 1;\n    while (x < n) {\n        x = x * y;\n        y = y + x;\n    }\n    return x;\n}\n"
-        asked = "no equation up to degree 3 holds at each turn: " if HAS_DEGREES else ""
-        self.refused(text, f"test.c:4: loop not taken: {asked}invar says branch 1: not solvable: x", "Each variable named uses the next")
+        self.refused(text, f"test.c:4: loop not taken: no equation up to degree 4 {ALWAYS}: invar says branch 1: not solvable: x", "Each variable named uses the next")
 
     def test_what_is_no_whole_number(self) -> None:
         self.refused("int f(double x)\n{\n    while (x > 1)\n        x = x - 1;\n    return 0;\n}\n", "test.c:3: loop not taken: x, which is no")
@@ -145,6 +144,8 @@ class Annotations(Calls):
     def test_names_that_acsl_has(self) -> None:
         text = "int f(int n)\n{\n    int integer = 0, i = 0;\n    while (i < n) { integer += 2; i++; }\n    return i;\n}\n"
         self.assertEqual(self.annotate(text).told, "test.c:4: no equation between integer, i can be written here\n")
+        found = self.annotate(text.replace("i = 0", "i = 0, k = 0").replace("i++;", "i++; k++;")).text
+        self.assertIn("/*@ loop invariant invar: i - k == 0; */\n", found)
 
     def test_both_sides_of_a_condition(self) -> None:
         self.assertEqual(self.turned("\n#ifdef FAST\ny += 2;\n#else\ny += 3;\n#endif\nx++;"), ["3*x - y == 0"])
@@ -176,6 +177,9 @@ class Annotations(Calls):
         text = "int f(int n)\n{\n    int i = 0, s = 0;\n    if (0) {\n        while (i < n) { s += 2; i++; }\n    }\n    return s;\n}\n"
         self.assertEqual(self.equations(text), ["2*i - s == 0"])
 
+    def test_a_loop_before_the_cases_of_a_switch(self) -> None:
+        self.refused("int f(int n)\n{\n    int i = 0;\n    switch (n) { while (i < n) { case 0: i++; } }\n    return i;\n}\n", "test.c:4: loop not taken: it isn't reached")
+
     def test_macros(self) -> None:
         macros = "#define STEP 3\n#define EACH(i, n) for (i = 0; i < n; i++)\nint f(int n)\n{\n    int i = 0, s = 0;\n    "
         self.assertEqual(self.equations(macros + "while (i < n) { s += STEP; i++; }\n    return s;\n}\n"), ["3*i - s == 0"])
@@ -202,7 +206,7 @@ class Annotations(Calls):
         self.assertEqual(self.annotate("int f(long m) { int i = 0, t = 0; while (i < 9) { i++; m++; t = m; } return t; }\n").text.count("- m + i == 0;"), 1)
         self.assertEqual(self.turned("long t = x; x++; y = t;", "int x = 1, y = 0;"), ["x - y - 1 == 0"])
         self.assertEqual(self.annotate("int f(int n) { short s = 70000; int i = 0; while (i < n) { s += 2; i++; } return s; }\n").told,
-            "test.c:1: no equation between i holds at each turn; any value: s (short s in line 1 may not hold it)\n")
+            f"test.c:1: no equation between i {ALWAYS}; any value: s (short s in line 1 may not hold it)\n")
         self.assertEqual(self.turned("y += 2; x++;", "int y = 0; short x = 0;", "x < 1000"), ["y - 2*x == 0"])
         self.assertEqual(self.turned("y += (long) x * 2; x++;", "long y = 0; int x = 0;"), ["x*x - y - x == 0"])
 
@@ -214,7 +218,7 @@ class Annotations(Calls):
         self.assertEqual(self.equations(product % "int"), ["i*k - d == 0"])
         self.assertEqual(self.annotate(product % "short").told, "test.c:5: no equation between d, i can be written here\n")
         wrapping = "unsigned f(unsigned n)\n{\n    unsigned i = 0, s = 0;\n    while (i < n) { s += 2; i++; }\n    return s;\n}\n"
-        self.assertEqual(self.annotate(wrapping).told, "test.c:4: no equation between i holds at each turn; any value: s (unsigned int s in line 4 may not hold it)\n")
+        self.assertEqual(self.annotate(wrapping).told, f"test.c:4: no equation between i {ALWAYS}; any value: s (unsigned int s in line 4 may not hold it)\n")
 
     def test_what_is_told_beside_equations(self) -> None:
         text = "int g;\nvoid h(void);\nint f(int n)\n{\n    int i = 0, k = 0;\n    unsigned char c = 0;\n    while (i < n) { %s i++; k += 2; }\n    return k;\n}\n"
@@ -222,6 +226,11 @@ class Annotations(Calls):
             result = self.annotate(text.replace("%s", body))
             self.assertEqual((result.status, result.told), (0, f"test.c:7: any value: {wanted}\n"))
             self.assertIn("2*i - k == 0;", result.text)
+
+    def test_unsigned_values_below_others(self) -> None:
+        for kind, bound in (("unsigned", "n"), ("unsigned long", "n + 1"), ("unsigned long", "m")):
+            self.assertEqual(self.turned("k++; y += 2;", f"{kind} k = 0; int y = 0;", f"k < {bound}"), ["2*k - y == 0"])
+        self.assertIn("any value: k", self.annotate("int f(long n) { unsigned k = 0; int y = 0; while (k < n) { k++; y += 2; } return y; }\n").told)
 
     def test_constants(self) -> None:
         values = {"010": 8, "0x1F": 31, "'a'": 97, r"'\n'": 10, r"'\17'": 15, r"'\x41'": 65, "3L": 3, "-7 / 2": -3, "7 << 2": 28, "(6 | 1) ^ 2": 5, "-7 % 3": -1}
@@ -274,8 +283,7 @@ class Annotations(Calls):
         text = "int f(int n)\n{\n    int i = 1, p = 1, s = 0;\n    while (i < n) { p = p * i; i++; s += 2; }\n    return p;\n}\n"
         result = self.annotate(text)
         self.assertEqual(result.status, 1)
-        taken = "for the equations up to degree 2 alone" if HAS_DEGREES else "without p"
-        self.assertIn(f"test.c:4: loop taken {taken}: invar says branch 1: not solvable: p", result.told)
+        self.assertIn("test.c:4: loop taken for the equations up to degree 2 alone: invar says branch 1: not solvable: p", result.told)
         self.assertIn("2*i - s - 2 == 0", result.text)
 
     def test_that_other_loops_of_the_file_are_annotated(self) -> None:
@@ -296,6 +304,11 @@ class Annotations(Calls):
         self.assertEqual(self.annotate(text % f"    /*@ {found} */\n").text, text % "")
         kept = self.annotate(text % f"    /*@ {found}\n        loop assigns i, s; */\n")
         self.assertEqual((kept.status, kept.text), (0, text % "    /*@ loop assigns i, s; */\n"))
+
+    def test_clauses_of_behaviors(self) -> None:
+        clause = "for b: loop invariant 0 <= i;"
+        text = f"/*@ behavior b: assumes n > 0; */\nint f(int n)\n{{\n    int i = 0, s = 0;\n    /*@ {clause} */\n    while (i < n) {{ i++; s += 2; }}\n    return s;\n}}\n"
+        self.assertIn(f"    /*@ loop invariant invar: 2*i - s == 0;\n        loop assigns i, s;\n        {clause} */\n", self.annotate(text).text)
 
     def test_clauses_on_one_line_and_lines_with_signs(self) -> None:
         wanted = "/*@ loop invariant invar: b*q - a + r == 0;\n        loop invariant 0 <= r;\n        loop assigns r, q;\n        loop variant r; */\n"
@@ -348,6 +361,18 @@ class Annotations(Calls):
         text = "int f(int n)\n{\n    int x = 0, y = 0, i;\n    for (i = 0; i < n; i++) x += 2;\n    for (i = 0; i < n; i++) y += 3;\n    return x + y;\n}\n"
         self.assertEqual(sorted(self.equations(text)), ["x - 2*i == 0", "y - 3*i == 0", "y == 0"])
         self.assertEqual(self.kept_text(text, "test-4-5.chain")[3], "then do { i = 0; }")
+
+    def test_what_the_way_out_of_a_loop_changes(self) -> None:
+        text = "int f(int n)\n{\n    int i = 0, s = 0;\n    %s\n    while (i < n) { i++; s++; }\n    return s;\n}\n"
+        for loop, wanted in (
+            ("while (s++ < n) i++;", "i - s + 1"),
+            ("do { s += 2; } while (0);", "i - s + 2"),
+            ("while (1) { s++; if (s > n) break; i++; }", "i - s + 1"),
+            ("do { s++; i++; } while (i < n);", "i - s"),
+        ):
+            self.assertIn(self.clauses(self.annotate(text % loop).text)[-1], (wanted, negative(wanted)))
+        found = self.annotate(text % "while (i < n) { if (p[i]) { s++; break; } i++; s++; }").text
+        self.assertIn("LoopEntry", self.clauses(found)[-1])
 
 
 class Stated(Calls):
@@ -432,11 +457,11 @@ class Stated(Calls):
         text = "/*@ invar: 1 == 1 */\nint f(int n)\n{\n    int s = 0;\n    /*@ invar: s == n */\n    s++;\n    while (s < n) {\n        s++;\n        //@ invar: s <= n\n        //@ invar: s\n    }\n    return s;\n}\n"
         result = self.annotate(text)
         self.assertEqual((result.status, result.text), (1, text))
-        self.assertEqual(result.told, "test.c:1: not asked: 1 == 1: it stands where no statement can\ntest.c:5: not asked: s == n: no loop is behind or around it\ntest.c:7: no equation between s holds at each turn\ntest.c:9: not asked: s <= n: it is no equation that is read here\ntest.c:10: not asked: s: it is no equation that is read here\n")
+        self.assertEqual(result.told, f"test.c:1: not asked: 1 == 1: it stands where no statement can\ntest.c:5: not asked: s == n: no loop is behind or around it\ntest.c:7: no equation between s {ALWAYS}\ntest.c:9: not asked: s <= n: it is no equation that is read here\ntest.c:10: not asked: s: it is no equation that is read here\n")
 
     def test_assertions_that_a_test_guards(self) -> None:
         text = "int f(int n, int *p)\n{\n    int i = 0, s = 0;\n    while (i < n) {\n        i++;\n        if (p[i])\n            //@ assert i % 2 == 0;\n            s += 2;\n    }\n    return s;\n}\n"
-        self.assertEqual(self.annotate(text).told, "test.c:4: no equation between i, s holds at each turn\n")
+        self.assertEqual(self.annotate(text).told, f"test.c:4: no equation between i, s {ALWAYS}\n")
 
     def test_loops_inside_of_loops(self) -> None:
         text = "int f(int n, int m)\n{\n    int z = 0, f = 1;\n    while (n > 0) {\n        int j = 0, t = z;\n        while (j < m) { z++; j++; f = f * 2; }\n        //@ assert z == t + j;\n        n--;\n    }\n    return z;\n}\n"
@@ -446,11 +471,13 @@ class Stated(Calls):
         text = "int f(int n)\n{\n    int i = 0, s = 0;\n    while (i < n) { s += 2 * i + 1; i++; }\n    //@ assert s == i * i;\n    return s;\n}\n"
         self.assertEqual(self.annotate(text, "--keep").beside, ["test-4-asked-5-1.json", "test-4-asked-5-1.loop", "test-4.json", "test-4.loop", "test.c"])
 
-    @unittest.skipUnless(HAS_DEGREES, "this program has no answer with the equations up to a degree")
     def test_equations_up_to_a_degree(self) -> None:
         result = self.behind("int i = 0, x = 1, y = 1, s = 0;", "s = s * h + 1; x = x * h; i++;")
         self.assertEqual(self.clauses(result.text), ["h*s - x - s + 1"])
         self.assertIn("test.c:4: loop taken for the equations up to degree 2 alone: invar says branch 1: not solvable: ", result.told)
+        result = self.behind("int i = 0, a = 0, b = 1;", "b = a + b; a = b - a; i++;")
+        self.assertEqual(self.clauses(result.text), ["a*a*a*a + 2*a*a*a*b - a*a*b*b - 2*a*b*b*b + b*b*b*b - 1"])
+        self.assertIn("test.c:4: loop taken for the equations up to degree 4 alone: invar says branch 1: eigenvalues: ", result.told)
 
 
 def negative(text: str) -> str:
