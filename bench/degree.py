@@ -4,7 +4,7 @@
 Usage: bench/degree.py compare [FOLDER]  judges the answers to the loops of bench/loops.txt, and of a folder of loops, NAME.loop each, up to degrees 1 to 3
        bench/degree.py hoped FOLDER      those to a folder, and whether each equation of the file hoped.txt follows that `decide` says yes to: a line
                                          NAME: EQUATION each
-       bench/degree.py sizes             times loops without invariants by variables and degree, up to 1,024 monomials
+       bench/degree.py sizes             times loops without invariants by variables and degree, up to 1,001 monomials; fails above its goals
 
 (after .ci/run, or `rt run` in crates/invar, has built the program.)
 
@@ -24,7 +24,6 @@ import resource
 import subprocess
 import sys
 import tempfile
-import time
 from fractions import Fraction
 
 from counters import equation_in
@@ -33,8 +32,17 @@ from loop_forms import LOOPS, TOP, Reader, composed, loops_in, plus, scaled, tim
 
 PROGRAM = pathlib.Path(os.environ.get("INVAR") or TOP / "crates/invar/out/invar").resolve()
 DEGREES, SEED, PRIME, MOST_BITS, MORE = (1, 2, 3), 58, 2**61 - 1, 4000, 30
-# Variables and degrees of the loops that are timed: 1,024 monomials at most.
-SIZES = ((2, 16), (3, 8), (4, 6), (6, 4), (7, 4), (10, 2), (10, 3), (11, 3), (12, 2), (40, 2))
+# Variables and degrees of the loops that are timed. No number of monomials of up to 12 variables lies between 1,001 and 1,024.
+SIZES = ((2, 16), (3, 8), (3, 16), (4, 6), (4, 10), (6, 4), (6, 6), (7, 4), (9, 4), (10, 2), (10, 3), (10, 4), (12, 2), (12, 3))
+# Of some of them the most seconds and the most megabytes: the goals.
+GOALS = {(4, 10): (60, 200), (6, 4): (2, 200), (10, 2): (2, 200), (10, 4): (60, 200)}
+# A process counts the memory of the one that started it, so the program is started by a small one of its own.
+START = """
+import os, sys
+_, status, used = os.wait4(os.posix_spawn(sys.argv[1], sys.argv[1:], os.environ), 0)
+sys.stderr.write(f"{used.ru_utime + used.ru_stime} {used.ru_maxrss}")
+sys.exit(os.waitstatus_to_exitcode(status))
+"""
 
 
 # ---- loops
@@ -117,15 +125,12 @@ def zero_dimension(ends, exponents):
 
 
 def answer_of(folder, text, command, *options):
-    """What is said, the status, the seconds, and the greatest size in kilobytes."""
+    """What is said, the status, the seconds of processor time, and the peak of memory in kilobytes."""
     (folder / "LOOP").write_text(text)
-    before = time.perf_counter()
-    with open(folder / "SAID", "w+") as said:
-        process = subprocess.Popen([PROGRAM, command, *options, "LOOP"], cwd=folder, stdout=said)
-        _, status, used = os.wait4(process.pid, 0)
-        seconds = time.perf_counter() - before
-        said.seek(0)
-        return said.read(), os.waitstatus_to_exitcode(status), seconds, used.ru_maxrss
+    words = [sys.executable, "-I", "-S", "-c", START, PROGRAM, command, *options, "LOOP"]
+    done = subprocess.run(words, cwd=folder, capture_output=True, text=True)
+    seconds, kilobytes = done.stderr.split()
+    return done.stdout, done.returncode, float(seconds), int(kilobytes)
 
 
 def elements_in(said, names):
@@ -264,7 +269,8 @@ def sizes(folder):
         body = " ".join(f"{name}={name}*{names[(i + 1) % m]}+{i + 1};" for i, name in enumerate(names))
         text = f"vars {', '.join(names)}; branch {{ {body} }}"
         said, status, seconds, size = answer_of(folder, text, "basis", "--degree", str(degree))
-        failed += status != 0
+        most_seconds, most_megabytes = GOALS.get((m, degree), (math.inf, math.inf))
+        failed += status != 0 or seconds >= most_seconds or size / 1000 >= most_megabytes
         print(f"| {m} | {degree} | {math.comb(m + degree, degree)} | {status} | {seconds:.2f} | {size / 1000:.1f} |")
     return failed
 
