@@ -1,5 +1,5 @@
 -- Two short monomials of as many variables, each in its word, seen as their exponents.
-use Rattle.std.proofs.Common.{◌≡◌, ◌<◌, ◌≤◌, ◌↔◌, ℕ, suc, ◌+◌, ◌-◌, ◌*◌, ◌/◌, ◌%◌, ◌^◌, List, length, sum, sym, ap, ap₂, ◌∙◌, subst, add-one, arith, nat_cmp}
+use Rattle.std.proofs.Common.{◌≡◌, ◌<◌, ◌≤◌, ◌↔◌, ℕ, suc, ◌+◌, ◌-◌, ◌*◌, ◌/◌, ◌%◌, ◌^◌, List, length, take, reverse, sum, sym, ap, ap₂, ◌∙◌, subst, add-one, arith, nat_cmp}
 use Rattle.std.specs.Int.Bits.{bit_and}
 use Rattle.std.specs.Ordering.{ordering_then}
 use Rattle.polynomials.specs.Exponent.{plus, lcm, Divides}
@@ -12,7 +12,7 @@ use Rattle.monos.specs.Coprime.{IsCoprime}
 use Rattle.std.proofs.Math.Nat.{pow-le-pow_right}
 use Rattle.monos.specs.Lanes.{AreSmall, IsShort, IsInLanes, lane_room, lane_count, lanes, word, guards}
 use Rattle.monos.proofs.ShortWords.{room_small}
-use Rattle.monos.proofs.Words.{length-lanes}
+use Rattle.monos.proofs.Words.{length-lanes, lanes-take}
 use Rattle.monos.proofs.ShortWords as words
 use Rattle.monos.proofs.LaneSteps.{word_fits}
 use Rattle.monos.proofs.Maxima.{Marks, marks, small-lcm, coprime_is as coprime_of}
@@ -48,6 +48,14 @@ module _ (n d w : ℕ) (a : List ℕ) (p : IsInLanes n d w) (is : lanes (lane_ro
 
   room_is : lane_room n ≡ lane_room (length a)
   room_is = ap lane_room count_is
+
+  -- the first exponents
+  pub first_degree : (k g r : ℕ) → k ≤ length a → r ≡ lane_room n → g ≡ sum (lanes r k w)
+      → g ≡ sum (take k a)
+  first_degree k g r few room at = at
+      ∙ ap sum (ap (λ q. lanes q k w) room
+      ∙ lanes-take (lane_room n) k n w (subst (λ m. k ≤ m) (sym count_is) few)
+      ∙ ap (take k) is)
 
   -- the greater exponents
   pub lcm_is : (b : List ℕ) (g z : ℕ) → length a ≡ length b
@@ -122,11 +130,6 @@ module _ (n m d f w v : ℕ) (a b : List ℕ) (p : IsInLanes n d w) (q : IsInLan
       let all = words.short_product n d w f v p in_lanes clear in
       (all.0, all.1 ∙ both)
 
-  pub long_product : (bit_and (w + v) (guards (lane_room n) (lane_count n)) ≡ 0 → ⊥)
-      → IsShort (plus a b) → ⊥
-  long_product set short = words.long_product n d w f v p in_lanes set
-      (subst IsShort (sym both) short)
-
   pub quotient_is : Divides b a → (f ≤ d) × (v ≤ w) × IsInLanes n (d - f) (w - v)
       × (plus b (lanes (lane_room n) n (w - v)) ≡ a)
   quotient_is h =
@@ -139,6 +142,10 @@ module _ (n m d f w v : ℕ) (a b : List ℕ) (p : IsInLanes n d w) (q : IsInLan
         ap (λ x. plus x (lanes (lane_room n) n (w - v))) (sym lanes_are) ∙ all.3
             ∙ is,
       )
+
+  pub compare_lasts : nat_cmp v w ≡ slice_cmp nat_cmp (reverse b) (reverse a)
+  compare_lasts = words.compare_lasts n d w f v p in_lanes
+      ∙ ap₂ (λ x y. slice_cmp nat_cmp (reverse x) (reverse y)) lanes_are is
 
   pub compare_words : d ≡ f → nat_cmp v w ≡ compare grevlex a b
   compare_words e = words.compare_words n d w f v p in_lanes e ∙ ap₂ (compare grevlex) is lanes_are
@@ -209,6 +216,13 @@ module _ (n m d f w v : ℕ) (a b : List ℕ) (p : IsInLanes n d w) (q : IsInLan
         ∙ words.first_same n d w f v p in_lanes k (omega (arith, less))
         (subst (λ i. w % 2 ^ i ≡ v % 2 ^ i) bits e)
         ∙ ap₂ (compare (blocks k grevlex grevlex)) is lanes_are
+
+    pub first_lasts : (x y : ℕ) → x ≡ w % 2 ^ j → y ≡ v % 2 ^ j
+        → nat_cmp y x ≡ slice_cmp nat_cmp (reverse (take k b)) (reverse (take k a))
+    first_lasts x y at at_other =
+        ap₂ nat_cmp (at_other ∙ ap (λ i. v % 2 ^ i) bits) (at ∙ ap (λ i. w % 2 ^ i) bits)
+        ∙ words.first_lasts n d w f v p in_lanes k (omega (arith, less))
+        ∙ ap₂ (λ x y. slice_cmp nat_cmp (reverse (take k x)) (reverse (take k y))) lanes_are is
 
     pub first_apart : (r x y g h : ℕ) → r ≡ lane_room n → x ≡ w % 2 ^ j → y ≡ v % 2 ^ j
         → (x ≡ y → ⊥)

@@ -1,11 +1,12 @@
 -- Short monomials in one word: their sums, their quotients, and how they compare.
 --   Pack n e         the word of n small exponents, with what is true of it
-use Rattle.std.proofs.Common.{◌≡◌, ◌<◌, ◌≤◌, ◌↔◌, ℕ, suc, ◌+◌, ◌-◌, ◌*◌, ◌%◌, ◌^◌, List, [], ◌∷◌, length, length-take, take, sum, Bool, true, false, leb, refl, sym, ap, ap₂, ◌∙◌, subst, add-one, arith, nat_cmp, Equal}
+use Rattle.std.proofs.Common.{◌≡◌, ◌<◌, ◌≤◌, ◌↔◌, ℕ, suc, ◌+◌, ◌-◌, ◌*◌, ◌%◌, ◌^◌, List, [], ◌∷◌, length, length-take, take, reverse, sum, Bool, true, false, leb, refl, sym, ap, ap₂, ◌∙◌, subst, add-one, arith, nat_cmp, Equal}
 use Rattle.std.specs.Cmp.{nat_cmp_is}
 use Rattle.std.proofs.lemmas.Cmp.{ranked, by_ranked}
 use Rattle.std.specs.Prelude.{cond}
 use Rattle.std.specs.Int.Bits.{bit_and}
 use Rattle.std.specs.Ordering.{ordering_then}
+use Rattle.std.specs.Cmp.Lexicographic.{slice_cmp}
 use Rattle.std.proofs.lemmas.Bool.{leb-true, leb-false}
 use Rattle.std.proofs.lemmas.List.Sums.{sum_by-le}
 use Rattle.std.proofs.lemmas.List.Elements.{All-cons, All-nil}
@@ -15,7 +16,7 @@ use Rattle.polynomials.specs.Order.{compare, grevlex, blocks}
 use Rattle.polynomials.proofs.Exponent.{length-plus_same, sum-plus}
 use Rattle.polynomials.proofs.Orders.{compare_grevlex}
 use Rattle.monos.specs.Lanes.{AreSmall, IsShort, IsInLanes, lane_room, lane_count, lanes, word, guards}
-use Rattle.monos.proofs.Words.{small_first, small_rest, small_more, double, length-lanes, lanes-word, word-lanes, word-plus, word_half, word_below, clear_from_small, small_from_clear, word_guards, word_with_guards, test_of_divides, divides_of_test, word_cmp, word-take, small-take, small-lanes, compare_rest, compare_apart}
+use Rattle.monos.proofs.Words.{small_first, small_rest, small_more, double, length-lanes, lanes-word, word-lanes, word-plus, word_half, word_below, small_from_clear, word_guards, word_with_guards, test_of_divides, divides_of_test, word_cmp, word-take, small-take, small-lanes, compare_rest, compare_apart}
 
 pub by_room : (n : ℕ) (P : ℕ → ℕ → Type 0) → (n ≤ 8 → P 15 8) → (8 < n → P 7 16)
     → P (lane_room n) (lane_count n)
@@ -205,17 +206,6 @@ module _ (n d w f v : ℕ) (p : IsInLanes n d w) (q : IsInLanes n f v) where
       ∙ ap₂ ◌+◌ (sym p.degree) (sym q.degree) in
       rw (degree, sum_of_words) at all
 
-  pub long_product : (bit_and (w + v) (guards (lane_room n) (lane_count n)) ≡ 0 → ⊥)
-      → IsShort (plus (lanes (lane_room n) n w) (lanes (lane_room n) n v)) → ⊥
-  long_product set short = set (ap (λ x. bit_and x (guards (lane_room n) (lane_count n)))
-      (sym sum_of_words)
-      ∙ clear_from_small (lane_room n) (lane_count n) (plus (lanes (lane_room n) n w)
-      (lanes (lane_room n) n v))
-      (let c = count_of_plus in let m = few_lanes n p.few in omega (arith, c, m))
-      (subst (λ k.
-      AreSmall (lane_room k) (plus (lanes (lane_room n) n w) (lanes (lane_room n) n v)))
-      count_of_plus short.small))
-
   -- the difference of the words
   pub quotient_is : Divides (lanes (lane_room n) n v) (lanes (lane_room n) n w)
       → (f ≤ d) × (v ≤ w) × IsInLanes n (d - f) (w - v)
@@ -250,17 +240,22 @@ module _ (n d w f v : ℕ) (p : IsInLanes n d w) (q : IsInLanes n f v) where
             short.1 ∙ whole,
       )
 
+  -- from the last exponent on as the words
+  pub compare_lasts : nat_cmp v w ≡ slice_cmp nat_cmp (reverse (lanes (lane_room n) n v))
+      (reverse (lanes (lane_room n) n w))
+  compare_lasts =
+      ap₂ nat_cmp (sym (word_is n f v q)) (sym (word_is n d w p))
+      ∙ word_cmp (lane_room n) (lanes (lane_room n) n v) (lanes (lane_room n) n w)
+      (sym same_count)
+      (small_more (lane_room n) (lanes (lane_room n) n v) q.small)
+      (small_more (lane_room n) (lanes (lane_room n) n w) p.small)
+
   -- by degree, and then the lesser word is the greater monomial
   pub compare_is : compare grevlex (lanes (lane_room n) n w) (lanes (lane_room n) n v)
       ≡ ordering_then (nat_cmp d f) (nat_cmp v w)
   compare_is =
       compare_grevlex (lanes (lane_room n) n w) (lanes (lane_room n) n v) same_count
-      ∙ ap₂ ordering_then (ap₂ nat_cmp (sym p.degree) (sym q.degree))
-      (sym (word_cmp (lane_room n) (lanes (lane_room n) n v) (lanes (lane_room n) n w)
-      (sym same_count)
-      (small_more (lane_room n) (lanes (lane_room n) n v) q.small)
-      (small_more (lane_room n) (lanes (lane_room n) n w) p.small))
-      ∙ ap₂ nat_cmp (word_is n f v q) (word_is n d w p))
+      ∙ ap₂ ordering_then (ap₂ nat_cmp (sym p.degree) (sym q.degree)) (sym compare_lasts)
 
   pub compare_words : d ≡ f → nat_cmp v w ≡ compare grevlex (lanes (lane_room n) n w)
       (lanes (lane_room n) n v)
@@ -309,22 +304,29 @@ module _ (n d w f v : ℕ) (p : IsInLanes n d w) (q : IsInLanes n f v) where
         (sym (first_lanes w (word_is n d w p)) ∙ ap (lanes (lane_room n) k) is
         ∙ first_lanes v (word_is n f v q)))
 
+    first_counts : length (take k (lanes (lane_room n) n v)) ≡ length (take k (lanes (lane_room n) n w))
+    first_counts = first_count v ∙ sym (first_count w)
+
+    pub first_lasts : nat_cmp (v % 2 ^ (suc (lane_room n) * k)) (w % 2 ^ (suc (lane_room n) * k))
+        ≡ slice_cmp nat_cmp (reverse (take k (lanes (lane_room n) n v)))
+        (reverse (take k (lanes (lane_room n) n w)))
+    first_lasts =
+        ap₂ nat_cmp (sym (first_word v (word_is n f v q))) (sym (first_word w (word_is n d w p)))
+        ∙ word_cmp (lane_room n) (take k (lanes (lane_room n) n v))
+        (take k (lanes (lane_room n) n w)) first_counts
+        (small-take (suc (lane_room n)) k _ (small-lanes (lane_room n) n v))
+        (small-take (suc (lane_room n)) k _ (small-lanes (lane_room n) n w))
+
     pub first_apart : (w % 2 ^ (suc (lane_room n) * k) ≡ v % 2 ^ (suc (lane_room n) * k) → ⊥)
         → ordering_then (nat_cmp (sum (lanes (lane_room n) k (w % 2 ^ (suc (lane_room n) * k))))
         (sum (lanes (lane_room n) k (v % 2 ^ (suc (lane_room n) * k)))))
         (nat_cmp (v % 2 ^ (suc (lane_room n) * k)) (w % 2 ^ (suc (lane_room n) * k)))
         ≡ compare (blocks k grevlex grevlex) (lanes (lane_room n) n w) (lanes (lane_room n) n v)
     first_apart apart =
-        let small_w = small-take (suc (lane_room n)) k _ (small-lanes (lane_room n) n w) in
-        let small_v = small-take (suc (lane_room n)) k _ (small-lanes (lane_room n) n v) in
-        let counts = first_count v ∙ sym (first_count w) in
         ap₂ ordering_then (ap₂ nat_cmp (ap sum (first_lanes w (word_is n d w p)))
-        (ap sum (first_lanes v (word_is n f v q))))
-        (ap₂ nat_cmp (sym (first_word v (word_is n f v q))) (sym (first_word w (word_is n d w p)))
-        ∙ word_cmp (lane_room n) (take k (lanes (lane_room n) n v))
-        (take k (lanes (lane_room n) n w)) counts small_v small_w)
+        (ap sum (first_lanes v (word_is n f v q)))) first_lasts
         ∙ sym (compare_grevlex (take k (lanes (lane_room n) n w)) (take k (lanes (lane_room n) n v))
-        (sym counts))
+        (sym first_counts))
         ∙ sym (compare_apart k (lanes (lane_room n) n w) (lanes (lane_room n) n v) same_count
         (λ is. apart (sym (first_word w (word_is n d w p)) ∙ ap (word (lane_room n)) is
         ∙ first_word v (word_is n f v q))))

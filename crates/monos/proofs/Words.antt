@@ -39,6 +39,13 @@ unfolding lanes
 length-lanes b zero w = refl
 length-lanes b (suc n) w = omega (arith, length-lanes b n (w / 2 ^ suc b))
 
+pub lanes-take : (b k n w : ℕ) → k ≤ n → lanes b k w ≡ take k (lanes b n w)
+unfolding lanes
+lanes-take b zero n w h = refl
+lanes-take b (suc k) zero w h = absurd (omega arith)
+lanes-take b (suc k) (suc n) w h = ap (λ r. (w % 2 ^ suc b) ∷ r)
+    (lanes-take b k n (w / 2 ^ suc b) (omega arith))
+
 pub small-lanes : (b n w : ℕ) → AreSmall (suc b) (lanes b n w)
 unfolding lanes
 small-lanes b zero w = All-nil (λ k. k < 2 ^ suc b)
@@ -110,9 +117,6 @@ guard_set b k low high =
 
 -- ---- all guards
 
-pub no_guards : (b n : ℕ) → bit_and 0 (guards b n) ≡ 0
-no_guards b n = refl
-
 pub guards_below : (b n : ℕ) → guards b n < 2 ^ (suc b * n)
 unfolding guards
 guards_below b zero = pow_pos (suc b * 0)
@@ -125,22 +129,7 @@ both_zero : (x p y : ℕ) → 0 < p → x * p + y ≡ 0 → (x ≡ 0) × (y ≡ 
 both_zero zero p y l h = (refl, omega arith)
 both_zero (suc x) p y l h = absurd (let e = suc-mul x p in omega (arith, e, h, l))
 
--- the guards of a word of lanes are clear exactly where its exponents are small
-pub clear_from_small : (b n : ℕ) (e : List ℕ) → length e ≤ n → AreSmall b e
-    → bit_and (word b e) (guards b n) ≡ 0
-unfolding word guards
-clear_from_small b n [] l s = refl
-clear_from_small b zero (k ∷ e) l s = absurd (omega arith)
-clear_from_small b (suc n) (k ∷ e) l s =
-    let small = small_first b k e s in
-    let d = double b in
-    let p = pow_pos b in
-    and_block (suc b) (word b e) (guards b n) k (2 ^ b) (omega (arith, small, d))
-    (omega (arith, d, p))
-    ∙ ap₂ (λ x y. x * 2 ^ suc b + y) (clear_from_small b n e (omega arith) (small_rest b k e s))
-    (guard_clear b k small)
-    ∙ ap (λ q. q + 0) (zero-mul (2 ^ suc b))
-
+-- where the guards of a word of lanes are clear, its exponents are small
 pub small_from_clear : (b n : ℕ) (e : List ℕ) → length e ≤ n → AreSmall (suc b) e
     → bit_and (word b e) (guards b n) ≡ 0 → AreSmall b e
 unfolding word guards

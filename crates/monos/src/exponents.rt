@@ -1,6 +1,6 @@
 //! The exponents of a monomial as a list by value.
 ghost use Rattle.std.specs.Prelude.{◌≡◌, ◌≤◌, take};
-ghost use Rattle.monos.specs.Variables.{most_inline};
+ghost use Rattle.monos.specs.Variables.{most_inline, most_double};
 
 use std::marker::Model;
 
@@ -13,6 +13,7 @@ pub struct Exponents<'a> {
 #[derive(Drop)]
 enum ExponentList<'a> {
     InPlace([u16; 16], usize),
+    InTwo([u16; 32], usize),
     Behind(&'a [u16]),
 }
 
@@ -39,6 +40,16 @@ impl<'a> Exponents<'a> {
         }
     }
 
+    /// The first `count` of these.
+    pub(crate) fn in_two(list: [u16; 32], count: usize) -> Exponents<'a>
+        requires { count ≤ most_double }
+        ensures { result ≡ take count list }
+    {
+        Exponents {
+            list: ExponentList::InTwo(list, count),
+        }
+    }
+
     /// Those of a list.
     pub(crate) fn behind(list: &'a [u16]) -> Exponents<'a>
         ensures { result ≡ list.now }
@@ -54,6 +65,7 @@ impl<'a> Exponents<'a> {
     {
         match &self.list {
             ExponentList::InPlace(list, count) => &list[..*count],
+            ExponentList::InTwo(list, count) => &list[..*count],
             ExponentList::Behind(list) => *list,
         }
     }

@@ -3,11 +3,12 @@
 ghost use Rattle.std.specs.Prelude.{◌≡◌, ◌≤◌, ◌↔◌, length, nat_eq, IsTrue, IfOk, IfSome, IsErrOf, IsOk, IsSome};
 ghost use Rattle.std.specs.Cmp.Lexicographic.{pointwise};
 ghost use Rattle.polynomials.specs.Exponent.{plus, Divides, lcm};
-ghost use Rattle.monos.specs.Lanes.{IsShort};
+ghost use Rattle.monos.specs.Lanes.{IsShort, IsDouble};
 ghost use Rattle.monos.specs.Products.{ProductFits};
 ghost use Rattle.monos.specs.Coprime.{IsCoprime};
 ghost use Rattle.monos.specs.Variables.{most_variables};
 
+use crate::double::DoubleMono;
 use crate::lists::{coprime_each, differences, divides_each, maxima, sums, sums_fit};
 use crate::short_mono::ShortMono;
 use crate::{Form, Mono};
@@ -25,8 +26,33 @@ impl Mono {
     {
         match &self.form {
             Form::Short { head, low, high } => Some(ShortMono::of_halves(*head, *low, *high)),
+            _ => None,
+        }
+    }
+
+    /// The monomial as two short ones, if it is double.
+    #[inline(always)]
+    pub(crate) fn double_form(&self) -> Option<&DoubleMono>
+        ensures same { IfSome result (λ d. d.now ≡ self.now) }
+        ensures double { IsSome result ↔ IsDouble self.now }
+    {
+        match &self.form {
+            Form::Double(double) => Some(&**double),
+            Form::Short { .. } => None,
             Form::Long(_) => None,
         }
+    }
+
+    /// The double monomial.
+    #[inline(always)]
+    pub(crate) fn of_double(alloc: Global, double: DoubleMono) -> Result<Mono, AllocError>
+        requires { IsDouble double }
+        ensures ok { IfOk result (λ mono. mono ≡ double) }
+    {
+        let double = Box::new(alloc, double)?;
+        Ok(Mono {
+            form: Form::Double(double),
+        })
     }
 
     /// The short monomial.
@@ -52,12 +78,15 @@ impl Mono {
     {
         match ShortMono::of_slice(list.as_slice()) {
             Some(short) => Ok(Mono::of_short(short)),
-            None => {
-                let list = Box::new(alloc, list)?;
-                Ok(Mono {
-                    form: Form::Long(list),
-                })
-            }
+            None => match DoubleMono::of_slice(list.as_slice()) {
+                Some(double) => Mono::of_double(alloc, double),
+                None => {
+                    let list = Box::new(alloc, list)?;
+                    Ok(Mono {
+                        form: Form::Long(list),
+                    })
+                }
+            },
         }
     }
 

@@ -37,7 +37,10 @@ impl Order for Lex {
     {
         match (a.short_form(), b.short_form()) {
             (Some(left), Some(right)) => left.compare_by_first(&right),
-            _ => compare_lists_from_first(a, b),
+            _ => match (a.double_form(), b.double_form()) {
+                (Some(left), Some(right)) => left.compare_by_first(right),
+                _ => compare_lists_from_first(a, b),
+            },
         }
     }
 
@@ -59,7 +62,10 @@ impl Order for Grevlex {
     {
         match (a.short_form(), b.short_form()) {
             (Some(left), Some(right)) => left.compare(&right),
-            _ => compare_lists_grevlex(a, b),
+            _ => match (a.double_form(), b.double_form()) {
+                (Some(left), Some(right)) => left.compare(right),
+                _ => compare_lists_grevlex(a, b),
+            },
         }
     }
 
@@ -84,7 +90,10 @@ impl Order for Blocks {
     {
         match (a.short_form(), b.short_form()) {
             (Some(left), Some(right)) => left.compare_by_blocks(&right, self.first),
-            _ => compare_lists_blocks(a, b, self.first),
+            _ => match (a.double_form(), b.double_form()) {
+                (Some(left), Some(right)) => left.compare_by_blocks(right, self.first),
+                _ => compare_lists_blocks(a, b, self.first),
+            },
         }
     }
 

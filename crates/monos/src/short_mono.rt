@@ -1,8 +1,10 @@
 //! Short monomials: at most 16 small exponents in one word.
-ghost use Rattle.std.specs.Prelude.{◌≡◌, ◌≤◌, ◌↔◌, length, take, IsTrue, IfSome, IsSome};
+ghost use Rattle.std.specs.Prelude.{◌≡◌, ◌≤◌, ◌↔◌, length, sum, take, reverse, IsTrue, IfSome, IsSome};
+ghost use Rattle.std.specs.Ordering.{nat_cmp};
+ghost use Rattle.std.specs.Cmp.Lexicographic.{slice_cmp};
 ghost use Rattle.polynomials.specs.Exponent.{plus, Divides, lcm};
 ghost use Rattle.polynomials.specs.Order.{compare, lex, grevlex, blocks};
-ghost use Rattle.monos.specs.Lanes.{AreSmall, IsShort, IsInLanes, lane_room, lanes, word};
+ghost use Rattle.monos.specs.Lanes.{AreSmall, IsShort, IsInLanes, lane_room, lanes, most_degree, word};
 ghost use Rattle.monos.specs.Parts.{arity_of, degree_of, whole_word};
 ghost use Rattle.monos.specs.Products.{ProductFits};
 ghost use Rattle.monos.specs.Coprime.{IsCoprime};
@@ -40,6 +42,7 @@ impl ShortMono {
     pub(crate) fn of_slice(exponents: &[u16]) -> Option<ShortMono>
         ensures none { ¬ IsSome result → ¬ IsShort exponents.now }
         ensures some { IfSome result (λ p. p ≡ exponents.now) }
+        ensures short { IsSome result → IsShort exponents.now }
     {
         if exponents.len() > 16 {
             return None;
@@ -79,6 +82,18 @@ impl ShortMono {
         usize::from(self.arity)
     }
 
+    /// The same monomial.
+    #[inline(always)]
+    pub(crate) fn copy(&self) -> ShortMono
+        ensures { result ≡ self.now }
+    {
+        ShortMono {
+            arity: self.arity,
+            degree: self.degree,
+            word: self.word,
+        }
+    }
+
     /// The exponents, with zeros behind them.
     pub(crate) fn exponents(&self) -> [u16; 16]
         ensures { take (length self.now) result ≡ self.now }
@@ -109,6 +124,7 @@ impl ShortMono {
     pub(crate) fn times(&self, other: &ShortMono) -> Option<ShortMono>
         requires { length self.now ≡ length other.now }
         ensures some { IfSome result (λ p. p ≡ plus self.now other.now) }
+        ensures short { IfSome result IsShort }
         ensures fits { ProductFits self.now other.now }
     {
         let word = self.word + other.word;
@@ -129,6 +145,7 @@ impl ShortMono {
         requires divides { Divides other.now self.now }
         ensures ok { plus other.now result ≡ self.now }
         ensures arity { length result ≡ length self.now }
+        ensures short { IsShort result }
     {
         ShortMono {
             arity: self.arity,
@@ -148,7 +165,8 @@ impl ShortMono {
     /// The least common multiple of this monomial and `other`.
     pub(crate) fn lcm(&self, other: &ShortMono) -> ShortMono
         requires { length self.now ≡ length other.now }
-        ensures { result ≡ lcm self.now other.now }
+        ensures lcm { result ≡ lcm self.now other.now }
+        ensures short { IsShort result }
     {
         let word = self.word_of_lcm(other);
         let count = usize::from(self.arity);
@@ -184,6 +202,48 @@ impl ShortMono {
         } else {
             self.degree.cmp(&other.degree)
         }
+    }
+
+    /// The degree.
+    #[inline(always)]
+    pub(crate) fn degree(&self) -> u32
+        ensures degree { result ≡ sum self.now }
+        ensures small { result ≤ most_degree }
+    {
+        self.degree
+    }
+
+    /// Where the exponents of `other` stand to those here, from the last on.
+    #[inline(always)]
+    pub(crate) fn compare_from_last(&self, other: &ShortMono) -> Ordering
+        requires { length self.now ≡ length other.now }
+        ensures { result ≡ slice_cmp nat_cmp (reverse other.now) (reverse self.now) }
+    {
+        other.word.cmp(&self.word)
+    }
+
+    /// The sum of the first exponents.
+    #[inline(always)]
+    pub(crate) fn degree_of_first(&self, first: usize) -> u32
+        requires { first ≤ length self.now }
+        ensures degree { result ≡ sum (take first self.now) }
+        ensures small { result ≤ most_degree }
+    {
+        degree_in(self.word, room_of(self.arity), first)
+    }
+
+    /// Where the first exponents of `other` stand to those here, from the last of them on.
+    #[inline(always)]
+    pub(crate) fn compare_first_from_last(&self, other: &ShortMono, first: usize) -> Ordering
+        requires arity { length self.now ≡ length other.now }
+        requires first { first ≤ length self.now }
+        ensures { result ≡ slice_cmp nat_cmp (reverse (take first other.now)) (reverse (take first self.now)) }
+    {
+        if first >= usize::from(self.arity) {
+            return self.compare_from_last(other);
+        }
+        let bits = (room_of(self.arity) + 1) * first as u32;
+        lowest_bits(other.word, bits).cmp(&lowest_bits(self.word, bits))
     }
 
     /// Where it stands to `other` by the first variables, and then by the others.

@@ -20,6 +20,12 @@ returns-in_err-pair-clause-wide g c =
     (other.1 c.index-list-right.result c.index-list-right.is) c.in_ok-multiple.ensures.multiple
     first.0 other.0 (c.in_err-pair.ensures.wide (cc (p.1, p.2, w))))
 
+pub returns-in_err-sum-clause-wide : goal.returns-in_err-sum-clause-wide
+returns-in_err-sum-clause-wide g c =
+    let p = err_from_is_err_and c.from_residual-in_err-sum.result
+    c.from_residual-in_err-sum.ensures.1 in
+    λ w. inr (c.in_err-sum.ensures.wide (cc (p.1, p.2, w)))
+
 pub are_below-requires-clause-long : goal.are_below-requires-clause-long
 are_below-requires-clause-long g c =
     let ps = c.args.list.now in

@@ -1,4 +1,5 @@
-use Rattle.monos.proofs.ShortMonos.{quotient_is, length_of_quotient}
+use Rattle.std.proofs.Common.{refl}
+use Rattle.monos.proofs.ShortMonos.{quotient_is, length_of_quotient, is_short}
 use Rattle.monos.proofs.short_mono.ShortMono.quotient.Goals as goal
 
 pub overflow_sub-result : goal.overflow_sub-result
@@ -20,3 +21,7 @@ returns-clause-ok c = (quotient_is _ _ _ _ _ _ _ _ c.self.invariant c.other.inva
 pub returns-clause-arity : goal.returns-clause-arity
 returns-clause-arity c = length_of_quotient _ _ _ _ _ _ _ _ c.self.invariant c.other.invariant
     c.self.view_is c.other.view_is c.requires.arity
+
+pub returns-clause-short : goal.returns-clause-short
+returns-clause-short c = is_short _ _ _ _ (quotient_is _ _ _ _ _ _ _ _ c.self.invariant
+    c.other.invariant c.self.view_is c.other.view_is c.requires.arity c.requires.divides).2 refl
