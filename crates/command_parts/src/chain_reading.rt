@@ -16,7 +16,7 @@ use std::alloc::{AllocError, Global};
 const CHAIN_LIMIT: usize = 65_536;
 
 /// The chain of a file of at most 65,536 bytes, or the answer that the file can't be read or is too long, or what its
-/// first fault is (docs/FORMATS.md, "The loop").
+/// first fault is (docs/LANGUAGE.md, "Faults").
 pub fn read_file_chain<F: Files>(
     alloc: Global,
     files: &mut F,
