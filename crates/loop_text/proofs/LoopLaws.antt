@@ -10,7 +10,7 @@ use Rattle.grammars.specs.Spelled.{IsRead, AreSpelled, spelled_marks}
 use Rattle.grammars.proofs.Automata.{leads}
 use Rattle.poly_text.specs.Lexemes.{Lexeme, tokens}
 use Rattle.poly_text.specs.Reasons.{Reason, Fault}
-use Rattle.poly_text.specs.Telling.{told}
+use Rattle.poly_text.specs.Told.{told}
 use Rattle.poly_text.specs.Sums.{a_sum, a_factor}
 use Rattle.poly_text.proofs.SumChecked.{kinds_exact, sum_leads}
 use Rattle.poly_text.proofs.LexemeRuns.{Place, outside, guarded, behind, moves, alike, texts_spelled}

@@ -8,7 +8,8 @@ use Rattle.grammars.specs.Reader.{ReadResult, reads, refused, unended, parsed}
 use Rattle.grammars.proofs.Lifted.{lifted_read}
 use Rattle.poly_text.specs.Lexemes.{Lexeme, Placed}
 use Rattle.poly_text.specs.Reasons.{Reason, Fault}
-use Rattle.poly_text.specs.Telling.{Told, told, reading}
+use Rattle.poly_text.specs.Told.{Told, told}
+use Rattle.poly_text.specs.Telling.{reading}
 use Rattle.loop_text.specs.Loops as loops
 use Rattle.loop_text.specs.Loops.{LoopContext, LoopValue, LoopState, loop_language}
 use Rattle.loop_text.specs.Chains.{Earlier, ChainContext, ChainValue, loops_in_chains, chain_language}

@@ -11,7 +11,7 @@ use Rattle.poly_text.specs.Reasons.{Reason, syntax, Fault}
 use Rattle.poly_text.specs.Faults.{fault_of}
 use Rattle.poly_text.specs.Sums.{SumContext, SumValue, SumState, SumRule, a_sum, sum_language}
 use Rattle.poly_text.specs.Telling as telling
-use Rattle.poly_text.specs.Telling.{Told, told}
+use Rattle.poly_text.specs.Told.{Told, told}
 use Rattle.poly_text.specs.declared.error.TextError.{TextError}
 use Rattle.poly_text.specs.declared.error.TextError.TheVariants.{Syntax, Limit, Wide, Twice, Unknown, InitUses, Unset, Divisor, Memory}
 use Rattle.grammars.specs.Retold.{retold_language, retold_answer}

@@ -24,7 +24,7 @@ use Rattle.loop_text.specs.Seqs.{SeqContext, SeqValue, SeqState, SeqRule, of_val
 use Rattle.loop_text.proofs.SeqChecked.{by_value, by_next}
 use Rattle.poly_text.specs.Sums.{a_sum, a_factor}
 use Rattle.poly_text.specs.Telling as telling
-use Rattle.poly_text.specs.Telling.{told}
+use Rattle.poly_text.specs.Told.{told}
 use Rattle.loops.specs.Limits.{most_names}
 use Rattle.loop_text.specs.SequenceStates.{reading}
 use Rattle.loop_text.specs.Telling.{first_of, next_in}

@@ -23,7 +23,7 @@ use Rattle.poly_text.specs.Sums.{SumContext, SumValue, SumState, a_sum, sum_lang
 use Rattle.poly_text.specs.CursorView.{rest, behind}
 use Rattle.poly_text.specs.Reads.{used_by, Around, state_in, behind_expr}
 use Rattle.poly_text.specs.Telling as telling
-use Rattle.poly_text.specs.Telling.{Told, told}
+use Rattle.poly_text.specs.Told.{Told, told}
 use Rattle.poly_text.specs.declared.error.TextError.{TextError}
 use Rattle.poly_text.specs.declared.cursor.Cursor.{Cursor}
 use Rattle.poly_text.proofs.Paths.{IsFault, fault_passes, then_on, reading_change}

@@ -9,7 +9,7 @@ use Rattle.grammars.specs.Reader.{read_whole}
 use Rattle.grammars.specs.Embedded.{part}
 use Rattle.poly_text.specs.Lexemes.{tokens}
 use Rattle.poly_text.specs.Reasons.{Fault}
-use Rattle.poly_text.specs.Telling.{Told, told}
+use Rattle.poly_text.specs.Told.{Told, told}
 use Rattle.loop_text.specs.LoopReader.{program_in}
 use Rattle.loops.specs.Chain.{Chain, Stage}
 use Rattle.loop_text.specs.Chains.{ChainContext, ChainValue, ChainState, loops_in_chains, with_stage, chain_language, whole_chain, chain_nothing}

@@ -7,7 +7,7 @@ use Rattle.grammars.specs.Reader.{read_whole}
 use Rattle.poly_text.specs.Lexemes.{Placed}
 use Rattle.poly_text.specs.Reasons.{Fault}
 use Rattle.poly_text.specs.Telling as telling
-use Rattle.poly_text.specs.Telling.{Told, told}
+use Rattle.poly_text.specs.Told.{Told, told}
 use Rattle.poly_text.specs.declared.error.TextError.{TextError}
 use Rattle.poly_text.specs.declared.cursor.Cursor.{Cursor}
 use Rattle.loops.specs.Chain.{Chain}

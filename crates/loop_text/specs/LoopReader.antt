@@ -7,7 +7,7 @@ use Rattle.loops.specs.Program.{Program, Expr}
 use Rattle.grammars.specs.Reader.{read_whole}
 use Rattle.poly_text.specs.Lexemes.{Placed, tokens}
 use Rattle.poly_text.specs.Reasons.{Reason, syntax, Fault}
-use Rattle.poly_text.specs.Telling.{Told, told}
+use Rattle.poly_text.specs.Told.{Told, told}
 use Rattle.loop_text.specs.Loops.{LoopContext, LoopValue, LoopState, loop_language, whole_loop, nothing}
 
 abbrev pub program_in : LoopState → Program (Expr ℕ)

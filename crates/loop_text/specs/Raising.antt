@@ -2,7 +2,7 @@
 --   in_chain n before s        the state s of a loop, where n loops began and this was read before
 --   told_in_chain n before r   what is told of a loop, of the chain
 use Rattle.std.specs.Prelude.{ℕ, Ok, Err}
-use Rattle.poly_text.specs.Telling.{Told}
+use Rattle.poly_text.specs.Told.{Told}
 use Rattle.loop_text.specs.Loops.{LoopContext, LoopValue, LoopState}
 use Rattle.loop_text.specs.Chains.{Earlier, ChainContext, ChainValue, ChainState}
 

@@ -8,7 +8,7 @@ use Rattle.loops.specs.Program.{Expr, number}
 use Rattle.grammars.specs.Reader.{read_whole}
 use Rattle.poly_text.specs.Lexemes.{Placed, tokens}
 use Rattle.poly_text.specs.Reasons.{Reason, syntax, Fault}
-use Rattle.poly_text.specs.Telling.{Told, told}
+use Rattle.poly_text.specs.Told.{Told, told}
 use Rattle.loops.specs.Sequences.{Sequence}
 use Rattle.loop_text.specs.Seqs.{SeqContext, SeqValue, SeqState, seq_language, whole_seqs, nothing}
 

@@ -13,7 +13,7 @@ use Rattle.poly_text.specs.Lexemes.{Placed}
 use Rattle.poly_text.specs.Faults.{fault_of}
 use Rattle.poly_text.specs.Reasons.{Fault}
 use Rattle.poly_text.specs.Telling as telling
-use Rattle.poly_text.specs.Telling.{Told, told}
+use Rattle.poly_text.specs.Told.{Told, told}
 use Rattle.poly_text.specs.declared.error.TextError.{TextError}
 use Rattle.poly_text.specs.declared.cursor.Cursor.{Cursor}
 use Rattle.loops.specs.Sequences.{Sequence}

@@ -31,7 +31,7 @@ use Rattle.poly_text.specs.NameFaults as positions
 use Rattle.poly_text.specs.Reasons.{Reason, twice, unknown, init_uses, or_else, Fault}
 use Rattle.poly_text.specs.Reads.{used_by}
 use Rattle.poly_text.specs.Telling as telling
-use Rattle.poly_text.specs.Telling.{Told, told}
+use Rattle.poly_text.specs.Told.{Told, told}
 use Rattle.poly_text.specs.declared.error.TextError.{TextError}
 use Rattle.poly_text.specs.declared.cursor.Cursor.{Cursor}
 use Rattle.loop_model.specs.declared.statement.Statement as code

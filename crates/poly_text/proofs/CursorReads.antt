@@ -27,7 +27,8 @@ use Rattle.poly_text.specs.Reasons.{Reason, syntax, Fault}
 use Rattle.poly_text.specs.Faults.{fault_of}
 use Rattle.grammars.specs.Reader.{reads, refused}
 use Rattle.grammars.proofs.Steps.{judged, parsed_token}
-use Rattle.poly_text.specs.Telling.{TextLanguage, TextRule, Told, told, reading, Reads}
+use Rattle.poly_text.specs.Told.{Told, told}
+use Rattle.poly_text.specs.Telling.{TextLanguage, TextRule, reading, Reads}
 use Rattle.poly_text.specs.declared.error.TextError.{TextError}
 use Rattle.poly_text.proofs.Paths.{going_on, reading_sequence, reading_left, reading_right, reading_more, reading_none, start, stops_last, IsFault, in_first}
 use Rattle.poly_text.specs.Lexemes as lexemes

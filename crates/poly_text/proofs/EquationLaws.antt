@@ -17,7 +17,8 @@ use Rattle.poly_text.specs.NextToken.{seen_lexeme}
 use Rattle.poly_text.specs.Reasons.{Fault, init_uses}
 use Rattle.poly_text.specs.Faults.{fault_of}
 use Rattle.poly_text.specs.Sums.{SumContext, SumValue, SumState, Rule, a_sum, sum_language, equals, combine, the_end, start, equation, note}
-use Rattle.poly_text.specs.Telling.{Told, reading}
+use Rattle.poly_text.specs.Told.{Told}
+use Rattle.poly_text.specs.Telling.{reading}
 use Rattle.poly_text.specs.CursorView.{rest}
 use Rattle.poly_text.specs.Reads.{used_by, Around, state_in, state_behind, behind_expr, with_operator}
 use Rattle.poly_text.specs.declared.cursor.Cursor.{Cursor}

@@ -14,7 +14,7 @@ use Rattle.grammars.specs.Spelled.{IsRead}
 use Rattle.grammars.proofs.Kept.{Keeps, KeepAll, read_kept}
 use Rattle.poly_text.specs.Lexemes.{Lexeme, tokens}
 use Rattle.poly_text.specs.Reasons.{Reason}
-use Rattle.poly_text.specs.Telling.{told}
+use Rattle.poly_text.specs.Told.{told}
 use Rattle.poly_text.specs.Flat.{FlatContext, FlatState, FlatRule, Rule, an_exponent, fits, with_power, with_item, signed_over, raising, rule_says, power, item, whole_flat, flat_language, no_exponents, start, terms_told, flat_of}
 use Rattle.poly_text.proofs.FlatChecked.{said_if, flat_read}
 

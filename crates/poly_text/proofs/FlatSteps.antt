@@ -15,7 +15,8 @@ use Rattle.poly_text.specs.Kinds.{a_name, a_number, no_kind, a_sign, same, kind_
 use Rattle.poly_text.specs.Reasons.{Reason, syntax, limit, divisor, unknown, unless}
 use Rattle.poly_text.specs.NextToken.{seen_lexeme}
 use Rattle.poly_text.specs.CursorView.{rest, behind}
-use Rattle.poly_text.specs.Telling.{Told, reading}
+use Rattle.poly_text.specs.Told.{Told}
+use Rattle.poly_text.specs.Telling.{reading}
 use Rattle.poly_text.specs.declared.lexemes.Lexeme.TheVariants as code_lexeme
 use Rattle.poly_text.specs.declared.cursor.Cursor.{Cursor}
 use Rattle.poly_text.proofs.KindTests.{unlike, no_sign}

@@ -21,7 +21,7 @@ use Rattle.poly_text.specs.Reasons.{twice, Fault}
 use Rattle.poly_text.specs.Faults.{fault_of}
 use Rattle.poly_text.specs.NextToken.{seen_lexeme, tokens_behind}
 use Rattle.poly_text.specs.CursorView.{rest, behind}
-use Rattle.poly_text.specs.Telling.{Told}
+use Rattle.poly_text.specs.Told.{Told}
 use Rattle.poly_text.specs.declared.error.TextError.{TextError}
 use Rattle.poly_text.specs.declared.cursor.Cursor.{Cursor}
 use Rattle.poly_text.specs.declared.lexemes.Lexeme.TheVariants as code_lexeme

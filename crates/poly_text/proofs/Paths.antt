@@ -21,7 +21,8 @@ use Rattle.grammars.specs.Checked.{IsChecked}
 use Rattle.grammars.proofs.Steps.{and_then, parsed_change, parsed_sequence, parsed_either, parsed_many, parsed_rule}
 use Rattle.poly_text.specs.Lexemes.{Lexeme, Placed}
 use Rattle.poly_text.specs.Reasons.{Reason}
-use Rattle.poly_text.specs.Telling.{TextLanguage, TextRule, Told, told, reading, answer_by, goes_to, Reads, Goes}
+use Rattle.poly_text.specs.Told.{Told, told}
+use Rattle.poly_text.specs.Telling.{TextLanguage, TextRule, reading, answer_by, goes_to, Reads, Goes}
 use Rattle.poly_text.specs.Faults.{fault_of}
 use Rattle.poly_text.specs.CursorView.{rest}
 use Rattle.poly_text.specs.declared.error.TextError.{TextError}

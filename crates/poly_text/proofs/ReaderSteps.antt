@@ -18,7 +18,8 @@ use Rattle.poly_text.specs.declared.error.TextError.{TextError}
 use Rattle.poly_text.specs.declared.sums.Part.{Part}
 use Rattle.poly_text.specs.declared.sums.SumReader.{SumReader}
 use Rattle.poly_text.specs.Sums.{SumContext, SumValue, SumState, Rule, a_factor, sum_language, factor, operator, combine, push, note}
-use Rattle.poly_text.specs.Telling.{Told, reading, answer_by}
+use Rattle.poly_text.specs.Told.{Told}
+use Rattle.poly_text.specs.Telling.{reading, answer_by}
 use Rattle.poly_text.specs.Reads.{used_by, Around, around, state_in, state_behind, behind_expr, with_operator, Counts, ReadsPart, ReadsBehind}
 use Rattle.poly_text.proofs.SumChecked.{sums_checked}
 use Rattle.poly_text.proofs.Paths.{reading_rule, GivesError, GoesOn, start, on, over, ends, stops}

@@ -26,7 +26,8 @@ use Rattle.poly_text.specs.Kinds.{Kind, a_name, a_number, a_large, a_sign, same,
 use Rattle.poly_text.specs.Reasons.{Reason, limit, divisor, unless, or_else}
 use Rattle.poly_text.specs.NameFaults.{has, look}
 use Rattle.poly_text.specs.Sums.{SumContext, SumValue, SumState, SumRule, Rule, a_sum, a_factor, sum_language, rule_says, word_fault, divisor_fault, place, minus_fault, depth_fault, operator_fault, push, note, one_of, two_of, number_of, operator, joint, factor, product, sum}
-use Rattle.poly_text.specs.Telling.{told, reading}
+use Rattle.poly_text.specs.Told.{told}
+use Rattle.poly_text.specs.Telling.{reading}
 use Rattle.poly_text.proofs.KindTests.{by_shape}
 use Rattle.poly_text.proofs.AllowedNames.{Allowed, look_allows}
 

@@ -19,7 +19,8 @@ use Rattle.poly_text.specs.Kinds.{Kind}
 use Rattle.poly_text.proofs.Lexing.{Ends, ends_here, ends_later, behind_ends}
 use Rattle.grammars.proofs.Steps.{read_then, parsed_sequence}
 use Rattle.poly_text.specs.Reasons.{Reason, syntax}
-use Rattle.poly_text.specs.Telling.{TextLanguage, TextRule, Told, told, reading}
+use Rattle.poly_text.specs.Told.{Told, told}
+use Rattle.poly_text.specs.Telling.{TextLanguage, TextRule, reading}
 
 longer_never : {ts us : List (Placed Lexeme)} (l : Lexeme) (ls : List Lexeme) → Ends ts → Ends us
     → lexemes_of us ≡ lexemes_of ts ++ l ∷ ls → ⊥

@@ -14,7 +14,7 @@ use Rattle.poly_text.specs.Lexemes.{Placed}
 use Rattle.poly_text.specs.Reasons.{Fault, syntax}
 use Rattle.poly_text.specs.Sums.{SumContext, SumValue, sum_language, whole_sum, whole_equation, start}
 use Rattle.poly_text.specs.Faults.{fault_of}
-use Rattle.poly_text.specs.Telling.{Told, told}
+use Rattle.poly_text.specs.Told.{Told, told}
 use Rattle.poly.specs.Standing.{StandsFor}
 use Rattle.loop_model.specs.FracPoly.{FracPoly}
 use Rattle.loop_model.specs.Operations.{value, operations, IsFree}

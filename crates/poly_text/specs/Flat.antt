@@ -26,7 +26,7 @@ use Rattle.poly_text.specs.Lexemes.{Lexeme, tokens, is_sign_of}
 use Rattle.poly_text.specs.Kinds.{Kind, a_name, a_number, an_end, a_sign, same, kind_of, sample, word_in}
 use Rattle.poly_text.specs.Reasons.{Reason, limit, divisor, unknown, twice, unless}
 use Rattle.poly_text.specs.Sums.{number_of}
-use Rattle.poly_text.specs.Telling.{Told, told}
+use Rattle.poly_text.specs.Told.{Told, told}
 
 pub record FlatContext : Type 0 where
   pub names : List (List ℕ)

@@ -8,6 +8,7 @@ pub mod Kinds
 pub mod Sums
 pub mod CursorView
 pub mod Reads
+pub mod Told
 pub mod Telling
 pub mod Flat
 pub mod FlatReads

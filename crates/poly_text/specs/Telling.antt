@@ -1,18 +1,16 @@
 -- What the functions that read texts by a language say. Its lexemes, their kinds and the reasons for faults are those of texts; its rules, contexts and values are its own.
 --   TextLanguage, TextRule       such a language, and a grammar in it
---   Told                         the state behind what was read, with the tokens from there on, or the first fault
---   told a                       what reading answers, as the code tells it: what can't stand where it does is a fault of syntax
 --   reading L g s ts             so the answer of the grammar g
 --   Reads L g s state c result   the answer is what the grammar g reads from the state s and the cursor c on, and its value makes the state
 --   Goes L g s t c result        the same where the state is t
 --   Ends L g s t c result        the same at the end of the text
-use Rattle.std.specs.Prelude.{◌≡◌, ⊤, List, [], Option, Some, unwrap_or, Result, Ok, Err, option_map, IfSome}
+use Rattle.std.specs.Prelude.{◌≡◌, ⊤, List, [], Option, Some, Result, Ok, Err, option_map, IfSome}
 use Rattle.grammars.specs.Grammar.{State, Grammar, Language}
-use Rattle.grammars.specs.Reader as answer
-use Rattle.grammars.specs.Reader.{ReadResult, parsed}
+use Rattle.grammars.specs.Reader.{parsed}
 use Rattle.poly_text.specs.Lexemes.{Lexeme, Placed}
 use Rattle.poly_text.specs.Kinds.{Kind}
-use Rattle.poly_text.specs.Reasons.{Reason, syntax, Fault}
+use Rattle.poly_text.specs.Reasons.{Reason}
+use Rattle.poly_text.specs.Told.{Told, told}
 use Rattle.poly_text.specs.Faults.{fault_of}
 use Rattle.poly_text.specs.CursorView.{rest}
 use Rattle.poly_text.specs.declared.error.TextError.{TextError}
@@ -25,16 +23,7 @@ module _ (N C V : Type 0) where
   abbrev pub TextRule : Type 0
   TextRule = Grammar N Kind Lexeme C V Reason
 
-module _ (C V : Type 0) where
-  abbrev pub Told : Type 0
-  Told = Result (State C V × List Placed) Fault
-
 module _ {C V : Type 0} where
-  abbrev pub told : ReadResult Lexeme C V Reason → Told C V
-  told (answer.reads t rest) = Ok (t, rest)
-  told (answer.refused x why) = Err (record { reason = unwrap_or why syntax; at = x.at })
-  told answer.unended = Err (record { reason = syntax; at = 0 })
-
   abbrev pub answer_by : {A : Type 0} → (A → State C V) → Result (A × Cursor) TextError
       → Option (Told C V)
   answer_by state (Ok r) = Some (Ok (state r.0, rest r.1))
