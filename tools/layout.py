@@ -70,6 +70,11 @@ RETIRED = (
     (re.compile(r"(?<![A-Za-z])(?:un)?spent(?![A-Za-z])|Spent"), "exhausted", ""),
     (re.compile(r"[Cc]hain"), "cycle, for variables that use one another", "crates/solvable"),
     (re.compile(r"\bdivision\.rest\b"), "remainder", "crates"),
+    (re.compile(r"(?<![A-Za-z])(?<!in )[Tt]urns?(?![A-Za-z])(?! (?:into|to|out|a)\b)|(?<=[a-z_])Turns?(?![a-z])"), "iteration", "crates"),
+    (re.compile(r"backward_|_backward|(?<![A-Za-z])Backward|[Ff]orms? backward"), "inverse form", ""),
+    (re.compile(r"(?<![A-Za-z])unw(?:ound|ind)|Unw(?:ound|ind)"), "pulled back", "crates"),
+    (re.compile(r"(?<![A-Za-z])sources?(?![A-Za-z])|Sources?(?![a-z])"), "inhomogeneity", "crates/(?:closed_forms|expo|solvable_maps)/"),
+    (re.compile(r"\bIfRefused\b|\bIsAll\b|\bAreMet\b|\blimit_met\b"), "a name that says what it is", "crates"),
     (re.compile(r"\bwords behind\b|[a-z]_words\.rt\b|\bread_words\b|(?<=[a-z])(?<!Of)Words\b"), "arguments, for what a command is given", "crates/[a-z_]*(?:app|commands|parts)/"),
 )
 TEXT_IN_QUOTES = re.compile(r"""b?'(?:\\.|[^'\\\n])'|"(?:[^"\\]|\\.)*\"""")

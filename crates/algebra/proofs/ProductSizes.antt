@@ -185,10 +185,10 @@ under_times-sum c a b hc ha hb =
 pub under_sum-times : (a b c : Size) → 0 < a.den → 0 < b.den → 0 < c.den
     → IsUnder (sum_size (times_size a c) (times_size b c)) (times_size (sum_size a b) c)
 under_sum-times a b c ha hb hc =
-    let turn : (x : Size) → times_size c x ≡ times_size x c =
+    let iteration : (x : Size) → times_size c x ≡ times_size x c =
     λ x. ap₂ size (N.mul_comm c.size x.size) (N.mul_comm c.den x.den) in
-    subst (λ s. IsUnder s (times_size (sum_size a b) c)) (ap₂ sum_size (turn a) (turn b))
-    (subst (λ s. IsUnder (sum_size (times_size c a) (times_size c b)) s) (turn (sum_size a b))
+    subst (λ s. IsUnder s (times_size (sum_size a b) c)) (ap₂ sum_size (iteration a) (iteration b))
+    (subst (λ s. IsUnder (sum_size (times_size c a) (times_size c b)) s) (iteration (sum_size a b))
     (under_times-sum c a b hc ha hb))
 
 none_under : (d : ℕ) (s : Size) → d ∣ s.den → IsUnder (size 0 d) s

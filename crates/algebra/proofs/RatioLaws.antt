@@ -84,8 +84,8 @@ module _ {A : Type 0} (R : CommRing A) where
   abbrev ◌*'◌ : A → A → A
   a *' b = mul a b
 
-  turn : (a b c : A) → a *' (b *' c) ≡ a *' c *' b
-  turn a b c = ring R (a ∷ b ∷ c ∷ []) (search ring_rules depth 30) refl
+  iteration : (a b c : A) → a *' (b *' c) ≡ a *' c *' b
+  iteration a b c = ring R (a ∷ b ∷ c ∷ []) (search ring_rules depth 30) refl
 
   sum_opened : (n d m e s t : A) → (n *' e +' m *' d) *' (s *' t) ≡ (n *' s) *' (e *' t) +' (m *' t)
       *' (d *' s)
@@ -140,7 +140,7 @@ reduce-alike p =
     let n = exact p.num g in
     let d = p.den / g in
     ap (λ (x : ℕ). n *ℤ pos x) (sym (N.div-mul_cancel g (gcd-right (nat_abs p.num) p.den)))
-    ∙ turn ℤ_ring n (pos d) (pos g)
+    ∙ iteration ℤ_ring n (pos d) (pos g)
     ∙ ap (λ x. x *ℤ pos d) (exact_whole p.num g (gcd-left (nat_abs p.num) p.den))
 
 pub reduce-value : (p : Ratio) → 0 < p.den → IsLowest (reduce p)

@@ -2,7 +2,7 @@
 --   eq_of_sub         two numbers whose difference is zero are the same
 --   left_of_sum       one part of a sum is the sum less the other
 --   mul_right_comm    (a b) c = (a c) b
---   add_turn          (a + b) + c = (c + a) + b; mul_turn likewise
+--   add_rotate          (a + b) + c = (c + a) + b; mul_rotate likewise
 --   add_swap          (a + b) + (c + d) = (a + c) + (b + d); mul_swap likewise
 --   power-add         the power of a sum of exponents
 use Rattle.std.proofs.Common.{◌≡◌, ℕ, zero, suc, ◌+◌, zero-add as zero-add_ℕ, suc-add, refl, sym, ap, ◌∙◌}
@@ -32,11 +32,11 @@ module _ {A : Type 0} (R : CommRing A) where
   mul_right_comm a b c = R.mul_assoc a b c ∙ ap (λ x. a ⊗ x) (R.mul_comm b c)
       ∙ sym (R.mul_assoc a c b)
 
-  pub add_turn : (a b c : A) → a ⊕ b ⊕ c ≡ c ⊕ a ⊕ b
-  add_turn a b c = R.add_comm (a ⊕ b) c ∙ sym (R.add_assoc c a b)
+  pub add_rotate : (a b c : A) → a ⊕ b ⊕ c ≡ c ⊕ a ⊕ b
+  add_rotate a b c = R.add_comm (a ⊕ b) c ∙ sym (R.add_assoc c a b)
 
-  pub mul_turn : (a b c : A) → a ⊗ b ⊗ c ≡ c ⊗ a ⊗ b
-  mul_turn a b c = R.mul_comm (a ⊗ b) c ∙ sym (R.mul_assoc c a b)
+  pub mul_rotate : (a b c : A) → a ⊗ b ⊗ c ≡ c ⊗ a ⊗ b
+  mul_rotate a b c = R.mul_comm (a ⊗ b) c ∙ sym (R.mul_assoc c a b)
 
   pub add-mul : (a b c : A) → (a ⊕ b) ⊗ c ≡ a ⊗ c ⊕ b ⊗ c
   add-mul a b c = R.mul_comm _ _ ∙ R.mul-add c a b ∙ simp (R.mul_comm c)

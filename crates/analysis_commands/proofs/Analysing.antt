@@ -27,7 +27,7 @@ use Rattle.rounds.proofs.Theorem.{finished_generates}
 use Rattle.loop_text.proofs.WellFormed.{loop_well}
 use Rattle.solvable.specs.Refusal.{IsSolvable}
 use Rattle.closed_forms.specs.Lengths.{IsShort}
-use Rattle.closed_forms.specs.Refusal.{AllPass, Refusal, not_solvable, eigenvalues, range, wide_split, limit_form, wide_form, IfRefused, refusal_in}
+use Rattle.closed_forms.specs.Refusal.{AllPass, Refusal, not_solvable, eigenvalues, range, wide_split, limit_form, wide_form, IfFormRefused, refusal_in}
 use Rattle.closed_forms.specs.declared.errors.FormsError.{FormsError}
 use Rattle.invariant_fix.specs.Refusals.{AllHaveForms, HasForm, IsRefusedBranch, TellsBranch, IsRefused}
 use Rattle.invariant_fix.specs.declared.errors.AnalyseError.{AnalyseError}
@@ -173,7 +173,7 @@ module _ (kind : Kind) (l : Program (Expr ℕ)) (budget : ℕ) (m : Journal) (a 
   -- a branch that is solvable, and whose classes split, isn't at fault
   branch_wide : (b : ℕ) (r : Refusal)
       → IsSolvable (map_of l (suc b)) × AllPass (map_of l (suc b)) × IsShort (map_of l (suc b))
-      → IfRefused (map_of l (suc b)) r → cause_status r ≡ status.Wide
+      → IfFormRefused (map_of l (suc b)) r → cause_status r ≡ status.Wide
   branch_wide b (not_solvable cycle) has is = absurd (has.0 cycle is.cycle)
   branch_wide b (eigenvalues class) has is = absurd (is.1.0 (has.1 class is.0.is).splits)
   branch_wide b (range class sum) has is =
@@ -257,7 +257,7 @@ module _ (kind : Kind) (l : Program (Expr ℕ)) (budget : ℕ) (m : Journal) (a 
     at_branch : (b' : ℕ) (r' : Refusal) → b ≡ b' → IsRefusedBranch l b' r'
         → a ≡ branch_answer l.names b' r' → Told
     at_branch b' r' same is says =
-        let here = subst (λ k. IfRefused (map_of l (suc k)) r') (sym same) is.is in
+        let here = subst (λ k. IfFormRefused (map_of l (suc k)) r') (sym same) is.is in
         elim (refusal_one (map_of l (suc b)) (branch_is_map l (suc b)) r' r exact first.is here) [
           | inl one ↦ inl (says ∙ ap₂ (branch_answer l.names) (sym same) one)
           | inr wide ↦ inr (status_of says ∙ wide)

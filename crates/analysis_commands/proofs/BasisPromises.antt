@@ -56,7 +56,7 @@ module _ (request : Request) where
       journal = left path call f (λ text. IsAnalysed text request.budget m)
           (λ text l e h. record { loop = l; is_loop = e; analysed = h });
       loop_fault = ends_at_fault path call f;
-      limit_met = λ l at r first. or_wide (course request) call f
+      limit_passed = λ l at r first. or_wide (course request) call f
           (loop_refusal (record { reason = limit; at = at }))
           (λ s. limit_analysed request.kind l request.budget at m s.answer first
           (answered path call f l r s));

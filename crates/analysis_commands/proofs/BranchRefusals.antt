@@ -22,7 +22,7 @@ use Rattle.rounds.specs.BranchMap.{map_of}
 use Rattle.rounds.proofs.BranchMaps.{branch_is_map}
 use Rattle.eigen_split.specs.Refusal.{IsPastRow}
 use Rattle.eigen_split.specs.declared.EigenError.TheVariants as eigen_error
-use Rattle.closed_forms.specs.Refusal.{Refusal, not_solvable, eigenvalues, range, wide_split, limit_form, wide_form, IsTooLong, IfRefused}
+use Rattle.closed_forms.specs.Refusal.{Refusal, not_solvable, eigenvalues, range, wide_split, limit_form, wide_form, IsTooLong, IfFormRefused}
 use Rattle.closed_forms.specs.Lengths.{with_class, IsLongAmong, IsLong, IsShort}
 use Rattle.closed_forms.specs.Splits.{IfRefusedMatrix}
 use Rattle.closed_forms.proofs.LengthLaws.{long_or_short}
@@ -81,7 +81,7 @@ module _ (images : List (Terms Fraction)) where
   module _ (solvable : (vs : List ℕ) → IsNonlinearCycle (uses images) (strongly images) vs → ⊥)
       (pass : (g : List ℕ) → IsReachedClass images g → Passes images g)
       (is_map : IsMap (length images) images) (short : IsShort images) where
-    pub all_pass : (r : Refusal) → IsExact r → IfRefused images r → ⊥
+    pub all_pass : (r : Refusal) → IsExact r → IfFormRefused images r → ⊥
     all_pass (not_solvable cycle) exact is = solvable cycle is.cycle
     all_pass (eigenvalues class) exact is = eigen_fails class is.1 (pass class is.0)
     all_pass (range class sum) exact is = range_fails class sum is.1 (pass class is.0)
@@ -90,7 +90,8 @@ module _ (images : List (Terms Fraction)) where
     all_pass (limit_form variable) exact is = map_not_both images is_map variable is.long short
     all_pass (wide_form variable) exact is = exact
 
-pub no_form : (l : Program (Expr ℕ)) (b : ℕ) (r : Refusal) → IsExact r → IfRefused (map_of l b) r
+pub no_form : (l : Program (Expr ℕ)) (b : ℕ) (r : Refusal) → IsExact r
+    → IfFormRefused (map_of l b) r
     → HasForm l b → ⊥
 no_form l b r exact is has =
     all_pass (map_of l b) has.solvable (λ g first. has.pass g first.is) (branch_is_map l b)
@@ -113,7 +114,7 @@ module _ (images : List (Terms Fraction)) (is : IsMap (length images) images) wh
     ]
   ]
 
-  same_cycle : (cycle : List ℕ) (r : Refusal) → IsExact r → IfRefused images r
+  same_cycle : (cycle : List ℕ) (r : Refusal) → IsExact r → IfFormRefused images r
       → IsLeastCycle (uses images) (strongly images) cycle → not_solvable cycle ≡ r
   same_cycle cycle (not_solvable other) exact r h =
       ap not_solvable (cycle_one (uses images) (strongly images) cycle other h r)
@@ -124,7 +125,7 @@ module _ (images : List (Terms Fraction)) (is : IsMap (length images) images) wh
   same_cycle cycle (limit_form variable) exact r h = absurd (r.solvable cycle h.cycle)
   same_cycle cycle (wide_form variable) exact r h = absurd exact
 
-  same_eigen : (class : List ℕ) (r : Refusal) → IsExact r → IfRefused images r
+  same_eigen : (class : List ℕ) (r : Refusal) → IsExact r → IfFormRefused images r
       → IsReachedClass images class → IfRefusedMatrix images class eigen_error.Eigen
       → eigenvalues class ≡ r
   same_eigen class (not_solvable cycle) exact r first h = absurd (first.solvable cycle r.cycle)
@@ -145,7 +146,7 @@ module _ (images : List (Terms Fraction)) (is : IsMap (length images) images) wh
       absurd (eigen_fails images class h (r.pass class first.is))
   same_eigen class (wide_form variable) exact r first h = absurd exact
 
-  same_range : (class : List ℕ) (sum : ℤ) (r : Refusal) → IsExact r → IfRefused images r
+  same_range : (class : List ℕ) (sum : ℤ) (r : Refusal) → IsExact r → IfFormRefused images r
       → IsReachedClass images class → IfRefusedMatrix images class (eigen_error.Range sum)
       → range class sum ≡ r
   same_range class sum (not_solvable cycle) exact r first h = absurd (first.solvable cycle r.cycle)
@@ -169,7 +170,7 @@ module _ (images : List (Terms Fraction)) (is : IsMap (length images) images) wh
       absurd (range_fails images class sum h (r.pass class first.is))
   same_range class sum (wide_form variable) exact r first h = absurd exact
 
-  same_long : (v : ℕ) (r : Refusal) → IsExact r → IfRefused images r → IsTooLong images v
+  same_long : (v : ℕ) (r : Refusal) → IsExact r → IfFormRefused images r → IsTooLong images v
       → limit_form v ≡ r
   same_long v (not_solvable cycle) exact r h = absurd (h.solvable cycle r.cycle)
   same_long v (eigenvalues class) exact r h =
@@ -182,7 +183,7 @@ module _ (images : List (Terms Fraction)) (is : IsMap (length images) images) wh
       ap limit_form (long_one images is v other h.long r.long)
   same_long v (wide_form other) exact r h = absurd exact
 
-  pub refusal_one : (r' r : Refusal) → IsExact r → IfRefused images r → IfRefused images r'
+  pub refusal_one : (r' r : Refusal) → IsExact r → IfFormRefused images r → IfFormRefused images r'
       → (r' ≡ r) ⊎ (cause_status r' ≡ status.Wide)
   refusal_one (not_solvable cycle) r exact is h = inl (same_cycle cycle r exact is h)
   refusal_one (eigenvalues class) r exact is h = inl (same_eigen class r exact is h.0 h.1)

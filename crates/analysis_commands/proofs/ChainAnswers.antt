@@ -18,7 +18,7 @@ use Rattle.ideal_ops.specs.Calls.{AreOver}
 use Rattle.rounds.specs.Journal.{IsFinishedBy}
 use Rattle.loops.specs.Chain.{Chain, code_at, loop_at}
 use Rattle.corollaries.specs.Analysed.{Analysed, at_first}
-use Rattle.corollaries.proofs.Led.{exhausted_led, past_led}
+use Rattle.corollaries.proofs.Mapped.{exhausted_mapped, past_mapped}
 use Rattle.invariant_fix.specs.declared.errors.AnalyseError.TheVariants as error
 use Rattle.invariant_fix.proofs.Options.{if_ok_two}
 use Rattle.analysis_commands.proofs.Naming.{named}
@@ -170,10 +170,10 @@ module _ (c : Chain (Expr ℕ)) (budget : ℕ) (m : Journal) (j : ℕ) where
       (λ left given h. inr (record { state = h.comes.state; follows = h.comes.follows })) l)
   worked reached (loop_error.Analysis error.Budget) (formed, inr l) =
       inr (code_weaker c budget m j _ _
-      (λ gs h. inr (exhausted_led c.first gs m.entries (code_at c j) budget h)) l)
+      (λ gs h. inr (exhausted_mapped c.first gs m.entries (code_at c j) budget h)) l)
   worked reached (loop_error.Analysis error.Memory) r = r
   worked reached loop_error.Between r = inr (code_weaker c budget m j _ _
-      (λ gs h. past_led c.first gs m.entries (code_at c j) h) r.1)
+      (λ gs h. past_mapped c.first gs m.entries (code_at c j) h) r.1)
 
   -- the variables that are told
   names_at : (i : ℕ) → (loop_at c i).names ≡ c.first.names

@@ -54,7 +54,7 @@ module _ (request : FileRequest) where
       journal = left path call f (λ text. IsAnalysed text request.budget m)
           (λ text c e h. record { chain = c; is_chain = e; analysed = h });
       chain_fault = ends_at_fault path call f;
-      limit_met = λ c j at r within known before first. or_wide (course request) call f
+      limit_passed = λ c j at r within known before first. or_wide (course request) call f
           (in_loop j (loop_refusal (record { reason = limit; at = at })))
           (λ s. limit_analysed r.text c request.budget m s.answer r.reads j within known before at
           first (answered path call f c r s));

@@ -28,12 +28,12 @@ use Rattle.rounds.specs.Form.{Form}
 use Rattle.rounds.specs.Journal.{setting_from, FollowsFrom, IsFinishedFrom}
 use Rattle.rounds.specs.Past.{IsPast}
 use Rattle.corollaries.specs.Analysed.{Analysed, first, further, GivenTo, at_first, behind}
-use Rattle.corollaries.specs.Between.{IsLed, IsExhaustedLeading, IsPastLeading}
+use Rattle.corollaries.specs.Between.{IsMapped, IsExhaustedLeading, IsPastLeading}
 use Rattle.loops.specs.Chain.{Chain, IsChain}
 use Rattle.corollaries.proofs.Analysed.{analysed_one, analysed_basis}
-use Rattle.analysis_commands.proofs.IdleCode.{idle_code, idle_led, idle_fits, idle_unexhausted}
-use Rattle.analysis_commands.proofs.ChangedCode.{changed_code, changed_led, changed_never_past, less_five, behind_entries, behind_units, behind_finished, behind_never_past}
-use Rattle.corollaries.proofs.Led.{led_one}
+use Rattle.analysis_commands.proofs.IdleCode.{idle_code, idle_mapped, idle_fits, idle_unexhausted}
+use Rattle.analysis_commands.proofs.ChangedCode.{changed_code, changed_mapped, changed_never_past, less_five, behind_entries, behind_units, behind_finished, behind_never_past}
+use Rattle.corollaries.proofs.Mapped.{mapped_one}
 use Rattle.loop_runs.specs.Limits.{most_loops}
 use Rattle.loop_text.specs.ChainReader.{chain_of}
 use Rattle.invariant_fix.specs.Bases.{operations_at}
@@ -124,7 +124,7 @@ nothing_done = omega arith
 
 -- ---- either chain
 module _ (code : List (Statement (Expr ℕ))) (ks : List (Terms Fraction))
-    (led : IsLed one_loop code [] [] ks) (w : IsChain (idle_chain code))
+    (mapped : IsMapped one_loop code [] [] ks) (w : IsChain (idle_chain code))
     (none : operations_at (idle_chain code) 1 ≡ maps_operations one_loop)
     (never : (es : List Entry) → IsPastLeading one_loop code [] es
     → ⊥) (behind_entries : List Entry)
@@ -143,7 +143,7 @@ module _ (code : List (Statement (Expr ℕ))) (ks : List (Terms Fraction))
   unfolding units_of
   within = record {
     list = hs;
-    analysed = further 0 [] [] ks behind_entries 0 hs first_analysed (omega arith) led ended
+    analysed = further 0 [] [] ks behind_entries 0 hs first_analysed (omega arith) mapped ended
         (omega (arith, few));
   }
 
@@ -157,8 +157,8 @@ module _ (code : List (Statement (Expr ℕ))) (ks : List (Terms Fraction))
 
   given_second : (left : ℕ) (given : Option (List (Terms Fraction)))
       → GivenTo (idle_chain code) budget 1 left given → given ≡ Some ks
-  given_second _ _ (behind _ gs fs ls left a l e) = ap Some (led_one one_loop code [] fs [] ls ks
-      (subst (λ hs. IsLed one_loop code hs fs ls) (nothing_first gs a) l) led).1
+  given_second _ _ (behind _ gs fs ls left a l e) = ap Some (mapped_one one_loop code [] fs [] ls ks
+      (subst (λ hs. IsMapped one_loop code hs fs ls) (nothing_first gs a) l) mapped).1
 
   refused_first : IsNeverRefusedAt (idle_chain code) budget 0
   refused_first = record {
@@ -232,12 +232,12 @@ code_never_exhausted limit es h = idle_unexhausted ([] ∷ []) limit es h
 
 pub code_never_refused : (budget : ℕ) → IsNeverRefused code_chain budget
 code_never_refused budget =
-    never_refused idle_code [] (idle_led ([] ∷ [])) (chain_formed code_text code_chain code_read)
+    never_refused idle_code [] (idle_mapped ([] ∷ [])) (chain_formed code_text code_chain code_read)
     no_operation code_never_past [] [] finished_from never_past_behind budget nothing_done
 
 pub code_within : (budget : ℕ) → IsWithinBudget code_chain budget
 code_within budget =
-    within idle_code [] (idle_led ([] ∷ [])) (chain_formed code_text code_chain code_read)
+    within idle_code [] (idle_mapped ([] ∷ [])) (chain_formed code_text code_chain code_read)
     no_operation code_never_past [] [] finished_from never_past_behind budget nothing_done
 
 -- ---- with code that changes the variable
@@ -247,14 +247,14 @@ changed_operation = refl
 
 pub changed_never_refused : (budget : ℕ) → 1 ≤ budget → IsNeverRefused changed_chain budget
 changed_never_refused budget some =
-    never_refused changed_code (less_five ∷ []) changed_led
+    never_refused changed_code (less_five ∷ []) changed_mapped
     (chain_formed changed_text changed_chain changed_read) changed_operation changed_never_past
     behind_entries (less_five ∷ []) behind_finished behind_never_past budget
     (subst (λ n. n ≤ budget) (sym behind_units) some)
 
 pub changed_within : (budget : ℕ) → 1 ≤ budget → IsWithinBudget changed_chain budget
 changed_within budget some =
-    within changed_code (less_five ∷ []) changed_led
+    within changed_code (less_five ∷ []) changed_mapped
     (chain_formed changed_text changed_chain changed_read) changed_operation changed_never_past
     behind_entries (less_five ∷ []) behind_finished behind_never_past budget
     (subst (λ n. n ≤ budget) (sym behind_units) some)

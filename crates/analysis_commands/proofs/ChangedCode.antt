@@ -1,6 +1,6 @@
 -- Code that sets the one variable to 5, and the loop behind it, whose branch does nothing: what is said of code that changes something can be met.
 --   changed_code             the code x = 5
---   changed_led              its elimination from no polynomials has ended, with x - 5
+--   changed_mapped              its elimination from no polynomials has ended, with x - 5
 --   changed_never_past       neither making its list nor what comes next is past;  changed_never_exhausted: no budget is exhausted in it
 --   behind_finished          the finished journal of the loop behind it, from x - 5;  behind_never_past: no state of it is past
 use Rattle.std.proofs.Common.{◌≡◌, ℕ, pos, negsuc, List, [], ◌∷◌, refl, sym, ap, ◌∙◌, Option, None, Some, true}
@@ -38,13 +38,13 @@ use Rattle.loops.specs.Program.{Expr, Statement, number}
 use Rattle.rounds.specs.Form.{relation, relations_to, passes}
 use Rattle.rounds.specs.Start.{start_list, start_polynomial, in_order}
 use Rattle.rounds.specs.Analysis as analysis
-use Rattle.rounds.specs.Analysis.{State, finished, next, block, starting, closing_from, after_turns}
+use Rattle.rounds.specs.Analysis.{State, finished, next, block, starting, closing_from, after_iterations}
 use Rattle.analysis_commands.proofs.Fitting.{start_fits, all_fit, then_fit, state_fits, work_fits, orbit_fits, less_fits, elimination_fits, behind_fits, dropping_fits, tailing_fits, acting_fits, taking_fits, left_fits, found_fits, reducing_fits, both_fit, exponents_fit, size_fits, each_fits}
 use Rattle.machines.specs.Run.{IsRun}
 use Rattle.machines.proofs.Working.{work_begun}
 use Rattle.rounds.specs.Journal.{setting_from, FollowsFrom, IsFinishedFrom}
 use Rattle.rounds.specs.Past.{IsPast}
-use Rattle.corollaries.specs.Between.{starting as starting_code, code_order, between, list_of, IsLed, IsExhaustedLeading, IsPastLeading}
+use Rattle.corollaries.specs.Between.{starting as starting_code, code_order, between, list_of, IsMapped, IsExhaustedLeading, IsPastLeading}
 use Rattle.corollaries.specs.CodeBetween.{copies}
 use Rattle.analysis_commands.proofs.CodeFitting.{making_fits, never_leads_past}
 use Rattle.analysis_commands.proofs.IdleLoops.{one_loop, x_form, x_forms}
@@ -65,7 +65,7 @@ unfolding on trace all_fit then_fit state_fits work_fits orbit_fits less_fits el
     behind_fits
     dropping_fits tailing_fits acting_fits taking_fits left_fits found_fits reducing_fits both_fit
     exponents_fit size_fits each_fits weight degrees composition_weight composition_degrees lcm
-    exponents.lcm next block starting passes closing_from after_turns analysis.after_branch
+    exponents.lcm next block starting passes closing_from after_iterations analysis.after_branch
     analysis.after relation relations_to start_list start_polynomial in_order branch_map
     after_branch after_statement store value_of variables unit_exponents constant collect insert
     place scale_terms compare blocks grevlex elimination.next completion.next with_element
@@ -83,7 +83,7 @@ unfolding on trace all_fit then_fit state_fits work_fits orbit_fits less_fits el
     behind_fits
     dropping_fits tailing_fits acting_fits taking_fits left_fits found_fits reducing_fits both_fit
     exponents_fit size_fits each_fits weight degrees composition_weight composition_degrees lcm
-    exponents.lcm next block starting passes closing_from after_turns analysis.after_branch
+    exponents.lcm next block starting passes closing_from after_iterations analysis.after_branch
     analysis.after relation relations_to start_list start_polynomial in_order branch_map
     after_branch after_statement store value_of variables unit_exponents constant collect insert
     place scale_terms compare blocks grevlex elimination.next completion.next with_element
@@ -103,7 +103,7 @@ unfolding on trace all_fit then_fit state_fits work_fits orbit_fits less_fits el
     behind_fits
     dropping_fits tailing_fits acting_fits taking_fits left_fits found_fits reducing_fits both_fit
     exponents_fit size_fits each_fits weight degrees composition_weight composition_degrees lcm
-    exponents.lcm next block starting passes closing_from after_turns analysis.after_branch
+    exponents.lcm next block starting passes closing_from after_iterations analysis.after_branch
     analysis.after relation relations_to start_list start_polynomial in_order branch_map
     after_branch after_statement store value_of variables unit_exponents constant collect insert
     place scale_terms compare blocks grevlex elimination.next completion.next with_element
@@ -121,7 +121,7 @@ unfolding on trace all_fit then_fit state_fits work_fits orbit_fits less_fits el
     behind_fits
     dropping_fits tailing_fits acting_fits taking_fits left_fits found_fits reducing_fits both_fit
     exponents_fit size_fits each_fits weight degrees composition_weight composition_degrees lcm
-    exponents.lcm next block starting passes closing_from after_turns analysis.after_branch
+    exponents.lcm next block starting passes closing_from after_iterations analysis.after_branch
     analysis.after relation relations_to start_list start_polynomial in_order branch_map
     after_branch after_statement store value_of variables unit_exponents constant collect insert
     place scale_terms compare blocks grevlex elimination.next completion.next with_element
@@ -139,7 +139,7 @@ unfolding on trace all_fit then_fit state_fits work_fits orbit_fits less_fits el
     behind_fits
     dropping_fits tailing_fits acting_fits taking_fits left_fits found_fits reducing_fits both_fit
     exponents_fit size_fits each_fits weight degrees composition_weight composition_degrees lcm
-    exponents.lcm next block starting passes closing_from after_turns analysis.after_branch
+    exponents.lcm next block starting passes closing_from after_iterations analysis.after_branch
     analysis.after relation relations_to start_list start_polynomial in_order branch_map
     after_branch after_statement store value_of variables unit_exponents constant collect insert
     place scale_terms compare blocks grevlex elimination.next completion.next with_element
@@ -152,8 +152,8 @@ unfolding on trace all_fit then_fit state_fits work_fits orbit_fits less_fits el
     Fraction.inverse is_lowest reduce gcd
 list_is = refl
 
-pub changed_led : IsLed one_loop changed_code [] [] (less_five ∷ [])
-changed_led = record {
+pub changed_mapped : IsMapped one_loop changed_code [] [] (less_five ∷ [])
+changed_mapped = record {
   last = (between one_loop changed_code []).start;
   finished = record {
     work = work_begun (between one_loop changed_code []).next
@@ -199,7 +199,7 @@ unfolding on trace all_fit then_fit state_fits work_fits orbit_fits less_fits el
     behind_fits
     dropping_fits tailing_fits acting_fits taking_fits left_fits found_fits reducing_fits both_fit
     exponents_fit size_fits each_fits weight degrees composition_weight composition_degrees lcm
-    exponents.lcm next block starting passes closing_from after_turns analysis.after_branch
+    exponents.lcm next block starting passes closing_from after_iterations analysis.after_branch
     analysis.after relation relations_to start_list start_polynomial in_order branch_map
     after_branch after_statement store value_of variables unit_exponents constant collect insert
     place scale_terms compare blocks grevlex elimination.next completion.next with_element

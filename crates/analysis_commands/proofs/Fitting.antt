@@ -2,7 +2,7 @@
 --   size_fits a             the numbers of the weight a are below the limit
 --   exponents_fit e         so are the exponents
 --   cut_fits, .., elimination_fits      no cutting, .., no event of an elimination is past
---   state_fits A s          nothing of the state is past; where a turn is taken by itself it says no
+--   state_fits A s          nothing of the state is past; where an iteration is taken by itself it says no
 --   all_fit next test n s   the test says yes of s and of the states behind it, of which the last comes after at most n steps
 --   each_fits_on            so of each state on a run from s;  never: so none of an analysis is past
 use Rattle.std.proofs.Common.{◌≡◌, inl, inr, ℕ, zero, suc, ◌+◌, ◌^◌, Bool, true, false, ltb, List, [], ◌∷◌, drop, length, map, get_or, slice_get, refl, sym, subst, Option, Some, None, arith}
@@ -27,8 +27,8 @@ use Rattle.machines.specs.Pairs.{multiple, skip_covered}
 use Rattle.machines.specs.Past as past
 use Rattle.machines.specs.Run.{IsRun}
 use Rattle.machines.specs.Tidying.{TailCut, tail_cut, drop_place, by_lead}
-use Rattle.rounds.specs.Analysis.{Setting, Work, starts, turn, turn_meet, orbit, meet, State, fresh, working, closing, turning, asking, form_of, starting, block, order, moves}
-use Rattle.rounds.specs.Form.{Form, front, form_backward, passes, passing, form_before}
+use Rattle.rounds.specs.Analysis.{Setting, Work, starts, iteration, iteration_meet, orbit, meet, State, fresh, working, closing, turning, asking, form_of, starting, block, order, moves}
+use Rattle.rounds.specs.Form.{Form, front, inverse_of_form, passes, passing, form_before}
 use Rattle.rounds.specs.Graph.{images_behind, at_before}
 use Rattle.rounds.specs.Past as rounds
 use Rattle.rounds.specs.Past.{the_t, one_less_t, IsPastLess, IsPastGraph, IsPastOrbitSince, IsPastMeet}
@@ -297,7 +297,7 @@ graph_holds k t m before fs gs e (inr (inr h)) =
     (second_holds _ _ (second_holds _ _ e)) h
 
 unfoldable pub orbit_fits : ℕ → Form → ℕ → List (Terms Fraction) → Bool
-orbit_fits zero f m gs = each_fits (composition_fits (form_backward f)) gs
+orbit_fits zero f m gs = each_fits (composition_fits (inverse_of_form f)) gs
 orbit_fits (suc d) f m gs =
     graph_fits (front (length f.base)) (passing m (passes f m)) m
     (map (collect rationals grevlex) (form_before f m (passes f m))) f.polys gs
@@ -305,7 +305,7 @@ orbit_fits (suc d) f m gs =
 orbit_holds : (d : ℕ) (f : Form) (m : ℕ) (gs : List (Terms Fraction)) → orbit_fits d f m gs ≡ true
     → IsPastOrbitSince d f m gs → ⊥
 unfolding orbit_fits
-orbit_holds zero f m gs e h = compositions_hold (form_backward f) gs e h
+orbit_holds zero f m gs e h = compositions_hold (inverse_of_form f) gs e h
 orbit_holds (suc d) f m gs e h =
     graph_holds (front (length f.base)) (passing m (passes f m)) m
     (map (collect rationals grevlex) (form_before f m (passes f m))) f.polys gs e h
@@ -332,8 +332,9 @@ module _ (A : Setting) where
 
   unfoldable pub work_fits : Work → Bool
   work_fits starts = start_fits (starting A starts)
-  work_fits (turn k b n gs before so_far) = false
-  work_fits (turn_meet k b n gs so_far ks) = meet_fits (turn_meet k b n gs so_far ks) so_far ks
+  work_fits (iteration k b n gs before so_far) = false
+  work_fits (iteration_meet k b n gs so_far ks) = meet_fits (iteration_meet k b n gs so_far ks)
+      so_far ks
   work_fits (orbit k b gs so_far) =
       orbit_fits (form_of A b).since (form_of A b) A.arity gs
       && start_fits (starting A (orbit k b gs so_far))
@@ -342,9 +343,9 @@ module _ (A : Setting) where
   pub work_holds : (w : Work) → work_fits w ≡ true → rounds.IsPastStarting A w → ⊥
   unfolding work_fits
   work_holds starts e h = start_holds (starting A starts) e h
-  work_holds (turn k b n gs before so_far) e h = absurd (let z : ⊥ = cc in z)
-  work_holds (turn_meet k b n gs so_far ks) e h =
-      meet_holds (turn_meet k b n gs so_far ks) so_far ks e h
+  work_holds (iteration k b n gs before so_far) e h = absurd (let z : ⊥ = cc in z)
+  work_holds (iteration_meet k b n gs so_far ks) e h =
+      meet_holds (iteration_meet k b n gs so_far ks) so_far ks e h
   work_holds (orbit k b gs so_far) e (inl h) =
       orbit_holds (form_of A b).since (form_of A b) A.arity gs (first_holds _ _ e) h
   work_holds (orbit k b gs so_far) e (inr h) =

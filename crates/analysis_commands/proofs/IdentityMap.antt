@@ -2,7 +2,7 @@
 --   still               the map
 --   still_solvable      no variable uses itself non-linearly;  still_passes, still_short: its class passes, and isn't too long
 --   still_base_is       the base of its eigenvalues is empty
---   turned              its closed form, which is normal;  same_turns: it is the state after so many turns
+--   turned              its closed form, which is normal;  same_iterations: it is the state after so many iterations
 --   still_unrefused     it has no cause of a refusal
 use Rattle.std.proofs.Common.{◌≡◌, ℕ, List, [], ◌∷◌, length}
 use Rattle.algebra.specs.Fraction.{Fraction}
@@ -10,9 +10,9 @@ use Rattle.polynomials.specs.Order.{grevlex}
 use Rattle.polynomials.specs.Terms.{Terms}
 use Rattle.solvable_maps.specs.Dependency.{IsNonlinearCycle}
 use Rattle.solvable_maps.specs.Classes.{IsClass, Passes, IsFormBase}
-use Rattle.solvable_maps.specs.Turns.{IsNormalForm, point, turns, values_at}
+use Rattle.solvable_maps.specs.Iterations.{IsNormalForm, point, iterations, values_at}
 use Rattle.solvable_maps.specs.Uses.{uses, strongly}
-use Rattle.closed_forms.specs.Refusal.{Refusal, IfRefused}
+use Rattle.closed_forms.specs.Refusal.{Refusal, IfFormRefused}
 use Rattle.closed_forms.specs.Lengths.{IsShort}
 use Rattle.analysis_commands.proofs.ScaledMap as map
 use Rattle.analysis_commands.proofs.ScaledMap.{one, scaled, scaled_solvable, scaled_passes, scaled_short, scaled_base_is}
@@ -43,9 +43,9 @@ still_base_is = scaled_base_is one [] key one_scaled
 pub turned_normal : IsNormalForm [] grevlex 1 turned
 turned_normal = one_scaled.normal
 
-pub same_turns : (n : ℕ) (s : List Fraction) → length s ≡ 1
-    → values_at (turned ∷ []) (point [] n s) ≡ turns still n s
-same_turns = map.same_turns one [] key one_scaled
+pub same_iterations : (n : ℕ) (s : List Fraction) → length s ≡ 1
+    → values_at (turned ∷ []) (point [] n s) ≡ iterations still n s
+same_iterations = map.same_iterations one [] key one_scaled
 
-pub still_unrefused : (r : Refusal) → IfRefused still r → ⊥
+pub still_unrefused : (r : Refusal) → IfFormRefused still r → ⊥
 still_unrefused = scaled_unrefused one [] key one_scaled one_narrow

@@ -1,7 +1,7 @@
 -- Code that leaves the one variable as it is, and its elimination from no polynomials: that what is said of code can be met.
 --   x_program bs      the loop of one variable with these branches
 --   idle_code         the code x = x
---   idle_led          its elimination has ended, with no entry and with no polynomial
+--   idle_mapped          its elimination has ended, with no entry and with no polynomial
 --   idle_fits         neither making its list nor what comes next is past
 --   idle_unexhausted      no budget is exhausted in it
 use Rattle.std.proofs.Common.{◌≡◌, inl, inr, ℕ, zero, suc, ◌<◌, pos, List, [], ◌∷◌, get_or, slice_get, refl, sym, ap, subst, ◌∙◌, arith, Option, Some, None}
@@ -35,7 +35,7 @@ use Rattle.machines.proofs.Working.{work_begun}
 use Rattle.loops.specs.Effect.{after_branch, after_statement, store, value_of}
 use Rattle.loops.specs.Map.{branch_map}
 use Rattle.loops.specs.Program.{Expr, Program, Statement, variable}
-use Rattle.corollaries.specs.Between.{starting, value_at_code, IsPastDifference, IsPastMaking, between, IsLed, IsExhaustedLeading, IsPastLeading}
+use Rattle.corollaries.specs.Between.{starting, value_at_code, IsPastDifference, IsPastMaking, between, IsMapped, IsExhaustedLeading, IsPastLeading}
 use Rattle.corollaries.specs.CodeBetween.{variable_of, of_what_was, was}
 
 abbrev pub x_program : List (List (Statement (Expr ℕ))) → Program (Expr ℕ)
@@ -170,8 +170,8 @@ module _ (bs : List (List (Statement (Expr ℕ)))) where
       (free_part 1)) (elimination.initial_state rationals (blocks 1 grevlex grevlex) l))
       (sym list_is) ended_here
 
-  pub idle_led : IsLed (x_program bs) idle_code [] [] []
-  idle_led = record {
+  pub idle_mapped : IsMapped (x_program bs) idle_code [] [] []
+  idle_mapped = record {
     last = (between (x_program bs) idle_code []).start;
     finished = record {
       work = work_begun (between (x_program bs) idle_code []).next

@@ -30,8 +30,8 @@ use Rattle.loop_model.specs.Maps.{maps_operations, AreFree, statements_operation
 use Rattle.loop_model.specs.Operations.{operations_all}
 use Rattle.solvable.specs.Refusal.{IsSolvable}
 use Rattle.closed_forms.specs.Lengths.{IsShort}
-use Rattle.closed_forms.specs.Refusal.{AllPass, Refusal, IfRefused}
-use Rattle.analysis_commands.proofs.IdentityMap.{still, still_solvable, still_passes, still_short, turned, turned_normal, still_base_is, same_turns, still_unrefused}
+use Rattle.closed_forms.specs.Refusal.{AllPass, Refusal, IfFormRefused}
+use Rattle.analysis_commands.proofs.IdentityMap.{still, still_solvable, still_passes, still_short, turned, turned_normal, still_base_is, same_iterations, still_unrefused}
 use Rattle.analysis_commands.proofs.IdleRuns.{x_loop, x_run, x_ends, asked_run, zero_run, nothing_left, zero_answered, some_answered}
 
 abbrev pub one_loop : Program (Expr ℕ)
@@ -96,12 +96,12 @@ two_split b l =
     subst (λ ms. IsSolvable ms × AllPass ms × IsShort ms) (sym (map_two b l))
     (still_solvable, still_passes, still_short)
 
-pub x_branches : (b : ℕ) (r : Refusal) → b < 1 → IfRefused (map_of one_loop (suc b)) r → ⊥
-x_branches zero r l h = still_unrefused r (subst (λ ms. IfRefused ms r) map_one h)
+pub x_branches : (b : ℕ) (r : Refusal) → b < 1 → IfFormRefused (map_of one_loop (suc b)) r → ⊥
+x_branches zero r l h = still_unrefused r (subst (λ ms. IfFormRefused ms r) map_one h)
 x_branches (suc b) r l h = absurd (omega (arith, l))
 
-pub two_branches : (b : ℕ) (r : Refusal) → b < 2 → IfRefused (map_of two_loop (suc b)) r → ⊥
-two_branches b r l h = still_unrefused r (subst (λ ms. IfRefused ms r) (map_two b l) h)
+pub two_branches : (b : ℕ) (r : Refusal) → b < 2 → IfFormRefused (map_of two_loop (suc b)) r → ⊥
+two_branches b r l h = still_unrefused r (subst (λ ms. IfFormRefused ms r) (map_two b l) h)
 
 -- ---- closed forms
 abbrev pub x_form : Form
@@ -113,7 +113,7 @@ x_is_form = record {
   base = subst (λ ms. IsFormBase ms []) (sym map_one) still_base_is;
   polynomials = (turned_normal.polynomial, tt);
   normal = (turned_normal.normal, tt);
-  form = record { arity = ((refl, tt), tt); values = λ n s l e. same_turns n s l };
+  form = record { arity = ((refl, tt), tt); values = λ n s l e. same_iterations n s l };
   least = λ d c. omega arith;
 }
 
@@ -123,14 +123,14 @@ two_is_form zero l = record {
   base = subst (λ ms. IsFormBase ms []) (sym (map_two zero l)) still_base_is;
   polynomials = (turned_normal.polynomial, tt);
   normal = (turned_normal.normal, tt);
-  form = record { arity = ((refl, tt), tt); values = λ n s l e. same_turns n s l };
+  form = record { arity = ((refl, tt), tt); values = λ n s l e. same_iterations n s l };
   least = λ d c. omega arith;
 }
 two_is_form (suc zero) l = record {
   base = subst (λ ms. IsFormBase ms []) (sym (map_two (suc zero) l)) still_base_is;
   polynomials = (turned_normal.polynomial, tt);
   normal = (turned_normal.normal, tt);
-  form = record { arity = ((refl, tt), tt); values = λ n s l e. same_turns n s l };
+  form = record { arity = ((refl, tt), tt); values = λ n s l e. same_iterations n s l };
   least = λ d c. omega arith;
 }
 two_is_form (suc (suc b)) l = absurd (omega (arith, l))

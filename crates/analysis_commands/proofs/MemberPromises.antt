@@ -277,9 +277,9 @@ module _ (request : Request) (call : Call)
         go a (inl stop) = wide a (stopped_wide l e a r.free stop.0)
         go a (inr asks) = some a asks.1
 
-    limit_met : (at : ℕ) → IsLimit (length l.names) (maps_operations l) at
+    limit_passed : (at : ℕ) → IsLimit (length l.names) (maps_operations l) at
         → EndsOrWide call (limit_of_loop at)
-    limit_met at first =
+    limit_passed at first =
         or_wide path call f (limit_of_loop at)
         (by_question (λ a. (a ≡ limit_of_loop at) ⊎ (a.status ≡ status.Wide))
         (λ a asks. limit_asking l e request.budget m a asks at first)
@@ -366,7 +366,7 @@ module _ (request : Request) (call : Call)
     equation_fault = λ l fault r. ends_so path call f (equation_refusal fault)
         (λ s. at_question l (Err fault) r s);
     equation_limit = equation_limit;
-    limit_met = λ l e at r first. limit_met l e r at first;
+    limit_passed = λ l e at r first. limit_passed l e r at first;
     branch_refused = λ l e b x r free exact first. branch_refused l e r free b x exact first;
     unformed = λ l e r free not. unformed l e r free not;
     decided = λ l e r free split. decided l e r free split;

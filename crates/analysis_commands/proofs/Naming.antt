@@ -19,7 +19,7 @@ use Rattle.solvable_maps.specs.Classes.{IsClass, first_of}
 use Rattle.rounds.specs.BranchMap.{map_of}
 use Rattle.rounds.specs.Word.{branch_of}
 use Rattle.closed_forms.specs.Lengths.{with_class, IsLongAmong}
-use Rattle.closed_forms.specs.Refusal.{IfRefused, refusal_in, IsWideForm, state_past, class_past, turn_past}
+use Rattle.closed_forms.specs.Refusal.{IfFormRefused, refusal_in, IsWideForm, state_past, class_past, iteration_past}
 use Rattle.closed_forms.specs.declared.errors.FormsError.{FormsError}
 use Rattle.closed_forms.specs.declared.errors.FormsError.TheVariants as forms_error
 use Rattle.invariant_fix.specs.Refusals.{IsRefusedBranch, IsRefused}
@@ -67,7 +67,7 @@ module _ (images : List (Terms Fraction)) where
   wide_below base z v (state_past e p) = (let l = p.past.within in omega (arith, e, l))
   wide_below base z v (class_past w) =
       subst IsBelow w.first (first_below w.ready.first w.class w.ready.next.within w.ready.class)
-  wide_below base z v (turn_past w) =
+  wide_below base z v (iteration_past w) =
       subst IsBelow w.first (first_below w.is.of w.class w.is.within w.is.is)
 
   long_below : (groups : List (List ℕ)) (earlier ns : List ℕ) (v : ℕ)
@@ -79,7 +79,7 @@ module _ (images : List (Terms Fraction)) where
   long_below (g ∷ groups) earlier ns v are (inr h) =
       long_below groups (earlier ++ g) (with_class images g ns) v are.3 h.1
 
-  pub refusal_named : (e : FormsError) → IsSomeAnd (refusal_in e) (IfRefused images)
+  pub refusal_named : (e : FormsError) → IsSomeAnd (refusal_in e) (IfFormRefused images)
       → AreNamedIn (length images) e
   refusal_named (forms_error.NotSolvable cycle) r = cycle_below cycle.items r.cycle
   refusal_named (forms_error.Eigen class) r = class_below class.items r.0.is
@@ -106,7 +106,7 @@ named program before after (Map e) r = tt
 named program before after (Branch b e) r =
     subst (λ n. AreNamedIn n e) (map_length program (suc b))
     (refusal_named (map_of program (suc b)) e
-    (and_weaker (refusal_in e) (IsRefusedBranch program b) (IfRefused (map_of program (suc b)))
+    (and_weaker (refusal_in e) (IsRefusedBranch program b) (IfFormRefused (map_of program (suc b)))
     (λ x h. h.is) r.1.1))
 named program before after (Wide task) r = tt
 named program before after Budget r = tt

@@ -54,7 +54,7 @@ module _ (request : FileRequest) where
       journal = left path call f (λ text. IsRelating text request.budget m)
           (λ text qs e h. record { sequences = qs; are_sequences = e; related = h });
       sequences_fault = ends_at_fault path call f;
-      limit_met = λ qs at r first. or_wide (course request) call f
+      limit_passed = λ qs at r first. or_wide (course request) call f
           (sequences_refusal (record { reason = limit; at = at }))
           (λ s. limit_related qs request.budget m s.answer (answered path call f qs r s) at first);
       branch_refused = λ qs b x r free exact first. or_wide (course request) call f

@@ -1,5 +1,5 @@
--- A loop of one variable that begins with 5 and is made 0 in each turn: its closed form begins one turn late, and its analysis meets an intersection.
---   reset_program, reset_forms      vars x; init x=5; branch { x=0; }, and the closed form 0, from one turn on
+-- A loop of one variable that begins with 5 and is made 0 in each iteration: its closed form begins one iteration late, and its analysis meets an intersection.
+--   reset_program, reset_forms      vars x; init x=5; branch { x=0; }, and the closed form 0, from one iteration on
 --   reset_run                       its analysis, which ends with x^2 - 5 x
 use Rattle.std.proofs.Common.{◌≡◌, ℕ, pos, negsuc, List, [], ◌∷◌, refl, None}
 use Rattle.algebra.specs.Arithmetic.{power}
@@ -36,7 +36,7 @@ use Rattle.loops.specs.Program.{Expr, Program, number}
 use Rattle.rounds.specs.Form.{Form, relation, relations_to, passes}
 use Rattle.rounds.specs.Start.{start_list, start_polynomial, in_order}
 use Rattle.rounds.specs.Analysis as analysis
-use Rattle.rounds.specs.Analysis.{finished, next, block, starting, closing_from, after_turns}
+use Rattle.rounds.specs.Analysis.{finished, next, block, starting, closing_from, after_iterations}
 use Rattle.analysis_commands.proofs.Fitting.{all_fit, then_fit, state_fits, work_fits, orbit_fits, less_fits, elimination_fits, behind_fits, dropping_fits, tailing_fits, acting_fits, taking_fits, left_fits, found_fits, reducing_fits, both_fit, exponents_fit, size_fits, each_fits}
 
 abbrev pub reset_program : Program (Expr ℕ)
@@ -71,7 +71,7 @@ unfolding on trace all_fit then_fit state_fits work_fits orbit_fits less_fits el
     behind_fits
     dropping_fits tailing_fits acting_fits taking_fits left_fits found_fits reducing_fits both_fit
     exponents_fit size_fits each_fits weight degrees composition_weight composition_degrees lcm
-    exponents.lcm next block starting passes closing_from after_turns analysis.after_branch
+    exponents.lcm next block starting passes closing_from after_iterations analysis.after_branch
     analysis.after relation relations_to start_list start_polynomial in_order branch_map
     after_branch after_statement store value_of variables unit_exponents constant collect insert
     place scale_terms compare blocks grevlex elimination.next completion.next with_element

@@ -1,6 +1,6 @@
 -- The map of one variable that makes it 0 has no cause of a refusal, although a form of it has the value 0.
---   gone_turned         the state after one turn or more
---   gone_form           what agrees with a form of its class from some turn on is 0
+--   gone_turned         the state after one iteration or more
+--   gone_form           what agrees with a form of its class from some iteration on is 0
 --   gone_unrefused      so it is
 use Rattle.std.proofs.Common.{Option, None, Some, ◌≡◌, inl, inr, ℕ, zero, suc, ◌+◌, ◌<◌, ◌≤◌, pos, List, [], ◌∷◌, length, refl, sym, ap, subst, ◌∙◌, arith}
 use Rattle.std.proofs.lemmas.List.{append-nil}
@@ -25,27 +25,27 @@ use Rattle.vectors.specs.Causes.{row_at}
 use Rattle.vectors.specs.Lists.{entries}
 use Rattle.vectors.specs.Matrices.{SplitsAt}
 use Rattle.exponentials.specs.Base.{Coprime}
-use Rattle.solvable_maps.specs.AfterTurns.{form_at, IsFormAfterTurns}
+use Rattle.solvable_maps.specs.AfterIterations.{form_at, IsFormAfterIterations}
 use Rattle.solvable_maps.specs.Classes.{class_matrix}
 use Rattle.solvable_maps.specs.Expo.{next_images}
-use Rattle.solvable_maps.specs.Turns.{IsNormalForm, IsClosedFormFrom, point, turns, width}
+use Rattle.solvable_maps.specs.Iterations.{IsNormalForm, IsClosedFormFrom, point, iterations, width}
 use Rattle.solvable_maps.specs.Uses.{poly_at}
 use Rattle.solvable_maps.proofs.Numbers.{one_form}
 use Rattle.solvable_maps.proofs.OneForm.{all_values}
-use Rattle.expo.specs.Points.{turn_images, IsPastPower}
+use Rattle.expo.specs.Points.{iteration_images, IsPastPower}
 use Rattle.linear.specs.Rows.{fractions_of, rows_of}
 use Rattle.eigen_split.specs.Refusal.{IsSplitInto}
 use Rattle.eigen_split.specs.declared.splitting.Split.{Split}
 use Rattle.frac128.specs.Sums.{left_past, right_past, parts_past, den_past}
-use Rattle.closed_forms.specs.Known.{AreDone, IsPastVariable, IsPastForm, source_past, making_past, IsPastClass, inverse_past, form_past, variable_past, IsPastRowOf, IsWideClass, IsWideTurn}
+use Rattle.closed_forms.specs.Known.{AreDone, IsPastVariable, IsPastForm, inhomogeneity_past, making_past, IsPastClass, inverse_past, form_past, variable_past, IsPastRowOf, IsWideClass, IsWideIteration}
 use Rattle.closed_forms.specs.Later.{Ahead, ahead_of, IsPastAt, IsPastOneLater, IsPastFrom, at_once_past, there_past, later_past, one_later_past}
 use Rattle.closed_forms.specs.Products.{IsPastDot}
 use Rattle.closed_forms.specs.Splits.{AreSplits, IsSplitOf}
 use Rattle.closed_forms.specs.States.{zeros_in, after, IsPastState}
 use Rattle.closed_forms.specs.Values.{values_in}
-use Rattle.closed_forms.specs.Refusal.{Refusal, not_solvable, eigenvalues, range, wide_split, limit_form, wide_form, IfRefused, IsWideForm, state_past, class_past, turn_past}
+use Rattle.closed_forms.specs.Refusal.{Refusal, not_solvable, eigenvalues, range, wide_split, limit_form, wide_form, IfFormRefused, IsWideForm, state_past, class_past, iteration_past}
 use Rattle.analysis_commands.proofs.ScaledMap.{one, form_own}
-use Rattle.analysis_commands.proofs.ScaledUnrefused.{fits, rows, matrix_of, nothing, IsNarrow, inverse_fits, back_is, source_none, source_fits}
+use Rattle.analysis_commands.proofs.ScaledUnrefused.{fits, rows, matrix_of, nothing, IsNarrow, inverse_fits, back_is, inhomogeneity_none, inhomogeneity_fits}
 use Rattle.closed_forms.proofs.LengthLaws.{long_or_short}
 use Rattle.analysis_commands.proofs.ResetMap.{gone, gone_is, gone_class, gone_matrix, gone_splits, gone_solvable, gone_bounded, gone_short}
 
@@ -84,18 +84,17 @@ power_fits x p = at p.exponent p.within p.past
     at (suc k) l p = omega (arith, l)
 
 -- ---- the state
-pub gone_turned : (n : ℕ) (s : List Fraction) → 1 ≤ n → turns gone n s ≡ ℚ.zero ∷ []
+pub gone_turned : (n : ℕ) (s : List Fraction) → 1 ≤ n → iterations gone n s ≡ ℚ.zero ∷ []
 unfolding evaluate sum_over
 gone_turned zero s l = absurd (omega (arith, l))
 gone_turned (suc n) s l = refl
 
 form_turned : (n : ℕ) (s : List Fraction) → 1 ≤ n
-    → form_at (one ∷ []) (0 ∷ []) (turns gone n s) ≡ ℚ.zero
+    → form_at (one ∷ []) (0 ∷ []) (iterations gone n s) ≡ ℚ.zero
 unfolding sum_of_products
-form_turned n s l =
-    ap (form_at (one ∷ []) (0 ∷ [])) (gone_turned n s l) ∙ form_own ℚ_ring ℚ.zero
+form_turned n s l = ap (form_at (one ∷ []) (0 ∷ [])) (gone_turned n s l) ∙ form_own ℚ_ring ℚ.zero
 
--- ---- what agrees with 0 from some turn on is 0
+-- ---- what agrees with 0 from some iteration on is 0
 value_none : (z : List Fraction) → value_at ℚ [] z ≡ ℚ.zero
 unfolding evaluate sum_over
 value_none z = refl
@@ -116,7 +115,7 @@ module _ (base : List ℕ) (coprime : Coprime base) where
       h j s l ∙ sym (value_none (point base (k + j) s))) n)
 
   pub gone_form : (k : ℕ) (y : Terms Fraction) → IsNormalForm base grevlex 1 y
-      → IsFormAfterTurns base gone k (0 ∷ []) (one ∷ []) y → y ≡ []
+      → IsFormAfterIterations base gone k (0 ∷ []) (one ∷ []) y → y ≡ []
   gone_form k y normal t = none_from (suc k) y normal (λ n s l.
       t.values (suc k + n) s l (omega arith) ∙ form_turned (suc k + n) s (omega arith))
 
@@ -136,8 +135,8 @@ module _ (base : List ℕ) (coprime : Coprime base) where
       → IsPastFrom base 1 (one ∷ []) (0 ∷ []) ℚ.zero ahead q → ⊥
   unfolding collect
   from_fits q e (at_once_past some none p) = some refl
-  from_fits q e (there_past some turns p) = some refl
-  from_fits q e (later_past some turns p) = some refl
+  from_fits q e (there_past some iterations p) = some refl
+  from_fits q e (later_past some iterations p) = some refl
   from_fits q e (one_later_past none p) = later (subst (λ x. IsPastOneLater base 1 x) e p)
     where
       later : IsPastOneLater base 1 [] → ⊥
@@ -146,16 +145,15 @@ module _ (base : List ℕ) (coprime : Coprime base) where
   form_fits : (polys : List (Terms Fraction))
       → IsPastForm base 1 (0 ∷ []) nothing polys (matrix_of ℚ.zero) rows ahead (one ∷ []) ℚ.zero []
       → ⊥
-  form_fits polys (source_past p) = source_fits ℚ.zero base zero_narrow polys p
+  form_fits polys (inhomogeneity_past p) = inhomogeneity_fits ℚ.zero base zero_narrow polys p
   form_fits polys (making_past q is p) =
-      from_fits q (source_none ℚ.zero base zero_narrow polys q is) p
+      from_fits q (inhomogeneity_none ℚ.zero base zero_narrow polys q is) p
 
   done_is : (done : List (Terms Fraction)) → length done ≡ 1
       → AreDone base gone (0 ∷ []) rows done → done ≡ [] ∷ []
   unfolding Each
   done_is [] l d = absurd (omega (arith, l))
-  done_is (y ∷ []) l d =
-      ap (λ p. p ∷ []) (gone_form d.since y d.normal.0 (d.each 0 (omega arith)))
+  done_is (y ∷ []) l d = ap (λ p. p ∷ []) (gone_form d.since y d.normal.0 (d.each 0 (omega arith)))
   done_is (y ∷ z ∷ done) l d = absurd (omega (arith, l))
 
   variable_fits : IsPastRowOf rows ([] ∷ []) → ⊥
@@ -208,13 +206,14 @@ module _ (base : List ℕ) (coprime : Coprime base) where
   state_fits p = at p.past.place p.past.within p.past.past
     where
       at : (place : ℕ) → place < 1
-          → IsPastComposition fractions (poly_at gone place) (after gone p.turn) → ⊥
-      at zero l q = none_composed (after gone p.turn) q
+          → IsPastComposition fractions (poly_at gone place) (after gone p.iteration) → ⊥
+      at zero l q = none_composed (after gone p.iteration) q
       at (suc i) l q = omega (arith, l)
 
-  wide_turn : (v : ℕ) → IsWideTurn base gone 1 v → ⊥
-  wide_turn v t =
-      at t.turn t.before (subst (λ i. IsPastAt base 1 t.turn (poly_at t.polys i)) first t.past)
+  wide_iteration : (v : ℕ) → IsWideIteration base gone 1 v → ⊥
+  wide_iteration v t =
+      at t.iteration t.before (subst (λ i. IsPastAt base 1 t.iteration (poly_at t.polys i)) first
+      t.past)
     where
       first : t.variable ≡ 0
       first = elim (subst (In t.variable) (gone_class t.class t.is) t.within)
@@ -225,15 +224,15 @@ module _ (base : List ℕ) (coprime : Coprime base) where
         | inl h ↦ power_fits (whole (pos p.number)) h
         | inr h ↦ power_fits (Fraction.inverse (whole (pos p.number))) h
       ]
-      at zero l (inr p) = none_composed (turn_images base 1 0)
-          (subst (λ q. IsPastComposition fractions q (turn_images base 1 0))
+      at zero l (inr p) = none_composed (iteration_images base 1 0)
+          (subst (λ q. IsPastComposition fractions q (iteration_images base 1 0))
           (first_none t.since t.polys t.closed t.normal) p)
       at (suc n) l p = omega (arith, l)
 
   wide_fits : (v : ℕ) → IsWideForm base gone 1 v → ⊥
   wide_fits v (state_past e p) = state_fits p
   wide_fits v (class_past d) = wide_class v d
-  wide_fits v (turn_past t) = wide_turn v t
+  wide_fits v (iteration_past t) = wide_iteration v t
 
 -- ---- the value of its one form is 0
 one_zero : (split : Split) (g : List ℕ) → g ≡ 0 ∷ [] → IsSplitOf gone g split
@@ -261,7 +260,7 @@ zeros_are (Some split ∷ splits) a =
     none [] l split e = ap zeros_in (append-nil (fractions_of split.values.items)) ∙ ap zeros_in e
     none (s ∷ splits) l split e = absurd (omega (arith, l))
 
-pub gone_unrefused : (r : Refusal) → IfRefused gone r → ⊥
+pub gone_unrefused : (r : Refusal) → IfFormRefused gone r → ⊥
 gone_unrefused (not_solvable cycle) h = gone_solvable cycle h.cycle
 gone_unrefused (eigenvalues class) h =
     h.1.0 (subst (λ g. SplitsAt (length g) (class_matrix gone g))
@@ -272,8 +271,7 @@ gone_unrefused (range class sum) h =
 gone_unrefused (wide_split class candidate power row) h =
     let some = subst (λ g. 2 ≤ length g) (gone_class class h.0.is) h.1.0 in
     omega (arith, some)
-gone_unrefused (limit_form variable) h =
-    long_or_short gone gone_bounded variable h.long gone_short
+gone_unrefused (limit_form variable) h = long_or_short gone gone_bounded variable h.long gone_short
 gone_unrefused (wide_form variable) h =
     wide_fits h.later.base h.later.is.is.coarsest.base.coprime variable
     (subst (λ z. IsWideForm h.later.base gone z variable)

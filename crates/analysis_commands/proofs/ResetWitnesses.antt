@@ -27,7 +27,7 @@ use Rattle.loops.specs.Limits.{most_names, most_bytes, most_branches, most_state
 use Rattle.loops.specs.Map.{branch_map}
 use Rattle.loops.specs.WellFormed.{local_places}
 use Rattle.solvable_maps.specs.Classes.{IsEigenvalue, IsFormBase}
-use Rattle.solvable_maps.specs.Turns.{IsClosedFormFrom, point, turns, values_at}
+use Rattle.solvable_maps.specs.Iterations.{IsClosedFormFrom, point, iterations, values_at}
 use Rattle.rounds.specs.Analysis.{finished}
 use Rattle.rounds.specs.BranchMap.{map_of}
 use Rattle.rounds.specs.Form.{Form, IsClosedForm}
@@ -39,7 +39,7 @@ use Rattle.loop_model.specs.Maps.{maps_operations, statements_operations, AreFre
 use Rattle.loop_model.specs.Words.{keyword_of}
 use Rattle.solvable.specs.Refusal.{IsSolvable}
 use Rattle.closed_forms.specs.Lengths.{IsShort}
-use Rattle.closed_forms.specs.Refusal.{AllPass, Refusal, IfRefused}
+use Rattle.closed_forms.specs.Refusal.{AllPass, Refusal, IfFormRefused}
 use Rattle.poly_text.specs.Lexemes.{lexeme_at, placed_behind}
 use Rattle.poly_text.specs.Sums.{most_depth}
 use Rattle.loop_text.specs.LoopReader.{loop_of}
@@ -69,9 +69,10 @@ unfolding evaluate sum_over
 raw_value s = ap (λ ps. values_at ps s) raw_is
     ∙ ap (λ y. y ∷ []) (value_at-constant ℚ_ring 1 ℚ.zero s)
 
-raw_turned : (n : ℕ) (s : List Fraction) → 1 ≤ n → turns raw n s ≡ ℚ.zero ∷ []
+raw_turned : (n : ℕ) (s : List Fraction) → 1 ≤ n → iterations raw n s ≡ ℚ.zero ∷ []
 raw_turned zero s l = absurd (omega (arith, l))
-raw_turned (suc n) s l = raw_value (turns raw n s) ∙ gone_turned 1 (turns raw n s) (omega arith)
+raw_turned (suc n) s l = raw_value (iterations raw n s)
+    ∙ gone_turned 1 (iterations raw n s) (omega arith)
 
 -- ---- its closed form
 only_zero : (c : Fraction) → IsEigenvalue gone c → c ≡ ℚ.zero
@@ -152,8 +153,8 @@ reset_splits zero less =
     (gone_solvable, gone_passes, gone_short)
 reset_splits (suc b) less = absurd (omega (arith, less))
 
-unrefused : (b : ℕ) (r : Refusal) → b < 1 → ¬ (IfRefused (map_of reset_program (suc b)) r)
-unrefused zero r less h = gone_unrefused r (subst (λ ms. IfRefused ms r) reset_map h)
+unrefused : (b : ℕ) (r : Refusal) → b < 1 → ¬ (IfFormRefused (map_of reset_program (suc b)) r)
+unrefused zero r less h = gone_unrefused r (subst (λ ms. IfFormRefused ms r) reset_map h)
 unrefused (suc b) r less h = absurd (omega (arith, less))
 
 pub reset_never_refused : IsNeverRefused reset_program

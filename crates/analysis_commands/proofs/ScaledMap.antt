@@ -7,7 +7,7 @@
 --   IsScaled c base key    the number isn't 0, this is the base of its size, and this are the exponents of its power
 --   scaled_base, scaled_base_is      that base is the one of its eigenvalues
 --   scaled_turned          its closed form is the one power
---   same_turns             which is the state after so many turns
+--   same_iterations             which is the state after so many iterations
 use Rattle.std.proofs.Common.{◌≡◌, ◌≢◌, inl, inr, ℕ, zero, suc, ◌+◌, ◌<◌, pos, List, [], ◌∷◌, map, length, drop, T, refl, sym, ap, ap₂, subst, ◌∙◌, arith}
 use Rattle.std.specs.Prelude.{unsigned_abs, ◌⊎◌}
 use native.Mathlib.Nat as N
@@ -43,11 +43,11 @@ use Rattle.vectors.proofs.Combinations as C
 use Rattle.vectors.proofs.EchelonLaws.{same_pivots}
 use Rattle.vectors.proofs.ListLaws.{same_entries}
 use Rattle.linear.proofs.Echelon.{echelon_none, echelon_added}
-use Rattle.solvable_maps.specs.AfterTurns.{form_at, IsFormAfterTurns}
+use Rattle.solvable_maps.specs.AfterIterations.{form_at, IsFormAfterIterations}
 use Rattle.solvable_maps.specs.Dependency.{IsNonlinearCycle}
 use Rattle.solvable_maps.specs.Class.{IsClassOf}
 use Rattle.solvable_maps.specs.Classes.{class_matrix, IsClass, Passes, IsEigenvalue, IsFormBase, sizes_of}
-use Rattle.solvable_maps.specs.Turns.{IsNormalForm, point, turns, values_at}
+use Rattle.solvable_maps.specs.Iterations.{IsNormalForm, point, iterations, values_at}
 use Rattle.solvable_maps.specs.Uses.{uses, strongly}
 use Rattle.solvable_maps.proofs.Classes.{class_one}
 use Rattle.solvable_maps.proofs.Numbers.{one_form}
@@ -297,19 +297,19 @@ module _ (c : Fraction) (base key : List ℕ) (known : IsScaled c base key) wher
   abbrev form : Terms Fraction
   form = (key, one) ∷ []
 
-  turns_scaled : (n : ℕ) (x : Fraction) → turns (scaled c) n (x ∷ [])
+  iterations_scaled : (n : ℕ) (x : Fraction) → iterations (scaled c) n (x ∷ [])
       ≡ ℚ.mul (power ℚ c n) x ∷ []
   unfolding evaluate sum_over monomial_at power
-  turns_scaled zero x = ap (λ y. y ∷ []) (sym (one-mul ℚ_ring x))
-  turns_scaled (suc n) x = ap (values_at (scaled c)) (turns_scaled n x)
+  iterations_scaled zero x = ap (λ y. y ∷ []) (sym (one-mul ℚ_ring x))
+  iterations_scaled (suc n) x = ap (values_at (scaled c)) (iterations_scaled n x)
       ∙ ap (λ y. y ∷ []) (own_at ℚ_ring c (ℚ.mul (power ℚ c n) x)
       ∙ sym (ℚ_ring.mul_assoc c (power ℚ c n) x))
 
-  pub same_turns : (n : ℕ) (s : List Fraction) → length s ≡ 1
-      → values_at (form ∷ []) (point base n s) ≡ turns (scaled c) n s
-  same_turns n [] l = absurd (omega (arith, l))
-  same_turns n (x ∷ []) l = ap (λ y. y ∷ []) (known.values n x) ∙ sym (turns_scaled n x)
-  same_turns n (x ∷ y ∷ s) l = absurd (omega (arith, l))
+  pub same_iterations : (n : ℕ) (s : List Fraction) → length s ≡ 1
+      → values_at (form ∷ []) (point base n s) ≡ iterations (scaled c) n s
+  same_iterations n [] l = absurd (omega (arith, l))
+  same_iterations n (x ∷ []) l = ap (λ y. y ∷ []) (known.values n x) ∙ sym (iterations_scaled n x)
+  same_iterations n (x ∷ y ∷ s) l = absurd (omega (arith, l))
 
   form_first : (vs : List Fraction) → length vs ≡ 1 → (y : Fraction) → vs ≡ y ∷ []
       → form_at (one ∷ []) (0 ∷ []) vs ≡ y
@@ -317,13 +317,13 @@ module _ (c : Fraction) (base key : List ℕ) (known : IsScaled c base key) wher
   form_first vs l y e = ap (form_at (one ∷ []) (0 ∷ [])) e ∙ form_own ℚ_ring y
 
   same_values : (n : ℕ) (s : List Fraction) → length s ≡ 1
-      → form_at (one ∷ []) (0 ∷ []) (turns (scaled c) n s) ≡ value_at ℚ form (point base n s)
+      → form_at (one ∷ []) (0 ∷ []) (iterations (scaled c) n s) ≡ value_at ℚ form (point base n s)
   same_values n s l =
-      let e = sym (same_turns n s l) in
-      form_first (turns (scaled c) n s) (ap length e) (value_at ℚ form (point base n s)) e
+      let e = sym (same_iterations n s l) in
+      form_first (iterations (scaled c) n s) (ap length e) (value_at ℚ form (point base n s)) e
 
   pub scaled_turned : (k : ℕ) (y : Terms Fraction) → IsNormalForm base grevlex 1 y
-      → IsFormAfterTurns base (scaled c) k (0 ∷ []) (one ∷ []) y → y ≡ form
+      → IsFormAfterIterations base (scaled c) k (0 ∷ []) (one ∷ []) y → y ≡ form
   scaled_turned k y normal t =
       one_form base known.coprime grevlex grevlex_order 1 y form normal.polynomial
       known.normal.polynomial normal.normal known.normal.normal (λ n s l.

@@ -2,7 +2,7 @@
 --   fits                a weight with small numbers isn't past
 --   IsNarrow c          the products fit
 --   inverse_fits, back_is     the inverse of its one form does, and is that form
---   source_none, source_fits     the source of the form is 0, and making it isn't past, also where the number is 0
+--   inhomogeneity_none, inhomogeneity_fits     the inhomogeneity of the form is 0, and making it isn't past, also where the number is 0
 --   scaled_unrefused    so it is
 use Rattle.std.proofs.Common.{Option, None, Some, ◌≡◌, inl, inr, ℕ, zero, suc, ◌<◌, ◌≤◌, List, [], ◌∷◌, ◌++◌, take, length, refl, sym, ap, subst, ◌∙◌, arith}
 use Rattle.std.proofs.lemmas.List.{append-nil}
@@ -26,21 +26,21 @@ use Rattle.solvable_maps.specs.Classes.{class_matrix}
 use Rattle.solvable_maps.specs.Inverse.{IsProduct, numbers_at, unit_list, beside}
 use Rattle.solvable_maps.specs.Uses.{unit}
 use Rattle.solvable_maps.specs.Expo.{with_normal_keys, power_key, with_key}
-use Rattle.solvable_maps.specs.Turns.{IsNormalForm}
+use Rattle.solvable_maps.specs.Iterations.{IsNormalForm}
 use Rattle.linear.specs.Rows.{fractions_of, rows_of}
 use Rattle.linear.proofs.Echelon.{echelon_none}
 use Rattle.eigen_split.specs.Refusal.{IsSplitInto}
 use Rattle.eigen_split.specs.declared.splitting.Split.{Split}
 use Rattle.closed_forms.specs.Inverses.{IsBehind, IsPastInverse}
-use Rattle.closed_forms.specs.Known.{AreDone, IsPastVariable, IsPastForm, source_past, making_past, IsPastClass, inverse_past, form_past, variable_past, IsPastRowOf, IsWideClass}
+use Rattle.closed_forms.specs.Known.{AreDone, IsPastVariable, IsPastForm, inhomogeneity_past, making_past, IsPastClass, inverse_past, form_past, variable_past, IsPastRowOf, IsWideClass}
 use Rattle.closed_forms.specs.Later.{Ahead, ahead_of, IsPastFrom, at_once_past, there_past, later_past, one_later_past}
 use Rattle.closed_forms.specs.Splits.{AreSplits, IsSplitOf}
 use Rattle.closed_forms.specs.States.{zeros_in}
 use Rattle.closed_forms.specs.Values.{values_in}
 use Rattle.closed_forms.specs.Products.{IsPastDot, IsPastRow}
-use Rattle.closed_forms.specs.Refusal.{Refusal, not_solvable, eigenvalues, range, wide_split, limit_form, wide_form, IfRefused, IsWideForm, state_past, class_past, turn_past}
+use Rattle.closed_forms.specs.Refusal.{Refusal, not_solvable, eigenvalues, range, wide_split, limit_form, wide_form, IfFormRefused, IsWideForm, state_past, class_past, iteration_past}
 use Rattle.closed_forms.specs.Solved.{homogeneous_part, IsWhole, IsPastSolved, term as term_past, sum as whole_past, normal as made_past}
-use Rattle.closed_forms.specs.Sources.{collect_terms, part, both, part_by_forms, IsSource, IsPastMoved, IsPastBefore, turned as turned_past, back as back_past, before, IsPastSource, moved_past, before_past, sum_past, normal_past}
+use Rattle.closed_forms.specs.Inhomogeneities.{collect_terms, part, both, part_by_forms, IsInhomogeneity, IsPastMoved, IsPastBefore, turned as turned_past, back as back_past, before, IsPastInhomogeneity, moved_past, before_past, sum_past, normal_past}
 use Rattle.closed_forms.specs.Sums.{mix, IsPastScaled, IsPastMix}
 use Rattle.closed_forms.proofs.Ahead.{zeros_none}
 use Rattle.closed_forms.proofs.LengthLaws.{long_or_short}
@@ -176,7 +176,7 @@ module _ (c : Fraction) (base : List ℕ) (narrow : IsNarrow c) where
   product_own (x ∷ []) p = ap (λ y. y ∷ []) (p.each 0 (omega arith) ∙ form_own ℚ_ring c)
   product_own (x ∷ y ∷ out) p = absurd (let s = p.size in omega (arith, s))
 
-  -- ---- the source of its form is 0
+  -- ---- the inhomogeneity of its form is 0
   before_fits : IsPastBefore (one ∷ []) (matrix_of c) rows [] → ⊥
   before_fits (turned_past p) = before_row p
   before_fits (back_past t is p) = behind_row (subst (λ t. IsPastRow 1 t rows) (product_own t is) p)
@@ -200,21 +200,23 @@ module _ (c : Fraction) (base : List ℕ) (narrow : IsNarrow c) where
     both_none by = ap (λ p. collect_terms (p ++ part by [])) moved_none
         ∙ ap collect_terms (part_of_none by)
 
-    pub source_none : (q : Terms Fraction) → IsSource base 1 (one ∷ []) nothing polys (matrix_of c)
+    pub inhomogeneity_none : (q : Terms Fraction) → IsInhomogeneity base 1 (one ∷ []) nothing polys
+        (matrix_of c)
         rows [] q
         → q ≡ []
     unfolding collect
-    source_none q s =
+    inhomogeneity_none q s =
         s.terms ∙ ap (λ p. collect_terms (with_normal_keys (length base) p)) (both_none s.by)
 
-    pub source_fits : IsPastSource base 1 (one ∷ []) nothing polys (matrix_of c) rows [] → ⊥
-    source_fits (moved_past p) = moved_fits p
-    source_fits (before_past p) = before_fits p
-    source_fits (sum_past by is p) =
+    pub inhomogeneity_fits : IsPastInhomogeneity base 1 (one ∷ []) nothing polys (matrix_of c) rows
+        [] → ⊥
+    inhomogeneity_fits (moved_past p) = moved_fits p
+    inhomogeneity_fits (before_past p) = before_fits p
+    inhomogeneity_fits (sum_past by is p) =
         sum_none (subst (λ x. IsPastSum fractions x []) moved_none
         (subst (IsPastSum fractions (part_by_forms base 1 (one ∷ []) nothing polys))
         (part_of_none by) p))
-    source_fits (normal_past by is p) =
+    inhomogeneity_fits (normal_past by is p) =
         weight_none (subst (λ x. IsPast (weight fraction_size x)) (both_none by) p)
 
 -- ---- where the number isn't 0
@@ -248,14 +250,14 @@ module _ (c : Fraction) (base key : List ℕ) (known : IsScaled c base key)
         → IsPastFrom base 1 (one ∷ []) (0 ∷ []) c at_start q → ⊥
     from_fits q e (at_once_past some none p) =
         solved_fits (subst (λ x. IsPastSolved base 1 (one ∷ []) (0 ∷ []) c x) e p)
-    from_fits q e (there_past some turns p) = turns refl
-    from_fits q e (later_past some turns p) = turns refl
+    from_fits q e (there_past some iterations p) = iterations refl
+    from_fits q e (later_past some iterations p) = iterations refl
     from_fits q e (one_later_past none p) = known.some none
 
     form_fits : IsPastForm base 1 (0 ∷ []) nothing polys (matrix_of c) rows at_start (one ∷ []) c []
         → ⊥
-    form_fits (source_past p) = source_fits c base narrow polys p
-    form_fits (making_past q is p) = from_fits q (source_none c base narrow polys q is) p
+    form_fits (inhomogeneity_past p) = inhomogeneity_fits c base narrow polys p
+    form_fits (making_past q is p) = from_fits q (inhomogeneity_none c base narrow polys q is) p
 
   normal_first : (y : Terms Fraction) → Each (IsNormalForm base grevlex 1) (y ∷ [])
       → IsNormalForm base grevlex 1 y
@@ -332,9 +334,9 @@ module _ (c : Fraction) (base key : List ℕ) (known : IsScaled c base key)
   wide_fits : (v : ℕ) → IsWideForm base (scaled c) 0 v → ⊥
   wide_fits v (state_past e p) = let l = p.before in omega (arith, l)
   wide_fits v (class_past d) = wide_class v d
-  wide_fits v (turn_past t) = let l = t.before in omega (arith, l)
+  wide_fits v (iteration_past t) = let l = t.before in omega (arith, l)
 
-  pub scaled_unrefused : (r : Refusal) → IfRefused (scaled c) r → ⊥
+  pub scaled_unrefused : (r : Refusal) → IfFormRefused (scaled c) r → ⊥
   scaled_unrefused (not_solvable cycle) h = scaled_solvable c cycle h.cycle
   scaled_unrefused (eigenvalues class) h =
       h.1.0 (subst (λ g. SplitsAt (length g) (class_matrix (scaled c) g))

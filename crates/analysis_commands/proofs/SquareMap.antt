@@ -23,7 +23,7 @@ use Rattle.loops.specs.Program.{Expr, Program, mul, variable}
 use Rattle.rounds.specs.BranchMap.{map_of}
 use Rattle.loop_model.specs.Operations.{Operation, operations, operations_all, product_at, PassesLimit}
 use Rattle.loop_model.specs.Maps.{maps_operations, statements_operations, AreFree}
-use Rattle.closed_forms.specs.Refusal.{not_solvable, IfRefused}
+use Rattle.closed_forms.specs.Refusal.{not_solvable, IfFormRefused}
 use Rattle.invariant_fix.specs.Refusals.{AllHaveForms, IsRefusedBranch}
 use Rattle.analysis_commands.proofs.BranchRefusals.{no_form}
 use Rattle.analysis_commands.proofs.IdleRuns.{x_loop}
@@ -77,7 +77,7 @@ module _ (t : ℕ) where
   pub square_refused : IsRefusedBranch (square_loop t) 0 (not_solvable (0 ∷ 0 ∷ []))
   square_refused = record {
     within = omega arith;
-    is = subst (λ ms. IfRefused ms (not_solvable (0 ∷ 0 ∷ []))) (sym square_map) squared_cycle;
+    is = subst (λ ms. IfFormRefused ms (not_solvable (0 ∷ 0 ∷ []))) (sym square_map) squared_cycle;
     before = λ c l. absurd (omega (arith, l));
   }
 

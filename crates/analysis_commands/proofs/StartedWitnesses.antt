@@ -24,7 +24,7 @@ use Rattle.loops.specs.Limits.{most_names, most_bytes, most_branches, most_state
 use Rattle.loops.specs.Map.{branch_map}
 use Rattle.loops.specs.Program.{Expr, Program, number, variable}
 use Rattle.loops.specs.Sequences.{Sequence, size}
-use Rattle.loops.specs.Turning.{names, indexed_names, places, all_given, equations, first_places, variables_from, turn, program_of}
+use Rattle.loops.specs.Turning.{names, indexed_names, places, all_given, equations, first_places, variables_from, iteration, program_of}
 use Rattle.loops.specs.WellFormed.{local_places}
 use Rattle.solvable_maps.specs.Classes.{IsFormBase}
 use Rattle.machines.specs.Run.{IsRun}
@@ -38,7 +38,7 @@ use Rattle.loop_model.specs.Maps.{maps_operations, AreFree, statements_operation
 use Rattle.loop_model.specs.Words.{keyword_of}
 use Rattle.solvable.specs.Refusal.{IsSolvable}
 use Rattle.closed_forms.specs.Lengths.{IsShort}
-use Rattle.closed_forms.specs.Refusal.{AllPass, Refusal, IfRefused}
+use Rattle.closed_forms.specs.Refusal.{AllPass, Refusal, IfFormRefused}
 use Rattle.corollaries.specs.Journal.{IsEnded, IsEliminated, IsStopped, IsPastBehind}
 use Rattle.poly_text.specs.Lexemes.{lexeme_at, placed_behind}
 use Rattle.poly_text.specs.Sums.{most_depth}
@@ -48,7 +48,7 @@ use Rattle.loop_text.specs.Seqs.{sequences_word, most_seqname}
 use Rattle.analysis_commands.specs.Causes.{IsNeverRefused, IsWithinBudget}
 use Rattle.analysis_commands.specs.Completeness.{AllSplit}
 use Rattle.analysis_commands.specs.RelationsClauses.{IsNeverStopped, IsRelatedWithin}
-use Rattle.analysis_commands.proofs.IdentityMap.{still, still_solvable, still_passes, still_short, turned_normal, still_base_is, same_turns, still_unrefused}
+use Rattle.analysis_commands.proofs.IdentityMap.{still, still_solvable, still_passes, still_short, turned_normal, still_base_is, same_iterations, still_unrefused}
 use Rattle.analysis_commands.proofs.IdleLoops.{x_form}
 use Rattle.analysis_commands.proofs.StartedRuns.{one_program, gens, gone, tested, A, the_setting, run, ends}
 use Rattle.analysis_commands.proofs.RelatedRuns.{the_entries, never_past_of, one_basis, ended_elimination, behind_fits}
@@ -76,8 +76,8 @@ module _ (l : Program (Expr ℕ)) (single : length l.branches ≡ 1)
   splits_of (suc b) less = absurd (omega (arith, less, single))
 
   unrefused_of : (b : ℕ) (r : Refusal) → b < length l.branches
-      → ¬ (IfRefused (map_of l (suc b)) r)
-  unrefused_of zero r less h = still_unrefused r (subst (λ ms. IfRefused ms r) map_is h)
+      → ¬ (IfFormRefused (map_of l (suc b)) r)
+  unrefused_of zero r less h = still_unrefused r (subst (λ ms. IfFormRefused ms r) map_is h)
   unrefused_of (suc b) r less h = absurd (omega (arith, less, single))
 
   never_refused_of : IsNeverRefused l
@@ -123,7 +123,7 @@ begun_closed = record {
   base = subst (λ ms. IsFormBase ms []) (sym begun_map) still_base_is;
   polynomials = (turned_normal.polynomial, tt);
   normal = (turned_normal.normal, tt);
-  form = record { arity = ((refl, tt), tt); values = λ n s l e. same_turns n s l };
+  form = record { arity = ((refl, tt), tt); values = λ n s l e. same_iterations n s l };
   least = λ d c. omega arith;
 }
 
@@ -164,26 +164,26 @@ abbrev pub steady : List (Sequence (Expr ℕ))
 steady = record { name = 102 ∷ []; first = number (pos 1); later = []; next = variable 0 } ∷ []
 
 steady_setting : (f : Form) → setting_of (program_of steady) (f ∷ []) None ≡ A f
-unfolding names indexed_names places all_given equations variables_from turn size start_list
+unfolding names indexed_names places all_given equations variables_from iteration size start_list
     start_polynomial in_order value_of variables unit_exponents constant opposite Algebra.negate
     branch_map after_branch after_statement store collect insert place compare grevlex fraction
     is_lowest gcd reduce
 steady_setting f = refl
 
 steady_map : map_of (program_of steady) 1 ≡ still
-unfolding names indexed_names places variables_from turn size map_of branch_map after_branch
+unfolding names indexed_names places variables_from iteration size map_of branch_map after_branch
     after_statement store value_of variables unit_exponents constant collect insert place
     compare grevlex fraction is_lowest gcd
 steady_map = refl
 
 steady_closed : IsClosedForm (program_of steady) 1 x_form
-unfolding names indexed_names places variables_from turn size Each branch_map after_branch
+unfolding names indexed_names places variables_from iteration size Each branch_map after_branch
     after_statement store value_of variables unit_exponents
 steady_closed = record {
   base = subst (λ ms. IsFormBase ms []) (sym steady_map) still_base_is;
   polynomials = (turned_normal.polynomial, tt);
   normal = (turned_normal.normal, tt);
-  form = record { arity = ((refl, tt), tt); values = λ n s l e. same_turns n s l };
+  form = record { arity = ((refl, tt), tt); values = λ n s l e. same_iterations n s l };
   least = λ d c. omega arith;
 }
 
@@ -192,7 +192,7 @@ unfolding names indexed_names
 steady_small = refl
 
 steady_operations : maps_operations (program_of steady) ≡ []
-unfolding names indexed_names places all_given equations variables_from turn size operations
+unfolding names indexed_names places all_given equations variables_from iteration size operations
     operations_all statements_operations
 steady_operations = refl
 

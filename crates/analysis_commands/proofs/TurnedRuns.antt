@@ -1,4 +1,4 @@
--- Loops of one variable that begins with 1 and is a number times itself in each turn: their analyses need a round.
+-- Loops of one variable that begins with 1 and is a number times itself in each iteration: their analyses need a round.
 --   doubled_program, doubled_forms     vars x; init x=1; branch { x=2*x; }, and the closed form u x
 --   negated_program, negated_forms     the same with x=-x, and s x
 --   doubled_run, negated_run           their analyses;  asked_run: behind that of the second the division of x^2 - 1
@@ -37,7 +37,7 @@ use Rattle.loops.specs.Program.{Expr, Program, number, variable, mul, neg}
 use Rattle.rounds.specs.Form.{Form, relation, relations_to, passes}
 use Rattle.rounds.specs.Start.{start_list, start_polynomial, in_order}
 use Rattle.rounds.specs.Analysis as analysis
-use Rattle.rounds.specs.Analysis.{State, finished, answered, next, block, starting, closing_from, after_turns}
+use Rattle.rounds.specs.Analysis.{State, finished, answered, next, block, starting, closing_from, after_iterations}
 use Rattle.analysis_commands.proofs.Fitting.{all_fit, then_fit, state_fits, work_fits, orbit_fits, less_fits, elimination_fits, behind_fits, dropping_fits, tailing_fits, acting_fits, taking_fits, left_fits, found_fits, reducing_fits, both_fit, exponents_fit, size_fits, each_fits}
 
 abbrev pub begun_with_one : Expr ℕ → Program (Expr ℕ)
@@ -87,7 +87,7 @@ unfolding on trace all_fit then_fit state_fits work_fits orbit_fits less_fits el
     behind_fits
     dropping_fits tailing_fits acting_fits taking_fits left_fits found_fits reducing_fits both_fit
     exponents_fit size_fits each_fits weight degrees composition_weight composition_degrees lcm
-    exponents.lcm next block starting passes closing_from after_turns analysis.after_branch
+    exponents.lcm next block starting passes closing_from after_iterations analysis.after_branch
     analysis.after relation relations_to start_list start_polynomial in_order branch_map
     after_branch after_statement store value_of variables unit_exponents constant collect insert
     place scale_terms compare blocks grevlex elimination.next completion.next with_element
@@ -120,7 +120,7 @@ unfolding on trace all_fit then_fit state_fits work_fits orbit_fits less_fits el
     behind_fits
     dropping_fits tailing_fits acting_fits taking_fits left_fits found_fits reducing_fits both_fit
     exponents_fit size_fits each_fits weight degrees composition_weight composition_degrees lcm
-    exponents.lcm next block starting passes closing_from after_turns analysis.after_branch
+    exponents.lcm next block starting passes closing_from after_iterations analysis.after_branch
     analysis.after relation relations_to start_list start_polynomial in_order branch_map
     after_branch after_statement store value_of variables unit_exponents constant collect insert
     place scale_terms compare blocks grevlex elimination.next completion.next with_element
@@ -150,7 +150,7 @@ unfolding on trace all_fit then_fit state_fits work_fits orbit_fits less_fits el
     behind_fits
     dropping_fits tailing_fits acting_fits taking_fits left_fits found_fits reducing_fits both_fit
     exponents_fit size_fits each_fits weight degrees composition_weight composition_degrees lcm
-    exponents.lcm next block starting passes closing_from after_turns analysis.after_branch
+    exponents.lcm next block starting passes closing_from after_iterations analysis.after_branch
     analysis.after relation relations_to start_list start_polynomial in_order branch_map
     after_branch after_statement store value_of variables unit_exponents constant collect insert
     place scale_terms compare blocks grevlex elimination.next completion.next with_element

@@ -35,7 +35,7 @@ use Rattle.loops.specs.Map.{branch_map}
 use Rattle.loops.specs.Program.{Expr, Program}
 use Rattle.loops.specs.WellFormed.{local_places}
 use Rattle.solvable_maps.specs.Classes.{IsFormBase}
-use Rattle.solvable_maps.specs.Turns.{width, IsClosedFormFrom}
+use Rattle.solvable_maps.specs.Iterations.{width, IsClosedFormFrom}
 use Rattle.rounds.specs.BranchMap.{map_of}
 use Rattle.rounds.specs.Form.{Form, IsClosedForm}
 use Rattle.rounds.specs.Journal.{AreForms, IsAnswered}
@@ -46,7 +46,7 @@ use Rattle.loop_model.proofs.OperatorLaws.{only}
 use Rattle.loop_model.specs.Words.{keyword_of}
 use Rattle.solvable.specs.Refusal.{IsSolvable}
 use Rattle.closed_forms.specs.Lengths.{IsShort}
-use Rattle.closed_forms.specs.Refusal.{AllPass, Refusal, IfRefused}
+use Rattle.closed_forms.specs.Refusal.{AllPass, Refusal, IfFormRefused}
 use Rattle.poly_text.specs.Lexemes.{lexeme_at, placed_behind}
 use Rattle.poly_text.specs.Sums.{most_depth}
 use Rattle.loop_text.specs.LoopReader.{loop_of}
@@ -54,7 +54,7 @@ use Rattle.analysis_commands.specs.Causes.{IsNeverRefused, IsWithinBudget}
 use Rattle.analysis_commands.specs.Completeness.{AllSplit}
 use Rattle.analysis_commands.specs.MemberCauses.{NeverPast}
 use Rattle.analysis_commands.proofs.IdleQuestions.{alone}
-use Rattle.analysis_commands.proofs.ScaledMap.{one, scaled, scaled_solvable, scaled_passes, scaled_short, IsScaled, scaled_base_is, same_turns}
+use Rattle.analysis_commands.proofs.ScaledMap.{one, scaled, scaled_solvable, scaled_passes, scaled_short, IsScaled, scaled_base_is, same_iterations}
 use Rattle.analysis_commands.proofs.ScaledUnrefused.{fits, IsNarrow, scaled_unrefused}
 use Rattle.analysis_commands.proofs.ScaledNumbers.{two, minus, double_scaled, minus_scaled, double_narrow, minus_narrow}
 use Rattle.analysis_commands.proofs.Traces.{never_past, comes_by}
@@ -77,7 +77,7 @@ module _ (l : Program (Expr ℕ)) (c : Fraction) (base key : List ℕ) (known : 
     form = subst (λ ms. IsClosedFormFrom base ms 0 (((key, one) ∷ []) ∷ [])) (sym raw_is)
         (record {
           arity = (known.normal.polynomial.arity, tt);
-          values = λ n s l e. same_turns c base key known n s l;
+          values = λ n s l e. same_iterations c base key known n s l;
         });
     least = λ d h. omega arith;
   }
@@ -96,9 +96,9 @@ module _ (l : Program (Expr ℕ)) (c : Fraction) (base key : List ℕ) (known : 
   splits_of (suc b) less = absurd (omega (arith, less, single))
 
   unrefused_of : IsNarrow c → (b : ℕ) (r : Refusal) → b < length l.branches
-      → ¬ (IfRefused (map_of l (suc b)) r)
+      → ¬ (IfFormRefused (map_of l (suc b)) r)
   unrefused_of narrow zero r less h =
-      scaled_unrefused c base key known narrow r (subst (λ ms. IfRefused ms r) map_is h)
+      scaled_unrefused c base key known narrow r (subst (λ ms. IfFormRefused ms r) map_is h)
   unrefused_of narrow (suc b) r less h = absurd (omega (arith, less, single))
 
 -- ---- loops with one operation

@@ -32,7 +32,7 @@ use Rattle.loops.specs.Map.{branch_map}
 use Rattle.rounds.specs.Form.{relation, relations_to, passes}
 use Rattle.rounds.specs.Start.{start_list, start_polynomial, in_order}
 use Rattle.rounds.specs.Analysis as analysis
-use Rattle.rounds.specs.Analysis.{Setting, State, fresh, next, moves, block, starting, closing_from, after_turns}
+use Rattle.rounds.specs.Analysis.{Setting, State, fresh, next, moves, block, starting, closing_from, after_iterations}
 use Rattle.rounds.specs.Journal.{setting_of}
 use Rattle.analysis_commands.proofs.Fitting.{never, all_fit, then_fit, state_fits, work_fits, orbit_fits, less_fits, elimination_fits, behind_fits, dropping_fits, tailing_fits, acting_fits, taking_fits, left_fits, found_fits, reducing_fits, both_fit, exponents_fit, size_fits, each_fits}
 use Rattle.machines.specs.Journal.{Entry}
@@ -50,7 +50,7 @@ squares_fit : all_fit (moves squares_setting) (state_fits squares_setting) 17 fr
 unfolding all_fit then_fit state_fits work_fits orbit_fits less_fits elimination_fits behind_fits
     dropping_fits tailing_fits acting_fits taking_fits left_fits found_fits reducing_fits both_fit
     exponents_fit size_fits each_fits weight degrees composition_weight composition_degrees lcm
-    exponents.lcm next block starting passes closing_from after_turns analysis.after_branch
+    exponents.lcm next block starting passes closing_from after_iterations analysis.after_branch
     analysis.after relation relations_to start_list start_polynomial in_order branch_map
     after_branch after_statement store value_of variables unit_exponents constant collect insert
     place scale_terms compare blocks grevlex elimination.next completion.next with_element
@@ -75,7 +75,7 @@ powers_fit : all_fit (moves powers_setting) (state_fits powers_setting) 30 fresh
 unfolding all_fit then_fit state_fits work_fits orbit_fits less_fits elimination_fits behind_fits
     dropping_fits tailing_fits acting_fits taking_fits left_fits found_fits reducing_fits both_fit
     exponents_fit size_fits each_fits weight degrees composition_weight composition_degrees lcm
-    exponents.lcm next block starting passes closing_from after_turns analysis.after_branch
+    exponents.lcm next block starting passes closing_from after_iterations analysis.after_branch
     analysis.after relation relations_to start_list start_polynomial in_order branch_map
     after_branch after_statement store value_of variables unit_exponents constant collect insert
     place scale_terms compare blocks grevlex elimination.next completion.next with_element
@@ -100,7 +100,7 @@ resets_fit : all_fit (moves resets_setting) (state_fits resets_setting) 12 fresh
 unfolding all_fit then_fit state_fits work_fits orbit_fits less_fits elimination_fits behind_fits
     dropping_fits tailing_fits acting_fits taking_fits left_fits found_fits reducing_fits both_fit
     exponents_fit size_fits each_fits weight degrees composition_weight composition_degrees lcm
-    exponents.lcm next block starting passes closing_from after_turns analysis.after_branch
+    exponents.lcm next block starting passes closing_from after_iterations analysis.after_branch
     analysis.after relation relations_to start_list start_polynomial in_order branch_map
     after_branch after_statement store value_of variables unit_exponents constant collect insert
     place scale_terms compare blocks grevlex elimination.next completion.next with_element

@@ -50,7 +50,7 @@ pub record Finds (request : Request) (call : Call) : Type 0 where
   pub loop_fault : (fault : Fault) → ReadsLoop call request.file (Err fault)
       → Ends call (loop_refusal fault)
   -- the first operation of the maps that passes a limit
-  pub limit_met : (l : Program (Expr ℕ)) (at : ℕ) → ReadsLoop call request.file (Ok l)
+  pub limit_passed : (l : Program (Expr ℕ)) (at : ℕ) → ReadsLoop call request.file (Ok l)
       → IsLimit (length l.names) (maps_operations l) at
       → EndsOrWide call (loop_refusal (record { reason = limit; at = at }))
   -- the first branch that has no closed form

@@ -20,7 +20,7 @@ use Rattle.rounds.specs.Analysis.{State}
 use Rattle.rounds.specs.BranchMap.{map_of}
 use Rattle.rounds.specs.Journal.{setting_of, Follows, IsFinished, IsOut}
 use Rattle.rounds.specs.Past.{IsPast}
-use Rattle.closed_forms.specs.Refusal.{Refusal, not_solvable, eigenvalues, range, wide_split, limit_form, wide_form, IfRefused}
+use Rattle.closed_forms.specs.Refusal.{Refusal, not_solvable, eigenvalues, range, wide_split, limit_form, wide_form, IfFormRefused}
 use Rattle.invariant_fix.specs.Answers.{IsLeastLevel}
 use Rattle.invariant_fix.specs.Closing.{AreSteps}
 use Rattle.invariant_fix.specs.Refusals.{AllHaveForms}
@@ -72,7 +72,7 @@ pub record IsNeverRefused (l : Program (Expr ℕ)) : Type 0 where
   pub free : AreFree l
   pub maps : (at : ℕ) → IsWide (length l.names) (maps_operations l) at → ⊥
   pub branches : (b : ℕ) (r : Refusal) → b < length l.branches
-      → ¬ (IfRefused (map_of l (suc b)) r)
+      → ¬ (IfFormRefused (map_of l (suc b)) r)
   pub states : (es : List Made) (s : State) (f : Follows l None es s)
       → IsPast (setting_of l f.forms None) s → ⊥
 

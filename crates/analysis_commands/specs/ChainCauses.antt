@@ -17,7 +17,7 @@ use Rattle.rounds.specs.Analysis.{State}
 use Rattle.rounds.specs.BranchMap.{map_of}
 use Rattle.rounds.specs.Journal.{setting_from, FollowsFrom, IsFinishedBy, IsOutFrom}
 use Rattle.rounds.specs.Past.{IsPast}
-use Rattle.closed_forms.specs.Refusal.{Refusal, IfRefused}
+use Rattle.closed_forms.specs.Refusal.{Refusal, IfFormRefused}
 use Rattle.corollaries.specs.Between.{IsExhaustedLeading, IsPastLeading}
 use Rattle.loops.specs.Chain.{Chain, code_at, loop_at}
 use Rattle.corollaries.specs.Analysed.{Analysed, GivenTo}
@@ -71,7 +71,7 @@ pub record IsNeverRefusedAt (c : Chain (Expr ℕ)) (budget j : ℕ) : Type 0 whe
   pub free : IsFree (length c.first.names) (operations_at c j)
   pub maps : (at : ℕ) → IsWide (length c.first.names) (operations_at c j) at → ⊥
   pub branches : (b : ℕ) (r : Refusal) → b < length (loop_at c j).branches
-      → ¬ (IfRefused (map_of (loop_at c j) (suc b)) r)
+      → ¬ (IfFormRefused (map_of (loop_at c j) (suc b)) r)
   pub states : (left : ℕ) (given : Option (List (Terms Fraction))) → GivenTo c budget j left given
       → (es : List Made) (s : State) (f : FollowsFrom (loop_at c j) given None es s)
       → IsPast (setting_from (loop_at c j) given f.forms None) s → ⊥

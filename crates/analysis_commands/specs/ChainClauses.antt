@@ -54,7 +54,7 @@ pub record FindsEach (request : FileRequest) (call : Call) : Type 0 where
       → Ends call (loop_refusal fault)
   -- behind loops that are formed and finished within the budget: the first operation of the code
   -- before a loop, or then of its maps, that passes a limit
-  pub limit_met : (c : Chain (Expr ℕ)) (j at : ℕ) → ReadsChain call request.file (Ok c)
+  pub limit_passed : (c : Chain (Expr ℕ)) (j at : ℕ) → ReadsChain call request.file (Ok c)
       → j ≤ length c.further → Reaches c request.budget j → AreFormedBefore c j
       → IsLimit (length c.first.names) (operations_at c j) at
       → EndsOrWide call (in_loop j (loop_refusal (record { reason = limit; at = at })))

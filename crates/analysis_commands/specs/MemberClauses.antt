@@ -113,7 +113,7 @@ pub record Decides (request : Request) (call : Call) : Type 0 where
   pub equation_limit : (l : Program (Expr ℕ)) (e : Expr ℕ) (at : ℕ)
       → ReadsEquation call request l (Ok e) → IsLimit (length l.names) (operations_of l e) at
       → EndsOrWide call (limit_of_equation at)
-  pub limit_met : (l : Program (Expr ℕ)) (e : Expr ℕ) (at : ℕ) → AsksOf call request l e
+  pub limit_passed : (l : Program (Expr ℕ)) (e : Expr ℕ) (at : ℕ) → AsksOf call request l e
       → IsLimit (length l.names) (maps_operations l) at → EndsOrWide call (limit_of_loop at)
   pub branch_refused : (l : Program (Expr ℕ)) (e : Expr ℕ) (b : ℕ) (r : Refusal)
       → AsksOf call request l e → AreFree l → IsExact r → IsRefusedBranch l b r

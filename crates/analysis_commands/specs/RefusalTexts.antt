@@ -1,4 +1,4 @@
--- What a refused analysis answers, as texts. Rounds, branches, elements and turns count from 1 in tasks and in texts, and from 0 in refusals.
+-- What a refused analysis answers, as texts. Rounds, branches, elements and iterations count from 1 in tasks and in texts, and from 0 in refusals.
 --   name_of names i              the name at this place
 --   names_at names is              the names at these places, joined by `, `; listed_behind: each behind one
 --   cause_text names r           why a branch has no closed form;  forms_text names e: by an error, which may be want of memory
@@ -60,12 +60,12 @@ place_text (task.Closed round branch element) =
     codes "round " ++ decimal round ++ codes ", branch " ++ decimal branch
     ++ codes ", element " ++ decimal element ++ codes ", closing"
 place_text (task.Round round) = codes "round " ++ decimal round
-place_text (task.Turn round branch turn) =
+place_text (task.Iteration round branch iteration) =
     codes "round " ++ decimal round ++ codes ", branch " ++ decimal branch
-    ++ codes ", turn " ++ decimal turn
-place_text (task.TurnMeet round branch turn) =
+    ++ codes ", turn " ++ decimal iteration
+place_text (task.IterationMeet round branch iteration) =
     codes "round " ++ decimal round ++ codes ", branch " ++ decimal branch
-    ++ codes ", turn " ++ decimal turn ++ codes ", meet"
+    ++ codes ", turn " ++ decimal iteration ++ codes ", meet"
 place_text (task.Orbit round branch) =
     codes "round " ++ decimal round ++ codes ", branch " ++ decimal branch ++ codes ", orbit"
 place_text (task.Meet round branch) =

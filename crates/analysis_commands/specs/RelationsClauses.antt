@@ -101,7 +101,7 @@ pub record FindsRelations (request : FileRequest) (call : Call) : Type 0 where
   pub sequences_fault : (fault : Fault) → ReadsSequences call request.file (Err fault)
       → Ends call (sequences_refusal fault)
   -- the first operation of the maps that passes a limit
-  pub limit_met : (qs : List (Sequence (Expr ℕ))) (at : ℕ)
+  pub limit_passed : (qs : List (Sequence (Expr ℕ))) (at : ℕ)
       → ReadsSequences call request.file (Ok qs)
       → IsLimit (length (names qs)) (maps_operations (program_of qs)) at
       → EndsOrWide call (sequences_refusal (record { reason = limit; at = at }))

@@ -211,16 +211,16 @@ fn place_text(alloc: Global, task: &Task) -> Result<String, AllocError>
             element,
         } => format!(in alloc; "round {round}, branch {branch}, element {element}, closing"),
         Task::Round { round } => format!(in alloc; "round {round}"),
-        Task::Turn {
+        Task::Iteration {
             round,
             branch,
-            turn,
-        } => format!(in alloc; "round {round}, branch {branch}, turn {turn}"),
-        Task::TurnMeet {
+            iteration,
+        } => format!(in alloc; "round {round}, branch {branch}, turn {iteration}"),
+        Task::IterationMeet {
             round,
             branch,
-            turn,
-        } => format!(in alloc; "round {round}, branch {branch}, turn {turn}, meet"),
+            iteration,
+        } => format!(in alloc; "round {round}, branch {branch}, turn {iteration}, meet"),
         Task::Orbit { round, branch } => format!(in alloc; "round {round}, branch {branch}, orbit"),
         Task::Meet { round, branch } => format!(in alloc; "round {round}, branch {branch}, meet"),
         Task::Member => String::from_str(alloc, "member"),

@@ -4,7 +4,7 @@
 --   orbit_stage, meet_stage        the stages of the code are those of the definition
 --   base_is                        and so is the base of its form
 --   front_sized                    how many variables stand in front of an orbit
---   backward_here                  the form of a branch, backward
+--   inverse_form_here                  the form of a branch, backward
 --   orbit_fits, orbit_past         what an orbit begins with
 --   meet_past                      what an intersection begins with
 use Rattle.std.proofs.Common.{◌≡◌, ◌<◌, ◌≤◌, ◌+◌, ◌-◌, ℕ, zero, suc, List, [], ◌∷◌, get_or, length, refl, sym, ap, subst, subst₂, ◌∙◌, arith}
@@ -19,7 +19,7 @@ use Rattle.loops.specs.Program.{Expr, Program}
 use Rattle.rounds.specs.Form.{front}
 use Rattle.monos.specs.Variables.{most_variables}
 use Rattle.poly.specs.Seen.{terms_in, terms_each}
-use Rattle.poly.specs.Standing.{IsOver}
+use Rattle.poly.specs.Standing.{IsInVariables}
 use Rattle.loop_model.specs.FracPoly.{FracPoly}
 use Rattle.coprime_base.specs.Sizes.{sizes}
 use Rattle.expo.specs.Bases.{IsCoprimeBase}
@@ -31,7 +31,7 @@ use Rattle.task_lists.specs.declared.parts.FullForm.{FullForm}
 use Rattle.task_lists.specs.declared.parts.FullStage.{FullStage}
 use Rattle.task_lists.specs.declared.parts.FullBranch.{FullBranch}
 use Rattle.task_lists.specs.declared.parts.FullCert.{FullCert}
-use Rattle.cert_checker.specs.Backward.{IsBackward, IsGivenOver}
+use Rattle.cert_checker.specs.InverseForm.{IsInverseForm, IsGivenOver}
 use Rattle.cert_checker.specs.FullWide.{IsPastBegun}
 use Rattle.cert_checker.proofs.Branches.{branch_at}
 
@@ -108,7 +108,7 @@ module _ (cert : FullCert) (b : ℕ) (form : FullForm) (l : b < length cert.form
   front_sized n e = e ∙ ap front (numbers ∙ ap length base_is)
 
   module _ (program : Program (Expr ℕ)) (back list : Vec FracPoly Global)
-      (h : IsBackward program cert b back) where
+      (h : IsInverseForm program cert b back) where
     pub orbit_fits : (m : ℕ) → m ≡ length program.names → 0 < length program.names
         → ArePolys (length program.names) list → FitsOrbit m form.base back list
     orbit_fits m e some over = subst (λ n. FitsOrbit n form.base back list) (sym e) (record {
@@ -117,7 +117,8 @@ module _ (cert : FullCert) (b : ℕ) (form : FullForm) (l : b < length cert.form
       few = subst (λ bs. front (length bs) + length program.names ≤ most_variables) (sym base_is)
           h.few;
       count = h.count;
-      backs = subst (λ bs. All (IsOver (front (length bs) + length program.names)) back.items)
+      backs = subst (λ bs. All (IsInVariables (front (length bs) + length program.names))
+          back.items)
           (sym base_is) h.arity;
       elements = over;
     })

@@ -16,7 +16,7 @@ use Rattle.algebra.specs.Fraction.{Fraction, rationals}
 use Rattle.polynomials.specs.Terms.{Terms}
 use Rattle.machines.specs.Collect.{collect}
 use Rattle.loops.specs.Program.{Expr, Program}
-use Rattle.rounds.specs.Form.{form_backward, orbit_list, orbit_order, relations}
+use Rattle.rounds.specs.Form.{inverse_of_form, orbit_list, orbit_order, relations}
 use Rattle.completeness.specs.Stage.{Stage, Place, in_list, in_gens, in_pairs, in_links, HoldsAt, places}
 use Rattle.completeness.specs.Full.{FullCertificate, WrittenForm, as_form, orbit, meet, of_option, stage_of, so_far, before, front_of, starting}
 use Rattle.completeness.specs.Parts.{Part, in_round, Holds, stage_parts, branch_parts}
@@ -24,8 +24,8 @@ use Rattle.completeness.specs.Counts.{IsCounted, no_branch}
 use Rattle.task_lists.specs.View.{branch_in, round_in, full_of}
 use Rattle.task_lists.specs.declared.parts.FullBranch.{FullBranch}
 use Rattle.task_lists.specs.declared.parts.FullCert.{FullCert}
-use Rattle.task_lists.specs.Starting.{unwound}
-use Rattle.cert_checker.specs.Backward.{given_by, given_list}
+use Rattle.task_lists.specs.Starting.{pulled_back}
+use Rattle.cert_checker.specs.InverseForm.{given_by, given_list}
 use Rattle.cert_checker.specs.Parts.{part_of, place_of, kind_of, stage_part}
 use Rattle.cert_checker.specs.StageParts.{IsPastPlace}
 use Rattle.cert_checker.specs.FullStops.{IsStop, stop_map}
@@ -89,18 +89,18 @@ last_branch (suc n) = omega arith
 
 module _ (m : ℕ) where
   list_with : ℕ → List (Terms Fraction) → List (Terms Fraction) → List (Terms Fraction)
-  list_with r back gs = map (unwound r m back) gs
+  list_with r back gs = map (pulled_back r m back) gs
       ++ map (collect rationals (orbit_order r)) (relations r m)
 
   pub orbit_starts : (f : WrittenForm) (base : List ℕ) (back gs hs : List (Terms Fraction))
-      → base ≡ f.base → back ≡ form_backward (as_form f) → gs ≡ hs
-      → map (unwound (length base) m back) gs
+      → base ≡ f.base → back ≡ inverse_of_form (as_form f) → gs ≡ hs
+      → map (pulled_back (length base) m back) gs
       ++ map (collect rationals (orbit_order (length base))) (relations (length base) m)
       ≡ orbit_list (as_form f) m hs
   unfolding list_with
   orbit_starts f base back gs hs d e g = ap (λ b. list_with (length b) back gs) d
       ∙ ap (λ k. list_with (length f.base) k gs) e
-      ∙ ap (list_with (length f.base) (form_backward (as_form f))) g
+      ∙ ap (list_with (length f.base) (inverse_of_form (as_form f))) g
 
 -- ---- the places of a stage
 place_weaker : (V W : ℕ → Type 0) → ((i : ℕ) → V i → W i) → (s : Stage) (p : Place)

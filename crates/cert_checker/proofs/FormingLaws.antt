@@ -13,7 +13,7 @@ use Rattle.loop_model.specs.Maps.{start_operations, branches_operations}
 use Rattle.cert_checker.specs.declared.error.CheckError.{CheckError}
 use Rattle.cert_checker.specs.declared.error.CheckError.TheVariants.{Map, Limit, Wide, Memory}
 use Rattle.cert_checker.specs.Forming.{refused_map, IfUnformed}
-use Rattle.cert_checker.specs.Wide.{IfRefused}
+use Rattle.cert_checker.specs.Wide.{IfCheckRefused}
 
 pub stops_unformed : (m : ℕ) (os : List Operation) (e : MapError) → Stops m os e
     → IfUnformed m os (refused_map e)
@@ -23,7 +23,7 @@ stops_unformed m os map_error.Memory h = tt
 
 pub maps_unformed : (program : Program (Expr ℕ)) (c : Certificate) (e : CheckError)
     → IsFree (length program.names) (start_operations program)
-    → IfUnformed (length program.names) (branches_operations program) e → IfRefused program c e
+    → IfUnformed (length program.names) (branches_operations program) e → IfCheckRefused program c e
 maps_unformed program c (Map (map_error.Limit at)) free h = stops_behind (length program.names)
     (start_operations program) (branches_operations program) (map_error.Limit at) free h
 maps_unformed program c (Map (map_error.Wide at)) free h = stops_behind (length program.names)

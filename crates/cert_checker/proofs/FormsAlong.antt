@@ -2,7 +2,7 @@
 --   passes_along       a form that passes for the one passes for the other
 --   map_of             the images of a branch are its map's polynomials
 --   form_at, wide, many    the form of a branch in the code
---   fits, pass_on, pass_back, past_on, backward_at     what is told of it
+--   fits, pass_on, pass_back, past_on, inverse_form_at     what is told of it
 --   backs_more         what holds of each of a list, at its place, and of one more
 use Rattle.std.proofs.Common.{◌≡◌, ◌⊎◌, inl, inr, ◌<◌, ◌≤◌, ◌+◌, ℕ, List, [], ◌∷◌, ◌++◌, map, get_or, length, sym, ap, subst, subst₂, ◌∙◌, arith, Vec, Global}
 use Rattle.std.specs.Prelude.{All, vec_len}
@@ -17,13 +17,13 @@ use Rattle.polynomials.specs.Terms.{Terms, AllSame, compose}
 use Rattle.polynomials.proofs.Composition.{same_compose}
 use Rattle.polynomials.proofs.Same.{Same-trans, AllSame-refl, AllSame-sym}
 use Rattle.solvable_maps.specs.Expo.{with_normal_keys}
-use Rattle.solvable_maps.specs.Turns.{width}
+use Rattle.solvable_maps.specs.Iterations.{width}
 use Rattle.solvable_maps.proofs.Retold.{same_normalized}
 use Rattle.loops.specs.Program.{Expr, Program}
-use Rattle.rounds.specs.Form.{Form, front, form_backward}
+use Rattle.rounds.specs.Form.{Form, front, inverse_of_form}
 use Rattle.monos.specs.Variables.{most_variables}
 use Rattle.poly.specs.Seen.{terms_in, terms_each}
-use Rattle.poly.specs.Standing.{IsOver, AllStandFor}
+use Rattle.poly.specs.Standing.{IsInVariables, AllStandFor}
 use Rattle.poly.proofs.Standing.{polynomial_over, arities_over, stands_over, stands_same}
 use Rattle.loop_model.specs.FracPoly.{FracPoly}
 use Rattle.coprime_base.specs.Sizes.{sizes}
@@ -37,7 +37,7 @@ use Rattle.task_lists.specs.declared.parts.FullForm.{FullForm}
 use Rattle.completeness.specs.Counts.{IsCounted}
 use Rattle.task_lists.specs.declared.parts.FullCert.{FullCert}
 use Rattle.cert_checker.specs.Wide.{IsMapOf}
-use Rattle.cert_checker.specs.Backward.{IsBackward}
+use Rattle.cert_checker.specs.InverseForm.{IsInverseForm}
 use Rattle.cert_checker.specs.FullWide.{IsPastOfMap}
 
 all_trans : (ps qs rs : List (Terms Fraction)) → AllSame ℚ ps qs → AllSame ℚ qs rs
@@ -81,7 +81,7 @@ pub map_of : (m : ℕ) (images : List FracPoly) (maps : List (Terms Fraction))
     → AllStandFor m images maps → IsMapOf m (terms_each images) maps
 map_of m images maps h = record {
   polynomials = All-map (IsPolynomial ℚ grevlex m) terms_in images
-      (All-weaker (IsOver m) (λ p. IsPolynomial ℚ grevlex m (terms_in p)) (polynomial_over m)
+      (All-weaker (IsInVariables m) (λ p. IsPolynomial ℚ grevlex m (terms_in p)) (polynomial_over m)
       images (stands_over m images maps h));
   same = stands_same m images maps h;
 }
@@ -103,9 +103,9 @@ module _ (program : Program (Expr ℕ)) (cert : FullCert)
   numbers : vec_len form.base ≡ length (sizes form.base.items)
   numbers = form.base.ok.0 ∙ sym (length-map form.base.items _)
 
-  pub wide : All (IsOver (width (length (sizes form.base.items)) (length program.names)))
+  pub wide : All (IsInVariables (width (length (sizes form.base.items)) (length program.names)))
       form.polys.items
-  wide = subst (λ n. All (IsOver (width n m)) form.polys.items) numbers
+  wide = subst (λ n. All (IsInVariables (width n m)) form.polys.items) numbers
       (subst (IsFormOver m) (sym is) (over.forms b form l)).polys
 
   pub many : length form.polys.items ≡ length program.names
@@ -163,20 +163,21 @@ module _ (program : Program (Expr ℕ)) (cert : FullCert)
       past = subst₂ (IsPastForm (terms_each images.items)) count form_at h;
     }
 
-    pub backward_at : (back : Vec FracPoly Global) → terms_each back.items ≡ form_backward
+    pub inverse_form_at : (back : Vec FracPoly Global) → terms_each back.items ≡ inverse_of_form
         (as_form (form_in form))
-        → All (IsOver (width (length (sizes form.base.items)) (length images.items)))
-        back.items → IsCoprimeBase (sizes form.base.items) → IsBackward program cert b back
-    backward_at back same arities base = record {
+        → All (IsInVariables (width (length (sizes form.base.items)) (length images.items)))
+        back.items → IsCoprimeBase (sizes form.base.items) → IsInverseForm program cert b back
+    inverse_form_at back same arities base = record {
       base = subst (λ (f : Form). IsCoprimeBase f.base) form_at base;
       few = subst (λ (f : Form). front (length f.base) + m ≤ most_variables) form_at
           (let e = few in omega (arith, e, names));
       count = sym (length-map back.items terms_in) ∙ ap length same
           ∙ length-map (as_form (form_in form)).polys _ ∙ length-map form.polys.items terms_in
           ∙ many;
-      arity = subst (λ (f : Form). All (IsOver (front (length f.base) + m)) back.items) form_at
-          (subst (λ n. All (IsOver n) back.items) front_is arities);
-      is = same ∙ ap form_backward form_at;
+      arity = subst (λ (f : Form). All (IsInVariables (front (length f.base) + m)) back.items)
+          form_at
+          (subst (λ n. All (IsInVariables n) back.items) front_is arities);
+      is = same ∙ ap inverse_of_form form_at;
     }
       where
         front_is : width (length (sizes form.base.items)) (length images.items)

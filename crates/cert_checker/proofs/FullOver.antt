@@ -12,7 +12,7 @@ use Rattle.polynomials.specs.Polynomial.{AllArity}
 use Rattle.polynomials.specs.Terms.{Terms}
 use Rattle.poly.specs.Seen.{terms_each}
 use Rattle.poly.proofs.Standing.{arities_over}
-use Rattle.solvable_maps.specs.Turns.{width}
+use Rattle.solvable_maps.specs.Iterations.{width}
 use Rattle.loops.specs.Program.{Expr, Program}
 use Rattle.rounds.specs.Form.{front}
 use Rattle.cert_form.specs.Cert.{Polys}

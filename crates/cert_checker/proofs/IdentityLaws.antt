@@ -10,17 +10,17 @@ use Rattle.polynomials.proofs.Same.{Same-sym, Same-trans}
 use Rattle.monos.specs.declared.order.Grevlex.{Grevlex}
 use Rattle.ring_laws.specs.declared.ArithmeticError.{ArithmeticError}
 use Rattle.poly.specs.Seen.{Is, terms_in, terms_each, arity_of}
-use Rattle.poly.specs.Standing.{IsOver, StandsFor}
+use Rattle.poly.specs.Standing.{IsInVariables, StandsFor}
 use Rattle.poly.proofs.Standing.{first_arity}
 use Rattle.loop_model.specs.FracPoly.{FracPoly}
 
 pub composed_arities : (images : List FracPoly) → 0 < length images
-    → All (IsOver (length images)) images → All (IsOver (arity_of images)) images
-composed_arities images some all = subst (λ m. All (IsOver m) images)
+    → All (IsInVariables (length images)) images → All (IsInVariables (arity_of images)) images
+composed_arities images some all = subst (λ m. All (IsInVariables m) images)
     (sym (first_arity (length images) images all some)) all
 
 pub composed_stands : (images : List FracPoly) (element p : FracPoly) (o : Grevlex)
-    → 0 < length images → All (IsOver (length images)) images
+    → 0 < length images → All (IsInVariables (length images)) images
     → Is o (arity_of images) (compose ℚ (arity_of images) (terms_in element) (terms_each images)) p
     → StandsFor (length images) p (compose ℚ (length images) (terms_in element)
     (terms_each images))

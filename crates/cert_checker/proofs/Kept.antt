@@ -6,7 +6,7 @@ use Rattle.std.specs.declared.alloc.Global.{Global}
 use Rattle.std.proofs.lemmas.List.{get_or-map, length-map}
 use Rattle.loops.specs.Program.{Expr, Program}
 use Rattle.poly.specs.Seen.{terms_in, terms_each}
-use Rattle.cert_form.specs.Cert.{Polys, IsKept}
+use Rattle.cert_form.specs.Cert.{Polys, IsWellSized}
 use Rattle.task_lists.specs.Rows.{rows_of}
 use Rattle.completeness.specs.Counts.{IsSquare as IsSquareTable, IsCounted}
 use Rattle.task_lists.specs.Images.{IsFullIn}
@@ -15,7 +15,7 @@ use Rattle.task_lists.specs.declared.parts.FullCert.{FullCert}
 use Rattle.cert_checker.proofs.StageSteps.{widths}
 
 pub kept_of : (program : Program (Expr ℕ)) (c : FullCert) → IsFullIn (length program.names) c
-    → IsCounted program (full_of c) → IsKept (length program.names) c.basis c.steps
+    → IsCounted program (full_of c) → IsWellSized (length program.names) c.basis c.steps
 kept_of program c over counted = record {
   arities = over.basis;
   squares = λ b d l. record {

@@ -25,18 +25,18 @@ use Rattle.exponentials.specs.Keys.{key_of, top}
 use Rattle.machines.specs.Collect.{collect}
 use Rattle.machines.proofs.Collecting.{collect-is, collect-same}
 use Rattle.solvable_maps.specs.Expo.{with_normal_keys, tail, with_key, next_images}
-use Rattle.solvable_maps.specs.Turns.{width, IsNormal}
+use Rattle.solvable_maps.specs.Iterations.{width, IsNormal}
 use Rattle.solvable_maps.proofs.Retold.{same_normalized}
 use Rattle.poly.specs.Operations.{AreEqual}
 use Rattle.poly.specs.Seen.{terms_in, Is}
-use Rattle.poly.specs.Standing.{IsOver as IsOverMany}
+use Rattle.poly.specs.Standing.{IsInVariables as IsOverMany}
 use Rattle.poly.proofs.Standing.{arity_over, polynomial_over}
 use Rattle.loop_model.specs.FracPoly.{FracPoly}
 use Rattle.expo.specs.declared.exponential.Expo.{Expo}
-use Rattle.expo.specs.Operations.{normal_of, vars_of, at_next, IsOver}
+use Rattle.expo.specs.Operations.{normal_of, vars_of, at_next, IsOverBaseOf}
 use Rattle.expo.specs.View.{base_of, IsExpo}
 use Rattle.solvable_maps.proofs.Normal.{Stays, AllStay, kept_stay, stay_kept, exponents_stay, stay_normal}
-use Rattle.cert_checker.specs.Passing.{IsKept}
+use Rattle.cert_checker.specs.Passing.{IsExpoOf}
 
 -- ---- normal polynomials
 rejoined : (r : ℕ) (e : List ℕ) → 2 ≤ length e → with_key (top e) (key_of r e) (tail r e) ≡ e
@@ -83,7 +83,7 @@ module _ (bs : List ℕ) (p : FracPoly) (e : Expo) (room : width (length bs) 0 �
   over : Arity (width (length bs) e.vars) (terms_in p)
   over = subst (λ n. Arity n (terms_in p)) vars_are (arity_over p.arity p refl)
 
-  pub kept_as : (b : Bool) → (IsTrue b ↔ AreEqual e.body p) → b ≡ true → IsKept bs p e
+  pub kept_as : (b : Bool) → (IsTrue b ↔ AreEqual e.body p) → b ≡ true → IsExpoOf bs p e
   kept_as b tells t =
       let same : terms_in e.body ≡ terms_in p = (tells.0 t).1 in
       record {
@@ -108,7 +108,8 @@ module _ (bs : List ℕ) (p : FracPoly) (e : Expo) (room : width (length bs) 0 �
       true≢false (sym (tells.1 (wide_as, same)) ∙ f)
 
 pub kept_vars : (bs : List ℕ) (m : ℕ) (ps : List FracPoly) (i : ℕ) (p : FracPoly) (e : Expo)
-    → i < length ps → p ≡ get_or ps i p → All (IsOverMany (width (length bs) m)) ps → IsKept bs p e
+    → i < length ps → p ≡ get_or ps i p → All (IsOverMany (width (length bs) m)) ps
+    → IsExpoOf bs p e
     → e.vars ≡ m
 kept_vars bs m ps i p e l is over kept =
     let wide : p.arity ≡ width (length bs) m =
@@ -129,7 +130,7 @@ module _ (bs : List ℕ) where
   )
 
   pub next_same : (m : ℕ) (e next : Expo) → base_of e ≡ bs → e.vars ≡ m
-      → IsOver e (at_next e) next
+      → IsOverBaseOf e (at_next e) next
       → (next.body.arity ≡ width (length bs) m)
       × Same ℚ (terms_in next.body)
       (compose ℚ (width (length bs) m) (terms_in e.body) (next_images bs m))

@@ -13,7 +13,7 @@ use Rattle.polynomials.specs.Terms.{Terms, Same, AllSame, variables, compose}
 use Rattle.polynomials.specs.Weight.{weight, IsPastComposition}
 use Rattle.polynomials.proofs.Same.{AllSame-at}
 use Rattle.loops.proofs.Maps.{length-variables}
-use Rattle.solvable_maps.specs.Turns.{width, IsNormal}
+use Rattle.solvable_maps.specs.Iterations.{width, IsNormal}
 use Rattle.solvable_maps.specs.Expo.{with_normal_keys, next_images, zero_images}
 use Rattle.completeness.specs.FormIdentities.{IsRightForm}
 use Rattle.expo.specs.Bases.{IsCoprimeBase}

@@ -21,7 +21,7 @@ use Rattle.ring_laws.specs.declared.Ring as Ring
 use Rattle.monos.specs.declared.order.Order as Order
 use Rattle.poly.specs.declared.Poly.{Poly}
 use Rattle.poly.specs.Seen.{IsImage, terms_in, terms_each}
-use Rattle.poly.specs.Standing.{IsOver}
+use Rattle.poly.specs.Standing.{IsInVariables}
 use Rattle.ring_laws.specs.declared.ArithmeticError.{ArithmeticError}
 use Rattle.ring_laws.specs.declared.ArithmeticError.TheVariants as arithmetic_error
 use Rattle.task_lists.specs.Rows.{rows_of, HaveWidth}
@@ -59,7 +59,7 @@ module _ {K O : Type 0} {g : Ring.Ghosts K} {h : PartialEq.Ghosts K} {b : Order.
   }
 
   pub over_images : ((x y : O) → x ≡ y) → (m : ℕ) (p : Poly K O g h b e)
-      (qs : List (Poly K O g h b e)) → IsOver m p → All (IsOver m) qs
+      (qs : List (Poly K O g h b e)) → IsInVariables m p → All (IsInVariables m) qs
       → All (IsImage p.order p.arity) qs
   over_images same m p qs is all i d l = record { order = same _ _; arity = all i d l ∙ sym is }
 

@@ -25,7 +25,7 @@ use Rattle.loops.specs.Certificate.{Certificate, IsOver, PassesStart, PassesStep
 use Rattle.loops.proofs.Certificates.{arity_at}
 use Rattle.loops.proofs.Maps.{arity-start_map, length-start_map, arity-branch_map, length-branch_map}
 use Rattle.poly.specs.Seen.{terms_in, terms_each}
-use Rattle.poly.specs.Standing.{IsOver as IsPolyOver, AllStandFor}
+use Rattle.poly.specs.Standing.{IsInVariables as IsPolyOver, AllStandFor}
 use Rattle.poly.proofs.Standing.{polynomial_over, arities_over, stands_over, stands_same, stands_length}
 use Rattle.loop_model.specs.FracPoly.{FracPoly}
 use Rattle.loop_model.specs.Maps.{AreFree}
@@ -39,7 +39,7 @@ use Rattle.cert_checker.specs.Stops.{Stops, IfStops}
 use Rattle.expansion.specs.Counts.{most_terms}
 use Rattle.cert_checker.specs.Long.{start_terms, step_terms, total, IsFirstLong, IfLong}
 use Rattle.cert_checker.specs.Short.{ShortStart, ShortStep}
-use Rattle.cert_checker.specs.Wide.{WideIdentity, LongIdentity, IfRefused}
+use Rattle.cert_checker.specs.Wide.{WideIdentity, LongIdentity, IfCheckRefused}
 
 module _ (lp : Loop) where
   pub some_variable : 0 < length (program_of lp).names
@@ -91,7 +91,7 @@ IfTooWide program c (error.Wide branch i) = WideIdentity program c branch i
 IfTooWide program c error.Memory = Unit {0}
 
 pub refused_identity : (program : Program (Expr ℕ)) (c : Certificate) (e : CheckError)
-    → AreFree program → IfTooWide program c e → IfRefused program c e
+    → AreFree program → IfTooWide program c e → IfCheckRefused program c e
 refused_identity program c (error.Map e) free h = absurd h
 refused_identity program c (error.Limit branch i) free h = absurd h
 refused_identity program c (error.Wide branch i) free h = (free, h)
@@ -158,7 +158,7 @@ module _ (program : Program (Expr ℕ)) (c : Certificate) (over : IsOver program
   pub start_long : (images : List FracPoly) → AllStandFor (length program.names) images
       (start_map program) → (e : CheckError) → AreFree program
       → IfLong e 0 (IsFirstLong (start_terms (polys_in basis) (terms_each images))
-      (length basis.items)) → IfRefused program c e
+      (length basis.items)) → IfCheckRefused program c e
   start_long images stand (error.Map e) free h = absurd h
   start_long images stand (error.Limit b i) free h = (
     free,
@@ -246,7 +246,7 @@ module _ (program : Program (Expr ℕ)) (c : Certificate) (over : IsOver program
         → PassesStep program c a j)
         → (e : CheckError) → AreFree program
         → IfLong e (b + 1) (IsFirstLong (step_terms (polys_in basis) (terms_each images) rows)
-        (length basis.items)) → IfRefused program c e
+        (length basis.items)) → IfCheckRefused program c e
     step_long inside starts earlier (error.Map e) free h = absurd h
     step_long inside starts earlier (error.Limit k i) free h = (
       free,

@@ -18,13 +18,13 @@ use Rattle.loop_model.specs.Maps.{AreFree}
 use Rattle.completeness.specs.Full.{FullCertificate, certificate}
 use Rattle.completeness.specs.Parts.{Part, in_basis, in_steps, Holds, basis_parts, step_parts, parts, AllHold, IsFirst}
 use Rattle.cert_checker.specs.Views.{failing_in}
-use Rattle.cert_checker.specs.Wide.{WideIdentity, IfRefused as IfRefusedItself}
+use Rattle.cert_checker.specs.Wide.{WideIdentity, IfCheckRefused as IfRefusedItself}
 use Rattle.cert_checker.specs.declared.error.CheckError.{CheckError}
 use Rattle.cert_checker.specs.declared.error.CheckError.TheVariants as check_error
 use Rattle.cert_checker.specs.Further.{further_parts}
 use Rattle.cert_checker.specs.Paths.{path_of}
 use Rattle.cert_checker.specs.FullStops.{Behind}
-use Rattle.cert_checker.specs.FullWide.{IsPastPart, IsWide, IsLong, IsLimitAt, IsWideAt, IsRefusalOf, identity_part, IfRefused}
+use Rattle.cert_checker.specs.FullWide.{IsPastPart, IsWide, IsLong, IsLimitAt, IsWideAt, IsRefusalOf, identity_part, IfFullCheckRefused}
 use Rattle.cert_checker.specs.Verdicts.{IsFailing, IsVerdictOf}
 use Rattle.cert_checker.specs.declared.full_verdict.FullVerdict.{FullVerdict}
 use Rattle.cert_checker.specs.declared.full_verdict.FullVerdict.TheVariants.{Complete, Fails}
@@ -143,23 +143,25 @@ module _ (program : Program (Expr ℕ)) (c : FullCertificate) where
 
   -- ---- refusals
   pub wide_refused : (path : List ℕ) (r : FullError) → AreFree program → IsWide program c path
-      → IsWideAt path r → IfRefused program c r
+      → IsWideAt path r → IfFullCheckRefused program c r
   wide_refused path (Map e) free w is = absurd is
   wide_refused path (Limit at) free w is = absurd is
   wide_refused path (Wide at) free w is = (free, subst (IsWide program c) (sym is) w)
   wide_refused path Memory free w is = tt
 
   pub limit_refused : (path : List ℕ) (r : FullError) → AreFree program → IsLong program c path
-      → IsLimitAt path r → IfRefused program c r
+      → IsLimitAt path r → IfFullCheckRefused program c r
   limit_refused path (Map e) free w is = absurd is
   limit_refused path (Limit at) free w is = (free, subst (IsLong program c) (sym is) w)
   limit_refused path (Wide at) free w is = absurd is
   limit_refused path Memory free w is = tt
 
   pub refusal : (e : CheckError) (r : FullError) → IfRefusedItself program (certificate c) e
-      → IsRefusalOf e r → IfRefused program c r
-  refusal (check_error.Map (map_error.Limit at)) r h is = subst (IfRefused program c) (sym is) h
-  refusal (check_error.Map (map_error.Wide at)) r h is = subst (IfRefused program c) (sym is) h
+      → IsRefusalOf e r → IfFullCheckRefused program c r
+  refusal (check_error.Map (map_error.Limit at)) r h is = subst (IfFullCheckRefused program c)
+      (sym is) h
+  refusal (check_error.Map (map_error.Wide at)) r h is = subst (IfFullCheckRefused program c)
+      (sym is) h
   refusal (check_error.Map map_error.Memory) r h is = absurd h
   refusal (check_error.Limit branch i) r h is =
       limit_refused (path_of (identity_part branch i)) r h.0
@@ -168,7 +170,7 @@ module _ (program : Program (Expr ℕ)) (c : FullCertificate) where
       wide_refused (path_of (in_basis i)) r h.0 (start_wide i h.1) is
   refusal (check_error.Wide (suc b) i) r h is =
       wide_refused (path_of (in_steps b i)) r h.0 (step_wide b i h.1) is
-  refusal check_error.Memory r h is = subst (IfRefused program c) (sym is) tt
+  refusal check_error.Memory r h is = subst (IfFullCheckRefused program c) (sym is) tt
 
 -- the verdict on a part
 pub failing_verdict : (program : Program (Expr ℕ)) (c : FullCertificate) (part : Part)

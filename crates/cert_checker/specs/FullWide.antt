@@ -8,14 +8,14 @@
 --   IsLong program c path          the part with this path is an identity of the certificate itself that is too long
 --   IsLimitAt path e               e tells so of the part with this path; want of memory is free
 --   IsUnformed m os e              e is one of the operations os that can't be done
---   IfRefused program c e          the cause of the refusal e: a map of the loop can't be formed, or a part is too long or too wide; want of memory is free
+--   IfFullCheckRefused program c e          the cause of the refusal e: a map of the loop can't be formed, or a part is too long or too wide; want of memory is free
 use Rattle.std.specs.Prelude.{◌≡◌, ℕ, zero, suc, ◌-◌, ◌<◌, ◌≤◌, pred, List, [], get_or, length, string_bytes}
 use Rattle.algebra.specs.Fraction.{Fraction, fractions}
 use Rattle.polynomials.specs.Terms.{Terms}
 use Rattle.polynomials.specs.Weight.{IsPastComposition, IsPastSum}
 use Rattle.loops.specs.Program.{Expr, Program}
 use Rattle.loops.specs.Map.{start_map, branch_map}
-use Rattle.rounds.specs.Form.{Form, form_backward}
+use Rattle.rounds.specs.Form.{Form, inverse_of_form}
 use Rattle.loop_model.specs.Operations.{Operation, IsLimit, IsWide as IsWideOperation}
 use Rattle.loop_model.specs.declared.map_error.MapError.{MapError}
 use Rattle.loop_model.specs.declared.map_error.MapError.TheVariants as map_error
@@ -41,16 +41,16 @@ pub record IsPastOfMap (m : ℕ) (maps : List (Terms Fraction)) (W : List (Terms
   pub past : W images
 
 module _ (program : Program (Expr ℕ)) (c : FullCertificate) where
-  abbrev pub IsPastUnwound : Form → List (Terms Fraction) → ℕ → Type 0
-  IsPastUnwound f gs i =
-      (i < length gs) × IsPastComposition fractions (get_or gs i []) (form_backward f)
+  abbrev pub IsPastPulledBack : Form → List (Terms Fraction) → ℕ → Type 0
+  IsPastPulledBack f gs i =
+      (i < length gs) × IsPastComposition fractions (get_or gs i []) (inverse_of_form f)
 
   abbrev pub IsPastBlended : List (Terms Fraction) → List (Terms Fraction) → ℕ → Type 0
   IsPastBlended ks hs i = (length ks ≤ i)
       × IsPastSum fractions (get_or hs (i - length ks) []) (get_or hs (i - length ks) [])
 
   abbrev pub IsPastBegun : ℕ → ℕ → Kind → ℕ → Type 0
-  IsPastBegun r b orbit i = IsPastUnwound (form_of c b) (before program c r) i
+  IsPastBegun r b orbit i = IsPastPulledBack (form_of c b) (before program c r) i
   IsPastBegun r b meet i = IsPastBlended (so_far c r (pred b)) (stage_of c r b orbit).out i
 
   abbrev pub IsPastPart : Part → Type 0
@@ -87,11 +87,11 @@ IsUnformed m os (map_error.Limit at) = IsLimit m os at
 IsUnformed m os (map_error.Wide at) = IsWideOperation m os at
 IsUnformed m os map_error.Memory = ⊥
 
-abbrev pub IfRefused : Program (Expr ℕ) → FullCertificate → FullError → Type 0
-IfRefused program c (Map e) = IsUnformed (length program.names) (maps_operations program) e
-IfRefused program c (Limit path) = AreFree program × IsLong program c (string_bytes path)
-IfRefused program c (Wide path) = AreFree program × IsWide program c (string_bytes path)
-IfRefused program c Memory = Unit {0}
+abbrev pub IfFullCheckRefused : Program (Expr ℕ) → FullCertificate → FullError → Type 0
+IfFullCheckRefused program c (Map e) = IsUnformed (length program.names) (maps_operations program) e
+IfFullCheckRefused program c (Limit path) = AreFree program × IsLong program c (string_bytes path)
+IfFullCheckRefused program c (Wide path) = AreFree program × IsWide program c (string_bytes path)
+IfFullCheckRefused program c Memory = Unit {0}
 
 abbrev pub IsWideAt : List ℕ → FullError → Type 0
 IsWideAt path (Map e) = ⊥

@@ -12,5 +12,5 @@ pub mod Paths
 pub mod StageParts
 pub mod FullWide
 pub mod Verdicts
-pub mod Backward
+pub mod InverseForm
 pub mod Further

@@ -1,7 +1,7 @@
 -- Polynomials that pass as the closed form of a map.
 --   form_with base polys          the form of these
 --   FitsForm m base polys images      there are m of each, above 0, over the variables that they should be over
---   IsKeptAs bs p found           found is p over the base bs, where p is normal, and else nothing
+--   IsExpoWhereNormal bs p found           found is p over the base bs, where p is normal, and else nothing
 --   Passes P Q found              P, and what is found has Q; or nothing is found, and not P
 --   PassesAt bs images ps i       p_i is normal, at 0 the variable i, and at n + 1 the image i of what the ps are at n
 --   IsPastAt bs images ps i       the weight of p_i or of a composition of these is past;  IsPastForm images m f: of any
@@ -12,13 +12,13 @@ use Rattle.algebra.specs.Fraction.{Fraction, ℚ, fractions, fraction_size}
 use Rattle.algebra.specs.Size.{IsPast}
 use Rattle.polynomials.specs.Terms.{Terms, Same, variables, compose}
 use Rattle.polynomials.specs.Weight.{weight, IsPastComposition}
-use Rattle.solvable_maps.specs.Turns.{width, IsNormal}
+use Rattle.solvable_maps.specs.Iterations.{width, IsNormal}
 use Rattle.solvable_maps.specs.Expo.{with_normal_keys, next_images, zero_images}
 use Rattle.rounds.specs.Form.{Form}
 use Rattle.frac128.specs.declared.Whole.{Whole}
 use Rattle.monos.specs.Variables.{most_variables}
 use Rattle.poly.specs.Seen.{terms_in, terms_each}
-use Rattle.poly.specs.Standing.{IsOver}
+use Rattle.poly.specs.Standing.{IsInVariables}
 use Rattle.loop_model.specs.FracPoly.{FracPoly}
 use Rattle.coprime_base.specs.Sizes.{sizes}
 use Rattle.expo.specs.View.{base_of}
@@ -32,18 +32,18 @@ pub record FitsForm (m : ℕ) (base : Vec Whole Global) (polys images : Vec Frac
   pub some : 0 < m
   pub few : width (length (sizes base.items)) m ≤ most_variables
   pub count : length polys.items ≡ m
-  pub over_width : All (IsOver (width (length (sizes base.items)) m)) polys.items
-  pub over_variables : All (IsOver m) images.items
+  pub over_width : All (IsInVariables (width (length (sizes base.items)) m)) polys.items
+  pub over_variables : All (IsInVariables m) images.items
 
-pub record IsKept (bs : List ℕ) (p : FracPoly) (e : Expo) : Type 0 where
+pub record IsExpoOf (bs : List ℕ) (p : FracPoly) (e : Expo) : Type 0 where
   pub normal : IsNormal bs (terms_in p)
   pub base : base_of e ≡ bs
   pub vars : p.arity ≡ width (length bs) e.vars
   pub terms : terms_in e.body ≡ terms_in p
 
-abbrev pub IsKeptAs : List ℕ → FracPoly → Option Expo → Type 0
-IsKeptAs bs p (Some e) = IsKept bs p e
-IsKeptAs bs p None = ¬ (IsNormal bs (terms_in p))
+abbrev pub IsExpoWhereNormal : List ℕ → FracPoly → Option Expo → Type 0
+IsExpoWhereNormal bs p (Some e) = IsExpoOf bs p e
+IsExpoWhereNormal bs p None = ¬ (IsNormal bs (terms_in p))
 
 abbrev pub Passes : {A : Type 0} → Type 0 → (A → Type 0) → Option A → Type 0
 Passes P Q (Some a) = P × Q a

@@ -2,7 +2,7 @@
 --   IsMapOf m images maps                   the images are the maps' polynomials, in m variables, with their terms in descending order
 --   WideIdentity program c branch i         all identities before it hold, and the weight of an operation of it is past: of element i, and of the branch, counted from 1, or of the start where it is 0
 --   LongIdentity program c branch i         all identities of what is before the branch hold, and element i is the first of it up to which its identities multiply out to more than most_terms terms; so of the start where the branch is 0
---   IfRefused program c e                   the cause of the refusal e: a map of the loop can't be formed, or all can and an identity is too long or too wide; want of memory is free
+--   IfCheckRefused program c e                   the cause of the refusal e: a map of the loop can't be formed, or all can and an identity is too long or too wide; want of memory is free
 use Rattle.std.specs.Prelude.{ℕ, zero, suc, ◌<◌, List, [], get_or, length, All}
 use Rattle.algebra.specs.Fraction.{Fraction, ℚ}
 use Rattle.polynomials.specs.Terms.{Terms, AllSame}
@@ -64,8 +64,9 @@ module _ (program : Program (Expr ℕ)) (c : Certificate) where
   LongIdentity zero i = LongStart i
   LongIdentity (suc b) i = LongStep b i
 
-abbrev pub IfRefused : Program (Expr ℕ) → Certificate → CheckError → Type 0
-IfRefused program c (Map e) = IfUnformed (length program.names) (maps_operations program) (Map e)
-IfRefused program c (Limit branch i) = AreFree program × LongIdentity program c branch i
-IfRefused program c (Wide branch i) = AreFree program × WideIdentity program c branch i
-IfRefused program c Memory = Unit {0}
+abbrev pub IfCheckRefused : Program (Expr ℕ) → Certificate → CheckError → Type 0
+IfCheckRefused program c (Map e) = IfUnformed (length program.names) (maps_operations program)
+    (Map e)
+IfCheckRefused program c (Limit branch i) = AreFree program × LongIdentity program c branch i
+IfCheckRefused program c (Wide branch i) = AreFree program × WideIdentity program c branch i
+IfCheckRefused program c Memory = Unit {0}

@@ -5,16 +5,16 @@ ghost use Rattle.algebra.specs.Size.{IsPast};
 ghost use Rattle.polynomials.specs.Order.{grevlex};
 ghost use Rattle.polynomials.specs.Terms.{Same, variables, compose};
 ghost use Rattle.polynomials.specs.Weight.{weight, IsPastComposition};
-ghost use Rattle.solvable_maps.specs.Turns.{width};
+ghost use Rattle.solvable_maps.specs.Iterations.{width};
 ghost use Rattle.solvable_maps.specs.Expo.{with_normal_keys, next_images, zero_images};
 ghost use Rattle.completeness.specs.FormIdentities.{IsRightForm};
-ghost use Rattle.rounds.specs.Form.{backward, form_backward};
+ghost use Rattle.rounds.specs.Form.{inverse_form, inverse_of_form};
 ghost use Rattle.monos.specs.Variables.{most_variables};
 ghost use Rattle.poly.specs.Seen.{terms_in, terms_each};
-ghost use Rattle.poly.specs.Standing.{IsOver};
+ghost use Rattle.poly.specs.Standing.{IsInVariables};
 ghost use Rattle.coprime_base.specs.Sizes.{sizes};
 ghost use Rattle.expo.specs.Bases.{IsCoprimeBase};
-ghost use Rattle.cert_checker.specs.Passing.{form_with, FitsForm, IsKeptAs, Passes, PassesAt, IsPastAt, IsPastForm};
+ghost use Rattle.cert_checker.specs.Passing.{form_with, FitsForm, IsExpoWhereNormal, Passes, PassesAt, IsPastAt, IsPastForm};
 
 use crate::base::is_base;
 use expo::Expo;
@@ -32,7 +32,7 @@ fn normal_in(
 ) -> Result<Option<Expo>, ArithmeticError>
     requires base { IsCoprimeBase (sizes base.now.items) }
     requires front { width (length (sizes base.now.items)) 0 ≤ p.now.arity }
-    ensures normal { IfOk result (λ found. IsKeptAs (sizes base.now.items) p.now found) }
+    ensures normal { IfOk result (λ found. IsExpoWhereNormal (sizes base.now.items) p.now found) }
     ensures wide { IsErrOf result ArithmeticError.Wide
         → IsPast (weight fraction_size (terms_in p.now)) }
 {
@@ -73,7 +73,7 @@ fn goes_on(
     requires few { width (length (sizes base.now.items)) image.now.arity ≤ most_variables }
     requires count { length polys.now.items ≡ image.now.arity }
     requires polys { let r = length (sizes base.now.items) in
-        All (IsOver (width r image.now.arity)) polys.now.items }
+        All (IsInVariables (width r image.now.arity)) polys.now.items }
     ensures holds { let r = length (sizes base.now.items) in let m = image.now.arity in
         IfOk result (λ holds. IsTrue holds ↔ Same ℚ
         (with_normal_keys r (compose ℚ (width r m) (terms_in image.now)
@@ -91,7 +91,7 @@ fn goes_on(
 }
 
 /// The polynomial backward, where it passes as that of the variable at this place.
-fn backward_of(
+fn inverse_form_of(
     alloc: Global,
     base: &Vec<Whole>,
     polys: &Vec<Poly<Frac, Grevlex>>,
@@ -104,8 +104,8 @@ fn backward_of(
     ensures passes { let r = length (sizes base.now.items) in IfOk result (λ found. Passes
         (PassesAt (sizes base.now.items) (terms_each images.now.items) (terms_each polys.now.items)
         place)
-        (λ q. (terms_in q ≡ backward grevlex r (get_or (terms_each polys.now.items) place []))
-        × IsOver (width r (length images.now.items)) q) found) }
+        (λ q. (terms_in q ≡ inverse_form grevlex r (get_or (terms_each polys.now.items) place []))
+        × IsInVariables (width r (length images.now.items)) q) found) }
     ensures wide { IsErrOf result ArithmeticError.Wide → IsPastAt (sizes base.now.items)
         (terms_each images.now.items) (terms_each polys.now.items) place }
 {
@@ -120,7 +120,7 @@ fn backward_of(
     if !follows {
         return Ok(None);
     }
-    Ok(Some(e.backward(alloc)?.into_body()))
+    Ok(Some(e.inverse_form(alloc)?.into_body()))
 }
 
 /// The polynomials backward, where they are the closed form over this base of the map with these images, by
@@ -136,8 +136,8 @@ pub fn closed_form(
     requires fits { FitsForm (length images.now.items) base.now polys.now images.now }
     ensures passes { let f = form_with base.now polys.now in IfOk result (λ found. Passes
         (IsRightForm (terms_each images.now.items) (length images.now.items) f)
-        (λ back. (terms_each back.items ≡ form_backward f)
-        × All (IsOver (width (length f.base) (length images.now.items))) back.items
+        (λ back. (terms_each back.items ≡ inverse_of_form f)
+        × All (IsInVariables (width (length f.base) (length images.now.items))) back.items
         × IsCoprimeBase f.base) found) }
     ensures wide { IsErrOf result ArithmeticError.Wide → IsPastForm (terms_each images.now.items)
         (length images.now.items) (form_with base.now polys.now) }
@@ -148,7 +148,7 @@ pub fn closed_form(
     }
     let mut found = Vec::new(alloc);
     for place in 0..polys.len() {
-        let next = backward_of(alloc, base, polys, images, place)?;
+        let next = inverse_form_of(alloc, base, polys, images, place)?;
         match next {
             Some(back) => found.push(back)?,
             None => return Ok(None),

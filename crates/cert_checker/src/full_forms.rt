@@ -5,7 +5,7 @@ ghost use Rattle.loop_model.specs.View.{program_of};
 ghost use Rattle.completeness.specs.Parts.{Holds, in_forms};
 ghost use Rattle.task_lists.specs.Images.{IsFullIn};
 ghost use Rattle.task_lists.specs.View.{full_of};
-ghost use Rattle.cert_checker.specs.Backward.{AreBackward};
+ghost use Rattle.cert_checker.specs.InverseForm.{AreInverseForm};
 ghost use Rattle.completeness.specs.Counts.{IsCounted};
 ghost use Rattle.cert_checker.specs.FullStops.{StopsAt};
 ghost use Rattle.cert_checker.specs.FullWide.{IsPastPart};
@@ -29,7 +29,7 @@ pub(crate) fn judge_forms(
     requires counted { IsCounted (program_of lp.now) (full_of cert.now) }
     ensures holds { let program = program_of lp.now in let c = full_of cert.now in IfOk result
         (λ back. (b : ℕ) → b < length program.branches → Holds program c (in_forms b)) }
-    ensures back { IfOk result (AreBackward (program_of lp.now) cert.now) }
+    ensures back { IfOk result (AreInverseForm (program_of lp.now) cert.now) }
     ensures stops { let program = program_of lp.now in let c = full_of cert.now in IfErr result
         (StopsAt (λ b. Holds program c (in_forms b)) (λ b. IsPastPart program c (in_forms b))
         (length program.branches)) }

@@ -9,7 +9,7 @@ ghost use Rattle.completeness.specs.Parts.{Holds, stage_parts, branch_parts, rou
 ghost use Rattle.completeness.specs.Stage.{below};
 ghost use Rattle.task_lists.specs.Images.{ArePolys, IsFullIn};
 ghost use Rattle.task_lists.specs.View.{branch_in, full_of};
-ghost use Rattle.cert_checker.specs.Backward.{given_list, IsGivenOver, AreBackward};
+ghost use Rattle.cert_checker.specs.InverseForm.{given_list, IsGivenOver, AreInverseForm};
 ghost use Rattle.completeness.specs.Counts.{IsCounted};
 ghost use Rattle.cert_checker.specs.Parts.{part_of};
 ghost use Rattle.cert_checker.specs.FullStops.{IsStop};
@@ -59,7 +59,7 @@ fn judge_orbit(
 ) -> Result<(), Stop<Part>>
     requires images { IsFullIn (length (program_of lp.now).names) cert.now }
     requires counted { IsCounted (program_of lp.now) (full_of cert.now) }
-    requires back { AreBackward (program_of lp.now) cert.now back.now }
+    requires back { AreInverseForm (program_of lp.now) cert.now back.now }
     requires round { round < length (full_of cert.now).rounds }
     requires branch { branch < length (program_of lp.now).branches }
     ensures holds { let program = program_of lp.now in let c = full_of cert.now in
@@ -115,7 +115,7 @@ fn judge_branch(
 ) -> Result<(), Stop<Part>>
     requires images { IsFullIn (length (program_of lp.now).names) cert.now }
     requires counted { IsCounted (program_of lp.now) (full_of cert.now) }
-    requires back { AreBackward (program_of lp.now) cert.now back.now }
+    requires back { AreInverseForm (program_of lp.now) cert.now back.now }
     requires round { round < length (full_of cert.now).rounds }
     requires branch { branch < length (program_of lp.now).branches }
     ensures holds { let program = program_of lp.now in let c = full_of cert.now in
@@ -141,7 +141,7 @@ fn judge_round(
 ) -> Result<(), Stop<Part>>
     requires images { IsFullIn (length (program_of lp.now).names) cert.now }
     requires counted { IsCounted (program_of lp.now) (full_of cert.now) }
-    requires back { AreBackward (program_of lp.now) cert.now back.now }
+    requires back { AreInverseForm (program_of lp.now) cert.now back.now }
     requires round { round < length (full_of cert.now).rounds }
     ensures holds { let program = program_of lp.now in let c = full_of cert.now in OnOk result
         (Each (Holds program c)
@@ -165,7 +165,7 @@ pub(crate) fn judge_rounds(
 ) -> Result<(), Stop<Part>>
     requires images { IsFullIn (length (program_of lp.now).names) cert.now }
     requires counted { IsCounted (program_of lp.now) (full_of cert.now) }
-    requires back { AreBackward (program_of lp.now) cert.now back.now }
+    requires back { AreInverseForm (program_of lp.now) cert.now back.now }
     ensures holds { let program = program_of lp.now in let c = full_of cert.now in
         OnOk result (Each (Holds program c) (round_parts program c)) }
     ensures stops { let program = program_of lp.now in let c = full_of cert.now in IfErr result

@@ -12,7 +12,7 @@ ghost use Rattle.completeness.specs.Counts.{IsCounted};
 ghost use Rattle.cert_checker.specs.Parts.{part_of};
 ghost use Rattle.cert_checker.specs.Paths.{path_of};
 ghost use Rattle.cert_checker.specs.Verdicts.{IsFailing, IsVerdictOf};
-ghost use Rattle.cert_checker.specs.FullWide.{IfRefused, IsLimitAt, IsRefusalOf, IsWideAt};
+ghost use Rattle.cert_checker.specs.FullWide.{IfFullCheckRefused, IsLimitAt, IsRefusalOf, IsWideAt};
 
 use crate::full_error::FullError;
 use crate::full_further::judge_behind;
@@ -46,7 +46,7 @@ pub fn check_full(alloc: Global, lp: &Loop, cert: &FullCert) -> Result<FullVerdi
         IfOk result (λ v. v ≡ FullVerdict.Complete
         → Generates (length program.names) c.basis (Inv program)) }
     ensures free { IfOk result (λ v. AreFree (program_of lp.now)) }
-    ensures refused { IfErr result (IfRefused (program_of lp.now) (full_of cert.now)) }
+    ensures refused { IfErr result (IfFullCheckRefused (program_of lp.now) (full_of cert.now)) }
 {
     match judge(alloc, lp, &cert.basis, &cert.steps) {
         Ok(Verdict::Valid) => {}

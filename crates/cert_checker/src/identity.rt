@@ -4,7 +4,7 @@ ghost use Rattle.algebra.specs.Fraction.{ℚ, fractions};
 ghost use Rattle.polynomials.specs.Terms.{Same, combination, compose};
 ghost use Rattle.polynomials.specs.Weight.{IsPastComposition};
 ghost use Rattle.poly.specs.Seen.{terms_in};
-ghost use Rattle.poly.specs.Standing.{IsOver};
+ghost use Rattle.poly.specs.Standing.{IsInVariables};
 ghost use Rattle.cert_form.specs.Cert.{HaveArity, polys_in};
 ghost use Rattle.task_lists.specs.Past.{IsPastCombination};
 
@@ -23,7 +23,7 @@ pub(crate) fn start_holds(
 ) -> Result<bool, ArithmeticError>
     requires some { 0 < length images.now.items }
     requires arity { element.now.arity ≡ length images.now.items }
-    requires images { All (IsOver (length images.now.items)) images.now.items }
+    requires images { All (IsInVariables (length images.now.items)) images.now.items }
     ensures holds { let m = length images.now.items in IfOk result (λ holds. IsTrue holds ↔
         Same ℚ (compose ℚ m (terms_in element.now) (polys_in images.now)) []) }
     ensures wide { IsErrOf result ArithmeticError.Wide →
@@ -42,7 +42,7 @@ pub(crate) fn step_holds(
 ) -> Result<bool, ArithmeticError>
     requires some { 0 < length images.now.items }
     requires arity { element.now.arity ≡ length images.now.items }
-    requires images { All (IsOver (length images.now.items)) images.now.items }
+    requires images { All (IsInVariables (length images.now.items)) images.now.items }
     requires count { length cofactors.now.items ≡ length basis.now.items }
     requires cofactors { HaveArity (length images.now.items) cofactors.now }
     requires basis { HaveArity (length images.now.items) basis.now }

@@ -5,7 +5,7 @@ ghost use Rattle.loop_model.specs.View.{program_of};
 ghost use Rattle.cert_form.specs.Cert.{IsComplete};
 ghost use Rattle.cert_form.specs.Form.{most_elements};
 ghost use Rattle.cert_checker.specs.Views.{verdict_of};
-ghost use Rattle.cert_checker.specs.Wide.{IfRefused};
+ghost use Rattle.cert_checker.specs.Wide.{IfCheckRefused};
 
 use crate::{CheckError, Verdict, check};
 use cert_form::{Cert, read_cert, write_cert};
@@ -26,7 +26,7 @@ pub fn files_have_the_verdict_of_their_certificate(
         (verdict_of v)) }
     ensures refused { IfErr result (λ e. ¬ (e ≡ CheckError.Memory) → (kept : Certificate)
         × IsComplete (length (program_of lp.now).names) (length (program_of lp.now).branches) kept
-        × SameCertificate kept cert.now.certificate × IfRefused (program_of lp.now) kept e) }
+        × SameCertificate kept cert.now.certificate × IfCheckRefused (program_of lp.now) kept e) }
 {
     // for its contract, which tells the prover in how many variables the polynomials are
     let _ = cert.basis();

@@ -12,10 +12,10 @@ ghost use Rattle.loops.specs.Certificate.{IsVerdict, element};
 ghost use Rattle.loops.specs.Inv.{Inv};
 ghost use Rattle.loop_model.specs.Maps.{AreFree};
 ghost use Rattle.loop_model.specs.View.{program_of};
-ghost use Rattle.cert_form.specs.Cert.{IsKept, certificate_of};
+ghost use Rattle.cert_form.specs.Cert.{IsWellSized, certificate_of};
 ghost use Rattle.cert_checker.specs.Views.{verdict_of, IsNumbered};
 ghost use Rattle.cert_checker.specs.Short.{AreShort};
-ghost use Rattle.cert_checker.specs.Wide.{IfRefused};
+ghost use Rattle.cert_checker.specs.Wide.{IfCheckRefused};
 
 mod base;
 mod error;
@@ -72,7 +72,7 @@ pub fn check(alloc: Global, lp: &Loop, cert: &Cert) -> Result<Verdict, CheckErro
         (i : ℕ) → i < length c.basis → Inv (program_of lp.now) (element c i)) }
     ensures free { IfOk result (λ v. AreFree (program_of lp.now)) }
     ensures short { IfOk result (AreShort (program_of lp.now) cert.now.certificate) }
-    ensures refused { IfErr result (IfRefused (program_of lp.now) cert.now.certificate) }
+    ensures refused { IfErr result (IfCheckRefused (program_of lp.now) cert.now.certificate) }
 {
     judge(alloc, lp, cert.basis(), cert.steps())
 }
@@ -85,7 +85,7 @@ pub fn judge(
     basis: &Vec<Poly<Frac, Grevlex>>,
     steps: &Vec<Vec<Vec<Poly<Frac, Grevlex>>>>,
 ) -> Result<Verdict, CheckError>
-    requires kept { IsKept (length (program_of lp.now).names) basis.now steps.now }
+    requires kept { IsWellSized (length (program_of lp.now).names) basis.now steps.now }
     requires branches { length steps.now.items ≡ length (program_of lp.now).branches }
     ensures verdict { IfOk result (λ v. IsVerdict (program_of lp.now)
         (certificate_of basis.now steps.now) (verdict_of v)) }
@@ -96,7 +96,7 @@ pub fn judge(
     ensures free { IfOk result (λ v. AreFree (program_of lp.now)) }
     ensures short { IfOk result (AreShort (program_of lp.now)
         (certificate_of basis.now steps.now)) }
-    ensures refused { IfErr result (IfRefused (program_of lp.now)
+    ensures refused { IfErr result (IfCheckRefused (program_of lp.now)
         (certificate_of basis.now steps.now)) }
 {
     let start = lp.start_map(alloc)?;

@@ -1,6 +1,6 @@
 //! The first identity that fails.
 ghost use Rattle.std.specs.Prelude.{◌<◌, length, All, IfOk, IfErr};
-ghost use Rattle.poly.specs.Standing.{IsOver};
+ghost use Rattle.poly.specs.Standing.{IsInVariables};
 ghost use Rattle.cert_form.specs.Cert.{HaveArity, IsSquare, polys_in, rows_in};
 ghost use Rattle.cert_checker.specs.Identities.{StartHolds, StepHolds, StartIsPast, StepIsPast, FirstFailure};
 ghost use Rattle.cert_checker.specs.Stops.{IfStops, Stops};
@@ -20,7 +20,7 @@ pub(crate) fn first_failing_start(
     images: &Vec<Poly<Frac, Grevlex>>,
 ) -> Result<Option<usize>, CheckError>
     requires some { 0 < length images.now.items }
-    requires images { All (IsOver (length images.now.items)) images.now.items }
+    requires images { All (IsInVariables (length images.now.items)) images.now.items }
     requires arity { HaveArity (length images.now.items) basis.now }
     ensures first { let holds = StartHolds (length images.now.items) (polys_in basis.now)
         (polys_in images.now) in
@@ -53,7 +53,7 @@ pub(crate) fn first_failing_step(
     rows: &Vec<Vec<Poly<Frac, Grevlex>>>,
 ) -> Result<Option<usize>, CheckError>
     requires some { 0 < length images.now.items }
-    requires images { All (IsOver (length images.now.items)) images.now.items }
+    requires images { All (IsInVariables (length images.now.items)) images.now.items }
     requires arity { HaveArity (length images.now.items) basis.now }
     requires square { IsSquare (length images.now.items) (length basis.now.items) rows.now }
     ensures first { let m = length images.now.items in

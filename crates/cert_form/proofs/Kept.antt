@@ -15,10 +15,10 @@ use Rattle.polynomials.specs.Terms.{Terms, AllSame}
 use Rattle.polynomials.specs.Polynomial.{IsPolynomial, AllArity}
 use Rattle.polynomials.specs.Order.{grevlex}
 use Rattle.poly.specs.Seen.{terms_in}
-use Rattle.poly.specs.Standing.{IsOver, StandsFor}
+use Rattle.poly.specs.Standing.{IsInVariables, StandsFor}
 use Rattle.poly.proofs.Standing.{polynomial_over, arities_over, stands_over, stands_same}
 use Rattle.loops.specs.Certificate.{AreOver}
-use Rattle.cert_form.specs.Cert.{Polys, certificate_of, polys_in, rows_in, blocks_in, ArePolysOf, IsRowOf, IsBlockOf, AreBlocksOf, AreStepsOf, HaveArity, IsSquare, IsKept, IsCertOf}
+use Rattle.cert_form.specs.Cert.{Polys, certificate_of, polys_in, rows_in, blocks_in, ArePolysOf, IsRowOf, IsBlockOf, AreBlocksOf, AreStepsOf, HaveArity, IsSquare, IsWellSized, IsCertOf}
 use Rattle.cert_form.proofs.Zip.{all_from_left, zip_at}
 
 -- what each of some has, at a place; and what stands past the end
@@ -40,7 +40,7 @@ block_over m n block s = at_place (HaveArity m) (AllArity m) polys_in [] (λ row
     arities_over m row.items h) (none_over m) block.items s.arities
 
 pub kept_over : (m : ℕ) (basis : Polys) (steps : Vec (Vec Polys Global) Global)
-    → IsKept m basis steps → AreOver m (certificate_of basis steps)
+    → IsWellSized m basis steps → AreOver m (certificate_of basis steps)
 kept_over m basis steps kept = record {
   arities = arities_over m basis.items kept.arities;
   cofactor_arities = at_place (IsSquare m (vec_len basis)) (λ rows. (i : ℕ)
@@ -57,7 +57,7 @@ polys_are : (m : ℕ) (ps : Polys) (raws : List (Terms Fraction)) → ArePolysOf
     → IsListOf m (polys_in ps) raws
 polys_are m ps raws h = record {
   same = stands_same m ps.items raws h;
-  polynomials = All-map (IsPolynomial ℚ grevlex m) terms_in ps.items (All-weaker (IsOver m)
+  polynomials = All-map (IsPolynomial ℚ grevlex m) terms_in ps.items (All-weaker (IsInVariables m)
       (λ p. IsPolynomial ℚ grevlex m (terms_in p)) (polynomial_over m) ps.items
       (stands_over m ps.items raws h));
 }
@@ -112,7 +112,7 @@ module _ (m branches : ℕ) (basis : Polys) (raws : List (Terms Fraction))
   table : (b : ℕ) → IsTableOf m (get_or (blocks_in steps) b []) (get_or raw_steps b [])
   table = steps_are m (vec_len basis) steps raw_steps blocks.alike
 
-  pub kept : IsKept m basis steps
+  pub kept : IsWellSized m basis steps
   kept = record {
     arities = stands_over m basis.items raws elements;
     squares = all_from_left (IsBlockOf m (vec_len basis)) (IsSquare m (vec_len basis))

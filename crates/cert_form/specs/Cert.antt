@@ -8,7 +8,7 @@
 --   certificate_of basis steps   the certificate of these polynomials and cofactors
 --   HaveArity m ps           the polynomials are in m variables
 --   IsSquare m n block       a list of n lists of n polynomials in m variables
---   IsKept m basis steps     what a `Cert` keeps: its polynomials are in m variables, and each branch has a square list of cofactors, a row of as many for each polynomial
+--   IsWellSized m basis steps     what a `Cert` keeps: its polynomials are in m variables, and each branch has a square list of cofactors, a row of as many for each polynomial
 --   IsComplete m branches c  c has polynomials in m variables, a list for each branch, and square lists
 --   IsCertOf m branches c raw     c is the certificate raw, complete, in m variables
 use Rattle.std.specs.Prelude.{◌≡◌, ℕ, List, All, map, length, vec_len, Vec}
@@ -19,7 +19,7 @@ use Rattle.polynomials.specs.Terms.{Terms}
 use Rattle.polynomials.specs.Polynomial.{IsPolynomial}
 use Rattle.polynomials.specs.Order.{grevlex}
 use Rattle.poly.specs.Seen.{terms_each}
-use Rattle.poly.specs.Standing.{IsOver, StandsFor, AllStandFor}
+use Rattle.poly.specs.Standing.{IsInVariables, StandsFor, AllStandFor}
 use Rattle.loop_model.specs.FracPoly.{FracPoly}
 use Rattle.loops.specs.Certificate.{Certificate, SameCertificate, AreOver, cofactors}
 
@@ -69,7 +69,7 @@ pub record AreStepsOf (m n branches : ℕ) (steps : Vec (Vec Polys Global) Globa
   pub alike : AreBlocksOf m n steps raws
 
 abbrev pub HaveArity : ℕ → Polys → Type 0
-HaveArity m ps = All (IsOver m) ps.items
+HaveArity m ps = All (IsInVariables m) ps.items
 
 pub record IsSquare (m n : ℕ) (block : Vec Polys Global) : Type 0 where
   pub height : vec_len block ≡ n
@@ -79,7 +79,8 @@ pub record IsSquare (m n : ℕ) (block : Vec Polys Global) : Type 0 where
 abbrev pub certificate_of : Polys → Vec (Vec Polys Global) Global → Certificate
 certificate_of basis steps = record { basis = polys_in basis; steps = blocks_in steps }
 
-pub record IsKept (m : ℕ) (basis : Polys) (steps : Vec (Vec Polys Global) Global) : Type 0 where
+pub record IsWellSized (m : ℕ) (basis : Polys) (steps : Vec (Vec Polys Global) Global) : Type
+    0 where
   pub arities : HaveArity m basis
   pub squares : All (IsSquare m (vec_len basis)) steps.items
 

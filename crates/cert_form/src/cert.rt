@@ -2,7 +2,7 @@
 
 ghost use Rattle.std.specs.Prelude.{◌≡◌, All, length};
 ghost use Rattle.loops.specs.Certificate.{AreOver};
-ghost use Rattle.cert_form.specs.Cert.{OverVariables, certificate_of, polys_in, blocks_in, HaveArity, IsSquare, IsKept};
+ghost use Rattle.cert_form.specs.Cert.{OverVariables, certificate_of, polys_in, blocks_in, HaveArity, IsSquare, IsWellSized};
 
 use frac128::Frac;
 use monos::Grevlex;
@@ -26,7 +26,7 @@ impl Model for Cert {
       certificate = certificate_of c.basis c.steps;
     } };
 
-    ghost invariant = { λ c. IsKept c.arity c.basis c.steps };
+    ghost invariant = { λ c. IsWellSized c.arity c.basis c.steps };
 }
 
 impl Cert {
@@ -37,7 +37,7 @@ impl Cert {
         basis: Vec<Poly<Frac, Grevlex>>,
         steps: Vec<Vec<Vec<Poly<Frac, Grevlex>>>>,
     ) -> Cert
-        requires { IsKept arity basis steps }
+        requires { IsWellSized arity basis steps }
         ensures { result ≡ record { arity = arity; certificate = certificate_of basis steps } }
     {
         Cert {

@@ -10,7 +10,7 @@ use Rattle.loop_model.specs.declared.map_error.MapError.TheVariants as map_error
 use Rattle.cert_form.specs.Form.{cert_in, ReadsAs}
 use Rattle.cert_form.specs.Cert.{IsComplete}
 use Rattle.cert_checker.specs.Views.{failing_in}
-use Rattle.cert_checker.specs.Wide.{IfRefused}
+use Rattle.cert_checker.specs.Wide.{IfCheckRefused}
 use Rattle.cert_checker.specs.declared.error.CheckError.{CheckError}
 use Rattle.cert_checker.specs.declared.error.CheckError.TheVariants as check_error
 use Rattle.io_edge.specs.declared.answer.Status.TheVariants as status
@@ -55,7 +55,7 @@ judged_said l bytes kept a j read is says =
 
 module _ (l : Program (Expr ℕ)) (bytes : List ℕ) (kept : Certificate) (a : Answer)
     (read : IsRead l bytes kept) where
-  pub refused_said : (e : CheckError) → IfRefused l kept e
+  pub refused_said : (e : CheckError) → IfCheckRefused l kept e
       → option_map judgement_answer (judgement_of e) ≡ Some a
       → AnswersCertificate Judges l (certificate_in l bytes) a
   refused_said (check_error.Map (map_error.Limit at)) cause says =

@@ -11,7 +11,7 @@ use Rattle.loop_model.specs.declared.map_error.MapError.TheVariants as map_error
 use Rattle.loop_model.specs.Maps.{AreFree}
 use Rattle.full_cert.specs.Form.{full_in}
 use Rattle.cert_checker.specs.Verdicts.{IsVerdictOf}
-use Rattle.cert_checker.specs.FullWide.{IfRefused}
+use Rattle.cert_checker.specs.FullWide.{IfFullCheckRefused}
 use Rattle.cert_checker.specs.declared.full_verdict.FullVerdict.{FullVerdict}
 use Rattle.cert_checker.specs.declared.full_verdict.FullVerdict.TheVariants.{Complete, Fails}
 use Rattle.cert_checker.specs.declared.full_error.FullError.{FullError}
@@ -38,7 +38,7 @@ module _ (l : Program (Expr ℕ)) (bytes : List ℕ) (c : FullCertificate) (a : 
   verdict_said (Fails path) free is generates says =
       judged_said (fails (string_bytes path)) (free, is) says
 
-  pub refused_said : (e : FullError) → IfRefused l c e
+  pub refused_said : (e : FullError) → IfFullCheckRefused l c e
       → option_map judgement_answer (judgement_of e) ≡ Some a
       → AnswersCertificate Judges l (full_in l bytes) a
   refused_said (full_error.Map (map_error.Limit at)) cause says = judged_said (map_limit at) cause

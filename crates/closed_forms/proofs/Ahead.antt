@@ -1,8 +1,8 @@
--- The branch after a number of turns, by its values, and the forms that are made from their values there.
---   after_values, after_count     the variables' polynomials after n turns
---   ahead_value         the form of what is ahead is the form of the variables after so many turns
---   later_recurs, later_there     a form by its value after some turns: it has the recurrence, and that value
---   one_later_recurs    one that is its source one turn later, where its value is zero
+-- The branch after a number of iterations, by its values, and the forms that are made from their values there.
+--   after_values, after_count     the variables' polynomials after n iterations
+--   ahead_value         the form of what is ahead is the form of the variables after so many iterations
+--   later_recurs, later_there     a form by its value after some iterations: it has the recurrence, and that value
+--   one_later_recurs    one that is its inhomogeneity one iteration later, where its value is zero
 --   zero_here, zero_later, zero_room, zeros_all     the same as the code counts them
 --   zeros_none, zeros_one, zeros_next, zeros_part     how many values are zero, one after another
 use Rattle.std.proofs.Common.{◌≡◌, ◌≢◌, ℕ, zero, suc, ◌+◌, ◌^◌, ◌<◌, ◌≤◌, Option, Some, Bool, true, false, cond, List, [], ◌∷◌, ◌++◌, map, length, take, refl, sym, ap, ap₂, ◌∙◌, arith}
@@ -23,11 +23,11 @@ use Rattle.eigen_split.specs.declared.splitting.Split.{Split}
 use Rattle.frac128.specs.declared.fraction.Frac.{Frac}
 use Rattle.frac128.specs.FracMeaning.{fraction_of}
 use Rattle.linear.specs.Rows.{fractions_of}
-use Rattle.solvable_maps.specs.AfterTurns.{form_at, HasRecurrence}
-use Rattle.solvable_maps.specs.Turns.{point, turns, values_at}
+use Rattle.solvable_maps.specs.AfterIterations.{form_at, HasRecurrence}
+use Rattle.solvable_maps.specs.Iterations.{point, iterations, values_at}
 use Rattle.solvable_maps.proofs.ClassSteps.{values-entry}
 use Rattle.closed_forms.specs.Later.{IsLaterForm, IsOneLater}
-use Rattle.closed_forms.specs.Sources.{collect_terms, part}
+use Rattle.closed_forms.specs.Inhomogeneities.{collect_terms, part}
 use Rattle.closed_forms.specs.States.{zeros_in, next_of, after}
 use Rattle.closed_forms.specs.Values.{values_in}
 use Rattle.closed_forms.proofs.Recurring.{collected_value, part_value}
@@ -35,7 +35,7 @@ use Rattle.closed_forms.proofs.Recurring.{collected_value, part_value}
 abbrev R : CommRing Fraction
 R = ℚ_ring
 
--- ---- after a number of turns
+-- ---- after a number of iterations
 next_values : (m : ℕ) (images state : List (Terms Fraction)) (s : List Fraction)
     → values_at (next_of m images state) s ≡ values_at images (values_at state s)
 next_values m [] state s = refl
@@ -47,7 +47,7 @@ module _ (images : List (Terms Fraction)) where
   m = length images
 
   pub after_values : (n : ℕ) (s : List Fraction) → length s ≡ m
-      → values_at (after images n) s ≡ turns images n s
+      → values_at (after images n) s ≡ iterations images n s
   after_values zero s l = value_at-variables R m s l
   after_values (suc n) s l = next_values m images (after images n) s
       ∙ ap (values_at images) (after_values n s l)
@@ -58,7 +58,7 @@ module _ (images : List (Terms Fraction)) where
   after_count (suc n) = length-map images (λ p. collect_terms (compose ℚ m p (after images n)))
 
   pub after_entry : (n i : ℕ) → i < m → (s : List Fraction) → length s ≡ m
-      → value_at ℚ (poly_at (after images n) i) s ≡ entries ℚ_field (turns images n s) i
+      → value_at ℚ (poly_at (after images n) i) s ≡ entries ℚ_field (iterations images n s) i
   after_entry n i l s e =
       let c = after_count n in
       sym (values-entry (after images n) s i (omega (arith, l, c)))
@@ -66,14 +66,15 @@ module _ (images : List (Terms Fraction)) where
 
   at_places : (g : List ℕ) → Each (λ j. j < m) g → (n : ℕ) (s : List Fraction) → length s ≡ m
       → map (λ p. value_at ℚ p s) (map (poly_at (after images n)) g)
-      ≡ map (entries ℚ_field (turns images n s)) g
+      ≡ map (entries ℚ_field (iterations images n s)) g
   unfolding Each
   at_places [] a n s l = refl
   at_places (j ∷ g) a n s l = ap₂ ◌∷◌ (after_entry n j a.0 s l) (at_places g a.1 n s l)
 
   pub ahead_value : (w : List Fraction) (g : List ℕ) → Each (λ j. j < m) g → (n : ℕ)
       (s : List Fraction) → length s ≡ m
-      → value_at ℚ (part w (map (poly_at (after images n)) g)) s ≡ form_at w g (turns images n s)
+      → value_at ℚ (part w (map (poly_at (after images n)) g)) s
+      ≡ form_at w g (iterations images n s)
   ahead_value w g a n s l = part_value w (map (poly_at (after images n)) g) s
       ∙ ap (sum_of_products ℚ w) (at_places g a n s l)
 

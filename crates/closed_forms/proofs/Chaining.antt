@@ -21,10 +21,10 @@ use Rattle.vectors.specs.Causes.{row_at}
 use Rattle.vectors.specs.Lists.{entries}
 use Rattle.poly.specs.Seen.{terms_in, terms_each}
 use Rattle.solvable.proofs.Using.{FracPoly, length_each}
-use Rattle.solvable_maps.specs.Turns.{IsNormalForm}
+use Rattle.solvable_maps.specs.Iterations.{IsNormalForm}
 use Rattle.eigen_split.specs.declared.splitting.Split.{Split}
 use Rattle.expo.specs.declared.exponential.Expo.{Expo}
-use Rattle.closed_forms.specs.declared.sources.ClassSetting.{ClassSetting}
+use Rattle.closed_forms.specs.declared.inhomogeneities.ClassSetting.{ClassSetting}
 use Rattle.closed_forms.specs.ClassForms.{ahead_in, IsNormalOver, IsNextOf, IsPastFormOf, AreNextOf, IsPastNextOf}
 use Rattle.closed_forms.specs.Later.{Ahead}
 use Rattle.closed_forms.specs.Known.{IsNextForm, AreNextForms, IsPastNext, IsPastVariable, IsPastRowOf, variable_in}

@@ -1,7 +1,7 @@
 -- The closed form of a map from what its calls give.
 --   form_base_is                     the base of the values of the classes' forms, but zero, is the map's
 --   all_pass                         no class is refused
---   of_class, later_class, later_turn, later_state, memory_later, out_of_memory, refused_first, refused_later     what a refusal tells;  is_too_long: that a class is too long
+--   of_class, later_class, later_iteration, later_state, memory_later, out_of_memory, refused_first, refused_later     what a refusal tells;  is_too_long: that a class is too long
 --   closed_is, closed_count          the polynomials are a closed form, as many as variables;  normal_in, told_in, passes_in, over_in, count_in, few_in: what is told of it, with the map's polynomials as the code has them
 use Rattle.std.proofs.Common.{◌≡◌, inl, inr, ◌<◌, ◌≤◌, ℕ, zero, suc, List, [], ◌∷◌, length, replicate, get_or, All, Option, Some, None, Result, Ok, Err, refl, sym, ap, ap₂, subst, ◌∙◌, arith}
 use Rattle.std.specs.Prelude.{MatchOption}
@@ -22,15 +22,15 @@ use Rattle.poly.specs.Seen.{terms_in, terms_each}
 use Rattle.solvable.proofs.Using.{FracPoly, length_each}
 use Rattle.solvable.specs.Refusal.{IsSolvable}
 use Rattle.solvable_maps.specs.Classes.{IsFormBase, IsReachedClass, first_of, sizes_of}
-use Rattle.solvable_maps.specs.Turns.{width, IsClosedFormFrom}
-use Rattle.solvable_maps.proofs.Values.{turns-length}
+use Rattle.solvable_maps.specs.Iterations.{width, IsClosedFormFrom}
+use Rattle.solvable_maps.proofs.Values.{iterations-length}
 use Rattle.solvable_maps.proofs.Classwise.{form_base}
 use Rattle.expo.specs.declared.exponential.Expo.{Expo}
 use Rattle.closed_forms.specs.declared.errors.FormsError.{FormsError}
 use Rattle.closed_forms.specs.declared.errors.FormsError.TheVariants.{NotSolvable, Eigen, Range, WideSplit, LimitForm, WideForm, Memory}
 use Rattle.closed_forms.specs.Known.{AreKnown}
 use Rattle.closed_forms.specs.Lengths.{IsLongAmong, AreShort}
-use Rattle.closed_forms.specs.Refusal.{AllPass, IsTooLong, IfOfClass, IfWide, IfWideTurn, IsWideForm, state_past, class_past, turn_past, IsLater, IfLater, IfRefusedBy}
+use Rattle.closed_forms.specs.Refusal.{AllPass, IsTooLong, IfOfClass, IfWide, IfWideIteration, IsWideForm, state_past, class_past, iteration_past, IsLater, IfLater, IfRefusedBy}
 use Rattle.closed_forms.specs.Splits.{AreSplits, IfRefusedAt}
 use Rattle.closed_forms.specs.States.{some_of, AreZeros, IsPastState}
 use Rattle.closed_forms.specs.Values.{values_in, bodies_of, AreOver}
@@ -134,8 +134,8 @@ module _ (images : List (Terms Fraction)) (base : List ℕ) (b : IsFormBase imag
   pub later_class : (e : FormsError) → IfWide base images z e → IfLater images e
   later_class e h = of_class _ _ (λ v w. later_of v (class_past w)) e h
 
-  pub later_turn : (e : FormsError) → IfWideTurn base images z e → IfLater images e
-  later_turn e h = of_class _ _ (λ v w. later_of v (turn_past w)) e h
+  pub later_iteration : (e : FormsError) → IfWideIteration base images z e → IfLater images e
+  later_iteration e h = of_class _ _ (λ v w. later_of v (iteration_past w)) e h
 
   pub later_state : IsPastState images z → IsLater images 0
   later_state h = later_of 0 (state_past refl h)
@@ -221,7 +221,7 @@ closed_count base images since es c =
     let s = replicate (length images) ℚ.zero in
     sym (bodies-count es) ∙ sym (length-map (bodies_of es) _)
     ∙ ap length (c.values since s (some_state (length images)) (omega arith))
-    ∙ turns-length ℚ images (length images) refl since s (some_state (length images))
+    ∙ iterations-length ℚ images (length images) refl since s (some_state (length images))
 
 module _ (images : List FracPoly) (form : Form) (is : IsFormOf (terms_each images) form) where
   pub told_in : length form.passing.items ≡ length images

@@ -1,7 +1,7 @@
 -- The closed form from the polynomials of all variables, as the code makes it.
 --   groups_inside       the variables of the classes are among all
 --   all_alike, first_alike     each state has as many polynomials, over the variables
---   settling_is         what is known where the least number of turns is sought
+--   settling_is         what is known where the least number of iterations is sought
 --   form_is             the closed form
 use Rattle.std.proofs.Common.{◌≡◌, ℕ, zero, suc, ◌<◌, ◌≤◌, List, [], ◌∷◌, length, get_or, All, Vec, Global, refl, sym, ap, subst, ◌∙◌, arith}
 use Rattle.std.proofs.lemmas.List.{length-map}
@@ -10,7 +10,7 @@ use Rattle.poly.specs.Seen.{terms_each}
 use Rattle.solvable.specs.Refusal.{AreClassesOf}
 use Rattle.solvable.proofs.Using.{FracPoly, length_each}
 use Rattle.solvable_maps.specs.Classes.{IsClass, IsFormBase}
-use Rattle.solvable_maps.specs.Turns.{width, IsClosedFormFrom}
+use Rattle.solvable_maps.specs.Iterations.{width, IsClosedFormFrom}
 use Rattle.expo.specs.declared.exponential.Expo.{Expo}
 use Rattle.closed_forms.specs.Settling.{AreAlike, IsSettling, IsSettled}
 use Rattle.closed_forms.specs.Splits.{groups_in}

@@ -28,7 +28,7 @@ use Rattle.poly.specs.Seen.{terms_in}
 use Rattle.poly.specs.View.{term_of}
 use Rattle.poly.specs.declared.Term.{Term}
 use Rattle.solvable_maps.specs.Expo.{with_normal_keys, power_key, with_key, IsSolution, differences}
-use Rattle.solvable_maps.specs.Turns.{width, IsNormal, IsNormalForm}
+use Rattle.solvable_maps.specs.Iterations.{width, IsNormal, IsNormalForm}
 use Rattle.solvable_maps.proofs.Keys.{differences-length, key_is_power}
 use Rattle.solvable_maps.proofs.Operations.{normalized-normal}
 use Rattle.expo.specs.declared.exponential.Expo.{Expo}
@@ -40,7 +40,7 @@ use Rattle.expo.specs.View.{IsExpo}
 use Rattle.expo.proofs.Stepping.{rest_is}
 use Rattle.closed_forms.specs.Solved as Solved
 use Rattle.closed_forms.specs.Solved.{still, steady, homogeneous_part, IsKeySolution, IsSolvedTerm, AreSolvedBehind, IsWhole, IsSolvedForm, IsPastSolving, IsPastTerm, IsPastAmong, IsPastSolved}
-use Rattle.closed_forms.specs.Sources.{collect_terms}
+use Rattle.closed_forms.specs.Inhomogeneities.{collect_terms}
 use Rattle.closed_forms.specs.Values.{IsExpoOver}
 use Rattle.closed_forms.proofs.Mixing.{tell, term_within, terms-push, more_behind}
 
@@ -69,10 +69,10 @@ expo_over : (base : List ℕ) (m : ℕ) (ts : Terms Fraction) (e : Expo) → IsE
     → IsExpoOver base m e
 expo_over base m ts e h = record { over_base = h.over_base; over_vars = h.over_vars }
 
-pub tabled_over : (base : List ℕ) (m a : ℕ) (source own : Power) (e : Expo)
-    → IsTabled base m a source own e → IsExpoOver base m e
-tabled_over base m a source own e (Solutions.other ts n t i) = expo_over base m ts e i
-tabled_over base m a source own e (Solutions.equal ts n t i) = expo_over base m ts e i
+pub tabled_over : (base : List ℕ) (m a : ℕ) (inhomogeneity own : Power) (e : Expo)
+    → IsTabled base m a inhomogeneity own e → IsExpoOver base m e
+tabled_over base m a inhomogeneity own e (Solutions.other ts n t i) = expo_over base m ts e i
+tabled_over base m a inhomogeneity own e (Solutions.equal ts n t i) = expo_over base m ts e i
 
 -- ---- one of a list
 pub all_one : {A : Type 0} (P : A → Type 0) (xs : List A) (x : A) → xs ≡ x ∷ [] → P x → All P xs
@@ -230,33 +230,37 @@ pub still_made : (r first : ℕ) (e one others mono : List ℕ) → first ≡ wi
 still_made r first e one others mono f a b c = c ∙ ap₂ ◌++◌ (a ∙ ap (λ n. replicate n 0) f) (b
     ∙ ap (λ n. drop n e) f)
 
-pub key_solution : (base : List ℕ) (m : ℕ) (t : List ℕ × Fraction) (source own : Power) (a : ℕ)
-    (e : Expo) → a ≡ top t.0 → key_of (length base) t.0 ≡ key_of_power source → IsExpoOver base m e
-    → IsSolution base m a (number_of base source) (number_of base own) (terms_in e.body)
+pub key_solution : (base : List ℕ) (m : ℕ) (t : List ℕ × Fraction) (inhomogeneity own : Power)
+    (a : ℕ)
+    (e : Expo) → a ≡ top t.0 → key_of (length base) t.0 ≡ key_of_power inhomogeneity
+    → IsExpoOver base m e
+    → IsSolution base m a (number_of base inhomogeneity) (number_of base own) (terms_in e.body)
     → IsKeySolution base m (number_of base own) t (terms_in e.body)
-key_solution base m t source own a e q k over h = record {
-  negative = source.negative;
-  exponents = source.exponents.items;
+key_solution base m t inhomogeneity own a e q k over h = record {
+  negative = inhomogeneity.negative;
+  exponents = inhomogeneity.exponents.items;
   key = k;
   normal = over_normal base m e over;
-  solution = subst (λ n. IsSolution base m n (number_of base source) (number_of base own)
+  solution = subst (λ n. IsSolution base m n (number_of base inhomogeneity) (number_of base own)
       (terms_in e.body)) q h;
 }
 
-solving_past : (base : List ℕ) (a : ℕ) (source own : Power) → IsPastSolution base a source own
-    → IsPastSolving (number_of base source) (number_of base own) a
-solving_past base a source own (Solutions.source_number h) = Solved.source_past h
-solving_past base a source own (Solutions.own_number h) = Solved.own_past h
-solving_past base a source own (Solutions.other n h) = Solved.other n h
-solving_past base a source own (Solutions.equal n h) = Solved.equal n h
+solving_past : (base : List ℕ) (a : ℕ) (inhomogeneity own : Power)
+    → IsPastSolution base a inhomogeneity own
+    → IsPastSolving (number_of base inhomogeneity) (number_of base own) a
+solving_past base a inhomogeneity own (Solutions.inhomogeneity_number h) =
+    Solved.inhomogeneity_past h
+solving_past base a inhomogeneity own (Solutions.own_number h) = Solved.own_past h
+solving_past base a inhomogeneity own (Solutions.other n h) = Solved.other n h
+solving_past base a inhomogeneity own (Solutions.equal n h) = Solved.equal n h
 
-pub term_past : (base : List ℕ) (m : ℕ) (t : List ℕ × Fraction) (source own : Power) (a : ℕ)
-    → a ≡ top t.0 → key_of (length base) t.0 ≡ key_of_power source
-    → IsPastSolution base a source own → IsPastTerm base m (number_of base own) t
-term_past base m t source own a q k h =
-    Solved.solving source.negative source.exponents.items k
-    (subst (IsPastSolving (number_of base source) (number_of base own)) q
-    (solving_past base a source own h))
+pub term_past : (base : List ℕ) (m : ℕ) (t : List ℕ × Fraction) (inhomogeneity own : Power) (a : ℕ)
+    → a ≡ top t.0 → key_of (length base) t.0 ≡ key_of_power inhomogeneity
+    → IsPastSolution base a inhomogeneity own → IsPastTerm base m (number_of base own) t
+term_past base m t inhomogeneity own a q k h =
+    Solved.solving inhomogeneity.negative inhomogeneity.exponents.items k
+    (subst (IsPastSolving (number_of base inhomogeneity) (number_of base own)) q
+    (solving_past base a inhomogeneity own h))
 
 pub product_past : (base : List ℕ) (m : ℕ) (l : Fraction) (t : List ℕ × Fraction)
     (y q : Terms Fraction) → IsKeySolution base m l t y → q ≡ steady (length base) t

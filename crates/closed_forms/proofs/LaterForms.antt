@@ -1,7 +1,7 @@
--- Forms by their values after some turns, as the code makes them.
+-- Forms by their values after some iterations, as the code makes them.
 --   ok_both                    two things that are said of a result
---   at-arity                   how many exponents a polynomial at a number of turns has
---   solved_all, sum_is         the sum of what solves the terms of a source
+--   at-arity                   how many exponents a polynomial at a number of iterations has
+--   solved_all, sum_is         the sum of what solves the terms of an inhomogeneity
 --   start_is, start_lists     its difference from what is there, times a power of the value
 --   grown_next             a polynomial of the variables times a power, term by term;  grown_value: its values
 --   together-arity, joined_is     the two together
@@ -29,8 +29,8 @@ use Rattle.frac128.specs.declared.fraction.Frac.{Frac}
 use Rattle.poly.specs.Seen.{terms_in, terms_each}
 use Rattle.poly.specs.declared.Term.{Term}
 use Rattle.solvable.proofs.Using.{FracPoly}
-use Rattle.solvable_maps.specs.Expo.{at_turn, with_normal_keys, power_key, with_key, up_part, down_part}
-use Rattle.solvable_maps.specs.Turns.{point, width}
+use Rattle.solvable_maps.specs.Expo.{at_iteration, with_normal_keys, power_key, with_key, up_part, down_part}
+use Rattle.solvable_maps.specs.Iterations.{point, width}
 use Rattle.solvable_maps.proofs.Operations.{key_with, tail_with, normal-value}
 use Rattle.solvable_maps.proofs.Recurrences.{one_value, no_value, term_value, recurrence_same}
 use Rattle.expo.specs.View.{IsExpo}
@@ -39,7 +39,7 @@ use Rattle.solvable_maps.proofs.Normal.{fits_map}
 use Rattle.solvable_maps.proofs.Realized.{lengths_agree}
 use Rattle.closed_forms.specs.Later.{with_powers, IsSumOf, IsStart, IsJoined}
 use Rattle.closed_forms.specs.Solved.{AreSolved, AreSolvedBehind}
-use Rattle.closed_forms.specs.Sources.{collect_terms, part}
+use Rattle.closed_forms.specs.Inhomogeneities.{collect_terms, part}
 use Rattle.closed_forms.specs.Values.{IsExpoOver}
 use Rattle.closed_forms.proofs.Joining.{over_normal}
 use Rattle.closed_forms.proofs.Mixing.{tell, terms-push, more_behind}
@@ -54,7 +54,7 @@ pub ok_both : {A E : Type 0} (r : Result A E) (P Q S : A → Type 0) → ((a : A
 ok_both (Ok x) P Q S f p q = f x p q
 ok_both (Err e) P Q S f p q = tt
 
-pub at-arity : (base : List ℕ) (m n : ℕ) (p : Terms Fraction) → Arity m (at_turn base m n p)
+pub at-arity : (base : List ℕ) (m n : ℕ) (p : Terms Fraction) → Arity m (at_iteration base m n p)
 at-arity base m n p = arity-compose m ℚ p _ (each-append (Arity m)
     (map (constant m) (point base n [])) (variables ℚ m) (arity-constants m (point base n []))
     (arity-variables m ℚ))

@@ -1,7 +1,7 @@
--- The least number of turns from which on polynomials are the state, and which variables pass.
+-- The least number of iterations from which on polynomials are the state, and which variables pass.
 --   entry_get               an entry of a list
---   settled_here            at one turn less some polynomial isn't the state
---   settling_before, settled_before     at one turn less all are
+--   settled_here            at one iteration less some polynomial isn't the state
+--   settling_before, settled_before     at one iteration less all are
 --   wide_here, wide_before  what one of them is there is past
 --   itself_first, itself_of, passing_none, passing_marked     at n = 0
 use Rattle.std.proofs.Common.{◌≡◌, ◌⊎◌, inl, inr, ℕ, zero, suc, ◌<◌, ◌≤◌, Bool, true, false, List, [], ◌∷◌, length, get_or, refl, sym, ap, subst, ◌∙◌, arith}
@@ -20,11 +20,11 @@ use Rattle.poly.specs.Seen.{terms_in}
 use Rattle.expo.specs.View.{base_of, value_of}
 use Rattle.expo.specs.declared.exponential.Expo.{Expo}
 use Rattle.solvable_maps.specs.Classes.{IsClass}
-use Rattle.solvable_maps.specs.Turns.{point, turns, values_at, IsClosedFormFrom, IsItself}
+use Rattle.solvable_maps.specs.Iterations.{point, iterations, values_at, IsClosedFormFrom, IsItself}
 use Rattle.solvable_maps.proofs.ClassSteps.{values-entry}
 use Rattle.solvable_maps.proofs.OneForm.{on_from}
-use Rattle.solvable_maps.proofs.Values.{turns-length}
-use Rattle.closed_forms.specs.Known.{IsWideTurn}
+use Rattle.solvable_maps.proofs.Values.{iterations-length}
+use Rattle.closed_forms.specs.Known.{IsWideIteration}
 use Rattle.closed_forms.specs.Later.{IsPastAt}
 use Rattle.closed_forms.specs.Settling.{IsAtPlace, IsMarked, AreAllMarked, IsPastOfClass, IsSettling, IsSettled}
 use Rattle.closed_forms.specs.States.{after}
@@ -50,7 +50,7 @@ item_at [] i l = absurd (omega (arith, l))
 item_at (x ∷ es) zero l = (x, refl)
 item_at (x ∷ es) (suc i) l = item_at es i (omega (arith, l))
 
--- ---- where polynomials are the state at a number of turns
+-- ---- where polynomials are the state at a number of iterations
 module _ (base : List ℕ) (images : List (Terms Fraction)) (es : List Expo)
     (over : AreOver base (length images) es) (count : length es ≡ length images) (n : ℕ) where
   abbrev m : ℕ
@@ -108,7 +108,7 @@ module _ (base : List ℕ) (images : List (Terms Fraction)) (es : List Expo)
                 ∙ sym (entries-past ℚ_field (there s) i (omega (arith, b, l)))
           ])
 
--- ---- one turn less
+-- ---- one iteration less
 module _ (images : List (Terms Fraction)) (base : List ℕ) (groups : List (List ℕ))
     (lists : List (List (Terms Fraction))) (es : List Expo) (since : ℕ)
     (h : IsSettling images base groups lists es since) where
@@ -119,16 +119,16 @@ module _ (images : List (Terms Fraction)) (base : List ℕ) (groups : List (List
   IsThere n = (i : ℕ) → i < length images → IsAtPlace es n (after images n) i
 
   there_of : (n : ℕ) → IsClosedFormFrom base images n (bodies_of es) → IsThere n
-  there_of n closed = at_from base images es h.over h.count n (after images n) (turns images n)
+  there_of n closed = at_from base images es h.over h.count n (after images n) (iterations images n)
       (λ i l s k. after_entry images n i l s k)
-      (λ s k. turns-length ℚ images (length images) refl n s k)
+      (λ s k. iterations-length ℚ images (length images) refl n s k)
       (λ s k. closed.values n s k (omega arith))
 
   closed_of : (n : ℕ) → IsThere n → IsClosedFormFrom base images n (bodies_of es)
   closed_of n there = on_from base h.coprime images since (bodies_of es) h.closed n
-      (at_all base images es h.over h.count n (after images n) (turns images n)
+      (at_all base images es h.over h.count n (after images n) (iterations images n)
       (λ i l s k. after_entry images n i l s k)
-      (λ s k. turns-length ℚ images (length images) refl n s k) there)
+      (λ s k. iterations-length ℚ images (length images) refl n s k) there)
 
   in_group : (i : ℕ) → i < length images → (g : List ℕ) × In g groups × In i g
   in_group i l = elim (covered images [] groups h.classes i l) [ inl e ↦ absurd e | inr r ↦ r ]
@@ -182,9 +182,9 @@ module _ (images : List (Terms Fraction)) (base : List ℕ) (groups : List (List
     }
 
   pub wide_here : (n v : ℕ) → n < since → (since ≤ suc n) ⊎ (n ≡ 0)
-      → IsPastOfClass groups es n v → IsWideTurn base images since v
+      → IsPastOfClass groups es n v → IsWideIteration base images since v
   wide_here n v less near w = record {
-    turn = n;
+    iteration = n;
     before = less;
     since = since;
     near = near;
@@ -220,9 +220,9 @@ module _ (images : List (Terms Fraction)) (base : List ℕ) (groups : List (List
               (w.past.past e own)))
 
 pub wide_before : (base : List ℕ) (images : List (Terms Fraction)) (n since v : ℕ)
-    → since ≡ suc n → IsWideTurn base images n v → IsWideTurn base images since v
+    → since ≡ suc n → IsWideIteration base images n v → IsWideIteration base images since v
 wide_before base images n since v one w = record {
-  turn = w.turn;
+  iteration = w.iteration;
   before = (let b = w.before in omega (arith, b, one));
   since = w.since;
   near = w.near;

@@ -2,7 +2,7 @@
 --   poly_is                 the one list of the polynomial of some terms
 --   part_is                 a form of polynomials
 --   arity_of_is, over_images, moved_is     a composition with closed forms
---   before_is, sum_is, source_is           the source of a form
+--   before_is, sum_is, inhomogeneity_is           the inhomogeneity of a form
 --   steady_is, product_is   the solution of a term
 --   normal_over, room_before, code_width     what is made normal
 use Rattle.std.proofs.Common.{◌≡◌, ◌<◌, ◌≤◌, ℕ, ◌+◌, ◌-◌, ◌*◌, List, [], ◌∷◌, ◌++◌, length, All, sym, ap, ap₂, subst, ◌∙◌, arith}
@@ -22,11 +22,11 @@ use Rattle.poly.specs.Seen.{terms_in, terms_each, arity_of}
 use Rattle.coprime_base.specs.Sizes.{sizes}
 use Rattle.solvable.proofs.Using.{FracPoly}
 use Rattle.solvable_maps.specs.Expo.{with_normal_keys}
-use Rattle.solvable_maps.specs.Turns.{width}
+use Rattle.solvable_maps.specs.Iterations.{width}
 use Rattle.expo.specs.declared.exponential.Expo.{Expo}
 use Rattle.expo.specs.Operations.{normal_of, vars_of}
 use Rattle.expo.specs.View.{IsExpo}
-use Rattle.closed_forms.specs.Sources.{collect_terms, part, part_by_forms, IsBefore, IsSource}
+use Rattle.closed_forms.specs.Inhomogeneities.{collect_terms, part, part_by_forms, IsBefore, IsInhomogeneity}
 use Rattle.closed_forms.specs.Solved.{still, steady, IsKeySolution, IsSolvedTerm}
 use Rattle.closed_forms.specs.Sums.{mix}
 use Rattle.closed_forms.specs.Values.{IsExpoOver}
@@ -96,12 +96,12 @@ sum_is w p q r ps qs a b c e f s =
 
 module _ (base : List ℕ) (m : ℕ) (cs : List Fraction) (rests ps : List (Terms Fraction))
     (matrix back : List (List Fraction)) (done : List (Terms Fraction)) where
-  pub source_is : (before sum : Terms Fraction) (e : Expo) (k : ℕ)
+  pub inhomogeneity_is : (before sum : Terms Fraction) (e : Expo) (k : ℕ)
       → (is : IsBefore cs matrix back done before)
       → sum ≡ collect_terms (part_by_forms base m cs rests ps ++ before)
       → IsExpo base k (with_normal_keys (length base) sum) e
-      → IsSource base m cs rests ps matrix back done (terms_in e.body)
-  source_is before sum e k is h x = record {
+      → IsInhomogeneity base m cs rests ps matrix back done (terms_in e.body)
+  inhomogeneity_is before sum e k is h x = record {
     by = is.by;
     is_by = is.is_by;
     terms = x.terms ∙ ap (λ y. collect_terms (with_normal_keys (length base) y)) (h

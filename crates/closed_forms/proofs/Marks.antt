@@ -1,4 +1,4 @@
--- Marks that tell of each variable whether its polynomial at a number of turns isn't that of a state.
+-- Marks that tell of each variable whether its polynomial at a number of iterations isn't that of a state.
 --   off, not_is          a test that has failed, and its opposite
 --   both                 two things that are said where a call has gone well
 --   at_same, at_told     one polynomial
@@ -24,7 +24,7 @@ use Rattle.polynomials.proofs.Orders.{grevlex_order}
 use Rattle.poly.specs.Seen.{terms_in, terms_each}
 use Rattle.solvable_maps.specs.Uses.{poly_at}
 use Rattle.solvable.proofs.Using.{FracPoly, poly_at-is}
-use Rattle.expo.specs.Operations.{IsPastTurn}
+use Rattle.expo.specs.Operations.{IsPastIteration}
 use Rattle.expo.specs.View.{value_of}
 use Rattle.expo.specs.declared.exponential.Expo.{Expo}
 use Rattle.solvable_maps.specs.Classes.{first_of}
@@ -143,11 +143,11 @@ module _ (es : List Expo) (n : ℕ) (state : List (Terms Fraction)) where
 
   -- ---- what is past
   pub past_first : (g rest : List ℕ) (i : ℕ) (e : Expo) → g ≡ i ∷ rest → i < length es
-      → e ≡ get_or es i e → IsPastTurn e n → IsPastPlace es n g
+      → e ≡ get_or es i e → IsPastIteration e n → IsPastPlace es n g
   past_first g rest i e is l own h = record {
     place = i;
     within = subst (In i) (sym is) (inl refl);
-    past = λ x k. subst (λ (y : Expo). IsPastTurn y n) (same_item es i l e x own k) h;
+    past = λ x k. subst (λ (y : Expo). IsPastIteration y n) (same_item es i l e x own k) h;
   }
 
   pub past_later : (g rest : List ℕ) (i : ℕ) → g ≡ i ∷ rest → IsPastPlace es n rest

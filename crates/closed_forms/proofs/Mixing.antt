@@ -22,7 +22,7 @@ use Rattle.poly.specs.Seen.{terms_in, terms_each}
 use Rattle.solvable.proofs.Using.{FracPoly, to_false}
 use Rattle.poly.specs.View.{term_of, terms_of}
 use Rattle.poly.specs.declared.Term.{Term}
-use Rattle.solvable_maps.specs.AfterTurns.{mine, rest_of}
+use Rattle.solvable_maps.specs.AfterIterations.{mine, rest_of}
 use Rattle.closed_forms.specs.Sums.{mix, IsPastScaled}
 
 abbrev pub tell : List (Term Frac) → Terms Fraction

@@ -22,8 +22,8 @@ use Rattle.linear.specs.Rows.{fractions_of}
 use Rattle.eigen_split.specs.declared.splitting.Split.{Split}
 use Rattle.poly.specs.Seen.{terms_in}
 use Rattle.solvable_maps.specs.Classes.{first_of}
-use Rattle.solvable_maps.specs.AfterTurns.{place, IsAfterTurns}
-use Rattle.solvable_maps.specs.Turns.{width, IsNormalForm, IsClosedFormFrom}
+use Rattle.solvable_maps.specs.AfterIterations.{place, IsAfterIterations}
+use Rattle.solvable_maps.specs.Iterations.{width, IsNormalForm, IsClosedFormFrom}
 use Rattle.solvable_maps.proofs.Classwise.{whole_more, next_apart, next_is_class, later_turned, turned_none, turned_more, turned_all}
 use Rattle.expo.specs.declared.exponential.Expo.{Expo}
 use Rattle.closed_forms.specs.ClassForms.{AreVariablesOf}
@@ -265,7 +265,8 @@ module _ (base : List ℕ) (images : List (Terms Fraction)) (splits : List (Opti
       → IsPut g news old new → length news ≡ length g → ((i : ℕ) → In i g → i < m)
       → (split : Split) → get_or splits (first_of g) None ≡ Some split
       → ((a : ℕ) → a < length g
-      → IsAfterTurns base images (h.since + zeros_in (fractions_of split.values.items)) (place g a)
+      → IsAfterIterations base images (h.since + zeros_in (fractions_of split.values.items))
+      (place g a)
       (poly_at (bodies_of news) a))
       → AreKnown base images splits z rest (bodies_of new)
   known_next groups rest g news old new e h put count low split here turned =
@@ -283,7 +284,7 @@ module _ (base : List ℕ) (images : List (Terms Fraction)) (splits : List (Opti
       new-size : length (bodies_of new) ≡ m
       new-size = bodies-count new ∙ put.count ∙ sym (bodies-count old) ∙ size
 
-      at_new : (i : ℕ) → In i g → IsAfterTurns base images d i (poly_at (bodies_of new) i)
+      at_new : (i : ℕ) → In i g → IsAfterIterations base images d i (poly_at (bodies_of new) i)
       at_new i inside =
           let r = at_place g i inside in
           let a = r.0 in
@@ -291,8 +292,8 @@ module _ (base : List ℕ) (images : List (Terms Fraction)) (splits : List (Opti
           let is = r.2 in
           let s = bodies-count new in
           let b : i < m = low i inside in
-          subst (λ j. IsAfterTurns base images d j (poly_at (bodies_of new) j)) (sym is)
-          (subst (IsAfterTurns base images d (place g a))
+          subst (λ j. IsAfterIterations base images d j (poly_at (bodies_of new) j)) (sym is)
+          (subst (IsAfterIterations base images d (place g a))
           (sym (same_body new news (place g a) a (omega (arith, s, new-size, b, is))
           (omega (arith, count, l)) (λ d. put.each a d l))) (turned a l))
 

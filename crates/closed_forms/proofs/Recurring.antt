@@ -30,15 +30,15 @@ use Rattle.exponentials.specs.Keys.{Key, key_of, normal_key, top}
 use Rattle.exponentials.specs.Powers.{number, negate_if}
 use Rattle.vectors.specs.Lists.{entries}
 use Rattle.solvable_maps.specs.Expo.{with_normal_keys, tail, power_key, with_key, up_part, down_part}
-use Rattle.solvable_maps.specs.AfterTurns.{form_at, HasRecurrence}
-use Rattle.solvable_maps.specs.Turns.{point, width}
+use Rattle.solvable_maps.specs.AfterIterations.{form_at, HasRecurrence}
+use Rattle.solvable_maps.specs.Iterations.{point, width}
 use Rattle.solvable_maps.proofs.Operations.{key_with, tail_with, normal-value}
 use Rattle.solvable_maps.proofs.Recurrences.{one_value, no_value, recurrence_more, recurrence_same, term_value, term_solved, growing_solved}
 use Rattle.exponentials.proofs.Units.{room_long, normal_good}
 use Rattle.solvable_maps.proofs.Normal.{fits_map}
 use Rattle.solvable_maps.proofs.Realized.{lengths_agree}
 use Rattle.closed_forms.specs.Sums.{mix}
-use Rattle.closed_forms.specs.Sources.{collect_terms, part}
+use Rattle.closed_forms.specs.Inhomogeneities.{collect_terms, part}
 use Rattle.closed_forms.specs.Solved.{still, steady, homogeneous_part, IsSolvedTerm, AreSolved, IsWhole, IsSolvedForm}
 
 abbrev R : CommRing Fraction

@@ -5,7 +5,7 @@
 --   group_low                        the class's variables are among all
 --   forms_wide, forms_few            as many forms, and as wide, as the class has variables
 --   setting_is                       what is asked of what forms are made from
---   source_arities, source_normal    the terms of a source
+--   inhomogeneity_arities, inhomogeneity_normal    the terms of an inhomogeneity
 --   back_count, variables_turned     the polynomials of the variables
 --   past_forms, past_rows            what is past in making them
 use Rattle.std.proofs.Common.{◌≡◌, ◌<◌, ◌≤◌, ℕ, ◌+◌, List, [], ◌∷◌, ◌++◌, map, take, drop, length, get_or, All, Vec, Global, refl, sym, ap, ap₂, subst, ◌∙◌, arith}
@@ -28,11 +28,11 @@ use Rattle.solvable.proofs.Using.{FracPoly, length_each}
 use Rattle.solvable.specs.Refusal.{IsSolvable}
 use Rattle.solvable_maps.specs.Classes.{class_matrix, IsClass}
 use Rattle.solvable_maps.specs.Inverse.{beside, IsInverse}
-use Rattle.solvable_maps.specs.Turns.{width, IsNormal}
+use Rattle.solvable_maps.specs.Iterations.{width, IsNormal}
 use Rattle.solvable_maps.proofs.Classwise.{class_few}
 use Rattle.solvable_maps.proofs.FormSplits.{forms_inverse}
 use Rattle.expo.specs.declared.exponential.Expo.{Expo}
-use Rattle.closed_forms.specs.declared.sources.ClassSetting.{ClassSetting}
+use Rattle.closed_forms.specs.declared.inhomogeneities.ClassSetting.{ClassSetting}
 use Rattle.closed_forms.specs.Later.{ahead_of}
 use Rattle.closed_forms.specs.ClassForms.{IsSettingOf, ahead_in, zeros_of, AreNextOf, IsPastNextOf, AreVariablesOf, IsPastClassOf}
 use Rattle.closed_forms.specs.Known.{rests_in, IsReady, AreNextForms, IsPastRowOf, form_past, variable_past, variable_in}
@@ -125,7 +125,8 @@ module _ (bs : List ℕ) (images : List FracPoly) (g : List ℕ) (es : List Expo
   vars_own = vars_is ∙ sym (length_each images)
 
   ahead_is : ahead_in s ≡ ahead_of M g z
-  ahead_is = ap₂ (λ n state. record { turns = n; state = state }) h.setting.turns h.setting.ahead
+  ahead_is = ap₂ (λ n state. record { iterations = n; state = state }) h.setting.iterations
+      h.setting.ahead
 
   pub group_low : All (λ j. j < length s.earlier.items) g
   group_low = subst (λ n. All (λ j. j < n) g) (sym vars_is) (class_inside images g h.class)
@@ -204,12 +205,12 @@ module _ (bs : List ℕ) (images : List FracPoly) (g : List ℕ) (es : List Expo
 -- ---- one form
 module _ (base : List ℕ) (m : ℕ) (q : Expo) (over : IsExpoOver base m q) (ts : List (Term Frac))
     (is : ts ≡ q.body.terms.items) where
-  pub source_arities : All (λ (t : Term Frac). length t.mono ≡ width (length base) m) ts
-  source_arities = subst (λ (us : List (Term Frac)).
+  pub inhomogeneity_arities : All (λ (t : Term Frac). length t.mono ≡ width (length base) m) ts
+  inhomogeneity_arities = subst (λ (us : List (Term Frac)).
       All (λ (t : Term Frac). length t.mono ≡ width (length base) m) us) (sym is)
       (all_arity (width (length base) m) q.body.terms.items
       (over_normal base m q over).polynomial.arity)
 
-  pub source_normal : IsNormal base (tell ts)
-  source_normal = subst (λ (us : List (Term Frac)). IsNormal base (tell us)) (sym is)
+  pub inhomogeneity_normal : IsNormal base (tell ts)
+  inhomogeneity_normal = subst (λ (us : List (Term Frac)). IsNormal base (tell us)) (sym is)
       (over_normal base m q over).normal

@@ -309,7 +309,7 @@ module _ (images : List (Terms Fraction)) (g : List ℕ) (xs : List (Vec Frac Gl
           (subst (eigen.IsWithin (length xs)) is (within (let e = matrix_count in
           omega (arith, e, l))))
 
-  pub matrix_refused : (e : EigenError) → eigen.IfRefused (length xs) (rows_of xs) e
+  pub matrix_refused : (e : EigenError) → eigen.IfSplitRefused (length xs) (rows_of xs) e
       → IfRefusedMatrix images g e
-  matrix_refused e h = subst (λ n. eigen.IfRefused n (class_matrix images g) e) matrix_count
-      (subst (λ rows. eigen.IfRefused (length xs) rows e) is h)
+  matrix_refused e h = subst (λ n. eigen.IfSplitRefused n (class_matrix images g) e) matrix_count
+      (subst (λ rows. eigen.IfSplitRefused (length xs) rows e) is h)

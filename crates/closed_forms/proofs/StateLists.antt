@@ -1,4 +1,4 @@
--- The branch after each number of turns, as the code makes it.
+-- The branch after each number of iterations, as the code makes it.
 --   variable_next, variables_all      the variables, one after another
 --   image_next, images_all            the images with a state for their variables
 --   states_count, state_at, states_next     the states
@@ -25,7 +25,7 @@ use Rattle.solvable_maps.proofs.Exponents.{length-unit, unit_get}
 use Rattle.monos.specs.declared.order.Grevlex.{Grevlex}
 use Rattle.poly.specs.Seen.{terms_in, terms_each, arity_of, Is}
 use Rattle.solvable.proofs.Using.{FracPoly, length_each, poly_at-is}
-use Rattle.closed_forms.specs.Sources.{collect_terms}
+use Rattle.closed_forms.specs.Inhomogeneities.{collect_terms}
 use Rattle.closed_forms.specs.States.{next_of, after, states_to, IsPastNextState, IsPastState}
 use Rattle.closed_forms.proofs.Ahead.{after_count}
 use Rattle.closed_forms.proofs.Making.{arity_of_is, poly_is}
@@ -209,10 +209,10 @@ module _ (images : List FracPoly) (n : ℕ) (found : List (Vec FracPoly Global))
       (state_length ∙ sym (length_each images)) e
       ∙ ap (next_of (length M) M) (state_at M n found are i v low is)
 
-  pub past_state : (given : List FracPoly) (turns : ℕ) → given ≡ images → i < turns
-      → IsPastNextState (terms_each given) (terms_each v.items) → IsPastState M turns
-  past_state given turns e l h = record {
-    turn = i;
+  pub past_state : (given : List FracPoly) (iterations : ℕ) → given ≡ images → i < iterations
+      → IsPastNextState (terms_each given) (terms_each v.items) → IsPastState M iterations
+  past_state given iterations e l h = record {
+    iteration = i;
     before = l;
     past = subst (λ (gs : List FracPoly). IsPastNextState (terms_each gs) (after M i)) e
         (subst (IsPastNextState (terms_each given)) (state_at M n found are i v low is) h);

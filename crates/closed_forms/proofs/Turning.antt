@@ -1,8 +1,8 @@
 -- The closed forms of a class, from the recurrences of its forms.
---   source_value         the value of a form's source
---   next_turned          a form, where those before it are known: from there on, or where its value is zero, from one turn later on
+--   inhomogeneity_value         the value of a form's inhomogeneity
+--   next_turned          a form, where those before it are known: from there on, or where its value is zero, from one iteration later on
 --   next_done            all forms, one after another
---   variable_turned      a variable, where all forms are known: from as many turns more on as there are zeros
+--   variable_turned      a variable, where all forms are known: from as many iterations more on as there are zeros
 --   past_next, past_row  what is past in making a form or a variable
 use Rattle.std.proofs.Common.{◌≡◌, ◌≢◌, ℕ, zero, suc, ◌+◌, ◌-◌, ◌<◌, ◌≤◌, List, [], ◌∷◌, ◌++◌, map, length, take, refl, sym, ap, ap₂, subst, ◌∙◌, arith, below_more}
 use Rattle.std.proofs.lemmas.List.{length-take-le, take_all}
@@ -26,8 +26,8 @@ use Rattle.vectors.specs.Matrices.{AreForms}
 use Rattle.solvable_maps.specs.Classes.{class_matrix, IsClass}
 use Rattle.solvable_maps.specs.Expo.{with_normal_keys}
 use Rattle.solvable_maps.specs.Inverse.{IsInverse, IsProduct}
-use Rattle.solvable_maps.specs.AfterTurns.{rest_of, place, rests_at, form_at, IsAfterTurns, IsFormAfterTurns, HasValueAfter}
-use Rattle.solvable_maps.specs.Turns.{point, turns, width, IsNormalForm}
+use Rattle.solvable_maps.specs.AfterIterations.{rest_of, place, rests_at, form_at, IsAfterIterations, IsFormAfterIterations, HasValueAfter}
+use Rattle.solvable_maps.specs.Iterations.{point, iterations, width, IsNormalForm}
 use Rattle.solvable_maps.proofs.ClassSteps.{rests_turned}
 use Rattle.solvable_maps.proofs.Classwise.{later_form as lift_form}
 use Rattle.solvable_maps.proofs.NextForm.{next_form, later_form, zero_form, variable_of}
@@ -35,7 +35,7 @@ use Rattle.solvable_maps.proofs.Operations.{normal-value}
 use Rattle.closed_forms.specs.Later.{Ahead, ahead_of, IsFormFrom, at_once, later, one_later, IsLaterForm, IsOneLater}
 use Rattle.closed_forms.specs.Solved.{IsSolvedForm}
 use Rattle.closed_forms.specs.States.{zeros_in}
-use Rattle.closed_forms.specs.Sources.{part, part_by_forms, both, source_in}
+use Rattle.closed_forms.specs.Inhomogeneities.{part, part_by_forms, both, inhomogeneity_in}
 use Rattle.closed_forms.specs.Sums.{mix}
 use Rattle.closed_forms.specs.Known.{rests_in, IsReady, AreDone, IsNextForm, AreNextForms, IsPastNext, IsPastFormAt, IsPastRowOf, IsPastVariableAt, variable_in}
 use Rattle.closed_forms.proofs.Ahead.{ahead_value, later_recurs, later_there, one_later_recurs, zeros_none, zeros_one, zeros_next, zeros_part}
@@ -105,21 +105,24 @@ module _ (base : List ℕ) (c : Coprime base) (images : List (Terms Fraction))
         (arity-compose w ℚ (part cs (rests_in images g)) ps all))
         (collected-arity w (mix by done) (mix-arity w by done d)))
 
-    source-arity : (cs by : List Fraction) (done : List (Terms Fraction)) → Each (Arity w) done
-        → (q : Terms Fraction) → q ≡ source_in base m cs (rests_in images g) ps by done → Arity w q
-    source-arity cs by done d q e =
+    inhomogeneity-arity : (cs by : List Fraction) (done : List (Terms Fraction))
+        → Each (Arity w) done
+        → (q : Terms Fraction) → q ≡ inhomogeneity_in base m cs (rests_in images g) ps by done
+        → Arity w q
+    inhomogeneity-arity cs by done d q e =
         subst (Arity w) (sym e)
         (collected-arity w (with_normal_keys r (both base m cs (rests_in images g) ps by done))
         (normalized-arity base m (both base m cs (rests_in images g) ps by done)
         (both-arity cs by done d)))
 
-    source_value : (cs by : List Fraction) (done : List (Terms Fraction)) → Each (Arity w) done
-        → (q : Terms Fraction) → q ≡ source_in base m cs (rests_in images g) ps by done
+    inhomogeneity_value : (cs by : List Fraction) (done : List (Terms Fraction))
+        → Each (Arity w) done
+        → (q : Terms Fraction) → q ≡ inhomogeneity_in base m cs (rests_in images g) ps by done
         → (n : ℕ) (s : List Fraction) → length s ≡ m → ready.since ≤ n
         → value_at ℚ q (point base n s)
-        ≡ ℚ.add (sum_of_products ℚ cs (rests_at images g (turns images n s)))
+        ≡ ℚ.add (sum_of_products ℚ cs (rests_at images g (iterations images n s)))
         (sum_of_products ℚ by (map (λ y. value_at ℚ y (point base n s)) done))
-    source_value cs by done d q e n s l late =
+    inhomogeneity_value cs by done d q e n s l late =
         let x = point base n s in
         let rests = rests_in images g in
         ap (λ p. value_at ℚ p x) e
@@ -139,7 +142,7 @@ module _ (base : List ℕ) (c : Coprime base) (images : List (Terms Fraction))
         (inverse : IsInverse (length g) forms back) where
       abbrev AreTurnedTo : ℕ → List (Terms Fraction) → Type 0
       AreTurnedTo d done = (i : ℕ) → i < length done
-          → IsFormAfterTurns base images d g (row_at forms i)
+          → IsFormAfterIterations base images d g (row_at forms i)
           (poly_at done i)
 
       module _ (k : ℕ) (l : k < length g) (d : ℕ) (late : ready.since ≤ d) (early : d ≤ z)
@@ -163,45 +166,49 @@ module _ (base : List ℕ) (c : Coprime base) (images : List (Terms Fraction))
         second : IsProduct (length g) h.is.is_by.turned back h.is.by
         second = subst (λ n. IsProduct n h.is.is_by.turned back h.is.by) size h.is.is_by.second
 
-        source_is : (n : ℕ) (s : List Fraction) → length s ≡ m → d ≤ n
-            → value_at ℚ h.source (point base n s)
-            ≡ ℚ.add (sum_of_products ℚ own (rests_at images g (turns images n s)))
+        inhomogeneity_is : (n : ℕ) (s : List Fraction) → length s ≡ m → d ≤ n
+            → value_at ℚ h.inhomogeneity (point base n s)
+            ≡ ℚ.add (sum_of_products ℚ own (rests_at images g (iterations images n s)))
             (sum_of_products ℚ h.is.by (map (λ y. value_at ℚ y (point base n s)) done))
-        source_is n s e b = source_value own h.is.by done wide h.source h.is.terms n s e
+        inhomogeneity_is n s e b = inhomogeneity_value own h.is.by done wide h.inhomogeneity
+            h.is.terms n s e
             (omega (arith, late, b))
 
         abbrev Turned : ℕ → Type 0
-        Turned n = IsFormAfterTurns base images n g own y
+        Turned n = IsFormAfterIterations base images n g own y
 
-        at_first : (n : ℕ) → d ≡ n → n ≡ 0 → IsSolvedForm base m own g v h.source y → Turned d
+        at_first : (n : ℕ) → d ≡ n → n ≡ 0 → IsSolvedForm base m own g v h.inhomogeneity y
+            → Turned d
         at_first n e o solved =
-            let rec = form_recurs base c m own g v h.source y low
-            (source-arity own h.is.by done wide h.source h.is.terms) solved in
+            let rec = form_recurs base c m own g v h.inhomogeneity y low
+            (inhomogeneity-arity own h.is.by done wide h.inhomogeneity h.is.terms) solved in
             next_form base images d is solvable g class forms back values are inverse k l done count
-            known h.is.is_by.turned h.is.by first second h.source source_is (form_at own g) y rec
+            known h.is.is_by.turned h.is.by first second h.inhomogeneity inhomogeneity_is
+            (form_at own g) y rec
             (subst (λ n. HasValueAfter base images g own n y) (sym (e ∙ o))
             (record { is = λ s b. rec.first s b }))
 
-        at_later : v ≢ ℚ.zero → IsLaterForm base m v z (part own a.state) h.source y → Turned d
+        at_later : v ≢ ℚ.zero → IsLaterForm base m v z (part own a.state) h.inhomogeneity y
+            → Turned d
         at_later some form =
             let meets : d + (z - d) ≡ z = omega (arith, early) in
             later_form base images d is solvable g class forms back values are inverse k l done
             count
-            known h.is.is_by.turned h.is.by first second h.source source_is some
+            known h.is.is_by.turned h.is.by first second h.inhomogeneity inhomogeneity_is some
             (λ s. value_at ℚ y (point base 0 s)) y
-            (later_recurs base m v z (part own a.state) h.source y form) (z - d)
+            (later_recurs base m v z (part own a.state) h.inhomogeneity y form) (z - d)
             (subst (λ n. HasValueAfter base images g own n y) (sym meets)
             (record {
-              is = λ s b. later_there base m v z (part own a.state) h.source y form some s b
+              is = λ s b. later_there base m v z (part own a.state) h.inhomogeneity y form some s b
                   ∙ ahead_value images own g low z s b;
             }))
 
-        at_zero : v ≡ ℚ.zero → IsOneLater base m h.source y → Turned (suc d)
+        at_zero : v ≡ ℚ.zero → IsOneLater base m h.inhomogeneity y → Turned (suc d)
         at_zero nothing form =
             zero_form base images d is solvable g class forms back values are inverse k l done count
-            known h.is.is_by.turned h.is.by first second h.source source_is nothing
+            known h.is.is_by.turned h.is.by first second h.inhomogeneity inhomogeneity_is nothing
             (λ s. value_at ℚ y (point base 0 s)) y
-            (one_later_recurs base m v h.source y nothing form)
+            (one_later_recurs base m v h.inhomogeneity y nothing form)
 
         next_turned : Turned (d + zeros_in (v ∷ []))
         next_turned = go h.made
@@ -210,7 +217,7 @@ module _ (base : List ℕ) (c : Coprime base) (images : List (Terms Fraction))
             same some t = subst Turned (let e = zeros_none v some in
                 let q : d ≡ d + zeros_in (v ∷ []) = omega (arith, e) in q) t
 
-            go : IsFormFrom base m own g v a h.source y → Turned (d + zeros_in (v ∷ []))
+            go : IsFormFrom base m own g v a h.inhomogeneity y → Turned (d + zeros_in (v ∷ []))
             go (at_once some none solved) =
                 same some (at_first d refl (omega (arith, early, none)) solved)
             go (later some form) = same some (at_later some form)
@@ -225,7 +232,7 @@ module _ (base : List ℕ) (c : Coprime base) (images : List (Terms Fraction))
           → AreNextForms base m g (rests_in images g) ps (class_matrix images g) back a forms
           values done
           → (k : ℕ) → k ≤ length done → (i : ℕ) → i < k
-          → IsFormAfterTurns base images (from k) g (row_at forms i) (poly_at done i)
+          → IsFormAfterIterations base images (from k) g (row_at forms i) (poly_at done i)
       turned_to done few h zero b i l = absurd (omega (arith, l))
       turned_to done few h (suc k) b i l =
           let before = turned_to done few h k (omega (arith, b)) in
@@ -234,19 +241,19 @@ module _ (base : List ℕ) (c : Coprime base) (images : List (Terms Fraction))
           let up : from k ≤ from (suc k) = omega (arith, more) in
           let part = zeros_part values k in
           let within = ready.within in
-          let next : IsFormAfterTurns base images (from (suc k)) g (row_at forms k)
+          let next : IsFormAfterIterations base images (from (suc k)) g (row_at forms k)
           (poly_at done k) =
-          subst (λ d. IsFormAfterTurns base images d g (row_at forms k) (poly_at done k))
+          subst (λ d. IsFormAfterIterations base images d g (row_at forms k) (poly_at done k))
           (let q : from k + zeros_in (entries ℚ_field values k ∷ []) ≡ from (suc k) =
           omega (arith, more) in q)
           (next_turned k (omega (arith, few, b)) (from k) (omega arith)
           (omega (arith, part, within)) (take k done) n
           (λ j q. let p : j < k = omega (arith, q, n) in
-          subst (IsFormAfterTurns base images (from k) g (row_at forms j))
+          subst (IsFormAfterIterations base images (from k) g (row_at forms j))
           (sym (poly_taken done k j p)) (before j p))
           (each_taken (Arity w) k done (normal-arities base m done h.normal)) (poly_at done k)
           (h.each k (omega (arith, b)))) in
-          below_more (λ j. IsFormAfterTurns base images (from (suc k)) g (row_at forms j)
+          below_more (λ j. IsFormAfterIterations base images (from (suc k)) g (row_at forms j)
           (poly_at done j)) k
           (λ j p. lift_form base images (from k) (from (suc k)) up g (row_at forms j)
           (poly_at done j) (before j p)) next i (omega (arith, l))
@@ -265,14 +272,15 @@ module _ (base : List ℕ) (c : Coprime base) (images : List (Terms Fraction))
           → AreNextForms base m g (rests_in images g) ps (class_matrix images g) back a forms
           values done → (i : ℕ) → i < length g → (p : Terms Fraction)
           → p ≡ variable_in base (row_at back i) done
-          → IsAfterTurns base images (ready.since + zeros_in values) (place g i) p
+          → IsAfterIterations base images (ready.since + zeros_in values) (place g i) p
       variable_turned done count h i l p e =
           let d = ready.since + zeros_in values in
           let size = are.value_count in
           let whole : from (length done) ≡ d = ap (λ xs. ready.since + zeros_in xs)
           (take_all (length done) values (omega (arith, size, count))) in
           variable_of base images d is solvable g class forms back values are inverse done count
-          (λ j b. subst (λ n. IsFormAfterTurns base images n g (row_at forms j) (poly_at done j))
+          (λ j b. subst (λ n. IsFormAfterIterations base images n g (row_at forms j)
+          (poly_at done j))
           whole
           (turned_to done (omega (arith, count)) h (length done) (omega arith) j b)) i l p
           (λ n s k late.

@@ -1,7 +1,7 @@
 -- The closed forms of a class, as the code makes them from a setting and the class's splitting.
 --   IsSettingOf images z g split es s     s has what the forms of the class g are made from, where es are the closed forms of all variables, as far as they are known,
---                                   and what the class's variables are after z turns
---   ahead_in s                      that number of turns, and what they are
+--                                   and what the class's variables are after z iterations
+--   ahead_in s                      that number of iterations, and what they are
 --   IsNormalOver base s p           p is normal, over this base and as many variables as there are closed forms
 --   IsNextOf base g s w l done y    y is the closed form of the form w with the value l, from the forms before it;  IsPastFormOf base g s w l done: making it is past
 --   AreNextOf base g s split done   done are the closed forms of the first forms, one after another;  IsPastNextOf base g s split: making the next one is past
@@ -18,14 +18,14 @@ use Rattle.poly.specs.Seen.{terms_each}
 use Rattle.eigen_split.specs.declared.splitting.Split.{Split}
 use Rattle.expo.specs.declared.exponential.Expo.{Expo}
 use Rattle.solvable_maps.specs.Classes.{class_matrix}
-use Rattle.solvable_maps.specs.AfterTurns.{place, IsAfterTurns}
-use Rattle.solvable_maps.specs.Turns.{IsNormalForm}
+use Rattle.solvable_maps.specs.AfterIterations.{place, IsAfterIterations}
+use Rattle.solvable_maps.specs.Iterations.{IsNormalForm}
 use Rattle.closed_forms.specs.Inverses.{IsBehind}
 use Rattle.closed_forms.specs.Known.{rests_in, IsNextForm, AreNextForms, IsPastForm, IsPastNext, IsPastClass}
 use Rattle.closed_forms.specs.Later.{Ahead}
 use Rattle.closed_forms.specs.States.{after, zeros_in}
 use Rattle.closed_forms.specs.Values.{bodies_of}
-use Rattle.closed_forms.specs.declared.sources.ClassSetting.{ClassSetting}
+use Rattle.closed_forms.specs.declared.inhomogeneities.ClassSetting.{ClassSetting}
 
 pub record IsSettingOf (images : List (Terms Fraction)) (z : ℕ) (g : List ℕ) (split : Split)
     (es : List Expo) (s : ClassSetting) : Type 0 where
@@ -35,11 +35,11 @@ pub record IsSettingOf (images : List (Terms Fraction)) (z : ℕ) (g : List ℕ)
   pub variables : All (λ p. p.arity ≡ length images) s.rests.items
   pub matrix : rows_of s.matrix.items ≡ class_matrix images g
   pub back : IsBehind (rows_of split.forms.items) (rows_of s.back.items)
-  pub turns : s.turns ≡ z
+  pub iterations : s.iterations ≡ z
   pub ahead : terms_each s.ahead.items ≡ map (poly_at (after images z)) g
 
 abbrev pub ahead_in : ClassSetting → Ahead
-ahead_in s = record { turns = s.turns; state = terms_each s.ahead.items }
+ahead_in s = record { iterations = s.iterations; state = terms_each s.ahead.items }
 
 abbrev pub IsNormalOver : List ℕ → ClassSetting → Terms Fraction → Type 0
 IsNormalOver base s p = IsNormalForm base grevlex (length s.earlier.items) p
@@ -74,7 +74,7 @@ IsPastNextOf base g s split =
 abbrev pub AreVariablesOf : List ℕ → List (Terms Fraction) → ℕ → List ℕ → List (Terms Fraction)
     → Type 0
 AreVariablesOf base images since g ps =
-    (a : ℕ) → a < length g → IsAfterTurns base images since (place g a) (poly_at ps a)
+    (a : ℕ) → a < length g → IsAfterIterations base images since (place g a) (poly_at ps a)
 
 abbrev pub zeros_of : Split → ℕ
 zeros_of split = zeros_in (fractions_of split.values.items)

@@ -3,15 +3,15 @@
 --   IsClassSetting base n s      the closed forms are such polynomials, the rests have the variables alone, the matrices have width n, and what is ahead has the variables alone
 --   moved_of base w s       the form w of the rests, composed with the closed forms;  IsPastMovedOf w s: making it is past
 --   IsBeforeOf w s done p   p is the combination of earlier forms for the form w;  IsPastBeforeOf w s done: making it is past
---   IsSourceOf base w s done q     q is the source of the recurrence of the form w;  IsPastSourceOf base w s done: making it is past
+--   IsInhomogeneityOf base w s done q     q is the inhomogeneity of the recurrence of the form w;  IsPastInhomogeneityOf base w s done: making it is past
 use Rattle.std.specs.Prelude.{◌≡◌, ℕ, List, length, All}
 use Rattle.algebra.specs.Fraction.{Fraction}
 use Rattle.polynomials.specs.Terms.{Terms}
 use Rattle.linear.specs.Rows.{rows_of}
 use Rattle.poly.specs.Seen.{terms_each}
-use Rattle.solvable_maps.specs.Turns.{width}
-use Rattle.closed_forms.specs.Sources.{part_by_forms, IsBefore, IsSource, IsPastMoved, IsPastBefore, IsPastSource}
-use Rattle.closed_forms.specs.declared.sources.ClassSetting.{ClassSetting}
+use Rattle.solvable_maps.specs.Iterations.{width}
+use Rattle.closed_forms.specs.Inhomogeneities.{part_by_forms, IsBefore, IsInhomogeneity, IsPastMoved, IsPastBefore, IsPastInhomogeneity}
+use Rattle.closed_forms.specs.declared.inhomogeneities.ClassSetting.{ClassSetting}
 
 abbrev pub variables_over : List ℕ → ClassSetting → ℕ
 variables_over base s = width (length base) (length s.earlier.items)
@@ -38,14 +38,16 @@ IsBeforeOf w s done p = IsBefore w (rows_of s.matrix.items) (rows_of s.back.item
 abbrev pub IsPastBeforeOf : List Fraction → ClassSetting → List (Terms Fraction) → Type 0
 IsPastBeforeOf w s done = IsPastBefore w (rows_of s.matrix.items) (rows_of s.back.items) done
 
-abbrev pub IsSourceOf : List ℕ → List Fraction → ClassSetting → List (Terms Fraction)
+abbrev pub IsInhomogeneityOf : List ℕ → List Fraction → ClassSetting → List (Terms Fraction)
     → Terms Fraction
     → Type 0
-IsSourceOf base w s done q =
-    IsSource base (length s.earlier.items) w (terms_each s.rests.items) (terms_each s.earlier.items)
+IsInhomogeneityOf base w s done q =
+    IsInhomogeneity base (length s.earlier.items) w (terms_each s.rests.items)
+    (terms_each s.earlier.items)
     (rows_of s.matrix.items) (rows_of s.back.items) done q
 
-abbrev pub IsPastSourceOf : List ℕ → List Fraction → ClassSetting → List (Terms Fraction) → Type 0
-IsPastSourceOf base w s done =
-    IsPastSource base (length s.earlier.items) w (terms_each s.rests.items)
+abbrev pub IsPastInhomogeneityOf : List ℕ → List Fraction → ClassSetting → List (Terms Fraction)
+    → Type 0
+IsPastInhomogeneityOf base w s done =
+    IsPastInhomogeneity base (length s.earlier.items) w (terms_each s.rests.items)
     (terms_each s.earlier.items) (rows_of s.matrix.items) (rows_of s.back.items) done

@@ -1,15 +1,15 @@
 -- What is known of a map's variables class by class, and what is past in making the closed forms of a class.
 --   rests_in images g         what the polynomials of the class g have without its variables
---   AreKnown base images splits z groups ps     from some number of turns on ps has the closed forms of the variables of all classes but these, which come next:
---                             with as many turns more as the splittings that are left have zeros, z
---   IsReady base images z k g ps     the same where, of the classes in their order, g comes next: with k turns more, at most z
---   AreDone base images g forms done    from some number of turns on done are the closed forms of the first of the forms, as many as there are, normal
---   IsNextForm .. y           y is made of a form's source, from the forms before it;  AreNextForms .. done: each is, one after another
+--   AreKnown base images splits z groups ps     from some number of iterations on ps has the closed forms of the variables of all classes but these, which come next:
+--                             with as many iterations more as the splittings that are left have zeros, z
+--   IsReady base images z k g ps     the same where, of the classes in their order, g comes next: with k iterations more, at most z
+--   AreDone base images g forms done    from some number of iterations on done are the closed forms of the first of the forms, as many as there are, normal
+--   IsNextForm .. y           y is made of a form's inhomogeneity, from the forms before it;  AreNextForms .. done: each is, one after another
 --   variable_in base row done     the polynomial of a variable, by a row of the inverse from those of the forms
 --   IsPastForm, IsPastVariable, IsPastClass     a number or a weight is past in making a form, a variable, or one of a class
 --   IsWideClass base images z v     that is so of the class whose first variable is v, with the forms and values that its matrix
 --                             is split into, once the closed forms of the classes before it are known
---   IsWideTurn base images z v      what a variable of that class is at a number of turns below z is past, where from one more turn on all are the state; or at no turn,
+--   IsWideIteration base images z v      what a variable of that class is at a number of iterations below z is past, where from one more iteration on all are the state; or at no iteration,
 --                             by which it is seen whether the variable passes
 use Rattle.std.specs.Prelude.{◌≡◌, ◌⊎◌, ◌<◌, ◌≤◌, ◌+◌, ℕ, suc, List, [], ◌∷◌, ◌++◌, Option, map, take, length, get_or}
 use Rattle.std.specs.List.{concat}
@@ -27,12 +27,12 @@ use Rattle.vectors.specs.Causes.{row_at}
 use Rattle.vectors.specs.Lists.{entries}
 use Rattle.solvable_maps.specs.Classes.{class_matrix, first_of, IsClass}
 use Rattle.solvable_maps.specs.Expo.{with_normal_keys}
-use Rattle.solvable_maps.specs.AfterTurns.{rest_of, AreAfterTurns, IsFormAfterTurns}
-use Rattle.solvable_maps.specs.Turns.{IsNormalForm, IsClosedFormFrom}
+use Rattle.solvable_maps.specs.AfterIterations.{rest_of, AreAfterIterations, IsFormAfterIterations}
+use Rattle.solvable_maps.specs.Iterations.{IsNormalForm, IsClosedFormFrom}
 use Rattle.eigen_split.specs.Refusal.{IsSplitInto}
 use Rattle.eigen_split.specs.declared.splitting.Split.{Split}
 use Rattle.closed_forms.specs.Inverses.{IsBehind, IsPastInverse}
-use Rattle.closed_forms.specs.Sources.{collect_terms, part, IsSource, IsPastSource}
+use Rattle.closed_forms.specs.Inhomogeneities.{collect_terms, part, IsInhomogeneity, IsPastInhomogeneity}
 use Rattle.closed_forms.specs.Later.{Ahead, ahead_of, IsFormFrom, IsPastAt, IsPastFrom}
 use Rattle.closed_forms.specs.States.{zeros_in}
 use Rattle.closed_forms.specs.Sums.{IsPastMix}
@@ -50,7 +50,7 @@ pub record AreKnown (base : List ℕ) (images : List (Terms Fraction)) (splits :
   pub whole : AreWhole (uses images) (length images) earlier
   pub classes : AreClasses (uses images) (length images) earlier groups
   pub since : ℕ
-  pub turned : AreAfterTurns base images since earlier ps
+  pub turned : AreAfterIterations base images since earlier ps
   pub left : List (Option Split)
   pub others : (k : ℕ) (d : Option Split) → (In k earlier → ⊥) → get_or left k d ≡ get_or splits k d
   pub sum : since + zeros_in (values_in left) ≡ z
@@ -66,13 +66,13 @@ pub record IsReady (base : List ℕ) (images : List (Terms Fraction)) (z k : ℕ
   pub next : IsNext (uses images) (length images) earlier first
   pub class : IsClassOf (uses images) (length images) first g
   pub since : ℕ
-  pub turned : AreAfterTurns base images since earlier ps
+  pub turned : AreAfterIterations base images since earlier ps
   pub within : since + k ≤ z
 
 pub record AreDone (base : List ℕ) (images : List (Terms Fraction)) (g : List ℕ)
     (forms : List (List Fraction)) (done : List (Terms Fraction)) : Type 0 where
   pub since : ℕ
-  pub each : (i : ℕ) → i < length done → IsFormAfterTurns base images since g (row_at forms i)
+  pub each : (i : ℕ) → i < length done → IsFormAfterIterations base images since g (row_at forms i)
       (poly_at done i)
   pub normal : Each (IsNormalForm base grevlex (length images)) done
 
@@ -81,16 +81,16 @@ pub record AreDone (base : List ℕ) (images : List (Terms Fraction)) (g : List 
 pub record IsNextForm (base : List ℕ) (m : ℕ) (g : List ℕ) (rests ps : List (Terms Fraction))
     (matrix back : List (List Fraction)) (a : Ahead) (w : List Fraction) (l : Fraction)
     (done : List (Terms Fraction)) (y : Terms Fraction) : Type 0 where
-  pub source : Terms Fraction
-  pub is : IsSource base m w rests ps matrix back done source
-  pub made : IsFormFrom base m w g l a source y
+  pub inhomogeneity : Terms Fraction
+  pub is : IsInhomogeneity base m w rests ps matrix back done inhomogeneity
+  pub made : IsFormFrom base m w g l a inhomogeneity y
 
 pub data IsPastForm (base : List ℕ) (m : ℕ) (g : List ℕ) (rests ps : List (Terms Fraction))
     (matrix back : List (List Fraction)) (a : Ahead) (w : List Fraction) (l : Fraction)
     (done : List (Terms Fraction)) : Type 0 where
-  source_past : IsPastSource base m w rests ps matrix back done
+  inhomogeneity_past : IsPastInhomogeneity base m w rests ps matrix back done
       → IsPastForm base m g rests ps matrix back a w l done
-  making_past : (q : Terms Fraction) → IsSource base m w rests ps matrix back done q
+  making_past : (q : Terms Fraction) → IsInhomogeneity base m w rests ps matrix back done q
       → IsPastFrom base m w g l a q
       → IsPastForm base m g rests ps matrix back a w l done
 
@@ -162,11 +162,11 @@ pub record IsWideClass (base : List ℕ) (images : List (Terms Fraction)) (z v :
   pub are : IsSplitInto (length class) (class_matrix images class) forms values
   pub past : IsPastClass base images z class forms values polys
 
-pub record IsWideTurn (base : List ℕ) (images : List (Terms Fraction)) (z v : ℕ) : Type 0 where
-  pub turn : ℕ
-  pub before : turn < z
+pub record IsWideIteration (base : List ℕ) (images : List (Terms Fraction)) (z v : ℕ) : Type 0 where
+  pub iteration : ℕ
+  pub before : iteration < z
   pub since : ℕ
-  pub near : (since ≤ suc turn) ⊎ (turn ≡ 0)
+  pub near : (since ≤ suc iteration) ⊎ (iteration ≡ 0)
   pub polys : List (Terms Fraction)
   pub closed : IsClosedFormFrom base images since polys
   pub normal : Each (IsNormalForm base grevlex (length images)) polys
@@ -175,4 +175,4 @@ pub record IsWideTurn (base : List ℕ) (images : List (Terms Fraction)) (z v : 
   pub first : first_of class ≡ v
   pub variable : ℕ
   pub within : In variable class
-  pub past : IsPastAt base (length images) turn (poly_at polys variable)
+  pub past : IsPastAt base (length images) iteration (poly_at polys variable)

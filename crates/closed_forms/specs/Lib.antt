@@ -4,7 +4,7 @@ pub mod Products
 pub mod Inverses
 pub mod Splits
 pub mod States
-pub mod Sources
+pub mod Inhomogeneities
 pub mod Solved
 pub mod Later
 pub mod Known

@@ -2,7 +2,7 @@
 --   IsPutTo k g news old new     the first k of news stand in the places of the class g, the others as before
 --   IsPut g news old new         all of them
 use Rattle.std.specs.Prelude.{◌≡◌, ◌≢◌, ◌<◌, ℕ, List, length, get_or}
-use Rattle.solvable_maps.specs.AfterTurns.{place}
+use Rattle.solvable_maps.specs.AfterIterations.{place}
 use Rattle.expo.specs.declared.exponential.Expo.{Expo}
 
 pub record IsPutTo (k : ℕ) (g : List ℕ) (news old new : List Expo) : Type 0 where

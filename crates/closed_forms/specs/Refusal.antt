@@ -1,14 +1,14 @@
 -- Why a map has no closed forms here.
 --   AllPass images          no class is refused
---   IfWide base images z e    the error is that of a class whose closed forms are past, or want of memory;  IfWideTurn base images z e: or whose values at a number of turns are
---   IsWideForm images z v   what may be past once the classes have split: what the branch does in up to z turns, for the first variable; the closed forms
---                           of the class of v; or their values at a number of turns
+--   IfWide base images z e    the error is that of a class whose closed forms are past, or want of memory;  IfWideIteration base images z e: or whose values at a number of iterations are
+--   IsWideForm images z v   what may be past once the classes have split: what the branch does in up to z iterations, for the first variable; the closed forms
+--                           of the class of v; or their values at a number of iterations
 --   IsLater images v, IfLater images e     that is so, where the classes' values have z zeros
 --   Refusal                 why a map has no closed forms here: the least cycle; a class that doesn't split; one whose greatest
 --                           column sum is out of range; one with a row that is too wide in its splitting; the first variable of
 --                           the first one that is too long, or of one whose closed forms are too wide
 --   IsTooLong images v      all classes split, and v is the first variable of the first that is too long
---   IfRefused images e      the cause of each: that is the least cycle; or the class is the first that is refused, and this is why
+--   IfFormRefused images e      the cause of each: that is the least cycle; or the class is the first that is refused, and this is why
 --                           its matrix isn't split; or all classes split, and it is the first that is too long, or its closed forms are past
 --   refusal_in e            the refusal that an error tells; want of memory tells none;  IfRefusedBy images e: it has its cause
 use Rattle.std.specs.Prelude.{◌≡◌, ℕ, ℤ, List, length, Option, Some, None, IfSome}
@@ -19,7 +19,7 @@ use Rattle.solvable_maps.specs.Uses.{uses, strongly}
 use Rattle.solvable.specs.Refusal.{IsSolvable}
 use Rattle.solvable_maps.specs.Classes.{class_matrix, IsClass, Passes, IsFormBase, IsReachedClass}
 use Rattle.eigen_split.specs.Refusal as eigen
-use Rattle.closed_forms.specs.Known.{IsWideClass, IsWideTurn}
+use Rattle.closed_forms.specs.Known.{IsWideClass, IsWideIteration}
 use Rattle.closed_forms.specs.Lengths.{IsLong}
 use Rattle.closed_forms.specs.States.{AreZeros, IsPastState}
 use Rattle.closed_forms.specs.declared.errors.FormsError.{FormsError}
@@ -49,13 +49,13 @@ IfOfClass Q Memory = Unit {0}
 abbrev pub IfWide : List ℕ → List (Terms Fraction) → ℕ → FormsError → Type 0
 IfWide base images z e = IfOfClass (IsWideClass base images z) e
 
-abbrev pub IfWideTurn : List ℕ → List (Terms Fraction) → ℕ → FormsError → Type 0
-IfWideTurn base images z e = IfOfClass (IsWideTurn base images z) e
+abbrev pub IfWideIteration : List ℕ → List (Terms Fraction) → ℕ → FormsError → Type 0
+IfWideIteration base images z e = IfOfClass (IsWideIteration base images z) e
 
 pub data IsWideForm (base : List ℕ) (images : List (Terms Fraction)) (z v : ℕ) : Type 0 where
   state_past : v ≡ 0 → IsPastState images z → IsWideForm base images z v
   class_past : IsWideClass base images z v → IsWideForm base images z v
-  turn_past : IsWideTurn base images z v → IsWideForm base images z v
+  iteration_past : IsWideIteration base images z v → IsWideForm base images z v
 
 pub record IsLater (images : List (Terms Fraction)) (v : ℕ) : Type 0 where
   pub base : List ℕ
@@ -77,17 +77,17 @@ pub record IsWide (images : List (Terms Fraction)) (v : ℕ) : Type 0 where
   pub pass : AllPass images
   pub later : IsLater images v
 
-abbrev pub IfRefused : List (Terms Fraction) → Refusal → Type 0
-IfRefused images (not_solvable cycle) = IsLeastCycle (uses images) (strongly images) cycle
-IfRefused images (eigenvalues class) =
+abbrev pub IfFormRefused : List (Terms Fraction) → Refusal → Type 0
+IfFormRefused images (not_solvable cycle) = IsLeastCycle (uses images) (strongly images) cycle
+IfFormRefused images (eigenvalues class) =
     IsReachedClass images class × eigen.IsUnsplit (length class) (class_matrix images class)
-IfRefused images (range class sum) =
+IfFormRefused images (range class sum) =
     IsReachedClass images class × eigen.IsOutOfRange (length class) (class_matrix images class) sum
-IfRefused images (wide_split class candidate power row) =
+IfFormRefused images (wide_split class candidate power row) =
     IsReachedClass images class
     × eigen.IsWideAt (length class) (class_matrix images class) candidate power row
-IfRefused images (limit_form variable) = IsTooLong images variable
-IfRefused images (wide_form variable) = IsWide images variable
+IfFormRefused images (limit_form variable) = IsTooLong images variable
+IfFormRefused images (wide_form variable) = IsWide images variable
 
 abbrev pub refusal_in : FormsError → Option Refusal
 refusal_in (NotSolvable cycle) = Some (not_solvable cycle.items)
@@ -99,4 +99,4 @@ refusal_in (WideForm variable) = Some (wide_form variable)
 refusal_in Memory = None
 
 abbrev pub IfRefusedBy : List (Terms Fraction) → FormsError → Type 0
-IfRefusedBy images e = IfSome (refusal_in e) (IfRefused images)
+IfRefusedBy images e = IfSome (refusal_in e) (IfFormRefused images)

@@ -1,12 +1,12 @@
--- From which number of turns on polynomials are the state.
---   IsAt e n q                e at n turns is q
+-- From which number of iterations on polynomials are the state.
+--   IsAt e n q                e at n iterations is q
 --   AreAlike es state         as many polynomials as es, over as many variables
---   IsAtPlace es n state i    the one at the place i of es is at n turns that of the state
+--   IsAtPlace es n state i    the one at the place i of es is at n iterations that of the state
 --   IsMarked es n state marks i     the mark at i tells whether it isn't;  AreMarked es n state g marks: those at the places of g do
 --   AreAllMarked es n state groups marks     so of all classes;  KeptMarks es n state old new: what is marked by old is by new
---   IsPastPlace es n g        what one of the places of g is at n turns is past
+--   IsPastPlace es n g        what one of the places of g is at n iterations is past
 --   IsPastOfClass groups es n v     that is so of the class that begins with v
---   IsSettling images base groups states es since     es are a closed form from `since` on, and the states those after each number of turns
+--   IsSettling images base groups states es since     es are a closed form from `since` on, and the states those after each number of iterations
 --   IsSettled images base es since d     they are one from d on, which is at most `since`, and from no smaller number on
 use Rattle.std.specs.Prelude.{◌≡◌, ◌≤◌, ◌<◌, ◌↔◌, ℕ, Bool, false, List, [], length, get_or}
 use Rattle.algebra.specs.In.{In}
@@ -20,8 +20,8 @@ use Rattle.ring_laws.specs.declared.Ring as Ring
 use Rattle.monos.specs.declared.order.Order as Order
 use Rattle.poly.specs.declared.Poly.{Poly}
 use Rattle.solvable_maps.specs.Classes.{first_of}
-use Rattle.solvable_maps.specs.Turns.{IsClosedFormFrom}
-use Rattle.expo.specs.Operations.{IsPastTurn}
+use Rattle.solvable_maps.specs.Iterations.{IsClosedFormFrom}
+use Rattle.expo.specs.Operations.{IsPastIteration}
 use Rattle.expo.specs.View.{value_of}
 use Rattle.expo.specs.declared.exponential.Expo.{Expo}
 use Rattle.closed_forms.specs.States.{after}
@@ -58,7 +58,7 @@ KeptMarks es n state old new = (i : ℕ) → IsMarked es n state old i → IsMar
 pub record IsPastPlace (es : List Expo) (n : ℕ) (g : List ℕ) : Type 0 where
   pub place : ℕ
   pub within : In place g
-  pub past : (e : Expo) → e ≡ get_or es place e → IsPastTurn e n
+  pub past : (e : Expo) → e ≡ get_or es place e → IsPastIteration e n
 
 pub record IsPastOfClass (groups : List (List ℕ)) (es : List Expo) (n v : ℕ) : Type 0 where
   pub class : List ℕ

@@ -1,6 +1,6 @@
 -- What solves the recurrence of a form, exactly as lists of terms, and what is past in making it.
 --   still r e, steady r t     what does not change with n: of exponents their variables, of a term its number times these
---   IsSolvedTerm base m l t p     p solves the recurrence of l with the source t: the normal solution for the term's powers, times what does not change
+--   IsSolvedTerm base m l t p     p solves the recurrence of l with the inhomogeneity t: the normal solution for the term's powers, times what does not change
 --   AreSolved base m l q ys   ys are what solves that of each term of q, one after another
 --   AreSolvedBehind base m l q old new     they are what new has behind old
 --   homogeneous_part m x w g           the form w of the variables g, times the n-th power with the exponents x of s, u and v
@@ -21,9 +21,9 @@ use Rattle.exponentials.specs.Base.{IsProductOf}
 use Rattle.exponentials.specs.Keys.{Key, key_of, top}
 use Rattle.exponentials.specs.Powers.{number, negate_if}
 use Rattle.solvable_maps.specs.Expo.{with_normal_keys, power_key, with_key, IsSolution}
-use Rattle.solvable_maps.specs.Turns.{width, IsNormalForm}
+use Rattle.solvable_maps.specs.Iterations.{width, IsNormalForm}
 use Rattle.expo.specs.Rows.{IsPastOther, IsPastEqual}
-use Rattle.closed_forms.specs.Sources.{collect_terms}
+use Rattle.closed_forms.specs.Inhomogeneities.{collect_terms}
 
 abbrev pub still : ℕ → List ℕ → List ℕ
 still r e = replicate (width r 0) 0 ++ drop (width r 0) e
@@ -90,7 +90,7 @@ pub record IsSolvedForm (base : List ℕ) (m : ℕ) (w : List Fraction) (g : Lis
 
 -- ---- what is past
 pub data IsPastSolving (σ l : Fraction) (a : ℕ) : Type 0 where
-  source_past : IsPast (fraction_size σ) → IsPastSolving σ l a
+  inhomogeneity_past : IsPast (fraction_size σ) → IsPastSolving σ l a
   own_past : IsPast (fraction_size l) → IsPastSolving σ l a
   other : σ ≢ l → IsPastOther σ l a → IsPastSolving σ l a
   equal : σ ≡ l → IsPastEqual l a → IsPastSolving σ l a

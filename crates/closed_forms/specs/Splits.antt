@@ -55,7 +55,7 @@ pub record AreSplitsTo (images : List (Terms Fraction)) (splits : List (Option S
 
 -- why the matrix of a class does not split
 abbrev pub IfRefusedMatrix : List (Terms Fraction) → List ℕ → EigenError → Type 0
-IfRefusedMatrix images g e = eigen.IfRefused (length g) (class_matrix images g) e
+IfRefusedMatrix images g e = eigen.IfSplitRefused (length g) (class_matrix images g) e
 
 abbrev pub IfRefusedAt : List (Terms Fraction) → (List ℕ → Type 0) → FormsError → Type 0
 IfRefusedAt images P (NotSolvable cycle) = ⊥

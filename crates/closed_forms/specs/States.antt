@@ -1,8 +1,8 @@
--- The branch after a number of turns, as the code makes it, and how many values of the classes' forms are zero.
+-- The branch after a number of iterations, as the code makes it, and how many values of the classes' forms are zero.
 --   zeros_in values              how many of the values are zero
 --   some_of values              those that aren't zero
 --   next_of m images state       the images with the state, of m variables, for their variables
---   after images n               the variables' polynomials after n turns;  states_to images n: after 0 to n turns
+--   after images n               the variables' polynomials after n iterations;  states_to images n: after 0 to n iterations
 --   IsPastNextState images state     a composition that makes the next one is past
 --   IsPastState images n         that is so of one of those up to n
 --   AreZeros images z            the values of all classes' forms have so many zeros
@@ -12,7 +12,7 @@ use Rattle.polynomials.specs.Terms.{Terms, variables, compose}
 use Rattle.polynomials.specs.Weight.{IsPastComposition}
 use Rattle.solvable_maps.specs.Uses.{poly_at}
 use Rattle.eigen_split.specs.declared.splitting.Split.{Split}
-use Rattle.closed_forms.specs.Sources.{collect_terms}
+use Rattle.closed_forms.specs.Inhomogeneities.{collect_terms}
 use Rattle.closed_forms.specs.Splits.{AreSplits}
 use Rattle.closed_forms.specs.Values.{values_in}
 
@@ -41,9 +41,9 @@ pub record IsPastNextState (images state : List (Terms Fraction)) : Type 0 where
   pub past : IsPastComposition fractions (poly_at images place) state
 
 pub record IsPastState (images : List (Terms Fraction)) (n : ℕ) : Type 0 where
-  pub turn : ℕ
-  pub before : turn < n
-  pub past : IsPastNextState images (after images turn)
+  pub iteration : ℕ
+  pub before : iteration < n
+  pub past : IsPastNextState images (after images iteration)
 
 pub record AreZeros (images : List (Terms Fraction)) (z : ℕ) : Type 0 where
   pub splits : List (Option Split)

@@ -1,7 +1,7 @@
 -- What the closed form of a branch is, as the code has it.
 --   base_in form, polys_in form     its base, and its polynomials
 --   AreNormal base m ps             each of the polynomials is over this base and m variables, in descending order, and normal
---   IsLeastFrom base images ps since     they are a closed form from no smaller number of turns on
+--   IsLeastFrom base images ps since     they are a closed form from no smaller number of iterations on
 --   ArePassing base m ps passing    it tells of each variable whether it isn't itself at n = 0
 --   IsFormOf images form            form is the closed form of the map
 use Rattle.std.specs.Prelude.{◌≡◌, ◌≤◌, ◌<◌, ◌↔◌, ℕ, Bool, false, List, length, get_or}
@@ -11,7 +11,7 @@ use Rattle.polynomials.specs.Order.{grevlex}
 use Rattle.polynomials.specs.Terms.{Terms}
 use Rattle.coprime_base.specs.Sizes.{sizes}
 use Rattle.solvable_maps.specs.Classes.{IsFormBase}
-use Rattle.solvable_maps.specs.Turns.{width, IsNormalForm, IsClosedFormFrom, IsItself}
+use Rattle.solvable_maps.specs.Iterations.{width, IsNormalForm, IsClosedFormFrom, IsItself}
 use Rattle.monos.specs.Variables.{most_variables}
 use Rattle.closed_forms.specs.Limits.{most_images, most_in_base}
 use Rattle.closed_forms.specs.Values.{bodies_of, AreOver}

@@ -1,11 +1,11 @@
-//! From which number of turns on polynomials are the state, and which aren't it at a number of turns.
+//! From which number of iterations on polynomials are the state, and which aren't it at a number of iterations.
 ghost use Rattle.std.specs.Prelude.{◌≡◌, ◌≢◌, ◌<◌, ℕ, List, true, false, All, length, map, get_or, IfOk, OnOk, IfErr, IsErrOf, ◌↔◌};
 ghost use Rattle.algebra.specs.Fraction.{Fraction};
 ghost use Rattle.polynomials.specs.Terms.{Terms};
 ghost use Rattle.poly.specs.Seen.{terms_in, terms_each};
 ghost use Rattle.solvable_maps.specs.Classes.{first_of};
-ghost use Rattle.expo.specs.Operations.{IsPastTurn};
-ghost use Rattle.closed_forms.specs.Refusal.{IfOfClass, IfWideTurn};
+ghost use Rattle.expo.specs.Operations.{IsPastIteration};
+ghost use Rattle.closed_forms.specs.Refusal.{IfOfClass, IfWideIteration};
 ghost use Rattle.closed_forms.specs.Settling.{IsAt, AreAlike, KeptMarks, AreMarked, AreAllMarked, IsPastPlace, IsPastOfClass, IsSettling, IsSettled};
 ghost use Rattle.closed_forms.specs.Splits.{groups_in};
 
@@ -17,8 +17,8 @@ use poly::Poly;
 use ring_laws::ArithmeticError;
 use std::alloc::Global;
 
-/// The least number of turns from which on the polynomials are the state, where they are from `since` on: as long as they are the state at one turn less, it is one less.
-/// `WideForm` only with the first variable of a class of which what one is at a number of turns below `since` is past.
+/// The least number of iterations from which on the polynomials are the state, where they are from `since` on: as long as they are the state at one iteration less, it is one less.
+/// `WideForm` only with the first variable of a class of which what one is at a number of iterations below `since` is past.
 pub(crate) fn least(
     alloc: Global,
     groups: &[Vec<usize>],
@@ -34,7 +34,7 @@ pub(crate) fn least(
         → IfOk result (IsSettled images base polys.now since) }
     ensures refused { (images : List (Terms Fraction)) (base : List ℕ) → IsSettling images base
         (groups_in groups.now) (map (λ v. terms_each v.items) states.now) polys.now since
-        → IfErr result (IfWideTurn base images since) }
+        → IfErr result (IfWideIteration base images since) }
 {
     if since == 0 {
         return Ok(0);
@@ -88,24 +88,24 @@ fn has_any(marks: &[bool]) -> bool
     has_any(marks)
 }
 
-/// For each variable whether its polynomial isn't that of the state at this number of turns.
+/// For each variable whether its polynomial isn't that of the state at this number of iterations.
 pub(crate) fn apart(
     alloc: Global,
     groups: &[Vec<usize>],
     polys: &[Expo],
     state: &[Poly<Frac, Grevlex>],
-    turns: u32,
+    iterations: u32,
 ) -> Result<Vec<bool>, FormsError>
     requires inside { All (λ g. All (λ i. i < length polys.now) g.items) groups.now }
     requires alike { AreAlike polys.now state.now }
     ensures count { IfOk result (λ marks. length marks.items ≡ length polys.now) }
-    ensures marked { IfOk result (λ marks. AreAllMarked polys.now turns (terms_each state.now)
+    ensures marked { IfOk result (λ marks. AreAllMarked polys.now iterations (terms_each state.now)
         (groups_in groups.now) marks.items) }
     ensures refused { IfErr result
-        (IfOfClass (IsPastOfClass (groups_in groups.now) polys.now turns)) }
+        (IfOfClass (IsPastOfClass (groups_in groups.now) polys.now iterations)) }
 {
     let mut marks = vec![in alloc; false; polys.len()]?;
-    match mark(alloc, groups, polys, state, turns, &mut marks) {
+    match mark(alloc, groups, polys, state, iterations, &mut marks) {
         Ok(()) => Ok(marks),
         Err(error) => Err(error),
     }
@@ -117,26 +117,26 @@ fn mark(
     groups: &[Vec<usize>],
     polys: &[Expo],
     state: &[Poly<Frac, Grevlex>],
-    turns: u32,
+    iterations: u32,
     marks: &mut Vec<bool>,
 ) -> Result<(), FormsError>
     requires inside { All (λ g. All (λ i. i < length polys.now) g.items) groups.now }
     requires alike { AreAlike polys.now state.now }
     requires count { length marks.old.items ≡ length polys.now }
     ensures count { OnOk result (length marks.new.items ≡ length polys.now) }
-    ensures kept { OnOk result (KeptMarks polys.now turns (terms_each state.now)
+    ensures kept { OnOk result (KeptMarks polys.now iterations (terms_each state.now)
         marks.old.items marks.new.items) }
-    ensures marked { OnOk result (AreAllMarked polys.now turns (terms_each state.now)
+    ensures marked { OnOk result (AreAllMarked polys.now iterations (terms_each state.now)
         (groups_in groups.now) marks.new.items) }
     ensures refused { IfErr result
-        (IfOfClass (IsPastOfClass (groups_in groups.now) polys.now turns)) }
+        (IfOfClass (IsPastOfClass (groups_in groups.now) polys.now iterations)) }
 {
     let Some((group, groups)) = groups.split_first() else {
         return Ok(());
     };
     let group = group.as_slice();
-    match mark_class(alloc, group, polys, state, turns, marks) {
-        Ok(()) => mark(alloc, groups, polys, state, turns, marks),
+    match mark_class(alloc, group, polys, state, iterations, marks) {
+        Ok(()) => mark(alloc, groups, polys, state, iterations, marks),
         Err(ArithmeticError::Wide) => Err(FormsError::WideForm {
             variable: first_of(group),
         }),
@@ -160,39 +160,40 @@ fn mark_class(
     group: &[usize],
     polys: &[Expo],
     state: &[Poly<Frac, Grevlex>],
-    turns: u32,
+    iterations: u32,
     marks: &mut Vec<bool>,
 ) -> Result<(), ArithmeticError>
     requires inside { All (λ i. i < length polys.now) group.now }
     requires alike { AreAlike polys.now state.now }
     requires count { length marks.old.items ≡ length polys.now }
     ensures count { OnOk result (length marks.new.items ≡ length polys.now) }
-    ensures kept { OnOk result (KeptMarks polys.now turns (terms_each state.now)
+    ensures kept { OnOk result (KeptMarks polys.now iterations (terms_each state.now)
         marks.old.items marks.new.items) }
-    ensures marked { OnOk result (AreMarked polys.now turns (terms_each state.now)
+    ensures marked { OnOk result (AreMarked polys.now iterations (terms_each state.now)
         group.now marks.new.items) }
-    ensures wide { IsErrOf result ArithmeticError.Wide → IsPastPlace polys.now turns group.now }
+    ensures wide { IsErrOf result ArithmeticError.Wide
+        → IsPastPlace polys.now iterations group.now }
 {
     let Some((variable, group)) = group.split_first() else {
         return Ok(());
     };
-    let same = is_at(alloc, &polys[*variable], &state[*variable], turns)?;
+    let same = is_at(alloc, &polys[*variable], &state[*variable], iterations)?;
     marks[*variable] = !same;
-    mark_class(alloc, group, polys, state, turns, marks)
+    mark_class(alloc, group, polys, state, iterations, marks)
 }
 
-/// Whether a polynomial at this number of turns is another one. `Wide` only where what it is there is past.
+/// Whether a polynomial at this number of iterations is another one. `Wide` only where what it is there is past.
 fn is_at(
     alloc: Global,
     poly: &Expo,
     state: &Poly<Frac, Grevlex>,
-    turns: u32,
+    iterations: u32,
 ) -> Result<bool, ArithmeticError>
     requires { state.now.arity ≡ poly.now.vars }
     ensures decides { IfOk result
-        (λ same. (same ≡ true) ↔ IsAt poly.now turns (terms_in state.now)) }
-    ensures wide { IsErrOf result ArithmeticError.Wide → IsPastTurn poly.now turns }
+        (λ same. (same ≡ true) ↔ IsAt poly.now iterations (terms_in state.now)) }
+    ensures wide { IsErrOf result ArithmeticError.Wide → IsPastIteration poly.now iterations }
 {
-    let there = poly.at_turn(alloc, turns)?;
+    let there = poly.at_iteration(alloc, iterations)?;
     Ok(there == *state)
 }

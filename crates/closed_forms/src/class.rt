@@ -9,7 +9,7 @@ ghost use Rattle.coprime_base.specs.Sizes.{sizes};
 ghost use Rattle.solvable.specs.Refusal.{IsSolvable};
 ghost use Rattle.solvable_maps.specs.Uses.{poly_at};
 ghost use Rattle.solvable_maps.specs.Classes.{IsClass};
-ghost use Rattle.solvable_maps.specs.Turns.{width};
+ghost use Rattle.solvable_maps.specs.Iterations.{width};
 ghost use Rattle.monos.specs.Variables.{most_variables};
 ghost use Rattle.expo.specs.Bases.{IsCoprimeBase};
 ghost use Rattle.closed_forms.specs.ClassForms.{IsSettingOf, ahead_in, zeros_of, IsNormalOver, IsNextOf, IsPastFormOf, AreNextOf, IsPastNextOf, AreVariablesOf, IsPastClassOf};
@@ -23,12 +23,12 @@ ghost use Rattle.closed_forms.specs.Splits.{IsSplitOf};
 ghost use Rattle.closed_forms.specs.States.{after};
 ghost use Rattle.closed_forms.specs.Values.{bodies_of, AreOver, IsExpoOver};
 
+use crate::inhomogeneities::{ClassSetting, inhomogeneity};
 use crate::later::solve_later;
 use crate::linear_parts::{class_matrix, rests};
 use crate::matrices::inverse;
 use crate::powers::power_over;
 use crate::solving::solve;
-use crate::sources::{ClassSetting, source};
 use crate::sums::weighted_sum;
 use eigen_split::Split;
 use expo::Expo;
@@ -45,7 +45,7 @@ pub(crate) fn closed_class(
     base: &Vec<Whole>,
     group: &[usize],
     split: &Split,
-    turns: u32,
+    iterations: u32,
     state: &[Poly<Frac, Grevlex>],
     polys: &[Expo],
 ) -> Result<Vec<Expo>, ArithmeticError>
@@ -59,21 +59,21 @@ pub(crate) fn closed_class(
     requires made { Each (λ c. c ≢ ℚ.zero → IsMade (sizes base.now.items) c)
         (fractions_of split.now.values.items) }
     requires over { AreOver (sizes base.now.items) (length images.now.items) polys.now }
-    requires state { terms_each state.now ≡ after (terms_each images.now.items) turns }
+    requires state { terms_each state.now ≡ after (terms_each images.now.items) iterations }
     requires arities { All (λ p. p.arity ≡ length images.now.items) state.now }
-    requires ready { IsReady (sizes base.now.items) (terms_each images.now.items) turns
+    requires ready { IsReady (sizes base.now.items) (terms_each images.now.items) iterations
         (zeros_of split.now) group.now (bodies_of polys.now) }
     ensures count { IfOk result (λ news. length news.items ≡ length group.now) }
     ensures over { IfOk result
         (λ news. AreOver (sizes base.now.items) (length images.now.items) news.items) }
     ensures variables { let b = sizes base.now.items in let k = zeros_of split.now in
         let images = terms_each images.now.items in
-        IfOk result (λ news. (r : IsReady b images turns k group.now (bodies_of polys.now))
+        IfOk result (λ news. (r : IsReady b images iterations k group.now (bodies_of polys.now))
         → AreVariablesOf b images (r.since + k) group.now (bodies_of news.items)) }
     ensures wide { IsErrOf result ArithmeticError.Wide → IsPastClassOf (sizes base.now.items)
-        (terms_each images.now.items) turns group.now split.now (bodies_of polys.now) }
+        (terms_each images.now.items) iterations group.now split.now (bodies_of polys.now) }
 {
-    let setting = setting_of(alloc, images, group, split, turns, state, polys)?;
+    let setting = setting_of(alloc, images, group, split, iterations, state, polys)?;
     let forms = closed_forms(alloc, base, group, split, &setting)?;
     variables(alloc, base, images.len(), &setting.back, &forms)
 }
@@ -84,7 +84,7 @@ fn setting_of(
     images: &Vec<Poly<Frac, Grevlex>>,
     group: &[usize],
     split: &Split,
-    turns: u32,
+    iterations: u32,
     state: &[Poly<Frac, Grevlex>],
     polys: &[Expo],
 ) -> Result<ClassSetting, ArithmeticError>
@@ -92,10 +92,10 @@ fn setting_of(
     requires square { All (λ p. p.arity ≡ length images.now.items) images.now.items }
     requires class { IsClass (terms_each images.now.items) group.now }
     requires split { IsSplitOf (terms_each images.now.items) group.now split.now }
-    requires state { terms_each state.now ≡ after (terms_each images.now.items) turns }
+    requires state { terms_each state.now ≡ after (terms_each images.now.items) iterations }
     requires arities { All (λ p. p.arity ≡ length images.now.items) state.now }
     ensures setting { IfOk result
-        (IsSettingOf (terms_each images.now.items) turns group.now split.now polys.now) }
+        (IsSettingOf (terms_each images.now.items) iterations group.now split.now polys.now) }
     ensures arities { IfOk result
         (λ s. All (λ p. p.arity ≡ length images.now.items) s.ahead.items) }
     ensures wide { IsErrOf result ArithmeticError.Wide
@@ -111,7 +111,7 @@ fn setting_of(
         rests,
         matrix,
         back,
-        turns,
+        iterations,
         ahead,
     })
 }
@@ -214,12 +214,12 @@ fn closed_form(
         → IsPastFormOf (sizes base.now.items) group.now setting.now
         (fractions_of form.now) (fraction_of value.now) (terms_each done.now) }
 {
-    let source = source(alloc, base, form, setting, done)?;
-    let closed = form_from(alloc, base, group, form, value, setting, &source)?;
+    let inhomogeneity = inhomogeneity(alloc, base, form, setting, done)?;
+    let closed = form_from(alloc, base, group, form, value, setting, &inhomogeneity)?;
     Ok(closed.into_body())
 }
 
-/// The polynomial of a form, from the source of its recurrence.
+/// The polynomial of a form, from the inhomogeneity of its recurrence.
 fn form_from(
     alloc: Global,
     base: &Vec<Whole>,
@@ -227,7 +227,7 @@ fn form_from(
     form: &[Frac],
     value: &Frac,
     setting: &ClassSetting,
-    source: &Expo,
+    inhomogeneity: &Expo,
 ) -> Result<Expo, ArithmeticError>
     requires base { IsCoprimeBase (sizes base.now.items) }
     requires few { variables_over (sizes base.now.items) setting.now ≤ most_variables }
@@ -237,21 +237,21 @@ fn form_from(
     requires ahead { All (λ p. p.arity ≡ length setting.now.earlier.items)
         setting.now.ahead.items }
     requires over { IsExpoOver (sizes base.now.items) (length setting.now.earlier.items)
-        source.now }
+        inhomogeneity.now }
     ensures over { IfOk result
         (IsExpoOver (sizes base.now.items) (length setting.now.earlier.items)) }
     ensures form { IfOk result (λ y. IsFormFrom (sizes base.now.items)
         (length setting.now.earlier.items) (fractions_of form.now) group.now
-        (fraction_of value.now) (ahead_in setting.now) (terms_in source.now.body)
+        (fraction_of value.now) (ahead_in setting.now) (terms_in inhomogeneity.now.body)
         (terms_in y.body)) }
     ensures wide { IsErrOf result ArithmeticError.Wide → IsPastFrom (sizes base.now.items)
         (length setting.now.earlier.items) (fractions_of form.now) group.now
-        (fraction_of value.now) (ahead_in setting.now) (terms_in source.now.body) }
+        (fraction_of value.now) (ahead_in setting.now) (terms_in inhomogeneity.now.body) }
 {
     if value.is_zero() {
-        return source.before(alloc);
+        return inhomogeneity.before(alloc);
     }
-    some_form(alloc, base, group, form, value, setting, source)
+    some_form(alloc, base, group, form, value, setting, inhomogeneity)
 }
 
 /// The polynomial of a form with a value that isn't zero.
@@ -262,7 +262,7 @@ fn some_form(
     form: &[Frac],
     value: &Frac,
     setting: &ClassSetting,
-    source: &Expo,
+    inhomogeneity: &Expo,
 ) -> Result<Expo, ArithmeticError>
     requires base { IsCoprimeBase (sizes base.now.items) }
     requires few { variables_over (sizes base.now.items) setting.now ≤ most_variables }
@@ -272,25 +272,25 @@ fn some_form(
     requires ahead { All (λ p. p.arity ≡ length setting.now.earlier.items)
         setting.now.ahead.items }
     requires over { IsExpoOver (sizes base.now.items) (length setting.now.earlier.items)
-        source.now }
+        inhomogeneity.now }
     ensures over { IfOk result
         (IsExpoOver (sizes base.now.items) (length setting.now.earlier.items)) }
     ensures form { IfOk result (λ y. IsFormFrom (sizes base.now.items)
         (length setting.now.earlier.items) (fractions_of form.now) group.now
-        (fraction_of value.now) (ahead_in setting.now) (terms_in source.now.body)
+        (fraction_of value.now) (ahead_in setting.now) (terms_in inhomogeneity.now.body)
         (terms_in y.body)) }
     ensures wide { IsErrOf result ArithmeticError.Wide → IsPastFrom (sizes base.now.items)
         (length setting.now.earlier.items) (fractions_of form.now) group.now
-        (fraction_of value.now) (ahead_in setting.now) (terms_in source.now.body) }
+        (fraction_of value.now) (ahead_in setting.now) (terms_in inhomogeneity.now.body) }
 {
     let vars = setting.earlier.len();
     let own = power_over(alloc, base, value)?;
-    let terms = source.body().terms();
-    if setting.turns == 0 {
+    let terms = inhomogeneity.body().terms();
+    if setting.iterations == 0 {
         return solve(alloc, base, vars, form, group, &own, terms);
     }
     let there = weighted_sum(alloc, form, &setting.ahead, vars)?;
-    solve_later(alloc, base, value, &own, setting.turns, there, terms)
+    solve_later(alloc, base, value, &own, setting.iterations, there, terms)
 }
 
 /// The polynomials of the variables: by the rows of the inverse from those of the forms.

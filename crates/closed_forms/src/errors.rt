@@ -35,8 +35,8 @@ pub enum FormsError {
     LimitForm {
         variable: usize,
     },
-    /// A number or a weight on the way from the forms of the class with this first variable, as `split` gives them, to its closed forms does not fit, or one in what these are at a number of turns;
-    /// with the first variable also one in the branch after a number of turns.
+    /// A number or a weight on the way from the forms of the class with this first variable, as `split` gives them, to its closed forms does not fit, or one in what these are at a number of iterations;
+    /// with the first variable also one in the branch after a number of iterations.
     #[error("the closed form of variable {variable} is too wide")]
     WideForm {
         variable: usize,

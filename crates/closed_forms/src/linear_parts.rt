@@ -9,7 +9,7 @@ ghost use Rattle.linear.specs.Rows.{fractions_of, rows_of};
 ghost use Rattle.poly.specs.Seen.{terms_in, terms_each};
 ghost use Rattle.poly.specs.View.{terms_of};
 ghost use Rattle.solvable_maps.specs.Classes.{class_matrix as matrix_of};
-ghost use Rattle.solvable_maps.specs.AfterTurns.{rest_of as without};
+ghost use Rattle.solvable_maps.specs.AfterIterations.{rest_of as without};
 
 use crate::sums::rest_of;
 use frac128::Frac;

@@ -6,7 +6,7 @@ ghost use Rattle.linear.specs.Rows.{fractions_of};
 ghost use Rattle.poly.specs.Seen.{terms_in};
 ghost use Rattle.poly.specs.View.{term_of, terms_of};
 ghost use Rattle.coprime_base.specs.Sizes.{sizes};
-ghost use Rattle.solvable_maps.specs.Turns.{width, IsNormal};
+ghost use Rattle.solvable_maps.specs.Iterations.{width, IsNormal};
 ghost use Rattle.monos.specs.Variables.{most_variables};
 ghost use Rattle.expo.specs.Bases.{IsCoprimeBase};
 ghost use Rattle.expo.specs.Powers.{key_of_power, number_of};
@@ -23,7 +23,7 @@ use poly::{Poly, Term};
 use ring_laws::ArithmeticError;
 use std::alloc::{AllocError, Global};
 
-/// The polynomial y with y(0) = w x and y(n+1) = λ y(n) + q(n), where w are the numbers of some variables, λ is the number of `own`, and q the source.
+/// The polynomial y with y(0) = w x and y(n+1) = λ y(n) + q(n), where w are the numbers of some variables, λ is the number of `own`, and q the inhomogeneity.
 pub(crate) fn solve(
     alloc: Global,
     base: &Vec<Whole>,
@@ -31,7 +31,7 @@ pub(crate) fn solve(
     form: &[Frac],
     group: &[usize],
     own: &Power,
-    source: &[Term<Frac>],
+    inhomogeneity: &[Term<Frac>],
 ) -> Result<Expo, ArithmeticError>
     requires base { IsCoprimeBase (sizes base.now.items) }
     requires few { width (length (sizes base.now.items)) vars ≤ most_variables }
@@ -39,19 +39,19 @@ pub(crate) fn solve(
     requires count { length own.now.exponents.items ≡ length base.now.items }
     requires small { AreLow own.now.exponents.items }
     requires arities { let w = width (length (sizes base.now.items)) vars in
-        All (λ t. length t.mono ≡ w) source.now }
-    requires normal { IsNormal (sizes base.now.items) (terms_of fraction_of source.now) }
+        All (λ t. length t.mono ≡ w) inhomogeneity.now }
+    requires normal { IsNormal (sizes base.now.items) (terms_of fraction_of inhomogeneity.now) }
     ensures over { IfOk result (IsExpoOver (sizes base.now.items) vars) }
     ensures solved { let b = sizes base.now.items in let l = number_of b own.now in
-        let w = fractions_of form.now in let q = terms_of fraction_of source.now in
+        let w = fractions_of form.now in let q = terms_of fraction_of inhomogeneity.now in
         IfOk result (λ y. IsSolvedForm b vars w group.now l q (terms_in y.body)) }
     ensures wide { let b = sizes base.now.items in let l = number_of b own.now in
-        let w = fractions_of form.now in let q = terms_of fraction_of source.now in
+        let w = fractions_of form.now in let q = terms_of fraction_of inhomogeneity.now in
         IsErrOf result ArithmeticError.Wide → IsPastSolved b vars w group.now l q }
 {
     let mut terms = Vec::new(alloc);
     push_growing(alloc, &mut terms, vars, form, group, own)?;
-    push_solved(alloc, &mut terms, base, vars, source, own)?;
+    push_solved(alloc, &mut terms, base, vars, inhomogeneity, own)?;
     let arity = 2 + 2 * base.len() + vars;
     let sum = Poly::from_terms(alloc, Grevlex, arity, terms)?;
     Expo::normal(alloc, base, &sum)
@@ -112,7 +112,7 @@ pub(crate) fn push_solved(
     Ok(())
 }
 
-/// What solves the recurrence of one term of the source.
+/// What solves the recurrence of one term of the inhomogeneity.
 fn term_solved(
     alloc: Global,
     base: &Vec<Whole>,
@@ -131,12 +131,19 @@ fn term_solved(
     ensures wide { let b = sizes base.now.items in let l = number_of b own.now in
         IsErrOf result ArithmeticError.Wide → IsPastTerm b vars l (term_of fraction_of term.now) }
 {
-    let turns = term.mono.exponent(0);
-    if turns == u16::MAX {
+    let iterations = term.mono.exponent(0);
+    if iterations == u16::MAX {
         return Err(ArithmeticError::Wide);
     }
-    let source = power_of(alloc, base, &term.mono)?;
-    let solution = solve_term(alloc, base, vars, u32::from(turns), &source, own)?;
+    let inhomogeneity = power_of(alloc, base, &term.mono)?;
+    let solution = solve_term(
+        alloc,
+        base,
+        vars,
+        u32::from(iterations),
+        &inhomogeneity,
+        own,
+    )?;
     let rest = steady(alloc, term, base)?;
     solution.body().mul(alloc, &rest)
 }

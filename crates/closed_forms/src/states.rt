@@ -1,4 +1,4 @@
-//! The branch after a number of turns, as polynomials of the variables before.
+//! The branch after a number of iterations, as polynomials of the variables before.
 ghost use Rattle.std.specs.Prelude.{◌≡◌, ◌≤◌, ◌<◌, All, length, map, IfOk, IsErrOf};
 ghost use Rattle.algebra.specs.Fraction.{ℚ};
 ghost use Rattle.polynomials.specs.Terms.{variables as variables_of};
@@ -44,26 +44,26 @@ fn zeros_among(values: &[Frac]) -> u32
     }
 }
 
-/// The variables, and the branch after each number of turns from one to this one. `Wide` only where the weight of a composition is past.
+/// The variables, and the branch after each number of iterations from one to this one. `Wide` only where the weight of a composition is past.
 pub(crate) fn states(
     alloc: Global,
     images: &Vec<Poly<Frac, Grevlex>>,
-    turns: u32,
+    iterations: u32,
 ) -> Result<Vec<Vec<Poly<Frac, Grevlex>>>, ArithmeticError>
     requires few { length images.now.items ≤ most_images }
     requires square { All (λ p. p.arity ≡ length images.now.items) images.now.items }
-    requires some { 0 < turns → 0 < length images.now.items }
+    requires some { 0 < iterations → 0 < length images.now.items }
     ensures states { IfOk result (λ found. map (λ v. terms_each v.items) found.items
-        ≡ states_to (terms_each images.now.items) turns) }
+        ≡ states_to (terms_each images.now.items) iterations) }
     ensures arities { IfOk result
         (λ found. All (λ v. All (λ p. p.arity ≡ length images.now.items) v.items) found.items) }
     ensures wide { IsErrOf result ArithmeticError.Wide
-        → IsPastState (terms_each images.now.items) turns }
+        → IsPastState (terms_each images.now.items) iterations }
 {
     let mut found = Vec::new(alloc);
     found.push(variables(alloc, images.len())?)?;
-    for turn in 0..turns {
-        let next = next_state(alloc, images, &found[turn as usize])?;
+    for iteration in 0..iterations {
+        let next = next_state(alloc, images, &found[iteration as usize])?;
         found.push(next)?;
     }
     Ok(found)
@@ -82,7 +82,7 @@ fn variables(alloc: Global, count: usize) -> Result<Vec<Poly<Frac, Grevlex>>, Al
     Ok(out)
 }
 
-/// The branch one turn after a state.
+/// The branch one iteration after a state.
 fn next_state(
     alloc: Global,
     images: &[Poly<Frac, Grevlex>],

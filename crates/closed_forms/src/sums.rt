@@ -6,9 +6,9 @@ ghost use Rattle.linear.specs.Rows.{fractions_of};
 ghost use Rattle.machines.specs.Collect.{scale_terms};
 ghost use Rattle.poly.specs.Seen.{terms_in, terms_each};
 ghost use Rattle.poly.specs.View.{terms_of};
-ghost use Rattle.solvable_maps.specs.AfterTurns.{mine, rest_of as without};
+ghost use Rattle.solvable_maps.specs.AfterIterations.{mine, rest_of as without};
 ghost use Rattle.monos.specs.Variables.{most_variables};
-ghost use Rattle.closed_forms.specs.Sources.{part};
+ghost use Rattle.closed_forms.specs.Inhomogeneities.{part};
 ghost use Rattle.closed_forms.specs.Sums.{mix, IsPastScaled, IsPastProducts, IsPastMix};
 
 use frac128::Frac;

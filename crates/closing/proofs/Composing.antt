@@ -9,7 +9,7 @@ use Rattle.polynomials.specs.Polynomial.{AllArity}
 use Rattle.polynomials.proofs.Same.{Same-refl}
 use Rattle.polynomials.proofs.Arity.{arity-compose}
 use Rattle.poly.specs.Seen.{terms_in, terms_each}
-use Rattle.poly.specs.Standing.{IsOver, AllStandFor}
+use Rattle.poly.specs.Standing.{IsInVariables, AllStandFor}
 use Rattle.poly.proofs.Standing.{arity_over, stands_over}
 use Rattle.loop_model.specs.FracPoly.{FracPoly}
 use Rattle.loop_model.specs.Stops.{Forms}
@@ -22,8 +22,8 @@ use Rattle.counter_run.proofs.WordImages.{terms_are, composed_forms, composing_n
 
 module _ (m : ℕ) (q : FracPoly) (over : q.arity ≡ m) (images : List FracPoly)
     (maps : List (Terms Fraction)) (all : AllStandFor m images maps) (am : AllArity m maps) where
-  pub all_over : All (IsOver q.arity) images
-  all_over = subst (λ n. All (IsOver n) images) (sym over) (stands_over m images maps all)
+  pub all_over : All (IsInVariables q.arity) images
+  all_over = subst (λ n. All (IsInVariables n) images) (sym over) (stands_over m images maps all)
 
   abbrev Made : Result FracPoly MapError → Type 0
   Made r =

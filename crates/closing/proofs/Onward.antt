@@ -2,8 +2,8 @@
 --   begins                       what waits comes next
 --   level_begins                 where nothing waits of a level, the next one does
 --   ends                         where nothing was kept either, the closing ends with its list
---   turn_seen, turn_stopped      a candidate after a turn, or a composition that stops
---   turn_joined, turns_next, turn_begins, turns_over     the turns of one branch, one after another
+--   iteration_seen, iteration_stopped      a candidate after an iteration, or a composition that stops
+--   iteration_joined, iterations_next, iteration_begins, iterations_over     the iterations of one branch, one after another
 --   branches_all, branch_next, branches_over   those of all branches
 --   given_begins, given_over     the polynomials that are closed
 --   fresh_awaits                 how a closing begins
@@ -12,7 +12,7 @@ use Rattle.std.proofs.lemmas.List.{drop_all, length-map, get_or-map}
 use Rattle.algebra.specs.Each.{Each}
 use Rattle.algebra.specs.In.{In}
 use Rattle.algebra.proofs.In.{each_in, in_get, map-in}
-use Rattle.loop_runs.proofs.Turns.{drop_read}
+use Rattle.loop_runs.proofs.Iterations.{drop_read}
 use Rattle.algebra.specs.Fraction.{Fraction}
 use Rattle.polynomials.specs.Terms.{Terms}
 use Rattle.machines.specs.Journal.{Entry}
@@ -25,7 +25,7 @@ use Rattle.closures.specs.Closing as seen
 use Rattle.closures.specs.Closing.{fresh, closed, begin_image, from_level, from_waiting, level_from, level_of, turned, first_candidate, next, moves}
 use Rattle.closures.specs.Ends.{ComesNext}
 use Rattle.closing.specs.Causes.{IsJoined, AreJoined}
-use Rattle.closing.specs.Compositions.{IsTurned, IfTurnStops, turn_operations}
+use Rattle.closing.specs.Compositions.{IsTurned, IfIterationStops, iteration_operations}
 use Rattle.closing.specs.Progress.{candidate_of, candidates_of, Awaits, IsGoing, IfStops, Reaches}
 use Rattle.closing.specs.declared.candidates.Candidate.{Candidate}
 use Rattle.closing.specs.declared.error.ClosingError.{ClosingError}
@@ -71,9 +71,9 @@ module _ (program : Program (Expr ℕ)) where
     first_is kept x xs = refl
 
   module _ (P : List (Terms Fraction)) where
-    pub turn_seen : (b : ℕ) (x y : Candidate) → IsTurned program b x y
+    pub iteration_seen : (b : ℕ) (x y : Candidate) → IsTurned program b x y
         → candidate_of P y ≡ turned program b (candidate_of P x)
-    turn_seen b x y h = λ i. record {
+    iteration_seen b x y h = λ i. record {
       of = get_or P (h.of i) [];
       word = h.word i;
       polynomial = h.terms i;
@@ -130,17 +130,17 @@ module _ (program : Program (Expr ℕ)) where
           → Awaits program P es p xs → Awaits program P es p ys
       waits p xs ys e h = subst (Awaits program P es p) e h
 
-      pub turn_stopped : (limit b : ℕ) (p : Progress) (x : Candidate)
+      pub iteration_stopped : (limit b : ℕ) (p : Progress) (x : Candidate)
           (waiting : List seen.Candidate) (e : ClosingError)
           → IsJoined program P es (candidate_of P x)
           → Awaits program P es p (turned program b (candidate_of P x) ∷ waiting)
-          → IfTurnStops program b x e → IfStops program P limit es e
-      turn_stopped limit b p x waiting (error.Limit w) j h s = record {
+          → IfIterationStops program b x e → IfStops program P limit es e
+      iteration_stopped limit b p x waiting (error.Limit w) j h s = record {
         candidate = turned program b (candidate_of P x);
         is_word = sym s.0;
         cause =
             record {
-              operations = turn_operations program b (terms_in x.polynomial);
+              operations = iteration_operations program b (terms_in x.polynomial);
               composing =
                   inl (record {
                     number = p.number;
@@ -157,12 +157,12 @@ module _ (program : Program (Expr ℕ)) where
               limit = s.1;
             };
       }
-      turn_stopped limit b p x waiting (error.Wide w) j h s = record {
+      iteration_stopped limit b p x waiting (error.Wide w) j h s = record {
         candidate = turned program b (candidate_of P x);
         is_word = sym s.0;
         cause =
             inl (record {
-              operations = turn_operations program b (terms_in x.polynomial);
+              operations = iteration_operations program b (terms_in x.polynomial);
               composing =
                   inl (record {
                     number = p.number;
@@ -179,8 +179,8 @@ module _ (program : Program (Expr ℕ)) where
               wide = s.1;
             });
       }
-      turn_stopped limit b p x waiting error.Budget j h s = absurd s
-      turn_stopped limit b p x waiting error.Memory j h s = going _ h.comes
+      iteration_stopped limit b p x waiting error.Budget j h s = absurd s
+      iteration_stopped limit b p x waiting error.Memory j h s = going _ h.comes
 
 -- ---- one item of a list that is walked through
 rest_read : {A B : Type 0} (f : A → B) (xs : List A) (i : ℕ) (x : A) → i < length xs
@@ -193,40 +193,40 @@ rest_over f xs i l = ap (map f) (drop_all i xs l)
 
 module _ (program : Program (Expr ℕ)) (P : List (Terms Fraction)) (es : List Entry)
     (p : Progress) where
-  -- ---- the turns of a branch
+  -- ---- the iterations of a branch
   module _ (b : ℕ) (level : List Candidate) (waiting : List seen.Candidate) (i : ℕ) where
-    abbrev turns_from : ℕ → List seen.Candidate
-    turns_from j = map (turned program b) (candidates_of P (drop j level)) ++ waiting
+    abbrev iterations_from : ℕ → List seen.Candidate
+    iterations_from j = map (turned program b) (candidates_of P (drop j level)) ++ waiting
 
     module _ (x : Candidate) (l : i < length level) (e : x ≡ get_or level i x) where
-      pub turn_joined : AreJoined program P es (candidates_of P level)
+      pub iteration_joined : AreJoined program P es (candidates_of P level)
           → IsJoined program P es (candidate_of P x)
-      turn_joined j =
+      iteration_joined j =
           each_in (IsJoined program P es) (candidates_of P level) (candidate_of P x) j
           (map-in (candidate_of P) level x (subst (λ y. In y level) (sym e) (in_get level i x l)))
 
-      pub turns_next : Awaits program P es p (turns_from i)
+      pub iterations_next : Awaits program P es p (iterations_from i)
           → Awaits program P es p
-          (turned program b (candidate_of P x) ∷ turns_from (i + 1))
-      turns_next h =
-          waits program P es p (turns_from i)
-          (turned program b (candidate_of P x) ∷ turns_from (i + 1))
+          (turned program b (candidate_of P x) ∷ iterations_from (i + 1))
+      iterations_next h =
+          waits program P es p (iterations_from i)
+          (turned program b (candidate_of P x) ∷ iterations_from (i + 1))
           (ap (λ xs. map (turned program b) xs ++ waiting)
           (rest_read (candidate_of P) level i x l e)) h
 
-      pub turn_begins : (y : Candidate) → IsTurned program b x y
-          → Awaits program P es p (turns_from i)
-          → Reaches program P es p (candidate_of P y) (turns_from (i + 1))
-      turn_begins y h a =
-          subst (λ z. Reaches program P es p z (turns_from (i + 1)))
-          (sym (turn_seen program P b x y h))
-          (begins program P es p (turned program b (candidate_of P x)) (turns_from (i + 1))
-          (turns_next a))
+      pub iteration_begins : (y : Candidate) → IsTurned program b x y
+          → Awaits program P es p (iterations_from i)
+          → Reaches program P es p (candidate_of P y) (iterations_from (i + 1))
+      iteration_begins y h a =
+          subst (λ z. Reaches program P es p z (iterations_from (i + 1)))
+          (sym (iteration_seen program P b x y h))
+          (begins program P es p (turned program b (candidate_of P x)) (iterations_from (i + 1))
+          (iterations_next a))
 
-    pub turns_over : length level ≤ i → Awaits program P es p (turns_from i)
+    pub iterations_over : length level ≤ i → Awaits program P es p (iterations_from i)
         → Awaits program P es p waiting
-    turns_over l h =
-        waits program P es p (turns_from i) waiting
+    iterations_over l h =
+        waits program P es p (iterations_from i) waiting
         (ap (λ xs. map (turned program b) xs ++ waiting)
         (rest_over (candidate_of P) level i l)) h
 

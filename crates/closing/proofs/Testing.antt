@@ -33,7 +33,7 @@ use Rattle.machines.proofs.Collecting.{collect-is, collect-polynomial, collect-s
 use Rattle.loops.specs.Map.{branch_map}
 use Rattle.loops.specs.Program.{Expr, Program}
 use Rattle.loops.proofs.Maps.{arity-branch_map}
-use Rattle.rounds.specs.Word.{branch_of, after_turn}
+use Rattle.rounds.specs.Word.{branch_of, after_iteration}
 use Rattle.poly.specs.Seen.{arity_of, terms_in, terms_each, Is}
 use Rattle.poly.specs.Standing.{AllStandFor}
 use Rattle.poly.proofs.Standing.{arity_over, arities_over, first_arity, polynomial_over, stands_over, stands_same}
@@ -50,12 +50,12 @@ use Rattle.monos.specs.contracts.order.GrevlexOrder.TheImpl as graded
 use Rattle.monos.specs.contracts.order.GrevlexPartialEq.TheImpl as equal_graded
 use Rattle.ideal_ops.specs.Calls.{AreOver}
 use Rattle.loop_model.specs.FracPoly.{FracPoly}
-use Rattle.closures.specs.Proving.{Test, dividing, task_of, turn_of, images_of, AwaitsTests, FollowsProof, IsOutProof, IsPastProof}
+use Rattle.closures.specs.Proving.{Test, dividing, task_of, iteration_of, images_of, AwaitsTests, FollowsProof, IsOutProof, IsPastProof}
 use Rattle.closures.specs.Certified.{placed}
 use Rattle.closures.proofs.Proving as proving
 use Rattle.closures.proofs.Tests.{cofactors_count}
 use Rattle.counter_run.proofs.WordImages.{terms_are}
-use Rattle.closing.specs.Proving.{IsBranchAt, FitsElements, FollowsTests, IsRow, PastTest, proving_division, test_at, turn_test}
+use Rattle.closing.specs.Proving.{IsBranchAt, FitsElements, FollowsTests, IsRow, PastTest, proving_division, test_at, iteration_test}
 use Rattle.closing.specs.declared.listing.Elements.{Elements}
 use Rattle.closing.specs.Tasks.{RanTask}
 
@@ -95,13 +95,13 @@ module _ (program : Program (Expr ℕ)) (letter : ℕ) (images : Vec FracPoly)
 
     pub turned_is : collect rationals grevlex (compose ℚ g.arity (terms_in g)
         (terms_each images.items))
-        ≡ collect rationals grevlex (after_turn program letter (terms_in g))
+        ≡ collect rationals grevlex (after_iteration program letter (terms_in g))
     turned_is =
         let many : AllArity m (terms_each images.items) = arities_over m images.items images_over in
         let some = arity-compose m ℚ (terms_in g) (terms_each images.items) many in
         ap (λ n. collect rationals grevlex (compose ℚ n (terms_in g) (terms_each images.items)))
         over
-        ∙ collect-is ℚ_field grevlex grevlex_order m (after_turn program letter (terms_in g))
+        ∙ collect-is ℚ_field grevlex grevlex_order m (after_iteration program letter (terms_in g))
         (collect rationals grevlex made) (arity-compose m ℚ (terms_in g) maps maps_arity)
         (collect-polynomial ℚ_field grevlex grevlex_order m made some)
         (Same-trans ℚ (collect-same ℚ_field grevlex grevlex_order made)
@@ -150,7 +150,7 @@ module _ (g : FracPoly) (images : List FracPoly) (some : 0 < g.arity)
 
     pub ran_turned : (o : Outcome Divided)
         → Ran (division_of t gs) (HasCofactors t.order t.arity) before after o
-        → Ran (turn_test g images gs) (HasCofactors g.order g.arity) before after o
+        → Ran (iteration_test g images gs) (HasCofactors g.order g.arity) before after o
     ran_turned o r =
         made_start (IsPastComposition fractions (terms_in g) (terms_each images))
         (collect rationals grevlex (compose ℚ g.arity (terms_in g) (terms_each images)))
@@ -163,22 +163,23 @@ module _ (g : FracPoly) (images : List FracPoly) (some : 0 < g.arity)
 
 -- ---- a test that has run
 module _ (program : Program (Expr ℕ)) (t : Test) (gs : List (Terms Fraction))
-    (p : Terms Fraction) (made : p ≡ turn_of program t) (Past : Type 0) (before after : Journal)
+    (p : Terms Fraction) (made : p ≡ iteration_of program t) (Past : Type 0)
+    (before after : Journal)
     {A : Type 0} (G : A → division.State Fraction → Type 0) where
   turned : (o : Outcome A) → RanTask (task_of t) (proving_division gs p Past) G before after o
-      → RanTask (task_of t) (proving_division gs (turn_of program t) Past) G before after o
+      → RanTask (task_of t) (proving_division gs (iteration_of program t) Past) G before after o
   turned o r = subst (λ q. RanTask (task_of t) (proving_division gs q Past) G before after o) made r
 
   pub record HasEnds (d : A) : Type 0 where
     pub division : Ends (division.next rationals grevlex gs)
-        (division.initial_state gs (turn_of program t))
+        (division.initial_state gs (iteration_of program t))
     pub gives : G d division.last
 
   pub test_ends : (d : A)
       → RanTask (task_of t) (proving_division gs p Past) G before after (done d) → HasEnds d
   test_ends d r = go (turned (done d) r)
     where
-      go : RanTask (task_of t) (proving_division gs (turn_of program t) Past) G before after
+      go : RanTask (task_of t) (proving_division gs (iteration_of program t) Past) G before after
           (done d)
           → HasEnds d
       go (inl x) = absurd x
@@ -199,10 +200,10 @@ module _ (program : Program (Expr ℕ)) (t : Test) (gs : List (Terms Fraction))
     M = proving_division gs p Past
 
     abbrev N : Machine (division.State Fraction)
-    N = proving_division gs (turn_of program t) Past
+    N = proving_division gs (iteration_of program t) Past
 
     begun : FollowsProof program P gs bs (before.entries ++ Begin (task_of t) ∷ [])
-        (dividing t w (division.initial_state gs (turn_of program t)))
+        (dividing t w (division.initial_state gs (iteration_of program t)))
     begun = proving.test_begins program P gs bs t w before.entries a
 
     pub test_passed : (d : A) → RanTask (task_of t) M G before after (done d)
@@ -217,7 +218,7 @@ module _ (program : Program (Expr ℕ)) (t : Test) (gs : List (Terms Fraction))
             after.entries x.to.last x.to.finished.ended
             (proving.test_follows program P gs bs t w
             (before.entries ++ Begin (task_of t) ∷ []) after.entries
-            (division.initial_state gs (turn_of program t)) x.to.last x.to.finished.work begun)
+            (division.initial_state gs (iteration_of program t)) x.to.last x.to.finished.work begun)
 
     pub test_past : (Past → IsPastComposition fractions t.element (images_of program t))
         → RanTask (task_of t) M G before after (stopped too_wide)
@@ -230,10 +231,10 @@ module _ (program : Program (Expr ℕ)) (t : Test) (gs : List (Terms Fraction))
         go (inr x) = elim x.to [
           | inl y ↦ proving.test_past program P gs bs t w
               (before.entries ++ Begin (task_of t) ∷ []) after.entries
-              (division.initial_state gs (turn_of program t)) y begun
+              (division.initial_state gs (iteration_of program t)) y begun
           | inr y ↦ proving.start_past program P gs bs t w after.entries
               (subst (λ (j : Journal). FollowsProof program P gs bs j.entries
-              (dividing t w (division.initial_state gs (turn_of program t))))
+              (dividing t w (division.initial_state gs (iteration_of program t))))
               (sym y.0) begun) (past y.1)
         ]
 
@@ -246,7 +247,8 @@ module _ (program : Program (Expr ℕ)) (t : Test) (gs : List (Terms Fraction))
         go (inl x) = absurd (let e = x.1 in cc)
         go (inr x) =
             proving.test_out program P gs bs t w (before.entries ++ Begin (task_of t) ∷ [])
-            after.entries after.limit (division.initial_state gs (turn_of program t)) x.to begun
+            after.entries after.limit (division.initial_state gs (iteration_of program t)) x.to
+            begun
 
     pub test_going : RanTask (task_of t) M G before after (stopped out_of_memory)
         → FollowsTests program P gs bs after.entries
@@ -265,7 +267,7 @@ module _ (program : Program (Expr ℕ)) (t : Test) (gs : List (Terms Fraction))
           follows =
               proving.test_follows program P gs bs t w
               (before.entries ++ Begin (task_of t) ∷ []) after.entries
-              (division.initial_state gs (turn_of program t)) x.to.at x.to.work begun;
+              (division.initial_state gs (iteration_of program t)) x.to.at x.to.work begun;
         }
 
 -- ---- the test of an element, by its place
@@ -296,10 +298,10 @@ module _ (program : Program (Expr ℕ)) (closure : List FracPoly) (e : Elements)
     t = test_at letter place e.list.items
 
     made_is : collect rationals grevlex (compose ℚ g.arity (terms_in g) (terms_each images.items))
-        ≡ turn_of program t
+        ≡ iteration_of program t
     made_is =
         turned_is program letter images there g element_over
-        ∙ ap (λ q. collect rationals grevlex (after_turn program letter q)) (sym element_at)
+        ∙ ap (λ q. collect rationals grevlex (after_iteration program letter q)) (sym element_at)
 
     past_is : IsPastComposition fractions (terms_in g) (terms_each images.items)
         → IsPastComposition fractions t.element (images_of program t)
@@ -310,14 +312,15 @@ module _ (program : Program (Expr ℕ)) (closure : List FracPoly) (e : Elements)
 
     module _ (number : ℕ) (named : number ≡ suc place) (before after : Journal) where
       abbrev Tested : Outcome Divided → Type 0
-      Tested o = RanTask (Closed 0 letter number) (turn_test g images.items closure)
+      Tested o = RanTask (Closed 0 letter number) (iteration_test g images.items closure)
           (HasCofactors g.order g.arity) before after o
 
       along : (o : Outcome Divided) → Tested o
-          → RanTask (task_of t) (turn_test g images.items closure) (HasCofactors g.order g.arity)
+          → RanTask (task_of t) (iteration_test g images.items closure)
+          (HasCofactors g.order g.arity)
           before after o
       along o r =
-          subst (λ n. RanTask (Closed 0 letter n) (turn_test g images.items closure)
+          subst (λ n. RanTask (Closed 0 letter n) (iteration_test g images.items closure)
           (HasCofactors g.order g.arity) before after o) named r
 
       module _ (d : Divided) (r : Tested (done d)) where
@@ -334,9 +337,9 @@ module _ (program : Program (Expr ℕ)) (closure : List FracPoly) (e : Elements)
         cofactors_many =
             sym (length-map d.cofactors.items terms_in) ∙ ap length ends.gives.cofactors
             ∙ cofactors_count (length program.names) (terms_each closure) closure_elements
-            (turn_of program t)
+            (iteration_of program t)
             (collect-polynomial ℚ_field grevlex grevlex_order (length program.names)
-            (after_turn program letter t.element)
+            (after_iteration program letter t.element)
             (arity-compose (length program.names) ℚ t.element
             (branch_map program (branch_of program letter))
             (arity-branch_map program (branch_of program letter)))) ends.division

@@ -19,7 +19,7 @@ use Rattle.loop_model.specs.Operations.{Operation, IsLimit, IsWide}
 use Rattle.closures.specs.Closing.{Candidate, dividing, extending, turned, begin_image}
 use Rattle.closures.specs.Ends.{ComesNext}
 use Rattle.closures.specs.Follows.{Follows}
-use Rattle.closing.specs.Compositions.{turn_operations, start_operations}
+use Rattle.closing.specs.Compositions.{iteration_operations, start_operations}
 
 module _ (program : Program (Expr ℕ)) (P : List (Terms Fraction)) (es : List Entry) where
   pub record HasRest (number : ℕ) (list : List (Terms Fraction)) (kept : List Candidate)
@@ -55,7 +55,7 @@ module _ (program : Program (Expr ℕ)) (P : List (Terms Fraction)) (es : List E
       pub from : Candidate
       pub joined : IsJoined from
       pub is : x ≡ turned program letter from
-      pub operations : os ≡ turn_operations program letter from.polynomial
+      pub operations : os ≡ iteration_operations program letter from.polynomial
 
     pub record IsStarting : Type 0 where
       pub number : ℕ

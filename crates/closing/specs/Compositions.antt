@@ -1,9 +1,9 @@
 -- The compositions of a closing.
 --   IfComposing m os w e          the refusal e is of the word w, and tells by which of the operations os it stops
 --   IsComposed m maps p q         q is p composed with the maps, with like terms collected
---   turn_operations program b p, start_operations program p     those by which p is composed with the map of the branch b, and with the start's
+--   iteration_operations program b p, start_operations program p     those by which p is composed with the map of the branch b, and with the start's
 --   IsTurned program b x y        y is the candidate x composed with the map of the branch b
---   IfTurnStops program b x e     the refusal of that
+--   IfIterationStops program b x e     the refusal of that
 --   IsFromStart program x q       q is the candidate's polynomial composed with the start's map
 --   IfStartStops program x e      the refusal of that
 -- Want of memory is free.
@@ -14,7 +14,7 @@ use Rattle.polynomials.specs.Order.{grevlex}
 use Rattle.machines.specs.Collect.{collect}
 use Rattle.loops.specs.Map.{branch_map, start_map}
 use Rattle.loops.specs.Program.{Expr, Program}
-use Rattle.rounds.specs.Word.{branch_of, after_turn}
+use Rattle.rounds.specs.Word.{branch_of, after_iteration}
 use Rattle.poly.specs.Seen.{terms_in}
 use Rattle.loop_model.specs.FracPoly.{FracPoly}
 use Rattle.loop_model.specs.Operations.{Operation, IsLimit, IsWide}
@@ -36,8 +36,8 @@ pub record IsComposed (m : ℕ) (maps : List (Terms Fraction)) (p : Terms Fracti
   pub terms : terms_in q ≡ collect rationals grevlex (compose ℚ m p maps)
 
 module _ (program : Program (Expr ℕ)) where
-  abbrev pub turn_operations : ℕ → Terms Fraction → List Operation
-  turn_operations b p =
+  abbrev pub iteration_operations : ℕ → Terms Fraction → List Operation
+  iteration_operations b p =
       composition_operations (length program.names) (branch_map program (branch_of program b)) [] p
 
   abbrev pub start_operations : Terms Fraction → List Operation
@@ -48,11 +48,11 @@ module _ (program : Program (Expr ℕ)) where
     pub word : y.word.items ≡ b ∷ x.word.items
     pub arity : y.polynomial.arity ≡ length program.names
     pub terms : terms_in y.polynomial
-        ≡ collect rationals grevlex (after_turn program b (terms_in x.polynomial))
+        ≡ collect rationals grevlex (after_iteration program b (terms_in x.polynomial))
 
-  abbrev pub IfTurnStops : ℕ → Candidate → ClosingError → Type 0
-  IfTurnStops b x e =
-      IfComposing (length program.names) (turn_operations b (terms_in x.polynomial))
+  abbrev pub IfIterationStops : ℕ → Candidate → ClosingError → Type 0
+  IfIterationStops b x e =
+      IfComposing (length program.names) (iteration_operations b (terms_in x.polynomial))
       (b ∷ x.word.items) e
 
   pub record IsFromStart (x : Candidate) (q : FracPoly) : Type 0 where

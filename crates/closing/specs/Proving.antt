@@ -5,7 +5,7 @@
 --   FitsElements m closure e          the list of e and the closure are of polynomials in m variables, and the closure stands in the list, at the places of e
 --   test_at letter place bs           the test of the element of bs at this place, counted from 0
 --   proving_division gs p Past        the division of p by the gs, as a machine whose start is made by a composition, which is past where Past
---   turn_test g images gs             that of g with the images for its variables
+--   iteration_test g images gs             that of g with the images for its variables
 --   IsRow, AreRows                    the row of an element, by its place, and those of all
 --   PastTest, FollowsTests            in the division of the element with the branch, both told by their numbers, what comes next is past, or making its start is; the entries follow some of the divisions
 --   IfStopped program P gs bs limit es e     the cause of the refusal e, by the list bs: one of these, or as many of the entries are units as the limit, and what comes next is one
@@ -93,8 +93,9 @@ proving_division gs p Past = record {
   IsPastStart = Past;
 }
 
-abbrev pub turn_test : FracPoly → List FracPoly → List FracPoly → Machine (division.State Fraction)
-turn_test g images gs =
+abbrev pub iteration_test : FracPoly → List FracPoly → List FracPoly
+    → Machine (division.State Fraction)
+iteration_test g images gs =
     proving_division (terms_each gs)
     (collect rationals grevlex (compose ℚ g.arity (terms_in g) (terms_each images)))
     (IsPastComposition fractions (terms_in g) (terms_each images))

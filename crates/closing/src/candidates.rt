@@ -6,11 +6,11 @@ ghost use Rattle.polynomials.specs.Polynomial.{AllArity};
 ghost use Rattle.loops.specs.Map.{branch_map};
 ghost use Rattle.rounds.specs.Word.{branch_of};
 ghost use Rattle.poly.specs.Seen.{terms_in};
-ghost use Rattle.poly.specs.Standing.{IsOver, AllStandFor};
+ghost use Rattle.poly.specs.Standing.{IsInVariables, AllStandFor};
 ghost use Rattle.loop_model.specs.View.{program_of};
 ghost use Rattle.counter_run.specs.Composition.{composition_operations};
 ghost use Rattle.counter_run.specs.Maps.{AreMaps};
-ghost use Rattle.closing.specs.Compositions.{IsComposed, IfComposing, IsTurned, IfTurnStops, IsFromStart, IfStartStops};
+ghost use Rattle.closing.specs.Compositions.{IsComposed, IfComposing, IsTurned, IfIterationStops, IsFromStart, IfStartStops};
 
 use crate::ClosingError;
 use counter_run::{Maps, compose_anew, prepend};
@@ -31,7 +31,7 @@ pub struct Candidate {
 }
 
 /// The candidate composed with the map of the branch with this number.
-pub(crate) fn after_turn(
+pub(crate) fn after_iteration(
     alloc: Global,
     lp: &Loop,
     letter: u32,
@@ -42,7 +42,7 @@ pub(crate) fn after_turn(
     requires images { let program = program_of lp.now in AllStandFor (length program.names)
         images.now.items (branch_map program (branch_of program letter)) }
     ensures turned { IfOk result (IsTurned (program_of lp.now) letter from.now) }
-    ensures stopped { IfErr result (IfTurnStops (program_of lp.now) letter from.now) }
+    ensures stopped { IfErr result (IfIterationStops (program_of lp.now) letter from.now) }
 {
     let word = prepend(alloc, letter, &from.word)?;
     let polynomial = composition_of(alloc, &from.polynomial, images, &word)?;
@@ -75,7 +75,7 @@ fn composition_of(
     images: &Vec<Poly<Frac, Grevlex>>,
     word: &Vec<u32>,
 ) -> Result<Poly<Frac, Grevlex>, ClosingError>
-    requires images { All (IsOver polynomial.now.arity) images.now.items }
+    requires images { All (IsInVariables polynomial.now.arity) images.now.items }
     ensures composed { (m : ℕ) (maps : List (Terms Fraction)) → polynomial.now.arity ≡ m
         → AllStandFor m images.now.items maps → AllArity m maps
         → IfOk result (IsComposed m maps (terms_in polynomial.now)) }

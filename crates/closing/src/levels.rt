@@ -16,7 +16,7 @@ ghost use Rattle.closing.specs.Causes.{AreJoined};
 ghost use Rattle.closing.specs.Progress.{candidates_of, Awaits, AreIn, Fits, Grows, IsOn, FitsSequel, FitsVerdict, IfStops, Takes, Closes};
 
 use crate::ClosingError;
-use crate::candidates::{Candidate, after_turn};
+use crate::candidates::{Candidate, after_iteration};
 use crate::joining::{Counter, Progress, Sequel, take};
 use counter_run::Maps;
 use frac128::Frac;
@@ -111,7 +111,7 @@ fn first_level(
     Ok(Sequel::On(progress))
 }
 
-/// Takes what was kept of the last level after a turn of each branch.
+/// Takes what was kept of the last level after an iteration of each branch.
 fn next_level(
     alloc: Global,
     lp: &Loop,
@@ -140,7 +140,7 @@ fn next_level(
     for index in 0..lp.branches().len() {
         let letter = index as u32 + 1;
         let images = &maps.branches[index];
-        match take_turns(alloc, lp, maps, letter, images, &level, progress, meter)? {
+        match take_iterations(alloc, lp, maps, letter, images, &level, progress, meter)? {
             Sequel::On(next) => progress = next,
             Sequel::Counter(counter) => return Ok(Sequel::Counter(counter)),
         }
@@ -148,8 +148,8 @@ fn next_level(
     Ok(Sequel::On(progress))
 }
 
-/// Takes the candidates of the level before after a turn of the branch with this number, whose map has these images.
-fn take_turns(
+/// Takes the candidates of the level before after an iteration of the branch with this number, whose map has these images.
+fn take_iterations(
     alloc: Global,
     lp: &Loop,
     maps: &Maps,
@@ -177,7 +177,7 @@ fn take_turns(
         → Takes (program_of lp.now) P waiting meter.new.limit meter.new.entries result }
 {
     for from in level {
-        let candidate = after_turn(alloc, lp, letter, images, from)?;
+        let candidate = after_iteration(alloc, lp, letter, images, from)?;
         match take(alloc, lp, maps, progress, candidate, meter)? {
             Sequel::On(next) => progress = next,
             Sequel::Counter(counter) => return Ok(Sequel::Counter(counter)),

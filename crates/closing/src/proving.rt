@@ -15,7 +15,7 @@ ghost use Rattle.closures.specs.Closing.{closed};
 ghost use Rattle.closures.specs.Ends.{ComesNext};
 ghost use Rattle.closures.specs.Proving.{Test, tests_of, AwaitsTests};
 ghost use Rattle.counter_run.specs.Maps.{AreMaps};
-ghost use Rattle.closing.specs.Proving.{IsBranchAt, FitsElements, IsSquare, FitsProof, IsRow, AreRows, seen_rows, test_at, turn_test, Passes, HasProof, IfUnproved};
+ghost use Rattle.closing.specs.Proving.{IsBranchAt, FitsElements, IsSquare, FitsProof, IsRow, AreRows, seen_rows, test_at, iteration_test, Passes, HasProof, IfUnproved};
 ghost use Rattle.closing.specs.Tasks.{RanTask};
 
 use crate::listing::{Elements, elements_of, placed_row};
@@ -28,7 +28,7 @@ use monos::Grevlex;
 use poly::Poly;
 use std::alloc::{AllocError, AllocFailed, Global};
 
-/// What proves that each turn of a loop leads a closed list into its ideal.
+/// What proves that each iteration of a loop leads a closed list into its ideal.
 #[derive(Drop)]
 pub struct ClosureProof {
     /// The polynomials that were closed, and then those of the closed list that aren't among them.
@@ -192,7 +192,7 @@ fn test(
     requires divisors { AreDivisors element.now.order element.now.arity closure.now }
     requires few { length closure.now ≤ list_limit }
     ensures ran { RanTask (Closed 0 letter number)
-        (turn_test element.now images.now.items closure.now)
+        (iteration_test element.now images.now.items closure.now)
         (HasCofactors element.now.order element.now.arity) meter.old meter.new
         (outcome_of result) }
 {
@@ -217,7 +217,7 @@ fn turned_division(
     requires count { length images.now.items ≡ element.now.arity }
     requires divisors { AreDivisors element.now.order element.now.arity closure.now }
     requires few { length closure.now ≤ list_limit }
-    ensures ran { Ran (turn_test element.now images.now.items closure.now)
+    ensures ran { Ran (iteration_test element.now images.now.items closure.now)
         (HasCofactors element.now.order element.now.arity) meter.old meter.new
         (outcome_of result) }
 {

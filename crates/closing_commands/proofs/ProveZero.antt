@@ -1,5 +1,5 @@
 -- The divisions behind the closing of the polynomial 0, of any loop: one for each branch, which leaves nothing. Nothing stops them.
---   zero_turns          0 composed with the map of a branch is 0
+--   zero_iterations          0 composed with the map of a branch is 0
 --   IsZeroTest t, AreZero s     the test is one of 0; so are all of the state, and what is divided is 0
 --   zero_fits           no such division may not fit
 --   zero_proved         they end, within the unit of the closing
@@ -20,11 +20,11 @@ use Rattle.machines.specs.Journal.{Entry, Begin, Did, Image, units_of}
 use Rattle.machines.specs.Past.{IsPastDivision}
 use Rattle.machines.specs.Run.{IsRun}
 use Rattle.loops.specs.Program.{Expr, Program}
-use Rattle.rounds.specs.Word.{after_turn}
+use Rattle.rounds.specs.Word.{after_iteration}
 use Rattle.closures.specs.Certified.{AreOthers, IsListOf}
 use Rattle.closures.specs.Closing.{closed}
 use Rattle.closures.specs.Ends.{ComesNext}
-use Rattle.closures.specs.Proving.{Test, State, testing, dividing, task_of, tests_of, tests_from, tests, turn_of, images_of, begin, divided, next, IsPastProof}
+use Rattle.closures.specs.Proving.{Test, State, testing, dividing, task_of, tests_of, tests_from, tests, iteration_of, images_of, begin, divided, next, IsPastProof}
 use Rattle.closing_commands.proofs.DecideZero.{comes_one, zero_entries, zero_closed}
 use Rattle.closing_commands.specs.declared.evidence.Evidence.TheVariants as kinds
 use Rattle.closing_commands.specs.DecideClauses.{HasWideTest, HasEnd}
@@ -85,9 +85,9 @@ unfolding units_of
 units_behind es u = omega (arith, u)
 
 module _ (l : Program (Expr ℕ)) where
-  zero_turns : (t : Test) → IsZeroTest t → turn_of l t ≡ Z
+  zero_iterations : (t : Test) → IsZeroTest t → iteration_of l t ≡ Z
   unfolding evaluate sum_over collect
-  zero_turns t z = ap (λ p. collect rationals grevlex (after_turn l t.branch p)) z
+  zero_iterations t z = ap (λ p. collect rationals grevlex (after_iteration l t.branch p)) z
 
   -- ---- what comes next
   begins_zero : (w : List Test) → Each IsZeroTest w → (e : Entry) (u : State)
@@ -97,11 +97,11 @@ module _ (l : Program (Expr ℕ)) where
       absurd (let n : ◌≡◌ {A = Option (Entry × State)} None (Some (e, u)) = is in
       let f : ⊥ = cc in f)
   begins_zero (t ∷ w) h e u is =
-      let first = dividing t w (division.initial_state [] (turn_of l t)) in
+      let first = dividing t w (division.initial_state [] (iteration_of l t)) in
       let both : ◌≡◌ {A = Option (Entry × State)} (Some (Begin (task_of t), first)) (Some (e, u)) =
       is in
       let pair : ◌≡◌ {A = Entry × State} (Begin (task_of t), first) (e, u) = cc in
-      subst AreZero (ap (λ (x : Entry × State). x.1) pair) (h.0, (h.1, zero_turns t h.0))
+      subst AreZero (ap (λ (x : Entry × State). x.1) pair) (h.0, (h.1, zero_iterations t h.0))
 
   left_zero : (o : Option (Terms Fraction)) (qs : List (Terms Fraction)) → IsZeroLeft o
       → (e : Event) (u : division.State Fraction)
@@ -204,7 +204,7 @@ module _ (l : Program (Expr ℕ)) where
   unfolding IsRun Each begin units_of
   finishes [] h s is = record { entries = []; last = s; run = refl; ended = is; units = refl }
   finishes (t ∷ w) h s is =
-      let first = dividing t w (division.initial_state [] (turn_of l t)) in
+      let first = dividing t w (division.initial_state [] (iteration_of l t)) in
       let rest = finishes w h.1 (over t w) (goes_on t w) in
       record {
         entries = Begin (task_of t) ∷ Did Zero ∷ rest.entries;
@@ -214,7 +214,7 @@ module _ (l : Program (Expr ℕ)) where
           is,
           (
             over t w,
-            leaves_nothing t w (turn_of l t) (zero_turns t h.0),
+            leaves_nothing t w (iteration_of l t) (zero_iterations t h.0),
             rest.run,
           ),
         );

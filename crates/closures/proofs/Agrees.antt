@@ -3,7 +3,7 @@
 --   ends_once                    two ends of one closing are the same, and their journals
 --   closed_exactly               where a closing ends, it ends with a list exactly for invariants
 --   agrees                       so it agrees with the division by the basis of all invariants
---   closing_division             the division of a turn of a member, by the list, ends with nothing
+--   closing_division             the division of an iteration of a member, by the list, ends with nothing
 use Rattle.std.proofs.Common.{◌≡◌, ℕ, List, [], ◌∷◌, length, sym, ap, subst, ◌∙◌, None}
 use Rattle.algebra.specs.Each.{Each}
 use Rattle.algebra.specs.In.{In}
@@ -32,7 +32,7 @@ use Rattle.loops.specs.WellFormed.{IsWellFormed}
 use Rattle.loops.proofs.Maps.{arity-branch_map}
 use Rattle.rounds.specs.Journal.{IsAnswered}
 use Rattle.rounds.specs.Results.{LeadsTo}
-use Rattle.rounds.specs.Word.{IsLetter, after_turn}
+use Rattle.rounds.specs.Word.{IsLetter, after_iteration}
 use Rattle.rounds.proofs.Theorem.{answered_decides_all}
 use Rattle.corollaries.proofs.Images.{refutes}
 use Rattle.closures.specs.Closing.{Candidate, fresh, Step, closed, countered, next, move_of, moves}
@@ -80,18 +80,19 @@ module _ {At : Type 0} (program : Program (Expr At)) where
       → (b : ℕ) → IsLetter program b → (q : Terms Fraction) → Arity m q → IsMember ℚ m gs q
       → (s : division.State Fraction)
       → LeadsTo (division.next rationals grevlex gs)
-      (division.initial_state gs (collect rationals grevlex (after_turn program b q))) s
+      (division.initial_state gs (collect rationals grevlex (after_iteration program b q))) s
       → HasEnded (division.next rationals grevlex gs) s → s.current ≡ None
   closing_division P ps es gs c b l q a i s to e =
       let is = closed_is program P ps es gs c in
-      let turn = after_turn program b q in
-      let ta : Arity m turn = arity-compose m ℚ q _ (arity-branch_map program _) in
+      let iteration = after_iteration program b q in
+      let ta : Arity m iteration = arity-compose m ℚ q _ (arity-branch_map program _) in
       let pa = each_weaker (IsPolynomial ℚ grevlex m) (Arity m) (λ x h. h.arity) P ps in
       let kept = (closure_kept program P pa).turned b q l (is.generates.only q a i) in
-      (division_decides m gs (collect rationals grevlex turn) to.events s
-      (own gs is.reduced) (collect-polynomial ℚ_field grevlex grevlex_order m turn ta) to.run e).0
-      (member_same m gs turn (collect rationals grevlex turn)
-      (collect-same ℚ_field grevlex grevlex_order turn) (is.generates.all turn ta kept))
+      (division_decides m gs (collect rationals grevlex iteration) to.events s
+      (own gs is.reduced) (collect-polynomial ℚ_field grevlex grevlex_order m iteration ta) to.run
+      e).0
+      (member_same m gs iteration (collect rationals grevlex iteration)
+      (collect-same ℚ_field grevlex grevlex_order iteration) (is.generates.all iteration ta kept))
     where
       own : (gs : List (Terms Fraction)) → IsReducedFor rationals grevlex m gs (InClosure program P)
           → IsReducedFor rationals grevlex m gs (IsMember ℚ m gs)

@@ -29,7 +29,7 @@ use Rattle.machines.proofs.Places.{in_slice}
 use Rattle.loops.specs.Certificate.{Certificate, IsValid, element, cofactors}
 use Rattle.loops.specs.Program.{Expr, Program}
 use Rattle.loops.proofs.Maps.{arity-branch_map}
-use Rattle.rounds.specs.Word.{IsLetter, after_turn}
+use Rattle.rounds.specs.Word.{IsLetter, after_iteration}
 use Rattle.closures.specs.Closing.{closed}
 use Rattle.closures.specs.Closure.{IsZeroFromStart}
 use Rattle.closures.specs.Ends.{ComesNext, IsClosure}
@@ -173,17 +173,17 @@ module _ {At : Type 0} (program : Program (Expr At)) (P : List (Terms Fraction))
     abbrev q : Terms Fraction
     q = element c i
 
-    abbrev turn : Terms Fraction
-    turn = after_turn program (suc b) q
+    abbrev iteration : Terms Fraction
+    iteration = after_iteration program (suc b) q
 
     qa : Arity n q
     qa = arity_at n c.basis h.arities i
 
-    ta : Arity n turn
+    ta : Arity n iteration
     ta = arity-compose n ℚ q _ (arity-branch_map program _)
 
     abbrev divided : Terms Fraction
-    divided = collect rationals grevlex turn
+    divided = collect rationals grevlex iteration
 
     abbrev d : Ends (division.next rationals grevlex gs) (division.initial_state gs divided)
     d = (h.rows b i lb li).division
@@ -193,7 +193,7 @@ module _ {At : Type 0} (program : Program (Expr At)) (P : List (Terms Fraction))
         kept_run ℚ_field grevlex grevlex_order n gs elements divided
         (division.initial_state gs divided) d.last d.events d.run
         (kept_begun ℚ_field grevlex grevlex_order n gs elements divided
-        (collect-polynomial ℚ_field grevlex grevlex_order n turn ta))
+        (collect-polynomial ℚ_field grevlex grevlex_order n iteration ta))
 
     letter : IsLetter program (suc b)
     letter = record { some = omega arith; within = omega (arith, lb) }
@@ -213,11 +213,11 @@ module _ {At : Type 0} (program : Program (Expr At)) (P : List (Terms Fraction))
         (placed_arity n ks d.last.cofactors (replicate (length c.basis) []) kept.cofactors
         (none_arity n (length c.basis)))
 
-    step_passes : Same ℚ turn (combination ℚ (cofactors c b i) c.basis)
+    step_passes : Same ℚ iteration (combination ℚ (cofactors c b i) c.basis)
     step_passes =
-        same_from_poly n ℚ_ring turn (combination ℚ (cofactors c b i) c.basis) ta
+        same_from_poly n ℚ_ring iteration (combination ℚ (cofactors c b i) c.basis) ta
         (arity-combination n ℚ (cofactors c b i) c.basis row_arity h.arities)
-        (sym (poly_same n ℚ_ring (collect-same ℚ_field grevlex grevlex_order turn))
+        (sym (poly_same n ℚ_ring (collect-same ℚ_field grevlex grevlex_order iteration))
         ∙ kept.adds_up
         ∙ ap₂ (poly_ring n ℚ_ring).add (sym (poly-combination n ℚ_ring d.last.cofactors gs))
         (ap (λ o. poly n ℚ_ring (division.remainder_of o)) none ∙ poly-nil n ℚ_ring)

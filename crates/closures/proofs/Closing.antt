@@ -42,7 +42,7 @@ use Rattle.loops.specs.Map.{start_map, composition}
 use Rattle.loops.proofs.Maps.{arity-branch_map, arity-start_map}
 use Rattle.rounds.specs.Results.{LeadsTo}
 use Rattle.rounds.specs.Round.{IsClosed}
-use Rattle.rounds.specs.Word.{IsLetter, after_turn, after_word}
+use Rattle.rounds.specs.Word.{IsLetter, after_iteration, after_word}
 use Rattle.rounds.proofs.Beginnings.{comes_here, comes_longer}
 use Rattle.rounds.proofs.Word.{arity-after_word}
 use Rattle.corollaries.specs.Word.{IsEarlier}
@@ -56,7 +56,7 @@ use Rattle.closures.proofs.Closures.{closure_ideal, closure_kept, closure_closed
 use Rattle.closures.proofs.Series as series
 use Rattle.closures.proofs.Series.{Item, word_at, level, image_in}
 use Rattle.closures.proofs.Levels.{InLevel, level_next, level_passed, level_kept, level_over, level_closed, level_has}
-use Rattle.closures.proofs.Parts.{of, extended_reduced, rest_polynomial, rest_differs, letter_map, of_turn, of_word}
+use Rattle.closures.proofs.Parts.{of, extended_reduced, rest_polynomial, rest_differs, letter_map, of_iteration, of_word}
 
 module _ {At : Type 0} (program : Program (Expr At)) (Ps : List (Terms Fraction))
     (ps : Each (IsPolynomial ℚ grevlex (length program.names)) Ps) where
@@ -164,7 +164,7 @@ module _ {At : Type 0} (program : Program (Expr At)) (Ps : List (Terms Fraction)
   in_itself gs ga p i =
       let (j, l, e) = in_place gs [] p i in subst (IsMember ℚ m gs) e (member_at m gs ga j l)
 
-  -- ---- turns of candidates
+  -- ---- iterations of candidates
   pub of_arity : (x : Candidate) → IsCandidate x → Arity m x.of
   of_arity x h = each_in (Arity m) Ps x.of arities h.given
 
@@ -173,7 +173,8 @@ module _ {At : Type 0} (program : Program (Expr At)) (Ps : List (Terms Fraction)
   turned_item b x h =
       ap (λ v. the_item v (of m x.of) (b ∷ x.word))
       (poly_same m ℚ_ring (collect-same ℚ_field grevlex grevlex_order
-      (after_turn program b x.polynomial)) ∙ of_turn program b x.polynomial h.polynomial.arity)
+      (after_iteration program b x.polynomial))
+      ∙ of_iteration program b x.polynomial h.polynomial.arity)
     where
       the_item : Poly m ℚ_ring → Poly m ℚ_ring → List ℕ → Item (Poly m ℚ_ring)
       the_item v f w = record { value = v; from = f; word = w }
@@ -181,16 +182,16 @@ module _ {At : Type 0} (program : Program (Expr At)) (Ps : List (Terms Fraction)
   turned_is : (b : ℕ) (x : Candidate) → IsLetter program b → IsCandidate x
       → IsCandidate (turned program b x)
   turned_is b x letter h =
-      let turn = after_turn program b x.polynomial in
-      let is = collect-polynomial ℚ_field grevlex grevlex_order m turn
+      let iteration = after_iteration program b x.polynomial in
+      let is = collect-polynomial ℚ_field grevlex grevlex_order m iteration
       (arity-compose m ℚ x.polynomial _ (arity-branch_map program _)) in
       record {
         given = h.given;
         letters = All-cons (IsLetter program) b x.word letter h.letters;
         polynomial = is;
         in_closure =
-            closure.same turn (collect rationals grevlex turn) is.arity
-            (Same-sym ℚ (collect-same ℚ_field grevlex grevlex_order turn))
+            closure.same iteration (collect rationals grevlex iteration) is.arity
+            (Same-sym ℚ (collect-same ℚ_field grevlex grevlex_order iteration))
             ((closure_kept program Ps arities).turned b x.polynomial letter h.in_closure);
       }
 
@@ -260,9 +261,9 @@ module _ {At : Type 0} (program : Program (Expr At)) (Ps : List (Terms Fraction)
     }
 
     module _ (none : level_of program kept ≡ []) where
-      turns_in : (b : ℕ) → IsLetter program b
+      iterations_in : (b : ℕ) → IsLetter program b
           → AllInIdeal R B (map (letter_map program b).to B)
-      turns_in b l =
+      iterations_in b l =
           level_closed R (letter_map program) (IsLetter program) (list Ps)
           (length program.branches) letter_range letter_in s.number s.before (map item kept) B
           s.level (sym level_is ∙ ap (map item) none) b l
@@ -272,10 +273,10 @@ module _ {At : Type 0} (program : Program (Expr At)) (Ps : List (Terms Fraction)
         turned = λ b i l il.
             let g = get_or gs i [] in
             let a = arity_at m gs ga i in
-            in_list gs ga (after_turn program b g)
+            in_list gs ga (after_iteration program b g)
             (arity-compose m ℚ g _ (arity-branch_map program _))
-            (in_ideal_same R (of_turn program b g a)
-            (image_in R (letter_map program b) B B (of m g) (turns_in b l)
+            (in_ideal_same R (of_iteration program b g a)
+            (image_in R (letter_map program b) B B (of m g) (iterations_in b l)
             (member_in m ℚ_ring gs g (member_at m gs ga i il))));
       }
 

@@ -24,12 +24,12 @@ use Rattle.loops.specs.Program.{Expr, Program}
 use Rattle.loops.specs.Map.{branch_map}
 use Rattle.loops.specs.Inv.{Inv}
 use Rattle.loops.proofs.Maps.{arity-branch_map}
-use Rattle.rounds.specs.Word.{IsLetter, IsZeroAtStarts, after_turn, after_word, branch_of}
+use Rattle.rounds.specs.Word.{IsLetter, IsZeroAtStarts, after_iteration, after_word, branch_of}
 use Rattle.rounds.specs.Round.{IsClosed}
 use Rattle.rounds.proofs.Word.{after_word-append, arity-after_word}
 use Rattle.rounds.proofs.Run.{inv_of_stays, stays_of_inv}
 use Rattle.rounds.proofs.Round.{closed_stays}
-use Rattle.closures.specs.Closure.{IsAfterWord, InClosure, IsIdeal, IsKept}
+use Rattle.closures.specs.Closure.{IsAfterWord, InClosure, IsIdeal, IsClosedUnderBranches}
 use Rattle.closures.proofs.Ideals.{members_in, member_times, IsMemberOver, member_ideal, invariants_ideal}
 
 module _ {At : Type 0} (program : Program (Expr At)) where
@@ -94,20 +94,20 @@ module _ {At : Type 0} (program : Program (Expr At)) where
       };
     }
 
-    pub closure_kept : IsKept program (InClosure program P)
+    pub closure_kept : IsClosedUnderBranches program (InClosure program P)
     unfolding after_word
     closure_kept = record {
       turned = λ b q letter h. record {
         arity = arity-compose m ℚ q _ (arity-branch_map program _);
-        images = map (after_turn program b) h.images;
-        are = each-map (IsAfterWord program P) (after_turn program b) h.images
+        images = map (after_iteration program b) h.images;
+        are = each-map (IsAfterWord program P) (after_iteration program b) h.images
             (each_weaker (IsAfterWord program P)
-            (λ g. IsAfterWord program P (after_turn program b g)) (λ g i. record {
+            (λ g. IsAfterWord program P (after_iteration program b g)) (λ g i. record {
               of = i.of;
               word = b ∷ i.word;
               given = i.given;
               letters = All-cons (IsLetter program) b i.word letter i.letters;
-              is = ap (after_turn program b) i.is;
+              is = ap (after_iteration program b) i.is;
             }) h.images h.are);
         member =
             member_compose ℚ_ring m m (branch_map program (branch_of program b))
@@ -117,7 +117,7 @@ module _ {At : Type 0} (program : Program (Expr At)) where
 
   -- ---- the least one
   module _ (I : Terms Fraction → Type 0) (ideal : IsIdeal (length program.names) I)
-      (kept : IsKept program I) where
+      (kept : IsClosedUnderBranches program I) where
     words_in : (w : List ℕ) (p : Terms Fraction) → All (IsLetter program) w → I p
         → I (after_word program w p)
     unfolding after_word
@@ -135,7 +135,7 @@ module _ {At : Type 0} (program : Program (Expr At)) where
         c.arity c.member
 
   member_kept : (gs : List (Terms Fraction)) (ga : AllArity m gs) → IsClosed program gs
-      → IsKept program (IsMemberOver m gs ga)
+      → IsClosedUnderBranches program (IsMemberOver m gs ga)
   unfolding after_word
   member_kept gs ga c = record {
     turned = λ b p letter h. record {
@@ -157,11 +157,11 @@ module _ {At : Type 0} (program : Program (Expr At)) where
       })) q i).member
 
   -- ---- invariants
-  pub kept_invariants : IsKept program (Inv program)
+  pub kept_invariants : IsClosedUnderBranches program (Inv program)
   unfolding after_word
   kept_invariants = record {
     turned = λ b p letter h.
-        inv_of_stays program (after_turn program b p)
+        inv_of_stays program (after_iteration program b p)
         (arity-compose m ℚ p _ (arity-branch_map program _)) (record {
           in_words = λ w all t.
               subst (IsZeroAtStarts program) (after_word-append program w (b ∷ []) p)

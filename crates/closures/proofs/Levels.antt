@@ -31,7 +31,7 @@ module _ {A : Type 0} (R : CommRing A) (φ : ℕ → Hom R R) (L : ℕ → Type 
       0 where
     pub series : IsSeries R φ L Ps B waiting
     pub owed_words : HasWords R φ L Ps k (joined waiting B)
-    pub owed_turns : (b : ℕ) → L b → AllInIdeal R (joined waiting B) (map (φ b).to before)
+    pub owed_iterations : (b : ℕ) → L b → AllInIdeal R (joined waiting B) (map (φ b).to before)
     pub kept_series : IsSeries R φ L Ps before kept
     pub within : AllInIdeal R (joined kept before) B
     pub has : AllInIdeal R B (joined kept before)
@@ -75,7 +75,7 @@ module _ {A : Type 0} (R : CommRing A) (φ : ℕ → Hom R R) (L : ℕ → Type 
   level_begun = record {
     series = first_series Ps [];
     owed_words = record { has = words };
-    owed_turns = λ b l. tt;
+    owed_iterations = λ b l. tt;
     kept_series = tt;
     within = tt;
     has = tt;
@@ -105,8 +105,8 @@ module _ {A : Type 0} (R : CommRing A) (φ : ℕ → Hom R R) (L : ℕ → Type 
           series = series_more R φ L Ps B (x.value ∷ B) xs more h.series.1;
           owed_words = words_more R φ L Ps k (joined xs B) (joined xs (x.value ∷ B)) all
               h.owed_words;
-          owed_turns = λ b l. all_trans R (joined xs B) (joined xs (x.value ∷ B)) _ all
-              (h.owed_turns b l);
+          owed_iterations = λ b l. all_trans R (joined xs B) (joined xs (x.value ∷ B)) _ all
+              (h.owed_iterations b l);
           kept_series = h.kept_series;
           within = h.within;
           has = h.has;
@@ -151,8 +151,8 @@ module _ {A : Type 0} (R : CommRing A) (φ : ℕ → Hom R R) (L : ℕ → Type 
             series = series_more R φ L Ps C (x.value ∷ B) xs more h.series.1;
             owed_words = words_more R φ L Ps k (joined xs C) (joined xs (x.value ∷ B)) all
                 h.owed_words;
-            owed_turns = λ b l. all_trans R (joined xs C) (joined xs (x.value ∷ B)) _ all
-                (h.owed_turns b l);
+            owed_iterations = λ b l. all_trans R (joined xs C) (joined xs (x.value ∷ B)) _ all
+                (h.owed_iterations b l);
             kept_series = series-append R φ L Ps before kept (y ∷ []) h.kept_series (kept_next, tt);
             within =
                 subst (λ D. AllInIdeal R D C) (sym (joined-append kept (y ∷ []) before))
@@ -187,7 +187,7 @@ module _ {A : Type 0} (R : CommRing A) (φ : ℕ → Hom R R) (L : ℕ → Type 
       turned_level =
           level_is_turned R φ L Ps k before kept h.kept_long h.kept_series
           (words_more R φ L Ps k (joined kept before) B h.within h.owed_words) n 1 B
-          (λ c l m. let lc = letter c (omega arith) (omega arith) in (lc, h.owed_turns c lc))
+          (λ c l m. let lc = letter c (omega arith) (omega arith) in (lc, h.owed_iterations c lc))
           h.owed_words (record {
             has = λ p i c u lc all l e.
                 absurd (let s : 0 < c = (range c lc).0 in omega arith);
@@ -220,7 +220,7 @@ module _ {A : Type 0} (R : CommRing A) (φ : ℕ → Hom R R) (L : ℕ → Type 
       level_over = record {
         series = turned_level.series;
         owed_words = next_words;
-        owed_turns = λ b l.
+        owed_iterations = λ b l.
             let r = range b l in
             images_in R (φ b) (joined (level R φ 1 n kept) B) (joined kept before) B
             (turned_level.images b r.0 (let m : b ≤ n = r.1 in omega arith)) h.within;
@@ -235,7 +235,8 @@ module _ {A : Type 0} (R : CommRing A) (φ : ℕ → Hom R R) (L : ℕ → Type 
           → ((b : ℕ) → L b → AllInIdeal R B (map (φ b).to B))
       unfolding joined
       level_closed e b l =
-          subst (λ ys. AllInIdeal R (joined ys B) (map (φ b).to B)) e (level_over.owed_turns b l)
+          subst (λ ys. AllInIdeal R (joined ys B) (map (φ b).to B)) e (level_over.owed_iterations b
+          l)
 
       pub level_has : (p : A) → In p Ps → InIdeal R B p
       unfolding word_at joined

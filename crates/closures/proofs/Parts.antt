@@ -2,7 +2,7 @@
 --   nothing_reduced      the empty list is reduced for its ideal
 --   extended_reduced     a list completed and tidied is the reduced basis of its ideal
 --   rest_differs         what is divided differs from its rest by a member
---   letter_map           the endomorphism of a letter; of_turn, of_word: what a turn and a word do, in the ring
+--   letter_map           the endomorphism of a letter; of_iteration, of_word: what an iteration and a word do, in the ring
 --   member_of_ideal, ideal_of_member     membership in the ring, and on lists
 use Rattle.std.proofs.Common.{◌≡◌, ℕ, List, [], ◌∷◌, ◌++◌, map, length, refl, sym, ap, subst, ◌∙◌, ◌≢◌}
 use Rattle.algebra.specs.Each.{Each}
@@ -35,7 +35,7 @@ use Rattle.machines.proofs.Reducing.{tidied}
 use Rattle.loops.specs.Program.{Expr, Program}
 use Rattle.loops.specs.Map.{branch_map}
 use Rattle.rounds.specs.Results.{LeadsTo}
-use Rattle.rounds.specs.Word.{after_turn, after_word, branch_of}
+use Rattle.rounds.specs.Word.{after_iteration, after_word, branch_of}
 use Rattle.rounds.proofs.Word.{arity-after_word}
 use Rattle.closures.specs.Closing.{next_extended, extended_list}
 use Rattle.closures.proofs.Series.{word_at}
@@ -127,9 +127,9 @@ module _ {At : Type 0} (program : Program (Expr At)) where
       (poly_ring (length program.names) ℚ_ring)
   letter_map b = at m ℚ_ring (map (poly m ℚ_ring) (branch_map program (branch_of program b)))
 
-  pub of_turn : (b : ℕ) (q : Terms Fraction) → Arity m q
-      → poly m ℚ_ring (after_turn program b q) ≡ (letter_map b).to (poly m ℚ_ring q)
-  of_turn b q a = poly-compose ℚ_ring m m q (branch_map program (branch_of program b)) a
+  pub of_iteration : (b : ℕ) (q : Terms Fraction) → Arity m q
+      → poly m ℚ_ring (after_iteration program b q) ≡ (letter_map b).to (poly m ℚ_ring q)
+  of_iteration b q a = poly-compose ℚ_ring m m q (branch_map program (branch_of program b)) a
 
   pub of_word : (w : List ℕ) (p : Terms Fraction) → Arity m p
       → poly m ℚ_ring (after_word program w p)
@@ -137,5 +137,5 @@ module _ {At : Type 0} (program : Program (Expr At)) where
   unfolding after_word word_at
   of_word [] p a = refl
   of_word (b ∷ w) p a =
-      of_turn b (after_word program w p) (arity-after_word program w p a)
+      of_iteration b (after_word program w p) (arity-after_word program w p a)
       ∙ ap (letter_map b).to (of_word w p a)

@@ -21,7 +21,7 @@ use Rattle.machines.proofs.Runs.{run_joined}
 use Rattle.loops.specs.Program.{Expr, Program}
 use Rattle.closures.specs.Closing.{closed}
 use Rattle.closures.specs.Ends.{ComesNext}
-use Rattle.closures.specs.Proving.{Test, State, testing, dividing, task_of, tests, turn_of, images_of, begin, divided, next, FollowsProof, AwaitsTests, IsOutProof, IsPastProof}
+use Rattle.closures.specs.Proving.{Test, State, testing, dividing, task_of, tests, iteration_of, images_of, begin, divided, next, FollowsProof, AwaitsTests, IsOutProof, IsPastProof}
 
 module _ {At : Type 0} (program : Program (Expr At)) (P gs bs : List (Terms Fraction)) where
   abbrev N : State → Option (Entry × State)
@@ -53,7 +53,7 @@ module _ {At : Type 0} (program : Program (Expr At)) (P gs bs : List (Terms Frac
 
     pub test_begins : (es : List Entry) → AwaitsTests program P gs bs es (t ∷ w)
         → FollowsProof program P gs bs (es ++ Begin (task_of t) ∷ [])
-        (dividing t w (division.initial_state gs (turn_of program t)))
+        (dividing t w (division.initial_state gs (iteration_of program t)))
     unfolding IsRun begin
     test_begins es a = follows_more es (Begin (task_of t) ∷ []) a.state _ a.follows (_, a.is, refl)
 
@@ -118,12 +118,12 @@ module _ {At : Type 0} (program : Program (Expr At)) (P gs bs : List (Terms Frac
 
     pub start_past : (es : List Entry)
         → FollowsProof program P gs bs es
-        (dividing t w (division.initial_state gs (turn_of program t)))
+        (dividing t w (division.initial_state gs (iteration_of program t)))
         → IsPastComposition fractions t.element (images_of program t)
         → IsPastProof program P gs bs es t
     start_past es f p = record {
       waiting = w;
-      state = division.initial_state gs (turn_of program t);
+      state = division.initial_state gs (iteration_of program t);
       follows = f;
       past = inr (refl, p);
     }

@@ -1,4 +1,4 @@
--- Elements of a ring that are joined to an ideal one after another, level by level, where endomorphisms stand for the turns of branches.
+-- Elements of a ring that are joined to an ideal one after another, level by level, where endomorphisms stand for the iterations of branches.
 --   Item                 an element, with an element and a word that it comes from
 --   joined xs D          the list D with the values of the items
 --   word_at w x          x with the endomorphisms of the letters of w, the last letter's first
@@ -7,7 +7,7 @@
 --   IsSeries D xs        each of the xs is next for D joined with those before it
 --   HasWords k D         the ideal of D has all that becomes of the first elements in words of at most
 --                        k letters
---   turned b x, level b n xs     the item after a turn; the items after turns of n branches from b on
+--   turned b x, level b n xs     the item after an iteration; the items after iterations of n branches from b on
 --   level_is_series      the next level of a series is one, and then has the next words
 use Rattle.std.proofs.Common.{◌≡◌, ◌⊎◌, inl, inr, ℕ, zero, suc, ◌+◌, ◌<◌, ◌≤◌, List, [], ◌∷◌, ◌++◌, map, length, refl, sym, ap, subst, ◌∙◌, arith, All}
 use Rattle.std.proofs.lemmas.List.Elements.{All-head, All-tail}
@@ -132,7 +132,7 @@ module _ {A : Type 0} (R : CommRing A) (φ : ℕ → Hom R R) where
     series-append D [] ys s t = t
     series-append D (x ∷ xs) ys s t = (s.0, series-append (x.value ∷ D) xs ys s.1 t)
 
-    -- ---- a turn of one branch
+    -- ---- an iteration of one branch
     module _ (b k : ℕ) (letter : L b) where
       less_word : (c : ℕ) (u w : List ℕ) → IsLess (c ∷ u) (b ∷ w)
           → (c < b) ⊎ ((c ≡ b) × IsLess u w)
@@ -190,7 +190,7 @@ module _ {A : Type 0} (R : CommRing A) (φ : ℕ → Hom R R) where
           (first_more b k ((φ b).to x.value ∷ E) E more first) s.1 in
           ((turned_next E C x h long.0 words first s.0, rest.0), rest.1)
 
-    -- ---- turns of all branches
+    -- ---- iterations of all branches
     pub record IsTurned (b n k : ℕ) (C E : List A) (ys : List (Item A)) : Type 0 where
       pub series : IsSeries E ys
       pub first : HasFirst (b + n) k (joined ys E)
@@ -218,7 +218,7 @@ module _ {A : Type 0} (R : CommRing A) (φ : ℕ → Hom R R) where
       abbrev AreReady : ℕ → ℕ → List A → Type 0
       AreReady b n E = (c : ℕ) → b ≤ c → c < b + n → L c × AllInIdeal R E (map (φ c).to before)
 
-      -- with the turns of one branch, and then those of the branches behind it
+      -- with the iterations of one branch, and then those of the branches behind it
       turned_more : (n b : ℕ) (E : List A) → AreReady b (suc n) E → HasWords k E
           → HasFirst b k E
           → ((F : List A) → AreReady (suc b) n F → HasWords k F → HasFirst (suc b) k F

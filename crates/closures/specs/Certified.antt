@@ -18,7 +18,7 @@ use Rattle.machines.specs.Division as division
 use Rattle.machines.specs.Run.{Ends}
 use Rattle.loops.specs.Program.{Expr, Program}
 use Rattle.loops.specs.Certificate.{Certificate, element, cofactors}
-use Rattle.rounds.specs.Word.{after_turn}
+use Rattle.rounds.specs.Word.{after_iteration}
 
 unfoldable pub put : ℕ → Terms Fraction → List (Terms Fraction) → List (Terms Fraction)
 put k q [] = []
@@ -51,7 +51,7 @@ pub record IsListOf (P gs bs : List (Terms Fraction)) : Type 0 where
 pub record IsRowOf {At : Type 0} (program : Program (Expr At)) (gs : List (Terms Fraction))
     (ks : List ℕ) (n b : ℕ) (p : Terms Fraction) (row : List (Terms Fraction)) : Type 0 where
   pub division : Ends (division.next rationals grevlex gs)
-      (division.initial_state gs (collect rationals grevlex (after_turn program b p)))
+      (division.initial_state gs (collect rationals grevlex (after_iteration program b p)))
   pub are : row ≡ placed ks division.last.cofactors (replicate n [])
 
 pub record IsProofBy {At : Type 0} (program : Program (Expr At)) (gs : List (Terms Fraction))

@@ -2,7 +2,7 @@
 --   Candidate          a polynomial, with the polynomial of the list and the word that it comes from
 --   first_candidate p  p itself, of no letter
 --   turned program b x    the candidate composed with the map of branch b
---   level_from program b n xs     the candidates xs after a turn of each of n branches, from branch b on
+--   level_from program b n xs     the candidates xs after an iteration of each of n branches, from branch b on
 --   State              before it begins; in the division of a candidate, and in the completion of the
 --                      list with its rest: the candidate's number, the list, what was kept of the
 --                      level, the candidate, what waits of the level
@@ -22,7 +22,7 @@ use Rattle.machines.specs.Elimination as elimination
 use Rattle.machines.specs.Journal.{Entry, Begin, Did, Image, Extend}
 use Rattle.loops.specs.Program.{Expr, Program}
 use Rattle.loops.specs.Map.{start_map, composition}
-use Rattle.rounds.specs.Word.{after_turn}
+use Rattle.rounds.specs.Word.{after_iteration}
 
 pub record Candidate : Type 0 where
   pub of : Terms Fraction
@@ -62,7 +62,7 @@ module _ {At : Type 0} (program : Program (Expr At)) where
   turned b x = record {
     of = x.of;
     word = b ∷ x.word;
-    polynomial = collect rationals grevlex (after_turn program b x.polynomial);
+    polynomial = collect rationals grevlex (after_iteration program b x.polynomial);
   }
 
   unfoldable pub level_from : ℕ → ℕ → List Candidate → List Candidate

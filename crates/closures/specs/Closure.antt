@@ -4,7 +4,7 @@
 --   InClosure program P q        q is in the closure of P: a member of the ideal of some of these
 --   GeneratesClosure program P gs     gs generate the closure of P
 --   IsIdeal m I                  I is an ideal of polynomials in m variables
---   IsKept program I             each turn of a branch leads from I into I
+--   IsClosedUnderBranches program I             each iteration of a branch leads from I into I
 --   IsZeroFromStart program q    q composed with the start map is 0
 use Rattle.std.specs.Prelude.{ℕ, List, [], ◌++◌, ◌≡◌, length}
 use Rattle.std.specs.List.{All}
@@ -17,7 +17,7 @@ use Rattle.ideals.specs.Members.{IsMember}
 use Rattle.loops.specs.Program.{Expr, Program}
 use Rattle.loops.specs.Map.{start_map, composition}
 use Rattle.rounds.specs.Generate.{Generates}
-use Rattle.rounds.specs.Word.{IsLetter, after_turn, after_word}
+use Rattle.rounds.specs.Word.{IsLetter, after_iteration, after_word}
 
 module _ {At : Type 0} (program : Program (Expr At)) where
   module _ (P : List (Terms Fraction)) where
@@ -37,9 +37,9 @@ module _ {At : Type 0} (program : Program (Expr At)) where
     abbrev pub GeneratesClosure : List (Terms Fraction) → Type 0
     GeneratesClosure gs = Generates (length program.names) gs InClosure
 
-  pub record IsKept (I : Terms Fraction → Type 0) : Type 0 where
+  pub record IsClosedUnderBranches (I : Terms Fraction → Type 0) : Type 0 where
     pub turned : (b : ℕ) (p : Terms Fraction) → IsLetter program b → I p
-        → I (after_turn program b p)
+        → I (after_iteration program b p)
 
   abbrev pub IsZeroFromStart : Terms Fraction → Type 0
   IsZeroFromStart q = Same ℚ (composition program q (start_map program)) []

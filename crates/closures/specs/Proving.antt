@@ -1,6 +1,6 @@
 -- The divisions behind a closing that prove its list closed: of the elements of a certificate, one after another, as a machine.
 --   Test               an element, by its number, and a branch; both count from 1
---   task_of t, turn_of program t     its task, and the element composed with the branch's map
+--   task_of t, iteration_of program t     its task, and the element composed with the branch's map
 --   tests_of b i bs    the tests of the elements bs, from the number i on, with the branch b
 --   tests_from b n bs  those with n branches, from b on
 --   tests program bs   all
@@ -23,7 +23,7 @@ use Rattle.machines.specs.Past as past
 use Rattle.machines.specs.Run.{IsRun}
 use Rattle.loops.specs.Map.{branch_map}
 use Rattle.loops.specs.Program.{Expr, Program}
-use Rattle.rounds.specs.Word.{branch_of, after_turn}
+use Rattle.rounds.specs.Word.{branch_of, after_iteration}
 use Rattle.closures.specs.Closing.{closed}
 use Rattle.closures.specs.Ends.{ComesNext}
 
@@ -51,8 +51,8 @@ module _ {At : Type 0} (program : Program (Expr At)) where
   abbrev pub tests : List (Terms Fraction) → List Test
   tests bs = tests_from 1 (length program.branches) bs
 
-  abbrev pub turn_of : Test → Terms Fraction
-  turn_of t = collect rationals grevlex (after_turn program t.branch t.element)
+  abbrev pub iteration_of : Test → Terms Fraction
+  iteration_of t = collect rationals grevlex (after_iteration program t.branch t.element)
 
   -- the images of the variables under the branch's map, as they are composed with
   abbrev pub images_of : Test → List (Terms Fraction)
@@ -61,7 +61,8 @@ module _ {At : Type 0} (program : Program (Expr At)) where
   module _ (gs : List (Terms Fraction)) where
     unfoldable pub begin : List Test → Option (Entry × State)
     begin [] = None
-    begin (t ∷ w) = Some (Begin (task_of t), dividing t w (division.initial_state gs (turn_of t)))
+    begin (t ∷ w) =
+        Some (Begin (task_of t), dividing t w (division.initial_state gs (iteration_of t)))
 
     unfoldable pub divided : Test → List Test → division.State Fraction
         → Option (Event × division.State Fraction) → Option (Entry × State)
@@ -99,5 +100,5 @@ module _ {At : Type 0} (program : Program (Expr At)) where
       pub state : division.State Fraction
       pub follows : FollowsProof es (dividing t waiting state)
       pub past : past.IsPastDivision fractions rationals gs state
-          ⊎ ((state ≡ division.initial_state gs (turn_of t))
+          ⊎ ((state ≡ division.initial_state gs (iteration_of t))
           × IsPastComposition fractions t.element (images_of t))

@@ -20,7 +20,7 @@ ghost use Rattle.loops.specs.WellFormed.{IsWellFormed};
 ghost use Rattle.rounds.specs.Round.{IsClosed};
 ghost use Rattle.rounds.specs.Journal.{IsAnswered};
 ghost use Rattle.rounds.specs.Results.{LeadsTo};
-ghost use Rattle.rounds.specs.Word.{IsLetter, after_turn};
+ghost use Rattle.rounds.specs.Word.{IsLetter, after_iteration};
 ghost use Rattle.corollaries.specs.Counter.{IsFirstWord};
 ghost use Rattle.closures.specs.Follows.{IsOut};
 ghost use Rattle.closures.specs.Closing.{State, Step, fresh, move_of, moves, Candidate, closed, countered};
@@ -30,7 +30,7 @@ ghost use Rattle.closures.specs.Modulo.{IsMultiple, AreCongruent, IsResidueOf, A
 ghost use Rattle.closures.specs.UpTo.{low_part, AreDistinct, AreTidy, HasStandard, HasNoCombination, IsReducedUpTo};
 ghost use Rattle.loops.specs.Certificate.{Certificate, IsValid};
 ghost use Rattle.closures.specs.Certified.{IsProofBy};
-ghost use Rattle.closures.specs.Closure.{InClosure, GeneratesClosure, IsIdeal, IsKept, IsZeroFromStart};
+ghost use Rattle.closures.specs.Closure.{InClosure, GeneratesClosure, IsIdeal, IsClosedUnderBranches, IsZeroFromStart};
 
 /// The closure of a list is an ideal that has the list and that each branch leads into itself, and it lies in each such ideal: those that a list generates, and that of all invariants.
 pub fn closures_are_least<At>()
@@ -40,7 +40,7 @@ pub fn closures_are_least<At>()
         → AllArity (length program.names) P
         → IsIdeal (length program.names) (InClosure program P) }
     ensures kept { (program : Program (Expr At)) (P : List (Terms Fraction))
-        → AllArity (length program.names) P → IsKept program (InClosure program P) }
+        → AllArity (length program.names) P → IsClosedUnderBranches program (InClosure program P) }
     ensures least { (program : Program (Expr At)) (P gs : List (Terms Fraction))
         → AllArity (length program.names) P → AllArity (length program.names) gs
         → IsClosed program gs → Each (IsMember ℚ (length program.names) gs) P
@@ -141,7 +141,7 @@ pub fn monomials_up_to_a_degree_are_all()
     ensures distinct { (es : List (List ℕ)) → AreAscending es → AreDistinct es }
 {}
 
-/// A closing has one end, with one journal, and where it ends within a budget it is never out of it. That of one polynomial ends with a list only for an invariant and with a candidate only for none: so it agrees with the division by the basis of all invariants. By its list the division of what a turn makes of a member ends with nothing.
+/// A closing has one end, with one journal, and where it ends within a budget it is never out of it. That of one polynomial ends with a list only for an invariant and with a candidate only for none: so it agrees with the division by the basis of all invariants. By its list the division of what an iteration makes of a member ends with nothing.
 pub fn closings_have_one_end<At>()
     ensures one { (program : Program (Expr At)) (P : List (Terms Fraction))
         (es fs : List Entry) (a b : Step) → move_of program P a ≡ None
@@ -167,7 +167,7 @@ pub fn closings_have_one_end<At>()
         → IsLetter program b → (q : Terms Fraction) → Arity (length program.names) q
         → IsMember ℚ (length program.names) gs q → (s : division.State Fraction)
         → LeadsTo (division.next rationals grevlex gs)
-        (division.initial_state gs (collect rationals grevlex (after_turn program b q))) s
+        (division.initial_state gs (collect rationals grevlex (after_iteration program b q))) s
         → HasEnded (division.next rationals grevlex gs) s → s.current ≡ None }
 {}
 

@@ -31,15 +31,15 @@ is_lt_not Less n = absurd (n refl)
 is_lt_not Equal n = refl
 is_lt_not Greater n = refl
 
-turn_lt : (o : Ordering) → is_lt o ≡ false → is_gt (ordering_reverse o) ≡ false
-turn_lt Less h = absurd (let z : ⊥ = cc in z)
-turn_lt Equal h = refl
-turn_lt Greater h = refl
+reversed_lt : (o : Ordering) → is_lt o ≡ false → is_gt (ordering_reverse o) ≡ false
+reversed_lt Less h = absurd (let z : ⊥ = cc in z)
+reversed_lt Equal h = refl
+reversed_lt Greater h = refl
 
-turn_gt : (o : Ordering) → is_gt o ≡ false → is_lt (ordering_reverse o) ≡ false
-turn_gt Less h = refl
-turn_gt Equal h = refl
-turn_gt Greater h = absurd (let z : ⊥ = cc in z)
+reversed_gt : (o : Ordering) → is_gt o ≡ false → is_lt (ordering_reverse o) ≡ false
+reversed_gt Less h = refl
+reversed_gt Equal h = refl
+reversed_gt Greater h = absurd (let z : ⊥ = cc in z)
 
 module _ {X : Type 0} (R : X → X → Ordering) (o : IsTotalOrder R) where
   pub less_up : (a b c : X) → is_lt (R a b) ≡ true → is_gt (R b c) ≡ false → is_lt (R a c) ≡ true
@@ -59,10 +59,10 @@ module _ {X : Type 0} (R : X → X → Ordering) (o : IsTotalOrder R) where
       go Greater e = absurd (let z : ⊥ = cc in z)
 
   pub not_below : (a b : X) → is_lt (R a b) ≡ false → is_gt (R b a) ≡ false
-  not_below a b h = ap is_gt (o.antisymm b a) ∙ turn_lt (R a b) h
+  not_below a b h = ap is_gt (o.antisymm b a) ∙ reversed_lt (R a b) h
 
   not_above : (a b : X) → is_gt (R a b) ≡ false → is_lt (R b a) ≡ false
-  not_above a b h = ap is_lt (o.antisymm b a) ∙ turn_gt (R a b) h
+  not_above a b h = ap is_lt (o.antisymm b a) ∙ reversed_gt (R a b) h
 
   pub in_order_drop : (k : ℕ) (xs : List X) → InOrder R xs → InOrder R (drop k xs)
   unfolding InOrder

@@ -26,7 +26,7 @@ use Rattle.machines.specs.Run.{IsRun, HasEnded}
 use Rattle.machines.specs.Tidying as tidying
 use Rattle.machines.specs.Work.{Work as Done, WorkToEnd}
 use Rattle.machines.proofs.Runs.{run_then}
-use Rattle.rounds.specs.Analysis.{Setting, Work, starts, turn, turn_meet, orbit, meet, block, order, starting}
+use Rattle.rounds.specs.Analysis.{Setting, Work, starts, iteration, iteration_meet, orbit, meet, block, order, starting}
 use Rattle.rounds.specs.Past.{IsPastStarting, task_of_work}
 use Rattle.completeness.specs.Coming.{Comes, Awaits, IsStopped, IsOutOf, Refuses}
 use Rattle.completeness.specs.Followed.{IsPastDividends, IsPastDivided, IsPastEvent, task_of}
@@ -125,8 +125,8 @@ module _ (A : Setting) (rounds : ℕ) where
   past_start : (w : Work) → past.IsPastStart fractions rationals (starting A w)
       → IsPastStarting A w
   past_start starts p = p
-  past_start (turn k b n gs before so_far) p = inr p
-  past_start (turn_meet k b n gs so_far ks) p = inr (inr p)
+  past_start (iteration k b n gs before so_far) p = inr p
+  past_start (iteration_meet k b n gs so_far ks) p = inr (inr p)
   past_start (orbit k b gs so_far) p = inr p
   past_start (meet k b gs so_far hs) p = inr (inr p)
 

@@ -50,7 +50,7 @@ use Rattle.rounds.specs.Word.{AtMost, Stays, IsZeroAtStarts}
 use Rattle.rounds.proofs.Lawful.{lawful}
 use Rattle.rounds.proofs.Invariants.{reduced_for}
 use Rattle.rounds.proofs.Start.{start_list_arity}
-use Rattle.rounds.proofs.Unwind.{starting_polynomials}
+use Rattle.rounds.proofs.PullBack.{starting_polynomials}
 use Rattle.completeness.specs.Stage.{Stage, block_order, StageHolds, IsStageOver}
 use Rattle.completeness.specs.FormIdentities.{IsRightForm}
 use Rattle.completeness.specs.Full.{BranchStages, FullCertificate, WrittenForm, as_form, orbit, meet, of_kind, of_option, certificate, stage_of, so_far, before, front_of, IsFullOver}
@@ -63,7 +63,7 @@ use Rattle.completeness.specs.Certified.{full_from}
 use Rattle.completeness.proofs.ClosedForms.{closed_form_passes}
 use Rattle.completeness.proofs.Traces.{divided_sum, traced_holds}
 use Rattle.completeness.proofs.Following.{WorkDone, Ended, finished_ended}
-use Rattle.solvable_maps.specs.Turns.{width}
+use Rattle.solvable_maps.specs.Iterations.{width}
 use Rattle.completeness.proofs.Over.{arities, rows_over, orbit_over, meet_over, no_over}
 use Rattle.completeness.proofs.Works.{polynomials_at, orbit_traced, meet_traced, work_out}
 use Rattle.completeness.proofs.Chained.{no_branch, branch_of, given, list_at, AreDone, RoundsDone, rounds_done}

@@ -19,8 +19,8 @@ use Rattle.polynomials.proofs.Same.{Same-sym, Same-trans}
 use Rattle.polynomials.proofs.ValueAt.{value_at_same, value_at-compose, value_at-variables}
 use Rattle.exponentials.specs.Base.{Coprime, Ascending}
 use Rattle.exponentials.specs.Keys.{IsNormalKey, key_of}
-use Rattle.solvable_maps.specs.Turns as turns
-use Rattle.solvable_maps.specs.Turns.{point, width, IsNormal}
+use Rattle.solvable_maps.specs.Iterations as iterations
+use Rattle.solvable_maps.specs.Iterations.{point, width, IsNormal}
 use Rattle.solvable_maps.specs.Expo.{with_key, with_normal_keys, next_images, zero_images}
 use Rattle.solvable_maps.proofs.Lengths.{arity-normalized}
 use Rattle.solvable_maps.proofs.Numbers.{one_form}
@@ -123,7 +123,7 @@ module _ (m : ℕ) where
 -- ---- the closed form of a branch
 module _ (images : List (Terms Fraction)) (m : ℕ) (size : length images ≡ m) (f : Form)
     (coprime : Coprime f.base) (ascending : Ascending f.base)
-    (closed : turns.IsClosedForm f.base images f.polys) (normal : Each (IsNormal f.base)
+    (closed : iterations.IsClosedForm f.base images f.polys) (normal : Each (IsNormal f.base)
     f.polys) where
   abbrev r : ℕ
   r = length f.base
@@ -135,7 +135,7 @@ module _ (images : List (Terms Fraction)) (m : ℕ) (size : length images ≡ m)
   polys_arity = subst (λ n. AllArity (width r n) f.polys) size closed.arity
 
   values : (n : ℕ) (s : List Fraction) → length s ≡ m → map (λ p. at p (point f.base n s)) f.polys
-      ≡ turns.turns images n s
+      ≡ iterations.iterations images n s
   values n s l = closed.values n s (l ∙ sym size) (omega arith)
 
   -- at 0

@@ -13,7 +13,7 @@ use Rattle.polynomials.proofs.Arity.{arity-compose}
 use Rattle.polynomials.proofs.Orders.{grevlex_order, blocks_order}
 use Rattle.polynomials.proofs.Same.{Same-sym, Same-trans, AllSame-refl, same_combination}
 use Rattle.exponentials.specs.Base.{Coprime}
-use Rattle.solvable_maps.specs.Turns as turns
+use Rattle.solvable_maps.specs.Iterations as iterations
 use Rattle.ideals.specs.Members.{IsMember}
 use Rattle.ideals.proofs.FractionMembers.{member_same, member_members}
 use Rattle.machines.specs.Elimination.{in_front}
@@ -36,7 +36,7 @@ use Rattle.rounds.proofs.Relations.{relations_of_base}
 use Rattle.rounds.proofs.Run.{stays_of_inv}
 use Rattle.rounds.proofs.Start.{zero_member}
 use Rattle.rounds.proofs.Round.{level_of_every}
-use Rattle.rounds.proofs.Unwind.{form_of_closed, closed_form_unwinds}
+use Rattle.rounds.proofs.PullBack.{form_of_closed, closed_form_pulls_back}
 use Rattle.completeness.specs.Cover.{Covers}
 use Rattle.completeness.specs.Stage.{block_order}
 use Rattle.completeness.specs.Full.{FullCertificate, Kind, orbit, meet, certificate, form_of, stage_of, so_far, front_of, before, starting, IsFullOver}
@@ -97,7 +97,8 @@ module _ {At : Type 0} (program : Program (Expr At)) (w : IsWellFormed program)
     coprime : Coprime (form_of c b).base
     coprime = (form_holds program c full b l).coprime
 
-    closed : turns.IsClosedForm (form_of c b).base (branch_map program (branch_of program (suc b)))
+    closed : iterations.IsClosedForm (form_of c b).base
+        (branch_map program (branch_of program (suc b)))
         (form_of c b).polys
     closed = passing_is_closed (branch_map program (branch_of program (suc b))) m
         (length-branch_map program (branch_of program (suc b))) (form_of c b) (over.forms b)
@@ -111,7 +112,7 @@ module _ {At : Type 0} (program : Program (Expr At)) (w : IsWellFormed program)
         → ((n : ℕ) → IsMember ℚ m gs (after_word program (replicate n (suc b)) p))
         → IsMember ℚ (k + m) (orbit_list (form_of c b) m gs) (in_front k p)
     orbit_upper gs ga p a h =
-        ((closed_form_unwinds program (suc b) f coprime closed gs ga).exactly p a).1
+        ((closed_form_pulls_back program (suc b) f coprime closed gs ga).exactly p a).1
         ((points_are_independent f.base coprime m).member gs ga (compose ℚ (k + m) p f.polys)
         (arity-compose (k + m) ℚ p f.polys form.arities)
         (λ n. member_same m gs _ _ (form_at_point program (suc b) k (point_of f.base)

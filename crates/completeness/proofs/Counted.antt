@@ -17,7 +17,7 @@ use Rattle.machines.specs.Collect.{collect}
 use Rattle.machines.specs.Elimination.{blend}
 use Rattle.machines.specs.Journal.{Entry}
 use Rattle.machines.proofs.Collecting.{collect-polynomial}
-use Rattle.solvable_maps.specs.Turns as turns
+use Rattle.solvable_maps.specs.Iterations as iterations
 use Rattle.loops.specs.Program.{Expr, Program, Equation}
 use Rattle.loops.specs.WellFormed.{IsWellFormed}
 use Rattle.loops.proofs.Maps.{length-branch_map}
@@ -94,7 +94,7 @@ module _ {At : Type 0} (program : Program (Expr At)) (w : IsWellFormed program) 
 
 -- ---- a form has a polynomial for each variable
 closed_count : (base : List ℕ) (images ps : List (Terms Fraction))
-    → turns.IsClosedForm base images ps → length ps ≡ length images
+    → iterations.IsClosedForm base images ps → length ps ≡ length images
 closed_count base images ps c =
     let s : List Fraction = replicate (length images) ℚ.zero in
     let h : length s ≡ length images = length-replicate (length images) ℚ.zero in

@@ -15,7 +15,7 @@ use Rattle.machines.specs.Completion as completion
 use Rattle.machines.specs.Tidying as tidying
 use Rattle.machines.specs.Division as division
 use Rattle.machines.proofs.Runs.{run_then}
-use Rattle.rounds.specs.Analysis.{Setting, Work, starts, turn, turn_meet, orbit, meet, block, order, starting}
+use Rattle.rounds.specs.Analysis.{Setting, Work, starts, iteration, iteration_meet, orbit, meet, block, order, starting}
 use Rattle.rounds.specs.Results.{LeadsTo}
 use Rattle.completeness.specs.Stage.{Stage}
 use Rattle.completeness.specs.Full.{BranchStages}
@@ -83,8 +83,8 @@ module _ (A : Setting) where
       (links : List (List (Terms Fraction))) → (stage_of A w t out links).out ≡ out
   unfolding stage_of
   stage_out starts t out links = refl
-  stage_out (turn k b n gs before so_far) t out links = refl
-  stage_out (turn_meet k b n gs so_far ks) t out links = refl
+  stage_out (iteration k b n gs before so_far) t out links = refl
+  stage_out (iteration_meet k b n gs so_far ks) t out links = refl
   stage_out (orbit k b gs so_far) t out links = refl
   stage_out (meet k b gs so_far hs) t out links = refl
 

@@ -1,6 +1,6 @@
 -- A form that passes its identities is a closed form (specs/FormIdentities).
 --   same_values            lists of the same polynomials have the same values
---   passing_is_closed      its values at n are n turns of the map
+--   passing_is_closed      its values at n are n iterations of the map
 use Rattle.std.proofs.Common.{◌≡◌, ℕ, zero, suc, List, [], ◌∷◌, map, length, refl, sym, ap, ap₂, subst, ◌∙◌}
 use Rattle.algebra.specs.Fraction.{Fraction, ℚ}
 use Rattle.algebra.proofs.Fractions.{ℚ_ring}
@@ -8,7 +8,7 @@ use Rattle.polynomials.specs.Terms.{Terms, AllSame, compose}
 use Rattle.polynomials.specs.Polynomial.{AllArity}
 use Rattle.polynomials.proofs.Arity.{arity-compose}
 use Rattle.polynomials.proofs.ValueAt.{value_at_same, value_at-compose, value_at-variables}
-use Rattle.solvable_maps.specs.Turns.{point, width, values_at, turns, IsClosedForm}
+use Rattle.solvable_maps.specs.Iterations.{point, width, values_at, iterations, IsClosedForm}
 use Rattle.solvable_maps.specs.Expo.{with_normal_keys, next_images, zero_images}
 use Rattle.solvable_maps.proofs.Operations.{zero-value, next-value, normal-value}
 use Rattle.rounds.specs.Form.{Form}
@@ -54,7 +54,7 @@ module _ (images : List (Terms Fraction)) (m : ℕ) (size : length images ≡ m)
       ∙ value_at-compose ℚ_ring w q f.polys (point f.base n s)) (at_map qs n s)
 
   form_values : (n : ℕ) (s : List Fraction) → length s ≡ m
-      → values_at f.polys (point f.base n s) ≡ turns images n s
+      → values_at f.polys (point f.base n s) ≡ iterations images n s
   form_values zero s l =
       sym (at_zero f.polys s l) ∙ same_values _ _ s passes.at_zero
       ∙ value_at-variables ℚ_ring m s l

@@ -7,8 +7,8 @@ use Rattle.polynomials.specs.Terms.{Terms}
 use Rattle.polynomials.specs.Polynomial.{Arity, AllArity}
 use Rattle.ideals.specs.Members.{IsMember}
 use Rattle.loops.specs.Program.{Expr, Program}
-use Rattle.rounds.specs.Word.{pieces, AtMost, AnyTurns, LettersTo, Then, UpTo, IsLetter, after_word, Stays}
-use Rattle.rounds.proofs.Word.{arity-after_word, turns_of_ending, ending_fewer, letters_of_level}
+use Rattle.rounds.specs.Word.{pieces, AtMost, AnyIterations, LettersTo, Then, UpTo, IsLetter, after_word, Stays}
+use Rattle.rounds.proofs.Word.{arity-after_word, iterations_of_ending, ending_fewer, letters_of_level}
 use Rattle.completeness.specs.Cover.{Covers}
 
 module _ {At : Type 0} (program : Program (Expr At)) (I : Terms Fraction → Type 0) where
@@ -24,7 +24,7 @@ module _ {At : Type 0} (program : Program (Expr At)) (I : Terms Fraction → Typ
     all = λ p a s. c.all p a (s.in_words [] (All-nil _) (omega arith));
   }
 
-  -- any number of turns of a branch
+  -- any number of iterations of a branch
   pub covers_orbit : (k i : ℕ) (gs hs : List (Terms Fraction)) → IsLetter program i
       → Covers m gs (Stays program I (AtMost k)) → AllArity m hs
       → ((p : Terms Fraction) → Arity m p → ((n : ℕ)
@@ -34,14 +34,14 @@ module _ {At : Type 0} (program : Program (Expr At)) (I : Terms Fraction → Typ
     arities = a;
     all = λ p b s. h p b (λ n. c.all (after_word program (replicate n i) p)
         (arity-after_word program (replicate n i) p b)
-        (turns_of_ending program I k (AnyTurns i) p i n l refl s));
+        (iterations_of_ending program I k (AnyIterations i) p i n l refl s));
   }
 
   pub covers_first : (k : ℕ) (hs : List (Terms Fraction)) → Covers m hs (Stays program I (Then k 1))
       → Covers m hs (Stays program I (UpTo k 1))
   covers_first k hs c = record {
     arities = c.arities;
-    all = λ p a s. c.all p a (ending_fewer program I k (AnyTurns 1) (LettersTo 1) p
+    all = λ p a s. c.all p a (ending_fewer program I k (AnyIterations 1) (LettersTo 1) p
         (λ i t e. (omega (arith, e), omega (arith, e))) s);
   }
 
@@ -56,7 +56,7 @@ module _ {At : Type 0} (program : Program (Expr At)) (I : Terms Fraction → Typ
     arities = a;
     all = λ p b s. h p b (c.all p b (ending_fewer program I k (LettersTo j) (LettersTo (suc j)) p
         (λ i t r. (r.0, (let l : i ≤ j = r.1 in omega (arith, l)))) s))
-        (d.all p b (ending_fewer program I k (AnyTurns (suc j)) (LettersTo (suc j)) p
+        (d.all p b (ending_fewer program I k (AnyIterations (suc j)) (LettersTo (suc j)) p
         (λ i t e. (omega (arith, e), omega (arith, e))) s));
   }
 

@@ -10,12 +10,12 @@ use Rattle.rounds.specs.Form.{Form}
 use Rattle.rounds.specs.Generate.{Generates}
 use Rattle.rounds.specs.Journal.{setting_of, AreForms}
 use Rattle.rounds.specs.Orbit.{IsEliminated}
-use Rattle.rounds.specs.Results.{IsReducedList, IsOverWork, IsBranch, Laws, orbit_turns}
+use Rattle.rounds.specs.Results.{IsReducedList, IsOverWork, IsBranch, Laws, orbit_iterations}
 use Rattle.rounds.specs.Round as rounds
 use Rattle.rounds.specs.Round.{IsOrbitAt, IsSoFar}
 use Rattle.rounds.specs.Word.{LettersTo, AtMost, UpTo, Stays, IsZeroAtStarts}
 use Rattle.rounds.proofs.Lawful.{lawful}
-use Rattle.rounds.proofs.Parts.{later_turns, first_so_far, met_orbit, to_next_branch}
+use Rattle.rounds.proofs.Parts.{later_iterations, first_so_far, met_orbit, to_next_branch}
 use Rattle.rounds.proofs.Round.{so_far_generates, round_generates}
 use Rattle.rounds.proofs.Start.{start_list_generates}
 use Rattle.rounds.proofs.Word.{level_of_letters, letters_of_level}
@@ -81,9 +81,9 @@ module _ {At : Type 0} (program : Program (Expr At)) (w : IsWellFormed program)
 
   orbit_is : (k b : ℕ) (gs so_far : List (Terms Fraction)) (s : Stage) → IsReducedList m gs
       → b < length program.branches → WorkDone A (orbit k b gs so_far) s
-      → IsOrbitAt program gs (suc b) (orbit_turns 0) s.out
+      → IsOrbitAt program gs (suc b) (orbit_iterations 0) s.out
   orbit_is k b gs so_far s r l x =
-      subst (λ d. IsOrbitAt program gs (suc b) (orbit_turns d) s.out) (since_is b)
+      subst (λ d. IsOrbitAt program gs (suc b) (orbit_iterations d) s.out) (since_is b)
       (laws.orbits k b gs so_far s.out r l (work_eliminates (orbit k b gs so_far) l r s x))
 
   pub orbit_reduced : (k b : ℕ) (gs so_far : List (Terms Fraction)) (s : Stage) → IsReducedList m gs
@@ -97,7 +97,7 @@ module _ {At : Type 0} (program : Program (Expr At)) (w : IsWellFormed program)
   branches_sound k gs r _ _ _ l (first s x) = record {
     reduced = orbit_reduced k 0 gs [] s r l x;
     so_far = first_so_far program gs s.out
-        (later_turns program gs 1 0 s.out (orbit_is k 0 gs [] s r l x));
+        (later_iterations program gs 1 0 s.out (orbit_is k 0 gs [] s r l x));
   }
   branches_sound k gs r _ _ _ l (further bs b so_far s t before x y) =
       let ih : Sound gs b so_far = branches_sound k gs r bs b so_far (omega (arith, l)) before in
@@ -108,7 +108,8 @@ module _ {At : Type 0} (program : Program (Expr At)) (w : IsWellFormed program)
         reduced = work_reduces (meet k (suc b) gs so_far s.out) tt (ih.reduced, rs) t y;
         so_far = met_orbit program gs (suc b) 0 so_far s.out t.out
             (to_next_branch program gs b so_far ih.so_far)
-            (later_turns program gs (suc (suc b)) 0 s.out (orbit_is k (suc b) gs so_far s r l x))
+            (later_iterations program gs (suc (suc b)) 0 s.out (orbit_is k (suc b) gs so_far s r l
+            x))
             (record {
               arities = e.arities;
               only = λ p a i. (laws.meets so_far s.out ih.reduced rs p a).0 (e.only p a i);

@@ -20,7 +20,7 @@ use Rattle.polynomials.proofs.Same.{Same-sym}
 use Rattle.polynomials.proofs.SameDecided.{decide_same}
 use Rattle.exponentials.specs.Base.{Coprime, Ascending, Disjoint, SameLength}
 use Rattle.exponentials.specs.Keys.{Key, IsNormalKey, key_of}
-use Rattle.solvable_maps.specs.Turns.{IsNormal}
+use Rattle.solvable_maps.specs.Iterations.{IsNormal}
 use Rattle.machines.specs.Collect.{collect}
 use Rattle.machines.specs.Completion.{leads}
 use Rattle.machines.specs.Pairs.{multiple}

@@ -7,7 +7,7 @@ use Rattle.algebra.specs.Each.{Each}
 use Rattle.algebra.specs.Fraction.{Fraction, ℚ}
 use Rattle.polynomials.specs.Terms.{Terms, AllSame, variables, compose}
 use Rattle.exponentials.specs.Base.{Coprime, Ascending}
-use Rattle.solvable_maps.specs.Turns.{width, IsNormal}
+use Rattle.solvable_maps.specs.Iterations.{width, IsNormal}
 use Rattle.solvable_maps.specs.Expo.{with_normal_keys, next_images, zero_images}
 use Rattle.rounds.specs.Form.{Form}
 

@@ -23,7 +23,7 @@ use Rattle.machines.specs.Completion as completion
 use Rattle.machines.specs.Completion.{s_polynomial}
 use Rattle.machines.specs.Tidying as tidying
 use Rattle.machines.specs.Division as division
-use Rattle.rounds.specs.Analysis.{Setting, Work, starts, turn, turn_meet, orbit, meet, block, order, starting}
+use Rattle.rounds.specs.Analysis.{Setting, Work, starts, iteration, iteration_meet, orbit, meet, block, order, starting}
 use Rattle.completeness.specs.Representation.{pairs_of}
 use Rattle.completeness.specs.Stage.{Stage, no_stage}
 use Rattle.completeness.specs.Full.{BranchStages}
@@ -64,8 +64,8 @@ with_stage d starts s = record {
   branches = d.branches;
   orbit_stage = d.orbit_stage;
 }
-with_stage d (turn k b n gs before so_far) s = d
-with_stage d (turn_meet k b n gs so_far ks) s = d
+with_stage d (iteration k b n gs before so_far) s = d
+with_stage d (iteration_meet k b n gs so_far ks) s = d
 with_stage d (orbit k zero gs so_far) s = record {
   start_out = d.start_out;
   start_links = d.start_links;
@@ -133,16 +133,18 @@ module _ (A : Setting) where
 
   unfoldable pub list_dividends : Work → List (Terms Fraction) → List Dividend
   list_dividends starts gs = []
-  list_dividends (turn k b n hs before so_far) gs = all_dividends (turn k b n hs before so_far) gs
-  list_dividends (turn_meet k b n hs so_far ks) gs = all_dividends (turn_meet k b n hs so_far ks) gs
+  list_dividends (iteration k b n hs before so_far) gs =
+      all_dividends (iteration k b n hs before so_far) gs
+  list_dividends (iteration_meet k b n hs so_far ks) gs =
+      all_dividends (iteration_meet k b n hs so_far ks) gs
   list_dividends (orbit k b hs so_far) gs = all_dividends (orbit k b hs so_far) gs
   list_dividends (meet k b hs so_far ls) gs = all_dividends (meet k b hs so_far ls) gs
 
   unfoldable pub link_dividends : Work → List (Terms Fraction) → List Dividend
   link_dividends starts gs = alone (starting A starts)
-  link_dividends (turn k b n hs before so_far) gs =
-      alone (free_part (block A (turn k b n hs before so_far)) gs)
-  link_dividends (turn_meet k b n hs so_far ks) gs = alone (free_part 1 gs)
+  link_dividends (iteration k b n hs before so_far) gs =
+      alone (free_part (block A (iteration k b n hs before so_far)) gs)
+  link_dividends (iteration_meet k b n hs so_far ks) gs = alone (free_part 1 gs)
   link_dividends (orbit k b hs so_far) gs = alone (free_part (block A (orbit k b hs so_far)) gs)
   link_dividends (meet k b hs so_far ls) gs = alone (free_part 1 gs)
 
@@ -156,10 +158,10 @@ module _ (A : Setting) where
   unfoldable pub stage_of : Work → CompletedList → (out : List (Terms Fraction))
       → List (List (Terms Fraction)) → Stage
   stage_of starts t out rows = record { list = []; gens = []; pairs = []; out = out; links = rows }
-  stage_of (turn k b n hs before so_far) t out rows =
-      stage_from (turn k b n hs before so_far) t out rows
-  stage_of (turn_meet k b n hs so_far ks) t out rows =
-      stage_from (turn_meet k b n hs so_far ks) t out rows
+  stage_of (iteration k b n hs before so_far) t out rows =
+      stage_from (iteration k b n hs before so_far) t out rows
+  stage_of (iteration_meet k b n hs so_far ks) t out rows =
+      stage_from (iteration_meet k b n hs so_far ks) t out rows
   stage_of (orbit k b hs so_far) t out rows = stage_from (orbit k b hs so_far) t out rows
   stage_of (meet k b hs so_far ls) t out rows = stage_from (meet k b hs so_far ls) t out rows
 
@@ -181,9 +183,9 @@ module _ (A : Setting) (rounds : ℕ) where
 
   unfoldable pub after : Results → Work → List (Terms Fraction) → Step
   after done starts gs = after_round done 0 gs
-  -- no turns are taken one by one, where each form is the state from 0 on
-  after done (turn k b n gs before so_far) ks = finished done
-  after done (turn_meet k b n gs so_far ks) ls = finished done
+  -- no iterations are taken one by one, where each form is the state from 0 on
+  after done (iteration k b n gs before so_far) ks = finished done
+  after done (iteration_meet k b n gs so_far ks) ls = finished done
   after done (orbit k zero gs so_far) hs = after_branch done k zero gs hs
   after done (orbit k (suc b) gs so_far) hs =
       goes (Begin (journal.Meet k (suc (suc b)))) (start_of A done (meet k (suc b) gs so_far hs))

@@ -15,7 +15,7 @@ ghost use Rattle.machines.specs.Pairs.{coprime};
 ghost use Rattle.loops.specs.Program.{Expr, Program};
 ghost use Rattle.loops.specs.Inv.{Inv};
 ghost use Rattle.loops.specs.WellFormed.{IsWellFormed};
-ghost use Rattle.solvable_maps.specs.Turns.{width, IsClosedForm};
+ghost use Rattle.solvable_maps.specs.Iterations.{width, IsClosedForm};
 ghost use Rattle.rounds.specs.Form.{Form};
 ghost use Rattle.rounds.specs.Generate.{Generates};
 ghost use Rattle.rounds.specs.Word.{AtMost, Stays, IsZeroAtStarts};

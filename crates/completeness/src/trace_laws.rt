@@ -17,7 +17,7 @@ ghost use Rattle.loops.specs.Inv.{Inv};
 ghost use Rattle.loops.specs.Certificate.{AreOver, IsValid};
 ghost use Rattle.loops.specs.WellFormed.{IsWellFormed};
 ghost use Rattle.exponentials.specs.Base.{Ascending, Coprime};
-ghost use Rattle.solvable_maps.specs.Turns.{IsNormal, IsClosedForm};
+ghost use Rattle.solvable_maps.specs.Iterations.{IsNormal, IsClosedForm};
 ghost use Rattle.algebra.specs.Each.{Each};
 ghost use Rattle.rounds.specs.Form.{Form};
 ghost use Rattle.rounds.specs.Journal as analysis;

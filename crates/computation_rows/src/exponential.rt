@@ -1,7 +1,7 @@
 // Exponential polynomials as texts: the names of n, s, the u and the v, and those of the variables; numbers whose coarsest base is taken; and polynomials in these names.
 ghost use Rattle.std.specs.Prelude.{◌≡◌, length, IfOk, IfSome};
 ghost use Rattle.coprime_base.specs.Sizes.{sizes};
-ghost use Rattle.solvable_maps.specs.Turns.{width};
+ghost use Rattle.solvable_maps.specs.Iterations.{width};
 ghost use Rattle.expo.specs.Bases.{IsCoprimeBase};
 ghost use Rattle.expo.specs.Operations.{vars_of};
 ghost use Rattle.expo.specs.View.{base_of};
@@ -27,7 +27,9 @@ pub(crate) fn exponential_answer(
     let base = coarsest_of(alloc, numbers)?;
     match (call, values) {
         ("at_zero", [p]) => at_zero_answer(alloc, variables, &names, &base, p),
-        ("at_turn", [p, turns]) => at_turn_answer(alloc, variables, &names, &base, p, turns),
+        ("at_turn", [p, iterations]) => at_iteration_answer(
+            alloc, variables, &names, &base, p, iterations,
+        ),
         _ => {
             let made = made_by(alloc, &names, &base, call, values)?;
             text_of_poly(alloc, made.body(), &names)
@@ -50,21 +52,21 @@ fn at_zero_answer(
     text_of_poly(alloc, &zero, &names)
 }
 
-fn at_turn_answer(
+fn at_iteration_answer(
     alloc: Global,
     variables: &str,
     names: &Names,
     base: &Vec<Whole>,
     p: &str,
-    turns: &str,
+    iterations: &str,
 ) -> Result<String, RowError>
     requires { IsCoprimeBase (sizes base.now.items) }
 {
     let p = expo_of(alloc, names, base, p)?;
-    let Ok(turns) = turns.parse() else {
+    let Ok(iterations) = iterations.parse() else {
         return Err(RowError::Unreadable);
     };
-    let state = p.at_turn(alloc, turns)?;
+    let state = p.at_iteration(alloc, iterations)?;
     let names = names_of(alloc, variables)?;
     text_of_poly(alloc, &state, &names)
 }
@@ -82,8 +84,8 @@ fn made_by(
     match values {
         [p] => of_one(alloc, call, expo_of(alloc, names, base, p)?),
         [p, q] => of_two(alloc, names, base, call, p, q),
-        [degree, source, own] if call == "solve_term" => {
-            solution(alloc, names, base, degree, source, own)
+        [degree, inhomogeneity, own] if call == "solve_term" => {
+            solution(alloc, names, base, degree, inhomogeneity, own)
         }
         _ => Err(RowError::Unreadable),
     }
@@ -94,7 +96,7 @@ fn of_one(alloc: Global, call: &str, p: Expo) -> Result<Expo, RowError> {
     match call {
         "normal" => Ok(p),
         "shift_n" => Ok(p.shift_n(alloc)?),
-        "backward" => Ok(p.backward(alloc)?),
+        "backward" => Ok(p.inverse_form(alloc)?),
         "before" => Ok(p.before(alloc)?),
         _ => Err(RowError::Unreadable),
     }
@@ -125,12 +127,12 @@ fn solution(
     names: &Names,
     base: &Vec<Whole>,
     degree: &str,
-    source: &str,
+    inhomogeneity: &str,
     own: &str,
 ) -> Result<Expo, RowError>
     requires { IsCoprimeBase (sizes base.now.items) }
 {
-    let source = power_of(alloc, source)?;
+    let inhomogeneity = power_of(alloc, inhomogeneity)?;
     let own = power_of(alloc, own)?;
     let Some(vars) = variables_in(names, base) else {
         return Err(RowError::Unreadable);
@@ -140,12 +142,12 @@ fn solution(
     };
     if degree > 65534
         || names.len() > 4096
-        || source.exponents.len() != base.len()
+        || inhomogeneity.exponents.len() != base.len()
         || own.exponents.len() != base.len()
     {
         return Err(RowError::Unreadable);
     }
-    Ok(solve_term(alloc, base, vars, degree, &source, &own)?)
+    Ok(solve_term(alloc, base, vars, degree, &inhomogeneity, &own)?)
 }
 
 // A sign, and exponents behind spaces.

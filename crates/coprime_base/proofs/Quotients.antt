@@ -90,11 +90,11 @@ ups_disjoint (negsuc n ∷ e) = (inl refl, ups_disjoint e)
 -- the cross products of two quotients of one number
 pub cross : (x : Fraction) (n d m k : ℕ) → IsQuotient x n d → IsQuotient x m k → n * k ≡ m * d
 cross x n d m k p q =
-    let turn : R.mul (whole (pos n)) (whole (pos k)) ≡ R.mul (whole (pos m)) (whole (pos d)) =
+    let iteration : R.mul (whole (pos n)) (whole (pos k)) ≡ R.mul (whole (pos m)) (whole (pos d)) =
     ap (λ y. R.mul y (whole (pos k))) (sym p) ∙ turned x (whole (pos d)) (whole (pos k))
     ∙ ap (λ y. R.mul y (whole (pos d))) q in
     let e : pos (n * k) ≡ pos (m * d) = whole_injective (pos (n * k)) (pos (m * d))
-    (sym (whole_product n k) ∙ turn ∙ whole_product m d) in
+    (sym (whole_product n k) ∙ iteration ∙ whole_product m d) in
     cc
   where
     turned : (x d k : Fraction) → R.mul (R.mul x d) k ≡ R.mul (R.mul x k) d

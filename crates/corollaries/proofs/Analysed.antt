@@ -22,10 +22,10 @@ use Rattle.rounds.specs.Journal.{IsFinished, IsFinishedFrom}
 use Rattle.rounds.specs.Kept.{IsKept}
 use Rattle.rounds.specs.Results.{IsReducedList}
 use Rattle.rounds.proofs.Theorem.{finished_is, finished_generates, finished_from, finished_from_generates}
-use Rattle.corollaries.specs.Between.{IsLed}
+use Rattle.corollaries.specs.Between.{IsMapped}
 use Rattle.loops.specs.Chain.{Chain, Stage, no_stage, loop_of, followed_by, up_to, ChainInv, IsChain}
 use Rattle.corollaries.specs.Analysed.{Analysed, first, further, IsBasisOfChain}
-use Rattle.corollaries.proofs.Led.{IsZeroBehind, led_reduced, led_generates}
+use Rattle.corollaries.proofs.Mapped.{IsZeroBehind, mapped_reduced, mapped_generates}
 use Rattle.corollaries.proofs.Kept.{kept_is_invariant, invariant_is_kept}
 use Rattle.loops.proofs.ChainRuns.{loop_of_chain}
 
@@ -60,12 +60,12 @@ module _ {At : Type 0} (c : Chain (Expr At)) (gs : List (Terms Fraction)) (k : K
 
   -- ---- one more loop, behind its code
   module _ (g : Stage (Expr At)) (some : 0 < length g.branches) (fs : List Entry)
-      (ks : List (Terms Fraction)) (led : IsLed c.first g.code gs fs ks) where
+      (ks : List (Terms Fraction)) (mapped : IsMapped c.first g.code gs fs ks) where
     pub given_reduced : IsReducedList (length c.first.names) ks
-    given_reduced = led_reduced c gs k.generates reduced_itself g.code fs ks led
+    given_reduced = mapped_reduced c gs k.generates reduced_itself g.code fs ks mapped
 
     given_generates : Generates (length c.first.names) ks (IsZeroBehind c g.code)
-    given_generates = led_generates c gs k.generates g.code fs ks led
+    given_generates = mapped_generates c gs k.generates g.code fs ks mapped
 
     module _ (es : List Entry) (n : ℕ) (hs : List (Terms Fraction))
         (done : IsFinishedFrom (loop_of c.first g.branches) ks es n hs) where
@@ -112,10 +112,10 @@ module _ {At : Type 0} (c : Chain (Expr At)) (w : IsChain c) (budget : ℕ) wher
   pub analysed_known : (j : ℕ) (gs : List (Terms Fraction)) → Analysed c budget j gs
       → Knows (up_to j c) gs
   analysed_known _ _ (first es k gs done few) = known_first es k gs done
-  analysed_known _ _ (further j gs fs ks es k hs before l led done few) =
+  analysed_known _ _ (further j gs fs ks es k hs before l mapped done few) =
       known_next j l hs
       (known_further (up_to j c) gs (analysed_known j gs before) (get_or c.further j no_stage)
-      (w.formed (suc j) (omega (arith, l))).some_branch fs ks led es k hs done)
+      (w.formed (suc j) (omega (arith, l))).some_branch fs ks mapped es k hs done)
 
   pub analysed_basis : (j : ℕ) (gs : List (Terms Fraction)) → Analysed c budget j gs
       → IsBasisOfChain (up_to j c) gs

@@ -12,20 +12,21 @@ use Rattle.loops.specs.Program.{Expr, Program, Statement}
 use Rattle.rounds.specs.Journal.{IsFinishedBy, IsOutFrom}
 use Rattle.rounds.proofs.Forms.{enough_budget}
 use Rattle.corollaries.proofs.Budgets.{more_units}
-use Rattle.corollaries.specs.Between.{between, IsLed, IsExhaustedLeading}
+use Rattle.corollaries.specs.Between.{between, IsMapped, IsExhaustedLeading}
 use Rattle.loops.specs.Chain.{Chain, code_at, loop_at, IsChain}
 use Rattle.corollaries.specs.Analysed.{Analysed, first, further, GivenTo, at_first, behind}
 use Rattle.corollaries.proofs.Analysed.{analysed_basis, analysed_one}
-use Rattle.corollaries.proofs.Led.{led_one}
+use Rattle.corollaries.proofs.Mapped.{mapped_one}
 
 -- code that has been led through within the budget doesn't spend it
 not_exhausted : {At : Type 0} (program : Program (Expr At)) (code : List (Statement (Expr At)))
     (gs : List (Terms Fraction)) (es fs : List Entry) (ks : List (Terms Fraction)) (n : ℕ)
-    → IsLed program code gs es ks → units_of es ≤ n → IsExhaustedLeading program code gs n fs → ⊥
-not_exhausted program [] gs es fs ks n led few out = absurd out
-not_exhausted program (a ∷ code) gs es fs ks n led few out =
+    → IsMapped program code gs es ks → units_of es ≤ n → IsExhaustedLeading program code gs n fs → ⊥
+not_exhausted program [] gs es fs ks n mapped few out = absurd out
+not_exhausted program (a ∷ code) gs es fs ks n mapped few out =
     let M = between program (a ∷ code) gs in
-    let l = more_units M.next M.start [] es fs led.last n led.finished out in omega (arith, few, l)
+    let l = more_units M.next M.start [] es fs mapped.last n mapped.finished out in
+    omega (arith, few, l)
 
 module _ {At : Type 0} (c : Chain (Expr At)) (w : IsChain c) (budget : ℕ) where
   record Within (j : ℕ) : Type 0 where
@@ -62,7 +63,7 @@ module _ {At : Type 0} (c : Chain (Expr At)) (w : IsChain c) (budget : ℕ) wher
         finished = done;
         few = few;
       })
-  within_at _ _ (further n gs fs ks es k hs before inside led done few) j l = go (let z : (j ≤ n)
+  within_at _ _ (further n gs fs ks es k hs before inside mapped done few) j l = go (let z : (j ≤ n)
       ⊎ (j ≡ suc n) = grind arith in z) (within_at n gs before j)
     where
       go : (j ≤ n) ⊎ (j ≡ suc n) → (j ≤ n → Within j) → Within j
@@ -73,7 +74,7 @@ module _ {At : Type 0} (c : Chain (Expr At)) (w : IsChain c) (budget : ℕ) wher
           subst Within (sym z) (record {
             left = h.left;
             given = Some ks;
-            known = behind n gs fs ks h.left before led h.is;
+            known = behind n gs fs ks h.left before mapped h.is;
             entries = es;
             rounds = k;
             list = hs;
@@ -85,10 +86,10 @@ module _ {At : Type 0} (c : Chain (Expr At)) (w : IsChain c) (budget : ℕ) wher
       → GivenTo c budget j left given → GivenTo c budget j more other → (left ≡ more)
       × (given ≡ other)
   same_given _ _ _ _ _ at_first at_first = (refl, refl)
-  same_given _ _ _ _ _ (behind j gs fs ks left a led e) (behind _ hs es ls more b led2 f) =
+  same_given _ _ _ _ _ (behind j gs fs ks left a mapped e) (behind _ hs es ls more b led2 f) =
       let one : gs ≡ hs = analysed_one c w budget j gs hs a (analysed_basis c w budget j hs b) in
-      let u = led_one c.first (code_at c (suc j)) hs fs es ks ls
-      (subst (λ l. IsLed c.first (code_at c (suc j)) l fs ks) one led) led2 in
+      let u = mapped_one c.first (code_at c (suc j)) hs fs es ks ls
+      (subst (λ l. IsMapped c.first (code_at c (suc j)) l fs ks) one mapped) led2 in
       let v = ap units_of u.0 in (omega (arith, e, f, v), ap Some u.1)
 
   pub never_exhausted : (n : ℕ) (gs : List (Terms Fraction)) → Analysed c budget n gs
@@ -108,7 +109,8 @@ module _ {At : Type 0} (c : Chain (Expr At)) (w : IsChain c) (budget : ℕ) wher
       → (j : ℕ) (hs : List (Terms Fraction)) → suc j ≤ n → Analysed c budget j hs
       → (es : List Entry) → IsExhaustedLeading c.first (code_at c (suc j)) hs budget es → ⊥
   never_exhausted_between _ _ (first es k gs done few) j hs l a fs out = absurd (omega (arith, l))
-  never_exhausted_between _ _ (further n gs fs ks es k ls before inside led done few) j hs l a gs2
+  never_exhausted_between _ _ (further n gs fs ks es k ls before inside mapped done few) j hs l a
+      gs2
       out =
       go (let z : (suc j ≤ n) ⊎ (j ≡ n) = grind arith in z)
       (λ m. never_exhausted_between n gs before j
@@ -119,7 +121,8 @@ module _ {At : Type 0} (c : Chain (Expr At)) (w : IsChain c) (budget : ℕ) wher
           let one : gs ≡ hs = analysed_one c w budget n gs hs before (analysed_basis c w budget n hs
           (subst (λ i. Analysed c budget i hs) z a)) in
           not_exhausted c.first (code_at c (suc n)) hs fs gs2 ks budget
-          (subst (λ l. IsLed c.first (code_at c (suc n)) l fs ks) one led) (omega (arith, few))
+          (subst (λ l. IsMapped c.first (code_at c (suc n)) l fs ks) one mapped)
+          (omega (arith, few))
           (subst (λ i. IsExhaustedLeading c.first (code_at c (suc i)) hs budget gs2) z out)
 
       go : (suc j ≤ n) ⊎ (j ≡ n) → (suc j ≤ n → ⊥) → ⊥

@@ -36,8 +36,8 @@ module _ (t m : ℕ) (copied before fs gs ds : List (Terms Fraction)) where
   put p = compose ℚ (t + m) p before
 
   -- the copies at a state, and what is behind it
-  abbrev pub led : List Fraction → List Fraction
-  led s = map (λ c. at c s) copied ++ map (λ f. at f s) fs
+  abbrev pub mapped : List Fraction → List Fraction
+  mapped s = map (λ c. at c s) copied ++ map (λ f. at f s) fs
 
   pub record IsGraph : Type 0 where
     pub count : length copied ≡ t
@@ -47,9 +47,9 @@ module _ (t m : ℕ) (copied before fs gs ds : List (Terms Fraction)) where
     pub as_many : length fs ≡ m
     pub list_arity : AllArity m gs
     pub differences_arity : AllArity (t + m) ds
-    pub tells : (s : List Fraction) → length s ≡ m → map (λ b. at b (led s)) before ≡ s
+    pub tells : (s : List Fraction) → length s ≡ m → map (λ b. at b (mapped s)) before ≡ s
     pub gone : (s : List Fraction) → length s ≡ m → (j : ℕ) → j < length ds
-        → at (get_or ds j []) (led s) ≡ ℚ.zero
+        → at (get_or ds j []) (mapped s) ≡ ℚ.zero
     pub differ : (i : ℕ) → i < m → IsMember ℚ (t + m) (map put gs ++ ds)
         (get_or (drop t (variables ℚ (t + m))) i [] ++ negate ℚ (get_or (map put fs) i []))
 
@@ -70,20 +70,21 @@ module _ (t m : ℕ) (copied before fs gs ds : List (Terms Fraction)) where
     unfolding images
     images_arity = each-append (Arity m) copied fs is.copied_arity is.forms_arity
 
-    at_led : (e : Terms Fraction) (s : List Fraction) → at (compose ℚ m e images) s ≡ at e (led s)
+    at_mapped : (e : Terms Fraction) (s : List Fraction) → at (compose ℚ m e images) s
+        ≡ at e (mapped s)
     unfolding images
-    at_led e s = value_at-compose ℚ_ring m e (copied ++ fs) s
+    at_mapped e s = value_at-compose ℚ_ring m e (copied ++ fs) s
         ∙ ap (at e) (map-append (λ q. at q s) copied fs)
 
     element : (g : Terms Fraction) → Arity m g → Same ℚ (compose ℚ m (put g) images) g
     element g a = same_by_values m _ g (arity-compose m ℚ (put g) images images_arity) a
-        (λ s l. at_led (put g) s ∙ value_at-compose ℚ_ring n g before (led s)
+        (λ s l. at_mapped (put g) s ∙ value_at-compose ℚ_ring n g before (mapped s)
         ∙ ap (at g) (is.tells s l))
 
     difference : (j : ℕ) → j < length ds → Same ℚ (compose ℚ m (get_or ds j []) images) []
     unfolding Each evaluate sum_over
     difference j k = same_by_values m _ [] (arity-compose m ℚ (get_or ds j []) images images_arity)
-        tt (λ s l. at_led (get_or ds j []) s ∙ is.gone s l j k)
+        tt (λ s l. at_mapped (get_or ds j []) s ∙ is.gone s l j k)
 
     there : (us : List (Terms Fraction)) → AllArity m us
         → ((j : ℕ) → j < length us → IsMember ℚ m gs (get_or us j []))
@@ -103,7 +104,7 @@ module _ (t m : ℕ) (copied before fs gs ds : List (Terms Fraction)) where
         let xs = map (λ f. at f s) fs in
         let long : length cs ≡ t = length-map copied (λ c. at c s) ∙ is.count in
         value_at-compose ℚ_ring m p fs s
-        ∙ sym (at_led (in_front t p) s ∙ ap (λ k. at (in_front k p) (cs ++ xs)) (sym long)
+        ∙ sym (at_mapped (in_front t p) s ∙ ap (λ k. at (in_front k p) (cs ++ xs)) (sym long)
         ∙ value_at-pad cs xs p))
 
     forth : (p : Terms Fraction) → Arity m p → IsMember ℚ n (map put gs ++ ds) (in_front t p)

@@ -51,14 +51,14 @@ module _ {At : Type 0} (c : Chain (Expr At)) where
   some_run w =
       let zeros : List Fraction = replicate (length c.first.names) ℚ.zero in
       let s : List Fraction = start_from ℚ (λ x. x) c.first zeros in
-      let led = no_letters c.first (stages_of c) s in
+      let mapped = no_letters c.first (stages_of c) s in
       record {
         start = s;
         words = map (λ g. []) (stages_of c);
-        end = led.0;
+        end = mapped.0;
         is_start = start_from_is c.first (w.formed 0 (omega arith)) zeros
             (length-replicate (length c.first.names) ℚ.zero);
-        is_end = led.1;
+        is_end = mapped.1;
       }
 
   pub one_no_invariant : IsChain c → ChainInv c (constant (length c.first.names) ℚ.one) → ⊥

@@ -11,7 +11,7 @@ use Rattle.rounds.proofs.Run.{value_after_word, letters_of_run, end_of_letters}
 use Rattle.rounds.proofs.Word.{arity-after_word}
 use Rattle.rounds.specs.Kept.{IsKept}
 use Rattle.loops.specs.Chain.{Chain, Stage, stages_of, loop_of, state_behind, followed_by, ChainRun, ChainInv}
-use Rattle.corollaries.proofs.Led.{IsZeroBehind}
+use Rattle.corollaries.proofs.Mapped.{IsZeroBehind}
 use Rattle.loops.proofs.ChainRuns.{behind_state, chain_keeps_state, chain_goes_on, last_word}
 
 module _ {At : Type 0} (c : Chain (Expr At)) (g : Stage (Expr At)) (ks : List (Terms Fraction))

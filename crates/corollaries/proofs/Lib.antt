@@ -6,7 +6,7 @@ pub mod Ended
 pub mod Budgets
 pub mod States
 pub mod Ideal
-pub mod Led
+pub mod Mapped
 pub mod Kept
 pub mod Analysed
 pub mod Exhausted

@@ -10,7 +10,7 @@ use Rattle.machines.specs.Journal.{Entry, units_of}
 use Rattle.machines.specs.Reduced.{IsReducedFor}
 use Rattle.loops.specs.Program.{Expr}
 use Rattle.rounds.specs.Journal.{IsFinished, IsFinishedFrom}
-use Rattle.corollaries.specs.Between.{IsLed}
+use Rattle.corollaries.specs.Between.{IsMapped}
 use Rattle.loops.specs.Chain.{Chain, code_at, loop_at, ChainInv}
 
 module _ {At : Type 0} (c : Chain (Expr At)) where
@@ -19,14 +19,14 @@ module _ {At : Type 0} (c : Chain (Expr At)) where
         → units_of es ≤ budget → Analysed budget 0 gs
     further : (j : ℕ) (gs : List (Terms Fraction)) (fs : List Entry) (ks : List (Terms Fraction))
         (es : List Entry) (k : ℕ) (hs : List (Terms Fraction)) → Analysed budget j gs
-        → j < length c.further → IsLed c.first (code_at c (suc j)) gs fs ks
+        → j < length c.further → IsMapped c.first (code_at c (suc j)) gs fs ks
         → IsFinishedFrom (loop_at c (suc j)) ks es k hs → units_of fs + units_of es ≤ budget
         → Analysed budget (suc j) hs
 
   pub data GivenTo (budget : ℕ) : ℕ → ℕ → Option (List (Terms Fraction)) → Type 0 where
     at_first : GivenTo budget 0 budget None
     behind : (j : ℕ) (gs : List (Terms Fraction)) (fs : List Entry) (ks : List (Terms Fraction))
-        (left : ℕ) → Analysed budget j gs → IsLed c.first (code_at c (suc j)) gs fs ks
+        (left : ℕ) → Analysed budget j gs → IsMapped c.first (code_at c (suc j)) gs fs ks
         → units_of fs + left ≡ budget → GivenTo budget (suc j) left (Some ks)
 
   abbrev pub IsBasisOfChain : List (Terms Fraction) → Type 0

@@ -6,10 +6,10 @@
 --   IsPastMaking program code gs  the weight of a composition or of a difference that makes an element of it is past
 --   between program code gs       the elimination, as a machine, with the making of that list;  list_of m code s: its list in the state s
 --   Leads program code gs es ks   the entries es are those of the elimination from the basis gs, which has ended with the list ks
---   IsLed program code gs es ks   where there is code this is so; without code there are no entries, and ks is gs
+--   IsMapped program code gs es ks   where there is code this is so; without code there are no entries, and ks is gs
 --   IsExhaustedLeading program code gs limit es   there is code, the entries es are a beginning of that, have as many units as the limit, and what comes next is a unit
 --   IsPastLeading program code gs es      there is code, and the weight of making its list is past; or the es are a beginning of that, and the weight of what comes next is
---   HasLed program code gs es     the es are a beginning of that, or none
+--   HasMapped program code gs es     the es are a beginning of that, or none
 use Rattle.std.specs.Prelude.{◌≡◌, ◌⊎◌, ◌+◌, ℕ, List, [], ◌∷◌, map, get_or, length}
 use Rattle.std.specs.List.{Any}
 use Rattle.algebra.specs.Fraction.{Fraction, fractions, rationals}
@@ -74,10 +74,10 @@ module _ {At : Type 0} (program : Program (Expr At)) (code : List (Statement (Ex
     pub list : ks ≡ list_of (length program.names) code last
 
 module _ {At : Type 0} (program : Program (Expr At)) where
-  abbrev pub IsLed : List (Statement (Expr At)) → List (Terms Fraction) → List Entry
+  abbrev pub IsMapped : List (Statement (Expr At)) → List (Terms Fraction) → List Entry
       → List (Terms Fraction) → Type 0
-  IsLed [] gs es ks = (es ≡ []) × (ks ≡ gs)
-  IsLed (a ∷ code) gs es ks = Leads program (a ∷ code) gs es ks
+  IsMapped [] gs es ks = (es ≡ []) × (ks ≡ gs)
+  IsMapped (a ∷ code) gs es ks = Leads program (a ∷ code) gs es ks
 
   abbrev pub IsExhaustedLeading : List (Statement (Expr At)) → List (Terms Fraction) → ℕ
       → List Entry
@@ -93,7 +93,7 @@ module _ {At : Type 0} (program : Program (Expr At)) where
       let M = between program (a ∷ code) gs in
       PastAfter M.next M.IsPastNext M.start [] es ⊎ ((es ≡ []) × M.IsPastStart)
 
-  abbrev pub HasLed : List (Statement (Expr At)) → List (Terms Fraction) → List Entry → Type 0
-  HasLed [] gs es = ⊥
-  HasLed (a ∷ code) gs es =
+  abbrev pub HasMapped : List (Statement (Expr At)) → List (Terms Fraction) → List Entry → Type 0
+  HasMapped [] gs es = ⊥
+  HasMapped (a ∷ code) gs es =
       let M = between program (a ∷ code) gs in WorkFrom M.next M.start [] es

@@ -13,7 +13,7 @@ ghost use Rattle.rounds.specs.Generate.{Generates};
 ghost use Rattle.rounds.specs.Journal.{IsOutFrom};
 ghost use Rattle.rounds.specs.Kept.{IsKept};
 ghost use Rattle.rounds.specs.Orbit.{IsEliminated};
-ghost use Rattle.corollaries.specs.Between.{Leads, IsLed, IsExhaustedLeading};
+ghost use Rattle.corollaries.specs.Between.{Leads, IsMapped, IsExhaustedLeading};
 ghost use Rattle.loops.specs.Chain.{Chain, Stage, stages_of, loop_of, loop_at, code_at, followed_by, up_to, count_codes, chain_states, ChainRun, ChainInv, IsChain};
 ghost use Rattle.corollaries.specs.CodeBetween.{copies, code_list, LeadsOn};
 ghost use Rattle.corollaries.specs.Analysed.{Analysed, GivenTo, IsBasisOfChain};
@@ -39,7 +39,7 @@ pub fn chain_runs_go_through_states<At>()
 pub fn what_a_loop_keeps_is_invariant<At>()
     ensures { (c : Chain (Expr At)) (g : Stage (Expr At)) (gs ks : List (Terms Fraction))
         (es : List Entry) → Generates (length c.first.names) gs (ChainInv c)
-        → IsLed c.first g.code gs es ks
+        → IsMapped c.first g.code gs es ks
         → (p : Terms Fraction) → Arity (length c.first.names) p
         → IsKept (loop_of c.first g.branches) ks p ↔ ChainInv (followed_by c g) p }
 {}

@@ -9,7 +9,7 @@ use Rattle.algebra.specs.Each.{Each}
 use Rattle.algebra.specs.Fraction.{Fraction, ℚ}
 use Rattle.polynomials.specs.Terms.{Terms, constant, times}
 use Rattle.poly.specs.Seen.{Is, terms_in, terms_each}
-use Rattle.poly.specs.Standing.{IsOver}
+use Rattle.poly.specs.Standing.{IsInVariables}
 use Rattle.poly.proofs.Standing.{arities_over}
 use Rattle.loop_model.specs.FracPoly.{FracPoly}
 use Rattle.loop_model.specs.Operations.{sum_at}
@@ -48,7 +48,7 @@ module _ (m : ℕ) where
       subst (λ x. IsPowerProduct m images e x) same.1
       (subst (λ d. IsPowerProduct m images d t.image) same.0 here)
 
-  module _ (images : List FracPoly) (over : All (IsOver m) images) (t : List ℕ × Fraction)
+  module _ (images : List FracPoly) (over : All (IsInVariables m) images) (t : List ℕ × Fraction)
       (n : t.1 ≢ ℚ.zero) (q total : FracPoly)
       (h : IsPowerProduct m (terms_each images) t.0 q) where
     pub adds_term : (next : FracPoly) → AddsMultiple t.1 q total next

@@ -25,7 +25,7 @@ use Rattle.loops.proofs.Maps.{arity-start_map, arity-branch_map}
 use Rattle.rounds.specs.Word.{IsLetter, branch_of, after_word}
 use Rattle.rounds.proofs.Word.{arity-after_word}
 use Rattle.poly.specs.Seen.{terms_in, terms_each}
-use Rattle.poly.specs.Standing.{IsOver, StandsFor, AllStandFor}
+use Rattle.poly.specs.Standing.{IsInVariables, StandsFor, AllStandFor}
 use Rattle.poly.proofs.Standing.{polynomial_over, arity_over, zero_tells, stands_same, stands_over, arities_over}
 use Rattle.loop_model.specs.FracPoly.{FracPoly}
 use Rattle.loop_model.specs.Operations.{Operation, IsFree, PassesLimit, IsFirst}
@@ -234,9 +234,9 @@ module _ (program : Program (Expr ℕ)) (p : Terms Fraction)
         (composition_onto t.polynomial.arity qs [] (terms_in t.polynomial)) r
 
     pub images_over : (images : List FracPoly) (maps : List (Terms Fraction))
-        → AllStandFor m images maps → All (IsOver t.polynomial.arity) images
+        → AllStandFor m images maps → All (IsInVariables t.polynomial.arity) images
     images_over images maps all =
-        subst (λ n. All (IsOver n) images) (sym composed.stands.arity)
+        subst (λ n. All (IsInVariables n) images) (sym composed.stands.arity)
         (stands_over m images maps all)
 
     module _ (b : ℕ) (letter : IsLetter program b) (images : List FracPoly)

@@ -4,7 +4,7 @@ ghost use Rattle.algebra.specs.Fraction.{ℚ};
 ghost use Rattle.frac128.specs.FracMeaning.{fraction_of};
 ghost use Rattle.monos.specs.Variables.{most_variables};
 ghost use Rattle.poly.specs.Seen.{terms_in, terms_each};
-ghost use Rattle.poly.specs.Standing.{IsOver};
+ghost use Rattle.poly.specs.Standing.{IsInVariables};
 ghost use Rattle.poly.specs.View.{term_of};
 ghost use Rattle.loop_model.specs.Stops.{Forms};
 ghost use Rattle.counter_run.specs.Composition.{composition_onto, composition_operations};
@@ -37,7 +37,7 @@ pub(crate) fn compose(
     images: &Vec<Poly<Frac, Grevlex>>,
     known: &mut Vec<MonomialImage>,
 ) -> Result<Poly<Frac, Grevlex>, MapError>
-    requires images { All (IsOver polynomial.now.arity) images.now.items }
+    requires images { All (IsInVariables polynomial.now.arity) images.now.items }
     requires known { AreMonomialImages polynomial.now.arity (terms_each images.now.items)
         known.old.items }
     ensures forms { let m = polynomial.now.arity in let qs = terms_each images.now.items in
@@ -61,7 +61,7 @@ fn combine(
     images: &Vec<Poly<Frac, Grevlex>>,
     known: &mut Vec<MonomialImage>,
 ) -> Result<Poly<Frac, Grevlex>, MapError>
-    requires images { All (IsOver polynomial.now.arity) images.now.items }
+    requires images { All (IsInVariables polynomial.now.arity) images.now.items }
     requires known { AreMonomialImages polynomial.now.arity (terms_each images.now.items)
         known.old.items }
     ensures combined { IfOk result (IsComposed polynomial.now.arity (terms_each images.now.items)
@@ -86,8 +86,8 @@ fn with_term(
     known: &mut Vec<MonomialImage>,
 ) -> Result<Poly<Frac, Grevlex>, MapError>
     requires few { arity ≤ most_variables }
-    requires total { IsOver arity total.now }
-    requires images { All (IsOver arity) images.now.items }
+    requires total { IsInVariables arity total.now }
+    requires images { All (IsInVariables arity) images.now.items }
     requires nonzero { fraction_of term.now.coef ≢ ℚ.zero }
     requires known { AreMonomialImages arity (terms_each images.now.items) known.old.items }
     ensures sum { IfOk result (Adds arity (terms_each images.now.items)
@@ -144,7 +144,7 @@ fn with_multiple(
     number: &Frac,
     image: &Poly<Frac, Grevlex>,
 ) -> Result<Poly<Frac, Grevlex>, MapError>
-    requires { IsOver total.now.arity image.now }
+    requires { IsInVariables total.now.arity image.now }
     ensures { IfOk result (AddsMultiple (fraction_of number.now) image.now total.now) }
 {
     let multiple = match image.scale(alloc, number) {

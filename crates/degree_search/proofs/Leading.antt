@@ -13,14 +13,14 @@ use Rattle.polynomials.specs.Terms.{Terms}
 use Rattle.machines.specs.Cut.{lead_of, divides}
 use Rattle.machines.proofs.Tidied.{divides-trans}
 use Rattle.closures.specs.Modulo.{IsMultiple}
-use Rattle.residues.specs.EchelonForm.{entry, Led, leads_in, IsLed, IsKept}
+use Rattle.residues.specs.EchelonForm.{entry, Led, leads_in, IsLed, IsReducedEchelon}
 use Rattle.residues.proofs.Dots.{multiple_to, first_part}
 use Rattle.degree_search.specs.ElementParts.{share_sum, LeadsElement, has_divisor}
 use Rattle.degree_search.proofs.Leads.{IsElementOf, IsFoundTo, IsDivided, lead_is, none_divides, not_true}
 use Rattle.degree_search.proofs.Shares.{none_shared, arity_at}
 
 module _ (q : ℤ) (none : IsMultiple q (pos 1) → ⊥) (n : ℕ) (es : List (List ℕ)) (ls : List Led)
-    (kept : IsKept q n ls) where
+    (kept : IsReducedEchelon q n ls) where
   pub element_free : (c : ℕ) (g : Terms Fraction) (x : IsElementOf q es ls c g)
       → In x.column (leads_in ls) → ⊥
   element_free c g x i =

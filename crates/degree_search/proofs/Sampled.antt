@@ -1,4 +1,4 @@
--- The turns of a sampling.
+-- The iterations of a sampling.
 --   counted_at, idle_at     behind a sample whose row counts, and behind one whose row doesn't
 --   refuted_at              behind the row of a run with a word that counters
 use Rattle.std.proofs.Common.{◌≡◌, ℕ, suc, ℤ, pos, List, [], ◌∷◌, ◌++◌, length, arith, sym, ap, ap₂, subst, ◌∙◌}
@@ -10,7 +10,7 @@ use Rattle.loops.specs.Program.{Expr, Program}
 use Rattle.closures.specs.Closing.{Candidate, countered}
 use Rattle.closures.specs.Ends.{ComesNext}
 use Rattle.residues.specs.Modulus.{modulus}
-use Rattle.residues.specs.EchelonForm.{Form, IsEchelonOf, IsMore, IsNew, IsOld}
+use Rattle.residues.specs.EchelonForm.{Form, IsEchelonOf, IsWithRow, IsIndependent, IsDependent}
 use Rattle.degree_search.specs.Draws.{after_draws}
 use Rattle.degree_search.specs.Maps.{AreMapsModulo}
 use Rattle.degree_search.specs.Sampling.{IsAt, IsRefuted}
@@ -24,7 +24,7 @@ module _ (program : Program (Expr ℕ)) (d : ℕ) where
   abbrev m : ℕ
   m = length program.names
 
-  -- what a turn leaves alone
+  -- what an iteration leaves alone
   pub record IsBehind (s t : Sampling) : Type 0 where
     pub monomials : t.monomials.items ≡ s.monomials.items
     pub maps : t.maps ≡ s.maps
@@ -32,7 +32,7 @@ module _ (program : Program (Expr ℕ)) (d : ℕ) where
 
   module _ (ps : List Part) (s t : Sampling) (a : IsAt program d ps s) (b : IsBehind s t)
       (row : List ℤ) where
-    pub more_rows : IsMore q s.echelon row t.echelon
+    pub more_rows : IsWithRow q s.echelon row t.echelon
         → IsEchelonOf q t.echelon.width (rows_of ps ++ row ∷ []) t.echelon.rows
     more_rows more =
         subst (λ n. IsEchelonOf q n (rows_of ps ++ row ∷ []) t.echelon.rows) (sym b.width)
@@ -49,7 +49,7 @@ module _ (program : Program (Expr ℕ)) (d : ℕ) where
           ≡ after_draws (after_draws (state_of program ps) m) (samples_of ps)
       same_draws = draws ∙ ap₂ (λ x k. after_draws (after_draws x m) k) a.draws a.taken
 
-      pub counted_at : IsMore q s.echelon row t.echelon → IsNew q s.echelon row
+      pub counted_at : IsWithRow q s.echelon row t.echelon → IsIndependent q s.echelon row
           → t.counted ≡ suc s.counted → t.idle ≡ 0 → IsAt program d (counted row ∷ ps) t
       unfolding IsSearch rows_of samples_of idle_of state_of
       counted_at more new c i = record {
@@ -65,7 +65,7 @@ module _ (program : Program (Expr ℕ)) (d : ℕ) where
         idle = i;
       }
 
-      pub idle_at : t.echelon ≡ s.echelon → IsOld q s.echelon row → t.counted ≡ s.counted
+      pub idle_at : t.echelon ≡ s.echelon → IsDependent q s.echelon row → t.counted ≡ s.counted
           → t.idle ≡ suc s.idle → IsAt program d (idle row ∷ ps) t
       unfolding IsSearch rows_of samples_of idle_of state_of
       idle_at same old c i = record {

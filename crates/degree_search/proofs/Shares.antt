@@ -27,7 +27,7 @@ use Rattle.closures.specs.Monomials.{AreAscending}
 use Rattle.closures.proofs.Modulo.{residue_zero}
 use Rattle.residues.specs.Modulus.{modulus}
 use Rattle.residues.specs.Limited.{IsFractionOf}
-use Rattle.residues.specs.EchelonForm.{entry, pick, Led, leads_in, IsLed, AreClear, AreApart, IsKept}
+use Rattle.residues.specs.EchelonForm.{entry, pick, Led, leads_in, IsLed, AreClear, AreApart, IsReducedEchelon}
 use Rattle.residues.proofs.Dots.{multiple_to, dot_first, dot_zero}
 use Rattle.residues.proofs.Picked.{other_lead}
 use Rattle.degree_search.specs.ElementParts.{Share, columns_in, numbers_in, share_sum, IsTermAt, Falls, IsElementTo}
@@ -124,7 +124,8 @@ module _ (q : ℤ) (none : IsMultiple q (pos 1) → ⊥) where
       (none_shared ls a l i ss h.1 d.1))
 
   -- ---- an element, column by column
-  module _ (n : ℕ) (es : List (List ℕ)) (ls : List Led) (kept : IsKept q n ls) (c : ℕ) where
+  module _ (n : ℕ) (es : List (List ℕ)) (ls : List Led) (kept : IsReducedEchelon q n ls)
+      (c : ℕ) where
     pub row_ones : Each (λ l. AreCongruent q (entry l.row l.lead) (pos 1)) ls
     row_ones = each_weaker (IsLed q n) IsOne (λ l i. i.one) ls kept.led
 

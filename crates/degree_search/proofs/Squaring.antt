@@ -51,13 +51,13 @@ one_start : (n : ℕ) → start_at squaring (n ∷ []) ≡ whole (pos n) ∷ []
 unfolding start_from init_statement after_statement store
 one_start n = start_map_values squaring (whole (pos n) ∷ []) refl
 
-no_turn : (w : Fraction) → run_end squaring [] (w ∷ []) ≡ Some (w ∷ [])
+no_iteration : (w : Fraction) → run_end squaring [] (w ∷ []) ≡ Some (w ∷ [])
 unfolding run_end
-no_turn w = refl
+no_iteration w = refl
 
-one_turn : (w : Fraction) → run_end squaring (1 ∷ []) (w ∷ []) ≡ Some (ℚ.mul w w ∷ [])
+one_iteration : (w : Fraction) → run_end squaring (1 ∷ []) (w ∷ []) ≡ Some (ℚ.mul w w ∷ [])
 unfolding run_end branch_at after_branch after_statement store value_of
-one_turn w = refl
+one_iteration w = refl
 
 monomial_one : (w : Fraction) → monomial_at ℚ (w ∷ []) (0 ∷ []) ≡ whole (pos 1)
 unfolding monomial_at power
@@ -125,7 +125,7 @@ second_word one = refl
 first_row : (row : List ℤ) → IsRow squaring 1 [] (word_of squaring []) row
     → IsRowTo q (pos first_number) row
 first_row row h =
-    row_at first_number row [] (pos first_number) (no_turn (whole (pos first_number)))
+    row_at first_number row [] (pos first_number) (no_iteration (whole (pos first_number)))
     (subst (λ ns. IsRowOf squaring q (monomials squaring 1) ns [] row) first_numbers
     (subst (λ w. IsRow squaring 1 [] w row) first_word h))
 
@@ -135,7 +135,7 @@ second_row : (one row : List ℤ)
 second_row one row h =
     let w = whole (pos second_number) in
     row_at second_number row (1 ∷ []) second_value
-    (one_turn w
+    (one_iteration w
     ∙ ap (λ v. Some (v ∷ [])) (product-whole (pos second_number) (pos second_number)))
     (subst (λ ns. IsRowOf squaring q (monomials squaring 1) ns (1 ∷ []) row) (second_numbers one)
     (subst (λ v. IsRow squaring 1 (counted one ∷ []) v row) (second_word one) h))

@@ -26,7 +26,7 @@ use Rattle.poly.specs.declared.Term.{Term}
 use Rattle.residues.specs.Modulus.{modulus}
 use Rattle.residues.specs.Numbers.{number_of, numbers_of}
 use Rattle.residues.specs.Limited.{IsFractionOf}
-use Rattle.residues.specs.EchelonForm.{entry, Led, IsLed, IsKept}
+use Rattle.residues.specs.EchelonForm.{entry, Led, IsLed, IsReducedEchelon}
 use Rattle.residues.specs.LedRows.{led_of}
 use Rattle.residues.specs.declared.echelon.LedRow.{LedRow}
 use Rattle.residues.specs.declared.residue.Residue.{Residue}
@@ -127,7 +127,8 @@ first_term olds news t e f n p m g =
     ∙ ap (λ l. terms_of fraction_of l ++ (e, f) ∷ []) n
 
 -- ---- a column more
-module _ (es : List (List ℕ)) (ls : List Led) (kept : IsKept (pos modulus) (length es) ls) (c : ℕ)
+module _ (es : List (List ℕ)) (ls : List Led) (kept : IsReducedEchelon (pos modulus) (length es) ls)
+    (c : ℕ)
   where
     before : (i : ℕ) → 0 < i → suc (i - 1) ≡ i
     before i l = omega (arith, l)
@@ -169,7 +170,7 @@ module _ (es : List (List ℕ)) (ls : List Led) (kept : IsKept (pos modulus) (le
           leads t.number t.is s.fraction t.fraction t.some (omega (arith, positive, within)) q
           (s.pushed ∙ ap (λ x. p ++ (x, s.fraction) ∷ []) m)
 
-pub row_wide : (es : List (List ℕ)) (ls : List Led) → IsKept (pos modulus) (length es) ls
+pub row_wide : (es : List (List ℕ)) (ls : List Led) → IsReducedEchelon (pos modulus) (length es) ls
     → (r : LedRow) → In (led_of r) ls → (c : ℕ) → c < length es → c < length r.entries.items
 row_wide es ls kept r j c l =
     let w = row_width (pos modulus) (length es) r

@@ -10,7 +10,7 @@ use Rattle.std.proofs.Common.{◌≡◌, inl, inr, ℕ, zero, suc, ◌<◌, ◌�
 use Rattle.machines.specs.Journal.{Entry, Begin, Sample, units_of}
 use Rattle.loops.specs.Program.{Expr, Program}
 use Rattle.residues.specs.Modulus.{modulus}
-use Rattle.residues.specs.EchelonForm.{IsEchelonOf, IsMore, IsNew, IsOld, IsStuck}
+use Rattle.residues.specs.EchelonForm.{IsEchelonOf, IsWithRow, IsIndependent, IsDependent, IsStuck}
 use Rattle.residues.specs.declared.echelon.Addition.{Addition}
 use Rattle.residues.specs.declared.echelon.Addition.TheVariants.{Counts, Combination}
 use Rattle.std.specs.declared.alloc.AllocError.{AllocError}
@@ -77,8 +77,8 @@ module _ (program : Program (Expr ℕ)) (d : ℕ) (before after : List Entry) (s
         drawn : t.draws.number ≡ after_draws (after_draws s.draws.number m) s.taken
         drawn = draws ∙ y_is ∙ ap (λ z. after_draws z s.taken) x_is
 
-        pub taken_counts : IsMore (pos modulus) s.echelon row t.echelon
-            → IsNew (pos modulus) s.echelon row → t.counted ≡ suc s.counted → t.idle ≡ 0
+        pub taken_counts : IsWithRow (pos modulus) s.echelon row t.echelon
+            → IsIndependent (pos modulus) s.echelon row → t.counted ≡ suc s.counted → t.idle ≡ 0
             → IsSampled program d after t
         unfolding entries_of
         taken_counts more new c i = record {
@@ -87,7 +87,7 @@ module _ (program : Program (Expr ℕ)) (d : ℕ) (before after : List Entry) (s
           entries = entries_are;
         }
 
-        pub taken_idle : t.echelon ≡ s.echelon → IsOld (pos modulus) s.echelon row
+        pub taken_idle : t.echelon ≡ s.echelon → IsDependent (pos modulus) s.echelon row
             → t.counted ≡ s.counted → t.idle ≡ suc s.idle → IsSampled program d after t
         unfolding entries_of
         taken_idle same old c i = record {
@@ -168,7 +168,7 @@ module _ (program : Program (Expr ℕ)) (d : ℕ) (ps : List Part) (s : Sampling
 
   pub refuted_counts : (t : Sampling) → IsBehind program d s t → t.taken ≡ s.taken
       → t.draws.number ≡ after_draws s.draws.number (length program.names)
-      → IsMore (pos modulus) s.echelon row t.echelon → IsNew (pos modulus) s.echelon row
+      → IsWithRow (pos modulus) s.echelon row t.echelon → IsIndependent (pos modulus) s.echelon row
       → t.counted ≡ suc s.counted → t.idle ≡ 0 → IsRefuted program d ps w t
   refuted_counts t b taken draws more new c i = record {
     row = row;
@@ -187,7 +187,7 @@ module _ (program : Program (Expr ℕ)) (d : ℕ) (ps : List Part) (s : Sampling
     draws = draws ∙ ap (λ z. after_draws z (length program.names)) a.draws;
   }
 
-  pub refuted_old : IsOld (pos modulus) s.echelon row → IsUnrefuted program d ps w
+  pub refuted_old : IsDependent (pos modulus) s.echelon row → IsUnrefuted program d ps w
   refuted_old old =
       record { row = row; is_row = is_drawn_so; none = inl (old (rows_of ps) a.echelon) }
 

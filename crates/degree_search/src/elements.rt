@@ -14,7 +14,7 @@ ghost use Rattle.frac128.specs.FracMeaning.{fraction_of as meaning_of};
 ghost use Rattle.poly.specs.Seen.{terms_in, terms_each};
 ghost use Rattle.poly.specs.View.{terms_of};
 ghost use Rattle.residues.specs.Modulus.{modulus};
-ghost use Rattle.residues.specs.EchelonForm.{entry, leads_in, IsEchelonOf, IsKept};
+ghost use Rattle.residues.specs.EchelonForm.{entry, leads_in, IsEchelonOf, IsReducedEchelon};
 ghost use Rattle.residues.specs.Numbers.{numbers_of};
 ghost use Rattle.degree_search.specs.ElementParts.{IsElementOf, IsElementTo, LeadsElement, IsUntold, IsPushed, HasNoFraction, has_divisor};
 ghost use Rattle.degree_search.specs.Elements.{IsValueRow, IsZeroRow, IsCandidate, standard_in};
@@ -112,7 +112,7 @@ fn leads_element(
 ) -> bool
     requires arities { Each (λ g. length (lead_of g) ≡ length mono.now) (terms_each elements.now) }
     requires nonzero { Each (λ g. g ≢ []) (terms_each elements.now) }
-    ensures kept { IsKept (pos modulus) echelon.now.width echelon.now.rows }
+    ensures kept { IsReducedEchelon (pos modulus) echelon.now.width echelon.now.rows }
     ensures free { result ≡ true → Each (λ l. l.lead ≢ column) echelon.now.rows }
     ensures undivided { result ≡ true
         → has_divisor (map lead_of (terms_each elements.now)) mono.now ≡ false }
@@ -154,7 +154,7 @@ fn element_at(
     requires arities { Each (λ e. length e ≡ arity) monomials.now }
     requires ascend { AreAscending monomials.now }
     requires within { column < length monomials.now }
-    requires kept { IsKept (pos modulus) (length monomials.now) echelon.now.rows }
+    requires kept { IsReducedEchelon (pos modulus) (length monomials.now) echelon.now.rows }
     requires free { Each (λ l. l.lead ≢ column) echelon.now.rows }
     ensures arity { IfOk result (λ p. p.arity ≡ arity) }
     ensures element { IfOk result (λ p.

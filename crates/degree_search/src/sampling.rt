@@ -70,7 +70,7 @@ impl Sampling {
     }
 }
 
-/// Takes the next sample: a random run with as many turns as samples were taken.
+/// Takes the next sample: a random run with as many iterations as samples were taken.
 fn take(
     alloc: Global,
     lp: &Loop,

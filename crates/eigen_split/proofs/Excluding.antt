@@ -1,7 +1,7 @@
 -- A candidate at which an annihilating polynomial modulo 65,521 is not zero is no eigenvalue.
 --   natural-residue, rest_divides     what whole numbers leave
 --   entry-square, none_annihilates    entries; the polynomial zero
---   excluded, excluded_turn     the candidate is no eigenvalue
+--   excluded, excluded_iteration     the candidate is no eigenvalue
 use Rattle.std.proofs.Common.{◌≡◌, ◌≢◌, inl, inr, ℕ, zero, suc, ◌+◌, ◌%◌, ◌<◌, ◌≤◌, ℤ, pos, negsuc, neg_ℤ, Bool, true, false, cond, eqb, List, [], ◌∷◌, map, length, get_or, refl, sym, ap, ap₂, subst, ◌∙◌, arith, lit<}
 use Prim.Native.Nat.{◌∣◌}
 use native.Mathlib.Nat as N
@@ -31,13 +31,13 @@ use Rattle.vectors.specs.Rows.{Row, rows_of}
 use Rattle.vectors.specs.Space.{Space}
 use Rattle.vectors.specs.Splitting.{shift}
 use Rattle.vectors.proofs.EchelonKernel as EK
-use Rattle.vectors.proofs.ResidueRoots.{total-on_diagonal, IsNext, Meets, meets_next, meets_zero, meets_none, whole_at, total-of_int, KillsNone, leaves_none}
+use Rattle.vectors.proofs.ResidueRoots.{total-on_diagonal, IsNext, IsEigenvector, eigenvector_next, eigenvector_zero, eigenvector_none, whole_at, total-of_int, KillsNone, leaves_none}
 use Rattle.vectors.proofs.RowLaws as RL
 use Rattle.vectors.proofs.SplitDecided.{zero-den, row_some, denominator_some, whole_number-is}
 use Rattle.vectors.proofs.WholeEigen.{times_int}
 use Rattle.eigen_split.specs.Ints.{shifted_entry, IsReady}
 use Rattle.eigen_split.specs.Residues.{GF, square, entry_in, zeros, dot_in, next_entry, next_in, matrix_in, value_in, residue_at, residue_columns, IsAnnihilating}
-use Rattle.eigen_split.specs.Search.{Found, IsNoEigenvalue, IsTurn, no_eigenvalue}
+use Rattle.eigen_split.specs.Search.{Found, IsNoEigenvalue, IsIteration, no_eigenvalue}
 use Rattle.eigen_split.proofs.Acting.{acts_once, shifted-at}
 use Rattle.eigen_split.proofs.Forming.{over-is}
 use Rattle.eigen_split.proofs.Multiples.{in_row, shifted_entry-is}
@@ -107,16 +107,17 @@ module _ (n : ℕ) (columns : List (List (Residue 65521))) (wide : (j : ℕ) →
       ∙ ap (λ a. GF.add a (cond (eqb i j) c GF.zero)) (dot_in-total K n (get_or rows i [])
       (get_or columns j []) (w i l) (wide j h))
 
-  scheme_meets : (y : ℕ → Residue 65521) (p : Residue 65521) → Meets K n y B p
+  scheme_eigenvector : (y : ℕ → Residue 65521) (p : Residue 65521) → IsEigenvector K n y B p
       → (cs : List (Residue 65521)) (rows : List (List (Residue 65521))) (s : Residue 65521)
       → ((i : ℕ) → i < n → length (get_or rows i []) ≡ n)
-      → Meets K n y (entry_in GF rows) s
-      → Meets K n y (entry_in GF (matrix_in GF n columns rows cs)) (value_in GF p s cs)
-  scheme_meets y p eigen [] rows s w m = m
-  scheme_meets y p eigen (c ∷ cs) rows s w m =
-      scheme_meets y p eigen cs (next_in GF n columns c rows) (GF.add (GF.mul s p) c)
+      → IsEigenvector K n y (entry_in GF rows) s
+      → IsEigenvector K n y (entry_in GF (matrix_in GF n columns rows cs)) (value_in GF p s cs)
+  scheme_eigenvector y p eigen [] rows s w m = m
+  scheme_eigenvector y p eigen (c ∷ cs) rows s w m =
+      scheme_eigenvector y p eigen cs (next_in GF n columns c rows) (GF.add (GF.mul s p) c)
       (square-width GF n (λ i j. next_entry GF columns c (get_or rows i []) i j))
-      (meets_next K n y B p eigen c s (entry_in GF rows) (entry_in GF (next_in GF n columns c rows))
+      (eigenvector_next K n y B p eigen c s (entry_in GF rows)
+      (entry_in GF (next_in GF n columns c rows))
       (next-is c rows w) m)
 
 -- ---- the multiple of the matrix less p
@@ -146,7 +147,7 @@ module _ (n : ℕ) (rows : List (List Fraction)) (p : ℤ) where
   multiplied : {A : Type 0} (F : Field A) (y : ℕ → A)
       → ((j : ℕ) → j < n → total F n (λ i. F.mul (of_int F.ring (whole_at F tables i j)) (y i))
       ≡ F.zero)
-      → Meets F n y (λ i j. of_int F.ring (number i j)) (of_int F.ring p)
+      → IsEigenvector F n y (λ i j. of_int F.ring (number i j)) (of_int F.ring p)
   multiplied {A} F y killed j h =
       let q = F.neg (of_int F.ring p) in
       let product : ℕ → A = λ i. F.mul (of_int F.ring (number i j)) (y i) in
@@ -168,8 +169,9 @@ module _ (n : ℕ) (rows : List (List Fraction)) (p : ℤ) where
     abbrev columns : List (List (Residue 65521))
     columns = residue_columns n d rows
 
-    residues_meet : (y : ℕ → Residue 65521) → Meets K n y (λ i j. integer_in GF (number i j))
-        (integer_in GF p) → Meets K n y (λ l j. entry_in GF columns j l) (integer_in GF p)
+    residues_meet : (y : ℕ → Residue 65521)
+        → IsEigenvector K n y (λ i j. integer_in GF (number i j))
+        (integer_in GF p) → IsEigenvector K n y (λ l j. entry_in GF columns j l) (integer_in GF p)
     residues_meet y m j h =
         EK.total_same K n (λ l. GF.mul (entry_in GF columns j l) (y l))
         (λ l. GF.mul (integer_in GF (number l j)) (y l))
@@ -178,11 +180,11 @@ module _ (n : ℕ) (rows : List (List Fraction)) (p : ℤ) where
 
     none_left : KillsNone K n tables
     none_left y killed =
-        meets_none K n y (entry_in GF (matrix_in GF n columns (zeros GF n) cs)) root.none
+        eigenvector_none K n y (entry_in GF (matrix_in GF n columns (zeros GF n) cs)) root.none
         (value_in GF (integer_in GF p) GF.zero cs) ne
-        (scheme_meets n columns (square-width GF n (λ j i. residue_at d rows i j)) y
+        (scheme_eigenvector n columns (square-width GF n (λ j i. residue_at d rows i j)) y
         (integer_in GF p) (residues_meet y (multiplied K y killed)) cs (zeros GF n) GF.zero
-        (square-width GF n (λ i j. GF.zero)) (meets_zero K n y (entry_in GF (zeros GF n))
+        (square-width GF n (λ i j. GF.zero)) (eigenvector_zero K n y (entry_in GF (zeros GF n))
         (entry-square GF n (λ i j. GF.zero))))
 
     module _ (size : length rows ≡ n) (widths : Each (λ row. length row ≡ n) rows) where
@@ -258,10 +260,10 @@ module _ (n : ℕ) (rows : List (List Fraction)) (p : ℤ) where
       excluded = record { is = zero_row }
 
 -- as the code has it
-pub excluded_turn : (n : ℕ) (rows : List (List Fraction)) (d : ℕ) (p q : ℤ)
+pub excluded_iteration : (n : ℕ) (rows : List (List Fraction)) (d : ℕ) (p q : ℤ)
     (cs : List (Residue 65521)) (f : Found) → IsReady n rows d → q ≡ p → IsAnnihilating n d rows cs
-    → value_in GF (integer_in GF q) GF.zero cs ≢ GF.zero → IsTurn n rows p f f
-excluded_turn n rows d p q cs f ready e root ne =
+    → value_in GF (integer_in GF q) GF.zero cs ≢ GF.zero → IsIteration n rows p f f
+excluded_iteration n rows d p q cs f ready e root ne =
     no_eigenvalue
     (excluded n rows p cs (subst (λ d. IsAnnihilating n d rows cs) ready.least root)
     (subst (λ p. value_in GF (integer_in GF p) GF.zero cs ≢ GF.zero) e ne) ready.count

@@ -16,9 +16,9 @@ use Rattle.algebra.specs.Fraction.{Fraction, over}
 use Rattle.vectors.specs.Matrices.{denominator, sum_of_column, greatest_of, greatest_sum, SplitsAt, AreForms, AreSearched}
 use Rattle.vectors.specs.Causes.{limit, IsTooWide, denominator_past, entry_past, sum_past}
 use Rattle.eigen_split.specs.Ints.{IsReady}
-use Rattle.eigen_split.specs.Search.{Found, AreFormsOf, copies, IsTurn, new_forms, IsOther, TurnsTo, AreOthers, IsWholeSearch, enough, zero_last}
+use Rattle.eigen_split.specs.Search.{Found, AreFormsOf, copies, IsIteration, new_forms, IsOther, IterationsTo, AreOthers, IsWholeSearch, enough, zero_last}
 use Rattle.eigen_split.specs.Parts.{IfPastIn}
-use Rattle.eigen_split.specs.Refusal.{Ascending, IsWithin, IsSearched, IfRefused}
+use Rattle.eigen_split.specs.Refusal.{Ascending, IsWithin, IsSearched, IfSplitRefused}
 use Rattle.eigen_split.specs.declared.EigenError.{EigenError}
 use Rattle.eigen_split.specs.declared.EigenError.TheVariants.{Eigen, Range, Wide, Memory}
 use Rattle.vectors.proofs.SplitDecided.{at_most_greatest}
@@ -37,7 +37,7 @@ candidate_last b = omega (arith, ints)
 
 module _ (n : ℕ) (rows : List (List Fraction)) (size : length rows ≡ n)
     (widths : Each (λ row. length row ≡ n) rows) where
-  searched_to : (b k : ℕ) (f : Found) → k ≤ 2 * b + 1 → TurnsTo n rows b k f
+  searched_to : (b k : ℕ) (f : Found) → k ≤ 2 * b + 1 → IterationsTo n rows b k f
       → IsSearchedTo n rows size widths b (pos k +ℤ neg_ℤ (pos b)) f
   searched_to b zero f l e = subst (IsSearchedTo n rows size widths b (pos 0 +ℤ neg_ℤ (pos b)))
       (sym e) (subst (λ m. IsSearchedTo n rows size widths b m (record { forms = []; values = [] }))
@@ -91,7 +91,7 @@ not_too_wide n rows d size e small g (sum_past j k h) =
 
 pub past_refused : (n : ℕ) (rows : List (List Fraction)) (e : EigenError) → 2 ≤ n
     → greatest_sum n rows ≤ limit n → (IsTooWide n rows → ⊥) → IfPastIn n rows e
-    → IfRefused n rows e
+    → IfSplitRefused n rows e
 past_refused n rows Eigen l g w h = absurd h
 past_refused n rows (Range sum) l g w h = absurd h
 past_refused n rows Memory l g w h = tt
@@ -124,7 +124,8 @@ is_ready xs d few square least small within =
 
 pub range_refused : (xs : List (Vec Frac Global)) (d s : ℕ) (z : ℤ) → 2 ≤ length xs
     → d ≡ denominator (rows_of xs) → d < 2 ^ 127 → s ≡ greatest_sum (length xs) (rows_of xs)
-    → s < 2 ^ 127 → limit (length xs) < s → z ≡ pos s → IfRefused (length xs) (rows_of xs) (Range z)
+    → s < 2 ^ 127 → limit (length xs) < s → z ≡ pos s → IfSplitRefused (length xs) (rows_of xs)
+    (Range z)
 range_refused xs d s z some least small e fits l q = (
   some,
   q ∙ ap pos e,
@@ -136,7 +137,7 @@ range_refused xs d s z some least small e fits l q = (
 pub search_refused : (xs : List (Vec Frac Global)) (d s : ℕ) (error : EigenError) → 2 ≤ length xs
     → d ≡ denominator (rows_of xs) → d < 2 ^ 127 → s ≡ greatest_sum (length xs) (rows_of xs)
     → s < 2 ^ 127 → s ≤ limit (length xs) → IfPastIn (length xs) (rows_of xs) error
-    → IfRefused (length xs) (rows_of xs) error
+    → IfSplitRefused (length xs) (rows_of xs) error
 search_refused xs d s error some least small e fits l h =
     past_refused (length xs) (rows_of xs) error some (subst (λ s. s ≤ limit (length xs)) e l)
     (not_too_wide (length xs) (rows_of xs) d (length-map xs (λ (v : Vec Frac Global).
@@ -168,41 +169,43 @@ module _ (xs : List (Vec Frac Global)) (d s b : ℕ) (f : Found)
     subst (λ b. IsWholeSearch (length xs) (rows_of xs) b f) (same ∙ e) whole,
   )
 
-  pub eigen_answer : (length f.forms ≡ length xs → ⊥) → IfRefused (length xs) (rows_of xs) Eigen
+  pub eigen_answer : (length f.forms ≡ length xs → ⊥) → IfSplitRefused (length xs) (rows_of xs)
+      Eigen
   eigen_answer ne = (
     no_split (length xs) (rows_of xs) ready.count ready.widths f at_end ne,
     λ l. within,
   )
 
 pub denominator_refused : (xs : List (Vec Frac Global)) → 2 ≤ length xs
-    → 2 ^ 127 ≤ denominator (rows_of xs) → IfRefused (length xs) (rows_of xs) (Wide (pos 0) 0 0)
+    → 2 ^ 127 ≤ denominator (rows_of xs) → IfSplitRefused (length xs) (rows_of xs)
+    (Wide (pos 0) 0 0)
 denominator_refused xs some h = (some, (refl, refl, denominator_past h))
 
 pub sum_refused : (xs : List (Vec Frac Global)) (d : ℕ) → 2 ≤ length xs
     → d ≡ denominator (rows_of xs)
     → 2 ^ 127 ≤ greatest_of (length xs) (sum_of_column d (rows_of xs))
-    → IfRefused (length xs) (rows_of xs) (Wide (pos 0) 0 0)
+    → IfSplitRefused (length xs) (rows_of xs) (Wide (pos 0) 0 0)
 sum_refused xs d some e h = (some, (refl, refl, too_wide (length xs) (rows_of xs) d e h))
 
 -- ---- the loop over the candidates
-pub turns_more : (n : ℕ) (rows : List (List Fraction)) (b k : ℕ) (e f : Found) (p : ℤ)
-    → TurnsTo n rows b k e → p ≡ pos k +ℤ neg_ℤ (pos b) → IsOther n rows p e f
-    → TurnsTo n rows b (k + 1) f
-turns_more n rows b k e f p h q t = subst (λ m. TurnsTo n rows b m f) (sym (add-one k)) (
+pub iterations_more : (n : ℕ) (rows : List (List Fraction)) (b k : ℕ) (e f : Found) (p : ℤ)
+    → IterationsTo n rows b k e → p ≡ pos k +ℤ neg_ℤ (pos b) → IsOther n rows p e f
+    → IterationsTo n rows b (k + 1) f
+iterations_more n rows b k e f p h q t = subst (λ m. IterationsTo n rows b m f) (sym (add-one k)) (
   e,
   h,
   subst (λ p. IsOther n rows p e f) q t,
 )
 
 -- ---- one candidate with forms
-pub turn_found : (n : ℕ) (rows : List (List Fraction)) (d : ℕ) (p q r : ℤ) (f : Found)
+pub iteration_found : (n : ℕ) (rows : List (List Fraction)) (d : ℕ) (p q r : ℤ) (f : Found)
     (forms more : List (Vec Frac Global)) (values : List Frac) (v : Frac) (count : ℕ)
     → d ≡ denominator rows → q ≡ p → r ≡ p → AreFormsOf n rows q (rows_of forms)
     → fraction_of v ≡ over r d
     → count ≡ length forms → rows_of more ≡ f.forms ++ rows_of forms
     → fractions_of values ≡ f.values ++ copies count (fraction_of v)
-    → IsTurn n rows p f (record { forms = rows_of more; values = fractions_of values })
-turn_found n rows d p q r f forms more values v count least e g a w c h k =
+    → IsIteration n rows p f (record { forms = rows_of more; values = fractions_of values })
+iteration_found n rows d p q r f forms more values v count least e g a w c h k =
     new_forms (rows_of forms) (subst (λ q. AreFormsOf n rows q (rows_of forms)) e a)
     (ap₂ (λ fs vs. record { forms = fs; values = vs }) h
     (k ∙ ap₂ (λ m x. f.values ++ copies m x) (c

@@ -94,12 +94,14 @@ pub den_small : (f : Frac) → (fraction_of f).den < 2 ^ 127
 unfolding fraction_of
 den_small f = f.den.in_range
 
-pub no_error : (e : FracError) (num den : ℤ) (d : ℕ) → den ≡ pos d → 0 < d → d < 2 ^ 127
+pub small_fractions_have_no_error : (e : FracError) (num den : ℤ) (d : ℕ) → den ≡ pos d → 0 < d
+    → d < 2 ^ 127
     → nat_abs num < 2 ^ 127
     → (IsErrOf {T = Frac} (Err e) ZeroDenominator → den ≡ pos 0) → (IsErrOf {T = Frac} (Err e) Wide
     → (den ≢ pos 0) × IsPast (fraction_size (Sums.over num den))) → ⊥
-no_error ZeroDenominator num den d q some small h none wide = (let z : den ≡ pos 0 = none refl in
+small_fractions_have_no_error ZeroDenominator num den d q some small h none wide =
+    (let z : den ≡ pos 0 = none refl in
     let e : pos d ≡ pos 0 = sym q ∙ z in let k : d ≡ 0 = cc in omega (arith, k, some))
-no_error Wide num den d q some small h none wide =
+small_fractions_have_no_error Wide num den d q some small h none wide =
     fits_over num d some small h (subst (λ den. IsPast (fraction_size (Sums.over num den))) q
     (wide refl).1)

@@ -18,7 +18,7 @@ use Rattle.vectors.specs.Matrices.{denominator}
 use Rattle.vectors.proofs.SearchLaws.{below_more, below_next}
 use Rattle.vectors.proofs.SplitDecided.{denominator_some}
 use Rattle.eigen_split.specs.Refusal.{MayFollow, Ascending}
-use Rattle.eigen_split.specs.Search.{Found, copies, IsTurn, no_eigenvalue, new_forms, IsOther, zero_passed, other_turn, TurnsTo, IsWholeSearch, enough, zero_last}
+use Rattle.eigen_split.specs.Search.{Found, copies, IsIteration, no_eigenvalue, new_forms, IsOther, zero_passed, other_iteration, IterationsTo, IsWholeSearch, enough, zero_last}
 use Rattle.eigen_split.proofs.Forming.{over-is}
 
 pub candidate_next : (b k : ℕ) → (pos k +ℤ neg_ℤ (pos b)) +ℤ pos 1 ≡ pos (suc k) +ℤ neg_ℤ (pos b)
@@ -48,10 +48,7 @@ over_some d p some ne e = ne (whole_injective p (pos 0) (sym (over-is d p some)
 
 over-zero : (d : ℕ) → 0 < d → over (pos 0) d ≡ ℚ.zero
 over-zero d some = elim (FL.no_zero_divisors ℚ_field (whole (pos d)) (over (pos 0) d) (over-is d
-    (pos 0) some)) [
-      | inl z ↦ absurd (whole-some d some z)
-      | inr z ↦ z
-    ]
+    (pos 0) some)) [ inl z ↦ absurd (whole-some d some z) | inr z ↦ z ]
 
 -- ---- one value so many times
 each_repeated : (P : Fraction → Type 0) (k : ℕ) (c : Fraction) → P c → Each P (copies k c)
@@ -110,9 +107,9 @@ module _ (n : ℕ) (rows : List (List Fraction)) where
       → AscendTo d (p +ℤ pos 1) g.values
   turned p f g (zero_passed z e) a = subst (λ (g : Found). AscendTo d (p +ℤ pos 1) g.values)
       (sym e) (more p f.values a)
-  turned p f g (other_turn ne (no_eigenvalue h e)) a =
+  turned p f g (other_iteration ne (no_eigenvalue h e)) a =
       subst (λ (g : Found). AscendTo d (p +ℤ pos 1) g.values) (sym e) (more p f.values a)
-  turned p f g (other_turn ne (new_forms forms h e)) a =
+  turned p f g (other_iteration ne (new_forms forms h e)) a =
       subst (λ (g : Found). AscendTo d (p +ℤ pos 1) g.values) (sym e)
       (record {
         ascending = ascending-append (length forms) (over p d) f.values
@@ -126,7 +123,7 @@ module _ (n : ℕ) (rows : List (List Fraction)) where
             (over p d) (record { number = p; low = below_next p; some = ne; is = refl }));
       })
 
-  ascend_to : (b k : ℕ) (f : Found) → TurnsTo n rows b k f
+  ascend_to : (b k : ℕ) (f : Found) → IterationsTo n rows b k f
       → AscendTo d (pos k +ℤ neg_ℤ (pos b)) f.values
   unfolding Each
   ascend_to b zero f e = subst (λ (f : Found). AscendTo d (pos 0 +ℤ neg_ℤ (pos b)) f.values) (sym e)
@@ -134,7 +131,8 @@ module _ (n : ℕ) (rows : List (List Fraction)) where
   ascend_to b (suc k) f h = subst (λ m. AscendTo d m f.values) (candidate_next b k)
       (turned (pos k +ℤ neg_ℤ (pos b)) h.0 f h.2 (ascend_to b k h.0 h.1))
 
-  with_zero : (e f : Found) → IsTurn n rows (pos 0) e f → Ascending e.values → Ascending f.values
+  with_zero : (e f : Found) → IsIteration n rows (pos 0) e f → Ascending e.values
+      → Ascending f.values
   with_zero e f (no_eigenvalue h q) a = subst (λ (g : Found). Ascending g.values) (sym q) a
   with_zero e f (new_forms forms h q) a =
       let zero_is = over-zero d (denominator_some rows) in

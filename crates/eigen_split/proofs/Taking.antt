@@ -27,7 +27,7 @@ use Rattle.eigen_split.specs.declared.EigenError.TheVariants.{Eigen, Range, Wide
 use Rattle.vectors.proofs.Combinations as C
 use Rattle.vectors.proofs.RrefLaws as RL
 use Rattle.vectors.proofs.ListLaws.{entries-past}
-use Rattle.linear.specs.View.{Echelon, IsMore}
+use Rattle.linear.specs.View.{Echelon, IsWithRow}
 use Rattle.eigen_split.specs.Search.{IsKernelAt, IsEchelonAt, AreNew, AreAdded, IsTakenIf}
 use Rattle.eigen_split.proofs.Reading.{list_row}
 use Rattle.eigen_split.proofs.Sums.{over-more}
@@ -173,7 +173,7 @@ added_more found vs more v a m = record {
 
 -- ---- the columns one after another
 pub at_more : (n : ℕ) (rows : List (List Fraction)) (j : ℕ) (e f : Echelon) (v : List Fraction)
-    → IsEchelonAt n rows j e → v ≡ column j rows → f.width ≡ e.width → IsMore e v f
+    → IsEchelonAt n rows j e → v ≡ column j rows → f.width ≡ e.width → IsWithRow e v f
     → IsEchelonAt n rows (j + 1) f
 at_more n rows j e f v h q w m = (
   w ∙ h.0,
@@ -223,12 +223,12 @@ pub record Taken (n : ℕ) (found vs more : List (List Fraction)) (e : Echelon) 
   pub taken : AreAdded found vs more
 
 more_known : (n : ℕ) (more : List (List Fraction)) (v : List Fraction) (e f : Echelon) → e.width ≡ n
-    → IsEchelonOf n more e.rows → IsMore e v f → IsEchelonOf n (more ++ v ∷ []) f.rows
+    → IsEchelonOf n more e.rows → IsWithRow e v f → IsEchelonOf n (more ++ v ∷ []) f.rows
 more_known n more v e f w k m = subst (λ w. IsEchelonOf w (more ++ v ∷ []) f.rows) w
     (m more (subst (λ w. IsEchelonOf w more e.rows) (sym w) k))
 
 pub taken_new : (n : ℕ) (found vs more : List (List Fraction)) (v : List Fraction) (e f : Echelon)
-    → Taken n found vs more e → f.width ≡ e.width → IsMore e v f → (IsCombinationOf e.rows v → ⊥)
+    → Taken n found vs more e → f.width ≡ e.width → IsWithRow e v f → (IsCombinationOf e.rows v → ⊥)
     → Taken n found (vs ++ v ∷ []) (more ++ v ∷ []) f
 taken_new n found vs more v e f t w m out = record {
   width = w ∙ t.width;
@@ -237,7 +237,7 @@ taken_new n found vs more v e f t w m out = record {
 }
 
 pub taken_old : (n : ℕ) (found vs more : List (List Fraction)) (v : List Fraction) (e f : Echelon)
-    → Taken n found vs more e → length v ≡ n → f.width ≡ e.width → IsMore e v f
+    → Taken n found vs more e → length v ≡ n → f.width ≡ e.width → IsWithRow e v f
     → ((IsCombinationOf e.rows v → ⊥) → ⊥) → Taken n found (vs ++ v ∷ []) more f
 taken_old n found vs more v e f t l w m some =
     let c = combination_out n more e.rows v t.known (combination_where n more e.rows v t.known l
@@ -266,7 +266,7 @@ pub taken_step : (n : ℕ) (found : List (List Fraction)) (xs forms more : List 
     (j : ℕ) (x : Vec Frac Global) (e f : Echelon)
     → Taken n found (rows_of (take j xs)) (rows_of forms) e → j < length xs → x ≡ get_or xs j x
     → length x.items ≡ n
-    → f.width ≡ e.width → IsMore e (fractions_of x.items) f
+    → f.width ≡ e.width → IsWithRow e (fractions_of x.items) f
     → IsTakenIf e.rows (fractions_of x.items) (rows_of forms) (rows_of more)
     → Taken n found (rows_of (take (j + 1) xs)) (rows_of more) f
 taken_step n found xs forms more j x e f t l q w g m h =

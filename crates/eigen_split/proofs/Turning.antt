@@ -21,12 +21,12 @@ use Rattle.vectors.proofs.FractionEigen.{ℚ_fractions}
 use Rattle.vectors.proofs.Forms as FO
 use Rattle.vectors.proofs.Independence as I
 use Rattle.vectors.proofs.MatrixSplits as MS
-use Rattle.vectors.proofs.MatrixSplits.{IsOver}
+use Rattle.vectors.proofs.MatrixSplits.{IsFractionOf}
 use Rattle.vectors.proofs.RowLaws as RL
 use Rattle.vectors.proofs.SearchLaws as SE
 use Rattle.vectors.proofs.SearchLaws.{SearchedTo, Below, Within}
 use Rattle.vectors.proofs.SplitDecided.{denominator_some, all_done, done_searched, done_forms, split_decided, searched_is, whole_rows, valued-length}
-use Rattle.eigen_split.specs.Search.{Found, copies, IsTurn, no_eigenvalue, new_forms, IsOther, zero_passed, other_turn}
+use Rattle.eigen_split.specs.Search.{Found, copies, IsIteration, no_eigenvalue, new_forms, IsOther, zero_passed, other_iteration}
 use Rattle.eigen_split.proofs.Forming.{over-is, IsWholeLevel, whole_level}
 
 valued-append : (n : ℕ) (forms more : List (List Fraction)) (values : List Fraction) (c : Fraction)
@@ -90,7 +90,7 @@ module _ (n : ℕ) (rows : List (List Fraction)) (size : length rows ≡ n)
     wide = tt;
   }
 
-  over_of : (p : ℤ) → IsOver ℚ_field ℚ_fractions n (rows_in n rows) d p (over p d)
+  over_of : (p : ℤ) → IsFractionOf ℚ_field ℚ_fractions n (rows_in n rows) d p (over p d)
   over_of p = ap (λ x. ℚ.mul x (over p d)) (of_int-whole (pos d))
       ∙ over-is d p (denominator_some rows) ∙ sym (of_int-whole p)
 
@@ -105,7 +105,7 @@ module _ (n : ℕ) (rows : List (List Fraction)) (size : length rows ≡ n)
       → IsLevel S t (over p d) k es
       → ((v : Row ℚ_field n) → IsKilled S t (over p d) n v → IsKilled S t (over p d) k v)
       → To After (with_values n f.forms f.values ++ F.with_value (over p d) es))
-      → IsTurn n rows p f g → IsSearchedBy Before f → IsSearchedBy After g
+      → IsIteration n rows p f g → IsSearchedBy Before f → IsSearchedBy After g
   step Before After p f g more (no_eigenvalue h e) s =
       subst (IsSearchedBy After) (sym e)
       (record {
@@ -143,7 +143,7 @@ module _ (n : ℕ) (rows : List (List Fraction)) (size : length rows ≡ n)
         one_each = s.one_each;
         wide = s.wide;
       })
-  turned b p f g l (other_turn ne h) s =
+  turned b p f g l (other_iteration ne h) s =
       step (Done b p) (Done b (p +ℤ pos 1)) p f g
       (λ k es to. SE.search_next ℚ_field ℚ_fractions n (rows_in n rows) d (denominator_some rows) b
       p
@@ -154,7 +154,7 @@ module _ (n : ℕ) (rows : List (List Fraction)) (size : length rows ≡ n)
   abbrev b : ℕ
   b = greatest_sum n rows
 
-  pub with_zero : (f g : Found) → IsTurn n rows (pos 0) f g → IsSearchedTo b (pos (suc b)) f
+  pub with_zero : (f g : Found) → IsIteration n rows (pos 0) f g → IsSearchedTo b (pos (suc b)) f
       → IsAllSearched g
   with_zero f g h s =
       step (Done b (pos (suc b))) All (pos 0) f g

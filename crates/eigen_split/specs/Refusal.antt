@@ -11,7 +11,7 @@
 --   IsUnsplit n rows             the matrix doesn't split, and where it has two or more rows it is within the limit
 --   IsOutOfRange n rows sum      it has two or more rows, and the sum is the greatest column sum, above the limit
 --   IsWideAt n rows candidate power row     it has two or more rows, and this row is past
---   IfRefused n rows e           the cause of each refusal
+--   IfSplitRefused n rows e           the cause of each refusal
 --   Ascending values             no value is below an earlier one, but those that are 0 stand last; MayFollow c later: of two values
 --   IsSingle a forms values      the form 1 with the value a
 --   IsSearched n rows forms values      what the whole search has found, candidate by candidate, up to the greatest column sum, and 0 last
@@ -86,11 +86,11 @@ IsOutOfRange n rows sum =
 abbrev pub IsWideAt : ℕ → List (List Fraction) → ℤ → ℕ → ℕ → Type 0
 IsWideAt n rows candidate power row = (2 ≤ n) × IsPastRow n rows candidate power row
 
-abbrev pub IfRefused : ℕ → List (List Fraction) → EigenError → Type 0
-IfRefused n rows Eigen = IsUnsplit n rows
-IfRefused n rows (Range sum) = IsOutOfRange n rows sum
-IfRefused n rows (Wide candidate power row) = IsWideAt n rows candidate power row
-IfRefused n rows Memory = Unit {0}
+abbrev pub IfSplitRefused : ℕ → List (List Fraction) → EigenError → Type 0
+IfSplitRefused n rows Eigen = IsUnsplit n rows
+IfSplitRefused n rows (Range sum) = IsOutOfRange n rows sum
+IfSplitRefused n rows (Wide candidate power row) = IsWideAt n rows candidate power row
+IfSplitRefused n rows Memory = Unit {0}
 
 -- behind c: 0, or where c isn't 0 what isn't below it in the order of the fractions
 abbrev pub MayFollow : Fraction → Fraction → Type 0
@@ -123,4 +123,4 @@ IsAnswer n rows (Ok found) =
     × Ascending (fractions_of found.values.items)
     × IsWithin n rows
     × IsSearched n rows (rows_of found.forms.items) (fractions_of found.values.items)
-IsAnswer n rows (Err e) = IfRefused n rows e
+IsAnswer n rows (Err e) = IfSplitRefused n rows e

@@ -8,8 +8,8 @@
 --   HasGrownTo n rows p k          the kernel of each of the first k powers has another number of vectors than that before
 --   AreFormsOf n rows p forms      the forms by as many powers as it takes: until a kernel has not grown, or as many as rows
 --   IsNoEigenvalue n rows c        no row but zero is multiplied by c
---   Found, IsTurn n rows p f g     what was found before and after the candidate p; IsOther: the same where 0 is passed over
---   TurnsTo n rows bound k f       what is found after the first k candidates from -bound on, but 0
+--   Found, IsIteration n rows p f g     what was found before and after the candidate p; IsOther: the same where 0 is passed over
+--   IterationsTo n rows bound k f       what is found after the first k candidates from -bound on, but 0
 --   AreOthers n rows bound f       what is found of all candidates from -bound to bound but 0
 --   IsWholeSearch n rows bound f   the same, and of 0 where these have fewer forms than there are rows
 --   IsMissing n rows               they have fewer forms, so 0 is a candidate
@@ -82,19 +82,20 @@ abbrev pub copies : ℕ → Fraction → List Fraction
 copies zero c = []
 copies (suc k) c = c ∷ copies k c
 
-pub data IsTurn (n : ℕ) (rows : List (List Fraction)) (p : ℤ) (f g : Found) : Type 0 where
-  no_eigenvalue : IsNoEigenvalue n rows (over p (denominator rows)) → g ≡ f → IsTurn n rows p f g
+pub data IsIteration (n : ℕ) (rows : List (List Fraction)) (p : ℤ) (f g : Found) : Type 0 where
+  no_eigenvalue : IsNoEigenvalue n rows (over p (denominator rows)) → g ≡ f
+      → IsIteration n rows p f g
   new_forms : (forms : List (List Fraction)) → AreFormsOf n rows p forms
       → g ≡ record {
         forms = f.forms ++ forms;
         values = f.values ++ copies (length forms)
             (over p (denominator rows));
-      } → IsTurn n rows p f g
+      } → IsIteration n rows p f g
 
 -- 0 is passed over
 pub data IsOther (n : ℕ) (rows : List (List Fraction)) (p : ℤ) (f g : Found) : Type 0 where
   zero_passed : p ≡ pos 0 → g ≡ f → IsOther n rows p f g
-  other_turn : p ≢ pos 0 → IsTurn n rows p f g → IsOther n rows p f g
+  other_iteration : p ≢ pos 0 → IsIteration n rows p f g → IsOther n rows p f g
 
 -- found and the new ones of the vectors
 pub record AreAdded (found vectors more : List (List Fraction)) : Type 0 where
@@ -103,19 +104,19 @@ pub record AreAdded (found vectors more : List (List Fraction)) : Type 0 where
   pub is : more ≡ found ++ new
 
 -- so many candidates, from -bound on, one after another
-abbrev pub TurnsTo : ℕ → List (List Fraction) → ℕ → ℕ → Found → Type 0
-TurnsTo n rows bound zero f = f ≡ record { forms = []; values = [] }
-TurnsTo n rows bound (suc k) f = (e : Found) × TurnsTo n rows bound k e
+abbrev pub IterationsTo : ℕ → List (List Fraction) → ℕ → ℕ → Found → Type 0
+IterationsTo n rows bound zero f = f ≡ record { forms = []; values = [] }
+IterationsTo n rows bound (suc k) f = (e : Found) × IterationsTo n rows bound k e
     × IsOther n rows (pos k +ℤ neg_ℤ (pos bound)) e f
 
 abbrev pub AreOthers : ℕ → List (List Fraction) → ℕ → Found → Type 0
-AreOthers n rows bound f = TurnsTo n rows bound (2 * bound + 1) f
+AreOthers n rows bound f = IterationsTo n rows bound (2 * bound + 1) f
 
 pub data IsWholeSearch (n : ℕ) (rows : List (List Fraction)) (bound : ℕ) (f : Found)
     : Type 0 where
   enough : AreOthers n rows bound f → n ≤ length f.forms → IsWholeSearch n rows bound f
   zero_last : (e : Found) → AreOthers n rows bound e → length e.forms < n
-      → IsTurn n rows (pos 0) e f → IsWholeSearch n rows bound f
+      → IsIteration n rows (pos 0) e f → IsWholeSearch n rows bound f
 
 pub record IsMissing (n : ℕ) (rows : List (List Fraction)) : Type 0 where
   pub found : Found

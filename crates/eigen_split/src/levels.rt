@@ -1,7 +1,7 @@
 //! The forms of one candidate, from the kernels of the powers of the matrix less it.
 ghost use Rattle.std.specs.Prelude.{◌≡◌, ◌<◌, ◌≤◌, ◌+◌, All, length, IfOk, IfErr, OnOk};
 ghost use Rattle.linear.specs.Rows.{fractions_of, rows_of};
-ghost use Rattle.linear.specs.View.{IsMore};
+ghost use Rattle.linear.specs.View.{IsWithRow};
 ghost use Rattle.vectors.specs.Adding.{IsEchelonOf};
 ghost use Rattle.eigen_split.specs.Ints.{ints_of, AllFit, IsReady, most_rows};
 ghost use Rattle.eigen_split.specs.Search.{AreAdded, IsTakenIf, AreFormsOf};
@@ -113,7 +113,7 @@ fn take_one(
 ) -> Result<(), EigenError>
     requires { length vector.now.items ≡ known.old.width }
     ensures width { known.new.width ≡ known.old.width }
-    ensures more { OnOk result (IsMore known.old (fractions_of vector.now.items) known.new) }
+    ensures more { OnOk result (IsWithRow known.old (fractions_of vector.now.items) known.new) }
     ensures taken { OnOk result (IsTakenIf known.old.rows (fractions_of vector.now.items)
         (rows_of forms.old.items) (rows_of forms.new.items)) }
     ensures refused { IfErr result (IfRowPast known.old.rows (fractions_of vector.now.items)

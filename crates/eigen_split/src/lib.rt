@@ -13,7 +13,7 @@ ghost use Rattle.linear.specs.Rows.{fractions_of, rows_of};
 ghost use Rattle.vectors.specs.Matrices.{AreForms, AreSearched, SplitsAt, denominator as denominator_in, greatest_sum as greatest_of};
 ghost use Rattle.vectors.specs.Causes.{limit as limit_of};
 ghost use Rattle.eigen_split.specs.Ints.{most_rows};
-ghost use Rattle.eigen_split.specs.Refusal.{Ascending, IsWithin, IfRefused, IsAnswer, IsSingle, IsSplitInto};
+ghost use Rattle.eigen_split.specs.Refusal.{Ascending, IsWithin, IfSplitRefused, IsAnswer, IsSingle, IsSplitInto};
 
 mod annihilator;
 mod levels;
@@ -101,7 +101,7 @@ pub fn split(alloc: Global, matrix: &Vec<Vec<Frac>>) -> Result<Split, EigenError
     ensures within { IsOk result → 2 ≤ length matrix.now.items
         → IsWithin (length matrix.now.items) (rows_of matrix.now.items) }
     ensures refused { IfErr result
-        (IfRefused (length matrix.now.items) (rows_of matrix.now.items)) }
+        (IfSplitRefused (length matrix.now.items) (rows_of matrix.now.items)) }
 {
     if matrix.len() == 1 {
         return Ok(single(alloc, &matrix[0][0])?);

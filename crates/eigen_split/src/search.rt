@@ -6,7 +6,7 @@ ghost use Rattle.frac128.specs.FracMeaning.{fraction_of};
 ghost use Rattle.linear.specs.Rows.{fractions_of, rows_of};
 ghost use Rattle.vectors.specs.Matrices.{greatest_sum};
 ghost use Rattle.eigen_split.specs.Ints.{IsReady, most_sum};
-ghost use Rattle.eigen_split.specs.Search.{AreOthers, IsTurn, IsWholeSearch, copies};
+ghost use Rattle.eigen_split.specs.Search.{AreOthers, IsIteration, IsWholeSearch, copies};
 ghost use Rattle.eigen_split.specs.Parts.{found_of, IfPastIn};
 ghost use Rattle.eigen_split.specs.Refusal.{IsCandidate};
 ghost use Rattle.eigen_split.specs.Residues.{gfs, IsAnnihilating};
@@ -41,7 +41,7 @@ pub(crate) fn search(
     if found.forms.len() >= matrix.len() {
         return Ok(found);
     }
-    match turn(alloc, matrix, denominator, polynomial, 0, &mut found) {
+    match iteration(alloc, matrix, denominator, polynomial, 0, &mut found) {
         Ok(()) => Ok(found),
         Err(error) => Err(error),
     }
@@ -70,7 +70,7 @@ fn others(
     for step in 0..2 * bound + 1 {
         let candidate = candidate_at(step, bound);
         if candidate != 0 {
-            if let Err(error) = turn(
+            if let Err(error) = iteration(
                 alloc,
                 matrix,
                 denominator,
@@ -95,7 +95,7 @@ fn candidate_at(step: u32, bound: u32) -> i32
 }
 
 /// The forms of one candidate, unless it is no eigenvalue.
-fn turn(
+fn iteration(
     alloc: Global,
     matrix: &Vec<Vec<Frac>>,
     denominator: u128,
@@ -108,7 +108,8 @@ fn turn(
         (rows_of matrix.now.items) (gfs polynomial.now) }
     requires candidate { IsCandidate (length matrix.now.items) (rows_of matrix.now.items)
         candidate }
-    ensures turn { OnOk result (IsTurn (length matrix.now.items) (rows_of matrix.now.items)
+    ensures iteration { OnOk result (IsIteration (length matrix.now.items)
+        (rows_of matrix.now.items)
         candidate (found_of found.old) (found_of found.new)) }
     ensures refused { IfErr result (IfPastIn (length matrix.now.items) (rows_of matrix.now.items)) }
 {

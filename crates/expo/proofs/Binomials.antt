@@ -76,7 +76,7 @@ next_of : (k d : ℕ)
     ≡ binomial (suc (k + d)) k
 next_of k d =
     FL.cancel ℚ_field _ _ (whole (pos (suc d))) (nonzero d)
-    (turn (binomial (k + d) k) (whole (pos (suc (k + d)))) (inverse (whole (pos (suc d))))
+    (iteration (binomial (k + d) k) (whole (pos (suc (k + d)))) (inverse (whole (pos (suc d))))
     (whole (pos (suc d)))
     ∙ ap (ℚ.mul (ℚ.mul (whole (pos (suc (k + d)))) (binomial (k + d) k)))
     (ℚ_field.mul-inverse (whole (pos (suc d))) (nonzero d))
@@ -86,8 +86,8 @@ next_of k d =
     ∙ sym (whole_product (suc d) (choose (suc (k + d)) k))
     ∙ R.mul_comm _ _)
   where
-    turn : (c a i b : Fraction) → R.mul (R.mul c (R.mul a i)) b ≡ R.mul (R.mul a c) (R.mul b i)
-    turn c a i b = ring R (c ∷ a ∷ i ∷ b ∷ []) (search ring_rules depth 40) refl
+    iteration : (c a i b : Fraction) → R.mul (R.mul c (R.mul a i)) b ≡ R.mul (R.mul a c) (R.mul b i)
+    iteration c a i b = ring R (c ∷ a ∷ i ∷ b ∷ []) (search ring_rules depth 40) refl
 
 pub next_binomial : (j i : ℕ) → i ≤ j
     → ℚ.mul (binomial j i) (ℚ.mul (whole (pos (suc j))) (inverse (whole (pos (suc j - i)))))

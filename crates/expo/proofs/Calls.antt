@@ -28,11 +28,11 @@ use Rattle.poly.specs.Seen.{terms_in}
 use Rattle.poly.specs.View.{terms_of}
 use Rattle.poly.proofs.Steps.{all_arity}
 use Rattle.solvable_maps.specs.Expo.{with_normal_keys, next_images, zero_images}
-use Rattle.solvable_maps.specs.Turns.{width}
+use Rattle.solvable_maps.specs.Iterations.{width}
 use Rattle.solvable_maps.proofs.Operations.{zero-value}
 use Rattle.expo.specs.declared.exponential.Expo.{Expo}
 use Rattle.expo.specs.Images.{LikeIn}
-use Rattle.expo.specs.Operations.{sum_of, backward_of, at_next, at_zero}
+use Rattle.expo.specs.Operations.{sum_of, inverse_form_of, at_next, at_zero}
 use Rattle.expo.specs.View.{base_of, value_of}
 use Rattle.expo.proofs.Distinct.{pairs_of, differ_falls, differ_turned}
 use Rattle.expo.proofs.ImageLists.{like_count, zero_count}
@@ -82,22 +82,22 @@ module _ (e : Expo) where
   own_stay : AllStay r (terms_in e.body)
   own_stay = kept_stay r (terms_in e.body) e.normal
 
-  module _ (made : Terms Fraction) (is : made ≡ backward_of e) where
+  module _ (made : Terms Fraction) (is : made ≡ inverse_form_of e) where
     pub turned_arity : Arity e.body.arity made
-    turned_arity = subst (Arity e.body.arity) (sym is) (subst (λ n. Arity n (backward_of e))
+    turned_arity = subst (Arity e.body.arity) (sym is) (subst (λ n. Arity n (inverse_form_of e))
         (sym e.arity) (arity-turned_back r e.vars (terms_in e.body) (expo_arity e)))
 
     pub turned_made : (q : Terms Fraction) (k : ℕ) → k ≡ e.body.arity → IsPolynomial ℚ grevlex k q
-        → Same ℚ q made → IsNormalList r (backward_of e) q
+        → Same ℚ q made → IsNormalList r (inverse_form_of e) q
     turned_made q k f h s =
-        normal_list r w q (backward_of e) (arity-turned_back r e.vars (terms_in e.body)
+        normal_list r w q (inverse_form_of e) (arity-turned_back r e.vars (terms_in e.body)
         (expo_arity e))
         (turned_stay (base_of e) e.vars (terms_in e.body) (expo_arity e) own_stay)
         (subst (λ n. IsPolynomial ℚ grevlex n q) (f ∙ e.arity) h) (subst (Same ℚ q) is s)
 
-  pub turned_distinct : (ts : List (Term Frac)) → terms_of fraction_of ts ≡ backward_of e
+  pub turned_distinct : (ts : List (Term Frac)) → terms_of fraction_of ts ≡ inverse_form_of e
       → AreDistinct ts
-  turned_distinct ts is = pairs_of ts (backward_of e) is (differ_turned (base_of e) e.vars
+  turned_distinct ts is = pairs_of ts (inverse_form_of e) is (differ_turned (base_of e) e.vars
       (terms_in e.body) (expo_arity e) (differ_falls grevlex grevlex_order (terms_in e.body)
       e.body.polynomial.falls))
 

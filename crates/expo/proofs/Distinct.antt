@@ -22,11 +22,11 @@ use Rattle.frac128.specs.declared.fraction.Frac.{Frac}
 use Rattle.frac128.specs.FracMeaning.{fraction_of}
 use Rattle.poly.specs.declared.Term.{Term}
 use Rattle.poly.specs.View.{terms_of}
-use Rattle.solvable_maps.specs.Expo.{tail, with_key, backward_terms, power_key, up_part, down_part, power_terms}
-use Rattle.solvable_maps.specs.Turns.{width}
+use Rattle.solvable_maps.specs.Expo.{tail, with_key, inverse_form_terms, power_key, up_part, down_part, power_terms}
+use Rattle.solvable_maps.specs.Iterations.{width}
 use Rattle.solvable_maps.proofs.Operations.{key_with, tail_with}
 use Rattle.exponentials.proofs.Units.{Room, room_long}
-use Rattle.solvable_maps.specs.NormalExponents.{backward_exponents}
+use Rattle.solvable_maps.specs.NormalExponents.{inverse_form_exponents}
 
 abbrev pub Differ : {A : Type 0} → Terms A → Type 0
 Differ [] = Unit {0}
@@ -82,7 +82,7 @@ rejoined r (a ∷ b ∷ e) l =
     ∙ take-append-drop r e)
 
 pub turned_twice : (bs : List ℕ) (m : ℕ) (e : List ℕ) → length e ≡ width (length bs) m
-    → backward_exponents (length bs) (backward_exponents (length bs) e) ≡ e
+    → inverse_form_exponents (length bs) (inverse_form_exponents (length bs) e) ≡ e
 turned_twice bs m e l =
     let r = length bs in
     let x : Key = key_of r e in
@@ -92,17 +92,18 @@ turned_twice bs m e l =
     ∙ rejoined r e (omega arith)
 
 pub differ_turned : (bs : List ℕ) (m : ℕ) (p : Terms Fraction) → Arity (width (length bs) m) p
-    → Differ p → Differ (backward_terms (length bs) p)
+    → Differ p → Differ (inverse_form_terms (length bs) p)
 unfolding Each
 differ_turned bs m [] a d = tt
 differ_turned bs m (t ∷ p) a d = (apart t a.0 p a.1 d.0, differ_turned bs m p a.1 d.1)
   where
     apart : (t : List ℕ × Fraction) → length t.0 ≡ width (length bs) m → (p : Terms Fraction)
         → Arity (width (length bs) m) p → Each (λ u. t.0 ≢ u.0) p
-        → Each (λ u. backward_exponents (length bs) t.0 ≢ u.0) (backward_terms (length bs) p)
+        → Each (λ u. inverse_form_exponents (length bs) t.0 ≢ u.0) (inverse_form_terms (length bs)
+        p)
     apart t l [] a h = tt
     apart t l (u ∷ p) a h = (
-      (λ e. h.0 (sym (turned_twice bs m t.0 l) ∙ ap (backward_exponents (length bs)) e
+      (λ e. h.0 (sym (turned_twice bs m t.0 l) ∙ ap (inverse_form_exponents (length bs)) e
           ∙ turned_twice bs m u.0 a.0)),
       apart t l p a.1 h.1,
     )

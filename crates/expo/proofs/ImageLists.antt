@@ -24,7 +24,7 @@ use Rattle.polynomials.proofs.Algebra.{coefficient-cons}
 use Rattle.polynomials.proofs.Same.{Same-refl, AllSame-refl}
 use Rattle.solvable_maps.specs.Expo.{next_images, zero_images}
 use Rattle.solvable_maps.specs.Shifts.{over}
-use Rattle.solvable_maps.specs.Turns.{width}
+use Rattle.solvable_maps.specs.Iterations.{width}
 use Rattle.expo.specs.Images.{IsMultiple, LikeIn, more, multiples}
 
 abbrev R : CommRing Fraction

@@ -10,10 +10,10 @@ use Rattle.polynomials.specs.Terms.{Terms, value_at}
 use Rattle.polynomials.proofs.Orders.{grevlex_order}
 use Rattle.ideals.specs.Members.{IsMember}
 use Rattle.poly.specs.Seen.{terms_in}
-use Rattle.solvable_maps.specs.Turns.{point, width, IsNormal}
+use Rattle.solvable_maps.specs.Iterations.{point, width, IsNormal}
 use Rattle.solvable_maps.proofs.Numbers.{one_form, members_of_parts, parts_vanish}
 use Rattle.expo.specs.declared.exponential.Expo.{Expo}
-use Rattle.expo.specs.View.{base_of, value_of, count_of, part_of, turn_of, HasValues}
+use Rattle.expo.specs.View.{base_of, value_of, count_of, part_of, iteration_of, HasValues}
 use Rattle.solvable_maps.proofs.Normal.{kept_stay, stay_normal}
 use Rattle.expo.proofs.Results.{expo_arity}
 
@@ -38,7 +38,7 @@ one_expo e f b v h =
     (λ n s l. h n s l ∙ ap (λ b. value_at ℚ (terms_in f.body) (point b n s)) (sym b))
 
 pub members_of_expo : (e : Expo) (gs : List (Terms Fraction)) → AllArity e.vars gs
-    → ((n : ℕ) → IsMember ℚ e.vars gs (turn_of e n)) → (k : List ℕ) → length k ≡ count_of e
+    → ((n : ℕ) → IsMember ℚ e.vars gs (iteration_of e n)) → (k : List ℕ) → length k ≡ count_of e
     → IsMember ℚ e.vars gs (part_of e k)
 members_of_expo e gs a h k l = members_of_parts (base_of e) e.coprime.0 e.vars gs (terms_in e.body)
     a (expo_arity e) (expo_normal e) h k l

@@ -16,5 +16,5 @@ pub mod Calls
 pub mod Wholes
 pub mod Solved
 pub mod Independence
-pub mod AtTurns
+pub mod AtIterations
 pub mod OneLess

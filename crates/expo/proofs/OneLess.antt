@@ -14,14 +14,14 @@ use Rattle.polynomials.proofs.Orders.{grevlex_order}
 use Rattle.machines.specs.Collect.{collect}
 use Rattle.machines.proofs.Collecting.{collect-polynomial}
 use Rattle.poly.specs.Seen.{terms_in}
-use Rattle.solvable_maps.specs.Expo.{next_images, backward_terms, one_before}
-use Rattle.solvable_maps.specs.Turns.{powers, inverses, sign, point, back_point, width, IsNormal}
+use Rattle.solvable_maps.specs.Expo.{next_images, inverse_form_terms, one_before}
+use Rattle.solvable_maps.specs.Iterations.{powers, inverses, sign, point, back_point, width, IsNormal}
 use Rattle.solvable_maps.proofs.Lengths.{arity-turned_back}
 use Rattle.solvable_maps.proofs.Numbers.{one_form}
 use Rattle.solvable_maps.proofs.OneForm.{next_back_value, before-value, all_values}
 use Rattle.solvable_maps.proofs.Operations.{turned_value, back-value}
 use Rattle.expo.specs.declared.exponential.Expo.{Expo}
-use Rattle.expo.specs.Operations.{at_next, backward_of, before_of, IsOver}
+use Rattle.expo.specs.Operations.{at_next, inverse_form_of, before_of, IsOverBaseOf}
 use Rattle.expo.specs.View.{base_of, value_of}
 use Rattle.expo.proofs.Independence.{expo_polynomial, expo_normal}
 use Rattle.solvable_maps.proofs.Normal.{AllStay, collect_stay, kept_stay, stay_normal, turned_stay}
@@ -29,8 +29,9 @@ use Rattle.expo.proofs.Results.{expo_arity}
 use Rattle.solvable_maps.proofs.Shifted.{arity-next, compose_stay}
 use Rattle.expo.proofs.Values.{collected}
 
-module _ (e b f g : Expo) (one : IsOver e (backward_of e) b) (two : IsOver b (at_next b) f)
-    (three : IsOver f (backward_of f) g) where
+module _ (e b f g : Expo) (one : IsOverBaseOf e (inverse_form_of e) b)
+    (two : IsOverBaseOf b (at_next b) f)
+    (three : IsOverBaseOf f (inverse_form_of f) g) where
   abbrev bs : List ℕ
   bs = base_of e
 
@@ -62,7 +63,7 @@ module _ (e b f g : Expo) (one : IsOver e (backward_of e) b) (two : IsOver b (at
   f_arity = subst (λ n. Arity n (terms_in f.body)) (ap₂ (λ l k. width (length l) k) over_f vars_f)
       (expo_arity f)
 
-  twice : (n : ℕ) (s : List Fraction) → value_at ℚ (backward_terms r p) (back_point bs n s)
+  twice : (n : ℕ) (s : List Fraction) → value_at ℚ (inverse_form_terms r p) (back_point bs n s)
       ≡ value_at ℚ p (point bs n s)
   twice n s =
       turned_value bs e.coprime.0 m s (opposite (whole (pos n))) (sign n)
@@ -70,8 +71,9 @@ module _ (e b f g : Expo) (one : IsOver e (backward_of e) b) (two : IsOver b (at
       ∙ ap (λ x. value_at ℚ p (x ∷ sign n ∷ (powers bs n ++ (inverses bs n ++ s))))
       (L.neg-neg ℚ_ring (whole (pos n)))
 
-  back_is : (z : List Fraction) → value_at ℚ (terms_in b.body) z ≡ value_at ℚ (backward_terms r p) z
-  back_is z = ap (λ q. value_at ℚ q z) one.terms ∙ collected (backward_terms r p) z
+  back_is : (z : List Fraction) → value_at ℚ (terms_in b.body) z
+      ≡ value_at ℚ (inverse_form_terms r p) z
+  back_is z = ap (λ q. value_at ℚ q z) one.terms ∙ collected (inverse_form_terms r p) z
 
   next_is : (z : List Fraction) → value_at ℚ (terms_in f.body) z
       ≡ value_at ℚ (compose ℚ w (terms_in b.body) (next_images bs m)) z
@@ -83,8 +85,8 @@ module _ (e b f g : Expo) (one : IsOver e (backward_of e) b) (two : IsOver b (at
       → value_at ℚ (terms_in g.body) (point bs (suc n) s) ≡ value_at ℚ p (point bs n s)
   before_values n s l =
       let z = point bs (suc n) s in
-      ap (λ q. value_at ℚ q z) three.terms ∙ collected (backward_of f) z
-      ∙ ap (λ k. value_at ℚ (backward_terms (length k) (terms_in f.body)) z) over_f
+      ap (λ q. value_at ℚ q z) three.terms ∙ collected (inverse_form_of f) z
+      ∙ ap (λ k. value_at ℚ (inverse_form_terms (length k) (terms_in f.body)) z) over_f
       ∙ back-value bs e.coprime.0 m (terms_in f.body) f_arity (suc n) s
       ∙ next_is (back_point bs (suc n) s)
       ∙ next_back_value bs e.coprime.0 m (terms_in b.body) n s l
@@ -96,20 +98,20 @@ module _ (e b f g : Expo) (one : IsOver e (backward_of e) b) (two : IsOver b (at
       ∙ before_values n s l
 
   -- ---- the definition's
-  back_arity : Arity w (backward_terms r p)
+  back_arity : Arity w (inverse_form_terms r p)
   back_arity = arity-turned_back r m p (expo_arity e)
 
   abbrev next : Terms Fraction
-  next = compose ℚ w (backward_terms r p) (next_images bs m)
+  next = compose ℚ w (inverse_form_terms r p) (next_images bs m)
 
   next_arity : Arity w next
-  next_arity = arity-compose w ℚ (backward_terms r p) (next_images bs m) (arity-next bs m)
+  next_arity = arity-compose w ℚ (inverse_form_terms r p) (next_images bs m) (arity-next bs m)
 
   theirs_arity : Arity w (one_before bs m p)
   theirs_arity = arity-turned_back r m next next_arity
 
   theirs_stay : AllStay r (one_before bs m p)
-  theirs_stay = turned_stay bs m next next_arity (compose_stay bs m r (backward_terms r p)
+  theirs_stay = turned_stay bs m next next_arity (compose_stay bs m r (inverse_form_terms r p)
       back_arity
       (turned_stay bs m p (expo_arity e) (kept_stay r p e.normal)))
 
@@ -141,5 +143,5 @@ module _ (e b f g : Expo) (one : IsOver e (backward_of e) b) (two : IsOver b (at
       (λ n s l. all_values bs e.coprime.0 m 1 (terms_in g.body) theirs s l
       (λ k. from_one k s l) n)
 
-  pub before_is : IsOver e (before_of e) g
+  pub before_is : IsOverBaseOf e (before_of e) g
   before_is = record { over_base = over_g; over_vars = vars_g; terms = terms_are }

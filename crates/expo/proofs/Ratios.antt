@@ -3,7 +3,7 @@
 --   sides_coprime        those on the two sides have no common divisor
 --   over_number          their quotient is the number
 --   number_past          where one of them does not fit, neither does the number;  number_nonzero: which is not zero
---   over_fits            a quotient in lowest terms of numbers that fit, fits;  no_error: so the code's is made
+--   over_fits            a quotient in lowest terms of numbers that fit, fits;  lowest_fractions_have_no_error: so the code's is made
 --   exponents_few        where the number fits, each exponent is below 128
 --   made_number, made_past     the number of a power, as the code makes it;  above_past, below_past: where a product does not fit
 use Rattle.std.proofs.Common.{◌≡◌, ◌≢◌, ◌⊎◌, inl, inr, ℕ, zero, suc, ◌*◌, ◌^◌, ◌<◌, ◌≤◌, ℤ, pos, negsuc, Bool, true, false, List, [], ◌∷◌, map, length, unsigned_abs, Err, refl, sym, ap, ap₂, subst, ◌∙◌, arith}
@@ -175,13 +175,15 @@ over_fits n d s g h k past =
     go (inr x) = omega arith
 
 -- ---- as the code has them
-pub no_error : (e : FracError) (num den : ℤ) (n d : ℕ) → num ≡ pos n → den ≡ pos d → 0 < d
+pub lowest_fractions_have_no_error : (e : FracError) (num den : ℤ) (n d : ℕ) → num ≡ pos n
+    → den ≡ pos d → 0 < d
     → gcd n d ≡ 1 → n < 2 ^ 127 → d < 2 ^ 127
     → (IsErrOf {T = Frac} (Err e) ZeroDenominator → den ≡ pos 0) → (IsErrOf {T = Frac} (Err e) Wide
     → (den ≢ pos 0) × IsPast (fraction_size (over num den))) → ⊥
-no_error ZeroDenominator num den n d p q some g h k none wide = (let z : den ≡ pos 0 = none refl in
+lowest_fractions_have_no_error ZeroDenominator num den n d p q some g h k none wide =
+    (let z : den ≡ pos 0 = none refl in
     let e : pos d ≡ pos 0 = sym q ∙ z in let k : d ≡ 0 = cc in omega (arith, k, some))
-no_error Wide num den n d p q some g h k none wide =
+lowest_fractions_have_no_error Wide num den n d p q some g h k none wide =
     over_fits n d some g h k (subst (λ x. IsPast (fraction_size x)) (ap₂ over p q) (wide refl).1)
 
 module _ (bs : List ℕ) (c : Coprime bs) (e : List ℤ) (n d : ℕ) (f : n ≡ side_product bs false e)

@@ -24,10 +24,10 @@ use Rattle.machines.specs.Collect.{collect}
 use Rattle.machines.proofs.Collecting.{collect-same, collect-polynomial, collect-is}
 use Rattle.poly.specs.Seen.{terms_in}
 use Rattle.solvable_maps.specs.Expo.{with_normal_keys, next_images}
-use Rattle.solvable_maps.specs.Turns.{width}
+use Rattle.solvable_maps.specs.Iterations.{width}
 use Rattle.expo.specs.declared.exponential.Expo.{Expo}
 use Rattle.expo.specs.Images.{LikeIn}
-use Rattle.expo.specs.Operations.{normal_of, vars_of, product_of, IsOver}
+use Rattle.expo.specs.Operations.{normal_of, vars_of, product_of, IsOverBaseOf}
 use Rattle.expo.specs.View.{base_of, IsExpo}
 use Rattle.solvable_maps.proofs.Normal.{AllStay, collect_stay}
 use Rattle.solvable_maps.proofs.Lengths.{arity-normalized}
@@ -146,7 +146,7 @@ other_arity e f b v = subst (λ n. Arity n (terms_in f.body))
 pub mul_is : {E : Type 0} (e f : Expo) → base_of e ≡ base_of f → e.vars ≡ f.vars → (bs : List ℕ)
     → bs ≡ base_of e → (w : ℕ) (q : Terms Fraction) → w ≡ e.body.arity → IsPolynomial ℚ grevlex w q
     → Same ℚ q (times ℚ (terms_in e.body) (terms_in f.body)) → (r : Result Expo E)
-    → IfOk r (IsExpo bs (vars_of bs w) (normal_of bs q)) → IfOk r (IsOver e (product_of e f))
+    → IfOk r (IsExpo bs (vars_of bs w) (normal_of bs q)) → IfOk r (IsOverBaseOf e (product_of e f))
 mul_is e f b v bs is w q k h s (Err x) i = tt
 mul_is e f b v bs is w q k h s (Ok x) i =
     let own : Arity (width (length (base_of e)) e.vars) q = subst (λ n. Arity n q) (k ∙ e.arity)

@@ -22,7 +22,7 @@ use Rattle.frac128.specs.declared.fraction.Frac.{Frac}
 use Rattle.frac128.specs.FracMeaning.{fraction_of, fraction_decides, frac_eq_is}
 use Rattle.exponentials.specs.Keys.{Key, IsNormalKey}
 use Rattle.solvable_maps.specs.Expo.{with_key, power_terms, other_terms, equal_terms, IsSolution}
-use Rattle.solvable_maps.specs.Turns.{width}
+use Rattle.solvable_maps.specs.Iterations.{width}
 use Rattle.solvable_maps.proofs.Solving.{other_solution, equal_solution}
 use Rattle.ring_laws.specs.declared.ArithmeticError.{ArithmeticError}
 use Rattle.ring_laws.specs.declared.ArithmeticError.TheVariants.{Wide}
@@ -99,47 +99,50 @@ pub power_nonzero : (bs : List ℕ) → Coprime bs → (p : Power) (x : Fraction
     → IsEvaluated bs p x y → x ≢ ℚ.zero
 power_nonzero bs c p x y is z = number_nonzero bs c p.exponents.items p.negative (sym is.number ∙ z)
 
-module _ (bs : List ℕ) (m a : ℕ) (source own : Power) where
+module _ (bs : List ℕ) (m a : ℕ) (inhomogeneity own : Power) where
   abbrev pub Tabled : Terms Fraction → Type 0
-  Tabled ts = AreTabled m a (number_of bs source) (number_of bs own) (key_of_power source)
+  Tabled ts = AreTabled m a (number_of bs inhomogeneity) (number_of bs own)
+      (key_of_power inhomogeneity)
       (key_of_power own) ts
 
   pub tabled_expo : (ts : Terms Fraction) (e : Expo) → Tabled ts → IsExpo bs m ts e
-      → IsTabled bs m a source own e
+      → IsTabled bs m a inhomogeneity own e
   tabled_expo ts e (different ne t) i = other ts ne t i
   tabled_expo ts e (same q t) i = equal ts q t i
 
-  module _ (s o : Fraction) (x y : Key) (e : IsEvaluated bs source s x)
+  module _ (s o : Fraction) (x y : Key) (e : IsEvaluated bs inhomogeneity s x)
       (f : IsEvaluated bs own o y) where
     pub tabled_at : (ts : Terms Fraction) → AreTabled m a s o x y ts → Tabled ts
     tabled_at ts h = subst (λ (t : Fraction × Fraction × Key × Key). AreTabled m a t.0 t.1 t.2 t.3
         ts) (λ i. (e.number i, f.number i, e.key i, f.key i)) h
 
-    pub past_solution : IsPastTable s o a → IsPastSolution bs a source own
+    pub past_solution : IsPastTable s o a → IsPastSolution bs a inhomogeneity own
     past_solution h = go (subst (λ (t : Fraction × Fraction). IsPastTable t.0 t.1 a)
         (λ i. (e.number i, f.number i)) h)
       where
-        go : IsPastTable (number_of bs source) (number_of bs own) a → IsPastSolution bs a source own
+        go : IsPastTable (number_of bs inhomogeneity) (number_of bs own) a
+            → IsPastSolution bs a inhomogeneity own
         go (inl h) = other h.0 h.1
         go (inr h) = equal h.0 h.1
 
-  module _ (l : length source.exponents.items ≡ length bs) (k : length own.exponents.items
+  module _ (l : length inhomogeneity.exponents.items ≡ length bs) (k : length own.exponents.items
       ≡ length bs) where
     pub tabled_parts : (ts : Terms Fraction) → Tabled ts → AreParts bs m ts
     tabled_parts ts (different ne t) = subst (AreParts bs m) (sym t.terms)
-        (other_parts bs m a (key_of_power source) (key_of_power own) t.numbers
-        (power_key_normal bs source.negative source.exponents.items l)
+        (other_parts bs m a (key_of_power inhomogeneity) (key_of_power own) t.numbers
+        (power_key_normal bs inhomogeneity.negative inhomogeneity.exponents.items l)
         (power_key_normal bs own.negative own.exponents.items k)
-        (keys_apart bs source.negative own.negative source.exponents.items own.exponents.items ne))
+        (keys_apart bs inhomogeneity.negative own.negative inhomogeneity.exponents.items
+        own.exponents.items ne))
     tabled_parts ts (same e t) = subst (AreParts bs m) (sym t.terms)
         (equal_parts bs m a (key_of_power own) t.numbers (power_key_normal bs own.negative
         own.exponents.items k))
 
     pub tabled_solution : Coprime bs → (ts : Terms Fraction) → Tabled ts
-        → IsSolution bs m a (number_of bs source) (number_of bs own) ts
+        → IsSolution bs m a (number_of bs inhomogeneity) (number_of bs own) ts
     tabled_solution c ts (different ne t) =
-        subst (IsSolution bs m a (number_of bs source) (number_of bs own)) (sym t.terms)
-        (other_solution bs c m a source.negative own.negative source.exponents.items
+        subst (IsSolution bs m a (number_of bs inhomogeneity) (number_of bs own)) (sym t.terms)
+        (other_solution bs c m a inhomogeneity.negative own.negative inhomogeneity.exponents.items
         own.exponents.items l k ne t.numbers t.table)
     tabled_solution c ts (same e t) = subst (λ s. IsSolution bs m a s (number_of bs own) ts) (sym e)
         (subst (IsSolution bs m a (number_of bs own) (number_of bs own)) (sym t.terms)

@@ -10,9 +10,9 @@ use Rattle.algebra.specs.Fraction.{Fraction, opposite}
 use Rattle.algebra.proofs.Fractions.{ℚ_ring}
 use Rattle.polynomials.specs.Terms.{Terms}
 use Rattle.exponentials.specs.Keys.{excess, parity, rest, top, key_of}
-use Rattle.solvable_maps.specs.Expo.{with_normal_keys, backward_terms, backward_sign, tail}
-use Rattle.solvable_maps.specs.NormalExponents.{normal_exponents, backward_exponents}
-use Rattle.solvable_maps.specs.Turns.{width}
+use Rattle.solvable_maps.specs.Expo.{with_normal_keys, inverse_form_terms, inverse_form_sign, tail}
+use Rattle.solvable_maps.specs.NormalExponents.{normal_exponents, inverse_form_exponents}
+use Rattle.solvable_maps.specs.Iterations.{width}
 use Rattle.solvable_maps.proofs.Normal.{normalized-push, turned-push, normal-length}
 
 pub step_normal : (r : ℕ) (p p' out news : Terms Fraction) (t u : List ℕ × Fraction)
@@ -23,22 +23,22 @@ step_normal r p p' out news t u e f m n h =
     ∙ sym (normalized-push r p t) ∙ ap (with_normal_keys r) (sym e)
 
 pub step_turned : (r : ℕ) (p p' out news : Terms Fraction) (t u : List ℕ × Fraction)
-    → p' ≡ p ++ t ∷ [] → news ≡ out ++ u ∷ [] → u.0 ≡ backward_exponents r t.0
-    → u.1 ≡ backward_sign (top t.0) t.1
-    → out ≡ backward_terms r p → news ≡ backward_terms r p'
+    → p' ≡ p ++ t ∷ [] → news ≡ out ++ u ∷ [] → u.0 ≡ inverse_form_exponents r t.0
+    → u.1 ≡ inverse_form_sign (top t.0) t.1
+    → out ≡ inverse_form_terms r p → news ≡ inverse_form_terms r p'
 step_turned r p p' out news t u e f m n h =
     f ∙ ap₂ (λ (zs : Terms Fraction) (v : List ℕ × Fraction). zs ++ v ∷ []) h (λ i. (m i, n i))
-    ∙ sym (turned-push r p t) ∙ ap (backward_terms r) (sym e)
+    ∙ sym (turned-push r p t) ∙ ap (inverse_form_terms r) (sym e)
 
-pub sign_even : (n : ℕ) (c : Fraction) → n % 2 ≡ 0 → backward_sign n c ≡ c
+pub sign_even : (n : ℕ) (c : Fraction) → n % 2 ≡ 0 → inverse_form_sign n c ≡ c
 sign_even zero c h = refl
 sign_even (suc zero) c h = absurd (omega arith)
-sign_even (suc (suc n)) c h = neg-neg ℚ_ring (backward_sign n c) ∙ sign_even n c (omega arith)
+sign_even (suc (suc n)) c h = neg-neg ℚ_ring (inverse_form_sign n c) ∙ sign_even n c (omega arith)
 
-pub sign_odd : (n : ℕ) (c : Fraction) → n % 2 ≢ 0 → backward_sign n c ≡ opposite c
+pub sign_odd : (n : ℕ) (c : Fraction) → n % 2 ≢ 0 → inverse_form_sign n c ≡ opposite c
 sign_odd zero c h = absurd (h refl)
 sign_odd (suc zero) c h = refl
-sign_odd (suc (suc n)) c h = neg-neg ℚ_ring (backward_sign n c)
+sign_odd (suc (suc n)) c h = neg-neg ℚ_ring (inverse_form_sign n c)
     ∙ sign_odd n c (λ e. h (omega arith))
 
 pub parity_is : (n : ℕ) → n % 2 ≡ parity n
@@ -86,12 +86,12 @@ top_at [] = refl
 top_at (a ∷ e) = refl
 
 pub even_sign : (e : List ℕ) (c : Fraction) (n : ℕ) → n ≡ get_or e 0 0 → n % 2 ≡ 0
-    → c ≡ backward_sign (top e) c
-even_sign e c n is h = sym (ap (λ n. backward_sign n c) (sym (is ∙ top_at e)) ∙ sign_even n c h)
+    → c ≡ inverse_form_sign (top e) c
+even_sign e c n is h = sym (ap (λ n. inverse_form_sign n c) (sym (is ∙ top_at e)) ∙ sign_even n c h)
 
 pub odd_sign : (e : List ℕ) (c d : Fraction) (n : ℕ) → n ≡ get_or e 0 0 → n % 2 ≢ 0 → d ≡ opposite c
-    → d ≡ backward_sign (top e) c
-odd_sign e c d n is h k = k ∙ sym (ap (λ n. backward_sign n c) (sym (is ∙ top_at e))
+    → d ≡ inverse_form_sign (top e) c
+odd_sign e c d n is h k = k ∙ sym (ap (λ n. inverse_form_sign n c) (sym (is ∙ top_at e))
     ∙ sign_odd n c h)
 
 pub normal_long : (r : ℕ) (e out : List ℕ) → width r 0 ≤ length e → out ≡ normal_exponents r e

@@ -15,8 +15,8 @@ use Rattle.polynomials.proofs.ValueAt.{value_at_same, value_at-append, value_at-
 use Rattle.machines.specs.Collect.{collect}
 use Rattle.machines.proofs.Collecting.{collect-same}
 use Rattle.exponentials.specs.Base.{Coprime}
-use Rattle.solvable_maps.specs.Expo.{with_normal_keys, backward_terms, next_images, IsSolution}
-use Rattle.solvable_maps.specs.Turns.{point, back_point, width}
+use Rattle.solvable_maps.specs.Expo.{with_normal_keys, inverse_form_terms, next_images, IsSolution}
+use Rattle.solvable_maps.specs.Iterations.{point, back_point, width}
 use Rattle.solvable_maps.proofs.Operations.{normal-value, next-value, back-value}
 use Rattle.expo.specs.declared.exponential.Expo.{Expo}
 use Rattle.expo.specs.View.{value_of, HasValues, IsExpo}
@@ -52,7 +52,7 @@ module _ (base : List ℕ) (c : Coprime base) (m : ℕ) (e : Expo) where
       ∙ is.over_vars)
 
   pub turned_values : (p : Terms Fraction) → Arity w p
-      → IsExpo base m (backward_terms (length base) p)
+      → IsExpo base m (inverse_form_terms (length base) p)
       e → HasValues (λ n s. value_at ℚ p (back_point base n s)) e
   turned_values p a is = λ n s l. value_is base m _ e is n s ∙ back-value base c m p a n s
 
@@ -62,12 +62,14 @@ module _ (base : List ℕ) (c : Coprime base) (m : ℕ) (e : Expo) where
       ∙ value_at-append ℚ_ring p q (point base n s)
 
 -- ---- solutions
-pub solution_is : (base : List ℕ) (m a : ℕ) (source own : Fraction) (p ts : Terms Fraction)
-    → p ≡ collect rationals grevlex ts → IsSolution base m a source own ts
-    → IsSolution base m a source own p
-solution_is base m a source own p ts e h = subst (IsSolution base m a source own) (sym e) (record {
-  start = λ s l. collected ts (point base 0 s) ∙ h.start s l;
-  next = λ n s l. collected ts (point base (suc n) s) ∙ h.next n s l
-      ∙ ap (λ x. ℚ.add (ℚ.mul own x) (ℚ.mul (power ℚ (whole (pos n)) a) (power ℚ source n)))
-      (sym (collected ts (point base n s)));
-})
+pub solution_is : (base : List ℕ) (m a : ℕ) (inhomogeneity own : Fraction) (p ts : Terms Fraction)
+    → p ≡ collect rationals grevlex ts → IsSolution base m a inhomogeneity own ts
+    → IsSolution base m a inhomogeneity own p
+solution_is base m a inhomogeneity own p ts e h = subst (IsSolution base m a inhomogeneity own)
+    (sym e) (record {
+      start = λ s l. collected ts (point base 0 s) ∙ h.start s l;
+      next = λ n s l. collected ts (point base (suc n) s) ∙ h.next n s l
+          ∙ ap (λ x.
+          ℚ.add (ℚ.mul own x) (ℚ.mul (power ℚ (whole (pos n)) a) (power ℚ inhomogeneity n)))
+          (sym (collected ts (point base n s)));
+    })

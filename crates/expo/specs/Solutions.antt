@@ -1,12 +1,12 @@
 -- Solutions by the table, and what is past on the way.
---   most_degree                         the highest power of n in a source: it is one less than the highest exponent
+--   most_degree                         the highest power of n in an inhomogeneity: it is one less than the highest exponent
 --   most_numbers                        a solution has at most so many numbers
 --   AreOther m a σ l x y ts, AreEqual m a l y ts     the terms that the table gives, where x and y are the exponents of s, u and v in the n-th powers of σ and l
 --   AreTabled m a σ l x y ts            the one or the other
 --   IsPastTable σ l a                   an operation of that table is past
---   IsSolutionOf base m a source own e     e is zero at 0, and at n + 1 it is the number of own times e at n, and n^a times the n-th power of the number of source
---   IsTabled base m a source own e      e has the terms that the table gives for the numbers of source and own
---   IsPastSolution base a source own    one of these numbers does not fit, or an operation of the table is past
+--   IsSolutionOf base m an inhomogeneity own e     e is zero at 0, and at n + 1 it is the number of own times e at n, and n^a times the n-th power of the number of inhomogeneity
+--   IsTabled base m an inhomogeneity own e      e has the terms that the table gives for the numbers of inhomogeneity and own
+--   IsPastSolution base an inhomogeneity own    one of these numbers does not fit, or an operation of the table is past
 use Rattle.std.specs.Prelude.{◌≡◌, ◌≢◌, ◌⊎◌, ℕ, List}
 use Rattle.algebra.specs.Fraction.{Fraction}
 use Rattle.algebra.proofs.Fractions.{ℚ_field}
@@ -45,23 +45,24 @@ abbrev pub IsPastTable : Fraction → Fraction → ℕ → Type 0
 IsPastTable σ l a = ((σ ≢ l) × IsPastOther σ l a) ⊎ ((σ ≡ l) × IsPastEqual l a)
 
 abbrev pub IsSolutionOf : List ℕ → ℕ → ℕ → Power → Power → Expo → Type 0
-IsSolutionOf base m a source own e = IsSolution base m a (number_of base source)
+IsSolutionOf base m a inhomogeneity own e = IsSolution base m a (number_of base inhomogeneity)
     (number_of base own) (terms_in e.body)
 
-pub data IsTabled (base : List ℕ) (m a : ℕ) (source own : Power) (e : Expo) : Type 0 where
-  other : (ts : Terms Fraction) → number_of base source ≢ number_of base own
-      → AreOther m a (number_of base source) (number_of base own) (key_of_power source)
+pub data IsTabled (base : List ℕ) (m a : ℕ) (inhomogeneity own : Power) (e : Expo) : Type 0 where
+  other : (ts : Terms Fraction) → number_of base inhomogeneity ≢ number_of base own
+      → AreOther m a (number_of base inhomogeneity) (number_of base own)
+      (key_of_power inhomogeneity)
       (key_of_power own) ts
-      → IsExpo base m ts e → IsTabled base m a source own e
-  equal : (ts : Terms Fraction) → number_of base source ≡ number_of base own
+      → IsExpo base m ts e → IsTabled base m a inhomogeneity own e
+  equal : (ts : Terms Fraction) → number_of base inhomogeneity ≡ number_of base own
       → AreEqual m a (number_of base own) (key_of_power own) ts
-      → IsExpo base m ts e → IsTabled base m a source own e
+      → IsExpo base m ts e → IsTabled base m a inhomogeneity own e
 
-pub data IsPastSolution (base : List ℕ) (a : ℕ) (source own : Power) : Type 0 where
-  source_number : IsPastNumber base source → IsPastSolution base a source own
-  own_number : IsPastNumber base own → IsPastSolution base a source own
-  other : number_of base source ≢ number_of base own
-      → IsPastOther (number_of base source) (number_of base own) a
-      → IsPastSolution base a source own
-  equal : number_of base source ≡ number_of base own
-      → IsPastEqual (number_of base own) a → IsPastSolution base a source own
+pub data IsPastSolution (base : List ℕ) (a : ℕ) (inhomogeneity own : Power) : Type 0 where
+  inhomogeneity_number : IsPastNumber base inhomogeneity → IsPastSolution base a inhomogeneity own
+  own_number : IsPastNumber base own → IsPastSolution base a inhomogeneity own
+  other : number_of base inhomogeneity ≢ number_of base own
+      → IsPastOther (number_of base inhomogeneity) (number_of base own) a
+      → IsPastSolution base a inhomogeneity own
+  equal : number_of base inhomogeneity ≡ number_of base own
+      → IsPastEqual (number_of base own) a → IsPastSolution base a inhomogeneity own

@@ -3,7 +3,7 @@ ghost use Rattle.std.specs.Prelude.{◌≡◌, ◌≤◌, [], length};
 ghost use Rattle.monos.specs.Variables.{most_variables};
 ghost use Rattle.poly.specs.Seen.{terms_in};
 ghost use Rattle.coprime_base.specs.Sizes.{sizes};
-ghost use Rattle.solvable_maps.specs.Turns.{width};
+ghost use Rattle.solvable_maps.specs.Iterations.{width};
 ghost use Rattle.expo.specs.Bases.{IsCoprimeBase, IsOwnNormal, coprime_base_prop, own_normal_prop};
 
 use frac128::{Frac, Whole};
@@ -11,7 +11,7 @@ use monos::Grevlex;
 use poly::Poly;
 use std::alloc::{AllocError, Global};
 
-/// A polynomial in n, s, u_1 to u_r, v_1 to v_r and `vars` variables, in this order. After n turns s is (-1)^n, u_j is the n-th power of the base's j-th number and v_j that of its inverse.
+/// A polynomial in n, s, u_1 to u_r, v_1 to v_r and `vars` variables, in this order. After n iterations s is (-1)^n, u_j is the n-th power of the base's j-th number and v_j that of its inverse.
 /// No monomial has both u_j and v_j, and none has s to a power above 1. The base's numbers are told by their sizes.
 #[derive(Drop)]
 pub struct Expo {

@@ -1,8 +1,8 @@
 //! The exponents of n, s, u, v and the variables in a monomial.
 ghost use Rattle.std.specs.Prelude.{◌≡◌, ◌≤◌, ◌++◌, length, IfOk, OnOk};
 ghost use Rattle.exponentials.specs.Keys.{excess};
-ghost use Rattle.solvable_maps.specs.Turns.{width};
-ghost use Rattle.solvable_maps.specs.NormalExponents.{normal_exponents, backward_exponents};
+ghost use Rattle.solvable_maps.specs.Iterations.{width};
+ghost use Rattle.solvable_maps.specs.NormalExponents.{normal_exponents, inverse_form_exponents};
 
 use monos::Mono;
 use std::alloc::{AllocError, Global};
@@ -24,13 +24,13 @@ pub(crate) fn normal_monomial(alloc: Global, mono: &Mono, count: usize) -> Resul
 }
 
 /// The monomial with u_j and v_j exchanged for each j, where the base has `count` numbers.
-pub(crate) fn monomial_backward(
+pub(crate) fn monomial_inverse_form(
     alloc: Global,
     mono: &Mono,
     count: usize,
 ) -> Result<Mono, AllocError>
     requires { width count 0 ≤ length mono.now }
-    ensures ok { IfOk result (λ found. found ≡ backward_exponents count mono.now) }
+    ensures ok { IfOk result (λ found. found ≡ inverse_form_exponents count mono.now) }
 {
     let list = mono.exponents();
     let (front, others) = list.as_slice().split_at(2);

@@ -7,7 +7,7 @@ ghost use Rattle.frac128.specs.FracMeaning.{fraction_of};
 ghost use Rattle.poly.specs.Seen.{terms_in, terms_each};
 ghost use Rattle.coprime_base.specs.Sizes.{sizes};
 ghost use Rattle.solvable_maps.specs.Expo.{next_images, zero_images};
-ghost use Rattle.solvable_maps.specs.Turns.{width};
+ghost use Rattle.solvable_maps.specs.Iterations.{width};
 ghost use Rattle.monos.specs.Variables.{most_variables};
 ghost use Rattle.expo.specs.Bases.{IsCoprimeBase};
 ghost use Rattle.expo.specs.Images.{IsMultiple, LikeIn, more, multiples, factor, factors_of};

@@ -6,7 +6,7 @@ ghost use Rattle.polynomials.specs.Terms.{Terms, value_at};
 ghost use Rattle.polynomials.specs.Polynomial.{AllArity};
 ghost use Rattle.ideals.specs.Members.{IsMember};
 ghost use Rattle.poly.specs.Seen.{terms_in};
-ghost use Rattle.expo.specs.View.{base_of, value_of, count_of, part_of, turn_of, HasValues};
+ghost use Rattle.expo.specs.View.{base_of, value_of, count_of, part_of, iteration_of, HasValues};
 
 use crate::Expo;
 
@@ -20,7 +20,7 @@ pub fn values_decide_exponentials(left: &Expo, right: &Expo)
 /// Where an ideal has an exponential polynomial at each n, it has the coefficients of its monomials in n, s, u and v.
 pub fn ideals_have_the_coefficients(e: &Expo)
     ensures { (ideal : List (Terms Fraction)) → AllArity e.now.vars ideal
-        → ((n : ℕ) → IsMember ℚ e.now.vars ideal (turn_of e.now n))
+        → ((n : ℕ) → IsMember ℚ e.now.vars ideal (iteration_of e.now n))
         → (k : List ℕ) → length k ≡ count_of e.now → IsMember ℚ e.now.vars ideal (part_of e.now k) }
 {}
 

@@ -1,4 +1,4 @@
-//! `Expo`: polynomials in the number of turns n, powers of a coprime base, a sign and variables; and the recurrences that they solve.
+//! `Expo`: polynomials in the number of iterations n, powers of a coprime base, a sign and variables; and the recurrences that they solve.
 //!
 //! Proved: each operation gives the normal list of the definition's, and with it its value at every n; over one base there is one `Expo`
 //! with given values; `solve_term` gives the solution of y(n+1) = λ y(n) + n^a σ^n with y(0) = 0; an ideal that has an `Expo` at each n has

@@ -10,14 +10,14 @@ ghost use Rattle.poly.specs.Seen.{terms_in};
 ghost use Rattle.poly.specs.Standing.{StandsFor};
 ghost use Rattle.poly.specs.View.{terms_of};
 ghost use Rattle.coprime_base.specs.Sizes.{sizes};
-ghost use Rattle.solvable_maps.specs.Expo.{with_normal_keys, backward_terms, backward_sign};
-ghost use Rattle.solvable_maps.specs.Turns.{back_point, point, width};
+ghost use Rattle.solvable_maps.specs.Expo.{with_normal_keys, inverse_form_terms, inverse_form_sign};
+ghost use Rattle.solvable_maps.specs.Iterations.{back_point, point, width};
 ghost use Rattle.expo.specs.Bases.{IsCoprimeBase};
 
 use crate::Expo;
-use crate::exponents::{monomial_backward, normal_monomial};
+use crate::exponents::{monomial_inverse_form, normal_monomial};
 use crate::images::{images_at_next, images_at_zero};
-use crate::points::images_at_turn;
+use crate::points::images_at_iteration;
 use frac128::{Frac, Whole};
 use monos::Grevlex;
 use poly::{Poly, Term};
@@ -25,8 +25,8 @@ use ring_laws::{ArithmeticError, Ring};
 use std::alloc::{AllocError, Global};
 
 impl Expo {
-    ghost use Rattle.expo.specs.View.{base_of, value_of, turn_of, HasValues, IsExpo};
-    ghost use Rattle.expo.specs.Operations.{normal_of, vars_of, product_of, sum_of, at_next, backward_of, at_zero, before_of, IsOver, IsPastProductOf, IsPastSumOf, IsPastNext, IsPastZero, IsPastBefore, IsPastTurn};
+    ghost use Rattle.expo.specs.View.{base_of, value_of, iteration_of, HasValues, IsExpo};
+    ghost use Rattle.expo.specs.Operations.{normal_of, vars_of, product_of, sum_of, at_next, inverse_form_of, at_zero, before_of, IsOverBaseOf, IsPastProductOf, IsPastSumOf, IsPastNext, IsPastZero, IsPastBefore, IsPastIteration};
 
     /// The polynomial with u_j v_j and s^2 replaced by 1. Its variables stand behind n, s, the u and the v.
     /// `Wide` only where its weight is past.
@@ -55,7 +55,7 @@ impl Expo {
     pub fn mul(&self, alloc: Global, other: &Expo) -> Result<Expo, ArithmeticError>
         requires base { base_of self.now ≡ base_of other.now }
         requires vars { self.now.vars ≡ other.now.vars }
-        ensures product { IfOk result (IsOver self.now (product_of self.now other.now)) }
+        ensures product { IfOk result (IsOverBaseOf self.now (product_of self.now other.now)) }
         ensures values { IfOk result
             (HasValues (λ n s. ℚ.mul (value_of self.now n s) (value_of other.now n s))) }
         ensures wide { IsErrOf result ArithmeticError.Wide → IsPastProductOf self.now other.now }
@@ -68,7 +68,7 @@ impl Expo {
     pub fn add(&self, alloc: Global, other: &Expo) -> Result<Expo, ArithmeticError>
         requires base { base_of self.now ≡ base_of other.now }
         requires vars { self.now.vars ≡ other.now.vars }
-        ensures sum { IfOk result (IsOver self.now (sum_of self.now other.now)) }
+        ensures sum { IfOk result (IsOverBaseOf self.now (sum_of self.now other.now)) }
         ensures values { IfOk result
             (HasValues (λ n s. ℚ.add (value_of self.now n s) (value_of other.now n s))) }
         ensures wide { IsErrOf result ArithmeticError.Wide → IsPastSumOf self.now other.now }
@@ -80,7 +80,7 @@ impl Expo {
     /// The polynomial at n + 1: it has n + 1 for n, -s for s, b_j u_j for u_j and v_j / b_j for v_j.
     /// `Wide` only where the weight of the composition with these images is past.
     pub fn shift_n(&self, alloc: Global) -> Result<Expo, ArithmeticError>
-        ensures shifted { IfOk result (IsOver self.now (at_next self.now)) }
+        ensures shifted { IfOk result (IsOverBaseOf self.now (at_next self.now)) }
         ensures values { IfOk result (HasValues (λ n s. value_of self.now (suc n) s)) }
         ensures wide { IsErrOf result ArithmeticError.Wide → IsPastNext self.now }
     {
@@ -90,13 +90,13 @@ impl Expo {
     }
 
     /// The polynomial at -n: it has -n for n, and u_j and v_j are exchanged.
-    pub fn backward(&self, alloc: Global) -> Result<Expo, AllocError>
-        ensures backward { IfOk result (IsOver self.now (backward_of self.now)) }
+    pub fn inverse_form(&self, alloc: Global) -> Result<Expo, AllocError>
+        ensures inverse_form { IfOk result (IsOverBaseOf self.now (inverse_form_of self.now)) }
         ensures values { IfOk result
             (HasValues (λ n s. value_at ℚ (terms_in self.now.body)
             (back_point (base_of self.now) n s))) }
     {
-        let terms = terms_backward(alloc, self.body().terms(), self.base().len())?;
+        let terms = terms_inverse_form(alloc, self.body().terms(), self.base().len())?;
         let body = Poly::from_distinct(alloc, Grevlex, self.body().arity(), terms)?;
         Expo::of(alloc, self.base(), self.vars(), body)
     }
@@ -104,25 +104,30 @@ impl Expo {
     /// The polynomial at n - 1: it has n - 1 for n, -s for s, u_j / b_j for u_j and b_j v_j for v_j.
     /// `Wide` only where the weight of the composition that puts n + 1 for n in the polynomial at -n is past.
     pub fn before(&self, alloc: Global) -> Result<Expo, ArithmeticError>
-        ensures before { IfOk result (IsOver self.now (before_of self.now)) }
+        ensures before { IfOk result (IsOverBaseOf self.now (before_of self.now)) }
         ensures values { IfOk result (λ e. (n : ℕ) (s : List Fraction) → length s ≡ self.now.vars
             → value_of e (suc n) s ≡ value_of self.now n s) }
         ensures wide { IsErrOf result ArithmeticError.Wide → IsPastBefore self.now }
     {
-        let back = self.backward(alloc)?;
+        let back = self.inverse_form(alloc)?;
         let next = back.shift_n(alloc)?;
-        Ok(next.backward(alloc)?)
+        Ok(next.inverse_form(alloc)?)
     }
 
-    /// The polynomial at a number of turns, over the variables alone.
+    /// The polynomial at a number of iterations, over the variables alone.
     /// `Wide` only where a power of the base's numbers or of their inverses does not fit, or the weight of the composition with these is past.
-    pub fn at_turn(&self, alloc: Global, turns: u32) -> Result<Poly<Frac, Grevlex>, ArithmeticError>
-        ensures turn { IfOk result (λ p. StandsFor self.now.vars p (turn_of self.now turns)) }
+    pub fn at_iteration(
+        &self,
+        alloc: Global,
+        iterations: u32,
+    ) -> Result<Poly<Frac, Grevlex>, ArithmeticError>
+        ensures iteration { IfOk result (λ p. StandsFor self.now.vars p
+            (iteration_of self.now iterations)) }
         ensures values { IfOk result (λ p. (s : List Fraction) → length s ≡ self.now.vars
-            → value_at ℚ (terms_in p) s ≡ value_of self.now turns s) }
-        ensures wide { IsErrOf result ArithmeticError.Wide → IsPastTurn self.now turns }
+            → value_at ℚ (terms_in p) s ≡ value_of self.now iterations s) }
+        ensures wide { IsErrOf result ArithmeticError.Wide → IsPastIteration self.now iterations }
     {
-        let images = images_at_turn(alloc, self.base(), self.vars(), turns)?;
+        let images = images_at_iteration(alloc, self.base(), self.vars(), iterations)?;
         self.body().compose(alloc, &images)
     }
 
@@ -161,28 +166,29 @@ fn normal_terms(
 }
 
 /// The terms with -n for n, and u_j and v_j exchanged.
-fn terms_backward(
+fn terms_inverse_form(
     alloc: Global,
     terms: &[Term<Frac>],
     count: usize,
 ) -> Result<Vec<Term<Frac>>, AllocError>
     requires { All (λ t. width count 0 ≤ length t.mono) terms.now }
     ensures terms { IfOk result (λ out. terms_of fraction_of out.items
-        ≡ backward_terms count (terms_of fraction_of terms.now)) }
+        ≡ inverse_form_terms count (terms_of fraction_of terms.now)) }
 {
     let mut out = Vec::with_capacity(alloc, terms.len())?;
     for term in terms {
-        let mono = monomial_backward(alloc, &term.mono, count)?;
-        let coef = coefficient_backward(term);
+        let mono = monomial_inverse_form(alloc, &term.mono, count)?;
+        let coef = coefficient_inverse_form(term);
         out.push(Term { mono, coef })?;
     }
     Ok(out)
 }
 
 /// The coefficient of a term with -n for n.
-fn coefficient_backward(term: &Term<Frac>) -> Frac
+fn coefficient_inverse_form(term: &Term<Frac>) -> Frac
     requires { 0 < length term.now.mono }
-    ensures { fraction_of result ≡ backward_sign (top term.now.mono) (fraction_of term.now.coef) }
+    ensures { fraction_of result ≡ inverse_form_sign (top term.now.mono)
+        (fraction_of term.now.coef) }
 {
     if term.mono.exponent(0) % 2 == 0 {
         term.coef

@@ -1,4 +1,4 @@
-//! What stands for n, s, u, v and the variables at a number of turns.
+//! What stands for n, s, u, v and the variables at a number of iterations.
 ghost use Rattle.std.specs.Prelude.{◌≡◌, ◌<◌, ◌≤◌, ◌++◌, All, length, map, IfOk, OnOk, IsErr, IsErrOf};
 ghost use Rattle.algebra.specs.Arithmetic.{power as power_in};
 ghost use Rattle.algebra.specs.Fraction.{ℚ};
@@ -7,12 +7,12 @@ ghost use Rattle.exponentials.specs.Base.{Coprime};
 ghost use Rattle.frac128.specs.FracMeaning.{fraction_of};
 ghost use Rattle.poly.specs.Seen.{terms_in, terms_each};
 ghost use Rattle.coprime_base.specs.Sizes.{sizes};
-ghost use Rattle.solvable_maps.specs.Turns.{width, sign as sign_at};
+ghost use Rattle.solvable_maps.specs.Iterations.{width, sign as sign_at};
 ghost use Rattle.monos.specs.Variables.{most_variables};
-ghost use Rattle.expo.specs.Points.{number_image, turn_images, powers_by, IsPastPower, IsPastPoint};
+ghost use Rattle.expo.specs.Points.{number_image, iteration_images, powers_by, IsPastPower, IsPastPoint};
 
 use crate::images::{factor_of, push_variables};
-use crate::table::natural;
+use crate::table::frac_of_usize;
 use frac128::{Frac, Whole};
 use monos::Grevlex;
 use poly::Poly;
@@ -32,46 +32,46 @@ pub fn power(number: &Frac, exponent: u32) -> Result<Frac, Wide>
     Ok(found)
 }
 
-/// The number of turns, the powers of -1, of the base's numbers and of their inverses with this exponent, as constants, and the variables.
+/// The number of iterations, the powers of -1, of the base's numbers and of their inverses with this exponent, as constants, and the variables.
 /// `Wide` only where a power does not fit.
-pub(crate) fn images_at_turn(
+pub(crate) fn images_at_iteration(
     alloc: Global,
     base: &[Whole],
     vars: usize,
-    turns: u32,
+    iterations: u32,
 ) -> Result<Vec<Poly<Frac, Grevlex>>, ArithmeticError>
     requires base { Coprime (sizes base.now) }
     requires few { width (length (sizes base.now)) vars ≤ most_variables }
     ensures images { IfOk result
-        (λ images. terms_each images.items ≡ turn_images (sizes base.now) vars turns) }
+        (λ images. terms_each images.items ≡ iteration_images (sizes base.now) vars iterations) }
     ensures arities { IfOk result (λ images. All (λ p. p.arity ≡ vars) images.items) }
-    ensures wide { IsErrOf result ArithmeticError.Wide → IsPastPoint (sizes base.now) turns }
+    ensures wide { IsErrOf result ArithmeticError.Wide → IsPastPoint (sizes base.now) iterations }
 {
     let mut images = Vec::with_capacity(alloc, 2 + 2 * base.len() + vars)?;
-    images.push(number_of(alloc, vars, turns)?)?;
-    images.push(Poly::constant(alloc, Grevlex, vars, &sign(turns))?)?;
-    push_powers(alloc, &mut images, vars, base, turns, false)?;
-    push_powers(alloc, &mut images, vars, base, turns, true)?;
+    images.push(number_of(alloc, vars, iterations)?)?;
+    images.push(Poly::constant(alloc, Grevlex, vars, &sign(iterations))?)?;
+    push_powers(alloc, &mut images, vars, base, iterations, false)?;
+    push_powers(alloc, &mut images, vars, base, iterations, true)?;
     push_variables(alloc, &mut images, vars, 0)?;
     Ok(images)
 }
 
-/// A number of turns, as a constant.
-fn number_of(alloc: Global, vars: usize, turns: u32) -> Result<Poly<Frac, Grevlex>, AllocError>
+/// A number of iterations, as a constant.
+fn number_of(alloc: Global, vars: usize, iterations: u32) -> Result<Poly<Frac, Grevlex>, AllocError>
     requires { vars ≤ most_variables }
     ensures arity { IfOk result (λ p. p.arity ≡ vars) }
-    ensures terms { IfOk result (λ p. terms_in p ≡ number_image vars turns) }
+    ensures terms { IfOk result (λ p. terms_in p ≡ number_image vars iterations) }
 {
-    let number = natural(turns as usize);
+    let number = frac_of_usize(iterations as usize);
     Poly::constant(alloc, Grevlex, vars, &number)
 }
 
 /// A power of -1.
-fn sign(turns: u32) -> Frac
-    ensures { fraction_of result ≡ sign_at turns }
+fn sign(iterations: u32) -> Frac
+    ensures { fraction_of result ≡ sign_at iterations }
 {
     let mut found = Frac::one();
-    for _ in 0..turns {
+    for _ in 0..iterations {
         found = found.neg();
     }
     found
@@ -83,21 +83,21 @@ fn push_powers(
     images: &mut Vec<Poly<Frac, Grevlex>>,
     vars: usize,
     base: &[Whole],
-    turns: u32,
+    iterations: u32,
     inverted: bool,
 ) -> Result<(), ArithmeticError>
     requires few { vars ≤ most_variables }
     requires base { Coprime (sizes base.now) }
     requires arities { All (λ p. p.arity ≡ vars) images.old.items }
     ensures images { OnOk result (terms_each images.new.items ≡ terms_each images.old.items
-        ++ map (constant vars) (powers_by inverted (sizes base.now) turns)) }
+        ++ map (constant vars) (powers_by inverted (sizes base.now) iterations)) }
     ensures arities { OnOk result (All (λ p. p.arity ≡ vars) images.new.items) }
-    ensures wide { IsErrOf result ArithmeticError.Wide → IsPastPoint (sizes base.now) turns }
+    ensures wide { IsErrOf result ArithmeticError.Wide → IsPastPoint (sizes base.now) iterations }
 {
     let Some((number, base)) = base.split_first() else {
         return Ok(());
     };
-    let power = power(&factor_of(number, inverted), turns)?;
+    let power = power(&factor_of(number, inverted), iterations)?;
     images.push(Poly::constant(alloc, Grevlex, vars, &power)?)?;
-    push_powers(alloc, images, vars, base, turns, inverted)
+    push_powers(alloc, images, vars, base, iterations, inverted)
 }

@@ -70,15 +70,15 @@ impl Key {
     pub(crate) fn monomial(
         &self,
         alloc: Global,
-        turns: u16,
+        iterations: u16,
         vars: usize,
     ) -> Result<Mono, AllocError>
         requires { arity_with self.now vars ≤ most_variables }
         ensures ok { IfOk result
-            (λ mono. mono ≡ with_key turns (key_in self.now) (replicate vars 0)) }
+            (λ mono. mono ≡ with_key iterations (key_in self.now) (replicate vars 0)) }
     {
         let none = vec![in alloc; 0; vars]?;
-        let mut exponents = vec![in alloc; turns, self.sign]?;
+        let mut exponents = vec![in alloc; iterations, self.sign]?;
         exponents.extend_from_slice(&self.up)?;
         exponents.extend_from_slice(&self.down)?;
         exponents.extend_from_slice(&none)?;

@@ -5,7 +5,7 @@ ghost use Rattle.frac128.specs.FracMeaning.{fraction_of};
 ghost use Rattle.poly.specs.View.{terms_of};
 ghost use Rattle.coprime_base.specs.Sizes.{sizes};
 ghost use Rattle.solvable_maps.specs.Expo.{power_terms as terms_with};
-ghost use Rattle.solvable_maps.specs.Turns.{width};
+ghost use Rattle.solvable_maps.specs.Iterations.{width};
 ghost use Rattle.monos.specs.Variables.{most_variables};
 ghost use Rattle.expo.specs.Bases.{IsCoprimeBase};
 ghost use Rattle.expo.specs.Numbers.{number_at};
@@ -22,57 +22,58 @@ use poly::{Poly, Term};
 use ring_laws::{ArithmeticError, Ring};
 use std::alloc::{AllocError, Global};
 
-/// The solution y of y(n+1) = λ y(n) + n^degree σ^n with y(0) = 0, where σ is the number of `source` and λ that of `own`.
+/// The solution y of y(n+1) = λ y(n) + n^degree σ^n with y(0) = 0, where σ is the number of `inhomogeneity` and λ that of `own`.
 /// `Wide` only where a number of it, or an operation with them, is past.
 pub fn solve_term(
     alloc: Global,
     base: &Vec<Whole>,
     vars: usize,
     degree: u32,
-    source: &Power,
+    inhomogeneity: &Power,
     own: &Power,
 ) -> Result<Expo, ArithmeticError>
     requires base { IsCoprimeBase (sizes base.now.items) }
     requires degree { degree ≤ most_degree }
-    requires source { length source.now.exponents.items ≡ length base.now.items }
+    requires inhomogeneity { length inhomogeneity.now.exponents.items ≡ length base.now.items }
     requires own { length own.now.exponents.items ≡ length base.now.items }
     requires arity { width (length base.now.items) vars ≤ most_variables }
-    ensures table { IfOk result (IsTabled (sizes base.now.items) vars degree source.now own.now) }
+    ensures table { IfOk result (IsTabled (sizes base.now.items) vars degree inhomogeneity.now
+        own.now) }
     ensures solves { IfOk result
-        (IsSolutionOf (sizes base.now.items) vars degree source.now own.now) }
+        (IsSolutionOf (sizes base.now.items) vars degree inhomogeneity.now own.now) }
     ensures wide { IsErrOf result ArithmeticError.Wide
-        → IsPastSolution (sizes base.now.items) degree source.now own.now }
+        → IsPastSolution (sizes base.now.items) degree inhomogeneity.now own.now }
 {
-    let source = source.evaluate(alloc, base)?;
+    let inhomogeneity = inhomogeneity.evaluate(alloc, base)?;
     let own = own.evaluate(alloc, base)?;
-    let terms = terms_of_table(alloc, vars, degree, &source, &own)?;
+    let terms = terms_of_table(alloc, vars, degree, &inhomogeneity, &own)?;
     let arity = 2 + 2 * base.len() + vars;
     let body = Poly::from_distinct(alloc, Grevlex, arity, terms)?;
     Ok(Expo::of(alloc, base, vars, body)?)
 }
 
-/// The terms, by the number of `source` and that of `own`.
+/// The terms, by the number of `inhomogeneity` and that of `own`.
 fn terms_of_table(
     alloc: Global,
     vars: usize,
     degree: u32,
-    source: &Evaluated,
+    inhomogeneity: &Evaluated,
     own: &Evaluated,
 ) -> Result<Vec<Term<Frac>>, ArithmeticError>
     requires degree { degree ≤ most_degree }
     requires nonzero { fraction_of own.now.number ≢ ℚ.zero }
-    requires source { arity_with source.now.key vars ≤ most_variables }
+    requires inhomogeneity { arity_with inhomogeneity.now.key vars ≤ most_variables }
     requires own { arity_with own.now.key vars ≤ most_variables }
     ensures terms { IfOk result (λ out. AreTabled vars degree
-        (fraction_of source.now.number) (fraction_of own.now.number)
-        (key_in source.now.key) (key_in own.now.key) (terms_of fraction_of out.items)) }
+        (fraction_of inhomogeneity.now.number) (fraction_of own.now.number)
+        (key_in inhomogeneity.now.key) (key_in own.now.key) (terms_of fraction_of out.items)) }
     ensures wide { IsErrOf result ArithmeticError.Wide
-        → IsPastTable (fraction_of source.now.number) (fraction_of own.now.number) degree }
+        → IsPastTable (fraction_of inhomogeneity.now.number) (fraction_of own.now.number) degree }
 {
-    if source.number == own.number {
+    if inhomogeneity.number == own.number {
         equal_terms(alloc, vars, degree, own)
     } else {
-        other_terms(alloc, vars, degree, source, own)
+        other_terms(alloc, vars, degree, inhomogeneity, own)
     }
 }
 
@@ -81,22 +82,22 @@ fn other_terms(
     alloc: Global,
     vars: usize,
     degree: u32,
-    source: &Evaluated,
+    inhomogeneity: &Evaluated,
     own: &Evaluated,
 ) -> Result<Vec<Term<Frac>>, ArithmeticError>
     requires degree { degree ≤ most_degree }
-    requires different { fraction_of source.now.number ≢ fraction_of own.now.number }
-    requires source { arity_with source.now.key vars ≤ most_variables }
+    requires different { fraction_of inhomogeneity.now.number ≢ fraction_of own.now.number }
+    requires inhomogeneity { arity_with inhomogeneity.now.key vars ≤ most_variables }
     requires own { arity_with own.now.key vars ≤ most_variables }
     ensures terms { IfOk result (λ out. AreOther vars degree
-        (fraction_of source.now.number) (fraction_of own.now.number)
-        (key_in source.now.key) (key_in own.now.key) (terms_of fraction_of out.items)) }
+        (fraction_of inhomogeneity.now.number) (fraction_of own.now.number)
+        (key_in inhomogeneity.now.key) (key_in own.now.key) (terms_of fraction_of out.items)) }
     ensures wide { IsErrOf result ArithmeticError.Wide
-        → IsPastOther (fraction_of source.now.number) (fraction_of own.now.number) degree }
+        → IsPastOther (fraction_of inhomogeneity.now.number) (fraction_of own.now.number) degree }
 {
-    let numbers = other_numbers(alloc, degree, &source.number, &own.number)?;
+    let numbers = other_numbers(alloc, degree, &inhomogeneity.number, &own.number)?;
     let first = numbers[0];
-    let mut terms = terms_by_power(alloc, vars, &source.key, &numbers)?;
+    let mut terms = terms_by_power(alloc, vars, &inhomogeneity.key, &numbers)?;
     let mono = own.key.monomial(alloc, 0, vars)?;
     terms.push(Term {
         mono,
@@ -137,11 +138,11 @@ fn terms_by_power(
         ≡ terms_with vars (key_in key.now) (number_at numbers.now) 0 (length numbers.now)) }
 {
     let mut terms = Vec::with_capacity(alloc, numbers.len())?;
-    for turns in 0..numbers.len() {
-        let mono = key.monomial(alloc, turns as u16, vars)?;
+    for iterations in 0..numbers.len() {
+        let mono = key.monomial(alloc, iterations as u16, vars)?;
         terms.push(Term {
             mono,
-            coef: numbers[turns],
+            coef: numbers[iterations],
         })?;
     }
     Ok(terms)

@@ -17,25 +17,25 @@ use std::alloc::Global;
 pub(crate) fn other_numbers(
     alloc: Global,
     degree: u32,
-    source: &Frac,
+    inhomogeneity: &Frac,
     own: &Frac,
 ) -> Result<Vec<Frac>, ArithmeticError>
     requires degree { degree ≤ most_degree }
-    requires different { fraction_of source.now ≢ fraction_of own.now }
+    requires different { fraction_of inhomogeneity.now ≢ fraction_of own.now }
     ensures count { IfOk result (λ q. length q.items ≡ degree + 1) }
     ensures table { IfOk result (λ q. IsOther ℚ_field
-        (fraction_of source.now) (fraction_of own.now) degree (number_at q.items)) }
+        (fraction_of inhomogeneity.now) (fraction_of own.now) degree (number_at q.items)) }
     ensures wide { IsErrOf result ArithmeticError.Wide
-        → IsPastOther (fraction_of source.now) (fraction_of own.now) degree }
+        → IsPastOther (fraction_of inhomogeneity.now) (fraction_of own.now) degree }
 {
-    let divisor = source.sub(own)?;
+    let divisor = inhomogeneity.sub(own)?;
     let mut row = degree as usize + 1;
     let mut numbers = vec![in alloc; Frac::zero(); row]?;
     let mut start = Frac::one();
     while row > 0 {
         row -= 1;
         let sum = weighed_sum(&numbers, row, row, Frac::one())?;
-        numbers[row] = start.sub(&source.mul(&sum)?)?.div(&divisor)?;
+        numbers[row] = start.sub(&inhomogeneity.mul(&sum)?)?.div(&divisor)?;
         start = Frac::zero();
     }
     Ok(numbers)
@@ -58,7 +58,7 @@ pub(crate) fn equal_numbers(
     let mut numbers = vec![in alloc; Frac::zero(); row + 1]?;
     let mut start = own.reciprocal();
     while row > 0 {
-        let divisor = natural(row);
+        let divisor = frac_of_usize(row);
         row -= 1;
         let sum = weighed_sum(&numbers, row, row + 1, divisor)?;
         numbers[row + 1] = start.sub(&sum)?.div(&divisor)?;
@@ -95,12 +95,12 @@ fn next_binomial(given: &Frac, place: usize, row: usize) -> Result<Frac, Wide>
     ensures ok { IfOk result (λ c. fraction_of c ≡ binomial place row) }
     ensures wide { IsErr result → IsPast (fraction_size (binomial place row)) }
 {
-    let factor = natural(place).div(&natural(place - row))?;
+    let factor = frac_of_usize(place).div(&frac_of_usize(place - row))?;
     given.mul(&factor)
 }
 
-/// A small number.
-pub(crate) fn natural(number: usize) -> Frac
+/// A number of places or iterations as a fraction.
+pub(crate) fn frac_of_usize(number: usize) -> Frac
     ensures { fraction_of result ≡ whole (pos number) }
 {
     match Whole::new(number as i128) {

@@ -1,4 +1,4 @@
--- Functions of a natural number modulo an ideal: those that the difference operator takes into the ideal after so many turns, and
+-- Functions of a natural number modulo an ideal: those that the difference operator takes into the ideal after so many iterations, and
 -- sums of such functions times powers of different numbers.
 use Rattle.std.proofs.Common.{◌≡◌, ℕ, zero, suc, ◌≤◌, List, [], ◌∷◌, refl, ap, ap₂, subst, arith}
 use Rattle.algebra.specs.Each.{Each}

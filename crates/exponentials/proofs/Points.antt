@@ -44,8 +44,8 @@ module _ {A : Type 0} (R : CommRing A) where
       (monomial-top s (us ++ (vs ++ xs)) (rest e)
       ∙ ap (R.mul (power (operations R) s (top (rest e)))) (monomial-append R us (vs ++ xs) r
       ∙ ap (R.mul p) (monomial-append R vs xs (drop (length us) r)))))
-      ∙ turn c (power (operations R) x (top e)) (power (operations R) s (top (rest e))) p q m
+      ∙ iteration c (power (operations R) x (top e)) (power (operations R) s (top (rest e))) p q m
     where
-      turn : (c t w p q m : A) → R.mul c (R.mul t (R.mul w (R.mul p (R.mul q m))))
+      iteration : (c t w p q m : A) → R.mul c (R.mul t (R.mul w (R.mul p (R.mul q m))))
           ≡ R.mul (R.mul c m) (R.mul t (R.mul w (R.mul p q)))
-      turn c t w p q m = ring R (c ∷ t ∷ w ∷ p ∷ q ∷ m ∷ []) (search ring_rules depth 40) refl
+      iteration c t w p q m = ring R (c ∷ t ∷ w ∷ p ∷ q ∷ m ∷ []) (search ring_rules depth 40) refl

@@ -134,7 +134,7 @@ refining_split_at list g x y ws ws' ws'' bs bs' e k l t r =
       b.1,
     ))
 
--- ---- what one turn of a loop does with the number w, taken from the waiting ones
+-- ---- what one iteration of a loop does with the number w, taken from the waiting ones
 abbrev pub Settles : ℕ → List ℕ → List ℕ → List ℕ → List ℕ → Type 0
 Settles w ws bs ws' bs' = (list all : List ℕ) → Picked w ws all → Refining list all bs
     → Refining list ws' bs' × (size ws' bs' < size all bs)

@@ -174,15 +174,15 @@ module _ {A : Type 0} (R : CommRing A) where
       ∙ sum_alike R (λ i. sum_over (operations R) (λ j. cell j i) (numbers 0 (suc d)))
       (λ i. mul (mixed d q i) (power (operations R) x i)) (numbers 0 (suc d))
       (λ i. sum_alike R (λ j. cell j i) (λ j. mul (power (operations R) x i) (weighed q i j))
-      (numbers 0 (suc d)) (λ j. turn (q j) (of_nat R (choose j i)) (power (operations R) x i))
+      (numbers 0 (suc d)) (λ j. iteration (q j) (of_nat R (choose j i)) (power (operations R) x i))
       ∙ Sums.sum-mul R (power (operations R) x i) (weighed q i) (numbers 0 (suc d))
       ∙ R.mul_comm (power (operations R) x i) (mixed d q i))
     where
       cell : ℕ → ℕ → A
       cell j i = mul (q j) (row x j i)
 
-      turn : (a b c : A) → mul a (mul b c) ≡ mul c (mul b a)
-      turn a b c = ring R (a ∷ b ∷ c ∷ []) (search ring_rules depth 40) refl
+      iteration : (a b c : A) → mul a (mul b c) ≡ mul c (mul b a)
+      iteration a b c = ring R (a ∷ b ∷ c ∷ []) (search ring_rules depth 40) refl
 
   one-times : (a : A) → mul (add 𝟙 𝟘) a ≡ a
   one-times a = ring R (a ∷ []) (search ring_rules depth 40) refl

@@ -10,7 +10,7 @@ use Rattle.serde_json.specs.Find.{get, as_object, as_array}
 use Rattle.algebra.specs.Fraction.{Fraction, rationals}
 use Rattle.polynomials.specs.Order.{grevlex}
 use Rattle.polynomials.specs.Terms.{Terms}
-use Rattle.solvable_maps.specs.Turns.{width}
+use Rattle.solvable_maps.specs.Iterations.{width}
 use Rattle.loops.specs.Program.{Expr, Program}
 use Rattle.machines.specs.Collect.{collect}
 use Rattle.rounds.specs.Form.{front, orbit_order, relations, relations_to}

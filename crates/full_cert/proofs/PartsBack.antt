@@ -19,7 +19,7 @@ use Rattle.polynomials.specs.Polynomial.{IsPolynomial}
 use Rattle.polynomials.specs.Terms.{Terms}
 use Rattle.polynomials.proofs.Orders.{grevlex_order}
 use Rattle.machines.specs.Elimination.{free_part}
-use Rattle.solvable_maps.specs.Turns.{width}
+use Rattle.solvable_maps.specs.Iterations.{width}
 use Rattle.poly_text.specs.Narrow.{IsNarrow}
 use Rattle.cert_form.specs.Form.{Reading, on, after, part, each, count, list_with, parts, shape}
 use Rattle.cert_form.specs.Path.{member_path}

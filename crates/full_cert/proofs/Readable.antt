@@ -13,7 +13,7 @@ use Rattle.polynomials.specs.Order.{Rank, grevlex}
 use Rattle.polynomials.specs.Polynomial.{IsPolynomial}
 use Rattle.polynomials.specs.Terms.{Terms}
 use Rattle.loops.specs.Program.{Expr, Program}
-use Rattle.solvable_maps.specs.Turns.{width}
+use Rattle.solvable_maps.specs.Iterations.{width}
 use Rattle.rounds.specs.Form.{front}
 use Rattle.poly.specs.Seen.{terms_each}
 use Rattle.poly_text.specs.Narrow.{IsNarrow}

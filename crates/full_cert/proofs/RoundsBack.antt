@@ -156,20 +156,20 @@ each_round_reads m before fs path r (row ∷ rows) h =
     (each_round_reads m (last_given before row) fs path (suc r) rows h.1)
 
 -- ---- from what each place has
-branches_from : (m before : ℕ) (told : ℕ → Option ℕ) (fs : List WrittenForm)
+branches_are_read_from : (m before : ℕ) (told : ℕ → Option ℕ) (fs : List WrittenForm)
     (ss : List BranchStages)
     → length ss ≡ length fs
     → ((b : ℕ) → b < length fs
     → IsBranchReadable m before (told b) (get_or fs b no_form) (get_or ss b no_branch))
     → ((b : ℕ) → b < length fs → told (suc b) ≡ Some (given_by (get_or ss b no_branch)))
     → AreBranchesReadable m before (told 0) fs ss
-branches_from m before told [] [] many each next = tt
-branches_from m before told [] (s ∷ ss) many each next = absurd (omega (arith, many))
-branches_from m before told (f ∷ fs) [] many each next = absurd (omega (arith, many))
-branches_from m before told (f ∷ fs) (s ∷ ss) many each next = (
+branches_are_read_from m before told [] [] many each next = tt
+branches_are_read_from m before told [] (s ∷ ss) many each next = absurd (omega (arith, many))
+branches_are_read_from m before told (f ∷ fs) [] many each next = absurd (omega (arith, many))
+branches_are_read_from m before told (f ∷ fs) (s ∷ ss) many each next = (
   each 0 (omega arith),
   subst (λ x. AreBranchesReadable m before x fs ss) (next 0 (omega arith))
-      (branches_from m before (λ b. told (suc b)) fs ss (omega (arith, many))
+      (branches_are_read_from m before (λ b. told (suc b)) fs ss (omega (arith, many))
       (λ b l. each (suc b) (omega (arith, l))) (λ b l. next (suc b) (omega (arith, l)))),
 )
 
@@ -270,7 +270,8 @@ module _ {At : Type 0} (program : Program (Expr At)) (c : FullCertificate) where
     round_readable : AreBranchesReadable m (length (before program c r)) None c.forms row
     round_readable =
         let many : length c.forms ≡ n = counted.forms in
-        branches_from m (length (before program c r)) told c.forms row (row_many ∙ sym many)
+        branches_are_read_from m (length (before program c r)) told c.forms row (row_many
+        ∙ sym many)
         (λ b l. branch_at_place b (omega (arith, l, many)))
         (λ b l. ap Some (given b (omega (arith, l, many))))
 

@@ -12,7 +12,7 @@ use Rattle.serde_json.proofs.OnLiterals.{serde_json_on_literals}
 use Rattle.polynomials.specs.Order.{grevlex}
 use Rattle.polynomials.proofs.Orders.{grevlex_order}
 use Rattle.loops.specs.Program.{Expr, Program}
-use Rattle.solvable_maps.specs.Turns.{width}
+use Rattle.solvable_maps.specs.Iterations.{width}
 use Rattle.cert_form.specs.Form.{on, expect, is_number, is_text, is_list_of, are_texts, has_version, has_names, shape}
 use Rattle.cert_form.specs.Written.{list_data}
 use Rattle.full_cert.specs.Tables.{raws_at}

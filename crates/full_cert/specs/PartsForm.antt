@@ -17,7 +17,7 @@ use Rattle.algebra.specs.Fraction.{Fraction}
 use Rattle.polynomials.specs.Order.{grevlex}
 use Rattle.polynomials.specs.Terms.{Terms}
 use Rattle.machines.specs.Elimination.{free_part}
-use Rattle.solvable_maps.specs.Turns.{width}
+use Rattle.solvable_maps.specs.Iterations.{width}
 use Rattle.poly_text.specs.Number.{numeral_of}
 use Rattle.cert_form.specs.Form.{Reading, on, expect, count, list_with, parts, shape}
 use Rattle.cert_form.specs.Path.{member_path}

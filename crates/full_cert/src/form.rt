@@ -5,7 +5,7 @@ ghost use Rattle.serde_json.specs.Find.{as_array, as_str};
 ghost use Rattle.serde_json.specs.View.{view, items_view};
 ghost use Rattle.poly.specs.Seen.{terms_each};
 ghost use Rattle.coprime_base.specs.Sizes.{sizes};
-ghost use Rattle.solvable_maps.specs.Turns.{width};
+ghost use Rattle.solvable_maps.specs.Iterations.{width};
 ghost use Rattle.poly_text.specs.Number.{numeral_of};
 ghost use Rattle.cert_form.specs.Form.{each};
 ghost use Rattle.cert_form.specs.Faults.{IfFault};

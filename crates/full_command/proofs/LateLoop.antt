@@ -1,4 +1,4 @@
--- The loop whose one branch is x = 0 begins late: from one turn on its state is 0, and at the start it is any.
+-- The loop whose one branch is x = 0 begins late: from one iteration on its state is 0, and at the start it is any.
 --   reset_form         the form of its branch
 --   reset_forms        its closed form
 --   reset_have_forms   so each branch has one;  reset_late: it is the first branch that begins late
@@ -22,7 +22,7 @@ use Rattle.machines.specs.Collect.{collect, insert, place}
 use Rattle.loops.specs.Effect.{after_branch, after_statement, store, value_of}
 use Rattle.loops.specs.Map.{branch_map}
 use Rattle.solvable_maps.specs.Classes.{IsEigenvalue, IsFormBase}
-use Rattle.solvable_maps.specs.Turns.{IsClosedFormFrom, point, turns, values_at}
+use Rattle.solvable_maps.specs.Iterations.{IsClosedFormFrom, point, iterations, values_at}
 use Rattle.rounds.specs.BranchMap.{map_of}
 use Rattle.rounds.specs.Word.{branch_of}
 use Rattle.rounds.specs.Form.{Form, IsClosedForm}
@@ -77,20 +77,20 @@ module _ {A : Type 0} (R : CommRing A) where
   zero_of : (x : A) → 𝟘 ≡ 𝟘 ⊗ x ⊕ 𝟘
   zero_of x = ring R (x ∷ []) (search ring_rules depth 40) refl
 
--- one turn makes the state 0
+-- one iteration makes the state 0
 made_zero : (s : List Fraction)
     → values_at (branch_map reset_loop (branch_of reset_loop 1)) s ≡ ℚ.zero ∷ []
 unfolding branch_map after_branch after_statement store value_of variables unit_exponents constant
     fraction is_lowest gcd evaluate sum_over
 made_zero s = ap (λ y. y ∷ []) (sym (zero_of ℚ_ring (monomial_at ℚ s (0 ∷ []))))
 
-reset_turns : (n : ℕ) (s : List Fraction) → length s ≡ 1 → 1 ≤ n
+reset_iterations : (n : ℕ) (s : List Fraction) → length s ≡ 1 → 1 ≤ n
     → values_at ([] ∷ []) (point [] n s)
-    ≡ turns (branch_map reset_loop (branch_of reset_loop 1)) n s
+    ≡ iterations (branch_map reset_loop (branch_of reset_loop 1)) n s
 unfolding evaluate sum_over
-reset_turns zero s l some = absurd (omega (arith, some))
-reset_turns (suc n) s l some =
-    sym (made_zero (turns (branch_map reset_loop (branch_of reset_loop 1)) n s))
+reset_iterations zero s l some = absurd (omega (arith, some))
+reset_iterations (suc n) s l some =
+    sym (made_zero (iterations (branch_map reset_loop (branch_of reset_loop 1)) n s))
 
 not_at_start : IsClosedFormFrom [] (branch_map reset_loop (branch_of reset_loop 1)) 0 ([] ∷ []) → ⊥
 unfolding evaluate sum_over branch_map after_branch after_statement store variables unit_exponents
@@ -102,7 +102,7 @@ reset_is_form = record {
   base = subst (λ ms. IsFormBase ms []) (sym reset_map) gone_base;
   polynomials = (record { nonzero = tt; arity = tt; falls = tt }, tt);
   normal = (tt, tt);
-  form = record { arity = (tt, tt); values = reset_turns };
+  form = record { arity = (tt, tt); values = reset_iterations };
   least = λ d c. least d c;
 }
   where

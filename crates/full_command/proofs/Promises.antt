@@ -60,7 +60,7 @@ module _ (request : FileRequest) where
       journal = left path call f (λ text. HasBegun text request.budget m)
           (λ text l e h. record { loop = l; is_loop = e; worked = h });
       loop_fault = ends_at_fault path call f;
-      limit_met = λ l at r first. or_wide (course request) call f
+      limit_passed = λ l at r first. or_wide (course request) call f
           (loop_refusal (record { reason = limit; at = at }))
           (λ s. limit_told l request.budget at m s.answer first (answered path call f l r s));
       branch_refused = λ l b x r free exact first. or_wide (course request) call f

@@ -21,7 +21,7 @@ use Rattle.machines.proofs.Lengths.{kept_made}
 use Rattle.rounds.specs.Analysis as analysis
 use Rattle.rounds.specs.Analysis.{Work, starts, orbit, meet}
 use Rattle.rounds.specs.Form as form
-use Rattle.rounds.specs.Form.{front, relations, orbit_order, unwound_by}
+use Rattle.rounds.specs.Form.{front, relations, orbit_order, pulled_back_by}
 use Rattle.rounds.specs.Past.{IsPastOrbit, IsPastStarting, task_of_work}
 use Rattle.rounds.proofs.RelationTerms.{relations_not_kept, blend_not_kept}
 use Rattle.completeness.specs.Full.{as_form}
@@ -48,7 +48,7 @@ use Rattle.coprime_base.specs.Sizes.{sizes}
 use Rattle.task_lists.specs.Images.{IsStageIn}
 use Rattle.task_lists.specs.declared.parts.FullStage.{FullStage}
 use Rattle.invariant_fix.specs.Errors.{in_task}
-use Rattle.invariant_fix.specs.Orbits.{numbers_of, vars_of, unwound_list, IsPastUnwound}
+use Rattle.invariant_fix.specs.Orbits.{numbers_of, vars_of, pulled_back_list, IsPastPulledBack}
 use Rattle.invariant_fix.specs.Setting.{form_of, FitsSetting}
 use Rattle.invariant_fix.specs.declared.branches.Branch.{Branch}
 use Rattle.invariant_fix.specs.declared.setting.Setting.{Setting}
@@ -153,21 +153,22 @@ module _ (s : Setting) (fits : FitsSetting s) (place : ℕ) (within : place < le
       front_at = ap (λ (f : form.Form). form.orbit_front f A.arity) form_at
 
       orbit_begins : (k : ℕ) (hs : List (Terms Fraction))
-          → analysis.starting A (orbit k place (terms_each gs) hs) ≡ unwound_list branch gs
+          → analysis.starting A (orbit k place (terms_each gs) hs) ≡ pulled_back_list branch gs
       unfolding analysis.starting
       orbit_begins k hs = ap₂ (λ (f : form.Form) (m : ℕ). form.orbit_list f m (terms_each gs))
           form_at (i.arity ∙ sym vars_at)
 
       eliminates : (k : ℕ) (hs : List (Terms Fraction))
           → Eliminates A (orbit k place (terms_each gs) hs) (front (numbers_of branch))
-          (unwound_list branch gs)
+          (pulled_back_list branch gs)
       eliminates k hs =
-          subst (λ n. Eliminates A (orbit k place (terms_each gs) hs) n (unwound_list branch gs))
+          subst (λ n. Eliminates A (orbit k place (terms_each gs) hs) n
+          (pulled_back_list branch gs))
           front_at (subst (λ l. Eliminates A (orbit k place (terms_each gs) hs)
           (analysis.front_of A place) l) (orbit_begins k hs)
           (orbit_eliminates A k place (terms_each gs) hs))
 
-      past_here : (k : ℕ) (hs : List (Terms Fraction)) → IsPastUnwound branch gs
+      past_here : (k : ℕ) (hs : List (Terms Fraction)) → IsPastPulledBack branch gs
           → IsPastStarting A (orbit k place (terms_each gs) hs)
       past_here k hs p = inl (subst (λ (f : form.Form). IsPastOrbit f A.arity (terms_each gs))
           (sym form_at) p)
@@ -181,29 +182,32 @@ module _ (s : Setting) (fits : FitsSetting s) (place : ℕ) (within : place < le
       module _ (A : analysis.Setting) (R : ℕ) (d : Results) (hs : List (Terms Fraction))
           (i : IsSettingIn s A) (c : OrbitBegins A R d old.entries k place (terms_each gs) hs) where
         pub orbit_next : (x : Stage) → IsStageMade (front (numbers_of branch))
-            (unwound_list branch gs) x mid.entries new.entries
+            (pulled_back_list branch gs) x mid.entries new.entries
             → OrbitEnds A R d new.entries k place (terms_each gs) hs x
         orbit_next x m = stage_awaits A R d (orbit k place (terms_each gs) hs)
-            (front (numbers_of branch)) (unwound_list branch gs) (eliminates A i k hs) old.entries
+            (front (numbers_of branch)) (pulled_back_list branch gs) (eliminates A i k hs)
+            old.entries
             c x new.entries (subst (λ es. IsStageMade (front (numbers_of branch))
-            (unwound_list branch gs) x es new.entries) entries_are m)
+            (pulled_back_list branch gs) x es new.entries) entries_are m)
 
         pub orbit_stops : (t : declared_task.Task) → view.task_of t ≡ journal.Orbit k n
-            → (e : engine.EngineError) → IsBegunRefused (IsPastUnwound branch gs)
-            (front (numbers_of branch)) (unwound_list branch gs) mid new (refusal_of e)
+            → (e : engine.EngineError) → IsBegunRefused (IsPastPulledBack branch gs)
+            (front (numbers_of branch)) (pulled_back_list branch gs) mid new (refusal_of e)
             → Stops A R new (in_task t e)
         orbit_stops t is_task e h = told A R t new e
             (subst (λ z. Refuses A R z new (refusal_of e))
             (sym (is_task ∙ ap (journal.Orbit k) named))
             (begun_refused A R d (orbit k place (terms_each gs) hs) (front (numbers_of branch))
-            (unwound_list branch gs) (eliminates A i k hs) old.entries c
-            (IsPastUnwound branch gs) (past_here A i k hs) mid new entries_are (refusal_of e) h))
+            (pulled_back_list branch gs) (eliminates A i k hs) old.entries c
+            (IsPastPulledBack branch gs) (past_here A i k hs) mid new entries_are (refusal_of e) h))
 
-      module _ (x : Stage) (m : IsStageMade (front (numbers_of branch)) (unwound_list branch gs) x
+      module _ (x : Stage) (m : IsStageMade (front (numbers_of branch)) (pulled_back_list branch gs)
+          x
           mid.entries new.entries) where
         pub orbit_units : units_of old.entries ≤ units_of new.entries
         orbit_units =
-            let a = stage_units (front (numbers_of branch)) (unwound_list branch gs) x mid.entries
+            let a = stage_units (front (numbers_of branch)) (pulled_back_list branch gs) x
+            mid.entries
             new.entries m in
             let b = units_begun old mid (journal.Orbit k n) begin in
             omega (arith, a, b)
@@ -215,11 +219,12 @@ module _ (s : Setting) (fits : FitsSetting s) (place : ℕ) (within : place < le
           few = (let r = numbers_of branch in
               let v = vars_of branch in
               let f = form_of branch.form in
-              let a = stage_few (front r) (unwound_list branch gs) x mid.entries new.entries m in
-              let few = kept_made rationals (front r) (map (unwound_by f v) (terms_each gs))
+              let a = stage_few (front r) (pulled_back_list branch gs) x mid.entries new.entries
+              m in
+              let few = kept_made rationals (front r) (map (pulled_back_by f v) (terms_each gs))
               (map (collect rationals (orbit_order r)) (relations r v))
               (relations_not_kept r v) in
-              let b = length-map (terms_each gs) (unwound_by f v) in
+              let b = length-map (terms_each gs) (pulled_back_by f v) in
               let c = length-map gs terms_in in
               let e = length-map out terms_in in
               let g = ap length same in

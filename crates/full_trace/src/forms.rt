@@ -4,7 +4,7 @@ ghost use Rattle.poly.specs.Seen.{terms_each};
 ghost use Rattle.closed_forms.specs.Values.{bodies_of, AreOver};
 ghost use Rattle.task_lists.specs.Images.{ArePolys, IsFormOver};
 ghost use Rattle.task_lists.specs.View.{form_in};
-ghost use Rattle.solvable_maps.specs.Turns.{width};
+ghost use Rattle.solvable_maps.specs.Iterations.{width};
 ghost use Rattle.invariant_fix.specs.Setting.{FitsBranch};
 ghost use Rattle.full_trace.specs.Tasks.{written_of};
 

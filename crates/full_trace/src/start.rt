@@ -30,7 +30,7 @@ use task_lists::FullStart;
 /// Completes a list and tidies all that this gives, and divides the list by it. `Budget` only where the units
 /// are exhausted and the next event is one; `Wide` only where the weight of making an element monic, or of the
 /// next event, is past.
-fn start_lists(
+fn trace_start(
     alloc: Global,
     arity: usize,
     starts: &[Poly<Frac, Grevlex>],
@@ -73,7 +73,7 @@ pub(crate) fn start(
         → IfErr result (Stops A rounds meter.new)) }
 {
     meter.begin(Task::Start)?;
-    match start_lists(alloc, setting.arity, &setting.starts, meter) {
+    match trace_start(alloc, setting.arity, &setting.starts, meter) {
         Ok(start) => Ok(start),
         Err(error) => Err(in_task(Task::Start, error)),
     }

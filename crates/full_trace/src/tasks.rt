@@ -15,7 +15,7 @@ ghost use Rattle.completeness.specs.Rounds.{OrbitBegins, OrbitEnds, MeetBegins, 
 ghost use Rattle.completeness.specs.Trace.{Results};
 ghost use Rattle.task_lists.specs.Images.{IsStageIn};
 ghost use Rattle.task_lists.specs.View.{stage_in};
-ghost use Rattle.invariant_fix.specs.Orbits.{numbers_of, vars_of, unwound_list, IsPastUnwound};
+ghost use Rattle.invariant_fix.specs.Orbits.{numbers_of, vars_of, pulled_back_list, IsPastPulledBack};
 ghost use Rattle.invariant_fix.specs.Setting.{FitsSetting, FitsBranch};
 ghost use Rattle.full_trace.specs.Tasks.{Along, Stops, IsBegunRefused, Knows, most_begun, fronts_of};
 
@@ -43,10 +43,10 @@ fn orbit_stage(
     requires few { length basis.now ≤ most_begun }
     ensures limit { meter.new.limit ≡ meter.old.limit }
     ensures made { IfOk result (λ s. IsStageMade (front (numbers_of branch.now))
-        (unwound_list branch.now basis.now) (stage_in s) meter.old.entries meter.new.entries) }
+        (pulled_back_list branch.now basis.now) (stage_in s) meter.old.entries meter.new.entries) }
     ensures over { IfOk result (IsStageIn (front (numbers_of branch.now)) (vars_of branch.now)) }
-    ensures refused { IfErr result (λ e. IsBegunRefused (IsPastUnwound branch.now basis.now)
-        (front (numbers_of branch.now)) (unwound_list branch.now basis.now) meter.old meter.new
+    ensures refused { IfErr result (λ e. IsBegunRefused (IsPastPulledBack branch.now basis.now)
+        (front (numbers_of branch.now)) (pulled_back_list branch.now basis.now) meter.old meter.new
         (refusal_of e)) }
 {
     let begin = orbit_list(alloc, branch, basis)?;

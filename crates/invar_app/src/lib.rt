@@ -177,7 +177,7 @@ pub fn invar<F: Files, S: Sink>(
         IfTold (F.seen files.old) request.file (λ text.
         Wrote (S.seen out.old ⟶ S.seen out.new) (ShowsFull text)) }
 
-    // Yes to `counter`: the equation holds at the end of each run of at most so many turns.
+    // Yes to `counter`: the equation holds at the end of each run of at most so many iterations.
     ensures none_up_to { (request : counter_arguments.Request) →
         command_in arguments.now ≡ Some (command.counter request) → result ≡ Status.Yes →
         IfTold (F.seen files.old) request.file (λ text.

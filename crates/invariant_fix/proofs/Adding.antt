@@ -28,7 +28,7 @@ use Rattle.invariant_fix.specs.declared.errors.AnalyseError.{AnalyseError}
 use Rattle.invariant_fix.specs.declared.errors.AnalyseError.TheVariants as error
 use Rattle.invariant_fix.specs.Bases.{empty_journal, IsFormed, InLoop, InCode, HasWorked, IsRefusedAt, copies_to, AreBases, IsLast, IsRefusedIn}
 use Rattle.invariant_fix.specs.Limits.{budget_limit, elements_limit}
-use Rattle.invariant_fix.specs.ChainSteps.{HasList, LedFrom, HasStage, HasWorkedStage, IsRefusedStage}
+use Rattle.invariant_fix.specs.ChainSteps.{HasList, MappedFrom, HasStage, HasWorkedStage, IsRefusedStage}
 use Rattle.invariant_fix.specs.declared.refused.LoopError.{LoopError}
 use Rattle.invariant_fix.specs.declared.refused.LoopError.TheVariants as loop_error
 use Rattle.invariant_fix.specs.declared.refused.Refused.{Refused}
@@ -140,11 +140,11 @@ module _ (c : Chain (Expr ℕ)) (budget : ℕ) where
       in_loop : (P : ℕ → List (Terms Fraction) → Type 0)
           (Q : ℕ → Option (List (Terms Fraction)) → Type 0)
           → ((left : ℕ) (ks : List (Terms Fraction)) → P left ks → Q left (Some ks))
-          → LedFrom c.first code bs list budget m P → InLoop c budget m (suc n) Q
+          → MappedFrom c.first code bs list budget m P → InLoop c budget m (suc n) Q
       in_loop P Q f l = record {
         left = l.left;
         given = Some l.list;
-        known = behind n (terms_each list) l.entries l.list l.left before l.led l.units;
+        known = behind n (terms_each list) l.entries l.list l.left before l.mapped l.units;
         limit = l.limit;
         so = f l.left l.list l.so;
       }
@@ -204,7 +204,7 @@ module _ (c : Chain (Expr ℕ)) (budget : ℕ) where
         analysed_here =
             let l = h.done in let u = l.units in let w = l.so.1 in
             further n (terms_each list) l.entries l.list m.entries h.rounds (terms_each b.items)
-            before inside l.led l.so.0 (omega (arith, u, w))
+            before inside l.mapped l.so.0 (omega (arith, u, w))
 
         few_here : length b.items
             ≤ length c.first.names + copies_to c (suc n) + suc (suc n) * budget

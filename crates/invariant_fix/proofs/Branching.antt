@@ -1,6 +1,6 @@
 -- What comes in a round, branch by branch.
 --   round_begun            the first branch
---   turn_due, orbit_due, meet_due, met_done, turns_go_on     what follows in a branch
+--   iteration_due, orbit_due, meet_due, met_done, iterations_go_on     what follows in a branch
 --   branch_at, closing_at  what follows it, by the number of the next branch
 use Rattle.std.proofs.Common.{◌≡◌, ◌⊎◌, inl, inr, ℕ, zero, suc, pred, ◌+◌, ◌<◌, ◌≤◌, cond, List, length, refl, ap, subst, arith}
 use Rattle.std.proofs.lemmas.Bool.{lt-ltb, le-ltb}
@@ -12,56 +12,59 @@ use Rattle.machines.specs.Journal.{Entry, Begin, Journal, units_of}
 use Rattle.poly.specs.Seen.{terms_each}
 use Rattle.journal.specs.View.{with_entry}
 use Rattle.rounds.specs.Analysis as analysis
-use Rattle.rounds.specs.Analysis.{Setting, form_of, turns_of, goes, next, start_of, begin_branch, begin_turn, begin_orbit, begin_meet, after_turns, after_branch, after_orbit, after, closing_from, turn, turn_meet, orbit, meet}
+use Rattle.rounds.specs.Analysis.{Setting, form_of, iterations_of, goes, next, start_of, begin_branch, begin_iteration, begin_orbit, begin_meet, after_iterations, after_branch, after_orbit, after, closing_from, iteration, iteration_meet, orbit, meet}
 use Rattle.loop_model.specs.FracPoly.{FracPoly}
 use Rattle.invariant_fix.specs.Coming.{Comes}
 use Rattle.invariant_fix.specs.Setting.{setting_of}
-use Rattle.invariant_fix.specs.Steps.{HasMeet, HasWhole, turning, branching, branched, turn_begins, turn_ends, turn_meets, turn_met, orbiting, orbited, meeting, met, started, closing}
+use Rattle.invariant_fix.specs.Steps.{HasMeet, HasWhole, turning, branching, branched, iteration_begins, iteration_ends, iteration_meets, iteration_met, orbiting, orbited, meeting, met, started, closing}
 use Rattle.invariant_fix.specs.declared.setting.Setting as setting
 use Rattle.invariant_fix.proofs.Lists.{units_begun}
 use Rattle.invariant_fix.proofs.Tasks.{begun_task}
 
--- ---- numbers of turns
-some_turns : (d : ℕ) → 2 ≤ d → 0 < pred d
-some_turns zero l = absurd (omega (arith, l))
-some_turns (suc d) l = omega (arith, l)
+-- ---- numbers of iterations
+some_iterations : (d : ℕ) → 2 ≤ d → 0 < pred d
+some_iterations zero l = absurd (omega (arith, l))
+some_iterations (suc d) l = omega (arith, l)
 
-no_turns : (d : ℕ) → d < 2 → pred d ≤ 0
-no_turns zero l = omega arith
-no_turns (suc d) l = omega (arith, l)
+no_iterations : (d : ℕ) → d < 2 → pred d ≤ 0
+no_iterations zero l = omega arith
+no_iterations (suc d) l = omega (arith, l)
 
-more_turns : (n d : ℕ) → suc n < d → n < pred d
-more_turns n zero l = absurd (omega (arith, l))
-more_turns n (suc d) l = omega (arith, l)
+more_iterations : (n d : ℕ) → suc n < d → n < pred d
+more_iterations n zero l = absurd (omega (arith, l))
+more_iterations n (suc d) l = omega (arith, l)
 
-all_turns : (n d : ℕ) → d ≤ suc n → pred d ≤ n
-all_turns n zero l = omega arith
-all_turns n (suc d) l = omega (arith, l)
+all_iterations : (n d : ℕ) → d ≤ suc n → pred d ≤ n
+all_iterations n zero l = omega arith
+all_iterations n (suc d) l = omega (arith, l)
 
 -- ---- of any setting
 module _ (A : Setting) (k b : ℕ) (gs : List (Terms Fraction)) where
-  turn_comes : (n : ℕ) (ks hs : List (Terms Fraction)) → n < turns_of A b
-      → after_turns A k b n gs ks hs ≡ begin_turn A k b n gs ks hs
-  unfolding after_turns
-  turn_comes n ks hs l = ap (λ o. cond o (begin_turn A k b n gs ks hs) (begin_orbit A k b gs hs))
-      (lt-ltb n (turns_of A b) l)
+  iteration_comes : (n : ℕ) (ks hs : List (Terms Fraction)) → n < iterations_of A b
+      → after_iterations A k b n gs ks hs ≡ begin_iteration A k b n gs ks hs
+  unfolding after_iterations
+  iteration_comes n ks hs l =
+      ap (λ o. cond o (begin_iteration A k b n gs ks hs) (begin_orbit A k b gs hs))
+      (lt-ltb n (iterations_of A b) l)
 
-  orbit_comes : (n : ℕ) (ks hs : List (Terms Fraction)) → turns_of A b ≤ n
-      → after_turns A k b n gs ks hs ≡ begin_orbit A k b gs hs
-  unfolding after_turns
-  orbit_comes n ks hs l = ap (λ o. cond o (begin_turn A k b n gs ks hs) (begin_orbit A k b gs hs))
-      (le-ltb n (turns_of A b) l)
+  orbit_comes : (n : ℕ) (ks hs : List (Terms Fraction)) → iterations_of A b ≤ n
+      → after_iterations A k b n gs ks hs ≡ begin_orbit A k b gs hs
+  unfolding after_iterations
+  orbit_comes n ks hs l =
+      ap (λ o. cond o (begin_iteration A k b n gs ks hs) (begin_orbit A k b gs hs))
+      (le-ltb n (iterations_of A b) l)
 
-  turn_meet_comes : (n : ℕ) (ks hs ls : List (Terms Fraction))
-      → after A (turn k b n gs ks hs) ls
-      ≡ goes (Begin (journal.TurnMeet k (suc b) (suc n))) (start_of A (turn_meet k b n gs hs ls))
+  iteration_meet_comes : (n : ℕ) (ks hs ls : List (Terms Fraction))
+      → after A (iteration k b n gs ks hs) ls
+      ≡ goes (Begin (journal.IterationMeet k (suc b) (suc n)))
+      (start_of A (iteration_meet k b n gs hs ls))
   unfolding after
-  turn_meet_comes n ks hs ls = refl
+  iteration_meet_comes n ks hs ls = refl
 
-  turns_come : (n : ℕ) (hs ks ls : List (Terms Fraction))
-      → after A (turn_meet k b n gs hs ks) ls ≡ after_turns A k b (suc n) gs ks ls
+  iterations_come : (n : ℕ) (hs ks ls : List (Terms Fraction))
+      → after A (iteration_meet k b n gs hs ks) ls ≡ after_iterations A k b (suc n) gs ks ls
   unfolding after
-  turns_come n hs ks ls = refl
+  iterations_come n hs ks ls = refl
 
   branch_comes : (hs : List (Terms Fraction)) → suc b < length A.forms
       → after_branch A k b gs hs ≡ begin_branch A k (suc b) gs hs
@@ -120,51 +123,54 @@ module _ (s : setting.Setting) (k : ℕ) (gs : List FracPoly) where
   round_unit old mid e = units_begun old mid (journal.Round k) e
 
   module _ (es : List Entry) (b : ℕ) where
-    -- ---- the turns of a branch
-    pub turn_due : (hs : List FracPoly) → 2 ≤ (form_of (setting_of s) b).since
+    -- ---- the iterations of a branch
+    pub iteration_due : (hs : List FracPoly) → 2 ≤ (form_of (setting_of s) b).since
         → Comes (setting_of s) es (branching s k b gs (terms_each hs))
-        → Comes (setting_of s) es (turn_begins s k b 0 (terms_each gs) gs (terms_each hs))
-    turn_due hs l c = subst (Comes (setting_of s) es) (turn_comes (setting_of s) k b (terms_each gs)
+        → Comes (setting_of s) es (iteration_begins s k b 0 (terms_each gs) gs (terms_each hs))
+    iteration_due hs l c = subst (Comes (setting_of s) es) (iteration_comes (setting_of s) k b
+        (terms_each gs)
         0
-        (terms_each gs) (terms_each hs) (some_turns (form_of (setting_of s) b).since l)) c
+        (terms_each gs) (terms_each hs) (some_iterations (form_of (setting_of s) b).since l)) c
 
     pub orbit_due : (hs : List FracPoly) → (form_of (setting_of s) b).since < 2
         → Comes (setting_of s) es (branching s k b gs (terms_each hs))
         → Comes (setting_of s) es (orbiting s k b gs (terms_each hs))
     orbit_due hs l c = subst (Comes (setting_of s) es) (orbit_comes (setting_of s) k b
         (terms_each gs) 0
-        (terms_each gs) (terms_each hs) (no_turns (form_of (setting_of s) b).since l)) c
+        (terms_each gs) (terms_each hs) (no_iterations (form_of (setting_of s) b).since l)) c
 
-    pub turn_meet_due : (n : ℕ) (ks hs ls : List FracPoly)
-        → Comes (setting_of s) es (turn_ends s k b n (terms_each gs) ks (terms_each hs) ls)
-        → Comes (setting_of s) es (turn_meets s k b n (terms_each gs) hs ls)
-    turn_meet_due n ks hs ls c = subst (Comes (setting_of s) es) (turn_meet_comes (setting_of s) k b
+    pub iteration_meet_due : (n : ℕ) (ks hs ls : List FracPoly)
+        → Comes (setting_of s) es (iteration_ends s k b n (terms_each gs) ks (terms_each hs) ls)
+        → Comes (setting_of s) es (iteration_meets s k b n (terms_each gs) hs ls)
+    iteration_meet_due n ks hs ls c = subst (Comes (setting_of s) es)
+        (iteration_meet_comes (setting_of s) k b
         (terms_each gs) n (terms_each ks) (terms_each hs) (terms_each ls)) c
 
     abbrev pub IsTaken : ℕ → List FracPoly → List FracPoly → Type 0
-    IsTaken n ks hs = Comes (setting_of s) es (after_turns (setting_of s) k b n (terms_each gs)
+    IsTaken n ks hs = Comes (setting_of s) es (after_iterations (setting_of s) k b n (terms_each gs)
         (terms_each ks)
         (terms_each hs))
 
-    pub turns_go_on : (n : ℕ) (hs ks ls : List FracPoly)
-        → Comes (setting_of s) es (turn_met s k b n (terms_each gs) hs ks ls)
+    pub iterations_go_on : (n : ℕ) (hs ks ls : List FracPoly)
+        → Comes (setting_of s) es (iteration_met s k b n (terms_each gs) hs ks ls)
         → IsTaken (suc n) ks ls
-    turns_go_on n hs ks ls c = subst (Comes (setting_of s) es) (turns_come (setting_of s) k b
+    iterations_go_on n hs ks ls c = subst (Comes (setting_of s) es) (iterations_come (setting_of s)
+        k b
         (terms_each gs) n
         (terms_each hs) (terms_each ks) (terms_each ls)) c
 
-    pub next_turn : (n : ℕ) (ks hs : List FracPoly) → suc n < (form_of (setting_of s) b).since
+    pub next_iteration : (n : ℕ) (ks hs : List FracPoly) → suc n < (form_of (setting_of s) b).since
         → IsTaken n ks hs
-        → Comes (setting_of s) es (turn_begins s k b n (terms_each gs) ks (terms_each hs))
-    next_turn n ks hs l c = subst (Comes (setting_of s) es) (turn_comes (setting_of s) k b
+        → Comes (setting_of s) es (iteration_begins s k b n (terms_each gs) ks (terms_each hs))
+    next_iteration n ks hs l c = subst (Comes (setting_of s) es) (iteration_comes (setting_of s) k b
         (terms_each gs) n
-        (terms_each ks) (terms_each hs) (more_turns n (form_of (setting_of s) b).since l)) c
+        (terms_each ks) (terms_each hs) (more_iterations n (form_of (setting_of s) b).since l)) c
 
-    pub turns_end : (n : ℕ) (ks hs : List FracPoly) → (form_of (setting_of s) b).since ≤ suc n
+    pub iterations_end : (n : ℕ) (ks hs : List FracPoly) → (form_of (setting_of s) b).since ≤ suc n
         → IsTaken n ks hs → Comes (setting_of s) es (orbiting s k b gs (terms_each hs))
-    turns_end n ks hs l c = subst (Comes (setting_of s) es) (orbit_comes (setting_of s) k b
+    iterations_end n ks hs l c = subst (Comes (setting_of s) es) (orbit_comes (setting_of s) k b
         (terms_each gs) n
-        (terms_each ks) (terms_each hs) (all_turns n (form_of (setting_of s) b).since l)) c
+        (terms_each ks) (terms_each hs) (all_iterations n (form_of (setting_of s) b).since l)) c
 
     -- ---- the orbit
     pub meet_due : (hs ls : List FracPoly) → HasMeet s b

@@ -1,9 +1,9 @@
--- The elimination of what an orbit or a turn begins with, as the code has the list.
+-- The elimination of what an orbit or an iteration begins with, as the code has the list.
 --   AreStarting n m list gens     the gens are that list, with n variables to be eliminated and m behind these
 --   block_first, block_arity      of the list, that isn't empty
 --   way_is                        what is done
 --   over_of, reduced_of           what it gives
---   whole_length, late_length, orbit_length, turn_length     how many there are
+--   whole_length, late_length, orbit_length, iteration_length     how many there are
 use Rattle.std.proofs.Common.{◌≡◌, ℕ, zero, suc, ◌+◌, ◌-◌, ◌<◌, ◌≤◌, List, [], ◌∷◌, ◌++◌, map, drop, length, refl, ap, ap₂, subst, arith}
 use Rattle.std.proofs.lemmas.List.{length-map, length-append, length-drop}
 use Rattle.std.proofs.lemmas.List.Elements.{All-head}
@@ -14,7 +14,7 @@ use Rattle.machines.specs.Collect.{collect}
 use Rattle.machines.specs.Elimination.{free_part}
 use Rattle.loops.proofs.Maps.{length-variables}
 use Rattle.poly.specs.Seen.{arity_of, terms_in, terms_each}
-use Rattle.rounds.specs.Form.{Form, front, normal, orbit_order, relations, relations_to, relation, unwound_by, passes, passing, form_before, late_order, list_since, orbit_list, turn_before, turn_front, turn_list}
+use Rattle.rounds.specs.Form.{Form, front, normal, orbit_order, relations, relations_to, relation, pulled_back_by, passes, passing, form_before, late_order, list_since, orbit_list, iteration_before, iteration_front, iteration_list}
 use Rattle.rounds.specs.Graph.{less, at_before}
 use Rattle.rounds.specs.Results.{IsReducedList}
 use Rattle.ideal_ops.specs.Calls as ideal
@@ -94,9 +94,9 @@ module _ (f : Form) (m : ℕ) (gs : List (Terms Fraction)) where
 
   whole_length : length (list_since 0 f m gs) ≡ length gs + suc (length f.base)
   whole_length =
-      let a = length-append (map (unwound_by f m) gs) (map (collect rationals (orbit_order r))
+      let a = length-append (map (pulled_back_by f m) gs) (map (collect rationals (orbit_order r))
       (relations r m)) in
-      let b = length-map gs (unwound_by f m) in
+      let b = length-map gs (pulled_back_by f m) in
       let c = length-map (relations r m) (collect rationals (orbit_order r)) in
       let d = relations_count r (front r + m) r in
       omega (arith, a, b, c, d)
@@ -137,11 +137,11 @@ module _ (f : Form) (m : ℕ) (gs : List (Terms Fraction)) where
         go zero = let a = whole_length in (omega (arith, a), omega (arith, a))
         go (suc d) = let a = late_length d in (omega (arith, a), omega (arith, a))
 
-  pub turn_length : (images : List (Terms Fraction)) → length images ≡ m
-      → length (turn_list f m images gs) ≡ length gs + m
-  turn_length images count =
-      let t = turn_front f m in
-      let before = turn_before f m (passes f m) in
+  pub iteration_length : (images : List (Terms Fraction)) → length images ≡ m
+      → length (iteration_list f m images gs) ≡ length gs + m
+  iteration_length images count =
+      let t = iteration_front f m in
+      let before = iteration_before f m (passes f m) in
       let ks = map (λ g. compose ℚ (0 + t + m) g before) gs in
       let ys = map (at_before 0 t m before) images in
       let ds = less (drop (0 + t) (variables ℚ (0 + t + m))) ys in

@@ -1,7 +1,7 @@
 -- The branch with its closed form, of what is known of the form.
 --   has_closed_form       the closed form of a map is that of the branch
 --   passing_is            it tells which variables pass
---   fits_branch           a branch with this form, and its form backward, fits
+--   fits_branch           a branch with this form, and its inverse form, fits
 --   solvable_of, pass_of  what is known of the map of the images
 --   branches_more       the first branches, one after another
 --   refused_here, refused_at          the first branch that is refused
@@ -28,8 +28,8 @@ use Rattle.exponentials.specs.Base.{Coprime}
 use Rattle.loops.proofs.Maps.{length-variables}
 use Rattle.solvable_maps.specs.Classes.{IsFormBase}
 use Rattle.solvable_maps.specs.Expo.{zero_images}
-use Rattle.solvable_maps.specs.Turns as turns
-use Rattle.solvable_maps.specs.Turns.{width, values_at, IsNormal, IsNormalForm}
+use Rattle.solvable_maps.specs.Iterations as iterations
+use Rattle.solvable_maps.specs.Iterations.{width, values_at, IsNormal, IsNormalForm}
 use Rattle.loops.specs.Map.{branch_map}
 use Rattle.loops.specs.Program.{Expr, Program}
 use Rattle.coprime_base.specs.Sizes.{sizes}
@@ -38,13 +38,13 @@ use Rattle.expo.specs.View.{base_of}
 use Rattle.expo.specs.declared.exponential.Expo.{Expo}
 use Rattle.loop_model.specs.FracPoly.{FracPoly as Polynomial}
 use Rattle.rounds.specs.BranchMap.{map_of}
-use Rattle.rounds.specs.Form.{front, backward, has_terms, passes, IsClosedForm}
+use Rattle.rounds.specs.Form.{front, inverse_form, has_terms, passes, IsClosedForm}
 use Rattle.rounds.proofs.Passing.{stays_of, passes_of}
 use Rattle.rounds.specs.Word.{branch_of}
 use Rattle.ideal_ops.specs.Calls as ideal
 use Rattle.solvable.specs.Refusal.{IsSolvable}
 use Rattle.closed_forms.specs.Lengths.{IsShort}
-use Rattle.closed_forms.specs.Refusal.{AllPass, Refusal, not_solvable, eigenvalues, range, wide_split, limit_form, wide_form, IfRefused, IfRefusedBy}
+use Rattle.closed_forms.specs.Refusal.{AllPass, Refusal, not_solvable, eigenvalues, range, wide_split, limit_form, wide_form, IfFormRefused, IfRefusedBy}
 use Rattle.closed_forms.specs.View.{ArePassing, IsFormOf}
 use Rattle.closed_forms.specs.Values.{bodies_of, AreOver, IsExpoOver}
 use Rattle.closed_forms.specs.declared.Form.{Form}
@@ -54,7 +54,7 @@ use Rattle.invariant_fix.specs.declared.branches.Branch.{Branch}
 use Rattle.invariant_fix.specs.Refusals.{HasForm, IsRefusedBranch, refused_branch, IfRefusedBranch}
 use Rattle.invariant_fix.specs.Setting.{form_of, IsSquare, FitsBranch, IsMapIn, IsBranchOf, AreBranchesTo}
 
--- ---- a map and the same collected have the same turns
+-- ---- a map and the same collected have the same iterations
 values_same : (images : List (Terms Fraction)) (s : List Fraction)
     → values_at (map (collect rationals grevlex) images) s ≡ values_at images s
 values_same [] s = refl
@@ -62,11 +62,12 @@ values_same (p ∷ images) s =
     ap₂ ◌∷◌ (value_at_same ℚ_ring _ p s (collect-same ℚ_field grevlex grevlex_order p))
     (values_same images s)
 
-turns_same : (images : List (Terms Fraction)) (n : ℕ) (s : List Fraction)
-    → turns.turns (map (collect rationals grevlex) images) n s ≡ turns.turns images n s
-turns_same images zero s = refl
-turns_same images (suc n) s = ap (values_at (map (collect rationals grevlex) images))
-    (turns_same images n s) ∙ values_same images (turns.turns images n s)
+iterations_same : (images : List (Terms Fraction)) (n : ℕ) (s : List Fraction)
+    → iterations.iterations (map (collect rationals grevlex) images) n s ≡ iterations.iterations
+    images n s
+iterations_same images zero s = refl
+iterations_same images (suc n) s = ap (values_at (map (collect rationals grevlex) images))
+    (iterations_same images n s) ∙ values_same images (iterations.iterations images n s)
 
 module _ (program : Program (Expr ℕ)) (b : ℕ) (f : Form) (images : List (Terms Fraction))
     (is : images ≡ map_of program b) (count : length images ≡ length program.names)
@@ -77,29 +78,30 @@ module _ (program : Program (Expr ℕ)) (b : ℕ) (f : Form) (images : List (Ter
   abbrev polys : List (Terms Fraction)
   polys = bodies_of f.polys.items
 
-  over_map : turns.IsClosedFormFrom base (map_of program b) f.since polys
-  over_map = subst (λ ms. turns.IsClosedFormFrom base ms f.since polys) is h.closed
+  over_map : iterations.IsClosedFormFrom base (map_of program b) f.since polys
+  over_map = subst (λ ms. iterations.IsClosedFormFrom base ms f.since polys) is h.closed
 
-  over_branch : turns.IsClosedFormFrom base (branch_map program (branch_of program b)) f.since polys
+  over_branch : iterations.IsClosedFormFrom base (branch_map program (branch_of program b)) f.since
+      polys
   unfolding map_of
   over_branch =
       let bm = branch_map program (branch_of program b) in
       let same = length-map bm (collect rationals grevlex) in
       record {
         arity = subst (λ n. AllArity (width (length base) n) polys) same over_map.arity;
-        values = λ n s l e. over_map.values n s (l ∙ sym same) e ∙ turns_same bm n s;
+        values = λ n s l e. over_map.values n s (l ∙ sym same) e ∙ iterations_same bm n s;
       }
 
   over_images : (d : ℕ)
-      → turns.IsClosedFormFrom base (branch_map program (branch_of program b)) d polys
-      → turns.IsClosedFormFrom base images d polys
+      → iterations.IsClosedFormFrom base (branch_map program (branch_of program b)) d polys
+      → iterations.IsClosedFormFrom base images d polys
   unfolding map_of
   over_images d c =
       let bm = branch_map program (branch_of program b) in
       let same = length-map bm (collect rationals grevlex) in
-      subst (λ ms. turns.IsClosedFormFrom base ms d polys) (sym is) (record {
+      subst (λ ms. iterations.IsClosedFormFrom base ms d polys) (sym is) (record {
         arity = subst (λ n. AllArity (width (length base) n) polys) (sym same) c.arity;
-        values = λ n s l e. c.values n s (l ∙ same) e ∙ sym (turns_same bm n s);
+        values = λ n s l e. c.values n s (l ∙ same) e ∙ sym (iterations_same bm n s);
       })
 
   normal_forms : Each (IsNormalForm base grevlex (length program.names)) polys
@@ -166,10 +168,11 @@ module _ (base : List ℕ) (m : ℕ) where
       omega (arith, a, b, c)
 
   backs : (es : List Expo) → AreOver base m es
-      → map (λ (e : Expo). backward grevlex (length (base_of e)) (terms_in e.body)) es
-      ≡ map (backward grevlex (length base)) (bodies_of es)
+      → map (λ (e : Expo). inverse_form grevlex (length (base_of e)) (terms_in e.body)) es
+      ≡ map (inverse_form grevlex (length base)) (bodies_of es)
   backs [] o = refl
-  backs (e ∷ es) o = ap₂ ◌∷◌ (ap (λ (bs : List ℕ). backward grevlex (length bs) (terms_in e.body))
+  backs (e ∷ es) o =
+      ap₂ ◌∷◌ (ap (λ (bs : List ℕ). inverse_form grevlex (length bs) (terms_in e.body))
       (All-head (IsExpoOver base m) e es o).over_base)
       (backs es (All-tail (IsExpoOver base m) e es o))
 
@@ -194,7 +197,7 @@ module _ (base : List ℕ) (m : ℕ) where
 
 pub fits_branch : (b : Branch) → IsSquare b.images.items
     → IsFormOf (terms_each b.images.items) b.form
-    → terms_each b.back.items ≡ map (λ (e : Expo). backward grevlex (length (base_of e))
+    → terms_each b.back.items ≡ map (λ (e : Expo). inverse_form grevlex (length (base_of e))
     (terms_in e.body)) b.form.polys.items
     → map (λ (p : Polynomial). p.arity) b.back.items ≡ map (λ (e : Expo). e.body.arity)
     b.form.polys.items → FitsBranch (length b.images.items) b
@@ -283,10 +286,10 @@ module _ (program : Program (Expr ℕ)) where
 
   pub refused_here : (n : ℕ) (images : Vec Polynomial Global) (cs : List Branch) (r : Refusal)
       → n < length program.branches → IsMapIn program (suc n) images → AreBranchesTo program n cs
-      → IfRefused (terms_each images.items) r → IsRefusedBranch program n r
+      → IfFormRefused (terms_each images.items) r → IsRefusedBranch program n r
   refused_here n images cs r l i h cause = record {
     within = l;
-    is = subst (λ ms. IfRefused ms r) i.is cause;
+    is = subst (λ ms. IfFormRefused ms r) i.is cause;
     before = λ c m. all_forms cs n h c m;
   }
 

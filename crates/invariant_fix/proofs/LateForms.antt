@@ -1,6 +1,6 @@
 -- The form of a branch as that of lists from graphs, where it isn't the state from the start on.
 --   late_front, late_list, late_past       an orbit
---   turn_front_is, turn_list_is, turn_past_is      a turn
+--   iteration_front_is, iteration_list_is, iteration_past_is      an iteration
 --   whole_front, whole_list, whole_past    an orbit where the form is the state from the start on
 use Rattle.std.proofs.Common.{◌≡◌, ◌⊎◌, ℕ, zero, suc, ◌+◌, ◌<◌, Bool, false, List, [], map, get_or, length, refl, sym, ap, subst, ◌∙◌}
 use mathlib.Core.Path.{fun_ext}
@@ -17,11 +17,11 @@ use Rattle.coprime_base.specs.Sizes.{sizes}
 use Rattle.expo.specs.declared.exponential.Expo.{Expo}
 use Rattle.loop_model.specs.FracPoly.{FracPoly}
 use Rattle.closed_forms.specs.Values as values
-use Rattle.rounds.specs.Form.{Form, front, form_backward, passes, passing, form_before, front_since, list_since, late_orbit_list, turn_before, turn_graph}
-use Rattle.rounds.specs.Past.{IsPastGraph, IsPastOrbitSince, turn_images}
-use Rattle.task_lists.specs.Late.{bodies_in, copies_in, front_in, orbit_of, turn_of, IsPastOrbitOf, IsPastTurnOf, vars_in, which, form_in}
+use Rattle.rounds.specs.Form.{Form, front, inverse_of_form, passes, passing, form_before, front_since, list_since, late_orbit_list, iteration_before, iteration_graph}
+use Rattle.rounds.specs.Past.{IsPastGraph, IsPastOrbitSince, iteration_images}
+use Rattle.task_lists.specs.Late.{bodies_in, copies_in, front_in, orbit_of, iteration_of, IsPastOrbitOf, IsPastIterationOf, vars_in, which, form_in}
 use Rattle.task_lists.specs.declared.late_form.LateForm.{LateForm}
-use Rattle.invariant_fix.specs.Orbits.{numbers_of, vars_of, orbit_front_of, orbit_list_of, turn_front_of, turn_list_of, unwound_list, IsPastUnwinding, IsPastTurning, IsPastUnwound}
+use Rattle.invariant_fix.specs.Orbits.{numbers_of, vars_of, orbit_front_of, orbit_list_of, iteration_front_of, iteration_list_of, pulled_back_list, IsPastPullingBack, IsPastTurning, IsPastPulledBack}
 use Rattle.invariant_fix.specs.Setting.{form_of, FitsBranch}
 use Rattle.invariant_fix.specs.declared.branches.Branch.{Branch}
 
@@ -30,10 +30,10 @@ module _ (b : Branch) (at_once : b.form.since ≡ 0) where
   pub whole_front : orbit_front_of b ≡ front (numbers_of b)
   whole_front = ap (λ d. front_since d (form_of b.form) (vars_of b)) at_once
 
-  pub whole_list : (gs : List FracPoly) → orbit_list_of b gs ≡ unwound_list b gs
+  pub whole_list : (gs : List FracPoly) → orbit_list_of b gs ≡ pulled_back_list b gs
   whole_list gs = ap (λ d. list_since d (form_of b.form) (vars_of b) (terms_each gs)) at_once
 
-  pub whole_past : (gs : List FracPoly) → IsPastUnwound b gs → IsPastUnwinding b gs
+  pub whole_past : (gs : List FracPoly) → IsPastPulledBack b gs → IsPastPullingBack b gs
   whole_past gs p = subst (λ d. IsPastOrbitSince d (form_of b.form) (vars_of b) (terms_each gs))
       (sym at_once) p
 
@@ -86,8 +86,7 @@ module _ (b : Branch) (fits : FitsBranch (vars_of b) b) (some : 0 < vars_of b) (
       ∙ ap (λ n. of (record {
         base = (form_of b.form).base;
         polys = (form_of b.form).polys;
-        since =
-            0;
+        since = 0;
       }) n (which f)) vars_are
       ∙ ap (of (record { base = (form_of b.form).base; polys = (form_of b.form).polys; since = 0 })
       (vars_of b)) which_is
@@ -118,22 +117,25 @@ module _ (b : Branch) (fits : FitsBranch (vars_of b) b) (some : 0 < vars_of b) (
     late_list gs = seen_so (λ g n p. late_orbit_list g n p (terms_each gs))
         ∙ sym (later_list (form_of b.form) (vars_of b) (terms_each gs) b.form.since late)
 
-    pub late_past : (gs : List FracPoly) → IsPastOrbitOf f gs → IsPastUnwinding b gs
+    pub late_past : (gs : List FracPoly) → IsPastOrbitOf f gs → IsPastPullingBack b gs
     late_past gs p = later_past (form_of b.form) (vars_of b) (terms_each gs) b.form.since late
         (holds_so (λ g n p. IsPastGraph (front (length g.base)) (passing n p) n
         (map (collect rationals grevlex) (form_before g n p)) g.polys (terms_each gs)) p)
 
-  -- ---- a turn
-  pub turn_front_is : copies_in f ≡ turn_front_of b
-  turn_front_is = seen_so (λ g n p. passing n p)
+  -- ---- an iteration
+  pub iteration_front_is : copies_in f ≡ iteration_front_of b
+  iteration_front_is = seen_so (λ g n p. passing n p)
 
-  pub turn_list_is : (gs : List FracPoly) → turn_of f b.images.items gs ≡ turn_list_of b gs
-  turn_list_is gs = seen_so (λ g n p. map (collect rationals (blocks (passing n p) grevlex grevlex))
-      (turn_graph g n p (terms_each b.images.items) (terms_each gs)))
+  pub iteration_list_is : (gs : List FracPoly) → iteration_of f b.images.items gs
+      ≡ iteration_list_of b gs
+  iteration_list_is gs =
+      seen_so (λ g n p. map (collect rationals (blocks (passing n p) grevlex grevlex))
+      (iteration_graph g n p (terms_each b.images.items) (terms_each gs)))
 
-  pub turn_past_is : (gs : List FracPoly) → IsPastTurnOf f b.images.items gs → IsPastTurning b gs
-  turn_past_is gs p = holds_so (λ g n p.
-      Any (λ q. IsPastComposition fractions q (turn_images g n)) (form_backward g)
+  pub iteration_past_is : (gs : List FracPoly) → IsPastIterationOf f b.images.items gs
+      → IsPastTurning b gs
+  iteration_past_is gs p = holds_so (λ g n p.
+      Any (λ q. IsPastComposition fractions q (iteration_images g n)) (inverse_of_form g)
       ⊎ IsPastGraph 0 (passing n p) n
-      (map (collect rationals grevlex) (turn_before g n p)) (terms_each b.images.items)
+      (map (collect rationals grevlex) (iteration_before g n p)) (terms_each b.images.items)
       (terms_each gs)) p

@@ -2,10 +2,10 @@
 --   values_count, values_over      the values behind the code, one for each variable
 --   list_is, past_is         the list that is made is that of the code, and where making it is past
 --   AreMade                  the list that an elimination begins with, as code has it, where it isn't empty;  made_first, made_arity, made_count
---   ran_so                   what is done with it;  over_of, few_led: over how many variables what comes of it is, and how much that is
+--   ran_so                   what is done with it;  over_of, few_mapped: over how many variables what comes of it is, and how much that is
 --   ran_nothing              where there is nothing to be eliminated from
 --   nothing_there            a list of no elements
---   empty_start, made_so     whether there is, as code sees it;  few_out: few_led, of a result
+--   empty_start, made_so     whether there is, as code sees it;  few_out: few_mapped, of a result
 use Rattle.std.proofs.Common.{◌≡◌, ◌≢◌, ◌⊎◌, inl, inr, Vec, Global, ℕ, ◌+◌, ◌-◌, ◌<◌, ◌≤◌, List, [], ◌∷◌, ◌++◌, map, get_or, length, vec_len, refl, sym, ap, ap₂, subst, ◌∙◌, arith}
 use Rattle.std.specs.List.{Any}
 use Rattle.std.specs.Prelude.{eqb, true, false, Result, Ok, Err, IfOk}
@@ -236,12 +236,12 @@ module _ (program : Program (Expr ℕ)) (b : List code.Statement) (basis : List 
       _)
 
   -- what comes of it is no more than the elements, the copies and the units
-  pub few_led : (before after : Journal) (hs : Vec FracPoly Global)
+  pub few_mapped : (before after : Journal) (hs : Vec FracPoly Global)
       → Ran (between program (statements_in b) (terms_each basis))
       (IsListOf (length program.names) (statements_in b)) before after (done hs)
       → length hs.items ≤ length basis + size + units_of after.entries
   unfolding NothingKept
-  few_led before after hs r =
+  few_mapped before after hs r =
       let gens = starting program (statements_in b) (terms_each basis) in
       let a = list_few rationals size (blocks size grevlex grevlex) grevlex gens before.entries
       after.entries r.to.last r.to.finished.work in
@@ -351,5 +351,5 @@ pub few_out : (program : Program (Expr ℕ)) (b : List code.Statement) (basis : 
     (IsListOf (length program.names) (statements_in b)) before after (outcome_of r)
     → IfOk r (λ hs. length hs.items ≤ length basis
     + copies (length program.names) (statements_in b) + units_of after.entries)
-few_out program b basis before after (Ok hs) h = few_led program b basis before after hs h
+few_out program b basis before after (Ok hs) h = few_mapped program b basis before after hs h
 few_out program b basis before after (Err e) h = tt

@@ -6,7 +6,7 @@
 --   start_known, orbit_known, meet_known      what is known of the lists
 --   divisors_of            what division asks of them
 --   reduced_at_own         as many variables as the first has
---   known_more, turns_few, turned_more     where there may be more elements; as many as turns may give, and as one more may
+--   known_more, iterations_few, turned_more     where there may be more elements; as many as iterations may give, and as one more may
 use Rattle.std.proofs.Common.{◌≡◌, ◌⊎◌, inl, inr, ℕ, suc, ◌+◌, ◌*◌, ◌≤◌, cond, List, [], ◌∷◌, ◌++◌, length, get_or, refl, sym, ap, subst, ◌∙◌, arith}
 use native.Mathlib.Nat as N
 use Rattle.std.proofs.lemmas.List.Elements.{All-head, All-nil, All-append}
@@ -222,7 +222,7 @@ divisors_of o m most units gs k i d l =
       k.reduced.nonzero (terms_in g) (map-in terms_in gs g (in_get gs i d l)),
     )
 
--- ---- lists of more turns
+-- ---- lists of more iterations
 pub known_more : (m most more k : ℕ) (gs : List FracPoly) → IsList m most k gs → most ≤ more
     → IsList m more k gs
 known_more m most more k gs h l = record {
@@ -231,8 +231,8 @@ known_more m most more k gs h l = record {
   few = (let f = h.few in omega (arith, f, l));
 }
 
-pub turns_few : (a n : ℕ) → n ≤ 12 → a * n ≤ a * 12
-turns_few a n l = N.mul-le-mul_left a l
+pub iterations_few : (a n : ℕ) → n ≤ 12 → a * n ≤ a * 12
+iterations_few a n l = N.mul-le-mul_left a l
 
 pub turned_more : (a n : ℕ) → a * n + a ≤ a * suc n
 turned_more a n =

@@ -2,8 +2,8 @@
 --   plain_has, plain_refused        where there is no code
 --   first_unformed, then_unformed   a refusal of the code's map, and one of the loop's maps and branches behind it;  no_memory: want of memory before there is an entry
 --   both_free                       where there is none
---   led_has, led_refused            where the elimination of the code has ended
---   led_wide, led_exhausted, led_wanting     where it hasn't
+--   mapped_has, mapped_refused            where the elimination of the code has ended
+--   mapped_wide, mapped_exhausted, mapped_wanting     where it hasn't
 --   stage_has, stage_refused, stage_wide, stage_exhausted, stage_wanting     the same of code that has a statement
 use Rattle.std.proofs.Common.{◌≡◌, ◌≢◌, inl, inr, ℕ, zero, suc, ◌+◌, ◌≤◌, List, [], ◌∷◌, length, refl, sym, ap, subst, ◌∙◌, arith, Some, None, Vec, Global}
 use Rattle.std.proofs.lemmas.List.Elements.{All-append}
@@ -21,7 +21,7 @@ use Rattle.loop_model.specs.declared.map_error.MapError.{MapError}
 use Rattle.loop_model.specs.declared.map_error.MapError.TheVariants as map_error
 use Rattle.loop_model.proofs.OperationLaws.{stops_front, stops_behind}
 use Rattle.rounds.specs.Journal.{IsOutFrom}
-use Rattle.corollaries.specs.Between.{between, IsLed}
+use Rattle.corollaries.specs.Between.{between, IsMapped}
 use Rattle.loops.specs.Chain.{loop_of}
 use Rattle.corollaries.specs.CodeBetween.{assigned_from, copies}
 use Rattle.loop_model.specs.Maps.{maps_operations, AreFree}
@@ -30,19 +30,19 @@ use Rattle.invariant_fix.specs.declared.errors.AnalyseError.{AnalyseError}
 use Rattle.invariant_fix.specs.declared.errors.AnalyseError.TheVariants as error
 use Rattle.invariant_fix.specs.Bases.{empty_journal, code_operations}
 use Rattle.invariant_fix.specs.Code.{IsListOf}
-use Rattle.invariant_fix.specs.ChainSteps.{HasList, LedFrom, HasStage, IsRefusedStage, IsFormedStage}
+use Rattle.invariant_fix.specs.ChainSteps.{HasList, MappedFrom, HasStage, IsRefusedStage, IsFormedStage}
 use Rattle.invariant_fix.specs.declared.refused.LoopError.TheVariants as loop_error
 
 -- ---- where there is no code
 module _ (p : Program (Expr ℕ)) (bs : List (List (Statement (Expr ℕ)))) (xs : List FracPoly)
     (budget : ℕ) (m : Journal) (limit : m.limit ≡ budget) where
-  no_code_led : (P : ℕ → List (Terms Fraction) → Type 0) → P budget (terms_each xs)
-      → LedFrom p [] bs xs budget m P
+  no_code_mapped : (P : ℕ → List (Terms Fraction) → Type 0) → P budget (terms_each xs)
+      → MappedFrom p [] bs xs budget m P
   unfolding units_of
-  no_code_led P so = record {
+  no_code_mapped P so = record {
     entries = [];
     list = terms_each xs;
-    led = (refl, refl);
+    mapped = (refl, refl);
     left = budget;
     units = omega arith;
     limit = limit;
@@ -62,7 +62,7 @@ module _ (p : Program (Expr ℕ)) (bs : List (List (Statement (Expr ℕ)))) (xs 
   has_without free forms gs h = record {
     formed = (free, forms);
     rounds = h.rounds;
-    done = no_code_led _ (h.finished, h.units);
+    done = no_code_mapped _ (h.finished, h.units);
     over = h.over;
     few = let f = h.few in let e = no_copies (length p.names) in omega (arith, f, e);
   }
@@ -72,13 +72,13 @@ module _ (p : Program (Expr ℕ)) (bs : List (List (Statement (Expr ℕ)))) (xs 
       → IsRefusedStage p [] bs xs budget m (loop_error.Analysis e)
   refused_without (error.Map e) r = r
   refused_without (error.Branch b e) r = r
-  refused_without (error.Wide task) r = ((r.0, r.1), no_code_led _ r.2)
+  refused_without (error.Wide task) r = ((r.0, r.1), no_code_mapped _ r.2)
   refused_without error.Budget r = (
     (r.0, r.1),
-    inl (no_code_led _ (subst (λ n. IsOutFrom (loop_of p bs) (Some (terms_each xs)) None n
+    inl (no_code_mapped _ (subst (λ n. IsOutFrom (loop_of p bs) (Some (terms_each xs)) None n
         m.entries) limit r.2)),
   )
-  refused_without error.Memory r = inl (no_code_led _ r)
+  refused_without error.Memory r = inl (no_code_mapped _ r)
 
   module _ (code : List (Statement (Expr ℕ))) (none : code ≡ []) where
     pub plain_has : AreFree (loop_of p bs) → AllHaveForms (loop_of p bs) → (gs : List FracPoly)
@@ -165,7 +165,7 @@ module _ (p : Program (Expr ℕ)) (a : Statement (Expr ℕ)) (cs : List (Stateme
   module _ (mid : Journal) (ks : List FracPoly) (v : Vec FracPoly Global) (vs : v.items ≡ ks)
       (ran : Leading mid (done v)) (left : ℕ) (units : units_of mid.entries + left ≡ budget)
       (m : Journal) (limit : m.limit ≡ left) where
-    leads : IsLed p (a ∷ cs) (terms_each xs) mid.entries (terms_each ks)
+    leads : IsMapped p (a ∷ cs) (terms_each xs) mid.entries (terms_each ks)
     leads = record {
       last = ran.to.last;
       finished = subst (λ es. WorkToEnd (between p (a ∷ cs) (terms_each xs)).next
@@ -174,48 +174,48 @@ module _ (p : Program (Expr ℕ)) (a : Statement (Expr ℕ)) (cs : List (Stateme
       list = ap terms_each (sym vs) ∙ ran.to.gives;
     }
 
-    code_led : (P : ℕ → List (Terms Fraction) → Type 0) → P left (terms_each ks)
-        → LedFrom p (a ∷ cs) bs xs budget m P
-    code_led P so = record {
+    code_mapped : (P : ℕ → List (Terms Fraction) → Type 0) → P left (terms_each ks)
+        → MappedFrom p (a ∷ cs) bs xs budget m P
+    code_mapped P so = record {
       entries = mid.entries;
       list = terms_each ks;
-      led = leads;
+      mapped = leads;
       left = left;
       units = units;
       limit = limit;
       so = so;
     }
 
-    pub led_has : Formed m
+    pub mapped_has : Formed m
         → length ks ≤ length xs + copies (length p.names) (a ∷ cs) + units_of mid.entries
         → (gs : List FracPoly)
         → HasList (loop_of p bs) (Some (terms_each ks)) (length ks) left m gs
         → HasStage p (a ∷ cs) bs xs budget m gs
-    led_has formed few gs h = record {
+    mapped_has formed few gs h = record {
       formed = formed;
       rounds = h.rounds;
-      done = code_led _ (h.finished, h.units);
+      done = code_mapped _ (h.finished, h.units);
       over = h.over;
       few = let f = h.few in omega (arith, f, few, units);
     }
 
-    pub led_refused : Formed m → (e : AnalyseError)
+    pub mapped_refused : Formed m → (e : AnalyseError)
         → IsStoppedFrom (loop_of p bs) (Some (terms_each ks)) m e
         → IsRefusedStage p (a ∷ cs) bs xs budget m (loop_error.Analysis e)
-    led_refused formed (error.Map e) r = absurd r
-    led_refused formed (error.Branch b e) r = absurd r
-    led_refused formed (error.Wide task) r = (formed, code_led _ r)
-    led_refused formed error.Budget r = (
+    mapped_refused formed (error.Map e) r = absurd r
+    mapped_refused formed (error.Branch b e) r = absurd r
+    mapped_refused formed (error.Wide task) r = (formed, code_mapped _ r)
+    mapped_refused formed error.Budget r = (
       formed,
-      inl (code_led _ (subst (λ n. IsOutFrom (loop_of p bs) (Some (terms_each ks)) None n
+      inl (code_mapped _ (subst (λ n. IsOutFrom (loop_of p bs) (Some (terms_each ks)) None n
           m.entries) limit r)),
     )
-    led_refused formed error.Memory r = inl (code_led _ r)
+    mapped_refused formed error.Memory r = inl (code_mapped _ r)
 
   -- it hasn't
-  pub led_wide : (m : Journal) → Formed m → Leading m (stopped too_wide)
+  pub mapped_wide : (m : Journal) → Formed m → Leading m (stopped too_wide)
       → IsRefusedStage p (a ∷ cs) bs xs budget m loop_error.Between
-  led_wide m formed r = (
+  mapped_wide m formed r = (
     formed,
     (
       r.limit ∙ limit_is,
@@ -228,9 +228,9 @@ module _ (p : Program (Expr ℕ)) (a : Statement (Expr ℕ)) (cs : List (Stateme
     ),
   )
 
-  pub led_exhausted : (m : Journal) → Formed m → Leading m (stopped out_of_units)
+  pub mapped_exhausted : (m : Journal) → Formed m → Leading m (stopped out_of_units)
       → IsRefusedStage p (a ∷ cs) bs xs budget m (loop_error.Analysis error.Budget)
-  led_exhausted m formed r =
+  mapped_exhausted m formed r =
       let M = between p (a ∷ cs) (terms_each xs) in (
         formed,
         inr (
@@ -241,9 +241,9 @@ module _ (p : Program (Expr ℕ)) (a : Statement (Expr ℕ)) (cs : List (Stateme
         ),
       )
 
-  pub led_wanting : (m : Journal) → Leading m (stopped out_of_memory)
+  pub mapped_wanting : (m : Journal) → Leading m (stopped out_of_memory)
       → IsRefusedStage p (a ∷ cs) bs xs budget m (loop_error.Analysis error.Memory)
-  led_wanting m r =
+  mapped_wanting m r =
       let M = between p (a ∷ cs) (terms_each xs) in
       inr (
         r.limit ∙ limit_is,
@@ -269,7 +269,7 @@ module _ (p : Program (Expr ℕ)) (bs : List (List (Statement (Expr ℕ)))) (xs 
   stage_wide m = some_code (λ code. IsFormedStage p code bs xs budget m
       → CodeRuns code m (stopped too_wide)
       → IsRefusedStage p code bs xs budget m loop_error.Between)
-      (λ a cs f r. led_wide p a cs bs xs budget start begun m f r)
+      (λ a cs f r. mapped_wide p a cs bs xs budget start begun m f r)
 
   pub stage_exhausted : (m : Journal) (code : List (Statement (Expr ℕ))) → code ≢ []
       → IsFormedStage p code bs xs budget m → CodeRuns code m (stopped out_of_units)
@@ -277,14 +277,14 @@ module _ (p : Program (Expr ℕ)) (bs : List (List (Statement (Expr ℕ)))) (xs 
   stage_exhausted m = some_code (λ code. IsFormedStage p code bs xs budget m
       → CodeRuns code m (stopped out_of_units)
       → IsRefusedStage p code bs xs budget m (loop_error.Analysis error.Budget))
-      (λ a cs f r. led_exhausted p a cs bs xs budget start begun m f r)
+      (λ a cs f r. mapped_exhausted p a cs bs xs budget start begun m f r)
 
   pub stage_wanting : (m : Journal) (code : List (Statement (Expr ℕ))) → code ≢ []
       → CodeRuns code m (stopped out_of_memory)
       → IsRefusedStage p code bs xs budget m (loop_error.Analysis error.Memory)
   stage_wanting m = some_code (λ code. CodeRuns code m (stopped out_of_memory)
       → IsRefusedStage p code bs xs budget m (loop_error.Analysis error.Memory))
-      (λ a cs r. led_wanting p a cs bs xs budget start begun m r)
+      (λ a cs r. mapped_wanting p a cs bs xs budget start begun m r)
 
   module _ (mid : Journal) (ks : List FracPoly) (v : Vec FracPoly Global) (vs : v.items ≡ ks)
       (left : ℕ) (units : units_of mid.entries + left ≡ budget) (m : Journal)
@@ -299,7 +299,7 @@ module _ (p : Program (Expr ℕ)) (bs : List (List (Statement (Expr ℕ)))) (xs 
         → IsFormedStage p code bs xs budget m
         → length ks ≤ length xs + copies (length p.names) code + units_of mid.entries
         → HasStage p code bs xs budget m gs)
-        (λ a cs r f few. led_has p a cs bs xs budget start begun mid ks v vs r left units m limit
+        (λ a cs r f few. mapped_has p a cs bs xs budget start begun mid ks v vs r left units m limit
         f few gs h)
 
     pub stage_refused : (e : AnalyseError)
@@ -310,5 +310,5 @@ module _ (p : Program (Expr ℕ)) (bs : List (List (Statement (Expr ℕ)))) (xs 
     stage_refused e h = some_code (λ code. CodeRuns code mid (done v)
         → IsFormedStage p code bs xs budget m
         → IsRefusedStage p code bs xs budget m (loop_error.Analysis e))
-        (λ a cs r f. led_refused p a cs bs xs budget start begun mid ks v vs r left units m limit
+        (λ a cs r f. mapped_refused p a cs bs xs budget start begun mid ks v vs r left units m limit
         f e h)

@@ -2,7 +2,7 @@
 --   no_code, has_code        whether its code has a statement
 --   code_free, code_stops    the operations by which its code's map is formed
 --   loop_free, loop_forms    those of its loop, and its closed forms
---   leading_at               the elimination of its code;  led_list, units_left: where it has ended
+--   leading_at               the elimination of its code;  mapped_list, units_left: where it has ended
 use Rattle.std.proofs.Common.{◌≡◌, ◌≢◌, ◌+◌, ◌-◌, ◌≤◌, ℕ, List, [], ◌∷◌, length, vec_len, refl, sym, ap, subst, ◌∙◌, arith}
 use Rattle.std.specs.Global.{Vec}
 use Rattle.std.proofs.lemmas.Bool.{eqb-true, eqb-false}
@@ -26,7 +26,7 @@ use Rattle.loop_model.specs.View.{program_of}
 use Rattle.loop_model.specs.declared.statement.Statement as code
 use Rattle.corollaries.specs.Between.{between}
 use Rattle.loops.specs.Chain.{loop_of}
-use Rattle.corollaries.proofs.Led.{code_reduced}
+use Rattle.corollaries.proofs.Mapped.{code_reduced}
 use Rattle.loop_runs.specs.Parts.{IsStageOf, statements_in, code_in, stage_of}
 use Rattle.loop_runs.specs.declared.stage.Stage.{Stage}
 use Rattle.invariant_fix.specs.Refusals.{AllHaveForms}
@@ -96,11 +96,11 @@ module _ (p : Program (Expr ℕ)) (g : Stage) (is : IsStageOf p g) where
       start m o) (once_is p g is) r
 
 -- what the elimination has ended with
-pub led_list : (p : Program (Expr ℕ)) (c : List (Statement (Expr ℕ))) (xs : List FracPoly)
+pub mapped_list : (p : Program (Expr ℕ)) (c : List (Statement (Expr ℕ))) (xs : List FracPoly)
     → AreOver (length p.names) xs → (budget : ℕ) (start m : Journal) → start ≡ empty_journal budget
     → (v : Vec FracPoly) → Ran (between p c (terms_each xs)) (IsListOf (length p.names) c) start m
     (done v) → IsReducedList (length p.names) (terms_each v.items)
-led_list p c xs over budget start m begun v r =
+mapped_list p c xs over budget start m begun v r =
     code_reduced p c (terms_each xs) (arities_over (length p.names) xs over) m.entries
     (terms_each v.items) (record {
       last = r.to.last;

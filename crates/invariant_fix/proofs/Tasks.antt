@@ -21,7 +21,7 @@ use Rattle.machines.proofs.Runs.{run_joined, run_then}
 use Rattle.poly.specs.Seen.{terms_each}
 use Rattle.loop_model.specs.FracPoly.{FracPoly}
 use Rattle.ideal_ops.specs.Calls.{Way, elimination_of, IsListOf}
-use Rattle.rounds.specs.Analysis.{Setting, Work, starts, turn, turn_meet, orbit, meet, State, fresh, working, goes, block, order, starting, start_of, after, next_work, next, move_of, moves}
+use Rattle.rounds.specs.Analysis.{Setting, Work, starts, iteration, iteration_meet, orbit, meet, State, fresh, working, goes, block, order, starting, start_of, after, next_work, next, move_of, moves}
 use Rattle.rounds.specs.Past.{IsPastStarting, task_of_work}
 use Rattle.divide.specs.Outcomes.{refusal_of}
 use Rattle.divide.specs.declared.EngineError as engine
@@ -74,8 +74,8 @@ module _ (A : Setting) (w : Work) where
     where
       go : (v : Work) → machine.IsPastStart fractions rationals (starting A v) → IsPastStarting A v
       go starts p = p
-      go (turn k b n gs before so_far) p = inr p
-      go (turn_meet k b n gs so_far ks) p = inr (inr p)
+      go (iteration k b n gs before so_far) p = inr p
+      go (iteration_meet k b n gs so_far ks) p = inr (inr p)
       go (orbit k b gs so_far) p = inr p
       go (meet k b gs so_far hs) p = inr (inr p)
 

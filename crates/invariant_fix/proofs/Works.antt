@@ -1,11 +1,11 @@
--- The tasks of an analysis as the code begins and ends them: the start, a meet, an orbit along a branch, a turn.
---   start_way, orbit_way, turn_way, meet_way     what the layer below does, in the words of the analysis
+-- The tasks of an analysis as the code begins and ends them: the start, a meet, an orbit along a branch, an iteration.
+--   start_way, orbit_way, iteration_way, meet_way     what the layer below does, in the words of the analysis
 --   start_next, start_list_known, start_refused    the first task
 --   met_next, met_known, met_units, met_refused    a meet
---   turn_met_next, turn_met_known, turn_met_units, turn_met_refused     that with a turn
+--   iteration_met_next, iteration_met_known, iteration_met_units, iteration_met_refused     that with an iteration
 --   form_at, map_at                    the form and the map of a branch
 --   orbit_next, orbit_known, whole_known, orbit_units, orbit_refused    an orbit
---   turn_next, turn_known, turn_units, turn_refused        a turn
+--   iteration_next, iteration_known, iteration_units, iteration_refused        an iteration
 use Rattle.std.proofs.Common.{◌≡◌, ◌⊎◌, inl, inr, ℕ, suc, ◌+◌, ◌*◌, ◌<◌, ◌≤◌, List, [], ◌∷◌, map, length, get_or, None, Option, refl, sym, ap, ap₂, subst, ◌∙◌, arith}
 use Rattle.std.specs.Global.{Vec}
 use Rattle.std.proofs.lemmas.List.Elements.{All-tail}
@@ -29,9 +29,9 @@ use Rattle.divide.specs.Outcomes.{refusal_of}
 use Rattle.journal.specs.View.{with_entry}
 use Rattle.journal.specs.declared.Task.TheVariants as task
 use Rattle.rounds.specs.Analysis as analysis
-use Rattle.rounds.specs.Analysis.{starts, turn, turn_meet, orbit, meet, starting, block}
+use Rattle.rounds.specs.Analysis.{starts, iteration, iteration_meet, orbit, meet, starting, block}
 use Rattle.rounds.specs.Form as form
-use Rattle.rounds.specs.Past.{IsPastStarting, IsPastOrbit, IsPastTurn}
+use Rattle.rounds.specs.Past.{IsPastStarting, IsPastOrbit, IsPastIteration}
 use Rattle.rounds.specs.Results.{IsReducedList}
 use Rattle.rounds.proofs.Lawful.{kept-nothing}
 use Rattle.ideal_ops.specs.Calls as ideal
@@ -42,15 +42,15 @@ use Rattle.loop_model.specs.FracPoly.{FracPoly}
 use Rattle.invariant_fix.specs.Coming.{Comes, Refuses}
 use Rattle.invariant_fix.specs.Errors.{in_task}
 use Rattle.invariant_fix.specs.Lists.{IsList}
-use Rattle.invariant_fix.specs.Orbits.{orbit_front_of, orbit_list_of, unwinding, orbit_of, turning, turn_of}
+use Rattle.invariant_fix.specs.Orbits.{orbit_front_of, orbit_list_of, pulling_back, orbit_of, turning, iteration_of}
 use Rattle.invariant_fix.specs.Setting.{setting_of, most_first, form_of, FitsSetting, FitsBranch}
-use Rattle.invariant_fix.specs.Steps.{HasWhole, starting as start_step, started, orbiting, orbited, meeting, met, turn_begins, turn_ends, turn_meets, turn_met}
+use Rattle.invariant_fix.specs.Steps.{HasWhole, starting as start_step, started, orbiting, orbited, meeting, met, iteration_begins, iteration_ends, iteration_meets, iteration_met}
 use Rattle.invariant_fix.specs.declared.branches.Branch.{Branch}
 use Rattle.invariant_fix.specs.declared.setting.Setting.{Setting}
 use Rattle.invariant_fix.proofs.Lists.{units_begun, list_bound, units_follow, start_reduced, meet_reduced, known}
 use Rattle.machines.proofs.Lengths.{made, NothingKept, kept_made}
 use Rattle.rounds.proofs.RelationTerms.{blend_not_kept}
-use Rattle.rounds.proofs.Few.{whole_few, orbit_few, turn_few}
+use Rattle.rounds.proofs.Few.{whole_few, orbit_few, iteration_few}
 use Rattle.invariant_fix.proofs.Tasks.{way_of, past_start, task_ended, task_refused}
 
 -- ---- the first task
@@ -180,75 +180,81 @@ module _ (s : Setting) (k b : ℕ) (hs ks : List FracPoly) (old mid new : Journa
       IsPastStart fractions rationals
       V.gens) (meet_way gs) p)) (task.Meet k n) (ap (journal.Meet k) named) e r
 
--- ---- a meet with a turn
+-- ---- a meet with an iteration
 module _ (s : Setting) (k b i : ℕ) (hs ks : List FracPoly) (old mid new : Journal) (n j : ℕ)
     (named : n ≡ suc b) (counted : j ≡ suc i)
-    (begun : mid ≡ with_entry old (Begin (journal.TurnMeet k n j))) where
+    (begun : mid ≡ with_entry old (Begin (journal.IterationMeet k n j))) where
   abbrev QT : Type 0
   QT = (elimination_of (ideal.intersection_way hs ks)).IsPastStart
 
-  turn_meet_way : (gs : List (Terms Fraction)) → ideal.intersection_way hs ks
+  iteration_meet_way : (gs : List (Terms Fraction)) → ideal.intersection_way hs ks
       ≡ way_of (setting_of s)
-      (turn_meet k b i gs (terms_each hs) (terms_each ks))
+      (iteration_meet k b i gs (terms_each hs) (terms_each ks))
   unfolding starting block
-  turn_meet_way gs = refl
+  iteration_meet_way gs = refl
 
-  begun_turn_meet : mid ≡ with_entry old (Begin (journal.TurnMeet k (suc b) (suc i)))
-  begun_turn_meet = begun ∙ ap₂ (λ x y. with_entry old (Begin (journal.TurnMeet k x y))) named
+  begun_iteration_meet : mid ≡ with_entry old (Begin (journal.IterationMeet k (suc b) (suc i)))
+  begun_iteration_meet = begun ∙ ap₂ (λ x y. with_entry old (Begin (journal.IterationMeet k x y)))
+      named
       counted
 
-  pub turn_met_next : (gs : List (Terms Fraction))
-      → Comes (setting_of s) old.entries (turn_meets s k b i gs hs ks)
+  pub iteration_met_next : (gs : List (Terms Fraction))
+      → Comes (setting_of s) old.entries (iteration_meets s k b i gs hs ks)
       → (ls : Vec FracPoly) → Ran (elimination_of (ideal.intersection_way hs ks))
       (IsListOf (ideal.intersection_way hs ks)) mid new (done ls)
-      → Comes (setting_of s) new.entries (turn_met s k b i gs hs ks ls.items)
-  turn_met_next gs c ls h = task_ended (setting_of s) (turn_meet k b i gs (terms_each hs)
+      → Comes (setting_of s) new.entries (iteration_met s k b i gs hs ks ls.items)
+  iteration_met_next gs c ls h = task_ended (setting_of s) (iteration_meet k b i gs (terms_each hs)
       (terms_each ks))
       old mid new
-      c begun_turn_meet (ideal.intersection_way hs ks) (turn_meet_way gs) QT ls h
+      c begun_iteration_meet (ideal.intersection_way hs ks) (iteration_meet_way gs) QT ls h
 
   module _ (units more : ℕ) (kh : IsList s.arity (most_first s.arity s.given) units hs)
       (kk : IsList s.arity more units ks) (ls : Vec FracPoly)
       (h : Ran (elimination_of (ideal.intersection_way hs ks))
       (IsListOf (ideal.intersection_way hs ks)) mid new
       (done ls)) where
-    pub turn_met_known : IsIntersection hs ks ls.items → IsList s.arity (most_first s.arity s.given)
+    pub iteration_met_known : IsIntersection hs ks ls.items
+        → IsList s.arity (most_first s.arity s.given)
         (units_of new.entries) ls.items
     unfolding starting block
-    turn_met_known met =
-        let bound = list_bound (setting_of s) (turn_meet k b i [] (terms_each hs) (terms_each ks))
+    iteration_met_known met =
+        let bound = list_bound (setting_of s) (iteration_meet k b i [] (terms_each hs)
+        (terms_each ks))
         mid new
-        (ideal.intersection_way hs ks) (turn_meet_way []) QT ls h in
+        (ideal.intersection_way hs ks) (iteration_meet_way []) QT ls h in
         let few = kept_made rationals 1 [] (blend rationals (blocks 1 grevlex grevlex)
         (terms_each hs) (terms_each ks)) (blend_not_kept s.arity (terms_each hs)
         (terms_each ks) (each_from (terms_each ks) kk.reduced.polynomials)) in
         known s.arity (most_first s.arity s.given) (units_of new.entries) ls.items
         (meet_reduced s.arity hs ks ls.items kh.arity kk.arity met) (omega (arith, bound, few))
 
-    pub turn_met_units : units_of old.entries ≤ units_of new.entries
-    turn_met_units =
-        let a = units_follow (setting_of s) (turn_meet k b i [] (terms_each hs) (terms_each ks)) mid
+    pub iteration_met_units : units_of old.entries ≤ units_of new.entries
+    iteration_met_units =
+        let a = units_follow (setting_of s) (iteration_meet k b i [] (terms_each hs)
+        (terms_each ks)) mid
         new
-        (ideal.intersection_way hs ks) (turn_meet_way []) QT ls h in
-        let c = units_begun old mid (journal.TurnMeet k n j) begun in
+        (ideal.intersection_way hs ks) (iteration_meet_way []) QT ls h in
+        let c = units_begun old mid (journal.IterationMeet k n j) begun in
         omega (arith, a, c)
 
-  pub turn_met_refused : (gs : List (Terms Fraction))
-      → Comes (setting_of s) old.entries (turn_meets s k b i gs hs ks)
+  pub iteration_met_refused : (gs : List (Terms Fraction))
+      → Comes (setting_of s) old.entries (iteration_meets s k b i gs hs ks)
       → {R : Type 0} {G : R → elimination.State Fraction → Type 0} (e : engine.EngineError)
       → Ran (elimination_of (ideal.intersection_way hs ks)) G mid new (stopped (refusal_of e))
-      → Refuses (setting_of s) new (in_task (task.TurnMeet k n j) e)
-  turn_met_refused gs c e r =
-      let w = turn_meet k b i gs (terms_each hs) (terms_each ks) in
-      task_refused (setting_of s) w old mid new c begun_turn_meet (ideal.intersection_way hs ks)
-      (turn_meet_way gs)
+      → Refuses (setting_of s) new (in_task (task.IterationMeet k n j) e)
+  iteration_met_refused gs c e r =
+      let w = iteration_meet k b i gs (terms_each hs) (terms_each ks) in
+      task_refused (setting_of s) w old mid new c begun_iteration_meet
+      (ideal.intersection_way hs ks)
+      (iteration_meet_way gs)
       QT
       (λ p. past_start (setting_of s) w (subst (λ (V : Way fractions).
       IsPastStart fractions rationals
-      V.gens) (turn_meet_way gs) p)) (task.TurnMeet k n j) (ap₂ (journal.TurnMeet k) named
+      V.gens) (iteration_meet_way gs) p)) (task.IterationMeet k n j) (ap₂ (journal.IterationMeet k)
+      named
       counted) e r
 
--- ---- an orbit, and a turn
+-- ---- an orbit, and an iteration
 module _ (s : Setting) (fits : FitsSetting s) (place : ℕ) (within : place < length s.branches.items)
     (branch : Branch) (is : branch ≡ get_or s.branches.items place branch) where
   none : form.Form
@@ -274,7 +280,7 @@ module _ (s : Setting) (fits : FitsSetting s) (place : ℕ) (within : place < le
   -- ---- an orbit
   module _ (k : ℕ) (gs : List FracPoly) (old mid new : Journal) (n : ℕ) (named : n ≡ suc place)
       (begun : mid ≡ with_entry old (Begin (journal.Orbit k n))) where
-    orbit_way : (hs : List (Terms Fraction)) → unwinding branch gs ≡ way_of (setting_of s)
+    orbit_way : (hs : List (Terms Fraction)) → pulling_back branch gs ≡ way_of (setting_of s)
         (orbit k place (terms_each gs) hs)
     unfolding starting block
     orbit_way hs =
@@ -293,19 +299,20 @@ module _ (s : Setting) (fits : FitsSetting s) (place : ℕ) (within : place < le
 
     pub orbit_next : (hs : List (Terms Fraction))
         → Comes (setting_of s) old.entries (orbiting s k place gs hs) → (ls : Vec FracPoly)
-        → Ran (orbit_of branch gs) (IsListOf (unwinding branch gs)) mid new (done ls)
+        → Ran (orbit_of branch gs) (IsListOf (pulling_back branch gs)) mid new (done ls)
         → Comes (setting_of s) new.entries (orbited s k place gs hs ls.items)
     orbit_next hs c ls h = task_ended (setting_of s) (orbit k place (terms_each gs) hs) old mid new
         c
-        begun_orbit (unwinding branch gs) (orbit_way hs) U ls h
+        begun_orbit (pulling_back branch gs) (orbit_way hs) U ls h
 
     module _ (kg : IsList s.arity (most_first s.arity s.given) (units_of old.entries) gs)
-        (ls : Vec FracPoly) (h : Ran (orbit_of branch gs) (IsListOf (unwinding branch gs)) mid new
+        (ls : Vec FracPoly) (h : Ran (orbit_of branch gs) (IsListOf (pulling_back branch gs)) mid
+        new
         (done ls)) where
       pub orbit_units : units_of old.entries ≤ units_of new.entries
       orbit_units =
           let a = units_follow (setting_of s) (orbit k place (terms_each gs) []) mid new
-          (unwinding branch gs) (orbit_way []) U ls h in
+          (pulling_back branch gs) (orbit_way []) U ls h in
           let c = units_begun old mid (journal.Orbit k n) begun in
           omega (arith, a, c)
 
@@ -315,7 +322,7 @@ module _ (s : Setting) (fits : FitsSetting s) (place : ℕ) (within : place < le
       unfolding starting block
       orbit_bound =
           let bound = list_bound (setting_of s) (orbit k place (terms_each gs) []) mid new
-          (unwinding branch gs) (orbit_way []) U ls h in
+          (pulling_back branch gs) (orbit_way []) U ls h in
           subst (λ m. length ls.items + units_of mid.entries
           ≤ length (free_part (form.orbit_front (form_of branch.form) m)
           (made rationals (form.orbit_front (form_of branch.form) m)
@@ -378,61 +385,64 @@ module _ (s : Setting) (fits : FitsSetting s) (place : ℕ) (within : place < le
         → Refuses (setting_of s) new (in_task (task.Orbit k n) e)
     orbit_refused hs c e r =
         task_refused (setting_of s) (orbit k place (terms_each gs) hs) old mid new c begun_orbit
-        (unwinding branch gs) (orbit_way hs) U (λ p. past_here p hs) (task.Orbit k n)
+        (pulling_back branch gs) (orbit_way hs) U (λ p. past_here p hs) (task.Orbit k n)
         (ap (journal.Orbit k) named) e r
 
-  -- ---- a turn
+  -- ---- an iteration
   module _ (k i : ℕ) (ks : List FracPoly) (old mid new : Journal) (n j : ℕ)
       (named : n ≡ suc place) (counted : j ≡ suc i)
-      (begun : mid ≡ with_entry old (Begin (journal.Turn k n j))) where
-    turn_way : (gs hs : List (Terms Fraction)) → turning branch ks ≡ way_of (setting_of s)
-        (turn k place i gs (terms_each ks) hs)
+      (begun : mid ≡ with_entry old (Begin (journal.Iteration k n j))) where
+    iteration_way : (gs hs : List (Terms Fraction)) → turning branch ks ≡ way_of (setting_of s)
+        (iteration k place i gs (terms_each ks) hs)
     unfolding starting block
-    turn_way gs hs =
+    iteration_way gs hs =
         let here : (f : form.Form) → (m : ℕ) → List (Terms Fraction) → ideal.Way fractions =
         λ f m images. record {
-          order = blocks (form.turn_front f m) grevlex grevlex;
-          part = free_part (form.turn_front f m);
-          gens = form.turn_list f m images (terms_each ks);
+          order = blocks (form.iteration_front f m) grevlex grevlex;
+          part = free_part (form.iteration_front f m);
+          gens = form.iteration_list f m images (terms_each ks);
         } in
         ap₂ (λ f m. here f m (terms_each branch.images.items)) (sym form_at) vars_at
         ∙ ap (here (analysis.form_of (setting_of s) place) s.arity) (sym map_at)
 
-    begun_turn : mid ≡ with_entry old (Begin (journal.Turn k (suc place) (suc i)))
-    begun_turn = begun ∙ ap₂ (λ x y. with_entry old (Begin (journal.Turn k x y))) named counted
+    begun_iteration : mid ≡ with_entry old (Begin (journal.Iteration k (suc place) (suc i)))
+    begun_iteration = begun ∙ ap₂ (λ x y. with_entry old (Begin (journal.Iteration k x y))) named
+        counted
 
     abbrev V : Type 0
-    V = (turn_of branch ks).IsPastStart
+    V = (iteration_of branch ks).IsPastStart
 
-    pub turn_next : (gs hs : List (Terms Fraction))
-        → Comes (setting_of s) old.entries (turn_begins s k place i gs ks hs) → (ls : Vec FracPoly)
-        → Ran (turn_of branch ks) (IsListOf (turning branch ks)) mid new (done ls)
-        → Comes (setting_of s) new.entries (turn_ends s k place i gs ks hs ls.items)
-    turn_next gs hs c ls h = task_ended (setting_of s) (turn k place i gs (terms_each ks) hs) old
+    pub iteration_next : (gs hs : List (Terms Fraction))
+        → Comes (setting_of s) old.entries (iteration_begins s k place i gs ks hs)
+        → (ls : Vec FracPoly)
+        → Ran (iteration_of branch ks) (IsListOf (turning branch ks)) mid new (done ls)
+        → Comes (setting_of s) new.entries (iteration_ends s k place i gs ks hs ls.items)
+    iteration_next gs hs c ls h = task_ended (setting_of s) (iteration k place i gs (terms_each ks)
+        hs) old
         mid new
-        c begun_turn (turning branch ks) (turn_way gs hs) V ls h
+        c begun_iteration (turning branch ks) (iteration_way gs hs) V ls h
 
     module _ (most : ℕ) (kk : IsList s.arity most (units_of old.entries) ks) (ls : Vec FracPoly)
-        (h : Ran (turn_of branch ks) (IsListOf (turning branch ks)) mid new (done ls)) where
-      pub turn_units : units_of old.entries ≤ units_of new.entries
-      turn_units =
-          let a = units_follow (setting_of s) (turn k place i [] (terms_each ks) []) mid new
-          (turning branch ks) (turn_way [] []) V ls h in
-          let c = units_begun old mid (journal.Turn k n j) begun in
+        (h : Ran (iteration_of branch ks) (IsListOf (turning branch ks)) mid new (done ls)) where
+      pub iteration_units : units_of old.entries ≤ units_of new.entries
+      iteration_units =
+          let a = units_follow (setting_of s) (iteration k place i [] (terms_each ks) []) mid new
+          (turning branch ks) (iteration_way [] []) V ls h in
+          let c = units_begun old mid (journal.Iteration k n j) begun in
           omega (arith, a, c)
 
-      pub turn_known : AreOver (length branch.images.items) ls.items
+      pub iteration_known : AreOver (length branch.images.items) ls.items
           → IsReducedList (length branch.images.items) (terms_each ls.items)
           → IsList s.arity (most + s.arity) (units_of new.entries) ls.items
       unfolding starting block
-      turn_known over reduced =
-          let bound = list_bound (setting_of s) (turn k place i [] (terms_each ks) []) mid new
-          (turning branch ks) (turn_way [] []) V ls h in
+      iteration_known over reduced =
+          let bound = list_bound (setting_of s) (iteration k place i [] (terms_each ks) []) mid new
+          (turning branch ks) (iteration_way [] []) V ls h in
           let f = analysis.form_of (setting_of s) place in
-          let few = turn_few f s.arity (terms_each ks) (get_or (setting_of s).maps place [])
+          let few = iteration_few f s.arity (terms_each ks) (get_or (setting_of s).maps place [])
           (ap length map_at ∙ length-map branch.images.items terms_in ∙ vars_at) in
           let b = length-map ks terms_in in
-          let d = units_begun old mid (journal.Turn k n j) begun in
+          let d = units_begun old mid (journal.Iteration k n j) begun in
           let e = kk.few in
           known s.arity (most + s.arity) (units_of new.entries) ls.items
           (inr (
@@ -441,26 +451,29 @@ module _ (s : Setting) (fits : FitsSetting s) (place : ℕ) (within : place < le
           ))
           (omega (arith, bound, few, b, d, e))
 
-    past_turn : V → (gs hs : List (Terms Fraction))
-        → IsPastStarting (setting_of s) (turn k place i gs (terms_each ks) hs)
-    past_turn (inl p) gs hs =
-        inl (subst (λ fs. IsPastTurn (analysis.form_of (setting_of s) place) s.arity fs
+    past_iteration : V → (gs hs : List (Terms Fraction))
+        → IsPastStarting (setting_of s) (iteration k place i gs (terms_each ks) hs)
+    past_iteration (inl p) gs hs =
+        inl (subst (λ fs. IsPastIteration (analysis.form_of (setting_of s) place) s.arity fs
         (terms_each ks))
         (sym map_at)
-        (subst (λ m. IsPastTurn (analysis.form_of (setting_of s) place) m
+        (subst (λ m. IsPastIteration (analysis.form_of (setting_of s) place) m
         (terms_each branch.images.items) (terms_each ks)) vars_at
-        (subst (λ (f : form.Form). IsPastTurn f (length branch.images.items)
+        (subst (λ (f : form.Form). IsPastIteration f (length branch.images.items)
         (terms_each branch.images.items) (terms_each ks)) (sym form_at) p)))
-    past_turn (inr p) gs hs =
-        inr (subst (λ (W : Way fractions). IsPastStart fractions rationals W.gens) (turn_way gs hs)
+    past_iteration (inr p) gs hs =
+        inr (subst (λ (W : Way fractions). IsPastStart fractions rationals W.gens)
+        (iteration_way gs hs)
         p)
 
-    pub turn_refused : (gs hs : List (Terms Fraction))
-        → Comes (setting_of s) old.entries (turn_begins s k place i gs ks hs)
+    pub iteration_refused : (gs hs : List (Terms Fraction))
+        → Comes (setting_of s) old.entries (iteration_begins s k place i gs ks hs)
         → {R : Type 0} {G : R → elimination.State Fraction → Type 0} (e : engine.EngineError)
-        → Ran (turn_of branch ks) G mid new (stopped (refusal_of e))
-        → Refuses (setting_of s) new (in_task (task.Turn k n j) e)
-    turn_refused gs hs c e r =
-        task_refused (setting_of s) (turn k place i gs (terms_each ks) hs) old mid new c begun_turn
-        (turning branch ks) (turn_way gs hs) V (λ p. past_turn p gs hs) (task.Turn k n j)
-        (ap₂ (journal.Turn k) named counted) e r
+        → Ran (iteration_of branch ks) G mid new (stopped (refusal_of e))
+        → Refuses (setting_of s) new (in_task (task.Iteration k n j) e)
+    iteration_refused gs hs c e r =
+        task_refused (setting_of s) (iteration k place i gs (terms_each ks) hs) old mid new c
+        begun_iteration
+        (turning branch ks) (iteration_way gs hs) V (λ p. past_iteration p gs hs)
+        (task.Iteration k n j)
+        (ap₂ (journal.Iteration k) named counted) e r

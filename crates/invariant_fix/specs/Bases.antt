@@ -24,7 +24,7 @@ use Rattle.loop_model.specs.Operations.{Operation, IsFree}
 use Rattle.ideal_ops.specs.Calls.{AreOver}
 use Rattle.journal.specs.View as view
 use Rattle.rounds.specs.Journal.{IsFinishedBy, IsOutFrom}
-use Rattle.corollaries.specs.Between.{IsExhaustedLeading, IsPastLeading, HasLed}
+use Rattle.corollaries.specs.Between.{IsExhaustedLeading, IsPastLeading, HasMapped}
 use Rattle.loops.specs.Chain.{Chain, code_at, loop_at}
 use Rattle.corollaries.specs.Analysed.{Analysed, GivenTo}
 use Rattle.corollaries.specs.CodeBetween.{copies}
@@ -72,7 +72,7 @@ module _ (c : Chain (Expr ℕ)) where
     abbrev pub HasWorked : Type 0
     HasWorked =
         InLoop (λ left given. HasFollowedFrom (loop_at c j) given m.entries)
-        ⊎ InCode (λ gs. (m.entries ≡ []) ⊎ HasLed c.first (code_at c j) gs m.entries)
+        ⊎ InCode (λ gs. (m.entries ≡ []) ⊎ HasMapped c.first (code_at c j) gs m.entries)
 
     abbrev pub IsRefusedAt : LoopError → Type 0
     IsRefusedAt (Analysis (error.Map e)) =

@@ -1,6 +1,6 @@
 -- What the analysis of one loop of a chain gives.
 --   HasList program firsts most left m gs    the journal m is that of the finished analysis of the program from the list firsts, or from its starts, with so many units, which ended with the gs; they are at most `most`, and the units
---   LedFrom program code before budget m P    the code has made a list of the elements before; so many units of the budget are left, which is what m allows; P holds of these
+--   MappedFrom program code before budget m P    the code has made a list of the elements before; so many units of the budget are left, which is what m allows; P holds of these
 --   HasStage program code bs before budget m gs     the code and the loop with the branches bs are formed, and m is the journal of the finished analysis of the loop from what the code has made, which ended with the gs
 --   IsRefusedStage program code bs before budget m e    what the refusal e tells of these, and of the journal m
 use Rattle.std.specs.Prelude.{◌≡◌, ◌⊎◌, ℕ, ◌+◌, ◌≤◌, List, [], ◌++◌, length, Option, Some, None}
@@ -14,7 +14,7 @@ use Rattle.loop_model.specs.Operations.{Operation, IsFree}
 use Rattle.ideal_ops.specs.Calls.{AreOver}
 use Rattle.journal.specs.View as view
 use Rattle.rounds.specs.Journal.{IsFinishedBy, IsFinishedFrom, IsOutFrom}
-use Rattle.corollaries.specs.Between.{IsLed, IsExhaustedLeading, IsPastLeading, HasLed}
+use Rattle.corollaries.specs.Between.{IsMapped, IsExhaustedLeading, IsPastLeading, HasMapped}
 use Rattle.loops.specs.Chain.{loop_of}
 use Rattle.corollaries.specs.CodeBetween.{copies}
 use Rattle.loop_model.specs.Maps.{maps_operations}
@@ -41,10 +41,10 @@ module _ (program : Program (Expr ℕ)) (code : List (Statement (Expr ℕ)))
   abbrev pub IsFormedStage : Type 0
   IsFormedStage = IsFree (length program.names) stage_operations × AllHaveForms (loop_of program bs)
 
-  pub record LedFrom (P : ℕ → List (Terms Fraction) → Type 0) : Type 0 where
+  pub record MappedFrom (P : ℕ → List (Terms Fraction) → Type 0) : Type 0 where
     pub entries : List Entry
     pub list : List (Terms Fraction)
-    pub led : IsLed program code (terms_each before) entries list
+    pub mapped : IsMapped program code (terms_each before) entries list
     pub left : ℕ
     pub units : units_of entries + left ≡ budget
     pub limit : m.limit ≡ left
@@ -53,16 +53,16 @@ module _ (program : Program (Expr ℕ)) (code : List (Statement (Expr ℕ)))
   pub record HasStage (gs : List FracPoly) : Type 0 where
     pub formed : IsFormedStage
     pub rounds : ℕ
-    pub done : LedFrom (λ left list. IsFinishedFrom (loop_of program bs) list m.entries rounds
+    pub done : MappedFrom (λ left list. IsFinishedFrom (loop_of program bs) list m.entries rounds
         (terms_each gs) × (units_of m.entries ≤ left))
     pub over : AreOver (length program.names) gs
     pub few : length gs ≤ length before + copies (length program.names) code + budget
 
   abbrev pub HasWorkedStage : Type 0
   HasWorkedStage =
-      LedFrom (λ left list. HasFollowedFrom (loop_of program bs) (Some list) m.entries)
+      MappedFrom (λ left list. HasFollowedFrom (loop_of program bs) (Some list) m.entries)
       ⊎ ((m.limit ≡ budget) × ((m.entries ≡ [])
-      ⊎ HasLed program code (terms_each before) m.entries))
+      ⊎ HasMapped program code (terms_each before) m.entries))
 
   abbrev pub IsRefusedStage : LoopError → Type 0
   IsRefusedStage (Analysis (error.Map e)) =
@@ -71,11 +71,11 @@ module _ (program : Program (Expr ℕ)) (code : List (Statement (Expr ℕ)))
       (m ≡ empty_journal budget) × IfUnformedBy (loop_of program bs) stage_operations
       (error.Branch b e)
   IsRefusedStage (Analysis (error.Wide task)) =
-      IsFormedStage × LedFrom (λ left list. HasStoppedFrom (loop_of program bs) (Some list)
+      IsFormedStage × MappedFrom (λ left list. HasStoppedFrom (loop_of program bs) (Some list)
       (view.task_of task) m.entries)
   IsRefusedStage (Analysis error.Budget) =
       IsFormedStage
-      × (LedFrom (λ left list. IsOutFrom (loop_of program bs) (Some list) None left m.entries)
+      × (MappedFrom (λ left list. IsOutFrom (loop_of program bs) (Some list) None left m.entries)
       ⊎ ((m.limit ≡ budget) × IsExhaustedLeading program code (terms_each before) budget m.entries))
   IsRefusedStage (Analysis error.Memory) = HasWorkedStage
   IsRefusedStage Between =

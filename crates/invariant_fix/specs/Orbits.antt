@@ -1,15 +1,15 @@
--- What an orbit along a branch begins with, and a single turn of it.
+-- What an orbit along a branch begins with, and a single iteration of it.
 --   numbers_of b, vars_of b   how many numbers the branch's base has, and how many variables it is of
 --   width_of b                how many variables stand in the list of an orbit that is whole: those in front, and these
 --   orbit_front_of b          how many variables an orbit eliminates;  orbit_list_of b gs: the list that it begins with
---   unwinding b gs            what is done for the orbit of the gs along the branch b;  orbit_of b gs: as a machine, whose start is made by compositions
---   turning b gs, turn_of b gs     the same for one turn
---   unwound_element b g       g with the form of b backward for its variables, normal;  unwound_each b gs: each of them
+--   pulling back b gs            what is done for the orbit of the gs along the branch b;  orbit_of b gs: as a machine, whose start is made by compositions
+--   turning b gs, iteration_of b gs     the same for one iteration
+--   pulled_back_element b g       g with the form of b backward for its variables, normal;  pulled_back_each b gs: each of them
 --   normal_of b p             p with s s and the u v replaced by 1
---   relations_of r m          s s - 1 and the u v - 1;  unwound_list b gs: the gs unwound, and these
+--   relations_of r m          s s - 1 and the u v - 1;  pulled_back_list b gs: the gs pulled back, and these
 --   HaveFront r m ps          the variables in front, over a base of r numbers, are the first block of the order of each, and m variables stand behind them
---   IsPastAt b g, IsPastUnwound b gs     the composition is past, at g or at one of the gs
---   IsPastUnwinding b gs, IsPastTurning b gs     what makes the list of an orbit, or of a turn, is past
+--   IsPastAt b g, IsPastPulledBack b gs     the composition is past, at g or at one of the gs
+--   IsPastPullingBack b gs, IsPastTurning b gs     what makes the list of an orbit, or of an iteration, is past
 use Rattle.std.specs.Prelude.{◌⊎◌, ◌+◌, ◌++◌, ℕ, List, length, map}
 use Rattle.std.specs.List.{Any}
 use Rattle.algebra.specs.Fraction.{Fraction, fractions, rationals}
@@ -18,8 +18,8 @@ use Rattle.polynomials.specs.Terms.{Terms}
 use Rattle.polynomials.specs.Weight.{IsPastComposition}
 use Rattle.machines.specs.Collect.{collect}
 use Rattle.machines.specs.Elimination.{free_part}
-use Rattle.rounds.specs.Form.{front, form_backward, normal, orbit_order, orbit_front, orbit_list, turn_front, turn_list, relations, unwound_by}
-use Rattle.rounds.specs.Past.{IsPastOrbit, IsPastTurn}
+use Rattle.rounds.specs.Form.{front, inverse_of_form, normal, orbit_order, orbit_front, orbit_list, iteration_front, iteration_list, relations, pulled_back_by}
+use Rattle.rounds.specs.Past.{IsPastOrbit, IsPastIteration}
 use Rattle.coprime_base.specs.Sizes.{sizes}
 use Rattle.poly.specs.Seen.{terms_in, terms_each}
 use Rattle.loop_model.specs.FracPoly.{FracPoly}
@@ -49,24 +49,24 @@ module _ (b : Branch) where
   width_of = front numbers_of + vars_of
 
   -- ---- an orbit that is whole
-  abbrev pub unwound_element : FracPoly → Terms Fraction
-  unwound_element g = unwound_by (form_of b.form) vars_of (terms_in g)
+  abbrev pub pulled_back_element : FracPoly → Terms Fraction
+  pulled_back_element g = pulled_back_by (form_of b.form) vars_of (terms_in g)
 
-  abbrev pub unwound_each : List FracPoly → List (Terms Fraction)
-  unwound_each gs = map (unwound_by (form_of b.form) vars_of) (terms_each gs)
+  abbrev pub pulled_back_each : List FracPoly → List (Terms Fraction)
+  pulled_back_each gs = map (pulled_back_by (form_of b.form) vars_of) (terms_each gs)
 
-  abbrev pub unwound_list : List FracPoly → List (Terms Fraction)
-  unwound_list gs = unwound_each gs ++ relations_of numbers_of vars_of
+  abbrev pub pulled_back_list : List FracPoly → List (Terms Fraction)
+  pulled_back_list gs = pulled_back_each gs ++ relations_of numbers_of vars_of
 
   abbrev pub normal_of : FracPoly → Terms Fraction
   normal_of p = normal grevlex numbers_of (terms_in p)
 
   abbrev pub IsPastAt : FracPoly → Type 0
-  IsPastAt g = IsPastComposition fractions (terms_in g) (form_backward (form_of b.form))
+  IsPastAt g = IsPastComposition fractions (terms_in g) (inverse_of_form (form_of b.form))
 
-  abbrev pub IsPastUnwound : List FracPoly → Type 0
-  IsPastUnwound gs =
-      Any (λ g. IsPastComposition fractions g (form_backward (form_of b.form))) (terms_each gs)
+  abbrev pub IsPastPulledBack : List FracPoly → Type 0
+  IsPastPulledBack gs =
+      Any (λ g. IsPastComposition fractions g (inverse_of_form (form_of b.form))) (terms_each gs)
 
   -- ---- an orbit
   abbrev pub orbit_front_of : ℕ
@@ -75,11 +75,11 @@ module _ (b : Branch) where
   abbrev pub orbit_list_of : List FracPoly → List (Terms Fraction)
   orbit_list_of gs = orbit_list (form_of b.form) vars_of (terms_each gs)
 
-  abbrev pub IsPastUnwinding : List FracPoly → Type 0
-  IsPastUnwinding gs = IsPastOrbit (form_of b.form) vars_of (terms_each gs)
+  abbrev pub IsPastPullingBack : List FracPoly → Type 0
+  IsPastPullingBack gs = IsPastOrbit (form_of b.form) vars_of (terms_each gs)
 
-  abbrev pub unwinding : List FracPoly → Way fractions
-  unwinding gs = record {
+  abbrev pub pulling_back : List FracPoly → Way fractions
+  pulling_back gs = record {
     order = blocks orbit_front_of grevlex grevlex;
     part = free_part orbit_front_of;
     gens = orbit_list_of gs;
@@ -87,29 +87,29 @@ module _ (b : Branch) where
 
   abbrev pub orbit_of : List FracPoly → Machine (elimination.State Fraction)
   orbit_of gs =
-      with_past_start (elimination_of (unwinding gs))
-      (IsPastUnwinding gs ⊎ (elimination_of (unwinding gs)).IsPastStart)
+      with_past_start (elimination_of (pulling_back gs))
+      (IsPastPullingBack gs ⊎ (elimination_of (pulling_back gs)).IsPastStart)
 
-  -- ---- a turn
-  abbrev pub turn_front_of : ℕ
-  turn_front_of = turn_front (form_of b.form) vars_of
+  -- ---- an iteration
+  abbrev pub iteration_front_of : ℕ
+  iteration_front_of = iteration_front (form_of b.form) vars_of
 
-  abbrev pub turn_list_of : List FracPoly → List (Terms Fraction)
-  turn_list_of gs =
-      turn_list (form_of b.form) vars_of (terms_each b.images.items) (terms_each gs)
+  abbrev pub iteration_list_of : List FracPoly → List (Terms Fraction)
+  iteration_list_of gs =
+      iteration_list (form_of b.form) vars_of (terms_each b.images.items) (terms_each gs)
 
   abbrev pub IsPastTurning : List FracPoly → Type 0
   IsPastTurning gs =
-      IsPastTurn (form_of b.form) vars_of (terms_each b.images.items) (terms_each gs)
+      IsPastIteration (form_of b.form) vars_of (terms_each b.images.items) (terms_each gs)
 
   abbrev pub turning : List FracPoly → Way fractions
   turning gs = record {
-    order = blocks turn_front_of grevlex grevlex;
-    part = free_part turn_front_of;
-    gens = turn_list_of gs;
+    order = blocks iteration_front_of grevlex grevlex;
+    part = free_part iteration_front_of;
+    gens = iteration_list_of gs;
   }
 
-  abbrev pub turn_of : List FracPoly → Machine (elimination.State Fraction)
-  turn_of gs =
+  abbrev pub iteration_of : List FracPoly → Machine (elimination.State Fraction)
+  iteration_of gs =
       with_past_start (elimination_of (turning gs))
       (IsPastTurning gs ⊎ (elimination_of (turning gs)).IsPastStart)

@@ -30,7 +30,7 @@ use Rattle.loop_model.specs.declared.map_error.MapError.TheVariants as map_error
 use Rattle.loop_model.specs.Maps.{branches_operations, maps_operations, AreFree}
 use Rattle.solvable.specs.Refusal.{IsSolvable}
 use Rattle.closed_forms.specs.Lengths.{IsShort}
-use Rattle.closed_forms.specs.Refusal.{AllPass, Refusal, IfRefused, refusal_in}
+use Rattle.closed_forms.specs.Refusal.{AllPass, Refusal, IfFormRefused, refusal_in}
 use Rattle.closed_forms.specs.declared.errors.FormsError.{FormsError}
 use Rattle.closed_forms.specs.declared.errors.FormsError.TheVariants as forms_error
 use Rattle.journal.specs.View as view
@@ -65,7 +65,7 @@ module _ (program : Program (Expr ℕ)) where
 
   pub record IsRefusedBranch (b : ℕ) (r : Refusal) : Type 0 where
     pub within : b < length program.branches
-    pub is : IfRefused (map_of program (suc b)) r
+    pub is : IfFormRefused (map_of program (suc b)) r
     pub before : (c : ℕ) → c < b → HasForm (suc c)
 
   abbrev pub TellsBranch : ℕ → FormsError → Type 0

@@ -1,9 +1,9 @@
 -- What an analysis is of.
 --   setting_of s               it, as the machine has it; form_of f: a closed form
 --   given_of o           the list that is given, if one is;  most_first m o: how many elements the list that the analysis begins with has at most
---   most_given         how many elements a list that is given may have;  most_turns: from how many turns on at most a form is the state
+--   most_given         how many elements a list that is given may have;  most_iterations: from how many iterations on at most a form is the state
 --   IsSquare images      there are 1 to 12 polynomials, in as many variables
---   FitsBranch m b       the parts of the branch b are over m variables, its form over its base too, which is short, and its form backward is that of its form
+--   FitsBranch m b       the parts of the branch b are over m variables, its form over its base too, which is short, and its inverse form is that of its form
 --   FitsSetting s               the parts of s are over its variables, of which there are 1 to 12, and it has 1 to 6 branches
 --   IsMapIn program b images    they are the polynomials of the branch b, which counts from 1, as the analysis has them
 --   IsBranchOf program b c      c has the map and a closed form of the branch b, fits, and no class of its map is refused or too long
@@ -20,7 +20,7 @@ use Rattle.loops.specs.WellFormed.{IsWellFormed}
 use Rattle.rounds.specs.Analysis as analysis
 use Rattle.rounds.specs.BranchMap.{map_of}
 use Rattle.rounds.specs.Form as form
-use Rattle.rounds.specs.Form.{front, form_backward, passes, IsClosedForm}
+use Rattle.rounds.specs.Form.{front, inverse_of_form, passes, IsClosedForm}
 use Rattle.monos.specs.Variables.{most_variables}
 use Rattle.poly.specs.Seen.{terms_each}
 use Rattle.ideal_ops.specs.Calls.{AreOver}
@@ -50,13 +50,13 @@ form_of f = record {
 abbrev pub most_given : ℕ
 most_given = 2 ^ 27 + 2 ^ 26
 
--- how many turns of a branch there may be before its form begins to be the state
-abbrev pub most_turns : ℕ
-most_turns = 12
+-- how many iterations of a branch there may be before its form begins to be the state
+abbrev pub most_iterations : ℕ
+most_iterations = 12
 
--- how many elements a list may have that a turn or an orbit begins with
-abbrev pub start_limit : ℕ
-start_limit = 2 ^ 29
+-- how many elements a list may have that an iteration or an orbit begins with
+abbrev pub most_starting_elements : ℕ
+most_starting_elements = 2 ^ 29
 
 abbrev pub given_of : Option (Vec FracPoly) → Option (List (Terms Fraction))
 given_of o = option_map (λ (v : Vec FracPoly). terms_each v.items) o
@@ -88,10 +88,10 @@ pub record FitsBranch (m : ℕ) (b : Branch) : Type 0 where
   pub few : front (length (sizes b.form.base.items)) + m + m ≤ most_variables
   pub back_count : length b.back.items ≡ m
   pub back_arity : AreOver (front (length (sizes b.form.base.items)) + m) b.back.items
-  pub back : terms_each b.back.items ≡ form_backward (form_of b.form)
+  pub back : terms_each b.back.items ≡ inverse_of_form (form_of b.form)
   pub form_over : values.AreOver (sizes b.form.base.items) m b.form.polys.items
   pub form_count : length b.form.polys.items ≡ m
-  pub early : b.form.since ≤ most_turns
+  pub early : b.form.since ≤ most_iterations
   pub passing_count : length b.form.passing.items ≡ m
   pub passing : (i : ℕ) → get_or b.form.passing.items i false ≡ passes (form_of b.form) m i
 

@@ -1,4 +1,4 @@
--- The steps of an analysis by the program's own lists. Rounds count from 0; branches b, elements i and turns n count from 0.
+-- The steps of an analysis by the program's own lists. Rounds count from 0; branches b, elements i and iterations n count from 0.
 --   Awaits s j step            the entries of the journal j are those of a run of the machine, and this step comes next
 --   Knows s j gs               the gs are reduced for their own ideal, and no more than what the analysis begins with may have and the units of j
 --   Stops s j e                what the refusal e tells of the journal j
@@ -7,12 +7,12 @@
 --   closing s k b i gs         the closing tests of round k from branch b and element i on;  testing s k b i gs: this one
 --   closed k gs                the end, with round k and the gs
 --   turning k gs               the beginning of round k, behind the list gs
---   KnowsTurns s n j gs       the same of a list of n turns, which may have more elements
+--   KnowsIterations s n j gs       the same of a list of n iterations, which may have more elements
 --   branching s k b gs hs      the first task of branch b, where hs is the list so far;  branched s k b gs hs: what comes behind branch b
---   HasWhole s b, HasTurns s b     the form of branch b is the state from the start on; it isn't before two turns, so some are taken one by one
+--   HasWhole s b, HasIterations s b     the form of branch b is the state from the start on; it isn't before two iterations, so some are taken one by one
 --   HasMeet s b                    the orbit of branch b meets the list so far: the branch isn't the first, or its form isn't the state from the start on
---   turn_begins s k b n gs ks hs   the beginning of one turn more of branch b than n, which have given the list ks, where hs is the list so far;  turn_ends s k b n gs ks hs ls: what comes when it has ended with ls
---   turn_meets s k b n gs hs ks    that of the meet of hs with the list ks of that turn;  turn_met s k b n gs hs ks ls: what comes when it has ended with ls
+--   iteration_begins s k b n gs ks hs   the beginning of one iteration more of branch b than n, which have given the list ks, where hs is the list so far;  iteration_ends s k b n gs ks hs ls: what comes when it has ended with ls
+--   iteration_meets s k b n gs hs ks    that of the meet of hs with the list ks of that iteration;  iteration_met s k b n gs hs ks ls: what comes when it has ended with ls
 --   orbiting s k b gs hs       the beginning of the orbit of the gs along branch b, where hs is the list so far;  orbited s k b gs hs ls: what comes when it has ended with ls
 --   meeting s k b gs hs ks     that of the meet of hs with the orbit ks along branch b;  met s k b gs hs ks ls: what comes when it has ended with ls
 use Rattle.std.specs.Prelude.{◌≡◌, ◌⊎◌, ℕ, suc, ◌+◌, ◌*◌, ◌<◌, ◌≤◌, List}
@@ -21,7 +21,7 @@ use Rattle.polynomials.specs.Terms.{Terms}
 use Rattle.machines.specs.Journal as journal
 use Rattle.machines.specs.Journal.{Journal, units_of}
 use Rattle.rounds.specs.Analysis as analysis
-use Rattle.rounds.specs.Analysis.{Step, goes, finished, start_of, after, after_branch, test, closing_from, begin_branch, begin_turn, begin_orbit}
+use Rattle.rounds.specs.Analysis.{Step, goes, finished, start_of, after, after_branch, test, closing_from, begin_branch, begin_iteration, begin_orbit}
 use Rattle.poly.specs.Seen.{terms_each}
 use Rattle.loop_model.specs.FracPoly.{FracPoly}
 use Rattle.invariant_fix.specs.Coming.{Comes, Refuses}
@@ -46,15 +46,15 @@ module _ (s : Setting) where
   abbrev pub Knows : Journal → List FracPoly → Type 0
   Knows j gs = IsList s.arity (most_first s.arity s.given) (units_of j.entries) gs
 
-  abbrev pub KnowsTurns : ℕ → Journal → List FracPoly → Type 0
-  KnowsTurns n j gs =
+  abbrev pub KnowsIterations : ℕ → Journal → List FracPoly → Type 0
+  KnowsIterations n j gs =
       IsList s.arity (most_first s.arity s.given + s.arity * n) (units_of j.entries) gs
 
   abbrev pub HasWhole : ℕ → Type 0
   HasWhole b = (analysis.form_of (setting_of s) b).since ≡ 0
 
-  abbrev pub HasTurns : ℕ → Type 0
-  HasTurns b = 2 ≤ (analysis.form_of (setting_of s) b).since
+  abbrev pub HasIterations : ℕ → Type 0
+  HasIterations b = 2 ≤ (analysis.form_of (setting_of s) b).since
 
   abbrev pub HasMeet : ℕ → Type 0
   HasMeet b = (0 < b) ⊎ (0 < (analysis.form_of (setting_of s) b).since)
@@ -80,23 +80,23 @@ module _ (s : Setting) where
   abbrev pub branched : (k b : ℕ) → List FracPoly → List (Terms Fraction) → Step
   branched k b gs hs = after_branch (setting_of s) k b (terms_each gs) hs
 
-  abbrev pub turn_begins : (k b n : ℕ) → List (Terms Fraction) → List FracPoly
+  abbrev pub iteration_begins : (k b n : ℕ) → List (Terms Fraction) → List FracPoly
       → List (Terms Fraction) → Step
-  turn_begins k b n gs ks hs = begin_turn (setting_of s) k b n gs (terms_each ks) hs
+  iteration_begins k b n gs ks hs = begin_iteration (setting_of s) k b n gs (terms_each ks) hs
 
-  abbrev pub turn_ends : (k b n : ℕ) → List (Terms Fraction) → List FracPoly
+  abbrev pub iteration_ends : (k b n : ℕ) → List (Terms Fraction) → List FracPoly
       → List (Terms Fraction) → List FracPoly → Step
-  turn_ends k b n gs ks hs ls =
-      after (setting_of s) (analysis.turn k b n gs (terms_each ks) hs) (terms_each ls)
+  iteration_ends k b n gs ks hs ls =
+      after (setting_of s) (analysis.iteration k b n gs (terms_each ks) hs) (terms_each ls)
 
-  abbrev pub turn_meets : (k b n : ℕ) → List (Terms Fraction) → (hs ks : List FracPoly) → Step
-  turn_meets k b n gs hs ks =
-      goes (journal.Begin (journal.TurnMeet k (suc b) (suc n)))
-      (start_of (setting_of s) (analysis.turn_meet k b n gs (terms_each hs) (terms_each ks)))
+  abbrev pub iteration_meets : (k b n : ℕ) → List (Terms Fraction) → (hs ks : List FracPoly) → Step
+  iteration_meets k b n gs hs ks =
+      goes (journal.Begin (journal.IterationMeet k (suc b) (suc n)))
+      (start_of (setting_of s) (analysis.iteration_meet k b n gs (terms_each hs) (terms_each ks)))
 
-  abbrev pub turn_met : (k b n : ℕ) → List (Terms Fraction) → (hs ks ls : List FracPoly) → Step
-  turn_met k b n gs hs ks ls =
-      after (setting_of s) (analysis.turn_meet k b n gs (terms_each hs) (terms_each ks))
+  abbrev pub iteration_met : (k b n : ℕ) → List (Terms Fraction) → (hs ks ls : List FracPoly) → Step
+  iteration_met k b n gs hs ks ls =
+      after (setting_of s) (analysis.iteration_meet k b n gs (terms_each hs) (terms_each ks))
       (terms_each ls)
 
   abbrev pub orbiting : (k b : ℕ) → List FracPoly → List (Terms Fraction) → Step

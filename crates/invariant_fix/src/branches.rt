@@ -2,7 +2,7 @@
 ghost use Rattle.std.specs.Prelude.{◌≡◌, ℕ, length, map, All, IfOk, IfErr};
 ghost use Rattle.poly.specs.Seen.{terms_each};
 ghost use Rattle.loops.specs.Program.{Expr, Program};
-ghost use Rattle.rounds.specs.Form.{backward};
+ghost use Rattle.rounds.specs.Form.{inverse_form};
 ghost use Rattle.polynomials.specs.Order.{grevlex};
 ghost use Rattle.loop_model.specs.Operations.{IsFree};
 ghost use Rattle.loop_model.specs.Stops.{Stops};
@@ -32,9 +32,9 @@ use std::alloc::{AllocError, Global};
 pub struct Branch {
     /// The values after it, as polynomials in the values before it: one for each variable.
     pub images: Vec<Poly<Frac, Grevlex>>,
-    /// The values after any number of its turns.
+    /// The values after any number of its iterations.
     pub form: Form,
-    /// The values before any number of its turns, as polynomials in those after them.
+    /// The values before any number of its iterations, as polynomials in those after them.
     pub back: Vec<Poly<Frac, Grevlex>>,
 }
 
@@ -99,20 +99,20 @@ fn form_branch(alloc: Global, images: Vec<Poly<Frac, Grevlex>>) -> Result<Branch
     ensures refused { IfErr result (IfRefusedBy (terms_each images.items)) }
 {
     let form = forms(alloc, &images)?;
-    let back = backward(alloc, &form.polys)?;
+    let back = inverse_form(alloc, &form.polys)?;
     Ok(Branch { images, form, back })
 }
 
 /// The polynomials backward.
-fn backward(alloc: Global, polys: &[Expo]) -> Result<Vec<Poly<Frac, Grevlex>>, AllocError>
+fn inverse_form(alloc: Global, polys: &[Expo]) -> Result<Vec<Poly<Frac, Grevlex>>, AllocError>
     ensures terms { IfOk result (λ out. terms_each out.items ≡ map
-        (λ (e : Expo). backward grevlex (length (base_of e)) (terms_in e.body)) polys.now) }
+        (λ (e : Expo). inverse_form grevlex (length (base_of e)) (terms_in e.body)) polys.now) }
     ensures arity { IfOk result (λ out.
         map (λ p. p.arity) out.items ≡ map (λ (e : Expo). e.body.arity) polys.now) }
 {
     let mut out = Vec::new(alloc);
     for poly in polys {
-        out.push(poly.backward(alloc)?.into_body())?;
+        out.push(poly.inverse_form(alloc)?.into_body())?;
     }
     Ok(out)
 }

@@ -207,7 +207,7 @@ fn code_list(
 }
 
 /// What code makes of a basis: the reduced basis of the polynomials that, composed with the code, are in its ideal. The code is the branch of a loop that has one, and these are its values.
-pub(crate) fn led(
+pub(crate) fn mapped(
     alloc: Global,
     lp: &Loop,
     values: &[Poly<Frac, Grevlex>],

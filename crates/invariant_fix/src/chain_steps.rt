@@ -15,7 +15,7 @@ ghost use Rattle.invariant_fix.specs.Bases.{empty_journal};
 ghost use Rattle.invariant_fix.specs.Limits.{budget_limit, elements_limit};
 ghost use Rattle.invariant_fix.specs.ChainSteps.{HasList, HasStage, IsRefusedStage};
 
-use crate::chain_code::led;
+use crate::chain_code::mapped;
 use crate::{
     AnalyseError, Analysis, LoopError, Setting, analyse, analyse_from, analyse_in, setting_of,
 };
@@ -144,7 +144,7 @@ pub(crate) fn stage_basis(
         Ok(setting) => setting,
         Err(error) => return Err(LoopError::Analysis(error)),
     };
-    let given = match led(alloc, &stage.code, &values, before, meter) {
+    let given = match mapped(alloc, &stage.code, &values, before, meter) {
         Ok(given) => given,
         Err(EngineError::Wide) => return Err(LoopError::Between),
         Err(EngineError::Budget) => return Err(LoopError::Analysis(AnalyseError::Budget)),

@@ -1,4 +1,4 @@
-//! The orbit of a list along a branch: what is in its ideal after any number of turns of the branch, from where its form begins to be the state.
+//! The orbit of a list along a branch: what is in its ideal after any number of iterations of the branch, from where its form begins to be the state.
 ghost use Rattle.std.specs.Prelude.{◌≡◌, ◌≤◌, ◌<◌, ◌+◌, ◌++◌, List, length, IfOk, OnOk, IfErr, IsErrOf};
 ghost use Rattle.algebra.specs.Fraction.{Fraction, fraction_size};
 ghost use Rattle.algebra.specs.Size.{IsPast};
@@ -14,10 +14,10 @@ ghost use Rattle.machines.specs.Machine.{Ran};
 ghost use Rattle.divide.specs.Outcomes.{outcome_of};
 ghost use Rattle.ideal_ops.specs.Calls.{IsListOf, AreOver};
 ghost use Rattle.ideal_ops.specs.Eliminating.{HaveBlock};
-ghost use Rattle.invariant_fix.specs.Orbits.{numbers_of, vars_of, unwinding, orbit_of, orbit_front_of, orbit_list_of, unwound_element, unwound_each, unwound_list, normal_of, relations_of, HaveFront, IsPastAt, IsPastUnwound, IsPastUnwinding};
+ghost use Rattle.invariant_fix.specs.Orbits.{numbers_of, vars_of, pulling_back, orbit_of, orbit_front_of, orbit_list_of, pulled_back_element, pulled_back_each, pulled_back_list, normal_of, relations_of, HaveFront, IsPastAt, IsPastPulledBack, IsPastPullingBack};
 ghost use Rattle.task_lists.specs.Blocks.{HasFront};
-ghost use Rattle.invariant_fix.specs.Setting.{FitsSetting, FitsBranch, start_limit};
-ghost use Rattle.invariant_fix.specs.Steps.{Awaits, Knows, KnowsTurns, Stops, Follow, HasWhole, orbiting, orbited};
+ghost use Rattle.invariant_fix.specs.Setting.{FitsSetting, FitsBranch, most_starting_elements};
+ghost use Rattle.invariant_fix.specs.Steps.{Awaits, Knows, KnowsIterations, Stops, Follow, HasWhole, orbiting, orbited};
 
 use crate::AnalyseError;
 use crate::branches::Branch;
@@ -51,7 +51,7 @@ pub(crate) fn orbit(
         → Awaits setting.now meter.old (orbiting setting.now round place basis.now hs)
         → IfOk result (λ ls.
         Awaits setting.now meter.new (orbited setting.now round place basis.now hs ls.items)) }
-    ensures list { IfOk result (λ ls. KnowsTurns setting.now 1 meter.new ls.items) }
+    ensures list { IfOk result (λ ls. KnowsIterations setting.now 1 meter.new ls.items) }
     ensures whole { HasWhole setting.now place
         → IfOk result (λ ls. Knows setting.now meter.new ls.items) }
     ensures units { IfOk result (λ _. Follow meter.old meter.new) }
@@ -72,7 +72,7 @@ pub(crate) fn orbit(
     }
 }
 
-/// The number of turns and the powers that go with it are eliminated.
+/// The number of iterations and the powers that go with it are eliminated.
 fn eliminated_orbit(
     alloc: Global,
     branch: &Branch,
@@ -82,8 +82,8 @@ fn eliminated_orbit(
     requires branch { FitsBranch (vars_of branch.now) branch.now }
     requires some { 0 < vars_of branch.now }
     requires basis { AreOver (vars_of branch.now) basis.now }
-    requires few { length basis.now ≤ start_limit }
-    ensures ran { Ran (orbit_of branch.now basis.now) (IsListOf (unwinding branch.now basis.now))
+    requires few { length basis.now ≤ most_starting_elements }
+    ensures ran { Ran (orbit_of branch.now basis.now) (IsListOf (pulling_back branch.now basis.now))
         meter.old meter.new (outcome_of result) }
     ensures arity { IfOk result (λ hs. AreOver (vars_of branch.now) hs.items) }
     ensures reduced { IfOk result (λ hs.
@@ -106,7 +106,7 @@ fn starting_list(
         terms_each gens.items ≡ orbit_list_of branch.now basis.now) }
     ensures block { let n = orbit_front_of branch.now in
         IfOk result (λ gens. HaveBlock n (n + vars_of branch.now) gens.items) }
-    ensures wide { IsErrOf result ArithmeticError.Wide → IsPastUnwinding branch.now basis.now }
+    ensures wide { IsErrOf result ArithmeticError.Wide → IsPastPullingBack branch.now basis.now }
 {
     if branch.form.since == 0 {
         return orbit_list(alloc, branch, basis);
@@ -129,7 +129,7 @@ pub(crate) fn late_form(branch: &Branch) -> LateForm<'_>
     }
 }
 
-/// The list that an orbit begins with where the form is the state from the start on: the elements with the closed form backward for the variables, and then s s - 1 and the u_j v_j - 1.
+/// The list that an orbit begins with where the form is the state from the start on: the elements with the inverse form for the variables, and then s s - 1 and the u_j v_j - 1.
 pub fn orbit_list(
     alloc: Global,
     branch: &Branch,
@@ -139,13 +139,13 @@ pub fn orbit_list(
     requires some { 0 < vars_of branch.now }
     requires basis { AreOver (vars_of branch.now) basis.now }
     ensures list { IfOk result (λ gens.
-        terms_each gens.items ≡ unwound_list branch.now basis.now) }
+        terms_each gens.items ≡ pulled_back_list branch.now basis.now) }
     ensures block { IfOk result (λ gens.
         HaveFront (numbers_of branch.now) (vars_of branch.now) gens.items) }
-    ensures wide { IsErrOf result ArithmeticError.Wide → IsPastUnwound branch.now basis.now }
+    ensures wide { IsErrOf result ArithmeticError.Wide → IsPastPulledBack branch.now basis.now }
 {
     let mut gens = Vec::new(alloc);
-    push_unwound(alloc, &mut gens, branch, basis)?;
+    push_pulled_back(alloc, &mut gens, branch, basis)?;
     push_relations(
         alloc,
         &mut gens,
@@ -155,8 +155,8 @@ pub fn orbit_list(
     Ok(gens)
 }
 
-/// Puts the elements with the closed form backward for the variables behind the others.
-fn push_unwound(
+/// Appends each element, with the inverse form put for the variables.
+fn push_pulled_back(
     alloc: Global,
     gens: &mut Vec<Poly<Frac, Blocks>>,
     branch: &Branch,
@@ -167,19 +167,19 @@ fn push_unwound(
     requires basis { AreOver (vars_of branch.now) basis.now }
     requires block { HaveFront (numbers_of branch.now) (vars_of branch.now) gens.old.items }
     ensures list { OnOk result (terms_each gens.new.items
-        ≡ terms_each gens.old.items ++ unwound_each branch.now basis.now) }
+        ≡ terms_each gens.old.items ++ pulled_back_each branch.now basis.now) }
     ensures block { OnOk result
         (HaveFront (numbers_of branch.now) (vars_of branch.now) gens.new.items) }
-    ensures wide { IsErrOf result ArithmeticError.Wide → IsPastUnwound branch.now basis.now }
+    ensures wide { IsErrOf result ArithmeticError.Wide → IsPastPulledBack branch.now basis.now }
 {
     for element in basis {
-        gens.push(unwound(alloc, branch, element)?)?;
+        gens.push(pulled_back(alloc, branch, element)?)?;
     }
     Ok(())
 }
 
-/// The polynomial with the closed form backward for its variables, normal.
-fn unwound(
+/// The polynomial with the inverse form for its variables, normal.
+fn pulled_back(
     alloc: Global,
     branch: &Branch,
     element: &Poly<Frac, Grevlex>,
@@ -187,7 +187,8 @@ fn unwound(
     requires branch { FitsBranch (vars_of branch.now) branch.now }
     requires element { element.now.arity ≡ vars_of branch.now }
     requires some { 0 < element.now.arity }
-    ensures unwound { IfOk result (λ p. terms_in p ≡ unwound_element branch.now element.now) }
+    ensures pulled_back { IfOk result (λ p. terms_in p
+        ≡ pulled_back_element branch.now element.now) }
     ensures block { IfOk result (HasFront (numbers_of branch.now) (vars_of branch.now)) }
     ensures wide { IsErrOf result ArithmeticError.Wide → IsPastAt branch.now element.now }
 {

@@ -6,14 +6,14 @@ ghost use Rattle.machines.specs.Journal.{units_of};
 ghost use Rattle.ideal_ops.specs.Calls.{AreOver};
 ghost use Rattle.invariant_fix.specs.Closing.{HasSteps};
 ghost use Rattle.poly.specs.Seen.{terms_each};
-ghost use Rattle.invariant_fix.specs.Setting.{FitsSetting, most_turns};
-ghost use Rattle.invariant_fix.specs.Steps.{Awaits, Knows, KnowsTurns, Stops, Follow, HasMeet, started, closing, closed, turning, branching, branched, orbiting, meeting, met};
+ghost use Rattle.invariant_fix.specs.Setting.{FitsSetting, most_iterations};
+ghost use Rattle.invariant_fix.specs.Steps.{Awaits, Knows, KnowsIterations, Stops, Follow, HasMeet, started, closing, closed, turning, branching, branched, orbiting, meeting, met};
 
 use crate::closing::closing_steps;
 use crate::errors::{in_task, number_of_place};
+use crate::iteration_tasks::iterations;
 use crate::orbits::orbit;
 use crate::setting::Setting;
-use crate::turn_tasks::turns;
 use crate::{AnalyseError, Analysis};
 use frac128::Frac;
 use ideal_ops::meet;
@@ -58,7 +58,7 @@ pub(crate) fn rounds(
     }
 }
 
-/// The basis of this round, from that of the round before: what is a member of that after any number of turns of each branch.
+/// The basis of this round, from that of the round before: what is a member of that after any number of iterations of each branch.
 fn next_basis(
     alloc: Global,
     setting: &Setting,
@@ -109,7 +109,7 @@ fn first_list(
     list_behind(alloc, setting, round, 0, basis, basis, meter)
 }
 
-/// The list so far behind the branch at this place: its meet with what is a member of the round's after each number of turns.
+/// The list so far behind the branch at this place: its meet with what is a member of the round's after each number of iterations.
 fn list_behind(
     alloc: Global,
     setting: &Setting,
@@ -138,7 +138,7 @@ fn list_behind(
     if setting.branches[place].form.since < 2 {
         return meet_orbit(alloc, setting, round, place, basis, so_far, meter);
     }
-    let turned = turns(alloc, setting, round, place, basis, so_far, meter)?;
+    let turned = iterations(alloc, setting, round, place, basis, so_far, meter)?;
     meet_orbit(alloc, setting, round, place, basis, &turned, meter)
 }
 
@@ -183,7 +183,7 @@ fn meet_with_orbit(
     requires fits { FitsSetting setting.now }
     requires place { place < length setting.now.branches.items }
     requires so_far { Knows setting.now meter.old so_far.now }
-    requires next { KnowsTurns setting.now most_turns meter.old next.now }
+    requires next { KnowsIterations setting.now most_iterations meter.old next.now }
     ensures limit { meter.new.limit ≡ meter.old.limit }
     ensures met { (gs : List (Terms Fraction))
         → Awaits setting.now meter.old

@@ -29,7 +29,7 @@ pub enum Event {
     Tail { element: u32, by: u32 },
 }
 
-/// A part of an analysis. Rounds, branches, elements and turns count from 1, but the first `Closed` tasks have round 0.
+/// A part of an analysis. Rounds, branches, elements and iterations count from 1, but the first `Closed` tasks have round 0.
 #[derive(Clone, Copy, Debug, PartialEq, Eq)]
 pub enum Task {
     Start,
@@ -41,17 +41,17 @@ pub enum Task {
     Round {
         round: u32,
     },
-    /// What is a member after so many turns of a branch.
-    Turn {
+    /// What is a member after so many iterations of a branch.
+    Iteration {
         round: u32,
         branch: u32,
-        turn: u32,
+        iteration: u32,
     },
     /// The intersection of the list so far with that.
-    TurnMeet {
+    IterationMeet {
         round: u32,
         branch: u32,
-        turn: u32,
+        iteration: u32,
     },
     Orbit {
         round: u32,
@@ -158,8 +158,8 @@ impl Task {
             Task::Start => false,
             Task::Closed { .. } => false,
             Task::Round { .. } => true,
-            Task::Turn { .. } => false,
-            Task::TurnMeet { .. } => false,
+            Task::Iteration { .. } => false,
+            Task::IterationMeet { .. } => false,
             Task::Orbit { .. } => false,
             Task::Meet { .. } => false,
             Task::Member => false,

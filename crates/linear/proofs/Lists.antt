@@ -262,22 +262,23 @@ module _ (row : List Frac) (all : List (Vec Frac Global)) (i : ℕ) (e rest : Ve
     factor_is : entry (fractions_of row) (lead (fractions_of e.items)) ≡ fraction_of factor
     factor_is = ap (entry (fractions_of row)) (sym l) ∙ entry_at row lead_is factor h f
 
-    pub turn_less : (more : List Frac) → fractions_of more ≡ less (fractions_of rest.items)
+    pub iteration_less : (more : List Frac) → fractions_of more ≡ less (fractions_of rest.items)
         (fraction_of factor) (fractions_of e.items) → Going (fractions_of row) (rows_of all)
         (rows_of (drop (i + 1) all)) (fractions_of more)
-    turn_less more q =
+    iteration_less more q =
         going_more (fractions_of row) (rows_of all) (rows_of (drop (i + 1) all))
         (fractions_of e.items) (fractions_of rest.items) width_is begun (fractions_of more)
         (q ∙ ap (λ c. less (fractions_of rest.items) c (fractions_of e.items)) (sym factor_is))
 
-    pub turn_same : fraction_of factor ≡ R.zero → Going (fractions_of row) (rows_of all)
+    pub iteration_same : fraction_of factor ≡ R.zero → Going (fractions_of row) (rows_of all)
         (rows_of (drop (i + 1) all)) (fractions_of rest.items)
-    turn_same z = going_same (fractions_of row) (rows_of all) (rows_of (drop (i + 1) all))
+    iteration_same z = going_same (fractions_of row) (rows_of all) (rows_of (drop (i + 1) all))
         (fractions_of e.items) (fractions_of rest.items) width_is begun (factor_is ∙ z)
 
-    pub turn_wide : IsPastLess (fractions_of rest.items) (fraction_of factor) (fractions_of e.items)
+    pub iteration_wide : IsPastLess (fractions_of rest.items) (fraction_of factor)
+        (fractions_of e.items)
         → IsPast (reduced_size (fractions_of row) (rows_of all) (row_size (fractions_of row)))
-    turn_wide h =
+    iteration_wide h =
         going_wide (fractions_of row) (rows_of all) (rows_of (drop (i + 1) all))
         (fractions_of e.items) (fractions_of rest.items) width_is begun
         (subst (λ c. IsPastLess (fractions_of rest.items) c (fractions_of e.items)) (sym factor_is)

@@ -8,7 +8,7 @@
 ghost use Rattle.std.specs.Prelude.{◌≡◌, ℕ, [], length, IfOk, OnOk, OnErr, IsErrOf, IsTrue, ◌↔◌};
 ghost use Rattle.vectors.specs.Adding.{IsPastTarget};
 ghost use Rattle.linear.specs.Rows.{fractions_of, rows_of};
-ghost use Rattle.linear.specs.View.{IsMore, IsNew, AreKernelOf};
+ghost use Rattle.linear.specs.View.{IsWithRow, IsIndependent, AreKernelOf};
 
 mod adding;
 mod kernel;
@@ -60,13 +60,13 @@ pub struct Rref {
 
 impl Model for Rref {
     ghost use Rattle.linear.specs.Rows.{rows_of};
-    ghost use Rattle.linear.specs.View.{Echelon, IsKept};
+    ghost use Rattle.linear.specs.View.{Echelon, IsReducedEchelon};
 
     ghost Value = { Echelon };
 
     ghost view = { λ r. record { width = r.width; rows = rows_of r.rows.items } };
 
-    ghost invariant = { λ r. IsKept r.width (rows_of r.rows.items) };
+    ghost invariant = { λ r. IsReducedEchelon r.width (rows_of r.rows.items) };
 }
 
 impl Rref {
@@ -86,9 +86,9 @@ impl Rref {
     pub fn add_row(&mut self, row: &Vec<Frac>) -> Result<bool, LinearError>
         requires { length row.now.items ≡ self.old.width }
         ensures width { self.new.width ≡ self.old.width }
-        ensures rows { OnOk result (IsMore self.old (fractions_of row.now.items) self.new) }
+        ensures rows { OnOk result (IsWithRow self.old (fractions_of row.now.items) self.new) }
         ensures new { IfOk result (λ new. IsTrue new
-            ↔ IsNew self.old (fractions_of row.now.items)) }
+            ↔ IsIndependent self.old (fractions_of row.now.items)) }
         ensures wide { (target : ℕ) → IsErrOf result (LinearError.Wide target)
             → IsPastTarget self.old.rows (fractions_of row.now.items) target }
         ensures kept { OnErr result (self.new ≡ self.old) }

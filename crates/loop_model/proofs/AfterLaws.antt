@@ -8,7 +8,7 @@ use Rattle.polynomials.specs.Terms.{constant, lists}
 use Rattle.loops.specs.Effect.{store, after_statement}
 use Rattle.loops.specs.WellFormed.{Uses, IsStatement}
 use Rattle.poly.specs.Seen.{terms_each, arity_of}
-use Rattle.poly.specs.Standing.{IsOver, AllStandFor}
+use Rattle.poly.specs.Standing.{IsInVariables, AllStandFor}
 use Rattle.poly.proofs.Standing.{stands_all_itself}
 use Rattle.loop_model.specs.FracPoly.{FracPoly}
 use Rattle.loop_model.specs.ExpressionView.{expr_of}
@@ -19,7 +19,7 @@ use Rattle.loop_model.specs.declared.statement.Statement.{Statement}
 use Rattle.loop_model.proofs.StoreLaws.{stands_store}
 use Rattle.loop_model.proofs.ValueLaws.{Valued}
 
-module _ (ps : List FracPoly) (over : All (IsOver (arity_of ps)) ps) where
+module _ (ps : List FracPoly) (over : All (IsInVariables (arity_of ps)) ps) where
   abbrev m : ℕ
   m = arity_of ps
 

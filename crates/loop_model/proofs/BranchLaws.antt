@@ -21,7 +21,7 @@ use Rattle.loops.proofs.Effects.{branch-push, length-branch}
 use Rattle.loops.proofs.Maps.{length-variables}
 use Rattle.polynomials.proofs.Same.{Same-refl}
 use Rattle.poly.specs.Seen.{terms_in, terms_each, arity_of}
-use Rattle.poly.specs.Standing.{IsOver, StandsFor, AllStandFor}
+use Rattle.poly.specs.Standing.{IsInVariables, StandsFor, AllStandFor}
 use Rattle.poly.proofs.Standing.{stands_over, stands_length, stands_push, first_arity}
 use Rattle.loop_model.specs.FracPoly.{FracPoly}
 use Rattle.loop_model.specs.ExpressionView.{expr_of}
@@ -104,8 +104,8 @@ module _ (m : ℕ) (first : List (Terms Fraction)) where
       first_arity m ps (stands_over m ps (reached cs) h.stands) (omega (arith, l, some))
 
   pub turned_over : 0 < length first → (cs : List Statement) (ps : List FracPoly) → Turned cs ps
-      → All (IsOver (arity_of ps)) ps
-  turned_over some cs ps h = subst (λ k. All (IsOver k) ps) (sym (turned_arity some cs ps h))
+      → All (IsInVariables (arity_of ps)) ps
+  turned_over some cs ps h = subst (λ k. All (IsInVariables k) ps) (sym (turned_arity some cs ps h))
       (stands_over m ps (reached cs) h.stands)
 
   -- the operations of two parts of a branch

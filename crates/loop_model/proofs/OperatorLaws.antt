@@ -30,7 +30,7 @@ use Rattle.polynomials.proofs.Canonical.{canonical, canonical_is, canonical_same
 use Rattle.polynomials.proofs.TotalDegree.{times_degree}
 use Rattle.polynomials.proofs.Weight.{weight-constant}
 use Rattle.poly.specs.Seen.{terms_in}
-use Rattle.poly.specs.Standing.{IsOver, StandsFor}
+use Rattle.poly.specs.Standing.{IsInVariables, StandsFor}
 use Rattle.ring_laws.specs.declared.ArithmeticError.{ArithmeticError}
 use Rattle.ring_laws.specs.declared.ArithmeticError.TheVariants as arithmetic_error
 use Rattle.poly.proofs.Kept.{polynomial_nil, polynomial_one}
@@ -174,7 +174,7 @@ opposite_does at p s h = tested_does p.arity (opposite_at at (terms_in p)) (λ h
     (λ e. absurd (let z : ⊥ = cc in z))
 
 module _ (at : ℕ) (p q : FracPoly) (r : Result FracPoly ArithmeticError)
-    (k : IsOver p.arity q) where
+    (k : IsInVariables p.arity q) where
   pub sum_does : IfOk r (λ s. StandsFor p.arity s (terms_in p ++ terms_in q))
       → (IsErrOf r arithmetic_error.Wide → IsPastSum fractions (terms_in p) (terms_in q))
       → Does p.arity (sum_at at (terms_in p) (terms_in q)) (answer_at at r)

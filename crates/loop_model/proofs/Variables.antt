@@ -9,7 +9,7 @@ use Rattle.algebra.specs.Fraction.{ℚ}
 use Rattle.polynomials.specs.Terms.{variables}
 use Rattle.loops.proofs.Maps.{length-variables}
 use Rattle.poly.specs.Seen.{arity_of}
-use Rattle.poly.specs.Standing.{IsOver, StandsFor, AllStandFor}
+use Rattle.poly.specs.Standing.{IsInVariables, StandsFor, AllStandFor}
 use Rattle.poly.proofs.Standing.{stands_over, stands_length, stands_push, first_arity}
 use Rattle.loop_model.specs.FracPoly.{FracPoly}
 
@@ -50,9 +50,9 @@ module _ (n m : ℕ) (count : n ≡ m) (ps : List FracPoly) (h : AllStandFor n p
   pub made_arity : arity_of ps ≡ m
   made_arity = go ps (stands_over m ps _ made_stand) made_length
     where
-      go : (qs : List FracPoly) → All (IsOver m) qs → length qs ≡ m → arity_of qs ≡ m
+      go : (qs : List FracPoly) → All (IsInVariables m) qs → length qs ≡ m → arity_of qs ≡ m
       go [] h e = e
       go (q ∷ qs) h e = first_arity m (q ∷ qs) h (omega arith)
 
-  pub made_over : All (IsOver (arity_of ps)) ps
-  made_over = subst (λ k. All (IsOver k) ps) (sym made_arity) (stands_over m ps _ made_stand)
+  pub made_over : All (IsInVariables (arity_of ps)) ps
+  made_over = subst (λ k. All (IsInVariables k) ps) (sym made_arity) (stands_over m ps _ made_stand)

@@ -6,7 +6,7 @@ ghost use Rattle.polynomials.specs.Terms.{constant, times};
 ghost use Rattle.frac128.specs.FracMeaning.{fraction_of};
 ghost use Rattle.loops.specs.WellFormed.{Uses};
 ghost use Rattle.poly.specs.Seen.{terms_in, terms_each, arity_of};
-ghost use Rattle.poly.specs.Standing.{IsOver};
+ghost use Rattle.poly.specs.Standing.{IsInVariables};
 ghost use Rattle.monos.specs.Variables.{most_variables};
 ghost use Rattle.loop_model.specs.ExpressionView.{expr_of};
 ghost use Rattle.loop_model.specs.Operations.{opposite_at, sum_at, difference_at, product_at, quotient_at, partial_powers, power_of, HasHighDegree};
@@ -34,7 +34,7 @@ pub fn expr_poly(
     expr: &Expr,
     state: &Vec<Poly<Frac, Grevlex>>,
 ) -> Result<Poly<Frac, Grevlex>, MapError>
-    requires state { All (IsOver (arity_of state.now.items)) state.now.items }
+    requires state { All (IsInVariables (arity_of state.now.items)) state.now.items }
     requires uses { Uses (λ i. i < length state.now.items) (expr_of expr.now) }
     ensures value { IfOk result (IsValueAt state.now.items (expr_of expr.now)) }
     ensures free { IfOk result (λ _. IsFreeAt state.now.items (expr_of expr.now)) }
@@ -100,7 +100,7 @@ fn variable(
     state: &Vec<Poly<Frac, Grevlex>>,
     index: usize,
 ) -> Result<Poly<Frac, Grevlex>, MapError>
-    requires state { All (IsOver (arity_of state.now.items)) state.now.items }
+    requires state { All (IsInVariables (arity_of state.now.items)) state.now.items }
     requires index { index < length state.now.items }
     ensures { Forms (arity_of state.now.items) [] (get_or (terms_each state.now.items) index [])
         result }
@@ -141,7 +141,7 @@ pub fn sum(
     left: &Poly<Frac, Grevlex>,
     right: &Poly<Frac, Grevlex>,
 ) -> Result<Poly<Frac, Grevlex>, MapError>
-    requires { IsOver left.now.arity right.now }
+    requires { IsInVariables left.now.arity right.now }
     ensures { Does left.now.arity (sum_at at (terms_in left.now) (terms_in right.now)) result }
 {
     answer_at(at, left.add(alloc, right))
@@ -153,7 +153,7 @@ fn difference(
     left: &Poly<Frac, Grevlex>,
     right: &Poly<Frac, Grevlex>,
 ) -> Result<Poly<Frac, Grevlex>, MapError>
-    requires { IsOver left.now.arity right.now }
+    requires { IsInVariables left.now.arity right.now }
     ensures { Does left.now.arity (difference_at at (terms_in left.now) (terms_in right.now))
         result }
 {
@@ -168,7 +168,7 @@ pub fn product(
     left: &Poly<Frac, Grevlex>,
     right: &Poly<Frac, Grevlex>,
 ) -> Result<Poly<Frac, Grevlex>, MapError>
-    requires { IsOver left.now.arity right.now }
+    requires { IsInVariables left.now.arity right.now }
     ensures { Does left.now.arity (product_at at (terms_in left.now) (terms_in right.now)) result }
 {
     if has_high_product(left, right) {
@@ -179,7 +179,7 @@ pub fn product(
 
 /// Whether the degree of the product is above the limit.
 fn has_high_product(left: &Poly<Frac, Grevlex>, right: &Poly<Frac, Grevlex>) -> bool
-    requires { IsOver left.now.arity right.now }
+    requires { IsInVariables left.now.arity right.now }
     ensures { IsTrue
         result ↔ HasHighDegree left.now.arity (times ℚ (terms_in left.now) (terms_in right.now)) }
 {

@@ -6,7 +6,7 @@ ghost use Rattle.loops.specs.Effect.{after_statement};
 ghost use Rattle.loops.specs.Map.{start_map, branch_map};
 ghost use Rattle.loops.specs.WellFormed.{Uses, IsStatement};
 ghost use Rattle.poly.specs.Seen.{terms_each, arity_of};
-ghost use Rattle.poly.specs.Standing.{IsOver, AllStandFor};
+ghost use Rattle.poly.specs.Standing.{IsInVariables, AllStandFor};
 ghost use Rattle.loop_model.specs.ExpressionView.{expr_of};
 ghost use Rattle.loop_model.specs.Operations.{IsFree, value, operations_all};
 ghost use Rattle.loop_model.specs.Stops.{Stops};
@@ -101,7 +101,7 @@ fn after(
     statement: &Statement,
     state: Vec<Poly<Frac, Grevlex>>,
 ) -> Result<Vec<Poly<Frac, Grevlex>>, MapError>
-    requires state { All (IsOver (arity_of state.items)) state.items }
+    requires state { All (IsInVariables (arity_of state.items)) state.items }
     requires statement { IsStatement (length state.items) (statement_of statement.now) }
     ensures { let m = arity_of state.items in let s = terms_each state.items in
         FormsAll m (operations_all m s (map expr_of statement.now.values.items))
@@ -121,7 +121,7 @@ fn values_at(
     exprs: &[Expr],
     state: &Vec<Poly<Frac, Grevlex>>,
 ) -> Result<Vec<Poly<Frac, Grevlex>>, MapError>
-    requires state { All (IsOver (arity_of state.now.items)) state.now.items }
+    requires state { All (IsInVariables (arity_of state.now.items)) state.now.items }
     requires uses { All (λ e. Uses (λ i. i < length state.now.items) (expr_of e)) exprs.now }
     ensures { let m = arity_of state.now.items in let s = terms_each state.now.items in
         let es = map expr_of exprs.now in

@@ -15,8 +15,8 @@ use Rattle.loops.proofs.Maps.{effect_keeps_state}
 use Rattle.loops.proofs.Runs.{run_keeps, states_of_run}
 use Rattle.loops.specs.Chain.{Stage, Chain, stages_of, loop_of, state_behind, chain_end, stage_states, further_states, chain_states, is_code}
 use Rattle.loops.proofs.ChainRuns.{same_end, behind_state}
-use Rattle.loop_runs.specs.Replay.{RunFault, count, start, no_branch, wide, and_then, start_fault, turn_end, states_from, replay_of}
-use Rattle.loop_runs.proofs.Turns.{replayed_on}
+use Rattle.loop_runs.specs.Replay.{RunFault, count, start, no_branch, wide, and_then, start_fault, iteration_end, states_from, replay_of}
+use Rattle.loop_runs.proofs.Iterations.{replayed_on}
 use Rattle.loop_runs.proofs.Runs.{replay_start, replay_ends, replay_states, count_refused, start_refused, branch_refused}
 use Rattle.loop_runs.specs.ChainReplay.{result_behind, last_of, with_code, with_word, with_words, chain_replay_of}
 
@@ -127,7 +127,7 @@ module _ {At : Type 0} (program : Program (Expr At)) where
       ≡ with_code program n k (a ∷ code) ss
   unfolding with_word with_code states_from branch_at
   code_word n k a code ss =
-      go (turn_end (length program.names) (length program.locals) 1 (a ∷ code) (last_of ss))
+      go (iteration_end (length program.names) (length program.locals) 1 (a ∷ code) (last_of ss))
     where
       go : (r : Result (List Fraction) RunFault)
           → and_then (λ ts. Ok (ss ++ drop 1 ts)) (result_behind n k

@@ -9,7 +9,7 @@ use Rattle.loops.specs.Program.{Expr, Program, Statement}
 use Rattle.loops.specs.Effect.{store}
 use Rattle.loops.specs.Run.{branch_at}
 use Rattle.loop_runs.specs.Checked.{checked_value}
-use Rattle.loop_runs.specs.Replay.{RunFault, count, start, no_branch, wide, and_then, values, statement_end, branch_end, turn_end, states_from}
+use Rattle.loop_runs.specs.Replay.{RunFault, count, start, no_branch, wide, and_then, values, statement_end, branch_end, iteration_end, states_from}
 
 abbrev pub IsAtMost : ℕ → RunFault → Type 0
 IsAtMost n (count given wanted) = ⊤
@@ -54,10 +54,10 @@ branch_placed i (c ∷ cs) s =
     placed_then i (branch_end i cs) (statement_end i c s) (statement_placed i c s)
     (λ t. branch_placed i cs t)
 
-turn_placed : {At : Type 0} (m k i : ℕ) (cs : List (Statement (Expr At))) (s : List Fraction)
-    → IsPlaced i (turn_end m k i cs s)
-unfolding turn_end
-turn_placed m k i cs s =
+iteration_placed : {At : Type 0} (m k i : ℕ) (cs : List (Statement (Expr At))) (s : List Fraction)
+    → IsPlaced i (iteration_end m k i cs s)
+unfolding iteration_end
+iteration_placed m k i cs s =
     placed_then i (λ t. Ok (take m t)) (branch_end i cs (s ++ replicate k ℚ.zero))
     (branch_placed i cs (s ++ replicate k ℚ.zero)) (λ t. tt)
 
@@ -78,11 +78,11 @@ states_placed program i [] s = tt
 states_placed {At} program i (b ∷ w) s =
     placed_then n
     (λ branch. and_then (λ t. and_then (λ ts. Ok (s ∷ ts)) (states_from program (suc i) w t))
-    (turn branch)) (ok_or (branch_at program b) (no_branch i)) (lettered (branch_at program b))
+    (iteration branch)) (ok_or (branch_at program b) (no_branch i)) (lettered (branch_at program b))
     (λ branch. placed_then n (λ t. and_then (λ ts. Ok (s ∷ ts)) (states_from program (suc i) w t))
-    (turn branch)
-    (placed_more (suc i) n (turn branch) (omega arith)
-    (turn_placed (length program.names) (length program.locals) (suc i) branch s))
+    (iteration branch)
+    (placed_more (suc i) n (iteration branch) (omega arith)
+    (iteration_placed (length program.names) (length program.locals) (suc i) branch s))
     (λ t. placed_then n (λ ts. Ok (s ∷ ts)) (states_from program (suc i) w t)
     (placed_more (suc i + length w) n (states_from program (suc i) w t) (omega arith)
     (states_placed program (suc i) w t)) (λ ts. tt)))
@@ -90,8 +90,8 @@ states_placed {At} program i (b ∷ w) s =
     n : ℕ
     n = i + suc (length w)
 
-    turn : List (Statement (Expr At)) → Result (List Fraction) RunFault
-    turn branch = turn_end (length program.names) (length program.locals) (suc i) branch s
+    iteration : List (Statement (Expr At)) → Result (List Fraction) RunFault
+    iteration branch = iteration_end (length program.names) (length program.locals) (suc i) branch s
 
     lettered : (o : Option (List (Statement (Expr At)))) → IsPlaced n (ok_or o (no_branch i))
     lettered None = omega arith

@@ -23,7 +23,7 @@ use Rattle.loop_runs.specs.Replay.{RunFault, no_branch, wide, and_then, start_fa
 use Rattle.loop_runs.specs.Seen.{numbers_of, fault_of}
 use Rattle.loop_runs.specs.declared.error.RunError.{RunError}
 use Rattle.loop_runs.specs.declared.error.RunError.TheVariants as run_error
-use Rattle.loop_runs.proofs.Turns.{replayed_on}
+use Rattle.loop_runs.proofs.Iterations.{replayed_on}
 use Rattle.loop_runs.proofs.Runs.{replay_ends, replay_states}
 use Rattle.loops.specs.Chain as spec
 use Rattle.loops.specs.Chain.{Chain, loop_of, is_code}
@@ -148,10 +148,12 @@ all_joined P ss [] rest found a b r f =
 all_joined P ss (x ∷ xs) rest found a b r f =
     subst (All P) (sym (f ∙ ap (λ ys. ss ++ ys) r)) (All-append P ss xs a (All-tail P x xs b))
 
-pub first_word : (words : List (Vec ℕ)) (w : Vec ℕ) → 0 < length words → w ≡ get_or words 0 w
+pub words_begin_with_the_first : (words : List (Vec ℕ)) (w : Vec ℕ) → 0 < length words
+    → w ≡ get_or words 0 w
     → words_of words ≡ w.items ∷ words_of (drop 1 words)
-first_word [] w some is = absurd (omega (arith, some))
-first_word (v ∷ words) w some is = ap (λ (x : Vec ℕ). x.items ∷ words_of words) (sym is)
+words_begin_with_the_first [] w some is = absurd (omega (arith, some))
+words_begin_with_the_first (v ∷ words) w some is = ap (λ (x : Vec ℕ). x.items ∷ words_of words)
+    (sym is)
 
 -- ---- code
 module _ (lp : Loop) (ss : List (List Fraction)) where
@@ -264,8 +266,7 @@ module _ {At : Type 0} (c : Chain (Expr At)) (s : List Fraction) (w : List ℕ)
   pub first_refused : (f : RunFault) → Err f ≡ replay_of c.first s w
       → Err f ≡ chain_replay_of c s (w ∷ words)
   unfolding chain_replay_of
-  first_refused f h =
-      ap (and_then (with_words c.first (length w) (length w) c.further words)) h
+  first_refused f h = ap (and_then (with_words c.first (length w) (length w) c.further words)) h
 
 -- the statements of the one branch
 pub code_length : (lp : Loop) (bs : List (Vec made.Statement)) (b : Vec made.Statement)

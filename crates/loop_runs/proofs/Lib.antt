@@ -1,6 +1,6 @@
 pub mod Operations
 pub mod CheckedValues
-pub mod Turns
+pub mod Iterations
 pub mod Fits
 pub mod Runs
 pub mod ChainParts

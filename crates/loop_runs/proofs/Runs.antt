@@ -20,8 +20,8 @@ use Rattle.loop_model.specs.declared.loop_.Loop.{Loop}
 use Rattle.loop_runs.specs.Seen.{numbers_of, states_or_fault}
 use Rattle.loop_runs.specs.declared.error.RunError.{RunError}
 use Rattle.loop_runs.specs.Checked.{all_fit, number_if, checked_value}
-use Rattle.loop_runs.specs.Replay.{RunFault, count, start, no_branch, wide, same_number, and_then, start_fault, values, statement_end, branch_end, turn_end, states_from, replay_of}
-use Rattle.loop_runs.proofs.Turns.{same_number_decides, start_wide, start_holds, start_fails, replayed_on, replayed_start, replayed_count}
+use Rattle.loop_runs.specs.Replay.{RunFault, count, start, no_branch, wide, same_number, and_then, start_fault, values, statement_end, branch_end, iteration_end, states_from, replay_of}
+use Rattle.loop_runs.proofs.Iterations.{same_number_decides, start_wide, start_holds, start_fails, replayed_on, replayed_start, replayed_count}
 
 -- ---- values
 -- what a checked value is: none, or the value
@@ -136,13 +136,15 @@ branch_cases i (c ∷ cs) s =
     (branch_cases i cs (after_branch ℚ (λ c. c) (c ∷ []) s)))
     (λ (v, k). inr (v, ap (and_then (branch_end i cs)) k)) (statement_cases i c s)
 
-turn_cases : {At : Type 0} (program : Program (Expr At)) (i : ℕ) (cs : List (Statement (Expr At)))
+iteration_cases : {At : Type 0} (program : Program (Expr At)) (i : ℕ)
+    (cs : List (Statement (Expr At)))
     (s : List Fraction)
-    → (turn_end (length program.names) (length program.locals) i cs s ≡ Ok (effect program cs s))
-    ⊎ ((v : ℕ) × (turn_end (length program.names) (length program.locals) i cs s
+    → (iteration_end (length program.names) (length program.locals) i cs s
+    ≡ Ok (effect program cs s))
+    ⊎ ((v : ℕ) × (iteration_end (length program.names) (length program.locals) i cs s
     ≡ Err (wide i v)))
-unfolding turn_end
-turn_cases program i cs s =
+unfolding iteration_end
+iteration_cases program i cs s =
     let cut : Result (List Fraction) RunFault → Result (List Fraction) RunFault =
     and_then (λ t. Ok (take (length program.names) t)) in
     ⊎_elim (λ k. inl (ap cut k)) (λ (v, k). inr (v, ap cut k))
@@ -167,7 +169,7 @@ module _ {At : Type 0} (program : Program (Expr At)) where
       from : Option (List (Statement (Expr At))) → Result (List (List Fraction)) RunFault
       from o = and_then (λ branch.
           and_then (λ t. and_then (λ ts. Ok (s ∷ ts)) (states_from program (suc i) word t))
-          (turn_end (length program.names) (length program.locals) (suc i) branch s))
+          (iteration_end (length program.names) (length program.locals) (suc i) branch s))
           (ok_or o (no_branch i))
 
       end_of : Option (List (Statement (Expr At))) → Option (List Fraction)
@@ -183,13 +185,13 @@ module _ {At : Type 0} (program : Program (Expr At)) where
           ⊎ ((j : ℕ) × (v : ℕ) × (from o ≡ Err (wide j v)))
       at None rest = inr (inl (refl, (i, refl)))
       at (Some branch) rest = ⊎_elim (λ k. on k (rest (effect program branch s))) (λ (v, k).
-          inr (inr (suc i, v, ap next k))) (turn_cases program (suc i) branch s)
+          inr (inr (suc i, v, ap next k))) (iteration_cases program (suc i) branch s)
         where
           next : Result (List Fraction) RunFault → Result (List (List Fraction)) RunFault
           next r = and_then (λ t. and_then (λ ts. Ok (s ∷ ts)) (states_from program (suc i) word t))
               r
 
-          on : turn_end (length program.names) (length program.locals) (suc i) branch s
+          on : iteration_end (length program.names) (length program.locals) (suc i) branch s
               ≡ Ok (effect program branch s) → Cases (suc i) word (effect program branch s)
               (states_from program (suc i) word (effect program branch s))
               → ((end : List Fraction) × (end_of (Some branch) ≡ Some end)

@@ -10,7 +10,7 @@ use Rattle.std.specs.Prelude.{ℕ, ◌+◌, ◌-◌, List, [], ◌∷◌, ◌++�
 use Rattle.algebra.specs.Fraction.{Fraction}
 use Rattle.loops.specs.Program.{Program, Statement, Expr}
 use Rattle.loops.specs.Chain.{Stage, Chain, loop_of, is_code}
-use Rattle.loop_runs.specs.Replay.{RunFault, count, start, no_branch, wide, and_then, turn_end, states_from, replay_of}
+use Rattle.loop_runs.specs.Replay.{RunFault, count, start, no_branch, wide, and_then, iteration_end, states_from, replay_of}
 
 abbrev pub fault_behind : ℕ → ℕ → RunFault → RunFault
 fault_behind n k (count values variables) = count values variables
@@ -30,7 +30,7 @@ unfoldable pub with_code : {At : Type 0} → Program (Expr At) → ℕ → ℕ �
 with_code program n k [] ss = Ok ss
 with_code program n k (a ∷ code) ss = and_then (λ t. Ok (ss ++ t ∷ []))
     (result_behind n k
-    (turn_end (length program.names) (length program.locals) 1 (a ∷ code) (last_of ss)))
+    (iteration_end (length program.names) (length program.locals) 1 (a ∷ code) (last_of ss)))
 
 unfoldable pub with_word : {At : Type 0} → Program (Expr At) → ℕ → ℕ → List ℕ
     → List (List Fraction) → Result (List (List Fraction)) RunFault

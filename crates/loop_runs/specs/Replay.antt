@@ -5,7 +5,7 @@
 --   start_fault es s            the first equation that is too wide at s, or doesn't hold
 --   values i is es s            the values of the right sides es at s, for the targets is, in step i
 --   statement_end, branch_end   the state after a statement, and after the statements of a branch, in step i
---   turn_end m k i cs s         the m variables after the branch cs, where k local names are 0 before it
+--   iteration_end m k i cs s         the m variables after the branch cs, where k local names are 0 before it
 --   states_from program i word s       the states from s on, where i letters came before
 --   replay_of program start word       the states from the start to the end of the word, or the first fault
 use Rattle.std.specs.Prelude.{ℕ, suc, Bool, ◌&&◌, ◌==◌, if◌then◌else◌, List, [], ◌∷◌, ◌++◌, get_or, take, replicate, length, Option, Some, None, ok_or, Result, Ok, Err}
@@ -54,16 +54,17 @@ unfoldable pub branch_end : {At : Type 0} → ℕ → List (Statement (Expr At))
 branch_end i [] s = Ok s
 branch_end i (c ∷ cs) s = and_then (branch_end i cs) (statement_end i c s)
 
-unfoldable pub turn_end : {At : Type 0} → ℕ → ℕ → ℕ → List (Statement (Expr At)) → List Fraction
+unfoldable pub iteration_end : {At : Type 0} → ℕ → ℕ → ℕ → List (Statement (Expr At))
+    → List Fraction
     → Result (List Fraction) RunFault
-turn_end m k i cs s = and_then (λ t. Ok (take m t)) (branch_end i cs (s ++ replicate k ℚ.zero))
+iteration_end m k i cs s = and_then (λ t. Ok (take m t)) (branch_end i cs (s ++ replicate k ℚ.zero))
 
 unfoldable pub states_from : {At : Type 0} → Program (Expr At) → ℕ → List ℕ → List Fraction
     → Result (List (List Fraction)) RunFault
 states_from program i [] s = Ok (s ∷ [])
 states_from program i (b ∷ word) s = and_then
     (λ branch. and_then (λ t. and_then (λ ts. Ok (s ∷ ts)) (states_from program (suc i) word t))
-    (turn_end (length program.names) (length program.locals) (suc i) branch s))
+    (iteration_end (length program.names) (length program.locals) (suc i) branch s))
     (ok_or (branch_at program b) (no_branch i))
 
 unfoldable pub replay_of : {At : Type 0} → Program (Expr At) → List Fraction → List ℕ

@@ -36,7 +36,7 @@ pub use parts::further_stages;
 pub use stage::{Stage, StageParts};
 use start::check_start;
 use std::alloc::Global;
-use steps::after_turn;
+use steps::after_iteration;
 pub use values::value_at;
 
 /// The branch with the number; branches count from 1.
@@ -75,7 +75,7 @@ fn follow(
             return Err(RunError::NoBranch { index });
         };
         states.push(state.clone()?)?;
-        state = after_turn(alloc, branch, state, lp.locals().len(), index + 1)?;
+        state = after_iteration(alloc, branch, state, lp.locals().len(), index + 1)?;
     }
     states.push(state)?;
     Ok(states)

@@ -1,4 +1,4 @@
-//! Steps of a run: statements, branches and turns.
+//! Steps of a run: statements, branches and iterations.
 
 ghost use Rattle.std.specs.Prelude.{◌≡◌, ◌<◌, ◌≤◌, ◌+◌, length, map, IfSome, IfOk, IfErr};
 ghost use Rattle.std.specs.List.{All};
@@ -6,7 +6,7 @@ ghost use Rattle.loops.specs.Effect.{store as stored};
 ghost use Rattle.loops.specs.WellFormed.{Uses, IsStatement};
 ghost use Rattle.loop_model.specs.ExpressionView.{expr_of as expression};
 ghost use Rattle.loop_model.specs.Parts.{statement_of};
-ghost use Rattle.loop_runs.specs.Replay.{values, statement_end, branch_end, turn_end};
+ghost use Rattle.loop_runs.specs.Replay.{values, statement_end, branch_end, iteration_end};
 ghost use Rattle.loop_runs.specs.Seen.{numbers_of, seen_state, IsWithin};
 ghost use Rattle.loop_model.specs.Limits.{all_names_limit};
 
@@ -92,7 +92,7 @@ fn after_branch(
 }
 
 /// The variables after the branch; before it so many local names are 0, and after it they are dropped.
-pub fn after_turn(
+pub fn after_iteration(
     alloc: Global,
     branch: &[Statement],
     mut state: Vec<Frac>,
@@ -103,7 +103,7 @@ pub fn after_turn(
     requires statements { All
         (λ s. IsStatement (length state.items + locals) (statement_of s)) branch.now }
     ensures end { IfSome (seen_state result)
-        (λ r. r ≡ turn_end (length state.items) locals step (map statement_of branch.now)
+        (λ r. r ≡ iteration_end (length state.items) locals step (map statement_of branch.now)
         (numbers_of state.items)) }
     ensures len { IfOk result (λ after. length after.items ≡ length state.items) }
     ensures within { IfErr result (λ e. IsWithin (length state.items + locals) e) }

@@ -38,7 +38,7 @@ fn power_of(base: &Frac, exponent: u32) -> Result<Frac, Wide>
         (power b exponent) }
 {
     let mut product = Frac::one();
-    for _turn in 0..exponent {
+    for _iteration in 0..exponent {
         product = product.mul(base)?;
     }
     Ok(product)

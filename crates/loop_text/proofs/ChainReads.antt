@@ -146,11 +146,11 @@ module _ (s : ChainState) (c : Cursor) where
       (rest c)
   one_more other = go (has same (a_name ∷ []) (kind_of (seen_lexeme c.token.lexeme))) refl
     where
-      in_turn : reading (sequence (some further) chain_end) s (rest c)
+      in_iteration : reading (sequence (some further) chain_end) s (rest c)
           ≡ reading
           (sequence then_token (sequence stage (sequence (many further) chain_end))) s
           (rest c)
-      in_turn = in_parts chain_language further (many further) s (rest c) chain_end
+      in_iteration = in_parts chain_language further (many further) s (rest c) chain_end
           ∙ in_parts chain_language then_token stage s (rest c)
           (sequence (many further) chain_end)
 
@@ -159,7 +159,7 @@ module _ (s : ChainState) (c : Cursor) where
           ≡ reading
           (sequence then_token (sequence stage (sequence (many further) chain_end))) s
           (rest c)
-      go true e = more_due s (here c) (behind c) e ∙ in_turn
+      go true e = more_due s (here c) (behind c) e ∙ in_iteration
       go false e =
           none_due s (here c) (behind c) e ∙ sym (not_ended other)
           ∙ no_first chain_language then_token

@@ -34,7 +34,7 @@ pub mod FirstReads
 pub mod Standing
 pub mod SequenceSumReads
 pub mod SequenceValueReads
-pub mod TurnReads
+pub mod IterationReads
 pub mod SequenceWholeReads
 pub mod Degrees
 pub mod OtherKinds

@@ -1,6 +1,6 @@
 -- The loop of sequences that are laid out: its parts by the lists that were read.
---   total_more, starts_more, turns_more     one sequence more
---   names_laid, sequence_names_laid, given_laid, size_laid, turn_laid, shown_laid, count_laid     the parts
+--   total_more, starts_more, iterations_more     one sequence more
+--   names_laid, sequence_names_laid, given_laid, size_laid, iteration_laid, shown_laid, count_laid     the parts
 --   formed_laid, limits_laid     the sequences are well formed, and their loop is within the limits
 use Rattle.std.proofs.Common.{◌≡◌, ℕ, zero, suc, pred, ◌+◌, ◌<◌, ◌≤◌, List, [], ◌∷◌, ◌++◌, length, take, drop, arith, refl, sym, ap, ap₂, subst, ◌∙◌, All}
 use Rattle.std.proofs.lemmas.List.{append_assoc, length-take-le, length-drop, take-append-drop}
@@ -11,9 +11,9 @@ use Rattle.loops.specs.Limits.{most_names, most_bytes, most_branches, most_state
 use Rattle.loops.specs.Program.{Expr, variable, Equation, Statement}
 use Rattle.loops.specs.WellFormed.{Uses}
 use Rattle.loops.specs.Sequences.{Sequence, order, given_values, size, sequence_names, AreFormed}
-use Rattle.loops.specs.Turning.{names, names_of, all_given, equations, first_places, variables_from, turn, step, program_of}
+use Rattle.loops.specs.Turning.{names, names_of, all_given, equations, first_places, variables_from, iteration, step, program_of}
 use Rattle.loops.proofs.RecurrenceStarts.{length-names}
-use Rattle.loop_text.specs.LoopLayout.{total, starts, turns, IsGiven, IsOver, AreLaid}
+use Rattle.loop_text.specs.LoopLayout.{total, starts, iterations, IsGiven, UsesBelow, AreLaid}
 use Rattle.loop_text.specs.Names.{sequence_variables, all_variables}
 use Rattle.loop_text.specs.SeqReader.{sequence_of, sequences_from}
 
@@ -30,19 +30,20 @@ starts_more i [] r = ap (λ k. k ∷ []) (omega arith)
 starts_more i (q ∷ rs) r = ap (λ l. i ∷ l)
     (starts_more (i + q) rs r ∙ ap (λ k. starts (i + q) rs ++ k ∷ []) (omega arith))
 
-pub turns_more : (i : ℕ) (rs : List ℕ) (es : List (Expr ℕ)) (r : ℕ) (e : Expr ℕ)
-    → length rs ≡ length es → turns i (rs ++ r ∷ []) (es ++ e ∷ [])
-    ≡ turns i rs es ++ (variables_from (suc (i + total rs)) (pred r) ++ e ∷ [])
-unfolding turns total
-turns_more i [] [] r e l = ap (λ k. variables_from (suc k) (pred r) ++ e ∷ []) (omega arith)
-turns_more i [] (d ∷ es) r e l = absurd (omega (arith, l))
-turns_more i (q ∷ rs) [] r e l = absurd (omega (arith, l))
-turns_more i (q ∷ rs) (d ∷ es) r e l =
+pub iterations_more : (i : ℕ) (rs : List ℕ) (es : List (Expr ℕ)) (r : ℕ) (e : Expr ℕ)
+    → length rs ≡ length es → iterations i (rs ++ r ∷ []) (es ++ e ∷ [])
+    ≡ iterations i rs es ++ (variables_from (suc (i + total rs)) (pred r) ++ e ∷ [])
+unfolding iterations total
+iterations_more i [] [] r e l = ap (λ k. variables_from (suc k) (pred r) ++ e ∷ []) (omega arith)
+iterations_more i [] (d ∷ es) r e l = absurd (omega (arith, l))
+iterations_more i (q ∷ rs) [] r e l = absurd (omega (arith, l))
+iterations_more i (q ∷ rs) (d ∷ es) r e l =
     let more = variables_from (suc (i + (q + total rs))) (pred r) ++ e ∷ [] in
     ap (λ l. variables_from (suc i) (pred q) ++ d ∷ l)
-    (turns_more (i + q) rs es r e (omega (arith, l))
-    ∙ ap (λ k. turns (i + q) rs es ++ (variables_from (suc k) (pred r) ++ e ∷ [])) (omega arith))
-    ∙ sym (append_assoc (variables_from (suc i) (pred q)) (d ∷ turns (i + q) rs es) more)
+    (iterations_more (i + q) rs es r e (omega (arith, l))
+    ∙ ap (λ k. iterations (i + q) rs es ++ (variables_from (suc k) (pred r) ++ e ∷ []))
+    (omega arith))
+    ∙ sym (append_assoc (variables_from (suc i) (pred q)) (d ∷ iterations (i + q) rs es) more)
 
 -- ---- one sequence
 module _ (w : List ℕ) (e : Expr ℕ) where
@@ -130,27 +131,27 @@ size_laid (w ∷ ws) (r ∷ rs) vs (e ∷ es) a b c t =
     let l = length-drop r vs in
     omega (arith, h, k, l, t)
 
-turn_laid : (i : ℕ) (ws : List (List ℕ)) (rs : List ℕ) (vs es : List (Expr ℕ))
+iteration_laid : (i : ℕ) (ws : List (List ℕ)) (rs : List ℕ) (vs es : List (Expr ℕ))
     → length rs ≡ length ws → length es ≡ length ws → Each (λ r. 0 < r) rs
-    → total rs ≡ length vs → turn i (sequences_from ws rs vs es) ≡ turns i rs es
-unfolding sequences_from turn turns total Each
-turn_laid i [] [] vs es a b c t = refl
-turn_laid i [] (r ∷ rs) vs es a b c t = absurd (omega (arith, a))
-turn_laid i (w ∷ ws) [] vs es a b c t = absurd (omega (arith, a))
-turn_laid i (w ∷ ws) (r ∷ rs) vs [] a b c t = absurd (omega (arith, b))
-turn_laid i (w ∷ ws) (r ∷ rs) vs (e ∷ es) a b c t =
+    → total rs ≡ length vs → iteration i (sequences_from ws rs vs es) ≡ iterations i rs es
+unfolding sequences_from iteration iterations total Each
+iteration_laid i [] [] vs es a b c t = refl
+iteration_laid i [] (r ∷ rs) vs es a b c t = absurd (omega (arith, a))
+iteration_laid i (w ∷ ws) [] vs es a b c t = absurd (omega (arith, a))
+iteration_laid i (w ∷ ws) (r ∷ rs) vs [] a b c t = absurd (omega (arith, b))
+iteration_laid i (w ∷ ws) (r ∷ rs) vs (e ∷ es) a b c t =
     let some = some_taken w e r rs vs t c.0 in
     let long = taken w e r rs vs t in
     let q = sequence_of w (take r vs) e in
     let rest = sequences_from ws rs (drop r vs) es in
-    ap (λ k. variables_from (suc i) k ++ q.next ∷ turn (i + order q) rest)
+    ap (λ k. variables_from (suc i) k ++ q.next ∷ iteration (i + order q) rest)
     (later_one w e (take r vs) some ∙ ap pred long)
-    ∙ ap (λ d. variables_from (suc i) (pred r) ++ d ∷ turn (i + order q) rest)
+    ∙ ap (λ d. variables_from (suc i) (pred r) ++ d ∷ iteration (i + order q) rest)
     (next_one w e (take r vs))
-    ∙ ap (λ k. variables_from (suc i) (pred r) ++ e ∷ turn (i + k) rest)
+    ∙ ap (λ k. variables_from (suc i) (pred r) ++ e ∷ iteration (i + k) rest)
     (order_one w e (take r vs) some ∙ long)
     ∙ ap (λ l. variables_from (suc i) (pred r) ++ e ∷ l)
-    (turn_laid (i + r) ws rs (drop r vs) es (omega (arith, a)) (omega (arith, b)) c.1
+    (iteration_laid (i + r) ws rs (drop r vs) es (omega (arith, a)) (omega (arith, b)) c.1
     (behind w e r rs vs t))
 
 shown_laid : (i : ℕ) (ws : List (List ℕ)) (rs : List ℕ) (vs es : List (Expr ℕ))
@@ -201,7 +202,7 @@ closed_each (q ∷ qs) h = (
 )
 
 nexts_laid : (m : ℕ) (ws : List (List ℕ)) (rs : List ℕ) (vs es : List (Expr ℕ))
-    → Each (IsOver m) es
+    → Each (UsesBelow m) es
     → Each (λ (q : Sequence (Expr ℕ)). Uses (λ i. i < m) q.next) (sequences_from ws rs vs es)
 unfolding sequences_from Each
 nexts_laid m [] rs vs es h = tt
@@ -229,8 +230,9 @@ module _ (ws : List (List ℕ)) (rs : List ℕ) (vs es : List (Expr ℕ))
   pub size_is : size (sequences_from ws rs vs es) ≡ length vs
   size_is = size_laid ws rs vs es laid.orders laid.nexts laid.values.some laid.values.count
 
-  pub turn_is : turn 0 (sequences_from ws rs vs es) ≡ turns 0 rs es
-  turn_is = turn_laid 0 ws rs vs es laid.orders laid.nexts laid.values.some laid.values.count
+  pub iteration_is : iteration 0 (sequences_from ws rs vs es) ≡ iterations 0 rs es
+  iteration_is = iteration_laid 0 ws rs vs es laid.orders laid.nexts laid.values.some
+      laid.values.count
 
   pub shown_are : first_places 0 (sequences_from ws rs vs es) ≡ starts 0 rs
   shown_are = shown_laid 0 ws rs vs es laid.orders laid.nexts laid.values.some laid.values.count
@@ -241,7 +243,7 @@ module _ (ws : List (List ℕ)) (rs : List ℕ) (vs es : List (Expr ℕ))
     values = closed_each qs (subst (Each Closed) (sym given_are)
         (each_weaker IsGiven Closed (λ e h. h.uses) vs laid.values.given));
     nexts = nexts_laid (size qs) ws rs vs es
-        (subst (λ m. Each (IsOver m) es) (sym size_is) laid.over);
+        (subst (λ m. Each (UsesBelow m) es) (sym size_is) laid.over);
   }
 
 -- ---- within the limits
@@ -261,15 +263,15 @@ small_variables i (suc r) =
     (record { few_operators = omega arith; low_exponents = omega arith })
     (small_variables (suc i) r)
 
-small_turns : (m i : ℕ) (rs : List ℕ) (es : List (Expr ℕ)) → Each (IsOver m) es
-    → All IsSmall (turns i rs es)
-unfolding turns Each
-small_turns m i [] es h = All-nil _
-small_turns m i (r ∷ rs) [] h = All-nil _
-small_turns m i (r ∷ rs) (e ∷ es) h =
-    All-append IsSmall (variables_from (suc i) (pred r)) (e ∷ turns (i + r) rs es)
+small_iterations : (m i : ℕ) (rs : List ℕ) (es : List (Expr ℕ)) → Each (UsesBelow m) es
+    → All IsSmall (iterations i rs es)
+unfolding iterations Each
+small_iterations m i [] es h = All-nil _
+small_iterations m i (r ∷ rs) [] h = All-nil _
+small_iterations m i (r ∷ rs) (e ∷ es) h =
+    All-append IsSmall (variables_from (suc i) (pred r)) (e ∷ iterations (i + r) rs es)
     (small_variables (suc i) (pred r))
-    (All-cons IsSmall e (turns (i + r) rs es) h.0.small (small_turns m (i + r) rs es h.1))
+    (All-cons IsSmall e (iterations (i + r) rs es) h.0.small (small_iterations m (i + r) rs es h.1))
 
 module _ (ws : List (List ℕ)) (rs : List ℕ) (vs es : List (Expr ℕ))
     (laid : AreLaid ws rs vs es) where
@@ -278,9 +280,9 @@ module _ (ws : List (List ℕ)) (rs : List ℕ) (vs es : List (Expr ℕ))
   unfolding most_branches most_statements
   limits_laid short =
       let qs = sequences_from ws rs vs es in
-      let small : All IsSmall (turn 0 qs) =
-      subst (All IsSmall) (sym (turn_is ws rs vs es laid))
-      (small_turns (length vs) 0 rs es laid.over) in
+      let small : All IsSmall (iteration 0 qs) =
+      subst (All IsSmall) (sym (iteration_is ws rs vs es laid))
+      (small_iterations (length vs) 0 rs es laid.over) in
       record {
         few_names = subst (λ n. n ≤ most_names)
             (sym (length-names qs ∙ size_is ws rs vs es laid)) laid.values.few;

@@ -1,7 +1,7 @@
 -- Recurrences, one by one.
 --   fillers n, length-fillers     a list of this length
 --   next_sum                      a right side that was read
---   begins_turn, more_turn, ends_turn     what the variables of one sequence become
+--   begins_iteration, more_iteration, ends_iteration     what the variables of one sequence become
 --   IsGoing f c i ts k     the first i recurrences were read, from the cursor c on up to k, and the variables of these sequences become ts
 --   begins_going, at_next, at_last, more_going, ends_going     none yet; one is next, or none; one more; all
 use Rattle.std.proofs.Common.{◌≡◌, ◌<◌, ◌≤◌, ◌+◌, ◌-◌, ℕ, zero, suc, pred, List, [], ◌∷◌, ◌++◌, length, take, map, get_or, nat_lt, true, false, arith, refl, sym, ap, ap₂, subst, ◌∙◌, Ok, Err, Result, Vec, Global}
@@ -25,12 +25,12 @@ use Rattle.poly_text.proofs.CursorReads.{here}
 use Rattle.poly_text.proofs.Paths.{GivesError, reading_rule, reading_change, stopped, then_on}
 use Rattle.loops.specs.Turning.{variables_from}
 use Rattle.loop_text.specs.Seqs.{SeqState, more_nexts, next, next_if, of_nexts, in_nexts, sums_in_nexts, keep, seq_language}
-use Rattle.loop_text.specs.LoopLayout.{total, turns, IsOver}
-use Rattle.loop_text.proofs.LoopLayout.{turns_more, total_more}
+use Rattle.loop_text.specs.LoopLayout.{total, iterations, UsesBelow}
+use Rattle.loop_text.proofs.LoopLayout.{iterations_more, total_more}
 use Rattle.loop_text.proofs.SeqChecked.{seqs_checked, nexts_embedded}
 use Rattle.loop_text.specs.declared.sequence_firsts.Firsts.{Firsts}
 use Rattle.loop_text.specs.Firsts.{values_in, behind_all, AreMade}
-use Rattle.loop_text.specs.SequenceSeen.{ReadsTurn, HasReadTurn}
+use Rattle.loop_text.specs.SequenceSeen.{ReadsIteration, HasReadIteration}
 use Rattle.loop_text.specs.SequenceStates.{reading, IsFault}
 use Rattle.loop_text.proofs.SequenceSumReads.{sum_read}
 use Rattle.loop_text.proofs.SequenceValueReads.{in_sum, ReadsSum}
@@ -56,9 +56,9 @@ module _ (f : Firsts) (ns : List (Expr ℕ)) (e : Expr ℕ) (count : ℕ) (c d :
 
 -- ---- what the variables of one sequence become
 module _ (first : ℕ) (ts : List (Expr ℕ)) where
-  pub begins_turn : ts ≡ ts ++ variables_from (suc first) (first + 1 - suc first)
+  pub begins_iteration : ts ≡ ts ++ variables_from (suc first) (first + 1 - suc first)
   unfolding variables_from
-  begins_turn =
+  begins_iteration =
       let none : 0 ≡ first + 1 - suc first = omega arith in
       sym (append-nil ts) ∙ ap (λ k. ts ++ variables_from (suc first) k) none
 
@@ -70,10 +70,10 @@ module _ (first : ℕ) (ts : List (Expr ℕ)) where
       (variables_suc (suc i) k
       ∙ ap (λ n. variables_from (suc i) k ++ variable n ∷ []) (omega arith))
 
-  pub more_turn : (var : ℕ) → suc first ≤ var
+  pub more_iteration : (var : ℕ) → suc first ≤ var
       → (ts ++ variables_from (suc first) (var - suc first)) ++ variable var ∷ []
       ≡ ts ++ variables_from (suc first) (var + 1 - suc first)
-  more_turn var low =
+  more_iteration var low =
       let k : suc (var - suc first) ≡ var + 1 - suc first = omega (arith, low) in
       let v : suc first + (var - suc first) ≡ var = omega (arith, low) in
       append_assoc ts (variables_from (suc first) (var - suc first)) (variable var ∷ [])
@@ -81,11 +81,11 @@ module _ (first : ℕ) (ts : List (Expr ℕ)) where
       (ap (λ n. variables_from (suc first) (var - suc first) ++ variable n ∷ []) (sym v)
       ∙ sym (variables_suc (suc first) (var - suc first)) ∙ ap (variables_from (suc first)) k)
 
-  pub ends_turn : (var order : ℕ) → 0 < order → suc first ≤ var → var ≤ first + order
+  pub ends_iteration : (var order : ℕ) → 0 < order → suc first ≤ var → var ≤ first + order
       → first + order ≤ var
       → ts ++ variables_from (suc first) (var - suc first)
       ≡ ts ++ variables_from (suc first) (pred order)
-  ends_turn var order some low high end =
+  ends_iteration var order some low high end =
       let k : var - suc first ≡ pred order = omega (arith, some, low, high, end) in
       ap (λ n. ts ++ variables_from (suc first) n) k
 
@@ -97,8 +97,8 @@ pub record IsGoing (f : Firsts) (c : Cursor) (i : ℕ) (ts : List code.Expr)
     (k : Cursor) : Type 0 where
   pub nexts : List (Expr ℕ)
   pub count : length nexts ≡ i
-  pub over : Each (IsOver (length (values_in f))) nexts
-  pub turn : map expr_of ts ≡ turns 0 (take i f.orders.items) nexts
+  pub over : Each (UsesBelow (length (values_in f))) nexts
+  pub iteration : map expr_of ts ≡ iterations 0 (take i f.orders.items) nexts
   pub same : reading (rule more_nexts) (behind_all f []) (rest c)
       ≡ reading (rule more_nexts) (behind_all f nexts) (rest k)
 
@@ -107,12 +107,12 @@ none_before n = omega arith
 
 module _ (f : Firsts) (c : Cursor) where
   pub begins_going : (ts : List code.Expr) → ts ≡ [] → IsGoing f c 0 ts c
-  unfolding Each turns
+  unfolding Each iterations
   begins_going ts none = record {
     nexts = [];
     count = refl;
     over = tt;
-    turn = ap (map expr_of) none;
+    iteration = ap (map expr_of) none;
     same = refl;
   }
 
@@ -133,53 +133,54 @@ module _ (f : Firsts) (c : Cursor) where
     pub next_stops : i < length f.orders.items → (e : TextError)
         (result : Result (Vec code.Expr Global × Cursor) TextError)
         → GivesError result e → IsFault e (reading next (behind_all f g.nexts) (rest k))
-        → ReadsTurn f c result
+        → ReadsIteration f c result
     next_stops l e result gives h =
-        subst (ReadsTurn f c) (sym (gives.1 ∙ ap Err gives.2))
+        subst (ReadsIteration f c) (sym (gives.1 ∙ ap Err gives.2))
         (subst (IsFault e) (sym (at_next l))
         (stopped seq_language next (rule more_nexts) (behind_all f g.nexts) (rest k) e h))
 
     pub more_going : i < length f.orders.items → (e : code.Expr) (us : List code.Expr) (d : Cursor)
         → Ok (behind_all f (g.nexts ++ expr_of e ∷ []), rest d)
         ≡ reading next (behind_all f g.nexts) (rest k)
-        → IsOver (length f.variables) (expr_of e)
+        → UsesBelow (length f.variables) (expr_of e)
         → map expr_of us ≡ map expr_of ts ++ (variables_from (suc (total (take i f.orders.items)))
         (pred (get_or f.orders.items i 0)) ++ expr_of e ∷ [])
         → IsGoing f c (i + 1) us d
     unfolding Each
-    more_going l e us d read over turn = record {
+    more_going l e us d read over iteration = record {
       nexts = g.nexts ++ expr_of e ∷ [];
       count = length_push g.nexts (expr_of e) ∙ ap (λ n. n + 1) g.count;
-      over = each-append (IsOver (length (values_in f))) g.nexts (expr_of e ∷ []) g.over
-          (subst (λ n. IsOver n (expr_of e)) m.long over, tt);
-      turn = turn
+      over = each-append (UsesBelow (length (values_in f))) g.nexts (expr_of e ∷ []) g.over
+          (subst (λ n. UsesBelow n (expr_of e)) m.long over, tt);
+      iteration = iteration
           ∙ ap (λ l. l ++ (variables_from (suc (total (take i f.orders.items)))
-          (pred (get_or f.orders.items i 0)) ++ expr_of e ∷ [])) g.turn
-          ∙ ap (λ k. turns 0 (take i f.orders.items) g.nexts ++ (variables_from (suc k)
+          (pred (get_or f.orders.items i 0)) ++ expr_of e ∷ [])) g.iteration
+          ∙ ap (λ k. iterations 0 (take i f.orders.items) g.nexts ++ (variables_from (suc k)
           (pred (get_or f.orders.items i 0)) ++ expr_of e ∷ []))
           (none_before (total (take i f.orders.items)))
-          ∙ sym (turns_more 0 (take i f.orders.items) g.nexts (get_or f.orders.items i 0)
+          ∙ sym (iterations_more 0 (take i f.orders.items) g.nexts (get_or f.orders.items i 0)
           (expr_of e)
           (length-take-le i f.orders.items (let x = l in omega (arith, x)) ∙ sym g.count))
-          ∙ ap (λ l. turns 0 l (g.nexts ++ expr_of e ∷ [])) (sym (take_more f.orders.items i 0 l));
+          ∙ ap (λ l. iterations 0 l (g.nexts ++ expr_of e ∷ []))
+          (sym (take_more f.orders.items i 0 l));
       same = at_next l
           ∙ then_on seq_language next (rule more_nexts) (behind_all f g.nexts) (rest k)
           (behind_all f (g.nexts ++ expr_of e ∷ [])) (rest d) read;
     }
 
     pub ends_going : length f.orders.items ≤ i → i ≤ length f.orders.items
-        → (r : Vec code.Expr Global) → r.items ≡ ts → HasReadTurn f c (r, k)
+        → (r : Vec code.Expr Global) → r.items ≡ ts → HasReadIteration f c (r, k)
     ends_going l h r is =
         let a = g.count in let b = m.count in
         let test : nat_lt (length g.nexts) (length f.sequences) ≡ false
         = grind (arith, nat_tests) in
         record {
           nexts = g.nexts;
-          turn = record {
+          iteration = record {
             count = omega (arith, a, b, l, h);
             over = g.over;
-            is = ap (map expr_of) is ∙ g.turn
-                ∙ ap (λ l. turns 0 l g.nexts) (take_all i f.orders.items l);
+            is = ap (map expr_of) is ∙ g.iteration
+                ∙ ap (λ l. iterations 0 l g.nexts) (take_all i f.orders.items l);
           };
           goes = sym (g.same ∙ at_rule
               ∙ ap (λ b. reading (next_if b) (behind_all f g.nexts) (rest k)) test
@@ -222,12 +223,12 @@ order_fits n h = omega (arith, h)
 
 module _ (f : Firsts) (i first order : ℕ) (first_is : first ≡ total (take i f.orders.items))
     (order_is : order ≡ get_or f.orders.items i 0) where
-  pub turn_of : (ts later us : List code.Expr) (e : code.Expr)
+  pub iteration_of : (ts later us : List code.Expr) (e : code.Expr)
       → map expr_of later ≡ map expr_of ts ++ variables_from (suc first) (pred order)
       → us ≡ later ++ e ∷ []
       → map expr_of us ≡ map expr_of ts ++ (variables_from (suc (total (take i f.orders.items)))
       (pred (get_or f.orders.items i 0)) ++ expr_of e ∷ [])
-  turn_of ts later us e a b =
+  iteration_of ts later us e a b =
       ap (map expr_of) b ∙ map_push expr_of later e ∙ ap (λ l. l ++ expr_of e ∷ []) a
       ∙ append_assoc (map expr_of ts) (variables_from (suc first) (pred order)) (expr_of e ∷ [])
       ∙ ap₂ (λ n r. map expr_of ts ++ (variables_from (suc n) (pred r) ++ expr_of e ∷ []))

@@ -26,10 +26,11 @@ module _ (n : ℕ) (before : Earlier) (ks : List loops.Rule)
     (hs : List Rule) (t : LoopState) (w : ChainState) (ns : Marks)
     (go_on : (s : LoopState) (ms : Marks) → Derives loop_language ks s ms t
     → Derives chain_language hs (at n before s) (ms ++ ns) w) where
-  turn : (a g : loops.Rule) (gs : List loops.Rule) {s : ChainState} {ms : Marks} → a ≡ g
+  iteration : (a g : loops.Rule) (gs : List loops.Rule) {s : ChainState} {ms : Marks} → a ≡ g
       → Derives chain_language (up a ∷ map up gs ++ hs) s ms w
       → Derives chain_language (up g ∷ map up gs ++ hs) s ms w
-  turn a g gs {s} {ms} e d = subst (λ g. Derives chain_language (up g ∷ map up gs ++ hs) s ms w) e d
+  iteration a g gs {s} {ms} e d = subst (λ g. Derives chain_language (up g ∷ map up gs ++ hs) s ms
+      w) e d
 
   raise : {xs : List loops.Rule} {s u : LoopState} {ms : Marks} → Derives loop_language xs s ms u
       → u ≡ t → (gs : List loops.Rule) → xs ≡ gs ++ ks
@@ -39,20 +40,21 @@ module _ (n : ℕ) (before : Earlier) (ks : List loops.Rule)
       (subst (λ l. Derives loop_language l s ms u) is d))
   raise derives_nothing e (g ∷ gs) is = absurd (cc)
   raise (derives_token h d) e (g ∷ gs) is =
-      turn _ g gs (same_head is) (derives_token h (raise d e gs (same_tail is)))
+      iteration _ g gs (same_head is) (derives_token h (raise d e gs (same_tail is)))
   raise (derives_change d) e (g ∷ gs) is =
-      turn _ g gs (same_head is) (derives_change (raise d e gs (same_tail is)))
-  raise (derives_sequence {g = a} {h = b} d) e (g ∷ gs) is = turn (sequence a b) g gs (same_head is)
+      iteration _ g gs (same_head is) (derives_change (raise d e gs (same_tail is)))
+  raise (derives_sequence {g = a} {h = b} d) e (g ∷ gs) is = iteration (sequence a b) g gs
+      (same_head is)
       (derives_sequence (raise d e (a ∷ b ∷ gs) (ap (λ l. a ∷ b ∷ l) (same_tail is))))
-  raise (derives_left {g = a} {h = b} d) e (g ∷ gs) is = turn (either a b) g gs (same_head is)
+  raise (derives_left {g = a} {h = b} d) e (g ∷ gs) is = iteration (either a b) g gs (same_head is)
       (derives_left (raise d e (a ∷ gs) (ap (λ l. a ∷ l) (same_tail is))))
-  raise (derives_right {g = a} {h = b} d) e (g ∷ gs) is = turn (either a b) g gs (same_head is)
+  raise (derives_right {g = a} {h = b} d) e (g ∷ gs) is = iteration (either a b) g gs (same_head is)
       (derives_right (raise d e (b ∷ gs) (ap (λ l. b ∷ l) (same_tail is))))
-  raise (derives_none {g = a} d) e (g ∷ gs) is = turn (many a) g gs (same_head is)
+  raise (derives_none {g = a} d) e (g ∷ gs) is = iteration (many a) g gs (same_head is)
       (derives_none (raise d e gs (same_tail is)))
-  raise (derives_more {g = a} d) e (g ∷ gs) is = turn (many a) g gs (same_head is)
+  raise (derives_more {g = a} d) e (g ∷ gs) is = iteration (many a) g gs (same_head is)
       (derives_more (raise d e (a ∷ many a ∷ gs) (ap (λ l. a ∷ many a ∷ l) (same_tail is))))
-  raise (derives_rule {n = m} {s = s} d) e (g ∷ gs) is = turn (rule m) g gs (same_head is)
+  raise (derives_rule {n = m} {s = s} d) e (g ∷ gs) is = iteration (rule m) g gs (same_head is)
       (derives_rule (raise d e (loop_language.says m s.context ∷ gs)
       (ap (λ l. loop_language.says m s.context ∷ l) (same_tail is))))
 

@@ -35,7 +35,7 @@ use Rattle.poly_text.proofs.Paths.{reading_rule, reading_change, then_on, stoppe
 use Rattle.poly_text.proofs.SumKept.{Fits, Safe, none_safe, reading_safe}
 use Rattle.grammars.specs.Retold.{retold}
 use Rattle.loop_text.specs.Seqs.{SeqState, of_values, a_value, value, value_if, end_value, with_value, variable_name, last, no_sum, no_sum_value, in_values, is_sequences, sequences_word, sums_in_values, seq_language}
-use Rattle.loop_text.specs.LoopLayout.{IsGiven, IsOver}
+use Rattle.loop_text.specs.LoopLayout.{IsGiven, UsesBelow}
 use Rattle.loop_text.proofs.SeqChecked.{seqs_checked, values_embedded}
 use Rattle.loop_text.specs.SequenceStates.{reading, IsFault, in_first}
 use Rattle.loop_text.proofs.SequenceSumReads.{sum_read}
@@ -141,7 +141,7 @@ module _ (names : List (List ℕ)) (e : Expr ℕ) (count : ℕ) (c d : Cursor) w
       (state_in (behind_expr (in_sum names) e) count) (rest c) (rest d) h
       (none_safe (no_sum names) no_sum_value refl (omega arith))
 
-  pub right_over : ReadsSum → IsOver (length names) e
+  pub right_over : ReadsSum → UsesBelow (length names) e
   right_over h =
       let s = kept h in
       let f = All-head (Fits names [] _) e [] s.each in

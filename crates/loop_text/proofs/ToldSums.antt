@@ -68,9 +68,9 @@ module _ (r : Lexeme → Reason → Reason) (keeps : (x : Lexeme) → r x syntax
     pub told_so : (result : TextError) (to : Reason) → fault_of result ≡ Some (fault to at)
         → ((why : Reason) → is_syntax why ≡ false → r (next_in text at) why ≡ to)
         → Retells r text e result
-    told_so result to is turns =
+    told_so result to is iterations =
         let w = told_reason e at h in
-        is ∙ ap (λ v. Some (fault v at)) (sym (turns w.why w.other))
+        is ∙ ap (λ v. Some (fault v at)) (sym (iterations w.why w.other))
         ∙ sym (ap (option_map (retold_fault r text)) w.is)
 
     pub told_same : ((why : Reason) → is_syntax why ≡ false → r (next_in text at) why ≡ why)

@@ -24,7 +24,7 @@ use Rattle.poly_text.specs.declared.lexemes.Lexeme.TheVariants as code_lexeme
 use Rattle.poly_text.proofs.CursorReads.{fault_at, token_read, token_faulty, token_barred, behind_name}
 pub use Rattle.poly_text.proofs.CursorReads.{named_here, word_here, no_name_here}
 use Rattle.loop_text.specs.Loops.{LoopContext, LoopState, new_fault, word, loop_language}
-use Rattle.loop_text.specs.States.{reading, left_fault, IsLeft, IsNew}
+use Rattle.loop_text.specs.States.{reading, left_fault, IsLeft, IsDeclaration}
 
 module _ (fault : LoopContext → List ℕ → Option Reason) (next : LoopContext → List ℕ → LoopContext)
     (s : LoopState) (c : Cursor) where
@@ -122,7 +122,7 @@ module _ (others known : List (List ℕ)) (w : List ℕ) where
 
 module _ {others known : List (List ℕ)} {fault : LoopContext → List ℕ → Option Reason}
     {next : LoopContext → List ℕ → LoopContext} {s : LoopState} {after : List (List ℕ) → LoopState}
-    (new : IsNew others known fault next s after) (c : Cursor) (w : _) (is : c.token.lexeme
+    (new : IsDeclaration others known fault next s after) (c : Cursor) (w : _) (is : c.token.lexeme
     ≡ code_lexeme.Name w) where
   new_here : fault s.context (word_in (seen_lexeme c.token.lexeme)) ≡ new_fault others known w.now
   new_here = new.faults (word_in (seen_lexeme c.token.lexeme))

@@ -10,10 +10,10 @@
 --                                   the places us are unset; between names us n b: in none
 --   behind b ss                     behind the statements ss of the open branch
 --   in_branches names locals n init bs     behind these branches
---   IsAll ns                        all names are the variables and then the local names
+--   AreVariablesThenLocals ns                        all names are the variables and then the local names
 --   left_fault names taken used w   why a name can't stand on a left side where these variables are taken and used
 --   IsLeft names taken used fault next s after     so a token's fault is in the state s, and its variable makes the state behind it
---   IsNew others known fault next s after     so a name that is declared is at fault in the state s, and makes the state behind it
+--   IsDeclaration others known fault next s after     so a name that is declared is at fault in the state s, and makes the state behind it
 --   is_keyword_of x k               whether a lexeme is the keyword k
 use Rattle.std.specs.Prelude.{◌≡◌, ℕ, Bool, false, if◌then◌else◌, List, [], ◌∷◌, ◌++◌, length, map, Option, Some, None, unwrap_or, Result}
 use Rattle.std.specs.Global.{Vec}
@@ -145,8 +145,8 @@ abbrev pub branches_of : List (Vec code.Statement) → List (List (Statement (Ex
 branches_of bs = map (λ b. map statement_of b.items) bs
 
 -- ---- names
-abbrev pub IsAll : LoopNames → Type 0
-IsAll ns = ns.all ≡ ns.variables ++ ns.locals
+abbrev pub AreVariablesThenLocals : LoopNames → Type 0
+AreVariablesThenLocals ns = ns.all ≡ ns.variables ++ ns.locals
 
 abbrev pub left_fault : List (List ℕ) → List ℕ → List ℕ → List ℕ → Option Reason
 left_fault names taken used w =
@@ -163,7 +163,7 @@ pub record IsLeft (names : List (List ℕ)) (taken used : List ℕ)
       ≡ after (unwrap_or (place_of names w) 0)
 
 -- a name that is declared behind others of its kind, where these are known
-pub record IsNew (others known : List (List ℕ))
+pub record IsDeclaration (others known : List (List ℕ))
     (fault : LoopContext → List ℕ → Option Reason) (next : LoopContext → List ℕ → LoopContext)
     (s : LoopState) (after : List (List ℕ) → LoopState) : Type 0 where
   pub faults : (w : List ℕ) → fault s.context w ≡ new_fault others known w

@@ -10,7 +10,7 @@ ghost use Rattle.loop_text.specs.Loops as grammar;
 ghost use Rattle.loop_text.specs.Loops.{LoopState};
 ghost use Rattle.loop_model.specs.Parts.{statement_of};
 ghost use Rattle.loops.specs.WellFormed.{local_places};
-ghost use Rattle.loop_text.specs.States.{Goes, Reads, Inits, IsAll, Before, behind, between, in_branches, branches_of, is_keyword_of};
+ghost use Rattle.loop_text.specs.States.{Goes, Reads, Inits, AreVariablesThenLocals, Before, behind, between, in_branches, branches_of, is_keyword_of};
 ghost use Rattle.loop_model.specs.Limits.{all_names_limit};
 
 use crate::begun::Begun;
@@ -61,7 +61,7 @@ fn read_branch<'t>(
     begun: &mut Begun,
     branches: &mut Vec<Vec<Statement>>,
 ) -> Result<Cursor<'t>, TextError>
-    requires all { IsAll names.now }
+    requires all { AreVariablesThenLocals names.now }
     requires few { length names.now.all ≤ all_names_limit }
     ensures goes { (init : Inits) → Goes grammar.branch
         (in_branches names.now.variables names.now.locals begun.old init
@@ -88,7 +88,7 @@ pub fn read_block<'t>(
     names: &LoopNames,
     begun: &mut Begun,
 ) -> Result<(Vec<Statement>, Cursor<'t>), TextError>
-    requires all { IsAll names.now }
+    requires all { AreVariablesThenLocals names.now }
     requires few { length names.now.all ≤ all_names_limit }
     ensures reads { (b : Before) → b.names ≡ names.now.variables → b.locals ≡ names.now.locals
         → Reads grammar.block
@@ -110,7 +110,7 @@ pub fn read_branches<'t>(
     names: &LoopNames,
     begun: &mut Begun,
 ) -> Result<(Vec<Vec<Statement>>, Cursor<'t>), TextError>
-    requires all { IsAll names.now }
+    requires all { AreVariablesThenLocals names.now }
     requires few { length names.now.all ≤ all_names_limit }
     ensures reads { (init : Inits) → Reads (some grammar.branch)
         (in_branches names.now.variables names.now.locals begun.old init [])

@@ -6,7 +6,7 @@ ghost use Rattle.grammars.specs.Grammar.{sequence, many, optional};
 ghost use Rattle.poly_text.specs.CursorView.{rest, bytes_left};
 ghost use Rattle.loop_text.specs.LoopReader.{program_in};
 ghost use Rattle.loop_text.specs.Limited.{Limits};
-ghost use Rattle.loop_text.specs.States.{Inits, IsAll, in_branches, with_init};
+ghost use Rattle.loop_text.specs.States.{Inits, AreVariablesThenLocals, in_branches, with_init};
 ghost use Rattle.loop_runs.specs.Parts.{statements_in};
 ghost use Rattle.loop_text.specs.ChainReader.{chain_of};
 ghost use Rattle.loop_text.specs.Chains.{ChainState, Earlier, none_before, loop_limit, begin_loop, with_loop, with_code, then_token, code, the_branches, further};
@@ -75,7 +75,7 @@ fn read_code<'t>(
     names: &LoopNames,
     begun: &mut Begun,
 ) -> Result<(Vec<Statement>, Cursor<'t>), TextError>
-    requires all { IsAll names.now }
+    requires all { AreVariablesThenLocals names.now }
     requires few { length names.now.all ≤ all_names_limit }
     requires none { begun.old.branches ≡ 0 }
     ensures none { IfOk result (λ _. begun.new.branches ≡ 0) }
@@ -104,7 +104,7 @@ fn read_stages(
     cursor: Cursor<'_>,
     names: &LoopNames,
 ) -> Result<Vec<StageParts>, TextError>
-    requires all { IsAll names.now }
+    requires all { AreVariablesThenLocals names.now }
     requires few { length names.now.all ≤ all_names_limit }
     ensures stages { (init : Inits) →
         let s = with_init names.now.variables names.now.locals init in

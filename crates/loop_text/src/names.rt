@@ -12,7 +12,7 @@ ghost use Rattle.loop_text.specs.Loops as grammar;
 ghost use Rattle.grammars.specs.Grammar.{sequence, separated, optional};
 ghost use Rattle.loop_model.specs.Ascii.{comma, semicolon};
 ghost use Rattle.loop_text.specs.Loops.{LoopContext, LoopState, nothing, locals_word, word as name_token};
-ghost use Rattle.loop_text.specs.States.{Goes, Reads, IsLeft, IsNew, IsAll, used_in, with_names};
+ghost use Rattle.loop_text.specs.States.{Goes, Reads, IsLeft, IsDeclaration, AreVariablesThenLocals, used_in, with_names};
 ghost use Rattle.loop_model.specs.Limits.{names_limit, all_names_limit};
 
 use crate::tokens::{expect_sign, is_keyword, syntax_fault};
@@ -42,7 +42,7 @@ fn read_name<'t>(
     ensures goes { (fault : LoopContext → List ℕ → Option Reason)
         (next : LoopContext → List ℕ → LoopContext) (s : LoopState)
         (after : List (List ℕ) → LoopState) →
-        IsNew names.old all.old fault next s after →
+        IsDeclaration names.old all.old fault next s after →
         Goes (name_token fault next) s (after names.new) cursor.entry result }
     ensures all { (before : List (List ℕ)) → all.old ≡ before ++ names.old
         → OnOk result (all.new ≡ before ++ names.new) }
@@ -68,7 +68,7 @@ fn read_name<'t>(
 pub fn read_names(alloc: Global, cursor: Cursor<'_>) -> Result<(LoopNames, Cursor<'_>), TextError>
     ensures reads { Reads grammar.names nothing (λ ns. with_names ns.variables []) cursor.entry
         result }
-    ensures all { IfOk result (λ r. IsAll r.0) }
+    ensures all { IfOk result (λ r. AreVariablesThenLocals r.0) }
     ensures none { IfOk result (λ r. r.0.locals ≡ []) }
     ensures few { IfOk result (λ r. length r.0.variables ≤ names_limit) }
 {
@@ -101,13 +101,13 @@ fn read_local_names(
     cursor: Cursor<'_>,
     names: LoopNames,
 ) -> Result<(LoopNames, Cursor<'_>), TextError>
-    requires all { IsAll names }
+    requires all { AreVariablesThenLocals names }
     requires none { names.locals ≡ [] }
     requires few { length names.variables ≤ names_limit }
     ensures reads { Reads (sequence (separated (grammar.sign comma) grammar.local_name)
         (grammar.sign semicolon)) (with_names names.variables [])
         (λ ns. with_names names.variables ns.locals) cursor.entry result }
-    ensures all { IfOk result (λ r. IsAll r.0) }
+    ensures all { IfOk result (λ r. AreVariablesThenLocals r.0) }
     ensures variables { IfOk result (λ r. r.0.variables ≡ names.variables) }
     ensures few { IfOk result (λ r. length r.0.locals ≤ names_limit) }
 {
@@ -135,12 +135,12 @@ pub fn read_locals(
     cursor: Cursor<'_>,
     names: LoopNames,
 ) -> Result<(LoopNames, Cursor<'_>), TextError>
-    requires all { IsAll names }
+    requires all { AreVariablesThenLocals names }
     requires none { names.locals ≡ [] }
     requires few { length names.variables ≤ names_limit }
     ensures reads { Reads (optional grammar.locals) (with_names names.variables [])
         (λ ns. with_names names.variables ns.locals) cursor.entry result }
-    ensures all { IfOk result (λ r. IsAll r.0) }
+    ensures all { IfOk result (λ r. AreVariablesThenLocals r.0) }
     ensures variables { IfOk result (λ r. r.0.variables ≡ names.variables) }
     ensures few { IfOk result (λ r. length r.0.locals ≤ names_limit) }
 {

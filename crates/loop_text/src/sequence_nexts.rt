@@ -7,11 +7,11 @@ ghost use Rattle.poly_text.specs.CursorView.{bytes_left, rest};
 ghost use Rattle.loop_model.specs.ExpressionView.{expr_of};
 ghost use Rattle.loops.specs.Turning.{variables_from};
 ghost use Rattle.loop_text.specs.Seqs as grammar;
-ghost use Rattle.loop_text.specs.LoopLayout.{IsOver};
+ghost use Rattle.loop_text.specs.LoopLayout.{UsesBelow};
 ghost use Rattle.loop_text.specs.SequenceStates.{Goes, Reads};
 ghost use Rattle.loop_text.specs.Standing.{AreTokens};
 ghost use Rattle.loop_text.specs.Firsts.{behind_all, AreMade};
-ghost use Rattle.loop_text.specs.SequenceSeen.{ReadsTurn};
+ghost use Rattle.loop_text.specs.SequenceSeen.{ReadsIteration};
 
 use crate::sequence_firsts::Firsts;
 use crate::sequence_sums::in_nexts;
@@ -59,7 +59,7 @@ fn read_next<'t>(
     ensures reads { (ns : List (loops.Expr ℕ)) → length ns ≡ index →
         Reads grammar.next (behind_all firsts.now ns)
         (λ e. behind_all firsts.now (ns ++ expr_of e ∷ [])) cursor.entry result }
-    ensures over { IfOk result (λ r. IsOver (length firsts.now.variables) (expr_of r.0)) }
+    ensures over { IfOk result (λ r. UsesBelow (length firsts.now.variables) (expr_of r.0)) }
     ensures falls { IfOk result (λ r. bytes_left r.1 < bytes_left cursor.entry) }
 {
     let named = expect_due(cursor, firsts, index)?;
@@ -81,19 +81,19 @@ fn read_next<'t>(
 
 /// Adds what the variables of a sequence become, but for the last: each the next one.
 #[tactic(auto, unfolding(loops::specs::Limits::most_names))]
-fn push_later(turn: &mut Vec<Expr>, first: usize, order: usize) -> Result<(), AllocError>
+fn push_later(iteration: &mut Vec<Expr>, first: usize, order: usize) -> Result<(), AllocError>
     requires some { 0 < order }
     requires few { first + order ≤ most_names }
-    ensures { OnOk result (map expr_of turn.new.items
-        ≡ map expr_of turn.old.items ++ variables_from (suc first) (pred order)) }
+    ensures { OnOk result (map expr_of iteration.new.items
+        ≡ map expr_of iteration.old.items ++ variables_from (suc first) (pred order)) }
 {
     for var in first + 1..first + order {
-        turn.push(Expr::Variable { index: var })?;
+        iteration.push(Expr::Variable { index: var })?;
     }
     Ok(())
 }
 
-/// Reads the recurrences, one for each sequence, in their order: what the variables become in a turn.
+/// Reads the recurrences, one for each sequence, in their order: what the variables become in an iteration.
 pub fn read_nexts<'t>(
     alloc: Global,
     text: &[u8],
@@ -102,20 +102,20 @@ pub fn read_nexts<'t>(
 ) -> Result<(Vec<Expr>, Cursor<'t>), TextError>
     requires tokens { AreTokens text.now (rest cursor) }
     requires made { AreMade firsts.now }
-    ensures { ReadsTurn firsts.now cursor.entry result }
+    ensures { ReadsIteration firsts.now cursor.entry result }
 {
-    let mut turn = Vec::new(alloc);
+    let mut iteration = Vec::new(alloc);
     let mut at = cursor;
     let mut first = 0;
     let mut index = 0;
     while index < firsts.orders.len() {
         let (next, end) = read_next(alloc, text, at, firsts, index)?;
         let order = firsts.orders[index];
-        push_later(&mut turn, first, order)?;
-        turn.push(next)?;
+        push_later(&mut iteration, first, order)?;
+        iteration.push(next)?;
         first += order;
         index += 1;
         at = end;
     }
-    Ok((turn, at))
+    Ok((iteration, at))
 }

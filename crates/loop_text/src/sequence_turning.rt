@@ -1,4 +1,4 @@
-//! Sequences as a loop: a turn goes from n to n + 1.
+//! Sequences as a loop: an iteration goes from n to n + 1.
 
 ghost use Rattle.std.specs.Prelude.{◌≡◌, ◌≤◌, ℕ, List, IfOk};
 ghost use Rattle.loops.specs.Limits.{most_names};
@@ -7,7 +7,7 @@ ghost use Rattle.loops.specs.Turning.{places};
 ghost use Rattle.loop_text.specs.LoopLayout.{total, starts};
 ghost use Rattle.loop_text.specs.SeqReader.{sequences_in};
 ghost use Rattle.loop_text.specs.Firsts.{behind_all};
-ghost use Rattle.loop_text.specs.SequenceSeen.{IsTurn, HasTurn, IsLoopOf};
+ghost use Rattle.loop_text.specs.SequenceSeen.{IsIteration, HasIteration, IsLoopOf};
 
 use crate::Seqs;
 use crate::sequence_firsts::Firsts;
@@ -40,10 +40,14 @@ fn first_places(alloc: Global, orders: &[usize]) -> Result<Vec<usize>, AllocErro
     Ok(places)
 }
 
-/// The loop of the sequences: at the start the variables have the values that are given, and in a turn they become these.
-pub fn with_turn(alloc: Global, firsts: Firsts, turn: Vec<Expr>) -> Result<Seqs, AllocError>
-    requires { HasTurn firsts turn.items }
-    ensures { (ns : List (loops.Expr ℕ)) → IsTurn firsts ns turn.items →
+/// The loop of the sequences: at the start the variables have the values that are given, and in an iteration they become these.
+pub fn with_iteration(
+    alloc: Global,
+    firsts: Firsts,
+    iteration: Vec<Expr>,
+) -> Result<Seqs, AllocError>
+    requires { HasIteration firsts iteration.items }
+    ensures { (ns : List (loops.Expr ℕ)) → IsIteration firsts ns iteration.items →
         IfOk result (λ s. IsLoopOf s (sequences_in (behind_all firsts ns))) }
 {
     let targets = all_places(alloc, firsts.variables.len())?;
@@ -51,7 +55,7 @@ pub fn with_turn(alloc: Global, firsts: Firsts, turn: Vec<Expr>) -> Result<Seqs,
     let mut statements = Vec::new(alloc);
     statements.push(Statement {
         targets,
-        values: turn,
+        values: iteration,
     })?;
     let mut branches = Vec::new(alloc);
     branches.push(statements)?;

@@ -6,7 +6,7 @@ ghost use Rattle.loop_text.specs.SequenceSeen.{Says};
 use crate::sequence_firsts::{read_firsts, read_opening};
 use crate::sequence_nexts::read_nexts;
 use crate::sequence_tokens::expect_end;
-use crate::sequence_turning::with_turn;
+use crate::sequence_turning::with_iteration;
 use loop_model::{Loop, Names};
 use poly_text::{Cursor, TextError};
 use std::alloc::Global;
@@ -25,9 +25,9 @@ pub fn read_seqs(alloc: Global, bytes: &[u8]) -> Result<Seqs, TextError>
 {
     let opened = read_opening(Cursor::new(bytes))?;
     let (firsts, behind) = read_firsts(alloc, bytes, opened)?;
-    let (turn, end) = read_nexts(alloc, bytes, behind, &firsts)?;
+    let (iteration, end) = read_nexts(alloc, bytes, behind, &firsts)?;
     expect_end(end)?;
-    match with_turn(alloc, firsts, turn) {
+    match with_iteration(alloc, firsts, iteration) {
         Ok(seqs) => Ok(seqs),
         Err(_) => Err(TextError::Memory),
     }

@@ -1,4 +1,4 @@
--- The listed polynomials of a valid certificate are invariants: all are zero at a start, and a turn keeps that.
+-- The listed polynomials of a valid certificate are invariants: all are zero at a start, and an iteration keeps that.
 use Rattle.std.proofs.Common.{◌≡◌, ℕ, ◌<◌, List, [], length, sym, ap, subst, ◌∙◌, Some}
 use Rattle.std.proofs.lemmas.List.Elements.{All-from_get_or}
 use Rattle.algebra.specs.Sum.{sum_over}
@@ -32,16 +32,17 @@ module _ {At : Type 0} (program : Program (Expr At)) (c : Certificate) (over : I
         ∙ value_at_same ℚ_ring _ [] s (valid.starts i l);
   }
 
-  zero_after_turn : (s : List Fraction) (b : ℕ) (branch : List (Statement (Expr At)))
+  zero_after_iteration : (s : List Fraction) (b : ℕ) (branch : List (Statement (Expr At)))
       → branch_at program b ≡ Some branch → AllZero s → AllZero (effect program branch s)
-  zero_after_turn s b branch is z = record {
+  zero_after_iteration s b branch is z = record {
     state = effect_keeps_state program branch s z.state;
     zeros = λ i l.
         let (a, k, same) = branch_at-some program b branch is in
-        let turn = subst (λ x. Same ℚ (composition program (element c i) (branch_map program x))
+        let iteration =
+        subst (λ x. Same ℚ (composition program (element c i) (branch_map program x))
         (combination ℚ (cofactors c a i) c.basis)) same (valid.steps a i k l) in
         sym (value_after_branch program (element c i) branch s z.state)
-        ∙ value_at_same ℚ_ring _ _ s turn
+        ∙ value_at_same ℚ_ring _ _ s iteration
         ∙ combination_zero ℚ_ring (cofactors c a i) c.basis s
         (All-from_get_or (λ g. value_at ℚ g s ≡ ℚ.zero) c.basis [] z.zeros);
   }
@@ -49,6 +50,6 @@ module _ {At : Type 0} (program : Program (Expr At)) (c : Certificate) (over : I
   pub certificate_lists_invariants : (i : ℕ) → i < length c.basis → Inv program (element c i)
   certificate_lists_invariants i l = record {
     arity = arity_at (length program.names) c.basis over.arities i;
-    zero = λ r. (run_keeps program AllZero zero_after_turn r.word r.start r.end
+    zero = λ r. (run_keeps program AllZero zero_after_iteration r.word r.start r.end
         (zero_at_start r.start r.is_start) r.is_end).zeros i l;
   }

@@ -5,7 +5,7 @@
 --   value_in, ..                    then it holds of values and of the elements of states
 --   Carries N M of on f    f takes results to results
 --   to-value_of, ..                 then it takes values to values and states to states
---   turn-kept, turn_in, map-turn, length-turn     the same of the variables after a branch, whose local names are 0 before it
+--   iteration-kept, iteration_in, map-iteration, length-iteration     the same of the variables after a branch, whose local names are 0 before it
 --   length-branch, ..      a state's length stays
 --   store-push, branch-push     one more target, one more statement
 use Rattle.std.proofs.Common.{◌≡◌, ℕ, zero, suc, ◌+◌, List, [], ◌∷◌, ◌++◌, map, get_or, set, take, replicate, length, arith, refl, ap, ap₂, ◌∙◌}
@@ -16,7 +16,7 @@ use Rattle.algebra.specs.Arithmetic as numeral
 use Rattle.algebra.specs.Arithmetic.{Arithmetic}
 use Rattle.algebra.specs.Fraction.{Fraction, whole, inverse}
 use Rattle.loops.specs.Program.{Expr, number, variable, neg, add, sub, mul, divide, power, Statement, Program}
-use Rattle.loops.specs.Effect.{store, init_statement, value_of, after_statement, after_branch, after_turn, start_from}
+use Rattle.loops.specs.Effect.{store, init_statement, value_of, after_statement, after_branch, after_iteration, start_from}
 
 -- ---- relations
 module _ {A B : Type 0} (N : Arithmetic A) (M : Arithmetic B) (of : Fraction → A) (on : Fraction
@@ -109,10 +109,11 @@ module _ {A B : Type 0} (N : Arithmetic A) (M : Arithmetic B) (of : Fraction →
     pad-kept j (a ∷ s) [] r = absurd r
     pad-kept j (a ∷ s) (b ∷ t) r = (r.0, pad-kept j s t r.1)
 
-    pub turn-kept : {At : Type 0} → (program : Program (Expr At)) (cs : List (Statement (Expr At)))
-        (s : List A) (t : List B) → AllZip R s t → AllZip R (after_turn N of program cs s)
-        (after_turn M on program cs t)
-    turn-kept program cs s t r = take-kept (length program.names) _ _
+    pub iteration-kept : {At : Type 0}
+        → (program : Program (Expr At)) (cs : List (Statement (Expr At)))
+        (s : List A) (t : List B) → AllZip R s t → AllZip R (after_iteration N of program cs s)
+        (after_iteration M on program cs t)
+    iteration-kept program cs s t r = take-kept (length program.names) _ _
         (branch-kept cs _ _ (pad-kept (length program.locals) s t r))
 
     pub start-kept : {At : Type 0} → (program : Program (Expr At)) (s : List A) (t : List B)
@@ -157,9 +158,10 @@ module _ {A : Type 0} (N : Arithmetic A) (of : Fraction → A) (P : A → Type 0
     pub value_in : {At : Type 0} → (s : List A) → Each P s → (e : Expr At) → P (value_of N of s e)
     value_in s h e = value-kept N N of of _ kept_in s s (same_all P s h) e
 
-    pub turn_in : {At : Type 0} → (program : Program (Expr At)) (cs : List (Statement (Expr At)))
-        (s : List A) → Each P s → Each P (after_turn N of program cs s)
-    turn_in program cs s h = all_left P _ _ (turn-kept N N of of
+    pub iteration_in : {At : Type 0}
+        → (program : Program (Expr At)) (cs : List (Statement (Expr At)))
+        (s : List A) → Each P s → Each P (after_iteration N of program cs s)
+    iteration_in program cs s h = all_left P _ _ (iteration-kept N N of of
         _ kept_in program cs s s (same_all P s h))
 
     pub start_in : {At : Type 0} → (program : Program (Expr At)) (s : List A) → Each P s
@@ -207,9 +209,12 @@ module _ {A B : Type 0} (N : Arithmetic A) (M : Arithmetic B) (of : Fraction →
         → f (value_of N of s e) ≡ value_of M on (map f s) e
     to-value_of s e = value-kept N M of on _ kept_along s (map f s) (along_map f s) e
 
-    pub map-turn : {At : Type 0} → (program : Program (Expr At)) (cs : List (Statement (Expr At)))
-        (s : List A) → map f (after_turn N of program cs s) ≡ after_turn M on program cs (map f s)
-    map-turn program cs s = map_along f _ _ (turn-kept N M of on _ kept_along program cs s (map f s)
+    pub map-iteration : {At : Type 0}
+        → (program : Program (Expr At)) (cs : List (Statement (Expr At)))
+        (s : List A) → map f (after_iteration N of program cs s) ≡ after_iteration M on program cs
+        (map f s)
+    map-iteration program cs s = map_along f _ _ (iteration-kept N M of
+        on _ kept_along program cs s (map f s)
         (along_map f s))
 
     pub map-start_from : {At : Type 0} → (program : Program (Expr At)) (s : List A)
@@ -236,10 +241,11 @@ module _ {A : Type 0} (N : Arithmetic A) (of : Fraction → A) where
   length-branch [] s = refl
   length-branch (c ∷ cs) s = length-branch cs (after_statement N of c s) ∙ length-statement c s
 
-  pub length-turn : {At : Type 0} → (program : Program (Expr At)) (cs : List (Statement (Expr At)))
-      (s : List A) → length s ≡ length program.names → length (after_turn N of program cs s)
+  pub length-iteration : {At : Type 0}
+      → (program : Program (Expr At)) (cs : List (Statement (Expr At)))
+      (s : List A) → length s ≡ length program.names → length (after_iteration N of program cs s)
       ≡ length program.names
-  length-turn program cs s h =
+  length-iteration program cs s h =
       let whole = s ++ replicate (length program.locals) N.zero in
       let l : length (after_branch N of cs whole) ≡ length s + length program.locals =
       length-branch cs whole ∙ length-append s (replicate (length program.locals) N.zero)

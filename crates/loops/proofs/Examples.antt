@@ -97,7 +97,7 @@ unfolding run_end branch_at after_branch after_statement store value_of fraction
     Fraction.product Fraction.opposite Fraction.inverse is_lowest reduce gcd
 swap_run = refl
 
--- what stands for its variables after a turn
+-- what stands for its variables after an iteration
 swap_in_one : in_one swap (assign 2 (variable 0) ∷ assign 0 (variable 1) ∷ assign 1 (variable 2)
     ∷ []) ≡ exchange ∷ []
 unfolding expressions_after substitute store places

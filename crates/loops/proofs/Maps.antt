@@ -19,7 +19,7 @@ use Rattle.loops.specs.Program.{Expr, Program, Statement}
 use Rattle.loops.specs.Effect.{start_from}
 use Rattle.loops.specs.Run.{effect, IsState}
 use Rattle.loops.specs.Map.{branch_map, start_map, composition}
-use Rattle.loops.proofs.Effects.{Closed, turn_in, start_in, Carries, map-turn, map-start_from, length-turn, length-start_from}
+use Rattle.loops.proofs.Effects.{Closed, iteration_in, start_in, Carries, map-iteration, map-start_from, length-iteration, length-start_from}
 
 pub arity_closed : (m : ℕ) → Closed (lists ℚ m) (constant m) (Arity m)
 unfolding Each
@@ -48,7 +48,7 @@ value_at_carries m s = record {
 pub effect_keeps_state : {At : Type 0} (program : Program (Expr At))
     (branch : List (Statement (Expr At))) (s : List Fraction) → IsState program s
     → IsState program (effect program branch s)
-effect_keeps_state program branch s is = length-turn ℚ (λ c. c) program branch s is
+effect_keeps_state program branch s is = length-iteration ℚ (λ c. c) program branch s is
 
 pub start_keeps_state : {At : Type 0} (program : Program (Expr At)) (s : List Fraction)
     → IsState program s → IsState program (start_from ℚ (λ c. c) program s)
@@ -66,7 +66,7 @@ module _ {At : Type 0} (program : Program (Expr At)) where
   pub arity-branch_map : (branch : List (Statement (Expr At)))
       → AllArity (length program.names) (branch_map program branch)
   unfolding branch_map
-  arity-branch_map branch = turn_in (lists ℚ m) (constant m) (Arity m) (arity_closed m) program
+  arity-branch_map branch = iteration_in (lists ℚ m) (constant m) (Arity m) (arity_closed m) program
       branch _ (arity-variables m ℚ)
 
   pub arity-start_map : AllArity (length program.names) (start_map program)
@@ -77,7 +77,7 @@ module _ {At : Type 0} (program : Program (Expr At)) where
   pub length-branch_map : (branch : List (Statement (Expr At))) → length (branch_map program branch)
       ≡ length program.names
   unfolding branch_map
-  length-branch_map branch = length-turn (lists ℚ m) (constant m) program branch _
+  length-branch_map branch = length-iteration (lists ℚ m) (constant m) program branch _
       (length-variables m)
 
   pub length-start_map : length (start_map program) ≡ length program.names
@@ -90,7 +90,7 @@ module _ {At : Type 0} (program : Program (Expr At)) where
       branch s
   unfolding branch_map
   branch_map_values branch s is =
-      map-turn (lists ℚ m) ℚ (constant m) (λ c. c) (λ p. value_at ℚ p s) (value_at_carries m s)
+      map-iteration (lists ℚ m) ℚ (constant m) (λ c. c) (λ p. value_at ℚ p s) (value_at_carries m s)
       program branch (variables ℚ m)
       ∙ ap (effect program branch) (value_at-variables ℚ_ring m s is)
 

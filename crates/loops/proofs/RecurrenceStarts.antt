@@ -16,7 +16,7 @@ use Rattle.loops.specs.Run.{value, IsStart}
 use Rattle.loops.specs.WellFormed.{Uses}
 use Rattle.loops.specs.Sequences.{Sequence, order, given_values, size, AreFormed}
 use Rattle.loops.specs.Turning.{indexed_names, names, names_of, all_given, equations, program_of}
-use Rattle.loops.specs.Solutions.{window, AreMet, IsSolution}
+use Rattle.loops.specs.Solutions.{window, AreSatisfied, IsSolution}
 use Rattle.loops.proofs.Lists.{at_place, more_before, length-more}
 use Rattle.loops.proofs.Windows.{length-window}
 
@@ -63,9 +63,9 @@ module _ {At : Type 0} where
   closed_values es = map (λ e. value e []) es
 
   pub window_starts : (fs : ℕ → ℕ → Fraction) (w : ℕ → List Fraction)
-      (qs : List (Sequence (Expr At))) → AreMet fs w qs
+      (qs : List (Sequence (Expr At))) → AreSatisfied fs w qs
       → window fs 0 qs ≡ closed_values (all_given qs)
-  unfolding window AreMet all_given
+  unfolding window AreSatisfied all_given
   window_starts fs w [] m = refl
   window_starts fs w (q ∷ qs) m = ap₂ ◌++◌ m.0.starts (window_starts (λ j. fs (suc j)) w qs m.1)
       ∙ sym (map-append (λ e. value e []) (given_values q) (all_given qs))

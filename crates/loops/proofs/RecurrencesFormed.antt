@@ -9,9 +9,9 @@ use Rattle.loops.specs.WellFormed.{Uses, AreDistinct, IsStatement, local_places,
 use Rattle.loops.proofs.Locals.{sets_no_locals}
 use Rattle.loops.proofs.Starts.{uses_weaker}
 use Rattle.loops.specs.Sequences.{Sequence, order, size, AreFormed}
-use Rattle.loops.specs.Turning.{names, all_given, equations, places, variables_from, turn, step, program_of}
+use Rattle.loops.specs.Turning.{names, all_given, equations, places, variables_from, iteration, step, program_of}
 use Rattle.loops.proofs.Lists.{moved, length-places}
-use Rattle.loops.proofs.Turns.{length-variables}
+use Rattle.loops.proofs.Iterations.{length-variables}
 use Rattle.loops.proofs.RecurrenceStarts.{length-names, length-given, each_given}
 
 -- ---- places
@@ -50,14 +50,15 @@ module _ {E : Type 0} where
       (equations (suc i) es) (omega arith, h.0) (all_equations P (suc i) m es (omega arith) h.1)
 
 module _ {At : Type 0} where
-  pub length-turn : (i : ℕ) (qs : List (Sequence (Expr At))) → length (turn i qs) ≡ size qs
-  unfolding turn size
-  length-turn i [] = refl
-  length-turn i (q ∷ qs) =
-      let rest = turn (i + order q) qs in
+  pub length-iteration : (i : ℕ) (qs : List (Sequence (Expr At))) → length (iteration i qs)
+      ≡ size qs
+  unfolding iteration size
+  length-iteration i [] = refl
+  length-iteration i (q ∷ qs) =
+      let rest = iteration (i + order q) qs in
       let a = length-append (variables_from {At = At} (suc i) (length q.later)) (q.next ∷ rest) in
       let b = length-variables At (suc i) (length q.later) in
-      let c = length-turn (i + order q) qs in omega arith
+      let c = length-iteration (i + order q) qs in omega arith
 
   variables_within : (i r m : ℕ) → i + r ≤ m
       → All (Uses {At = At} (λ k. k < m)) (variables_from i r)
@@ -67,17 +68,17 @@ module _ {At : Type 0} where
       All-cons (Uses (λ k. k < m)) (variable i) (variables_from (suc i) r) (omega arith)
       (variables_within (suc i) r m (omega arith))
 
-  turn_within : (i m : ℕ) (qs : List (Sequence (Expr At))) → i + size qs ≤ m
+  iteration_within : (i m : ℕ) (qs : List (Sequence (Expr At))) → i + size qs ≤ m
       → Each (λ (q : Sequence (Expr At)). Uses (λ k. k < m) q.next) qs
-      → All (Uses (λ k. k < m)) (turn i qs)
-  unfolding turn size Each
-  turn_within i m [] l h = All-nil _
-  turn_within i m (q ∷ qs) l h =
+      → All (Uses (λ k. k < m)) (iteration i qs)
+  unfolding iteration size Each
+  iteration_within i m [] l h = All-nil _
+  iteration_within i m (q ∷ qs) l h =
       All-append (Uses (λ k. k < m)) (variables_from (suc i) (length q.later))
-      (q.next ∷ turn (i + order q) qs)
+      (q.next ∷ iteration (i + order q) qs)
       (variables_within (suc i) (length q.later) m (omega arith))
-      (All-cons (Uses (λ k. k < m)) q.next (turn (i + order q) qs) h.0
-      (turn_within (i + order q) m qs (omega arith) h.1))
+      (All-cons (Uses (λ k. k < m)) q.next (iteration (i + order q) qs) h.0
+      (iteration_within (i + order q) m qs (omega arith) h.1))
 
   some_size : (qs : List (Sequence (Expr At))) → 0 < length qs → 0 < size qs
   unfolding size
@@ -119,10 +120,10 @@ module _ {At : Type 0} where
           let p = length-places 0 (size qs) in
           record {
             some_target = omega arith;
-            sizes = p ∙ sym (length-turn 0 qs);
+            sizes = p ∙ sym (length-iteration 0 qs);
             targets = places_within 0 (size qs) (m + 0) (omega (arith, n));
             distinct = places_distinct 0 (size qs);
-            values = turn_within 0 (m + 0) qs (omega arith)
+            values = iteration_within 0 (m + 0) qs (omega arith)
                 (moved (λ k. Each (λ (q : Sequence (Expr At)). Uses (λ i. i < k) q.next) qs)
                 (size qs) (m + 0) (omega (arith, n)) formed.nexts);
           }

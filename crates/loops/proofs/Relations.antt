@@ -12,7 +12,7 @@ use Rattle.loops.specs.Solutions.{window, IsSolution}
 use Rattle.loops.specs.Relations.{values_at_places, IsRelation, IsShown}
 use Rattle.loops.proofs.Lists.{along}
 use Rattle.loops.proofs.Windows.{picked_window}
-use Rattle.loops.proofs.Turns.{after_letters, letters}
+use Rattle.loops.proofs.Iterations.{after_letters, letters}
 use Rattle.loops.proofs.RecurrenceStarts.{start_is, is_start}
 use Rattle.loops.proofs.Solved.{solution}
 

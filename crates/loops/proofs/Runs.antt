@@ -1,6 +1,6 @@
 -- Runs, letter by letter.
 --   branch_at-some     a letter's branch is one of the program's
---   run_keeps          what each turn keeps holds at the end
+--   run_keeps          what each iteration keeps holds at the end
 --   states_of_run      the states of a run are one more than its letters, and the last is the end
 use Rattle.std.proofs.Common.{◌≡◌, ℕ, zero, suc, ◌<◌, List, [], ◌∷◌, get_or, length, refl, ap, subst, Option, Some, None}
 use Rattle.std.specs.Prelude.{option_and_then}

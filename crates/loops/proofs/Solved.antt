@@ -8,11 +8,11 @@ use Rattle.loops.specs.Program.{Expr}
 use Rattle.loops.specs.Effect.{value_of}
 use Rattle.loops.specs.Run.{value}
 use Rattle.loops.specs.Sequences.{Sequence, order, given_values}
-use Rattle.loops.specs.Turning.{all_given, variables_from, turn, first_places}
-use Rattle.loops.specs.Solutions.{values, window, Meets, AreMet, IsSolution}
+use Rattle.loops.specs.Turning.{all_given, variables_from, iteration, first_places}
+use Rattle.loops.specs.Solutions.{values, window, Satisfies, AreSatisfied, IsSolution}
 use Rattle.loops.proofs.Lists.{along, behind_place, more_before}
 use Rattle.loops.proofs.Windows.{window_place}
-use Rattle.loops.proofs.Turns.{length-variables, turned, turned_behind}
+use Rattle.loops.proofs.Iterations.{length-variables, turned, turned_behind}
 use Rattle.loops.proofs.RecurrenceStarts.{closed_values, window_starts}
 
 -- values by their places
@@ -30,7 +30,7 @@ module _ {At : Type 0} where
   -- the states of the loop, from the values that are given
   unfoldable state : List (Sequence (Expr At)) → ℕ → List Fraction
   state qs zero = closed_values (all_given qs)
-  state qs (suc n) = map (λ (e : Expr At). value e (state qs n)) (turn 0 qs)
+  state qs (suc n) = map (λ (e : Expr At). value e (state qs n)) (iteration 0 qs)
 
   -- the values of the variables at a place and on
   variable_at : (s : List Fraction) (a r i : ℕ) (after : List (Expr At)) → i < r
@@ -49,14 +49,15 @@ module _ {At : Type 0} where
   next_at s a zero e after = refl
   next_at s a (suc r) e after = next_at s (suc a) r e after
 
-  -- states that go on by turns, behind what comes before
+  -- states that go on by iterations, behind what comes before
   record Goes (st : ℕ → List Fraction) (a : ℕ) (qs : List (Sequence (Expr At))) : Type 0 where
     before : List (Expr At)
     size_before : length before ≡ a
     start_before : List Fraction
     start_size : length start_before ≡ a
     starts : st 0 ≡ start_before ++ closed_values (all_given qs)
-    turns : (n : ℕ) → st (suc n) ≡ map (λ (e : Expr At). value e (st n)) (before ++ turn a qs)
+    iterations : (n : ℕ) → st (suc n) ≡ map (λ (e : Expr At). value e (st n))
+        (before ++ iteration a qs)
 
   abbrev found : (ℕ → List Fraction) → ℕ → List (Sequence (Expr At)) → ℕ → ℕ → Fraction
   found st a qs j n = get_or (st n) (get_or (first_places a qs) j 0) ℚ.zero
@@ -70,26 +71,26 @@ module _ {At : Type 0} where
     f n = get_or (st n) a ℚ.zero
 
     behind : (n i : ℕ) → get_or (st (suc n)) (a + i) ℚ.zero ≡ get_or
-        (map (λ (e : Expr At). value e (st n)) (turn a (q ∷ qs))) i ℚ.zero
+        (map (λ (e : Expr At). value e (st n)) (iteration a (q ∷ qs))) i ℚ.zero
     behind n i =
         let v : List (Expr At) → List Fraction = map (λ (e : Expr At). value e (st n)) in
-        ap (λ s. get_or s (a + i) ℚ.zero) (goes.turns n
-        ∙ map-append (λ (e : Expr At). value e (st n)) goes.before (turn a (q ∷ qs)))
-        ∙ ap (λ k. get_or (v goes.before ++ v (turn a (q ∷ qs))) (k + i) ℚ.zero)
+        ap (λ s. get_or s (a + i) ℚ.zero) (goes.iterations n
+        ∙ map-append (λ (e : Expr At). value e (st n)) goes.before (iteration a (q ∷ qs)))
+        ∙ ap (λ k. get_or (v goes.before ++ v (iteration a (q ∷ qs))) (k + i) ℚ.zero)
         (sym goes.size_before ∙ sym (length-map goes.before (λ (e : Expr At). value e (st n))))
-        ∙ behind_place (v goes.before) (v (turn a (q ∷ qs))) i ℚ.zero
+        ∙ behind_place (v goes.before) (v (iteration a (q ∷ qs))) i ℚ.zero
 
     moves : (n i : ℕ) → i < length q.later
         → get_or (st (suc n)) (a + i) ℚ.zero ≡ get_or (st n) (a + suc i) ℚ.zero
-    unfolding turn
+    unfolding iteration
     moves n i l = behind n i
-        ∙ variable_at (st n) (suc a) (length q.later) i (q.next ∷ turn (a + order q) qs) l
+        ∙ variable_at (st n) (suc a) (length q.later) i (q.next ∷ iteration (a + order q) qs) l
         ∙ ap (λ k. get_or (st n) k ℚ.zero) (omega arith)
 
     last : (n : ℕ) → get_or (st (suc n)) (a + length q.later) ℚ.zero ≡ value q.next (st n)
-    unfolding turn
+    unfolding iteration
     last n = behind n (length q.later)
-        ∙ next_at (st n) (suc a) (length q.later) q.next (turn (a + order q) qs)
+        ∙ next_at (st n) (suc a) (length q.later) q.next (iteration (a + order q) qs)
 
     later : (i n : ℕ) → i < order q → f (n + i) ≡ get_or (st n) (a + i) ℚ.zero
     unfolding f
@@ -98,7 +99,7 @@ module _ {At : Type 0} where
     later (suc i) n l = along (λ j. get_or (st j) a ℚ.zero) (n + suc i) (suc n + i) (omega arith)
         ∙ later i (suc n) (omega arith) ∙ moves n i (omega arith)
 
-    meets : Meets f st q
+    meets : Satisfies f st q
     unfolding f all_given
     meets =
         let xs = closed_values (given_values q) in
@@ -119,7 +120,7 @@ module _ {At : Type 0} where
         }
 
     goes_on : Goes st (a + order q) qs
-    unfolding turn all_given
+    unfolding iteration all_given
     goes_on =
         let vs : List (Expr At) = variables_from (suc a) (length q.later) ++ q.next ∷ [] in
         let xs = closed_values (given_values q) in
@@ -135,27 +136,29 @@ module _ {At : Type 0} where
           starts = goes.starts ∙ ap (λ l. goes.start_before ++ l)
               (map-append (λ e. value e []) (given_values q) (all_given qs))
               ∙ sym (append_assoc goes.start_before xs (closed_values (all_given qs)));
-          turns = λ n. goes.turns n
+          iterations = λ n. goes.iterations n
               ∙ ap (map (λ (e : Expr At). value e (st n)))
               (ap (λ l. goes.before ++ l)
-              (more_before (variables_from (suc a) (length q.later)) q.next (turn (a + order q) qs))
-              ∙ sym (append_assoc goes.before vs (turn (a + order q) qs)));
+              (more_before (variables_from (suc a) (length q.later)) q.next
+              (iteration (a + order q) qs))
+              ∙ sym (append_assoc goes.before vs (iteration (a + order q) qs)));
         }
 
-  are_met : (st : ℕ → List Fraction) (a : ℕ) (qs : List (Sequence (Expr At))) → Goes st a qs
-      → AreMet (found st a qs) st qs
-  unfolding AreMet first_places f
-  are_met st a [] goes = tt
-  are_met st a (q ∷ qs) goes =
-      (meets st a q qs goes, are_met st (a + order q) qs (goes_on st a q qs goes))
+  are_satisfied : (st : ℕ → List Fraction) (a : ℕ) (qs : List (Sequence (Expr At))) → Goes st a qs
+      → AreSatisfied (found st a qs) st qs
+  unfolding AreSatisfied first_places f
+  are_satisfied st a [] goes = tt
+  are_satisfied st a (q ∷ qs) goes =
+      (meets st a q qs goes, are_satisfied st (a + order q) qs (goes_on st a q qs goes))
 
-  are_met_same : (fs : ℕ → ℕ → Fraction) (v w : ℕ → List Fraction) (qs : List (Sequence (Expr At)))
-      → ((n : ℕ) → v n ≡ w n) → AreMet fs v qs → AreMet fs w qs
-  unfolding AreMet
-  are_met_same fs v w [] h m = tt
-  are_met_same fs v w (q ∷ qs) h m = (
+  are_satisfied_same : (fs : ℕ → ℕ → Fraction) (v w : ℕ → List Fraction)
+      (qs : List (Sequence (Expr At)))
+      → ((n : ℕ) → v n ≡ w n) → AreSatisfied fs v qs → AreSatisfied fs w qs
+  unfolding AreSatisfied
+  are_satisfied_same fs v w [] h m = tt
+  are_satisfied_same fs v w (q ∷ qs) h m = (
     record { starts = m.0.starts; goes = λ n. m.0.goes n ∙ ap (value q.next) (h n) },
-    are_met_same (λ j. fs (suc j)) v w qs h m.1,
+    are_satisfied_same (λ j. fs (suc j)) v w qs h m.1,
   )
 
   module _ (qs : List (Sequence (Expr At))) where
@@ -167,22 +170,22 @@ module _ {At : Type 0} where
       start_before = [];
       start_size = refl;
       starts = refl;
-      turns = λ n. refl;
+      iterations = λ n. refl;
     }
 
-    met : AreMet (found (state qs) 0 qs) (state qs) qs
-    met = are_met (state qs) 0 qs all_go
+    met : AreSatisfied (found (state qs) 0 qs) (state qs) qs
+    met = are_satisfied (state qs) 0 qs all_go
 
     windows : (n : ℕ) → state qs n ≡ window (found (state qs) 0 qs) n qs
     unfolding window all_go all_given
     windows zero = all_go.starts ∙ sym (window_starts (found (state qs) 0 qs) (state qs) qs met)
-    windows (suc n) = all_go.turns n
+    windows (suc n) = all_go.iterations n
         ∙ turned_behind (found (state qs) 0 qs) (state qs) n [] 0 refl qs (windows n) met
 
     pub solution : (fs : ℕ → ℕ → Fraction) × IsSolution qs fs
     solution = (
       found (state qs) 0 qs,
-      are_met_same (found (state qs) 0 qs) (state qs)
+      are_satisfied_same (found (state qs) 0 qs) (state qs)
           (λ n. window (found (state qs) 0 qs) n qs) qs windows met,
     )
 
@@ -191,7 +194,7 @@ module _ {At : Type 0} where
     same_windows fs gs f g zero = window_starts fs (λ n. window fs n qs) qs f
         ∙ sym (window_starts gs (λ n. window gs n qs) qs g)
     same_windows fs gs f g (suc n) = sym (turned fs qs f n)
-        ∙ ap (λ s. map (λ (e : Expr At). value e s) (turn 0 qs)) (same_windows fs gs f g n)
+        ∙ ap (λ s. map (λ (e : Expr At). value e s) (iteration 0 qs)) (same_windows fs gs f g n)
         ∙ turned gs qs g n
 
     pub one_solution : (fs gs : ℕ → ℕ → Fraction) → IsSolution qs fs → IsSolution qs gs → (j n : ℕ)

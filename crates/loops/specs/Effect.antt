@@ -4,7 +4,7 @@
 --   store targets values s    s with each value at its target
 --   after_statement N number c s     all right sides are computed at s, and then stored
 --   after_branch N number cs s       the statements in order
---   after_turn N number program cs s     the variables after the branch cs; before it the local names are 0, and after it they are dropped
+--   after_iteration N number program cs s     the variables after the branch cs; before it the local names are 0, and after it they are dropped
 --   start_from N number program s    s with the value of each equation of init at its variable
 use Rattle.std.specs.Prelude.{ℕ, List, [], ◌∷◌, ◌++◌, map, get_or, set, take, replicate, length}
 use Rattle.algebra.specs.Arithmetic as numeral
@@ -41,8 +41,8 @@ module _ {A At : Type 0} (N : Arithmetic A) (of : Fraction → A) where
   after_branch [] s = s
   after_branch (c ∷ cs) s = after_branch cs (after_statement c s)
 
-  abbrev pub after_turn : Program (Expr At) → List (Statement (Expr At)) → List A → List A
-  after_turn program cs s =
+  abbrev pub after_iteration : Program (Expr At) → List (Statement (Expr At)) → List A → List A
+  after_iteration program cs s =
       take (length program.names)
       (after_branch cs (s ++ replicate (length program.locals) N.zero))
 

@@ -6,13 +6,13 @@ use Rattle.std.specs.Prelude.{List, length}
 use Rattle.algebra.specs.Fraction.{Fraction, ℚ}
 use Rattle.polynomials.specs.Terms.{Terms, constant, variables, lists, compose}
 use Rattle.loops.specs.Program.{Expr, Program, Statement}
-use Rattle.loops.specs.Effect.{after_turn, start_from}
+use Rattle.loops.specs.Effect.{after_iteration, start_from}
 
 unfoldable pub branch_map : {At : Type 0} → Program (Expr At) → List (Statement (Expr At))
     → List (Terms Fraction)
 branch_map program branch =
     let m = length program.names in
-    after_turn (lists ℚ m) (constant m) program branch (variables ℚ m)
+    after_iteration (lists ℚ m) (constant m) program branch (variables ℚ m)
 
 unfoldable pub start_map : {At : Type 0} → Program (Expr At) → List (Terms Fraction)
 start_map program =

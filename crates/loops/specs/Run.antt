@@ -11,14 +11,14 @@ use Rattle.std.specs.Option.{option_map_or}
 use Rattle.std.specs.List.{All}
 use Rattle.algebra.specs.Fraction.{Fraction, ℚ}
 use Rattle.loops.specs.Program.{Program, Equation, Statement, Expr}
-use Rattle.loops.specs.Effect.{value_of, after_turn}
+use Rattle.loops.specs.Effect.{value_of, after_iteration}
 
 abbrev pub value : {At : Type 0} → Expr At → List Fraction → Fraction
 value e s = value_of ℚ (λ c. c) s e
 
 abbrev pub effect : {At : Type 0} → Program (Expr At) → List (Statement (Expr At)) → List Fraction
     → List Fraction
-effect program branch s = after_turn ℚ (λ c. c) program branch s
+effect program branch s = after_iteration ℚ (λ c. c) program branch s
 
 abbrev pub IsState : {At : Type 0} → Program (Expr At) → List Fraction → Type 0
 IsState program s = length s ≡ length program.names

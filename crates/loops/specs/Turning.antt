@@ -1,10 +1,10 @@
--- Sequences as a loop: a turn goes from n to n + 1.
+-- Sequences as a loop: an iteration goes from n to n + 1.
 --   underscore           the byte between a name and an index
 --   indexed_names w i r        the names w_i, w_(i+1), .., r of them;  names_of q: the name of q, and with it the indices from 1 on, as many as its order;  names qs: those of all
 --   all_given qs         the values that are given, of all
 --   equations i es       the variables from i on have the values es
 --   variables_from i r   the variables from i on, r of them;  places i r: their places
---   turn i qs            what the variables from i on become: each the next one, and the last of a sequence what its recurrence gives
+--   iteration i qs            what the variables from i on become: each the next one, and the last of a sequence what its recurrence gives
 --   program_of qs        the loop
 --   first_places i qs           the places of the sequences themselves, where the variables begin at i
 use Rattle.std.specs.Prelude.{ℕ, zero, suc, ◌+◌, List, [], ◌∷◌, ◌++◌, length, decimal}
@@ -48,12 +48,13 @@ module _ {At : Type 0} where
   variables_from i zero = []
   variables_from i (suc r) = variable i ∷ variables_from (suc i) r
 
-  unfoldable pub turn : ℕ → List (Sequence (Expr At)) → List (Expr At)
-  turn i [] = []
-  turn i (q ∷ qs) = variables_from (suc i) (length q.later) ++ q.next ∷ turn (i + order q) qs
+  unfoldable pub iteration : ℕ → List (Sequence (Expr At)) → List (Expr At)
+  iteration i [] = []
+  iteration i (q ∷ qs) = variables_from (suc i) (length q.later) ++ q.next ∷ iteration (i + order q)
+      qs
 
   abbrev pub step : List (Sequence (Expr At)) → Statement (Expr At)
-  step qs = record { targets = places 0 (size qs); values = turn 0 qs }
+  step qs = record { targets = places 0 (size qs); values = iteration 0 qs }
 
   abbrev pub program_of : List (Sequence (Expr At)) → Program (Expr At)
   program_of qs = record {

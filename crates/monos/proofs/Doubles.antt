@@ -2,7 +2,7 @@
 --   is_double, not_double         double lists, by their parts
 --   compare_front                 by the first k variables, and then by all
 --   plus_is .. front_after        two lists x and y of one length in parts a, b and c, d
-use Rattle.std.proofs.Common.{◌≡◌, ◌<◌, ◌≤◌, ◌↔◌, ◌⊎◌, inl, inr, ℕ, zero, suc, ◌+◌, ◌-◌, ◌^◌, min, max, List, [], ◌∷◌, ◌++◌, length, sum, take, drop, reverse, get_or, refl, sym, ap, ap₂, ◌∙◌, subst, length-append, length-take, arith, nat_cmp, Ordering, Less, Equal, Greater}
+use Rattle.std.proofs.Common.{◌≡◌, ◌<◌, ◌≤◌, ◌↔◌, ◌⊎◌, inl, inr, ℕ, ◌+◌, ◌-◌, ◌^◌, min, max, List, [], ◌∷◌, ◌++◌, length, sum, take, drop, reverse, get_or, refl, sym, ap, ap₂, ◌∙◌, subst, length-append, length-take, arith, nat_cmp, Ordering, Less, Equal, Greater}
 use Rattle.std.specs.Prelude.{EachIndex, slice_index}
 use Rattle.std.specs.Ordering.{ordering_then}
 use Rattle.std.specs.Cmp.Lexicographic.{slice_cmp}

@@ -15,7 +15,7 @@ use Rattle.polynomials.specs.Exponent.{plus, over, Divides}
 use Rattle.polynomials.specs.Order.{compare, grevlex, blocks}
 use Rattle.polynomials.proofs.Exponent.{length-plus_same, sum-plus}
 use Rattle.polynomials.proofs.Orders.{compare_grevlex}
-use Rattle.monos.specs.Lanes.{AreSmall, IsShort, IsInLanes, lane_room, lane_count, lanes, word, guards}
+use Rattle.monos.specs.Lanes.{AreSmall, IsInLanes, lane_room, lane_count, lanes, word, guards}
 use Rattle.monos.proofs.Words.{small_first, small_rest, small_more, double, length-lanes, lanes-word, word-lanes, word-plus, word_half, word_below, small_from_clear, word_guards, word_with_guards, test_of_divides, divides_of_test, word_cmp, word-take, small-take, small-lanes, compare_rest, compare_apart}
 
 pub by_room : (n : ℕ) (P : ℕ → ℕ → Type 0) → (n ≤ 8 → P 15 8) → (8 < n → P 7 16)
@@ -304,7 +304,8 @@ module _ (n d w f v : ℕ) (p : IsInLanes n d w) (q : IsInLanes n f v) where
         (sym (first_lanes w (word_is n d w p)) ∙ ap (lanes (lane_room n) k) is
         ∙ first_lanes v (word_is n f v q)))
 
-    first_counts : length (take k (lanes (lane_room n) n v)) ≡ length (take k (lanes (lane_room n) n w))
+    first_counts : length (take k (lanes (lane_room n) n v))
+        ≡ length (take k (lanes (lane_room n) n w))
     first_counts = first_count v ∙ sym (first_count w)
 
     pub first_lasts : nat_cmp (v % 2 ^ (suc (lane_room n) * k)) (w % 2 ^ (suc (lane_room n) * k))

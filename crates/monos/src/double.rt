@@ -211,7 +211,8 @@ impl DoubleMono {
     fn compare_first_from_last(&self, other: &DoubleMono, first: usize) -> Ordering
         requires arity { length self.now ≡ length other.now }
         requires first { first ≤ length self.now }
-        ensures { result ≡ slice_cmp nat_cmp (reverse (take first other.now)) (reverse (take first self.now)) }
+        ensures { result ≡ slice_cmp nat_cmp (reverse (take first other.now)) (reverse
+            (take first self.now)) }
     {
         if first <= 16 {
             self.first.compare_first_from_last(&other.first, first)

@@ -50,8 +50,8 @@ impl<'a> Exponents<'a> {
         }
     }
 
-    /// Those of a list.
-    pub(crate) fn behind(list: &'a [u16]) -> Exponents<'a>
+    /// The exponents in a borrowed list.
+    pub(crate) fn of_slice(list: &'a [u16]) -> Exponents<'a>
         ensures { result ≡ list.now }
     {
         Exponents {

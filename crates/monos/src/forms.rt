@@ -1,5 +1,5 @@
 //! The two forms of a monomial, and what is computed on lists.
-//! The ways by lists are never part of a caller's loop, which goes the short way and would make their lists in each turn.
+//! The ways by lists are never part of a caller's loop, which goes the short way and would make their lists in each iteration.
 ghost use Rattle.std.specs.Prelude.{◌≡◌, ◌≤◌, ◌↔◌, length, nat_eq, IsTrue, IfOk, IfSome, IsErrOf, IsOk, IsSome};
 ghost use Rattle.std.specs.Cmp.Lexicographic.{pointwise};
 ghost use Rattle.polynomials.specs.Exponent.{plus, Divides, lcm};

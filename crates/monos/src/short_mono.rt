@@ -237,7 +237,8 @@ impl ShortMono {
     pub(crate) fn compare_first_from_last(&self, other: &ShortMono, first: usize) -> Ordering
         requires arity { length self.now ≡ length other.now }
         requires first { first ≤ length self.now }
-        ensures { result ≡ slice_cmp nat_cmp (reverse (take first other.now)) (reverse (take first self.now)) }
+        ensures { result ≡ slice_cmp nat_cmp (reverse (take first other.now)) (reverse
+            (take first self.now)) }
     {
         if first >= usize::from(self.arity) {
             return self.compare_from_last(other);

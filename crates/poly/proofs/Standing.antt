@@ -19,32 +19,33 @@ use Rattle.ring_laws.specs.declared.Ring as Ring
 use Rattle.monos.specs.declared.order.Order as Order
 use Rattle.poly.specs.declared.Poly.{Poly}
 use Rattle.poly.specs.Seen.{terms_in, terms_each, arity_of}
-use Rattle.poly.specs.Standing.{IsOver, StandsFor, AllStandFor}
+use Rattle.poly.specs.Standing.{IsInVariables, StandsFor, AllStandFor}
 use Rattle.poly.proofs.Kept.{polynomial_nil}
 
 module _ {K O : Type 0} {g : Ring.Ghosts K} {h : PartialEq.Ghosts K} {k : Order.Ghosts O}
     {l : PartialEq.Ghosts O} where
-  pub polynomial_over : (m : ℕ) (p : Poly K O g h k l) → IsOver m p
+  pub polynomial_over : (m : ℕ) (p : Poly K O g h k l) → IsInVariables m p
       → IsPolynomial g.scalars.arithmetic (k.order p.order) m (terms_in p)
   polynomial_over m p e = subst (λ (n : ℕ). IsPolynomial g.scalars.arithmetic (k.order p.order) n
       (terms_in p)) e p.polynomial
 
-  pub arity_over : (m : ℕ) (p : Poly K O g h k l) → IsOver m p → Arity m (terms_in p)
+  pub arity_over : (m : ℕ) (p : Poly K O g h k l) → IsInVariables m p → Arity m (terms_in p)
   arity_over m p e = (polynomial_over m p e).arity
 
-  pub arities_over : (m : ℕ) (ps : List (Poly K O g h k l)) → All (IsOver m) ps
+  pub arities_over : (m : ℕ) (ps : List (Poly K O g h k l)) → All (IsInVariables m) ps
       → AllArity m (terms_each ps)
   unfolding Each
   arities_over m [] a = tt
   arities_over m (p ∷ ps) a = (
-    arity_over m p (All-head (IsOver m) p ps a),
-    arities_over m ps (All-tail (IsOver m) p ps a),
+    arity_over m p (All-head (IsInVariables m) p ps a),
+    arities_over m ps (All-tail (IsInVariables m) p ps a),
   )
 
-  pub first_arity : (m : ℕ) (ps : List (Poly K O g h k l)) → All (IsOver m) ps → 0 < length ps
+  pub first_arity : (m : ℕ) (ps : List (Poly K O g h k l)) → All (IsInVariables m) ps
+      → 0 < length ps
       → arity_of ps ≡ m
   first_arity m [] a some = absurd (omega arith)
-  first_arity m (p ∷ ps) a some = All-head (IsOver m) p ps a
+  first_arity m (p ∷ ps) a some = All-head (IsInVariables m) p ps a
 
   pub stands_along : (m : ℕ) (p : Poly K O g h k l) (q r : Terms g.scalars.Elem)
       → Same g.scalars.arithmetic q r → StandsFor m p q → StandsFor m p r
@@ -55,11 +56,12 @@ module _ {K O : Type 0} {g : Ring.Ghosts K} {h : PartialEq.Ghosts K} {k : Order.
   }
 
   pub stands_over : (m : ℕ) (ps : List (Poly K O g h k l)) (qs : List (Terms g.scalars.Elem))
-      → AllStandFor m ps qs → All (IsOver m) ps
+      → AllStandFor m ps qs → All (IsInVariables m) ps
   stands_over m [] [] a = All-nil _
   stands_over m [] (q ∷ qs) a = absurd a
   stands_over m (p ∷ ps) [] a = absurd a
-  stands_over m (p ∷ ps) (q ∷ qs) a = All-cons (IsOver m) p ps a.0.arity (stands_over m ps qs a.1)
+  stands_over m (p ∷ ps) (q ∷ qs) a = All-cons (IsInVariables m) p ps a.0.arity
+      (stands_over m ps qs a.1)
 
   pub stands_same : (m : ℕ) (ps : List (Poly K O g h k l)) (qs : List (Terms g.scalars.Elem))
       → AllStandFor m ps qs → AllSame g.scalars.arithmetic (terms_each ps) qs
@@ -107,16 +109,16 @@ module _ {K O : Type 0} {g : Ring.Ghosts K} {h : PartialEq.Ghosts K} {k : Order.
     stands_all_along m ps qs rs s.1 a.1,
   )
 
-  pub stands_all_itself : (m : ℕ) (ps : List (Poly K O g h k l)) → All (IsOver m) ps
+  pub stands_all_itself : (m : ℕ) (ps : List (Poly K O g h k l)) → All (IsInVariables m) ps
       → AllStandFor m ps (terms_each ps)
   stands_all_itself m [] a = tt
   stands_all_itself m (p ∷ ps) a = (
     record {
       order = refl;
-      arity = All-head (IsOver m) p ps a;
+      arity = All-head (IsInVariables m) p ps a;
       same = Same-refl g.scalars.arithmetic (terms_in p);
     },
-    stands_all_itself m ps (All-tail (IsOver m) p ps a),
+    stands_all_itself m ps (All-tail (IsInVariables m) p ps a),
   )
 
   -- what the tests tell

@@ -1,5 +1,5 @@
 -- Polynomials that stand for lists of terms, place by place.
---   IsOver m p              p is a polynomial in m variables
+--   IsInVariables m p              p is a polynomial in m variables
 --   StandsFor m p q         and it is the same polynomial as the terms q
 --   AllStandFor m ps qs     each of ps stands for that of qs at its place, and there are as many
 use Rattle.std.specs.Prelude.{◌≡◌, ℕ, List}
@@ -11,9 +11,10 @@ use Rattle.monos.specs.declared.order.Order as Order
 use Rattle.poly.specs.declared.Poly.{Poly}
 use Rattle.poly.specs.Seen.{Is}
 
-abbrev pub IsOver : {K O : Type 0} {g : Ring.Ghosts K} {h : PartialEq.Ghosts K} {k : Order.Ghosts O}
+abbrev pub IsInVariables : {K O : Type 0} {g : Ring.Ghosts K} {h : PartialEq.Ghosts K}
+    {k : Order.Ghosts O}
     {l : PartialEq.Ghosts O} → ℕ → Poly K O g h k l → Type 0
-IsOver m p = p.arity ≡ m
+IsInVariables m p = p.arity ≡ m
 
 abbrev pub StandsFor : {K O : Type 0} {g : Ring.Ghosts K} {h : PartialEq.Ghosts K}
     {k : Order.Ghosts O} {l : PartialEq.Ghosts O} → ℕ → Poly K O g h k l → Terms g.scalars.Elem

@@ -8,7 +8,7 @@
 --   IsLeft S O p q j left            it leaves that
 --   cut_is, term_in, term_divided    what it is
 --   other_element                    the element that divides is another one
---   past_is, stop_comes, turn_comes       where it is past, and what comes next
+--   past_is, stop_comes, iteration_comes       where it is past, and what comes next
 --   left_some, leads_kept, clean_still     the list after it
 --   still_is                         where no lead divides another
 use Rattle.std.proofs.Common.{◌≡◌, ◌≢◌, ◌↔◌, ℕ, ◌+◌, ◌<◌, true, not, eqb, List, [], ◌∷◌, map, drop, length, set, get_or, slice_get, Option, Some, None, refl, sym, ap, ap₂, subst, ◌∙◌, arith, Less}
@@ -191,10 +191,10 @@ module _ {X : Type 0} {S : Scalars} {terms : X → Terms S.Elem} {xs : List X} {
     )
     stop_comes = tail_comes S O gs still (tail_of_places S gs i j k) cut_is
 
-    pub turn_comes : (x : X) (ys : List X) (n l : ℕ) → n ≡ i → l ≡ k → ys ≡ set xs i x
+    pub iteration_comes : (x : X) (ys : List X) (n l : ℕ) → n ≡ i → l ≡ k → ys ≡ set xs i x
         → IsLeft S O (terms p) (terms q) j (terms x) → next (field S) O (map terms xs)
         ≡ Some (Tail n l, map terms ys)
-    turn_comes x ys n l ni lk e left = stop_comes
+    iteration_comes x ys n l ni lk e left = stop_comes
         ∙ ap (λ z. Some (Tail i k, z)) (ap (set gs i) (sym (left_is (terms x) left))
         ∙ sym (ap (map terms) e ∙ map-set terms xs i x))
         ∙ ap₂ (λ m o. Some (Tail m o, map terms ys)) (sym ni) (sym lk)

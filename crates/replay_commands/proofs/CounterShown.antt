@@ -17,7 +17,7 @@ use Rattle.loop_model.specs.declared.map_error.MapError.{MapError}
 use Rattle.loop_model.specs.declared.map_error.MapError.TheVariants as map_error
 use Rattle.loop_text.proofs.WellFormed.{loop_well}
 use Rattle.loop_runs.specs.Replay.{same_number}
-use Rattle.loop_runs.proofs.Turns.{same_number_decides}
+use Rattle.loop_runs.proofs.Iterations.{same_number_decides}
 use Rattle.corollaries.specs.Counter.{Counters, IsFirstWord, start_of}
 use Rattle.corollaries.specs.Point.{wholes}
 use Rattle.corollaries.proofs.Points.{length-wholes}

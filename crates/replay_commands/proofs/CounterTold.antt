@@ -14,7 +14,7 @@ use Rattle.frac128.specs.FracMeaning.{fraction_of}
 use Rattle.poly.specs.Seen.{terms_in}
 use Rattle.poly_text.specs.Reasons.{Fault}
 use Rattle.loop_model.specs.FracPoly.{FracPoly}
-use Rattle.counter_run.specs.Answers.{states_of, IsFound, IfRefused}
+use Rattle.counter_run.specs.Answers.{states_of, IsFound, IfCounterRefused}
 use Rattle.counter_run.specs.declared.Found.{Found}
 use Rattle.counter_run.specs.declared.Found.TheVariants as found
 use Rattle.counter_run.specs.declared.error.CounterError.{CounterError}
@@ -52,7 +52,8 @@ module _ (l : Program (Expr ℕ)) (p : Terms Fraction) (n : ℕ) where
       (λ a says. found_seeks free f is (answer_view a)
       (says ∙ ap (λ ns. tells_found ns n f) same)) told
 
-  error_seeks : (e : CounterError) → IfRefused l p n e → (a : Answer) → tells_error e ≡ Some a
+  error_seeks : (e : CounterError) → IfCounterRefused l p n e → (a : Answer)
+      → tells_error e ≡ Some a
       → Seeks l p n a
   error_seeks (error.Map stop) is a says =
       inr (inr (inl (record { stop = stop; is = is; says = says })))
@@ -68,7 +69,8 @@ module _ (l : Program (Expr ℕ)) (p : Terms Fraction) (n : ℕ) where
   }))))
   error_seeks error.Memory is a says = absurd (no_answer a says)
 
-  pub told_error : (e : CounterError) → IfRefused l p n e → (r : Result made.Answer AllocError)
+  pub told_error : (e : CounterError) → IfCounterRefused l p n e
+      → (r : Result made.Answer AllocError)
       → IfOk r (λ a. tells_error e ≡ Some (answer_view a))
       → IfOk r (λ a. Seeks l p n (answer_view a))
   told_error e is r told = IfOk-weaker r _ _ (λ a says. error_seeks e is (answer_view a) says) told

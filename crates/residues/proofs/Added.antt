@@ -12,7 +12,7 @@ use Rattle.ideals.proofs.Congruence.{congruent_same}
 use Rattle.closures.specs.Modulo.{IsMultiple, AreCongruent, HasPivot}
 use Rattle.residues.specs.Modulus.{modulus}
 use Rattle.residues.specs.Numbers.{number_of, numbers_of}
-use Rattle.residues.specs.EchelonForm.{entry, Led, Form, IsLed, IsKept, IsRestOf, IsOld, IsStuck}
+use Rattle.residues.specs.EchelonForm.{entry, Led, Form, IsLed, IsReducedEchelon, IsRestOf, IsDependent, IsStuck}
 use Rattle.residues.specs.LedRows.{led_of, leds_of}
 use Rattle.residues.specs.Additions.{IsBlendOf, IsFirstEntry, IsFresh, IsClearedBy, IsAddedAs}
 use Rattle.std.specs.declared.alloc.AllocError.{AllocError}
@@ -31,7 +31,7 @@ residue_none x i = ap pos (small_multiple modulus x.value x.low i)
 module _ (e : Form) (row : List ℤ) (rest : List Residue)
     (left : IsRestOf (pos modulus) e row (numbers_of rest)) where
   pub nothing_left : (slice : List Residue) → slice ≡ rest
-      → ((k : ℕ) → entry (numbers_of slice) k ≡ pos 0) → IsOld (pos modulus) e row
+      → ((k : ℕ) → entry (numbers_of slice) k ≡ pos 0) → IsDependent (pos modulus) e row
   nothing_left slice s zero =
       rest_old (pos modulus) e row (numbers_of rest) left
       (λ k. in_ideal_same ℤ_ring
@@ -126,9 +126,9 @@ added_as e row f rows olds cleared final same s fresh are p = record {
 
 -- ---- the form after it
 pub kept_added : (n : ℕ) (ls : List Led) (row : List ℤ) (fs : List Led) → length row ≡ n
-    → IsKept (pos modulus) n ls
+    → IsReducedEchelon (pos modulus) n ls
     → IsAddedAs (pos modulus) (record { width = n; rows = ls }) row fs
-    → IsKept (pos modulus) n fs
+    → IsReducedEchelon (pos modulus) n fs
 kept_added n ls row fs w kept a =
     form_own (pos modulus) n (map (λ l. l.row) ls ++ row ∷ []) fs
     (added_more (pos modulus) (record { width = n; rows = ls }) row fs a w (map (λ l. l.row) ls)

@@ -20,13 +20,13 @@ use Rattle.ideals.proofs.Congruence.{congruent_same}
 use Rattle.closures.specs.Modulo.{AreCongruent}
 use Rattle.residues.specs.Numbers.{number_of, numbers_of}
 use Rattle.closures.proofs.Congruent.{congruent_trans}
-use Rattle.residues.specs.EchelonForm.{entry, IsLed, IsKept, IsRestOf}
+use Rattle.residues.specs.EchelonForm.{entry, IsLed, IsReducedEchelon, IsRestOf}
 use Rattle.residues.specs.LedRows.{led_of, leds_of}
 use Rattle.residues.specs.Additions.{IsBlendOf, IsFirstEntry, IsClearedBy}
 use Rattle.residues.specs.declared.echelon.LedRow.{LedRow}
 use Rattle.residues.specs.declared.residue.Residue.{Residue}
 use Rattle.residues.proofs.Forms.{turned}
-use Rattle.residues.proofs.Turns.{IsBlendTo, blend_step, blend_end, IsTurned, turned_item, turned_end, zip_images, IsRestTo, rest_step, rest_end}
+use Rattle.residues.proofs.Iterations.{IsBlendTo, blend_step, blend_end, IsTurned, turned_item, turned_end, zip_images, IsRestTo, rest_step, rest_end}
 
 module _ {A : Type 0} (R : CommRing A) where
   open R use {zero as 𝟘, one as 𝟙, add as ◌⊕◌, mul as ◌⊗◌, neg}
@@ -156,7 +156,7 @@ split_at rows i r l e =
 
 pub rest_more : (q : ℤ) (rows : List LedRow) (i : ℕ) (r : LedRow) (start row out : List Residue)
     (f : Residue) → i < length rows → r ≡ get_or rows i r
-    → IsKept q (length start) (leds_of rows)
+    → IsReducedEchelon q (length start) (leds_of rows)
     → IsRestTo q (length start) (leds_of rows) (numbers_of start) (leds_of (take i rows))
     (numbers_of row)
     → r.lead < length row → f ≡ get_or row r.lead f → length out ≡ length row

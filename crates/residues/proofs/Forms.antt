@@ -17,7 +17,7 @@ use Rattle.ideals.proofs.Ideal.{in_ideal_same, in_ideal_zero, in_ideal_add, in_i
 use Rattle.ideals.proofs.Congruence.{congruent_refl, congruent_same, congruent_sym, congruent_add, congruent_mul}
 use Rattle.closures.specs.Modulo.{IsMultiple, AreCongruent, IsCombinationModulo}
 use Rattle.closures.proofs.Congruent.{congruent_trans}
-use Rattle.residues.specs.EchelonForm.{dot, entry, pick, Led, rows_in, leads_in, IsLed, AreClear, AreApart, IsEchelonOf, Form, IsKept, IsNew, IsOld, IsRestOf}
+use Rattle.residues.specs.EchelonForm.{dot, entry, pick, Led, rows_in, leads_in, IsLed, AreClear, AreApart, IsEchelonOf, Form, IsReducedEchelon, IsIndependent, IsDependent, IsRestOf}
 use Rattle.residues.specs.Additions.{IsFresh, IsClearedBy, IsAddedAs}
 use Rattle.residues.proofs.Dots.{multiple_to, none_of, multiple_of, first_part, dot_first, dot_zero, dot_blend, spread, dot_spread}
 
@@ -158,7 +158,7 @@ module _ (q : ℤ) where
   form_none n = record { widths = tt; led = tt; apart = tt; within = tt; spans = tt }
 
   pub form_own : (n : ℕ) (given : List (List ℤ)) (ls : List Led) → IsEchelonOf q n given ls
-      → IsKept q n ls
+      → IsReducedEchelon q n ls
   form_own n given ls e = record {
     widths = each-map (λ r. length r ≡ n) (λ (l : Led). l.row) ls
         (each_weaker (IsLed q n) (λ l. length l.row ≡ n) (λ l i. i.width) ls e.led);
@@ -176,7 +176,7 @@ module _ (q : ℤ) where
       (in_ideal_same ℤ_ring (no_sum ℤ_ring (dot z [])) (in_ideal_zero ℤ_ring))
 
   pub rest_old : (e : Form) (row rest : List ℤ) → IsRestOf q e row rest
-      → ((k : ℕ) → IsMultiple q (entry rest k)) → IsOld q e row
+      → ((k : ℕ) → IsMultiple q (entry rest k)) → IsDependent q e row
   rest_old e row rest r h given g = record {
     gives = λ z k.
         multiple_to q (dot z row) (dot z rest)
@@ -230,7 +230,7 @@ module _ (q : ℤ) where
           (dot (map minus e.rows) (pick (pos 0) (leads_in e.rows) fresh.rest)) left
           (none_picked e.rows fresh.rest fresh.is.cleared minus))
 
-    pub fresh_new : IsNew q e row
+    pub fresh_new : IsIndependent q e row
     fresh_new given g c =
         not_row g.led g.apart
         (c.gives witness (combined (rows_in e.rows) given g.spans witness
@@ -468,5 +468,5 @@ module _ (q : ℤ) where
       (form_more e row a.fresh a.is a.cleared a.are given g w)
 
   pub added_new : (e : Form) (row : List ℤ) (fs : List Led) → IsAddedAs q e row fs
-      → IsNew q e row
+      → IsIndependent q e row
   added_new e row fs a = fresh_new e row a.fresh a.is

@@ -6,4 +6,4 @@ pub mod Fractions
 pub mod Picked
 pub mod Products
 pub mod Rests
-pub mod Turns
+pub mod Iterations

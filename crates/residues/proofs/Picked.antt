@@ -67,16 +67,16 @@ module _ (q : ℤ) where
         (λ k. IsMultiple q (get_or (pick (pos 0) all k.row) (length ks) (pos 0)))
         (λ k c. in_ideal_same ℤ_ring (entry_behind (pos 0) ks (leads_in ls) l.lead k.row) c.1)
         ls apart.0)),
-    turn (triangular_from (ks ++ l.lead ∷ []) ls one.1 apart.1),
+    iteration (triangular_from (ks ++ l.lead ∷ []) ls one.1 apart.1),
   )
     where
       all : List ℕ
       all = ks ++ l.lead ∷ leads_in ls
 
-      turn : IsTriangularFrom q (length (ks ++ l.lead ∷ []))
+      iteration : IsTriangularFrom q (length (ks ++ l.lead ∷ []))
           (map (pick (pos 0) ((ks ++ l.lead ∷ []) ++ leads_in ls)) (rows_in ls))
           → IsTriangularFrom q (suc (length ks)) (map (pick (pos 0) all) (rows_in ls))
-      turn h =
+      iteration h =
           subst (λ k. IsTriangularFrom q k (map (pick (pos 0) all) (rows_in ls))) (pushed ks l.lead)
           (subst (λ ms. IsTriangularFrom q (length (ks ++ l.lead ∷ []))
           (map (pick (pos 0) ms) (rows_in ls)))

@@ -6,8 +6,8 @@
 --   AreApart q ls         each has multiples of q in the leading columns of the others
 --   IsEchelonOf q n given ls   ls are such rows, and they and the given ones, n wide, are combinations of one another
 --   Form                  a width and such rows
---   IsMore q e row f      of whatever rows e is the echelon form, f is that of these and the row
---   IsOld q e row         row is a combination of whatever rows e is the echelon form of;  IsNew: of none of them
+--   IsWithRow q e row f      of whatever rows e is the echelon form, f is that of these and the row
+--   IsDependent q e row         row is a combination of whatever rows e is the echelon form of;  IsIndependent: of none of them
 --   IsRestOf q e row rest     rest is row less a combination of the rows, with multiples of q in their leading columns
 --   IsStuck q e row       of that the first entry that is no multiple of q has no inverse
 --   pick d ks xs          what xs has at the places ks, and d behind its end
@@ -58,20 +58,20 @@ pub record Form : Type 0 where
   pub width : ℕ
   pub rows : List Led
 
-abbrev pub IsKept : ℤ → ℕ → List Led → Type 0
-IsKept q n ls = IsEchelonOf q n (rows_in ls) ls
+abbrev pub IsReducedEchelon : ℤ → ℕ → List Led → Type 0
+IsReducedEchelon q n ls = IsEchelonOf q n (rows_in ls) ls
 
 module _ (q : ℤ) (e : Form) (row : List ℤ) where
-  abbrev pub IsMore : Form → Type 0
-  IsMore f = (given : List (List ℤ)) → IsEchelonOf q e.width given e.rows
+  abbrev pub IsWithRow : Form → Type 0
+  IsWithRow f = (given : List (List ℤ)) → IsEchelonOf q e.width given e.rows
       → IsEchelonOf q e.width (given ++ row ∷ []) f.rows
 
-  abbrev pub IsNew : Type 0
-  IsNew = (given : List (List ℤ)) → IsEchelonOf q e.width given e.rows
+  abbrev pub IsIndependent : Type 0
+  IsIndependent = (given : List (List ℤ)) → IsEchelonOf q e.width given e.rows
       → ¬ (IsCombinationModulo q given row)
 
-  abbrev pub IsOld : Type 0
-  IsOld = (given : List (List ℤ)) → IsEchelonOf q e.width given e.rows
+  abbrev pub IsDependent : Type 0
+  IsDependent = (given : List (List ℤ)) → IsEchelonOf q e.width given e.rows
       → IsCombinationModulo q given row
 
   pub record IsRestOf (rest : List ℤ) : Type 0 where

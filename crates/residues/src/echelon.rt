@@ -6,7 +6,7 @@ ghost use Rattle.algebra.specs.Each.{Each};
 ghost use Rattle.algebra.specs.In.{In};
 ghost use Rattle.closures.specs.Modulo.{IsMultiple};
 ghost use Rattle.residues.specs.Modulus.{modulus};
-ghost use Rattle.residues.specs.EchelonForm.{entry, IsLed, IsKept, IsMore, IsNew, IsOld, IsRestOf, IsStuck};
+ghost use Rattle.residues.specs.EchelonForm.{entry, IsLed, IsReducedEchelon, IsWithRow, IsIndependent, IsDependent, IsRestOf, IsStuck};
 ghost use Rattle.residues.specs.Additions.{IsBlendOf, IsFirstEntry, IsClearedBy, IsAddedAs};
 ghost use Rattle.residues.specs.Numbers.{number_of, numbers_of};
 ghost use Rattle.residues.specs.LedRows.{led_of, leds_of};
@@ -60,14 +60,14 @@ pub struct Echelon {
 impl Model for Echelon {
     ghost use Rattle.std.specs.Prelude.{pos};
     ghost use Rattle.residues.specs.Modulus.{modulus};
-    ghost use Rattle.residues.specs.EchelonForm.{Form, IsKept};
+    ghost use Rattle.residues.specs.EchelonForm.{Form, IsReducedEchelon};
     ghost use Rattle.residues.specs.LedRows.{leds_of};
 
     ghost Value = { Form };
 
     ghost view = { λ e. record { width = e.width; rows = leds_of e.rows.items } };
 
-    ghost invariant = { λ e. IsKept (pos modulus) e.width (leds_of e.rows.items) };
+    ghost invariant = { λ e. IsReducedEchelon (pos modulus) e.width (leds_of e.rows.items) };
 }
 
 impl Echelon {
@@ -87,10 +87,11 @@ impl Echelon {
         requires { length row.items ≡ self.old.width }
         ensures width { self.new.width ≡ self.old.width }
         ensures more { result ≡ Ok Counts
-            → IsMore (pos modulus) self.old (numbers_of row.items) self.new }
-        ensures new { result ≡ Ok Counts → IsNew (pos modulus) self.old (numbers_of row.items) }
+            → IsWithRow (pos modulus) self.old (numbers_of row.items) self.new }
+        ensures new { result ≡ Ok Counts → IsIndependent (pos modulus) self.old
+            (numbers_of row.items) }
         ensures old { result ≡ Ok Combination
-            → IsOld (pos modulus) self.old (numbers_of row.items) }
+            → IsDependent (pos modulus) self.old (numbers_of row.items) }
         ensures stuck { result ≡ Ok NoInverse
             → IsStuck (pos modulus) self.old (numbers_of row.items) }
         ensures kept { ¬ (result ≡ Ok Counts) → self.new ≡ self.old }
@@ -114,7 +115,7 @@ impl Echelon {
 
     /// The row that leads in this column.
     pub fn row_at(&self, column: usize) -> Option<&LedRow>
-        ensures kept { IsKept (pos modulus) self.now.width self.now.rows }
+        ensures kept { IsReducedEchelon (pos modulus) self.now.width self.now.rows }
         ensures some { IfSome result (λ r. r.now.lead ≡ column) }
         ensures within { IfSome result (λ r. In (led_of r.now) self.now.rows) }
         ensures none { IsNone result → Each (λ l. l.lead ≢ column) self.now.rows }
@@ -139,11 +140,11 @@ fn row_in(rows: &[LedRow], column: usize) -> Option<&LedRow>
 
 /// Adds a row to the rows of a form, which are n wide.
 fn add_to(rows: &mut Vec<LedRow>, mut row: Vec<Residue>) -> Result<Addition, AllocError>
-    requires { IsKept (pos modulus) (length row.items) (leds_of rows.old.items) }
+    requires { IsReducedEchelon (pos modulus) (length row.items) (leds_of rows.old.items) }
     ensures counts { result ≡ Ok Counts → IsAddedAs (pos modulus)
         (record { width = length row.items; rows = leds_of rows.old.items })
         (numbers_of row.items) (leds_of rows.new.items) }
-    ensures old { result ≡ Ok Combination → IsOld (pos modulus)
+    ensures old { result ≡ Ok Combination → IsDependent (pos modulus)
         (record { width = length row.items; rows = leds_of rows.old.items })
         (numbers_of row.items) }
     ensures stuck { result ≡ Ok NoInverse → IsStuck (pos modulus)
@@ -168,7 +169,7 @@ fn add_to(rows: &mut Vec<LedRow>, mut row: Vec<Residue>) -> Result<Addition, All
 
 /// Takes from the row, for each of the rows, its entry in their leading column times them.
 fn reduce(row: &mut Vec<Residue>, rows: &[LedRow])
-    requires { IsKept (pos modulus) (length row.old.items) (leds_of rows.now) }
+    requires { IsReducedEchelon (pos modulus) (length row.old.items) (leds_of rows.now) }
     ensures { IsRestOf (pos modulus)
         (record { width = length row.old.items; rows = leds_of rows.now })
         (numbers_of row.old.items) (numbers_of row.new.items) }

@@ -13,7 +13,7 @@ use Rattle.machines.specs.Journal.{Entry, Begin}
 use Rattle.machines.specs.Run.{IsRun}
 use Rattle.machines.specs.Elimination as elimination
 use Rattle.machines.specs.Division as division
-use Rattle.rounds.specs.Analysis.{Setting, with_asked, Work, starts, turn, turn_meet, orbit, meet, State, fresh, working, closing, turning, asking, Step, goes, finished, answered, form_of, turns_of, block, order, starting, after_closing, test, closing_from, begin_turn, begin_orbit, after_turns, begin_branch, after_branch, after_orbit, after, next_work, after_test, closed_by, asked_by, first_step, next, move_of, moves}
+use Rattle.rounds.specs.Analysis.{Setting, with_asked, Work, starts, iteration, iteration_meet, orbit, meet, State, fresh, working, closing, turning, asking, Step, goes, finished, answered, form_of, iterations_of, block, order, starting, after_closing, test, closing_from, begin_iteration, begin_orbit, after_iterations, begin_branch, after_branch, after_orbit, after, next_work, after_test, closed_by, asked_by, first_step, next, move_of, moves}
 use Rattle.rounds.proofs.SameForms.{same_block, same_order}
 
 module _ (setting : Setting) (p : Terms Fraction) where
@@ -45,14 +45,16 @@ module _ (setting : Setting) (p : Terms Fraction) where
       outer false true = refl
       outer false false = refl
 
-  same_turns : (k b n : ℕ) (gs before so_far : List (Terms Fraction))
-      → after_turns B k b n gs before so_far ≡ goes_on (after_turns A k b n gs before so_far)
-  unfolding after_turns starting
-  same_turns k b n gs before so_far = go (ltb n (turns_of setting b))
+  same_iterations : (k b n : ℕ) (gs before so_far : List (Terms Fraction))
+      → after_iterations B k b n gs before so_far ≡ goes_on (after_iterations A k b n gs before
+      so_far)
+  unfolding after_iterations starting
+  same_iterations k b n gs before so_far = go (ltb n (iterations_of setting b))
     where
       go : (o : Bool)
-          → cond o (begin_turn B k b n gs before so_far) (begin_orbit B k b gs so_far)
-          ≡ goes_on (cond o (begin_turn A k b n gs before so_far) (begin_orbit A k b gs so_far))
+          → cond o (begin_iteration B k b n gs before so_far) (begin_orbit B k b gs so_far)
+          ≡ goes_on (cond o (begin_iteration A k b n gs before so_far)
+          (begin_orbit A k b gs so_far))
       go true = refl
       go false = refl
 
@@ -63,7 +65,7 @@ module _ (setting : Setting) (p : Terms Fraction) where
     where
       go : (o : Bool) → cond o (begin_branch B k (suc b) gs hs) (closing_from B k 0 0 hs)
           ≡ goes_on (cond o (begin_branch A k (suc b) gs hs) (closing_from A k 0 0 hs))
-      go true = same_turns k (suc b) 0 gs gs hs
+      go true = same_iterations k (suc b) 0 gs gs hs
       go false = same_closing k 0 0 hs
 
   same_after_orbit : (d k b : ℕ) (gs so_far hs : List (Terms Fraction))
@@ -76,8 +78,8 @@ module _ (setting : Setting) (p : Terms Fraction) where
   same_after : (w : Work) (gs : List (Terms Fraction)) → after B w gs ≡ goes_on (after A w gs)
   unfolding after starting
   same_after starts gs = same_closing 0 0 0 gs
-  same_after (turn k b n gs before so_far) ks = refl
-  same_after (turn_meet k b n gs so_far ks) ls = same_turns k b (suc n) gs ks ls
+  same_after (iteration k b n gs before so_far) ks = refl
+  same_after (iteration_meet k b n gs so_far ks) ls = same_iterations k b (suc n) gs ks ls
   same_after (orbit k b gs so_far) hs = same_after_orbit (form_of setting b).since k b gs so_far hs
   same_after (meet k b gs so_far hs) ls = same_branch k b gs ls
 
@@ -135,7 +137,7 @@ module _ (setting : Setting) (p : Terms Fraction) where
   next_asked fresh = same_first setting.given
   next_asked (working w s) = same_working w s
   next_asked (closing k b i gs s) = same_closed k b i gs s
-  next_asked (turning k gs) = same_turns k 0 0 gs gs gs
+  next_asked (turning k gs) = same_iterations k 0 0 gs gs gs
   next_asked (asking k gs s) = same_asking k gs s
 
   same_moves : (x : Step) (y : Entry × State) → move_of A x ≡ Some y

@@ -11,7 +11,7 @@ use Rattle.algebra.specs.Each.{Each}
 use Rattle.algebra.specs.In.{In}
 use Rattle.algebra.specs.Ring.{CommRing}
 use Rattle.algebra.specs.Sum.{sum_over}
-use Rattle.algebra.proofs.RingLaws.{zero-add, add_turn, one-mul}
+use Rattle.algebra.proofs.RingLaws.{zero-add, add_rotate, one-mul}
 use Rattle.algebra.proofs.RingSolver.{ring_rules, ring}
 use Rattle.algebra.specs.Gcd.{gcd}
 use Rattle.algebra.specs.Ratio.{is_lowest, reduce}
@@ -41,8 +41,8 @@ use Rattle.machines.specs.Run.{IsRun}
 use Rattle.machines.proofs.Runs.{on, trace, run_of}
 use Rattle.exponentials.specs.Base.{IsTheBase}
 use Rattle.exponentials.specs.Keys.{excess}
-use Rattle.solvable_maps.specs.Turns as turns
-use Rattle.solvable_maps.specs.Turns.{point, values_at}
+use Rattle.solvable_maps.specs.Iterations as iterations
+use Rattle.solvable_maps.specs.Iterations.{point, values_at}
 use Rattle.loops.specs.Effect.{store, value_of, after_statement, after_branch}
 use Rattle.loops.specs.Map.{branch_map}
 use Rattle.loops.specs.Program.{Expr, number, variable, add, mul, Program}
@@ -190,7 +190,7 @@ double_base = record {
   divides = (record { number = 2; within = inl refl; divides = N.dvd_refl 2 }, tt);
 }
 
--- ---- the state after n turns
+-- ---- the state after n iterations
 module _ {A : Type 0} (R : CommRing A) where
   open R use {one as 𝟙, zero as 𝟘, add as ◌⊕◌, mul as ◌⊗◌}
 
@@ -219,29 +219,29 @@ step_raw = branch_map steps (branch_of steps 1)
 abbrev double_raw : List (Terms Fraction)
 double_raw = branch_map steps (branch_of steps 2)
 
-step_turn : (x y : Fraction) → values_at step_raw (x ∷ y ∷ []) ≡ both (λ z. ℚ.add z one) x y
+step_iteration : (x y : Fraction) → values_at step_raw (x ∷ y ∷ []) ≡ both (λ z. ℚ.add z one) x y
 unfolding after_branch after_statement store value_of
-step_turn x y = branch_map_values steps (branch_of steps 1) (x ∷ y ∷ []) refl
+step_iteration x y = branch_map_values steps (branch_of steps 1) (x ∷ y ∷ []) refl
 
-double_turn : (x y : Fraction) → values_at double_raw (x ∷ y ∷ []) ≡ both (ℚ.mul two) x y
+double_iteration : (x y : Fraction) → values_at double_raw (x ∷ y ∷ []) ≡ both (ℚ.mul two) x y
 unfolding after_branch after_statement store value_of
-double_turn x y = branch_map_values steps (branch_of steps 2) (x ∷ y ∷ []) refl
+double_iteration x y = branch_map_values steps (branch_of steps 2) (x ∷ y ∷ []) refl
 
-step_turned : (n : ℕ) (x y : Fraction) → turns.turns step_raw n (x ∷ y ∷ [])
+step_turned : (n : ℕ) (x y : Fraction) → iterations.iterations step_raw n (x ∷ y ∷ [])
     ≡ both (ℚ.add (whole (pos n))) x y
 step_turned zero x y = sym (ap₂ ◌∷◌ (zero-add ℚ_ring x) (ap (λ z. z ∷ []) (zero-add ℚ_ring y)))
 step_turned (suc n) x y =
-    ap (values_at step_raw) (step_turned n x y) ∙ step_turn _ _
-    ∙ ap₂ ◌∷◌ (add_turn ℚ_ring (whole (pos n)) x one)
-    (ap (λ z. z ∷ []) (add_turn ℚ_ring (whole (pos n)) y one))
+    ap (values_at step_raw) (step_turned n x y) ∙ step_iteration _ _
+    ∙ ap₂ ◌∷◌ (add_rotate ℚ_ring (whole (pos n)) x one)
+    (ap (λ z. z ∷ []) (add_rotate ℚ_ring (whole (pos n)) y one))
     ∙ ap (λ k. both (ℚ.add k) x y) (sym (whole-suc n))
 
-double_turned : (n : ℕ) (x y : Fraction) → turns.turns double_raw n (x ∷ y ∷ [])
+double_turned : (n : ℕ) (x y : Fraction) → iterations.iterations double_raw n (x ∷ y ∷ [])
     ≡ both (ℚ.mul (power ℚ two n)) x y
 unfolding power
 double_turned zero x y = sym (ap₂ ◌∷◌ (one-mul ℚ_ring x) (ap (λ z. z ∷ []) (one-mul ℚ_ring y)))
 double_turned (suc n) x y =
-    ap (values_at double_raw) (double_turned n x y) ∙ double_turn _ _
+    ap (values_at double_raw) (double_turned n x y) ∙ double_iteration _ _
     ∙ ap₂ ◌∷◌ (sym (ℚ_ring.mul_assoc two (power ℚ two n) x))
     (ap (λ z. z ∷ []) (sym (ℚ_ring.mul_assoc two (power ℚ two n) y)))
 
@@ -258,7 +258,7 @@ double_at n x y = ap₂ ◌∷◌ (x_double ℚ_ring (power ℚ two n) x)
     (ap (λ z. z ∷ []) (y_double ℚ_ring (power ℚ two n) y))
 
 step_values : (n : ℕ) (s : List Fraction) → length s ≡ length step_raw → 0 ≤ n
-    → values_at step_form.polys (point [] n s) ≡ turns.turns step_raw n s
+    → values_at step_form.polys (point [] n s) ≡ iterations.iterations step_raw n s
 unfolding branch_map after_branch after_statement store variables unit_exponents
 step_values n [] l late = absurd (omega (arith, l))
 step_values n (x ∷ []) l late = absurd (omega (arith, l))
@@ -266,7 +266,7 @@ step_values n (x ∷ y ∷ z ∷ zs) l late = absurd (omega (arith, l))
 step_values n (x ∷ y ∷ []) l late = step_at n x y ∙ sym (step_turned n x y)
 
 double_values : (n : ℕ) (s : List Fraction) → length s ≡ length double_raw → 0 ≤ n
-    → values_at double_form.polys (point (2 ∷ []) n s) ≡ turns.turns double_raw n s
+    → values_at double_form.polys (point (2 ∷ []) n s) ≡ iterations.iterations double_raw n s
 unfolding branch_map after_branch after_statement store variables unit_exponents
 double_values n [] l late = absurd (omega (arith, l))
 double_values n (x ∷ []) l late = absurd (omega (arith, l))
@@ -345,7 +345,7 @@ abbrev pub steps_basis : List (Terms Fraction)
 steps_basis = ((1 ∷ 0 ∷ [], one) ∷ (0 ∷ 1 ∷ [], whole (negsuc 0)) ∷ []) ∷ []
 
 entries_are : (trace (moves setting) 30 fresh).0 ≡ steps_journal
-unfolding on trace next block starting closing_from analysis.after_turns analysis.after_branch
+unfolding on trace next block starting closing_from analysis.after_iterations analysis.after_branch
     analysis.after relation
     relations_to start_list start_polynomial in_order branch_map after_branch after_statement store
     value_of variables unit_exponents constant collect insert place scale_terms compare blocks
@@ -362,7 +362,7 @@ unfolding on trace next block starting closing_from analysis.after_turns analysi
 entries_are = refl
 
 ends : next setting (trace (moves setting) 30 fresh).1 ≡ finished 1 steps_basis
-unfolding on trace next block starting closing_from analysis.after_turns analysis.after_branch
+unfolding on trace next block starting closing_from analysis.after_iterations analysis.after_branch
     analysis.after relation
     relations_to start_list start_polynomial in_order branch_map after_branch after_statement store
     value_of variables unit_exponents constant collect insert place scale_terms compare blocks

@@ -1,7 +1,7 @@
--- How many elements of what an orbit or a turn begins with are free of the variables that are eliminated.
+-- How many elements of what an orbit or an iteration begins with are free of the variables that are eliminated.
 --   whole_few      of an orbit whose form is the state from 0 on: no more than the list has
 --   orbit_few      of any: as many as variables more
---   turn_few       so of a turn
+--   iteration_few       so of an iteration
 use Rattle.std.proofs.Common.{◌≡◌, ℕ, zero, suc, ◌+◌, ◌≤◌, List, [], ◌∷◌, ◌++◌, map, drop, length, arith, sym, ap, subst, ◌∙◌, append_assoc}
 use Rattle.std.proofs.lemmas.List.{length-map, length-append, append-nil}
 use Rattle.algebra.specs.Fraction.{Fraction, ℚ, rationals}
@@ -10,7 +10,7 @@ use Rattle.polynomials.specs.Terms.{Terms, variables, compose}
 use Rattle.machines.specs.Collect.{collect}
 use Rattle.machines.specs.Elimination.{free_part}
 use Rattle.machines.proofs.Lengths.{made, NothingKept, kept_made}
-use Rattle.rounds.specs.Form.{Form, front, normal, passes, passing, form_before, late_order, orbit_front, orbit_list, orbit_order, front_since, list_since, relations, turn_before, turn_front, turn_list, unwound_by}
+use Rattle.rounds.specs.Form.{Form, front, normal, passes, passing, form_before, late_order, orbit_front, orbit_list, orbit_order, front_since, list_since, relations, iteration_before, iteration_front, iteration_list, pulled_back_by}
 use Rattle.rounds.specs.Graph.{less, at_before}
 use Rattle.rounds.proofs.RelationTerms.{all_not_kept, relations_not_kept}
 
@@ -27,9 +27,9 @@ module _ (f : Form) (m : ℕ) (gs : List (Terms Fraction)) where
   whole : HasFew 0 (length gs)
   whole =
       let r = length f.base in
-      let a = kept_made rationals (front r) (map (unwound_by f m) gs)
+      let a = kept_made rationals (front r) (map (pulled_back_by f m) gs)
       (map (collect rationals (orbit_order r)) (relations r m)) (relations_not_kept r m) in
-      let b = length-map gs (unwound_by f m) in
+      let b = length-map gs (pulled_back_by f m) in
       omega (arith, a, b)
 
   pub whole_few : f.since ≡ 0 → length (free_part (orbit_front f m)
@@ -71,18 +71,18 @@ module _ (f : Form) (m : ℕ) (gs : List (Terms Fraction)) where
       go zero = let a = whole in omega (arith, a)
       go (suc d) = late d count
 
-  pub turn_few : (images : List (Terms Fraction)) → length images ≡ m
-      → length (free_part (turn_front f m) (made rationals (turn_front f m)
-      (turn_list f m images gs)))
+  pub iteration_few : (images : List (Terms Fraction)) → length images ≡ m
+      → length (free_part (iteration_front f m) (made rationals (iteration_front f m)
+      (iteration_list f m images gs)))
       ≤ length gs + m
   unfolding NothingKept
-  turn_few images count =
-      let t = turn_front f m in
-      let before = turn_before f m (passes f m) in
+  iteration_few images count =
+      let t = iteration_front f m in
+      let before = iteration_before f m (passes f m) in
       let ks = map (λ g. compose ℚ (0 + t + m) g before) gs in
       let ds = less (drop (0 + t) (variables ℚ (0 + t + m))) (map (at_before 0 t m before)
       images) in
-      let all = kept_made rationals t (turn_list f m images gs) [] tt in
+      let all = kept_made rationals t (iteration_list f m images gs) [] tt in
       let a = length-map (ks ++ (ds ++ [])) (collect rationals (blocks t grevlex grevlex)) in
       let b = length-append ks (ds ++ []) in
       let c = length-append ds [] in
@@ -90,9 +90,9 @@ module _ (f : Form) (m : ℕ) (gs : List (Terms Fraction)) where
       images) in
       let e = length-map images (at_before 0 t m before) in
       let g = length-map gs (λ g. compose ℚ (0 + t + m) g before) in
-      let none : length (free_part t (made rationals t (turn_list f m images gs ++ [])))
+      let none : length (free_part t (made rationals t (iteration_list f m images gs ++ [])))
       ≡ length (free_part t
-      (made rationals t (turn_list f m images gs))) =
+      (made rationals t (iteration_list f m images gs))) =
       ap (λ l. length (free_part t (made rationals t l)))
-      (append-nil (turn_list f m images gs)) in
+      (append-nil (iteration_list f m images gs)) in
       omega (arith, all, a, b, c, d, e, g, none, count)

@@ -17,7 +17,7 @@ use Rattle.algebra.proofs.In.{each_in, each_from, in_left, in_right, in_either, 
 use Rattle.exponentials.proofs.Lists.{each_map}
 use Rattle.exponentials.proofs.Powers.{product-pos}
 use Rattle.solvable_maps.specs.Classes.{sizes_of}
-use Rattle.solvable_maps.specs.Turns.{width, IsNormal, IsNormalForm, IsClosedFormFrom}
+use Rattle.solvable_maps.specs.Iterations.{width, IsNormal, IsNormalForm, IsClosedFormFrom}
 use Rattle.solvable_maps.proofs.OneForm.{forms_one}
 use Rattle.loops.specs.Map.{branch_map}
 use Rattle.machines.specs.Journal.{Entry, units_of}

@@ -13,15 +13,15 @@ use Rattle.machines.specs.Reduced.{IsReducedFor}
 use Rattle.machines.specs.Run.{IsRun}
 use Rattle.loops.specs.Program.{Expr, Program}
 use Rattle.rounds.specs.Word as words
-use Rattle.rounds.specs.Word.{AtMost, Ending, LaterTurns, FirstTurns, Every, IsLetter, after_word, Stays}
+use Rattle.rounds.specs.Word.{AtMost, Ending, LaterIterations, FirstIterations, Every, IsLetter, after_word, Stays}
 use Rattle.rounds.specs.Generate.{Generates}
 use Rattle.rounds.specs.Round.{IsClosed}
-use Rattle.rounds.specs.Analysis.{Setting, Work, starts, turn, turn_meet, orbit, meet, State, fresh, working, closing, turning, asking, form_of, turns_of, moves}
+use Rattle.rounds.specs.Analysis.{Setting, Work, starts, iteration, iteration_meet, orbit, meet, State, fresh, working, closing, turning, asking, form_of, iterations_of, moves}
 use Rattle.rounds.specs.Lists.{HasPassed, IsRoundAfter, AreAll, IsListOf, AreOfWork, AreGiven}
 use Rattle.rounds.specs.Results.{IsReducedList, Laws}
 use Rattle.rounds.proofs.Word.{arity-after_word}
 use Rattle.rounds.proofs.Invariants.{reduced_for}
-use Rattle.rounds.proofs.Round.{turns_generate, round_generates, all_is_closed}
+use Rattle.rounds.proofs.Round.{iterations_generate, round_generates, all_is_closed}
 use Rattle.rounds.proofs.Beginnings.{IsTold, Begins}
 use Rattle.rounds.proofs.Journal as Journal
 use Rattle.rounds.proofs.Journal.{since_in}
@@ -38,8 +38,8 @@ module _ {At : Type 0} (program : Program (Expr At)) (nonempty : 0 < length prog
   abbrev Before : List (Terms Fraction) → ℕ → ℕ → Type 0
   Before = Journal.Before program nonempty A count laws I begins
 
-  abbrev Turns : ℕ → List (Terms Fraction) → Type 0
-  Turns = Journal.Turns program nonempty A count laws I begins
+  abbrev Iterations : ℕ → List (Terms Fraction) → Type 0
+  Iterations = Journal.Iterations program nonempty A count laws I begins
 
   abbrev IsList : (ℕ → ℕ → Type 0) → List (Terms Fraction) → List (Terms Fraction) → Type 0
   IsList = Journal.IsList program nonempty A count laws I begins
@@ -82,7 +82,7 @@ module _ {At : Type 0} (program : Program (Expr At)) (nonempty : 0 < length prog
     has_more k gs f open_ h = open_ (all_is_closed program I k gs (level k gs f)
         (λ p a s. (told.all p a).0 (h p a ((told.along (AtMost k) p a).1 s))))
 
-    round_after : (k : ℕ) (gs : List (Terms Fraction)) → Turns k gs
+    round_after : (k : ℕ) (gs : List (Terms Fraction)) → Iterations k gs
         → IsRoundAfter program P Q (since_in A) k gs
     round_after k gs t = record {
       before = t.before;
@@ -92,14 +92,14 @@ module _ {At : Type 0} (program : Program (Expr At)) (nonempty : 0 < length prog
     }
 
     list_basis : (k : ℕ) (R : ℕ → ℕ → Type 0) (gs hs : List (Terms Fraction))
-        → ((i t : ℕ) → R i t → IsLetter program i) → (t : Turns k gs) → IsList R gs hs
+        → ((i t : ℕ) → R i t → IsLetter program i) → (t : Iterations k gs) → IsList R gs hs
         → IsReducedFor rationals grevlex (length program.names) hs (P (Ending t.before R))
     list_basis k R gs hs l t h = basis (P (Ending t.before R)) hs h.reduced
         (along (Ending t.before R) hs
-        (turns_generate program I t.before R gs hs l (level t.before gs t.found) h.is))
+        (iterations_generate program I t.before R gs hs l (level t.before gs t.found) h.is))
 
     list_of : (k : ℕ) (R : ℕ → ℕ → Type 0) (gs hs : List (Terms Fraction))
-        → ((i t : ℕ) → R i t → IsLetter program i) → Turns k gs → IsList R gs hs
+        → ((i t : ℕ) → R i t → IsLetter program i) → Iterations k gs → IsList R gs hs
         → IsListOf program P Q (since_in A) k R gs hs
     unfolding round_after
     list_of k R gs hs l t h = record {
@@ -108,7 +108,7 @@ module _ {At : Type 0} (program : Program (Expr At)) (nonempty : 0 < length prog
     }
 
     first_letters : (k b n : ℕ) (gs so_far : List (Terms Fraction)) → InBranch k b n gs so_far
-        → (i t : ℕ) → FirstTurns b n i t → IsLetter program i
+        → (i t : ℕ) → FirstIterations b n i t → IsLetter program i
     first_letters k b n gs so_far c i t r = record {
       some = r.0;
       within = let l : b < length program.branches = c.within in
@@ -119,9 +119,9 @@ module _ {At : Type 0} (program : Program (Expr At)) (nonempty : 0 < length prog
     own_letter b l i e = record { some = omega (arith, e); within = omega (arith, l, e) }
 
     so_far_of : (k b n : ℕ) (gs so_far : List (Terms Fraction)) → InBranch k b n gs so_far
-        → IsListOf program P Q (since_in A) k (FirstTurns b n) gs so_far
-    so_far_of k b n gs so_far c = list_of k (FirstTurns b n) gs so_far
-        (first_letters k b n gs so_far c) c.turns c.so_far_is
+        → IsListOf program P Q (since_in A) k (FirstIterations b n) gs so_far
+    so_far_of k b n gs so_far c = list_of k (FirstIterations b n) gs so_far
+        (first_letters k b n gs so_far c) c.iterations c.so_far_is
 
     has_passed : (k b i : ℕ) (gs : List (Terms Fraction)) → Found k gs → Before gs b i
         → HasPassed program P Q (since_in A) k gs b i
@@ -136,21 +136,22 @@ module _ {At : Type 0} (program : Program (Expr At)) (nonempty : 0 < length prog
     of_work : (x : Work) → Context x → AreOfWork program P Q (since_in A) x
     unfolding Journal.Context
     of_work starts c = tt
-    of_work (turn k b n gs ks hs) c = (
+    of_work (iteration k b n gs ks hs) c = (
       so_far_of k b n gs hs c.branch,
-      list_of k (words.Turns (suc b) n) gs ks (λ i t r. own_letter b c.branch.within i r.0)
-          c.branch.turns c.before_is,
+      list_of k (words.Iterations (suc b) n) gs ks (λ i t r. own_letter b c.branch.within i r.0)
+          c.branch.iterations c.before_is,
     )
-    of_work (turn_meet k b n gs hs ks) c = (
+    of_work (iteration_meet k b n gs hs ks) c = (
       so_far_of k b n gs hs c.branch,
-      list_of k (words.Turns (suc b) (suc n)) gs ks (λ i t r. own_letter b c.branch.within i r.0)
-          c.branch.turns c.turned_is,
+      list_of k (words.Iterations (suc b) (suc n)) gs ks (λ i t r. own_letter b c.branch.within i
+          r.0)
+          c.branch.iterations c.turned_is,
     )
-    of_work (orbit k b gs hs) c = so_far_of k b (turns_of A b) gs hs c
+    of_work (orbit k b gs hs) c = so_far_of k b (iterations_of A b) gs hs c
     of_work (meet k b gs hs ks) c = (
-      so_far_of k b (turns_of A b) gs hs c.branch,
-      list_of k (LaterTurns (suc b) (form_of A b).since) gs ks
-          (λ i t r. own_letter b c.branch.within i r.0) c.branch.turns c.orbit_is,
+      so_far_of k b (iterations_of A b) gs hs c.branch,
+      list_of k (LaterIterations (suc b) (form_of A b).since) gs ks
+          (λ i t r. own_letter b c.branch.within i r.0) c.branch.iterations c.orbit_is,
     )
 
     whole_basis : (k : ℕ) (gs : List (Terms Fraction)) → Found k gs → IsClosed program gs

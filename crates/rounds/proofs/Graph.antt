@@ -1,4 +1,4 @@
--- The graph of what was and what is gives an orbit by elimination: the law of a round where turns can't be undone.
+-- The graph of what was and what is gives an orbit by elimination: the law of a round where iterations can't be undone.
 --   graph_gives_orbit
 use Rattle.std.proofs.Common.{◌≡◌, ℕ, zero, suc, ◌+◌, ◌<◌, List, [], ◌∷◌, ◌++◌, map, get_or, take, drop, replicate, length, arith, refl, sym, ap, ap₂, subst, ◌∙◌, All, append_assoc}
 use Rattle.std.proofs.lemmas.List.{length-map, length-append, map-append, drop_at, length-drop}
@@ -27,7 +27,7 @@ use Rattle.rounds.specs.Word.{after_word}
 use Rattle.rounds.specs.Orbit.{state_after, IsPoints, IsFormAt, at_point, Padded, IsIndependent, IsEliminated}
 use Rattle.rounds.specs.Round.{IsOrbitAt}
 use Rattle.rounds.proofs.Orbit.{value_turned, value_at_point, arity-at_point}
-use Rattle.rounds.proofs.BranchTurns.{turned_keeps}
+use Rattle.rounds.proofs.BranchIterations.{turned_keeps}
 use Rattle.rounds.proofs.Word.{arity-after_word}
 use Rattle.rounds.specs.Graph.{IsBefore, images_behind, less, at_before, graph_list, AreWide}
 use Rattle.rounds.proofs.Congruent.{member_congruent}
@@ -169,7 +169,8 @@ module _ {At : Type 0} (program : Program (Expr At)) (i k t : ℕ) (point : ℕ 
   fs-length : length fs ≡ m
   fs-length = let s : List Fraction = map (λ x. ℚ.zero) program.names in let l : length s ≡ m =
       length-map program.names _ in
-      sym (length-map fs _) ∙ ap length (form.turns 0 s l) ∙ turned_keeps program i (times 0) s l
+      sym (length-map fs _) ∙ ap length (form.iterations 0 s l)
+      ∙ turned_keeps program i (times 0) s l
 
   ys-length : length ys ≡ m
   ys-length = length-drop (k + t) (variables ℚ w) ∙ (let e = length-variables w in omega (arith, e))
@@ -201,7 +202,7 @@ module _ {At : Type 0} (program : Program (Expr At)) (i k t : ℕ) (point : ℕ 
       map-append (λ q. at q s) (map (constant m) (point n)) _
       ∙ ap₂ ◌++◌ (values_at-constants ℚ_ring m (point n) s)
       (map-append (λ q. at q s) copied _ ∙ ap (λ z. map (λ c. at c s) copied ++ z)
-      (forms_at n s is fs ∙ form.turns n s is))
+      (forms_at n s is fs ∙ form.iterations n s is))
 
   place-length : (n : ℕ) (s : List Fraction) → IsState program s → length (place n s) ≡ w
   place-length n s is =
@@ -279,7 +280,7 @@ module _ {At : Type 0} (program : Program (Expr At)) (i k t : ℕ) (point : ℕ 
   ys_there : (n : ℕ) (s : List Fraction) → IsState program s → map (λ q. at q (place n s)) ys
       ≡ map (λ q. at q (place n s)) there
   ys_there n s is = ys-at (place n s) (place-length n s is) ∙ place-drop n s is
-      ∙ sym (form.turns n s is) ∙ sym (there_at n s is fs)
+      ∙ sym (form.iterations n s is) ∙ sym (there_at n s is fs)
 
   relations_there : (n : ℕ) (xs : List (Terms Fraction)) → ((x : List Fraction) → length x ≡ t + m
       → All (λ r. at r (point n ++ x) ≡ ℚ.zero) xs)
@@ -302,7 +303,7 @@ module _ {At : Type 0} (program : Program (Expr At)) (i k t : ℕ) (point : ℕ 
       (each-append _ (less ys there) us (less_there n ys there (λ s is. ys_there n s is))
       (relations_there n us (λ x l. wide.zero n x l)))
 
-  -- a padded polynomial at a point is it after the turns
+  -- a padded polynomial at a point is it after the iterations
   pub graph_only : (p : Terms Fraction) → Arity (length program.names) p
       → IsMember ℚ (k + t + length program.names) (graph_list k t (length program.names) before fs
       us gs) (in_front (k + t) p)
@@ -425,7 +426,7 @@ module _ {At : Type 0} (program : Program (Expr At)) (i k t : ℕ) (point : ℕ 
           (arity-after_word program (replicate (times n) i) p a)
           (λ s is. value_at_point k m point points n (compose ℚ (k + m) p fs) s is
           ∙ value_at-compose ℚ_ring (k + m) p fs (point n ++ s)
-          ∙ ap (at p) (form.turns n s is) ∙ sym (value_turned program i (times n) p s is))
+          ∙ ap (at p) (form.iterations n s is) ∙ sym (value_turned program i (times n) p s is))
 
   pub graph_gives_orbit : IsIndependent k (length program.names) point rs
       → (ks : List (Terms Fraction)) → IsEliminated (k + t) (length program.names)

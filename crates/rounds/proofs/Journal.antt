@@ -21,19 +21,19 @@ use Rattle.machines.specs.Elimination as elimination
 use Rattle.machines.specs.Division as division
 use Rattle.loops.specs.Program.{Expr, Program}
 use Rattle.rounds.specs.Word as words
-use Rattle.rounds.specs.Word.{LaterTurns, FirstTurns, Every, IsLetter, after_turn, Stays}
+use Rattle.rounds.specs.Word.{LaterIterations, FirstIterations, Every, IsLetter, after_iteration, Stays}
 use Rattle.rounds.specs.Generate.{IsMeet}
 use Rattle.rounds.specs.Round as rounds
 use Rattle.rounds.specs.Round.{IsAfter, IsSoFar, IsClosed, IsRound}
 use Rattle.rounds.specs.Orbit.{IsEliminated}
-use Rattle.rounds.specs.Analysis.{Setting, Work, starts, turn, turn_meet, orbit, meet, State, fresh, working, closing, turning, asking, Step, goes, finished, answered, form_of, turns_of, block, order, starting, pullback, after_closing, test, closing_from, begin_turn, begin_orbit, begin_meet, after_turns, begin_branch, after_branch, after_orbit, after, next_work, machine_of, list_at, after_test, closed_by, asked_by, first_step, next, move_of, moves}
+use Rattle.rounds.specs.Analysis.{Setting, Work, starts, iteration, iteration_meet, orbit, meet, State, fresh, working, closing, turning, asking, Step, goes, finished, answered, form_of, iterations_of, block, order, starting, pullback, after_closing, test, closing_from, begin_iteration, begin_orbit, begin_meet, after_iterations, begin_branch, after_branch, after_orbit, after, next_work, machine_of, list_at, after_test, closed_by, asked_by, first_step, next, move_of, moves}
 use Rattle.rounds.specs.Results.{LeadsTo, EndsWork, IsReducedList, Laws}
 use Rattle.rounds.proofs.Invariants.{reduced_for}
-use Rattle.rounds.proofs.Parts.{own_list, no_turns, first_so_far, later_turns, one_turn_more, met_turn, met_orbit, to_next_branch}
+use Rattle.rounds.proofs.Parts.{own_list, no_iterations, first_so_far, later_iterations, one_iteration_more, met_iteration, met_orbit, to_next_branch}
 use Rattle.rounds.proofs.Round.{closed_generates}
 use Rattle.rounds.proofs.Beginnings.{Begins, comes_here, comes_longer, less_or_same, polynomial_of}
 
--- from which number of turns on the form of a branch is the state
+-- from which number of iterations on the form of a branch is the state
 abbrev pub since_in : Setting → ℕ → ℕ
 since_in A b = (form_of A b).since
 
@@ -51,44 +51,44 @@ module _ {At : Type 0} (program : Program (Expr At)) (nonempty : 0 < length prog
   -- the closing tests before that of element i with branch b have passed
   pub record Before (gs : List (Terms Fraction)) (b i : ℕ) : Type 0 where
     pub passed : (c j : ℕ) → (c < b) ⊎ ((c ≡ b) × (j < i)) → j < length gs
-        → IsMember ℚ m gs (after_turn program (suc c) (get_or gs j []))
+        → IsMember ℚ m gs (after_iteration program (suc c) (get_or gs j []))
 
-  pub record Turns (k : ℕ) (gs : List (Terms Fraction)) : Type 0 where
+  pub record Iterations (k : ℕ) (gs : List (Terms Fraction)) : Type 0 where
     pub before : ℕ
     pub is : k ≡ suc before
     pub found : Found before gs
     pub open_ : IsClosed program gs → ⊥
 
-  -- a list of the round that begins with gs, of turns that are allowed
+  -- a list of the round that begins with gs, of iterations that are allowed
   pub record IsList (R : ℕ → ℕ → Type 0) (gs hs : List (Terms Fraction)) : Type 0 where
     pub is : IsAfter program gs R hs
     pub reduced : IsReducedList m hs
 
-  -- so far, with n turns of branch b
+  -- so far, with n iterations of branch b
   pub record InBranch (k b n : ℕ) (gs so_far : List (Terms Fraction)) : Type 0 where
-    pub turns : Turns k gs
+    pub iterations : Iterations k gs
     pub within : b < length program.branches
-    pub so_far_is : IsList (FirstTurns b n) gs so_far
+    pub so_far_is : IsList (FirstIterations b n) gs so_far
 
-  pub record InTurn (k b n : ℕ) (gs before so_far : List (Terms Fraction)) : Type 0 where
+  pub record InIteration (k b n : ℕ) (gs before so_far : List (Terms Fraction)) : Type 0 where
     pub branch : InBranch k b n gs so_far
-    pub few : n < turns_of A b
-    pub before_is : IsList (words.Turns (suc b) n) gs before
+    pub few : n < iterations_of A b
+    pub before_is : IsList (words.Iterations (suc b) n) gs before
 
-  pub record InTurnMeet (k b n : ℕ) (gs so_far ks : List (Terms Fraction)) : Type 0 where
+  pub record InIterationMeet (k b n : ℕ) (gs so_far ks : List (Terms Fraction)) : Type 0 where
     pub branch : InBranch k b n gs so_far
-    pub few : n < turns_of A b
-    pub turned_is : IsList (words.Turns (suc b) (suc n)) gs ks
+    pub few : n < iterations_of A b
+    pub turned_is : IsList (words.Iterations (suc b) (suc n)) gs ks
 
   pub record InMeet (k b : ℕ) (gs so_far hs : List (Terms Fraction)) : Type 0 where
-    pub branch : InBranch k b (turns_of A b) gs so_far
-    pub orbit_is : IsList (LaterTurns (suc b) (form_of A b).since) gs hs
+    pub branch : InBranch k b (iterations_of A b) gs so_far
+    pub orbit_is : IsList (LaterIterations (suc b) (form_of A b).since) gs hs
 
   unfoldable pub Context : Work → Type 0
   Context starts = A.given ≡ None
-  Context (turn k b n gs before so_far) = InTurn k b n gs before so_far
-  Context (turn_meet k b n gs so_far ks) = InTurnMeet k b n gs so_far ks
-  Context (orbit k b gs so_far) = InBranch k b (turns_of A b) gs so_far
+  Context (iteration k b n gs before so_far) = InIteration k b n gs before so_far
+  Context (iteration_meet k b n gs so_far ks) = InIterationMeet k b n gs so_far ks
+  Context (orbit k b gs so_far) = InBranch k b (iterations_of A b) gs so_far
   Context (meet k b gs so_far hs) = InMeet k b gs so_far hs
 
   pub Works : Work → elimination.State Fraction → Type 0
@@ -116,7 +116,7 @@ module _ {At : Type 0} (program : Program (Expr At)) (nonempty : 0 < length prog
   Sound fresh = Unit {0}
   Sound (working x s) = Context x × Works x s
   Sound (closing k b i gs s) = InClosing k b i gs s
-  Sound (turning k gs) = Turns k gs
+  Sound (turning k gs) = Iterations k gs
   Sound (asking k gs s) = InAsking k gs s
 
   SoundStep : Step → Type 0
@@ -152,7 +152,7 @@ module _ {At : Type 0} (program : Program (Expr At)) (nonempty : 0 < length prog
   -- past the last element: all before and of branch b
   passed_all : (gs : List (Terms Fraction)) (b i : ℕ) → length gs ≤ i → Before gs b i → (c j : ℕ)
       → (c < b) ⊎ (c ≡ b) → j < length gs
-      → IsMember ℚ m gs (after_turn program (suc c) (get_or gs j []))
+      → IsMember ℚ m gs (after_iteration program (suc c) (get_or gs j []))
   passed_all gs b i l before c j (inl h) lj = before.passed c j (inl h) lj
   passed_all gs b i l before c j (inr h) lj = before.passed c j (inr (h, omega arith)) lj
 
@@ -161,7 +161,7 @@ module _ {At : Type 0} (program : Program (Expr At)) (nonempty : 0 < length prog
   next_branch gs b i l before = record { passed = λ c j h lj. go c j h lj }
     where
       go : (c j : ℕ) → (c < suc b) ⊎ ((c ≡ suc b) × (j < 0)) → j < length gs
-          → IsMember ℚ m gs (after_turn program (suc c) (get_or gs j []))
+          → IsMember ℚ m gs (after_iteration program (suc c) (get_or gs j []))
       go c j (inl h) lj = passed_all gs b i l before c j (less_or_same c b h) lj
       go c j (inr h) lj = absurd (let l : j < 0 = h.1 in omega arith)
 
@@ -175,12 +175,12 @@ module _ {At : Type 0} (program : Program (Expr At)) (nonempty : 0 < length prog
 
       at : (c j : ℕ) → c < length program.branches → j < length gs → (length gs ≤ 0)
           ⊎ (length program.branches ≤ suc b)
-          → IsMember ℚ m gs (after_turn program (suc c) (get_or gs j []))
+          → IsMember ℚ m gs (after_iteration program (suc c) (get_or gs j []))
       at c j lc lj (inl none) = absurd (omega arith)
       at c j lc lj (inr last) = passed_all gs b i l before c j (cases c lc last) lj
 
       go : (d j : ℕ) → IsLetter program d → j < length gs
-          → IsMember ℚ m gs (after_turn program d (get_or gs j []))
+          → IsMember ℚ m gs (after_iteration program d (get_or gs j []))
       go zero j letter lj = absurd (let s : 0 < 0 = letter.some in omega arith)
       go (suc c) j letter lj = at c j (let s : suc c ≤ length program.branches = letter.within in
           omega arith) lj done
@@ -226,43 +226,45 @@ module _ {At : Type 0} (program : Program (Expr At)) (nonempty : 0 < length prog
   nothing_before gs = record { passed = λ c j h lj. go c j h }
     where
       go : (c j : ℕ) → (c < 0) ⊎ ((c ≡ 0) × (j < 0))
-          → IsMember ℚ m gs (after_turn program (suc c) (get_or gs j []))
+          → IsMember ℚ m gs (after_iteration program (suc c) (get_or gs j []))
       go c j (inl h) = absurd (omega arith)
       go c j (inr h) = absurd (let l : j < 0 = h.1 in omega arith)
 
   list_arity : (gs : List (Terms Fraction)) → IsReducedList m gs → AllArity m gs
   list_arity gs r = reduced_arity grevlex grevlex_order m gs (IsMember ℚ m gs) r
 
-  -- n turns of branch b are taken
-  after_turns_sound : (k b n : ℕ) (gs before so_far : List (Terms Fraction)) → n ≤ turns_of A b
-      → InBranch k b n gs so_far → IsList (words.Turns (suc b) n) gs before
-      → SoundStep (after_turns A k b n gs before so_far)
-  unfolding after_turns SoundStep Sound Context Works
-  after_turns_sound k b n gs before so_far l c t = go (ltb n (turns_of A b)) refl
+  -- n iterations of branch b are taken
+  after_iterations_sound : (k b n : ℕ) (gs before so_far : List (Terms Fraction))
+      → n ≤ iterations_of A b
+      → InBranch k b n gs so_far → IsList (words.Iterations (suc b) n) gs before
+      → SoundStep (after_iterations A k b n gs before so_far)
+  unfolding after_iterations SoundStep Sound Context Works
+  after_iterations_sound k b n gs before so_far l c t = go (ltb n (iterations_of A b)) refl
     where
-      go : (o : Bool) → ltb n (turns_of A b) ≡ o
-          → SoundStep (cond o (begin_turn A k b n gs before so_far) (begin_orbit A k b gs so_far))
+      go : (o : Bool) → ltb n (iterations_of A b) ≡ o
+          → SoundStep (cond o (begin_iteration A k b n gs before so_far)
+          (begin_orbit A k b gs so_far))
       go true h = (
-        record { branch = c; few = ltb-true n (turns_of A b) h; before_is = t },
-        comes_here (machine_of A (turn k b n gs before so_far)).next
-            (machine_of A (turn k b n gs before so_far)).start,
+        record { branch = c; few = ltb-true n (iterations_of A b) h; before_is = t },
+        comes_here (machine_of A (iteration k b n gs before so_far)).next
+            (machine_of A (iteration k b n gs before so_far)).start,
       )
       go false h = (
-        subst (λ i. InBranch k b i gs so_far) (let f = ltb-false n (turns_of A b) h in
-            let e : n ≡ turns_of A b = omega (arith, l, f) in e) c,
+        subst (λ i. InBranch k b i gs so_far) (let f = ltb-false n (iterations_of A b) h in
+            let e : n ≡ iterations_of A b = omega (arith, l, f) in e) c,
         comes_here (machine_of A (orbit k b gs so_far)).next
             (machine_of A (orbit k b gs so_far)).start,
       )
 
   begin_branch_sound : (k b : ℕ) (gs so_far : List (Terms Fraction)) → InBranch k b 0 gs so_far
       → SoundStep (begin_branch A k b gs so_far)
-  begin_branch_sound k b gs so_far c = after_turns_sound k b 0 gs gs so_far (omega arith) c
+  begin_branch_sound k b gs so_far c = after_iterations_sound k b 0 gs gs so_far (omega arith) c
       (record {
-        is = no_turns program gs (list_arity gs c.turns.found.reduced) (suc b);
-        reduced = c.turns.found.reduced;
+        is = no_iterations program gs (list_arity gs c.iterations.found.reduced) (suc b);
+        reduced = c.iterations.found.reduced;
       })
 
-  after_branch_sound : (k b : ℕ) (gs hs : List (Terms Fraction)) → Turns k gs
+  after_branch_sound : (k b : ℕ) (gs hs : List (Terms Fraction)) → Iterations k gs
       → b < length program.branches → IsSoFar program gs (suc b) hs → IsReducedList m hs
       → SoundStep (after_branch A k b gs hs)
   unfolding after_branch
@@ -279,7 +281,7 @@ module _ {At : Type 0} (program : Program (Expr At)) (nonempty : 0 < length prog
       go : (o : Bool) → ltb (suc b) (length A.forms) ≡ o
           → SoundStep (cond o (begin_branch A k (suc b) gs hs) (closing_from A k 0 0 hs))
       go true h = begin_branch_sound k (suc b) gs hs (record {
-        turns = t;
+        iterations = t;
         within = let n = ltb-true (suc b) (length A.forms) h in omega (arith, count);
         so_far_is = record { is = to_next_branch program gs b hs so_far; reduced = reduced };
       })
@@ -302,8 +304,8 @@ module _ {At : Type 0} (program : Program (Expr At)) (nonempty : 0 < length prog
       }
 
   orbit_met : (k b : ℕ) (gs so_far hs : List (Terms Fraction))
-      → InBranch k b (turns_of A b) gs so_far
-      → IsList (LaterTurns (suc b) (form_of A b).since) gs hs
+      → InBranch k b (iterations_of A b) gs so_far
+      → IsList (LaterIterations (suc b) (form_of A b).since) gs hs
       → SoundStep (begin_meet A k b gs so_far hs)
   unfolding SoundStep Sound Context Works
   orbit_met k b gs so_far hs c o = (
@@ -313,11 +315,12 @@ module _ {At : Type 0} (program : Program (Expr At)) (nonempty : 0 < length prog
   )
 
   after_orbit_sound : (k b d : ℕ) (gs so_far hs : List (Terms Fraction)) → (form_of A b).since ≡ d
-      → InBranch k b (turns_of A b) gs so_far
-      → IsList (LaterTurns (suc b) (form_of A b).since) gs hs
+      → InBranch k b (iterations_of A b) gs so_far
+      → IsList (LaterIterations (suc b) (form_of A b).since) gs hs
       → SoundStep (after_orbit A d k b gs so_far hs)
-  after_orbit_sound k zero zero gs so_far hs e c o = after_branch_sound k 0 gs hs c.turns c.within
-      (first_so_far program gs hs (subst (λ d. IsAfter program gs (LaterTurns 1 d) hs) e o.is))
+  after_orbit_sound k zero zero gs so_far hs e c o = after_branch_sound k 0 gs hs c.iterations
+      c.within
+      (first_so_far program gs hs (subst (λ d. IsAfter program gs (LaterIterations 1 d) hs) e o.is))
       o.reduced
   after_orbit_sound k (suc b) zero gs so_far hs e c o = orbit_met k (suc b) gs so_far hs c o
   after_orbit_sound k zero (suc d) gs so_far hs e c o = orbit_met k 0 gs so_far hs c o
@@ -332,34 +335,35 @@ module _ {At : Type 0} (program : Program (Expr At)) (nonempty : 0 < length prog
         round = rounds.start gs (begins.starts_generate c made);
         reduced = laws.reduces starts tt tt made;
       }) (nothing_before gs) nonempty
-  after_sound (turn k b n gs before so_far) c made =
-      let w = turn k b n gs before so_far in
+  after_sound (iteration k b n gs before so_far) c made =
+      let w = iteration k b n gs before so_far in
       let ks = list_at A w made.last in
       let r = c.before_is.reduced in (
         record {
           branch = c.branch;
           few = c.few;
           turned_is = record {
-            is = one_turn_more program gs (suc b) n before ks c.before_is.is
-                (laws.turns k b n gs before so_far ks r c.branch.within
+            is = one_iteration_more program gs (suc b) n before ks c.before_is.is
+                (laws.iterations k b n gs before so_far ks r c.branch.within
                 (laws.eliminates w c.branch.within r made));
             reduced = laws.reduces w c.branch.within r made;
           };
         },
-        comes_here (machine_of A (turn_meet k b n gs so_far ks)).next
-            (machine_of A (turn_meet k b n gs so_far ks)).start,
+        comes_here (machine_of A (iteration_meet k b n gs so_far ks)).next
+            (machine_of A (iteration_meet k b n gs so_far ks)).start,
       )
-  after_sound (turn_meet k b n gs so_far ks) c made =
-      let w = turn_meet k b n gs so_far ks in
+  after_sound (iteration_meet k b n gs so_far ks) c made =
+      let w = iteration_meet k b n gs so_far ks in
       let ls = list_at A w made.last in
       let both : IsReducedList m so_far × IsReducedList m ks =
       (c.branch.so_far_is.reduced, c.turned_is.reduced) in
-      after_turns_sound k b (suc n) gs ks ls (let f : n < turns_of A b = c.few in omega (arith, f))
+      after_iterations_sound k b (suc n) gs ks ls (let f : n < iterations_of A b = c.few in
+      omega (arith, f))
       (record {
-        turns = c.branch.turns;
+        iterations = c.branch.iterations;
         within = c.branch.within;
         so_far_is = record {
-          is = met_turn program gs b n so_far ks ls c.branch.so_far_is.is c.turned_is.is
+          is = met_iteration program gs b n so_far ks ls c.branch.so_far_is.is c.turned_is.is
               (met w so_far ks refl refl both.0 both.1 ls (laws.eliminates w tt both made));
           reduced = laws.reduces w tt both made;
         };
@@ -367,10 +371,10 @@ module _ {At : Type 0} (program : Program (Expr At)) (nonempty : 0 < length prog
   after_sound (orbit k b gs so_far) c made =
       let w = orbit k b gs so_far in
       let hs = list_at A w made.last in
-      let r = c.turns.found.reduced in
+      let r = c.iterations.found.reduced in
       after_orbit_sound k b (form_of A b).since gs so_far hs refl c
       (record {
-        is = later_turns program gs (suc b) (form_of A b).since hs
+        is = later_iterations program gs (suc b) (form_of A b).since hs
             (laws.orbits k b gs so_far hs r c.within (laws.eliminates w c.within r made));
         reduced = laws.reduces w c.within r made;
       })
@@ -379,7 +383,7 @@ module _ {At : Type 0} (program : Program (Expr At)) (nonempty : 0 < length prog
       let ls = list_at A w made.last in
       let both : IsReducedList m so_far × IsReducedList m hs =
       (c.branch.so_far_is.reduced, c.orbit_is.reduced) in
-      after_branch_sound k b gs ls c.branch.turns c.branch.within
+      after_branch_sound k b gs ls c.branch.iterations c.branch.within
       (met_orbit program gs b (form_of A b).since so_far hs ls c.branch.so_far_is.is c.orbit_is.is
       (met w so_far hs refl refl both.0 both.1 ls (laws.eliminates w tt both made)))
       (laws.reduces w tt both made)
@@ -413,7 +417,7 @@ module _ {At : Type 0} (program : Program (Expr At)) (nonempty : 0 < length prog
             passed d j q lj;
       }) c.branch
         where
-          here : IsMember ℚ m gs (after_turn program (suc b) (get_or gs i []))
+          here : IsMember ℚ m gs (after_iteration program (suc b) (get_or gs i []))
           here = (laws.divides gs b i s c.found.reduced c.branch c.element c.divides h).1 e
 
           cases : (d j : ℕ) → (d < b) ⊎ ((d ≡ b) × (j < suc i)) → ((d < b) ⊎ ((d ≡ b) × (j < i)))
@@ -426,16 +430,16 @@ module _ {At : Type 0} (program : Program (Expr At)) (nonempty : 0 < length prog
               at (inr n) = inr (l.0, n)
 
           passed : (d j : ℕ) → (d < b) ⊎ ((d ≡ b) × (j < suc i)) → j < length gs
-              → IsMember ℚ m gs (after_turn program (suc d) (get_or gs j []))
+              → IsMember ℚ m gs (after_iteration program (suc d) (get_or gs j []))
           passed d j q lj = by (cases d j q)
             where
               by : ((d < b) ⊎ ((d ≡ b) × (j < i))) ⊎ ((d ≡ b) × (j ≡ i))
-                  → IsMember ℚ m gs (after_turn program (suc d) (get_or gs j []))
+                  → IsMember ℚ m gs (after_iteration program (suc d) (get_or gs j []))
               by (inl earlier) = c.before.passed d j earlier lj
               by (inr same) =
-                  subst (λ x. IsMember ℚ m gs (after_turn program (suc x) (get_or gs j [])))
+                  subst (λ x. IsMember ℚ m gs (after_iteration program (suc x) (get_or gs j [])))
                   (sym same.0)
-                  (subst (λ x. IsMember ℚ m gs (after_turn program (suc b) (get_or gs x [])))
+                  (subst (λ x. IsMember ℚ m gs (after_iteration program (suc b) (get_or gs x [])))
                   (sym same.1) here)
       decided h (Some rest) e = record {
         before = k;
@@ -497,7 +501,7 @@ module _ {At : Type 0} (program : Program (Expr At)) (nonempty : 0 < length prog
   step_sound (working x s) h = working_sound x s h.0 h.1
   step_sound (closing k b i gs s) h = closed_sound k b i gs s h
   step_sound (turning k gs) h = begin_branch_sound k 0 gs gs (record {
-    turns = h;
+    iterations = h;
     within = nonempty;
     so_far_is = record {
       is = own_list program gs (list_arity gs h.found.reduced);

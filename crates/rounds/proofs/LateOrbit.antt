@@ -15,8 +15,8 @@ use Rattle.polynomials.proofs.Orders.{grevlex_order, blocks_order}
 use Rattle.polynomials.proofs.Same.{Same-sym}
 use Rattle.polynomials.proofs.ValueAt.{value_at_same, value_at-append, value_at-negate}
 use Rattle.solvable_maps.specs.Expo.{with_normal_keys}
-use Rattle.solvable_maps.specs.Turns as turns
-use Rattle.solvable_maps.specs.Turns.{point, width, IsItself}
+use Rattle.solvable_maps.specs.Iterations as iterations
+use Rattle.solvable_maps.specs.Iterations.{point, width, IsItself}
 use Rattle.loops.specs.Map.{branch_map}
 use Rattle.rounds.specs.Word.{branch_of}
 use Rattle.solvable_maps.proofs.Lengths.{arity-normalized}
@@ -173,7 +173,8 @@ module _ (bs : List ℕ) (c : Coprime bs) (x : ℕ) where
 -- ---- the orbit
 module _ {At : Type 0} (program : Program (Expr At)) (b since : ℕ) (f : Form)
     (coprime : Coprime f.base)
-    (is : turns.IsClosedFormFrom f.base (branch_map program (branch_of program b)) since f.polys)
+    (is : iterations.IsClosedFormFrom f.base (branch_map program (branch_of program b)) since
+    f.polys)
     (passes : ℕ → Bool)
     (stays : (i : ℕ) → i < length program.names → passes i ≡ false
     → IsItself f.base (length program.names) f.polys i) where

@@ -16,7 +16,7 @@ use Rattle.polynomials.proofs.Arity.{arity-compose, arity-constants, arity-varia
 use Rattle.polynomials.proofs.ByValues.{same_by_values}
 use Rattle.polynomials.proofs.Same.{Same-sym}
 use Rattle.polynomials.proofs.ValueAt.{value_at-compose, values_at-constants, value_at-variables}
-use Rattle.solvable_maps.specs.Turns.{back_point, powers, inverses, sign, width}
+use Rattle.solvable_maps.specs.Iterations.{back_point, powers, inverses, sign, width}
 use Rattle.solvable_maps.specs.Expo.{next_images}
 use Rattle.solvable_maps.proofs.Operations.{point-append, next-value}
 use Rattle.solvable_maps.proofs.Back as Back
@@ -129,11 +129,11 @@ module _ (bs : List ℕ) (c : Coprime bs) (m : ℕ) where
       relations_there xs (λ s l. All-tail (λ q. at q (back_point bs 1 s) ≡ ℚ.zero) x xs (h s l)),
     )
 
-    before_first : (e : Terms Fraction) → Arity w e
+    held_before_the_first : (e : Terms Fraction) → Arity w e
         → ((n : ℕ) → IsMember ℚ m gs (at_point k m (point_of bs) n (next e)))
         → IsMember ℚ m gs (at_point k m (point_of bs) 0 e)
     unfolding next
-    before_first e a h =
+    held_before_the_first e a h =
         let padded : IsMember ℚ w (Padded k m gs (relations r m)) (next e) =
         (points_are_independent bs c m).member gs ga (next e) (next-arity e) h in
         let moved : IsMember ℚ m gs (compose ℚ m (next e) back_images) =
@@ -156,7 +156,7 @@ module _ (bs : List ℕ) (c : Coprime bs) (m : ℕ) where
     one_less : (e : Terms Fraction) → Arity w e
         → ((n : ℕ) → IsMember ℚ m gs (at_point k m (point_of bs) n (next e))) → (n : ℕ)
         → IsMember ℚ m gs (at_point k m (point_of bs) n e)
-    one_less e a h zero = before_first e a h
+    one_less e a h zero = held_before_the_first e a h
     one_less e a h (suc n) = member_same m gs _ _ (Same-sym ℚ (next_point n e)) (h n)
 
     pub members_from : (d : ℕ) (e : Terms Fraction) → Arity (front (length bs) + m) e

@@ -31,20 +31,20 @@ use Rattle.machines.proofs.Reducing.{tidied}
 use Rattle.machines.proofs.Starting.{reordered_members}
 use Rattle.loops.specs.Program.{Expr, Program}
 use Rattle.polynomials.proofs.Arity.{arity_at}
-use Rattle.rounds.specs.Word.{after_turn}
+use Rattle.rounds.specs.Word.{after_iteration}
 use Rattle.rounds.specs.Orbit.{IsEliminated}
 use Rattle.rounds.specs.Start.{start_list}
-use Rattle.rounds.specs.Form.{Form, orbit_front, turn_front, IsClosedForm}
-use Rattle.rounds.specs.Analysis.{Setting, Work, starts, turn, turn_meet, orbit, meet, block, order, starting, list_at, pullback}
+use Rattle.rounds.specs.Form.{Form, orbit_front, iteration_front, IsClosedForm}
+use Rattle.rounds.specs.Analysis.{Setting, Work, starts, iteration, iteration_meet, orbit, meet, block, order, starting, list_at, pullback}
 use Rattle.rounds.specs.Journal.{setting_from, AreForms}
 use Rattle.rounds.specs.Results.{IsBranch, EndsWork, IsReducedList, IsOverWork, Laws}
 use Rattle.machines.proofs.Collecting.{collect-polynomial, collect-same}
 use Rattle.ideals.proofs.FractionMembers.{member_same}
 use Rattle.polynomials.proofs.ByValues.{same_by_values}
 use Rattle.machines.proofs.Padding.{arity-pad, in_front_at}
-use Rattle.rounds.proofs.Orbits.{orbit_polynomials, form_orbit, turn_polynomials, form_turn}
+use Rattle.rounds.proofs.Orbits.{orbit_polynomials, form_orbit, iteration_polynomials, form_iteration}
 use Rattle.rounds.proofs.Start.{start_list_arity}
-use Rattle.rounds.proofs.Turned.{turned_polynomial, turned_same, map_turns}
+use Rattle.rounds.proofs.Turned.{turned_polynomial, turned_same, map_iterations}
 use Rattle.algebra.proofs.In.{each_from}
 use Rattle.machines.proofs.Places.{each_at, at_each}
 use Rattle.machines.proofs.ReducedLists.{reduced_arity, reduced_generates, reduced_for_itself, generated, division_decides}
@@ -251,16 +251,16 @@ module _ {At : Type 0} (program : Program (Expr At)) (given : Option (List (Term
       (orbit_front (form b) m + m)) (starting A (orbit k b gs so_far))
       (orbit_polynomials program (suc b) (form b) (is_closed b l) gs ga)
 
-  turn_places : (k b n : ℕ) (gs before so_far : List (Terms Fraction)) → AllArity m before
+  iteration_places : (k b n : ℕ) (gs before so_far : List (Terms Fraction)) → AllArity m before
       → b < length program.branches
-      → AtPlaces (IsPolynomial ℚ (blocks (turn_front (form b) m) grevlex grevlex)
-      (turn_front (form b) m + m)) (starting A (turn k b n gs before so_far))
+      → AtPlaces (IsPolynomial ℚ (blocks (iteration_front (form b) m) grevlex grevlex)
+      (iteration_front (form b) m + m)) (starting A (iteration k b n gs before so_far))
   unfolding starting
-  turn_places k b n gs before so_far ga l =
-      each_at (IsPolynomial ℚ (blocks (turn_front (form b) m) grevlex grevlex)
-      (turn_front (form b) m + m)) (starting A (turn k b n gs before so_far))
-      (turn_polynomials program (suc b) (form b) (is_closed b l) before ga (get_or A.maps b [])
-      (map_turns program given forms asked b l))
+  iteration_places k b n gs before so_far ga l =
+      each_at (IsPolynomial ℚ (blocks (iteration_front (form b) m) grevlex grevlex)
+      (iteration_front (form b) m + m)) (starting A (iteration k b n gs before so_far))
+      (iteration_polynomials program (suc b) (form b) (is_closed b l) before ga (get_or A.maps b [])
+      (map_iterations program given forms asked b l))
 
   -- ---- what works end with
   parts : (w : Work) (e : EndsWork A w)
@@ -298,12 +298,12 @@ module _ {At : Type 0} (program : Program (Expr At)) (given : Option (List (Term
         first_reduces m first_list made.last.basis _ made.list first_arity (each_at _ _ first_each)
             b made.more made.tidies made.tidy made.is,
       )
-  both (turn k b n xs before so_far) l o e =
-      let w = turn k b n xs before so_far in
-      ended (turn_front (form b) m) (starting A w) e.last (parts w e)
-      (turn_places k b n xs before so_far (list_arity before o) l)
-  both (turn_meet k b n xs so_far ks) t o e =
-      let w = turn_meet k b n xs so_far ks in
+  both (iteration k b n xs before so_far) l o e =
+      let w = iteration k b n xs before so_far in
+      ended (iteration_front (form b) m) (starting A w) e.last (parts w e)
+      (iteration_places k b n xs before so_far (list_arity before o) l)
+  both (iteration_meet k b n xs so_far ks) t o e =
+      let w = iteration_meet k b n xs so_far ks in
       ended 1 (starting A w) e.last (parts w e) (blend_places so_far ks o.0 o.1)
   both (orbit k b xs so_far) l o e =
       let w = orbit k b xs so_far in
@@ -325,15 +325,17 @@ module _ {At : Type 0} (program : Program (Expr At)) (given : Option (List (Term
         let e = division_decides m gs (pullback A b g) c.events s r (turned_polynomial program given
         forms asked b g lb) c.run h in
         let q = turned_same program given forms asked b g ga lb in (
-          (λ n. e.0 (member_same m gs (after_turn program (suc b) g) (pullback A b g) q n)),
-          (λ n. member_same m gs (pullback A b g) (after_turn program (suc b) g) (Same-sym ℚ q)
+          (λ n. e.0 (member_same m gs (after_iteration program (suc b) g) (pullback A b g) q n)),
+          (λ n. member_same m gs (pullback A b g) (after_iteration program (suc b) g) (Same-sym ℚ q)
               (e.1 n)),
         );
     start_members = λ p a. start_members p;
     orbits = λ k b gs so_far hs r l e. form_orbit program (suc b) (form b) (is_closed b l) gs
         (list_arity gs r) hs e;
-    turns = λ k b n gs before so_far ks r l e. form_turn program (suc b) (form b) (is_closed b l)
-        before (list_arity before r) (get_or A.maps b []) (map_turns program given forms asked b l)
+    iterations = λ k b n gs before so_far ks r l e. form_iteration program (suc b) (form b)
+        (is_closed b l)
+        before (list_arity before r) (get_or A.maps b []) (map_iterations program given forms asked
+        b l)
         ks e;
     meets = λ so_far hs ra rb p a. blend_members ℚ_field m (blocks 1 grevlex grevlex)
         (blocks_order 1 grevlex grevlex grevlex_order grevlex_order) so_far hs

@@ -17,9 +17,9 @@ pub mod Independent
 pub mod RelationTerms
 pub mod Few
 pub mod Relations
-pub mod BranchTurns
-pub mod Unwind
-pub mod Unwound
+pub mod BranchIterations
+pub mod PullBack
+pub mod PulledBack
 pub mod Turned
 pub mod Lawful
 pub mod Theorem
@@ -34,7 +34,7 @@ pub mod Congruent
 pub mod Graph
 pub mod Later
 pub mod WayBack
-pub mod OneTurn
+pub mod OneIteration
 pub mod LateOrbit
 pub mod Passing
 pub mod Orbits

@@ -1,5 +1,5 @@
--- What an orbit's list generates, from elimination, the law that unwinds a form, and independence.
---   value_turned           turns of a branch, composed, are values after the turns
+-- What an orbit's list generates, from elimination, the law that pulls back a form, and independence.
+--   value_turned           iterations of a branch, composed, are values after the iterations
 --   value_at_point         the value at a point is the value at it and the state
 --   member_at_point        what is a member of the padded ideal is, at each point, one of the ideal
 --   orbit_of_form          the list is the orbit's
@@ -24,7 +24,7 @@ use Rattle.loops.specs.Run.{effect, IsState}
 use Rattle.loops.proofs.Maps.{value_after_branch, effect_keeps_state}
 use Rattle.rounds.specs.Word.{branch_of, after_word}
 use Rattle.rounds.specs.Round.{IsOrbit}
-use Rattle.rounds.specs.Orbit.{state_after, IsPoints, IsForm, at_point, AreRelations, Padded, IsIndependent, Unwinds, IsEliminated}
+use Rattle.rounds.specs.Orbit.{state_after, IsPoints, IsForm, at_point, AreRelations, Padded, IsIndependent, PullsBack, IsEliminated}
 use Rattle.ideals.proofs.FractionMembers.{member_same, member_nil, member_at, member_turned}
 use Rattle.polynomials.proofs.ByValues.{same_by_values}
 use Rattle.machines.proofs.Padding.{at, arity-pad, arity-padded, value_at-pad}
@@ -120,7 +120,7 @@ module _ {At : Type 0} (program : Program (Expr At)) (i k : ℕ) (point : ℕ �
   abbrev m : ℕ
   m = length program.names
 
-  -- p with the form, at a point, is p after that number of turns
+  -- p with the form, at a point, is p after that number of iterations
   pub form_at_point : (n : ℕ) (p : Terms Fraction) → Arity m p
       → Same ℚ (at_point k m point n (compose ℚ (k + m) p fs)) (after_word program (replicate n i)
       p)
@@ -129,20 +129,21 @@ module _ {At : Type 0} (program : Program (Expr At)) (i k : ℕ) (point : ℕ �
       same_by_values m _ _ (arity-at_point k m point points n e)
       (arity-after_word program (replicate n i) p a)
       (λ s is. value_at_point k m point points n e s is
-      ∙ value_at-compose ℚ_ring (k + m) p fs (point n ++ s) ∙ ap (at p) (form.turns n s is)
+      ∙ value_at-compose ℚ_ring (k + m) p fs (point n ++ s) ∙ ap (at p) (form.iterations n s is)
       ∙ sym (value_turned program i n p s is))
 
   pub orbit_of_form : (gs hs ks : List (Terms Fraction)) → AllArity (length program.names) gs
-      → IsIndependent k (length program.names) point rs → Unwinds k (length program.names) fs rs gs
+      → IsIndependent k (length program.names) point rs → PullsBack k (length program.names) fs rs
+      gs
       hs → IsEliminated k (length program.names) hs ks → IsOrbit program gs i ks
-  orbit_of_form gs hs ks ga independent unwinds eliminated = record {
+  orbit_of_form gs hs ks ga independent pulls_back eliminated = record {
     arities = eliminated.arities;
     only = λ p a h n.
         member_same m gs _ _ (Same-sym ℚ (form_at_point n p a))
         (member_at_point k m point points rs relations gs ga n (compose ℚ (k + m) p fs)
         (arity-compose (k + m) ℚ p fs form.arities)
-        ((unwinds.exactly p a).0 (eliminated.only p a h)));
-    all = λ p a h. eliminated.all p a ((unwinds.exactly p a).1
+        ((pulls_back.exactly p a).0 (eliminated.only p a h)));
+    all = λ p a h. eliminated.all p a ((pulls_back.exactly p a).1
         (independent.member gs ga (compose ℚ (k + m) p fs) (arity-compose (k + m) ℚ p fs
         form.arities) (λ n. member_same m gs _ _ (form_at_point n p a) (h n))));
   }

@@ -21,8 +21,8 @@ use Rattle.machines.specs.Collect.{collect}
 use Rattle.machines.proofs.Collecting.{collect-is, collect-same}
 use Rattle.machines.proofs.Padding.{at}
 use Rattle.solvable_maps.specs.Expo.{zero_images}
-use Rattle.solvable_maps.specs.Turns as turns
-use Rattle.solvable_maps.specs.Turns.{point, values_at, IsClosedFormFrom, IsItself}
+use Rattle.solvable_maps.specs.Iterations as iterations
+use Rattle.solvable_maps.specs.Iterations.{point, values_at, IsClosedFormFrom, IsItself}
 use Rattle.solvable_maps.proofs.OneForm.{on_from}
 use Rattle.solvable_maps.proofs.Lengths.{arity-zero_images}
 use Rattle.solvable_maps.proofs.Operations.{zero-value}
@@ -31,7 +31,7 @@ use Rattle.loops.specs.Program.{Expr, Program}
 use Rattle.loops.proofs.Maps.{length-branch_map}
 use Rattle.rounds.specs.Form.{Form, variable_at, at_zero, has_terms, passes, IsClosedForm}
 use Rattle.rounds.specs.Word.{branch_of}
-use Rattle.rounds.proofs.BranchTurns.{form_count}
+use Rattle.rounds.proofs.BranchIterations.{form_count}
 use Rattle.rounds.proofs.WayBack.{variable_value}
 
 module _ (f : Form) (c : Coprime f.base) (m i : ℕ) (l : i < m) (many : i < length f.polys) where
@@ -106,7 +106,7 @@ module _ (f : Form) (c : Coprime f.base) (images : List (Terms Fraction))
   m = length images
 
   pub begins_of : ((i : ℕ) → i < length images → passes f (length images) i ≡ false)
-      → turns.IsClosedForm f.base images f.polys
+      → iterations.IsClosedForm f.base images f.polys
   begins_of stay = on_from f.base c images f.since f.polys form 0 (λ s k.
       same_lists (values_at f.polys (point f.base 0 s)) s
       (length-map f.polys (λ q. value_at ℚ q (point f.base 0 s)) ∙ size ∙ sym k)

@@ -11,7 +11,7 @@ use Rattle.algebra.specs.Each.{Each}
 use Rattle.algebra.specs.In.{In}
 use Rattle.algebra.specs.Ring.{CommRing}
 use Rattle.algebra.specs.Sum.{sum_over}
-use Rattle.algebra.proofs.RingLaws.{one-mul, mul_turn}
+use Rattle.algebra.proofs.RingLaws.{one-mul, mul_rotate}
 use Rattle.algebra.proofs.RingSolver.{ring_rules, ring}
 use Rattle.algebra.specs.Gcd.{gcd}
 use Rattle.algebra.specs.Ratio.{is_lowest, reduce}
@@ -40,8 +40,8 @@ use Rattle.machines.specs.Run.{IsRun}
 use Rattle.machines.proofs.Runs.{on, trace, run_of}
 use Rattle.exponentials.specs.Base.{IsProductOf, IsTheBase}
 use Rattle.exponentials.specs.Keys.{excess}
-use Rattle.solvable_maps.specs.Turns as turns
-use Rattle.solvable_maps.specs.Turns.{point, values_at}
+use Rattle.solvable_maps.specs.Iterations as iterations
+use Rattle.solvable_maps.specs.Iterations.{point, values_at}
 use Rattle.loops.specs.Effect.{store, value_of, after_statement, after_branch}
 use Rattle.loops.specs.Map.{branch_map}
 use Rattle.loops.specs.Program.{Expr, number, variable, neg, mul, divide, Program}
@@ -163,7 +163,7 @@ base = record {
   divides = (record { number = 2; within = inl refl; divides = N.dvd_refl 2 }, tt);
 }
 
--- ---- the state after n turns
+-- ---- the state after n iterations
 module _ {A : Type 0} (R : CommRing A) where
   open R use {one as 𝟙, zero as 𝟘, add as ◌⊕◌, mul as ◌⊗◌, neg}
 
@@ -189,38 +189,40 @@ minus_is = refl
 abbrev after : Fraction → Fraction → Fraction → Fraction → Fraction → Fraction → List Fraction
 after u v s x y z = ℚ.mul u x ∷ ℚ.mul v y ∷ ℚ.mul s z ∷ []
 
-abbrev after_turns : ℕ → Fraction → Fraction → Fraction → List Fraction
-after_turns n x y z = after (power ℚ two n) (power ℚ (Fraction.inverse two) n) (power ℚ minus n) x y
+abbrev after_iterations : ℕ → Fraction → Fraction → Fraction → List Fraction
+after_iterations n x y z = after (power ℚ two n) (power ℚ (Fraction.inverse two) n)
+    (power ℚ minus n) x y
     z
 
 abbrev raw : List (Terms Fraction)
 raw = branch_map powers (branch_of powers 1)
 
-turn : (x y z : Fraction) → values_at raw (x ∷ y ∷ z ∷ []) ≡ ℚ.mul two x
+iteration : (x y z : Fraction) → values_at raw (x ∷ y ∷ z ∷ []) ≡ ℚ.mul two x
     ∷ ℚ.mul y (Fraction.inverse two) ∷ ℚ.neg z ∷ []
 unfolding after_branch after_statement store value_of
-turn x y z = branch_map_values powers (branch_of powers 1) (x ∷ y ∷ z ∷ []) refl
+iteration x y z = branch_map_values powers (branch_of powers 1) (x ∷ y ∷ z ∷ []) refl
 
-turned : (n : ℕ) (x y z : Fraction) → turns.turns raw n (x ∷ y ∷ z ∷ []) ≡ after_turns n x y z
+turned : (n : ℕ) (x y z : Fraction) → iterations.iterations raw n (x ∷ y ∷ z ∷ [])
+    ≡ after_iterations n x y z
 unfolding power
 turned zero x y z =
     sym (ap₂ ◌∷◌ (one-mul ℚ_ring x)
     (ap₂ ◌∷◌ (one-mul ℚ_ring y) (ap (λ z. z ∷ []) (one-mul ℚ_ring z))))
 turned (suc n) x y z =
-    ap (values_at raw) (turned n x y z) ∙ turn _ _ _
+    ap (values_at raw) (turned n x y z) ∙ iteration _ _ _
     ∙ ap₂ ◌∷◌ (sym (ℚ_ring.mul_assoc two (power ℚ two n) x))
-    (ap₂ ◌∷◌ (mul_turn ℚ_ring (power ℚ (Fraction.inverse two) n) y (Fraction.inverse two))
+    (ap₂ ◌∷◌ (mul_rotate ℚ_ring (power ℚ (Fraction.inverse two) n) y (Fraction.inverse two))
     (ap (λ z. z ∷ []) (next_sign ℚ_ring minus (power ℚ minus n) z minus_is)))
 
 at : (n : ℕ) (x y z : Fraction) → values_at powers_form.polys (point (2 ∷ []) n (x ∷ y ∷ z ∷ []))
-    ≡ after_turns n x y z
+    ≡ after_iterations n x y z
 unfolding evaluate sum_over monomial_at power
 at n x y z = ap₂ ◌∷◌ (x_at ℚ_ring (power ℚ two n) x)
     (ap₂ ◌∷◌ (y_at ℚ_ring (power ℚ (Fraction.inverse two) n) y)
     (ap (λ z. z ∷ []) (z_at ℚ_ring (power ℚ minus n) z)))
 
 form_values : (n : ℕ) (s : List Fraction) → length s ≡ length raw → 0 ≤ n
-    → values_at powers_form.polys (point (2 ∷ []) n s) ≡ turns.turns raw n s
+    → values_at powers_form.polys (point (2 ∷ []) n s) ≡ iterations.iterations raw n s
 unfolding branch_map after_branch after_statement store variables unit_exponents
 form_values n [] l late = absurd (omega (arith, l))
 form_values n (x ∷ []) l late = absurd (omega (arith, l))
@@ -273,7 +275,7 @@ powers_basis = ((0 ∷ 0 ∷ 2 ∷ [], one) ∷ (0 ∷ 0 ∷ 0 ∷ [], minus) �
     ∷ ((1 ∷ 1 ∷ 0 ∷ [], one) ∷ (0 ∷ 0 ∷ 0 ∷ [], minus) ∷ []) ∷ []
 
 entries_are : (trace (moves setting) 30 fresh).0 ≡ powers_journal
-unfolding on trace next block starting closing_from analysis.after_turns analysis.after_branch
+unfolding on trace next block starting closing_from analysis.after_iterations analysis.after_branch
     analysis.after relation
     relations_to start_list start_polynomial in_order branch_map after_branch after_statement store
     value_of variables unit_exponents constant collect insert place scale_terms compare blocks
@@ -290,7 +292,7 @@ unfolding on trace next block starting closing_from analysis.after_turns analysi
 entries_are = refl
 
 ends : next setting (trace (moves setting) 30 fresh).1 ≡ finished 1 powers_basis
-unfolding on trace next block starting closing_from analysis.after_turns analysis.after_branch
+unfolding on trace next block starting closing_from analysis.after_iterations analysis.after_branch
     analysis.after relation
     relations_to start_list start_polynomial in_order branch_map after_branch after_statement store
     value_of variables unit_exponents constant collect insert place scale_terms compare blocks

@@ -3,7 +3,7 @@
 --   unit_here              a variable's exponents
 --   relation_arity, product_apart          a relation's exponents
 --   relation_terms         the product of two variables less one, as terms
---   all_not_kept, relations_not_kept     none of the relations is free of the variables in front, and of others behind them
+--   all_not_kept, relations_not_kept     none of the relations is free of the variables in front, and of others tail them
 --   blend_not_kept         no element of a blend is free of its first variable
 use Rattle.std.proofs.Common.{◌≡◌, ◌≢◌, ◌⊎◌, inl, inr, ℕ, zero, suc, ◌+◌, ◌<◌, ◌≤◌, Bool, true, false, List, [], ◌∷◌, ◌++◌, map, get_or, take, replicate, refl, sym, ap, ap₂, subst, ◌∙◌, arith}
 use Rattle.std.proofs.lemmas.List.{map-append}
@@ -111,11 +111,11 @@ free_here k e i l h = go k e i l (same_true (take k e) (replicate k 0) h)
     go zero e i l h = absurd (omega (arith, l))
     go (suc k) [] i l h = refl
     go (suc k) (n ∷ e) zero l h = ap (λ xs. get_or xs 0 0) h
-    go (suc k) (n ∷ e) (suc i) l h = go k e i (omega (arith, l)) (ap (λ xs. behind xs) h)
+    go (suc k) (n ∷ e) (suc i) l h = go k e i (omega (arith, l)) (ap (λ xs. tail xs) h)
       where
-        behind : List ℕ → List ℕ
-        behind [] = []
-        behind (x ∷ xs) = xs
+        tail : List ℕ → List ℕ
+        tail [] = []
+        tail (x ∷ xs) = xs
 
 some_here : (k : ℕ) (e : List ℕ) (i : ℕ) → i < k → 1 ≤ get_or e i 0 → free k e ≡ false
 some_here k e i l s = go (free k e) refl

@@ -14,7 +14,7 @@ use Rattle.polynomials.specs.Terms.{constant, variables, times, negate}
 use Rattle.polynomials.proofs.ValueAt.{value_at-append, value_at-times, value_at-negate, value_at-constant, value_at-variables}
 use Rattle.exponentials.specs.Base.{Coprime}
 use Rattle.exponentials.proofs.Monomial.{power_inverse}
-use Rattle.solvable_maps.specs.Turns.{point, back_point, powers, inverses, sign}
+use Rattle.solvable_maps.specs.Iterations.{point, back_point, powers, inverses, sign}
 use Rattle.solvable_maps.proofs.Operations.{point-append}
 use Rattle.rounds.specs.Orbit.{AreRelations}
 use Rattle.rounds.specs.Form.{front, point_of, variable_at, relation, relations_to, relations}

@@ -1,6 +1,6 @@
 -- A loop that overwrites, whole: vars x; init x=5; branch { x=3; }
---   reset_form            the closed form 3, from one turn on
---   resets_journal        the journal, which meets the start with what is after a turn
+--   reset_form            the closed form 3, from one iteration on
+--   resets_journal        the journal, which meets the start with what is after an iteration
 --   resets_finished       and ends in round 1 with x^2 - 8 x + 15
 use Rattle.std.proofs.Common.{◌≡◌, ℕ, zero, suc, ◌+◌, ◌<◌, ◌≤◌, pos, negsuc, List, [], ◌∷◌, length, get_or, refl, sym, ap, subst, ◌∙◌, arith, None}
 use Rattle.std.specs.Prelude.{⊤}
@@ -37,8 +37,8 @@ use Rattle.machines.proofs.Runs.{on, trace, run_of}
 use Rattle.exponentials.specs.Base.{IsTheBase}
 use Rattle.exponentials.specs.Keys.{excess}
 use Rattle.solvable_maps.specs.Classes.{IsEigenvalue, IsFormBase}
-use Rattle.solvable_maps.specs.Turns as turns
-use Rattle.solvable_maps.specs.Turns.{point, values_at, IsClosedFormFrom}
+use Rattle.solvable_maps.specs.Iterations as iterations
+use Rattle.solvable_maps.specs.Iterations.{point, values_at, IsClosedFormFrom}
 use Rattle.loops.specs.Effect.{store, value_of, after_statement, after_branch}
 use Rattle.loops.specs.Map.{branch_map}
 use Rattle.loops.specs.Program.{Expr, number, Program}
@@ -50,7 +50,7 @@ use Rattle.rounds.specs.Word.{branch_of}
 use Rattle.rounds.proofs.Alone.{own, eigenvalue_is_own}
 use Rattle.machines.specs.Journal.{Entry, Begin, Did, Start, Closed, Round, Orbit, Meet}
 use Rattle.rounds.specs.Analysis as analysis
-use Rattle.rounds.specs.Analysis.{Setting, fresh, finished, next, moves, block, starting, closing_from, after_turns}
+use Rattle.rounds.specs.Analysis.{Setting, fresh, finished, next, moves, block, starting, closing_from, after_iterations}
 use Rattle.rounds.specs.Journal.{AreForms, setting_of, IsFinished}
 
 abbrev pub resets : Program (Expr ⊤)
@@ -120,10 +120,10 @@ polys_at : (z : List Fraction) → values_at reset_form.polys z ≡ three ∷ []
 polys_at z = ap (λ ps. values_at ps z) polys_are
     ∙ ap (λ x. x ∷ []) (value_at-constant ℚ_ring 3 three z)
 
-turned_at : (n : ℕ) (s : List Fraction) → 1 ≤ n → turns.turns raw n s ≡ three ∷ []
+turned_at : (n : ℕ) (s : List Fraction) → 1 ≤ n → iterations.iterations raw n s ≡ three ∷ []
 turned_at zero s l = absurd (omega (arith, l))
-turned_at (suc n) s l = ap (λ ps. values_at ps (turns.turns raw n s)) raw_is
-    ∙ ap (λ x. x ∷ []) (value_at-constant ℚ_ring 1 three (turns.turns raw n s))
+turned_at (suc n) s l = ap (λ ps. values_at ps (iterations.iterations raw n s)) raw_is
+    ∙ ap (λ x. x ∷ []) (value_at-constant ℚ_ring 1 three (iterations.iterations raw n s))
 
 from_one : IsClosedFormFrom [] raw 1 reset_form.polys
 unfolding Each
@@ -174,7 +174,7 @@ resets_basis = ((2 ∷ [], whole (pos 1)) ∷ (1 ∷ [], whole (negsuc 7)) ∷ (
     ∷ []) ∷ []
 
 entries_are : (trace (moves setting) 12 fresh).0 ≡ resets_journal
-unfolding on trace next block starting passes closing_from after_turns analysis.after_branch
+unfolding on trace next block starting passes closing_from after_iterations analysis.after_branch
     analysis.after relation relations_to start_list start_polynomial in_order branch_map
     after_branch after_statement store value_of variables unit_exponents constant collect insert
     place scale_terms compare blocks grevlex elimination.next completion.next with_element
@@ -190,7 +190,7 @@ unfolding on trace next block starting passes closing_from after_turns analysis.
 entries_are = refl
 
 ends : next setting (trace (moves setting) 12 fresh).1 ≡ finished 1 resets_basis
-unfolding on trace next block starting passes closing_from after_turns analysis.after_branch
+unfolding on trace next block starting passes closing_from after_iterations analysis.after_branch
     analysis.after relation relations_to start_list start_polynomial in_order branch_map
     after_branch after_statement store value_of variables unit_exponents constant collect insert
     place scale_terms compare blocks grevlex elimination.next completion.next with_element

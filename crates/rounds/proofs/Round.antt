@@ -1,7 +1,7 @@
 -- The lists of rounds generate the levels, and a closed one all invariants.
---   turns_generate       a list of what is a member after turns that are allowed: that level and then these turns
---   orbit_generates      an orbit of a list that generates a level: that level and then turns of the branch
---   so_far_generates     the list so far: that level and then turns of a branch up to the last
+--   iterations_generate       a list of what is a member after iterations that are allowed: that level and then these iterations
+--   orbit_generates      an orbit of a list that generates a level: that level and then iterations of the branch
+--   so_far_generates     the list so far: that level and then iterations of a branch up to the last
 --   round_generates      the list of round k generates level k
 --   closed_stays         what is a member of a closed list's ideal stays one
 --   closed_generates     a closed round generates what stays in every word
@@ -16,12 +16,12 @@ use Rattle.ideals.specs.Members.{IsMember}
 use Rattle.loops.specs.Program.{Expr, Program}
 use Rattle.polynomials.proofs.Arity.{arity_at}
 use Rattle.loops.proofs.Maps.{arity-branch_map}
-use Rattle.rounds.specs.Word.{pieces, AtMost, Ending, AnyTurns, LettersTo, Then, UpTo, Every, IsLetter, after_turn, after_word, Stays}
+use Rattle.rounds.specs.Word.{pieces, AtMost, Ending, AnyIterations, LettersTo, Then, UpTo, Every, IsLetter, after_iteration, after_word, Stays}
 use Rattle.rounds.specs.Generate.{Generates}
 use Rattle.rounds.specs.Round.{IsOrbit, IsAfter, IsSoFar, IsClosed, IsRound, start, round}
 use Rattle.ideals.proofs.FractionMembers.{member_at, member_turned}
-use Rattle.rounds.proofs.Parts.{any_turns}
-use Rattle.rounds.proofs.Word.{no_pieces, after_word-append, arity-after_word, ending_of_turns, turns_of_ending, level_of_letters, letters_of_level}
+use Rattle.rounds.proofs.Parts.{any_iterations}
+use Rattle.rounds.proofs.Word.{no_pieces, after_word-append, arity-after_word, ending_of_iterations, iterations_of_ending, level_of_letters, letters_of_level}
 
 module _ {At : Type 0} (program : Program (Expr At)) where
   abbrev m : ℕ
@@ -29,43 +29,45 @@ module _ {At : Type 0} (program : Program (Expr At)) where
 
   module _ (gs : List (Terms Fraction)) (a : AllArity (length program.names) gs)
       (c : IsClosed program gs) where
-    turn_stays : (b : ℕ) (p : Terms Fraction) → IsLetter program b → Arity m p → IsMember ℚ m gs p
-        → IsMember ℚ m gs (after_turn program b p)
-    turn_stays b p l pa i = member_turned m m gs gs _ p a a (arity-branch_map program _) pa (λ j k.
+    iteration_stays : (b : ℕ) (p : Terms Fraction) → IsLetter program b → Arity m p
+        → IsMember ℚ m gs p
+        → IsMember ℚ m gs (after_iteration program b p)
+    iteration_stays b p l pa i = member_turned m m gs gs _ p a a (arity-branch_map program _) pa
+        (λ j k.
         c.turned b j l k) i
 
     pub closed_stays : (w : List ℕ) (p : Terms Fraction) → All (IsLetter program) w → Arity m p
         → IsMember ℚ m gs p → IsMember ℚ m gs (after_word program w p)
     unfolding after_word
     closed_stays [] p all pa i = i
-    closed_stays (b ∷ w) p all pa i = turn_stays b (after_word program w p)
+    closed_stays (b ∷ w) p all pa i = iteration_stays b (after_word program w p)
         (All-head (IsLetter program) b w all) (arity-after_word program w p pa)
         (closed_stays w p (All-tail (IsLetter program) b w all) pa i)
 
   module _ (I : Terms Fraction → Type 0) where
-    -- turns of letters that are allowed
-    pub turns_generate : (k : ℕ) (R : ℕ → ℕ → Type 0) (gs hs : List (Terms Fraction))
+    -- iterations of letters that are allowed
+    pub iterations_generate : (k : ℕ) (R : ℕ → ℕ → Type 0) (gs hs : List (Terms Fraction))
         → ((i t : ℕ) → R i t → IsLetter program i) → Generates m gs (Stays program I (AtMost k))
         → IsAfter program gs R hs → Generates m hs (Stays program I (Ending k R))
-    turns_generate k R gs hs l g o = record {
+    iterations_generate k R gs hs l g o = record {
       arities = o.arities;
-      only = λ p a h. ending_of_turns program I k R p
+      only = λ p a h. ending_of_iterations program I k R p
           (λ i t r. g.only _ (arity-after_word program (replicate t i) p a) (o.only p a h i t r));
       all = λ p a s. o.all p a (λ i t r. g.all _ (arity-after_word program (replicate t i) p a)
-          (turns_of_ending program I k R p i t (l i t r) r s));
+          (iterations_of_ending program I k R p i t (l i t r) r s));
     }
 
     pub orbit_generates : (k i : ℕ) (gs hs : List (Terms Fraction)) → IsLetter program i
         → Generates m gs (Stays program I (AtMost k)) → IsOrbit program gs i hs
         → Generates m hs (Stays program I (Then k i))
-    orbit_generates k i gs hs l g o = turns_generate k (AnyTurns i) gs hs
-        (λ j t e. subst (IsLetter program) (sym e) l) g (any_turns program gs i hs o)
+    orbit_generates k i gs hs l g o = iterations_generate k (AnyIterations i) gs hs
+        (λ j t e. subst (IsLetter program) (sym e) l) g (any_iterations program gs i hs o)
 
     pub so_far_generates : (k : ℕ) (gs : List (Terms Fraction))
         → Generates m gs (Stays program I (AtMost k)) → (j : ℕ) (hs : List (Terms Fraction))
         → j ≤ length program.branches
         → IsSoFar program gs j hs → Generates m hs (Stays program I (UpTo k j))
-    so_far_generates k gs g j hs l o = turns_generate k (LettersTo j) gs hs
+    so_far_generates k gs g j hs l o = iterations_generate k (LettersTo j) gs hs
         (λ i t r. record { some = r.0; within = (let n : i ≤ j = r.1 in omega (arith, n, l)) }) g o
 
     pub round_generates : 0 < length program.branches → (k : ℕ) (gs : List (Terms Fraction))
@@ -117,7 +119,7 @@ module _ {At : Type 0} (program : Program (Expr At)) where
           let p : Terms Fraction = get_or gs i [] in
           let a = arity_at m gs g.arities i in
           let s : Stays program I Every p = h p a (g.only p a (member_at m gs g.arities i j)) in
-          g.all (after_turn program b p) (arity-after_word program (b ∷ []) p a)
+          g.all (after_iteration program b p) (arity-after_word program (b ∷ []) p a)
           (record {
             in_words = λ w all t. subst I (after_word-push w b p)
                 (s.in_words (w ++ b ∷ []) (All-append (IsLetter program) w (b ∷ []) all
@@ -126,7 +128,8 @@ module _ {At : Type 0} (program : Program (Expr At)) where
     }
       where
         after_word-push : (w : List ℕ) (b : ℕ) (p : Terms Fraction)
-            → after_word program (w ++ b ∷ []) p ≡ after_word program w (after_turn program b p)
+            → after_word program (w ++ b ∷ []) p ≡ after_word program w
+            (after_iteration program b p)
         after_word-push w b p = after_word-append program w (b ∷ []) p
 
     pub round_is_least : 0 < length program.branches → (k : ℕ) (gs : List (Terms Fraction))

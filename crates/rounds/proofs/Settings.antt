@@ -16,7 +16,7 @@ use Rattle.machines.specs.Past as machine
 use Rattle.machines.specs.Run.{IsRun}
 use Rattle.machines.specs.Elimination as elimination
 use Rattle.machines.specs.Division as division
-use Rattle.rounds.specs.Analysis.{Setting, Work, starts, turn, turn_meet, orbit, meet, State, fresh, working, closing, turning, asking, Step, goes, finished, answered, form_of, turns_of, block, order, starting, start_of, closing_from, begin_turn, begin_orbit, begin_meet, after_turns, begin_branch, after_branch, after_orbit, after, next_work, after_test, closed_by, asked_by, first_step, next, move_of, moves}
+use Rattle.rounds.specs.Analysis.{Setting, Work, starts, iteration, iteration_meet, orbit, meet, State, fresh, working, closing, turning, asking, Step, goes, finished, answered, form_of, iterations_of, block, order, starting, start_of, closing_from, begin_iteration, begin_orbit, begin_meet, after_iterations, begin_branch, after_branch, after_orbit, after, next_work, after_test, closed_by, asked_by, first_step, next, move_of, moves}
 use Rattle.rounds.specs.Past.{IsPastStarting, IsPastEvent, IsPastTask, IsPast}
 use Rattle.rounds.proofs.SameForms.{same_block, same_order}
 
@@ -38,8 +38,8 @@ module _ (A : Setting) (ss : List (Terms Fraction)) (alike : map (collect ration
   same_starting : (w : Work) → starting B w ≡ starting A w
   unfolding starting
   same_starting starts = alike
-  same_starting (turn k b n gs before so_far) = refl
-  same_starting (turn_meet k b n gs so_far ks) = refl
+  same_starting (iteration k b n gs before so_far) = refl
+  same_starting (iteration_meet k b n gs so_far ks) = refl
   same_starting (orbit k b gs so_far) = refl
   same_starting (meet k b gs so_far hs) = refl
 
@@ -64,16 +64,16 @@ module _ (A : Setting) (ss : List (Terms Fraction)) (alike : map (collect ration
   same_meet k b gs so_far hs = ap (goes (Begin (journal.Meet k (suc b))))
       (same_begun (meet k b gs so_far hs))
 
-  same_turns : (k b n : ℕ) (gs before so_far : List (Terms Fraction))
-      → after_turns B k b n gs before so_far ≡ after_turns A k b n gs before so_far
-  unfolding after_turns
-  same_turns k b n gs before so_far = go (ltb n (turns_of A b))
+  same_iterations : (k b n : ℕ) (gs before so_far : List (Terms Fraction))
+      → after_iterations B k b n gs before so_far ≡ after_iterations A k b n gs before so_far
+  unfolding after_iterations
+  same_iterations k b n gs before so_far = go (ltb n (iterations_of A b))
     where
       go : (o : Bool)
-          → cond o (begin_turn B k b n gs before so_far) (begin_orbit B k b gs so_far)
-          ≡ cond o (begin_turn A k b n gs before so_far) (begin_orbit A k b gs so_far)
-      go true = ap (goes (Begin (journal.Turn k (suc b) (suc n))))
-          (same_begun (turn k b n gs before so_far))
+          → cond o (begin_iteration B k b n gs before so_far) (begin_orbit B k b gs so_far)
+          ≡ cond o (begin_iteration A k b n gs before so_far) (begin_orbit A k b gs so_far)
+      go true = ap (goes (Begin (journal.Iteration k (suc b) (suc n))))
+          (same_begun (iteration k b n gs before so_far))
       go false = same_orbit k b gs so_far
 
   same_branch : (k b : ℕ) (gs hs : List (Terms Fraction)) → after_branch B k b gs hs ≡ after_branch
@@ -83,7 +83,7 @@ module _ (A : Setting) (ss : List (Terms Fraction)) (alike : map (collect ration
     where
       go : (o : Bool) → cond o (begin_branch B k (suc b) gs hs) (closing_from B k 0 0 hs)
           ≡ cond o (begin_branch A k (suc b) gs hs) (closing_from A k 0 0 hs)
-      go true = same_turns k (suc b) 0 gs gs hs
+      go true = same_iterations k (suc b) 0 gs gs hs
       go false = same_closing k 0 0 hs
 
   same_after_orbit : (d k b : ℕ) (gs so_far hs : List (Terms Fraction))
@@ -95,9 +95,10 @@ module _ (A : Setting) (ss : List (Terms Fraction)) (alike : map (collect ration
   same_after : (w : Work) (gs : List (Terms Fraction)) → after B w gs ≡ after A w gs
   unfolding after
   same_after starts gs = same_closing 0 0 0 gs
-  same_after (turn k b n gs before so_far) ks = ap (goes (Begin (journal.TurnMeet k (suc b)
-      (suc n)))) (same_begun (turn_meet k b n gs so_far ks))
-  same_after (turn_meet k b n gs so_far ks) ls = same_turns k b (suc n) gs ks ls
+  same_after (iteration k b n gs before so_far) ks =
+      ap (goes (Begin (journal.IterationMeet k (suc b)
+      (suc n)))) (same_begun (iteration_meet k b n gs so_far ks))
+  same_after (iteration_meet k b n gs so_far ks) ls = same_iterations k b (suc n) gs ks ls
   same_after (orbit k b gs so_far) hs = same_after_orbit (form_of A b).since k b gs so_far hs
   same_after (meet k b gs so_far hs) ls = same_branch k b gs ls
 
@@ -141,7 +142,7 @@ module _ (A : Setting) (ss : List (Terms Fraction)) (alike : map (collect ration
   alike_next fresh = same_first A.given
   alike_next (working w s) = same_working w s
   alike_next (closing k b i gs s) = same_closed k b i gs s (division.next rationals grevlex gs s)
-  alike_next (turning k gs) = same_turns k 0 0 gs gs gs
+  alike_next (turning k gs) = same_iterations k 0 0 gs gs gs
   alike_next (asking k gs s) = same_asking k gs s (division.next rationals grevlex gs s)
 
   same_moved : (x : Step) → move_of B x ≡ move_of A x
@@ -166,14 +167,14 @@ module _ (A : Setting) (ss : List (Terms Fraction)) (alike : map (collect ration
 
   past_starting : (w : Work) → IsPastStarting A w → IsPastStarting B w
   past_starting starts p = past_start starts p
-  past_starting (turn k b n gs before so_far) (inl p) = inl p
-  past_starting (turn k b n gs before so_far) (inr p) =
-      inr (past_start (turn k b n gs before so_far)
+  past_starting (iteration k b n gs before so_far) (inl p) = inl p
+  past_starting (iteration k b n gs before so_far) (inr p) =
+      inr (past_start (iteration k b n gs before so_far)
       p)
-  past_starting (turn_meet k b n gs so_far ks) (inl p) = inl p
-  past_starting (turn_meet k b n gs so_far ks) (inr (inl p)) = inr (inl p)
-  past_starting (turn_meet k b n gs so_far ks) (inr (inr p)) =
-      inr (inr (past_start (turn_meet k b n gs so_far ks) p))
+  past_starting (iteration_meet k b n gs so_far ks) (inl p) = inl p
+  past_starting (iteration_meet k b n gs so_far ks) (inr (inl p)) = inr (inl p)
+  past_starting (iteration_meet k b n gs so_far ks) (inr (inr p)) =
+      inr (inr (past_start (iteration_meet k b n gs so_far ks) p))
   past_starting (orbit k b gs so_far) (inl p) = inl p
   past_starting (orbit k b gs so_far) (inr p) = inr (past_start (orbit k b gs so_far) p)
   past_starting (meet k b gs so_far hs) (inl p) = inl p

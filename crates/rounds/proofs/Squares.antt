@@ -9,7 +9,7 @@ use Rattle.algebra.specs.Each.{Each}
 use Rattle.algebra.specs.In.{In}
 use Rattle.algebra.specs.Ring.{CommRing}
 use Rattle.algebra.specs.Sum.{sum_over}
-use Rattle.algebra.proofs.RingLaws.{zero-add, add_turn}
+use Rattle.algebra.proofs.RingLaws.{zero-add, add_rotate}
 use Rattle.algebra.proofs.RingSolver.{ring_rules, ring}
 use Rattle.algebra.specs.Gcd.{gcd}
 use Rattle.algebra.specs.Ratio.{is_lowest, reduce}
@@ -39,8 +39,8 @@ use Rattle.machines.specs.Run.{IsRun}
 use Rattle.machines.proofs.Runs.{on, trace, run_of}
 use Rattle.exponentials.specs.Base.{IsTheBase}
 use Rattle.exponentials.specs.Keys.{excess}
-use Rattle.solvable_maps.specs.Turns as turns
-use Rattle.solvable_maps.specs.Turns.{point, values_at}
+use Rattle.solvable_maps.specs.Iterations as iterations
+use Rattle.solvable_maps.specs.Iterations.{point, values_at}
 use Rattle.loops.specs.Effect.{store, value_of, after_statement, after_branch}
 use Rattle.loops.specs.Map.{branch_map}
 use Rattle.loops.proofs.Examples.{squares}
@@ -134,7 +134,7 @@ base = record {
   divides = tt;
 }
 
--- ---- the state after n turns
+-- ---- the state after n iterations
 module _ {A : Type 0} (R : CommRing A) where
   open R use {one as 𝟙, zero as 𝟘, add as ◌⊕◌, mul as ◌⊗◌}
 
@@ -179,19 +179,21 @@ after n a s t = ℚ.add n a ∷ ℚ.add (ℚ.add (ℚ.add (ℚ.mul n n) (ℚ.mul
 abbrev raw : List (Terms Fraction)
 raw = branch_map squares (branch_of squares 1)
 
-turn : (a s t : Fraction) → values_at raw (a ∷ s ∷ t ∷ []) ≡ ℚ.add a one ∷ ℚ.add s (ℚ.add t two)
+iteration : (a s t : Fraction) → values_at raw (a ∷ s ∷ t ∷ []) ≡ ℚ.add a one
+    ∷ ℚ.add s (ℚ.add t two)
     ∷ ℚ.add t two ∷ []
 unfolding after_branch after_statement store value_of
-turn a s t = branch_map_values squares (branch_of squares 1) (a ∷ s ∷ t ∷ []) refl
+iteration a s t = branch_map_values squares (branch_of squares 1) (a ∷ s ∷ t ∷ []) refl
 
-turned : (n : ℕ) (a s t : Fraction) → turns.turns raw n (a ∷ s ∷ t ∷ []) ≡ after (whole (pos n)) a s
+turned : (n : ℕ) (a s t : Fraction) → iterations.iterations raw n (a ∷ s ∷ t ∷ [])
+    ≡ after (whole (pos n)) a s
     t
 turned zero a s t =
     sym (ap₂ ◌∷◌ (zero-add ℚ_ring a) (ap₂ ◌∷◌ (s_first ℚ_ring s t)
     (ap (λ x. x ∷ []) (t_first ℚ_ring two t))))
 turned (suc n) a s t =
-    ap (values_at raw) (turned n a s t) ∙ turn _ _ _
-    ∙ ap₂ ◌∷◌ (add_turn ℚ_ring (whole (pos n)) a one)
+    ap (values_at raw) (turned n a s t) ∙ iteration _ _ _
+    ∙ ap₂ ◌∷◌ (add_rotate ℚ_ring (whole (pos n)) a one)
     (ap₂ ◌∷◌ (s_next ℚ_ring two (whole (pos n)) s t two_is)
     (ap (λ x. x ∷ []) (t_next ℚ_ring two (whole (pos n)) t)))
     ∙ ap (λ k. after k a s t) (sym (whole-suc n))
@@ -203,7 +205,7 @@ at n a s t = ap₂ ◌∷◌ (a_at ℚ_ring (whole (pos n)) a) (ap₂ ◌∷◌ 
     (ap (λ x. x ∷ []) (t_at ℚ_ring two (whole (pos n)) t)))
 
 form_values : (n : ℕ) (s : List Fraction) → length s ≡ length raw → 0 ≤ n
-    → values_at squares_form.polys (point [] n s) ≡ turns.turns raw n s
+    → values_at squares_form.polys (point [] n s) ≡ iterations.iterations raw n s
 unfolding branch_map after_branch after_statement store variables unit_exponents
 form_values n [] l late = absurd (omega (arith, l))
 form_values n (a ∷ []) l late = absurd (omega (arith, l))
@@ -287,7 +289,7 @@ squares_basis =
     ∷ (0 ∷ 0 ∷ 0 ∷ [], one) ∷ []) ∷ []
 
 entries_are : (trace (moves setting) 17 fresh).0 ≡ squares_journal
-unfolding on trace next block starting closing_from analysis.after_turns analysis.after_branch
+unfolding on trace next block starting closing_from analysis.after_iterations analysis.after_branch
     analysis.after relation
     relations_to start_list start_polynomial in_order branch_map after_branch after_statement store
     value_of variables unit_exponents constant collect insert place scale_terms compare blocks
@@ -304,7 +306,7 @@ unfolding on trace next block starting closing_from analysis.after_turns analysi
 entries_are = refl
 
 ends : next setting (trace (moves setting) 17 fresh).1 ≡ finished 1 squares_basis
-unfolding on trace next block starting closing_from analysis.after_turns analysis.after_branch
+unfolding on trace next block starting closing_from analysis.after_iterations analysis.after_branch
     analysis.after relation
     relations_to start_list start_polynomial in_order branch_map after_branch after_statement store
     value_of variables unit_exponents constant collect insert place scale_terms compare blocks

@@ -133,7 +133,7 @@ divided_so = record {
 }
 
 entries_are : (trace (moves setting) 23 fresh).0 ≡ asked_journal
-unfolding on trace next block starting closing_from analysis.after_turns analysis.after_branch
+unfolding on trace next block starting closing_from analysis.after_iterations analysis.after_branch
     analysis.after relation
     relations_to start_list start_polynomial in_order branch_map after_branch after_statement store
     value_of variables unit_exponents constant collect insert place scale_terms compare blocks
@@ -150,7 +150,7 @@ unfolding on trace next block starting closing_from analysis.after_turns analysi
 entries_are = refl
 
 ends : next setting (trace (moves setting) 23 fresh).1 ≡ answered 1 squares_basis divided_so
-unfolding on trace next block starting closing_from analysis.after_turns analysis.after_branch
+unfolding on trace next block starting closing_from analysis.after_iterations analysis.after_branch
     analysis.after relation
     relations_to start_list start_polynomial in_order branch_map after_branch after_statement store
     value_of variables unit_exponents constant collect insert place scale_terms compare blocks
@@ -210,7 +210,7 @@ abbrev begun_so : State × State
 begun_so = ((trace (moves plain_setting) 2 fresh).1, (trace (moves plain_setting) 3 fresh).1)
 
 first_are : (trace (moves plain_setting) 2 fresh).0 ≡ Begin Start ∷ Begin (Closed 0 1 1) ∷ []
-unfolding on trace next block starting closing_from analysis.after_turns analysis.after_branch
+unfolding on trace next block starting closing_from analysis.after_iterations analysis.after_branch
     analysis.after relation
     relations_to start_list start_polynomial in_order branch_map after_branch after_statement store
     value_of variables unit_exponents constant collect insert place scale_terms compare blocks
@@ -227,7 +227,7 @@ unfolding on trace next block starting closing_from analysis.after_turns analysi
 first_are = refl
 
 then_cut : next plain_setting begun_so.0 ≡ goes (Did (Cut 0)) begun_so.1
-unfolding on trace next block starting closing_from analysis.after_turns analysis.after_branch
+unfolding on trace next block starting closing_from analysis.after_iterations analysis.after_branch
     analysis.after relation
     relations_to start_list start_polynomial in_order branch_map after_branch after_statement store
     value_of variables unit_exponents constant collect insert place scale_terms compare blocks

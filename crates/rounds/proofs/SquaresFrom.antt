@@ -63,7 +63,7 @@ from_journal =
     ∷ []
 
 entries_are : (trace (moves setting) 16 fresh).0 ≡ from_journal
-unfolding on trace next block starting closing_from analysis.after_turns analysis.after_branch
+unfolding on trace next block starting closing_from analysis.after_iterations analysis.after_branch
     analysis.after relation
     relations_to start_list start_polynomial in_order branch_map after_branch after_statement store
     value_of variables unit_exponents constant collect insert place scale_terms compare blocks
@@ -80,7 +80,7 @@ unfolding on trace next block starting closing_from analysis.after_turns analysi
 entries_are = refl
 
 ends : next setting (trace (moves setting) 16 fresh).1 ≡ finished 1 squares_basis
-unfolding on trace next block starting closing_from analysis.after_turns analysis.after_branch
+unfolding on trace next block starting closing_from analysis.after_iterations analysis.after_branch
     analysis.after relation
     relations_to start_list start_polynomial in_order branch_map after_branch after_statement store
     value_of variables unit_exponents constant collect insert place scale_terms compare blocks
@@ -117,7 +117,7 @@ closed_journal = Begin (Closed 0 1 1) ∷ Did (Cut 0) ∷ Did Zero ∷ Begin (Cl
     ∷ Did Zero ∷ []
 
 closed_entries : (trace (moves closed_setting) 6 fresh).0 ≡ closed_journal
-unfolding on trace next block starting closing_from analysis.after_turns analysis.after_branch
+unfolding on trace next block starting closing_from analysis.after_iterations analysis.after_branch
     analysis.after relation
     relations_to start_list start_polynomial in_order branch_map after_branch after_statement store
     value_of variables unit_exponents constant collect insert place scale_terms compare blocks
@@ -135,7 +135,7 @@ closed_entries = refl
 
 closed_ends : next closed_setting (trace (moves closed_setting) 6 fresh).1
     ≡ finished 0 squares_basis
-unfolding on trace next block starting closing_from analysis.after_turns analysis.after_branch
+unfolding on trace next block starting closing_from analysis.after_iterations analysis.after_branch
     analysis.after relation
     relations_to start_list start_polynomial in_order branch_map after_branch after_statement store
     value_of variables unit_exponents constant collect insert place scale_terms compare blocks

@@ -1,7 +1,7 @@
--- An element after a turn of a branch, as an analysis has it: composed with the map collected.
+-- An element after an iteration of a branch, as an analysis has it: composed with the map collected.
 --   turned_polynomial      it is a polynomial in its order
 --   turned_same            it is the element composed with the map
---   map_turns              the map's polynomials are the state after one turn
+--   map_iterations              the map's polynomials are the state after one iteration
 use Rattle.std.proofs.Common.{◌≡◌, ℕ, zero, suc, ◌<◌, List, [], ◌∷◌, map, get_or, length, arith, refl, sym, ap, ap₂, subst, ◌∙◌, zero-add, Option}
 use Rattle.algebra.proofs.Each.{each-map, each_weaker}
 use Rattle.algebra.specs.Fraction.{Fraction, ℚ, rationals}
@@ -23,9 +23,9 @@ use Rattle.rounds.specs.Analysis.{Setting, pullback}
 use Rattle.rounds.specs.Form.{Form}
 use Rattle.rounds.specs.Journal.{setting_from}
 use Rattle.rounds.specs.Orbit.{IsFormAt}
-use Rattle.rounds.specs.Word.{after_turn}
-use Rattle.rounds.proofs.BranchTurns.{turns-are}
-use Rattle.rounds.proofs.OneTurn.{no_point}
+use Rattle.rounds.specs.Word.{after_iteration}
+use Rattle.rounds.proofs.BranchIterations.{iterations-are}
+use Rattle.rounds.proofs.OneIteration.{no_point}
 
 module _ {At : Type 0} (program : Program (Expr At)) (given : Option (List (Terms Fraction)))
     (forms : List Form) (asked : Option (Terms Fraction)) where
@@ -76,15 +76,16 @@ module _ {At : Type 0} (program : Program (Expr At)) (given : Option (List (Term
 
   pub turned_same : (b : ℕ) (g : Terms Fraction) → Arity (length program.names) g
       → b < length program.branches → Same ℚ (pullback (setting_from program given forms asked) b g)
-      (after_turn program (suc b) g)
+      (after_iteration program (suc b) g)
   unfolding the_map
-  turned_same b g a l = subst (λ x. Same ℚ x (after_turn program (suc b) g)) (sym (unfolded b g l))
+  turned_same b g a l = subst (λ x. Same ℚ x (after_iteration program (suc b) g))
+      (sym (unfolded b g l))
       (Same-trans ℚ (collect-same ℚ_field grevlex grevlex_order _)
       (same_compose ℚ_ring m m g g (map (collect rationals grevlex) (the_map b)) (the_map b) a a
       (collected_arity (the_map b) (map_arity b)) (map_arity b) (Same-refl ℚ g)
       (collected_each (the_map b))))
 
-  -- the branch's map, collected, is a turn
+  -- the branch's map, collected, is an iteration
   collected_values : (gs : List (Terms Fraction)) (s : List Fraction)
       → map (λ q. value_at ℚ q s) (map (collect rationals grevlex) gs)
       ≡ map (λ q. value_at ℚ q s) gs
@@ -93,14 +94,15 @@ module _ {At : Type 0} (program : Program (Expr At)) (given : Option (List (Term
       ap₂ ◌∷◌ (value_at_same ℚ_ring _ _ s (collect-same ℚ_field grevlex grevlex_order g))
       (collected_values gs s)
 
-  pub map_turns : (b : ℕ) → b < length program.branches → IsFormAt program (suc b) 0 no_point
+  pub map_iterations : (b : ℕ) → b < length program.branches → IsFormAt program (suc b) 0 no_point
       (λ n. 1) (get_or (setting_from program given forms asked).maps b [])
   unfolding the_map
-  map_turns b l =
+  map_iterations b l =
       subst (λ fs. IsFormAt program (suc b) 0 no_point (λ n. 1) fs)
       (sym (map_at program.branches b l))
       (record {
         arities = subst (λ n. AllArity n (map (collect rationals grevlex) (the_map b)))
             (sym (zero-add m)) (collected_arity (the_map b) (map_arity b));
-        turns = λ n s st. collected_values (the_map b) s ∙ turns-are program (suc b) 1 s st;
+        iterations = λ n s st. collected_values (the_map b) s
+            ∙ iterations-are program (suc b) 1 s st;
       })

@@ -1,6 +1,6 @@
--- A closed form from some number of turns on tells what the variables were: those that are themselves at n = 0 by the form backward, the others by their copies.
+-- A closed form from some number of iterations on tells what the variables were: those that are themselves at n = 0 by the inverse form, the others by their copies.
 --   before_values        what was, from values place by place
---   form_before_is       with the form backward, from `since` turns on
+--   form_before_is       with the inverse form, from `since` iterations on
 --   relations_are_wide   the relations, with the copies behind them
 --   late_orbit       so its graph gives the orbit from there on
 use Rattle.std.proofs.Common.{◌≡◌, ℕ, zero, suc, ◌+◌, ◌<◌, ◌≤◌, Bool, true, false, cond, List, [], ◌∷◌, ◌++◌, map, get_or, take, drop, length, arith, refl, sym, ap, ap₂, subst, ◌∙◌, All, drop-cons, append_assoc}
@@ -16,11 +16,11 @@ use Rattle.polynomials.specs.Polynomial.{Arity, AllArity}
 use Rattle.polynomials.proofs.Arity.{arity-append, arity-times, arity-negate, arity-constant, arity-compose, arity-variables, arity_at}
 use Rattle.polynomials.proofs.ByValues.{same_by_values}
 use Rattle.polynomials.proofs.ValueAt.{value_at-append, value_at-times, value_at-negate, value_at-constant, value_at-compose, value_at-variables}
-use Rattle.solvable_maps.specs.Turns as turns
-use Rattle.solvable_maps.specs.Turns.{point, values_at, IsItself}
-use Rattle.solvable_maps.specs.Expo.{backward_terms}
+use Rattle.solvable_maps.specs.Iterations as iterations
+use Rattle.solvable_maps.specs.Iterations.{point, values_at, IsItself}
+use Rattle.solvable_maps.specs.Expo.{inverse_form_terms}
 use Rattle.solvable_maps.proofs.Operations.{point-append}
-use Rattle.solvable_maps.proofs.OneForm.{backward_to_zero}
+use Rattle.solvable_maps.proofs.OneForm.{inverse_form_to_zero}
 use Rattle.machines.proofs.Padding.{at, inner-is, inner_arity, inner_at}
 use Rattle.loops.specs.Program.{Expr, Program}
 use Rattle.loops.specs.Map.{branch_map}
@@ -33,7 +33,7 @@ use Rattle.rounds.proofs.Independent.{points_of_base, arity_relations}
 use Rattle.rounds.proofs.Relations.{zero_at_points}
 use Rattle.rounds.specs.Graph.{IsBefore, images_behind, at_before, graph_list, AreWide}
 use Rattle.rounds.specs.Round.{IsOrbitAt}
-use Rattle.rounds.proofs.BranchTurns.{bm, turned_keeps, turns-are, form_count}
+use Rattle.rounds.proofs.BranchIterations.{bm, turned_keeps, iterations-are, form_count}
 use Rattle.rounds.proofs.Graph.{put_arity, put_at, graph_arity, graph_gives_orbit}
 use Rattle.rounds.proofs.Later.{points_from, points_from_are_independent}
 
@@ -304,7 +304,8 @@ orbit_graph f m passes gs =
 
 module _ {At : Type 0} (program : Program (Expr At)) (b since : ℕ) (f : Form)
     (coprime : Coprime f.base)
-    (is : turns.IsClosedFormFrom f.base (branch_map program (branch_of program b)) since f.polys)
+    (is : iterations.IsClosedFormFrom f.base (branch_map program (branch_of program b)) since
+    f.polys)
     (passes : ℕ → Bool)
     (stays : (i : ℕ) → i < length program.names → passes i ≡ false
     → IsItself f.base (length program.names) f.polys i) where
@@ -317,7 +318,7 @@ module _ {At : Type 0} (program : Program (Expr At)) (b since : ℕ) (f : Form)
   form_at : (n : ℕ) (s : List Fraction) → IsState program s
       → values_at f.polys (point f.base (since + n) s) ≡ state_after program b (since + n) s
   form_at n s st = is.values (since + n) s (st ∙ sym size) (omega arith)
-      ∙ turns-are program b (since + n) s st
+      ∙ iterations-are program b (since + n) s st
 
   polys-length : length f.polys ≡ m
   polys-length = form_count program b f.base since f.polys is
@@ -332,7 +333,7 @@ module _ {At : Type 0} (program : Program (Expr At)) (b since : ℕ) (f : Form)
       (λ n. since + n) f.polys
   late_form_at = record {
     arities = polys_arity;
-    turns = λ n s st. ap (λ z. map (λ p. at p z) f.polys) (point-append f.base (since + n) s)
+    iterations = λ n s st. ap (λ z. map (λ p. at p z) f.polys) (point-append f.base (since + n) s)
         ∙ form_at n s st;
   }
 
@@ -344,9 +345,9 @@ module _ {At : Type 0} (program : Program (Expr At)) (b since : ℕ) (f : Form)
   told = copies (length program.names) passes 0 (length program.names)
 
   abbrev backs : List (Terms Fraction)
-  backs = map (backward_terms (length f.base)) f.polys
+  backs = map (inverse_form_terms (length f.base)) f.polys
 
-  -- a variable that stays, by the form backward
+  -- a variable that stays, by the inverse form
   stays_back : (n : ℕ) (s : List Fraction) → IsState program s → (j : ℕ) → j < length backs
       → passes (0 + j) ≡ false
       → at (get_or backs j []) (point_of f.base n ++ state_after program b n s) ≡ get_or s (0 + j)
@@ -356,9 +357,9 @@ module _ {At : Type 0} (program : Program (Expr At)) (b since : ℕ) (f : Form)
       l)
       ∙ ap (λ z. get_or z j ℚ.zero)
       (ap (λ z. map (λ q. at q z) backs) (point-append f.base n (state_after program b n s)
-      ∙ ap (point f.base n) (sym (turns-are program b n s st)))
-      ∙ backward_to_zero f.base coprime (bm program b) since f.polys is n s (st ∙ sym size))
-      ∙ (stays j (let e = length-map f.polys (backward_terms (length f.base)) in let q =
+      ∙ ap (point f.base n) (sym (iterations-are program b n s st)))
+      ∙ inverse_form_to_zero f.base coprime (bm program b) since f.polys is n s (st ∙ sym size))
+      ∙ (stays j (let e = length-map f.polys (inverse_form_terms (length f.base)) in let q =
       polys-length in omega (arith, e, q, l)) (ap passes plus ∙ kept)).is s st
       ∙ ap (λ n. get_or s n ℚ.zero) plus
     where
@@ -366,7 +367,7 @@ module _ {At : Type 0} (program : Program (Expr At)) (b since : ℕ) (f : Form)
       plus = omega arith
 
   backs-length : length backs ≡ m
-  backs-length = length-map f.polys (backward_terms (length f.base)) ∙ polys-length
+  backs-length = length-map f.polys (inverse_form_terms (length f.base)) ∙ polys-length
 
   pub form_before_is : IsBefore program b (front (length f.base)) (passing (length program.names)
       passes) (λ n. point_of f.base (since + n)) (λ n. since + n) (copies (length program.names)
@@ -387,7 +388,7 @@ module _ {At : Type 0} (program : Program (Expr At)) (b since : ℕ) (f : Form)
   before-length : length (form_before f (length program.names) passes) ≡ length program.names
   before-length = before_length (front (length f.base)) t m passes backs 0 0 ∙ backs-length
 
-  -- the orbit from `since` turns on
+  -- the orbit from `since` iterations on
   pub late_orbit : (gs ks : List (Terms Fraction)) → AllArity (length program.names) gs
       → IsEliminated (front (length f.base) + passing (length program.names) passes)
       (length program.names) (orbit_graph f (length program.names) passes gs) ks

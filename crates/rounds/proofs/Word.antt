@@ -1,10 +1,10 @@
 -- Words and their pieces.
 --   after_word-append        a word behind a word
---   pieces-turns             turns of one letter are at most one piece more
+--   pieces-iterations             iterations of one letter are at most one piece more
 --   arity-after_word         what is composed is a polynomial over the program's variables
---   ending_of_turns, turns_of_ending         at a level and then turns: each number of turns before is at the level
---   ending_fewer             where fewer letters and numbers of turns are allowed
---   level_of_letters, letters_of_level       the next level: at a level and then turns of some letter
+--   ending_of_iterations, iterations_of_ending         at a level and then iterations: each number of iterations before is at the level
+--   ending_fewer             where fewer letters and numbers of iterations are allowed
+--   level_of_letters, letters_of_level       the next level: at a level and then iterations of some letter
 use Rattle.std.proofs.Common.{◌≡◌, ℕ, zero, suc, ◌<◌, ◌≤◌, Bool, true, false, cond, eqb, List, [], ◌∷◌, ◌++◌, replicate, length, arith, refl, sym, ap, ap₂, subst, ◌∙◌, All}
 use Rattle.std.proofs.lemmas.Bool.{eqb-true}
 use Rattle.std.proofs.lemmas.List.Elements.{All-nil, All-cons, All-head, All-tail, All-append, All-replicate}
@@ -79,17 +79,17 @@ pieces_after-constant i (suc n) =
     ap (λ o. cond o (pieces_after i (replicate n i)) (suc (pieces_after i (replicate n i))))
     (eqb_same i) ∙ pieces_after-constant i n
 
-pieces_after-turns : (b : ℕ) (w : List ℕ) (i n : ℕ) → pieces_after b (w ++ replicate n i)
+pieces_after-iterations : (b : ℕ) (w : List ℕ) (i n : ℕ) → pieces_after b (w ++ replicate n i)
     ≤ suc (pieces_after b w)
 unfolding pieces_after
-pieces_after-turns b [] i zero = omega arith
-pieces_after-turns b [] i (suc n) = go (eqb b i)
+pieces_after-iterations b [] i zero = omega arith
+pieces_after-iterations b [] i (suc n) = go (eqb b i)
   where
     go : (o : Bool) → cond o (pieces_after i (replicate n i)) (suc (pieces_after i (replicate n i)))
         ≤ 1
     go true = let e = pieces_after-constant i n in omega arith
     go false = let e = pieces_after-constant i n in omega arith
-pieces_after-turns b (c ∷ w) i n = go (eqb b c) (pieces_after-turns c w i n)
+pieces_after-iterations b (c ∷ w) i n = go (eqb b c) (pieces_after-iterations c w i n)
   where
     go : (o : Bool) → pieces_after c (w ++ replicate n i) ≤ suc (pieces_after c w)
         → cond o (pieces_after c (w ++ replicate n i)) (suc (pieces_after c (w ++ replicate n i)))
@@ -97,11 +97,11 @@ pieces_after-turns b (c ∷ w) i n = go (eqb b c) (pieces_after-turns c w i n)
     go true ih = ih
     go false ih = omega arith
 
-pub pieces-turns : (w : List ℕ) (i n : ℕ) → pieces (w ++ replicate n i) ≤ suc (pieces w)
+pub pieces-iterations : (w : List ℕ) (i n : ℕ) → pieces (w ++ replicate n i) ≤ suc (pieces w)
 unfolding pieces
-pieces-turns [] i zero = omega arith
-pieces-turns [] i (suc n) = let e = pieces_after-constant i n in omega arith
-pieces-turns (b ∷ w) i n = let l = pieces_after-turns b w i n in omega arith
+pieces-iterations [] i zero = omega arith
+pieces-iterations [] i (suc n) = let e = pieces_after-constant i n in omega arith
+pieces-iterations (b ∷ w) i n = let l = pieces_after-iterations b w i n in omega arith
 
 pub no_pieces : (w : List ℕ) → pieces w ≤ 0 → w ≡ []
 unfolding pieces
@@ -132,30 +132,30 @@ module _ {At : Type 0} (program : Program (Expr At)) where
       (arity-branch_map program _)
 
   module _ (I : Terms Fraction → Type 0) where
-    -- with each number of turns that is allowed at a level
-    pub ending_of_turns : (k : ℕ) (R : ℕ → ℕ → Type 0) (p : Terms Fraction)
+    -- with each number of iterations that is allowed at a level
+    pub ending_of_iterations : (k : ℕ) (R : ℕ → ℕ → Type 0) (p : Terms Fraction)
         → ((i t : ℕ) → R i t → Stays program I (AtMost k) (after_word program (replicate t i) p))
         → Stays program I (Ending k R) p
-    ending_of_turns k R p h = record {
+    ending_of_iterations k R p h = record {
       in_words = λ w all (e : Ending k R w).
           subst (λ x. I (after_word program x p)) (sym e.is)
-          (subst I (sym (after_word-append e.before (replicate e.turns e.letter) p))
-          ((h e.letter e.turns e.allowed).in_words e.before
-          (all_before (IsLetter program) e.before (replicate e.turns e.letter)
+          (subst I (sym (after_word-append e.before (replicate e.iterations e.letter) p))
+          ((h e.letter e.iterations e.allowed).in_words e.before
+          (all_before (IsLetter program) e.before (replicate e.iterations e.letter)
           (subst (All (IsLetter program)) e.is all)) e.few));
     }
 
-    pub turns_of_ending : (k : ℕ) (R : ℕ → ℕ → Type 0) (p : Terms Fraction) (i t : ℕ)
+    pub iterations_of_ending : (k : ℕ) (R : ℕ → ℕ → Type 0) (p : Terms Fraction) (i t : ℕ)
         → IsLetter program i → R i t → Stays program I (Ending k R) p
         → Stays program I (AtMost k) (after_word program (replicate t i) p)
-    turns_of_ending k R p i t letter r h = record {
+    iterations_of_ending k R p i t letter r h = record {
       in_words = λ w all l.
           subst I (after_word-append w (replicate t i) p)
           (h.in_words (w ++ replicate t i) (All-append (IsLetter program) w (replicate t i) all
           (All-replicate (IsLetter program) t i letter)) (record {
             before = w;
             letter = i;
-            turns = t;
+            iterations = t;
             few = l;
             allowed = r;
             is = refl;
@@ -169,9 +169,9 @@ module _ {At : Type 0} (program : Program (Expr At)) where
       in_words = λ w all (e : Ending k R w). h.in_words w all (record {
         before = e.before;
         letter = e.letter;
-        turns = e.turns;
+        iterations = e.iterations;
         few = e.few;
-        allowed = f e.letter e.turns e.allowed;
+        allowed = f e.letter e.iterations e.allowed;
         is = e.is;
       });
     }
@@ -186,7 +186,7 @@ module _ {At : Type 0} (program : Program (Expr At)) where
         go [] all l = h.in_words [] all (record {
           before = [];
           letter = 1;
-          turns = 0;
+          iterations = 0;
           few = omega arith;
           allowed = (omega arith, omega arith);
           is = refl;
@@ -202,7 +202,7 @@ module _ {At : Type 0} (program : Program (Expr At)) where
             h.in_words (b ∷ w) all (record {
               before = s.before;
               letter = s.letter;
-              turns = suc s.count;
+              iterations = suc s.count;
               few = omega arith;
               allowed = (letter.some, letter.within);
               is = sym s.is;
@@ -214,5 +214,5 @@ module _ {At : Type 0} (program : Program (Expr At)) where
       in_words = λ w all (e : Ending k R w).
           h.in_words w all (subst (λ x. pieces x ≤ suc k) (sym e.is)
           (let few : pieces e.before ≤ k = e.few in
-          omega (arith, few, pieces-turns e.before e.letter e.turns)));
+          omega (arith, few, pieces-iterations e.before e.letter e.iterations)));
     }

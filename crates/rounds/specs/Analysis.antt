@@ -1,14 +1,14 @@
--- The analysis of a loop, as a machine: what comes next is a function of the state. Branches, elements and turns count from 0 in states.
+-- The analysis of a loop, as a machine: what comes next is a function of the state. Branches, elements and iterations count from 0 in states.
 --   Setting           what the analysis is of: the number of variables, the start list, each branch's map and its form, a reduced basis that it begins with in place of
 --                     that of the start list, if one is given, and a polynomial that is asked for, if one is
 --   with_asked p A    the setting A where p is asked for
 --   Work              what a completion and a tidying are for: `gs` is the list of the round before, `so_far` the list so far, which is gs before the first branch,
---                     `before` that of the turns taken so far, `ks` that of one turn more
+--                     `before` that of the iterations taken so far, `ks` that of one iteration more
 --   block w, order w  how many variables it eliminates, and its order
 --   starting w        the list that it begins with, before zeros are left out and each element is made monic
 --   machine_of w      the elimination that it is;  list_at w s: its list in the state s
---   pullback b g, unwound b g     g with the map of branch b, and with its form backward, for the variables; backwards b: that form
---   turns_of b        how many turns of branch b are taken one by one: one less than from which on its form is the state
+--   pullback b g, pulled back b g     g with the map of branch b, and with its inverse form, for the variables; backwards b: that form
+--   iterations_of b        how many iterations of branch b are taken one by one: one less than from which on its form is the state
 --   State             of the analysis; Step: what comes next: an entry, or the end
 --   first_step gs     what comes first: the first task, or what comes when it has ended with the list that is given
 --   next s            what comes next
@@ -29,7 +29,7 @@ use Rattle.machines.specs.Journal.{Entry, Begin, Did}
 use Rattle.machines.specs.Machine.{Machine}
 use Rattle.machines.specs.Machines as machines
 use Rattle.machines.specs.Division as division
-use Rattle.rounds.specs.Form.{Form, unwound_by, orbit_front, orbit_list, turn_front, turn_list}
+use Rattle.rounds.specs.Form.{Form, pulled_back_by, orbit_front, orbit_list, iteration_front, iteration_list}
 
 pub record Setting : Type 0 where
   pub arity : ℕ
@@ -41,8 +41,8 @@ pub record Setting : Type 0 where
 
 pub data Work : Type 0 where
   starts : Work
-  turn : (k b n : ℕ) (gs before so_far : List (Terms Fraction)) → Work
-  turn_meet : (k b n : ℕ) (gs so_far ks : List (Terms Fraction)) → Work
+  iteration : (k b n : ℕ) (gs before so_far : List (Terms Fraction)) → Work
+  iteration_meet : (k b n : ℕ) (gs so_far ks : List (Terms Fraction)) → Work
   orbit : (k b : ℕ) (gs so_far : List (Terms Fraction)) → Work
   meet : (k b : ℕ) (gs so_far orbit : List (Terms Fraction)) → Work
 
@@ -72,37 +72,39 @@ module _ (A : Setting) where
   abbrev pub form_of : ℕ → Form
   form_of b = get_or A.forms b (record { base = []; polys = []; since = 0 })
 
-  -- how many variables stand in front in the orbit of branch b, and in a turn
+  -- how many variables stand in front in the orbit of branch b, and in an iteration
   abbrev pub front_of : ℕ → ℕ
   front_of b = orbit_front (form_of b) A.arity
 
   abbrev pub copies_of : ℕ → ℕ
-  copies_of b = turn_front (form_of b) A.arity
+  copies_of b = iteration_front (form_of b) A.arity
 
-  abbrev pub turns_of : ℕ → ℕ
-  turns_of b = pred (form_of b).since
+  abbrev pub iterations_of : ℕ → ℕ
+  iterations_of b = pred (form_of b).since
 
   unfoldable pub block : Work → ℕ
   block starts = 0
-  block (turn k b n gs before so_far) = copies_of b
-  block (turn_meet k b n gs so_far ks) = 1
+  block (iteration k b n gs before so_far) = copies_of b
+  block (iteration_meet k b n gs so_far ks) = 1
   block (orbit k b gs so_far) = front_of b
   block (meet k b gs so_far hs) = 1
 
   abbrev pub order : Work → Rank
   order starts = grevlex
-  order (turn k b n gs before so_far) = blocks (copies_of b) grevlex grevlex
-  order (turn_meet k b n gs so_far ks) = blocks 1 grevlex grevlex
+  order (iteration k b n gs before so_far) = blocks (copies_of b) grevlex grevlex
+  order (iteration_meet k b n gs so_far ks) = blocks 1 grevlex grevlex
   order (orbit k b gs so_far) = blocks (front_of b) grevlex grevlex
   order (meet k b gs so_far hs) = blocks 1 grevlex grevlex
 
-  abbrev pub unwound : ℕ → Terms Fraction → Terms Fraction
-  unwound b g = unwound_by (form_of b) A.arity g
+  abbrev pub pulled_back : ℕ → Terms Fraction → Terms Fraction
+  pulled_back b g = pulled_back_by (form_of b) A.arity g
 
   unfoldable pub starting : Work → List (Terms Fraction)
   starting starts = map (collect rationals grevlex) A.starts
-  starting (turn k b n gs before so_far) = turn_list (form_of b) A.arity (get_or A.maps b []) before
-  starting (turn_meet k b n gs so_far ks) = blend rationals (blocks 1 grevlex grevlex) so_far ks
+  starting (iteration k b n gs before so_far) = iteration_list (form_of b) A.arity
+      (get_or A.maps b []) before
+  starting (iteration_meet k b n gs so_far ks) = blend rationals (blocks 1 grevlex grevlex) so_far
+      ks
   starting (orbit k b gs so_far) = orbit_list (form_of b) A.arity gs
   starting (meet k b gs so_far hs) = blend rationals (blocks 1 grevlex grevlex) so_far hs
 
@@ -137,10 +139,11 @@ module _ (A : Setting) where
       (after_closing A.asked k gs))
 
   -- ---- what follows a task that has ended with a list
-  abbrev pub begin_turn : ℕ → ℕ → ℕ → List (Terms Fraction) → List (Terms Fraction)
+  abbrev pub begin_iteration : ℕ → ℕ → ℕ → List (Terms Fraction) → List (Terms Fraction)
       → List (Terms Fraction) → Step
-  begin_turn k b n gs before so_far =
-      goes (Begin (journal.Turn k (suc b) (suc n))) (start_of (turn k b n gs before so_far))
+  begin_iteration k b n gs before so_far =
+      goes (Begin (journal.Iteration k (suc b) (suc n)))
+      (start_of (iteration k b n gs before so_far))
 
   abbrev pub begin_orbit : ℕ → ℕ → List (Terms Fraction) → List (Terms Fraction) → Step
   begin_orbit k b gs so_far = goes (Begin (journal.Orbit k (suc b)))
@@ -151,14 +154,15 @@ module _ (A : Setting) where
   begin_meet k b gs so_far hs =
       goes (Begin (journal.Meet k (suc b))) (start_of (meet k b gs so_far hs))
 
-  -- n turns are taken
-  unfoldable pub after_turns : ℕ → ℕ → ℕ → List (Terms Fraction) → List (Terms Fraction)
+  -- n iterations are taken
+  unfoldable pub after_iterations : ℕ → ℕ → ℕ → List (Terms Fraction) → List (Terms Fraction)
       → List (Terms Fraction) → Step
-  after_turns k b n gs before so_far =
-      cond (ltb n (turns_of b)) (begin_turn k b n gs before so_far) (begin_orbit k b gs so_far)
+  after_iterations k b n gs before so_far =
+      cond (ltb n (iterations_of b)) (begin_iteration k b n gs before so_far)
+      (begin_orbit k b gs so_far)
 
   abbrev pub begin_branch : ℕ → ℕ → List (Terms Fraction) → List (Terms Fraction) → Step
-  begin_branch k b gs so_far = after_turns k b 0 gs gs so_far
+  begin_branch k b gs so_far = after_iterations k b 0 gs gs so_far
 
   -- the list so far after branch b
   unfoldable pub after_branch : ℕ → ℕ → List (Terms Fraction) → List (Terms Fraction) → Step
@@ -174,9 +178,10 @@ module _ (A : Setting) where
 
   unfoldable pub after : Work → List (Terms Fraction) → Step
   after starts gs = closing_from 0 0 0 gs
-  after (turn k b n gs before so_far) ks =
-      goes (Begin (journal.TurnMeet k (suc b) (suc n))) (start_of (turn_meet k b n gs so_far ks))
-  after (turn_meet k b n gs so_far ks) ls = after_turns k b (suc n) gs ks ls
+  after (iteration k b n gs before so_far) ks =
+      goes (Begin (journal.IterationMeet k (suc b) (suc n)))
+      (start_of (iteration_meet k b n gs so_far ks))
+  after (iteration_meet k b n gs so_far ks) ls = after_iterations k b (suc n) gs ks ls
   after (orbit k b gs so_far) hs = after_orbit (form_of b).since k b gs so_far hs
   after (meet k b gs so_far hs) ls = after_branch k b gs ls
 

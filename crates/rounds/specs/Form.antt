@@ -1,27 +1,27 @@
--- Closed forms: the state after a number of turns of a branch, as polynomials in n, s, u_1 to u_r, v_1 to v_r and the variables, in this order.
--- A form that isn't the state from 0 on doesn't tell what each variable was: one that is itself at n = 0, which stays, is told by the form backward, another, which passes, by a copy.
---   Form                 a base of r whole numbers, a polynomial for each variable, and the number of turns from which on they are the state
+-- Closed forms: the state after a number of iterations of a branch, as polynomials in n, s, u_1 to u_r, v_1 to v_r and the variables, in this order.
+-- A form that isn't the state from 0 on doesn't tell what each variable was: one that is itself at n = 0, which stays, is told by the inverse form, another, which passes, by a copy.
+--   Form                 a base of r whole numbers, a polynomial for each variable, and the number of iterations from which on they are the state
 --   front r              how many variables stand in front: 2 + 2 r
---   point_of base n      their values after n turns: n, (-1)^n, the b^n and the b^(-n)
+--   point_of base n      their values after n iterations: n, (-1)^n, the b^n and the b^(-n)
 --   variable_at w i      the variable i of w
 --   relation w i j       the product of the variables i and j of w, less one
 --   relations r m        s s - 1, and then u_j v_j - 1 for each j
 --   normal O r p         p with s s and the u_j v_j left out, collected
 --   backward O r p       p with -n for n, u and v exchanged, collected
 --   orbit_order r        the order that eliminates the variables in front
---   unwound_by f m g     g, of m variables, with the form f backward (form_backward f) for its variables, normal
+--   pulled_back_by f m g     g, of m variables, with the form f backward (inverse_of_form f) for its variables, normal
 --   at_zero f m i        the polynomial of the variable i at n = 0;  passes f m i: it isn't that variable
 --   copies m passes i n, passing m passes     the variables from the ith on that pass, of n, and how many pass of all
 --   with_room_for k t m p      p, in k + m variables, with t variables behind the first k
 --   before_by w k passes i j backs     what the variables from the ith on were, with the copies from the jth on: the copy of one that passes, else that of the backs
---   form_before f m passes     with the form backward
+--   form_before f m passes     with the inverse form
 --   late_order m f       the order that eliminates the variables in front, and the copies
 --   late_orbit_list f m passes gs     the list that an orbit begins with where the form isn't the state from 0 on: the gs at what was, each variable less its form there,
 --                        and the relations
 --   orbit_front f m      how many variables an orbit eliminates
---   orbit_list f m gs    the list that it begins with: the gs unwound, and the relations, where the form is the state from 0 on
---   at_minus_one f m p   p at n = -1;  turn_before, turn_graph, turn_list f m images gs     the same for one turn, with the form there and the branch's map
---   IsClosedForm program b f      f is the closed form of branch b: over the base of the sizes of all eigenvalues but 0, normal, and from the least number of turns on
+--   orbit_list f m gs    the list that it begins with: the gs pulled back, and the relations, where the form is the state from 0 on
+--   at_minus_one f m p   p at n = -1;  iteration_before, iteration_graph, iteration_list f m images gs     the same for one iteration, with the form there and the branch's map
+--   IsClosedForm program b f      f is the closed form of branch b: over the base of the sizes of all eigenvalues but 0, normal, and from the least number of iterations on
 use Rattle.std.specs.Prelude.{◌≤◌, ℕ, zero, suc, ◌+◌, Bool, true, false, cond, List, [], ◌∷◌, ◌++◌, map, drop, length, get_or}
 use Rattle.algebra.specs.Each.{Each}
 use Rattle.algebra.specs.Fraction.{Fraction, ℚ, rationals}
@@ -29,9 +29,9 @@ use Rattle.polynomials.specs.Terms.{Terms, constant, variables, times, negate, c
 use Rattle.polynomials.specs.Order.{Rank, grevlex, blocks}
 use Rattle.polynomials.specs.Polynomial.{IsPolynomial}
 use Rattle.solvable_maps.specs.Classes.{IsFormBase}
-use Rattle.solvable_maps.specs.Turns as turns
-use Rattle.solvable_maps.specs.Turns.{point, back_point, width, IsNormal}
-use Rattle.solvable_maps.specs.Expo.{with_normal_keys, backward_terms, zero_images}
+use Rattle.solvable_maps.specs.Iterations as iterations
+use Rattle.solvable_maps.specs.Iterations.{point, back_point, width, IsNormal}
+use Rattle.solvable_maps.specs.Expo.{with_normal_keys, inverse_form_terms, zero_images}
 use Rattle.machines.specs.Collect.{collect}
 use Rattle.loops.specs.Program.{Expr, Program}
 use Rattle.loops.specs.Map.{branch_map}
@@ -70,20 +70,20 @@ relations r m = relation (front r + m) 1 1 ∷ relations_to r (front r + m) r
 abbrev pub normal : Rank → ℕ → Terms Fraction → Terms Fraction
 normal O r p = collect rationals O (with_normal_keys r p)
 
-abbrev pub backward : Rank → ℕ → Terms Fraction → Terms Fraction
-backward O r p = collect rationals O (backward_terms r p)
+abbrev pub inverse_form : Rank → ℕ → Terms Fraction → Terms Fraction
+inverse_form O r p = collect rationals O (inverse_form_terms r p)
 
 -- ---- what an orbit begins with
 abbrev pub orbit_order : ℕ → Rank
 orbit_order r = blocks (front r) grevlex grevlex
 
-abbrev pub form_backward : Form → List (Terms Fraction)
-form_backward f = map (backward grevlex (length f.base)) f.polys
+abbrev pub inverse_of_form : Form → List (Terms Fraction)
+inverse_of_form f = map (inverse_form grevlex (length f.base)) f.polys
 
-abbrev pub unwound_by : Form → ℕ → Terms Fraction → Terms Fraction
-unwound_by f m g =
+abbrev pub pulled_back_by : Form → ℕ → Terms Fraction → Terms Fraction
+pulled_back_by f m g =
     let r = length f.base in
-    normal (orbit_order r) r (compose ℚ (front r + m) g (form_backward f))
+    normal (orbit_order r) r (compose ℚ (front r + m) g (inverse_of_form f))
 
 -- ---- which variables pass, and what was
 abbrev pub at_zero : Form → ℕ → ℕ → Terms Fraction
@@ -119,7 +119,7 @@ form_before f m passes =
     let k = front (length f.base) in
     let t = passing m passes in
     before_by (k + t + m) k passes 0 0
-    (map (with_room_for k t m) (map (backward_terms (length f.base)) f.polys))
+    (map (with_room_for k t m) (map (inverse_form_terms (length f.base)) f.polys))
 
 -- ---- the orbit
 abbrev pub late_order : Form → ℕ → (ℕ → Bool) → Rank
@@ -146,35 +146,35 @@ orbit_front f m = front_since f.since f m
 
 abbrev pub list_since : ℕ → Form → ℕ → List (Terms Fraction) → List (Terms Fraction)
 list_since zero f m gs =
-    map (unwound_by f m) gs
+    map (pulled_back_by f m) gs
     ++ map (collect rationals (orbit_order (length f.base))) (relations (length f.base) m)
 list_since (suc d) f m gs = late_orbit_list f m (passes f m) gs
 
 abbrev pub orbit_list : Form → ℕ → List (Terms Fraction) → List (Terms Fraction)
 orbit_list f m gs = list_since f.since f m gs
 
--- ---- one turn
+-- ---- one iteration
 abbrev pub at_minus_one : Form → ℕ → Terms Fraction → Terms Fraction
 at_minus_one f m p = compose ℚ m p (map (constant m) (back_point f.base 1 []) ++ variables ℚ m)
 
-abbrev pub turn_before : Form → ℕ → (ℕ → Bool) → List (Terms Fraction)
-turn_before f m passes =
+abbrev pub iteration_before : Form → ℕ → (ℕ → Bool) → List (Terms Fraction)
+iteration_before f m passes =
     let t = passing m passes in
     before_by (0 + t + m) 0 passes 0 0 (map (with_room_for 0 t m) (map (at_minus_one f m) f.polys))
 
-abbrev pub turn_graph : Form → ℕ → (ℕ → Bool) → List (Terms Fraction) → List (Terms Fraction)
+abbrev pub iteration_graph : Form → ℕ → (ℕ → Bool) → List (Terms Fraction) → List (Terms Fraction)
     → List (Terms Fraction)
-turn_graph f m passes images gs =
-    graph_list 0 (passing m passes) m (turn_before f m passes) images [] gs
+iteration_graph f m passes images gs =
+    graph_list 0 (passing m passes) m (iteration_before f m passes) images [] gs
 
-abbrev pub turn_front : Form → ℕ → ℕ
-turn_front f m = passing m (passes f m)
+abbrev pub iteration_front : Form → ℕ → ℕ
+iteration_front f m = passing m (passes f m)
 
-abbrev pub turn_list : Form → ℕ → List (Terms Fraction) → List (Terms Fraction)
+abbrev pub iteration_list : Form → ℕ → List (Terms Fraction) → List (Terms Fraction)
     → List (Terms Fraction)
-turn_list f m images gs =
-    map (collect rationals (blocks (turn_front f m) grevlex grevlex))
-    (turn_graph f m (passes f m) images gs)
+iteration_list f m images gs =
+    map (collect rationals (blocks (iteration_front f m) grevlex grevlex))
+    (iteration_graph f m (passes f m) images gs)
 
 -- ---- closed forms
 pub record IsClosedForm {At : Type 0} (program : Program (Expr At)) (b : ℕ) (f : Form) : Type
@@ -183,8 +183,8 @@ pub record IsClosedForm {At : Type 0} (program : Program (Expr At)) (b : ℕ) (f
   pub polynomials : Each
       (IsPolynomial ℚ grevlex (width (length f.base) (length program.names))) f.polys
   pub normal : Each (IsNormal f.base) f.polys
-  pub form : turns.IsClosedFormFrom f.base (branch_map program (branch_of program b)) f.since
+  pub form : iterations.IsClosedFormFrom f.base (branch_map program (branch_of program b)) f.since
       f.polys
   pub least : (d : ℕ)
-      → turns.IsClosedFormFrom f.base (branch_map program (branch_of program b)) d f.polys
+      → iterations.IsClosedFormFrom f.base (branch_map program (branch_of program b)) d f.polys
       → f.since ≤ d

@@ -1,6 +1,6 @@
--- How the list of an orbit comes by elimination where turns can't be undone: by the graph of what was and what is.
--- There are k variables in front (the number of turns, and the powers that go with it), then t that tell what was, then the program's m.
---   IsBefore program i k t point times copied before     with the nth point, the values of `copied` at a state, and the state times n turns later, the values of `before` are the state
+-- How the list of an orbit comes by elimination where iterations can't be undone: by the graph of what was and what is.
+-- There are k variables in front (the number of iterations, and the powers that go with it), then t that tell what was, then the program's m.
+--   IsBefore program i k t point times copied before     with the nth point, the values of `copied` at a state, and the state times n iterations later, the values of `before` are the state
 --   images_behind k t before       `before` behind the variables in front: what is put for those of polynomials in k + m variables
 --   less xs ys           the differences, place by place
 --   graph_list k t m before fs rs gs     gs at what was; each variable less its form there; and the rs

@@ -2,7 +2,7 @@
 --   setting_from program given forms asked     the setting of the program's analysis; `given` is a reduced basis that it begins with, if one is, and `asked` a
 --                                      polynomial that is to be divided by the last list, if one is
 --   setting_of program forms asked     where none is given
---   AreForms program forms             one closed form for each branch;  since_of forms b: from which number of turns on that of branch b, from 0, is the state
+--   AreForms program forms             one closed form for each branch;  since_of forms b: from which number of iterations on that of branch b, from 0, is the state
 --   FollowsFrom, ComesFrom, IsOutFrom  as below, where a list is given or none is
 --   Follows program asked es s         the entries es follow the loop, and lead to the state s
 --   ComesNext program asked es step    they follow it, and this comes next

@@ -1,14 +1,14 @@
--- Any number of turns of a branch as one list of polynomials, and how the list of an orbit comes from it.
--- There are k variables in front of the program's m: the number of turns, and the powers that go with it. `point n` are their values after n turns.
---   state_after program i n s           the state after n turns of branch i
+-- Any number of iterations of a branch as one list of polynomials, and how the list of an orbit comes from it.
+-- There are k variables in front of the program's m: the number of iterations, and the powers that go with it. `point n` are their values after n iterations.
+--   state_after program i n s           the state after n iterations of branch i
 --   at_point m point n e           e, with the values of the nth point for the variables in front
 --   IsPoints k point               each point has k fractions
---   IsFormAt program i k point times fs     at the nth point the values of fs are the state after times n turns of branch i
---   IsForm program i k point fs    after n turns
+--   IsFormAt program i k point times fs     at the nth point the values of fs are the state after times n iterations of branch i
+--   IsForm program i k point fs    after n iterations
 --   AreRelations k m point rs      rs are zero at every point
 --   Padded k m gs rs               the gs with k variables in front, and the rs
 --   IsIndependent k m point rs     what is a member of an ideal at every point is one of that ideal padded and rs
---   Unwinds k m fs rs gs hs        p padded is a member of the ideal of hs exactly where p with fs for its variables is one of gs padded and rs
+--   Pulls back k m fs rs gs hs        p padded is a member of the ideal of hs exactly where p with fs for its variables is one of gs padded and rs
 --   IsEliminated k m hs ks         ks generate the polynomials that are, padded, members of the ideal of hs
 use Rattle.std.specs.Prelude.{◌≡◌, ℕ, zero, suc, ◌+◌, ◌↔◌, List, ◌++◌, map, length}
 use Rattle.std.specs.List.{All}
@@ -33,7 +33,7 @@ pub record IsPoints (k : ℕ) (point : ℕ → List Fraction) : Type 0 where
 pub record IsFormAt {At : Type 0} (program : Program (Expr At)) (i k : ℕ)
     (point : ℕ → List Fraction) (times : ℕ → ℕ) (fs : List (Terms Fraction)) : Type 0 where
   pub arities : AllArity (k + length program.names) fs
-  pub turns : (n : ℕ) (s : List Fraction) → IsState program s
+  pub iterations : (n : ℕ) (s : List Fraction) → IsState program s
       → map (λ f. value_at ℚ f (point n ++ s)) fs ≡ state_after program i (times n) s
 
 abbrev pub IsForm : {At : Type 0} → Program (Expr At) → ℕ → ℕ → (ℕ → List Fraction)
@@ -57,7 +57,7 @@ module _ (k m : ℕ) where
         → Arity (k + m) e
         → ((n : ℕ) → IsMember ℚ m gs (at_point point n e)) → IsMember ℚ (k + m) (Padded gs rs) e
 
-  pub record Unwinds (fs rs gs hs : List (Terms Fraction)) : Type 0 where
+  pub record PullsBack (fs rs gs hs : List (Terms Fraction)) : Type 0 where
     pub exactly : (p : Terms Fraction) → Arity m p
         → IsMember ℚ (k + m) hs (in_front k p)
         ↔ IsMember ℚ (k + m) (Padded gs rs) (compose ℚ (k + m) p fs)

@@ -2,8 +2,8 @@
 --   IsPastLess xs ys           of one of the differences, place by place
 --   IsPastGraph k t m before fs gs       of a composition or a difference that makes the list of a graph: the fs and the gs at `before`
 --   IsPastOrbit f m gs         of one that makes the starting list of an orbit, of the form f
---   turn_images f m            the values of the variables in front after one turn, and the variables
---   IsPastTurn f m fs gs       of one that makes that of a turn, with the branch's map fs, or the form f backward after one turn
+--   iteration_images f m            the values of the variables in front after one iteration, and the variables
+--   IsPastIteration f m fs gs       of one that makes that of an iteration, with the branch's map fs, or the form f backward after one iteration
 --   IsPastMeet w gs hs         of a product that makes that of an intersection, or of making an element of it monic
 --   IsPastStarting w           of a composition or a product that makes an element of the starting list, or of making one monic
 --   IsPastEvent s              of the event that comes next
@@ -19,8 +19,8 @@ use Rattle.machines.specs.Elimination.{free_part, in_front}
 use Rattle.machines.specs.Journal as journal
 use Rattle.machines.specs.Journal.{Task}
 use Rattle.machines.specs.Past as machine
-use Rattle.rounds.specs.Analysis.{Setting, Work, starts, turn, turn_meet, orbit, meet, State, fresh, working, closing, turning, asking, form_of, starting, block, order}
-use Rattle.rounds.specs.Form.{Form, front, form_backward, passes, passing, form_before, point_of, turn_before, turn_front}
+use Rattle.rounds.specs.Analysis.{Setting, Work, starts, iteration, iteration_meet, orbit, meet, State, fresh, working, closing, turning, asking, form_of, starting, block, order}
+use Rattle.rounds.specs.Form.{Form, front, inverse_of_form, passes, passing, form_before, point_of, iteration_before, iteration_front}
 use Rattle.rounds.specs.Graph.{images_behind, at_before}
 
 -- the variable in front of m others
@@ -44,7 +44,7 @@ IsPastGraph k t m before fs gs =
     (map (λ f. collect rationals grevlex (at_before k t m before f)) fs))
 
 abbrev pub IsPastOrbitSince : ℕ → Form → ℕ → List (Terms Fraction) → Type 0
-IsPastOrbitSince zero f m gs = Any (λ g. IsPastComposition fractions g (form_backward f)) gs
+IsPastOrbitSince zero f m gs = Any (λ g. IsPastComposition fractions g (inverse_of_form f)) gs
 IsPastOrbitSince (suc d) f m gs =
     let which = passes f m in
     IsPastGraph (front (length f.base)) (passing m which) m
@@ -53,14 +53,14 @@ IsPastOrbitSince (suc d) f m gs =
 abbrev pub IsPastOrbit : Form → ℕ → List (Terms Fraction) → Type 0
 IsPastOrbit f m gs = IsPastOrbitSince f.since f m gs
 
-abbrev pub turn_images : Form → ℕ → List (Terms Fraction)
-turn_images f m = map (constant m) (point_of f.base 1) ++ variables ℚ m
+abbrev pub iteration_images : Form → ℕ → List (Terms Fraction)
+iteration_images f m = map (constant m) (point_of f.base 1) ++ variables ℚ m
 
-abbrev pub IsPastTurn : Form → ℕ → List (Terms Fraction) → List (Terms Fraction) → Type 0
-IsPastTurn f m fs gs =
-    Any (λ p. IsPastComposition fractions p (turn_images f m)) (form_backward f)
-    ⊎ IsPastGraph 0 (turn_front f m) m
-    (map (collect rationals grevlex) (turn_before f m (passes f m))) fs gs
+abbrev pub IsPastIteration : Form → ℕ → List (Terms Fraction) → List (Terms Fraction) → Type 0
+IsPastIteration f m fs gs =
+    Any (λ p. IsPastComposition fractions p (iteration_images f m)) (inverse_of_form f)
+    ⊎ IsPastGraph 0 (iteration_front f m) m
+    (map (collect rationals grevlex) (iteration_before f m (passes f m))) fs gs
 
 module _ (A : Setting) where
   abbrev pub IsPastMeet : Work → List (Terms Fraction) → List (Terms Fraction) → Type 0
@@ -71,10 +71,11 @@ module _ (A : Setting) where
 
   abbrev pub IsPastStarting : Work → Type 0
   IsPastStarting starts = machine.IsPastStart fractions rationals (starting A starts)
-  IsPastStarting (turn k b n gs before so_far) =
-      IsPastTurn (form_of A b) A.arity (get_or A.maps b []) before
-      ⊎ machine.IsPastStart fractions rationals (starting A (turn k b n gs before so_far))
-  IsPastStarting (turn_meet k b n gs so_far ks) = IsPastMeet (turn_meet k b n gs so_far ks) so_far
+  IsPastStarting (iteration k b n gs before so_far) =
+      IsPastIteration (form_of A b) A.arity (get_or A.maps b []) before
+      ⊎ machine.IsPastStart fractions rationals (starting A (iteration k b n gs before so_far))
+  IsPastStarting (iteration_meet k b n gs so_far ks) =
+      IsPastMeet (iteration_meet k b n gs so_far ks) so_far
       ks
   IsPastStarting (orbit k b gs so_far) =
       IsPastOrbit (form_of A b) A.arity gs
@@ -102,8 +103,8 @@ module _ (A : Setting) where
 
 abbrev pub task_of_work : Work → Task
 task_of_work starts = journal.Start
-task_of_work (turn k b n gs before so_far) = journal.Turn k (suc b) (suc n)
-task_of_work (turn_meet k b n gs so_far ks) = journal.TurnMeet k (suc b) (suc n)
+task_of_work (iteration k b n gs before so_far) = journal.Iteration k (suc b) (suc n)
+task_of_work (iteration_meet k b n gs so_far ks) = journal.IterationMeet k (suc b) (suc n)
 task_of_work (orbit k b gs so_far) = journal.Orbit k (suc b)
 task_of_work (meet k b gs so_far hs) = journal.Meet k (suc b)
 

@@ -3,7 +3,7 @@
 --   EndsWork A w                 a run of the elimination that the work w is, which has ended
 --   IsReducedList m gs         gs is reduced for its own ideal
 --   IsOverWork m w             the lists that the work w is of are reduced; IsBranch program w: its branch is one of the program's
---   orbit_turns d n            n + d turns, for the orbit of a form that is the state from d turns on
+--   orbit_iterations d n            n + d iterations, for the orbit of a form that is the state from d iterations on
 --   Laws program A             what the layers below give: tasks eliminate and reduce, divisions decide, the starting lists have the right members
 use Rattle.std.specs.Prelude.{◌≡◌, ◌↔◌, ℕ, zero, suc, ◌+◌, ◌<◌, List, [], get_or, length, Option, None, ⊤}
 use Rattle.algebra.specs.Fraction.{Fraction, ℚ, rationals}
@@ -16,11 +16,11 @@ use Rattle.machines.specs.Division as division
 use Rattle.machines.specs.Elimination.{in_front, blend}
 use Rattle.machines.specs.Reduced.{IsReducedFor}
 use Rattle.loops.specs.Program.{Expr, Program}
-use Rattle.rounds.specs.Word.{after_turn}
+use Rattle.rounds.specs.Word.{after_iteration}
 use Rattle.rounds.specs.Round.{IsOrbitAt}
 use Rattle.rounds.specs.Orbit.{IsEliminated}
 use Rattle.rounds.specs.Start.{start_list}
-use Rattle.rounds.specs.Analysis.{Setting, Work, starts, turn, turn_meet, orbit, meet, machine_of, list_at, block, form_of, starting, pullback}
+use Rattle.rounds.specs.Analysis.{Setting, Work, starts, iteration, iteration_meet, orbit, meet, machine_of, list_at, block, form_of, starting, pullback}
 
 pub record LeadsTo {S E : Type 0} (next : S → Option (E × S)) (s t : S) : Type 0 where
   pub events : List E
@@ -35,22 +35,22 @@ IsReducedList m gs = IsReducedFor rationals grevlex m gs (IsMember ℚ m gs)
 -- the lists that a work is of are reduced
 abbrev pub IsOverWork : ℕ → Work → Type 0
 IsOverWork m starts = Unit {0}
-IsOverWork m (turn k b n gs before so_far) = IsReducedList m before
-IsOverWork m (turn_meet k b n gs so_far ks) = IsReducedList m so_far × IsReducedList m ks
+IsOverWork m (iteration k b n gs before so_far) = IsReducedList m before
+IsOverWork m (iteration_meet k b n gs so_far ks) = IsReducedList m so_far × IsReducedList m ks
 IsOverWork m (orbit k b gs so_far) = IsReducedList m gs
 IsOverWork m (meet k b gs so_far hs) = IsReducedList m so_far × IsReducedList m hs
 
--- the branch of a turn and of an orbit is one of the program's
+-- the branch of an iteration and of an orbit is one of the program's
 abbrev pub IsBranch : {At : Type 0} → Program (Expr At) → Work → Type 0
 IsBranch program starts = ⊤
-IsBranch program (turn k b n gs before so_far) = b < length program.branches
-IsBranch program (turn_meet k b n gs so_far ks) = ⊤
+IsBranch program (iteration k b n gs before so_far) = b < length program.branches
+IsBranch program (iteration_meet k b n gs so_far ks) = ⊤
 IsBranch program (orbit k b gs so_far) = b < length program.branches
 IsBranch program (meet k b gs so_far hs) = ⊤
 
-abbrev pub orbit_turns : ℕ → ℕ → ℕ
-orbit_turns zero n = n
-orbit_turns (suc d) n = suc d + n
+abbrev pub orbit_iterations : ℕ → ℕ → ℕ
+orbit_iterations zero n = n
+orbit_iterations (suc d) n = suc d + n
 
 pub record Laws {At : Type 0} (program : Program (Expr At)) (A : Setting) : Type 0 where
   -- completion, elimination and tidying
@@ -70,7 +70,7 @@ pub record Laws {At : Type 0} (program : Program (Expr At)) (A : Setting) : Type
       → LeadsTo (division.next rationals grevlex gs)
       (division.initial_state gs (pullback A b (get_or gs i []))) s
       → HasEnded (division.next rationals grevlex gs) s
-      → IsMember ℚ (length program.names) gs (after_turn program (suc b) (get_or gs i []))
+      → IsMember ℚ (length program.names) gs (after_iteration program (suc b) (get_or gs i []))
       ↔ (s.current ≡ None)
   -- starting lists
   pub start_members : (p : Terms Fraction) → Arity (length program.names) p
@@ -80,11 +80,11 @@ pub record Laws {At : Type 0} (program : Program (Expr At)) (A : Setting) : Type
       → IsReducedList (length program.names) gs → b < length program.branches
       → IsEliminated (block A (orbit k b gs so_far)) (length program.names)
       (starting A (orbit k b gs so_far)) hs
-      → IsOrbitAt program gs (suc b) (orbit_turns (form_of A b).since) hs
-  pub turns : (k b n : ℕ) (gs before so_far ks : List (Terms Fraction))
+      → IsOrbitAt program gs (suc b) (orbit_iterations (form_of A b).since) hs
+  pub iterations : (k b n : ℕ) (gs before so_far ks : List (Terms Fraction))
       → IsReducedList (length program.names) before → b < length program.branches
-      → IsEliminated (block A (turn k b n gs before so_far)) (length program.names)
-      (starting A (turn k b n gs before so_far)) ks
+      → IsEliminated (block A (iteration k b n gs before so_far)) (length program.names)
+      (starting A (iteration k b n gs before so_far)) ks
       → IsOrbitAt program before (suc b) (λ j. 1) ks
   pub meets : (so_far hs : List (Terms Fraction)) → IsReducedList (length program.names) so_far
       → IsReducedList (length program.names) hs

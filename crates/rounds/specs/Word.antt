@@ -2,12 +2,12 @@
 --   pieces w                 how many maximal constant pieces the word w has
 --   AtMost k, Every          sets of words: of level k; all
 --   Ending k R               of level k and then t letters i, where R holds of i and t
---   AnyTurns i, Turns i n, LaterTurns i d     of the letter i, any number, n, at least d
---   LettersTo j, FirstTurns b n     any number of a letter from 1 to j; so for the first b letters, and at most n of the next one
---   Then k i, UpTo k j       Ending k of AnyTurns i and of LettersTo j
+--   AnyIterations i, Iterations i n, LaterIterations i d     of the letter i, any number, n, at least d
+--   LettersTo j, FirstIterations b n     any number of a letter from 1 to j; so for the first b letters, and at most n of the next one
+--   Then k i, UpTo k j       Ending k of AnyIterations i and of LettersTo j
 --   IsLetter program b       b is the number of a branch; branches count from 1
 --   branch_of program b      that branch
---   after_turn program b p   p composed with the map of the branch b: its value at a state is that of p after a turn of the branch
+--   after_iteration program b p   p composed with the map of the branch b: its value at a state is that of p after an iteration of the branch
 --   after_word program w p   p composed with the maps of the letters of w, the last letter's first: its value at a state is that of p at the end of the word
 --   Stays program I W p      p composed with each word of W lies in I
 --   IsZeroAtStarts program p     p is zero at each start
@@ -33,28 +33,28 @@ AtMost k w = pieces w ≤ k
 pub record Ending (k : ℕ) (R : ℕ → ℕ → Type 0) (w : List ℕ) : Type 0 where
   pub before : List ℕ
   pub letter : ℕ
-  pub turns : ℕ
+  pub iterations : ℕ
   pub few : pieces before ≤ k
-  pub allowed : R letter turns
-  pub is : w ≡ before ++ replicate turns letter
+  pub allowed : R letter iterations
+  pub is : w ≡ before ++ replicate iterations letter
 
-abbrev pub AnyTurns : ℕ → ℕ → ℕ → Type 0
-AnyTurns i j t = j ≡ i
+abbrev pub AnyIterations : ℕ → ℕ → ℕ → Type 0
+AnyIterations i j t = j ≡ i
 
-abbrev pub Turns : ℕ → ℕ → ℕ → ℕ → Type 0
-Turns i n j t = (j ≡ i) × (t ≡ n)
+abbrev pub Iterations : ℕ → ℕ → ℕ → ℕ → Type 0
+Iterations i n j t = (j ≡ i) × (t ≡ n)
 
-abbrev pub LaterTurns : ℕ → ℕ → ℕ → ℕ → Type 0
-LaterTurns i d j t = (j ≡ i) × (d ≤ t)
+abbrev pub LaterIterations : ℕ → ℕ → ℕ → ℕ → Type 0
+LaterIterations i d j t = (j ≡ i) × (d ≤ t)
 
 abbrev pub LettersTo : ℕ → ℕ → ℕ → Type 0
 LettersTo j i t = (0 < i) × (i ≤ j)
 
-abbrev pub FirstTurns : ℕ → ℕ → ℕ → ℕ → Type 0
-FirstTurns b n i t = (0 < i) × (i ≤ suc b) × (i ≡ suc b → t ≤ n)
+abbrev pub FirstIterations : ℕ → ℕ → ℕ → ℕ → Type 0
+FirstIterations b n i t = (0 < i) × (i ≤ suc b) × (i ≡ suc b → t ≤ n)
 
 abbrev pub Then : ℕ → ℕ → List ℕ → Type 0
-Then k i w = Ending k (AnyTurns i) w
+Then k i w = Ending k (AnyIterations i) w
 
 abbrev pub UpTo : ℕ → ℕ → List ℕ → Type 0
 UpTo k j w = Ending k (LettersTo j) w
@@ -70,12 +70,12 @@ module _ {At : Type 0} (program : Program (Expr At)) where
   abbrev pub branch_of : ℕ → List (Statement (Expr At))
   branch_of b = get_or program.branches (pred b) []
 
-  abbrev pub after_turn : ℕ → Terms Fraction → Terms Fraction
-  after_turn b p = composition program p (branch_map program (branch_of b))
+  abbrev pub after_iteration : ℕ → Terms Fraction → Terms Fraction
+  after_iteration b p = composition program p (branch_map program (branch_of b))
 
   unfoldable pub after_word : List ℕ → Terms Fraction → Terms Fraction
   after_word [] p = p
-  after_word (b ∷ w) p = after_turn b (after_word w p)
+  after_word (b ∷ w) p = after_iteration b (after_word w p)
 
   pub record Stays (I : Terms Fraction → Type 0) (W : List ℕ → Type 0) (p : Terms Fraction) : Type
       0 where

@@ -17,19 +17,19 @@ ghost use Rattle.loops.specs.Inv.{Inv};
 ghost use Rattle.loops.specs.Map.{start_map, composition};
 ghost use Rattle.loops.specs.Certificate.{Certificate, IsValid};
 ghost use Rattle.loops.specs.WellFormed.{IsWellFormed};
-ghost use Rattle.rounds.specs.Word.{AtMost, Every, Turns, FirstTurns, IsLetter, Stays, IsZeroAtStarts};
+ghost use Rattle.rounds.specs.Word.{AtMost, Every, Iterations, FirstIterations, IsLetter, Stays, IsZeroAtStarts};
 ghost use Rattle.rounds.specs.Level.{InvAt, InvThen, InvUpTo};
 ghost use Rattle.rounds.specs.Generate.{Generates, IsMeet};
 ghost use Rattle.rounds.specs.Graph.{IsBefore, AreWide, graph_list};
 ghost use Rattle.rounds.specs.Round.{IsOrbitAt, IsOrbit, IsAfter, IsSoFar, IsClosed, IsRound};
 ghost use Rattle.rounds.specs.Orbit.{IsPoints, IsFormAt, IsIndependent, IsEliminated, at_point};
 ghost use Rattle.rounds.specs.Start.{start_list};
-ghost use Rattle.rounds.specs.Form.{Form, front, point_of, relations, passes, orbit_order, orbit_front, orbit_list, turn_front, turn_list, IsClosedForm};
-ghost use Rattle.rounds.specs.Analysis.{Setting, with_asked, State, fresh, asking, goes, finished, orbit, form_of, unwound, block, starting, begin_orbit, begin_meet, begin_branch, after_branch, after, next, moves};
+ghost use Rattle.rounds.specs.Form.{Form, front, point_of, relations, passes, orbit_order, orbit_front, orbit_list, iteration_front, iteration_list, IsClosedForm};
+ghost use Rattle.rounds.specs.Analysis.{Setting, with_asked, State, fresh, asking, goes, finished, orbit, form_of, pulled_back, block, starting, begin_orbit, begin_meet, begin_branch, after_branch, after, next, moves};
 ghost use Rattle.rounds.specs.Journal.{since_of, Follows, FollowsFrom, IsFinished, IsFinishedBy, IsFinishedFrom, IsAnswered, IsOutFrom};
 ghost use Rattle.rounds.specs.Kept.{IsKept};
 ghost use Rattle.rounds.specs.Lists.{AreInvariants, AreKept};
-ghost use Rattle.rounds.specs.Results.{IsReducedList, orbit_turns};
+ghost use Rattle.rounds.specs.Results.{IsReducedList, orbit_iterations};
 
 /// The start list generates what is zero at each start, and that is what is zero once composed with the start map.
 pub fn the_start_list_generates_what_is_zero_at_starts<At>()
@@ -40,7 +40,7 @@ pub fn the_start_list_generates_what_is_zero_at_starts<At>()
         → Same ℚ (composition program p (start_map program)) [] }
 {}
 
-/// The list of round k generates the invariants of level k, an orbit those of that level and then turns of its branch, the list so far those of turns of a branch up to the last.
+/// The list of round k generates the invariants of level k, an orbit those of that level and then iterations of its branch, the list so far those of iterations of a branch up to the last.
 pub fn rounds_generate_levels<At>()
     ensures round { (program : Program (Expr At)) → IsWellFormed program
         → (k : ℕ) (gs : List (Terms Fraction)) → IsRound program (IsZeroAtStarts program) k gs
@@ -89,18 +89,18 @@ pub fn points_of_a_base_are_independent()
         → IsIndependent (front (length bs)) m (point_of bs) (relations (length bs) m) }
 {}
 
-/// An orbit's list comes by elimination from the branch's closed form: of any number of turns, where the form is the state from 0 on, else from where it begins to be the state; and so does that of one turn. What is eliminated lies in the ideal before, where the starting list does at one point.
+/// An orbit's list comes by elimination from the branch's closed form: of any number of iterations, where the form is the state from 0 on, else from where it begins to be the state; and so does that of one iteration. What is eliminated lies in the ideal before, where the starting list does at one point.
 pub fn orbits_come_by_elimination<At>()
     ensures orbit { (program : Program (Expr At)) (b : ℕ) (f : Form) → IsClosedForm program b f
         → (gs ks : List (Terms Fraction)) → AllArity (length program.names) gs
         → IsEliminated (orbit_front f (length program.names)) (length program.names)
         (orbit_list f (length program.names) gs) ks
-        → IsOrbitAt program gs b (orbit_turns f.since) ks }
-    ensures turn { (program : Program (Expr At)) (b : ℕ) (f : Form) → IsClosedForm program b f
+        → IsOrbitAt program gs b (orbit_iterations f.since) ks }
+    ensures iteration { (program : Program (Expr At)) (b : ℕ) (f : Form) → IsClosedForm program b f
         → (gs ks images : List (Terms Fraction)) → AllArity (length program.names) gs
         → IsFormAt program b 0 (λ n. []) (λ n. 1) images
-        → IsEliminated (turn_front f (length program.names)) (length program.names)
-        (turn_list f (length program.names) images gs) ks
+        → IsEliminated (iteration_front f (length program.names)) (length program.names)
+        (iteration_list f (length program.names) images gs) ks
         → IsOrbitAt program gs b (λ n. 1) ks }
     ensures within { (k m : ℕ) (point : ℕ → List Fraction) → IsPoints k point
         → (gs hs ks : List (Terms Fraction)) → AllArity m gs → AllArity (k + m) hs
@@ -109,7 +109,7 @@ pub fn orbits_come_by_elimination<At>()
         → (p : Terms Fraction) → Arity m p → IsMember ℚ m ks p → IsMember ℚ m gs p }
 {}
 
-/// A polynomial is eliminated from the graph of what was and what is exactly where it is a member of the ideal after each number of turns that the graph tells of.
+/// A polynomial is eliminated from the graph of what was and what is exactly where it is a member of the ideal after each number of iterations that the graph tells of.
 pub fn graphs_give_orbits<At>()
     ensures { (program : Program (Expr At)) (i k t : ℕ) (point : ℕ → List Fraction)
         → IsPoints k point → (times : ℕ → ℕ) (copied before fs rs us : List (Terms Fraction))
@@ -134,25 +134,26 @@ pub fn later_points_of_a_base_are_independent()
         (relations (length bs) m) }
 {}
 
-/// A round's lists come one after another: before the first branch the list so far is the round's own; one turn more of a branch leads from what is a member after n turns to what is one after n + 1; the list so far meets what is a member after each number of turns that is taken, and the orbit from there on; of the first branch it is the orbit, where that is whole.
+/// A round's lists come one after another: before the first branch the list so far is the round's own; one iteration more of a branch leads from what is a member after n turns to what is one after n + 1; the list so far meets what is a member after each number of iterations that is taken, and the orbit from there on; of the first branch it is the orbit, where that is whole.
 pub fn orbits_come_in_parts<At>()
     ensures own { (program : Program (Expr At)) (gs : List (Terms Fraction))
-        → AllArity (length program.names) gs → IsAfter program gs (FirstTurns 0 0) gs }
-    ensures turn { (program : Program (Expr At)) (gs ks ls : List (Terms Fraction)) (i n : ℕ)
-        → IsAfter program gs (Turns i n) ks → IsOrbitAt program ks i (λ j. 1) ls
-        → IsAfter program gs (Turns i (suc n)) ls }
-    ensures met_turn { (program : Program (Expr At)) (gs hs ks ls : List (Terms Fraction))
-        (b n : ℕ) → IsAfter program gs (FirstTurns b n) hs
-        → IsAfter program gs (Turns (suc b) (suc n)) ks
-        → IsMeet (length program.names) hs ks ls → IsAfter program gs (FirstTurns b (suc n)) ls }
+        → AllArity (length program.names) gs → IsAfter program gs (FirstIterations 0 0) gs }
+    ensures iteration { (program : Program (Expr At)) (gs ks ls : List (Terms Fraction)) (i n : ℕ)
+        → IsAfter program gs (Iterations i n) ks → IsOrbitAt program ks i (λ j. 1) ls
+        → IsAfter program gs (Iterations i (suc n)) ls }
+    ensures met_iteration { (program : Program (Expr At)) (gs hs ks ls : List (Terms Fraction))
+        (b n : ℕ) → IsAfter program gs (FirstIterations b n) hs
+        → IsAfter program gs (Iterations (suc b) (suc n)) ks
+        → IsMeet (length program.names) hs ks ls → IsAfter program gs (FirstIterations b
+        (suc n)) ls }
     ensures met_orbit { (program : Program (Expr At)) (gs hs ks ls : List (Terms Fraction))
-        (b d : ℕ) → IsAfter program gs (FirstTurns b (pred d)) hs
-        → IsOrbitAt program gs (suc b) (orbit_turns d) ks
+        (b d : ℕ) → IsAfter program gs (FirstIterations b (pred d)) hs
+        → IsOrbitAt program gs (suc b) (orbit_iterations d) ks
         → IsMeet (length program.names) hs ks ls → IsSoFar program gs (suc b) ls }
     ensures whole { (program : Program (Expr At)) (gs hs : List (Terms Fraction))
         → IsOrbit program gs 1 hs → IsSoFar program gs 1 hs }
     ensures next { (program : Program (Expr At)) (gs hs : List (Terms Fraction)) (b : ℕ)
-        → IsSoFar program gs (suc b) hs → IsAfter program gs (FirstTurns (suc b) 0) hs }
+        → IsSoFar program gs (suc b) hs → IsAfter program gs (FirstIterations (suc b) 0) hs }
 {}
 
 /// A closed form is the state from 0 on exactly where no variable passes.
@@ -162,14 +163,14 @@ pub fn no_variable_passes_where_a_form_begins_at_once<At>()
         → passes f (length program.names) i ≡ false) }
 {}
 
-/// Where a branch's form is the state from 0 on, its tasks are its orbit and, but for the first branch, a meet: the orbit begins with the elements unwound and the relations, no turn is taken by itself, and of the first branch the orbit is the list so far.
+/// Where a branch's form is the state from 0 on, its tasks are its orbit and, but for the first branch, a meet: the orbit begins with the elements pulled back and the relations, no iteration is taken by itself, and of the first branch the orbit is the list so far.
 pub fn forms_from_the_start_on_have_whole_orbits()
     ensures front { (A : Setting) (k b : ℕ) (gs so_far : List (Terms Fraction))
         → (form_of A b).since ≡ 0
         → block A (orbit k b gs so_far) ≡ front (length (form_of A b).base) }
     ensures list { (A : Setting) (k b : ℕ) (gs so_far : List (Terms Fraction))
         → (form_of A b).since ≡ 0
-        → starting A (orbit k b gs so_far) ≡ map (unwound A b) gs
+        → starting A (orbit k b gs so_far) ≡ map (pulled_back A b) gs
         ++ map (collect rationals (orbit_order (length (form_of A b).base)))
         (relations (length (form_of A b).base) A.arity) }
     ensures begins { (A : Setting) (k b : ℕ) (gs so_far : List (Terms Fraction))
@@ -191,8 +192,8 @@ pub fn closed_lists_have_certificates<At>()
         → IsClosed program gs → ((c : Certificate) × (c.basis ≡ gs) × IsValid program c) }
 {}
 
-/// The lists that a journal has given so far, finished or not, are the reduced bases of what their tasks are for: Start's of the invariants of level 0, an orbit's of those of its level and then turns
-/// of its branch, a turn's of those of so many turns, the list so far of those of the turns up to there, a round's of the next level; and what the closing tests have passed are invariants.
+/// The lists that a journal has given so far, finished or not, are the reduced bases of what their tasks are for: Start's of the invariants of level 0, an orbit's of those of its level and then iterations
+/// of its branch, an iteration's of those of so many iterations, the list so far of those of the iterations up to there, a round's of the next level; and what the closing tests have passed are invariants.
 pub fn lists_of_journals_are_reduced_bases<At>()
     ensures from_the_starts { (program : Program (Expr At)) → IsWellFormed program
         → (asked : Option (Terms Fraction)) (es : List Entry) (s : State)

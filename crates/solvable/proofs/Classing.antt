@@ -289,7 +289,7 @@ test_in b xs v e = (
   (λ h. of_test b (subst T (sym e) (in_any xs v h))),
 )
 
--- ---- one turn of the loop, over what its calls return
+-- ---- one iteration of the loop, over what its calls return
 module _ (used reach_t : Rows) (m : ℕ) (i : ℕ) (earlier slice more piece : List ℕ)
     (groups next : List (Vec ℕ Global)) (g : Vec ℕ Global) (e : slice ≡ earlier)
     (p : piece ≡ g.items) (h : more ≡ earlier ++ piece)
@@ -305,17 +305,18 @@ module _ (used reach_t : Rows) (m : ℕ) (i : ℕ) (earlier slice more piece : L
   more_is : more ≡ earlier ++ g.items
   more_is = h ∙ ap (λ l. earlier ++ l) p
 
-  pub turn_smaller : left_of m more < left_of m earlier
-  turn_smaller = fewer_left (at reach_t) m i earlier more g.items first_is group_is more_is
+  pub iteration_smaller : left_of m more < left_of m earlier
+  iteration_smaller = fewer_left (at reach_t) m i earlier more g.items first_is group_is more_is
 
-  pub turn_more : next ≡ groups ++ g ∷ [] → Grouping used reach_t m more (lists next)
-  turn_more q = grouping_more used reach_t m i earlier more groups next g first_is group_is more_is
+  pub iteration_more : next ≡ groups ++ g ∷ [] → Grouping used reach_t m more (lists next)
+  iteration_more q = grouping_more used reach_t m i earlier more groups next g first_is group_is
+      more_is
       q s
 
-pub turn_done : (used reach_t : Rows) (m : ℕ) (earlier slice : List ℕ) (groups : List (List ℕ))
+pub iteration_done : (used reach_t : Rows) (m : ℕ) (earlier slice : List ℕ) (groups : List (List ℕ))
     → slice ≡ earlier → ((i : ℕ) → i < length reach_t → IsReady (at reach_t) (length reach_t) slice
     i → ⊥) → Grouping used reach_t m earlier groups → AreClasses (at used) m [] groups
-turn_done used reach_t m earlier slice groups e none s =
+iteration_done used reach_t m earlier slice groups e none s =
     grouping_done used reach_t m earlier groups
     (subst (λ l. (i : ℕ) → i < m → IsReady (at reach_t) m l i → ⊥) e (subst (λ n. (i : ℕ) → i < n
     → IsReady (at reach_t) n slice i → ⊥) s.reached.square.size none)) s

@@ -152,7 +152,7 @@ pub no_start : (m : ℕ) (strong walks : Rows) → IsSquare m strong
 no_start m strong walks s none x y t =
     none x y (at_inside m strong s x y (both_out (at strong x y) (at walks y x) t).0).0 t
 
--- ---- one turn of the loop that goes on with the cycle
+-- ---- one iteration of the loop that goes on with the cycle
 module _ (m first second : ℕ) (used : Rows) (walks : List Table) (s : IsSquare m used)
     (h : first < m) (are : AreWalks (at used) m walks) (left from : ℕ) (l : left < length walks)
     (some : 0 < left) (table : Table) (is : table ≡ get_or walks (left - 1) table) where
@@ -163,18 +163,20 @@ module _ (m first second : ℕ) (used : Rows) (walks : List Table) (s : IsSquare
   table_is = subst (λ (t : Table). IsWalks (at used) m (left - 1) t.items) (sym is)
       (are (left - 1) table (omega arith))
 
-  pub turn : (k next : ℕ) (cycle more : List ℕ)
+  pub iteration : (k next : ℕ) (cycle more : List ℕ)
       → First (length table.items) (λ c. at used from c && at table.items c first) next
       → more ≡ cycle ++ next ∷ [] → Going (at used) k first second left from cycle
       → Going (at used) k first second (left - 1) next more
-  turn k next cycle more f e g = going_more m k first second (left - 1) from next used table.items
+  iteration k next cycle more f e g = going_more m k first second (left - 1) from next used
+      table.items
       cycle more s h table_is (subst (λ n. First n (λ c. at used from c && at table.items c first)
       next) table_is.square.size f) e (subst (λ n. Going (at used) k first second n from cycle)
       back g)
 
-  pub no_turn : (k : ℕ) (cycle : List ℕ) → ((c : ℕ) → T (at used from c && at table.items c first)
+  pub no_iteration : (k : ℕ) (cycle : List ℕ)
+      → ((c : ℕ) → T (at used from c && at table.items c first)
       → ⊥) → Going (at used) k first second left from cycle → ⊥
-  no_turn k cycle none g = going_on m k first second (left - 1) from used table.items cycle s h
+  no_iteration k cycle none g = going_on m k first second (left - 1) from used table.items cycle s h
       table_is (subst (λ n. Going (at used) k first second n from cycle) back g) none
 
 -- ---- the search for more and more steps

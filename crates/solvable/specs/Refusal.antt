@@ -2,7 +2,7 @@
 --   AreClassesOf map groups          its classes, in their order
 --   IsSolvable map                   it has no cycle
 --   IsAnswer uses strongly found     the least cycle, or none where there is no cycle
---   IfRefused map e                  what an error tells of the map
+--   IfClassesRefused map e                  what an error tells of the map
 use Rattle.std.specs.Prelude.{ℕ, Bool, List, [], map as each, length, Option, MatchOption}
 use Rattle.std.specs.declared.alloc.Global.{Global}
 use Rattle.std.specs.declared.vec.Vec.{Vec}
@@ -25,6 +25,6 @@ AreClassesOf map groups = AreClasses (uses map) (length map) [] (each (λ g. g.i
 abbrev pub IsSolvable : List (Terms Fraction) → Type 0
 IsSolvable map = (vs : List ℕ) → ¬ (IsNonlinearCycle (uses map) (strongly map) vs)
 
-abbrev pub IfRefused : List (Terms Fraction) → SolvableError → Type 0
-IfRefused map (NotSolvable cycle) = IsLeastCycle (uses map) (strongly map) cycle.items
-IfRefused map Memory = Unit {0}
+abbrev pub IfClassesRefused : List (Terms Fraction) → SolvableError → Type 0
+IfClassesRefused map (NotSolvable cycle) = IsLeastCycle (uses map) (strongly map) cycle.items
+IfClassesRefused map Memory = Unit {0}

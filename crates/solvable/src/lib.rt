@@ -7,7 +7,7 @@
 
 ghost use Rattle.std.specs.Prelude.{◌≡◌, All, length, IsOk, IfOk, IfErr};
 ghost use Rattle.poly.specs.Seen.{terms_each};
-ghost use Rattle.solvable.specs.Refusal.{AreClassesOf, IsSolvable, IfRefused};
+ghost use Rattle.solvable.specs.Refusal.{AreClassesOf, IsSolvable, IfClassesRefused};
 ghost use Rattle.solvable.specs.Tables.{IsTable};
 ghost use Rattle.solvable.specs.Terms.{is_used};
 
@@ -54,7 +54,7 @@ pub fn classes(alloc: Global, images: &Vec<Poly<Frac, Grevlex>>) -> Result<Class
     requires { All (λ p. p.arity ≡ length images.now.items) images.now.items }
     ensures classes { IfOk result (λ c. AreClassesOf (terms_each images.now.items) c.groups.items) }
     ensures solvable { IsOk result → IsSolvable (terms_each images.now.items) }
-    ensures refused { IfErr result (IfRefused (terms_each images.now.items)) }
+    ensures refused { IfErr result (IfClassesRefused (terms_each images.now.items)) }
 {
     let used = users(alloc, images, 0)?;
     let strong = users(alloc, images, 1)?;

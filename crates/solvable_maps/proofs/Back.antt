@@ -1,12 +1,12 @@
--- A closed form of a branch from some number of turns on: what agrees from there on agrees at each n, and at negative numbers the form goes back: it undoes as many turns, up to what it is at 0.
+-- A closed form of a branch from some number of iterations on: what agrees from there on agrees at each n, and at negative numbers the form goes back: it undoes as many iterations, up to what it is at 0.
 --   back n xs              the point -n, (-1)^n, 1/b^n, b^n;  next_at_back: one more at -n - 1 is -n
---   next_images, next_values     one turn more, and its value
+--   next_images, next_values     one iteration more, and its value
 --   same_from              polynomials with the same values from some n on have them at each n
---   IsForm since f E       polynomials in n, s, u, v and the variables whose values from `since` on are the turns
---   next_turn              a turn more is a turn of the state first, at each n
---   at_start               so the form at n is the form at 0, at the state after n turns
---   goes_on                where it is the state at one number of turns, it is from there on
---   back_to_start          the form at -n, at the state after n turns, is the form at 0
+--   IsForm since f E       polynomials in n, s, u, v and the variables whose values from `since` on are the iterations
+--   next_iteration              an iteration more is an iteration of the state first, at each n
+--   at_start               so the form at n is the form at 0, at the state after n iterations
+--   goes_on                where it is the state at one number of iterations, it is from there on
+--   back_to_start          the form at -n, at the state after n iterations, is the form at 0
 use Rattle.std.proofs.Common.{◌≡◌, ℕ, zero, suc, ◌+◌, ◌-◌, ◌<◌, ◌≤◌, List, [], ◌∷◌, ◌++◌, map, length, refl, sym, ap, ap₂, ◌∙◌, arith}
 use Rattle.algebra.specs.Arithmetic.{power}
 use Rattle.algebra.specs.Each.{Each}
@@ -23,8 +23,8 @@ use Rattle.exponentials.proofs.Monomial.{power_inverse}
 use Rattle.exponentials.proofs.Expo.{IsChar0, positive}
 use Rattle.exponentials.proofs.Units.{IsUnit, at}
 use Rattle.solvable_maps.specs.Shifts.{later, on_variables}
-use Rattle.solvable_maps.specs.Turns.{width}
-use Rattle.solvable_maps.proofs.Values.{values, turns, turns-first, turns-length, value_kept, natural, at-length, same_at_unit_points}
+use Rattle.solvable_maps.specs.Iterations.{width}
+use Rattle.solvable_maps.proofs.Values.{values, iterations, iterations-first, iterations-length, value_kept, natural, at-length, same_at_unit_points}
 use Rattle.solvable_maps.proofs.Shifts.{later-at, turned-at, map-later, map-turned, all-later, all-turned}
 
 each_same : {X Y : Type 0} (f g : ℕ → X → Y) (xs : List X) → ((n : ℕ) → map (f n) xs ≡ map (g n) xs)
@@ -55,13 +55,13 @@ module _ {A : Type 0} (F : Field A) (char : IsChar0 F) (bs : List ℕ) (c : Copr
   abbrev vals : List (Terms A) → List A → List A
   vals = values (operations R)
 
-  -- ---- one turn more, and a turn before
+  -- ---- one iteration more, and an iteration before
   abbrev pub next_images : List (Terms A)
   next_images = later (lists (operations R) w) bs (λ b. constant w (u b)) (λ b. constant w (v b))
       (variables (operations R) w)
 
-  abbrev turn_images : List (Terms A) → List (Terms A)
-  turn_images f = on_variables bs (λ l. map (λ p. compose (operations R) w p l) f)
+  abbrev iteration_images : List (Terms A) → List (Terms A)
+  iteration_images f = on_variables bs (λ l. map (λ p. compose (operations R) w p l) f)
       (variables (operations R) w)
 
   pub arity_next : AllArity w next_images
@@ -77,8 +77,8 @@ module _ {A : Type 0} (F : Field A) (char : IsChar0 F) (bs : List ℕ) (c : Copr
   arity_compositions [] l a = tt
   arity_compositions (p ∷ f) l a = (arity-compose w (operations R) p l a, arity_compositions f l a)
 
-  arity_turn : (f : List (Terms A)) → AllArity w (turn_images f)
-  arity_turn f = all-turned (Arity w) bs (λ l. map (λ p. compose (operations R) w p l) f)
+  arity_iteration : (f : List (Terms A)) → AllArity w (iteration_images f)
+  arity_iteration f = all-turned (Arity w) bs (λ l. map (λ p. compose (operations R) w p l) f)
       (arity_compositions f) (variables (operations R) w) (arity-variables w (operations R))
 
   pub next_values : (s : List A) → length s ≡ w → vals next_images s ≡ later (operations R) bs u v s
@@ -89,9 +89,9 @@ module _ {A : Type 0} (F : Field A) (char : IsChar0 F) (bs : List ℕ) (c : Copr
       (variables (operations R) w)
       ∙ ap (later (operations R) bs u v) (value_at-variables R w s l)
 
-  turn_values : (f : List (Terms A)) (s : List A) → length s ≡ w → vals (turn_images f) s
+  iteration_values : (f : List (Terms A)) (s : List A) → length s ≡ w → vals (iteration_images f) s
       ≡ on_variables bs (vals f) s
-  turn_values f s l =
+  iteration_values f s l =
       map-turned (λ q. value_at (operations R) q s) bs (λ l. map (λ p. compose (operations R) w p l)
       f) (vals f) (through f) (variables (operations R) w)
       ∙ ap (on_variables bs (vals f)) (value_at-variables R w s l)
@@ -241,18 +241,18 @@ module _ {A : Type 0} (F : Field A) (char : IsChar0 F) (bs : List ℕ) (c : Copr
   -- ---- forms from some n on
   pub record IsForm (since : ℕ) (f E : List (Terms A)) : Type 0 where
     pub is : (n : ℕ) (s : List A) → length s ≡ m → since ≤ n
-        → vals E (point n s) ≡ turns (operations R) f n s
+        → vals E (point n s) ≡ iterations (operations R) f n s
 
-  -- x with a turn of its variables first
-  abbrev turn_of : List (Terms A) → Terms A → Terms A
-  turn_of f x = compose (operations R) w x (turn_images f)
+  -- x with an iteration of its variables first
+  abbrev iteration_of : List (Terms A) → Terms A → Terms A
+  iteration_of f x = compose (operations R) w x (iteration_images f)
 
-  turn-is : (f : List (Terms A)) (x : Terms A) (n : ℕ) (s : List A) → length s ≡ m
-      → value_at (operations R) (turn_of f x) (point n s) ≡ value_at (operations R) x
+  iteration-is : (f : List (Terms A)) (x : Terms A) (n : ℕ) (s : List A) → length s ≡ m
+      → value_at (operations R) (iteration_of f x) (point n s) ≡ value_at (operations R) x
       (point n (vals f s))
-  turn-is f x n s k =
-      value_at-compose R w x (turn_images f) (point n s)
-      ∙ ap (value_at (operations R) x) (turn_values f (point n s) (natural-length n s k)
+  iteration-is f x n s k =
+      value_at-compose R w x (iteration_images f) (point n s)
+      ∙ ap (value_at (operations R) x) (iteration_values f (point n s) (natural-length n s k)
       ∙ turned-at bs (vals f) s (of_nat R n) (power (operations R) (R.neg R.one) n)
       (λ b. power (operations R) (u b) n) (λ b. power (operations R) (v b) n))
 
@@ -260,62 +260,66 @@ module _ {A : Type 0} (F : Field A) (char : IsChar0 F) (bs : List ℕ) (c : Copr
     from_since : (n : ℕ) (s : List A) → length s ≡ m → vals E (point (suc (since + n)) s)
         ≡ vals E (point (since + n) (vals f s))
     from_since n s k =
-        closed.is (suc (since + n)) s k (omega arith) ∙ turns-first (operations R) f (since + n) s
-        ∙ sym (closed.is (since + n) (vals f s) (turns-length (operations R) f m lf 1 s k)
+        closed.is (suc (since + n)) s k (omega arith)
+        ∙ iterations-first (operations R) f (since + n) s
+        ∙ sym (closed.is (since + n) (vals f s) (iterations-length (operations R) f m lf 1 s k)
         (omega arith))
 
     -- for each polynomial of the form, at each n
     each_next : (s : List A) → length s ≡ m
         → Each (λ x. (n : ℕ) → value_at (operations R) (next x) (point n s)
-        ≡ value_at (operations R) (turn_of f x) (point n s)) E
+        ≡ value_at (operations R) (iteration_of f x) (point n s)) E
     each_next s k = each_weaker _ _
-        (λ x h. same_from since (next x) (turn_of f x) s k (λ n. next-is x (since + n) s k ∙ h n
-        ∙ sym (turn-is f x (since + n) s k))) E
+        (λ x h. same_from since (next x) (iteration_of f x) s k (λ n. next-is x (since + n) s k
+        ∙ h n
+        ∙ sym (iteration-is f x (since + n) s k))) E
         (each_same (λ n x. value_at (operations R) x (point (suc (since + n)) s)) (λ n x.
         value_at (operations R) x (point (since + n) (vals f s))) E (λ n. from_since n s k))
 
-    pub next_turn : (n : ℕ) (s : List A) → length s ≡ m → vals E (point (suc n) s)
+    pub next_iteration : (n : ℕ) (s : List A) → length s ≡ m → vals E (point (suc n) s)
         ≡ vals E (point n (vals f s))
-    next_turn n s k = map_same _ _ E (each_weaker _ _ (λ x h. sym (next-is x n s k) ∙ h n
-        ∙ turn-is f x n s k) E (each_next s k))
+    next_iteration n s k = map_same _ _ E (each_weaker _ _ (λ x h. sym (next-is x n s k) ∙ h n
+        ∙ iteration-is f x n s k) E (each_next s k))
 
     pub at_start : (n : ℕ) (s : List A) → length s ≡ m
-        → vals E (point n s) ≡ vals E (point 0 (turns (operations R) f n s))
+        → vals E (point n s) ≡ vals E (point 0 (iterations (operations R) f n s))
     at_start zero s k = refl
-    at_start (suc n) s k = next_turn n s k
-        ∙ at_start n (vals f s) (turns-length (operations R) f m lf 1 s k)
-        ∙ ap (λ x. vals E (point 0 x)) (sym (turns-first (operations R) f n s))
+    at_start (suc n) s k = next_iteration n s k
+        ∙ at_start n (vals f s) (iterations-length (operations R) f m lf 1 s k)
+        ∙ ap (λ x. vals E (point 0 x)) (sym (iterations-first (operations R) f n s))
 
-    goes_more : (d : ℕ) → ((s : List A) → length s ≡ m → vals E (point d s) ≡ turns (operations R) f
+    goes_more : (d : ℕ) → ((s : List A) → length s ≡ m
+        → vals E (point d s) ≡ iterations (operations R) f
         d s) → (n : ℕ) (s : List A) → length s ≡ m → vals E (point (d + n) s)
-        ≡ turns (operations R) f (d + n) s
+        ≡ iterations (operations R) f (d + n) s
     goes_more d h zero s k = let e : d + 0 ≡ d = omega arith in ap (λ i. vals E (point i s)) e
-        ∙ h s k ∙ ap (λ i. turns (operations R) f i s) (sym e)
+        ∙ h s k ∙ ap (λ i. iterations (operations R) f i s) (sym e)
     goes_more d h (suc n) s k =
         let e : d + suc n ≡ suc (d + n) = omega arith in
-        ap (λ i. vals E (point i s)) e ∙ next_turn (d + n) s k
-        ∙ goes_more d h n (vals f s) (turns-length (operations R) f m lf 1 s k)
-        ∙ sym (turns-first (operations R) f (d + n) s)
-        ∙ ap (λ i. turns (operations R) f i s) (sym e)
+        ap (λ i. vals E (point i s)) e ∙ next_iteration (d + n) s k
+        ∙ goes_more d h n (vals f s) (iterations-length (operations R) f m lf 1 s k)
+        ∙ sym (iterations-first (operations R) f (d + n) s)
+        ∙ ap (λ i. iterations (operations R) f i s) (sym e)
 
-    pub goes_on : (d : ℕ) → ((s : List A) → length s ≡ m → vals E (point d s) ≡ turns (operations R)
+    pub goes_on : (d : ℕ) → ((s : List A) → length s ≡ m
+        → vals E (point d s) ≡ iterations (operations R)
         f d s) → IsForm d f E
     goes_on d h = record {
       is = λ n s k l.
           let e : d + (n - d) ≡ n = omega (arith, l) in
           ap (λ i. vals E (point i s)) (sym e) ∙ goes_more d h (n - d) s k
-          ∙ ap (λ i. turns (operations R) f i s) e;
+          ∙ ap (λ i. iterations (operations R) f i s) e;
     }
 
     -- ---- back
-    turn_anywhere : (s : List A) → length s ≡ m → (a e : A) (p q : ℕ → A) → IsUnit R bs s e p q
+    iteration_anywhere : (s : List A) → length s ≡ m → (a e : A) (p q : ℕ → A) → IsUnit R bs s e p q
         → vals E (at bs s (R.add R.one a) (R.neg e) (λ b. R.mul (u b) (p b))
         (λ b. R.mul (v b) (q b))) ≡ vals E (at bs (vals f s) a e p q)
-    turn_anywhere s k a e p q unit =
+    iteration_anywhere s k a e p q unit =
         map_same _ _ E (each_weaker _ _ (λ x h. one x h) E (each_next s k))
       where
         one : (x : Terms A) → ((n : ℕ) → value_at (operations R) (next x) (point n s)
-            ≡ value_at (operations R) (turn_of f x) (point n s))
+            ≡ value_at (operations R) (iteration_of f x) (point n s))
             → value_at (operations R) x (at bs s (R.add R.one a) (R.neg e) (λ b. R.mul (u b) (p b))
             (λ b. R.mul (v b) (q b))) ≡ value_at (operations R) x (at bs (vals f s) a e p q)
         one x h =
@@ -323,23 +327,26 @@ module _ {A : Type 0} (F : Field A) (char : IsChar0 F) (bs : List ℕ) (c : Copr
             (sym (next_values (at bs s a e p q) (at-length F bs m s a e p q k)
             ∙ later-at (operations R) bs u v s a e p q))
             ∙ sym (value_at-compose R w x (next_images) (at bs s a e p q))
-            ∙ same_at_unit_points F bs char c m (next x) (turn_of f x) (arity-next x)
-            (arity-compose w (operations R) x (turn_images f) (arity_turn f)) s h a e p q unit
-            ∙ value_at-compose R w x (turn_images f) (at bs s a e p q)
-            ∙ ap (value_at (operations R) x) (turn_values f (at bs s a e p q)
+            ∙ same_at_unit_points F bs char c m (next x) (iteration_of f x) (arity-next x)
+            (arity-compose w (operations R) x (iteration_images f) (arity_iteration f)) s h a e p q
+            unit
+            ∙ value_at-compose R w x (iteration_images f) (at bs s a e p q)
+            ∙ ap (value_at (operations R) x) (iteration_values f (at bs s a e p q)
             (at-length F bs m s a e p q k) ∙ turned-at bs (vals f) s a e p q)
 
     back_step : (n : ℕ) (s : List A) → length s ≡ m
         → vals E (back n s) ≡ vals E (back (suc n) (vals f s))
     back_step n s k =
         ap (vals E) (sym (back_next n s))
-        ∙ turn_anywhere s k (R.neg (of_nat R (suc n))) (power (operations R) (R.neg R.one) (suc n))
+        ∙ iteration_anywhere s k (R.neg (of_nat R (suc n))) (power (operations R) (R.neg R.one)
+        (suc n))
         (λ b. power (operations R) (v b) (suc n)) (λ b. power (operations R) (u b) (suc n))
         (back_unit (suc n) s)
 
     pub back_to_start : (n : ℕ) (s : List A) → length s ≡ m
-        → vals E (back n (turns (operations R) f n s)) ≡ vals E (point 0 s)
+        → vals E (back n (iterations (operations R) f n s)) ≡ vals E (point 0 s)
     back_to_start zero s k = ap (vals E) (zero_back s)
     back_to_start (suc n) s k =
-        sym (back_step n (turns (operations R) f n s) (turns-length (operations R) f m lf n s k))
+        sym (back_step n (iterations (operations R) f n s) (iterations-length (operations R) f m lf
+        n s k))
         ∙ back_to_start n s k

@@ -2,7 +2,7 @@
 --   frozen t p             p, with the numbers of the state t for the variables
 --   same_from_one          what is the same at two states from 1 on is the same at 0
 --   Free j                 j isn't of the class, and uses nothing of it
---   free_turns             states that are the same but for the class are the same there after n turns
+--   free_iterations             states that are the same but for the class are the same there after n iterations
 --   same_form              a form with the value 0 is the same at two states that are the same but for the class
 --   never_zero             the law
 use Rattle.std.proofs.Common.{◌≡◌, ◌≢◌, inl, inr, ℕ, zero, suc, ◌+◌, ◌<◌, Bool, true, false, T, List, [], ◌∷◌, ◌++◌, cond, eqb, map, length, take, refl, sym, ap, ap₂, subst, ◌∙◌, arith}
@@ -31,8 +31,8 @@ use Rattle.vectors.proofs.EchelonKernel.{total-single}
 use Rattle.vectors.proofs.ListLaws.{below-entry, entries-past}
 use Rattle.vectors.specs.Rows.{rows_of}
 use Rattle.solvable_maps.specs.Classes.{IsClass, IsEigenvalue, column}
-use Rattle.solvable_maps.specs.AfterTurns.{form_at, mine, place, rest_of, rests_at, IsSplit, IsFormAfterTurns}
-use Rattle.solvable_maps.specs.Turns.{point, turns, width, IsClosedForm}
+use Rattle.solvable_maps.specs.AfterIterations.{form_at, mine, place, rest_of, rests_at, IsSplit, IsFormAfterIterations}
+use Rattle.solvable_maps.specs.Iterations.{point, iterations, width, IsClosedForm}
 use Rattle.solvable_maps.proofs.ClassSteps.{joined, place_in, rest_in, rest_lacks, together, total_form, values-entry, zero_form_turned}
 use Rattle.solvable_maps.proofs.Eigenvalues.{as_row, each_zero, firsts, firsts-entry, firsts-length}
 use Rattle.solvable_maps.proofs.Existence.{map-two, weighted, weighted-value}
@@ -40,9 +40,9 @@ use Rattle.solvable_maps.proofs.OneForm.{all_values}
 use Rattle.solvable_maps.proofs.Operations.{point-append}
 use Rattle.solvable_maps.proofs.Parts.{mine_in}
 use Rattle.solvable_maps.proofs.Realized as Realized
-use Rattle.solvable_maps.proofs.Sources as Sources
+use Rattle.solvable_maps.proofs.Inhomogeneities as Inhomogeneities
 use Rattle.solvable_maps.proofs.Numbers.{point-is}
-use Rattle.solvable_maps.proofs.Values.{at-length, turns-length}
+use Rattle.solvable_maps.proofs.Values.{at-length, iterations-length}
 use Rattle.vectors.proofs.VectorRing as VR
 use Rattle.algebra.proofs.Each.{map_same}
 use Rattle.algebra.proofs.Basics.{to_true}
@@ -183,32 +183,33 @@ module _ (base : List ℕ) (c : Coprime base) (images : List (Terms Fraction))
   -- ---- two states that are the same there
   module _ (s t : List Fraction) (size : length s ≡ m) (size' : length t ≡ m)
       (agree : (j : ℕ) → Free j → entries F s j ≡ entries F t j) where
-    same_size : (n : ℕ) → length (turns images n s) ≡ length (turns images n t)
-    same_size n = turns-length ℚ images m refl n s size
-        ∙ sym (turns-length ℚ images m refl n t size')
+    same_size : (n : ℕ) → length (iterations images n s) ≡ length (iterations images n t)
+    same_size n = iterations-length ℚ images m refl n s size
+        ∙ sym (iterations-length ℚ images m refl n t size')
 
-    free_turns : (n j : ℕ) → Free j
-        → entries F (turns images n s) j ≡ entries F (turns images n t) j
-    free_turns zero j f = agree j f
-    free_turns (suc n) j f = elim (cases_lt j m) [
-      | inl l ↦ values-entry images (turns images n s) j l
-          ∙ Sources.value_used F (poly_at images j) (turns images n s) (turns images n t)
-          (same_size n) (λ k u. free_turns n k (free_used j k f u))
-          ∙ sym (values-entry images (turns images n t) j l)
+    free_iterations : (n j : ℕ) → Free j
+        → entries F (iterations images n s) j ≡ entries F (iterations images n t) j
+    free_iterations zero j f = agree j f
+    free_iterations (suc n) j f = elim (cases_lt j m) [
+      | inl l ↦ values-entry images (iterations images n s) j l
+          ∙ Inhomogeneities.value_used F (poly_at images j) (iterations images n s)
+          (iterations images n t)
+          (same_size n) (λ k u. free_iterations n k (free_used j k f u))
+          ∙ sym (values-entry images (iterations images n t) j l)
       | inr l ↦
-          entries-past F (turns images (suc n) s) j (let e =
-          turns-length ℚ images m refl (suc n) s size in omega (arith, e, l))
-          ∙ sym (entries-past F (turns images (suc n) t) j (let e =
-          turns-length ℚ images m refl (suc n) t size' in omega (arith, e, l)))
+          entries-past F (iterations images (suc n) s) j (let e =
+          iterations-length ℚ images m refl (suc n) s size in omega (arith, e, l))
+          ∙ sym (entries-past F (iterations images (suc n) t) j (let e =
+          iterations-length ℚ images m refl (suc n) t size' in omega (arith, e, l)))
     ]
 
-    same_rests : (n : ℕ) → rests_at images g (turns images n s) ≡ rests_at images g
-        (turns images n t)
-    same_rests n = map_same (λ i. value_at ℚ (rest_of g (poly_at images i)) (turns images n s))
-        (λ i. value_at ℚ (rest_of g (poly_at images i)) (turns images n t)) g
-        (each_from g (λ i h. Sources.value_used F (rest_of g (poly_at images i))
-        (turns images n s) (turns images n t) (same_size n)
-        (λ j u. free_turns n j (rest_free i j h u))))
+    same_rests : (n : ℕ) → rests_at images g (iterations images n s) ≡ rests_at images g
+        (iterations images n t)
+    same_rests n = map_same (λ i. value_at ℚ (rest_of g (poly_at images i)) (iterations images n s))
+        (λ i. value_at ℚ (rest_of g (poly_at images i)) (iterations images n t)) g
+        (each_from g (λ i h. Inhomogeneities.value_used F (rest_of g (poly_at images i))
+        (iterations images n s) (iterations images n t) (same_size n)
+        (λ j u. free_iterations n j (rest_free i j h u))))
 
   -- ---- a form with the value 0
   module _ (w : List Fraction) (wide : length w ≡ length g)
@@ -216,45 +217,47 @@ module _ (base : List ℕ) (c : Coprime base) (images : List (Terms Fraction))
     rest_poly : Terms Fraction
     rest_poly = weighted m w (map (λ i. rest_of g (poly_at images i)) g)
 
-    source : Terms Fraction
-    source = compose ℚ W rest_poly ps
+    inhomogeneity : Terms Fraction
+    inhomogeneity = compose ℚ W rest_poly ps
 
-    source-value : (n : ℕ) (s : List Fraction) → length s ≡ m
-        → value_at ℚ source (point base n s) ≡ sum_of_products ℚ w
-        (rests_at images g (turns images n s))
-    unfolding source rest_poly
-    source-value n s l =
+    inhomogeneity-value : (n : ℕ) (s : List Fraction) → length s ≡ m
+        → value_at ℚ inhomogeneity (point base n s) ≡ sum_of_products ℚ w
+        (rests_at images g (iterations images n s))
+    unfolding inhomogeneity rest_poly
+    inhomogeneity-value n s l =
         value_at-compose R W rest_poly ps (point base n s)
         ∙ ap (value_at ℚ rest_poly) (form.values n s l (omega arith))
-        ∙ weighted-value m w (map (λ i. rest_of g (poly_at images i)) g) (turns images n s)
+        ∙ weighted-value m w (map (λ i. rest_of g (poly_at images i)) g) (iterations images n s)
         ∙ ap (sum_of_products ℚ w) (map-two (λ i. rest_of g (poly_at images i))
-        (λ q. value_at ℚ q (turns images n s)) g)
+        (λ q. value_at ℚ q (iterations images n s)) g)
 
-    solution : Realized.IsSolved base c m ℚ.zero source
-    unfolding source
-    solution = Realized.solved base c m ℚ.zero source
+    solution : Realized.IsSolved base c m ℚ.zero inhomogeneity
+    unfolding inhomogeneity
+    solution = Realized.solved base c m ℚ.zero inhomogeneity
         (arity-compose W ℚ rest_poly ps form.arity)
 
     no_more : (x : Fraction) → R.add x (sum_of_products ℚ [] []) ≡ x
     unfolding sum_of_products
     no_more x = R.add-zero x
 
-    is_turned : IsFormAfterTurns base images 1 g w solution.poly
+    is_turned : IsFormAfterIterations base images 1 g w solution.poly
     unfolding Each
-    is_turned = zero_form_turned base images 0 is none g class [] tt w wide ℚ.zero [] splits source
-        (λ n s l late. source-value n s l ∙ sym (no_more (sum_of_products ℚ w
-        (rests_at images g (turns images n s))))) refl
+    is_turned = zero_form_turned base images 0 is none g class [] tt w wide ℚ.zero [] splits
+        inhomogeneity
+        (λ n s l late. inhomogeneity-value n s l ∙ sym (no_more (sum_of_products ℚ w
+        (rests_at images g (iterations images n s))))) refl
         (λ s. value_at ℚ solution.poly (point base 0 s)) solution.poly
-        (Realized.recurrence base c m ℚ.zero source solution)
+        (Realized.recurrence base c m ℚ.zero inhomogeneity solution)
 
     one_later : (n : ℕ) (s : List Fraction) → length s ≡ m
-        → form_at w g (turns images (suc n) s) ≡ sum_of_products ℚ w
-        (rests_at images g (turns images n s))
+        → form_at w g (iterations images (suc n) s) ≡ sum_of_products ℚ w
+        (rests_at images g (iterations images n s))
     one_later n s l =
         sym (is_turned.values (suc n) s l (omega arith))
         ∙ solution.next n s l
-        ∙ ap₂ R.add (L.zero-mul R (value_at ℚ solution.poly (point base n s))) (source-value n s l)
-        ∙ L.zero-add R (sum_of_products ℚ w (rests_at images g (turns images n s)))
+        ∙ ap₂ R.add (L.zero-mul R (value_at ℚ solution.poly (point base n s)))
+        (inhomogeneity-value n s l)
+        ∙ L.zero-add R (sum_of_products ℚ w (rests_at images g (iterations images n s)))
 
     -- the form of the closed form
     whole : Terms Fraction
@@ -267,14 +270,14 @@ module _ (base : List ℕ) (c : Coprime base) (images : List (Terms Fraction))
         ∙ firsts-length m (λ i. ℚ.zero)
 
     whole-value : (n : ℕ) (s : List Fraction) → length s ≡ m
-        → value_at ℚ whole (point base n s) ≡ form_at w g (turns images n s)
+        → value_at ℚ whole (point base n s) ≡ form_at w g (iterations images n s)
     unfolding whole
     whole-value n s l =
         weighted-value W w (map (poly_at ps) g) (point base n s)
         ∙ ap (sum_of_products ℚ w)
         (map-two (poly_at ps) (λ q. value_at ℚ q (point base n s)) g
         ∙ map_same (λ j. value_at ℚ (poly_at ps j) (point base n s))
-        (entries F (turns images n s)) g
+        (entries F (iterations images n s)) g
         (each_from g (λ j h.
         sym (values-entry ps (point base n s) j (let e = ps-length in
         let b : j < m = (class.is.inside j h).0 in omega (arith, e, b)))

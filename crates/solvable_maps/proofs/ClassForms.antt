@@ -69,7 +69,7 @@ module _ {A : Type 0} (F : Field A) (c : ℕ) where
 
   -- ---- the sequences
   module _ (rows : List (Row F c)) (size : length rows ≡ c) (x h : ℕ → ℕ → A) where
-    -- one turn of the class's variables
+    -- one iteration of the class's variables
     pub record IsNext : Type 0 where
       pub is : (n i : ℕ) → i < c → x (suc n) i ≡ R.add (dot (row_at rows i).0 (x n)) (h n i)
 
@@ -119,7 +119,7 @@ module _ {A : Type 0} (F : Field A) (c : ℕ) where
         s.next n
         ∙ ap₂ R.add (ap (R.mul t.1) (form_sequence e before b t s n)) (ap (R.add (dot t.0.0 (h n)))
         (weigh_forms s.by before b n ∙ sym (dot-combine s.by (forms_in before) (x n))))
-        ∙ turn (R.mul t.1 (dot t.0.0 (x n))) (dot t.0.0 (h n))
+        ∙ iteration (R.mul t.1 (dot t.0.0 (x n))) (dot t.0.0 (h n))
         (dot (combine S s.by (forms_in before)).0 (x n))
         ∙ ap (λ z. R.add (R.add z (dot (combine S s.by (forms_in before)).0 (x n)))
         (dot t.0.0 (h n))) (sym (dot-scale t.1 t.0.0 (x n)))
@@ -128,8 +128,8 @@ module _ {A : Type 0} (F : Field A) (c : ℕ) where
         ∙ ap (λ (v : Row F c). R.add (dot v.0 (x n)) (dot t.0.0 (h n))) (sym s.splits)
         ∙ sym (form_next e t.0 n)
       where
-        turn : (a b d : A) → R.add a (R.add b d) ≡ R.add (R.add a d) b
-        turn a b d = ring R (a ∷ b ∷ d ∷ []) (search ring_rules depth 40) refl
+        iteration : (a b d : A) → R.add a (R.add b d) ≡ R.add (R.add a d) b
+        iteration a b d = ring R (a ∷ b ∷ d ∷ []) (search ring_rules depth 40) refl
 
     -- a combination of the forms: where it is the i-th variable alone, the combination of the
     -- sequences is that variable

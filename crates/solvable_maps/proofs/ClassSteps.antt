@@ -1,9 +1,9 @@
--- One class after the earlier ones, where what is known holds from some number of turns on: what its polynomials have in earlier variables, its forms one after another, and its variables from its forms.
+-- One class after the earlier ones, where what is known holds from some number of iterations on: what its polynomials have in earlier variables, its forms one after another, and its variables from its forms.
 --   from_there        what holds at each number since one holds at each number that is no less
 --   rests_turned      compositions with the closed forms of earlier classes
---   form_turned       a polynomial with the recurrence of a form is that form from there on, where it is at the first number of turns
---   later_form_turned     so where the value isn't 0 and it is the form after some number of turns
---   zero_form_turned  where the value is 0, it is from one turn later on, whatever it was
+--   form_turned       a polynomial with the recurrence of a form is that form from there on, where it is at the first number of iterations
+--   later_form_turned     so where the value isn't 0 and it is the form after some number of iterations
+--   zero_form_turned  where the value is 0, it is from one iteration later on, whatever it was
 --   variable_turned   the combination of the forms that is one variable is that variable
 use Rattle.std.proofs.Common.{◌≡◌, ◌≢◌, ◌⊎◌, inl, inr, ℕ, zero, suc, ◌+◌, ◌-◌, ◌<◌, ◌≤◌, List, [], ◌∷◌, map, length, Bool, true, false, cond, T, refl, sym, ap, ap₂, subst, ◌∙◌, arith}
 use Rattle.std.proofs.lemmas.List.{length-map}
@@ -31,18 +31,18 @@ use Rattle.vectors.proofs.EchelonKernel.{total-single}
 use Rattle.exponentials.proofs.Lists.{Distinct}
 use Rattle.solvable_maps.specs.Classes.{IsClass}
 use Rattle.solvable_maps.specs.Inverse.{unit_list}
-use Rattle.solvable_maps.specs.AfterTurns.{mine, rest_of, form_at, rests_at, IsAfterTurns, AreAfterTurns, IsFormAfterTurns, HasRecurrence, HasValueAfter, Done, rows_done, values_done, IsSplit}
-use Rattle.solvable_maps.specs.Turns.{point, turns}
+use Rattle.solvable_maps.specs.AfterIterations.{mine, rest_of, form_at, rests_at, IsAfterIterations, AreAfterIterations, IsFormAfterIterations, HasRecurrence, HasValueAfter, Done, rows_done, values_done, IsSplit}
+use Rattle.solvable_maps.specs.Iterations.{point, iterations}
 use Rattle.solvable_maps.proofs.ClassForms as CF
 use Rattle.solvable_maps.proofs.ClassForms.{dot}
-use Rattle.solvable_maps.proofs.ClassTurns as CT
-use Rattle.solvable_maps.specs.AfterTurns.{place}
+use Rattle.solvable_maps.proofs.ClassIterations as CT
+use Rattle.solvable_maps.specs.AfterIterations.{place}
 use Rattle.vectors.proofs.ListLaws.{below-entry}
 use Rattle.solvable_maps.proofs.Eigenvalues.{same_below}
 use Rattle.solvable_maps.proofs.Inverses.{unit-own, unit-other}
 use Rattle.solvable_maps.proofs.Parts.{mine_in, rest_has_none}
-use Rattle.solvable_maps.proofs.Sources as Sources
-use Rattle.solvable_maps.proofs.Values.{turns-length}
+use Rattle.solvable_maps.proofs.Inhomogeneities as Inhomogeneities
+use Rattle.solvable_maps.proofs.Values.{iterations-length}
 
 abbrev F : Field Fraction
 F = ℚ_field
@@ -107,21 +107,22 @@ module _ (base : List ℕ) (images : List (Terms Fraction)) (since : ℕ)
         clash b e h = subst T e h
 
     -- the images that are composed with, at a point
-    module _ (ps : List (Terms Fraction)) (turned : AreAfterTurns base images since earlier ps)
+    module _ (ps : List (Terms Fraction)) (turned : AreAfterIterations base images since earlier ps)
         (n : ℕ) (s : List Fraction) (size : length s ≡ m) (late : since ≤ n) where
       abbrev z : List Fraction
       z = point base n s
 
       abbrev x : List Fraction
-      x = turns images n s
+      x = iterations images n s
 
       state-length : length x ≡ m
-      state-length = turns-length ℚ images m refl n s size
+      state-length = iterations-length ℚ images m refl n s size
 
       rest_value : (i : ℕ) → In i g → value_at ℚ (rest_of g (poly_at images i))
           (map (λ p. value_at ℚ p z) ps) ≡ value_at ℚ (rest_of g (poly_at images i)) x
       rest_value i inside =
-          Sources.value_used F (rest_of g (poly_at images i)) (map (λ p. value_at ℚ p z) ps) x
+          Inhomogeneities.value_used F (rest_of g (poly_at images i)) (map (λ p. value_at ℚ p z) ps)
+          x
           (length-map ps (λ p. value_at ℚ p z) ∙ turned.size ∙ sym state-length)
           (λ j u.
           let before : In j earlier = rest_earlier i j inside u in
@@ -215,25 +216,28 @@ module _ (base : List ℕ) (images : List (Terms Fraction)) (since : ℕ)
       together (uses images) class.of (place g a) j
       (class.is.inside (place g a) (place_in g a l)).1 (class.is.inside j i).1)
 
-  -- the state after `since` turns, from which the others are counted
+  -- the state after `since` iterations, from which the others are counted
   abbrev at_since : List Fraction → List Fraction
-  at_since s = turns images since s
+  at_since s = iterations images since s
 
   since-length : (s : List Fraction) → length s ≡ length images
       → length (at_since s) ≡ length images
-  since-length s l = turns-length ℚ images (length images) refl since s l
+  since-length s l = iterations-length ℚ images (length images) refl since s l
 
-  more_turns : (d n : ℕ) (s : List Fraction) → turns images n (turns images d s) ≡ turns images
+  more_iterations : (d n : ℕ) (s : List Fraction) → iterations images n (iterations images d s)
+      ≡ iterations images
       (d + n) s
-  more_turns d zero s = let e : d ≡ d + 0 = omega arith in ap (λ i. turns images i s) e
-  more_turns d (suc n) s = let e : suc (d + n) ≡ d + suc n = omega arith in
-      ap (λ x. map (λ p. value_at ℚ p x) images) (more_turns d n s) ∙ ap (λ i. turns images i s) e
+  more_iterations d zero s = let e : d ≡ d + 0 = omega arith in ap (λ i. iterations images i s) e
+  more_iterations d (suc n) s = let e : suc (d + n) ≡ d + suc n = omega arith in
+      ap (λ x. map (λ p. value_at ℚ p x) images) (more_iterations d n s)
+      ∙ ap (λ i. iterations images i s) e
 
   abbrev own : List Fraction → ℕ → ℕ → Fraction
-  own s n a = entries F (turns images n (at_since s)) (place g a)
+  own s n a = entries F (iterations images n (at_since s)) (place g a)
 
   abbrev rest : List Fraction → ℕ → ℕ → Fraction
-  rest s n a = value_at ℚ (rest_of g (poly_at images (place g a))) (turns images n (at_since s))
+  rest s n a = value_at ℚ (rest_of g (poly_at images (place g a)))
+      (iterations images n (at_since s))
 
   abbrev matrix : List (Row F c)
   matrix = CT.matrix_of F (length images) g images g
@@ -247,20 +251,20 @@ module _ (base : List ℕ) (images : List (Terms Fraction)) (since : ℕ)
       within linear (at_since s) (since-length s l)
 
   own_form : (w : List Fraction) → length w ≡ c → (n : ℕ) (s : List Fraction)
-      → dot F c (row_of F c w).0 (own s n) ≡ form_at w g (turns images (since + n) s)
-  own_form w l n s = total_form w g (entries F (turns images n (at_since s))) l
-      ∙ ap (form_at w g) (more_turns since n s)
+      → dot F c (row_of F c w).0 (own s n) ≡ form_at w g (iterations images (since + n) s)
+  own_form w l n s = total_form w g (entries F (iterations images n (at_since s))) l
+      ∙ ap (form_at w g) (more_iterations since n s)
 
   rest_form : (w : List Fraction) → length w ≡ c → (n : ℕ) (s : List Fraction)
       → dot F c (row_of F c w).0 (rest s n) ≡ sum_of_products ℚ w
-      (rests_at images g (turns images (since + n) s))
+      (rests_at images g (iterations images (since + n) s))
   rest_form w l n s = total_form w g (λ i. value_at ℚ (rest_of g (poly_at images i))
-      (turns images n (at_since s))) l ∙ ap (λ x. sum_of_products ℚ w (rests_at images g x))
-      (more_turns since n s)
+      (iterations images n (at_since s))) l ∙ ap (λ x. sum_of_products ℚ w (rests_at images g x))
+      (more_iterations since n s)
 
   -- ---- a form and those before it
   abbrev pub IsDone : List Fraction × Terms Fraction → Type 0
-  IsDone t = IsFormAfterTurns base images since g t.0 t.1
+  IsDone t = IsFormAfterIterations base images since g t.0 t.1
 
   module _ (s : List Fraction) (size : length s ≡ length images) where
     abbrev Told : Type 0
@@ -303,12 +307,12 @@ module _ (base : List ℕ) (images : List (Terms Fraction)) (since : ℕ)
       (l : Fraction) (by : List Fraction)
       (splits : IsSplit images g before w l by)
       (q : Terms Fraction)
-      (source : (n : ℕ) (s : List Fraction) → length s ≡ length images → since ≤ n
+      (inhomogeneity : (n : ℕ) (s : List Fraction) → length s ≡ length images → since ≤ n
       → value_at ℚ q (point base n s)
-      ≡ F.add (sum_of_products ℚ w (rests_at images g (turns images n s)))
+      ≡ F.add (sum_of_products ℚ w (rests_at images g (iterations images n s)))
       (sum_of_products ℚ by (values_done before (point base n s)))) where
     sequence : List Fraction → ℕ → Fraction
-    sequence s zero = form_at w g (turns images (since + 0) s)
+    sequence s zero = form_at w g (iterations images (since + 0) s)
     sequence s (suc n) = F.add (F.mul l (sequence s n)) (value_at ℚ q (point base (since + n) s))
 
     sequence-next : (s : List Fraction) (n : ℕ)
@@ -318,7 +322,7 @@ module _ (base : List ℕ) (images : List (Terms Fraction)) (since : ℕ)
     sequence-next s n = refl
 
     sequence-is : (n : ℕ) (s : List Fraction) → length s ≡ length images
-        → sequence s n ≡ form_at w g (turns images (since + n) s)
+        → sequence s n ≡ form_at w g (iterations images (since + n) s)
     unfolding sequence
     sequence-is n s size =
         CF.form_sequence F c matrix rows_count (own s) (rest s) (next_is s size)
@@ -327,11 +331,12 @@ module _ (base : List ℕ) (images : List (Terms Fraction)) (since : ℕ)
         (record {
           by = entries F by;
           splits = ap (λ rows. times_rows F c rows (row_of F c w))
-              (sym (Sources.class_rows images g)) ∙ splits.is
+              (sym (Inhomogeneities.class_rows images g)) ∙ splits.is
               ∙ ap (λ z. S.add (S.scale l (row_of F c w)) (combine S (entries F by) z))
               (sym (told-forms s size before));
           start = sym (own_form w width 0 s);
-          next = λ n. ap (F.add (F.mul l (sequence s n))) (source (since + n) s size (omega arith)
+          next = λ n. ap (F.add (F.mul l (sequence s n))) (inhomogeneity (since + n) s size
+              (omega arith)
               ∙ ap₂ F.add (sym (rest_form w width n s)) (sym (weighed s size by before n)));
         }) n
         ∙ own_form w width n s
@@ -365,11 +370,12 @@ module _ (base : List ℕ) (images : List (Terms Fraction)) (since : ℕ)
     from_first : (start : List Fraction → Fraction) (y : Terms Fraction)
         → HasRecurrence base (length images) l q start y
         → ((s : List Fraction) → length s ≡ length images → value_at ℚ y (point base (since + 0) s)
-        ≡ sequence s 0) → IsFormAfterTurns base images since g w y
+        ≡ sequence s 0) → IsFormAfterIterations base images since g w y
     from_first start y rec known = record {
       width = width;
       values = λ n s size late.
-          from_there since (λ i. value_at ℚ y (point base i s) ≡ form_at w g (turns images i s))
+          from_there since (λ i. value_at ℚ y (point base i s)
+          ≡ form_at w g (iterations images i s))
           (λ k.
           same_next (λ n. value_at ℚ y (point base (since + n) s)) (sequence s)
           (λ n. value_at ℚ q (point base (since + n) s)) (next_of start y rec s size)
@@ -380,29 +386,31 @@ module _ (base : List ℕ) (images : List (Terms Fraction)) (since : ℕ)
 
     pub form_turned : (start : List Fraction → Fraction) (y : Terms Fraction)
         → HasRecurrence base (length images) l q start y → HasValueAfter base images g w since y
-        → IsFormAfterTurns base images since g w y
+        → IsFormAfterIterations base images since g w y
     form_turned start y rec known = from_first start y rec (λ s size.
         let e : since + 0 ≡ since = omega arith in
         ap (λ i. value_at ℚ y (point base i s)) e ∙ known.is s size
-        ∙ ap (λ i. form_at w g (turns images i s)) (sym e) ∙ sym (sequence-is 0 s size))
+        ∙ ap (λ i. form_at w g (iterations images i s)) (sym e) ∙ sym (sequence-is 0 s size))
 
     pub later_form_turned : l ≢ F.zero → (start : List Fraction → Fraction) (y : Terms Fraction)
         → HasRecurrence base (length images) l q start y → (d : ℕ)
-        → HasValueAfter base images g w (since + d) y → IsFormAfterTurns base images since g w y
+        → HasValueAfter base images g w (since + d) y → IsFormAfterIterations base images since g w
+        y
     later_form_turned ne start y rec d known = from_first start y rec (λ s size.
         same_first ne (λ n. value_at ℚ y (point base (since + n) s)) (sequence s)
         (λ n. value_at ℚ q (point base (since + n) s)) (next_of start y rec s size)
         (sequence-next s) d (known.is s size ∙ sym (sequence-is d s size)))
 
     pub zero_form_turned : l ≡ F.zero → (start : List Fraction → Fraction) (y : Terms Fraction)
-        → HasRecurrence base (length images) l q start y → IsFormAfterTurns base images (suc since)
+        → HasRecurrence base (length images) l q start y
+        → IsFormAfterIterations base images (suc since)
         g w
         y
     zero_form_turned e start y rec = record {
       width = width;
       values = λ n s size late.
           from_there (suc since) (λ i. value_at ℚ y (point base i s)
-          ≡ form_at w g (turns images i s))
+          ≡ form_at w g (iterations images i s))
           (λ k.
           let one : suc since + k ≡ since + suc k = omega arith in
           ap (λ i. value_at ℚ y (point base i s)) one
@@ -410,7 +418,7 @@ module _ (base : List ℕ) (images : List (Terms Fraction)) (since : ℕ)
           ∙ ap (λ z. F.add z (value_at ℚ q (point base (since + k) s)))
           (nothing (value_at ℚ y (point base (since + k) s)) ∙ sym (nothing (sequence s k)))
           ∙ sym (sequence-next s k) ∙ sequence-is (suc k) s size
-          ∙ ap (λ i. form_at w g (turns images i s)) (sym one)) n late;
+          ∙ ap (λ i. form_at w g (iterations images i s)) (sym one)) n late;
     }
       where
         nothing : (x : Fraction) → F.mul l x ≡ F.zero
@@ -423,10 +431,10 @@ module _ (base : List ℕ) (images : List (Terms Fraction)) (since : ℕ)
       → (p : Terms Fraction) → ((n : ℕ) (s : List Fraction) → length s ≡ length images → since ≤ n
       → value_at ℚ p (point base n s) ≡ sum_of_products ℚ by
       (values_done forms (point base n s)))
-      → IsAfterTurns base images since (place g a) p
+      → IsAfterIterations base images since (place g a) p
   variable_turned forms done a l by makes p values = record {
     values = λ n s size late.
-        from_there since (λ i. value_at ℚ p (point base i s) ≡ entries F (turns images i s)
+        from_there since (λ i. value_at ℚ p (point base i s) ≡ entries F (iterations images i s)
         (place g a))
         (λ k.
         values (since + k) s size (omega arith)
@@ -440,7 +448,7 @@ module _ (base : List ℕ) (images : List (Terms Fraction)) (since : ℕ)
         ∙ ap (λ rows. (combine S (entries F by) rows).0 i) (sym (told-forms s size forms))))
         k)
         ∙ unit_dot a l (own s k)
-        ∙ ap (λ x. entries F x (place g a)) (more_turns since k s)) n late;
+        ∙ ap (λ x. entries F x (place g a)) (more_iterations since k s)) n late;
   }
     where
       unit_dot : (a : ℕ) → a < c → (x : ℕ → Fraction) → dot F c (row_of F c (unit_list c a)).0 x

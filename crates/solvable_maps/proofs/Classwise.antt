@@ -1,7 +1,7 @@
 -- Class by class: what is known of the variables of earlier classes, and of all.
 --   turned_none, turned_all     before the first class, and after the last: the closed form
 --   turned_more                 a class's polynomials put in their places
---   later_turned, later_form    what is known from some number of turns on is known from later on
+--   later_turned, later_form    what is known from some number of iterations on is known from later on
 --   form_base                   the base of the values of all classes' forms
 --   whole_more, next_apart      earlier classes are whole, so the next one has none of their variables
 --   class_few, class_some       a class has some variables, and at most all
@@ -23,43 +23,44 @@ use Rattle.exponentials.specs.Base.{IsTheBase}
 use Rattle.vectors.specs.Matrices.{AreForms}
 use Rattle.vectors.proofs.ListLaws.{entries-past, same_entries}
 use Rattle.solvable_maps.specs.Classes.{class_matrix, IsClass, IsFormBase, sizes_of}
-use Rattle.solvable_maps.specs.AfterTurns.{IsAfterTurns, AreAfterTurns, IsFormAfterTurns}
-use Rattle.solvable_maps.specs.Turns.{point, turns, values_at, width, IsClosedFormFrom}
+use Rattle.solvable_maps.specs.AfterIterations.{IsAfterIterations, AreAfterIterations, IsFormAfterIterations}
+use Rattle.solvable_maps.specs.Iterations.{point, iterations, values_at, width, IsClosedFormFrom}
 use Rattle.solvable_maps.proofs.ClassSteps.{values-entry, together, joined}
 use Rattle.solvable_maps.proofs.Eigenvalues.{value_is_eigenvalue, eigenvector_value}
-use Rattle.solvable_maps.proofs.Values.{turns-length}
+use Rattle.solvable_maps.proofs.Values.{iterations-length}
 
 module _ (base : List ℕ) (images : List (Terms Fraction)) (since : ℕ) where
   abbrev m : ℕ
   m = length images
 
   pub turned_none : (ps : List (Terms Fraction)) → length ps ≡ m
-      → AreAfterTurns base images since [] ps
+      → AreAfterIterations base images since [] ps
   turned_none ps e = record { size = e; each = λ i h. absurd h }
 
   -- the polynomials of a class stand at its places, the others as before
   pub turned_more : (earlier g : List ℕ) (ps qs : List (Terms Fraction))
-      → AreAfterTurns base images since earlier ps → length qs ≡ m
-      → ((i : ℕ) → In i g → IsAfterTurns base images since i (poly_at qs i))
+      → AreAfterIterations base images since earlier ps → length qs ≡ m
+      → ((i : ℕ) → In i g → IsAfterIterations base images since i (poly_at qs i))
       → ((i : ℕ) → (In i g → ⊥) → poly_at qs i ≡ poly_at ps i)
-      → ((i : ℕ) → In i earlier → In i g → ⊥) → AreAfterTurns base images since (earlier ++ g) qs
+      → ((i : ℕ) → In i earlier → In i g → ⊥) → AreAfterIterations base images since (earlier ++ g)
+      qs
   turned_more earlier g ps qs h size new old apart = record {
     size = size;
     each = λ i k. elim (in_either i earlier g k) [
-      | inl e ↦ subst (IsAfterTurns base images since i) (sym (old i (apart i e))) (h.each i e)
+      | inl e ↦ subst (IsAfterIterations base images since i) (sym (old i (apart i e))) (h.each i e)
       | inr e ↦ new i e
     ];
   }
 
   pub turned_all : (earlier : List ℕ) (ps : List (Terms Fraction))
-      → AreClasses (uses images) m earlier [] → AreAfterTurns base images since earlier ps
+      → AreClasses (uses images) m earlier [] → AreAfterIterations base images since earlier ps
       → AllArity (width (length base) m) ps → IsClosedFormFrom base images since ps
   turned_all earlier ps all h arity = record {
     arity = arity;
     values = λ n s l late.
-        same_entries ℚ_field (values_at ps (point base n s)) (turns images n s)
+        same_entries ℚ_field (values_at ps (point base n s)) (iterations images n s)
         (length-map ps (λ p. value_at ℚ p (point base n s)) ∙ h.size
-        ∙ sym (turns-length ℚ images m refl n s l))
+        ∙ sym (iterations-length ℚ images m refl n s l))
         (λ i. elim (cases_lt i m) [
           | inl k ↦ values-entry ps (point base n s) i (let e = h.size in omega (arith, e, k))
               ∙ (h.each i (all i k)).values n s l late
@@ -67,14 +68,14 @@ module _ (base : List ℕ) (images : List (Terms Fraction)) (since : ℕ) where
               entries-past ℚ_field (values_at ps (point base n s)) i (let e =
               length-map ps (λ p. value_at ℚ p (point base n s)) in let f = h.size in
               omega (arith, e, f, k))
-              ∙ sym (entries-past ℚ_field (turns images n s) i (let e =
-              turns-length ℚ images m refl n s l in omega (arith, e, k)))
+              ∙ sym (entries-past ℚ_field (iterations images n s) i (let e =
+              iterations-length ℚ images m refl n s l in omega (arith, e, k)))
         ]);
   }
 
   -- ---- from later on too
   pub later_turned : (d : ℕ) → since ≤ d → (vs : List ℕ) (ps : List (Terms Fraction))
-      → AreAfterTurns base images since vs ps → AreAfterTurns base images d vs ps
+      → AreAfterIterations base images since vs ps → AreAfterIterations base images d vs ps
   later_turned d more vs ps h = record {
     size = h.size;
     each = λ i k. record {
@@ -83,7 +84,7 @@ module _ (base : List ℕ) (images : List (Terms Fraction)) (since : ℕ) where
   }
 
   pub later_form : (d : ℕ) → since ≤ d → (g : List ℕ) (w : List Fraction) (y : Terms Fraction)
-      → IsFormAfterTurns base images since g w y → IsFormAfterTurns base images d g w y
+      → IsFormAfterIterations base images since g w y → IsFormAfterIterations base images d g w y
   later_form d more g w y h = record {
     width = h.width;
     values = λ n s l late. h.values n s l (omega (arith, more, late));

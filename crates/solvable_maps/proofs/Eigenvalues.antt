@@ -33,7 +33,7 @@ use Rattle.vectors.proofs.SplitDecided.{valued-length}
 use Rattle.vectors.proofs.SplittingLaws as SL
 use Rattle.vectors.proofs.VectorRing.{scalar, vector, vector_rules, vectors}
 use Rattle.solvable_maps.specs.Classes.{class_matrix, column, IsClass, IsEigenvalue}
-use Rattle.solvable_maps.specs.AfterTurns.{place}
+use Rattle.solvable_maps.specs.AfterIterations.{place}
 
 -- ---- over any vectors
 module _ {A V : Type 0} (F : Field A) (S : Space F.ring V) (t : V → V) where

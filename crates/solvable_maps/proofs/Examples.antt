@@ -1,4 +1,4 @@
--- Worked examples: x := 2 x has the closed form u x over the base 2, and -x the closed form s x over the empty base; x := 3 has the closed form 3 from 1 turn on, over the empty base, and no fewer; x doesn't stay.
+-- Worked examples: x := 2 x has the closed form u x over the base 2, and -x the closed form s x over the empty base; x := 3 has the closed form 3 from 1 iteration on, over the empty base, and no fewer; x doesn't stay.
 --   reset_form          from 1 on
 --   reset_begins        and not from 0 on
 --   reset_passes        at n = 0 it isn't x
@@ -15,7 +15,7 @@ use Rattle.polynomials.proofs.Arity.{arity-constant}
 use Rattle.polynomials.proofs.ValueAt.{value_at-constant}
 use Rattle.algebra.proofs.Wholes.{whole-some}
 use Rattle.algebra.proofs.Basics.{same_head}
-use Rattle.solvable_maps.specs.Turns.{point, turns, values_at, IsClosedFormFrom, IsClosedForm, IsItself}
+use Rattle.solvable_maps.specs.Iterations.{point, iterations, values_at, IsClosedFormFrom, IsClosedForm, IsItself}
 
 module _ {A : Type 0} (R : CommRing A) where
   open R use {one as 𝟙, zero as 𝟘, add, mul}
@@ -39,11 +39,11 @@ module _ {A : Type 0} (R : CommRing A) where
 pub multiple : Fraction → List (Terms Fraction)
 multiple k = ((1 ∷ [], k) ∷ []) ∷ []
 
-multiple_turns : (k : Fraction) (n : ℕ) (x : Fraction) → turns (multiple k) n (x ∷ [])
+multiple_iterations : (k : Fraction) (n : ℕ) (x : Fraction) → iterations (multiple k) n (x ∷ [])
     ≡ ℚ.mul (power ℚ k n) x ∷ []
 unfolding multiple evaluate sum_over monomial_at power
-multiple_turns k zero x = ap (λ z. z ∷ []) (sym (none ℚ_ring x))
-multiple_turns k (suc n) x = ap (values_at (multiple k)) (multiple_turns k n x)
+multiple_iterations k zero x = ap (λ z. z ∷ []) (sym (none ℚ_ring x))
+multiple_iterations k (suc n) x = ap (values_at (multiple k)) (multiple_iterations k n x)
     ∙ ap (λ z. z ∷ []) (linear ℚ_ring k (ℚ.mul (power ℚ k n) x) ∙ again ℚ_ring k (power ℚ k n) x)
 
 pub double_form : List (Terms Fraction)
@@ -59,9 +59,9 @@ unfolding multiple double_form Each
 double = record { arity = ((refl, tt), tt); values = values }
   where
     values : (n : ℕ) (s : List Fraction) → length s ≡ 1 → 0 ≤ n → values_at double_form
-        (point (2 ∷ []) n s) ≡ turns (multiple (whole (pos 2))) n s
+        (point (2 ∷ []) n s) ≡ iterations (multiple (whole (pos 2))) n s
     values n [] l late = absurd (omega arith)
-    values n (x ∷ []) l late = at n x ∙ sym (multiple_turns (whole (pos 2)) n x)
+    values n (x ∷ []) l late = at n x ∙ sym (multiple_iterations (whole (pos 2)) n x)
     values n (x ∷ y ∷ s) l late = absurd (omega arith)
 
 pub minus_form : List (Terms Fraction)
@@ -77,9 +77,9 @@ unfolding multiple minus_form Each
 minus = record { arity = ((refl, tt), tt); values = values }
   where
     values : (n : ℕ) (s : List Fraction) → length s ≡ 1 → 0 ≤ n → values_at minus_form
-        (point [] n s) ≡ turns (multiple (whole (negsuc 0))) n s
+        (point [] n s) ≡ iterations (multiple (whole (negsuc 0))) n s
     values n [] l late = absurd (omega arith)
-    values n (x ∷ []) l late = at_sign n x ∙ sym (multiple_turns (whole (negsuc 0)) n x)
+    values n (x ∷ []) l late = at_sign n x ∙ sym (multiple_iterations (whole (negsuc 0)) n x)
     values n (x ∷ y ∷ s) l late = absurd (omega arith)
 
 -- ---- x := 3
@@ -95,9 +95,9 @@ reset_polys = constant 3 (whole (pos 3)) ∷ []
 polys_at : (z : List Fraction) → values_at reset_polys z ≡ three ∷ []
 polys_at z = ap (λ x. x ∷ []) (value_at-constant ℚ_ring 3 three z)
 
-turned_at : (n : ℕ) (s : List Fraction) → 1 ≤ n → turns reset n s ≡ three ∷ []
+turned_at : (n : ℕ) (s : List Fraction) → 1 ≤ n → iterations reset n s ≡ three ∷ []
 turned_at zero s l = absurd (omega arith)
-turned_at (suc n) s l = ap (λ x. x ∷ []) (value_at-constant ℚ_ring 1 three (turns reset n s))
+turned_at (suc n) s l = ap (λ x. x ∷ []) (value_at-constant ℚ_ring 1 three (iterations reset n s))
 
 pub reset_form : IsClosedFormFrom [] reset 1 reset_polys
 unfolding Each

@@ -1,5 +1,5 @@
--- A solvable map whose classes have forms, with values that are 0 or numbers of s, u and v, has a closed form from some number of turns on: 0, where no value is 0.
---   after d                the state after d turns, in the variables
+-- A solvable map whose classes have forms, with values that are 0 or numbers of s, u and v, has a closed form from some number of iterations on: 0, where no value is 0.
+--   after d                the state after d iterations, in the variables
 --   forms_exist            the forms of a class, one after another
 --   variable_exists        a variable of the class
 --   class_exists           the polynomials of the class in their places
@@ -40,8 +40,8 @@ use Rattle.solvable_maps.specs.Classes.{class_matrix, IsClass}
 use Rattle.solvable_maps.specs.Expo.{power_key}
 use Rattle.solvable_maps.specs.Inverse.{unit_list}
 use Rattle.solvable_maps.specs.Splits.{HasForms, IsOfBase}
-use Rattle.solvable_maps.specs.AfterTurns.{form_at, place, rest_of, rests_at, AreAfterTurns, Done, IsSplit, IsAfterTurns, IsFormAfterTurns, rows_done, values_done}
-use Rattle.solvable_maps.specs.Turns.{point, turns, values_at, width, IsClosedFormFrom}
+use Rattle.solvable_maps.specs.AfterIterations.{form_at, place, rest_of, rests_at, AreAfterIterations, Done, IsSplit, IsAfterIterations, IsFormAfterIterations, rows_done, values_done}
+use Rattle.solvable_maps.specs.Iterations.{point, iterations, values_at, width, IsClosedFormFrom}
 use Rattle.solvable_maps.proofs.ClassSteps.{later_form_turned, rests_turned, values-entry, variable_turned, zero_form_turned}
 use Rattle.solvable_maps.proofs.Classwise.{later_form, later_turned, next_apart, next_is_class, turned_all, turned_more, turned_none, whole_more}
 use Rattle.solvable_maps.proofs.Eigenvalues.{firsts, firsts-entry, firsts-length, of_value-within, vectors-append}
@@ -105,7 +105,7 @@ module _ (base : List ℕ) (c : Coprime base) (images : List (Terms Fraction))
   abbrev W : ℕ
   W = width (length base) m
 
-  -- ---- the state after d turns
+  -- ---- the state after d iterations
   abbrev after : ℕ → List (Terms Fraction)
   after zero = variables ℚ m
   after (suc d) = map (λ p. compose ℚ m p (after d)) images
@@ -116,7 +116,7 @@ module _ (base : List ℕ) (c : Coprime base) (images : List (Terms Fraction))
   composed (p ∷ ps) qs s = ap₂ ◌∷◌ (value_at-compose R m p qs s) (composed ps qs s)
 
   after-values : (d : ℕ) (s : List Fraction) → length s ≡ m → values_at (after d) s
-      ≡ turns images d s
+      ≡ iterations images d s
   after-values zero s l = value_at-variables R m s l
   after-values (suc d) s l = composed images (after d) s
       ∙ ap (values_at images) (after-values d s l)
@@ -147,14 +147,14 @@ module _ (base : List ℕ) (c : Coprime base) (images : List (Terms Fraction))
 
   form_after-value : (w : List Fraction) (g : List ℕ) → Each (λ j. j < m) g → (d : ℕ)
       → (s : List Fraction) → length s ≡ m
-      → value_at ℚ (form_after w g d) s ≡ form_at w g (turns images d s)
+      → value_at ℚ (form_after w g d) s ≡ form_at w g (iterations images d s)
   form_after-value w g within d s l =
       weighted-value m w (map (poly_at (after d)) g) s
       ∙ ap (sum_of_products ℚ w)
       (map-two (poly_at (after d)) (λ q. value_at ℚ q s) g
-      ∙ map_same (λ j. value_at ℚ (poly_at (after d) j) s) (entries F (turns images d s)) g
+      ∙ map_same (λ j. value_at ℚ (poly_at (after d) j) s) (entries F (iterations images d s)) g
       (each_weaker (λ j. j < m) (λ j. value_at ℚ (poly_at (after d) j) s
-      ≡ entries F (turns images d s) j) (λ j b.
+      ≡ entries F (iterations images d s) j) (λ j b.
       sym (values-entry (after d) s j (let e = after-length d in omega (arith, e, b)))
       ∙ ap (λ x. entries F x j) (after-values d s l)) g within))
 
@@ -169,7 +169,7 @@ module _ (base : List ℕ) (c : Coprime base) (images : List (Terms Fraction))
 
   module _ (since k : ℕ) (earlier g : List ℕ) (next : IsNext (uses images) m earlier k)
       (of : IsClassOf (uses images) m k g) (ps : List (Terms Fraction))
-      (known : AreAfterTurns base images since earlier ps) (arity : AllArity W ps) where
+      (known : AreAfterIterations base images since earlier ps) (arity : AllArity W ps) where
     abbrev n : ℕ
     n = length g
 
@@ -195,27 +195,28 @@ module _ (base : List ℕ) (c : Coprime base) (images : List (Terms Fraction))
         ∙ ap (sum_of_products ℚ w) (map-two (λ i. rest_of g (poly_at images i))
         (λ q. value_at ℚ q x) g)
 
-    abbrev source : List Fraction → List Fraction → Done → Terms Fraction
-    source w by before = compose ℚ W (rest_poly w) ps ++ weighted W by (map (λ t. t.1) before)
+    abbrev inhomogeneity : List Fraction → List Fraction → Done → Terms Fraction
+    inhomogeneity w by before = compose ℚ W (rest_poly w) ps ++ weighted W by
+        (map (λ t. t.1) before)
 
     abbrev AllDone : ℕ → Done → Type 0
-    AllDone z before = Each (λ t. IsFormAfterTurns base images (since + z) g t.0 t.1) before
+    AllDone z before = Each (λ t. IsFormAfterIterations base images (since + z) g t.0 t.1) before
 
     abbrev AllWide : Done → Type 0
     AllWide before = Each (λ t. Arity W t.1) before
 
-    source-arity : (w by : List Fraction) (before : Done) → AllWide before
-        → Arity W (source w by before)
-    source-arity w by before a = arity-append W (compose ℚ W (rest_poly w) ps)
+    inhomogeneity-arity : (w by : List Fraction) (before : Done) → AllWide before
+        → Arity W (inhomogeneity w by before)
+    inhomogeneity-arity w by before a = arity-append W (compose ℚ W (rest_poly w) ps)
         (weighted W by (map (λ t. t.1) before)) (arity-compose W ℚ (rest_poly w) ps arity)
         (weighted-arity W by (map (λ t. t.1) before)
         (each-map (Arity W) (λ (t : List Fraction × Terms Fraction). t.1) before a))
 
-    source-value : (z : ℕ) (w by : List Fraction) (before : Done) (i : ℕ) (s : List Fraction)
-        → length s ≡ m → since + z ≤ i → value_at ℚ (source w by before) (point base i s)
-        ≡ ℚ.add (sum_of_products ℚ w (rests_at images g (turns images i s)))
+    inhomogeneity-value : (z : ℕ) (w by : List Fraction) (before : Done) (i : ℕ) (s : List Fraction)
+        → length s ≡ m → since + z ≤ i → value_at ℚ (inhomogeneity w by before) (point base i s)
+        ≡ ℚ.add (sum_of_products ℚ w (rests_at images g (iterations images i s)))
         (sum_of_products ℚ by (values_done before (point base i s)))
-    source-value z w by before i s size late =
+    inhomogeneity-value z w by before i s size late =
         value_at-append R (compose ℚ W (rest_poly w) ps) (weighted W by (map (λ t. t.1) before))
         (point base i s)
         ∙ ap₂ ℚ.add
@@ -291,10 +292,10 @@ module _ (base : List ℕ) (c : Coprime base) (images : List (Terms Fraction))
     ]
       where
         q : Terms Fraction
-        q = source w by before
+        q = inhomogeneity w by before
 
         q_wide : Arity W q
-        q_wide = source-arity w by before wide
+        q_wide = inhomogeneity-arity w by before wide
 
         nothing : l ≡ ℚ.zero → Realized.IsSolved base c m l q → Step z before w l
         nothing e y = record {
@@ -303,9 +304,9 @@ module _ (base : List ℕ) (c : Coprime base) (images : List (Terms Fraction))
           wide = y.arity;
           done = (
             (let one : suc (since + z) ≡ since + suc z = omega arith in
-                subst (λ d. IsFormAfterTurns base images d g w y.poly) one
+                subst (λ d. IsFormAfterIterations base images d g w y.poly) one
                 (zero_form_turned base images (since + z) is none g the_class before done w size l
-                by splits q (λ i s b late. source-value z w by before i s b late) e
+                by splits q (λ i s b late. inhomogeneity-value z w by before i s b late) e
                 (λ s. value_at ℚ y.poly (point base 0 s)) y.poly
                 (Realized.recurrence base c m l q y))),
             all_later z before done,
@@ -322,7 +323,7 @@ module _ (base : List ℕ) (c : Coprime base) (images : List (Terms Fraction))
           wide = y.solution.arity;
           done = (
             later_form_turned base images (since + z) is none g the_class before done w size l
-                by splits q (λ i s b late. source-value z w by before i s b late) ne
+                by splits q (λ i s b late. inhomogeneity-value z w by before i s b late) ne
                 (λ s. value_at ℚ y.solution.poly (point base 0 s)) y.solution.poly
                 (Realized.recurrence base c m l q y.solution) 0
                 (record { is = λ s b. y.is s b ∙ form_after-value w g within (since + z + 0) s b }),
@@ -403,7 +404,7 @@ module _ (base : List ℕ) (c : Coprime base) (images : List (Terms Fraction))
     -- ---- the variables
     pub record ClassMade (new : ℕ) (values : List Fraction) : Type 0 where
       pub polys : List (Terms Fraction)
-      pub are : AreAfterTurns base images (since + new) (earlier ++ g) polys
+      pub are : AreAfterIterations base images (since + new) (earlier ++ g) polys
       pub wide : AllArity W polys
       pub stays : Each (λ l. l ≢ ℚ.zero) values → new ≡ 0
 
@@ -443,7 +444,7 @@ module _ (base : List ℕ) (c : Coprime base) (images : List (Terms Fraction))
             (each-map (Arity W) (λ (t : List Fraction × Terms Fraction). t.1) made.forms made.wide)
 
         variable_is : (a : ℕ) → a < n
-            → IsAfterTurns base images (since + made.zeros) (place g a) (variable a)
+            → IsAfterIterations base images (since + made.zeros) (place g a) (variable a)
         variable_is a low =
             variable_turned base images (since + made.zeros) is none g the_class made.forms
             made.done a low (firsts (length (rows_done n made.forms)) d.0)
@@ -466,7 +467,7 @@ module _ (base : List ℕ) (c : Coprime base) (images : List (Terms Fraction))
         pub record Placed (i : ℕ) : Type 0 where
           pub poly : Terms Fraction
           pub wide : Arity W poly
-          pub new : In i g → IsAfterTurns base images (since + made.zeros) i poly
+          pub new : In i g → IsAfterIterations base images (since + made.zeros) i poly
           pub old : (In i g → ⊥) → poly ≡ poly_at ps i
 
         placed : (i : ℕ) → Placed i
@@ -474,7 +475,8 @@ module _ (base : List ℕ) (c : Coprime base) (images : List (Terms Fraction))
           | yes h ↦ let r = in_place g i h in record {
             poly = variable r.0;
             wide = variable-arity r.0;
-            new = λ h. subst (λ j. IsAfterTurns base images (since + made.zeros) j (variable r.0))
+            new = λ h. subst (λ j. IsAfterIterations base images (since + made.zeros) j
+                (variable r.0))
                 r.2
                 (variable_is r.0 r.1);
             old = λ not. absurd (not h);
@@ -497,7 +499,7 @@ module _ (base : List ℕ) (c : Coprime base) (images : List (Terms Fraction))
           are = turned_more base images (since + made.zeros) earlier g ps polys
               (later_turned base images since (since + made.zeros) (omega arith) earlier ps known)
               (firsts-length m (λ i. (placed i).poly))
-              (λ i h. subst (IsAfterTurns base images (since + made.zeros) i)
+              (λ i h. subst (IsAfterIterations base images (since + made.zeros) i)
               (sym (firsts-poly m (λ i. (placed i).poly) i (of.inside i h).0)) ((placed i).new h))
               (λ i not. elim (cases_lt i m) [
                 | inl l ↦ firsts-poly m (λ i. (placed i).poly) i l ∙ (placed i).old not
@@ -531,7 +533,7 @@ module _ (base : List ℕ) (c : Coprime base) (images : List (Terms Fraction))
 
     classes_exist : (groups : List (List ℕ)) (earlier : List ℕ)
         → AreClasses (uses images) m earlier groups → AreWhole (uses images) m earlier
-        → (since : ℕ) (ps : List (Terms Fraction)) → AreAfterTurns base images since earlier ps
+        → (since : ℕ) (ps : List (Terms Fraction)) → AreAfterIterations base images since earlier ps
         → AllArity W ps → (NoneIsZero → since ≡ 0) → MapMade
     classes_exist [] earlier all whole since ps known arity stays = record {
       since = since;

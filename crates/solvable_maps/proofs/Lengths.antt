@@ -10,8 +10,8 @@ use Rattle.polynomials.specs.Polynomial.{Arity, AllArity}
 use Rattle.polynomials.specs.Terms.{Terms, constant, variables}
 use Rattle.polynomials.proofs.Arity.{arity-constant, arity-variables}
 use Rattle.exponentials.specs.Keys.{key_of, normal_key, excess, rest, top}
-use Rattle.solvable_maps.specs.Expo.{with_normal_keys, backward_terms, zero_images, with_key, tail}
-use Rattle.solvable_maps.specs.Turns.{width}
+use Rattle.solvable_maps.specs.Expo.{with_normal_keys, inverse_form_terms, zero_images, with_key, tail}
+use Rattle.solvable_maps.specs.Iterations.{width}
 
 length-rest : (e : List ℕ) (n : ℕ) → length e ≡ suc (suc n) → length (rest (rest e)) ≡ n
 length-rest [] n l = absurd (omega (arith, l))
@@ -53,7 +53,7 @@ arity-normalized r m (t ∷ p) a = (
 )
 
 pub arity-turned_back : (r m : ℕ) (p : Terms Fraction) → Arity (width r m) p
-    → Arity (width r m) (backward_terms r p)
+    → Arity (width r m) (inverse_form_terms r p)
 unfolding Each
 arity-turned_back r m [] a = tt
 arity-turned_back r m (t ∷ p) a = (

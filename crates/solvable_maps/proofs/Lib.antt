@@ -9,14 +9,14 @@ pub mod Values
 pub mod Back
 pub mod Parts
 pub mod ClassForms
-pub mod ClassTurns
+pub mod ClassIterations
 pub mod Retold
 pub mod Unique
 pub mod Numbers
 pub mod Operations
 pub mod Lengths
 pub mod Solving
-pub mod Sources
+pub mod Inhomogeneities
 pub mod OneForm
 pub mod Examples
 pub mod Eigenvalues

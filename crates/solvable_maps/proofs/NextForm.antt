@@ -1,8 +1,8 @@
--- The forms of a class one after another, each by its place, and its variables, from some number of turns on.
+-- The forms of a class one after another, each by its place, and its variables, from some number of iterations on.
 --   split_at         the form at a place is split by those before it
---   next_form        a form, where those before it are known, from its value at the first number of turns
---   later_form       where its value as a form isn't 0, from that at some number of turns
---   zero_form        where it is 0, one turn later
+--   next_form        a form, where those before it are known, from its value at the first number of iterations
+--   later_form       where its value as a form isn't 0, from that at some number of iterations
+--   zero_form        where it is 0, one iteration later
 --   variable_of      a variable, where all forms are known
 use Rattle.std.proofs.Common.{◌≡◌, ◌≢◌, ℕ, zero, suc, ◌+◌, ◌<◌, ◌≤◌, List, [], ◌∷◌, ◌++◌, map, take, drop, length, refl, sym, ap, subst, ◌∙◌, arith}
 use Rattle.algebra.specs.Each.{Each}
@@ -20,10 +20,10 @@ use Rattle.vectors.specs.Rows.{rows_of}
 use Rattle.vectors.specs.Space.{combine}
 use Rattle.solvable_maps.specs.Classes.{class_matrix, IsClass}
 use Rattle.solvable_maps.specs.Inverse.{IsInverse, IsProduct}
-use Rattle.solvable_maps.specs.AfterTurns.{rests_at, IsAfterTurns, IsFormAfterTurns, HasRecurrence, HasValueAfter, Done, rows_done, values_done, with_polynomials, IsSplit}
-use Rattle.solvable_maps.specs.Turns.{point, turns}
+use Rattle.solvable_maps.specs.AfterIterations.{rests_at, IsAfterIterations, IsFormAfterIterations, HasRecurrence, HasValueAfter, Done, rows_done, values_done, with_polynomials, IsSplit}
+use Rattle.solvable_maps.specs.Iterations.{point, iterations}
 use Rattle.solvable_maps.proofs.ClassSteps as Steps
-use Rattle.solvable_maps.specs.AfterTurns.{place}
+use Rattle.solvable_maps.specs.AfterIterations.{place}
 use Rattle.solvable_maps.proofs.Eigenvalues.{made-entry}
 use Rattle.solvable_maps.proofs.FormSplits.{form_splits}
 
@@ -100,7 +100,7 @@ module _ (base : List ℕ) (images : List (Terms Fraction)) (since : ℕ)
   c = length g
 
   abbrev AreDone : List (List Fraction) → List (Terms Fraction) → Type 0
-  AreDone ws ys = (i : ℕ) → i < length ys → IsFormAfterTurns base images since g (row_at ws i)
+  AreDone ws ys = (i : ℕ) → i < length ys → IsFormAfterIterations base images since g (row_at ws i)
       (poly_at ys i)
 
   zipped-done : (ws : List (List Fraction)) (ys : List (Terms Fraction)) → AreDone ws ys
@@ -133,9 +133,9 @@ module _ (base : List ℕ) (images : List (Terms Fraction)) (since : ℕ)
         (known : AreDone forms done) (turned by : List Fraction)
         (product : IsProduct c (row_at forms k) (class_matrix images g) turned)
         (product' : IsProduct c turned back by) (q : Terms Fraction)
-        (source : (n : ℕ) (s : List Fraction) → length s ≡ length images → since ≤ n
+        (inhomogeneity : (n : ℕ) (s : List Fraction) → length s ≡ length images → since ≤ n
         → value_at ℚ q (point base n s) ≡ ℚ.add
-        (sum_of_products ℚ (row_at forms k) (rests_at images g (turns images n s)))
+        (sum_of_products ℚ (row_at forms k) (rests_at images g (iterations images n s)))
         (sum_of_products ℚ by (map (λ y. value_at ℚ y (point base n s)) done))) where
       low : k < length forms
       low = let e = are.count in omega (arith, l, e)
@@ -148,7 +148,7 @@ module _ (base : List ℕ) (images : List (Terms Fraction)) (since : ℕ)
 
       before_done : Each (Steps.IsDone base images since is none g class) before
       before_done = zipped-done (take k forms) done
-          (λ i b. subst (λ w. IsFormAfterTurns base images since g w (poly_at done i))
+          (λ i b. subst (λ w. IsFormAfterIterations base images since g w (poly_at done i))
           (sym (row_taken forms k i (let e = count in omega (arith, b, e)))) (known i b))
 
       own_width : length (row_at forms k) ≡ c
@@ -158,37 +158,40 @@ module _ (base : List ℕ) (images : List (Terms Fraction)) (since : ℕ)
       splits = split_at images g forms back values are inverse k l done count turned by product
           product'
 
-      source_is : (n : ℕ) (s : List Fraction) → length s ≡ length images → since ≤ n
+      inhomogeneity_is : (n : ℕ) (s : List Fraction) → length s ≡ length images → since ≤ n
           → value_at ℚ q (point base n s) ≡ ℚ.add
-          (sum_of_products ℚ (row_at forms k) (rests_at images g (turns images n s)))
+          (sum_of_products ℚ (row_at forms k) (rests_at images g (iterations images n s)))
           (sum_of_products ℚ by (values_done before (point base n s)))
-      source_is n s e late = source n s e late
+      inhomogeneity_is n s e late = inhomogeneity n s e late
           ∙ ap (λ z.
-          ℚ.add (sum_of_products ℚ (row_at forms k) (rests_at images g (turns images n s)))
+          ℚ.add (sum_of_products ℚ (row_at forms k) (rests_at images g (iterations images n s)))
           (sum_of_products ℚ by z)) (sym (zipped-values (take k forms) done few (point base n s)))
 
       pub next_form : (start : List Fraction → Fraction) (y : Terms Fraction)
           → HasRecurrence base (length images) (number_at values k) q start y
           → HasValueAfter base images g (row_at forms k) since y
-          → IsFormAfterTurns base images since g (row_at forms k) y
+          → IsFormAfterIterations base images since g (row_at forms k) y
       next_form start y rec first = Steps.form_turned base images since is none g class before
-          before_done (row_at forms k) own_width (number_at values k) by splits q source_is start y
+          before_done (row_at forms k) own_width (number_at values k) by splits q inhomogeneity_is
+          start y
           rec first
 
       pub later_form : number_at values k ≢ ℚ.zero → (start : List Fraction → Fraction)
           (y : Terms Fraction) → HasRecurrence base (length images) (number_at values k) q start y
           → (d : ℕ) → HasValueAfter base images g (row_at forms k) (since + d) y
-          → IsFormAfterTurns base images since g (row_at forms k) y
+          → IsFormAfterIterations base images since g (row_at forms k) y
       later_form some start y rec d later =
           Steps.later_form_turned base images since is none g class before before_done
-          (row_at forms k) own_width (number_at values k) by splits q source_is some start y rec d
+          (row_at forms k) own_width (number_at values k) by splits q inhomogeneity_is some start y
+          rec d
           later
 
       pub zero_form : number_at values k ≡ ℚ.zero → (start : List Fraction → Fraction)
           (y : Terms Fraction) → HasRecurrence base (length images) (number_at values k) q start y
-          → IsFormAfterTurns base images (suc since) g (row_at forms k) y
+          → IsFormAfterIterations base images (suc since) g (row_at forms k) y
       zero_form nothing start y rec = Steps.zero_form_turned base images since is none g class
-          before before_done (row_at forms k) own_width (number_at values k) by splits q source_is
+          before before_done (row_at forms k) own_width (number_at values k) by splits q
+          inhomogeneity_is
           nothing start y rec
 
     pub variable_of : (done : List (Terms Fraction)) → length done ≡ c → AreDone forms done
@@ -196,7 +199,7 @@ module _ (base : List ℕ) (images : List (Terms Fraction)) (since : ℕ)
         → ((n : ℕ) (s : List Fraction) → length s ≡ length images → since ≤ n
         → value_at ℚ p (point base n s) ≡ sum_of_products ℚ (row_at back a)
         (map (λ y. value_at ℚ y (point base n s)) done))
-        → IsAfterTurns base images since (place g a) p
+        → IsAfterIterations base images since (place g a) p
     variable_of done count known a l p h =
         let few : length done ≡ length forms = count ∙ sym are.count in
         Steps.variable_turned base images since is none g class

@@ -17,11 +17,11 @@ use Rattle.machines.specs.Collect.{place, insert, collect}
 use Rattle.exponentials.specs.Base.{SameLength, Disjoint}
 use Rattle.exponentials.specs.Keys.{Key, IsNormalKey, key_of, excess, normal_key, parity, top}
 use Rattle.exponentials.proofs.Units.{Room, room_long, normal_good}
-use Rattle.solvable_maps.specs.Expo.{tail, with_key, with_normal_keys, backward_terms, backward_sign, power_key, up_part, down_part, power_terms}
-use Rattle.solvable_maps.specs.Turns.{width, IsNormal}
+use Rattle.solvable_maps.specs.Expo.{tail, with_key, with_normal_keys, inverse_form_terms, inverse_form_sign, power_key, up_part, down_part, power_terms}
+use Rattle.solvable_maps.specs.Iterations.{width, IsNormal}
 use Rattle.solvable_maps.proofs.Operations.{key_with, tail_with}
 use Rattle.solvable_maps.proofs.Lengths.{with-length, length-left}
-use Rattle.solvable_maps.specs.NormalExponents.{normal_exponents, backward_exponents}
+use Rattle.solvable_maps.specs.NormalExponents.{normal_exponents, inverse_form_exponents}
 
 abbrev pub Stays : ℕ → List ℕ → Type 0
 Stays r e = normal_exponents r e ≡ e
@@ -119,7 +119,7 @@ module _ (bs : List ℕ) where
   )
 
   pub turned_stay : (m : ℕ) (p : Terms Fraction) → Arity (width r m) p → AllStay r p
-      → AllStay r (backward_terms r p)
+      → AllStay r (inverse_form_terms r p)
   unfolding Each
   turned_stay m [] a h = tt
   turned_stay m (t ∷ p) a h =
@@ -208,10 +208,11 @@ normalized-push r [] t = refl
 normalized-push r (u ∷ p) t = ap (λ q. (normal_exponents r u.0, u.1) ∷ q) (normalized-push r p t)
 
 pub turned-push : (r : ℕ) (p : Terms Fraction) (t : List ℕ × Fraction)
-    → backward_terms r (p ++ t ∷ [])
-    ≡ backward_terms r p ++ (backward_exponents r t.0, backward_sign (top t.0) t.1) ∷ []
+    → inverse_form_terms r (p ++ t ∷ [])
+    ≡ inverse_form_terms r p ++ (inverse_form_exponents r t.0, inverse_form_sign (top t.0) t.1) ∷ []
 turned-push r [] t = refl
-turned-push r (u ∷ p) t = ap (λ q. (backward_exponents r u.0, backward_sign (top u.0) u.1) ∷ q)
+turned-push r (u ∷ p) t = ap (λ q. (inverse_form_exponents r u.0, inverse_form_sign (top u.0) u.1)
+    ∷ q)
     (turned-push r p t)
 
 -- ---- the number of exponents

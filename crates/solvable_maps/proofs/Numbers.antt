@@ -2,7 +2,7 @@
 --   point-is, back_point-is     the points
 --   closed_form_is              a closed form is a form over the field
 --   one_form                    normal polynomials with the same values are one
---   at_turn-is, members_of_parts     independence: an ideal given by a list that has the value at each n has each part
+--   at_iteration-is, members_of_parts     independence: an ideal given by a list that has the value at each n has each part
 use Rattle.std.proofs.Common.{◌≡◌, ℕ, negsuc, List, [], ◌∷◌, ◌++◌, map, length, refl, sym, ap, ap₂, subst, ◌∙◌, append_assoc}
 use mathlib.Core.Path.{fun_ext}
 use Rattle.exponentials.specs.Base.{Coprime}
@@ -30,8 +30,8 @@ use Rattle.exponentials.proofs.Flat.{IsIdeal}
 use Rattle.exponentials.proofs.Law as Law
 use Rattle.exponentials.proofs.Monomial.{to-nat}
 use Rattle.exponentials.proofs.Unique.{fraction_char0}
-use Rattle.solvable_maps.specs.Expo.{part, at_turn}
-use Rattle.solvable_maps.specs.Turns.{powers, inverses, sign, point, back_point, values_at, width, IsNormal, IsClosedFormFrom}
+use Rattle.solvable_maps.specs.Expo.{part, at_iteration}
+use Rattle.solvable_maps.specs.Iterations.{powers, inverses, sign, point, back_point, values_at, width, IsNormal, IsClosedFormFrom}
 use Rattle.solvable_maps.proofs.Values.{natural}
 use Rattle.solvable_maps.proofs.Back as Back
 use Rattle.solvable_maps.proofs.Unique as Unique
@@ -138,10 +138,10 @@ module _ (base : List ℕ) (c : Coprime base) where
         vs : List Fraction
         vs = map (λ b. power (operations R) (F.inverse (of_nat R b)) n) base
 
-    pub at_turn-is : (p : Terms Fraction) → Arity (width (length base) m) p → (n : ℕ)
-        → poly m R (at_turn base m n p) ≡ Unique.value_in F fraction_char0 base c m p n
+    pub at_iteration-is : (p : Terms Fraction) → Arity (width (length base) m) p → (n : ℕ)
+        → poly m R (at_iteration base m n p) ≡ Unique.value_in F fraction_char0 base c m p n
     unfolding gather
-    at_turn-is p a n =
+    at_iteration-is p a n =
         ap (λ l. poly m R (compose ℚ m p (map (constant m) l ++ variables ℚ m)))
         (point-is base n [])
         ∙ poly-compose R (width (length base) m) m p (map (constant m) (natural F base n [])
@@ -162,13 +162,13 @@ module _ (base : List ℕ) (c : Coprime base) where
       }
 
       pub members_of_parts : (p : Terms Fraction) → AllArity m gs → Arity (width (length base) m) p
-          → IsNormal base p → ((n : ℕ) → IsMember ℚ m gs (at_turn base m n p)) → (e : List ℕ)
+          → IsNormal base p → ((n : ℕ) → IsMember ℚ m gs (at_iteration base m n p)) → (e : List ℕ)
           → length e ≡ width (length base) m → IsMember ℚ m gs (part (length base) e p)
       members_of_parts p ag ap' normal h e k =
           member_out m R ℚ_zero_test gs (part (length base) e p) ag
           (Unique.part_arity F fraction_char0 base c m e p ap')
           (Unique.part_in F fraction_char0 base c m Inside inside p ap' normal
-          (λ n. subst Inside (at_turn-is p ap' n) (member_in m R gs (at_turn base m n p)
+          (λ n. subst Inside (at_iteration-is p ap' n) (member_in m R gs (at_iteration base m n p)
           (h n))) e k)
 
     -- at one state: where the value is zero at each n, so is that of each part

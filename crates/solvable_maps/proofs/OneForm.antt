@@ -1,12 +1,12 @@
--- A map has one closed form, from whatever number of turns on, and the form made backward gives back what it is at 0.
+-- A map has one closed form, from whatever number of iterations on, and the form made backward gives back what it is at 0.
 --   next_back_value, back_point_zero     one more at -n - 1 is -n, and -0 is 0
 --   before-value           what is made with one less for n
 --   all_values             polynomials with the same values from some n on have them at each n
 --   forms_one              two closed forms of one map are one, whatever they hold from
---   back_to_zero           the values at -n, at the state after n turns, are those at 0
---   backward_to_zero       so for the form with -n for n, and u and v exchanged, at n
+--   back_to_zero           the values at -n, at the state after n iterations, are those at 0
+--   inverse_form_to_zero       so for the form with -n for n, and u and v exchanged, at n
 --   back_is_inverse        from 0 on it is the state before
---   start_of, on_from      at n the form is what it is at 0 at the state after n turns; where it is the state once, it stays the state
+--   start_of, on_from      at n the form is what it is at 0 at the state after n iterations; where it is the state once, it stays the state
 use Rattle.std.proofs.Common.{◌≡◌, ℕ, suc, ◌+◌, pos, List, [], ◌∷◌, ◌++◌, map, length, replicate, refl, sym, ap, ap₂, subst, ◌∙◌, arith}
 use Rattle.std.proofs.lemmas.List.{length-replicate}
 use mathlib.Core.Path.{fun_ext}
@@ -24,9 +24,9 @@ use Rattle.polynomials.specs.Terms.{Terms, constant, variables, lists, value_at,
 use Rattle.polynomials.specs.Polynomial.{Arity, AllArity}
 use Rattle.polynomials.proofs.Arity.{arity-compose}
 use Rattle.solvable_maps.specs.Shifts.{later}
-use Rattle.solvable_maps.specs.Expo.{next_images, backward_terms, one_before}
+use Rattle.solvable_maps.specs.Expo.{next_images, inverse_form_terms, one_before}
 use Rattle.solvable_maps.proofs.Back as Back
-use Rattle.solvable_maps.specs.Turns.{powers, inverses, sign, point, back_point, values_at, turns, width, IsNormalForm, IsClosedFormFrom, IsClosedForm}
+use Rattle.solvable_maps.specs.Iterations.{powers, inverses, sign, point, back_point, values_at, iterations, width, IsNormalForm, IsClosedFormFrom, IsClosedForm}
 use Rattle.solvable_maps.proofs.Numbers.{point-is, back_point-is, closed_form_is, one_form}
 use Rattle.solvable_maps.proofs.Operations.{turned_value, back-value}
 
@@ -61,7 +61,7 @@ module _ (base : List ℕ) (c : Coprime base) where
 
   twice_back : (m : ℕ) (p : Terms Fraction) → Arity (width (length base) m) p
       → (n : ℕ) (s : List Fraction)
-      → value_at ℚ (backward_terms (length base) p) (back_point base n s) ≡ value_at ℚ p
+      → value_at ℚ (inverse_form_terms (length base) p) (back_point base n s) ≡ value_at ℚ p
       (point base n s)
   twice_back m p a n s =
       turned_value base c m s (opposite (whole (pos n))) (sign n)
@@ -74,11 +74,11 @@ module _ (base : List ℕ) (c : Coprime base) where
       → value_at ℚ (one_before base m p) (point base (suc n) s) ≡ value_at ℚ p (point base n s)
   before-value m p a n s l =
       let w = width (length base) m in
-      back-value base c m (compose ℚ w (backward_terms (length base) p) (next_images base m))
-      (arity-compose w ℚ (backward_terms (length base) p) (next_images base m) (next_arity m))
+      back-value base c m (compose ℚ w (inverse_form_terms (length base) p) (next_images base m))
+      (arity-compose w ℚ (inverse_form_terms (length base) p) (next_images base m) (next_arity m))
       (suc n)
       s
-      ∙ next_back_value m (backward_terms (length base) p) n s l
+      ∙ next_back_value m (inverse_form_terms (length base) p) n s l
       ∙ twice_back m p a n s
 
   -- ---- what agrees from some n on
@@ -140,32 +140,34 @@ module _ (base : List ℕ) (c : Coprime base) where
   pub back_to_zero : (images : List (Terms Fraction)) (since : ℕ) (ps : List (Terms Fraction))
       → IsClosedFormFrom base images since ps → (n : ℕ) (s : List Fraction)
       → length s ≡ length images
-      → values_at ps (back_point base n (turns images n s)) ≡ values_at ps (point base 0 s)
+      → values_at ps (back_point base n (iterations images n s)) ≡ values_at ps (point base 0 s)
   back_to_zero images since ps form n s l =
-      ap (values_at ps) (back_point-is base c (length images) n (turns images n s))
+      ap (values_at ps) (back_point-is base c (length images) n (iterations images n s))
       ∙ Back.back_to_start F fraction_char0 base c (length images) since images ps refl
       (closed_form_is base c images since ps form) n s l
       ∙ ap (values_at ps) (sym (point-is base 0 s))
 
-  backward_values : (m : ℕ) (ps : List (Terms Fraction)) → AllArity (width (length base) m) ps
-      → (n : ℕ) (s : List Fraction) → values_at (map (backward_terms (length base)) ps)
+  inverse_form_values : (m : ℕ) (ps : List (Terms Fraction)) → AllArity (width (length base) m) ps
+      → (n : ℕ) (s : List Fraction) → values_at (map (inverse_form_terms (length base)) ps)
       (point base n s) ≡ values_at ps (back_point base n s)
   unfolding Each
-  backward_values m [] a n s = refl
-  backward_values m (p ∷ ps) a n s = ap₂ ◌∷◌ (back-value base c m p a.0 n s)
-      (backward_values m ps a.1 n s)
+  inverse_form_values m [] a n s = refl
+  inverse_form_values m (p ∷ ps) a n s = ap₂ ◌∷◌ (back-value base c m p a.0 n s)
+      (inverse_form_values m ps a.1 n s)
 
-  pub backward_to_zero : (images : List (Terms Fraction)) (since : ℕ) (ps : List (Terms Fraction))
+  pub inverse_form_to_zero : (images : List (Terms Fraction)) (since : ℕ)
+      (ps : List (Terms Fraction))
       → IsClosedFormFrom base images since ps → (n : ℕ) (s : List Fraction)
       → length s ≡ length images
-      → values_at (map (backward_terms (length base)) ps) (point base n (turns images n s))
+      → values_at (map (inverse_form_terms (length base)) ps) (point base n (iterations images n s))
       ≡ values_at ps (point base 0 s)
-  backward_to_zero images since ps form n s l = backward_values (length images) ps form.arity n
-      (turns images n s) ∙ back_to_zero images since ps form n s l
+  inverse_form_to_zero images since ps form n s l = inverse_form_values (length images) ps
+      form.arity n
+      (iterations images n s) ∙ back_to_zero images since ps form n s l
 
   pub back_is_inverse : (images ps : List (Terms Fraction)) → IsClosedForm base images ps
       → (n : ℕ) (s : List Fraction) → length s ≡ length images
-      → values_at ps (back_point base n (turns images n s)) ≡ s
+      → values_at ps (back_point base n (iterations images n s)) ≡ s
   back_is_inverse images ps form n s l = back_to_zero images 0 ps form n s l
       ∙ form.values 0 s l (omega arith)
 
@@ -173,17 +175,17 @@ module _ (base : List ℕ) (c : Coprime base) where
   pub start_of : (images : List (Terms Fraction)) (since : ℕ) (ps : List (Terms Fraction))
       → IsClosedFormFrom base images since ps → (n : ℕ) (s : List Fraction)
       → length s ≡ length images
-      → values_at ps (point base n s) ≡ values_at ps (point base 0 (turns images n s))
+      → values_at ps (point base n s) ≡ values_at ps (point base 0 (iterations images n s))
   start_of images since ps form n s l =
       ap (values_at ps) (point-is base n s)
       ∙ Back.at_start F fraction_char0 base c (length images) since images ps refl
       (closed_form_is base c images since ps form) n s l
-      ∙ ap (values_at ps) (sym (point-is base 0 (turns images n s)))
+      ∙ ap (values_at ps) (sym (point-is base 0 (iterations images n s)))
 
   pub on_from : (images : List (Terms Fraction)) (since : ℕ) (ps : List (Terms Fraction))
       → IsClosedFormFrom base images since ps → (d : ℕ)
       → ((s : List Fraction) → length s ≡ length images → values_at ps (point base d s)
-      ≡ turns images d s) → IsClosedFormFrom base images d ps
+      ≡ iterations images d s) → IsClosedFormFrom base images d ps
   on_from images since ps form d h = record {
     arity = form.arity;
     values = λ n s l k.

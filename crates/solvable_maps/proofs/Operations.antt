@@ -2,7 +2,7 @@
 --   key_with, tail_with     the parts of exponents put together
 --   normalized-value, normalized-normal     s s and u v replaced by 1
 --   turned-value            -n for n, with u and v exchanged
---   next-value, zero-value, turn-value      one more for n, 0 for n, and n for n
+--   next-value, zero-value, iteration-value      one more for n, 0 for n, and n for n
 use Rattle.std.proofs.lemmas.List.{length-map, map-append, append_assoc}
 use Rattle.std.proofs.Common.{◌≡◌, ℕ, zero, suc, pos, List, [], ◌∷◌, ◌++◌, map, length, take, drop, replicate, negsuc, refl, sym, ap, ap₂, subst, ◌∙◌, arith}
 use mathlib.Core.Path.{fun_ext}
@@ -23,8 +23,8 @@ use Rattle.polynomials.proofs.ValueAt.{value_at-nil, value_at-compose, value_at-
 use Rattle.exponentials.proofs.Points.{term-value}
 use Rattle.exponentials.proofs.Unique.{fraction_char0}
 use Rattle.exponentials.proofs.Units.{IsUnit, at, Room, room_long, normal_good, normal_term, natural_unit}
-use Rattle.solvable_maps.specs.Expo.{tail, with_key, with_normal_keys, next_images, zero_images, backward_sign, backward_terms, at_turn}
-use Rattle.solvable_maps.specs.Turns.{point, back_point, powers, inverses, sign, width, IsNormal}
+use Rattle.solvable_maps.specs.Expo.{tail, with_key, with_normal_keys, next_images, zero_images, inverse_form_sign, inverse_form_terms, at_iteration}
+use Rattle.solvable_maps.specs.Iterations.{point, back_point, powers, inverses, sign, width, IsNormal}
 use Rattle.solvable_maps.proofs.Back as Back
 use Rattle.solvable_maps.proofs.Numbers.{point-is}
 use Rattle.solvable_maps.specs.Shifts.{later}
@@ -128,23 +128,23 @@ module _ (base : List ℕ) (c : Coprime base) (m : ℕ) where
   abbrev w : ℕ
   w = width (length base) m
 
-  sign_value : (n : ℕ) (k a : Fraction) → R.mul (backward_sign n k) (power (operations R) a n)
+  sign_value : (n : ℕ) (k a : Fraction) → R.mul (inverse_form_sign n k) (power (operations R) a n)
       ≡ R.mul k (power (operations R) (R.neg a) n)
   unfolding power
   sign_value zero k a = refl
-  sign_value (suc n) k a = turn (backward_sign n k) a (power (operations R) a n)
+  sign_value (suc n) k a = iteration (inverse_form_sign n k) a (power (operations R) a n)
       ∙ ap (λ z. R.mul z (R.neg a)) (sign_value n k a) ∙ back k (power (operations R) (R.neg a) n)
       (R.neg a)
     where
-      turn : (k a p : Fraction) → R.mul (R.neg k) (R.mul a p) ≡ R.mul (R.mul k p) (R.neg a)
-      turn k a p = ring R (k ∷ a ∷ p ∷ []) (search ring_rules depth 40) refl
+      iteration : (k a p : Fraction) → R.mul (R.neg k) (R.mul a p) ≡ R.mul (R.mul k p) (R.neg a)
+      iteration k a p = ring R (k ∷ a ∷ p ∷ []) (search ring_rules depth 40) refl
 
       back : (k p b : Fraction) → R.mul (R.mul k p) b ≡ R.mul k (R.mul b p)
       back k p b = ring R (k ∷ p ∷ b ∷ []) (search ring_rules depth 40) refl
 
   pub turned_value : (xs : List Fraction) (a s : Fraction) (f g : ℕ → Fraction) (p : Terms Fraction)
       → Arity w p
-      → value_at ℚ (backward_terms (length base) p) (at base xs a s f g) ≡ value_at ℚ p
+      → value_at ℚ (inverse_form_terms (length base) p) (at base xs a s f g) ≡ value_at ℚ p
       (at base xs (R.neg a) s g f)
   unfolding Each evaluate sum_over
   turned_value xs a s f g [] k = refl
@@ -154,8 +154,9 @@ module _ (base : List ℕ) (c : Coprime base) (m : ℕ) where
       let l = tail (length base) t.0 in
       let h : Room base t = room base m t k.0 in
       ap₂ R.add
-      (with_parts R base xs a s f g (backward_sign n t.1) n (x.0, x.2, x.1) l h.1 h.0
-      ∙ turn (backward_sign n t.1) (monomial_at (operations R) xs l) (power (operations R) a n)
+      (with_parts R base xs a s f g (inverse_form_sign n t.1) n (x.0, x.2, x.1) l h.1 h.0
+      ∙ iteration (inverse_form_sign n t.1) (monomial_at (operations R) xs l)
+      (power (operations R) a n)
       (power (operations R) s x.0) (monomial_at (operations R) (map f base) x.2)
       (monomial_at (operations R) (map g base) x.1)
       ∙ ap (λ z.
@@ -168,24 +169,24 @@ module _ (base : List ℕ) (c : Coprime base) (m : ℕ) where
       ∙ sym (term_parts R base xs (R.neg a) s g f t.1 t.0))
       (turned_value xs a s f g p k.1)
     where
-      turn : (c y a s u v : Fraction) → R.mul (R.mul c y) (R.mul a (R.mul s (R.mul u v)))
+      iteration : (c y a s u v : Fraction) → R.mul (R.mul c y) (R.mul a (R.mul s (R.mul u v)))
           ≡ R.mul (R.mul c a) (R.mul y (R.mul s (R.mul v u)))
-      turn c y a s u v = ring R (c ∷ y ∷ a ∷ s ∷ u ∷ v ∷ []) (search ring_rules depth 40) refl
+      iteration c y a s u v = ring R (c ∷ y ∷ a ∷ s ∷ u ∷ v ∷ []) (search ring_rules depth 40) refl
 
       back : (c y a s u v : Fraction) → R.mul (R.mul c y) (R.mul a (R.mul s (R.mul u v)))
           ≡ R.mul (R.mul c a) (R.mul y (R.mul s (R.mul u v)))
       back c y a s u v = ring R (c ∷ y ∷ a ∷ s ∷ u ∷ v ∷ []) (search ring_rules depth 40) refl
 
   pub back-value : (p : Terms Fraction) → Arity w p → (n : ℕ) (s : List Fraction)
-      → value_at ℚ (backward_terms (length base) p) (point base n s) ≡ value_at ℚ p
+      → value_at ℚ (inverse_form_terms (length base) p) (point base n s) ≡ value_at ℚ p
       (back_point base n s)
   back-value p k n s = turned_value s (whole (pos n)) (power ℚ (whole (negsuc 0)) n)
       (λ b. power ℚ (whole (pos b)) n) (λ b. power ℚ (inverse (whole (pos b))) n) p k
 
-  -- ---- n at n turns, 0 and one more
-  pub turn-value : (p : Terms Fraction) (n : ℕ) (s : List Fraction) → length s ≡ m
-      → value_at ℚ (at_turn base m n p) s ≡ value_at ℚ p (point base n s)
-  turn-value p n s l =
+  -- ---- n at n iterations, 0 and one more
+  pub iteration-value : (p : Terms Fraction) (n : ℕ) (s : List Fraction) → length s ≡ m
+      → value_at ℚ (at_iteration base m n p) s ≡ value_at ℚ p (point base n s)
+  iteration-value p n s l =
       value_at-compose R m p (map (constant m) (point base n []) ++ variables ℚ m) s
       ∙ ap (value_at ℚ p) (map-append (λ q. value_at ℚ q s) (map (constant m) (point base n []))
       (variables ℚ m) ∙ ap₂ ◌++◌ (values_at-constants R m (point base n []) s)

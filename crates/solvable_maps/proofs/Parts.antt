@@ -20,7 +20,7 @@ use Rattle.solvable_maps.proofs.Reach.{or_left, or_right}
 use Rattle.vectors.specs.Lists.{entries}
 use Rattle.algebra.proofs.In.{each_in, each_from}
 use Rattle.exponentials.proofs.Lists.{Distinct, sum_alike, sum_none, pick}
-use Rattle.solvable_maps.specs.AfterTurns.{mine, rest_of}
+use Rattle.solvable_maps.specs.AfterIterations.{mine, rest_of}
 
 pub mine_in : (cs : List ℕ) (e : List ℕ) (j : ℕ) → In j cs → T (has j e) → T (mine cs e)
 mine_in [] e j i h = absurd i

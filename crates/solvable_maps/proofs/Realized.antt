@@ -1,4 +1,4 @@
--- What polynomials in n, s, u, v and the variables have as their values, and a polynomial that solves a recurrence, for each source.
+-- What polynomials in n, s, u, v and the variables have as their values, and a polynomial that solves a recurrence, for each inhomogeneity.
 --   IsRealized Y           a polynomial has the values Y at each n and state
 --   of_state               those of a polynomial in the variables, whatever n is
 --   power_of               the n-th power of a number of s, u and v
@@ -27,13 +27,13 @@ use Rattle.exponentials.proofs.Expo as Expo
 use Rattle.exponentials.proofs.Monomial.{power-one, power_inverse}
 use Rattle.exponentials.proofs.Unique.{fraction_char0, zero_ideal}
 use Rattle.exponentials.proofs.Units.{room_long}
-use Rattle.solvable_maps.specs.Expo.{tail, with_key, next_images, at_turn}
-use Rattle.solvable_maps.specs.AfterTurns.{HasRecurrence}
-use Rattle.solvable_maps.specs.Turns.{point, width}
+use Rattle.solvable_maps.specs.Expo.{tail, with_key, next_images, at_iteration}
+use Rattle.solvable_maps.specs.AfterIterations.{HasRecurrence}
+use Rattle.solvable_maps.specs.Iterations.{point, width}
 use Rattle.solvable_maps.proofs.Differences.{HasSums, Recurs, ends_power, solution_exists}
 use Rattle.solvable_maps.proofs.Numbers.{point-is}
 use Rattle.solvable_maps.proofs.OneForm.{next_arity}
-use Rattle.solvable_maps.proofs.Operations.{term_parts, with_parts, next-value, turn-value}
+use Rattle.solvable_maps.proofs.Operations.{term_parts, with_parts, next-value, iteration-value}
 use Rattle.solvable_maps.proofs.Recurrences.{one_value}
 use Rattle.solvable_maps.proofs.Values.{natural}
 
@@ -346,11 +346,11 @@ module _ (base : List ℕ) (c : Coprime base) (m : ℕ) where
       z = solved l q a
 
       missing : Terms Fraction
-      missing = v ++ negate ℚ (at_turn base m d z.poly)
+      missing = v ++ negate ℚ (at_iteration base m d z.poly)
 
       missing_arity : Arity m missing
-      missing_arity = arity-append m v (negate ℚ (at_turn base m d z.poly)) b
-          (arity-negate m ℚ (at_turn base m d z.poly) (arity-compose m ℚ z.poly
+      missing_arity = arity-append m v (negate ℚ (at_iteration base m d z.poly)) b
+          (arity-negate m ℚ (at_iteration base m d z.poly) (arity-compose m ℚ z.poly
           (map (constant m) (point base d []) ++ variables ℚ m)
           (each-append (Arity m) (map (constant m) (point base d [])) (variables ℚ m)
           (arity-constants m (point base d [])) (arity-variables m ℚ))))
@@ -362,9 +362,9 @@ module _ (base : List ℕ) (c : Coprime base) (m : ℕ) where
           → start s ≡ R.mul back (R.add (value_at ℚ v s)
           (R.neg (value_at ℚ z.poly (point base d s))))
       start_is s e = ap (R.mul back)
-          (value_at-append R v (negate ℚ (at_turn base m d z.poly)) s
-          ∙ ap (R.add (value_at ℚ v s)) (value_at-negate R (at_turn base m d z.poly) s
-          ∙ ap R.neg (turn-value base c m z.poly d s e)))
+          (value_at-append R v (negate ℚ (at_iteration base m d z.poly)) s
+          ∙ ap (R.add (value_at ℚ v s)) (value_at-negate R (at_iteration base m d z.poly) s
+          ∙ ap R.neg (iteration-value base c m z.poly d s e)))
 
       grown : IsRealized (λ n s. R.mul (power (operations R) l n) (start s))
       grown = product _ _ (same _ _ (power_of own.key own.up own.down)

@@ -1,8 +1,8 @@
 -- Recurrences among the polynomials in n, s, u, v and the variables.
---   recurrence_more       of a source with one term more, and the solution of that term behind the others
+--   recurrence_more       of an inhomogeneity with one term more, and the solution of that term behind the others
 --   recurrence_same       of another polynomial with the same values
 --   term_solved           a term's solution: that of its powers of n and of a number, times its number and its variables
---   growing_solved        a number's n-th power times a form of variables, which needs no source
+--   growing_solved        a number's n-th power times a form of variables, which needs no inhomogeneity
 use Rattle.std.proofs.Common.{◌≡◌, ℕ, zero, suc, ℤ, pos, Bool, false, List, [], ◌∷◌, ◌++◌, map, length, replicate, refl, sym, ap, ap₂, ◌∙◌}
 use Rattle.algebra.specs.Arithmetic.{power}
 use Rattle.algebra.specs.Ring.{CommRing, operations, of_nat}
@@ -17,8 +17,8 @@ use Rattle.exponentials.specs.Base.{Coprime}
 use Rattle.exponentials.specs.Keys.{key_of, top}
 use Rattle.exponentials.specs.Powers.{number, negate_if}
 use Rattle.solvable_maps.specs.Expo.{tail, power_key, IsSolution}
-use Rattle.solvable_maps.specs.AfterTurns.{HasRecurrence}
-use Rattle.solvable_maps.specs.Turns.{point}
+use Rattle.solvable_maps.specs.AfterIterations.{HasRecurrence}
+use Rattle.solvable_maps.specs.Iterations.{point}
 use Rattle.solvable_maps.proofs.Numbers.{point-is}
 use Rattle.solvable_maps.proofs.Operations.{term_parts}
 use Rattle.solvable_maps.proofs.Solving.{key_power}
@@ -70,27 +70,28 @@ module _ (base : List ℕ) (m : ℕ) (l : Fraction) where
   }
 
   -- a solution of n^a σ^n times what does not change with n
-  pub scaled_solved : (a : ℕ) (source : Fraction) (y p r : Terms Fraction) (steady : List Fraction
-      → Fraction) → IsSolution base m a source l y
+  pub scaled_solved : (a : ℕ) (inhomogeneity : Fraction) (y p r : Terms Fraction)
+      (steady : List Fraction
+      → Fraction) → IsSolution base m a inhomogeneity l y
       → ((n : ℕ) (s : List Fraction) → value_at ℚ p (point base n s) ≡ steady s)
       → ((n : ℕ) (s : List Fraction) → value_at ℚ r (point base n s) ≡ ℚ.mul (steady s)
-      (ℚ.mul (power ℚ (whole (pos n)) a) (power ℚ source n)))
+      (ℚ.mul (power ℚ (whole (pos n)) a) (power ℚ inhomogeneity n)))
       → HasRecurrence base m l r none (times ℚ y p)
-  scaled_solved a source y p r steady h ps rs = record {
+  scaled_solved a inhomogeneity y p r steady h ps rs = record {
     first = λ s k. value_at-times R y p (point base 0 s)
         ∙ ap (λ x. R.mul x (value_at ℚ p (point base 0 s))) (h.start s k)
         ∙ L.zero-mul R (value_at ℚ p (point base 0 s));
     next = λ n s k.
         value_at-times R y p (point base (suc n) s) ∙ ap₂ R.mul (h.next n s k) (ps (suc n) s)
-        ∙ turn l (value_at ℚ y (point base n s)) (ℚ.mul (power ℚ (whole (pos n)) a)
-        (power ℚ source n)) (steady s)
+        ∙ iteration l (value_at ℚ y (point base n s)) (ℚ.mul (power ℚ (whole (pos n)) a)
+        (power ℚ inhomogeneity n)) (steady s)
         ∙ ap₂ (λ a b. R.add (R.mul l a) b) (sym (value_at-times R y p (point base n s)
         ∙ ap (R.mul (value_at ℚ y (point base n s))) (ps n s))) (sym (rs n s));
   }
     where
-      turn : (l y g c : Fraction) → R.mul (R.add (R.mul l y) g) c ≡ R.add (R.mul l (R.mul y c))
+      iteration : (l y g c : Fraction) → R.mul (R.add (R.mul l y) g) c ≡ R.add (R.mul l (R.mul y c))
           (R.mul c g)
-      turn l y g c = ring R (l ∷ y ∷ g ∷ c ∷ []) (search ring_rules depth 40) refl
+      iteration l y g c = ring R (l ∷ y ∷ g ∷ c ∷ []) (search ring_rules depth 40) refl
 
 -- ---- the value of a term by its parts
 module _ (base : List ℕ) (c : Coprime base) where

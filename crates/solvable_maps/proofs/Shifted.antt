@@ -18,7 +18,7 @@ use Rattle.exponentials.specs.Keys.{rest}
 use Rattle.exponentials.proofs.Lists.{each_both}
 use Rattle.solvable_maps.specs.Expo.{next_images}
 use Rattle.solvable_maps.specs.Shifts.{over, later}
-use Rattle.solvable_maps.specs.Turns.{width}
+use Rattle.solvable_maps.specs.Iterations.{width}
 use Rattle.solvable_maps.specs.NormalExponents.{normal_exponents}
 use Rattle.solvable_maps.proofs.Normal.{Stays, AllStay}
 

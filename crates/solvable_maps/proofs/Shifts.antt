@@ -1,6 +1,6 @@
 -- Lemmas of the operations on points.
 --   later-at, turned-at     at a point n, s, u, v and variables
---   IsKept h                h takes how to compute to how to compute
+--   IsHomomorphism h                h takes how to compute to how to compute
 --   map-later, map-turned   such a function goes through
 --   all-later, all-turned   what sums, products and opposites keep
 use Rattle.std.proofs.Common.{◌≡◌, ℕ, List, [], ◌∷◌, ◌++◌, map, refl, ap, ap₂, ◌∙◌}
@@ -35,13 +35,15 @@ module _ {A : Type 0} (bs : List ℕ) where
   turned-at t xs a e f g = ap (λ z. a ∷ e ∷ z) (keep-append bs f (keep bs t) (map g bs ++ xs)
       ∙ ap (λ z. map f bs ++ z) (keep-append bs g t xs))
 
-pub record IsKept {A B : Type 0} (N : Arithmetic A) (M : Arithmetic B) (h : A → B) : Type 0 where
+pub record IsHomomorphism {A B : Type 0} (N : Arithmetic A) (M : Arithmetic B) (h : A → B) : Type
+    0 where
   pub at_one : h N.one ≡ M.one
   pub at_add : (a b : A) → h (N.add a b) ≡ M.add (h a) (h b)
   pub at_mul : (a b : A) → h (N.mul a b) ≡ M.mul (h a) (h b)
   pub at_neg : (a : A) → h (N.neg a) ≡ M.neg (h a)
 
-module _ {A B : Type 0} (N : Arithmetic A) (M : Arithmetic B) (h : A → B) (is : IsKept N M h) where
+module _ {A B : Type 0} (N : Arithmetic A) (M : Arithmetic B) (h : A
+    → B) (is : IsHomomorphism N M h) where
   map-over : (bs : List ℕ) (k : ℕ → A) (k' : ℕ → B) → ((b : ℕ) → h (k b) ≡ k' b)
       → (rest : List A → List A) (rest' : List B → List B)
       → ((l : List A) → map h (rest l) ≡ rest' (map h l)) → (l : List A)

@@ -22,7 +22,7 @@ use Rattle.exponentials.proofs.Table.{table_other, table_equal}
 use Rattle.exponentials.proofs.Unique.{fraction_char0, zero_ideal}
 use Rattle.exponentials.specs.Powers.{number, negate_if}
 use Rattle.solvable_maps.specs.Expo.{with_key, power_key, up_part, down_part, power_terms, other_terms, equal_terms, IsSolution}
-use Rattle.solvable_maps.specs.Turns.{point}
+use Rattle.solvable_maps.specs.Iterations.{point}
 use Rattle.solvable_maps.proofs.Numbers.{point-is}
 use Rattle.solvable_maps.proofs.Operations.{with_parts}
 use Rattle.solvable_maps.proofs.Values.{natural}
@@ -113,11 +113,11 @@ module _ (base : List ℕ) (c : Coprime base) (m : ℕ) where
       (replicate m 0) (fits_up base e l) (fits_down base e l)
       ∙ ap₂ (λ x y. R.mul (R.mul k x) (R.mul (power (operations R) (of_nat R n) i) y))
       (monomial-zeros R m s) (key_power negative e n)
-      ∙ turn k (power (operations R) (of_nat R n) i)
+      ∙ iteration k (power (operations R) (of_nat R n) i)
       (power (operations R) (negate_if negative (number base e)) n)
     where
-      turn : (k p q : Fraction) → R.mul (R.mul k R.one) (R.mul p q) ≡ R.mul (R.mul k p) q
-      turn k p q = ring R (k ∷ p ∷ q ∷ []) (search ring_rules depth 40) refl
+      iteration : (k p q : Fraction) → R.mul (R.mul k R.one) (R.mul p q) ≡ R.mul (R.mul k p) q
+      iteration k p q = ring R (k ∷ p ∷ q ∷ []) (search ring_rules depth 40) refl
 
   terms-are : (negative : Bool) (e : List ℤ) → length e ≡ length base
       → (q : ℕ → Fraction) (lo k n : ℕ) (s : List Fraction)

@@ -39,7 +39,7 @@ use Rattle.exponentials.proofs.Flat.{IsIdeal}
 use Rattle.exponentials.proofs.Law as Law
 use Rattle.exponentials.proofs.Law.{GoodBody, same_bodies, independence_law}
 use Rattle.solvable_maps.specs.Expo.{front, tail, part}
-use Rattle.solvable_maps.specs.Turns.{width}
+use Rattle.solvable_maps.specs.Iterations.{width}
 use Rattle.solvable_maps.proofs.Values.{natural}
 
 module _ {A : Type 0} (F : Field A) (char : IsChar0 F) where

@@ -1,5 +1,5 @@
 -- The value of a list of terms at a point n, s, u, v and variables, and what agrees at each natural n.
---   values f s, turns f n s     the values of polynomials, and n turns
+--   values f s, iterations f n s     the values of polynomials, and n iterations
 --   natural bs n s          the point of a natural n
 --   value_kept              values keep sums, products and opposites
 --   at-length               how long a point is
@@ -16,29 +16,29 @@ use Rattle.polynomials.proofs.ValueAt.{value_at-append, value_at-times, value_at
 use Rattle.exponentials.proofs.Expo.{IsChar0}
 use Rattle.std.proofs.lemmas.List.{length-map}
 use Rattle.exponentials.proofs.Units.{IsUnit, at, HasRoom, room_long, same_at_units}
-use Rattle.solvable_maps.specs.Turns.{width}
-use Rattle.solvable_maps.proofs.Shifts.{IsKept}
+use Rattle.solvable_maps.specs.Iterations.{width}
+use Rattle.solvable_maps.proofs.Shifts.{IsHomomorphism}
 
 module _ {A : Type 0} (N : Arithmetic A) where
   abbrev pub values : List (Terms A) → List A → List A
   values f s = map (λ p. value_at N p s) f
 
-  abbrev pub turns : List (Terms A) → ℕ → List A → List A
-  turns f zero s = s
-  turns f (suc n) s = values f (turns f n s)
+  abbrev pub iterations : List (Terms A) → ℕ → List A → List A
+  iterations f zero s = s
+  iterations f (suc n) s = values f (iterations f n s)
 
-  pub turns-first : (f : List (Terms A)) (n : ℕ) (s : List A)
-      → turns f (suc n) s ≡ turns f n (values f s)
-  turns-first f zero s = refl
-  turns-first f (suc n) s = ap (values f) (turns-first f n s)
+  pub iterations-first : (f : List (Terms A)) (n : ℕ) (s : List A)
+      → iterations f (suc n) s ≡ iterations f n (values f s)
+  iterations-first f zero s = refl
+  iterations-first f (suc n) s = ap (values f) (iterations-first f n s)
 
-  pub turns-length : (f : List (Terms A)) (m : ℕ) → length f ≡ m → (n : ℕ) (s : List A)
-      → length s ≡ m → length (turns f n s) ≡ m
-  turns-length f m l zero s k = k
-  turns-length f m l (suc n) s k = length-map f (λ p. value_at N p (turns f n s)) ∙ l
+  pub iterations-length : (f : List (Terms A)) (m : ℕ) → length f ≡ m → (n : ℕ) (s : List A)
+      → length s ≡ m → length (iterations f n s) ≡ m
+  iterations-length f m l zero s k = k
+  iterations-length f m l (suc n) s k = length-map f (λ p. value_at N p (iterations f n s)) ∙ l
 
 module _ {A : Type 0} (R : CommRing A) where
-  pub value_kept : (w : ℕ) (s : List A) → IsKept (lists (operations R) w) (operations R)
+  pub value_kept : (w : ℕ) (s : List A) → IsHomomorphism (lists (operations R) w) (operations R)
       (λ p. value_at (operations R) p s)
   value_kept w s = record {
     at_one = value_at-constant R w R.one s;

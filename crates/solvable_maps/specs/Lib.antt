@@ -2,10 +2,10 @@ pub mod Dependency
 pub mod Class
 pub mod Uses
 pub mod Shifts
-pub mod Turns
+pub mod Iterations
 pub mod Expo
 pub mod Classes
-pub mod AfterTurns
+pub mod AfterIterations
 pub mod Inverse
 pub mod Made
 pub mod Splits

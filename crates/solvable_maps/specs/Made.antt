@@ -1,6 +1,6 @@
--- How a closed form from some number of turns on is made, class by class and form by form. The number of turns is that of the forms with the value 0.
+-- How a closed form from some number of iterations on is made, class by class and form by form. The number of iterations is that of the forms with the value 0.
 -- ps has a polynomial for each variable; those of a class are made of those of the earlier ones.
---   IsSource since g before w by q      from `since` on, q is what the form w has of earlier variables, and of the forms before it, each times its number of `by`
+--   IsInhomogeneity since g before w by q      from `since` on, q is what the form w has of earlier variables, and of the forms before it, each times its number of `by`
 --   AreMade since g z forms             forms of the class g, of which z have the value 0, where the earlier variables are known from `since` on
 --   IsMadeOf since g forms a p          from `since` on, p is the sum of the forms that gives the a-th variable of g
 --   Made since vs                       the variables vs are made, with `since` forms that have the value 0
@@ -14,11 +14,11 @@ use Rattle.vectors.specs.Lists.{entries}
 use Rattle.vectors.specs.Rows.{rows_of}
 use Rattle.vectors.specs.Space.{combine}
 use Rattle.solvable_maps.specs.Inverse.{unit_list}
-use Rattle.solvable_maps.specs.AfterTurns.{place, rests_at, HasRecurrence, HasValueAfter, Done, rows_done, values_done, IsSplit}
-use Rattle.solvable_maps.specs.Turns.{point}
+use Rattle.solvable_maps.specs.AfterIterations.{place, rests_at, HasRecurrence, HasValueAfter, Done, rows_done, values_done, IsSplit}
+use Rattle.solvable_maps.specs.Iterations.{point}
 
 module _ (base : List ℕ) (images ps : List (Terms Fraction)) where
-  pub record IsSource (since : ℕ) (g : List ℕ) (before : Done) (w by : List Fraction)
+  pub record IsInhomogeneity (since : ℕ) (g : List ℕ) (before : Done) (w by : List Fraction)
       (q : Terms Fraction) : Type 0 where
     pub rest : Terms Fraction
     pub width : ℕ
@@ -34,13 +34,13 @@ module _ (base : List ℕ) (images ps : List (Terms Fraction)) where
     stays : (z d : ℕ) (before : Done) (w by : List Fraction) (l : Fraction) (q y : Terms Fraction)
         (start : List Fraction → Fraction)
         → AreMade since g z before → length w ≡ length g → IsSplit images g before w l by
-        → l ≢ ℚ.zero → IsSource (since + z) g before w by q
+        → l ≢ ℚ.zero → IsInhomogeneity (since + z) g before w by q
         → HasRecurrence base (length images) l q start y
         → HasValueAfter base images g w (since + z + d) y → AreMade since g z ((w, y) ∷ before)
     passes : (z : ℕ) (before : Done) (w by : List Fraction) (l : Fraction) (q y : Terms Fraction)
         (start : List Fraction → Fraction)
         → AreMade since g z before → length w ≡ length g → IsSplit images g before w l by
-        → l ≡ ℚ.zero → IsSource (since + z) g before w by q
+        → l ≡ ℚ.zero → IsInhomogeneity (since + z) g before w by q
         → HasRecurrence base (length images) l q start y
         → AreMade since g (suc z) ((w, y) ∷ before)
 

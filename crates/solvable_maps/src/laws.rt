@@ -11,7 +11,7 @@ ghost use Rattle.solvable_maps.specs.Classes.{class_matrix, IsClass, IsEigenvalu
 ghost use Rattle.vectors.specs.Causes.{row_at};
 ghost use Rattle.vectors.specs.Lists.{entries};
 ghost use Rattle.solvable_maps.specs.Inverse.{beside, unit_list, IsInverse, IsProduct};
-ghost use Rattle.solvable_maps.specs.AfterTurns.{place, rests_at, IsAfterTurns, AreAfterTurns, IsFormAfterTurns, HasRecurrence, HasValueAfter, Done, rows_done, values_done, with_polynomials, IsSplit};
+ghost use Rattle.solvable_maps.specs.AfterIterations.{place, rests_at, IsAfterIterations, AreAfterIterations, IsFormAfterIterations, HasRecurrence, HasValueAfter, Done, rows_done, values_done, with_polynomials, IsSplit};
 ghost use Rattle.solvable_maps.specs.Made.{Made};
 ghost use Rattle.solvable_maps.specs.Splits.{HasForms};
 ghost use Rattle.vectors.specs.Rows.{rows_of};
@@ -25,44 +25,45 @@ ghost use Rattle.polynomials.specs.Terms.{Terms, value_at, compose, sum_of_produ
 ghost use Rattle.polynomials.specs.Order.{Rank, IsMonomialOrder};
 ghost use Rattle.polynomials.specs.Polynomial.{Arity, AllArity, IsPolynomial};
 ghost use Rattle.ideals.specs.Members.{IsMember};
-ghost use Rattle.solvable_maps.specs.Turns.{point, back_point, values_at, turns, width, IsNormal, IsNormalForm, IsClosedFormFrom, IsClosedForm};
+ghost use Rattle.solvable_maps.specs.Iterations.{point, back_point, values_at, iterations, width, IsNormal, IsNormalForm, IsClosedFormFrom, IsClosedForm};
 ghost use Rattle.exponentials.specs.Powers.{number, negate_if};
-ghost use Rattle.solvable_maps.specs.Expo.{with_normal_keys, next_images, zero_images, backward_terms, one_before, at_turn, part, power_key, other_terms, equal_terms, IsSolution};
+ghost use Rattle.solvable_maps.specs.Expo.{with_normal_keys, next_images, zero_images, inverse_form_terms, one_before, at_iteration, part, power_key, other_terms, equal_terms, IsSolution};
 
-/// The values of a closed form at -n, at the state after n turns, are those at 0, and so are those of the form made backward at n; where it is one from 0 on, that is the state before.
+/// The values of a closed form at -n, at the state after n iterations, are those at 0, and so are those of the form made backward at n; where it is one from 0 on, that is the state before.
 pub fn closed_forms_go_back()
     ensures back { (base : List ℕ) → Coprime base
         → (images : List (Terms Fraction)) (since : ℕ) (ps : List (Terms Fraction))
         → IsClosedFormFrom base images since ps → (n : ℕ) (s : List Fraction)
         → length s ≡ length images
-        → values_at ps (back_point base n (turns images n s)) ≡ values_at ps (point base 0 s) }
-    ensures backward { (base : List ℕ) → Coprime base
+        → values_at ps (back_point base n (iterations images n s)) ≡ values_at ps (point base 0 s) }
+    ensures inverse_form { (base : List ℕ) → Coprime base
         → (images : List (Terms Fraction)) (since : ℕ) (ps : List (Terms Fraction))
         → IsClosedFormFrom base images since ps → (n : ℕ) (s : List Fraction)
         → length s ≡ length images
-        → values_at (map (backward_terms (length base)) ps) (point base n (turns images n s))
+        → values_at (map (inverse_form_terms (length base)) ps) (point base n
+        (iterations images n s))
         ≡ values_at ps (point base 0 s) }
     ensures to_the_state { (base : List ℕ) → Coprime base → (images ps : List (Terms Fraction))
         → IsClosedForm base images ps → (n : ℕ) (s : List Fraction) → length s ≡ length images
-        → values_at ps (back_point base n (turns images n s)) ≡ s }
+        → values_at ps (back_point base n (iterations images n s)) ≡ s }
 {}
 
-/// At each n a closed form is what it is at 0, at the state after n turns. Where it is the state after one number of turns it is so from there on.
+/// At each n a closed form is what it is at 0, at the state after n iterations. Where it is the state after one number of iterations it is so from there on.
 pub fn closed_forms_go_on()
     ensures start { (base : List ℕ) → Coprime base
         → (images : List (Terms Fraction)) (since : ℕ) (ps : List (Terms Fraction))
         → IsClosedFormFrom base images since ps → (n : ℕ) (s : List Fraction)
         → length s ≡ length images
-        → values_at ps (point base n s) ≡ values_at ps (point base 0 (turns images n s)) }
+        → values_at ps (point base n s) ≡ values_at ps (point base 0 (iterations images n s)) }
     ensures from { (base : List ℕ) → Coprime base
         → (images : List (Terms Fraction)) (since : ℕ) (ps : List (Terms Fraction))
         → IsClosedFormFrom base images since ps → (d : ℕ)
         → ((s : List Fraction) → length s ≡ length images
-        → values_at ps (point base d s) ≡ turns images d s)
+        → values_at ps (point base d s) ≡ iterations images d s)
         → IsClosedFormFrom base images d ps }
 {}
 
-/// A map has one closed form over a base, from whatever number of turns on.
+/// A map has one closed form over a base, from whatever number of iterations on.
 pub fn maps_have_one_closed_form()
     ensures { (base : List ℕ) → Coprime base → (O : Rank) → IsMonomialOrder O
         → (images : List (Terms Fraction)) (since other : ℕ) (ps qs : List (Terms Fraction))
@@ -94,7 +95,7 @@ pub fn ideals_have_the_parts()
     ensures { (base : List ℕ) → Coprime base
         → (m : ℕ) (gs : List (Terms Fraction)) (p : Terms Fraction) → AllArity m gs
         → Arity (width (length base) m) p → IsNormal base p
-        → ((n : ℕ) → IsMember ℚ m gs (at_turn base m n p)) → (e : List ℕ)
+        → ((n : ℕ) → IsMember ℚ m gs (at_iteration base m n p)) → (e : List ℕ)
         → length e ≡ width (length base) m → IsMember ℚ m gs (part (length base) e p) }
 {}
 
@@ -120,7 +121,7 @@ pub fn values_of_exponentials()
         (point base n s) ≡ value_at ℚ p (point base (suc n) s) }
     ensures back { (base : List ℕ) → Coprime base → (m : ℕ) (p : Terms Fraction)
         → Arity (width (length base) m) p → (n : ℕ) (s : List Fraction)
-        → value_at ℚ (backward_terms (length base) p) (point base n s) ≡ value_at ℚ p
+        → value_at ℚ (inverse_form_terms (length base) p) (point base n s) ≡ value_at ℚ p
         (back_point base n s) }
     ensures at_zero { (base : List ℕ) → Coprime base
         → (m : ℕ) (p : Terms Fraction) (s : List Fraction) → length s ≡ m
@@ -130,23 +131,23 @@ pub fn values_of_exponentials()
         → Arity (width (length base) m) p → (n : ℕ) (s : List Fraction) → length s ≡ m
         → value_at ℚ (one_before base m p) (point base (suc n) s) ≡ value_at ℚ p
         (point base n s) }
-    ensures at_turn { (base : List ℕ) → Coprime base
+    ensures at_iteration { (base : List ℕ) → Coprime base
         → (m : ℕ) (p : Terms Fraction) (n : ℕ) (s : List Fraction) → length s ≡ m
-        → value_at ℚ (at_turn base m n p) s ≡ value_at ℚ p (point base n s) }
+        → value_at ℚ (at_iteration base m n p) s ≡ value_at ℚ p (point base n s) }
 {}
 
 /// The terms that the table gives solve the recurrence of one term, where the two numbers are different and where they are the same.
 pub fn tables_solve_recurrences()
     ensures other { (base : List ℕ) → Coprime base
-        → (m a : ℕ) (negative own_negative : Bool) (source own : List ℤ)
-        → length source ≡ length base → length own ≡ length base
-        → negate_if negative (number base source) ≢ negate_if own_negative (number base own)
+        → (m a : ℕ) (negative own_negative : Bool) (inhomogeneity own : List ℤ)
+        → length inhomogeneity ≡ length base → length own ≡ length base
+        → negate_if negative (number base inhomogeneity) ≢ negate_if own_negative (number base own)
         → (q : ℕ → Fraction)
-        → IsOther ℚ_field (negate_if negative (number base source))
+        → IsOther ℚ_field (negate_if negative (number base inhomogeneity))
         (negate_if own_negative (number base own)) a q
-        → IsSolution base m a (negate_if negative (number base source))
+        → IsSolution base m a (negate_if negative (number base inhomogeneity))
         (negate_if own_negative (number base own))
-        (other_terms m (power_key negative source) (power_key own_negative own) a q) }
+        (other_terms m (power_key negative inhomogeneity) (power_key own_negative own) a q) }
     ensures equal { (base : List ℕ) → Coprime base → (m a : ℕ) (negative : Bool) (own : List ℤ)
         → length own ≡ length base → negate_if negative (number base own) ≢ ℚ.zero
         → (q : ℕ → Fraction)
@@ -173,65 +174,66 @@ pub fn echelon_lists_have_the_inverse()
         → IsInverse n forms (map (drop n) echelon) }
 {}
 
-/// From what is known of earlier variables and of the forms before it from some number of turns on, a polynomial with the recurrence of a form is that form: from there on, if it is at the first of these numbers, or if its value isn't 0 and it is at one of them; where its value is 0, one turn later.
+/// From what is known of earlier variables and of the forms before it from some number of iterations on, a polynomial with the recurrence of a form is that form: from there on, if it is at the first of these numbers, or if its value isn't 0 and it is at one of them; where its value is 0, one iteration later.
 pub fn forms_come_one_after_another()
-    ensures source { (base : List ℕ) (images : List (Terms Fraction)) (since : ℕ)
+    ensures inhomogeneity { (base : List ℕ) (images : List (Terms Fraction)) (since : ℕ)
         → IsMap (length images) images → (earlier : List ℕ) (k : ℕ) (g : List ℕ)
         → IsNext (uses images) (length images) earlier k
         → IsClassOf (uses images) (length images) k g → (ps : List (Terms Fraction))
-        → AreAfterTurns base images since earlier ps
+        → AreAfterIterations base images since earlier ps
         → (w : List Fraction) (p : Terms Fraction) (w' : ℕ)
         → ((y : List Fraction) → value_at ℚ p y ≡ sum_of_products ℚ w (rests_at images g y))
         → (n : ℕ) (s : List Fraction) → length s ≡ length images → since ≤ n
         → value_at ℚ (compose ℚ w' p ps) (point base n s) ≡ sum_of_products ℚ w
-        (rests_at images g (turns images n s)) }
+        (rests_at images g (iterations images n s)) }
     ensures first { (base : List ℕ) (images : List (Terms Fraction)) (since : ℕ)
         → IsMap (length images) images
         → ((vs : List ℕ) → IsNonlinearCycle (uses images) (strongly images) vs → ⊥) → (g : List ℕ)
         → IsClass images g → (before : Done)
-        → Each (λ t. IsFormAfterTurns base images since g t.0 t.1) before → (w : List Fraction)
+        → Each (λ t. IsFormAfterIterations base images since g t.0 t.1) before → (w : List Fraction)
         → length w ≡ length g → (l : Fraction) (by : List Fraction)
         → IsSplit images g before w l by → (q : Terms Fraction)
         → ((n : ℕ) (s : List Fraction) → length s ≡ length images → since ≤ n
         → value_at ℚ q (point base n s) ≡ ℚ.add
-        (sum_of_products ℚ w (rests_at images g (turns images n s)))
+        (sum_of_products ℚ w (rests_at images g (iterations images n s)))
         (sum_of_products ℚ by (values_done before (point base n s))))
         → (start : List Fraction → Fraction) (y : Terms Fraction)
         → HasRecurrence base (length images) l q start y
-        → HasValueAfter base images g w since y → IsFormAfterTurns base images since g w y }
+        → HasValueAfter base images g w since y → IsFormAfterIterations base images since g w y }
     ensures later { (base : List ℕ) (images : List (Terms Fraction)) (since : ℕ)
         → IsMap (length images) images
         → ((vs : List ℕ) → IsNonlinearCycle (uses images) (strongly images) vs → ⊥) → (g : List ℕ)
         → IsClass images g → (before : Done)
-        → Each (λ t. IsFormAfterTurns base images since g t.0 t.1) before → (w : List Fraction)
+        → Each (λ t. IsFormAfterIterations base images since g t.0 t.1) before → (w : List Fraction)
         → length w ≡ length g → (l : Fraction) (by : List Fraction)
         → IsSplit images g before w l by → (q : Terms Fraction)
         → ((n : ℕ) (s : List Fraction) → length s ≡ length images → since ≤ n
         → value_at ℚ q (point base n s) ≡ ℚ.add
-        (sum_of_products ℚ w (rests_at images g (turns images n s)))
+        (sum_of_products ℚ w (rests_at images g (iterations images n s)))
         (sum_of_products ℚ by (values_done before (point base n s))))
         → l ≢ ℚ.zero → (start : List Fraction → Fraction) (y : Terms Fraction)
         → HasRecurrence base (length images) l q start y → (d : ℕ)
-        → HasValueAfter base images g w (since + d) y → IsFormAfterTurns base images since g w y }
+        → HasValueAfter base images g w (since + d) y
+        → IsFormAfterIterations base images since g w y }
     ensures zero { (base : List ℕ) (images : List (Terms Fraction)) (since : ℕ)
         → IsMap (length images) images
         → ((vs : List ℕ) → IsNonlinearCycle (uses images) (strongly images) vs → ⊥) → (g : List ℕ)
         → IsClass images g → (before : Done)
-        → Each (λ t. IsFormAfterTurns base images since g t.0 t.1) before → (w : List Fraction)
+        → Each (λ t. IsFormAfterIterations base images since g t.0 t.1) before → (w : List Fraction)
         → length w ≡ length g → (l : Fraction) (by : List Fraction)
         → IsSplit images g before w l by → (q : Terms Fraction)
         → ((n : ℕ) (s : List Fraction) → length s ≡ length images → since ≤ n
         → value_at ℚ q (point base n s) ≡ ℚ.add
-        (sum_of_products ℚ w (rests_at images g (turns images n s)))
+        (sum_of_products ℚ w (rests_at images g (iterations images n s)))
         (sum_of_products ℚ by (values_done before (point base n s))))
         → l ≡ ℚ.zero → (start : List Fraction → Fraction) (y : Terms Fraction)
         → HasRecurrence base (length images) l q start y
-        → IsFormAfterTurns base images (suc since) g w y }
+        → IsFormAfterIterations base images (suc since) g w y }
     ensures variable { (base : List ℕ) (images : List (Terms Fraction)) (since : ℕ)
         → IsMap (length images) images
         → ((vs : List ℕ) → IsNonlinearCycle (uses images) (strongly images) vs → ⊥) → (g : List ℕ)
         → IsClass images g → (forms : Done)
-        → Each (λ t. IsFormAfterTurns base images since g t.0 t.1) forms
+        → Each (λ t. IsFormAfterIterations base images since g t.0 t.1) forms
         → (a : ℕ) → a < length g → (by : List Fraction)
         → ((i : ℕ) → i < length g
         → (combine (rows_of ℚ_field (length g)) (entries ℚ_field by)
@@ -241,7 +243,7 @@ pub fn forms_come_one_after_another()
         → ((n : ℕ) (s : List Fraction) → length s ≡ length images → since ≤ n
         → value_at ℚ p (point base n s) ≡ sum_of_products ℚ by
         (values_done forms (point base n s)))
-        → IsAfterTurns base images since (place g a) p }
+        → IsAfterIterations base images since (place g a) p }
 {}
 
 /// Forms by their places in what a matrix is split into: the row of the inverse tells what a form has of those before it.
@@ -257,28 +259,28 @@ pub fn forms_of_a_splitting_are_split()
         (entries ℚ_field values k) by }
 {}
 
-/// What is known class by class: before the first class nothing, what is known from some number of turns on is known from later on, and after the last it is the closed form from there on.
+/// What is known class by class: before the first class nothing, what is known from some number of iterations on is known from later on, and after the last it is the closed form from there on.
 pub fn classes_end_with_the_closed_form()
     ensures none { (base : List ℕ) (images : List (Terms Fraction)) (since : ℕ)
         (ps : List (Terms Fraction))
-        → length ps ≡ length images → AreAfterTurns base images since [] ps }
+        → length ps ≡ length images → AreAfterIterations base images since [] ps }
     ensures later { (base : List ℕ) (images : List (Terms Fraction)) (since d : ℕ) → since ≤ d
         → (vs : List ℕ) (ps : List (Terms Fraction))
-        → AreAfterTurns base images since vs ps → AreAfterTurns base images d vs ps }
+        → AreAfterIterations base images since vs ps → AreAfterIterations base images d vs ps }
     ensures all { (base : List ℕ) (images : List (Terms Fraction)) (since : ℕ) (earlier : List ℕ)
         (ps : List (Terms Fraction)) → AreClasses (uses images) (length images) earlier []
-        → AreAfterTurns base images since earlier ps
+        → AreAfterIterations base images since earlier ps
         → AllArity (width (length base) (length images)) ps
         → IsClosedFormFrom base images since ps }
 {}
 
-/// A closed form that is made class by class and form by form holds from as many turns on as there are forms with the value 0.
-pub fn as_many_turns_as_zeros_suffice()
+/// A closed form that is made class by class and form by form holds from as many iterations on as there are forms with the value 0.
+pub fn as_many_iterations_as_zeros_suffice()
     ensures known { (base : List ℕ) (images ps : List (Terms Fraction))
         → IsMap (length images) images
         → ((vs : List ℕ) → IsNonlinearCycle (uses images) (strongly images) vs → ⊥)
         → (zeros : ℕ) (vs : List ℕ) → Made base images ps zeros vs
-        → AreAfterTurns base images zeros vs ps }
+        → AreAfterIterations base images zeros vs ps }
     ensures whole { (base : List ℕ) (images ps : List (Terms Fraction))
         → IsMap (length images) images
         → ((vs : List ℕ) → IsNonlinearCycle (uses images) (strongly images) vs → ⊥)
@@ -288,7 +290,7 @@ pub fn as_many_turns_as_zeros_suffice()
         → IsClosedFormFrom base images zeros ps }
 {}
 
-/// A solvable map, each class of which has forms with values that are 0 or numbers of the base, has a closed form from some number of turns on; from 0 on, where no value is 0.
+/// A solvable map, each class of which has forms with values that are 0 or numbers of the base, has a closed form from some number of iterations on; from 0 on, where no value is 0.
 pub fn solvable_maps_have_a_closed_form()
     ensures { (base : List ℕ) → Coprime base → (images : List (Terms Fraction))
         → IsMap (length images) images

@@ -16,7 +16,7 @@ use Rattle.ring_laws.specs.declared.Ring as Ring
 use Rattle.monos.specs.declared.order.Order as Order
 use Rattle.poly.specs.declared.Poly.{Poly}
 use Rattle.poly.specs.Seen.{terms_in, terms_each, IsImage}
-use Rattle.poly.specs.Standing.{IsOver}
+use Rattle.poly.specs.Standing.{IsInVariables}
 use Rattle.poly.proofs.Standing.{polynomial_over, arities_over}
 use Rattle.task_lists.specs.Rows.{rows_of, HaveImages}
 use Rattle.completeness.specs.Stage.{block_order, IsStageOver}
@@ -57,14 +57,14 @@ module _ {K O : Type 0} {g : Ring.Ghosts K} {h : PartialEq.Ghosts K} {b : Order.
   rows_over o m rows a = λ i d l j p k. (a i d l j p k).arity
 
   pub fall_over : (m : ℕ) (ps : List (Poly K O g h b e)) (o : O)
-      → ((p : Poly K O g h b e) → p.order ≡ o) → All (IsOver m) ps
+      → ((p : Poly K O g h b e) → p.order ≡ o) → All (IsInVariables m) ps
       → Each (IsPolynomial g.scalars.arithmetic (b.order o) m) (terms_each ps)
   unfolding Each
   fall_over m [] o same a = tt
   fall_over m (p ∷ ps) o same a = (
     subst (λ (x : O). IsPolynomial g.scalars.arithmetic (b.order x) m (terms_in p)) (same p)
-        (polynomial_over m p (All-head (IsOver m) p ps a)),
-    fall_over m ps o same (All-tail (IsOver m) p ps a),
+        (polynomial_over m p (All-head (IsInVariables m) p ps a)),
+    fall_over m ps o same (All-tail (IsInVariables m) p ps a),
   )
 
   pub rows_arity : (m : ℕ) (rows : List (Vec (Poly K O g h b e) Global)) → All (ArePolys m) rows

@@ -24,7 +24,7 @@ use Rattle.machines.specs.Collect.{collect}
 use Rattle.machines.proofs.Collecting.{collect-is}
 use Rattle.loops.proofs.Maps.{length-variables}
 use Rattle.poly.specs.Seen.{arity_of, terms_in, terms_each, Is}
-use Rattle.poly.specs.Standing.{IsOver, StandsFor, AllStandFor}
+use Rattle.poly.specs.Standing.{IsInVariables, StandsFor, AllStandFor}
 use Rattle.poly.proofs.Standing.{arities_over, first_arity, polynomial_over, stands_push}
 use Rattle.rounds.specs.Form.{variable_at}
 use Rattle.rounds.specs.Graph.{images_behind, less, at_before}
@@ -60,7 +60,8 @@ drop_variable w n l = drop-cons (variables ℚ w) n [] (let e = length-variables
     omega (arith, e, l))
 
 -- ---- a composition, and a variable less one
-module _ (w : ℕ) (images : List FracPoly) (over : All (IsOver w) images) (some : 0 < length images)
+module _ (w : ℕ) (images : List FracPoly) (over : All (IsInVariables w) images)
+    (some : 0 < length images)
     (g p : FracPoly) (is : Is g.order (arity_of images) (compose ℚ (arity_of images) (terms_in g)
     (terms_each images)) p) where
   first : arity_of images ≡ w
@@ -262,8 +263,8 @@ pub passers_same : (bs others : List Bool) (b : Bool) → bs ≡ b ∷ others �
 passers_same bs others b is f = ap passers (is ∙ ap (λ c. c ∷ others) f)
 
 pub tail_over : (m : ℕ) (ps rest : List FracPoly) (p : FracPoly) → ps ≡ p ∷ rest
-    → All (IsOver m) ps → All (IsOver m) rest
-tail_over m ps rest p e all = λ k d l. subst (λ r. All (IsOver m) r) e all (suc k) d
+    → All (IsInVariables m) ps → All (IsInVariables m) rest
+tail_over m ps rest p e all = λ k d l. subst (λ r. All (IsInVariables m) r) e all (suc k) d
     (omega (arith, l))
 
 pub all_at : (P : FracPoly → Type 0) (ps : List FracPoly) (i : ℕ) (p : FracPoly) → i < length ps

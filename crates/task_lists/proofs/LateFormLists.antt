@@ -1,6 +1,6 @@
 -- The lists of a late form, from its graphs.
---   orbit_arities, turn_arities      the polynomials of the graphs
---   orbit_list_is, turn_list_is      the lists
+--   orbit_arities, iteration_arities      the polynomials of the graphs
+--   orbit_list_is, iteration_list_is      the lists
 --   shape_at, orbit_first            the variables of the graph of an orbit
 use Rattle.std.proofs.Common.{◌≡◌, ℕ, ◌+◌, List, [], ◌++◌, map, drop, length, sym, ap, ap₂, subst, ◌∙◌, append_assoc}
 use Rattle.std.proofs.lemmas.List.{append-nil, length-map, map-append}
@@ -12,13 +12,13 @@ use Rattle.machines.specs.Collect.{collect}
 use Rattle.frac128.specs.declared.Whole.{Whole}
 use Rattle.poly.specs.Seen.{terms_each}
 use Rattle.coprime_base.specs.Sizes.{sizes}
-use Rattle.solvable_maps.specs.Expo.{backward_terms}
-use Rattle.rounds.specs.Form.{front, normal, relations, form_before, turn_before, at_minus_one}
+use Rattle.solvable_maps.specs.Expo.{inverse_form_terms}
+use Rattle.rounds.specs.Form.{front, normal, relations, form_before, iteration_before, at_minus_one}
 use Rattle.rounds.specs.Graph.{less, at_before}
 use Rattle.rounds.proofs.WayBack.{before_arity}
 use Rattle.loop_model.specs.FracPoly.{FracPoly}
 use Rattle.task_lists.specs.Blocks.{Blocked}
-use Rattle.task_lists.specs.Late.{HasShape, copies_in, form_in, numbers_in, orbit_graph_of, orbit_of, turn_graph_of, turn_of, vars_in, which}
+use Rattle.task_lists.specs.Late.{HasShape, copies_in, form_in, numbers_in, orbit_graph_of, orbit_of, iteration_graph_of, iteration_of, vars_in, which}
 use Rattle.task_lists.specs.Shapes.{width_of}
 use Rattle.task_lists.specs.declared.late_form.LateForm.{LateForm}
 use Rattle.task_lists.specs.declared.shape.Shape.{Shape}
@@ -30,11 +30,7 @@ numbers_are base = sym (length-map base _)
 module _ (f : LateForm) (s : Shape) where
   shaped : (k : ℕ) → HasShape f k s
       → s ≡ record { front = k; copies = copies_in f; variables = vars_in f }
-  shaped k is = λ i. record {
-    front = is.front i;
-    copies = is.copies i;
-    variables = is.variables i;
-  }
+  shaped k is = λ i. record { front = is.front i; copies = is.copies i; variables = is.variables i }
 
   -- ---- an orbit
   module _ (is : HasShape f (front (numbers_in f)) s) (gs : List FracPoly) where
@@ -45,7 +41,7 @@ module _ (f : LateForm) (s : Shape) where
         (graph_arities k (copies_in f) (vars_in f) (form_before (form_in f) (vars_in f) (which f))
         (form_in f).polys (terms_each gs)
         (before_arity k (copies_in f) (vars_in f) (which f)
-        (map (backward_terms (numbers_in f)) (form_in f).polys) 0 0))
+        (map (inverse_form_terms (numbers_in f)) (form_in f).polys) 0 0))
 
     parts : (us : List (Terms Fraction)) → map (normal (blocks (front (numbers_in f) + copies_in f)
         grevlex grevlex) (numbers_in f)) (orbit_graph_of f gs) ++ us
@@ -91,19 +87,21 @@ module _ (f : LateForm) (s : Shape) where
         ∙ parts (map (collect rationals (blocks (k + copies_in f) grevlex grevlex))
         (relations (numbers_in f) (copies_in f + vars_in f)))
 
-  -- ---- a turn
+  -- ---- an iteration
   module _ (is : HasShape f 0 s) (fs gs : List FracPoly) where
-    pub turn_arities : AllArity (width_of s) (turn_graph_of f fs gs)
-    turn_arities =
-        subst (λ (x : Shape). AllArity (width_of x) (turn_graph_of f fs gs)) (sym (shaped 0 is))
-        (graph_arities 0 (copies_in f) (vars_in f) (turn_before (form_in f) (vars_in f) (which f))
+    pub iteration_arities : AllArity (width_of s) (iteration_graph_of f fs gs)
+    iteration_arities =
+        subst (λ (x : Shape). AllArity (width_of x) (iteration_graph_of f fs gs))
+        (sym (shaped 0 is))
+        (graph_arities 0 (copies_in f) (vars_in f) (iteration_before (form_in f) (vars_in f)
+        (which f))
         (terms_each fs) (terms_each gs)
         (before_arity 0 (copies_in f) (vars_in f) (which f)
         (map (at_minus_one (form_in f) (vars_in f)) (form_in f).polys) 0 0))
 
-    pub turn_list_is : (none new : List Blocked) → none ≡ []
+    pub iteration_list_is : (none new : List Blocked) → none ≡ []
         → terms_each new ≡ terms_each none ++ map (collect rationals (blocks s.copies grevlex
-        grevlex)) (turn_graph_of f fs gs) → terms_each new ≡ turn_of f fs gs
-    turn_list_is none new e h =
+        grevlex)) (iteration_graph_of f fs gs) → terms_each new ≡ iteration_of f fs gs
+    iteration_list_is none new e h =
         h ∙ ap₂ (λ (l : List Blocked) t. terms_each l ++ map (collect rationals (blocks t grevlex
-        grevlex)) (turn_graph_of f fs gs)) e is.copies
+        grevlex)) (iteration_graph_of f fs gs)) e is.copies

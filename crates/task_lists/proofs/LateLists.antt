@@ -5,7 +5,7 @@
 --   heavy_graph          where a polynomial of it is too heavy, what makes it is past
 --   shape_few            the variables of a graph are few
 --   orbit_stands, orbit_past, orbit_heavy      the graph of an orbit
---   turn_stands, turn_past, turn_told          that of a turn
+--   iteration_stands, iteration_past, iteration_told          that of an iteration
 use Rattle.std.proofs.Common.{◌≡◌, inl, inr, ℕ, zero, suc, ◌+◌, ◌≤◌, Bool, true, false, cond, List, [], ◌∷◌, ◌++◌, map, get_or, take, drop, length, All, refl, sym, ap, ap₂, subst, ◌∙◌, arith}
 use Rattle.std.specs.List.{Any}
 use Rattle.std.proofs.lemmas.List.{length-map}
@@ -31,10 +31,10 @@ use Rattle.machines.specs.Collect.{collect}
 use Rattle.machines.proofs.Collecting.{collect-is, collect-same}
 use Rattle.machines.proofs.Padding.{at}
 use Rattle.poly.specs.Seen.{terms_in, terms_each}
-use Rattle.poly.specs.Standing.{IsOver, AllStandFor}
+use Rattle.poly.specs.Standing.{IsInVariables, AllStandFor}
 use Rattle.poly.proofs.Standing.{arities_over, polynomial_over, stands_all_along, stands_over, stands_same}
-use Rattle.solvable_maps.specs.Expo.{backward_terms}
-use Rattle.rounds.specs.Form.{front, backward, variable_at, with_room_for, before_by, at_minus_one}
+use Rattle.solvable_maps.specs.Expo.{inverse_form_terms}
+use Rattle.rounds.specs.Form.{front, inverse_form, variable_at, with_room_for, before_by, at_minus_one}
 use Rattle.rounds.specs.Graph.{images_behind, less, at_before, graph_list}
 use Rattle.rounds.specs.Past.{IsPastLess, IsPastGraph}
 use Rattle.rounds.proofs.Graph.{each-take}
@@ -352,7 +352,7 @@ module _ (f : LateForm) (fits : FitsForm f) (k : ℕ) (s : Shape) (is : HasShape
         let g = is.variables in
         omega (arith, a, b, c, d, e, g, count)
 
-    pub before_over : All (IsOver (width_of s)) before
+    pub before_over : All (IsInVariables (width_of s)) before
     before_over = stands_over (width_of s) before _ stands
 
     module _ (fs gs : List (Terms Fraction)) where
@@ -396,34 +396,35 @@ module _ (f : LateForm) (fits : FitsForm f) (k : ℕ) (s : Shape) (is : HasShape
 -- ---- what an orbit is told
 module _ (f : LateForm) (fits : FitsForm f) where
   abbrev meant : List (Terms Fraction)
-  meant = map (backward_terms (numbers_in f)) (form_in f).polys
+  meant = map (inverse_form_terms (numbers_in f)) (form_in f).polys
 
   pub orbit_told : AllSame ℚ (terms_each f.back.now.items)
-      (map (backward_terms (numbers_in f)) (form_in f).polys)
-  orbit_told = subst (λ l. AllSame ℚ l (map (backward_terms (numbers_in f)) (form_in f).polys))
+      (map (inverse_form_terms (numbers_in f)) (form_in f).polys)
+  orbit_told = subst (λ l. AllSame ℚ l (map (inverse_form_terms (numbers_in f)) (form_in f).polys))
       (sym fits.back)
-      (alike_each (backward grevlex (numbers_in f)) (backward_terms (numbers_in f))
-      (λ p. collect-same ℚ_field grevlex grevlex_order (backward_terms (numbers_in f) p))
+      (alike_each (inverse_form grevlex (numbers_in f)) (inverse_form_terms (numbers_in f))
+      (λ p. collect-same ℚ_field grevlex grevlex_order (inverse_form_terms (numbers_in f) p))
       (form_in f).polys)
 
-  pub orbit_count : length (map (backward_terms (numbers_in f)) (form_in f).polys) ≡ vars_in f
-  orbit_count = length-map (form_in f).polys (backward_terms (numbers_in f))
+  pub orbit_count : length (map (inverse_form_terms (numbers_in f)) (form_in f).polys) ≡ vars_in f
+  orbit_count = length-map (form_in f).polys (inverse_form_terms (numbers_in f))
       ∙ length-map f.polys.now.items _ ∙ fits.count
 
-  pub turn_told : (told : List FracPoly) → AllStandFor (vars_in f) told
+  pub iteration_told : (told : List FracPoly) → AllStandFor (vars_in f) told
       (map (at_minus_one (form_over (form_in f).base) (vars_in f)) (bodies_in f.polys.now.items))
       → AllSame ℚ (terms_each told) (map (at_minus_one (form_in f) (vars_in f)) (form_in f).polys)
-  turn_told told a = stands_same (vars_in f) told _ a
+  iteration_told told a = stands_same (vars_in f) told _ a
 
-  pub turn_count : length (map (at_minus_one (form_in f) (vars_in f)) (form_in f).polys) ≡ vars_in f
-  turn_count = length-map (form_in f).polys (at_minus_one (form_in f) (vars_in f))
+  pub iteration_count : length (map (at_minus_one (form_in f) (vars_in f)) (form_in f).polys)
+      ≡ vars_in f
+  iteration_count = length-map (form_in f).polys (at_minus_one (form_in f) (vars_in f))
       ∙ length-map f.polys.now.items _ ∙ fits.count
 
 -- ---- the polynomials themselves
 pub bodies_over : (bs : List ℕ) (m : ℕ) (es : List Expo) (ps : List FracPoly)
     → All (IsExpoOver bs m) es
     → map (λ (p : FracPoly). p.arity) ps ≡ map (λ (e : Expo). e.body.arity) es
-    → All (IsOver (front (length bs) + m)) ps
+    → All (IsInVariables (front (length bs) + m)) ps
 bodies_over bs m [] [] o h k d l = absurd (omega (arith, l))
 bodies_over bs m [] (p ∷ ps) o h k d l = absurd (let a = ap length h in omega (arith, a))
 bodies_over bs m (e ∷ es) [] o h k d l = absurd (omega (arith, l))

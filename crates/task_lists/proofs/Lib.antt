@@ -21,7 +21,7 @@ mod Variables
 mod Copies
 mod Differences
 mod Passers
-mod OneTurnBack
+mod OneIterationBack
 mod Placing
 mod LateLists
 mod LateFormLists

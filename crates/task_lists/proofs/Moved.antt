@@ -1,5 +1,5 @@
--- A polynomial with a form backward for its variables, made normal (rounds/proofs/Unwound, over any list of polynomials).
---   moved_same         what is composed, made normal and put in another order is the element unwound
+-- A polynomial with an inverse form for its variables, made normal (rounds/proofs/Pulled back, over any list of polynomials).
+--   moved_same         what is composed, made normal and put in another order is the element pulled back
 --   moved_past         where making it normal is past, the composition is
 use Rattle.std.proofs.Common.{◌≡◌, inl, ℕ, ◌+◌, List, subst}
 use Rattle.algebra.specs.Fraction.{Fraction, ℚ, fractions, fraction_size}
@@ -18,12 +18,12 @@ use Rattle.machines.proofs.Collecting.{collect-same}
 use Rattle.solvable_maps.specs.Expo.{with_normal_keys}
 use Rattle.solvable_maps.proofs.Retold.{same_normalized}
 use Rattle.rounds.specs.Form.{front, normal, orbit_order}
-use Rattle.task_lists.specs.Starting.{unwound}
+use Rattle.task_lists.specs.Starting.{pulled_back}
 
 module _ (r m : ℕ) (back : List (Terms Fraction)) (g moved : Terms Fraction)
     (same : Same ℚ moved (compose ℚ (front r + m) g back)) where
   pub moved_same : (normals p : Terms Fraction) → normals ≡ normal grevlex r moved
-      → Same ℚ p normals → Same ℚ p (unwound r m back g)
+      → Same ℚ p normals → Same ℚ p (pulled_back r m back g)
   moved_same normals p e t =
       Same-trans ℚ (subst (Same ℚ p) e t)
       (Same-trans ℚ (collect-same ℚ_field grevlex grevlex_order (with_normal_keys r moved))

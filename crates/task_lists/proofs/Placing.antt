@@ -19,7 +19,7 @@ use Rattle.machines.proofs.Collecting.{collect-is, collect-same}
 use Rattle.poly.specs.Seen.{terms_in, terms_each, Is}
 use Rattle.poly.specs.Standing.{StandsFor, AllStandFor}
 use Rattle.solvable_maps.specs.Expo.{with_normal_keys}
-use Rattle.solvable_maps.specs.Turns.{width}
+use Rattle.solvable_maps.specs.Iterations.{width}
 use Rattle.solvable_maps.proofs.Lengths.{arity-normalized}
 use Rattle.solvable_maps.proofs.Retold.{same_normalized}
 use Rattle.rounds.specs.Form.{front, normal, orbit_order, relation, relations_to}

@@ -17,8 +17,8 @@ use Rattle.monos.specs.declared.order.Order as Order
 use Rattle.monos.specs.declared.order.Blocks.{Blocks}
 use Rattle.poly.specs.declared.Poly.{Poly}
 use Rattle.poly.specs.Seen.{IsImage}
-use Rattle.poly.specs.Standing.{IsOver}
-use Rattle.solvable_maps.specs.Turns.{width}
+use Rattle.poly.specs.Standing.{IsInVariables}
+use Rattle.solvable_maps.specs.Iterations.{width}
 use Rattle.rounds.specs.Form.{front}
 use Rattle.task_lists.specs.Rows.{HaveImages}
 use Rattle.task_lists.specs.declared.parts.FullForm.{FullForm}
@@ -40,7 +40,7 @@ module _ {K : Type 0} {g : Ring.Ghosts K} {h : PartialEq.Ghosts K} {b : Order.Gh
 module _ {K O : Type 0} {g : Ring.Ghosts K} {h : PartialEq.Ghosts K} {b : Order.Ghosts O}
     {e : PartialEq.Ghosts O} where
   abbrev pub ArePolys : ℕ → Vec (Poly K O g h b e) Global → Type 0
-  ArePolys m ps = All (IsOver m) ps.items
+  ArePolys m ps = All (IsInVariables m) ps.items
 
   abbrev pub AreRows : ℕ → Vec (Vec (Poly K O g h b e) Global) Global → Type 0
   AreRows m rows = All (ArePolys m) rows.items

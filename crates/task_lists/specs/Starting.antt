@@ -1,5 +1,5 @@
 -- What a stage of a full certificate begins with.
---   unwound r m back g     g with the polynomials `back` for its variables, normal, over a base of r numbers and m variables
+--   pulled back r m back g     g with the polynomials `back` for its variables, normal, over a base of r numbers and m variables
 --   relations_of r m       the relations over a base of r numbers, with m variables behind
 --   numbers_of base        how many numbers a base has
 --   starting m s           the list that it begins with: orbit_starting, meet_starting
@@ -18,7 +18,7 @@ use Rattle.rounds.specs.Form.{front, orbit_order, normal, relations}
 use Rattle.frac128.specs.declared.Whole.{Whole}
 use Rattle.monos.specs.Variables.{most_variables}
 use Rattle.poly.specs.Seen.{terms_each}
-use Rattle.poly.specs.Standing.{IsOver}
+use Rattle.poly.specs.Standing.{IsInVariables}
 use Rattle.loop_model.specs.FracPoly.{FracPoly}
 use Rattle.coprime_base.specs.Sizes.{sizes}
 use Rattle.expo.specs.Bases.{IsCoprimeBase}
@@ -28,8 +28,8 @@ use Rattle.task_lists.specs.declared.starting.Starting.TheVariants.{Orbit, Meet}
 abbrev Polys : Type 0
 Polys = Vec FracPoly Global
 
-abbrev pub unwound : ℕ → ℕ → List (Terms Fraction) → Terms Fraction → Terms Fraction
-unwound r m back g = normal (orbit_order r) r (compose ℚ (front r + m) g back)
+abbrev pub pulled_back : ℕ → ℕ → List (Terms Fraction) → Terms Fraction → Terms Fraction
+pulled_back r m back g = normal (orbit_order r) r (compose ℚ (front r + m) g back)
 
 abbrev pub numbers_of : Vec Whole Global → ℕ
 numbers_of base = length (sizes base.items)
@@ -40,7 +40,7 @@ relations_of r m = map (collect rationals (orbit_order r)) (relations r m)
 abbrev pub orbit_starting : ℕ → Vec Whole Global → (back list : Polys) → List (Terms Fraction)
 orbit_starting m base back list =
     let r = numbers_of base in
-    map (unwound r m (terms_each back.items)) (terms_each list.items) ++ relations_of r m
+    map (pulled_back r m (terms_each back.items)) (terms_each list.items) ++ relations_of r m
 
 abbrev pub meet_starting : (left right : Polys) → List (Terms Fraction)
 meet_starting left right =
@@ -60,13 +60,13 @@ pub record FitsOrbit (m : ℕ) (base : Vec Whole Global) (back list : Polys) : T
   pub coprime : IsCoprimeBase (sizes base.items)
   pub few : front (numbers_of base) + m ≤ most_variables
   pub count : length back.items ≡ m
-  pub backs : All (IsOver (front (numbers_of base) + m)) back.items
-  pub elements : All (IsOver m) list.items
+  pub backs : All (IsInVariables (front (numbers_of base) + m)) back.items
+  pub elements : All (IsInVariables m) list.items
 
 pub record FitsMeet (m : ℕ) (left right : Polys) : Type 0 where
   pub few : 1 + m ≤ most_variables
-  pub lefts : All (IsOver m) left.items
-  pub rights : All (IsOver m) right.items
+  pub lefts : All (IsInVariables m) left.items
+  pub rights : All (IsInVariables m) right.items
 
 abbrev pub FitsStart : ℕ → Starting → Type 0
 FitsStart m (Orbit base back list) = FitsOrbit m base.now back.now list.now

@@ -4,7 +4,7 @@ ghost use Rattle.algebra.specs.Fraction.{Fraction};
 ghost use Rattle.polynomials.specs.Terms.{Terms};
 ghost use Rattle.monos.specs.Variables.{most_variables};
 ghost use Rattle.poly.specs.Seen.{terms_each};
-ghost use Rattle.poly.specs.Standing.{IsOver, AllStandFor};
+ghost use Rattle.poly.specs.Standing.{IsInVariables, AllStandFor};
 ghost use Rattle.rounds.specs.Form.{with_room_for};
 ghost use Rattle.task_lists.specs.Shapes.{width_of, passers, before_in};
 
@@ -36,7 +36,7 @@ pub(crate) fn before(
 ) -> Result<Vec<Poly<Frac, Grevlex>>, AllocError>
     requires copies { shape.copies ≡ passers passing.now }
     requires few { width_of shape ≤ most_variables }
-    requires over { All (IsOver (shape.front + shape.variables)) told.now }
+    requires over { All (IsInVariables (shape.front + shape.variables)) told.now }
     ensures before { let wide = with_room_for shape.front shape.copies shape.variables in
         IfOk result (λ out. AllStandFor (width_of shape) out.items
         (before_in (width_of shape) shape.front passing.now 0 (map wide (terms_each told.now)))) }
@@ -57,7 +57,7 @@ fn push_before(
 ) -> Result<(), AllocError>
     requires copies { copy + passers passing.now ≤ shape.copies }
     requires few { width_of shape ≤ most_variables }
-    requires over { All (IsOver (shape.front + shape.variables)) told.now }
+    requires over { All (IsInVariables (shape.front + shape.variables)) told.now }
     ensures before { let wide = with_room_for shape.front shape.copies shape.variables in
         (qs : List (Terms Fraction)) → AllStandFor (width_of shape) out.old.items qs
         → OnOk result (AllStandFor (width_of shape) out.new.items

@@ -7,7 +7,7 @@ ghost use Rattle.polynomials.specs.Weight.{IsPastComposition, IsPastSum};
 ghost use Rattle.machines.specs.Collect.{collect};
 ghost use Rattle.monos.specs.Variables.{most_variables};
 ghost use Rattle.poly.specs.Seen.{terms_in, terms_each};
-ghost use Rattle.poly.specs.Standing.{IsOver, StandsFor, AllStandFor};
+ghost use Rattle.poly.specs.Standing.{IsInVariables, StandsFor, AllStandFor};
 ghost use Rattle.rounds.specs.Form.{variable_at};
 ghost use Rattle.rounds.specs.Graph.{images_behind, less, graph_list};
 ghost use Rattle.rounds.specs.Past.{IsPastLess, IsPastGraph};
@@ -31,10 +31,10 @@ pub(crate) fn graph(
     requires some { 0 < shape.variables }
     requires few { width_of shape ≤ most_variables }
     requires count { length before.items ≡ shape.variables }
-    requires before { All (IsOver (width_of shape)) before.items }
-    requires forms { All (IsOver (shape.front + shape.variables)) forms.now }
+    requires before { All (IsInVariables (width_of shape)) before.items }
+    requires forms { All (IsInVariables (shape.front + shape.variables)) forms.now }
     requires places { length forms.now ≡ shape.variables }
-    requires list { All (IsOver shape.variables) list.now }
+    requires list { All (IsInVariables shape.variables) list.now }
     ensures graph { IfOk result (λ out. AllStandFor (width_of shape) out.items
         (graph_list shape.front shape.copies shape.variables (terms_each before.items)
         (terms_each forms.now) [] (terms_each list.now))) }
@@ -59,8 +59,8 @@ fn push_composed(
 ) -> Result<(), ArithmeticError>
     requires some { 0 < shape.variables }
     requires count { length before.now.items ≡ shape.variables }
-    requires before { All (IsOver (width_of shape)) before.now.items }
-    requires list { All (IsOver shape.variables) list.now }
+    requires before { All (IsInVariables (width_of shape)) before.now.items }
+    requires list { All (IsInVariables shape.variables) list.now }
     ensures composed { (qs : List (Terms Fraction))
         → AllStandFor (width_of shape) out.old.items qs
         → OnOk result (AllStandFor (width_of shape) out.new.items (qs
@@ -83,10 +83,10 @@ fn behind_front(
     before: Vec<Poly<Frac, Grevlex>>,
 ) -> Result<Vec<Poly<Frac, Grevlex>>, AllocError>
     requires few { width_of shape ≤ most_variables }
-    requires before { All (IsOver (width_of shape)) before.items }
+    requires before { All (IsInVariables (width_of shape)) before.items }
     ensures images { IfOk result (λ images. terms_each images.items
         ≡ images_behind shape.front (width_of shape) (terms_each before.items)) }
-    ensures over { IfOk result (λ images. All (IsOver (width_of shape)) images.items) }
+    ensures over { IfOk result (λ images. All (IsInVariables (width_of shape)) images.items) }
 {
     let mut images = Vec::new(alloc);
     for place in 0..shape.front {
@@ -110,8 +110,8 @@ fn push_differences(
     requires few { width_of shape ≤ most_variables }
     requires places { place + length forms.now ≤ shape.variables }
     requires count { length images.now.items ≡ shape.front + shape.variables }
-    requires images { All (IsOver (width_of shape)) images.now.items }
-    requires forms { All (IsOver (shape.front + shape.variables)) forms.now }
+    requires images { All (IsInVariables (width_of shape)) images.now.items }
+    requires forms { All (IsInVariables (shape.front + shape.variables)) forms.now }
     ensures differences { let w = width_of shape in (qs : List (Terms Fraction))
         → AllStandFor w out.old.items qs
         → OnOk result (AllStandFor w out.new.items (qs
@@ -143,7 +143,7 @@ fn difference(
     requires few { width_of shape ≤ most_variables }
     requires place { place < shape.variables }
     requires count { length images.now.items ≡ shape.front + shape.variables }
-    requires images { All (IsOver (width_of shape)) images.now.items }
+    requires images { All (IsInVariables (width_of shape)) images.now.items }
     requires form { form.now.arity ≡ shape.front + shape.variables }
     ensures difference { let w = width_of shape in IfOk result (λ p. StandsFor w p
         (variable_at w (shape.front + shape.copies + place)

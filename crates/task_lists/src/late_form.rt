@@ -6,14 +6,14 @@ ghost use Rattle.polynomials.specs.Order.{grevlex};
 ghost use Rattle.polynomials.specs.Terms.{Terms};
 ghost use Rattle.polynomials.specs.Weight.{weight, IsPastComposition};
 ghost use Rattle.poly.specs.Seen.{terms_in, terms_each};
-ghost use Rattle.poly.specs.Standing.{IsOver, StandsFor, AllStandFor};
+ghost use Rattle.poly.specs.Standing.{IsInVariables, StandsFor, AllStandFor};
 ghost use Rattle.expo.specs.View.{base_of};
 ghost use Rattle.expo.specs.declared.exponential.Expo.{Expo};
-ghost use Rattle.rounds.specs.Form.{front, backward, at_minus_one};
-ghost use Rattle.rounds.specs.Past.{turn_images};
+ghost use Rattle.rounds.specs.Form.{front, inverse_form, at_minus_one};
+ghost use Rattle.rounds.specs.Past.{iteration_images};
 ghost use Rattle.task_lists.specs.Placed.{HaveBlock};
 ghost use Rattle.task_lists.specs.Shapes.{width_of};
-ghost use Rattle.task_lists.specs.Late.{FitsForm, HasShape, numbers_in, orbit_graph_of, turn_graph_of, orbit_of, turn_of, IsPastOrbitOf, IsPastTurnOf, copies_in, front_in, vars_in, bodies_in, form_over, IsExpoOver};
+ghost use Rattle.task_lists.specs.Late.{FitsForm, HasShape, numbers_in, orbit_graph_of, iteration_graph_of, orbit_of, iteration_of, IsPastOrbitOf, IsPastIterationOf, copies_in, front_in, vars_in, bodies_in, form_over, IsExpoOver};
 
 use crate::before::{before, passers};
 use crate::front;
@@ -32,7 +32,7 @@ use std::alloc::{AllocError, Global};
 pub struct LateForm<'a> {
     /// The numbers whose powers are in it.
     pub base: &'a Vec<Whole>,
-    /// The state from some number of turns on, a polynomial for each variable.
+    /// The state from some number of iterations on, a polynomial for each variable.
     pub polys: &'a Vec<Expo>,
     /// The same backward.
     pub back: &'a Vec<Poly<Frac, Grevlex>>,
@@ -41,7 +41,7 @@ pub struct LateForm<'a> {
 }
 
 impl<'a> LateForm<'a> {
-    /// What the orbit of a list from that number of turns on begins with: the elements at what was, each variable less its form there, and the relations between the powers.
+    /// What the orbit of a list from that number of iterations on begins with: the elements at what was, each variable less its form there, and the relations between the powers.
     /// `Wide` only where the weight of one of these compositions or differences is past.
     pub fn orbit_list(
         &self,
@@ -49,7 +49,7 @@ impl<'a> LateForm<'a> {
         list: &[Poly<Frac, Grevlex>],
     ) -> Result<Vec<Poly<Frac, Blocks>>, ArithmeticError>
         requires fits { FitsForm self.now }
-        requires list { All (IsOver (vars_in self.now)) list.now }
+        requires list { All (IsInVariables (vars_in self.now)) list.now }
         ensures list { IfOk result (λ gens. terms_each gens.items ≡ orbit_of self.now list.now) }
         ensures block { let n = front_in self.now in
             IfOk result (λ gens. HaveBlock n (n + vars_in self.now) gens.items) }
@@ -65,7 +65,7 @@ impl<'a> LateForm<'a> {
         Ok(gens)
     }
 
-    /// The graph of any number of turns from that number on.
+    /// The graph of any number of iterations from that number on.
     fn orbit_graph(
         &self,
         alloc: Global,
@@ -74,7 +74,7 @@ impl<'a> LateForm<'a> {
     ) -> Result<Vec<Poly<Frac, Grevlex>>, ArithmeticError>
         requires fits { FitsForm self.now }
         requires shape { HasShape self.now (front (numbers_in self.now)) shape }
-        requires list { All (IsOver (vars_in self.now)) list.now }
+        requires list { All (IsInVariables (vars_in self.now)) list.now }
         ensures graph { IfOk result (λ out.
             AllStandFor (width_of shape) out.items (orbit_graph_of self.now list.now)) }
         ensures wide { IsErrOf result ArithmeticError.Wide → IsPastOrbitOf self.now list.now }
@@ -87,9 +87,9 @@ impl<'a> LateForm<'a> {
         graph(alloc, shape, before, &forms, list)
     }
 
-    /// What is a member of a list's ideal after one turn of the branch with these polynomials begins with: the elements at what was, and each variable less the branch's polynomial there.
+    /// What is a member of a list's ideal after one iteration of the branch with these polynomials begins with: the elements at what was, and each variable less the branch's polynomial there.
     /// `Wide` only where the weight of one of these compositions or differences is past, or that of the form at -1.
-    pub fn turn_list(
+    pub fn iteration_list(
         &self,
         alloc: Global,
         images: &[Poly<Frac, Grevlex>],
@@ -97,24 +97,24 @@ impl<'a> LateForm<'a> {
     ) -> Result<Vec<Poly<Frac, Blocks>>, ArithmeticError>
         requires fits { FitsForm self.now }
         requires count { length images.now ≡ vars_in self.now }
-        requires images { All (IsOver (vars_in self.now)) images.now }
-        requires list { All (IsOver (vars_in self.now)) list.now }
+        requires images { All (IsInVariables (vars_in self.now)) images.now }
+        requires list { All (IsInVariables (vars_in self.now)) list.now }
         ensures list { IfOk result (λ gens.
-            terms_each gens.items ≡ turn_of self.now images.now list.now) }
+            terms_each gens.items ≡ iteration_of self.now images.now list.now) }
         ensures block { let n = copies_in self.now in
             IfOk result (λ gens. HaveBlock n (n + vars_in self.now) gens.items) }
         ensures wide { IsErrOf result ArithmeticError.Wide
-            → IsPastTurnOf self.now images.now list.now }
+            → IsPastIterationOf self.now images.now list.now }
     {
         let shape = self.shape(0);
-        let graph = self.turn_graph(alloc, shape, images, list)?;
+        let graph = self.iteration_graph(alloc, shape, images, list)?;
         let mut gens = Vec::new(alloc);
         push_placed(alloc, &mut gens, shape.copies, &graph)?;
         Ok(gens)
     }
 
-    /// The graph of one turn.
-    fn turn_graph(
+    /// The graph of one iteration.
+    fn iteration_graph(
         &self,
         alloc: Global,
         shape: Shape,
@@ -124,12 +124,12 @@ impl<'a> LateForm<'a> {
         requires fits { FitsForm self.now }
         requires shape { HasShape self.now 0 shape }
         requires count { length images.now ≡ vars_in self.now }
-        requires images { All (IsOver (vars_in self.now)) images.now }
-        requires list { All (IsOver (vars_in self.now)) list.now }
+        requires images { All (IsInVariables (vars_in self.now)) images.now }
+        requires list { All (IsInVariables (vars_in self.now)) list.now }
         ensures graph { IfOk result (λ out. AllStandFor (width_of shape) out.items
-            (turn_graph_of self.now images.now list.now)) }
+            (iteration_graph_of self.now images.now list.now)) }
         ensures wide { IsErrOf result ArithmeticError.Wide
-            → IsPastTurnOf self.now images.now list.now }
+            → IsPastIterationOf self.now images.now list.now }
     {
         let mut told = Vec::new(alloc);
         push_told(alloc, &mut told, self.polys.as_slice())?;
@@ -162,7 +162,7 @@ fn bodies(alloc: Global, polys: &[Expo]) -> Result<Vec<Poly<Frac, Grevlex>>, All
     Ok(out)
 }
 
-/// What the polynomials tell of one turn before: they at n = -1, behind the others.
+/// What the polynomials tell of one iteration before: they at n = -1, behind the others.
 fn push_told(
     alloc: Global,
     out: &mut Vec<Poly<Frac, Grevlex>>,
@@ -174,8 +174,8 @@ fn push_told(
         ++ map (at_minus_one (form_over bs) m) (bodies_in polys.now))) }
     ensures wide { (bs : List ℕ) (m : ℕ) → All (IsExpoOver bs m) polys.now
         → IsErrOf result ArithmeticError.Wide
-        → Any (λ p. IsPastComposition fractions p (turn_images (form_over bs) m))
-        (map (backward grevlex (length bs)) (bodies_in polys.now)) }
+        → Any (λ p. IsPastComposition fractions p (iteration_images (form_over bs) m))
+        (map (inverse_form grevlex (length bs)) (bodies_in polys.now)) }
 {
     let Some((poly, polys)) = polys.split_first() else {
         return Ok(());
@@ -189,8 +189,8 @@ fn told_by(alloc: Global, poly: &Expo) -> Result<Poly<Frac, Grevlex>, Arithmetic
     ensures told { IfOk result (λ p. StandsFor poly.now.vars p
         (at_minus_one (form_over (base_of poly.now)) poly.now.vars (terms_in poly.now.body))) }
     ensures wide { IsErrOf result ArithmeticError.Wide → IsPastComposition fractions
-        (backward grevlex (length (base_of poly.now)) (terms_in poly.now.body))
-        (turn_images (form_over (base_of poly.now)) poly.now.vars) }
+        (inverse_form grevlex (length (base_of poly.now)) (terms_in poly.now.body))
+        (iteration_images (form_over (base_of poly.now)) poly.now.vars) }
 {
-    poly.backward(alloc)?.at_turn(alloc, 1)
+    poly.inverse_form(alloc)?.at_iteration(alloc, 1)
 }

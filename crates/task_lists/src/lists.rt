@@ -6,7 +6,7 @@ ghost use Rattle.exponentials.specs.Table.{numbers};
 ghost use Rattle.machines.specs.Cut.{lead_number};
 ghost use Rattle.machines.specs.Elimination.{free_part};
 ghost use Rattle.poly.specs.Seen.{terms_in, terms_each};
-ghost use Rattle.poly.specs.Standing.{IsOver};
+ghost use Rattle.poly.specs.Standing.{IsInVariables};
 ghost use Rattle.completeness.specs.Representation.{pairs_of};
 
 use frac128::Frac;
@@ -34,10 +34,10 @@ pub fn free_elements(
     variables: usize,
 ) -> Result<Vec<Poly<Frac, Grevlex>>, AllocError>
     requires blocks { All (λ p. p.order.first ≡ front) list.now }
-    requires arity { All (IsOver (front + variables)) list.now }
+    requires arity { All (IsInVariables (front + variables)) list.now }
     ensures kept { IfOk result
         (λ free. terms_each free.items ≡ free_part front (terms_each list.now)) }
-    ensures arity { IfOk result (λ free. All (IsOver variables) free.items) }
+    ensures arity { IfOk result (λ free. All (IsInVariables variables) free.items) }
 {
     let mut free = Vec::new(alloc);
     for p in list {

@@ -7,11 +7,11 @@ ghost use Rattle.polynomials.specs.Weight.{weight, IsPastComposition};
 ghost use Rattle.rounds.specs.Form.{front, normal};
 ghost use Rattle.monos.specs.Variables.{most_variables};
 ghost use Rattle.poly.specs.Seen.{terms_in, terms_each, Is};
-ghost use Rattle.poly.specs.Standing.{IsOver};
+ghost use Rattle.poly.specs.Standing.{IsInVariables};
 ghost use Rattle.coprime_base.specs.Sizes.{sizes};
 ghost use Rattle.expo.specs.Bases.{IsCoprimeBase};
 ghost use Rattle.task_lists.specs.Blocks.{in_blocks};
-ghost use Rattle.task_lists.specs.Starting.{unwound};
+ghost use Rattle.task_lists.specs.Starting.{pulled_back};
 
 use crate::relations::front;
 use expo::Expo;
@@ -38,8 +38,8 @@ pub fn normal_of(
     Ok(Expo::normal(alloc, base, p)?.into_body())
 }
 
-/// The polynomial with the form backward for its variables, normal.
-pub(crate) fn unwound(
+/// The polynomial with the inverse form for its variables, normal.
+pub(crate) fn pulled_back(
     alloc: Global,
     base: &Vec<Whole>,
     back: &Vec<Poly<Frac, Grevlex>>,
@@ -50,10 +50,10 @@ pub(crate) fn unwound(
     requires count { length back.now.items ≡ p.now.arity }
     requires few { front (length (sizes base.now.items)) + p.now.arity ≤ most_variables }
     requires back { let r = length (sizes base.now.items) in
-        All (IsOver (front r + p.now.arity)) back.now.items }
-    ensures unwound { let r = length (sizes base.now.items) in IfOk result
+        All (IsInVariables (front r + p.now.arity)) back.now.items }
+    ensures pulled_back { let r = length (sizes base.now.items) in IfOk result
         (Is (in_blocks (front r)) (front r + p.now.arity)
-        (unwound r p.now.arity (terms_each back.now.items) (terms_in p.now))) }
+        (pulled_back r p.now.arity (terms_each back.now.items) (terms_in p.now))) }
     ensures wide { IsErrOf result ArithmeticError.Wide
         → IsPastComposition fractions (terms_in p.now) (terms_each back.now.items) }
 {

@@ -9,7 +9,7 @@ ghost use Rattle.polynomials.specs.Weight.{weight};
 ghost use Rattle.machines.specs.Collect.{collect};
 ghost use Rattle.monos.specs.Variables.{most_variables};
 ghost use Rattle.poly.specs.Seen.{terms_in, terms_each};
-ghost use Rattle.poly.specs.Standing.{IsOver, AllStandFor};
+ghost use Rattle.poly.specs.Standing.{IsInVariables, AllStandFor};
 ghost use Rattle.coprime_base.specs.Sizes.{sizes};
 ghost use Rattle.expo.specs.Bases.{IsCoprimeBase};
 ghost use Rattle.rounds.specs.Form.{front, normal, relation, relations};
@@ -35,7 +35,7 @@ pub(crate) fn push_normal(
     ensures normal { (w : ℕ) (qs : List (Terms Fraction)) → AllStandFor w list.now qs
         → AllArity w qs → OnOk result (terms_each gens.new.items ≡ terms_each gens.old.items
         ++ map (normal (blocks first grevlex grevlex) (length (sizes base.now.items))) qs) }
-    ensures block { (w : ℕ) → All (IsOver w) list.now → HaveBlock first w gens.old.items
+    ensures block { (w : ℕ) → All (IsInVariables w) list.now → HaveBlock first w gens.old.items
         → OnOk result (HaveBlock first w gens.new.items) }
     ensures wide { IsErrOf result ArithmeticError.Wide
         → Any (λ p. IsPast (weight fraction_size p)) (terms_each list.now) }
@@ -57,7 +57,7 @@ pub(crate) fn push_placed(
     ensures placed { (w : ℕ) (qs : List (Terms Fraction)) → AllStandFor w list.now qs
         → AllArity w qs → OnOk result (terms_each gens.new.items ≡ terms_each gens.old.items
         ++ map (collect rationals (blocks first grevlex grevlex)) qs) }
-    ensures block { (w : ℕ) → All (IsOver w) list.now → HaveBlock first w gens.old.items
+    ensures block { (w : ℕ) → All (IsInVariables w) list.now → HaveBlock first w gens.old.items
         → OnOk result (HaveBlock first w gens.new.items) }
 {
     for p in list {

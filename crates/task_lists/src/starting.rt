@@ -9,7 +9,7 @@ ghost use Rattle.task_lists.specs.Blocks.{in_blocks, HasFront};
 ghost use Rattle.task_lists.specs.Starting.{numbers_of, orbit_starting, meet_starting, starting, front_of, relations_of, FitsOrbit, FitsMeet, FitsStart, IsPastOrbit, IsPastMeet, IsPastAt};
 
 use crate::meet::{times_rest, times_t};
-use crate::orbit::unwound;
+use crate::orbit::pulled_back;
 use crate::relations::relation;
 use frac128::{Frac, Whole};
 use monos::{Blocks, Grevlex};
@@ -68,7 +68,7 @@ fn orbit_element(
     ensures wide { IsErrOf result ArithmeticError.Wide → IsPastOrbit back.now list.now place }
 {
     if place < list.len() {
-        return unwound(alloc, base, back, &list[place]);
+        return pulled_back(alloc, base, back, &list[place]);
     }
     Ok(relation_at(alloc, base.len(), variables, place - list.len())?)
 }

@@ -1,7 +1,7 @@
 -- A matrix's polynomial at its eigenvalues, and eigenvectors of whole numbers by what they leave.
 --   total-on_diagonal      y times c on the diagonal
---   meets_next             where y times M is s times y, y times (M B + c) is s p + c times y, for y times B = p times y
---   meets_none, meets_zero   so does the matrix of zeros with s = 0, and with no other s
+--   eigenvector_next             where y times M is s times y, y times (M B + c) is s p + c times y, for y times B = p times y
+--   eigenvector_none, eigenvector_zero   so does the matrix of zeros with s = 0, and with no other s
 --   leaves_none            where a matrix of whole numbers kills no vector of residues, it kills none of whole numbers
 use Rattle.std.proofs.Common.{◌≡◌, ◌≢◌, inl, inr, ℕ, zero, suc, ◌*◌, ◌<◌, ◌≤◌, ℤ, pos, ◌*ℤ◌, cond, eqb, List, [], ◌∷◌, length, get_or, refl, sym, ap, ap₂, subst, ◌∙◌, arith}
 use mathlib.Core.Path.{fun_ext}
@@ -46,12 +46,13 @@ module _ {A : Type 0} (F : Field A) where
 
   module _ (n : ℕ) (y : ℕ → A) where
     -- y times M is s times y
-    abbrev pub Meets : (ℕ → ℕ → A) → A → Type 0
-    Meets M s = (j : ℕ) → j < n → total F n (λ i. R.mul (M i j) (y i)) ≡ R.mul s (y j)
+    abbrev pub IsEigenvector : (ℕ → ℕ → A) → A → Type 0
+    IsEigenvector M s = (j : ℕ) → j < n → total F n (λ i. R.mul (M i j) (y i)) ≡ R.mul s (y j)
 
-    pub meets_next : (B : ℕ → ℕ → A) (p : A) → Meets B p → (c s : A) (M M' : ℕ → ℕ → A)
-        → IsNext n B c M M' → Meets M s → Meets M' (R.add (R.mul s p) c)
-    meets_next B p eigen c s M M' next meets j h =
+    pub eigenvector_next : (B : ℕ → ℕ → A) (p : A) → IsEigenvector B p
+        → (c s : A) (M M' : ℕ → ℕ → A)
+        → IsNext n B c M M' → IsEigenvector M s → IsEigenvector M' (R.add (R.mul s p) c)
+    eigenvector_next B p eigen c s M M' next eigenvector j h =
         let inner : ℕ → ℕ → A = λ i l. R.mul (B l j) (R.mul (M i l) (y i)) in
         let diagonal : ℕ → A = λ i. R.mul (cond (eqb i j) c R.zero) (y i) in
         EK.total_same F n _ (λ i. R.add (total F n (inner i)) (diagonal i)) (λ i k.
@@ -65,7 +66,7 @@ module _ {A : Type 0} (F : Field A) where
         ∙ ap₂ R.add
         (EK.total_swap F n n inner
         ∙ EK.total_same F n _ (λ l. R.mul s (R.mul (B l j) (y l))) (λ l o.
-        EK.total-mul F n (B l j) (λ i. R.mul (M i l) (y i)) ∙ ap (R.mul (B l j)) (meets l o)
+        EK.total-mul F n (B l j) (λ i. R.mul (M i l) (y i)) ∙ ap (R.mul (B l j)) (eigenvector l o)
         ∙ L.mul_left_comm R (B l j) s (y l))
         ∙ EK.total-mul F n s (λ l. R.mul (B l j) (y l))
         ∙ ap (R.mul s) (eigen j h) ∙ sym (R.mul_assoc s p (y j)))
@@ -77,12 +78,14 @@ module _ {A : Type 0} (F : Field A) where
     none M h j l = EK.total-none F n (λ i. R.mul (M i j) (y i)) (λ i k.
         ap (λ a. R.mul a (y i)) (h i j k l) ∙ L.zero-mul R (y i))
 
-    pub meets_zero : (M : ℕ → ℕ → A) → ((i j : ℕ) → i < n → j < n → M i j ≡ R.zero) → Meets M R.zero
-    meets_zero M h j l = none M h j l ∙ sym (L.zero-mul R (y j))
+    pub eigenvector_zero : (M : ℕ → ℕ → A) → ((i j : ℕ) → i < n → j < n → M i j ≡ R.zero)
+        → IsEigenvector M R.zero
+    eigenvector_zero M h j l = none M h j l ∙ sym (L.zero-mul R (y j))
 
-    pub meets_none : (M : ℕ → ℕ → A) → ((i j : ℕ) → i < n → j < n → M i j ≡ R.zero) → (s : A)
-        → s ≢ R.zero → Meets M s → (j : ℕ) → j < n → y j ≡ R.zero
-    meets_none M h s ne meets j l = elim (FL.no_zero_divisors F s (y j) (sym (meets j l)
+    pub eigenvector_none : (M : ℕ → ℕ → A) → ((i j : ℕ) → i < n → j < n → M i j ≡ R.zero) → (s : A)
+        → s ≢ R.zero → IsEigenvector M s → (j : ℕ) → j < n → y j ≡ R.zero
+    eigenvector_none M h s ne eigenvector j l =
+        elim (FL.no_zero_divisors F s (y j) (sym (eigenvector j l)
         ∙ none M h j l)) [ inl z ↦ absurd (ne z) | inr z ↦ z ]
 
   -- ---- whole numbers in the field

@@ -17,7 +17,7 @@ use Rattle.vectors.proofs.Forms as FO
 use Rattle.vectors.proofs.Independence as I
 use Rattle.algebra.proofs.Each.{each-append, each_of, each_weaker}
 use Rattle.vectors.proofs.FractionEigen.{Fractions}
-use Rattle.vectors.proofs.MatrixSplits.{IsOver, Whole, Searched}
+use Rattle.vectors.proofs.MatrixSplits.{IsFractionOf, Whole, Searched}
 use Rattle.std.specs.Int.Signed.{◌<ℤ◌}
 use Rattle.std.proofs.lemmas.Int.{ints}
 
@@ -77,7 +77,7 @@ module _ {A : Type 0} (F : Field A) (Q : Fractions F) (n : ℕ) (rows : List (Ro
       omega arith)
 
   abbrev Over : ℤ → A → Type 0
-  Over p c = IsOver F Q n rows d p c
+  Over p c = IsFractionOf F Q n rows d p c
 
   over_same : (p : ℤ) (c c' : A) → Over p c → Over p c' → c ≡ c'
   over_same p c c' e e' = FL.cancel F c c' (of_int R (pos d)) d_some

@@ -8,7 +8,7 @@ use Rattle.loop_model.specs.View.{program_of}
 use Rattle.cert_form.specs.Cert.{Polys, HaveArity, IsSquare, polys_in, blocks_in, rows_in, certificate_of}
 use Rattle.cert_checker.specs.Short.{AreShort}
 use Rattle.cert_checker.specs.Views.{verdict_of}
-use Rattle.cert_checker.specs.Wide.{IfRefused}
+use Rattle.cert_checker.specs.Wide.{IfCheckRefused}
 use Rattle.cert_checker.specs.declared.Verdict.TheVariants.{Valid}
 use Rattle.cert_checker.proofs.check.Goals as goal
 
@@ -51,7 +51,7 @@ returns-clause-valid c =
 
 pub returns-clause-refused : goal.returns-clause-refused
 returns-clause-refused c =
-    subst (λ d. IfErr c.judge.result (IfRefused (program_of c.args.lp.now) d))
+    subst (λ d. IfErr c.judge.result (IfCheckRefused (program_of c.args.lp.now) d))
     (sym (made_of c.args.cert.now.certificate c.basis.result.now c.steps.result.now
     c.basis.ensures.terms c.steps.ensures.terms)) c.judge.ensures.refused
 

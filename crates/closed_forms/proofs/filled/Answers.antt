@@ -17,16 +17,16 @@ pub fill-requires-clause-known : goal.fill-requires-clause-known
 fill-requires-clause-known c =
     let M = terms_each c.args.images.now.items in
     let es = c.in_ok-polys.polys.items in
-    known_begun (sizes c.args.base.now.items) M c.args.splits.now c.args.turns
+    known_begun (sizes c.args.base.now.items) M c.args.splits.now c.args.iterations
     (groups_in c.args.groups.now) c.requires.classes (bodies_of es)
     (bodies-count es ∙ c.in_ok-polys.ensures.count ∙ c.len.ensures ∙ c.args.images.now.ok.0
     ∙ sym (length_each c.args.images.now.items))
-    (sym c.requires.turns)
+    (sym c.requires.iterations)
 
 pub returns-in-Ok-clause-closed : goal.returns-in-Ok-clause-closed
 returns-in-Ok-clause-closed c =
     let bs = sizes c.args.base.now.items in
     let es = c.fill.new.polys.items in
-    closed_is bs (terms_each c.args.images.now.items) c.args.splits.now c.args.turns es
+    closed_is bs (terms_each c.args.images.now.items) c.args.splits.now c.args.iterations es
     (subst (λ m. AreOver bs m es) (sym (length_each c.args.images.now.items))
     c.in-Ok.ensures.over) c.in-Ok.ensures.known

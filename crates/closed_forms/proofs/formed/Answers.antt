@@ -6,10 +6,10 @@ use Rattle.algebra.specs.Fraction.{Fraction}
 use Rattle.poly.specs.Seen.{terms_each}
 use Rattle.coprime_base.specs.Sizes.{sizes}
 use Rattle.solvable.proofs.Using.{FracPoly, length_each}
-use Rattle.solvable_maps.specs.Turns.{IsClosedFormFrom}
+use Rattle.solvable_maps.specs.Iterations.{IsClosedFormFrom}
 use Rattle.expo.specs.declared.exponential.Expo.{Expo}
 use Rattle.closed_forms.specs.declared.Form.{Form}
-use Rattle.closed_forms.specs.Known.{IsWideTurn}
+use Rattle.closed_forms.specs.Known.{IsWideIteration}
 use Rattle.closed_forms.specs.Settling.{AreAlike, AreAllMarked, IsPastOfClass, IsSettling, IsSettled}
 use Rattle.closed_forms.specs.Splits.{groups_in}
 use Rattle.closed_forms.specs.States.{after}
@@ -37,20 +37,21 @@ module _ (c : After-deref) where
   es = c.args.polys.items
 
   many : length es ≡ length images
-  many = closed_count bs M c.args.turns es c.requires.closed ∙ length_each images
+  many = closed_count bs M c.args.iterations es c.requires.closed ∙ length_each images
 
   inside : All (λ (g : Vec ℕ Global). All (λ i. i < length es) g.items) c.args.groups.now
   inside = groups_inside images c.args.groups.now (length es) (sym many) c.requires.classes
 
-  known : IsSettling M bs (groups_in c.args.groups.now) (told c.args.states.now) es c.args.turns
-  known = settling_is images bs es c.requires.over many c.args.turns c.args.states.now
+  known : IsSettling M bs (groups_in c.args.groups.now) (told c.args.states.now) es
+      c.args.iterations
+  known = settling_is images bs es c.requires.over many c.args.iterations c.args.states.now
       c.requires.states c.requires.arities c.args.groups.now c.requires.square c.requires.classes
       c.requires.base c.requires.closed
 
   given : IsSettling M bs (groups_in c.args.groups.now) (told c.args.states.now)
-      c.deref.result.now c.args.turns
+      c.deref.result.now c.args.iterations
   given = subst (λ (l : List Expo). IsSettling M bs (groups_in c.args.groups.now)
-      (told c.args.states.now) l c.args.turns) (sym c.deref.ensures.value) known
+      (told c.args.states.now) l c.args.iterations) (sym c.deref.ensures.value) known
 
 pub least-requires-clause-inside : goal.least-requires-clause-inside
 least-requires-clause-inside c =
@@ -63,12 +64,12 @@ least-requires-clause-alike c =
     let at = (goal.at.least-requires-clause-alike c).After-deref in
     subst (λ (l : List Expo). All (λ (v : Vec FracPoly Global). AreAlike l v.items)
     c.args.states.now) (sym c.deref.ensures.value)
-    (all_alike (images at) (bs at) (es at) c.requires.over (many at) c.args.turns
+    (all_alike (images at) (bs at) (es at) c.requires.over (many at) c.args.iterations
     c.args.states.now c.requires.states c.requires.arities)
 
 pub least-requires-clause-since : goal.least-requires-clause-since
 least-requires-clause-since c =
-    let n = states_count (terms_each c.args.images.now.items) c.args.turns c.args.states.now
+    let n = states_count (terms_each c.args.images.now.items) c.args.iterations c.args.states.now
     c.requires.states in
     omega (arith, n)
 
@@ -84,7 +85,7 @@ passing-requires-clause-alike c =
     subst (λ (l : List Expo). AreAlike l c.deref-in-Ok-2.result.now)
     (sym c.deref-in-Ok.ensures.value)
     (subst (λ (ps : List FracPoly). AreAlike (es at) ps) (sym c.deref-in-Ok-2.ensures.value)
-    (state_alike (images at) (bs at) (es at) c.requires.over (many at) c.args.turns
+    (state_alike (images at) (bs at) (es at) c.requires.over (many at) c.args.iterations
     c.args.states.now c.requires.states c.requires.arities 0 c.index-states-0.result
     (omega arith) c.index-states-0.is))
 
@@ -94,20 +95,20 @@ returns-in-Ok-passing-clause-form c =
     let since = c.in-Ok.since in
     let marks = c.in-Ok-passing.passing.items in
     let gs = groups_in c.args.groups.now in
-    let settled : IsSettled (M at) (bs at) (es at) c.args.turns since =
-    subst (λ (l : List Expo). IsSettled (M at) (bs at) l c.args.turns since)
+    let settled : IsSettled (M at) (bs at) (es at) c.args.iterations since =
+    subst (λ (l : List Expo). IsSettled (M at) (bs at) l c.args.iterations since)
     c.deref.ensures.value (c.in-Ok.ensures.settled (M at) (bs at) (given at)) in
     let state : terms_each c.deref-in-Ok-2.result.now ≡ after (M at) 0 =
     ap terms_each c.deref-in-Ok-2.ensures.value
-    ∙ state_at (M at) c.args.turns c.args.states.now c.requires.states 0
+    ∙ state_at (M at) c.args.iterations c.args.states.now c.requires.states 0
     c.index-states-0.result (omega arith) c.index-states-0.is in
     let passes : ArePassing (bs at) (length (M at)) (bodies_of (es at)) marks =
     elim (cases_eq since 0) [
-      | inl e ↦ passing_none (M at) (bs at) gs (told c.args.states.now) (es at) c.args.turns
+      | inl e ↦ passing_none (M at) (bs at) gs (told c.args.states.now) (es at) c.args.iterations
           (known at) marks
           (subst (λ n. IsClosedFormFrom (bs at) (M at) n (bodies_of (es at))) e settled.closed)
           (c.in-Ok-passing.ensures.none e)
-      | inr n ↦ passing_marked (M at) (bs at) gs (told c.args.states.now) (es at) c.args.turns
+      | inr n ↦ passing_marked (M at) (bs at) gs (told c.args.states.now) (es at) c.args.iterations
           (known at) marks (terms_each c.deref-in-Ok-2.result.now) state
           (subst (λ (l : List Expo). AreAllMarked l 0 (terms_each c.deref-in-Ok-2.result.now) gs
           marks) c.deref-in-Ok.ensures.value (c.in-Ok-passing.ensures.marked n))
@@ -118,11 +119,12 @@ returns-in-Ok-passing-clause-form c =
       since = since;
       passing = c.in-Ok-passing.passing;
     } in
-    form_is (images at) form c.args.turns c.requires.base
+    form_is (images at) form c.args.iterations c.requires.base
     (let n = many at in let e : length (bs at) ≡ length c.args.base.items =
     length-map c.args.base.items _ in
     omega (arith, c.requires.short, e))
-    c.requires.turns (room c.args.base.items (length (images at)) c.requires.short c.requires.few)
+    c.requires.iterations (room c.args.base.items (length (images at)) c.requires.short
+    c.requires.few)
     c.requires.over settled
     (c.in-Ok-passing.ensures.count ∙ ap length c.deref-in-Ok.ensures.value) passes
 
@@ -133,9 +135,10 @@ returns-in-Err-passing-clause-refused c =
     let gs = groups_in c.args.groups.now in
     let low = (c.in-Ok.ensures.settled (M at) (bs at) (given at)).low in
     of_class (λ v. (since ≢ 0) × IsPastOfClass gs c.deref-in-Ok.result.now 0 v)
-    (IsWideTurn (bs at) (M at) c.args.turns)
-    (λ v w. wide_here (M at) (bs at) gs (told c.args.states.now) (es at) c.args.turns (known at)
-    0 v (some since c.args.turns w.0 low) (inr refl)
+    (IsWideIteration (bs at) (M at) c.args.iterations)
+    (λ v w. wide_here (M at) (bs at) gs (told c.args.states.now) (es at) c.args.iterations
+    (known at)
+    0 v (some since c.args.iterations w.0 low) (inr refl)
     (subst (λ (l : List Expo). IsPastOfClass gs l 0 v) c.deref-in-Ok.ensures.value w.1))
     c.in-Err-passing.error c.in-Err-passing.ensures.refused
   where

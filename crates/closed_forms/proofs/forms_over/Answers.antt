@@ -11,8 +11,8 @@ use Rattle.closed_forms.proofs.Splitting.{map_of}
 use Rattle.closed_forms.proofs.StateLists.{told}
 use Rattle.closed_forms.proofs.forms_over.Goals as goal
 
-pub zeros_of-turns-requires : goal.zeros_of-turns-requires
-zeros_of-turns-requires c = twelve_values c.args.images.now.items c.requires.few
+pub zeros_of-iterations-requires : goal.zeros_of-iterations-requires
+zeros_of-iterations-requires c = twelve_values c.args.images.now.items c.requires.few
     c.requires.square c.args.splits.now c.requires.splits
 
 pub states-requires-clause-some : goal.states-requires-clause-some
@@ -22,12 +22,12 @@ states-requires-clause-some c = λ some.
     let a = zeros_low (values_in c.args.splits.now) in
     let b = values_few M (map_of images c.requires.square) c.args.splits.now c.requires.splits in
     let d = length_each images in
-    let e = c.zeros_of-turns.ensures in
+    let e = c.zeros_of-iterations.ensures in
     omega (arith, a, b, d, e, some)
 
 pub forms_with-requires-clause-states : goal.forms_with-requires-clause-states
 forms_with-requires-clause-states c = subst (λ (found : List (Vec FracPoly Global)). told found
-    ≡ states_to (terms_each c.args.images.now.items) c.zeros_of-turns.result)
+    ≡ states_to (terms_each c.args.images.now.items) c.zeros_of-iterations.result)
     (sym c.deref.ensures.value) c.in-Ok.ensures.states
 
 pub forms_with-requires-clause-arities : goal.forms_with-requires-clause-arities
@@ -42,9 +42,9 @@ returns-in-Err-Wide-clause-refused c =
     let bs = sizes c.args.base.items in
     later_state M bs (form_base_is M c.args.splits.now c.requires.splits
     (map_of c.args.images.now.items c.requires.square) bs c.requires.base)
-    c.zeros_of-turns.result
+    c.zeros_of-iterations.result
     (record {
       splits = c.args.splits.now;
       are = c.requires.splits;
-      count = sym c.zeros_of-turns.ensures;
+      count = sym c.zeros_of-iterations.ensures;
     }) (c.in-Err-Wide.ensures.wide (ap Err c.in-Err-Wide.field-0-is))

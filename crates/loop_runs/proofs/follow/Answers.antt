@@ -4,7 +4,7 @@ use Rattle.std.proofs.lemmas.List.Elements.{same_from_all_zip, All-push}
 use Rattle.std.proofs.lemmas.List.{drop_more, drop_all, map_push}
 use Rattle.loop_model.specs.View.{program_of}
 use Rattle.loop_runs.proofs.follow.Goals as goal
-use Rattle.loop_runs.proofs.Turns.{passes_on, states_more, states_stop, states_no_branch, states_end}
+use Rattle.loop_runs.proofs.Iterations.{passes_on, states_more, states_stop, states_no_branch, states_end}
 
 pub returns-in_default-clause-follows : goal.returns-in_default-clause-follows
 returns-in_default-clause-follows c =
@@ -49,16 +49,16 @@ returns-clause-follows c =
     c.loop-index.invariant.left in
     rw (c.in_ok-push-2.ensures.items, map_push) (states_end (program_of c.args.lp.now) _ _ _ _ left)
 
-pub after_turn-requires-clause-few : goal.after_turn-requires-clause-few
-after_turn-requires-clause-few c =
+pub after_iteration-requires-clause-few : goal.after_iteration-requires-clause-few
+after_iteration-requires-clause-few c =
     let size = c.loop-index.invariant.len in
     let locals = c.len.ensures.len ∙ ap length c.locals.ensures.locals in
     let few : length c.args.lp.now.names ≤ 12 = c.args.lp.now.few_names in
     let least : length c.args.lp.now.locals ≤ 12 = c.args.lp.now.few_locals in
     omega (arith, size, locals, few, least)
 
-pub after_turn-requires-clause-statements : goal.after_turn-requires-clause-statements
-after_turn-requires-clause-statements c =
+pub after_iteration-requires-clause-statements : goal.after_iteration-requires-clause-statements
+after_iteration-requires-clause-statements c =
     let size = c.loop-index.invariant.len in
     let locals = c.len.ensures.len ∙ ap length c.locals.ensures.locals in
     rw (size, locals) c.in-Some.ensures.statements

@@ -2,7 +2,7 @@ use Rattle.std.proofs.Common.{◌≡◌, All, map, length, drop}
 use Rattle.loop_model.specs.View.{program_of}
 use Rattle.loop_runs.specs.Replay.{states_from}
 use Rattle.loop_runs.specs.Seen.{numbers_of}
-use Rattle.loop_runs.proofs.Turns.{StatesLeft}
+use Rattle.loop_runs.proofs.Iterations.{StatesLeft}
 use Rattle.loop_runs.proofs.follow.Given as goal
 
 abbrev pub invariant-loop-index : goal.invariant-loop-index

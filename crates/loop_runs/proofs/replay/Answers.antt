@@ -8,7 +8,7 @@ use Rattle.loop_runs.specs.Seen.{numbers_of, fault_of, IsWithin}
 use Rattle.loop_runs.proofs.replay.Goals as goal
 use Rattle.loop_runs.proofs.Fits.{equations_here}
 use Rattle.loop_runs.proofs.Runs.{answer_starts, answer_states}
-use Rattle.loop_runs.proofs.Turns.{start_passes, within_more, replayed_count, replayed_start, replayed_on}
+use Rattle.loop_runs.proofs.Iterations.{start_passes, within_more, replayed_count, replayed_start, replayed_on}
 
 pub returns-then-len-variables-clause-replays : goal.returns-then-len-variables-clause-replays
 returns-then-len-variables-clause-replays c =

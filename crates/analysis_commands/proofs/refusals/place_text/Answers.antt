@@ -14,14 +14,15 @@ pub returns-in-Meet : goal.returns-in-Meet
 returns-in-Meet c = retold string_bytes c.format-in-Meet.result _ _ c.format-in-Meet.ensures.ok
     (rw c.in-Meet.is (simp append_assoc))
 
-pub returns-in-Turn : goal.returns-in-Turn
-returns-in-Turn c = retold string_bytes c.format-in-Turn.result _ _ c.format-in-Turn.ensures.ok
-    (rw c.in-Turn.is (simp append_assoc))
+pub returns-in-Iteration : goal.returns-in-Iteration
+returns-in-Iteration c = retold string_bytes c.format-in-Iteration.result _ _
+    c.format-in-Iteration.ensures.ok
+    (rw c.in-Iteration.is (simp append_assoc))
 
-pub returns-in-TurnMeet : goal.returns-in-TurnMeet
-returns-in-TurnMeet c =
-    retold string_bytes c.format-in-TurnMeet.result _ _ c.format-in-TurnMeet.ensures.ok
-    (rw c.in-TurnMeet.is (simp append_assoc))
+pub returns-in-IterationMeet : goal.returns-in-IterationMeet
+returns-in-IterationMeet c =
+    retold string_bytes c.format-in-IterationMeet.result _ _ c.format-in-IterationMeet.ensures.ok
+    (rw c.in-IterationMeet.is (simp append_assoc))
 
 pub returns-in-Extend : goal.returns-in-Extend
 returns-in-Extend c =

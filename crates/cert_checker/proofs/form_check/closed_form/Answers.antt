@@ -6,11 +6,11 @@ use Rattle.std.proofs.lemmas.Result.{err_from_is_err_and}
 use borrow.Author.Count.{below_more}
 use Rattle.algebra.proofs.Lists.{take_next, have_more}
 use Rattle.polynomials.specs.Order.{grevlex}
-use Rattle.solvable_maps.specs.Turns.{width}
-use Rattle.rounds.specs.Form.{backward}
+use Rattle.solvable_maps.specs.Iterations.{width}
+use Rattle.rounds.specs.Form.{inverse_form}
 use Rattle.completeness.specs.FormIdentities.{IsRightForm}
 use Rattle.poly.specs.Seen.{terms_in, terms_each}
-use Rattle.poly.specs.Standing.{IsOver}
+use Rattle.poly.specs.Standing.{IsInVariables}
 use Rattle.coprime_base.specs.Sizes.{sizes}
 use Rattle.expo.specs.Bases.{IsCoprimeBase}
 use Rattle.cert_checker.specs.Passing.{IsPastForm, form_with, Passes, PassesAt}
@@ -29,8 +29,8 @@ loop-place-init c =
       within = omega arith;
       passes = λ j l. absurd (omega (arith, l));
       backs = ap terms_each c.new-found.ensures.items;
-      over = All-same (IsOver w) c.new-found.result.items [] c.new-found.ensures.items
-          (All-nil (IsOver w));
+      over = All-same (IsInVariables w) c.new-found.result.items [] c.new-found.ensures.items
+          (All-nil (IsInVariables w));
     }
 
 pub returns-in_err-next-clause-wide : goal.returns-in_err-next-clause-wide
@@ -73,13 +73,13 @@ loop-place-preserved c =
     let ps = terms_each c.args.polys.now.items in
     let w = width (length bs) (length c.args.images.now.items) in
     let i = c.loop-place.place in
-    let b = backward grevlex (length bs) in
+    let b = inverse_form grevlex (length bs) in
     let many = length-map c.args.polys.now.items terms_in in
     let size : c.len-place-end.result ≡ length c.args.polys.now.items = c.len-place-end.ensures
     ∙ c.args.polys.now.ok.0 in
     let inside : i < length ps = omega (arith, c.loop-place-test.true, size, many) in
     let yes = subst (Passes (PassesAt bs images ps i)
-    (λ q. (terms_in q ≡ b (get_or ps i [])) × IsOver w q)) c.in-Some.is
+    (λ q. (terms_in q ≡ b (get_or ps i [])) × IsInVariables w q)) c.in-Some.is
     c.in_ok-next.ensures.passes in
     let items = c.in_ok-push-in-Some.ensures.items in
     record {
@@ -88,7 +88,7 @@ loop-place-preserved c =
       backs = ap terms_each items ∙ map-append terms_in c.loop-place.found.items _
           ∙ ap₂ (λ xs x. xs ++ x ∷ []) c.loop-place.invariant.backs yes.1.0
           ∙ sym (take_next b ps i (get_or ps i []) inside (get_or_default ps i [] _ inside));
-      over = have_more (IsOver w) c.loop-place.found.items c.push.new.self.items _ items
+      over = have_more (IsInVariables w) c.loop-place.found.items c.push.new.self.items _ items
           c.loop-place.invariant.over yes.1.1;
     }
 
@@ -111,7 +111,7 @@ returns-clause-passes c =
           (λ j l. c.loop-place.invariant.passes j (omega (arith, l, last)))),
       (
         c.loop-place.invariant.backs
-            ∙ ap (map (backward grevlex (length bs))) (take_all c.loop-place.place ps last),
+            ∙ ap (map (inverse_form grevlex (length bs))) (take_all c.loop-place.place ps last),
         c.loop-place.invariant.over,
         base,
       ),

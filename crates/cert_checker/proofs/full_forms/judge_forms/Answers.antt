@@ -16,8 +16,8 @@ use Rattle.cert_checker.specs.Passing.{Passes}
 use Rattle.completeness.specs.Full.{as_form}
 use Rattle.task_lists.specs.View.{form_in, full_of}
 use Rattle.poly.specs.Seen.{terms_each}
-use Rattle.cert_checker.specs.Backward.{IsBackward}
-use Rattle.cert_checker.proofs.FormsAlong.{fits, pass_on, pass_back, past_on, backward_at, backs_more}
+use Rattle.cert_checker.specs.InverseForm.{IsInverseForm}
+use Rattle.cert_checker.proofs.FormsAlong.{fits, pass_on, pass_back, past_on, inverse_form_at, backs_more}
 use Rattle.cert_checker.proofs.full_forms.judge_forms.Goals as goal
 use Rattle.cert_checker.proofs.full_forms.judge_forms.Goals.{After-index-form}
 
@@ -104,10 +104,10 @@ loop-b-preserved c =
       count = ap length items ∙ length_push c.loop-b.found.items c.in-Ok-Some.back
           ∙ ap (λ n. n + 1) c.loop-b.invariant.count;
       back = subst (λ xs. (j : ℕ) (d : Vec FracPoly Global) → j < b + 1
-          → IsBackward (program e) cert j (get_or xs j d)) (sym items)
-          (backs_more (IsBackward (program e) cert) c.loop-b.found.items c.in-Ok-Some.back b
+          → IsInverseForm (program e) cert j (get_or xs j d)) (sym items)
+          (backs_more (IsInverseForm (program e) cert) c.loop-b.found.items c.in-Ok-Some.back b
           c.loop-b.invariant.count c.loop-b.invariant.back
-          (backward_at (program e) cert c.requires.images c.requires.counted b form (inside e)
+          (inverse_form_at (program e) cert c.requires.images c.requires.counted b form (inside e)
           c.index-form.ensures images maps (stands e) (count e) c.args.lp.now.some_name
           c.args.lp.now.few_names arity c.in-Ok-Some.back yes.1.0 yes.1.1 yes.1.2));
     }

@@ -18,7 +18,7 @@ use Rattle.task_lists.specs.Starting.{meet_starting, IsPastMeet, FitsMeet}
 use Rattle.completeness.specs.Counts.{IsStageCounted}
 use Rattle.task_lists.specs.Images.{IsStageIn}
 use Rattle.task_lists.specs.View.{form_in, stage_in, round_in, full_of}
-use Rattle.cert_checker.specs.Backward.{given_list}
+use Rattle.cert_checker.specs.InverseForm.{given_list}
 use Rattle.cert_checker.specs.Parts.{part_of, place_of, stage_part}
 use Rattle.cert_checker.specs.StageParts.{IsPastPlace}
 use Rattle.cert_checker.specs.FullStops.{IsStop, stop_map}

@@ -16,7 +16,7 @@ use Rattle.task_lists.specs.Starting.{orbit_starting, IsPastOrbit}
 use Rattle.completeness.specs.Counts.{IsStageCounted}
 use Rattle.task_lists.specs.Images.{IsStageIn}
 use Rattle.task_lists.specs.View.{form_in, stage_in, round_in, full_of}
-use Rattle.cert_checker.specs.Backward.{IsBackward}
+use Rattle.cert_checker.specs.InverseForm.{IsInverseForm}
 use Rattle.cert_checker.specs.Parts.{part_of, place_of, stage_part}
 use Rattle.cert_checker.specs.StageParts.{IsPastPlace}
 use Rattle.cert_checker.specs.FullStops.{IsStop, stop_map}
@@ -67,8 +67,8 @@ module _ (c : After-len-2) where
   abbrev at_round : After-index-3
   at_round = (goal.at.After-len-2 c).After-index-3
 
-  backward : IsBackward program c.args.cert.now c.args.branch c.index-2.result.now
-  backward = subst (IsBackward program c.args.cert.now c.args.branch) (sym c.index-2.ensures)
+  inverse_form : IsInverseForm program c.args.cert.now c.args.branch c.index-2.result.now
+  inverse_form = subst (IsInverseForm program c.args.cert.now c.args.branch) (sym c.index-2.ensures)
       (c.requires.back.each c.args.branch c.index-2.result.now c.requires.branch)
 
   variables : c.len-2.result ≡ length program.names
@@ -85,7 +85,7 @@ module _ (c : After-len-2) where
       (sizes c.index.result.now.base.items) (terms_each c.index-2.result.now.items)
       (terms_each c.list_before-list.result.now.items) (before program full c.args.round)
       (base_is c.args.cert.now c.args.branch c.index.result.now (formed at_round) c.index.ensures)
-      backward.is c.list_before-list.ensures.before
+      inverse_form.is c.list_before-list.ensures.before
 
   stage_is : stage_in c.index-4.result.now.orbit ≡ stage_of full c.args.round c.args.branch orbit
   stage_is = orbit_stage c.args.cert.now c.args.round c.index-3.result.now (in_rounds at_round)
@@ -97,7 +97,7 @@ index-requires-4 c = omega (arith, size c, c.requires.branch)
 pub judge_stage-judged-requires-clause-fits : goal.judge_stage-judged-requires-clause-fits
 judge_stage-judged-requires-clause-fits c =
     orbit_fits c.args.cert.now c.args.branch c.index.result.now (formed (at_round c))
-    c.index.ensures (program c) c.index-2.result.now c.list_before-list.result.now (backward c)
+    c.index.ensures (program c) c.index-2.result.now c.list_before-list.result.now (inverse_form c)
     c.len-2.result (variables c)
     (subst (λ n. 0 < n) (ap length c.names.ensures.names) c.names.ensures.some)
     c.list_before-list.ensures.over
@@ -141,5 +141,5 @@ returns-clause-stops c =
     (λ t g. stage_stops (program e) (full e) c.args.round c.args.branch kind.Orbit k (list e) s
     (front_is e) (starts e) (stage_is e) (past e)
     (orbit_past c.args.cert.now c.args.branch c.index.result.now (formed (at_round e))
-    c.index.ensures (program e) c.index-2.result.now c.list_before-list.result.now (backward e)
+    c.index.ensures (program e) c.index-2.result.now c.list_before-list.result.now (inverse_form e)
     c.args.round c.list_before-list.ensures.before) t g)) c.in_stage.ensures.stops

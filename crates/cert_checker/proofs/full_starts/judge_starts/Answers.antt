@@ -9,7 +9,7 @@ use Rattle.loop_model.specs.View.{program_of}
 use Rattle.rounds.specs.Start.{start_list}
 use Rattle.ring_laws.specs.declared.ArithmeticError.TheVariants as arithmetic_error
 use Rattle.poly.specs.Seen.{IsImage, terms_in, terms_each}
-use Rattle.poly.specs.Standing.{IsOver}
+use Rattle.poly.specs.Standing.{IsInVariables}
 use Rattle.loop_model.specs.FracPoly.{FracPoly}
 use Rattle.task_lists.specs.Rows.{rows_of}
 use Rattle.task_lists.proofs.Combining.{place_in}
@@ -107,7 +107,7 @@ is_combination-requires-clause-cofactors c =
     let p = c.p-item.result in
     let row = c.index.result.now in
     let polys = subst (λ (r : Vec FracPoly Global).
-    All (IsOver (length (program_of c.args.lp.now).names)) r.items) (sym c.index.ensures)
+    All (IsInVariables (length (program_of c.args.lp.now).names)) r.items) (sym c.index.ensures)
     (c.requires.links c.loop-i.i row (in_rows e)) in
     subst (All (IsImage p.order p.arity)) (sym c.deref-in-loop-i.ensures.value)
     (over_images (λ x y. refl) (length (program_of c.args.lp.now).names) p row.items (over e) polys)

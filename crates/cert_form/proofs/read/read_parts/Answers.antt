@@ -1,7 +1,7 @@
 use Rattle.std.proofs.Common.{◌≡◌, length, vec_len, sym, subst, ap, ◌∙◌}
 use Rattle.std.proofs.lemmas.Result.{err_from_is_err_and}
 use Rattle.serde_json.specs.View.{view}
-use Rattle.cert_form.specs.Cert.{AreStepsOf, IsCertOf, IsKept, certificate_of}
+use Rattle.cert_form.specs.Cert.{AreStepsOf, IsCertOf, IsWellSized, certificate_of}
 use Rattle.cert_form.proofs.Each.{IfFault-map}
 use Rattle.cert_form.proofs.Kept.{kept, cert_is, raws_length}
 use Rattle.cert_form.proofs.Documents.{parts_is, parts_fault}
@@ -26,7 +26,7 @@ new-requires c =
     c.in_ok-steps.steps steps.raw =
     subst (λ n. AreStepsOf (length c.args.names.now) n c.args.branches c.in_ok-steps.steps
     steps.raw) c.len.ensures steps.alike in
-    subst (λ m. IsKept m c.in_ok-basis.basis c.in_ok-steps.steps) (sym c.len-2.ensures.len)
+    subst (λ m. IsWellSized m c.in_ok-basis.basis c.in_ok-steps.steps) (sym c.len-2.ensures.len)
     (kept _ _ c.in_ok-basis.basis basis.raw c.in_ok-steps.steps steps.raw basis.alike blocks)
 
 pub returns-clause-ok : goal.returns-clause-ok

@@ -3,7 +3,7 @@ use Rattle.std.proofs.lemmas.Result.{IfOk-weaker, IfErr-weaker}
 use Rattle.polynomials.specs.Terms.{Terms}
 use Rattle.algebra.specs.Fraction.{Fraction}
 use Rattle.poly.specs.Seen.{terms_each}
-use Rattle.closed_forms.specs.Known.{IsWideTurn}
+use Rattle.closed_forms.specs.Known.{IsWideIteration}
 use Rattle.closed_forms.specs.Settling.{AreAllMarked, IsPastOfClass, IsSettling, IsSettled}
 use Rattle.closed_forms.specs.Splits.{groups_in}
 use Rattle.closed_forms.specs.States.{after}
@@ -75,7 +75,8 @@ pub returns-else-has_any-clause-refused : goal.returns-else-has_any-clause-refus
 returns-else-has_any-clause-refused t c = λ images base h.
     let at = (goal.at.returns-else-has_any-clause-refused t c).After-has_any in
     IfErr-weaker c.least.result _ _
-    (of_class (IsWideTurn base images (c.args.since - 1)) (IsWideTurn base images c.args.since)
+    (of_class (IsWideIteration base images (c.args.since - 1))
+    (IsWideIteration base images c.args.since)
     (λ v w. wide_before base images (c.args.since - 1) c.args.since v (one t at images base h) w))
     (c.least.ensures.refused images base (before t at images base h
     (c.has_any.ensures.none c.if-has_any.false)))
@@ -83,7 +84,7 @@ returns-else-has_any-clause-refused t c = λ images base h.
 pub returns-in-Err-clause-refused : goal.returns-in-Err-clause-refused
 returns-in-Err-clause-refused t c = λ images base h.
     of_class (IsPastOfClass (groups_in c.args.groups.now) c.args.polys.now (c.args.since - 1))
-    (IsWideTurn base images c.args.since)
+    (IsWideIteration base images c.args.since)
     (λ v w. wide_here images base (groups_in c.args.groups.now) (told c.args.states.now)
     c.args.polys.now c.args.since h (c.args.since - 1) v
     (let o = one_more c.args.since c.if-since-eq0.false in omega (arith, o))

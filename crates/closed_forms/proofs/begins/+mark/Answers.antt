@@ -28,13 +28,13 @@ mark-requires t c = (
 
 pub returns-in-Ok-clause-kept : goal.returns-in-Ok-clause-kept
 returns-in-Ok-clause-kept t c = on_ok_where c.mark.result _ _
-    (λ h. kept_both c.args.polys.now c.args.turns (terms_each c.args.state.now)
+    (λ h. kept_both c.args.polys.now c.args.iterations (terms_each c.args.state.now)
     c.args.marks.now.items c.mark_class.new.marks.items c.mark.new.marks.items
     c.in-Ok.ensures.kept h) c.mark.ensures.kept
 
 pub returns-in-Ok-clause-marked : goal.returns-in-Ok-clause-marked
 returns-in-Ok-clause-marked t c = both c.mark.result _ _ _
-    (λ k h. groups_first c.args.polys.now c.args.turns (terms_each c.args.state.now)
+    (λ k h. groups_first c.args.polys.now c.args.iterations (terms_each c.args.state.now)
     (groups_in c.args.groups.now) (groups_in c.in-Some.groups.now) c.as_slice-group.result.now
     c.mark_class.new.marks.items c.mark.new.marks.items
     (ap groups_in c.in-Some.ensures.cases.0
@@ -44,15 +44,15 @@ returns-in-Ok-clause-marked t c = both c.mark.result _ _ _
 pub returns-in-Ok-clause-refused : goal.returns-in-Ok-clause-refused
 returns-in-Ok-clause-refused t c = IfErr-weaker c.mark.result _ _
     (λ e h. of_class
-    (IsPastOfClass (groups_in c.in-Some.groups.now) c.args.polys.now c.args.turns)
-    (IsPastOfClass (groups_in c.args.groups.now) c.args.polys.now c.args.turns)
-    (λ v p. past_class_later c.args.polys.now c.args.turns (terms_each c.args.state.now)
+    (IsPastOfClass (groups_in c.in-Some.groups.now) c.args.polys.now c.args.iterations)
+    (IsPastOfClass (groups_in c.args.groups.now) c.args.polys.now c.args.iterations)
+    (λ v p. past_class_later c.args.polys.now c.args.iterations (terms_each c.args.state.now)
     (groups_in c.args.groups.now) (groups_in c.in-Some.groups.now) c.in-Some.group.now.items v
     (ap groups_in c.in-Some.ensures.cases.0) p) e h) c.mark.ensures.refused
 
 pub returns-in-Err-Wide-clause-refused : goal.returns-in-Err-Wide-clause-refused
 returns-in-Err-Wide-clause-refused t c =
-    past_class_first c.args.polys.now c.args.turns (terms_each c.args.state.now)
+    past_class_first c.args.polys.now c.args.iterations (terms_each c.args.state.now)
     (groups_in c.args.groups.now) (groups_in c.in-Some.groups.now) c.as_slice-group.result.now
     c.first_of.result
     (ap groups_in c.in-Some.ensures.cases.0

@@ -2,25 +2,27 @@ use Rattle.std.proofs.Common.{length, sym, subst}
 use Rattle.linear.specs.Rows.{fractions_of, rows_of}
 use Rattle.polynomials.specs.Order.{grevlex}
 use Rattle.solvable.proofs.Using.{FracPoly}
-use Rattle.solvable_maps.specs.Turns.{IsNormalForm}
+use Rattle.solvable_maps.specs.Iterations.{IsNormalForm}
 use Rattle.poly.specs.Seen.{terms_in, terms_each}
 use Rattle.frac128.specs.FracMeaning.{fraction_of}
 use Rattle.coprime_base.specs.Sizes.{sizes}
 use Rattle.expo.proofs.Solved.{handed_on}
 use Rattle.closed_forms.specs.ClassForms.{ahead_in}
-use Rattle.closed_forms.specs.Known.{IsNextForm, source_past, making_past}
+use Rattle.closed_forms.specs.Known.{IsNextForm, inhomogeneity_past, making_past}
 use Rattle.closed_forms.proofs.Joining.{over_normal}
 use Rattle.closed_forms.proofs.class.closed_form.Goals as goal
 
-pub returns-in_err-source-clause-wide : goal.returns-in_err-source-clause-wide
-returns-in_err-source-clause-wide c = handed_on c.in_err-source.field-0.0 c.from_residual.result
-    c.from_residual.ensures.1 (λ w. source_past (c.in_err-source.ensures.wide w))
+pub returns-in_err-inhomogeneity-clause-wide : goal.returns-in_err-inhomogeneity-clause-wide
+returns-in_err-inhomogeneity-clause-wide c = handed_on c.in_err-inhomogeneity.field-0.0
+    c.from_residual.result
+    c.from_residual.ensures.1 (λ w. inhomogeneity_past (c.in_err-inhomogeneity.ensures.wide w))
 
 pub returns-in_err-closed-clause-wide : goal.returns-in_err-closed-clause-wide
 returns-in_err-closed-clause-wide c =
     handed_on c.in_err-closed.field-0.0 c.from_residual-in_err-closed.result
     c.from_residual-in_err-closed.ensures.1
-    (λ w. making_past (terms_in c.in_ok-source.source.body) c.in_ok-source.ensures.source
+    (λ w. making_past (terms_in c.in_ok-inhomogeneity.inhomogeneity.body)
+    c.in_ok-inhomogeneity.ensures.inhomogeneity
     (c.in_err-closed.ensures.wide w))
 
 pub returns-clause-normal : goal.returns-clause-normal
@@ -40,7 +42,7 @@ returns-clause-next c =
     (fraction_of c.args.value.now) (terms_each c.args.done.now) (terms_in p))
     (sym c.into_body.ensures)
     (record {
-      source = terms_in c.in_ok-source.source.body;
-      is = c.in_ok-source.ensures.source;
+      inhomogeneity = terms_in c.in_ok-inhomogeneity.inhomogeneity.body;
+      is = c.in_ok-inhomogeneity.ensures.inhomogeneity;
       made = c.in_ok-closed.ensures.form;
     })

@@ -37,7 +37,7 @@ picked-requires c =
     let M = c.args.images.now.items in
     subst (λ n. All (λ i. i < n) c.args.group.now)
     (sym (sym (length_each c.args.state.now) ∙ ap length c.requires.state
-    ∙ after_count (terms_each M) c.args.turns ∙ length_each M))
+    ∙ after_count (terms_each M) c.args.iterations ∙ length_each M))
     (class_inside M c.args.group.now c.requires.class)
 
 pub returns-clause-setting : goal.returns-clause-setting
@@ -50,7 +50,7 @@ returns-clause-setting c = record {
   matrix = c.in_ok-matrix.ensures;
   back = subst (λ fs. IsBehind (rows_of fs) (rows_of c.in_ok-back.back.items))
       c.deref.ensures.value c.in_ok-back.ensures.inverse;
-  turns = refl;
+  iterations = refl;
   ahead = c.in_ok-ahead.ensures.terms
       ∙ ap (λ l. map (poly_at l) c.args.group.now) c.requires.state;
 }

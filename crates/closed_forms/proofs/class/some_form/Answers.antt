@@ -8,19 +8,19 @@ use Rattle.expo.proofs.Solved.{handed_on}
 use Rattle.closed_forms.specs.ClassForms.{ahead_in}
 use Rattle.closed_forms.specs.Later.{IsPastLater, there_past, later_past}
 use Rattle.closed_forms.specs.Solved.{IsPastSolved}
-use Rattle.closed_forms.specs.Sources.{part}
+use Rattle.closed_forms.specs.Inhomogeneities.{part}
 use Rattle.closed_forms.specs.Sums.{IsPastMix}
 use Rattle.closed_forms.specs.Values.{IsExpoOver}
 use Rattle.closed_forms.proofs.FormsFrom.{at_once_past}
 use Rattle.closed_forms.proofs.Mixing.{tell}
-use Rattle.closed_forms.proofs.Settling.{source_arities, source_normal}
+use Rattle.closed_forms.proofs.Settling.{inhomogeneity_arities, inhomogeneity_normal}
 use Rattle.closed_forms.proofs.class.some_form.Goals as goal
 
 pub solve-requires-clause-arities : goal.solve-requires-clause-arities
 solve-requires-clause-arities c =
     let bs = sizes c.args.base.now.items in
-    source_arities bs c.len-vars.result c.args.source.now
-    (subst (λ m. IsExpoOver bs m c.args.source.now)
+    inhomogeneity_arities bs c.len-vars.result c.args.inhomogeneity.now
+    (subst (λ m. IsExpoOver bs m c.args.inhomogeneity.now)
     (sym (c.len-vars.ensures ∙ c.args.setting.now.earlier.ok.0)) c.requires.over)
     c.deref.result.now
     (c.deref.ensures.value ∙ ap (λ v. v.items) c.terms-terms.ensures
@@ -28,8 +28,8 @@ solve-requires-clause-arities c =
 
 pub solve-requires-clause-normal : goal.solve-requires-clause-normal
 solve-requires-clause-normal c =
-    source_normal (sizes c.args.base.now.items) (length c.args.setting.now.earlier.items)
-    c.args.source.now c.requires.over c.deref.result.now
+    inhomogeneity_normal (sizes c.args.base.now.items) (length c.args.setting.now.earlier.items)
+    c.args.inhomogeneity.now c.requires.over c.deref.result.now
     (c.deref.ensures.value ∙ ap (λ v. v.items) c.terms-terms.ensures
     ∙ ap (λ p. p.terms.items) c.body.ensures)
 
@@ -40,7 +40,7 @@ returns-then-setting-eq0-clause-wide c =
     let f = fractions_of c.args.form.now in
     let x = number_of bs c.in_ok-own.own in
     λ w. at_once_past bs m f c.args.group.now (fraction_of c.args.value.now) x
-    (ahead_in c.args.setting.now) (terms_in c.args.source.now.body) c.requires.nonzero
+    (ahead_in c.args.setting.now) (terms_in c.args.inhomogeneity.now.body) c.requires.nonzero
     c.in_ok-own.ensures.power.is c.if-setting-eq0.true
     (subst (λ q. IsPastSolved bs m f c.args.group.now x (tell q))
     (c.deref.ensures.value ∙ ap (λ v. v.items) c.terms-terms.ensures
@@ -59,8 +59,8 @@ returns-in_err-there-clause-wide c =
 pub solve_later-requires-clause-arities : goal.solve_later-requires-clause-arities
 solve_later-requires-clause-arities c =
     let bs = sizes c.args.base.now.items in
-    source_arities bs c.in_ok-there.there.arity c.args.source.now
-    (subst (λ m. IsExpoOver bs m c.args.source.now)
+    inhomogeneity_arities bs c.in_ok-there.there.arity c.args.inhomogeneity.now
+    (subst (λ m. IsExpoOver bs m c.args.inhomogeneity.now)
     (sym (c.in_ok-there.ensures.arity ∙ c.len-vars.ensures
     ∙ c.args.setting.now.earlier.ok.0)) c.requires.over)
     c.deref-3.result.now
@@ -69,8 +69,8 @@ solve_later-requires-clause-arities c =
 
 pub solve_later-requires-clause-normal : goal.solve_later-requires-clause-normal
 solve_later-requires-clause-normal c =
-    source_normal (sizes c.args.base.now.items) (length c.args.setting.now.earlier.items)
-    c.args.source.now c.requires.over c.deref-3.result.now
+    inhomogeneity_normal (sizes c.args.base.now.items) (length c.args.setting.now.earlier.items)
+    c.args.inhomogeneity.now c.requires.over c.deref-3.result.now
     (c.deref-3.ensures.value ∙ ap (λ v. v.items) c.terms-terms.ensures
     ∙ ap (λ p. p.terms.items) c.body.ensures)
 
@@ -81,13 +81,13 @@ returns-clause-wide c =
     let m = length s.earlier.items in
     let l = fraction_of c.args.value.now in
     let there = c.in_ok-there.there in
-    let q = terms_in c.args.source.now.body in
+    let q = terms_in c.args.inhomogeneity.now.body in
     λ w. later_past c.requires.nonzero c.if-setting-eq0.false
-    (subst (λ ps. IsPastLater bs m l s.turns
+    (subst (λ ps. IsPastLater bs m l s.iterations
     (part (fractions_of c.args.form.now) (terms_each ps)) q) c.deref-2.ensures.value
-    (subst (λ p. IsPastLater bs m l s.turns p q) c.in_ok-there.ensures.terms
-    (subst (λ k. IsPastLater bs k l s.turns (terms_in there) q)
+    (subst (λ p. IsPastLater bs m l s.iterations p q) c.in_ok-there.ensures.terms
+    (subst (λ k. IsPastLater bs k l s.iterations (terms_in there) q)
     (c.in_ok-there.ensures.arity ∙ c.len-vars.ensures ∙ s.earlier.ok.0)
-    (subst (λ ts. IsPastLater bs there.arity l s.turns (terms_in there) (tell ts))
+    (subst (λ ts. IsPastLater bs there.arity l s.iterations (terms_in there) (tell ts))
     (c.deref-3.ensures.value ∙ ap (λ v. v.items) c.terms-terms.ensures
     ∙ ap (λ p. p.terms.items) c.body.ensures) (c.solve_later.ensures.wide w)))))

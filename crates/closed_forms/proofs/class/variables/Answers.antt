@@ -8,7 +8,7 @@ use Rattle.linear.specs.Rows.{fractions_of}
 use Rattle.poly.specs.Seen.{terms_in, terms_each}
 use Rattle.coprime_base.specs.Sizes.{sizes}
 use Rattle.solvable_maps.specs.Expo.{with_normal_keys}
-use Rattle.closed_forms.specs.Sources.{collect_terms, part}
+use Rattle.closed_forms.specs.Inhomogeneities.{collect_terms, part}
 use Rattle.closed_forms.specs.Sums.{IsPastMix}
 use Rattle.closed_forms.specs.Values.{IsExpoOver}
 use Rattle.closed_forms.proofs.Chaining.{variables_next, row_past}

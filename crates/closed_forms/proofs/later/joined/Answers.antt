@@ -9,11 +9,11 @@ use Rattle.frac128.specs.declared.fraction.Frac.{Frac}
 use Rattle.poly.specs.Seen.{terms_in}
 use Rattle.poly.specs.declared.Term.{Term}
 use Rattle.coprime_base.specs.Sizes.{sizes}
-use Rattle.solvable_maps.specs.Turns.{width}
+use Rattle.solvable_maps.specs.Iterations.{width}
 use Rattle.expo.specs.Operations.{vars_of}
 use Rattle.expo.specs.Powers.{key_of_power}
 use Rattle.closed_forms.specs.Later.{with_powers}
-use Rattle.closed_forms.specs.Sources.{collect_terms}
+use Rattle.closed_forms.specs.Inhomogeneities.{collect_terms}
 use Rattle.expo.proofs.Solved.{handed_on}
 use Rattle.closed_forms.proofs.Joining.{over_normal}
 use Rattle.closed_forms.proofs.LaterForms.{together-arity, joined_is}

@@ -7,7 +7,7 @@ use Rattle.polynomials.specs.Terms.{Terms}
 use Rattle.polynomials.specs.Weight.{weight}
 use Rattle.poly.specs.Seen.{terms_in}
 use Rattle.coprime_base.specs.Sizes.{sizes}
-use Rattle.solvable_maps.specs.Turns.{width}
+use Rattle.solvable_maps.specs.Iterations.{width}
 use Rattle.expo.specs.Operations.{vars_of}
 use Rattle.expo.specs.Powers.{number_of}
 use Rattle.expo.proofs.Solved.{handed_on}
@@ -28,7 +28,7 @@ returns-in_err-push_solved-clause-wide c =
 -- all terms, and how many exponents they have
 module _ (c : After-len) where
   abbrev q : Terms Fraction
-  q = tell c.args.source.now
+  q = tell c.args.inhomogeneity.now
 
   abbrev all : Terms Fraction
   all = tell c.push_solved.new.out.items
@@ -45,7 +45,8 @@ module _ (c : After-len) where
       (ap tell c.new-terms.ensures.items) c.in_ok-push_solved.ensures.terms
 
   given : Arity (width (length (sizes c.args.base.now.items)) c.args.vars) q
-  given = arity_all (width (length (sizes c.args.base.now.items)) c.args.vars) c.args.source.now
+  given = arity_all (width (length (sizes c.args.base.now.items)) c.args.vars)
+      c.args.inhomogeneity.now
       c.requires.arities
 
   long : Arity (width (length (sizes c.args.base.now.items)) c.args.vars) all

@@ -13,17 +13,17 @@ use Rattle.closed_forms.proofs.later.solve_later.Goals.{In_ok-sum}
 pub returns-in_err-sum-clause-wide : goal.returns-in_err-sum-clause-wide
 returns-in_err-sum-clause-wide c =
     let bs = sizes c.args.base.now.items in
-    let q = tell c.args.source.now in
+    let q = tell c.args.inhomogeneity.now in
     handed_on c.in_err-sum.field-0.0 c.from_residual.result c.from_residual.ensures.1
     (λ w. sum_past (subst (λ l. IsPastSum bs c.args.there.arity l q) c.requires.own
     (subst (λ m. IsPastSum bs m (number_of bs c.args.own.now) q) c.arity-vars.ensures.arity
     (c.in_err-sum.ensures.wide w))))
 
 sum_is : (c : In_ok-sum) → IsSumOf (sizes c.args.base.now.items) c.args.there.arity
-    (fraction_of c.args.value.now) (tell c.args.source.now) (terms_in c.in_ok-sum.sum.body)
+    (fraction_of c.args.value.now) (tell c.args.inhomogeneity.now) (terms_in c.in_ok-sum.sum.body)
 sum_is c =
     let bs = sizes c.args.base.now.items in
-    let q = tell c.args.source.now in
+    let q = tell c.args.inhomogeneity.now in
     subst (λ l. IsSumOf bs c.args.there.arity l q (terms_in c.in_ok-sum.sum.body)) c.requires.own
     (subst (λ m. IsSumOf bs m (number_of bs c.args.own.now) q (terms_in c.in_ok-sum.sum.body))
     c.arity-vars.ensures.arity c.in_ok-sum.ensures.sum)
@@ -35,7 +35,7 @@ returns-in_err-start-clause-wide c =
     c.from_residual-in_err-start.ensures.1
     (λ w. start_past (terms_in sum.body)
     (sum_is (goal.at.returns-in_err-start-clause-wide c).In_ok-sum)
-    (subst (λ b. IsPastStart b c.args.there.arity (fraction_of c.args.value.now) c.args.turns
+    (subst (λ b. IsPastStart b c.args.there.arity (fraction_of c.args.value.now) c.args.iterations
     (terms_in c.args.there) (terms_in sum.body)) c.in_ok-sum.ensures.over.over_base
     (c.in_err-start.ensures.wide w)))
 
@@ -44,7 +44,7 @@ returns-clause-wide c =
     let sum = c.in_ok-sum.sum in
     let own = c.args.own.now in
     let start = subst (λ b. IsStart b c.args.there.arity (fraction_of c.args.value.now)
-    c.args.turns (terms_in c.args.there) (terms_in sum.body) (terms_in c.in_ok-start.start))
+    c.args.iterations (terms_in c.args.there) (terms_in sum.body) (terms_in c.in_ok-start.start))
     c.in_ok-sum.ensures.over.over_base c.in_ok-start.ensures.start in
     λ w. joined_past own.negative own.exponents.items
     (record {

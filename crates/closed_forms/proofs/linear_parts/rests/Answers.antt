@@ -1,7 +1,7 @@
 use Rattle.std.proofs.Common.{length, get_or, sym, ap, ◌∙◌, ◌≡◌}
 use Rattle.solvable_maps.specs.Uses.{poly_at}
 use Rattle.poly.specs.Seen.{terms_each}
-use Rattle.solvable_maps.specs.AfterTurns.{rest_of}
+use Rattle.solvable_maps.specs.AfterIterations.{rest_of}
 use Rattle.solvable.proofs.Using.{FracPoly, poly_at-is, arity_at}
 use Rattle.algebra.proofs.Lists.{have_more}
 use Rattle.closed_forms.proofs.Alone.{terms_next, place_low}

@@ -1,7 +1,7 @@
 use Rattle.std.proofs.Common.{◌≡◌, take, map, length, All}
 use Rattle.solvable_maps.specs.Uses.{poly_at}
 use Rattle.poly.specs.Seen.{terms_each}
-use Rattle.solvable_maps.specs.AfterTurns.{rest_of}
+use Rattle.solvable_maps.specs.AfterIterations.{rest_of}
 use Rattle.solvable.proofs.Using.{FracPoly}
 use Rattle.closed_forms.proofs.linear_parts.rests.Given as goal
 

@@ -6,7 +6,7 @@ use Rattle.polynomials.specs.Terms.{Terms}
 use Rattle.linear.specs.Rows.{fractions_of}
 use Rattle.poly.specs.Seen.{terms_in}
 use Rattle.coprime_base.specs.Sizes.{sizes}
-use Rattle.solvable_maps.specs.Turns.{width}
+use Rattle.solvable_maps.specs.Iterations.{width}
 use Rattle.expo.specs.Operations.{vars_of}
 use Rattle.expo.specs.Powers.{number_of}
 use Rattle.closed_forms.specs.Solved as Solved
@@ -39,7 +39,7 @@ module _ (c : After-len) where
   w = fractions_of c.args.form.now
 
   abbrev q : Terms Fraction
-  q = tell c.args.source.now
+  q = tell c.args.inhomogeneity.now
 
   abbrev all : Terms Fraction
   all = tell c.push_solved.new.out.items
@@ -58,7 +58,7 @@ module _ (c : After-len) where
   long : Arity (width (length bs) c.args.vars) all
   long = whole-arity bs c.requires.base.0 c.args.vars w c.args.group.now
       (number_of bs c.args.own.now) q all (arity_all (width (length bs) c.args.vars)
-      c.args.source.now c.requires.arities) whole
+      c.args.inhomogeneity.now c.requires.arities) whole
 
 pub from_terms-requires-clause-few : goal.from_terms-requires-clause-few
 from_terms-requires-clause-few c =

@@ -6,7 +6,7 @@ use Rattle.frac128.specs.declared.fraction.Frac.{Frac}
 use Rattle.poly.specs.View.{term_of}
 use Rattle.poly.specs.declared.Term.{Term}
 use Rattle.coprime_base.specs.Sizes.{sizes}
-use Rattle.solvable_maps.specs.Turns.{width}
+use Rattle.solvable_maps.specs.Iterations.{width}
 use Rattle.closed_forms.proofs.Joining.{all_one, still_made}
 use Rattle.closed_forms.proofs.Making.{steady_is}
 use Rattle.closed_forms.proofs.Mixing.{tell}

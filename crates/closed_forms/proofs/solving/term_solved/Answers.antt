@@ -9,7 +9,7 @@ use Rattle.poly.specs.Seen.{terms_in}
 use Rattle.poly.specs.View.{term_of}
 use Rattle.coprime_base.specs.Sizes.{sizes}
 use Rattle.solvable.proofs.Using.{FracPoly}
-use Rattle.solvable_maps.specs.Turns.{width}
+use Rattle.solvable_maps.specs.Iterations.{width}
 use Rattle.expo.specs.Powers.{number_of, key_of_power}
 use Rattle.closed_forms.specs.Solved as Solved
 use Rattle.closed_forms.specs.Solved.{steady, IsKeySolution}
@@ -38,13 +38,13 @@ steady-requires c = record {
       (sym c.deref-2.ensures.value) (omega (arith, c.requires.arity));
 }
 
-pub returns-then-turns-clause-wide : goal.returns-then-turns-clause-wide
-returns-then-turns-clause-wide c = λ e.
-    let top_is = c.exponent-turns.ensures ∙ top_at c.args.term.now.mono in
-    Solved.degree (omega (arith, top_is, c.if-turns.true))
+pub returns-then-iterations-clause-wide : goal.returns-then-iterations-clause-wide
+returns-then-iterations-clause-wide c = λ e.
+    let top_is = c.exponent-iterations.ensures ∙ top_at c.args.term.now.mono in
+    Solved.degree (omega (arith, top_is, c.if-iterations.true))
 
-pub solve_term-requires-clause-source : goal.solve_term-requires-clause-source
-solve_term-requires-clause-source c = c.in_ok-source.ensures.count
+pub solve_term-requires-clause-inhomogeneity : goal.solve_term-requires-clause-inhomogeneity
+solve_term-requires-clause-inhomogeneity c = c.in_ok-inhomogeneity.ensures.count
     ∙ ap (length {A = Whole}) c.deref.ensures.value
 
 pub solve_term-requires-clause-arity : goal.solve_term-requires-clause-arity
@@ -56,12 +56,12 @@ pub returns-in_err-solution-clause-wide : goal.returns-in_err-solution-clause-wi
 returns-in_err-solution-clause-wide c =
     let bs = sizes c.args.base.now.items in
     let t = term_of fraction_of c.args.term.now in
-    let top_is = c.from.ensures ∙ c.exponent-turns.ensures ∙ top_at t.0 in
+    let top_is = c.from.ensures ∙ c.exponent-iterations.ensures ∙ top_at t.0 in
     let key = subst (λ (ws : List Whole). key_of (length (sizes ws)) t.0 ≡ key_of_power
-    c.in_ok-source.source) c.deref.ensures.value c.in_ok-source.ensures.key in
+    c.in_ok-inhomogeneity.inhomogeneity) c.deref.ensures.value c.in_ok-inhomogeneity.ensures.key in
     handed_on c.in_err-solution.field-0.0 c.from_residual-in_err-solution.result
     c.from_residual-in_err-solution.ensures.1
-    (λ x. term_past bs c.args.vars t c.in_ok-source.source c.args.own.now _ top_is key
+    (λ x. term_past bs c.args.vars t c.in_ok-inhomogeneity.inhomogeneity c.args.own.now _ top_is key
     (c.in_err-solution.ensures.wide x))
 
 -- where the solution and what does not change are to be multiplied
@@ -70,7 +70,7 @@ module _ (c : After-body) where
   t = term_of fraction_of c.args.term.now
 
   over : IsExpoOver (sizes c.args.base.now.items) c.args.vars c.in_ok-solution.solution
-  over = tabled_over (sizes c.args.base.now.items) c.args.vars _ c.in_ok-source.source
+  over = tabled_over (sizes c.args.base.now.items) c.args.vars _ c.in_ok-inhomogeneity.inhomogeneity
       c.args.own.now c.in_ok-solution.solution c.in_ok-solution.ensures.table
 
   solution_arity : c.body.result.now.arity ≡ width (length (sizes c.args.base.now.items))
@@ -82,12 +82,14 @@ module _ (c : After-body) where
       (number_of (sizes c.args.base.now.items) c.args.own.now) t (terms_in c.body.result.now)
   solution_is =
       let key = subst (λ (ws : List Whole). key_of (length (sizes ws)) t.0 ≡ key_of_power
-      c.in_ok-source.source) c.deref.ensures.value c.in_ok-source.ensures.key in
+      c.in_ok-inhomogeneity.inhomogeneity) c.deref.ensures.value
+      c.in_ok-inhomogeneity.ensures.key in
       subst (λ (p : FracPoly). IsKeySolution (sizes c.args.base.now.items) c.args.vars
       (number_of (sizes c.args.base.now.items) c.args.own.now) t (terms_in p))
       (sym c.body.ensures)
-      (key_solution (sizes c.args.base.now.items) c.args.vars t c.in_ok-source.source c.args.own.now
-      _ c.in_ok-solution.solution (c.from.ensures ∙ c.exponent-turns.ensures ∙ top_at t.0) key
+      (key_solution (sizes c.args.base.now.items) c.args.vars t c.in_ok-inhomogeneity.inhomogeneity
+      c.args.own.now
+      _ c.in_ok-solution.solution (c.from.ensures ∙ c.exponent-iterations.ensures ∙ top_at t.0) key
       over c.in_ok-solution.ensures.solves)
 
   rest_is : terms_in c.in_ok-rest.rest ≡ steady (length (sizes c.args.base.now.items)) t

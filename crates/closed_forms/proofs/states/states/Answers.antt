@@ -8,16 +8,17 @@ use Rattle.closed_forms.proofs.states.states.Goals as goal
 
 pub index-requires : goal.index-requires
 index-requires c =
-    let n = states_count (terms_each c.args.images.now.items) c.loop-turn.turn
-    c.loop-turn.found.items c.loop-turn.invariant.0 in
-    let k = c.loop-turn.found.ok.0 in
+    let n = states_count (terms_each c.args.images.now.items) c.loop-iteration.iteration
+    c.loop-iteration.found.items c.loop-iteration.invariant.0 in
+    let k = c.loop-iteration.found.ok.0 in
     omega (arith, n, k)
 
 pub next_state-requires-clause-square : goal.next_state-requires-clause-square
 next_state-requires-clause-square c =
     let M = c.args.images.now.items in
-    let turn = c.loop-turn.turn in
-    let size = state_length M turn c.loop-turn.found.items c.loop-turn.invariant.0 turn
+    let iteration = c.loop-iteration.iteration in
+    let size = state_length M iteration c.loop-iteration.found.items c.loop-iteration.invariant.0
+    iteration
     c.index.result.now (omega arith) c.index.ensures in
     subst (λ n. All (λ (p : FracPoly). p.arity ≡ n) c.deref.result.now) (sym size)
     (subst (λ ps. All (λ (p : FracPoly). p.arity ≡ length M) ps) (sym c.deref.ensures.value)
@@ -26,50 +27,54 @@ next_state-requires-clause-square c =
 pub next_state-requires-clause-arities : goal.next_state-requires-clause-arities
 next_state-requires-clause-arities c =
     let M = c.args.images.now.items in
-    let turn = c.loop-turn.turn in
-    let found = c.loop-turn.found.items in
-    let size = state_length M turn found c.loop-turn.invariant.0 turn c.index.result.now
+    let iteration = c.loop-iteration.iteration in
+    let found = c.loop-iteration.found.items in
+    let size = state_length M iteration found c.loop-iteration.invariant.0 iteration
+    c.index.result.now
     (omega arith) c.index.ensures in
     subst (λ n. All (λ (p : FracPoly). p.arity ≡ n) c.index.result.now.items) (sym size)
-    (state_over M turn found c.loop-turn.invariant.0 turn c.index.result.now (omega arith)
-    c.index.ensures c.loop-turn.invariant.1)
+    (state_over M iteration found c.loop-iteration.invariant.0 iteration c.index.result.now
+    (omega arith)
+    c.index.ensures c.loop-iteration.invariant.1)
 
 pub next_state-requires-clause-some : goal.next_state-requires-clause-some
 next_state-requires-clause-some c =
     let M = c.args.images.now.items in
-    let turn = c.loop-turn.turn in
-    let size = state_length M turn c.loop-turn.found.items c.loop-turn.invariant.0 turn
+    let iteration = c.loop-iteration.iteration in
+    let size = state_length M iteration c.loop-iteration.found.items c.loop-iteration.invariant.0
+    iteration
     c.index.result.now (omega arith) c.index.ensures in
-    let some = c.requires.some (omega (arith, c.loop-turn-test.true)) in
+    let some = c.requires.some (omega (arith, c.loop-iteration-test.true)) in
     omega (arith, size, some)
 
 pub returns-in_err-next-clause-wide : goal.returns-in_err-next-clause-wide
 returns-in_err-next-clause-wide c =
     let M = c.args.images.now.items in
-    let turn = c.loop-turn.turn in
+    let iteration = c.loop-iteration.iteration in
     handed_on c.in_err-next.field-0.0 c.from_residual-in_err-next.result
     c.from_residual-in_err-next.ensures.1
-    (λ w. past_state M turn c.loop-turn.found.items c.loop-turn.invariant.0 turn
-    c.index.result.now (omega arith) c.index.ensures c.deref.result.now c.args.turns
-    c.deref.ensures.value c.loop-turn-test.true (c.in_err-next.ensures.wide w))
+    (λ w. past_state M iteration c.loop-iteration.found.items c.loop-iteration.invariant.0 iteration
+    c.index.result.now (omega arith) c.index.ensures c.deref.result.now c.args.iterations
+    c.deref.ensures.value c.loop-iteration-test.true (c.in_err-next.ensures.wide w))
 
-pub loop-turn-preserved : goal.loop-turn-preserved
-loop-turn-preserved c =
+pub loop-iteration-preserved : goal.loop-iteration-preserved
+loop-iteration-preserved c =
     let M = c.args.images.now.items in
-    let turn = c.loop-turn.turn in
-    let found = c.loop-turn.found.items in
+    let iteration = c.loop-iteration.iteration in
+    let found = c.loop-iteration.found.items in
     let v = c.index.result.now in
     let next = c.in_ok-next.next in
-    let size = state_length M turn found c.loop-turn.invariant.0 turn v (omega arith)
+    let size = state_length M iteration found c.loop-iteration.invariant.0 iteration v (omega arith)
     c.index.ensures in (
-      states_next (terms_each M) turn found c.loop-turn.invariant.0
-          c.push-in-loop-turn.new.self.items next c.in_ok-push-2.ensures.items
-          (next_is M turn found c.loop-turn.invariant.0 turn v (omega arith) c.index.ensures
+      states_next (terms_each M) iteration found c.loop-iteration.invariant.0
+          c.push-in-loop-iteration.new.self.items next c.in_ok-push-2.ensures.items
+          (next_is M iteration found c.loop-iteration.invariant.0 iteration v (omega arith)
+          c.index.ensures
           c.deref.result.now (terms_each next.items) c.deref.ensures.value
           c.in_ok-next.ensures.terms),
       have_more (λ (v : Vec FracPoly Global). All (λ (p : FracPoly). p.arity ≡ length M) v.items)
-          found c.push-in-loop-turn.new.self.items next c.in_ok-push-2.ensures.items
-          c.loop-turn.invariant.1
+          found c.push-in-loop-iteration.new.self.items next c.in_ok-push-2.ensures.items
+          c.loop-iteration.invariant.1
           (subst (λ n. All (λ (p : FracPoly). p.arity ≡ n) next.items) size
           c.in_ok-next.ensures.arities),
     )

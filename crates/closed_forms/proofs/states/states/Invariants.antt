@@ -5,7 +5,8 @@ use Rattle.closed_forms.specs.States.{states_to}
 use Rattle.closed_forms.proofs.StateLists.{told}
 use Rattle.closed_forms.proofs.states.states.Given as goal
 
-abbrev pub invariant-loop-turn : goal.invariant-loop-turn
-invariant-loop-turn l = (told l.found.items ≡ states_to (terms_each l.images.items) l.turn)
+abbrev pub invariant-loop-iteration : goal.invariant-loop-iteration
+invariant-loop-iteration l = (told l.found.items ≡ states_to (terms_each l.images.items)
+    l.iteration)
     × All (λ (v : Vec FracPoly Global). All (λ (p : FracPoly). p.arity ≡ length l.images.items)
     v.items) l.found.items

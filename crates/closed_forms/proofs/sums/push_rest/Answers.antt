@@ -1,5 +1,5 @@
 use Rattle.std.proofs.Common.{refl, sym, ◌∙◌}
-use Rattle.solvable_maps.specs.AfterTurns.{rest_of}
+use Rattle.solvable_maps.specs.AfterIterations.{rest_of}
 use Rattle.closed_forms.proofs.Mixing.{tell, left_at, rest_skipped, rest_next, none_left}
 use Rattle.closed_forms.proofs.sums.push_rest.Goals as goal
 

@@ -1,5 +1,5 @@
 use Rattle.std.proofs.Common.{◌≡◌, ◌++◌, drop}
-use Rattle.solvable_maps.specs.AfterTurns.{rest_of}
+use Rattle.solvable_maps.specs.AfterIterations.{rest_of}
 use Rattle.closed_forms.proofs.Mixing.{tell}
 use Rattle.closed_forms.proofs.sums.push_rest.Given as goal
 

@@ -5,7 +5,7 @@ use Rattle.polynomials.specs.Polynomial.{Arity, IsPolynomial}
 use Rattle.frac128.specs.declared.fraction.Frac.{Frac}
 use Rattle.poly.specs.Seen.{terms_in}
 use Rattle.poly.specs.declared.Term.{Term}
-use Rattle.solvable_maps.specs.AfterTurns.{rest_of}
+use Rattle.solvable_maps.specs.AfterIterations.{rest_of}
 use Rattle.closed_forms.proofs.Mixing.{tell, all_arity, rest_polynomial}
 use Rattle.closed_forms.proofs.sums.rest_of.Goals as goal
 

@@ -43,8 +43,8 @@ index-images-requires c =
     let count = maps_count program c.args.maps.now.branches.items c.requires.maps.branches in
     omega (arith, inside, count, c.args.maps.now.branches.ok.0)
 
-pub take_turns-requires-clause-images : goal.take_turns-requires-clause-images
-take_turns-requires-clause-images c =
+pub take_iterations-requires-clause-images : goal.take_iterations-requires-clause-images
+take_iterations-requires-clause-images c =
     let program = program_of c.args.lp.now in
     let inside = inside_seen _ c.branches-index-end.result.now program.branches c.loop-index.index
     c.branches-index-end.ensures.branches c.loop-index-test.true in
@@ -53,14 +53,14 @@ take_turns-requires-clause-images c =
     (map_at program c.args.maps.now.branches.items c.index-images.result.now c.loop-index.index
     c.requires.maps.branches inside c.index-images.ensures)
 
-pub take_turns-requires-clause-level : goal.take_turns-requires-clause-level
-take_turns-requires-clause-level c = c.requires.fits.kept
+pub take_iterations-requires-clause-level : goal.take_iterations-requires-clause-level
+take_iterations-requires-clause-level c = c.requires.fits.kept
 
-pub take_turns-requires-clause-fits : goal.take_turns-requires-clause-fits
-take_turns-requires-clause-fits c = c.loop-index.invariant.fits
+pub take_iterations-requires-clause-fits : goal.take_iterations-requires-clause-fits
+take_iterations-requires-clause-fits c = c.loop-index.invariant.fits
 
 pub returns-in_err-next-clause-limit : goal.returns-in_err-next-clause-limit
-returns-in_err-next-clause-limit c = c.take_turns.ensures.limit ∙ c.loop-index.invariant.limit
+returns-in_err-next-clause-limit c = c.take_iterations.ensures.limit ∙ c.loop-index.invariant.limit
 
 pub returns-in_err-next-clause-takes : goal.returns-in_err-next-clause-takes
 returns-in_err-next-clause-takes c = λ P h.
@@ -77,14 +77,14 @@ returns-in_err-next-clause-takes c = λ P h.
     (c.loop-index.invariant.awaits P h)))
 
 pub returns-in-Counter-clause-limit : goal.returns-in-Counter-clause-limit
-returns-in-Counter-clause-limit c = c.take_turns.ensures.limit ∙ c.loop-index.invariant.limit
+returns-in-Counter-clause-limit c = c.take_iterations.ensures.limit ∙ c.loop-index.invariant.limit
 
 pub returns-in-Counter-clause-units : goal.returns-in-Counter-clause-units
 returns-in-Counter-clause-units c = λ on. absurd on
 
 pub returns-in-Counter-clause-fits : goal.returns-in-Counter-clause-fits
 returns-in-Counter-clause-fits c =
-    subst (FitsSequel _ (units_of c.take_turns.new.meter.entries)) c.in-Counter.is
+    subst (FitsSequel _ (units_of c.take_iterations.new.meter.entries)) c.in-Counter.is
     c.in_ok-next.ensures.fits
 
 pub returns-in-Counter-clause-takes : goal.returns-in-Counter-clause-takes
@@ -96,7 +96,7 @@ returns-in-Counter-clause-takes c = λ P h.
     (level_from program (suc (c.loop-index.index + 1))
     (length program.branches - (c.loop-index.index + 1))
     (candidates_of P c.args.last.kept.items))
-    c.take_turns.new.meter.limit c.take_turns.new.meter.entries
+    c.take_iterations.new.meter.limit c.take_iterations.new.meter.entries
     (Ok s)) c.in-Counter.is
     (c.in_ok-next.ensures.takes P _
     (joined_later program P c.args.meter.now.entries c.loop-index.meter.entries
@@ -111,11 +111,11 @@ loop-index-preserved c =
     let inside = inside_seen _ c.branches-index-end.result.now program.branches c.loop-index.index
     c.branches-index-end.ensures.branches c.loop-index-test.true in
     let more = subst (λ s. IsOn s → units_of c.loop-index.meter.entries
-    + length c.args.last.kept.items ≤ units_of c.take_turns.new.meter.entries) c.in-On.is
+    + length c.args.last.kept.items ≤ units_of c.take_iterations.new.meter.entries) c.in-On.is
     c.in_ok-next.ensures.units tt in
     record {
-      limit = c.take_turns.ensures.limit ∙ c.loop-index.invariant.limit;
-      fits = subst (FitsSequel _ (units_of c.take_turns.new.meter.entries)) c.in-On.is
+      limit = c.take_iterations.ensures.limit ∙ c.loop-index.invariant.limit;
+      fits = subst (FitsSequel _ (units_of c.take_iterations.new.meter.entries)) c.in-On.is
           c.in_ok-next.ensures.fits;
       grows = grown _ _ _ c.loop-index.invariant.grows c.in_ok-next.ensures.grows;
       later = (let a = c.loop-index.invariant.later in omega (arith, a, more));
@@ -127,8 +127,8 @@ loop-index-preserved c =
           subst (λ s. Takes program P
           (level_from program (suc (c.loop-index.index + 1))
           (length program.branches - (c.loop-index.index + 1))
-          (candidates_of P c.args.last.kept.items)) c.take_turns.new.meter.limit
-          c.take_turns.new.meter.entries (Ok s)) c.in-On.is
+          (candidates_of P c.args.last.kept.items)) c.take_iterations.new.meter.limit
+          c.take_iterations.new.meter.entries (Ok s)) c.in-On.is
           (c.in_ok-next.ensures.takes P _
           (joined_later program P c.args.meter.now.entries c.loop-index.meter.entries
           c.loop-index.invariant.grows (candidates_of P c.args.last.kept.items) h.joined)

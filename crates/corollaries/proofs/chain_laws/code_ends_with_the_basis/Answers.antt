@@ -1,4 +1,4 @@
-use Rattle.corollaries.proofs.Led.{code_basis, code_generates, leads_one}
+use Rattle.corollaries.proofs.Mapped.{code_basis, code_generates, leads_one}
 use Rattle.corollaries.proofs.chain_laws.code_ends_with_the_basis.Goals as goal
 
 pub returns : goal.returns

@@ -6,7 +6,7 @@ use Rattle.std.specs.Slice.Iter.{iter_rest}
 use Rattle.polynomials.specs.Terms.{constant}
 use Rattle.frac128.specs.FracMeaning.{fraction_of}
 use Rattle.poly.specs.Seen.{terms_in, terms_each}
-use Rattle.poly.specs.Standing.{IsOver}
+use Rattle.poly.specs.Standing.{IsInVariables}
 use Rattle.loop_model.proofs.OperationLaws.{stops_front, handed_on}
 use Rattle.counter_run.specs.Composition.{factors}
 use Rattle.counter_run.proofs.Compositions.{factor_none, factor_arity, factor_more, factor_stop, factor_all}
@@ -26,7 +26,7 @@ loop-exponent-init c =
     search rules in
     record {
       arity = c.in_ok-total.ensures.0.arity;
-      over = subst (All (IsOver c.args.arity)) (sym second) c.requires.images;
+      over = subst (All (IsInVariables c.args.arity)) (sym second) c.requires.images;
       goes =
           factor_none c.args.arity (constant c.args.arity (fraction_of c.args.number.now))
           (factors (terms_each c.args.images.now) c.args.monomial.now) _ _ c.in_ok-total.total
@@ -57,7 +57,7 @@ loop-exponent-preserved c =
           factor_arity c.args.arity number all
           (terms_in c.in-Some.image.now) _ c.in-Some.exponent.now _ c.loop-exponent.total i.arity
           i.goes c.in_ok-total-2.total c.in_ok-total-2.ensures;
-      over = All-tail (IsOver c.args.arity) c.in-Some.image.now _ i.over;
+      over = All-tail (IsInVariables c.args.arity) c.in-Some.image.now _ i.over;
       goes =
           factor_more c.args.arity number all
           (terms_in c.in-Some.image.now) _ c.in-Some.exponent.now _ c.loop-exponent.total i.arity

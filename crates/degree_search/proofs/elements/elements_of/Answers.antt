@@ -7,7 +7,7 @@ use Rattle.algebra.specs.In.{In}
 use Rattle.machines.specs.Cut.{lead_of}
 use Rattle.poly.specs.Seen.{terms_in, terms_each}
 use Rattle.residues.specs.Modulus.{modulus}
-use Rattle.residues.specs.EchelonForm.{leads_in, IsEchelonOf, IsKept}
+use Rattle.residues.specs.EchelonForm.{leads_in, IsEchelonOf, IsReducedEchelon}
 use Rattle.degree_search.specs.ElementParts.{LeadsElement, has_divisor}
 use Rattle.degree_search.specs.Elements.{IsCandidate}
 use Rattle.degree_search.proofs.Leading.{leads_at}
@@ -65,7 +65,7 @@ returns-in_err-element_at-clause-leads c =
     let w = c.in_err-element_at.ensures.wide lead (cc (p.1, p.2, h)) in
     subst (LeadsElement (pos modulus) es ls) (sym w.0)
     (leads_at (pos modulus) no_one (length es) es ls
-    (subst (λ n. IsKept (pos modulus) n ls) c.requires.width c.leads_element.ensures.kept)
+    (subst (λ n. IsReducedEchelon (pos modulus) n ls) c.requires.width c.leads_element.ensures.kept)
     c.args.arity c.loop-column.column c.loop-column-test.true c.requires.arities (terms_each olds)
     c.loop-column.invariant.found
     (subst (λ e. has_divisor (map lead_of (terms_each olds)) e ≡ false) mono

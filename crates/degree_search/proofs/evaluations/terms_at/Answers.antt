@@ -4,7 +4,7 @@ use Rattle.algebra.specs.Ring.{operations}
 use Rattle.algebra.proofs.IntRing.{ℤ_ring}
 use Rattle.polynomials.specs.Terms.{value_at}
 use Rattle.poly.specs.View.{term_of, terms_of}
-use Rattle.loop_runs.proofs.Turns.{drop_read}
+use Rattle.loop_runs.proofs.Iterations.{drop_read}
 use Rattle.residues.specs.Modulus.{modulus}
 use Rattle.residues.specs.Numbers.{number_of, numbers_of}
 use Rattle.degree_search.proofs.Congruences.{sum_begins}

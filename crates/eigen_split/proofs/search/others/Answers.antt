@@ -3,8 +3,8 @@ use mir.Syntax.{w32}
 use Rattle.std.proofs.lemmas.Int.{to_z-of_z}
 use Rattle.linear.specs.Rows.{rows_of}
 use Rattle.eigen_split.specs.Parts.{found_of}
-use Rattle.eigen_split.specs.Search.{IsTurn, IsOther, zero_passed, other_turn}
-use Rattle.eigen_split.proofs.Finishing.{turns_more}
+use Rattle.eigen_split.specs.Search.{IsIteration, IsOther, zero_passed, other_iteration}
+use Rattle.eigen_split.proofs.Finishing.{iterations_more}
 use Rattle.eigen_split.proofs.search.others.Goals.{then-candidate-ne0+in_default, else-candidate-ne0}
 use Rattle.eigen_split.proofs.search.others.Goals as goal
 
@@ -12,19 +12,21 @@ pub loop-step-preserved : goal.loop-step-preserved
 loop-step-preserved c = elim c.if-candidate-ne0.branch [
   | then-candidate-ne0+in_default w ↦
       let some : c.candidate_at-candidate.result ≢ pos 0 = search rules in
-      turns_more (length c.args.matrix.now.items) (rows_of c.args.matrix.now.items) c.args.bound
+      iterations_more (length c.args.matrix.now.items) (rows_of c.args.matrix.now.items)
+      c.args.bound
       c.loop-step.step (found_of c.loop-step.found) (found_of c.if-candidate-ne0.found)
       c.candidate_at-candidate.result c.loop-step.invariant c.candidate_at-candidate.ensures
       (subst (λ f. IsOther (length c.args.matrix.now.items) (rows_of c.args.matrix.now.items)
       c.candidate_at-candidate.result (found_of c.loop-step.found) (found_of f)) (sym w.found-is)
-      (other_turn some
-      (subst (λ p. IsTurn (length c.args.matrix.now.items) (rows_of c.args.matrix.now.items) p
-      (found_of c.loop-step.found) (found_of w.turn.new.found))
+      (other_iteration some
+      (subst (λ p. IsIteration (length c.args.matrix.now.items) (rows_of c.args.matrix.now.items) p
+      (found_of c.loop-step.found) (found_of w.iteration.new.found))
       (to_z-of_z w32 c.candidate_at-candidate.result (search rules))
-      w.in_default.ensures.turn)))
+      w.in_default.ensures.iteration)))
   | else-candidate-ne0 w ↦
       let none : c.candidate_at-candidate.result ≡ pos 0 = search rules in
-      turns_more (length c.args.matrix.now.items) (rows_of c.args.matrix.now.items) c.args.bound
+      iterations_more (length c.args.matrix.now.items) (rows_of c.args.matrix.now.items)
+      c.args.bound
       c.loop-step.step (found_of c.loop-step.found) (found_of c.if-candidate-ne0.found)
       c.candidate_at-candidate.result c.loop-step.invariant c.candidate_at-candidate.ensures
       (zero_passed none (ap found_of w.found-is))

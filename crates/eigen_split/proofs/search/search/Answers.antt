@@ -6,8 +6,8 @@ use Rattle.eigen_split.specs.Parts.{found_of}
 use Rattle.eigen_split.specs.Search.{zero_last}
 use Rattle.eigen_split.proofs.search.search.Goals as goal
 
-pub returns-in-Ok-turn-clause-searched : goal.returns-in-Ok-turn-clause-searched
-returns-in-Ok-turn-clause-searched c =
+pub returns-in-Ok-iteration-clause-searched : goal.returns-in-Ok-iteration-clause-searched
+returns-in-Ok-iteration-clause-searched c =
     let few = c.if-len.false in
     let forms = c.len.ensures in
     let rows = c.len-2.ensures in
@@ -16,4 +16,4 @@ returns-in-Ok-turn-clause-searched c =
     let same = length-map c.in-Ok.found.forms.items (λ (v : Vec Frac Global).
     fractions_of v.items) in
     zero_last (found_of c.in-Ok.found) c.in-Ok.ensures.others
-    (omega (arith, few, forms, rows, kept, given, same)) c.in-Ok-turn.ensures.turn
+    (omega (arith, few, forms, rows, kept, given, same)) c.in-Ok-iteration.ensures.iteration

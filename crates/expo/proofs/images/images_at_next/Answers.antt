@@ -3,7 +3,7 @@ use Rattle.std.proofs.lemmas.List.{length-map}
 use Rattle.algebra.specs.Fraction.{ℚ}
 use Rattle.poly.specs.Seen.{terms_in, terms_each}
 use Rattle.coprime_base.specs.Sizes.{sizes}
-use Rattle.solvable_maps.specs.Turns.{width}
+use Rattle.solvable_maps.specs.Iterations.{width}
 use Rattle.expo.specs.Images.{IsMultiple}
 use Rattle.expo.proofs.ImageLists.{all_made}
 use Rattle.expo.proofs.Single.{minus_nonzero}

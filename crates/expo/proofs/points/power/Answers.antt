@@ -1,6 +1,6 @@
 use Rattle.std.proofs.Common.{refl}
 use Rattle.frac128.specs.FracMeaning.{fraction_of}
-use Rattle.expo.proofs.AtTurns.{power_none, power_next, power_past}
+use Rattle.expo.proofs.AtIterations.{power_none, power_next, power_past}
 use Rattle.expo.proofs.points.power.Goals as goal
 
 pub loop-init : goal.loop-init

@@ -1,7 +1,7 @@
 use Rattle.std.proofs.Common.{negsuc}
 use Rattle.algebra.specs.Fraction.{whole}
 use Rattle.frac128.specs.FracMeaning.{fraction_of}
-use Rattle.expo.proofs.AtTurns.{power_none, sign_next}
+use Rattle.expo.proofs.AtIterations.{power_none, sign_next}
 use Rattle.expo.proofs.points.sign.Goals as goal
 
 pub loop-init : goal.loop-init

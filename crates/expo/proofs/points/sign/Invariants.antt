@@ -1,5 +1,5 @@
 use Rattle.std.proofs.Common.{◌≡◌}
-use Rattle.solvable_maps.specs.Turns.{sign}
+use Rattle.solvable_maps.specs.Iterations.{sign}
 use Rattle.frac128.specs.FracMeaning.{fraction_of}
 use Rattle.expo.proofs.points.sign.Given as goal
 

@@ -15,7 +15,7 @@ returns-clause-terms c =
     let t = term_of fraction_of in
     let xs = c.in_ok-numbers.numbers.items in
     let q = number_at xs in
-    let x = key_in c.args.source.now.key in
+    let x = key_in c.args.inhomogeneity.now.key in
     record {
       numbers = q;
       table = c.in_ok-numbers.ensures.table;

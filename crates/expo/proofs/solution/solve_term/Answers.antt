@@ -9,7 +9,7 @@ use Rattle.poly.specs.View.{terms_of}
 use Rattle.poly.proofs.Steps.{all_arity}
 use Rattle.coprime_base.specs.Sizes.{sizes}
 use Rattle.solvable_maps.specs.Expo.{with_normal_keys}
-use Rattle.solvable_maps.specs.Turns.{width}
+use Rattle.solvable_maps.specs.Iterations.{width}
 use Rattle.expo.specs.Powers.{number_of}
 use Rattle.expo.proofs.Distinct.{pairs_of}
 use Rattle.expo.proofs.Results.{IsNormalList, normal_list, made_expo}
@@ -28,29 +28,32 @@ terms_of_table-requires-clause-nonzero c =
 pub returns-in_err-terms-clause-wide : goal.returns-in_err-terms-clause-wide
 returns-in_err-terms-clause-wide c =
     let bs = sizes c.args.base.now.items in
-    let e = evaluated_at (sizes c.deref.result.now) bs c.args.source.now _ _
-    (ap sizes c.deref.ensures.value) c.in_ok-source.ensures.number c.in_ok-source.ensures.key in
+    let e = evaluated_at (sizes c.deref.result.now) bs c.args.inhomogeneity.now _ _
+    (ap sizes c.deref.ensures.value) c.in_ok-inhomogeneity.ensures.number
+    c.in_ok-inhomogeneity.ensures.key in
     let f = evaluated_at (sizes c.deref-2.result.now) bs c.args.own.now _ _
     (ap sizes c.deref-2.ensures.value) c.in_ok-own.ensures.number c.in_ok-own.ensures.key in
     handed_on c.in_err-terms.field-0.0 c.from_residual-in_err-terms.result
     c.from_residual-in_err-terms.ensures.1
-    (λ x. past_solution bs c.args.vars c.args.degree c.args.source.now c.args.own.now _ _ _ _ e f
+    (λ x. past_solution bs c.args.vars c.args.degree c.args.inhomogeneity.now c.args.own.now _ _ _ _
+    e f
     (c.in_err-terms.ensures.wide x))
 
 tabled : (c : In_ok-terms) → Tabled (sizes c.args.base.now.items) c.args.vars c.args.degree
-    c.args.source.now c.args.own.now (terms_of fraction_of c.in_ok-terms.terms.items)
+    c.args.inhomogeneity.now c.args.own.now (terms_of fraction_of c.in_ok-terms.terms.items)
 tabled c =
     let bs = sizes c.args.base.now.items in
-    let e = evaluated_at (sizes c.deref.result.now) bs c.args.source.now _ _
-    (ap sizes c.deref.ensures.value) c.in_ok-source.ensures.number c.in_ok-source.ensures.key in
+    let e = evaluated_at (sizes c.deref.result.now) bs c.args.inhomogeneity.now _ _
+    (ap sizes c.deref.ensures.value) c.in_ok-inhomogeneity.ensures.number
+    c.in_ok-inhomogeneity.ensures.key in
     let f = evaluated_at (sizes c.deref-2.result.now) bs c.args.own.now _ _
     (ap sizes c.deref-2.ensures.value) c.in_ok-own.ensures.number c.in_ok-own.ensures.key in
-    tabled_at bs c.args.vars c.args.degree c.args.source.now c.args.own.now _ _ _ _ e f
+    tabled_at bs c.args.vars c.args.degree c.args.inhomogeneity.now c.args.own.now _ _ _ _ e f
     (terms_of fraction_of c.in_ok-terms.terms.items) c.in_ok-terms.ensures.terms
 
-source_count : (c : In_ok-terms) → length c.args.source.now.exponents.items
+inhomogeneity_count : (c : In_ok-terms) → length c.args.inhomogeneity.now.exponents.items
     ≡ length (sizes c.args.base.now.items)
-source_count c = c.requires.source ∙ sym (length-map c.args.base.now.items _)
+inhomogeneity_count c = c.requires.inhomogeneity ∙ sym (length-map c.args.base.now.items _)
 
 own_count : (c : In_ok-terms) → length c.args.own.now.exponents.items
     ≡ length (sizes c.args.base.now.items)
@@ -58,8 +61,10 @@ own_count c = c.requires.own ∙ sym (length-map c.args.base.now.items _)
 
 parts : (c : In_ok-terms) → AreParts (sizes c.args.base.now.items) c.args.vars
     (terms_of fraction_of c.in_ok-terms.terms.items)
-parts c = tabled_parts (sizes c.args.base.now.items) c.args.vars c.args.degree c.args.source.now
-    c.args.own.now (source_count c) (own_count c) (terms_of fraction_of c.in_ok-terms.terms.items)
+parts c = tabled_parts (sizes c.args.base.now.items) c.args.vars c.args.degree
+    c.args.inhomogeneity.now
+    c.args.own.now (inhomogeneity_count c) (own_count c)
+    (terms_of fraction_of c.in_ok-terms.terms.items)
     (tabled c)
 
 list_is : (c : In_ok-body) → AreParts (sizes c.args.base.now.items) c.args.vars
@@ -106,7 +111,7 @@ returns-clause-table c =
     let at = goal.at.returns-clause-table c in
     let bs = sizes c.args.base.now.items in
     let ts = terms_of fraction_of c.in_ok-terms.terms.items in
-    tabled_expo bs c.args.vars c.args.degree c.args.source.now c.args.own.now ts
+    tabled_expo bs c.args.vars c.args.degree c.args.inhomogeneity.now c.args.own.now ts
     c.in_ok-of.field-0 (tabled at.In_ok-terms)
     (made_expo bs _ c.args.vars _ (terms_in c.in_ok-body.body) ts (ap sizes c.deref-3.ensures.value)
     refl (list_is at.In_ok-body (parts at.In_ok-terms)).is c.in_ok-of.field-0
@@ -116,12 +121,12 @@ pub returns-clause-solves : goal.returns-clause-solves
 returns-clause-solves c =
     let at = goal.at.returns-clause-solves c in
     let bs = sizes c.args.base.now.items in
-    let source = c.args.source.now in
+    let inhomogeneity = c.args.inhomogeneity.now in
     let own = c.args.own.now in
     let ts = terms_of fraction_of c.in_ok-terms.terms.items in
-    let solution = tabled_solution bs c.args.vars c.args.degree source own
-    (source_count at.In_ok-terms) (own_count at.In_ok-terms) c.requires.base.0 ts
+    let solution = tabled_solution bs c.args.vars c.args.degree inhomogeneity own
+    (inhomogeneity_count at.In_ok-terms) (own_count at.In_ok-terms) c.requires.base.0 ts
     (tabled at.In_ok-terms) in
-    solution_is bs c.args.vars c.args.degree (number_of bs source) (number_of bs own)
+    solution_is bs c.args.vars c.args.degree (number_of bs inhomogeneity) (number_of bs own)
     (terms_in c.in_ok-of.field-0.body) ts (c.in_ok-of.ensures.terms
     ∙ (list_is at.In_ok-body (parts at.In_ok-terms)).is) solution

@@ -6,6 +6,6 @@ use Rattle.expo.specs.Numbers.{number_at}
 use Rattle.expo.specs.Powers.{key_in}
 use Rattle.expo.proofs.solution.terms_by_power.Given as goal
 
-abbrev pub invariant-loop-turns : goal.invariant-loop-turns
-invariant-loop-turns l = terms_of fraction_of l.terms.items ≡ power_terms l.vars (key_in l.key)
-    (number_at l.numbers) 0 l.turns
+abbrev pub invariant-loop-iterations : goal.invariant-loop-iterations
+invariant-loop-iterations l = terms_of fraction_of l.terms.items ≡ power_terms l.vars (key_in l.key)
+    (number_at l.numbers) 0 l.iterations

@@ -6,7 +6,7 @@ use Rattle.expo.proofs.table.equal_numbers.Goals as goal
 
 pub weighed_sum-requires-clause-given : goal.weighed_sum-requires-clause-given
 weighed_sum-requires-clause-given c = given_equal c.loop-row.row _ c.loop-row-test.true
-    c.natural-divisor.ensures
+    c.frac_of_usize-divisor.ensures
 
 pub weighed_sum-requires-clause-before : goal.weighed_sum-requires-clause-before
 weighed_sum-requires-clause-before c = omega (
@@ -26,7 +26,7 @@ weighed_sum-requires-clause-few c = omega (
 )
 
 pub div-requires : goal.div-requires
-div-requires c = some_natural c.loop-row.row _ c.loop-row-test.true c.natural-divisor.ensures
+div-requires c = some_natural c.loop-row.row _ c.loop-row-test.true c.frac_of_usize-divisor.ensures
 
 pub returns-clause-table : goal.returns-clause-table
 returns-clause-table c = equal_done _ _ c.loop-row.row _ _ (omega (arith, c.loop-row-test.false))
@@ -47,8 +47,8 @@ pub returns-in_err-numbers-2-clause-wide : goal.returns-in_err-numbers-2-clause-
 returns-in_err-numbers-2-clause-wide c =
     λ x. equal_quotient_past _ _ _ _ _ _ c.deref.ensures.value c.loop-row.invariant.table
     c.loop-row.invariant.count c.loop-row-test.true _ c.in_ok-sum.ensures.sum _ _
-    c.in_ok-sub.ensures.ok c.natural-divisor.ensures
-    (some_natural c.loop-row.row _ c.loop-row-test.true c.natural-divisor.ensures)
+    c.in_ok-sub.ensures.ok c.frac_of_usize-divisor.ensures
+    (some_natural c.loop-row.row _ c.loop-row-test.true c.frac_of_usize-divisor.ensures)
     (c.in_err-numbers-2.ensures.wide.0 refl)
 
 pub loop-row-init : goal.loop-row-init
@@ -66,6 +66,6 @@ loop-row-preserved c = record {
       ∙ c.loop-row.invariant.count;
   table = equal_step _ _ _ _ _ _ c.deref.ensures.value c.loop-row.invariant.table
       c.loop-row.invariant.count c.loop-row-test.true _ c.in_ok-sum.ensures.sum _ _
-      c.in_ok-sub.ensures.ok c.natural-divisor.ensures c.in_ok-numbers-2.field-0 _
+      c.in_ok-sub.ensures.ok c.frac_of_usize-divisor.ensures c.in_ok-numbers-2.field-0 _
       c.in_ok-numbers-2.ensures.ok c.zero-start.ensures;
 }

@@ -7,7 +7,7 @@ use Rattle.expo.proofs.table.other_numbers.Given as goal
 abbrev pub invariant-loop-row : goal.invariant-loop-row
 invariant-loop-row l = record {
   count : length l.numbers.items ≡ l.degree + 1;
-  table : OtherFrom (fraction_of l.source) (fraction_of l.own) l.degree l.row
+  table : OtherFrom (fraction_of l.inhomogeneity) (fraction_of l.own) l.degree l.row
       (number_at l.numbers.items) (fraction_of l.start);
 }
 

@@ -4,7 +4,7 @@ use Rattle.std.proofs.lemmas.List.{map-id}
 use Rattle.std.proofs.lemmas.Iterator.Adapters.{YieldsList-from_vec}
 use Rattle.std.proofs.lemmas.Iterator.Consumers.{YieldsList-end}
 use Rattle.poly.specs.Seen.{terms_each}
-use Rattle.solvable_maps.specs.Turns.{width}
+use Rattle.solvable_maps.specs.Iterations.{width}
 use Rattle.loop_model.specs.FracPoly.{FracPoly}
 use Rattle.full_trace.proofs.FormsMade.{polys_of, bodies_terms, bodies_over}
 use Rattle.full_trace.proofs.forms.bodies.Goals as goal

@@ -3,14 +3,14 @@ use Rattle.std.proofs.lemmas.List.{length-map}
 use Rattle.completeness.specs.Full.{as_form}
 use Rattle.poly.specs.Seen.{terms_in, terms_each}
 use Rattle.rounds.specs.Form.{front}
-use Rattle.invariant_fix.specs.Orbits.{numbers_of, vars_of, unwound_list, HaveFront}
+use Rattle.invariant_fix.specs.Orbits.{numbers_of, vars_of, pulled_back_list, HaveFront}
 use Rattle.invariant_fix.proofs.Eliminating.{AreStarting, gens_count, orbit_length}
 use Rattle.full_trace.specs.Tasks.{written_of}
 use Rattle.full_trace.proofs.tasks.orbit_stage.Goals.{After-deref}
 use Rattle.full_trace.proofs.tasks.orbit_stage.Goals as goal
 
 starting : (c : After-deref) → AreStarting (front (numbers_of c.args.branch.now))
-    (vars_of c.args.branch.now) (unwound_list c.args.branch.now c.args.basis.now)
+    (vars_of c.args.branch.now) (pulled_back_list c.args.branch.now c.args.basis.now)
     c.deref.result.now
 starting c = record {
   list = ap terms_each c.deref.ensures.value ∙ c.in_ok-begin.ensures.list;

@@ -4,12 +4,12 @@ use Rattle.algebra.specs.Each.{Each}
 use Rattle.polynomials.specs.Order.{grevlex}
 use Rattle.poly.specs.Seen.{terms_in}
 use Rattle.coprime_base.specs.Sizes.{sizes}
-use Rattle.solvable_maps.specs.Turns.{width, IsNormalForm}
+use Rattle.solvable_maps.specs.Iterations.{width, IsNormalForm}
 use Rattle.closed_forms.specs.Values.{bodies_of, AreOver}
 use Rattle.closed_forms.specs.View.{ArePassing}
 use Rattle.expo.specs.View.{base_of}
 use Rattle.expo.specs.declared.exponential.Expo.{Expo}
-use Rattle.rounds.specs.Form.{backward}
+use Rattle.rounds.specs.Form.{inverse_form}
 use Rattle.invariant_fix.proofs.Forms.{fits_branch}
 use Rattle.invariant_fix.proofs.branches.form_branch.Goals as goal
 
@@ -35,7 +35,7 @@ returns-clause-fits c =
       few = subst (λ n. width (length (sizes f.base.items)) n ≤ 4096) size e.few;
     })
     (c.in_ok-back.ensures.terms
-    ∙ ap (map (λ (e : Expo). backward grevlex (length (base_of e)) (terms_in e.body)))
+    ∙ ap (map (λ (e : Expo). inverse_form grevlex (length (base_of e)) (terms_in e.body)))
     c.deref.ensures.value)
     (c.in_ok-back.ensures.arity ∙ ap (map (λ (e : Expo). e.body.arity)) c.deref.ensures.value)
 

@@ -95,7 +95,7 @@ memory_later p s xs budget m gs h =
     inl (record {
       entries = l.entries;
       list = l.list;
-      led = l.led;
+      mapped = l.mapped;
       left = l.left;
       units = l.units;
       limit = l.limit;

@@ -17,7 +17,7 @@ use Rattle.invariant_fix.specs.Code.{IsListOf}
 use Rattle.invariant_fix.specs.ChainSteps.{HasList, IsRefusedStage}
 use Rattle.invariant_fix.proofs.Loops.{code_seen, body_is}
 use Rattle.invariant_fix.proofs.Stages.{plain_has, plain_refused, first_unformed, then_unformed, both_free, stage_has, stage_refused, stage_wide, stage_exhausted, stage_wanting}
-use Rattle.invariant_fix.proofs.Staging.{no_code, has_code, code_free, code_stops, loop_free, loop_forms, leading_at, led_list, units_left}
+use Rattle.invariant_fix.proofs.Staging.{no_code, has_code, code_free, code_stops, loop_free, loop_forms, leading_at, mapped_list, units_left}
 use Rattle.invariant_fix.proofs.Adding.{few_assigned}
 use Rattle.invariant_fix.proofs.chain_steps.stage_basis.Goals as goal
 
@@ -81,14 +81,15 @@ returns-in-Err-Wide-clause-err c = λ p is.
     c.branches.ensures.some c.index-branches-0.is in
     let some = has_code b (code_in g.code) same c.if-is_empty.ensures in
     let formed_here = both_free p (stage_of g).code (stage_of g).branches c.args.before.now
-    c.args.budget c.led.new.meter (code_free p g is c.in-Ok-branch_map.ensures.free)
+    c.args.budget c.mapped.new.meter (code_free p g is c.in-Ok-branch_map.ensures.free)
     (loop_free p g is c.in-Ok-setting_of.ensures.free)
     (loop_forms p g is c.in-Ok-setting_of.ensures.forms) in
     stage_wide p (stage_of g).branches c.args.before.now c.args.budget c.open.new.self
-    c.open.ensures c.led.new.meter (stage_of g).code some formed_here
-    (leading_at p g is c.args.before.now c.open.new.self c.led.new.meter (stopped too_wide)
+    c.open.ensures c.mapped.new.meter (stage_of g).code some formed_here
+    (leading_at p g is c.args.before.now c.open.new.self c.mapped.new.meter (stopped too_wide)
     (subst (λ e. Ran (between (program_of g.code) (code_in g.code) (terms_each c.args.before.now))
-    (IsListOf (length (program_of g.code).names) (code_in g.code)) c.open.new.self c.led.new.meter
+    (IsListOf (length (program_of g.code).names) (code_in g.code)) c.open.new.self
+    c.mapped.new.meter
     (stopped (refusal_of e)))
     c.in-Err-Wide.field-0-is c.in-Err-Wide.ensures.ran)))
 
@@ -100,14 +101,15 @@ returns-in-Err-Budget-clause-err c = λ p is.
     c.branches.ensures.some c.index-branches-0.is in
     let some = has_code b (code_in g.code) same c.if-is_empty.ensures in
     let formed_here = both_free p (stage_of g).code (stage_of g).branches c.args.before.now
-    c.args.budget c.led.new.meter (code_free p g is c.in-Ok-branch_map.ensures.free)
+    c.args.budget c.mapped.new.meter (code_free p g is c.in-Ok-branch_map.ensures.free)
     (loop_free p g is c.in-Ok-setting_of.ensures.free)
     (loop_forms p g is c.in-Ok-setting_of.ensures.forms) in
     stage_exhausted p (stage_of g).branches c.args.before.now c.args.budget c.open.new.self
-    c.open.ensures c.led.new.meter (stage_of g).code some formed_here
-    (leading_at p g is c.args.before.now c.open.new.self c.led.new.meter (stopped out_of_units)
+    c.open.ensures c.mapped.new.meter (stage_of g).code some formed_here
+    (leading_at p g is c.args.before.now c.open.new.self c.mapped.new.meter (stopped out_of_units)
     (subst (λ e. Ran (between (program_of g.code) (code_in g.code) (terms_each c.args.before.now))
-    (IsListOf (length (program_of g.code).names) (code_in g.code)) c.open.new.self c.led.new.meter
+    (IsListOf (length (program_of g.code).names) (code_in g.code)) c.open.new.self
+    c.mapped.new.meter
     (stopped (refusal_of e)))
     c.in-Err-Budget.field-0-is c.in-Err-Budget.ensures.ran)))
 
@@ -119,10 +121,11 @@ returns-in-Err-Memory-clause-err c = λ p is.
     c.branches.ensures.some c.index-branches-0.is in
     let some = has_code b (code_in g.code) same c.if-is_empty.ensures in
     stage_wanting p (stage_of g).branches c.args.before.now c.args.budget c.open.new.self
-    c.open.ensures c.led.new.meter (stage_of g).code some
-    (leading_at p g is c.args.before.now c.open.new.self c.led.new.meter (stopped out_of_memory)
+    c.open.ensures c.mapped.new.meter (stage_of g).code some
+    (leading_at p g is c.args.before.now c.open.new.self c.mapped.new.meter (stopped out_of_memory)
     (subst (λ e. Ran (between (program_of g.code) (code_in g.code) (terms_each c.args.before.now))
-    (IsListOf (length (program_of g.code).names) (code_in g.code)) c.open.new.self c.led.new.meter
+    (IsListOf (length (program_of g.code).names) (code_in g.code)) c.open.new.self
+    c.mapped.new.meter
     (stopped (refusal_of e)))
     c.in-Err-Memory.field-0-is c.in-Err-Memory.ensures.ran)))
 
@@ -130,22 +133,23 @@ returns-in-Err-Memory-clause-err c = λ p is.
 pub basis_in-requires-clause-reduced : goal.basis_in-requires-clause-reduced
 basis_in-requires-clause-reduced c =
     let g = c.args.stage.now in
-    let given = c.in-Ok-led.given in
+    let given = c.in-Ok-mapped.given in
     subst (λ ks. IsReducedList c.in-Ok-setting_of.setting.arity (terms_each ks))
     (sym c.deref-2.ensures.value)
     (subst (λ m. IsReducedList m (terms_each given.items))
     (ap length c.requires.names ∙ sym c.in-Ok-setting_of.ensures.setting.arity)
-    (led_list (program_of g.code) (code_in g.code) c.args.before.now
+    (mapped_list (program_of g.code) (code_in g.code) c.args.before.now
     (subst (λ ns. AreOver (length ns) c.args.before.now) (sym c.requires.names) c.requires.over)
-    c.args.budget c.open.new.self c.led.new.meter c.open.ensures given c.in-Ok-led.ensures.ran))
+    c.args.budget c.open.new.self c.mapped.new.meter c.open.ensures given
+    c.in-Ok-mapped.ensures.ran))
 
 pub basis_in-requires-clause-few : goal.basis_in-requires-clause-few
 basis_in-requires-clause-few c =
-    let few = c.in-Ok-led.ensures.few in
+    let few = c.in-Ok-mapped.ensures.few in
     let e = ap (λ (ks : List FracPoly). length ks) c.deref-2.ensures.value in
     let before = c.requires.few in
-    let units = units_left c.open.new.self c.led.new.meter c.args.budget c.used.result
-    c.left-left.result c.open.ensures c.in-Ok-led.ensures.ran.limit c.used.ensures.used
+    let units = units_left c.open.new.self c.mapped.new.meter c.args.budget c.used.result
+    c.left-left.result c.open.ensures c.in-Ok-mapped.ensures.ran.limit c.used.ensures.used
     c.used.ensures.within c.left-left.ensures in
     let budget = c.requires.budget in
     let names = c.args.stage.now.code.few_names in
@@ -165,25 +169,27 @@ returns-in-Ok-basis_in-clause-ok c = λ p is.
     (loop_free p g is c.in-Ok-setting_of.ensures.free)
     (loop_forms p g is c.in-Ok-setting_of.ensures.forms) in
     let ks = c.deref-2.result.now in
-    let units = units_left c.open.new.self c.led.new.meter c.args.budget c.used.result
-    c.left-left.result c.open.ensures c.in-Ok-led.ensures.ran.limit c.used.ensures.used
+    let units = units_left c.open.new.self c.mapped.new.meter c.args.budget c.used.result
+    c.left-left.result c.open.ensures c.in-Ok-mapped.ensures.ran.limit c.used.ensures.used
     c.used.ensures.within c.left-left.ensures in
-    let few = subst (λ ns. length c.in-Ok-led.given.items ≤ length c.args.before.now
-    + copies (length ns) (code_in g.code) + units_of c.led.new.meter.entries) is.0.0
-    c.in-Ok-led.ensures.few in
+    let few = subst (λ ns. length c.in-Ok-mapped.given.items ≤ length c.args.before.now
+    + copies (length ns) (code_in g.code) + units_of c.mapped.new.meter.entries) is.0.0
+    c.in-Ok-mapped.ensures.few in
     stage_has p (stage_of g).branches c.args.before.now c.args.budget c.open.new.self c.open.ensures
-    c.led.new.meter ks c.in-Ok-led.given (sym c.deref-2.ensures.value) c.left-left.result units
+    c.mapped.new.meter ks c.in-Ok-mapped.given (sym c.deref-2.ensures.value) c.left-left.result
+    units
     c.basis_in.new.meter c.basis_in.ensures.limit c.in-Ok-basis_in.basis.items
     (subst (λ q. HasList q (Some (terms_each ks)) (length ks) c.left-left.result
     c.basis_in.new.meter c.in-Ok-basis_in.basis.items) (body_is p g is)
     (c.in-Ok-basis_in.ensures.ok (program_of g.body) (formed g.body)
     c.in-Ok-setting_of.ensures.setting))
     (stage_of g).code some
-    (leading_at p g is c.args.before.now c.open.new.self c.led.new.meter (done c.in-Ok-led.given)
-    c.in-Ok-led.ensures.ran)
+    (leading_at p g is c.args.before.now c.open.new.self c.mapped.new.meter
+    (done c.in-Ok-mapped.given)
+    c.in-Ok-mapped.ensures.ran)
     formed_here
     (subst (λ (l : List FracPoly). length l ≤ length c.args.before.now
-    + copies (length p.names) (code_in g.code) + units_of c.led.new.meter.entries)
+    + copies (length p.names) (code_in g.code) + units_of c.mapped.new.meter.entries)
     (sym c.deref-2.ensures.value) few))
 
 pub returns-clause-err : goal.returns-clause-err
@@ -198,17 +204,18 @@ returns-clause-err c = λ p is.
     (loop_free p g is c.in-Ok-setting_of.ensures.free)
     (loop_forms p g is c.in-Ok-setting_of.ensures.forms) in
     let ks = c.deref-2.result.now in
-    let units = units_left c.open.new.self c.led.new.meter c.args.budget c.used.result
-    c.left-left.result c.open.ensures c.in-Ok-led.ensures.ran.limit c.used.ensures.used
+    let units = units_left c.open.new.self c.mapped.new.meter c.args.budget c.used.result
+    c.left-left.result c.open.ensures c.in-Ok-mapped.ensures.ran.limit c.used.ensures.used
     c.used.ensures.within c.left-left.ensures in
     stage_refused p (stage_of g).branches c.args.before.now c.args.budget c.open.new.self
-    c.open.ensures c.led.new.meter ks c.in-Ok-led.given (sym c.deref-2.ensures.value)
+    c.open.ensures c.mapped.new.meter ks c.in-Ok-mapped.given (sym c.deref-2.ensures.value)
     c.left-left.result units c.basis_in.new.meter c.basis_in.ensures.limit c.in-Err-basis_in.error
     (subst (λ q. IsStoppedFrom q (Some (terms_each ks)) c.basis_in.new.meter
     c.in-Err-basis_in.error) (body_is p g is)
     (c.in-Err-basis_in.ensures.err (program_of g.body) (formed g.body)
     c.in-Ok-setting_of.ensures.setting))
     (stage_of g).code some
-    (leading_at p g is c.args.before.now c.open.new.self c.led.new.meter (done c.in-Ok-led.given)
-    c.in-Ok-led.ensures.ran)
+    (leading_at p g is c.args.before.now c.open.new.self c.mapped.new.meter
+    (done c.in-Ok-mapped.given)
+    c.in-Ok-mapped.ensures.ran)
     formed_here)

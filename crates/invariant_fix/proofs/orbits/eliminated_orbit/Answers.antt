@@ -7,7 +7,7 @@ use Rattle.divide.specs.Outcomes.{outcome_of}
 use Rattle.divide.proofs.Refused.{unmade}
 use Rattle.ideal_ops.specs.Calls.{elimination_of, IsListOf}
 use Rattle.ideal_ops.specs.Eliminating.{HaveBlock}
-use Rattle.invariant_fix.specs.Orbits.{vars_of, unwinding, orbit_of, orbit_front_of, orbit_list_of}
+use Rattle.invariant_fix.specs.Orbits.{vars_of, pulling_back, orbit_of, orbit_front_of, orbit_list_of}
 use Rattle.invariant_fix.specs.Setting.{form_of}
 use Rattle.invariant_fix.proofs.Started.{ran_started}
 use Rattle.invariant_fix.proofs.Eliminating.{AreStarting, gens_count, block_first, block_arity, way_is, over_of, reduced_of, orbit_length}
@@ -64,7 +64,7 @@ returns-clause-ran c =
     let at = (goal.at.returns-clause-ran c).After-deref in
     let b = c.args.branch.now in
     let gs = c.args.basis.now in
-    ran_started (elimination_of (unwinding b gs)) inr _
+    ran_started (elimination_of (pulling_back b gs)) inr _
     (subst (λ w. Ran (elimination_of w) (IsListOf w) c.args.meter.now c.eliminate.new.meter
     (outcome_of c.eliminate.result))
     (way_is (starting at) (long at).0)

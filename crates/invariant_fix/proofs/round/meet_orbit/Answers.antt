@@ -1,8 +1,8 @@
 use Rattle.std.proofs.Common.{sym, subst, arith}
 use Rattle.std.proofs.lemmas.Result.{IfOk-weaker, err_from_is_err_and}
 use Rattle.poly.specs.Seen.{terms_each}
-use Rattle.invariant_fix.specs.Steps.{Awaits, KnowsTurns, meeting}
-use Rattle.invariant_fix.proofs.Lists.{known_later, known_more, turns_few}
+use Rattle.invariant_fix.specs.Steps.{Awaits, KnowsIterations, meeting}
+use Rattle.invariant_fix.proofs.Lists.{known_later, known_more, iterations_few}
 use Rattle.invariant_fix.proofs.Branching.{meet_due, met_done}
 use Rattle.invariant_fix.proofs.round.meet_orbit.Goals as goal
 use Rattle.invariant_fix.proofs.round.meet_orbit.Goals.{After-deref}
@@ -19,9 +19,10 @@ meet_with_orbit-requires-clause-so_far c = known_later c.args.setting.now.arity 
 pub meet_with_orbit-requires-clause-next : goal.meet_with_orbit-requires-clause-next
 meet_with_orbit-requires-clause-next c =
     let a = c.args.setting.now.arity in
-    subst (λ hs. KnowsTurns c.args.setting.now 12 c.orbit.new.meter hs) (sym c.deref.ensures.value)
+    subst (λ hs. KnowsIterations c.args.setting.now 12 c.orbit.new.meter hs)
+    (sym c.deref.ensures.value)
     (known_more a _ _ _ c.in_ok-next.next.items c.in_ok-next.ensures.list
-    (let z = turns_few a 1 (omega arith) in omega (arith, z)))
+    (let z = iterations_few a 1 (omega arith) in omega (arith, z)))
 
 due : (c : After-deref) → Awaits c.args.setting.now c.orbit.new.meter
     (meeting c.args.setting.now c.args.round c.args.place (terms_each c.args.basis.now)

@@ -2,7 +2,7 @@ use Rattle.std.proofs.Common.{IsTrue, false, ◌+◌, ap, ◌∙◌, sym, refl, 
 use Rattle.std.proofs.lemmas.Result.{err_from_is_err_and}
 use Rattle.linear.specs.Rows.{fractions_of, rows_of}
 use Rattle.frac128.specs.declared.fraction.Frac.{Frac}
-use Rattle.linear.proofs.Lists.{Going, going_first, going_done, going_width, same_width, turn_less, turn_same, turn_wide, below}
+use Rattle.linear.proofs.Lists.{Going, going_first, going_done, going_width, same_width, iteration_less, iteration_same, iteration_wide, below}
 use Rattle.linear.proofs.rows.reduced_of.Goals as goal
 use Rattle.linear.proofs.rows.reduced_of.Goals.{then-not-is_zero+in_ok-rest-2, else-not-is_zero}
 
@@ -24,7 +24,7 @@ returns-in_err-rest-2-clause-wide c =
     let p = err_from_is_err_and c.from_residual-in_err-rest-2.result
     c.from_residual-in_err-rest-2.ensures.1 in
     λ h.
-    turn_wide c.args.row.now.items c.args.rows.now c.loop-other.other-index c.other-item.result
+    iteration_wide c.args.row.now.items c.args.rows.now c.loop-other.other-index c.other-item.result
     c.loop-other.rest c.loop-other-test.true c.other-item.is c.requires.widths
     c.loop-other.invariant
     c.lead_of.result c.index-factor.result.now c.lead_of.ensures
@@ -43,13 +43,13 @@ loop-other-preserved c =
       | then-not-is_zero+in_ok-rest-2 w
           ↦ subst (λ (v : Vec Frac Global). Going (fractions_of row) (rows_of all)
           (rows_of (drop (i + 1) all)) (fractions_of v.items)) (sym w.rest-is)
-          (turn_less row all i c.other-item.result c.loop-other.rest c.loop-other-test.true
+          (iteration_less row all i c.other-item.result c.loop-other.rest c.loop-other-test.true
           c.other-item.is c.requires.widths c.loop-other.invariant
           c.lead_of.result c.index-factor.result.now c.lead_of.ensures low c.index-factor.ensures _
           w.in_ok-rest-2.ensures.row)
       | else-not-is_zero w ↦ subst (λ (v : Vec Frac Global). Going (fractions_of row) (rows_of all)
           (rows_of (drop (i + 1) all)) (fractions_of v.items)) (sym w.rest-is)
-          (turn_same row all i c.other-item.result c.loop-other.rest c.loop-other-test.true
+          (iteration_same row all i c.other-item.result c.loop-other.rest c.loop-other-test.true
           c.other-item.is c.requires.widths c.loop-other.invariant
           c.lead_of.result c.index-factor.result.now c.lead_of.ensures low c.index-factor.ensures
           (w.if-not-is_zero.ensures.0 refl))

@@ -8,13 +8,13 @@ use Rattle.std.proofs.lemmas.Slice.Zip.{Zip-more, either_empty_from_Zip}
 use Rattle.loops.specs.Program.{Expr, Program}
 use Rattle.loop_runs.specs.Seen.{numbers_of}
 use Rattle.loop_runs.specs.Replay.{replay_of}
-use Rattle.loop_runs.proofs.Turns.{passes_on}
+use Rattle.loop_runs.proofs.Iterations.{passes_on}
 use Rattle.loop_runs.specs.Parts.{stage_of, stages_in, IsStageOf}
 use Rattle.loop_runs.specs.ChainSeen.{chain_in}
 use Rattle.loop_runs.specs.ChainReplay.{chain_replay_of}
 use Rattle.loop_runs.specs.ChainRunsSeen.{states_of, words_of}
 use Rattle.loop_runs.proofs.ChainRuns.{chain_replay_states}
-use Rattle.loop_runs.proofs.Following.{first_word, first_refused, left_begins, behind_code, stops_in_code, behind_word, stops_in_word, words_end, replay_long}
+use Rattle.loop_runs.proofs.Following.{words_begin_with_the_first, first_refused, left_begins, behind_code, stops_in_code, behind_word, stops_in_word, words_end, replay_long}
 use Rattle.loop_runs.proofs.chain_replay.replay_chain.Goals as goal
 
 pub returns-in_err-states-clause-replays : goal.returns-in_err-states-clause-replays
@@ -23,7 +23,7 @@ returns-in_err-states-clause-replays c =
     let s = numbers_of c.args.start.now.items in
     let w = c.index-words-0.result in
     let rest = words_of (drop 1 c.args.words.now) in
-    let split = first_word c.args.words.now w
+    let split = words_begin_with_the_first c.args.words.now w
     (let r = c.requires in omega (arith, r)) c.index-words-0.is in
     let p = err_from_is_err_and c.from_residual.result c.from_residual.ensures.1 in
     let refused = rw c.first.ensures at c.in_err-states.ensures.replays in
@@ -37,7 +37,7 @@ loop-stage-init c =
     let s = numbers_of c.args.start.now.items in
     let w = c.index-words-0.result in
     let states = c.in_ok-states.states.items in
-    let split = first_word c.args.words.now w
+    let split = words_begin_with_the_first c.args.words.now w
     (let r = c.requires in omega (arith, r)) c.index-words-0.is in
     let replayed = rw c.first.ensures at c.in_ok-states.ensures.replays in
     let stages : iter_rest (zip_first c.into_iter-stage-iterator.result) ≡ c.further.result.now =

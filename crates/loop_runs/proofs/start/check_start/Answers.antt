@@ -5,7 +5,7 @@ use Rattle.loop_runs.specs.Replay.{start_fault}
 use Rattle.loop_runs.specs.Seen.{numbers_of}
 use Rattle.loop_runs.proofs.start.check_start.Goals as goal
 use Rattle.loop_runs.proofs.Operations.{number_read}
-use Rattle.loop_runs.proofs.Turns.{drop_read, same_meaning, other_meaning, start_wide, start_fails, start_holds}
+use Rattle.loop_runs.proofs.Iterations.{drop_read, same_meaning, other_meaning, start_wide, start_fails, start_holds}
 
 pub returns-in_default-clause-fault : goal.returns-in_default-clause-fault
 returns-in_default-clause-fault c =

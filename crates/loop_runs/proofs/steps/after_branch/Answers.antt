@@ -5,7 +5,7 @@ use Rattle.loop_model.specs.Parts.{statement_of}
 use Rattle.loop_runs.specs.Replay.{branch_end}
 use Rattle.loop_runs.specs.Seen.{numbers_of}
 use Rattle.loop_runs.proofs.steps.after_branch.Goals as goal
-use Rattle.loop_runs.proofs.Turns.{passes_on, drop_read, branch_more, branch_stops}
+use Rattle.loop_runs.proofs.Iterations.{passes_on, drop_read, branch_more, branch_stops}
 
 pub returns-in_err-state-clause-end : goal.returns-in_err-state-clause-end
 returns-in_err-state-clause-end c =

@@ -3,7 +3,7 @@ use Rattle.std.proofs.lemmas.Result.{err_from_is_err_and}
 use Rattle.loops.specs.WellFormed.{Uses}
 use Rattle.loop_runs.specs.Replay.{and_then}
 use Rattle.loop_runs.proofs.steps.after_statement.Goals as goal
-use Rattle.loop_runs.proofs.Turns.{passes_on, all_sides, after_store}
+use Rattle.loop_runs.proofs.Iterations.{passes_on, all_sides, after_store}
 
 pub values_at-requires-clause-uses : goal.values_at-requires-clause-uses
 values_at-requires-clause-uses c = rw (c.deref-2.ensures.value, c.deref-3.ensures.value)

@@ -2,7 +2,7 @@ use Rattle.std.proofs.Common.{◌∙◌, sym}
 use Rattle.std.proofs.lemmas.Slice.Zip.{Zip-more, either_empty_from_Zip}
 use Rattle.loops.specs.Effect.{store}
 use Rattle.loop_runs.proofs.steps.store.Goals as goal
-use Rattle.loop_runs.proofs.Turns.{store_end}
+use Rattle.loop_runs.proofs.Iterations.{store_end}
 
 pub loop-target-preserved : goal.loop-target-preserved
 unfolding store

@@ -4,7 +4,7 @@ use Rattle.std.proofs.lemmas.Slice.Zip.{Zip-more, either_empty_from_Zip}
 use Rattle.loop_model.specs.ExpressionView.{expr_of}
 use Rattle.loop_runs.specs.Seen.{numbers_of}
 use Rattle.loop_runs.proofs.steps.values_at.Goals as goal
-use Rattle.loop_runs.proofs.Turns.{values_more, values_wide, values_end}
+use Rattle.loop_runs.proofs.Iterations.{values_more, values_wide, values_end}
 
 pub returns-in_default-clause-values : goal.returns-in_default-clause-values
 returns-in_default-clause-values c =

@@ -4,7 +4,7 @@ use Rattle.std.specs.Slice.Iter.{iter_rest}
 use Rattle.loop_model.specs.ExpressionView.{expr_of}
 use Rattle.loop_runs.specs.Replay.{values}
 use Rattle.loop_runs.specs.Seen.{numbers_of}
-use Rattle.loop_runs.proofs.Turns.{ValuesLeft}
+use Rattle.loop_runs.proofs.Iterations.{ValuesLeft}
 use Rattle.loop_runs.proofs.steps.values_at.Given as goal
 
 abbrev pub invariant-loop-target : goal.invariant-loop-target

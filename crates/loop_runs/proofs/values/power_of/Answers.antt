@@ -4,15 +4,16 @@ use Rattle.loop_runs.proofs.CheckedValues.{power-zero}
 use Rattle.loop_runs.proofs.values.power_of.Goals as goal
 use Rattle.loop_runs.proofs.Operations.{power_stops, power_goes_on}
 
-pub loop-turn-init : goal.loop-turn-init
-loop-turn-init c = ap Some c.one-product.ensures ∙ power-zero _
+pub loop-iteration-init : goal.loop-iteration-init
+loop-iteration-init c = ap Some c.one-product.ensures ∙ power-zero _
 
-pub loop-turn-preserved : goal.loop-turn-preserved
-loop-turn-preserved c = power_goes_on c.mul.result _ _ _ _ c.loop-turn.invariant c.in_ok-product.was
+pub loop-iteration-preserved : goal.loop-iteration-preserved
+loop-iteration-preserved c = power_goes_on c.mul.result _ _ _ _ c.loop-iteration.invariant
+    c.in_ok-product.was
     c.mul.ensures.ok c.mul.ensures.wide
 
 pub returns-in_err-product : goal.returns-in_err-product
 returns-in_err-product c =
     let p = err_from_is_err_and c.from_residual.result c.from_residual.ensures.1 in
-    rw p.1 (power_stops c.mul.result _ _ _ _ c.loop-turn.invariant c.loop-turn-test.true
+    rw p.1 (power_stops c.mul.result _ _ _ _ c.loop-iteration.invariant c.loop-iteration-test.true
     (rw c.in_err-product.was refl) c.mul.ensures.ok c.mul.ensures.wide)

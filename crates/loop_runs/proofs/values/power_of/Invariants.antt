@@ -3,5 +3,5 @@ use Rattle.frac128.specs.FracMeaning.{fraction_of}
 use Rattle.loop_runs.proofs.CheckedValues.{power}
 use Rattle.loop_runs.proofs.values.power_of.Given as goal
 
-abbrev pub invariant-loop-turn : goal.invariant-loop-turn
-invariant-loop-turn l = Some (fraction_of l.product) ≡ power (fraction_of l.base) l._turn
+abbrev pub invariant-loop-iteration : goal.invariant-loop-iteration
+invariant-loop-iteration l = Some (fraction_of l.product) ≡ power (fraction_of l.base) l._iteration

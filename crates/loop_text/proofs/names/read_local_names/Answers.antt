@@ -2,7 +2,7 @@ use Rattle.std.proofs.Common.{◌≡◌, refl, sym, ap, subst, [], ◌++◌, len
 use Rattle.std.proofs.lemmas.List.{length-append}
 use Rattle.loop_text.specs.Loops.{local_fault, declare_local, local_name}
 use Rattle.loop_model.specs.Names.{place_of}
-use Rattle.loop_text.specs.States.{IsNew}
+use Rattle.loop_text.specs.States.{IsDeclaration}
 use Rattle.loop_text.proofs.WordReads.{none_behind}
 use Rattle.loop_text.proofs.Answering.{GoesOn, Rule, sequence, comma_list, sign, err_from_is_err_and, rest, start, ends, stops, stops_last, each, next_one, last_one, keep, loop_language, with_names}
 use Rattle.loop_text.proofs.names.read_local_names.Goals as goal
@@ -12,9 +12,10 @@ named_rule = sequence (comma_list local_name) (sign 59)
 
 -- a local name behind others
 local_new : (vs names locals all : List (List ℕ)) → all ≡ names ++ locals → names ≡ vs
-    → IsNew locals all local_fault declare_local (with_names vs locals) (λ ls. with_names vs ls)
+    → IsDeclaration locals all local_fault declare_local (with_names vs locals)
+    (λ ls. with_names vs ls)
 local_new vs names locals all e same =
-    subst (λ known. IsNew locals known local_fault declare_local (with_names vs locals)
+    subst (λ known. IsDeclaration locals known local_fault declare_local (with_names vs locals)
     (λ ls. with_names vs ls)) (sym (e ∙ ap (λ ns. ns ++ locals) same))
     (record { faults = λ w. refl; goes = λ w. refl })
 

@@ -2,15 +2,16 @@ use Rattle.std.proofs.Common.{◌≡◌, refl, sym, ap, subst, [], ◌++◌, len
 use Rattle.loop_model.specs.Names.{place_of}
 use Rattle.loop_model.specs.Words.{vars_word}
 use Rattle.loop_text.specs.Loops.{declared_fault, declare}
-use Rattle.loop_text.specs.States.{IsNew}
+use Rattle.loop_text.specs.States.{IsDeclaration}
 use Rattle.loop_text.proofs.Answering.{err_from_is_err_and, sequence, rest, no_first, start, on, ends, stops, stops_last, comma_list, each, next_one, last_one, keyword_read, keyword_barred, declared_name, nothing, keep, keyword, sign, loop_language, with_names}
 use Rattle.loop_text.proofs.names.read_names.Goals as goal
 
 -- a variable behind others
-variable_new : (names all : List (List ℕ)) → all ≡ names → IsNew names all declared_fault declare
+variable_new : (names all : List (List ℕ)) → all ≡ names → IsDeclaration names all declared_fault
+    declare
     (with_names names []) (λ ns. with_names ns [])
 variable_new names all e =
-    subst (λ known. IsNew names known declared_fault declare (with_names names [])
+    subst (λ known. IsDeclaration names known declared_fault declare (with_names names [])
     (λ ns. with_names ns [])) (sym e) (record { faults = λ w. refl; goes = λ w. refl })
 
 pub returns-then-not-is_keyword-clause-reads : goal.returns-then-not-is_keyword-clause-reads

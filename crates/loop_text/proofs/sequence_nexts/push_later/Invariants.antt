@@ -5,7 +5,7 @@ use Rattle.loop_text.proofs.sequence_nexts.push_later.Given as goal
 
 abbrev pub invariant-loop-var : goal.invariant-loop-var
 invariant-loop-var l = record {
-  turn : map expr_of l.turn.items ≡ map expr_of l.initial.turn.items
+  iteration : map expr_of l.iteration.items ≡ map expr_of l.initial.iteration.items
       ++ variables_from (suc l.first) (l.var - suc l.first);
   low : suc l.first ≤ l.var;
 }

@@ -9,14 +9,14 @@ use Rattle.loop_text.specs.LoopLayout.{total}
 use Rattle.loop_text.specs.declared.sequence_firsts.Firsts.{Firsts}
 use Rattle.loop_text.specs.Firsts.{behind_all, AreMade}
 use Rattle.loop_text.proofs.Standing.{left_tokens}
-use Rattle.loop_text.proofs.NextReads.{begins_going, next_stops, more_going, ends_going, some_order, few_places, total_take_more, order_fits, turn_of}
+use Rattle.loop_text.proofs.NextReads.{begins_going, next_stops, more_going, ends_going, some_order, few_places, total_take_more, order_fits, iteration_of}
 use Rattle.loop_text.proofs.sequence_nexts.read_nexts.Goals as goal
 
 pub loop-index-init : goal.loop-index-init
 unfolding total
 loop-index-init c = record {
-  going = begins_going c.args.firsts.now c.args.cursor c.new-turn.result.items
-      c.new-turn.ensures.items;
+  going = begins_going c.args.firsts.now c.args.cursor c.new-iteration.result.items
+      c.new-iteration.ensures.items;
   first = refl;
   within = omega arith;
   tokens = c.requires.tokens;
@@ -35,7 +35,7 @@ returns-in_err-next c =
     let f = c.args.firsts.now in
     let i = c.loop-index.index in
     let g = c.loop-index.invariant.going in
-    next_stops f c.args.cursor c.requires.made i c.loop-index.turn.items c.loop-index.at g
+    next_stops f c.args.cursor c.requires.made i c.loop-index.iteration.items c.loop-index.at g
     (within f i c.len.result c.loop-index-test.true c.len.ensures) c.in_err-next.field-0.0
     c.from_residual.result
     (err_from_is_err_and c.from_residual.result c.from_residual.ensures.1)
@@ -87,11 +87,12 @@ loop-index-preserved c =
     let o = order_is f i c.index-order.result.now l c.index-order.ensures in
     let read = c.in_ok-next.ensures.reads g.nexts g.count in
     record {
-      going = more_going f c.args.cursor c.requires.made i c.loop-index.turn.items
+      going = more_going f c.args.cursor c.requires.made i c.loop-index.iteration.items
           c.loop-index.at g l e c.push.new.self.items c.in_ok-next.end read
           c.in_ok-next.ensures.over
-          (turn_of f i c.loop-index.first c.index-order.result.now c.loop-index.invariant.first o
-          c.loop-index.turn.items c.push_later.new.turn.items c.push.new.self.items e
+          (iteration_of f i c.loop-index.first c.index-order.result.now c.loop-index.invariant.first
+          o
+          c.loop-index.iteration.items c.push_later.new.iteration.items c.push.new.self.items e
           c.in_ok-push_later.ensures c.in_ok-push.ensures.items);
       first = ap₂ (λ a b. a + b) c.loop-index.invariant.first o
           ∙ total_take_more f c.requires.made i l;
@@ -105,7 +106,7 @@ pub returns : goal.returns
 returns c =
     let f = c.args.firsts.now in
     let i = c.loop-index.index in
-    ends_going f c.args.cursor c.requires.made i c.loop-index.turn.items c.loop-index.at
+    ends_going f c.args.cursor c.requires.made i c.loop-index.iteration.items c.loop-index.at
     c.loop-index.invariant.going
     (beyond f i c.len.result c.loop-index-test.false c.len.ensures)
-    c.loop-index.invariant.within c.loop-index.turn refl
+    c.loop-index.invariant.within c.loop-index.iteration refl

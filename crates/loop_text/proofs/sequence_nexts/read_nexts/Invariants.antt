@@ -7,7 +7,7 @@ use Rattle.loop_text.proofs.sequence_nexts.read_nexts.Given as goal
 
 abbrev pub invariant-loop-index : goal.invariant-loop-index
 invariant-loop-index l = record {
-  going : IsGoing l.firsts l.fn.cursor l.index l.turn.items l.at;
+  going : IsGoing l.firsts l.fn.cursor l.index l.iteration.items l.at;
   first : l.first ≡ total (take l.index l.firsts.orders.items);
   within : l.index ≤ length l.firsts.orders.items;
   tokens : AreTokens l.text (rest l.at);

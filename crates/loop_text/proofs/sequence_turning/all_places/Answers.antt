@@ -1,5 +1,5 @@
 use Rattle.std.proofs.Common.{◌++◌, [], ◌∷◌, ap, ◌∙◌}
-use Rattle.loop_text.proofs.TurnReads.{no_places, one_place_more}
+use Rattle.loop_text.proofs.IterationReads.{no_places, one_place_more}
 use Rattle.loop_text.proofs.sequence_turning.all_places.Goals as goal
 
 pub loop-var-init : goal.loop-var-init

@@ -1,7 +1,7 @@
 use Rattle.std.proofs.Common.{refl, arith}
 use Rattle.loops.specs.Limits.{most_names}
 use Rattle.loop_text.specs.LoopLayout.{total, starts}
-use Rattle.loop_text.proofs.TurnReads.{starts_step, total_step, total_within}
+use Rattle.loop_text.proofs.IterationReads.{starts_step, total_step, total_within}
 use Rattle.loop_text.proofs.sequence_turning.first_places.Goals as goal
 
 pub loop-order-init : goal.loop-order-init

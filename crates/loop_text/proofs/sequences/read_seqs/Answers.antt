@@ -18,7 +18,7 @@ use Rattle.loop_text.specs.Firsts.{behind_all}
 use Rattle.loop_text.proofs.Standing.{left_tokens}
 use Rattle.loop_text.proofs.SequenceWholeReads.{whole_read, whole_fails, whole_fails_last}
 use Rattle.loop_text.proofs.sequences.read_seqs.Goals as goal
-use Rattle.loop_text.proofs.sequences.read_seqs.Goals.{In_ok-opened, In_ok-firsts, In_ok-turn}
+use Rattle.loop_text.proofs.sequences.read_seqs.Goals.{In_ok-opened, In_ok-firsts, In_ok-iteration}
 
 abbrev all : Rule
 all = sequence seqs the_end
@@ -96,47 +96,47 @@ read_nexts-requires-clause-tokens c =
     (behind_all c.in_ok-firsts.firsts []) (rest c.in_ok-firsts.behind)
     c.in_ok-firsts.ensures.reads
 
-pub returns-in_err-turn : goal.returns-in_err-turn
-returns-in_err-turn c =
-    let p = err_from_is_err_and c.from_residual-in_err-turn.result
-    c.from_residual-in_err-turn.ensures.1 in
-    let e = c.in_err-turn.field-0.0 in
+pub returns-in_err-iteration : goal.returns-in_err-iteration
+returns-in_err-iteration c =
+    let p = err_from_is_err_and c.from_residual-in_err-iteration.result
+    c.from_residual-in_err-iteration.ensures.1 in
+    let e = c.in_err-iteration.field-0.0 in
     rw (p.1, p.2) (at_text c.args.bytes.now c.new.result e c.new.ensures
     (whole_fails seqs nothing (rest c.new.result)
-    (firsts_on (goal.at-returns-in_err-turn c).In_ok-firsts) e c.in_err-turn.ensures))
+    (firsts_on (goal.at-returns-in_err-iteration c).In_ok-firsts) e c.in_err-iteration.ensures))
 
-turn_on : (c : In_ok-turn) → GoesOn seq_language (sequence seqs the_end) nothing
-    (rest c.new.result) the_end (behind_all c.in_ok-firsts.firsts c.in_ok-turn.ensures.nexts)
-    (rest c.in_ok-turn.end)
-turn_on c =
+iteration_on : (c : In_ok-iteration) → GoesOn seq_language (sequence seqs the_end) nothing
+    (rest c.new.result) the_end (behind_all c.in_ok-firsts.firsts c.in_ok-iteration.ensures.nexts)
+    (rest c.in_ok-iteration.end)
+iteration_on c =
     let ts = rest c.new.result in
     let us = rest c.in_ok-opened.opened in
     on (on (over (on (over (start seq_language (sequence seqs the_end) nothing ts) _ _ _
     (in_parts seq_language opening (sequence firsts (rule more_nexts)) nothing ts the_end))
     (c.in_ok-opened.ensures.goes nothing)) _ _ _
     (in_parts seq_language firsts (rule more_nexts) nothing us the_end))
-    c.in_ok-firsts.ensures.reads) c.in_ok-turn.ensures.goes
+    c.in_ok-firsts.ensures.reads) c.in_ok-iteration.ensures.goes
 
 pub returns-in_err-expect_end : goal.returns-in_err-expect_end
 returns-in_err-expect_end c =
     let p = err_from_is_err_and c.from_residual-in_err-expect_end.result
     c.from_residual-in_err-expect_end.ensures.1 in
     let e = c.in_err-expect_end.field-0.0 in
-    let s = behind_all c.in_ok-firsts.firsts c.in_ok-turn.ensures.nexts in
+    let s = behind_all c.in_ok-firsts.firsts c.in_ok-iteration.ensures.nexts in
     rw (p.1, p.2) (at_text c.args.bytes.now c.new.result e c.new.ensures
     (whole_fails_last seqs nothing (rest c.new.result)
-    (turn_on (goal.at-returns-in_err-expect_end c).In_ok-turn) e
+    (iteration_on (goal.at-returns-in_err-expect_end c).In_ok-iteration) e
     (c.in_err-expect_end.ensures.err s)))
 
 pub returns-in-Ok : goal.returns-in-Ok
 returns-in-Ok c =
-    let ns = c.in_ok-turn.ensures.nexts in
+    let ns = c.in_ok-iteration.ensures.nexts in
     let s = behind_all c.in_ok-firsts.firsts ns in
     record {
       sequences = sequences_in s;
       said = sym (whole_read seqs nothing (rest c.new.result) s
-          (ends (turn_on (goal.at-returns-in-Ok c).In_ok-turn)
+          (ends (iteration_on (goal.at-returns-in-Ok c).In_ok-iteration)
           (c.in_ok-expect_end.ensures.ok s))
           ∙ ap (whole seqs nothing) c.new.ensures);
-      is = c.in-Ok.ensures ns c.in_ok-turn.ensures.turn;
+      is = c.in-Ok.ensures ns c.in_ok-iteration.ensures.iteration;
     }

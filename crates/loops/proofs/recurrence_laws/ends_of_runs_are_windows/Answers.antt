@@ -1,5 +1,5 @@
 use Rattle.loops.proofs.Windows.{window_place, picked_window}
-use Rattle.loops.proofs.Turns.{letters}
+use Rattle.loops.proofs.Iterations.{letters}
 use Rattle.loops.proofs.Relations.{ends}
 use Rattle.loops.proofs.recurrence_laws.ends_of_runs_are_windows.Goals as goal
 

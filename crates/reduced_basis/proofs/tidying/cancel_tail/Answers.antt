@@ -15,7 +15,7 @@ use Rattle.divide.proofs.Ended.{places_of}
 use Rattle.divide.proofs.OneCut.{along}
 use Rattle.reduced_basis.specs.Tails.{TailAt, tail_of_places}
 use Rattle.reduced_basis.specs.Tidying.{elements_of}
-use Rattle.reduced_basis.proofs.Turning.{IsCutAt, IsLeft, other_element, still_is, none_comes, cut_is, term_in, term_divided, past_is, stop_comes, turn_comes, lead_stays, leads_kept, clean_still, left_some}
+use Rattle.reduced_basis.proofs.Turning.{IsCutAt, IsLeft, other_element, still_is, none_comes, cut_is, term_in, term_divided, past_is, stop_comes, iteration_comes, lead_stays, leads_kept, clean_still, left_some}
 use Rattle.reduced_basis.proofs.tidying.cancel_tail.Given.{Over}
 use Rattle.reduced_basis.proofs.tidying.cancel_tail.Goals.{Start, In-Some, After-index-divisor, In_ok-left}
 use Rattle.reduced_basis.proofs.tidying.cancel_tail.Goals as goal
@@ -200,7 +200,7 @@ returns-clause-ok g c =
     let s = c.args.state.now in
     let O = g.O.Order.order s.order in
     step_of (next (field g.K.Ring.scalars) O) (elements_of s) _ c.args.meter.now c.note.new.self _
-    (turn_comes O (cut_at g at.After-index-divisor) (still g at.Start) c.in_ok-left.left _ _ _
+    (iteration_comes O (cut_at g at.After-index-divisor) (still g at.Start) c.in_ok-left.left _ _ _
     c.in-Ok.ensures.1 c.in-Ok-try_from.ensures.1 (list_is g at.In_ok-left)
     (left_is g at.In_ok-left))
     c.in_ok-note.ensures.ok c.in_ok-note.ensures.within

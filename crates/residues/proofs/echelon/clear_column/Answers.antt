@@ -2,7 +2,7 @@ use Rattle.std.proofs.Common.{pos, refl, arith}
 use Rattle.residues.specs.Modulus.{modulus}
 use Rattle.residues.specs.Additions.{IsClearedBy}
 use Rattle.residues.specs.LedRows.{led_of}
-use Rattle.residues.proofs.Turns.{turned_first, turned_length, turned_step}
+use Rattle.residues.proofs.Iterations.{turned_first, turned_length, turned_step}
 use Rattle.residues.proofs.Entries.{led_wide, all_cleared}
 use Rattle.residues.proofs.echelon.clear_column.Goals as goal
 

@@ -3,7 +3,7 @@ use Rattle.std.specs.Vec.{vec_capacity}
 use Rattle.residues.specs.Modulus.{modulus}
 use Rattle.residues.specs.Additions.{IsClearedBy}
 use Rattle.residues.specs.LedRows.{led_of}
-use Rattle.residues.proofs.Turns.{IsTurned}
+use Rattle.residues.proofs.Iterations.{IsTurned}
 use Rattle.residues.proofs.echelon.clear_column.Given as goal
 
 abbrev pub invariant-loop-place : goal.invariant-loop-place

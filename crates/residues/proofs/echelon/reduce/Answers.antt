@@ -5,7 +5,7 @@ use Rattle.residues.specs.Modulus.{modulus}
 use Rattle.residues.specs.EchelonForm.{IsLed}
 use Rattle.residues.specs.LedRows.{led_of, leds_of}
 use Rattle.residues.specs.Numbers.{number_of, numbers_of}
-use Rattle.residues.proofs.Turns.{rest_first}
+use Rattle.residues.proofs.Iterations.{rest_first}
 use Rattle.residues.proofs.Entries.{row_read, row_width, rest_more, rest_done}
 use Rattle.residues.proofs.echelon.reduce.Goals as goal
 use Rattle.residues.proofs.echelon.reduce.Goals.{After-other-item}

@@ -2,7 +2,7 @@ use Rattle.std.proofs.Common.{pos, length, take}
 use Rattle.residues.specs.Modulus.{modulus}
 use Rattle.residues.specs.Numbers.{numbers_of}
 use Rattle.residues.specs.LedRows.{leds_of}
-use Rattle.residues.proofs.Turns.{IsRestTo}
+use Rattle.residues.proofs.Iterations.{IsRestTo}
 use Rattle.residues.proofs.echelon.reduce.Given as goal
 
 abbrev pub invariant-loop-other : goal.invariant-loop-other

@@ -1,7 +1,7 @@
 use Rattle.std.proofs.Common.{pos, []}
 use Rattle.residues.specs.Modulus.{modulus}
 use Rattle.residues.specs.Numbers.{number_of, numbers_of}
-use Rattle.residues.proofs.Turns.{IsBlendTo}
+use Rattle.residues.proofs.Iterations.{IsBlendTo}
 use Rattle.residues.proofs.echelon.scale.Given as goal
 
 abbrev pub invariant-loop-column : goal.invariant-loop-column

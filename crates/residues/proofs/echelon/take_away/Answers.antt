@@ -2,7 +2,7 @@ use Rattle.std.proofs.Common.{◌≡◌, pos, neg_ℤ, length, refl, ap, arith, 
 use Rattle.std.proofs.lemmas.List.{length-map}
 use Rattle.residues.specs.Modulus.{modulus}
 use Rattle.residues.specs.Numbers.{number_of, numbers_of}
-use Rattle.residues.proofs.Turns.{blend_none, blend_behind}
+use Rattle.residues.proofs.Iterations.{blend_none, blend_behind}
 use Rattle.residues.proofs.Entries.{taken_step, blend_done, row_length}
 use Rattle.residues.proofs.echelon.take_away.Goals as goal
 

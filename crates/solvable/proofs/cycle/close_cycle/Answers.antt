@@ -1,6 +1,6 @@
 use Rattle.std.proofs.Common.{length, arith, rules, subst}
 use Rattle.solvable.specs.Tables.{at}
-use Rattle.solvable.proofs.Walks.{turn, no_turn, going_first, going_done, Going}
+use Rattle.solvable.proofs.Walks.{iteration, no_iteration, going_first, going_done, Going}
 use Rattle.solvable.proofs.cycle.close_cycle.Goals as goal
 
 pub loop-left-init : goal.loop-left-init
@@ -21,7 +21,7 @@ loop-left-preserved-in-Some c = record {
   below = (let b = c.loop-left.invariant.below in omega (arith, b));
   from = (let f = c.in-Some.ensures.some in let e = c.requires.used.size in search rules);
   going = λ k e.
-      turn (length c.args.used.now.items) c.args.first c.args.second c.args.used.now.items
+      iteration (length c.args.used.now.items) c.args.first c.args.second c.args.used.now.items
       c.args.walks.now.items c.requires.used c.requires.first c.requires.walks c.loop-left.left
       c.loop-left.from c.loop-left.invariant.below c.loop-left-test.true
       c.index.result.now c.index.ensures k c.in-Some.next c.loop-left.cycle.items
@@ -34,7 +34,7 @@ loop-left-preserved c = record {
   below = (let b = c.loop-left.invariant.below in omega (arith, b));
   from = c.loop-left.invariant.from;
   going = λ k e.
-      absurd (no_turn (length c.args.used.now.items) c.args.first c.args.second
+      absurd (no_iteration (length c.args.used.now.items) c.args.first c.args.second
       c.args.used.now.items c.args.walks.now.items c.requires.used c.requires.first
       c.requires.walks c.loop-left.left c.loop-left.from c.loop-left.invariant.below
       c.loop-left-test.true

@@ -1,5 +1,5 @@
 use Rattle.std.proofs.Common.{length}
-use Rattle.solvable.proofs.Classing.{grouping_first, turn_smaller, turn_more, turn_done, lists, square_own}
+use Rattle.solvable.proofs.Classing.{grouping_first, iteration_smaller, iteration_more, iteration_done, lists, square_own}
 use Rattle.solvable.proofs.groups.classes_of_uses.Goals as goal
 
 pub loop-first-init : goal.loop-first-init
@@ -10,7 +10,7 @@ loop-first-init c =
 
 pub loop-first-smaller : goal.loop-first-smaller
 loop-first-smaller c =
-    turn_smaller c.args.used.items c.in_ok-reach.reach.items (length c.args.used.items)
+    iteration_smaller c.args.used.items c.in_ok-reach.reach.items (length c.args.used.items)
     c.in-Some.first c.loop-first.earlier.items c.as_slice.result.now
     c.extend_from_slice.new.self.items c.as_slice-in-Some.result.now
     c.loop-first.groups.items c.push.new.self.items c.in_ok-group.group c.as_slice.ensures.value
@@ -19,7 +19,8 @@ loop-first-smaller c =
 
 pub loop-first-preserved : goal.loop-first-preserved
 loop-first-preserved c =
-    turn_more c.args.used.items c.in_ok-reach.reach.items (length c.args.used.items) c.in-Some.first
+    iteration_more c.args.used.items c.in_ok-reach.reach.items (length c.args.used.items)
+    c.in-Some.first
     c.loop-first.earlier.items c.as_slice.result.now c.extend_from_slice.new.self.items
     c.as_slice-in-Some.result.now
     c.loop-first.groups.items c.push.new.self.items c.in_ok-group.group c.as_slice.ensures.value
@@ -33,6 +34,6 @@ next-requires c = square_own (length c.args.used.items) c.in_ok-reach.reach.item
 
 pub returns : goal.returns
 returns c =
-    turn_done c.args.used.items c.in_ok-reach.reach.items (length c.args.used.items)
+    iteration_done c.args.used.items c.in_ok-reach.reach.items (length c.args.used.items)
     c.loop-first.earlier.items c.as_slice.result.now (lists c.loop-first.groups.items)
     c.as_slice.ensures.value c.in_default.ensures.none c.loop-first.invariant

@@ -3,16 +3,21 @@ use Rattle.solvable_maps.proofs.laws.forms_come_one_after_another.Goals as goal
 
 pub returns : goal.returns
 returns c = record {
-  source = λ base images since is earlier k g next class ps turned w p w' h n s size late.
+  inhomogeneity = λ base images since is earlier k g next class ps turned w p w' h n s size late.
       rests_turned base images since is earlier k g next class ps turned n s size late w p w' h;
-  first = λ base images since is none g class before done w width l by splits q source start y rec
-      known. form_turned base images since is none g class before done w width l by splits q source
+  first = λ base images since is none g class before done w width l by splits q inhomogeneity start
+      y rec
+      known. form_turned base images since is none g class before done w width l by splits q
+      inhomogeneity
       start y rec known;
-  later = λ base images since is none g class before done w width l by splits q source some start y
+  later = λ base images since is none g class before done w width l by splits q inhomogeneity some
+      start y
       rec d known. later_form_turned base images since is none g class before done w width l by
-      splits q source some start y rec d known;
-  zero = λ base images since is none g class before done w width l by splits q source e start y rec.
-      zero_form_turned base images since is none g class before done w width l by splits q source e
+      splits q inhomogeneity some start y rec d known;
+  zero = λ base images since is none g class before done w width l by splits q inhomogeneity e start
+      y rec.
+      zero_form_turned base images since is none g class before done w width l by splits q
+      inhomogeneity e
       start y rec;
   variable = λ base images since is none g class forms done a l by makes p values.
       variable_turned base images since is none g class forms done a l by makes p values;

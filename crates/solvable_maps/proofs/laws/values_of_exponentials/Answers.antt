@@ -1,4 +1,4 @@
-use Rattle.solvable_maps.proofs.Operations.{normalized-normal, normal-value, next-value, back-value, zero-value, turn-value}
+use Rattle.solvable_maps.proofs.Operations.{normalized-normal, normal-value, next-value, back-value, zero-value, iteration-value}
 use Rattle.solvable_maps.proofs.OneForm.{before-value}
 use Rattle.solvable_maps.proofs.laws.values_of_exponentials.Goals as goal
 
@@ -10,5 +10,5 @@ returns c = record {
   back = λ base coprime m p a n s. back-value base coprime m p a n s;
   at_zero = λ base coprime m p s l. zero-value base coprime m p s l;
   before = λ base coprime m p a n s l. before-value base coprime m p a n s l;
-  at_turn = λ base coprime m p n s l. turn-value base coprime m p n s l;
+  at_iteration = λ base coprime m p n s l. iteration-value base coprime m p n s l;
 }

@@ -4,7 +4,7 @@ use Rattle.algebra.specs.Fraction.{ℚ}
 use Rattle.polynomials.specs.Terms.{variables}
 use Rattle.loops.proofs.Maps.{length-variables}
 use Rattle.poly.specs.Seen.{terms_in, terms_each}
-use Rattle.poly.specs.Standing.{IsOver}
+use Rattle.poly.specs.Standing.{IsInVariables}
 use Rattle.std.proofs.lemmas.List.{take_more}
 use Rattle.algebra.proofs.Lists.{have_more}
 use Rattle.loop_model.specs.FracPoly.{FracPoly}
@@ -23,6 +23,6 @@ loop-place-preserved c =
           ∙ map-append (λ (q : FracPoly). terms_in q) c.loop-place.images.items (p ∷ [])
           ∙ ap₂ (λ l t. l ++ t ∷ []) c.loop-place.invariant.images c.in_ok-variable.ensures.terms
           ∙ sym (take_more (variables ℚ w) c.loop-place.place [] l);
-      over = have_more (IsOver w) c.loop-place.images.items c.push.new.self.items p
+      over = have_more (IsInVariables w) c.loop-place.images.items c.push.new.self.items p
           c.in_ok-push.ensures.items c.loop-place.invariant.over c.in_ok-variable.ensures.arity;
     }

@@ -4,7 +4,7 @@ use Rattle.poly.specs.Seen.{terms_in}
 use Rattle.rounds.specs.Form.{at_minus_one}
 use Rattle.task_lists.specs.Late.{form_over}
 use Rattle.task_lists.proofs.Differences.{pushed}
-use Rattle.task_lists.proofs.OneTurnBack.{over_here, over_rest, stands_here, told_next, past_told, past_rest}
+use Rattle.task_lists.proofs.OneIterationBack.{over_here, over_rest, stands_here, told_next, past_told, past_rest}
 use Rattle.task_lists.proofs.late_form.+push_told.Goals as goal
 
 pub returns-in_err-told_by-clause-wide : goal.returns-in_err-told_by-clause-wide

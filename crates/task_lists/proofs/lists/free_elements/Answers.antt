@@ -8,7 +8,7 @@ use Rattle.polynomials.specs.Order.{grevlex, blocks}
 use Rattle.polynomials.specs.Polynomial.{IsPolynomial}
 use Rattle.machines.specs.Elimination.{all_free}
 use Rattle.poly.specs.Seen.{terms_in, terms_each}
-use Rattle.poly.specs.Standing.{IsOver}
+use Rattle.poly.specs.Standing.{IsInVariables}
 use Rattle.machines.specs.Front.{IsFreeOfFirst}
 use Rattle.poly.proofs.Standing.{polynomial_over}
 use Rattle.algebra.proofs.Lists.{take_next, have_more}
@@ -20,8 +20,8 @@ use Rattle.task_lists.proofs.lists.free_elements.Goals.{then-is_free_of_first+in
 pub loop-p-init : goal.loop-p-init
 loop-p-init c = (
   kept_none c.args.front _ (ap terms_each c.new-free.ensures.items),
-  All-same (IsOver c.args.variables) c.new-free.result.items [] c.new-free.ensures.items
-      (All-nil (IsOver c.args.variables)),
+  All-same (IsInVariables c.args.variables) c.new-free.result.items [] c.new-free.ensures.items
+      (All-nil (IsInVariables c.args.variables)),
 )
 
 pub loop-p-preserved : goal.loop-p-preserved
@@ -32,7 +32,7 @@ loop-p-preserved c =
     let i = c.loop-p.p-index in
     let first = at_place (λ p. p.order.first ≡ k) c.args.list.now c.requires.blocks i e
     c.loop-p-test.true c.p-item.is in
-    let arity = at_place (IsOver (k + m)) c.args.list.now c.requires.arity i e
+    let arity = at_place (IsInVariables (k + m)) c.args.list.now c.requires.arity i e
     c.loop-p-test.true c.p-item.is in
     let more = take_next terms_in c.args.list.now i e c.loop-p-test.true c.p-item.is in
     elim c.if-is_free_of_first.branch [
@@ -52,7 +52,7 @@ loop-p-preserved c =
                 (terms_each c.if-is_free_of_first.free.items) (terms_in e) (terms_in q) more
                 (free_all k (terms_in e) free) (ap terms_each items
                 ∙ map-append terms_in c.loop-p.free.items (q ∷ [])) made c.loop-p.invariant.0,
-            have_more (IsOver m) c.loop-p.free.items c.if-is_free_of_first.free.items q items
+            have_more (IsInVariables m) c.loop-p.free.items c.if-is_free_of_first.free.items q items
                 c.loop-p.invariant.1 rest,
           ))
       | else-is_free_of_first w ↦ (
@@ -62,6 +62,6 @@ loop-p-preserved c =
             ap (λ v. terms_each v.items) w.free-is
                 ∙ kept_step_out k _ _ (terms_each c.loop-p.free.items) (terms_in e) more out
                 c.loop-p.invariant.0,
-            subst (λ v. All (IsOver m) v.items) (sym w.free-is) c.loop-p.invariant.1,
+            subst (λ v. All (IsInVariables m) v.items) (sym w.free-is) c.loop-p.invariant.1,
           ))
     ]

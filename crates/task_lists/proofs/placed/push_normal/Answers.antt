@@ -6,7 +6,7 @@ use Rattle.coprime_base.specs.Sizes.{sizes}
 use Rattle.algebra.proofs.Growing.{any_mapped}
 use Rattle.algebra.proofs.Lists.{have_more}
 use Rattle.poly.specs.Seen.{terms_in}
-use Rattle.poly.specs.Standing.{IsOver}
+use Rattle.poly.specs.Standing.{IsInVariables}
 use Rattle.loop_model.specs.FracPoly.{FracPoly}
 use Rattle.rounds.specs.Form.{front, normal}
 use Rattle.task_lists.specs.Blocks.{Blocked}
@@ -42,7 +42,7 @@ loop-p-preserved c =
           (c.loop-p.invariant.block w all old) (
             ap (λ o. o.first) is.order,
             is.arity ∙ c.in_ok-normal.ensures.arity
-                ∙ all_at (IsOver w) list i p c.loop-p-test.true c.p-item.is all,
+                ∙ all_at (IsInVariables w) list i p c.loop-p-test.true c.p-item.is all,
           );
     }
 

@@ -4,7 +4,7 @@ use Rattle.polynomials.specs.Order.{grevlex, blocks}
 use Rattle.polynomials.specs.Polynomial.{AllArity}
 use Rattle.polynomials.specs.Terms.{Terms}
 use Rattle.poly.specs.Seen.{terms_each}
-use Rattle.poly.specs.Standing.{IsOver, AllStandFor}
+use Rattle.poly.specs.Standing.{IsInVariables, AllStandFor}
 use Rattle.coprime_base.specs.Sizes.{sizes}
 use Rattle.rounds.specs.Form.{normal}
 use Rattle.task_lists.specs.Placed.{HaveBlock}
@@ -18,6 +18,6 @@ invariant-loop-p l =
       normal : (w : ℕ) (qs : List (Terms Fraction)) → AllStandFor w l.list qs → AllArity w qs
           → IsLeft w f (drop l.p-index l.list) l.gens.items
           (terms_each l.initial.gens.items ++ map f qs);
-      block : (w : ℕ) → All (IsOver w) l.list → HaveBlock l.first w l.initial.gens.items
+      block : (w : ℕ) → All (IsInVariables w) l.list → HaveBlock l.first w l.initial.gens.items
           → HaveBlock l.first w l.gens.items;
     }

@@ -4,7 +4,7 @@ use Rattle.algebra.specs.Fraction.{rationals}
 use Rattle.polynomials.specs.Order.{grevlex, blocks}
 use Rattle.machines.specs.Collect.{collect}
 use Rattle.algebra.proofs.Lists.{have_more}
-use Rattle.poly.specs.Standing.{IsOver}
+use Rattle.poly.specs.Standing.{IsInVariables}
 use Rattle.task_lists.specs.Blocks.{Blocked}
 use Rattle.task_lists.proofs.Differences.{all_at}
 use Rattle.task_lists.proofs.Placing.{placed_is, left_next, left_end}
@@ -33,7 +33,7 @@ loop-p-preserved c =
           × (q.arity ≡ w)) c.loop-p.gens.items c.push.new.self.items b c.in_ok-push.ensures.items
           (c.loop-p.invariant.block w all old) (
             ap (λ o. o.first) is.order,
-            is.arity ∙ all_at (IsOver w) list i p c.loop-p-test.true c.p-item.is all,
+            is.arity ∙ all_at (IsInVariables w) list i p c.loop-p-test.true c.p-item.is all,
           );
     }
 

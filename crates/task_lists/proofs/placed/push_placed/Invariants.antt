@@ -5,7 +5,7 @@ use Rattle.polynomials.specs.Polynomial.{AllArity}
 use Rattle.polynomials.specs.Terms.{Terms}
 use Rattle.machines.specs.Collect.{collect}
 use Rattle.poly.specs.Seen.{terms_each}
-use Rattle.poly.specs.Standing.{IsOver, AllStandFor}
+use Rattle.poly.specs.Standing.{IsInVariables, AllStandFor}
 use Rattle.task_lists.specs.Placed.{HaveBlock}
 use Rattle.task_lists.proofs.Placing.{IsLeft}
 use Rattle.task_lists.proofs.placed.push_placed.Given as goal
@@ -17,6 +17,6 @@ invariant-loop-p l =
       placed : (w : ℕ) (qs : List (Terms Fraction)) → AllStandFor w l.list qs → AllArity w qs
           → IsLeft w f (drop l.p-index l.list) l.gens.items
           (terms_each l.initial.gens.items ++ map f qs);
-      block : (w : ℕ) → All (IsOver w) l.list → HaveBlock l.first w l.initial.gens.items
+      block : (w : ℕ) → All (IsInVariables w) l.list → HaveBlock l.first w l.initial.gens.items
           → HaveBlock l.first w l.gens.items;
     }

@@ -4,7 +4,7 @@ use Rattle.polynomials.specs.Terms.{Same, value_at}
 use Rattle.poly.specs.Seen.{terms_in}
 use Rattle.coprime_base.specs.Sizes.{sizes}
 use Rattle.solvable_maps.specs.Expo.{with_normal_keys}
-use Rattle.solvable_maps.specs.Turns.{point}
+use Rattle.solvable_maps.specs.Iterations.{point}
 use Rattle.expo.specs.Operations.{sum_of}
 use Rattle.expo.specs.View.{base_of, value_of}
 use Rattle.expo.proofs.Calls.{sum_made}

@@ -4,7 +4,7 @@ use Rattle.polynomials.specs.Terms.{Same, times, value_at}
 use Rattle.poly.specs.Seen.{terms_in}
 use Rattle.coprime_base.specs.Sizes.{sizes}
 use Rattle.expo.specs.View.{base_of, value_of}
-use Rattle.solvable_maps.specs.Turns.{point}
+use Rattle.solvable_maps.specs.Iterations.{point}
 use Rattle.expo.proofs.Outcomes.{ok_weaker}
 use Rattle.expo.proofs.Values.{product_values}
 use Rattle.expo.proofs.Results.{mul_is, expo_arity, other_arity, product_weight_past}

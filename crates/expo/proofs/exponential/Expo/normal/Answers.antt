@@ -7,7 +7,7 @@ use Rattle.poly.specs.View.{terms_of}
 use Rattle.poly.proofs.Steps.{all_arity}
 use Rattle.coprime_base.specs.Sizes.{sizes}
 use Rattle.solvable_maps.specs.Expo.{with_normal_keys}
-use Rattle.solvable_maps.specs.Turns.{width}
+use Rattle.solvable_maps.specs.Iterations.{width}
 use Rattle.expo.specs.Operations.{vars_of, normal_of}
 use Rattle.expo.proofs.Calls.{long_terms, normal_arity, normal_made}
 use Rattle.expo.proofs.Outcomes.{wide_of}

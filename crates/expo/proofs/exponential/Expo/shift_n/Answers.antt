@@ -6,7 +6,7 @@ use Rattle.poly.specs.Seen.{terms_in, terms_each, arity_of}
 use Rattle.poly.proofs.Standing.{first_arity}
 use Rattle.coprime_base.specs.Sizes.{sizes}
 use Rattle.solvable_maps.specs.Expo.{with_normal_keys, next_images}
-use Rattle.solvable_maps.specs.Turns.{width}
+use Rattle.solvable_maps.specs.Iterations.{width}
 use Rattle.expo.specs.Operations.{at_next}
 use Rattle.expo.specs.View.{base_of}
 use Rattle.expo.proofs.Calls.{AreNext, are_next, shifted_made}

@@ -11,7 +11,8 @@ invariant_of-result c = (lcm_is _ _ _ _ c.self.invariant c.self.view_is c.args.o
     c.room_of.ensures.room c.from-count.ensures)).0
 
 pub returns-clause-lcm : goal.returns-clause-lcm
-returns-clause-lcm c = (lcm_is _ _ _ _ c.self.invariant c.self.view_is c.args.other.now _ _ c.requires
+returns-clause-lcm c = (lcm_is _ _ _ _ c.self.invariant c.self.view_is c.args.other.now _ _
+    c.requires
     c.word_of_lcm-word.ensures.small c.word_of_lcm-word.ensures.word
     (c.degree_in.ensures.degree ∙ ap₂ (λ r k. sum (lanes r k c.word_of_lcm-word.result))
     c.room_of.ensures.room c.from-count.ensures)).1

@@ -2,7 +2,7 @@ use Rattle.std.proofs.Common.{◌≡◌, ◌∙◌, ap, sym, subst, pos, length,
 use Rattle.std.proofs.lemmas.List.{length-map}
 use Rattle.residues.specs.Modulus.{modulus}
 use Rattle.residues.specs.Numbers.{number_of, numbers_of}
-use Rattle.residues.specs.EchelonForm.{Form, IsKept, IsEchelonOf, IsNew}
+use Rattle.residues.specs.EchelonForm.{Form, IsReducedEchelon, IsEchelonOf, IsIndependent}
 use Rattle.residues.specs.LedRows.{leds_of}
 use Rattle.residues.proofs.Forms.{added_more, added_new}
 use Rattle.residues.proofs.Added.{kept_added, either}
@@ -23,13 +23,14 @@ pub invariant_of-self : goal.invariant_of-self
 invariant_of-self c =
     let n = length c.args.row.items in
     either c.add_to.result
-    (IsKept (pos modulus) c.self.inside.width (leds_of c.add_to.new.rows.items))
-    (λ e. subst (λ m. IsKept (pos modulus) m (leds_of c.add_to.new.rows.items)) (width c)
+    (IsReducedEchelon (pos modulus) c.self.inside.width (leds_of c.add_to.new.rows.items))
+    (λ e. subst (λ m. IsReducedEchelon (pos modulus) m (leds_of c.add_to.new.rows.items)) (width c)
     (kept_added n (leds_of c.self.inside.rows.items) (numbers_of c.args.row.items)
     (leds_of c.add_to.new.rows.items) (length-map c.args.row.items number_of)
-    (subst (λ m. IsKept (pos modulus) m (leds_of c.self.inside.rows.items)) (sym (width c))
+    (subst (λ m. IsReducedEchelon (pos modulus) m (leds_of c.self.inside.rows.items))
+    (sym (width c))
     c.self.invariant) (c.add_to.ensures.counts e)))
-    (λ e. subst (λ rows. IsKept (pos modulus) c.self.inside.width (leds_of rows))
+    (λ e. subst (λ rows. IsReducedEchelon (pos modulus) c.self.inside.width (leds_of rows))
     (sym (c.add_to.ensures.kept e)) c.self.invariant)
 
 pub returns-clause-more : goal.returns-clause-more
@@ -44,7 +45,7 @@ returns-clause-more c = λ e.
 
 pub returns-clause-new : goal.returns-clause-new
 returns-clause-new c = λ e.
-    subst (λ (f : Form). IsNew (pos modulus) f (numbers_of c.args.row.items)) (same c)
+    subst (λ (f : Form). IsIndependent (pos modulus) f (numbers_of c.args.row.items)) (same c)
     (added_new (pos modulus)
     (record { width = length c.args.row.items; rows = leds_of c.self.inside.rows.items })
     (numbers_of c.args.row.items) (leds_of c.add_to.new.rows.items) (c.add_to.ensures.counts e))

@@ -2,7 +2,7 @@ use Rattle.std.proofs.Common.{◌≡◌, ◌+◌, List, [], All, length, map, sy
 use Rattle.std.proofs.lemmas.List.{length-map}
 use Rattle.std.proofs.lemmas.Result.{IfOk-weaker}
 use Rattle.poly.specs.Seen.{terms_in, terms_each}
-use Rattle.poly.specs.Standing.{IsOver, AllStandFor}
+use Rattle.poly.specs.Standing.{IsInVariables, AllStandFor}
 use Rattle.rounds.specs.Form.{with_room_for}
 use Rattle.rounds.specs.Graph.{graph_list}
 use Rattle.rounds.specs.Past.{IsPastGraph}
@@ -27,8 +27,8 @@ before-requires-clause-over c =
     let s = c.args.shape in
     let a = c.requires.shape.front in
     let b = c.requires.shape.variables in
-    subst (λ ps. All (IsOver (s.front + s.variables)) ps) (sym c.as_slice-2.ensures.value)
-    (subst (λ n. All (IsOver n) f.back.now.items) (omega (arith, a, b))
+    subst (λ ps. All (IsInVariables (s.front + s.variables)) ps) (sym c.as_slice-2.ensures.value)
+    (subst (λ n. All (IsInVariables n) f.back.now.items) (omega (arith, a, b))
     c.requires.fits.back_arity)
 
 stands : (c : In_ok-before) → AllStandFor (width_of c.args.shape) c.in_ok-before.before.items
@@ -77,8 +77,8 @@ graph-requires-clause-forms c =
     let s = c.args.shape in
     let a = c.requires.shape.front in
     let b = c.requires.shape.variables in
-    subst (λ ps. All (IsOver (s.front + s.variables)) ps) (sym c.deref.ensures.value)
-    (subst (λ n. All (IsOver n) c.in_ok-forms.forms.items) (omega (arith, a, b))
+    subst (λ ps. All (IsInVariables (s.front + s.variables)) ps) (sym c.deref.ensures.value)
+    (subst (λ n. All (IsInVariables n) c.in_ok-forms.forms.items) (omega (arith, a, b))
     (bodies_over _ _ f.polys.now.items c.in_ok-forms.forms.items c.requires.fits.over
     (c.in_ok-forms.ensures.arities ∙ ap (λ es. map (λ e. e.body.arity) es)
     c.as_slice-3.ensures.value)))

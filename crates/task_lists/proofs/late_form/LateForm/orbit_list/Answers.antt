@@ -1,5 +1,5 @@
 use Rattle.std.proofs.Common.{◌≡◌, ◌≤◌, ◌+◌, List, All, sym, ap, subst, ◌∙◌, arith}
-use Rattle.poly.specs.Standing.{IsOver, AllStandFor}
+use Rattle.poly.specs.Standing.{IsInVariables, AllStandFor}
 use Rattle.poly.proofs.Standing.{stands_over}
 use Rattle.rounds.specs.Form.{front}
 use Rattle.loop_model.specs.FracPoly.{FracPoly}
@@ -24,7 +24,8 @@ shaped c = subst (λ k. HasShape c.args.self.now k c.shape-shape.result)
 few : (c : After-shape-shape) → width_of c.shape-shape.result ≤ 4096
 few c = shape_few c.args.self.now c.requires.fits _ c.shape-shape.result (shaped c) (omega arith)
 
-over : (c : In_ok-graph) → All (IsOver (width_of c.shape-shape.result)) c.in_ok-graph.graph.items
+over : (c : In_ok-graph) → All (IsInVariables (width_of c.shape-shape.result))
+    c.in_ok-graph.graph.items
 over c = stands_over (width_of c.shape-shape.result) c.in_ok-graph.graph.items _
     (c.in_ok-graph.ensures.graph)
 
@@ -36,7 +37,7 @@ overflow_add-first c =
 pub push_normal-requires-clause-front : goal.push_normal-requires-clause-front
 push_normal-requires-clause-front c =
     let at = goal.at.push_normal-requires-clause-front c in
-    let ps = subst (λ ps. All (IsOver (width_of c.shape-shape.result)) ps)
+    let ps = subst (λ ps. All (IsInVariables (width_of c.shape-shape.result)) ps)
     (sym c.deref.ensures.value) (over at.In_ok-graph) in
     let is = (shaped at.After-shape-shape).front in
     λ k d l. let a = ps k d l in omega (arith, a, is)
@@ -72,7 +73,8 @@ returns-clause-block c =
     let none = subst (λ (ps : List Blocked). HaveBlock (s.front + s.copies) (width_of s) ps)
     (sym c.new-gens.ensures.items) (λ k d l. absurd (omega (arith, l))) in
     let first = c.in_ok-push_normal.ensures.block (width_of s)
-    (subst (λ ps. All (IsOver (width_of s)) ps) (sym c.deref.ensures.value) (over at.In_ok-graph))
+    (subst (λ ps. All (IsInVariables (width_of s)) ps) (sym c.deref.ensures.value)
+    (over at.In_ok-graph))
     none in
     let named = ap front (counted at.After-shape-shape) in
     let start = is.front in

@@ -1,0 +1,142 @@
+use Rattle.std.proofs.Common.{◌≡◌, ◌+◌, ◌*◌, ◌≤◌, All, Err, length, refl, sym, ap, subst, ◌∙◌, arith}
+use Rattle.std.proofs.lemmas.List.{length-map}
+use Rattle.algebra.specs.Fraction.{fractions, fraction_size}
+use Rattle.algebra.specs.Size.{IsPast}
+use Rattle.polynomials.specs.Weight.{weight, IsPastSum}
+use Rattle.linear.specs.Rows.{fractions_of, rows_of}
+use Rattle.poly.specs.Seen.{terms_in, terms_each}
+use Rattle.coprime_base.specs.Sizes.{sizes}
+use Rattle.solvable.proofs.Using.{FracPoly}
+use Rattle.closed_forms.specs.ClassSetting.{variables_over, moved_of}
+use Rattle.closed_forms.specs.Inhomogeneities.{part}
+use Rattle.closed_forms.specs.Inhomogeneities as past
+use Rattle.expo.proofs.Outcomes.{wide_of}
+use Rattle.closed_forms.proofs.Making.{normal_over, room_before, inhomogeneity_is, sum_is}
+use Rattle.expo.proofs.Solved.{handed_on}
+use Rattle.closed_forms.proofs.Mixing.{if_ok_where}
+use Rattle.closed_forms.proofs.inhomogeneities.inhomogeneity.Goals as goal
+use Rattle.closed_forms.proofs.inhomogeneities.inhomogeneity.Goals.{In_ok-moved}
+
+pub compose_rests-requires-clause-few : goal.compose_rests-requires-clause-few
+compose_rests-requires-clause-few c = subst (λ ws. variables_over (sizes ws) c.args.setting.now
+    ≤ 4096) (sym c.deref.ensures.value) c.requires.few
+
+pub compose_rests-requires-clause-earlier : goal.compose_rests-requires-clause-earlier
+compose_rests-requires-clause-earlier c =
+    subst (λ ws. All (λ (p : FracPoly). p.arity ≡ variables_over (sizes ws) c.args.setting.now)
+    c.args.setting.now.earlier.items) (sym c.deref.ensures.value) c.requires.setting.earlier
+
+-- how many exponents the terms have, and what is moved
+module _ (c : In_ok-moved) where
+  width_is : 2 + 2 * c.len.result + c.len-2.result ≡ variables_over (sizes c.args.base.now.items)
+      c.args.setting.now
+  width_is =
+      let n : c.len.result ≡ length (sizes c.args.base.now.items) = c.len.ensures
+      ∙ c.args.base.now.ok.0 ∙ sym (length-map c.args.base.now.items _) in
+      let m : c.len-2.result ≡ length c.args.setting.now.earlier.items = c.len-2.ensures
+      ∙ c.args.setting.now.earlier.ok.0 in
+      omega (arith, n, m)
+
+  moved_arity : c.in_ok-moved.moved.arity ≡ variables_over (sizes c.args.base.now.items)
+      c.args.setting.now
+  moved_arity = c.in_ok-moved.ensures.arity
+      ∙ ap (λ ws. variables_over (sizes ws) c.args.setting.now) c.deref.ensures.value
+
+  moved_is : terms_in c.in_ok-moved.moved ≡ moved_of (sizes c.args.base.now.items)
+      (fractions_of c.args.form.now) c.args.setting.now
+  moved_is = c.in_ok-moved.ensures.terms
+      ∙ ap (λ ws. moved_of (sizes ws) (fractions_of c.args.form.now) c.args.setting.now)
+      c.deref.ensures.value
+
+pub combination_of_earlier-requires-clause-few : goal.combination_of_earlier-requires-clause-few
+combination_of_earlier-requires-clause-few c =
+    omega (
+      arith,
+      width_is (goal.at.combination_of_earlier-requires-clause-few c).In_ok-moved,
+      c.requires.few,
+    )
+
+pub combination_of_earlier-requires-clause-done : goal.combination_of_earlier-requires-clause-done
+combination_of_earlier-requires-clause-done c =
+    subst (λ k. All (λ (p : FracPoly). p.arity ≡ k) c.args.done.now)
+    (sym (width_is (goal.at.combination_of_earlier-requires-clause-done c).In_ok-moved))
+    c.requires.done
+
+pub add-requires-clause-arity : goal.add-requires-clause-arity
+add-requires-clause-arity c =
+    let at = (goal.at.add-requires-clause-arity c).In_ok-moved in
+    moved_arity at ∙ sym (c.in_ok-combination_of_earlier.ensures.arity ∙ width_is at)
+
+pub normal-requires-clause-front : goal.normal-requires-clause-front
+normal-requires-clause-front c =
+    room_before (sizes c.args.base.now.items) c.in_ok-sum.sum.arity
+    (length c.args.setting.now.earlier.items) (c.in_ok-sum.ensures.sum.arity
+    ∙ moved_arity (goal.at.normal-requires-clause-front c).In_ok-moved)
+
+pub returns-clause-over : goal.returns-clause-over
+returns-clause-over c =
+    let a = c.in_ok-sum.ensures.sum.arity
+    ∙ moved_arity (goal.at.returns-clause-over c).In_ok-moved in
+    if_ok_where c.normal.result _ _ (λ e h. normal_over (sizes c.args.base.now.items)
+    c.in_ok-sum.sum.arity (length c.args.setting.now.earlier.items) _ e a h)
+    c.normal.ensures.normal
+
+pub returns-clause-inhomogeneity : goal.returns-clause-inhomogeneity
+returns-clause-inhomogeneity c =
+    let at = (goal.at.returns-clause-inhomogeneity c).In_ok-moved in
+    let s = c.args.setting.now in
+    let i = c.in_ok-sum.ensures.sum in
+    let sum = sum_is (variables_over (sizes c.args.base.now.items) s) c.in_ok-moved.moved
+    c.in_ok-combination_of_earlier.combination_of_earlier c.in_ok-sum.sum
+    (moved_of (sizes c.args.base.now.items)
+    (fractions_of c.args.form.now) s)
+    (terms_in c.in_ok-combination_of_earlier.combination_of_earlier)
+    (moved_arity at) (c.in_ok-combination_of_earlier.ensures.arity ∙ width_is at) i.arity
+    (moved_is at) refl
+    i.same in
+    if_ok_where c.normal.result _ _
+    (λ e h. inhomogeneity_is (sizes c.args.base.now.items) (length s.earlier.items)
+    (fractions_of c.args.form.now) (terms_each s.rests.items) (terms_each s.earlier.items)
+    (rows_of s.matrix.items) (rows_of s.back.items) (terms_each c.args.done.now)
+    (terms_in c.in_ok-combination_of_earlier.combination_of_earlier) (terms_in c.in_ok-sum.sum) e _
+    c.in_ok-combination_of_earlier.ensures.terms sum h) c.normal.ensures.normal
+
+pub returns-clause-wide : goal.returns-clause-wide
+returns-clause-wide c =
+    let at = (goal.at.returns-clause-wide c).In_ok-moved in
+    let s = c.args.setting.now in
+    let i = c.in_ok-sum.ensures.sum in
+    let is = c.in_ok-combination_of_earlier.ensures.terms in
+    λ h. past.normal_past is.by is.is_by
+    (subst (λ ts. IsPast (weight fraction_size ts))
+    (sum_is (variables_over (sizes c.args.base.now.items) s) c.in_ok-moved.moved
+    c.in_ok-combination_of_earlier.combination_of_earlier c.in_ok-sum.sum
+    (moved_of (sizes c.args.base.now.items)
+    (fractions_of c.args.form.now) s) (part is.by (terms_each c.args.done.now))
+    (moved_arity at) (c.in_ok-combination_of_earlier.ensures.arity ∙ width_is at) i.arity
+    (moved_is at) is.terms
+    i.same)
+    (c.normal.ensures.wide h))
+
+pub returns-in_err-moved-clause-wide : goal.returns-in_err-moved-clause-wide
+returns-in_err-moved-clause-wide c = handed_on c.in_err-moved.field-0.0 c.from_residual.result
+    c.from_residual.ensures.1 (λ h. past.moved_past (c.in_err-moved.ensures.wide h))
+
+pub returns-in_err-combination_of_earlier-clause-wide :
+    goal.returns-in_err-combination_of_earlier-clause-wide
+returns-in_err-combination_of_earlier-clause-wide c =
+    handed_on c.in_err-combination_of_earlier.field-0.0
+    c.from_residual-in_err-combination_of_earlier.result
+    c.from_residual-in_err-combination_of_earlier.ensures.1
+    (λ h. past.before_past (c.in_err-combination_of_earlier.ensures.wide h))
+
+pub returns-in_err-sum-clause-wide : goal.returns-in_err-sum-clause-wide
+returns-in_err-sum-clause-wide c =
+    let is = c.in_ok-combination_of_earlier.ensures.terms in
+    λ h. past.sum_past is.by is.is_by
+    (subst (λ ts. IsPastSum fractions ts (part is.by (terms_each c.args.done.now)))
+    (moved_is (goal.at.returns-in_err-sum-clause-wide c).In_ok-moved)
+    (subst (λ ts. IsPastSum fractions (terms_in c.in_ok-moved.moved) ts) is.terms
+    (c.in_err-sum.ensures.wide
+    (ap Err (wide_of c.from_residual-in_err-sum.result c.in_err-sum.field-0.0
+    c.from_residual-in_err-sum.ensures.1 h)))))

@@ -1,0 +1,165 @@
+//! The first iterations of a branch, one by one, where its form isn't the state from the start on.
+ghost use Rattle.std.specs.Prelude.{◌≡◌, ◌≤◌, ◌<◌, ◌+◌, suc, List, length, IfOk, IfErr};
+ghost use Rattle.algebra.specs.Fraction.{Fraction};
+ghost use Rattle.polynomials.specs.Terms.{Terms};
+ghost use Rattle.rounds.specs.Results.{IsReducedList};
+ghost use Rattle.poly.specs.Seen.{terms_each};
+ghost use Rattle.machines.specs.Machine.{Ran};
+ghost use Rattle.divide.specs.Outcomes.{outcome_of};
+ghost use Rattle.ideal_ops.specs.Calls.{IsListOf, AreOver};
+ghost use Rattle.invariant_fix.specs.Orbits.{vars_of, turning, iteration_of};
+ghost use Rattle.invariant_fix.specs.Setting.{FitsSetting, FitsBranch, most_iterations, most_starting_elements};
+ghost use Rattle.invariant_fix.specs.Steps.{Awaits, Knows, KnowsIterations, Stops, Follow, iteration_begins, iteration_ends, iteration_meets, iteration_met, branching, orbiting, HasIterations};
+
+use crate::AnalyseError;
+use crate::branches::Branch;
+use crate::errors::{in_task, number_of_place};
+use crate::orbits::late_form;
+use crate::setting::Setting;
+use divide::EngineError;
+use frac128::Frac;
+use ideal_ops::{eliminate, meet};
+use journal::{Meter, Task};
+use monos::Grevlex;
+use poly::Poly;
+use std::alloc::Global;
+
+/// The meet of the list so far with what is a member of the round's after each of the iterations of a branch that are taken one by one: one less than from which on its form is the state.
+pub(crate) fn iterations(
+    alloc: Global,
+    setting: &Setting,
+    round: u32,
+    place: usize,
+    basis: &[Poly<Frac, Grevlex>],
+    so_far: &[Poly<Frac, Grevlex>],
+    meter: &mut Meter,
+) -> Result<Vec<Poly<Frac, Grevlex>>, AnalyseError>
+    requires fits { FitsSetting setting.now }
+    requires place { place < length setting.now.branches.items }
+    requires iterations { HasIterations setting.now place }
+    requires basis { Knows setting.now meter.old basis.now }
+    requires so_far { Knows setting.now meter.old so_far.now }
+    requires next { Awaits setting.now meter.old
+        (branching setting.now round place basis.now (terms_each so_far.now)) }
+    ensures limit { meter.new.limit ≡ meter.old.limit }
+    ensures next { IfOk result (λ ls. Awaits setting.now meter.new
+        (orbiting setting.now round place basis.now (terms_each ls.items))) }
+    ensures list { IfOk result (λ ls. Knows setting.now meter.new ls.items) }
+    ensures units { IfOk result (λ _. Follow meter.old meter.new) }
+    ensures err { IfErr result (Stops setting.now meter.new) }
+{
+    let since = setting.branches[place].form.since;
+    let mut before = iteration(alloc, setting, round, place, 0, basis, meter)?;
+    let mut so_far = meet_with_iteration(alloc, setting, round, place, 0, so_far, &before, meter)?;
+    for taken in 1..since - 1 {
+        before = iteration(alloc, setting, round, place, taken, &before, meter)?;
+        so_far = meet_with_iteration(alloc, setting, round, place, taken, &so_far, &before, meter)?;
+    }
+    Ok(so_far)
+}
+
+/// What is a member after one iteration more of the branch at this place than `taken`, from what is one after these.
+fn iteration(
+    alloc: Global,
+    setting: &Setting,
+    round: u32,
+    place: usize,
+    taken: u32,
+    before: &[Poly<Frac, Grevlex>],
+    meter: &mut Meter,
+) -> Result<Vec<Poly<Frac, Grevlex>>, AnalyseError>
+    requires fits { FitsSetting setting.now }
+    requires place { place < length setting.now.branches.items }
+    requires few { taken < most_iterations }
+    requires before { KnowsIterations setting.now taken meter.old before.now }
+    ensures limit { meter.new.limit ≡ meter.old.limit }
+    ensures next { (gs hs : List (Terms Fraction))
+        → Awaits setting.now meter.old (iteration_begins setting.now round place taken gs before.now
+        hs)
+        → IfOk result (λ ls. Awaits setting.now meter.new
+        (iteration_ends setting.now round place taken gs before.now hs ls.items)) }
+    ensures list { IfOk result (λ ls. KnowsIterations setting.now (suc taken) meter.new ls.items) }
+    ensures units { IfOk result (λ _. Follow meter.old meter.new) }
+    ensures err { (gs hs : List (Terms Fraction))
+        → Awaits setting.now meter.old (iteration_begins setting.now round place taken gs before.now
+        hs)
+        → IfErr result (Stops setting.now meter.new) }
+{
+    // for its contract, which tells the prover that no more units are used than are allowed
+    let _ = meter.used();
+    let task = Task::Iteration {
+        round,
+        branch: number_of_place(place),
+        iteration: taken + 1,
+    };
+    meter.begin(task)?;
+    match eliminated_iteration(alloc, &setting.branches[place], before, meter) {
+        Ok(list) => Ok(list),
+        Err(error) => Err(in_task(task, error)),
+    }
+}
+
+/// The copies are eliminated.
+fn eliminated_iteration(
+    alloc: Global,
+    branch: &Branch,
+    before: &[Poly<Frac, Grevlex>],
+    meter: &mut Meter,
+) -> Result<Vec<Poly<Frac, Grevlex>>, EngineError>
+    requires branch { FitsBranch (vars_of branch.now) branch.now }
+    requires some { 0 < vars_of branch.now }
+    requires before { AreOver (vars_of branch.now) before.now }
+    requires few { length before.now ≤ most_starting_elements }
+    ensures ran { Ran (iteration_of branch.now before.now) (IsListOf
+        (turning branch.now before.now))
+        meter.old meter.new (outcome_of result) }
+    ensures arity { IfOk result (λ ks. AreOver (vars_of branch.now) ks.items) }
+    ensures reduced { IfOk result (λ ks.
+        IsReducedList (vars_of branch.now) (terms_each ks.items)) }
+{
+    let gens = late_form(branch).iteration_list(alloc, &branch.images, before)?;
+    eliminate(alloc, &gens, meter)
+}
+
+/// The meet of the list so far with what is a member after one iteration more than `taken`.
+fn meet_with_iteration(
+    alloc: Global,
+    setting: &Setting,
+    round: u32,
+    place: usize,
+    taken: u32,
+    so_far: &[Poly<Frac, Grevlex>],
+    turned: &[Poly<Frac, Grevlex>],
+    meter: &mut Meter,
+) -> Result<Vec<Poly<Frac, Grevlex>>, AnalyseError>
+    requires fits { FitsSetting setting.now }
+    requires place { place < length setting.now.branches.items }
+    requires few { taken < most_iterations }
+    requires so_far { Knows setting.now meter.old so_far.now }
+    requires turned { KnowsIterations setting.now (suc taken) meter.old turned.now }
+    ensures limit { meter.new.limit ≡ meter.old.limit }
+    ensures met { (gs : List (Terms Fraction))
+        → Awaits setting.now meter.old
+        (iteration_meets setting.now round place taken gs so_far.now turned.now)
+        → IfOk result (λ ls. Awaits setting.now meter.new
+        (iteration_met setting.now round place taken gs so_far.now turned.now ls.items)) }
+    ensures list { IfOk result (λ ls. Knows setting.now meter.new ls.items) }
+    ensures units { IfOk result (λ _. Follow meter.old meter.new) }
+    ensures err { (gs : List (Terms Fraction))
+        → Awaits setting.now meter.old
+        (iteration_meets setting.now round place taken gs so_far.now turned.now)
+        → IfErr result (Stops setting.now meter.new) }
+{
+    // for its contract, which tells the prover that no more units are used than are allowed
+    let _ = meter.used();
+    let task = Task::IterationMeet {
+        round,
+        branch: number_of_place(place),
+        iteration: taken + 1,
+    };
+    meter.begin(task)?;
+    match meet(alloc, so_far, turned, meter) {
+        Ok(met) => Ok(met),
+        Err(error) => Err(in_task(task, error)),
+    }
+}
