@@ -221,10 +221,18 @@ def borrowed(source: Source) -> Iterator[Finding]:
                 yield Finding("borrowed", source.path, number, ", ".join(taken))
 
 
+def without_library_names(text: str) -> str:
+    """The text without the names that it imports from the kit's library, which has words of its own."""
+    imported = re.findall(r"^use Rattle\.std\.[\w.]+\.\{([^}]*)\}$", text, re.MULTILINE)
+    names = [name for names in imported for name in re.split(r",\s*", names) if re.fullmatch(r"[\w-]+", name)]
+    return re.sub(rf"(?<![\w-])(?:{'|'.join(map(re.escape, names))})(?![\w-])", "", text) if names else text
+
+
 def retired_in(path: Path, text: str) -> Iterator[Finding]:
     name = path.relative_to(TOP).as_posix()
     words = [(word, instead) for word, instead, below in RETIRED if re.match(below, name)]
     text = TEXT_IN_QUOTES.sub(lambda quoted: "\n" * quoted[0].count("\n"), text) if path.suffix != ".md" else text
+    text = without_library_names(text) if path.suffix == ".antt" else text
     for number, line in enumerate(text.split("\n"), 1):
         yield from (Finding("words", path, number, f"`{found[0]}` is out of use: {instead}") for word, instead in words if (found := word.search(line)))
 
