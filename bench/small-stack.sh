@@ -9,12 +9,12 @@ ulimit -s 512 || exit 1
 cd "$folder" || exit 1
 failed=0
 "$here/bench/rows.sh" || failed=1
-# forms and images with 39,203 terms, forward and backward, in a loop, behind code, and of sequences
-printf '%s' 'vars a, b, c, d, e; branch { a=b^8; b=(c+d+e+1)^8; }' >forms.loop
-printf '%s' 'vars a, b, c, d, e, f; branch { a=a+b^6; b=b+(c+d+e+f+1)^6; }' >sums.loop
-printf '%s' 'vars a, b, c, d, e, f, g; branch { a=a+b^8; b=c; c=(d+e+f+g+1)^5; }' >classes.loop
-printf '%s' 'vars a, b, c, d, e; branch { } then branch { a=b^8; b=(c+d+e+1)^8; }' >forms.chain
-printf '%s' 'sequences a=(1), b=(1), c=(1), d=(2), e=(3); a=b^8; b=(c+d+e+1)^8; c=c; d=d; e=e;' >forms.seqs
+# forms and images with up to 33,915 terms, forward and backward, in a loop, behind code, and of sequences
+printf '%s' 'vars a, b, c, d, e, f, g, h, i; branch { a=b*c; b=(d+e+f+1)^16; c=(g+h+i+1)^4; }' >forms.loop
+printf '%s' 'vars a, b, c, d, e, f, g, h, i; branch { a=a+b*c; b=b+(d+e+f+1)^12; c=c+(g+h+i+1)^4; }' >sums.loop
+printf '%s' 'vars a, b, c, d, e, f, g, h, i; branch { a=a+b*c; b=(d+e+f+1)^16; c=(g+h+i+1)^4; }' >classes.loop
+printf '%s' 'vars a, b, c, d, e, f, g, h, i; branch { } then branch { a=b*c; b=(d+e+f+1)^16; c=(g+h+i+1)^4; }' >forms.chain
+printf '%s' 'sequences a=(1), b=(1), c=(1), d=(2), e=(3), f=(1), g=(1), h=(2), i=(1); a=b*c; b=(d+e+f+1)^8; c=(g+h+i+1)^4; d=d; e=e; f=f; g=g; h=h; i=i;' >forms.seqs
 # texts as deep and as long as they may be
 python3 - <<'PY'
 from pathlib import Path
@@ -43,7 +43,7 @@ row 0 basis forms.loop
 row 0 basis sums.loop
 row 0 basis classes.loop
 row 0 chain forms.chain
-row 4 relations forms.seqs
+row 0 relations forms.seqs
 row 0 basis deep.loop
 row 0 basis minus.loop
 row 3 check same.loop deep.json
