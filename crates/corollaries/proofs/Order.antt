@@ -109,7 +109,7 @@ pub record IsSplit (zs : List ℕ) (xs : List ℕ) (n : ℕ) : Type 0 where
   pub last : ℕ
   pub is : zs ≡ prefix ++ last ∷ []
   pub count : length prefix ≡ length xs
-  pub case : IsLess prefix xs ⊎ ((prefix ≡ xs) × (last < n))
+  pub less : IsLess prefix xs ⊎ ((prefix ≡ xs) × (last < n))
 
 one_less : (y n : ℕ) → IsLess (y ∷ []) (n ∷ []) → y < n
 one_less y n h = go (less_cases y n [] [] h)
@@ -122,7 +122,7 @@ pub less_behind : (zs xs : List ℕ) (n : ℕ) → length zs ≡ suc (length xs)
     → IsSplit zs xs n
 less_behind [] xs n l h = absurd (omega arith)
 less_behind (z ∷ []) [] n l h =
-    record { prefix = []; last = z; is = refl; count = refl; case = inr (refl, one_less z n h) }
+    record { prefix = []; last = z; is = refl; count = refl; less = inr (refl, one_less z n h) }
 less_behind (z ∷ y ∷ zs) [] n l h = absurd (omega arith)
 less_behind (z ∷ zs) (x ∷ xs) n l h =
     go (less_cases z x zs (xs ++ n ∷ []) h) (λ k. less_behind zs xs n (omega arith) k)
@@ -130,10 +130,10 @@ less_behind (z ∷ zs) (x ∷ xs) n l h =
     with_front : (s : List ℕ) (y : ℕ) → zs ≡ s ++ y ∷ [] → length s ≡ length xs
         → IsLess (z ∷ s) (x ∷ xs) ⊎ ((z ∷ s ≡ x ∷ xs) × (y < n)) → IsSplit (z ∷ zs) (x ∷ xs) n
     with_front s y e c k =
-        record { prefix = z ∷ s; last = y; is = ap (λ r. z ∷ r) e; count = ap suc c; case = k }
+        record { prefix = z ∷ s; last = y; is = ap (λ r. z ∷ r) e; count = ap suc c; less = k }
 
     behind : z ≡ x → IsSplit zs xs n → IsSplit (z ∷ zs) (x ∷ xs) n
-    behind e s = with_front s.prefix s.last s.is s.count (cases s.case)
+    behind e s = with_front s.prefix s.last s.is s.count (cases s.less)
       where
         cases : IsLess s.prefix xs ⊎ ((s.prefix ≡ xs) × (s.last < n))
             → IsLess (z ∷ s.prefix) (x ∷ xs) ⊎ ((z ∷ s.prefix ≡ x ∷ xs) × (s.last < n))

@@ -218,7 +218,7 @@ module _ (m : ℕ) (q : Terms Fraction) where
     where
       split : (ys : List ℕ) → length ys ≡ length (xs ++ j ∷ []) → IsSplit ys xs j
           → IsZeroWith m q ys
-      split ys k s = subst (IsZeroWith m q) (sym s.is) (cases s.case)
+      split ys k s = subst (IsZeroWith m q) (sym s.is) (cases s.less)
         where
           cases : IsLess s.prefix xs ⊎ ((s.prefix ≡ xs) × (s.last < j))
               → IsZeroWith m q (s.prefix ++ s.last ∷ [])

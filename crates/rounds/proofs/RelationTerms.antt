@@ -165,22 +165,22 @@ not_kept-append k [] hs a b = b
 not_kept-append k (g ∷ gs) hs a b = (a.0, not_kept-append k gs hs a.1 b)
 
 module _ (k r w : ℕ) (some : front r ≤ k) (within : front r ≤ w) where
-  abbrev O : Rank
-  O = blocks k grevlex grevlex
+  abbrev blocked : Rank
+  blocked = blocks k grevlex grevlex
 
-  abbrev o : IsMonomialOrder (blocks k grevlex grevlex)
-  o = blocks_order k grevlex grevlex grevlex_order grevlex_order
+  abbrev blocked_order : IsMonomialOrder (blocks k grevlex grevlex)
+  blocked_order = blocks_order k grevlex grevlex grevlex_order grevlex_order
 
   to : (n : ℕ) → n ≤ r → NothingKept rationals k (map (collect rationals (blocks k grevlex grevlex))
       (relations_to r w n))
   unfolding relations_to NothingKept
   to zero l = tt
   to (suc n) l =
-      rw (map-append (collect rationals O) (relations_to r w n)
+      rw (map-append (collect rationals blocked) (relations_to r w n)
       (relation w (suc (suc n)) (suc (suc (r + n))) ∷ []))
-      (not_kept-append k (map (collect rationals O) (relations_to r w n)) _
+      (not_kept-append k (map (collect rationals blocked) (relations_to r w n)) _
       (to n (omega (arith, l))) (
-        inr (relation_not_free O o k w (suc (suc n)) (suc (suc (r + n)))
+        inr (relation_not_free blocked blocked_order k w (suc (suc n)) (suc (suc (r + n)))
             (omega (arith, l, some)) (omega (arith, l, within)) (omega (arith, l, within))),
         tt,
       ))
@@ -189,8 +189,8 @@ module _ (k r w : ℕ) (some : front r ≤ k) (within : front r ≤ w) where
       (relation w 1 1 ∷ relations_to r w r))
   unfolding NothingKept
   all_not_kept = (
-    inr (relation_not_free O o k w 1 1 (omega (arith, some)) (omega (arith, within))
-        (omega (arith, within))),
+    inr (relation_not_free blocked blocked_order k w 1 1 (omega (arith, some))
+        (omega (arith, within)) (omega (arith, within))),
     to r (omega arith),
   )
 
@@ -219,16 +219,16 @@ unfolding same
 first_free e = refl
 
 module _ (m : ℕ) where
-  abbrev B : Rank
-  B = blocks 1 grevlex grevlex
+  abbrev blended : Rank
+  blended = blocks 1 grevlex grevlex
 
-  abbrev b : IsMonomialOrder (blocks 1 grevlex grevlex)
-  b = blocks_order 1 grevlex grevlex grevlex_order grevlex_order
+  abbrev blended_order : IsMonomialOrder (blocks 1 grevlex grevlex)
+  blended_order = blocks_order 1 grevlex grevlex grevlex_order grevlex_order
 
   abbrev other : Terms Fraction → Terms Fraction
   other q = in_front 1 q ++ negate ℚ (with_first q)
 
-  nothing : collect rationals B (other []) ≡ []
+  nothing : collect rationals blended (other []) ≡ []
   unfolding retold Algebra.negate collect
   nothing = refl
 
@@ -245,7 +245,8 @@ module _ (m : ℕ) where
   at_first t q a = coefficient_first ℚ_ring (1 ∷ t.0, t.1) (with_first q) (apart_first t.0 q a)
 
   other_not_free : (q : Terms Fraction) → IsPolynomial ℚ grevlex m q
-      → (collect rationals B (other q) ≡ []) ⊎ (all_free 1 (collect rationals B (other q)) ≡ false)
+      → (collect rationals blended (other q) ≡ [])
+      ⊎ (all_free 1 (collect rationals blended (other q)) ≡ false)
   unfolding Each
   other_not_free [] h = inl nothing
   other_not_free (t ∷ q) h =
@@ -253,14 +254,14 @@ module _ (m : ℕ) where
       let apart = distinct_falls grevlex grevlex_order (t ∷ q) h.falls in
       let first : coefficient ℚ (with_first (t ∷ q)) e ≡ t.1 =
       at_first t q (distinct_first t q apart) in
-      let is : coefficient ℚ (collect rationals B (other (t ∷ q))) e ≡ ℚ.neg t.1 =
-      (collect-same ℚ_field B b (other (t ∷ q))).at e
+      let is : coefficient ℚ (collect rationals blended (other (t ∷ q))) e ≡ ℚ.neg t.1 =
+      (collect-same ℚ_field blended blended_order (other (t ∷ q))).at e
       ∙ coefficient-append exponents ℚ_ring (in_front 1 (t ∷ q)) (negate ℚ (with_first (t ∷ q)))
       e
       ∙ ap₂ ℚ.add (coefficient_apart ℚ_ring e (in_front 1 (t ∷ q)) (apart_front t.0 (t ∷ q)))
       (coefficient-negate exponents ℚ_ring (with_first (t ∷ q)) e ∙ ap ℚ.neg first)
       ∙ zero-add ℚ_ring (ℚ.neg t.1) in
-      inr (not_free 1 (collect rationals B (other (t ∷ q))) e (first_free t.0)
+      inr (not_free 1 (collect rationals blended (other (t ∷ q))) e (first_free t.0)
       (λ z. h.nonzero.0 (neg_none t.1 (sym is ∙ z))))
 
   firsts : (ks : List (Terms Fraction)) → NothingKept rationals 1 (map with_first ks)
@@ -269,7 +270,7 @@ module _ (m : ℕ) where
   firsts (p ∷ ks) = (first_not_free p, firsts ks)
 
   others : (bs : List (Terms Fraction)) → Each (IsPolynomial ℚ grevlex m) bs
-      → NothingKept rationals 1 (map (λ q. collect rationals B (other q)) bs)
+      → NothingKept rationals 1 (map (λ q. collect rationals blended (other q)) bs)
   unfolding NothingKept Each
   others [] h = tt
   others (q ∷ bs) h = (other_not_free q h.0, others bs h.1)
