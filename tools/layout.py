@@ -10,7 +10,7 @@ With --since, of each file only where it changed since that revision; with --rul
   imports    a name is imported that its file doesn't use
   columns    a line of more than 100 columns, but for imports, the comments at a file's head, and what a text in quotes has too many
   lengths    a file of more than 600 lines
-  heads      a file of specs or proofs doesn't begin with what it says
+  heads      a file of specs or proofs doesn't begin with what it says, or one of proofs doesn't name there what other crates cite
   digits     a clause has a number of two digits or more, where a name should stand; the base of numerals has none
   borrowed   a file of specs imports from proofs, but for values that carry their laws
   order      crates.txt lists a crate behind one that stands on it
@@ -22,8 +22,8 @@ With --since, of each file only where it changed since that revision; with --rul
   words      a word that is out of use stands in a source or on a page, outside of texts in quotes
   edges      a note, and no finding: a crate stands on another by at most three import lines, through which alone something is below it
 
-Each row is a file, a line (0: the whole file), and what is wrong there. The status is 1 where there is a row. Those on crates and pages are about
-the whole repository, also with --since.
+Each row is a file, a line (0: the whole file), and what is wrong there. The status is 1 where there is a row. Those on crates, heads and
+pages are about the whole repository, also with --since.
 """
 import argparse
 import os
@@ -34,6 +34,7 @@ from collections import Counter, defaultdict
 from collections.abc import Iterator
 from dataclasses import dataclass
 from functools import cache
+from itertools import takewhile
 from pathlib import Path
 
 import crates
@@ -45,6 +46,9 @@ COLUMNS, LINES, EDITS, FEW_IMPORTS = 100, 600, 60, 3
 # an import in a file of definitions or proofs, and in one of code
 THEORY_IMPORT = re.compile(r"^\s*use (Rattle\.[^;\n{]*)\.\{([^}]*)\}", re.M)
 CODE_IMPORT = re.compile(r"^\s*ghost use (Rattle\.[^;\n{]*)\.\{([^}]*)\};", re.M)
+# what is imported from a file of proofs, and what may be a name in a head
+PROOFS_IMPORT = re.compile(r"\buse Rattle\.([a-z]\w*)\.proofs\.([^\s;{]+)\.\{([^}]*)\}")
+HEAD_WORD = re.compile(r"[^\s,;:(){}`]+")
 CLAUSE = re.compile(r"^\s*(?:(?:requires|ensures|narrow)\b|(?:\w+\s*)?\{)")
 NUMBER = re.compile(r"(?<![\w.^-])(?<!digits_value )\d{2,}(?![\w.])")
 QUOTED = re.compile(r'"[^"]*"')
@@ -196,12 +200,30 @@ def lengths(source: Source) -> Iterator[Finding]:
 
 def is_written_by_kit(path: Path) -> bool:
     """Lists of modules, and the files of a function's answers, goals and invariants that lie in a folder of its name."""
-    return path.name in ("Lib.antt", "Answers.antt", "Goals.antt", "Invariants.antt")
+    is_of_function = path.parent.name != "proofs" and path.name in ("Answers.antt", "Goals.antt", "Invariants.antt")
+    return path.name == "Lib.antt" or is_of_function
+
+
+@cache
+def cited() -> dict[Path, set[str]]:
+    """The names of each file of proofs that files of other crates import."""
+    found = defaultdict(set)
+    for source in sources():
+        crate = source.path.relative_to(TOP / "crates").parts[0]
+        for library, module, items in PROOFS_IMPORT.findall(source.text):
+            if library != crate:
+                path = TOP / "crates" / library / "proofs" / f"{module.replace('.', '/')}.antt"
+                found[path] |= {item.strip().split(" as ")[0] for item in items.split(",") if item.strip()}
+    return found
 
 
 def heads(source: Source) -> Iterator[Finding]:
-    if source.is_theory and not is_written_by_kit(source.path) and not source.text.startswith("--"):
-        yield Finding("heads", source.path, 1, "has no head")
+    if source.is_theory and not is_written_by_kit(source.path):
+        head = list(takewhile(lambda line: line.startswith("--"), source.lines))
+        if not head:
+            yield Finding("heads", source.path, 1, "has no head")
+        for name in sorted(cited().get(source.path, set()) - set(HEAD_WORD.findall("\n".join(head)))):
+            yield Finding("heads", source.path, 1, f"{name}, which other crates cite, isn't named in the head")
 
 
 def digits(source: Source) -> Iterator[Finding]:
@@ -425,7 +447,7 @@ OF_FILE = {
 }
 NOTES = {"edges": edges}
 # what has to do with more than the file in which it stands
-OF_ALL = {"order", "theory", "below", "named", "pages"}
+OF_ALL = {"heads", "order", "theory", "below", "named", "pages"}
 
 
 def findings(rules: set[str]) -> Iterator[Finding]:

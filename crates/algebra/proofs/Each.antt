@@ -2,9 +2,10 @@
 --   each-append       of the one list behind the other; each-left, each-right: back
 --   each-drop         of what is left of a list
 --   each-map          of an image
+--   each_of           where P holds of all that there is
 --   each_weaker       where each fact gives another
+--   each_prop         two proofs of it are one, where those of P are
 --   map_same          functions that agree on the elements have one image
---   each_all, all_each     std's All, and back
 use Rattle.std.proofs.Common.{ℕ, zero, suc, List, [], ◌∷◌, ◌++◌, drop, map, ◌≡◌, refl, ap₂}
 use Rattle.algebra.specs.Each.{Each}
 

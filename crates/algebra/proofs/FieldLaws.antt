@@ -1,6 +1,8 @@
 -- What follows from the laws of a field.
 --   dec_zero, discrete     being zero, and being the same, are decided
 --   cancel                 a factor that is not zero cancels
+--   no_zero_divisors       where a product is zero, one factor is; product-ne-zero: a product of elements that aren't zero isn't zero
+--   inverse-ne-zero        the inverse of one that isn't zero isn't zero
 use Rattle.std.proofs.Common.{◌≡◌, ◌≢◌, ◌⊎◌, inl, inr, Bool, true, false, [], ◌∷◌, refl, sym, ap, ◌∙◌}
 use mathlib.Core.HLevel.{Discrete}
 use Rattle.algebra.specs.Ring.{Field}

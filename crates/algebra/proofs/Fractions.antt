@@ -1,8 +1,11 @@
 -- The fractions are an ordered field: the laws of pairs, carried over.
 --   same_fraction      two fractions with the same pair are one
+--   same_from_alike    so are two whose cross products are equal
 --   facts x            a fraction's pair is in lowest terms; some x: its denominator is above zero
 --   top_zero, zero_is  a fraction is zero where its numerator is
---   ratio-X            the pair of X is X of the pairs
+--   ratio-sum, ratio-product, ratio-opposite, ratio-inverse, ratio-zero     the pair of a sum is the sum of the pairs, and so on
+--   ratio-fraction     a pair in lowest terms is the pair of its fraction; fraction-ratio: a fraction is that of its pair
+--   fraction_eq        whether two fractions are the same; fraction_eq_true, fraction_eq_refl: it holds exactly where they are
 --   fractions_ring, fractions_field, fractions_ordered     the laws
 --   rationals_field    how to compute with them is that of a field
 --   ℚ_ring, ℚ_zero_test, ℚ_field     as records of the theory

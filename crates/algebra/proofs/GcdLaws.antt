@@ -1,5 +1,7 @@
 -- The greatest common divisor.
 --   gcd-left, gcd-right     it divides both numbers
+--   gcd-pos                 it is above zero where the second number is
+--   gcd_comm                it is the same for the numbers in either order
 --   dvd-mul-gcd             what divides a multiple of both divides that multiple of it
 --   dvd_from_coprime        Gauss's lemma
 --   gcd_of_rest             two numbers over their greatest common divisor have none

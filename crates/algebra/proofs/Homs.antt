@@ -1,6 +1,7 @@
 -- Homomorphisms of commutative rings.
 --   id_hom R          what leaves each element as it is
 --   then_hom φ ψ      φ, and then ψ
+--   to-zero, to-neg, to-power     a homomorphism keeps zero, opposites and powers
 use Rattle.std.proofs.Common.{◌≡◌, ℕ, zero, suc, refl, sym, ap, ◌∙◌}
 use Rattle.algebra.specs.Ring.{operations, CommRing, Hom}
 use Rattle.algebra.specs.Arithmetic.{power}

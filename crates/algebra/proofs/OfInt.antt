@@ -1,5 +1,7 @@
 -- The whole numbers in a commutative ring.
---   of_int R z     z times one; it and of_nat keep sums, products and opposites
+--   of_int R z     z times one
+--   of_nat-add, of_nat-mul     of_nat keeps sums and products
+--   of_int-add, of_int-mul, of_int-neg     of_int keeps sums, products and opposites
 use Rattle.std.proofs.Common.{◌≡◌, ℕ, zero, suc, ◌+◌, ◌*◌, ℤ, pos, negsuc, ◌+ℤ◌, ◌*ℤ◌, neg_ℤ, refl, sym, ap, ap₂, ◌∙◌, arith}
 use borrow.Author.Differences.{up, down, sum_is_lem}
 use native.Mathlib.Nat as N

@@ -1,9 +1,13 @@
 -- The laws of products of weights, in which a factor 0 counts as 1.
 --   AtMost a b           both numbers of a are at most those of b: what is past stays past (past_at_most, past_product, past_left, past_right)
 --   under_at_most        a weight that is under another is at most it
---   product_at_most      products keep this; left_at_most, right_at_most: a weight is at most its products
+--   product_at_most      products keep this; product_at_most_left: where the second factor is the same
+--   left_at_most, right_at_most     a weight is at most its products
+--   product_den-pos, power_den-pos     denominators of products and powers are above zero; product_some: so is the size of a product
 --   IsClean s            a denominator above zero, which is one where there is no size
+--   clean-sum, clean-product, clean-power     sums, products and powers are clean; clean_of: so are the weights of numbers
 --   under_times          products of both numbers keep what is under
+--   under_times-sum, under_sum-times     such products distribute over sums: a sum of products is under the product with the sum
 --   times_under_product  a product of clean weights bounds it
 --   product_assoc, product_comm, one-product, power-add
 --   product_within       a product is within the product of the weights; fraction_quotients_bounded: the weights of quotients bound them

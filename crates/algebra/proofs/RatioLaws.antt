@@ -1,8 +1,14 @@
 -- Pairs in lowest terms: the workshop below the fractions. What is alike is the same in lowest terms, so the laws of a field hold as equations.
 --   Alike p q        equal cross products: the same fraction, whether or not in lowest terms
---   same_reduced     what is alike is the same in lowest terms
---   sum, product     of pairs, reduced
---   X-value          the result of X is in lowest terms
+--   same_reduced     what is alike is the same in lowest terms; alike_trans: being alike is transitive
+--   sum, product     of pairs, reduced; frac_zero: zero over one
+--   reduce-value     a pair with a denominator above zero is in lowest terms when it is reduced; reduce-alike: it is alike before and after
+--   reduce_value_is  reducing keeps what is in lowest terms; is_lowest-in: of which the test holds
+--   product-reduce_right     a product is the same with its second factor reduced
+--   sum-value, product-value, inverse-value, zero-value     sums, products and inverses of pairs in lowest terms are in lowest terms, and so is zero
+--   cancel           a factor above zero cancels in the whole numbers; mul-pos: a product of numbers above zero is above zero
+--   exact_whole      n over a divisor g, times g, is n; nat_abs-exact: the absolute value of n over g
+--   nat_abs-neg, nat_abs-neg_ℤ     the absolute value of the opposite of a natural number, and of a whole one
 use Rattle.std.proofs.Common.{◌≡◌, ◌≢◌, ℕ, zero, suc, ◌*◌, ◌/◌, ◌<◌, ℤ, pos, negsuc, ◌*ℤ◌, neg_ℤ, T, ltb, eqb, [], ◌∷◌, refl, sym, ap, ap₂, subst, ◌∙◌, arith, ltb→lt, lt→ltb, eqb→eq}
 use Prim.Native.Nat.{◌∣◌}
 use native.Mathlib.Nat as N

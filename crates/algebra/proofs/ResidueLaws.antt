@@ -2,6 +2,8 @@
 --   IsPrime p                        p is above one and no number between one and p divides it
 --   prime_65521                      65521 is one
 --   inverse_from_rest                an inverse by Euclid's algorithm
+--   same_residue                     two residues with the same number are one
+--   rest-residue                     the residue of n has the number that n leaves modulo p
 --   residues_ring, residues_field    the laws, for any prime
 --   residue_zero_is                  a residue is zero where its number is
 --   residues_bounded, residue_quotients_bounded     those of sizes, which are none

@@ -1,9 +1,19 @@
 -- What follows from the laws of a commutative ring: laws on the other side, cancellation, opposites, powers.
+--   zero-add, one-mul, add-mul     zero and one in front, and products of sums
+--   zero-mul, mul-zero     a product with zero
+--   add_cancel        a term cancels: b = c where a + b = a + c
+--   neg-add_self      -a + a = 0
+--   neg-zero, neg-neg, neg-add, neg-mul, mul-neg     the opposites of zero, of an opposite, of a sum, and of a product by either factor
+--   minus_squared     (-1) (-1) = 1
 --   eq_of_sub         two numbers whose difference is zero are the same
 --   left_of_sum       one part of a sum is the sum less the other
+--   add_left_comm       a + (b + c) = b + (a + c); mul_left_comm likewise
 --   mul_right_comm    (a b) c = (a c) b
 --   add_rotate          (a + b) + c = (c + a) + b; mul_rotate likewise
 --   add_swap          (a + b) + (c + d) = (a + c) + (b + d); mul_swap likewise
+--   mul_sub           t x - t y = t (x - y)
+--   swap_multiple     k x + v = (k y + v) + k (x - y)
+--   power-zero, power-suc     the powers by 0 and by one more
 --   power-add         the power of a sum of exponents
 use Rattle.std.proofs.Common.{◌≡◌, ℕ, zero, suc, ◌+◌, zero-add as zero-add_ℕ, suc-add, refl, sym, ap, ◌∙◌}
 use Rattle.algebra.specs.Ring.{operations, CommRing}

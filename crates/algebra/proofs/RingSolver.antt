@@ -1,6 +1,8 @@
 -- A proved solver: an equation over a commutative ring holds where both sides have the same normal form.
 --   ring R l (search ring_rules depth 40) refl     proves it; l lists the atoms, ten at most
 --   from, from_one, from_two     from equations that are known, by their multiples, with `ring` for the rest
+--   value R ρ e     what an expression stands for, where ρ has the values of its variables; env R l: those that are listed in l
+--   solve           two expressions with the same normal form have the same value
 use Rattle.std.proofs.Common.{◌≡◌, ℕ, zero, suc, ℤ, pos, negsuc, ◌+ℤ◌, ◌*ℤ◌, true, false, List, [], ◌∷◌, leb, refl, sym, ap, ap₂, ◌∙◌}
 use Prim.Native.Nat.{compare}
 use Prim.Native.Nat as Nat

@@ -6,6 +6,7 @@
 --   under_least                    (0, 1) is under each weight
 --   past_under                     what is above a weight that is past is past
 --   abs-neg, abs-add               sizes of opposites and sums; abs-pos, same_abs of numbers that are at least 1
+--   zero_or_some                   a natural number is zero or above zero
 --   inverse_size                   the weight of an inverse
 --   difference_within              a difference is within the weight of the sum
 --   fractions_bounded              the weights of operations bound their results

@@ -1,5 +1,6 @@
 -- The whole numbers among the fractions.
 --   ratio-whole           the pair of a whole number
+--   lowest-whole          a whole number over one is in lowest terms
 --   whole_injective       each is another
 --   whole-some            one above zero is not zero
 --   ratio_sum-whole, ratio_product-whole     of pairs

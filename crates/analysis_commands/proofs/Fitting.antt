@@ -1,7 +1,14 @@
 -- Tests by computation that nothing of an analysis is past, and so of each state on a run that ends within a number of steps.
+--   first_holds, second_holds      where two tests say yes, so does each
 --   size_fits a             the numbers of the weight a are below the limit
---   exponents_fit e         so are the exponents
+--   exponents_fit e, both_fit a e      so are the exponents e, and both
+--   each_fits f, then_fit f            the test f says yes of each element of a list, and of the state behind an event, if there is one
 --   cut_fits, .., elimination_fits      no cutting, .., no event of an elimination is past
+--   found_fits, left_fits, division_fits, division_holds      of these, the next cutting of a division
+--   reducing_fits, pair_fits, taking_fits, acting_fits      a reduction, a pair's S-polynomial, that of the first pair, and what comes next in a completion
+--   pair_holds, acting_holds      where the tests of a pair, and of what comes next, say yes, nothing there is past
+--   tailing_fits, dropping_fits, tidying_fits, tidying_holds      the next event of an interreduction
+--   less_fits, orbit_fits, work_fits, work_holds      the differences of two lists, the compositions of an orbit, and what a task begins with
 --   state_fits A s          nothing of the state is past; where an iteration is taken by itself it says no
 --   all_fit next test n s   the test says yes of s and of the states behind it, of which the last comes after at most n steps
 --   each_fits_on            so of each state on a run from s;  never: so none of an analysis is past

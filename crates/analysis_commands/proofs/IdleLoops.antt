@@ -3,7 +3,8 @@
 --   x_free, x_narrow        no operation of their maps passes a limit or is past
 --   x_split                 each branch is solvable, and its classes pass
 --   x_branches              no branch is refused
---   x_finished              the finished journal
+--   x_form, x_forms, two_forms      the closed form of a branch that does nothing, and the forms of the branches
+--   x_finished, two_finished      the finished journals
 --   zero_asked, some_asked  the answered journals of the first: where 0 is asked for, nothing is
 --                           left; where a polynomial with a term is, it is left
 use Rattle.std.proofs.Common.{◌≡◌, ℕ, zero, suc, ◌<◌, List, [], ◌∷◌, ◌++◌, length, get_or, refl, sym, ap, subst, ◌∙◌, arith, All}

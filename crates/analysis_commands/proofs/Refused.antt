@@ -1,6 +1,7 @@
 -- What a refused analysis is answered.
 --   by_status                       the parts of an answer by its status
 --   refusal_parts, refusal_kind     status and text of a refused analysis, and what it may be
+--   Refused: at_fault, too_wide, exhausted      a fault, a number that doesn't fit, or an exhausted budget, where an analysis ran out of units
 --   refused_settled, refused_not_no     its status is settled, and no no
 use Rattle.std.proofs.Common.{◌≡◌, ◌≢◌, ℕ, List, refl, sym, ap}
 use Rattle.std.specs.Prelude.{Option, Some, None, option_map}

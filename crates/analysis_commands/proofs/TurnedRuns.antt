@@ -1,7 +1,9 @@
 -- Loops of one variable that begins with 1 and is a number times itself in each iteration: their analyses need a round.
---   doubled_program, doubled_forms     vars x; init x=1; branch { x=2*x; }, and the closed form u x
---   negated_program, negated_forms     the same with x=-x, and s x
+--   doubled_program, doubled_key, doubled_forms     vars x; init x=1; branch { x=2*x; }, the exponents of u x, and this closed form
+--   negated_program, negated_key, negated_forms     the same with x=-x, and s x
 --   doubled_run, negated_run           their analyses;  asked_run: behind that of the second the division of x^2 - 1
+--   doubled_entries, negated_entries, doubled_units, negated_units     the entries of their journals, which have 5 and 7 units
+--   square_less        x^2 - 1
 use Rattle.std.proofs.Common.{◌≡◌, ℕ, pos, negsuc, List, [], ◌∷◌, ◌++◌, refl, None, Some}
 use Rattle.algebra.specs.Arithmetic.{power}
 use Rattle.algebra.specs.Sum.{sum_over}

@@ -6,6 +6,7 @@
 --   ReadsLoop                          doubled_read, negated_read, where the outside tells the bytes
 --   IsNeverRefused, IsWithinBudget     doubled_never_refused, doubled_within, with any budget from 5 on; negated_.., from 7 on
 --   AreFree, AllSplit                  doubled_free, doubled_splits; negated_free, negated_splits
+--   AreForms                           doubled_are; negated_are
 --   NeverPast, IsAnswered              negated_never_past, negated_answered: of x^2 - 1, with nothing left; within any budget from 8 on: asked_few
 use Rattle.std.proofs.Common.{◌≡◌, inl, inr, ℕ, zero, suc, ◌<◌, ◌≤◌, pos, negsuc, List, [], ◌∷◌, length, get_or, refl, sym, ap, subst, ◌∙◌, arith, None, Some, Ok, codes, All}
 use Rattle.std.proofs.lemmas.List.Elements.{All-nil, All-cons}

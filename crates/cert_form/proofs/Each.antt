@@ -3,6 +3,8 @@
 --   so_far_start, so_far_more, so_far_fault     the steps of such a loop
 --   IfFault-map                          a fact for a fault, from another
 --   entry_is                             the entry at a place is the value there
+--   after-after, after-nil               lists before what is read: two are one behind the other, and none changes nothing
+--   fault_like                           the fault of a reading is that of an equal one
 use Rattle.std.proofs.Common.{◌≡◌, ℕ, zero, suc, ◌+◌, ◌<◌, List, [], ◌∷◌, ◌++◌, Result, Ok, Err, length, get_or, drop, refl, sym, ap, subst, ◌∙◌, append_assoc, add-one, arith}
 use Rattle.std.proofs.Math.Seq.{drop-cons}
 use Rattle.std.specs.List.{AllZip}

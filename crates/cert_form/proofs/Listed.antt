@@ -1,5 +1,7 @@
 -- Values that are made of a list's elements, one after another.
 --   listed f k us               what f makes of each, the first at place k
+--   Listed f P us found         found is made of us, and P of each of these
+--   each_one data_of            one value for each element
 --   ListedSoFar f P us i found  found is made of those before place i, and P of each
 --   listed_start, listed_more, listed_all     the steps of such a loop, and its end
 --   pushed, pair_pushed, no_pair     one more value, and one more pair or none

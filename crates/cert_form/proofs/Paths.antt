@@ -1,4 +1,5 @@
 -- Paths, one member and one place further.
+--   member_is, place_is     the path of a member of an object, and of a place in a list
 use Rattle.std.proofs.Common.{◌≡◌, ℕ, List, Bor, rules}
 use Rattle.cert_form.specs.declared.fault.Path.{Path, Member, Place, the_lemmas}
 use Rattle.cert_form.specs.Form.{part}

@@ -1,5 +1,7 @@
 -- What is written is read as the certificate that was written.
 --   document_reads     of the value of a certificate;  text_reads: of a text that is read as this value
+--   told_so            the same bytes for as many branches are read as the same certificate
+--   without_blanks     what is read whatever blanks stand behind it is read without
 --   same_again         two certificates that one text is read as are the same
 --   memory_alone       the refusal of a text that is read
 use Rattle.std.proofs.Common.{◌≡◌, ℕ, zero, suc, ◌+◌, ◌-◌, ◌≤◌, ◌<◌, List, [], ◌∷◌, ◌++◌, map, length, get_or, codes, refl, sym, ap, ap₂, subst, ◌∙◌, append_assoc, arith}

@@ -4,7 +4,7 @@
 --   later_recurs, later_there     a form by its value after some iterations: it has the recurrence, and that value
 --   one_later_recurs    one that is its inhomogeneity one iteration later, where its value is zero
 --   zero_here, zero_later, zero_room, zeros_all     the same as the code counts them
---   zeros_none, zeros_one, zeros_next, zeros_part     how many values are zero, one after another
+--   zeros_none, zeros_one, zeros_next, zeros_part, zeros-append     how many values are zero, one after another, and in two lists
 use Rattle.std.proofs.Common.{◌≡◌, ◌≢◌, ℕ, zero, suc, ◌+◌, ◌^◌, ◌<◌, ◌≤◌, Option, Some, Bool, true, false, cond, List, [], ◌∷◌, ◌++◌, map, length, take, refl, sym, ap, ap₂, ◌∙◌, arith}
 use Rattle.std.proofs.lemmas.List.{length-map}
 use Rattle.algebra.specs.Arithmetic.{power}

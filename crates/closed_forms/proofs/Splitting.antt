@@ -3,7 +3,7 @@
 --   classes_are, class_among     the classes of a list of them, and that each class is one
 --   map_of               the polynomials are a map
 --   this_class, later_classes     the first of some classes, and the later ones
---   first_is, first_read          the first variable of a class
+--   first_is, first_read, same_first     the first variable of a class; classes with the same first variable are the same
 --   class_inside         the variables of a class
 --   matrix_count, matrix_square, split_is, matrix_refused      a class's matrix as the code has it
 --   among_none, among_skip, among_here      the class that begins with a variable

@@ -10,6 +10,7 @@
 --   filled ks qs row             each of the qs put at its place, one after another
 --   filled_next, filled_over     one step of that, and its end
 --   filled_placed                in a row of zeros that gives the placed ones
+--   zeros_none                   at each place of a row of zeros stands 0
 use Rattle.std.proofs.Common.{◌≡◌, ◌≢◌, inl, inr, ℕ, zero, suc, ◌+◌, ◌<◌, ◌≤◌, List, [], ◌∷◌, ◌++◌, get_or, set, drop, length, replicate, slice_get, Some, refl, sym, ap, ap₂, subst, ◌∙◌, add-one, All, arith}
 use Rattle.std.proofs.lemmas.List.{drop_all}
 use Rattle.std.proofs.lemmas.List.Elements.{All-cons, All-nil}

@@ -1,4 +1,5 @@
 -- Rows that are independent modulo a number are so over the fractions.
+--   residue_none         0 is the residue of 0
 --   residue_zero, residue_scale, residue_add     residues of 0 are multiples; of multiples and sums
 --   residue_dot          of a combination with whole numbers
 --   whole_zero           whole numbers whose combinations with the values are 0 are 0

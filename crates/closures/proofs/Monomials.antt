@@ -3,8 +3,10 @@
 --   in_monomials             each that has them is among them
 --   all_ascend               each is below all later ones
 --   distinct_ascending       so no two are the same
---   shorter_monomials        those up to a lesser degree are the ones of the list that have it
+--   are_monomials_up_to      and the list is that of the monomials up to the degree
+--   shorter_monomials, lower_monomials      those up to a lesser degree are the ones of the list that have it
 --   fewer_monomials          there are no more in fewer variables
+--   longer_below             the lists up to a lesser number, joined, are at most as long
 use Rattle.std.proofs.Common.{◌≡◌, ◌⊎◌, inl, inr, ℕ, zero, suc, ◌+◌, ◌-◌, ◌≤◌, ◌<◌, List, [], ◌∷◌, ◌++◌, map, length, sum, refl, sym, ap, ap₂, subst, ◌∙◌, arith, Ordering, Less, Equal, nat_cmp, Bool, true, false, cond, nat_le, le-leb, zero-add, length-append}
 use Rattle.std.proofs.lemmas.Bool.{cases_lt, lt-leb}
 use Rattle.std.proofs.lemmas.List.{append-nil, length_push, length-map}

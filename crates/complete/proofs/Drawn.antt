@@ -6,6 +6,7 @@
 --   later                 what is behind a later place
 --   in_order_later, once_later, told_later     so is what is said of it
 --   multiple_of           the least common multiple of a pair's leads
+--   got                   a polynomial of the list, as terms
 use Rattle.std.proofs.Common.{◌≡◌, ℕ, ◌+◌, ◌-◌, ◌<◌, ◌≤◌, Bool, Ordering, List, [], map, take, drop, length, get_or, sym, ap, ap₂, subst, ◌∙◌, arith}
 use Rattle.std.proofs.lemmas.List.{length-map, length-drop, get_or-map, get_or-drop, drop-drop, take_rest}
 use Rattle.std.specs.List.{All}

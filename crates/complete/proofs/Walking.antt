@@ -1,5 +1,7 @@
 -- Walks along waiting pairs and leads (machines/specs/Pairs), over plain variables.
 --   seen_drop, seen_end        what is seen of a list from a place on
+--   next_leads                 leads from a place on: the one there, and those behind it
+--   apart                      two numbers that differ aren't equal by the test
 --   covers_told, told_behind   the test by a table, and the table behind a pair that is taken
 --   covers_next, covers_here   whether a lead covers a pair
 --   settled_next, settled_here     whether the first is covered

@@ -1,5 +1,5 @@
 -- Divisions of polynomials one after another (specs/Rows), in a task of a trace.
---   divided_behind             one more behind others
+--   divided_behind, pair_divided_behind      one more behind others; of pairs, one pair more
 --   list_rows_await, list_rows_refused     by the completed list
 --   pair_rows_await, pair_rows_refused     of the S-polynomials of pairs
 --   link_rows_await, link_rows_refused     by what is given

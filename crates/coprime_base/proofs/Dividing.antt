@@ -3,6 +3,7 @@
 --   begun_next         after one more number, taken out of both parts as often as it goes
 --   begun_made, begun_none     after the last one: the exponents, or that there are none
 --   Divided b t l x    b went t times into x, and l is left; divided_first, divided_more: the steps
+--   few_times          where 2^t is at most a number below 2^128, t is below 128
 use Rattle.std.proofs.Common.{◌≡◌, ◌≢◌, ◌⊎◌, inl, inr, ℕ, zero, suc, ◌+◌, ◌*◌, ◌/◌, ◌^◌, ◌%◌, ◌<◌, ◌≤◌, ℤ, pos, negsuc, ◌-ℤ◌, List, [], ◌∷◌, ◌++◌, map, refl, sym, ap, ap₂, subst, ◌∙◌, arith, append_assoc}
 use Prim.Native.Nat.{◌∣◌}
 use native.Mathlib.Nat as N

@@ -1,5 +1,7 @@
 -- A product of whole powers of a base is the product of those above zero over that of those below.
 --   up z, down z            the size of z where it is above zero, or below, and else zero
+--   whole_product           a product of whole numbers is that of the numbers
+--   quotient_product        n over d times m over k is n m over d k;  same_quotient: two fractions that are n over d are the same
 --   power_is                a power of a whole number is the whole number of the power
 --   raised_is, number_is    a power, and a product of powers, as quotients
 --   ups_disjoint            no exponent is above and below zero

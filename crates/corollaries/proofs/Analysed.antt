@@ -1,6 +1,8 @@
 -- A chain that is analysed loop by loop ends with the reduced basis of its invariants.
 --   Knows c gs           gs generate the invariants of the chain c, and are their reduced basis
 --   analysed_known       so does the list of each loop's finished journal
+--   analysed_generates, analysed_basis     that list generates the invariants of the loops so far, and is their reduced basis
+--   reduced_itself       a list that is known so is the reduced basis of its own ideal
 --   analysed_one         and there is no other reduced basis
 use Rattle.std.proofs.Common.{◌≡◌, ◌↔◌, ℕ, suc, ◌<◌, List, get_or, length, arith, sym, subst}
 use Rattle.std.proofs.Math.Seq.{take-suc}

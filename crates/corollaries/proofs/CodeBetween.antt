@@ -1,6 +1,7 @@
 -- Code between two loops: what its graph says of what it leads to.
 --   assigned_next, listed_next      one place more
---   copy_is, copy_within     the copy of a variable is its place among those that are assigned
+--   copy_is, copy_within     the copy of a variable is its place among those that are assigned;  assigned_within: these are variables
+--   was_arity            what the variables were are polynomials in the variables and copies
 --   code_leads_on        what is left of its list, where the copies are eliminated, generates the polynomials that, composed with the code, are members
 use Rattle.std.proofs.Common.{◌≡◌, ℕ, zero, suc, ◌+◌, ◌-◌, ◌<◌, ◌≤◌, Bool, true, false, cond, ◌==◌, List, [], ◌∷◌, ◌++◌, map, get_or, set, replicate, length, refl, arith, sym, ap, ap₂, subst, ◌∙◌}
 use Rattle.std.specs.List.{list_any}

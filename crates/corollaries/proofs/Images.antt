@@ -1,4 +1,5 @@
 -- Images decide which words counter a polynomial.
+--   arity-image          an image is a polynomial in the variables
 --   letters_of_counter   the letters of such a word are numbers of branches
 --   value_of_image       the image's value at a point is the polynomial's at the end of the run
 --     from
@@ -6,6 +7,8 @@
 --   image_fixed          a variable that init sets doesn't matter
 --   counter_of_image, image_of_counter      a word counters exactly where its image isn't 0
 --   point_of_start, start_of_point          the first start is the first point of the image
+--   refutes              a word that counters a polynomial shows that it is no invariant
+--   inv_of_none          what no word counters is an invariant
 use Rattle.std.proofs.Common.{◌≡◌, ◌≢◌, ◌⊎◌, inl, inr, ℕ, zero, suc, ◌+◌, ◌≤◌, ◌<◌, List, [], ◌∷◌, ◌++◌, length, get_or, refl, sym, ap, subst, ◌∙◌, arith, Bool, true, false, true≢false, All, Option, Some}
 use Rattle.std.specs.Prelude.{IsSomeAnd}
 use Rattle.std.proofs.lemmas.List.{length-append}

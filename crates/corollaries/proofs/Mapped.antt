@@ -1,6 +1,7 @@
 -- What is known behind code, from what was known before it.
 --   IsZeroBehind c code p     p is zero behind the code, at the end of every run of the chain c
 --   mapped_reduced               what an elimination has ended with is a reduced basis
+--   code_reduced                 and reduced for its own ideal
 --   mapped_generates             it generates the polynomials that are zero behind the code
 --   mapped_one                   and is the only one, with one list of entries
 --   exhausted_mapped, past_mapped       where it is out of units, or past, it has begun

@@ -3,7 +3,9 @@
 --                                differ one is less
 --   less_behind                  less than a list with one number more: less in front, or the same
 --                                there and less at the end
---   earlier_irrefl, earlier_total      the same of words
+--   first_less, rest_less        a list is less by its first number, and by what is behind the same one
+--   less_cases                   and only so
+--   earlier_irrefl, earlier_total, earlier_asym      the same of words, and no two are before each other
 use Rattle.std.proofs.Common.{◌≡◌, ◌⊎◌, inl, inr, ℕ, zero, suc, ◌<◌, List, [], ◌∷◌, ◌++◌, length, refl, sym, ap, ap₂, ◌∙◌, arith, Ordering, Less, Equal, Greater, nat_cmp, subst}
 use Rattle.std.specs.Ordering.{ordering_then}
 use Rattle.std.specs.Cmp.Lexicographic.{slice_cmp}

@@ -1,11 +1,13 @@
 -- The first point at which a polynomial isn't zero, number by number.
 --   Vanishes m q xs      q is zero at each point that begins with the numbers xs
 --   zero_with_vanishes, vanishes_zero_with     so it is exactly where it is 0 with these numbers
---   least_number         where it isn't, there is a first number to go on with, at most the degree
+--   least_number, IsNext      where it isn't, there is a first number to go on with, at most the degree
 --   prefix_none, prefix_more, prefix_fixed     the first prefix of no number, of one more, and of 0
 --                        for a variable that doesn't matter
+--   prefix_rest          a first prefix goes on to one of all numbers
 --   prefix_point         the first prefix of all numbers is the first point
 --   first_points, first_point_one, first_point_low     there is one, only one, within the degrees
+--   arity-substitution, length-wholes     the list substitution has polynomials in m variables; there are as many fractions as numbers
 use Rattle.std.proofs.Common.{◌≡◌, ◌≢◌, ◌⊎◌, inl, inr, ℕ, zero, suc, ◌+◌, ◌≤◌, ◌<◌, pos, List, [], ◌∷◌, ◌++◌, map, drop, length, get_or, refl, sym, ap, ap₂, subst, ◌∙◌, arith, append_assoc, append-nil}
 use Rattle.std.proofs.lemmas.List.{length-map, length-append, length-drop, map-append, drop-map}
 use Rattle.std.proofs.Math.Seq.{drop-append_seam, get_or-append_seam}

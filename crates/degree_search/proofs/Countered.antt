@@ -1,6 +1,6 @@
 -- A closing of nothing ends at once, and one that ends with a word has a unit.
---   nothing_follows, nothing_comes    no entry follows it, and its end comes next
---   countered_units
+--   nothing_next, nothing_follows, nothing_comes    at once it comes to its end, no entry follows, and its end comes next
+--   countered_units      where it ends with a counterexample, its entries have a unit
 use Rattle.std.proofs.Common.{◌≡◌, ℕ, zero, suc, ◌<◌, List, [], ◌∷◌, length, refl, sym, ap, ◌∙◌, Option, Some, None}
 use Rattle.algebra.specs.Fraction.{Fraction}
 use Rattle.polynomials.specs.Terms.{Terms}

@@ -8,6 +8,7 @@
 --   past_division, past_rest     where a part of it is past
 --   leads_long                   the leads of divisors have an exponent for each variable
 --   after_any     at the places that are found
+--   along         a polynomial is one in an equal order and for an equal number of variables
 use Rattle.std.proofs.Common.{◌≡◌, ◌≢◌, ◌↔◌, ℕ, zero, suc, ◌<◌, true, List, [], ◌∷◌, ◌++◌, length, map, slice_index_or, get_or, slice_get, IsSomeAnd, Some, inl, inr, refl, sym, ap, ap₂, subst, ◌∙◌, arith}
 use Rattle.std.specs.List.{All}
 use Rattle.std.proofs.lemmas.List.{get_or-map, length-map}

@@ -1,10 +1,14 @@
 -- Counts up to the limit.
 --   most_is                the limit as a number; beyond_sum, beyond_product: what doesn't fit in 64 bits is above it
+--   count_of               an equal number has the same count
+--   some_is, none_above    where there is a count, it is the number, within the limit; where there is none, the number is above the limit
+--   of_zero, of_first, one_fits        no term and one are within the limit
 --   at_least_one           a factor has a term at least
 --   terms_none, terms_some     a factor's terms by their number
 --   of_one                 a power of one
 --   raised_more, raised_past, raised_all       a power, one factor after another
 --   power_one              a power of what isn't 0 isn't 0
+--   parts                  the images of a list that is cut in two are those of the list
 use Rattle.std.proofs.Common.{◌≡◌, ◌⊎◌, inl, inr, ℕ, zero, suc, ◌+◌, ◌*◌, ◌^◌, ◌<◌, ◌≤◌, List, [], ◌∷◌, ◌++◌, map, take, drop, take-append-drop, length, refl, sym, ap, ap₂, subst, ◌∙◌, arith, Option, Some, None}
 use native.Mathlib.Nat as N
 use Rattle.std.proofs.lemmas.Grind.{pow_more}

@@ -2,6 +2,7 @@
 --   step_normal, step_turned     a term more, made normal, or turned
 --   sign_even, sign_odd          the sign at -n
 --   parity_is                    the exponent of s
+--   top_at, rest_is              the exponent of n, and the exponents behind those of n and s
 --   normal_parts                 exponents cut where n, s, the u and the v end;  normal_long: as many made normal
 --   even_sign, odd_sign          the sign at -n, of the exponent of n
 use Rattle.std.proofs.Common.{◌≡◌, ◌≢◌, ℕ, zero, suc, ◌-◌, ◌%◌, ◌≤◌, List, [], ◌∷◌, ◌++◌, length, take, drop, get_or, refl, sym, ap, ap₂, ◌∙◌, arith, append_assoc}

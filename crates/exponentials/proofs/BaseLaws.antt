@@ -1,4 +1,5 @@
 -- The coarsest coprime base of a list: there is exactly one, and refining gives it.
+--   the_base list     the base that refining gives, in ascending order; is_the_base: no other base is the coarsest one in ascending order
 use Rattle.std.proofs.Common.{◌≡◌, ◌≢◌, ◌⊎◌, inl, inr, Bool, true, false, cond, ltb, ℕ, zero, suc, ◌*◌, ◌^◌, ◌<◌, ◌≤◌, List, [], ◌∷◌, refl, sym, ap, ap₂, subst, ◌∙◌, arith}
 use Rattle.algebra.specs.Each.{Each}
 use Rattle.algebra.specs.In.{In}

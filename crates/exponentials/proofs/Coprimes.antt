@@ -1,4 +1,6 @@
 -- Numbers with no common divisor above 1, from the laws of gcd alone.
+--   coprime_sym      being coprime doesn't depend on the order
+--   coprime_out      a common divisor of coprime numbers divides 1; coprime_divisor: a number is coprime to the divisors of what it is coprime to
 use Rattle.std.proofs.Common.{◌≡◌, ℕ, zero, suc, ◌*◌, ◌^◌, sym, ap, subst, ◌∙◌}
 use Rattle.algebra.proofs.Coprime.{coprime-mul, coprime_divisors}
 use Prim.Native.Nat.{◌∣◌}

@@ -1,4 +1,7 @@
 -- Two bodies with the same values at every natural number have the same values at every other point too, as at the negative numbers.
+--   gathered x ts      the sum of the coefficients of the terms of ts that have the key x
+--   regrouped          a sum over terms is the sum over their keys, each with what is gathered at it
+--   Place, place_test  exponents of s, u, v and n, and a test for sameness
 use Rattle.std.proofs.Common.{◌≡◌, ◌≢◌, Bool, true, false, cond, ℕ, List, ◌++◌, map, refl, sym, ap, ap₂, ◌∙◌}
 use Rattle.algebra.specs.Each.{Each}
 use Rattle.algebra.proofs.Each.{each-append, each-map}

@@ -1,4 +1,12 @@
 -- Independence: an exponential polynomial whose value at every N lies in an ideal has its coefficients there.
+--   IsChar0 F             the field F has characteristic 0
+--   positive, of_nat_same     a natural number above zero isn't zero in F, and different ones are different in F
+--   number bs x           the number of the key x: a sign by s, times the powers of bs by u, over those by v
+--   size bs x             its part in u and v; number-ne-zero: it isn't zero
+--   value n t             the value of a term at n; number-power: that of the monomial x in s, u and v is the power n of its number
+--   key_test              a test whether two keys are the same
+--   coefficient x a ts    the coefficient of the monomial with the exponents x of s, u and v and the exponent a of n in the terms ts
+--   coefficient_in        where all values lie in the ideal, each coefficient does
 use Rattle.std.proofs.Common.{◌≡◌, ◌≢◌, inl, inr, cond, ℕ, zero, suc, ◌+◌, ◌*◌, ◌<◌, List, [], ◌∷◌, map, refl, sym, ap, ap₂, subst, ◌∙◌, arith}
 use Rattle.algebra.specs.Each.{Each}
 use Rattle.algebra.specs.In.{In}

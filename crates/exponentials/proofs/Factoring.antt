@@ -1,4 +1,8 @@
 -- The exponents of a number over a coprime base, by division alone.
+--   disjoint-coprime   products with disjoint exponents have no common divisor
+--   fraction_made      a fraction in lowest terms that is the quotient of two such products has them for its numerator and its denominator
+--   Taken b x          x is the power `times` of b, times a number `left` that b doesn't divide
+--   taken-product      for a product of powers of a coprime base, the first exponent and the product of the other powers
 use Rattle.std.proofs.Common.{◌≡◌, ◌⊎◌, inl, inr, ℕ, zero, suc, ◌*◌, ◌^◌, ◌<◌, List, [], ◌∷◌, refl, sym, ap, subst, ◌∙◌, arith}
 use Rattle.exponentials.proofs.Coprimes.{power_none, power_apart}
 use Rattle.exponentials.specs.Base.{Coprime, Disjoint, product}

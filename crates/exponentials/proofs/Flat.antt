@@ -1,5 +1,6 @@
 -- Functions of a natural number modulo an ideal: those that the difference operator takes into the ideal after so many iterations, and
 -- sums of such functions times powers of different numbers.
+--   IsIdeal R S     zero lies in S, and so do sums and multiples of its elements; moved: and what equals one of them
 use Rattle.std.proofs.Common.{◌≡◌, ℕ, zero, suc, ◌≤◌, List, [], ◌∷◌, refl, ap, ap₂, subst, arith}
 use Rattle.algebra.specs.Each.{Each}
 use Rattle.algebra.specs.Arithmetic.{power}

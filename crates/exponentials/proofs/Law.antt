@@ -1,4 +1,10 @@
 -- Independence, of a body that is one list of terms in n, u, v and the variables.
+--   Term K              a number of the field, and exponents of n, of s, of each u, of each v and of the variables; degree_of t: the exponent of n
+--   point n             the point: n, s, u and v at n, and the variables; body_at ts n: the value of a body there
+--   own t               the part of a term in the variables; coefficient_at x a ts: the coefficient at the key x and the power a of n, made of these
+--   GoodBody bs ts      the key of each term is normal
+--   independence_law    where all values of a body lie in an ideal, each of its coefficients does
+--   same_bodies         bodies with the same values have the same coefficients
 use Rattle.std.proofs.lemmas.List.{length-map}
 use Rattle.std.proofs.Common.{cond, ◌≡◌, ℕ, List, ◌∷◌, ◌++◌, map, length, take, drop, sym, ap₂, ◌∙◌}
 use Rattle.algebra.specs.Each.{Each}

@@ -1,4 +1,9 @@
 -- Facts on each element of a list, by recursion, and sums that have one term.
+--   Distinct f xs       no two elements have the same f
+--   each_map, each_both     what follows from a fact, or from two, at each element
+--   sum_same, sum_alike     sums of functions that agree on the elements, or everywhere, are the same
+--   sum_none, pick      a sum of zeros is zero; a sum with one term that may not be zero is that term
+--   once E xs           the elements of xs without repetition: once-distinct; once-in, once-out: it has the same elements
 use Rattle.std.proofs.Common.{◌≡◌, ◌≢◌, inl, inr, Bool, true, false, cond, List, [], ◌∷◌, refl, sym, ap, ap₂, subst, ◌∙◌}
 use Rattle.algebra.specs.Each.{Each}
 use Rattle.algebra.specs.In.{In}

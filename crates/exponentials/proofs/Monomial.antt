@@ -1,4 +1,7 @@
 -- Products of powers in a commutative ring, and homomorphisms.
+--   power-one, power-mul     powers of one, and of a product
+--   power_inverse     powers of inverses are inverses
+--   to-nat            a homomorphism keeps natural numbers
 use Rattle.std.proofs.Common.{◌≡◌, ℕ, zero, suc, ◌^◌, List, [], ◌∷◌, map, refl, sym, ap, ap₂, ◌∙◌}
 use Rattle.exponentials.specs.Base.{product}
 use native.Mathlib.Nat as N

@@ -1,4 +1,8 @@
 -- Lists in another order: what holds of each element, coprime lists, and what a loop's edits do.
+--   all-each, each-all     std's All, and back
+--   each-permuted, coarsest-permuted     facts on each element, and being a coarsest base, hold in any order
+--   not_self          a number above 1 isn't coprime to itself
+--   picked-push, picked-remove     removing what was pushed gives the list back; `remove` removes the number at its place
 use Rattle.std.proofs.Common.{◌≡◌, ◌⊎◌, inl, inr, Bool, true, false, cond, ℕ, zero, suc, ◌+◌, ◌<◌, ◌≤◌, List, [], ◌∷◌, ◌++◌, length, get_or, refl, sym, ap, subst, ◌∙◌, arith}
 use Rattle.algebra.specs.Each.{Each}
 use Rattle.algebra.specs.In.{In}

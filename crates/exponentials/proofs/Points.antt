@@ -1,4 +1,5 @@
 -- A term of one list of exponents, by its parts; and what is left of two lists without what they have in common.
+--   term-value     the value of a term at n, s, u, v and the variables: its part in the variables, times the powers of n and s, times those of u and of v
 use Rattle.std.proofs.Common.{◌≡◌, ℕ, List, [], ◌∷◌, ◌++◌, length, take, drop, refl, sym, ap, ◌∙◌}
 use Rattle.exponentials.specs.Base.{Disjoint}
 use Rattle.algebra.specs.Ring.{CommRing, operations}

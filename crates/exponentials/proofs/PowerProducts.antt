@@ -1,4 +1,6 @@
 -- Numbers that are products of powers of a list's numbers.
+--   lower d e     the smaller exponent at each place; lower_comm: the same in either order
+--   lower-left    what d has more than e, added to it, gives d
 use Rattle.std.proofs.Common.{◌≡◌, ◌⊎◌, inl, inr, ℕ, zero, suc, ◌-◌, ◌*◌, ◌^◌, ◌<◌, min, List, [], ◌∷◌, refl, sym, ap, ap₂, subst, ◌∙◌, arith}
 use Rattle.algebra.specs.Each.{Each}
 use Rattle.algebra.specs.In.{In}

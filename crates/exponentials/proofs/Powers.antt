@@ -1,4 +1,5 @@
 -- Products of powers of numbers that are pairwise coprime and above 1.
+--   product-pos     such a product is above zero
 use Rattle.std.proofs.Common.{◌≡◌, ◌⊎◌, ℕ, zero, suc, ◌+◌, ◌*◌, ◌^◌, ◌<◌, List, [], ◌∷◌, refl, sym, ap, ap₂, subst, ◌∙◌, arith}
 use Rattle.std.proofs.lemmas.Nat.{pow-add}
 use Rattle.algebra.specs.Each.{Each}

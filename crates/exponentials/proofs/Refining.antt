@@ -1,4 +1,8 @@
 -- What a loop keeps that refines a list: the waiting numbers ws and the base bs, by its steps.
+--   Refining list ws bs     what the loop keeps
+--   refining_start, refining_done     it holds where all numbers wait; where it holds and none waits, bs is a coarsest base
+--   Settles w ws bs ws' bs'     an iteration that takes w from the waiting numbers keeps this, and makes the size less
+--   settles_one, settles_new, settles_split     where w is 1; where it is coprime to the base; where it has a common divisor with one of its numbers
 use Rattle.std.proofs.Common.{◌≡◌, ◌≢◌, ℕ, suc, ◌+◌, ◌*◌, ◌/◌, ◌<◌, List, [], ◌∷◌, ◌++◌, length, refl, sym, ap, ap₂, subst, ◌∙◌, arith}
 use Rattle.algebra.specs.Each.{Each}
 use Rattle.algebra.proofs.Each.{each-append, each-left, each-right}

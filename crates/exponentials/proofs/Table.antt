@@ -1,4 +1,7 @@
 -- The recurrence y(n+1) = λ y(n) + n^a σ^n with y(0) = 0, solved by a triangular system of equations.
+--   choose_same, choose_next     the binomial coefficients of n and n, and of n + 1 and n
+--   each_number      what holds of the n numbers from lo on holds of each in their list
+--   table_other, table_equal     the table's numbers give the solution, where σ is not λ and where it is
 use Rattle.std.proofs.Common.{◌≡◌, ◌≢◌, Bool, true, false, cond, ℕ, zero, suc, ◌+◌, ◌-◌, ◌<◌, ◌≤◌, [], ◌∷◌, refl, sym, ap, ap₂, ◌∙◌, arith}
 use Rattle.algebra.specs.Each.{Each}
 use native.Mathlib.Nat as N

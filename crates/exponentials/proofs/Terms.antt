@@ -1,4 +1,5 @@
 -- Sums of terms c n^a ρ^n: where all values lie in an ideal, so does the sum of the coefficients at each degree and number.
+--   alike_refl, alike_true     the test holds exactly of numbers that are the same
 use Rattle.std.proofs.Common.{◌≡◌, ◌≢◌, inl, inr, true, cond, ℕ, zero, suc, ◌+◌, List, [], ◌∷◌, refl, sym, ap, ◌∙◌, arith}
 use Rattle.algebra.specs.Each.{Each}
 use Rattle.algebra.specs.In.{In}

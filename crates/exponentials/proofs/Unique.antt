@@ -1,5 +1,7 @@
 -- What follows from independence: two exponential polynomials with the same values have the same coefficients; the point as one list;
 -- and the rationals have characteristic 0.
+--   zero_ideal         zero alone is an ideal
+--   fraction_char0     no whole number above zero is zero among the rationals
 use Rattle.std.proofs.Common.{pos, ◌≡◌, Bool, true, false, cond, ℕ, suc, List, [], ◌∷◌, ◌++◌, map, length, take, drop, refl, sym, ap, ap₂, ◌∙◌}
 use Rattle.algebra.specs.Each.{Each}
 use Rattle.exponentials.specs.Base.{Coprime}

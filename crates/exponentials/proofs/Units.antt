@@ -1,8 +1,13 @@
 -- Points where s s = 1 and u v = 1, as those of each natural n and of each negative one: what has the same values at all natural n has them there.
 --   parity n             0 or 1: s^n is s^(parity n)
---   normal_key r t       the exponents of s, u and v, where s s and u v are left out
+--   us_of r t, vs_of r t     a term's exponents of u, and of v, for a base of r numbers
+--   Room bs t            the term has exponents of s and of each u and v; HasRoom bs ts: each term has
+--   room_long            a term with exponents enough has them
+--   normal_key r t       the exponents of s, u and v, where s s and u v are left out; normal_good: they are normal
+--   part c e             the part of a term in the variables; value_of ts s: the value of a list of terms at a point
 --   at                   the point: n, s, the u and the v of the base, and the variables
---   IsUnit               s s = 1 and u v = 1 there
+--   natural n            the point of a natural n
+--   IsUnit               s s = 1 and u v = 1 there; natural_unit: so it is at each natural n
 --   normal_term          a term's value at such a point
 --   same_at_units        the theorem
 use Rattle.std.proofs.lemmas.List.{length-map}

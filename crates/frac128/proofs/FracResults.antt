@@ -4,6 +4,7 @@
 --   product_means, sum_means          a product and a sum from their parts
 --   sum_left, sum_right, sum_top, sum_den, sum_fits         where a sum is past, and where it is not
 --   turned_below, turned_above, reduced_means     one over a fraction; a fraction from its sign and sizes
+--   abs-signed                        the size of n with a sign is n
 --   sum_past, difference_past, product_past, quotient_past      what does not fit has a weight that is past
 --   means_fraction, is_fraction, frac_fits, coprime_at, opposite_at, whole_at, at_whole    the fraction that a result is
 --   quotient_means                    a quotient times the divisor

@@ -1,5 +1,5 @@
 -- The kinds of a text's lexemes, one by one, as a run of an automaton.
---   leads g q        the state to which the texts of g lead from q, if they lead to one
+--   leads g q, leads_of gs q        the state to which the texts of g, or of the gs one behind the other, lead from q, if they lead to one
 --   Runs q ks r      the kinds ks lead from q to r
 --   runs             so those of a text do
 use Rattle.std.proofs.Common.{◌≡◌, List, [], ◌∷◌, map, refl, ap, sym, ◌∙◌, inl, inr, Bool, true, false, Option, Some, None, if◌then◌else◌, option_and_then}

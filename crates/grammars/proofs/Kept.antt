@@ -1,7 +1,8 @@
 -- What reading keeps, and what it leads to.
---   Keeps g        the tokens and changes of g keep the property P of states; read_kept: then what is read keeps it
+--   Keeps g        the tokens and changes of g keep the property P of states; read_kept: then what is read keeps it;  KeepAll gs: so does each of the gs
 --   Leads a g b    A is the type of places in a text, `holds a s` says what holds of the state s at the place a, and `called n a b` that the rule n leads from a
 --                  to b: from what holds at a each sound token and each change of g leads on, up to what holds at b
+--   Opens n s b    what the rule n says leads to b from some place at which the state s is
 --   places_kept    then what is read leads from a to b
 --   lifted_leads   a small language's grammar that keeps a property of its part of the state stays at a place
 use Rattle.std.proofs.Common.{◌≡◌, List, [], ◌∷◌, refl, ap, sym, ◌∙◌, true, None}

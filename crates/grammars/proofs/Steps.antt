@@ -1,6 +1,8 @@
 -- Reading by a grammar alone, by its parts: what a function that reads by recursive descent cites.
 --   and_then a next     the answer a, or where it reads up to some tokens, what comes next
+--   judged why x a      the token x refused for its fault, if it has one, or else the answer a
 --   parsed_token, parsed_change, parsed_sequence, parsed_either, parsed_many, parsed_rule      by the next token
+--   read_then           what is read by grammars one behind the other is read by the first ones, and then by the others
 use Rattle.std.proofs.Common.{◌≡◌, List, [], ◌∷◌, ◌++◌, refl, ap, ◌∙◌, Bool, true, false, not, Option, Some, None, if◌then◌else◌}
 use Rattle.grammars.specs.Kinds.{has}
 use Rattle.grammars.specs.Grammar.{Placed, State, Grammar, token, change, sequence, either, many, rule, Language, after_token, after_change}

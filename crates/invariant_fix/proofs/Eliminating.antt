@@ -3,7 +3,7 @@
 --   block_first, block_arity      of the list, that isn't empty
 --   way_is                        what is done
 --   over_of, reduced_of           what it gives
---   whole_length, late_length, orbit_length, iteration_length     how many there are
+--   gens_count, whole_length, late_length, orbit_length, iteration_length     how many there are
 use Rattle.std.proofs.Common.{◌≡◌, ℕ, zero, suc, ◌+◌, ◌-◌, ◌<◌, ◌≤◌, List, [], ◌∷◌, ◌++◌, map, drop, length, refl, ap, ap₂, subst, arith}
 use Rattle.std.proofs.lemmas.List.{length-map, length-append, length-drop}
 use Rattle.std.proofs.lemmas.List.Elements.{All-head}

@@ -5,6 +5,7 @@
 --   solvable_of, pass_of  what is known of the map of the images
 --   branches_more       the first branches, one after another
 --   refused_here, refused_at          the first branch that is refused
+--   item_at             an element of a list, at a place within it
 use Rattle.std.proofs.Common.{◌≡◌, ◌⊎◌, inl, inr, ℕ, zero, suc, ◌<◌, ◌≤◌, ◌+◌, Bool, true, false, List, [], ◌∷◌, ◌++◌, map, length, get_or, refl, sym, ap, ap₂, subst, ◌∙◌, arith, Vec, Global}
 use Rattle.std.proofs.lemmas.Bool.{cases_lt}
 use Rattle.std.proofs.lemmas.List.{length-map, length-append}

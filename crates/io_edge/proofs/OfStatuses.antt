@@ -1,6 +1,7 @@
 -- Statuses of answers.
 --   status_of, text_of        of answers that are the same;  some_answer, some_status, no_answer: of answers that are given
---   settled_yes ..            of each status;  plain_yes ..: of one that isn't an exhausted budget
+--   settled_yes, settled_no, settled_fault, settled_wide, settled_budget     each of these statuses is settled
+--   plain_yes, plain_no       each of these is settled, and isn't an exhausted budget
 --   refusing_fault, refusing_wide     a fault and a number that doesn't fit refuse
 --   unread_status             to a read that gave no bytes
 use Rattle.std.proofs.Common.{◌≡◌, ◌≢◌, ℕ, List, ap}

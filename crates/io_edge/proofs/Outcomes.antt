@@ -2,10 +2,11 @@
 --   excused_or, not_excused     a status is that of want of memory or of the outside, or it isn't
 --   at_told, if_told, at_some   what holds of what was read holds of what is told
 --   outcome                     the answer by what the reads gave is that by what is told
---   meter_told, silent_kept     what is left in the meter
+--   meter_told, silent_kept     what is left in the meter;  meter_left: after a call;  meter_kept: after one whose course is silent
 --   Said, said                  unless the status is excused, the call ended with an answer that is the outcome, and wrote it
+--   said_with, yes_said         so it is where its status is none of these, and where it is a yes
 --   written                     what is shown of the answer's text was written
---   or_excused, ends_so, or_wide, or_fault     how the call ends, by what the outcome is
+--   or_excused, or_yes, ends_so, or_wide, or_fault     how the call ends, by what the outcome is
 --   refusal_told                what was written where it is a fault, or a number that doesn't fit
 --   never                       a status that no answer has
 use Rattle.std.proofs.Common.{◌≡◌, ◌≢◌, ℕ, List, [], ◌∷◌, refl, sym, ap, subst, ◌∙◌, Ok, Err, inl, inr}

@@ -3,6 +3,7 @@
 --   refused_says          the file is refused
 --   reading_says          the file is something, and the course goes on;  reading_ends: and ends
 --   each_answer, silent   what holds of each answer, and what is left in the meter
+--   is_silent             the course leaves the meter alone where whatever it goes on with does
 --   at_something, at_fault    the outcome where the bytes are told;  on_reading: what follows for each text that is told
 use Rattle.std.proofs.Common.{◌≡◌, ℕ, List, refl, sym, subst, ap, ◌∙◌, Result, Ok, Err, inl, inr}
 use Rattle.std.specs.Prelude.{Option, Some, None, IfSome, IfOk, option_map}

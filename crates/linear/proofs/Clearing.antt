@@ -1,4 +1,5 @@
 -- The rows that are cleared, and the place of the new one, over what the code has.
+--   rows-length     there are as many rows as the code has
 use Rattle.std.proofs.Common.{◌≡◌, ◌<◌, ◌≤◌, ℕ, suc, ◌+◌, true, false, cond, ltb, List, [], ◌∷◌, ◌++◌, length, get_or, take, drop, All, refl, sym, ap, ap₂, subst, ◌∙◌, arith, Vec, Global, Option, Some, MatchOption}
 use Rattle.std.specs.Prelude.{insert}
 use Rattle.std.proofs.lemmas.List.{take_more, take-map, drop-map}

@@ -1,5 +1,6 @@
 -- Echelon lists that are lists of rows, as the theory has them with their leading columns: what adding a row makes of them.
 --   Aligned rows ps        the rows are those of ps, and lead in their columns
+--   entry-is               the entry of a row, as definitions and as proofs have it
 --   reduced_is             what rows leave of a row is what the theory's reducing leaves
 --   echelon_none           no rows
 --   echelon_own            an echelon list is that of its own rows

@@ -1,4 +1,5 @@
 -- Rows as lists: where they lead, and what adding a row computes.
+--   fractions-length, entry_at     a row as fractions is as long, and has the same entries
 use Rattle.std.proofs.Common.{◌≡◌, ◌≢◌, ◌⊎◌, inl, inr, ◌<◌, ◌≤◌, ℕ, zero, suc, ◌+◌, ℤ, pos, negsuc, List, [], ◌∷◌, ◌++◌, length, get_or, take, drop, All, refl, sym, ap, ap₂, subst, ◌∙◌, arith, drop-cons, add-one, Vec, Global}
 use Rattle.std.proofs.lemmas.List.{drop_all}
 use Rattle.algebra.specs.In.{In}

@@ -1,5 +1,6 @@
 -- What holds of operations holds of those on the same polynomials.
 --   SameOperation m o o'       the same operator on the same polynomials
+--   AllSameOperations os os'   so each of two lists, one by one;  same_operations-append: one behind another
 --   same_forms                 a polynomial that is formed by the ones is formed by the others
 --   forms_behind               operations behind some that pass no limit
 --   stops_front, stops_behind  a stop among the first operations, and behind some that pass no limit

@@ -1,4 +1,10 @@
 -- One iteration of each loop of a replay: what was found so far is kept apart from what is left.
+--   start_holds, start_wide     the first equation of a start: it holds, and the others decide, or its value doesn't fit
+--   same_number_decides         the test whether two fractions are the same decides it
+--   drop_read                   a list from a place on: the element there, and the list behind it
+--   store_end                   nothing is written where no variable or no value is left
+--   written_back                a list that is written over another of its length is what stands there then
+--   replayed_start              a replay whose start is at fault answers that fault
 use Rattle.std.proofs.Common.{◌≡◌, ◌∙◌, sym, ap, ap₂, refl, ℕ, zero, suc, ◌+◌, ◌≤◌, add-one, ◌<◌, Bool, true, false, not, ◌&&◌, drop, take, All, arith, List, [], ◌∷◌, ◌++◌, length, get_or, map, replicate, Option, Some, None, Result, Ok, Err, ⊎_elim, ◌⊎◌, ◌≢◌, eq-eqb}
 use Rattle.std.specs.Prelude.{ok_or}
 use Rattle.std.proofs.lemmas.Bool.{eqb-true, and_parts, and_from, false_from_ne_true}

@@ -1,4 +1,6 @@
 -- The listed polynomials of a valid certificate are invariants: all are zero at a start, and an iteration keeps that.
+--   certificate_lists_invariants      each is an invariant
+--   arity_at           each of a list of polynomials in m variables is one
 use Rattle.std.proofs.Common.{◌≡◌, ℕ, ◌<◌, List, [], length, sym, ap, subst, ◌∙◌, Some}
 use Rattle.std.proofs.lemmas.List.Elements.{All-from_get_or}
 use Rattle.algebra.specs.Sum.{sum_over}

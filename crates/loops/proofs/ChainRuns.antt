@@ -4,6 +4,7 @@
 --   chain_goes_on         a word of one more loop, from the end, behind its code
 --   LastWord, last_word   the last word of a run, and the end of the words before it
 --   no_letters            words without letters lead somewhere
+--   same_end              a word leads through a loop to the same end whatever init says
 --   loop_of_chain         a chain of one loop has the loop's invariants
 use Rattle.std.proofs.Common.{◌≡◌, ◌↔◌, ℕ, zero, suc, List, [], ◌∷◌, ◌++◌, length, map, refl, sym, ap, subst, ◌∙◌, Option, Some, None}
 use Rattle.std.specs.Prelude.{option_and_then}

@@ -6,7 +6,7 @@
 --   Carries N M of on f    f takes results to results
 --   to-value_of, ..                 then it takes values to values and states to states
 --   iteration-kept, iteration_in, map-iteration, length-iteration     the same of the variables after a branch, whose local names are 0 before it
---   length-branch, ..      a state's length stays
+--   length-store, length-branch, ..      a state's length stays
 --   store-push, branch-push     one more target, one more statement
 use Rattle.std.proofs.Common.{◌≡◌, ℕ, zero, suc, ◌+◌, List, [], ◌∷◌, ◌++◌, map, get_or, set, take, replicate, length, arith, refl, ap, ap₂, ◌∙◌}
 use Rattle.std.specs.List.{AllZip}

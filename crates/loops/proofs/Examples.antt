@@ -1,4 +1,6 @@
 -- The definitions at small loops, by computation.
+--   assign i e, given i e      the statement that sets the variable i to e, and the equation that it is e
+--   squares                    vars a, s, t; init a=0, s=1, t=1; branch { a=a+1; t=t+2; s=s+t; }
 use Rattle.std.proofs.Common.{◌≡◌, ℕ, pos, List, [], ◌∷◌, refl, Some, None}
 use Rattle.std.specs.Prelude.{⊤}
 use Rattle.algebra.specs.Gcd.{gcd}

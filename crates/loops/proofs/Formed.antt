@@ -1,4 +1,5 @@
 -- The second loop of Examples is well formed, and so one is none of its invariants.
+--   assigned     a statement that sets one variable is well formed where it, and all that are used, are variables of the program
 use Rattle.std.proofs.Common.{◌≢◌, ℕ, zero, suc, ◌<◌, pos, [], ◌∷◌, get_or, length, arith, refl}
 use Rattle.std.specs.Prelude.{⊤}
 use Rattle.std.specs.List.{All}

@@ -1,7 +1,7 @@
 -- The invariants of a program are an ideal, and one isn't among them where each loop has a start.
 --   end_is_state         the end of a run is a state
 --   same_invariant, zero_invariant, sum_invariant, multiple_invariant
---   start_run            the run of no letters, from any state of a well-formed program
+--   start_run, start_from_is      the run of no letters, from any state of a well-formed program; what start_from gives is a start
 --   one_no_invariant     so one is no invariant of a well-formed program
 use Rattle.std.proofs.Common.{List, [], ◌++◌, length, replicate, refl, sym, ap, ap₂, ◌∙◌}
 use Rattle.std.proofs.lemmas.Simd.{length-replicate}

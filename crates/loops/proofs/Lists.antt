@@ -1,5 +1,6 @@
 -- Lists from a place on.
 --   at_place, behind_place     what stands in the middle of a list, and behind it
+--   length-more, more_before      one item more in front of such a place: the length, and the list
 --   store_places               values that are stored at all places are the state
 --   length-places
 --   along, moved              along an equation of numbers

@@ -4,6 +4,8 @@
 --   effect_keeps_state, start_keeps_state   effects take states to states
 --   arity-branch_map, arity-start_map       the maps are lists of polynomials over the program's variables
 --   length-variables, length-branch_map, length-start_map     of which there is one for each
+--   arity_closed            operations on polynomials in m variables give such
+--   value_at_carries        the value of a polynomial at a state is computed by the operations on values
 use Rattle.std.proofs.Common.{◌≡◌, ℕ, List, map, length, refl, ap, ◌∙◌}
 use Rattle.std.proofs.lemmas.List.{length-map}
 use Rattle.algebra.specs.Each.{Each}

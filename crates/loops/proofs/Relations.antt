@@ -1,5 +1,6 @@
 -- The relations of sequences are those of their loop.
---   ends, of_loop
+--   ends, of_loop      iterations lead to the sequences' later values; the relations are what the loop shows
+--   length-shown       each sequence has one variable that is shown
 use Rattle.std.proofs.Common.{◌≡◌, ◌↔◌, ℕ, suc, ◌+◌, List, [], ◌∷◌, length, replicate, arith, refl, sym, ap, subst, ◌∙◌, Some}
 use Rattle.algebra.specs.Fraction.{Fraction, ℚ}
 use Rattle.polynomials.specs.Terms.{Terms, value_at}

@@ -3,6 +3,7 @@
 --   start_from_holds     of a well-formed program: what it gives meets each equation of init
 --   start_from_free      what init doesn't set stays
 --   start_by_free        of a well-formed program: the free variables alone decide what it gives
+--   uses_weaker          where P is so of each variable that an expression uses, and Q follows from P, Q is so of each
 use Rattle.std.proofs.Common.{◌≡◌, ◌≢◌, ℕ, zero, suc, ◌<◌, List, [], ◌∷◌, map, get_or, set, length, arith, refl, sym, ap, ap₂, ◌∙◌, All}
 use Rattle.std.proofs.lemmas.List.{set-get_or, get_or-set_same, get_or-set_other, length-set, same_lists, get_or_default}
 use Rattle.std.proofs.lemmas.List.Elements.{All-nil, All-cons, All-head, All-tail, All-map, All-weaker}

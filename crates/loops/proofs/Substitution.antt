@@ -3,6 +3,7 @@
 --   in_one_effect        the effects of a branch
 --   run_without, invariants_without     runs and invariants
 --   formed_without       well-formed programs
+--   map_store            the image of a state in which values are stored is the image with theirs stored
 use Rattle.std.proofs.Common.{◌≡◌, ◌↔◌, ◌≢◌, ℕ, zero, suc, ◌+◌, ◌<◌, pos, List, [], ◌∷◌, ◌++◌, map, get_or, set, take, replicate, length, arith, refl, sym, ap, ap₂, subst, ◌∙◌, Option, Some, None}
 use Rattle.std.specs.Prelude.{option_and_then, option_map}
 use Rattle.std.specs.List.{All}

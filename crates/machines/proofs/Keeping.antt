@@ -1,7 +1,7 @@
 -- What is kept of a list (machines/specs/Elimination), element by element.
 --   kept_none, kept_step_in, kept_step_out     so far: nothing, and one element more, which is kept or isn't
---   free_all, all_free_of     none of the first variables, in the words of poly and of machines
---   rest_made         an element without them
+--   free_all, all_free_of, not_free     none of the first variables, in the words of poly and of machines
+--   rest_made, rest_some     an element without them, which isn't 0
 use Rattle.std.proofs.Common.{◌≡◌, ◌≢◌, ◌↔◌, ℕ, ◌+◌, Bool, true, false, ◌&&◌, cond, List, [], ◌∷◌, ◌++◌, drop, take, replicate, refl, sym, ap, ap₂, ◌∙◌}
 use Rattle.std.proofs.lemmas.List.{append-nil}
 use Rattle.std.proofs.lemmas.Bool.{and_parts}

@@ -2,7 +2,7 @@
 --   Over O p q                   each term of p is above each of q
 --   polynomial_nil               no terms are the polynomial 0
 --   polynomial_one               a term that is not zero is a polynomial
---   polynomial_tail, head_X      what follows a term, and the term
+--   polynomial_tail      what follows a term is a polynomial;  head_nonzero, head_arity: the term isn't zero, and has an exponent for each variable
 --   polynomial_append            one polynomial over another
 --   polynomial_in                in an equal order
 use Rattle.algebra.specs.Each.{Each}

@@ -1,6 +1,7 @@
 -- A polynomial in two parts that is raised by a term (specs/Raised).
 --   exceeds_push               a term more that is above
 --   polynomial_front, polynomial_back     the parts are polynomials
+--   over_parts                 the first of two parts in descending order is above the second
 --   raised_less, raised_equal  by a term that is new; by one whose monomial is there
 --   raised_none                by zero
 --   like_number                the number of the term whose monomial is there

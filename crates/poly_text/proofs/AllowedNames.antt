@@ -2,6 +2,7 @@
 --   Allowed names refused i     the variable i has one of the names, and isn't refused
 --   look_allows                 a name in which nothing is wrong is allowed
 --   uses_apart                  what doesn't use the variable i uses others
+--   has_push                    a variable that isn't among some, and isn't one more, isn't among them all
 use Rattle.std.proofs.Common.{◌≡◌, ℕ, List, [], ◌∷◌, ◌++◌, refl, ◌∙◌, ◌≢◌, ◌<◌, Some, None, length, Bool, true, false, ◌||◌, ◌==◌, Option, unwrap_or, if◌then◌else◌}
 use Rattle.std.proofs.lemmas.List.Folds.{list_any-append}
 use Rattle.poly_text.specs.NameFaults.{has, look}

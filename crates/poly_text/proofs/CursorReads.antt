@@ -1,7 +1,8 @@
 -- What the token at a cursor makes of a grammar, over any language of texts.
 --   at_token       what holds whatever comes behind the token holds of what the cursor reads
+--   fault_at why at, here k      the fault why at an offset; the token of the cursor k, as texts have it
 --   sign_here      a sign is itself
---   genuine_X      what a cursor keeps of its lexeme
+--   genuine_name, genuine_number      a cursor's name is a plain word, and its number is below 2^127
 --   named_here, no_name_here    whether a cursor stands at a name; word_here: which one; behind_name: what stands behind it
 --   fault_in g c y      why the lexeme y is at fault by the token g in the context c; after g s x: the state behind the token x
 --   token_read          a token is taken; token_faulty: it is at fault; token_barred: it can't stand there

@@ -1,5 +1,6 @@
 -- Texts that bytes spell: those whose kinds run through the lexer's places up to the end.
---   Place              outside of guards, in a guard, behind the end; `moves` leads from one to the next by the kind of a lexeme
+--   Place: outside, guarded, behind      outside of guards, in a guard, behind the end; `moves` leads from one to the next by the kind of a lexeme
+--   alike              whether two places are the same
 --   texts_spelled      grammars that lead from outside to behind the end have such texts
 use Rattle.std.proofs.Common.{◌≡◌, ℕ, ◌^◌, List, [], ◌∷◌, ◌++◌, map, refl, subst, sym, ap, ap₂, ◌∙◌, Bool, true, false, not, ◌&&◌, ◌||◌, ◌==◌, nat_le, nat_lt, if◌then◌else◌, codes, decimal, Option, Some, None}
 use Rattle.std.proofs.lemmas.Bool.{and_parts, eqb-true, leb-true, ltb-true}

@@ -1,6 +1,7 @@
 -- From an offset to the token that stands there and those behind it.
 --   Ends ts, behind_ends     the end of a text is its last token, and no other
 --   tokens_from-at           the tokens from an offset on are the next one and those behind it; guard_from-at, guard_from-end: in a guard
+--   is_word-letter           a letter may stand in a word
 use Rattle.std.proofs.Common.{subst, ◌≢◌, ℕ, zero, suc, ◌-◌, List, [], ◌∷◌, Some, None, ◌≡◌, ◌+◌, ◌<◌, ◌≤◌, true, false, refl, sym, ap, ap₂, get_or, ◌∙◌, length, take, drop, arith, drop-drop, drop_of_length-le, Bool, not, ◌==◌, nat_lt, ◌^◌, Option, if◌then◌else◌, ◌||◌, take_while, slice_index}
 use Rattle.std.proofs.lemmas.List.Sums.{take_while-cons}
 use Rattle.std.proofs.lemmas.Bool.{cond_both, cond-true}

@@ -1,11 +1,13 @@
 -- Reading by any language of texts, equation by equation and part by part.
 --   going_on r f       the answer r, or where it reads up to some tokens, what comes next
---   reading_X          of a sequence, a rule, a change, one of two ways, one more or no more
+--   reading_sequence, reading_rule, reading_change     of a sequence, a rule, a change
+--   reading_left, reading_right, reading_more, reading_none     of the first or the second of two ways, of one more or no more
 --   IsFault e x        the error e says the fault x; want of memory says nothing
 --   fault_passes       what an error says of one answer it says of another
 --   then_on            what comes behind a first part that was read
 --   stopped            a fault of the first part
 --   in_parts           a sequence in a sequence
+--   in_first           a sequence whose first part is read as another
 --   continued, continued_going     what is read elsewhere
 --   GoesOn L g s ts h t us   reading g from the state s on is reading h from the state t on
 --   start, on                so it begins, and goes on behind a first part that was read; over: by what reads the same

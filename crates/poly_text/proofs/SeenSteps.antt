@@ -1,4 +1,6 @@
 -- One item more: the set of exponents tells whether a term has them already.
+--   stands-at          what the set answers says whether the exponents stand among those of the terms
+--   read-more          a term more whose exponents are new;  pushed_terms: the terms with one more
 use Rattle.std.proofs.Common.{◌≡◌, ◌≢◌, ℕ, ◌<◌, List, [], ◌∷◌, ◌++◌, ap, ap₂, sym, subst, ◌∙◌, length, get_or, true, false, arith, rules}
 use Rattle.std.specs.Prelude.{Bool, ◌||◌, not, cond, AllPairs}
 use Rattle.std.proofs.Math.Bool.{or-false, or-true, not-not}

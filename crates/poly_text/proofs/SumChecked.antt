@@ -1,4 +1,6 @@
 -- The grammar of sums is checked: the next token tells which way to go. Each text of a sum or an equation has the lexemes of some bytes.
+--   kinds_exact        the test whether two kinds are the same decides it
+--   sum_leads          the place where a sum ends by the one where it begins: it stands outside of guards alone
 use Rattle.std.proofs.Common.{ap, ◌≡◌, List, ◌∷◌, refl, true, false, Option, Some, None}
 use Rattle.std.proofs.lemmas.Bool.{eqb-true}
 use Rattle.algebra.proofs.Basics.{eqb_same}

@@ -2,7 +2,10 @@
 --   Fits used e          so it is of the sum e, where the variables used are noted
 --   Safe before s        so it is of each sum that waits in the state s; what was noted before is
 --   none_safe            of none
---   reading_safe         reading by a grammar that keeps this keeps it; rules do
+--   reading_safe         reading by a grammar that keeps this keeps it; rules_keep: the rules do
+--   number_fits          a number is a sum of this kind
+--   at_most              a number is at most its limit where that is no fault
+--   no_first, no_second  where neither of two faults comes, there is no first one, and no second
 use Rattle.std.proofs.Common.{◌≡◌, ◌≢◌, ℕ, suc, ◌+◌, ◌≤◌, List, [], ◌∷◌, refl, ap, sym, subst, ◌∙◌, ap₂, arith, Bool, true, false, pos, nat_le, ◌==◌, if◌then◌else◌, sum_by, Option, Some, None, unwrap_or, Ok, length, All}
 use Rattle.std.specs.Option.{option_map_or}
 use Rattle.std.proofs.Math.Nat.{max-le}

@@ -1,5 +1,6 @@
 -- The laws of whole texts in a language over lexemes, from those of all grammars.
 --   texts_read, texts_refused     what is read is a text, and what is refused is refused for its first fault
+--   Outcome: is_read, is_refused      a text is read, or it is refused
 --   outcome                       one of them comes: the end of a text is its last token, so reading never comes to an end before
 --   whole_told r      the answer r, if nothing is left behind it
 --   whole_reading     what is read by g and then by h, up to the end

@@ -2,6 +2,7 @@
 --   nothing_left, stuck_left, fresh_left     what is left of the row is nothing, begins with an entry without an inverse, or becomes a fresh row
 --   fresh_wide, rows_wide, added_as          the rows that the fresh one is taken from, and all together
 --   kept_added, either       the form after it, and whether the row counts
+--   residue_none             a residue that is a multiple of the modulus is 0
 use Rattle.std.proofs.Common.{◌≡◌, ℕ, ◌<◌, Result, Ok, Err, ℤ, pos, ◌*ℤ◌, List, [], ◌∷◌, ◌++◌, map, length, get_or, refl, sym, ap, subst, ◌∙◌}
 use Rattle.std.proofs.lemmas.List.{length-map, map-append}
 use Rattle.std.specs.List.{AllZip}

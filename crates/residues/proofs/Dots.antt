@@ -1,5 +1,7 @@
 -- Sums of products with rows modulo a number.
+--   dot_first, dot_zero     by the first entries;  of no entries: 0
 --   multiple_to, none_of, multiple_of     what is congruent to a multiple or to 0
+--   first_part           a number is a multiple where its sum with a multiple is one
 --   dot_blend            with a row that is congruent to a blend of two
 --   scatter              a vector with numbers at some places;  dot_scatter: with it, and with what is picked at these places
 --   spread               and with 1 in a column besides;  dot_spread

@@ -4,6 +4,9 @@
 --   rest_old             where the rows leave nothing of a row it is a combination
 --   fresh_new            where they leave a fresh one it is none
 --   fresh_more           and the form is then that of one row more
+--   form_own             the rows of an echelon form are the reduced echelon form of themselves
+--   combined             a vector that gives a multiple with each of some rows gives one with each of their combinations
+--   lows, ones           the leading columns are below the width, and the entries there are 1
 use Rattle.std.proofs.Common.{◌≡◌, ◌⊎◌, inl, inr, ℕ, ◌<◌, ◌≤◌, ℤ, pos, ◌+ℤ◌, ◌*ℤ◌, neg_ℤ, List, [], ◌∷◌, ◌++◌, map, length, refl, sym, subst, ◌∙◌, arith}
 use Rattle.std.specs.List.{AllZip}
 use Rattle.std.proofs.lemmas.Bool.{cases_lt}

@@ -1,5 +1,7 @@
 -- What echelon rows are in their leading columns, and what of the rows that they are of.
 --   small_multiple           a multiple of a number above it is 0;  one_is_none: 1 is none of a number from 2 on
+--   residue_at               an entry of a row of residues is the residue of the value at this monomial
+--   other_lead               a column where a row has a multiple of the modulus isn't its leading column
 --   picked_triangular        they are in echelon from the first place on
 --   picked_combinations      combinations stay so
 --   picked_samples           rows of values are values of the monomials of these columns

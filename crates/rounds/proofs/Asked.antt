@@ -1,5 +1,5 @@
 -- What is asked matters at the end alone: an analysis that has finished goes on with the division.
---   next_asked         what comes next, where p is asked for
+--   next_asked         what comes next, where p is asked for: goes_on of what comes next where nothing is
 --   run_asked          a run stays one
 --   finished_asked     where it has finished, the division of p comes next
 use Rattle.std.proofs.Common.{◌≡◌, ℕ, zero, suc, Bool, true, false, cond, ltb, ◌&&◌, List, [], ◌∷◌, length, refl, ap, ◌∙◌, Option, Some, None}

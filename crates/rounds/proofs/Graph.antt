@@ -1,5 +1,6 @@
 -- The graph of what was and what is gives an orbit by elimination: the law of a round where iterations can't be undone.
---   graph_gives_orbit
+--   graph_gives_orbit      what is left of the graph's list, where the numbers and copies in front are eliminated, is the orbit's
+--   each-take              a fact of each polynomial is one of the first ones
 use Rattle.std.proofs.Common.{◌≡◌, ℕ, zero, suc, ◌+◌, ◌<◌, List, [], ◌∷◌, ◌++◌, map, get_or, take, drop, replicate, length, arith, refl, sym, ap, ap₂, subst, ◌∙◌, All, append_assoc}
 use Rattle.std.proofs.lemmas.List.{length-map, length-append, map-append, drop_at, length-drop}
 use Rattle.std.proofs.lemmas.List.Elements.{All-head, All-tail}

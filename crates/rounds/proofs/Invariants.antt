@@ -6,6 +6,7 @@
 --   closed_list_is_valid           a closed list that is zero at starts, with its cofactors, is a valid certificate
 --   closed_list_has_certificate    and it has one
 --   reduced_decides                two programs with as many variables have the same reduced basis exactly where they have the same invariants
+--   reduced_for                    a reduced basis of a set is one of each set with the same polynomials
 use Rattle.std.proofs.Common.{◌≡◌, ℕ, zero, suc, ◌<◌, ◌≤◌, ◌+◌, ◌↔◌, ◌⊎◌, inl, inr, List, [], ◌∷◌, get_or, length, arith, refl, sym, ap, ap₂, ◌∙◌, subst}
 use Rattle.algebra.specs.Fraction.{Fraction, ℚ, rationals}
 use Rattle.polynomials.specs.Terms.{Terms, Same, combination}

@@ -1,6 +1,7 @@
 -- The points of a base are independent from any n on: what is a member of an ideal at each later point is one at each point.
 --   members_from           from some n on, and so at each n
 --   points_from_are_independent
+--   back-append            the numbers of a point at -n stand before its variables
 use Rattle.std.proofs.Common.{◌≡◌, ℕ, zero, suc, ◌+◌, pos, drop, List, [], ◌∷◌, ◌++◌, map, length, arith, sym, ap, ap₂, subst, ◌∙◌, All, append_assoc}
 use Rattle.std.proofs.lemmas.List.{map-append, drop_at, length-append, length-map}
 use Rattle.std.proofs.lemmas.List.Elements.{All-head, All-tail}

@@ -1,5 +1,6 @@
 -- What is known of an analysis by the layers below: no more is asked of them than what they prove.
 --   lawful                 the laws of the analysis of a program with its closed forms
+--   kept-nothing           where no variable is eliminated, all of a list is kept
 use Rattle.std.proofs.Common.{◌≡◌, ◌↔◌, ℕ, suc, ◌+◌, ◌<◌, true, cond, List, [], ◌∷◌, map, get_or, length, arith, refl, sym, ap, ap₂, subst, ◌∙◌, Option, zero-add}
 use Rattle.algebra.specs.Each.{Each}
 use Rattle.algebra.proofs.Each.{each-map, each_weaker}

@@ -1,6 +1,7 @@
 -- What an orbit's list generates, from elimination, the law that pulls back a form, and independence.
 --   value_turned           iterations of a branch, composed, are values after the iterations
 --   value_at_point         the value at a point is the value at it and the state
+--   form_at_point          a polynomial composed with the form is, at the point of n, the one after n iterations
 --   member_at_point        what is a member of the padded ideal is, at each point, one of the ideal
 --   orbit_of_form          the list is the orbit's
 --   eliminated_within      what is eliminated is in the ideal where the list is, at one point

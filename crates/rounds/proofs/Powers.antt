@@ -1,4 +1,5 @@
 -- A loop with the eigenvalues 2, 1/2 and -1, whole: vars x, y, z; init x=1, y=1, z=1; branch { x=2*x; y=y/2; z=-z; }
+--   powers                 the loop
 --   powers_form            its closed form over the base 2: u x, v y, s z
 --   powers_is_form         which it is
 --   powers_journal         its journal, which ends in round 1

@@ -1,6 +1,7 @@
 -- A form over any coprime base, whose values are those after n iterations, pulls back an orbit: the law of one round.
 --   form_of_closed        the values of the form after n iterations
 --   closed_form_pulls_back   p padded is in the ideal of the orbit's starting list exactly where p with the form for its variables is in the ideal padded, with the relations
+--   starting_polynomials  the elements of the starting list are polynomials
 use Rattle.std.proofs.Common.{◌≡◌, ℕ, suc, ◌+◌, ◌<◌, pos, List, [], ◌∷◌, ◌++◌, map, get_or, take, drop, length, arith, refl, sym, ap, ap₂, subst, ◌∙◌, All, length-take, append_assoc}
 use Rattle.std.proofs.lemmas.List.{get_or-map, length-map, length-append, map-append, take_at, drop_at}
 use Rattle.std.proofs.lemmas.List.Elements.{All-head, All-tail}

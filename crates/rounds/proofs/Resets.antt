@@ -1,4 +1,5 @@
 -- A loop that overwrites, whole: vars x; init x=5; branch { x=3; }
+--   resets                the loop
 --   reset_form            the closed form 3, from one iteration on
 --   resets_journal        the journal, which meets the start with what is after an iteration
 --   resets_finished       and ends in round 1 with x^2 - 8 x + 15

@@ -7,6 +7,7 @@
 --   closed_generates     a closed round generates what stays in every word
 --   all_is_closed        a list of a level that is all is closed
 --   round_is_least       the level before isn't all
+--   level_of_every       what stays in every word stays in those of a level
 use Rattle.std.proofs.Common.{◌≡◌, ℕ, ◌<◌, ◌≤◌, ◌⊎◌, inl, inr, List, [], ◌∷◌, ◌++◌, replicate, get_or, length, arith, sym, subst, All}
 use Rattle.std.proofs.lemmas.List.Elements.{All-nil, All-cons, All-head, All-tail, All-append}
 use Rattle.algebra.specs.Fraction.{Fraction, ℚ}

@@ -1,8 +1,8 @@
 -- A loop whose only eigenvalue is 1, whole: vars a, s, t; init a=0, s=1, t=1; branch { a=a+1; t=t+2; s=s+t; }
 --   squares_form           its closed form: a + n, s + n t + n^2 + n, t + 2 n
---   squares_is_form        which it is
 --   squares_journal        its journal, which ends in round 1
---   squares_finished       with a - t/2 + 1/2 and t^2 - 4 s + 2 t + 1
+--   squares_is_form, squares_are_forms     which it is
+--   squares_finished       with squares_basis: a - t/2 + 1/2 and t^2 - 4 s + 2 t + 1
 use Rattle.std.proofs.Common.{◌≡◌, inl, inr, ℕ, zero, suc, ◌<◌, ◌≤◌, pos, negsuc, List, [], ◌∷◌, length, get_or, refl, sym, ap, ap₂, subst, ◌∙◌, arith, None}
 use Rattle.algebra.specs.Arithmetic.{power}
 use Rattle.algebra.specs.Each.{Each}

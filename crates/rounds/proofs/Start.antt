@@ -1,6 +1,8 @@
 -- The start list generates the polynomials that are zero at every start.
 --   passes_start            what is zero at each start is, composed with the start map, zero
 --   start_list_generates    the members of the start list's ideal are what is zero at each start
+--   start_list_arity        the start list has polynomials in the program's variables
+--   zero_member             what is zero at each start is in its ideal
 use Rattle.std.proofs.Common.{◌≡◌, ℕ, zero, suc, ◌<◌, ◌⊎◌, inl, inr, Bool, true, false, cond, eqb, List, [], ◌∷◌, ◌++◌, map, get_or, set, length, arith, refl, sym, ap, ap₂, subst, ◌∙◌, All, filter}
 use Rattle.std.specs.List.{AllZip}
 use Rattle.std.proofs.lemmas.Bool.{eq-eqb}

@@ -3,7 +3,9 @@
 --   lists_from_are_bases  from a list, of what the loop keeps of its ideal along the words of their tasks
 --   begins_at_starts, begins_at_list      what an analysis begins with generates what is zero at starts, or the ideal of the list that is given
 --   finished_from         a finished journal from a list ends with the list of a closed round that is the reduced basis of what is kept
+--   finished_from_generates      and generates it
 --   finished_is           a finished journal ends with the list of a closed round that is the reduced basis of the invariants
+--   finished_generates    and generates them
 --   answered_is, answered_decides_all     so does an answered one, whose division decides
 --   same_basis_same       two finished journals have one basis exactly where their programs have the same invariants
 use Rattle.std.proofs.Common.{◌≡◌, ◌↔◌, ℕ, ◌<◌, List, length, sym, ap, subst, refl, Option, Some, None}

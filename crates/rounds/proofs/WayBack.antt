@@ -1,8 +1,9 @@
 -- A closed form from some number of iterations on tells what the variables were: those that are themselves at n = 0 by the inverse form, the others by their copies.
---   before_values        what was, from values place by place
+--   before_values        what was, from values place by place;  before_arity: as polynomials in the variables of the form and the copies
 --   form_before_is       with the inverse form, from `since` iterations on
 --   relations_are_wide   the relations, with the copies behind them
 --   late_orbit       so its graph gives the orbit from there on
+--   widened_arity, widened_value      a polynomial with room for the copies, and its values
 use Rattle.std.proofs.Common.{◌≡◌, ℕ, zero, suc, ◌+◌, ◌<◌, ◌≤◌, Bool, true, false, cond, List, [], ◌∷◌, ◌++◌, map, get_or, take, drop, length, arith, refl, sym, ap, ap₂, subst, ◌∙◌, All, drop-cons, append_assoc}
 use Rattle.std.proofs.lemmas.List.{length-map, length-append, get_or-map, get_or_append_left, get_or-append-add, get_or-take, drop_at}
 use Rattle.algebra.specs.Each.{Each}

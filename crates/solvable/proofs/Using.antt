@@ -1,4 +1,7 @@
 -- The variables that the polynomials of a map use, by their terms.
+--   FracPoly, length_each, arity_at      a polynomial as the code has it; as many lists of terms as polynomials; the number of variables of one of them
+--   is_map, poly_at-is     the lists of terms are a map; one of them is the terms of the polynomial at this place
+--   to_false               a test that isn't met is false
 use Rattle.std.proofs.Common.{◌≡◌, ◌⊎◌, inl, inr, ◌<◌, ◌≤◌, ℕ, zero, suc, ◌+◌, Option, Some, None, Vec, Global, Bool, true, false, List, [], ◌∷◌, ◌&&◌, ◌||◌, map, length, get_or, drop, sum, All, T, ltb, lt→ltb, ltb→lt, refl, sym, ap, ap₂, subst, ◌∙◌, arith, drop-cons, add-one}
 use mathlib.Core.Path.{fun_ext}
 use Rattle.std.proofs.lemmas.Bool.{cases_lt}

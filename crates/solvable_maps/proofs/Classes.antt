@@ -1,8 +1,8 @@
 -- The order of the classes: while some variable is left, one is ready, and there is exactly one list.
---   reaches_dec          reaching is decided
+--   reaches_dec, member_dec     reaching is decided, and so is membership in a list;  reached_within: what reaches and what is reached are below m
 --   some_ready           while a variable below m is not among the earlier ones, some variable is ready
 --   next_one             the first that is ready is one
---   class_one            a class is one ascending list
+--   class_one            a class is one ascending list;  same_ascending: ascending lists with the same members are one
 --   classes_one          the list of classes is one
 use Rattle.std.proofs.Common.{◌≡◌, ◌⊎◌, inl, inr, ℕ, zero, suc, ◌<◌, ◌≤◌, List, [], ◌∷◌, ◌++◌, Bool, true, false, T, eqb, eqb→eq, refl, sym, ap, ap₂, subst, arith}
 use lib.Dec.{eqb_refl}

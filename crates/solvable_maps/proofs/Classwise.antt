@@ -4,7 +4,8 @@
 --   later_turned, later_form    what is known from some number of iterations on is known from later on
 --   form_base                   the base of the values of all classes' forms
 --   whole_more, next_apart      earlier classes are whole, so the next one has none of their variables
---   class_few, class_some       a class has some variables, and at most all
+--   class_few, class_some       a class has some variables, and at most all;  class_shared: classes that share a variable are one
+--   next_is_class               the class of the variable that comes next is one
 use Rattle.std.proofs.Common.{◌≡◌, ◌≢◌, inl, inr, ℕ, List, [], ◌∷◌, ◌++◌, length, refl, sym, subst, ◌∙◌, arith, Bool, ◌+◌, ◌≤◌, ◌<◌, suc}
 use Rattle.std.proofs.lemmas.Bool.{cases_lt}
 use Rattle.std.proofs.lemmas.List.{length-map}

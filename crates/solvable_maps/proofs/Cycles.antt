@@ -1,6 +1,7 @@
 -- The least cycle: walks of a given length as a test, no cycle needs more steps than there are variables, and the choice place by place.
 --   any_below m test         some number below m passes the test
 --   walk uses m k i j        a walk of just k steps leads from i to j, as a test; walk_out, walk_in: that it is one
+--   Once xs                  xs has no number twice;  once_short: of numbers below m it has at most m
 --   simple_walk              a walk can be had that meets no variable twice
 --   short_cycle              where there is a cycle there is one of at most m steps
 --   IsLeastWalk              the least walk of k steps

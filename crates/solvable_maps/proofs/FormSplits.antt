@@ -1,6 +1,7 @@
 -- The image of a form, by the inverse of the matrix of forms.
 --   solved_by       a row is made of the forms, with its product with the inverse as its coefficients
 --   form_splits     a form times the matrix is its value times it, and of the forms before it what these coefficients say
+--   forms_inverse   behind the identity in the echelon list stands the inverse of the matrix of forms
 use Rattle.std.proofs.Common.{◌≡◌, ℕ, zero, suc, ◌+◌, ◌<◌, List, [], ◌∷◌, ◌++◌, map, drop, length, refl, sym, ap, ap₂, subst, ◌∙◌, arith}
 use Rattle.algebra.specs.Ring.{Field}
 use Rattle.algebra.proofs.RingLaws as L

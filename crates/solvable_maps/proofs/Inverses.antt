@@ -1,5 +1,6 @@
 -- The inverse of a matrix of independent forms stands behind the identity in the echelon list of the forms beside the identity.
 --   inverse_is        the law
+--   unit-length, unit-own, unit-other      a row of the identity: its length, its 1 and its zeros
 use Rattle.std.proofs.Common.{◌≡◌, ◌≢◌, inl, inr, ℕ, zero, suc, ◌+◌, ◌-◌, ◌<◌, ◌≤◌, List, [], ◌∷◌, ◌++◌, map, drop, length, replicate, refl, sym, ap, ap₂, subst, ◌∙◌, arith}
 use Rattle.std.proofs.lemmas.Bool.{cases_lt}
 use Rattle.std.proofs.lemmas.List.{length-map, length-drop, length-replicate}

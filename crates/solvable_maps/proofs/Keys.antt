@@ -1,5 +1,6 @@
 -- The exponents of s, u and v of a normal monomial are those of the n-th power of a number.
 --   key_is_power           the law
+--   differences-length     the exponents of u less those of v are as many as the base has numbers
 use Rattle.std.proofs.Common.{◌≡◌, ◌⊎◌, inl, inr, ◌<◌, ℕ, zero, suc, ℤ, pos, negsuc, ◌-ℤ◌, Bool, cond, eqb, List, [], ◌∷◌, map, length, refl, sym, ap, ap₂, arith}
 use borrow.Author.Differences.{ints}
 use Rattle.exponentials.specs.Base.{Disjoint, SameLength}

@@ -2,6 +2,7 @@
 --   map_bounded           only variables of the map are used
 --   strongly_uses         what is used strongly is used
 --   own_is_unit           a monomial of f_i with a variable j of i's class is that variable
+--   degree_one            a monomial of degree 1 with a variable is that variable;  exponent_degree: an exponent is at most the degree
 use Rattle.std.proofs.Common.{◌≡◌, inl, inr, ℕ, zero, suc, ◌<◌, ◌≤◌, List, [], ◌∷◌, length, replicate, Bool, true, false, T, ltb, refl, sym, ap, ap₂, subst, ◌∙◌, arith, lt→ltb, ltb→lt}
 use Rattle.algebra.specs.Each.{Each}
 use Rattle.polynomials.specs.Terms.{Terms}

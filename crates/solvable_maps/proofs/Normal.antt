@@ -2,11 +2,12 @@
 --   Stays r e, AllStay r p      the exponents, and those of each term, are their own normal exponents
 --   stay_kept, kept_stay        those of each term are exactly where the polynomial is its own normal one
 --   exponents_stay              those put together of a normal key
---   key_normal                  those that stay have a normal key;  stay_normal: of a polynomial
+--   key_normal                  those that stay have a normal key;  stay_normal: of a polynomial;  power_key_normal: the key of a power is normal
 --   normal_stay, turned_stay, power_stay      normal polynomials; turned ones; the terms of a power
 --   collect_each, collect_stay  like terms collected
 --   normalized-push, turned-push     one term more
 --   normal-length               as many exponents
+--   fits_map                    as many images as the base has numbers
 use Rattle.std.proofs.Common.{◌≡◌, ◌⊎◌, inl, inr, ℕ, zero, suc, ◌-◌, ◌<◌, ℤ, pos, negsuc, Bool, true, false, cond, List, [], ◌∷◌, ◌++◌, map, length, replicate, refl, sym, ap, ap₂, subst, ◌∙◌, arith, Ordering, Less, Equal, Greater}
 use Rattle.algebra.specs.Each.{Each}
 use Rattle.algebra.specs.Fraction.{Fraction, ℚ, rationals}

@@ -3,6 +3,7 @@
 --   closed_form_is              a closed form is a form over the field
 --   one_form                    normal polynomials with the same values are one
 --   at_iteration-is, members_of_parts     independence: an ideal given by a list that has the value at each n has each part
+--   parts_vanish                where a normal polynomial is zero at each n, so is each of its parts
 use Rattle.std.proofs.Common.{◌≡◌, ℕ, negsuc, List, [], ◌∷◌, ◌++◌, map, length, refl, sym, ap, ap₂, subst, ◌∙◌, append_assoc}
 use mathlib.Core.Path.{fun_ext}
 use Rattle.exponentials.specs.Base.{Coprime}

@@ -1,5 +1,5 @@
 -- A map has one closed form, from whatever number of iterations on, and the form made backward gives back what it is at 0.
---   next_back_value, back_point_zero     one more at -n - 1 is -n, and -0 is 0
+--   next_back_value, back_point_zero     one more at -n - 1 is -n, and -0 is 0;  next_images-is: the images for one more are those over the field
 --   before-value           what is made with one less for n
 --   all_values             polynomials with the same values from some n on have them at each n
 --   forms_one              two closed forms of one map are one, whatever they hold from

@@ -1,8 +1,9 @@
 -- The operations on polynomials in n, s, u, v and variables, by their values.
 --   key_with, tail_with     the parts of exponents put together
---   normalized-value, normalized-normal     s s and u v replaced by 1
---   turned-value            -n for n, with u and v exchanged
+--   normalized-value, normal-value, normalized-normal     s s and u v replaced by 1
+--   turned-value, turned_value, back-value     -n for n, with u and v exchanged
 --   next-value, zero-value, iteration-value      one more for n, 0 for n, and n for n
+--   point-append            the numbers of a point stand before the variables
 use Rattle.std.proofs.lemmas.List.{length-map, map-append, append_assoc}
 use Rattle.std.proofs.Common.{◌≡◌, ℕ, zero, suc, pos, List, [], ◌∷◌, ◌++◌, map, length, take, drop, replicate, negsuc, refl, sym, ap, ap₂, subst, ◌∙◌, arith}
 use mathlib.Core.Path.{fun_ext}

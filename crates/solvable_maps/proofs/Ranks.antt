@@ -1,5 +1,5 @@
 -- There is no cycle exactly where there are ranks.
---   count m test        how many numbers below m pass the test
+--   count m test        how many numbers below m pass the test;  count_less: fewer than pass a weaker one that some number passes besides
 --   ranks_no_cycle      where there are ranks there is no cycle
 --   size uses m i       how many variables i is or reaches: the ranks where there is no cycle
 use Rattle.std.proofs.Common.{◌≡◌, ◌⊎◌, inl, inr, ℕ, zero, suc, ◌+◌, ◌<◌, ◌≤◌, List, [], ◌∷◌, Bool, true, false, T, cond, eqb, eqb→eq, ◌||◌, sym, ap, subst, arith}

@@ -1,6 +1,7 @@
 -- Reaching, decided: a walk between two variables is found through more and more variables in between.
 --   reach_walk             where the test says so there is a walk
 --   reach_all              and where all variables are below m, each walk is found
+--   or_left, or_right, or_out      of two tests one is met exactly where one or the other is
 use Rattle.std.proofs.Common.{◌≡◌, ◌⊎◌, inl, inr, ℕ, zero, suc, ◌<◌, List, [], ◌∷◌, ◌++◌, Bool, true, false, T, ◌||◌, ◌&&◌, refl, sym, subst, ◌∙◌, arith}
 use Rattle.std.proofs.lemmas.Bool.{cases_lt}
 use Rattle.algebra.proofs.Basics.{both_in, both_out}

@@ -5,6 +5,7 @@
 --   IsSolved l q           a polynomial that is at n + 1 l times itself at n, and q at n
 --   solved                 there is one for each q
 --   with_value             and where l is a number of s, u and v, one with any value at some n
+--   lengths_agree          exponents that are as long as the base are as many as its numbers
 use Rattle.std.proofs.Common.{◌≡◌, ◌≢◌, ℕ, zero, suc, List, [], ◌∷◌, ◌++◌, ◌-◌, map, length, drop, replicate, refl, sym, ap, ap₂, ◌∙◌, arith}
 use Rattle.std.proofs.lemmas.List.{length-append, length-drop, length-replicate}
 use Rattle.algebra.specs.Arithmetic.{power}

@@ -3,6 +3,7 @@
 --   recurrence_same       of another polynomial with the same values
 --   term_solved           a term's solution: that of its powers of n and of a number, times its number and its variables
 --   growing_solved        a number's n-th power times a form of variables, which needs no inhomogeneity
+--   no_value, one_value, term_value     the value of no term, of one, and of one by its powers of n and of a number
 use Rattle.std.proofs.Common.{◌≡◌, ℕ, zero, suc, ℤ, pos, Bool, false, List, [], ◌∷◌, ◌++◌, map, length, replicate, refl, sym, ap, ap₂, ◌∙◌}
 use Rattle.algebra.specs.Arithmetic.{power}
 use Rattle.algebra.specs.Ring.{CommRing, operations, of_nat}

@@ -1,6 +1,7 @@
 -- A normal polynomial at n + 1 is normal: each of its terms has the exponents of s, u, v and the variables of a term at n.
 --   HasRest a p, AllRest us ps     each term of p has the exponents a behind the first; each polynomial has those at its place
 --   next_rest                      those of n + 1, -s, b u, v / b and the variables are those of the variables
+--   arity-next                     these are polynomials in all of them
 --   compose_stay                   the theorem
 use Rattle.std.proofs.Common.{◌≡◌, ◌<◌, ℕ, zero, suc, pos, ◌+◌, List, [], ◌∷◌, map, length, replicate, refl, sym, ap, ap₂, subst, ◌∙◌, arith}
 use Rattle.algebra.specs.Arithmetic.{Arithmetic, power}

@@ -1,5 +1,5 @@
 -- The value of a list of terms at a point n, s, u, v and variables, and what agrees at each natural n.
---   values f s, iterations f n s     the values of polynomials, and n iterations
+--   values f s, iterations f n s     the values of polynomials, and n iterations;  iterations-length: which are as many
 --   natural bs n s          the point of a natural n
 --   value_kept              values keep sums, products and opposites
 --   at-length               how long a point is

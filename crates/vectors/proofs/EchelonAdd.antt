@@ -1,4 +1,6 @@
 -- Adding a row to a reduced echelon list, and listing its free columns.
+--   First n v       v's first entry that isn't zero, below n
+--   leads_at-out    a column is free where leads_at fails; free_columns: free_from lists the free columns in order
 use Rattle.std.proofs.Common.{◌≡◌, ◌≢◌, ◌⊎◌, inl, inr, ℕ, zero, suc, ◌+◌, ◌<◌, ◌≤◌, List, [], ◌∷◌, true, false, cond, T, ltb, eqb, ◌||◌, ltb→lt, lt→ltb, eqb→eq, refl, sym, ap, subst, ◌∙◌, arith}
 use mathlib.Core.Path.{fun_ext}
 use lib.Dec.{eqb_refl}

@@ -1,4 +1,9 @@
 -- The kernel of a reduced echelon list has one basis vector for each column in which no row leads.
+--   same_or_not      two natural numbers are the same or not
+--   total_same, total-add, total-mul, total_swap     sums of the same numbers, of sums, of multiples, and of sums in either order
+--   total-none, total-single     a sum of zeros, and one with a single number that may not be zero
+--   kernel_in, kernel_out     the combinations of the vectors of the free columns are exactly the rows of width n in the kernel
+--   kernel_vector-is     kernel_vector gives the vector of a free column
 use Rattle.std.proofs.Common.{◌≡◌, ◌≢◌, ◌⊎◌, inl, inr, ℕ, zero, suc, ◌<◌, ◌≤◌, List, [], ◌∷◌, cond, eqb, refl, sym, ap, ap₂, subst, ◌∙◌, arith}
 use mathlib.Core.Path.{fun_ext}
 use Rattle.std.proofs.lemmas.Bool.{cases_lt, ne_eqb}

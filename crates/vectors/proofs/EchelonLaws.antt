@@ -1,4 +1,6 @@
 -- A reduced echelon list is determined by its combinations, and reducing by it decides what is one.
+--   member-in, member-out     a row is a combination exactly where reducing it leaves zero
+--   same_pivots      two reduced lists, each of combinations of the other, are one
 use Rattle.std.proofs.Common.{◌≡◌, inl, inr, ℕ, suc, ◌<◌, ◌≤◌, List, [], ◌∷◌, refl, sym, ap, ap₂, subst, ◌∙◌, arith}
 use mathlib.Core.Path.{fun_ext}
 use Rattle.std.proofs.lemmas.Bool.{cases_lt}

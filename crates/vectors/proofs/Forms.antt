@@ -1,4 +1,8 @@
 -- The forms of one value, level by level of the kernels of powers.
+--   combination-left, combination-right     a combination of one of two lists is one of both
+--   level_none       there is no form at the power 0
+--   not_grown        where the next power kills no more vectors than this one, no later power does
+--   push_none, push_skip, push_more, push_end     a search through the next kernel: at its start; past a combination; with a new form; at its end
 use Rattle.std.proofs.Common.{◌≡◌, ℕ, zero, suc, ◌+◌, List, [], ◌∷◌, ◌++◌, length, append_assoc, sym, ap, subst, ◌∙◌, arith}
 use Rattle.algebra.specs.Ring.{Field}
 use Rattle.algebra.proofs.FieldLaws as FL

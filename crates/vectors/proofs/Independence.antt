@@ -1,4 +1,6 @@
 -- Independent lists, and that a list longer than what it is made of is dependent.
+--   independent-length     an independent list of combinations of us is no longer than us
+--   independent-all        where it is as long, each combination of us is one of it
 use Rattle.std.proofs.Common.{◌≡◌, ◌≢◌, ◌⊎◌, inl, inr, ℕ, zero, suc, ◌<◌, ◌≤◌, List, [], ◌∷◌, length, refl, sym, ap, ap₂, subst, ◌∙◌, arith}
 use Rattle.std.proofs.lemmas.Bool.{cases_lt}
 use Rattle.algebra.specs.Ring.{CommRing, Field}

@@ -1,4 +1,6 @@
 -- Entries of lists: past the length they are zero, and lists of one length with the same entries are the same.
+--   entries-past, same_entries     these two
+--   below-entry      below F n v has v's entries below n; below-same: it is v where v is zero from n on
 use Rattle.std.proofs.Common.{◌≡◌, ℕ, zero, suc, ◌<◌, ◌≤◌, List, [], ◌∷◌, length, refl, sym, ap₂, arith}
 use Rattle.algebra.specs.Ring.{Field}
 use Rattle.vectors.specs.Lists.{entries, below}

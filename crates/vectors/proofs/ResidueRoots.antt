@@ -1,7 +1,10 @@
 -- A matrix's polynomial at its eigenvalues, and eigenvectors of whole numbers by what they leave.
 --   total-on_diagonal      y times c on the diagonal
+--   IsNext n N c M M'      M' is M N + c; IsEigenvector n y M s: y times M is s times y
 --   eigenvector_next             where y times M is s times y, y times (M B + c) is s p + c times y, for y times B = p times y
 --   eigenvector_none, eigenvector_zero   so does the matrix of zeros with s = 0, and with no other s
+--   whole_at rows i j      an entry of a matrix of whole numbers; total-of_int: a row times the matrix, in the field
+--   KillsNone n rows       the matrix kills no vector but zero
 --   leaves_none            where a matrix of whole numbers kills no vector of residues, it kills none of whole numbers
 use Rattle.std.proofs.Common.{◌≡◌, ◌≢◌, inl, inr, ℕ, zero, suc, ◌*◌, ◌<◌, ◌≤◌, ℤ, pos, ◌*ℤ◌, cond, eqb, List, [], ◌∷◌, length, get_or, refl, sym, ap, ap₂, subst, ◌∙◌, arith}
 use mathlib.Core.Path.{fun_ext}

@@ -1,4 +1,9 @@
 -- The search goes through the candidates, and takes the forms of each, level by level.
+--   SearchedTo Done forms     the candidates p of Done, as p over d, are done: the forms make all that a power of M less one of them kills
+--   Below b m p      p isn't zero, has an absolute value of at most b, and is below m; Within b p: its absolute value is at most b
+--   below_more, below_next     what is below p is below p + 1, and so is p
+--   search_first, search_next     nothing is below -b; after the candidate p those below p + 1 are done
+--   search_zero, search_last     0 is passed over; it comes last
 use Rattle.std.proofs.lemmas.List.{append-nil}
 use Rattle.std.proofs.Common.{◌≡◌, ◌≢◌, ◌⊎◌, inl, inr, nat_abs, ℕ, suc, ◌+◌, ◌-◌, ◌<◌, ◌≤◌, ℤ, pos, negsuc, zero, List, [], ◌∷◌, ◌++◌, length, refl, sym, ap, subst, ◌∙◌, arith, ◌+ℤ◌, neg_ℤ}
 use Rattle.algebra.specs.Ring.{CommRing, Field}

@@ -1,4 +1,6 @@
 -- Where the product of the M - c is zero, the forms found make everything.
+--   shift-linear     multiplication by M - c is linear; shifted_comm: M - d and a power of M - c commute
+--   killed-more      what a power of M - c kills, the next power kills
 use Rattle.std.proofs.Common.{◌≡◌, ◌≢◌, ℕ, zero, suc, List, [], ◌∷◌, refl, sym, ap, ap₂, subst, ◌∙◌}
 use Rattle.algebra.specs.Ring.{CommRing, Field}
 use Rattle.algebra.proofs.RingLaws as L

@@ -1,4 +1,6 @@
 -- Where a matrix of whole numbers has an eigenvalue that is a fraction, it is a whole number, and no column sum is below all of it.
+--   times_int y rows     y times a matrix of whole numbers
+--   nat_abs-add          the absolute value of a sum is at most the sum of the absolute values
 use Rattle.std.proofs.Common.{◌≡◌, ◌≢◌, inl, inr, ℕ, zero, suc, ◌+◌, ◌*◌, ◌<◌, ◌≤◌, ℤ, pos, negsuc, ◌+ℤ◌, ◌*ℤ◌, List, [], ◌∷◌, length, refl, sym, ap, subst, ◌∙◌, arith}
 use mathlib.Core.Path.{fun_ext}
 use Prim.Native.Nat.{◌∣◌}
