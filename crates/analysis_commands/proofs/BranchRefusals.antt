@@ -1,17 +1,16 @@
 -- The first branch that has no closed form, and why, is one.
---   map_not_both          a map isn't both too long and short;  long_one: its first class that is too long is one
+--   map_not_both          a map isn't both too long and short
 --   class_fails           a class that is told of doesn't pass;  no_form: its branch has no closed form
 --   class_one             two classes that are told of are one
 --   refusal_one           another refusal of the branch is that one, or a number that doesn't fit
 --   some_told             what an error tells
-use Rattle.std.proofs.Common.{◌≡◌, inl, inr, ℕ, ℤ, pos, List, [], ◌∷◌, length, replicate, refl, sym, ap, ap₂, subst, ◌∙◌, arith}
+use Rattle.std.proofs.Common.{◌≡◌, inl, inr, ℕ, ℤ, pos, List, length, refl, sym, ap, ap₂, subst, ◌∙◌, arith}
 use Rattle.std.specs.Prelude.{◌⊎◌, Option, Some, None, IsSomeAnd}
 use Rattle.std.proofs.lemmas.Bool.{cases_lt}
 use Rattle.algebra.specs.Fraction.{Fraction}
 use Rattle.polynomials.specs.Terms.{Terms}
 use Rattle.solvable_maps.specs.Dependency.{IsNonlinearCycle, IsLeastCycle}
 use Rattle.solvable_maps.specs.Uses.{uses, strongly, IsMap}
-use Rattle.solvable_maps.proofs.Classes.{classes_one}
 use Rattle.solvable_maps.proofs.Cycles.{cycle_one}
 use Rattle.vectors.specs.Matrices.{greatest_sum}
 use Rattle.vectors.specs.Causes.{IsTooWide}
@@ -23,9 +22,9 @@ use Rattle.rounds.proofs.BranchMaps.{branch_is_map}
 use Rattle.eigen_split.specs.Refusal.{IsPastRow}
 use Rattle.eigen_split.specs.declared.EigenError.TheVariants as eigen_error
 use Rattle.closed_forms.specs.Refusal.{Refusal, not_solvable, eigenvalues, range, wide_split, limit_form, wide_form, IsTooLong, IfFormRefused}
-use Rattle.closed_forms.specs.Lengths.{with_class, IsLongAmong, IsLong, IsShort}
+use Rattle.closed_forms.specs.Lengths.{IsLong, IsShort}
 use Rattle.closed_forms.specs.Splits.{IfRefusedMatrix}
-use Rattle.closed_forms.proofs.LengthLaws.{long_or_short}
+use Rattle.closed_forms.proofs.LengthLaws.{long_one, long_or_short}
 use Rattle.closed_forms.proofs.Splitting.{same_first}
 use Rattle.invariant_fix.specs.Refusals.{HasForm}
 use Rattle.io_edge.specs.declared.answer.Status.TheVariants as status
@@ -37,25 +36,6 @@ pub map_not_both : (images : List (Terms Fraction)) → IsMap (length images) im
     → IsLong images v → IsShort images → ⊥
 map_not_both images is v long short =
     long_or_short images (map_bounded (length images) images is) v long short
-
-among_same : (images : List (Terms Fraction)) (groups : List (List ℕ)) (ns : List ℕ) (v w : ℕ)
-    → IsLongAmong images groups ns v → IsLongAmong images groups ns w → v ≡ w
-among_same images [] ns v w h k = absurd h
-among_same images (g ∷ groups) ns v w (inl h) (inl k) = sym h.0 ∙ k.0
-among_same images (g ∷ groups) ns v w (inl h) (inr k) =
-    absurd (let more = h.1 in let few = k.0 in omega (arith, more, few))
-among_same images (g ∷ groups) ns v w (inr h) (inl k) =
-    absurd (let more = k.1 in let few = h.0 in omega (arith, more, few))
-among_same images (g ∷ groups) ns v w (inr h) (inr k) =
-    among_same images groups (with_class images g ns) v w h.1 k.1
-
-long_one : (images : List (Terms Fraction)) → IsMap (length images) images → (v w : ℕ)
-    → IsLong images v → IsLong images w → v ≡ w
-long_one images is v w l k =
-    among_same images l.groups (replicate (length images) 1) v w l.long
-    (subst (λ gs. IsLongAmong images gs (replicate (length images) 1) w)
-    (classes_one (uses images) (length images) (map_bounded (length images) images is) k.groups
-    l.groups [] k.are l.are) k.long)
 
 -- ---- refusals of one map
 module _ (images : List (Terms Fraction)) where
@@ -180,7 +160,7 @@ module _ (images : List (Terms Fraction)) (is : IsMap (length images) images) wh
   same_long v (wide_split class candidate power row) exact r h =
       absurd (wide_fails images class candidate power row exact r.1 (h.pass class r.0.is))
   same_long v (limit_form other) exact r h =
-      ap limit_form (long_one images is v other h.long r.long)
+      ap limit_form (long_one images (map_bounded (length images) images is) v other h.long r.long)
   same_long v (wide_form other) exact r h = absurd exact
 
   pub refusal_one : (r' r : Refusal) → IsExact r → IfFormRefused images r → IfFormRefused images r'

@@ -1,7 +1,7 @@
 -- The closed form of a map from what its calls give.
 --   form_base_is                     the base of the values of the classes' forms, but zero, is the map's
 --   all_pass                         no class is refused
---   of_class, later_class, later_iteration, later_state, memory_later, out_of_memory, refused_first, refused_later     what a refusal tells;  is_too_long: that a class is too long
+--   of_class, later_class, later_iteration, later_state, refused_on, refused_first, refused_later     what a refusal tells;  is_too_long: that a class is too long
 --   closed_is, closed_count          the polynomials are a closed form, as many as variables;  normal_in, told_in, passes_in, over_in, count_in, few_in: what is told of it, with the map's polynomials as the code has them
 use Rattle.std.proofs.Common.{◌≡◌, inl, inr, ◌<◌, ◌≤◌, ℕ, zero, suc, List, [], ◌∷◌, length, replicate, get_or, All, Option, Some, None, Result, Ok, Err, refl, sym, ap, ap₂, subst, ◌∙◌, arith}
 use Rattle.std.specs.Prelude.{MatchOption}
@@ -140,13 +140,10 @@ module _ (images : List (Terms Fraction)) (base : List ℕ) (b : IsFormBase imag
   pub later_state : IsPastState images z → IsLater images 0
   later_state h = later_of 0 (state_past refl h)
 
-pub memory_later : (images : List (Terms Fraction)) (e : FormsError) → e ≡ Memory → IfLater images e
-memory_later images e h = subst (IfLater images) (sym h) tt
-
-pub out_of_memory : {A : Type 0} (images : List (Terms Fraction)) (r : Result A FormsError)
-    → IsErrAnd r (λ e. e ≡ Memory) → IfErr r (IfLater images)
-out_of_memory images (Ok x) h = tt
-out_of_memory images (Err e) h = memory_later images e h
+pub refused_on : {A : Type 0} (P : FormsError → Type 0) (e : FormsError) (r : Result A FormsError)
+    → IsErrAnd r (λ f. f ≡ e) → P e → IfErr r P
+refused_on P e (Ok x) h p = tt
+refused_on P e (Err f) h p = subst P (sym h) p
 
 pub refused_first : (images : List (Terms Fraction)) (e : FormsError)
     → IfRefusedAt images (IsReachedClass images) e → IfRefusedBy images e

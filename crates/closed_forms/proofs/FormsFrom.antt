@@ -17,7 +17,7 @@ use Rattle.closed_forms.specs.Later.{Ahead, IsOneLater, IsFormFrom, IsPastFrom, 
 use Rattle.closed_forms.specs.Solved.{IsPastSolved}
 use Rattle.closed_forms.specs.Values.{IsExpoOver}
 
-module _ (base : List ℕ) (m : ℕ) (inhomogeneity : Expo)
+module _ {base : List ℕ} {m : ℕ} {inhomogeneity : Expo}
     (over : IsExpoOver base m inhomogeneity) where
   pub one_later_over : (e : Expo) → IsOverBaseOf inhomogeneity (before_of inhomogeneity) e
       → IsExpoOver base m e

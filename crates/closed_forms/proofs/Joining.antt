@@ -1,5 +1,6 @@
 -- What goes behind other terms in solving, and what each call of it gives.
---   over_arity, over_normal      how many exponents an exponential polynomial has; it is normal
+--   own_is_normal          terms that are themselves when made normal
+--   over_arity, over_normal      how many exponents an exponential polynomial has; it is normal;  expo_over: over what it is
 --   tabled_over            a solution is over the base and the variables that it was asked for
 --   sides_next, sides_front, sides_length      the exponents of a power on a side of the line, and those of the n-th power
 --   differences_next       differences of exponents
@@ -9,16 +10,15 @@
 --   still_made             the exponents that do not change with n
 --   key_solution, term_past, product_past      the solution for the powers in a term
 --   all_one                one of a list
---   whole_is, form_is, normal_past     the growing form and the solutions of all terms, made normal
+--   whole_is, form_is     the growing form and the solutions of all terms, made normal
 use Rattle.std.proofs.Common.{◌≡◌, ◌⊎◌, inl, inr, ◌<◌, ℕ, zero, suc, ◌+◌, ℤ, pos, ◌-ℤ◌, Bool, true, false, cond, eqb, List, [], ◌∷◌, ◌++◌, map, take, drop, get_or, replicate, length, All, refl, sym, ap, ap₂, subst, ◌∙◌, arith, append_assoc}
 use Rattle.std.proofs.lemmas.List.{append-nil, length-append, length-map}
 use Rattle.algebra.proofs.In.{each_in}
-use Rattle.algebra.specs.Fraction.{Fraction, ℚ, fractions, fraction_size}
-use Rattle.algebra.specs.Size.{IsPast}
+use Rattle.algebra.specs.Fraction.{Fraction, ℚ, fractions}
 use Rattle.polynomials.specs.Order.{grevlex}
-use Rattle.polynomials.specs.Polynomial.{IsPolynomial}
+use Rattle.polynomials.specs.Polynomial.{Arity, IsPolynomial}
 use Rattle.polynomials.specs.Terms.{Terms}
-use Rattle.polynomials.specs.Weight.{weight, IsPastProduct}
+use Rattle.polynomials.specs.Weight.{IsPastProduct}
 use Rattle.solvable_maps.specs.Uses.{unit}
 use Rattle.exponentials.specs.Keys.{Key, IsNormalKey, key_of, top, rest}
 use Rattle.frac128.specs.FracMeaning.{fraction_of}
@@ -39,13 +39,17 @@ use Rattle.expo.specs.Solutions.{IsTabled, IsPastSolution}
 use Rattle.expo.specs.View.{IsExpo}
 use Rattle.expo.proofs.Stepping.{rest_is}
 use Rattle.closed_forms.specs.Solved as Solved
-use Rattle.closed_forms.specs.Solved.{still, steady, homogeneous_part, IsKeySolution, IsSolvedTerm, AreSolvedBehind, IsWhole, IsSolvedForm, IsPastSolving, IsPastTerm, IsPastAmong, IsPastSolved}
+use Rattle.closed_forms.specs.Solved.{still, steady, homogeneous_part, IsKeySolution, IsSolvedTerm, AreSolvedBehind, IsWhole, IsSolvedForm, IsPastSolving, IsPastTerm, IsPastAmong}
 use Rattle.closed_forms.specs.Inhomogeneities.{collect_terms}
 use Rattle.closed_forms.specs.Values.{IsExpoOver}
 use Rattle.closed_forms.proofs.Mixing.{tell, term_within, terms-push, more_behind}
 
 -- ---- exponential polynomials
-module _ (base : List ℕ) (m : ℕ) (e : Expo) (over : IsExpoOver base m e) where
+pub own_is_normal : (base : List ℕ) (m : ℕ) (p : Terms Fraction) → Arity (width (length base) m) p
+    → with_normal_keys (length base) p ≡ p → IsNormal base p
+own_is_normal base m p arity own = subst (IsNormal base) own (normalized-normal base m p arity)
+
+module _ {base : List ℕ} {m : ℕ} {e : Expo} (over : IsExpoOver base m e) where
   pub over_arity : e.body.arity ≡ width (length base) m
   over_arity = e.arity ∙ ap₂ (λ b n. width (length b) n) over.over_base over.over_vars
 
@@ -53,7 +57,7 @@ module _ (base : List ℕ) (m : ℕ) (e : Expo) (over : IsExpoOver base m e) whe
   over_polynomial = subst (λ n. IsPolynomial ℚ grevlex n (terms_in e.body)) over_arity
       e.body.polynomial
 
-  own_normal : with_normal_keys (length base) (terms_in e.body) ≡ terms_in e.body
+  pub own_normal : with_normal_keys (length base) (terms_in e.body) ≡ terms_in e.body
   own_normal = subst (λ b. with_normal_keys (length b) (terms_in e.body) ≡ terms_in e.body)
       over.over_base
       e.normal
@@ -61,11 +65,10 @@ module _ (base : List ℕ) (m : ℕ) (e : Expo) (over : IsExpoOver base m e) whe
   pub over_normal : IsNormalForm base grevlex m (terms_in e.body)
   over_normal = record {
     polynomial = over_polynomial;
-    normal = subst (IsNormal base) own_normal (normalized-normal base m (terms_in e.body)
-        over_polynomial.arity);
+    normal = own_is_normal base m (terms_in e.body) over_polynomial.arity own_normal;
   }
 
-expo_over : (base : List ℕ) (m : ℕ) (ts : Terms Fraction) (e : Expo) → IsExpo base m ts e
+pub expo_over : (base : List ℕ) (m : ℕ) (ts : Terms Fraction) (e : Expo) → IsExpo base m ts e
     → IsExpoOver base m e
 expo_over base m ts e h = record { over_base = h.over_base; over_vars = h.over_vars }
 
@@ -240,7 +243,7 @@ key_solution base m t inhomogeneity own a e q k over h = record {
   negative = inhomogeneity.negative;
   exponents = inhomogeneity.exponents.items;
   key = k;
-  normal = over_normal base m e over;
+  normal = over_normal over;
   solution = subst (λ n. IsSolution base m n (number_of base inhomogeneity) (number_of base own)
       (terms_in e.body)) q h;
 }
@@ -296,8 +299,3 @@ module _ (base : List ℕ) (m : ℕ) (w : List Fraction) (g : List ℕ) (own : P
     terms = x.terms
         ∙ ap (λ y. collect_terms (with_normal_keys (length base) y)) s;
   }
-
-  pub normal_past : (all sum : Terms Fraction) → IsWhole base m w g l q all
-      → sum ≡ collect_terms all
-      → IsPast (weight fraction_size sum) → IsPastSolved base m w g l q
-  normal_past all sum h s x = Solved.normal all h (subst (λ y. IsPast (weight fraction_size y)) s x)

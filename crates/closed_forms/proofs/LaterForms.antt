@@ -83,7 +83,7 @@ pub sum_is : (base : List ℕ) → Coprime base → (m k : ℕ) (l : Fraction) (
     → IsExpo base k (with_normal_keys (length base) sum) e → IsExpoOver base m e
     → IsSumOf base m l q (terms_in e.body)
 sum_is base c m k l q all sum e a solved is x over = record {
-  normal = over_normal base m e over;
+  normal = over_normal over;
   recurs = recurrence_same base m l (λ s. ℚ.zero) q all (terms_in e.body)
       (all_solved base c m l q all a solved)
       (normal_of_value base c m k all sum e (solved-arity base c m l q all a solved) is x);

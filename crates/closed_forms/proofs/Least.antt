@@ -109,8 +109,8 @@ module _ (base : List ℕ) (images : List (Terms Fraction)) (es : List Expo)
           ])
 
 -- ---- one iteration less
-module _ (images : List (Terms Fraction)) (base : List ℕ) (groups : List (List ℕ))
-    (lists : List (List (Terms Fraction))) (es : List Expo) (since : ℕ)
+module _ {images : List (Terms Fraction)} {base : List ℕ} {groups : List (List ℕ)}
+    {lists : List (List (Terms Fraction))} {es : List Expo} {since : ℕ}
     (h : IsSettling images base groups lists es since) where
   abbrev M : List (Terms Fraction)
   M = images
@@ -133,7 +133,7 @@ module _ (images : List (Terms Fraction)) (base : List ℕ) (groups : List (List
   in_group : (i : ℕ) → i < length images → (g : List ℕ) × In g groups × In i g
   in_group i l = elim (covered images [] groups h.classes i l) [ inl e ↦ absurd e | inr r ↦ r ]
 
-  module _ (n : ℕ) (one : since ≡ suc n) (state : List (Terms Fraction))
+  module _ {n : ℕ} (one : since ≡ suc n) {state : List (Terms Fraction)}
       (is : state ≡ after images n) (marks : List Bool) (count : length marks ≡ length es)
       (told : AreAllMarked es n state groups marks) where
     told_at : (i : ℕ) → i < length images → IsMarked es n (after images n) marks i
@@ -219,9 +219,9 @@ module _ (images : List (Terms Fraction)) (base : List ℕ) (groups : List (List
               (subst (λ k. IsPastAt (base_of e) k n (terms_in e.body)) o.over_vars
               (w.past.past e own)))
 
-pub wide_before : (base : List ℕ) (images : List (Terms Fraction)) (n since v : ℕ)
+pub wide_before : {base : List ℕ} {images : List (Terms Fraction)} {n since v : ℕ}
     → since ≡ suc n → IsWideIteration base images n v → IsWideIteration base images since v
-wide_before base images n since v one w = record {
+wide_before {base} {images} {n} {since} {v} one w = record {
   iteration = w.iteration;
   before = (let b = w.before in omega (arith, b, one));
   since = w.since;
@@ -238,8 +238,8 @@ wide_before base images n since v one w = record {
 }
 
 -- ---- at n = 0
-module _ (images : List (Terms Fraction)) (base : List ℕ) (groups : List (List ℕ))
-    (lists : List (List (Terms Fraction))) (es : List Expo) (since : ℕ)
+module _ {images : List (Terms Fraction)} {base : List ℕ} {groups : List (List ℕ)}
+    {lists : List (List (Terms Fraction))} {es : List Expo} {since : ℕ}
     (h : IsSettling images base groups lists es since) where
   value_entry : (i : ℕ) → i < length images → (s : List Fraction)
       → get_or (values_at (bodies_of es) (point base 0 s)) i ℚ.zero
@@ -274,11 +274,11 @@ module _ (images : List (Terms Fraction)) (base : List ℕ) (groups : List (List
     (λ k. none i),
   )
 
-  pub passing_marked : (marks : List Bool) (state : List (Terms Fraction)) → state ≡ after images 0
+  pub passing_marked : (marks : List Bool) {state : List (Terms Fraction)} → state ≡ after images 0
       → AreAllMarked es 0 state groups marks
       → ArePassing base (length images) (bodies_of es) marks
-  passing_marked marks state is told i l =
-      let r = in_group images base groups lists es since h i l in
+  passing_marked marks {state} is told i l =
+      let r = in_group h i l in
       let t = subst (λ q. IsMarked es 0 q marks i) is (told r.0 r.1 i r.2) in (
         (λ k. itself_of i l (t.0 k)),
         (λ k. t.1 (at_of i l k)),

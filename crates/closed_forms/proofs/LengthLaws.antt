@@ -1,5 +1,4 @@
 -- How long classes are, as the code counts it.
---   of_limited              a number that is counted
 --   power_none, power_more, power_past     the powers of a sum, one factor after another
 --   power_next, power_long      the same of a count so far
 --   factor_fits             what is multiplied fits
@@ -8,11 +7,10 @@
 --   sums_none, sums_one, sums_parts, sums_past     a sum
 --   none_of_class, class_more, class_past_rest, class_past_own     a class
 --   set-count, set_lengths, some_lengths     lengths with those of a class
---   long_not, long_or_short     a map isn't both too long and short;  single_short: one of one variable
+--   long_one                    its first class that is too long is one;  long_not, long_or_short     a map isn't both too long and short;  single_short: one of one variable
 --   ones                    each variable is one term to begin with
-use Rattle.std.proofs.Common.{◌≡◌, ◌⊎◌, inl, inr, ℕ, zero, suc, ◌+◌, ◌-◌, ◌*◌, ◌/◌, ◌^◌, ◌<◌, ◌≤◌, List, [], ◌∷◌, ◌++◌, T, length, set, replicate, Vec, Global, All, refl, sym, ap, ap₂, subst, ◌∙◌, arith, Option, Some, None}
+use Rattle.std.proofs.Common.{◌≡◌, ◌⊎◌, inl, inr, ℕ, zero, suc, ◌+◌, ◌-◌, ◌*◌, ◌/◌, ◌^◌, ◌<◌, ◌≤◌, List, [], ◌∷◌, ◌++◌, T, length, set, replicate, Vec, Global, All, refl, sym, ap, ap₂, subst, ◌∙◌, arith, Option}
 use native.Mathlib.Nat as N
-use Rattle.std.specs.Prelude.{MatchOption}
 use Rattle.std.proofs.Math.Nat.{le-div_iff_mul-le}
 use Rattle.std.proofs.lemmas.List.{length-set}
 use Rattle.algebra.proofs.RatioLaws.{mul-pos}
@@ -21,7 +19,7 @@ use Rattle.polynomials.specs.Terms.{Terms}
 use Rattle.expansion.specs.Counts.{most_terms, IsCount}
 use Rattle.expansion.proofs.Counting.{most_is, one_fits, count_of, of_zero}
 use Rattle.algebra.specs.Each.{Each}
-use Rattle.solvable_maps.specs.Classes.{IsClass, first_of}
+use Rattle.solvable_maps.specs.Classes.{IsClass}
 use Rattle.solvable_maps.proofs.Classwise.{class_some}
 use Rattle.solvable.specs.Refusal.{AreClassesOf}
 use Rattle.closed_forms.specs.Splits.{groups_in}
@@ -30,9 +28,6 @@ use Rattle.solvable_maps.specs.Class.{IsClassOf, IsNext, AreClasses}
 use Rattle.solvable_maps.specs.Uses.{uses, poly_at}
 use Rattle.solvable_maps.proofs.Classes.{classes_one, reached_within}
 use Rattle.closed_forms.specs.Lengths.{AreLengths, power_length, product_length, sum_length, class_length, with_length, at_least_one, with_class, IsLongAmong, AreShort, IsLong, IsShort}
-
-pub of_limited : (n : ℕ) (o : Option ℕ) → IsCount (n + 0) o → IsCount n o
-of_limited n o h = count_of (n + 0) n o (N.add-zero n) h
 
 -- ---- powers
 pub power_none : (n : ℕ) → power_length n 0 ≡ 1
@@ -77,8 +72,7 @@ power_some n e h =
 -- what is next, where the count so far is at most the limit, and what it says where it isn't
 pub power_next : (n e found next : ℕ) → found ≡ power_length n e
     → next ≡ found * (n + e) / (e + 1) → next ≡ power_length n (e + 1)
-power_next n e found next is f =
-    f ∙ ap (λ x. x * (n + e) / (e + 1)) is ∙ sym (power_more n e)
+power_next n e found next is f = f ∙ ap (λ x. x * (n + e) / (e + 1)) is ∙ sym (power_more n e)
 
 pub power_long : (n e times found : ℕ) → 0 < n → e < times → found ≡ power_length n e
     → most_terms < found * (n + e) / (e + 1) → most_terms < power_length n times
@@ -222,15 +216,6 @@ module _ (images : List (Terms Fraction)) where
       ∙ sym (ap (λ x. class_length images x ns) e)) h
 
 -- ---- lengths with those of a class
-pub with_none : (g : List ℕ) (n : ℕ) (ns : List ℕ) → length g ≡ 0 → ns ≡ with_length g n ns
-with_none [] n ns e = refl
-with_none (i ∷ g) n ns e = absurd (omega (arith, e))
-
-pub with_more : (i : ℕ) (g all : List ℕ) (n : ℕ) (ns mid new : List ℕ) → all ≡ i ∷ g
-    → mid ≡ set ns i n → new ≡ with_length g n mid → new ≡ with_length all n ns
-with_more i g all n ns mid new e f h =
-    h ∙ ap (with_length g n) f ∙ sym (ap (λ x. with_length x n ns) e)
-
 pub set-count : (g : List ℕ) (n : ℕ) (ns : List ℕ) → length (with_length g n ns) ≡ length ns
 set-count [] n ns = refl
 set-count (i ∷ g) n ns = set-count g n (set ns i n) ∙ length-set ns i n
@@ -250,36 +235,8 @@ pub some_lengths : (n : ℕ) → n ≤ most_terms → (0 < at_least_one n) × (a
 some_lengths zero h = (omega arith, one_fits)
 some_lengths (suc n) h = (omega arith, h)
 
-pub least_none : (n : ℕ) → n ≡ 0 → 1 ≡ at_least_one n
-least_none zero e = refl
-least_none (suc n) e = absurd (cc)
-
-pub least_some : (n : ℕ) → ¬ (n ≡ 0) → n ≡ at_least_one n
-least_some zero e = absurd (e refl)
-least_some (suc n) e = refl
-
 -- ---- one class after another
 module _ (images : List (Terms Fraction)) where
-  pub among_none : (groups : List (List ℕ)) (ns : List ℕ) → length groups ≡ 0
-      → AreShort images groups ns
-  among_none [] ns e = tt
-  among_none (g ∷ groups) ns e = absurd (omega (arith, e))
-
-  pub among_here : (g : List ℕ) (groups all : List (List ℕ)) (ns : List ℕ) (v : ℕ)
-      → all ≡ g ∷ groups → first_of g ≡ v → most_terms < class_length images g ns
-      → IsLongAmong images all ns v
-  among_here g groups all ns v e f h = subst (λ x. IsLongAmong images x ns v) (sym e) (inl (f, h))
-
-  pub among_later : (g : List ℕ) (groups all : List (List ℕ)) (ns new : List ℕ) (o : Option ℕ)
-      → all ≡ g ∷ groups → class_length images g ns ≤ most_terms → new ≡ with_class images g ns
-      → MatchOption o (AreShort images groups new) (IsLongAmong images groups new)
-      → MatchOption o (AreShort images all ns) (IsLongAmong images all ns)
-  among_later g groups all ns new None e few is h =
-      subst (λ x. AreShort images x ns) (sym e) (few, subst (AreShort images groups) is h)
-  among_later g groups all ns new (Some v) e few is h =
-      subst (λ x. IsLongAmong images x ns v) (sym e)
-      (inr (few, subst (λ x. IsLongAmong images groups x v) is h))
-
   -- the lengths with one class more
   pub class_counted : (g : List ℕ) (ns new : List ℕ) (terms clamped : ℕ)
       → terms ≡ class_length images g ns → clamped ≡ at_least_one terms
@@ -324,8 +281,25 @@ long_not images (g ∷ groups) ns v (inl h) s =
 long_not images (g ∷ groups) ns v (inr h) s =
     long_not images groups (with_class images g ns) v h.1 s.1
 
+among_same : (images : List (Terms Fraction)) (groups : List (List ℕ)) (ns : List ℕ) (v w : ℕ)
+    → IsLongAmong images groups ns v → IsLongAmong images groups ns w → v ≡ w
+among_same images [] ns v w h k = absurd h
+among_same images (g ∷ groups) ns v w (inl h) (inl k) = sym h.0 ∙ k.0
+among_same images (g ∷ groups) ns v w (inl h) (inr k) =
+    absurd (let more = h.1 in let few = k.0 in omega (arith, more, few))
+among_same images (g ∷ groups) ns v w (inr h) (inl k) =
+    absurd (let more = k.1 in let few = h.0 in omega (arith, more, few))
+among_same images (g ∷ groups) ns v w (inr h) (inr k) =
+    among_same images groups (with_class images g ns) v w h.1 k.1
+
 module _ (images : List (Terms Fraction)) (bounded : (i j : ℕ) → T (uses images i j)
     → (i < length images) × (j < length images)) where
+  pub long_one : (v w : ℕ) → IsLong images v → IsLong images w → v ≡ w
+  long_one v w l k =
+      among_same images l.groups (replicate (length images) 1) v w l.long
+      (subst (λ gs. IsLongAmong images gs (replicate (length images) 1) w)
+      (classes_one (uses images) (length images) bounded k.groups l.groups [] k.are l.are) k.long)
+
   pub long_or_short : (v : ℕ) → IsLong images v → IsShort images → ⊥
   long_or_short v l s =
       long_not images l.groups (replicate (length images) 1) v l.long

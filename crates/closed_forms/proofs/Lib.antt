@@ -22,4 +22,5 @@ pub mod Marks
 pub mod Least
 pub mod Forming
 pub mod FormsFrom
+pub mod InWork
 pub mod LengthLaws

@@ -4,9 +4,8 @@
 --   arity_of_is, over_images, moved_is     a composition with closed forms
 --   before_is, sum_is, inhomogeneity_is           the inhomogeneity of a form
 --   steady_is, product_is   the solution of a term
---   normal_over, room_before, code_width     what is made normal
-use Rattle.std.proofs.Common.{◌≡◌, ◌<◌, ◌≤◌, ℕ, ◌+◌, ◌-◌, ◌*◌, List, [], ◌∷◌, ◌++◌, length, All, sym, ap, ap₂, subst, ◌∙◌, arith}
-use Rattle.std.proofs.lemmas.List.{length-map}
+--   normal_over, room_before     what is made normal
+use Rattle.std.proofs.Common.{◌≡◌, ◌<◌, ◌≤◌, ℕ, ◌-◌, List, [], ◌∷◌, ◌++◌, length, All, sym, ap, ap₂, subst, ◌∙◌, arith}
 use Rattle.algebra.specs.Each.{Each}
 use Rattle.algebra.proofs.Each.{each-append}
 use Rattle.algebra.specs.Fraction.{Fraction, ℚ}
@@ -17,9 +16,7 @@ use Rattle.polynomials.specs.Terms.{Terms, Same, times, compose}
 use Rattle.polynomials.proofs.Arity.{arity-times, arity-compose}
 use Rattle.polynomials.proofs.Orders.{grevlex_order}
 use Rattle.machines.proofs.Collecting.{collect-is}
-use Rattle.frac128.specs.declared.Whole.{Whole}
 use Rattle.poly.specs.Seen.{terms_in, terms_each, arity_of}
-use Rattle.coprime_base.specs.Sizes.{sizes}
 use Rattle.solvable.proofs.Using.{FracPoly}
 use Rattle.solvable_maps.specs.Expo.{with_normal_keys}
 use Rattle.solvable_maps.specs.Iterations.{width}
@@ -82,9 +79,6 @@ normal_over bs w m ts e k h = record {
 
 pub room_before : (bs : List ℕ) (w m : ℕ) → w ≡ width (length bs) m → width (length bs) 0 ≤ w
 room_before bs w m k = omega (arith, k)
-
-pub code_width : (ws : List Whole) (m : ℕ) → 2 + 2 * length ws + m ≡ width (length (sizes ws)) m
-code_width ws m = (let e : length (sizes ws) ≡ length ws = length-map ws _ in omega (arith, e))
 
 pub sum_is : (w : ℕ) (p q r : FracPoly) (ps qs : Terms Fraction) → p.arity ≡ w → q.arity ≡ w
     → r.arity ≡ p.arity → terms_in p ≡ ps → terms_in q ≡ qs

@@ -343,7 +343,7 @@ pub over_normals : (base : List ℕ) (m : ℕ) (es : List Expo) → AreOver base
 unfolding Each
 over_normals base m [] h = tt
 over_normals base m (e ∷ es) h = (
-  over_normal base m e (h 0 e (omega arith)),
+  over_normal (h 0 e (omega arith)),
   over_normals base m es
       (λ k d l. h (suc k) d (omega (arith, l))),
 )

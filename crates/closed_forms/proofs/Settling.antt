@@ -2,20 +2,19 @@
 --   bodies_next, body_arity          the polynomials of all variables
 --   IsAtHand                         what is known where the forms of a class are made
 --   room                             how many exponents a base makes
---   group_low                        the class's variables are among all
+--   vars_is, group_low               how many variables there are; the class's are among them
 --   forms_wide, forms_few            as many forms, and as wide, as the class has variables
 --   setting_is                       what is asked of what forms are made from
 --   inhomogeneity_arities, inhomogeneity_normal    the terms of an inhomogeneity
 --   back_count, variables_turned     the polynomials of the variables
 --   past_forms, past_rows            what is past in making them
-use Rattle.std.proofs.Common.{◌≡◌, ◌<◌, ◌≤◌, ℕ, ◌+◌, List, [], ◌∷◌, ◌++◌, map, take, drop, length, get_or, All, Vec, Global, refl, sym, ap, ap₂, subst, ◌∙◌, arith}
+use Rattle.std.proofs.Common.{◌≡◌, inl, ◌<◌, ◌≤◌, ℕ, ◌+◌, List, [], ◌∷◌, ◌++◌, map, take, drop, length, get_or, All, Vec, Global, refl, sym, ap, ap₂, subst, ◌∙◌, arith}
 use Rattle.std.proofs.lemmas.List.{length-map, map_push}
 use Rattle.algebra.proofs.Lists.{take_next}
 use Rattle.algebra.specs.Fraction.{Fraction}
 use Rattle.polynomials.specs.Polynomial.{AllArity}
 use Rattle.polynomials.specs.Terms.{Terms}
 use Rattle.solvable_maps.specs.Uses.{poly_at, IsMap}
-use Rattle.exponentials.specs.Base.{Coprime}
 use Rattle.frac128.specs.declared.Whole.{Whole}
 use Rattle.frac128.specs.declared.fraction.Frac.{Frac}
 use Rattle.coprime_base.specs.Sizes.{sizes}
@@ -28,7 +27,7 @@ use Rattle.solvable.proofs.Using.{FracPoly, length_each}
 use Rattle.solvable.specs.Refusal.{IsSolvable}
 use Rattle.solvable_maps.specs.Classes.{class_matrix, IsClass}
 use Rattle.solvable_maps.specs.Inverse.{beside, IsInverse}
-use Rattle.solvable_maps.specs.Iterations.{width, IsNormal}
+use Rattle.solvable_maps.specs.Iterations.{width}
 use Rattle.solvable_maps.proofs.Classwise.{class_few}
 use Rattle.solvable_maps.proofs.FormSplits.{forms_inverse}
 use Rattle.expo.specs.declared.exponential.Expo.{Expo}
@@ -40,7 +39,8 @@ use Rattle.closed_forms.specs.ClassSetting.{IsClassSetting}
 use Rattle.closed_forms.specs.Splits.{IsSplitOf}
 use Rattle.closed_forms.specs.Values.{bodies_of, IsExpoOver, AreOver}
 use Rattle.closed_forms.proofs.Chaining.{next_told, past_told, map-at}
-use Rattle.closed_forms.proofs.Joining.{over_normal}
+use Rattle.closed_forms.proofs.Joining.{own_normal, over_normal}
+use Rattle.expo.specs.Bases.{IsCoprimeBase, IsOwnNormal}
 use Rattle.closed_forms.proofs.Mixing.{tell, all_arity, polys_arity}
 use Rattle.closed_forms.proofs.Splitting.{map_of, class_inside, matrix_wide, widths_all}
 use Rattle.closed_forms.proofs.Turning.{variable_turned, past_next, past_row}
@@ -67,7 +67,7 @@ pub room : (ws : List Whole) (m : ℕ) → length ws ≤ 500 → m ≤ 12 → wi
 room ws m l k = (let e : length (sizes ws) ≡ length ws = length-map ws _ in omega (arith, e, l, k))
 
 -- ---- the splitting of a class
-module _ (images : List (Terms Fraction)) (g : List ℕ) (split : Split)
+module _ {images : List (Terms Fraction)} {g : List ℕ} {split : Split}
     (is : IsSplitOf images g split) where
   forms_count : length split.forms.items ≡ length g
   forms_count = sym (length-map split.forms.items (λ row. fractions_of row.items)) ∙ is.are.count
@@ -86,7 +86,8 @@ module _ (images : List (Terms Fraction)) (g : List ℕ) (split : Split)
 -- ---- what is known where the forms of a class are made
 pub record IsAtHand (bs : List ℕ) (images : List FracPoly) (g : List ℕ) (es : List Expo)
     (split : Split) (z : ℕ) (s : ClassSetting) : Type 0 where
-  pub coprime : Coprime bs
+  pub coprime : IsCoprimeBase bs
+  pub few : width (length bs) (length images) ≤ 4096
   pub square : All (λ (p : FracPoly). p.arity ≡ length images) images
   pub solvable : IsSolvable (terms_each images)
   pub class : IsClass (terms_each images) g
@@ -96,8 +97,8 @@ pub record IsAtHand (bs : List ℕ) (images : List FracPoly) (g : List ℕ) (es 
   pub setting : IsSettingOf (terms_each images) z g split es s
   pub ahead : All (λ (p : FracPoly). p.arity ≡ length images) s.ahead.items
 
-module _ (bs : List ℕ) (images : List FracPoly) (g : List ℕ) (es : List Expo) (split : Split)
-    (z : ℕ) (s : ClassSetting) (h : IsAtHand bs images g es split z s) where
+module _ {bs : List ℕ} {images : List FracPoly} {g : List ℕ} {es : List Expo} {split : Split}
+    {z : ℕ} {s : ClassSetting} (h : IsAtHand bs images g es split z s) where
   abbrev M : List (Terms Fraction)
   M = terms_each images
 
@@ -117,7 +118,7 @@ module _ (bs : List ℕ) (images : List FracPoly) (g : List ℕ) (es : List Expo
   arities = h.setting.arities (width (length bs) (length images)) (over_arities bs (length images)
       es h.over)
 
-  vars_is : length s.earlier.items ≡ length images
+  pub vars_is : length s.earlier.items ≡ length images
   vars_is = sym (length_each s.earlier.items) ∙ ap length h.setting.earlier ∙ h.ready.turned.size
       ∙ length_each images
 
@@ -145,8 +146,16 @@ module _ (bs : List ℕ) (images : List FracPoly) (g : List ℕ) (es : List Expo
 
   pub setting_is : IsClassSetting bs (length split.forms.items) s
   setting_is =
-      let n : length split.forms.items ≡ length g = forms_count M g split h.splits in
+      let n : length split.forms.items ≡ length g = forms_count h.splits in
+      let e = vars_is in
+      let low =
+      (h.class.is.inside h.class.of (h.class.is.whole h.class.of h.class.within (inl refl))).0
+      in
+      let size = vars_own in
       record {
+        coprime = h.coprime;
+        some = omega (arith, low, size);
+        few = subst (λ n. width (length bs) n ≤ 4096) (sym e) h.few;
         earlier = subst (λ n. All (λ (p : FracPoly). p.arity ≡ width (length bs) n) s.earlier.items)
             (sym vars_is) arities;
         rests = subst (λ n. All (λ (p : FracPoly). p.arity ≡ n) s.rests.items) (sym vars_own)
@@ -175,14 +184,14 @@ module _ (bs : List ℕ) (images : List FracPoly) (g : List ℕ) (es : List Expo
         (ahead_of M g z) ahead_is back forms values (terms_each done) next
 
     own_count : length (terms_each done) ≡ length g
-    own_count = length_each done ∙ count ∙ forms_count M g split h.splits
+    own_count = length_each done ∙ count ∙ forms_count h.splits
 
     pub variables_turned : (news : List Expo)
         → bodies_of news ≡ map (λ row. variable_in bs row (terms_each done)) back
         → (r : IsReady bs M z (zeros_of split) g (bodies_of es))
         → AreVariablesOf bs M (r.since + zeros_of split) g (bodies_of news)
     variables_turned news e r = λ a l.
-        variable_turned bs h.coprime M is h.solvable g h.class z values (bodies_of es) r all forms
+        variable_turned bs h.coprime.0 M is h.solvable g h.class z values (bodies_of es) r all forms
         back h.splits.are inverse_is (terms_each done) own_count own a l
         (poly_at (bodies_of news) a)
         (ap (λ ps. poly_at ps a) e ∙ map-at (λ row. variable_in bs row (terms_each done)) back a
@@ -190,12 +199,12 @@ module _ (bs : List ℕ) (images : List FracPoly) (g : List ℕ) (es : List Expo
 
     pub past_rows : IsPastRowOf back (terms_each done) → IsPastClassOf bs M z g split (bodies_of es)
     past_rows past = variable_past back h.setting.back
-        (past_row bs h.coprime M is h.solvable g h.class z values (bodies_of es) h.ready all forms
+        (past_row bs h.coprime.0 M is h.solvable g h.class z values (bodies_of es) h.ready all forms
         back h.splits.are inverse_is (terms_each done) own_count own past)
 
   pub past_forms : IsPastNextOf bs g s split → IsPastClassOf bs M z g split (bodies_of es)
   past_forms past = form_past back h.setting.back
-      (past_next bs h.coprime M is h.solvable g h.class z values (bodies_of es) h.ready all forms
+      (past_next bs h.coprime.0 M is h.solvable g h.class z values (bodies_of es) h.ready all forms
       back h.splits.are inverse_is
       (past_told bs g (length s.earlier.items) (length M) (terms_each s.rests.items) (rests_in M g)
       (terms_each s.earlier.items) (bodies_of es) (rows_of s.matrix.items) (class_matrix M g)
@@ -203,14 +212,14 @@ module _ (bs : List ℕ) (images : List FracPoly) (g : List ℕ) (es : List Expo
       ahead_is back forms values past))
 
 -- ---- one form
-module _ (base : List ℕ) (m : ℕ) (q : Expo) (over : IsExpoOver base m q) (ts : List (Term Frac))
+module _ {base : List ℕ} {m : ℕ} {q : Expo} (over : IsExpoOver base m q) {ts : List (Term Frac)}
     (is : ts ≡ q.body.terms.items) where
   pub inhomogeneity_arities : All (λ (t : Term Frac). length t.mono ≡ width (length base) m) ts
   inhomogeneity_arities = subst (λ (us : List (Term Frac)).
       All (λ (t : Term Frac). length t.mono ≡ width (length base) m) us) (sym is)
       (all_arity (width (length base) m) q.body.terms.items
-      (over_normal base m q over).polynomial.arity)
+      (over_normal over).polynomial.arity)
 
-  pub inhomogeneity_normal : IsNormal base (tell ts)
-  inhomogeneity_normal = subst (λ (us : List (Term Frac)). IsNormal base (tell us)) (sym is)
-      (over_normal base m q over).normal
+  pub inhomogeneity_normal : IsOwnNormal base (tell ts)
+  inhomogeneity_normal = subst (λ (us : List (Term Frac)). IsOwnNormal base (tell us)) (sym is)
+      (own_normal over)

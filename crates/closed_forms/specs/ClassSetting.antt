@@ -1,15 +1,17 @@
 -- What the forms of a class are made from, as the code has it.
 --   variables_over base s   how many variables polynomials over this base have, with as many of their own as there are closed forms
---   IsClassSetting base n s      the closed forms are such polynomials, the rests have the variables alone, the matrices have width n, and what is ahead has the variables alone
+--   IsClassSetting base n s      there are closed forms, not too many, and they are such polynomials, the rests have the variables alone, the matrices have width n, and what is ahead has the variables alone
 --   moved_of base w s       the form w of the rests, composed with the closed forms;  IsPastMovedOf w s: making it is past
 --   IsBeforeOf w s done p   p is the combination of earlier forms for the form w;  IsPastBeforeOf w s done: making it is past
 --   IsInhomogeneityOf base w s done q     q is the inhomogeneity of the recurrence of the form w;  IsPastInhomogeneityOf base w s done: making it is past
-use Rattle.std.specs.Prelude.{◌≡◌, ℕ, List, length, All}
+use Rattle.std.specs.Prelude.{◌≡◌, ◌≤◌, ◌<◌, ℕ, List, length, All}
 use Rattle.algebra.specs.Fraction.{Fraction}
 use Rattle.polynomials.specs.Terms.{Terms}
 use Rattle.linear.specs.Rows.{rows_of}
 use Rattle.poly.specs.Seen.{terms_each}
 use Rattle.solvable_maps.specs.Iterations.{width}
+use Rattle.monos.specs.Variables.{most_variables}
+use Rattle.expo.specs.Bases.{IsCoprimeBase}
 use Rattle.closed_forms.specs.Inhomogeneities.{part_by_forms, IsBefore, IsInhomogeneity, IsPastMoved, IsPastBefore, IsPastInhomogeneity}
 use Rattle.closed_forms.specs.declared.inhomogeneities.ClassSetting.{ClassSetting}
 
@@ -17,6 +19,9 @@ abbrev pub variables_over : List ℕ → ClassSetting → ℕ
 variables_over base s = width (length base) (length s.earlier.items)
 
 pub record IsClassSetting (base : List ℕ) (n : ℕ) (s : ClassSetting) : Type 0 where
+  pub coprime : IsCoprimeBase base
+  pub some : 0 < length s.earlier.items
+  pub few : variables_over base s ≤ most_variables
   pub earlier : All (λ p. p.arity ≡ width (length base) (length s.earlier.items)) s.earlier.items
   pub rests : All (λ p. p.arity ≡ length s.earlier.items) s.rests.items
   pub matrix : All (λ row. length row.items ≡ n) s.matrix.items

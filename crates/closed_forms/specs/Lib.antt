@@ -7,11 +7,13 @@ pub mod States
 pub mod Inhomogeneities
 pub mod Solved
 pub mod Later
+pub mod Recurrences
 pub mod Known
 pub mod ClassSetting
 pub mod ClassForms
 pub mod Put
 pub mod View
+pub mod MapInWork
 pub mod Settling
 pub mod Lengths
 pub mod Refusal

@@ -6,7 +6,6 @@ ghost use Rattle.frac128.specs.FracMeaning.{fraction_of};
 ghost use Rattle.linear.specs.Rows.{fractions_of, rows_of};
 ghost use Rattle.poly.specs.Seen.{terms_in, terms_each};
 ghost use Rattle.coprime_base.specs.Sizes.{sizes};
-ghost use Rattle.solvable.specs.Refusal.{IsSolvable};
 ghost use Rattle.solvable_maps.specs.Uses.{poly_at};
 ghost use Rattle.solvable_maps.specs.Classes.{IsClass};
 ghost use Rattle.solvable_maps.specs.Iterations.{width};
@@ -16,20 +15,20 @@ ghost use Rattle.closed_forms.specs.ClassForms.{IsSettingOf, ahead_in, zeros_of,
 ghost use Rattle.closed_forms.specs.Inverses.{IsPastInverse};
 ghost use Rattle.closed_forms.specs.Known.{variable_in, IsReady, IsPastRowOf};
 ghost use Rattle.closed_forms.specs.Later.{IsFormFrom, IsPastFrom};
-ghost use Rattle.closed_forms.specs.Limits.{most_images, most_in_base};
+ghost use Rattle.closed_forms.specs.MapInWork.{images_in, IsInWork};
 ghost use Rattle.closed_forms.specs.ClassSetting.{variables_over, IsClassSetting};
 ghost use Rattle.closed_forms.specs.Solved.{IsMade};
 ghost use Rattle.closed_forms.specs.Splits.{IsSplitOf};
-ghost use Rattle.closed_forms.specs.States.{after};
 ghost use Rattle.closed_forms.specs.Values.{bodies_of, AreOver, IsExpoOver};
 
 use crate::inhomogeneities::{ClassSetting, inhomogeneity};
-use crate::later::solve_later;
 use crate::linear_parts::{class_matrix, rests};
+use crate::map_in_work::MapInWork;
 use crate::matrices::inverse;
 use crate::powers::power_over;
-use crate::solving::solve;
+use crate::recurrence::Recurrence;
 use crate::sums::weighted_sum;
+use crate::widths::width;
 use eigen_split::Split;
 use expo::Expo;
 use frac128::{Frac, Whole};
@@ -41,77 +40,65 @@ use std::alloc::{AllocError, Global};
 /// The polynomial of each variable of a class.
 pub(crate) fn closed_class(
     alloc: Global,
-    images: &Vec<Poly<Frac, Grevlex>>,
-    base: &Vec<Whole>,
+    work: &MapInWork<'_>,
     group: &[usize],
     split: &Split,
-    iterations: u32,
-    state: &[Poly<Frac, Grevlex>],
     polys: &[Expo],
 ) -> Result<Vec<Expo>, ArithmeticError>
-    requires few { length images.now.items ≤ most_images }
-    requires square { All (λ p. p.arity ≡ length images.now.items) images.now.items }
-    requires solvable { IsSolvable (terms_each images.now.items) }
-    requires base { IsCoprimeBase (sizes base.now.items) }
-    requires short { length base.now.items ≤ most_in_base }
-    requires class { IsClass (terms_each images.now.items) group.now }
-    requires split { IsSplitOf (terms_each images.now.items) group.now split.now }
-    requires made { Each (λ c. c ≢ ℚ.zero → IsMade (sizes base.now.items) c)
+    requires work { IsInWork work.now }
+    requires class { IsClass (images_in work.now) group.now }
+    requires split { IsSplitOf (images_in work.now) group.now split.now }
+    requires made { Each (λ c. c ≢ ℚ.zero → IsMade (sizes work.now.base.items) c)
         (fractions_of split.now.values.items) }
-    requires over { AreOver (sizes base.now.items) (length images.now.items) polys.now }
-    requires state { terms_each state.now ≡ after (terms_each images.now.items) iterations }
-    requires arities { All (λ p. p.arity ≡ length images.now.items) state.now }
-    requires ready { IsReady (sizes base.now.items) (terms_each images.now.items) iterations
+    requires over { AreOver (sizes work.now.base.items) (length work.now.images.now.items)
+        polys.now }
+    requires ready { IsReady (sizes work.now.base.items) (images_in work.now) work.now.iterations
         (zeros_of split.now) group.now (bodies_of polys.now) }
     ensures count { IfOk result (λ news. length news.items ≡ length group.now) }
-    ensures over { IfOk result
-        (λ news. AreOver (sizes base.now.items) (length images.now.items) news.items) }
-    ensures variables { let b = sizes base.now.items in let k = zeros_of split.now in
-        let images = terms_each images.now.items in
-        IfOk result (λ news. (r : IsReady b images iterations k group.now (bodies_of polys.now))
+    ensures over { IfOk result (λ news.
+        AreOver (sizes work.now.base.items) (length work.now.images.now.items) news.items) }
+    ensures variables { let b = sizes work.now.base.items in let k = zeros_of split.now in
+        let images = images_in work.now in let z = work.now.iterations in
+        IfOk result (λ news. (r : IsReady b images z k group.now (bodies_of polys.now))
         → AreVariablesOf b images (r.since + k) group.now (bodies_of news.items)) }
-    ensures wide { IsErrOf result ArithmeticError.Wide → IsPastClassOf (sizes base.now.items)
-        (terms_each images.now.items) iterations group.now split.now (bodies_of polys.now) }
+    ensures wide { IsErrOf result ArithmeticError.Wide
+        → IsPastClassOf (sizes work.now.base.items) (images_in work.now) work.now.iterations
+        group.now split.now (bodies_of polys.now) }
 {
-    let setting = setting_of(alloc, images, group, split, iterations, state, polys)?;
-    let forms = closed_forms(alloc, base, group, split, &setting)?;
-    variables(alloc, base, images.len(), &setting.back, &forms)
+    let setting = setting_of(alloc, work, group, split, polys)?;
+    let forms = closed_forms(alloc, &work.base, group, split, &setting)?;
+    variables(alloc, &work.base, work.images.len(), &setting.back, &forms)
 }
 
 /// What the forms of a class are made from.
 fn setting_of(
     alloc: Global,
-    images: &Vec<Poly<Frac, Grevlex>>,
+    work: &MapInWork<'_>,
     group: &[usize],
     split: &Split,
-    iterations: u32,
-    state: &[Poly<Frac, Grevlex>],
     polys: &[Expo],
 ) -> Result<ClassSetting, ArithmeticError>
-    requires few { length images.now.items ≤ most_images }
-    requires square { All (λ p. p.arity ≡ length images.now.items) images.now.items }
-    requires class { IsClass (terms_each images.now.items) group.now }
-    requires split { IsSplitOf (terms_each images.now.items) group.now split.now }
-    requires state { terms_each state.now ≡ after (terms_each images.now.items) iterations }
-    requires arities { All (λ p. p.arity ≡ length images.now.items) state.now }
+    requires work { IsInWork work.now }
+    requires class { IsClass (images_in work.now) group.now }
+    requires split { IsSplitOf (images_in work.now) group.now split.now }
     ensures setting { IfOk result
-        (IsSettingOf (terms_each images.now.items) iterations group.now split.now polys.now) }
+        (IsSettingOf (images_in work.now) work.now.iterations group.now split.now polys.now) }
     ensures arities { IfOk result
-        (λ s. All (λ p. p.arity ≡ length images.now.items) s.ahead.items) }
+        (λ s. All (λ p. p.arity ≡ length work.now.images.now.items) s.ahead.items) }
     ensures wide { IsErrOf result ArithmeticError.Wide
         → IsPastInverse (rows_of split.now.forms.items) }
 {
     let earlier = bodies(alloc, polys)?;
-    let rests = rests(alloc, images, group)?;
-    let matrix = class_matrix(alloc, images, group)?;
+    let rests = rests(alloc, work.images, group)?;
+    let matrix = class_matrix(alloc, work.images, group)?;
     let back = inverse(alloc, &split.forms)?;
-    let ahead = picked(alloc, state, group)?;
+    let ahead = picked(alloc, work.last_state(), group)?;
     Ok(ClassSetting {
         earlier,
         rests,
         matrix,
         back,
-        iterations,
+        iterations: work.iterations,
         ahead,
     })
 }
@@ -156,9 +143,6 @@ fn closed_forms(
     split: &Split,
     setting: &ClassSetting,
 ) -> Result<Vec<Poly<Frac, Grevlex>>, ArithmeticError>
-    requires base { IsCoprimeBase (sizes base.now.items) }
-    requires some { 0 < length setting.now.earlier.items }
-    requires few { variables_over (sizes base.now.items) setting.now ≤ most_variables }
     requires group { All (λ j. j < length setting.now.earlier.items) group.now }
     requires forms { All (λ form. length form.items ≡ length split.now.forms.items)
         split.now.forms.items }
@@ -195,9 +179,6 @@ fn closed_form(
     setting: &ClassSetting,
     done: &[Poly<Frac, Grevlex>],
 ) -> Result<Poly<Frac, Grevlex>, ArithmeticError>
-    requires base { IsCoprimeBase (sizes base.now.items) }
-    requires some { 0 < length setting.now.earlier.items }
-    requires few { variables_over (sizes base.now.items) setting.now ≤ most_variables }
     requires group { All (λ j. j < length setting.now.earlier.items) group.now }
     requires made { fraction_of value.now ≢ ℚ.zero
         → IsMade (sizes base.now.items) (fraction_of value.now) }
@@ -229,13 +210,10 @@ fn form_from(
     setting: &ClassSetting,
     inhomogeneity: &Expo,
 ) -> Result<Expo, ArithmeticError>
-    requires base { IsCoprimeBase (sizes base.now.items) }
-    requires few { variables_over (sizes base.now.items) setting.now ≤ most_variables }
     requires group { All (λ j. j < length setting.now.earlier.items) group.now }
     requires made { fraction_of value.now ≢ ℚ.zero
         → IsMade (sizes base.now.items) (fraction_of value.now) }
-    requires ahead { All (λ p. p.arity ≡ length setting.now.earlier.items)
-        setting.now.ahead.items }
+    requires setting { IsClassSetting (sizes base.now.items) (length form.now) setting.now }
     requires over { IsExpoOver (sizes base.now.items) (length setting.now.earlier.items)
         inhomogeneity.now }
     ensures over { IfOk result
@@ -264,13 +242,10 @@ fn some_form(
     setting: &ClassSetting,
     inhomogeneity: &Expo,
 ) -> Result<Expo, ArithmeticError>
-    requires base { IsCoprimeBase (sizes base.now.items) }
-    requires few { variables_over (sizes base.now.items) setting.now ≤ most_variables }
     requires group { All (λ j. j < length setting.now.earlier.items) group.now }
     requires nonzero { fraction_of value.now ≢ ℚ.zero }
     requires made { IsMade (sizes base.now.items) (fraction_of value.now) }
-    requires ahead { All (λ p. p.arity ≡ length setting.now.earlier.items)
-        setting.now.ahead.items }
+    requires setting { IsClassSetting (sizes base.now.items) (length form.now) setting.now }
     requires over { IsExpoOver (sizes base.now.items) (length setting.now.earlier.items)
         inhomogeneity.now }
     ensures over { IfOk result
@@ -283,14 +258,18 @@ fn some_form(
         (length setting.now.earlier.items) (fractions_of form.now) group.now
         (fraction_of value.now) (ahead_in setting.now) (terms_in inhomogeneity.now.body) }
 {
-    let vars = setting.earlier.len();
     let own = power_over(alloc, base, value)?;
-    let terms = inhomogeneity.body().terms();
+    let recurrence = Recurrence {
+        base,
+        vars: setting.earlier.len(),
+        own,
+        inhomogeneity: inhomogeneity.body().terms(),
+    };
     if setting.iterations == 0 {
-        return solve(alloc, base, vars, form, group, &own, terms);
+        return recurrence.solve(alloc, form, group);
     }
-    let there = weighted_sum(alloc, form, &setting.ahead, vars)?;
-    solve_later(alloc, base, value, &own, setting.iterations, there, terms)
+    let there = weighted_sum(alloc, form, &setting.ahead, recurrence.vars)?;
+    recurrence.solve_later(alloc, value, setting.iterations, there)
 }
 
 /// The polynomials of the variables: by the rows of the inverse from those of the forms.
@@ -314,7 +293,7 @@ fn variables(
 {
     let mut out = Vec::new(alloc);
     for row in back {
-        let sum = weighted_sum(alloc, row, forms, 2 + 2 * base.len() + vars)?;
+        let sum = weighted_sum(alloc, row, forms, width(base, vars))?;
         out.push(Expo::normal(alloc, base, &sum)?)?;
     }
     Ok(out)

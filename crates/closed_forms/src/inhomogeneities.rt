@@ -4,12 +4,12 @@ ghost use Rattle.monos.specs.Variables.{most_variables};
 ghost use Rattle.linear.specs.Rows.{fractions_of};
 ghost use Rattle.poly.specs.Seen.{terms_in, terms_each};
 ghost use Rattle.coprime_base.specs.Sizes.{sizes};
-ghost use Rattle.expo.specs.Bases.{IsCoprimeBase};
 ghost use Rattle.closed_forms.specs.ClassSetting.{variables_over, IsClassSetting, moved_of, IsPastMovedOf, IsBeforeOf, IsPastBeforeOf, IsInhomogeneityOf, IsPastInhomogeneityOf};
 ghost use Rattle.closed_forms.specs.Values.{IsExpoOver};
 
 use crate::products::row_times;
 use crate::sums::weighted_sum;
+use crate::widths::width;
 use expo::Expo;
 use frac128::{Frac, Whole};
 use monos::Grevlex;
@@ -41,9 +41,6 @@ pub(crate) fn inhomogeneity(
     setting: &ClassSetting,
     done: &[Poly<Frac, Grevlex>],
 ) -> Result<Expo, ArithmeticError>
-    requires base { IsCoprimeBase (sizes base.now.items) }
-    requires some { 0 < length setting.now.earlier.items }
-    requires few { variables_over (sizes base.now.items) setting.now ≤ most_variables }
     requires setting { IsClassSetting (sizes base.now.items) (length form.now) setting.now }
     requires done { All (λ p. p.arity ≡ variables_over (sizes base.now.items) setting.now)
         done.now }
@@ -56,7 +53,7 @@ pub(crate) fn inhomogeneity(
         → IsPastInhomogeneityOf (sizes base.now.items)
         (fractions_of form.now) setting.now (terms_each done.now) }
 {
-    let arity = 2 + 2 * base.len() + setting.earlier.len();
+    let arity = width(base, setting.earlier.len());
     let moved = compose_rests(alloc, form, setting, base)?;
     let combination_of_earlier = combination_of_earlier(alloc, form, setting, done, arity)?;
     let sum = moved.add(alloc, &combination_of_earlier)?;
@@ -68,17 +65,13 @@ fn compose_rests(
     alloc: Global,
     form: &[Frac],
     setting: &ClassSetting,
-    base: &[Whole],
+    base: &Vec<Whole>,
 ) -> Result<Poly<Frac, Grevlex>, ArithmeticError>
-    requires some { 0 < length setting.now.earlier.items }
-    requires few { variables_over (sizes base.now) setting.now ≤ most_variables }
-    requires earlier { All (λ p. p.arity ≡ variables_over (sizes base.now) setting.now)
-        setting.now.earlier.items }
-    requires rests { All (λ p. p.arity ≡ length setting.now.earlier.items)
-        setting.now.rests.items }
-    ensures arity { IfOk result (λ p. p.arity ≡ variables_over (sizes base.now) setting.now) }
+    requires { IsClassSetting (sizes base.now.items) (length form.now) setting.now }
+    ensures arity { IfOk result
+        (λ p. p.arity ≡ variables_over (sizes base.now.items) setting.now) }
     ensures terms { IfOk result (λ p. terms_in p
-        ≡ moved_of (sizes base.now) (fractions_of form.now) setting.now) }
+        ≡ moved_of (sizes base.now.items) (fractions_of form.now) setting.now) }
     ensures wide { IsErrOf result ArithmeticError.Wide
         → IsPastMovedOf (fractions_of form.now) setting.now }
 {

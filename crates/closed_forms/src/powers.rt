@@ -8,12 +8,12 @@ ghost use Rattle.frac128.specs.FracMeaning.{fraction_of};
 ghost use Rattle.coprime_base.specs.Sizes.{sizes};
 ghost use Rattle.solvable_maps.specs.Expo.{with_key, differences};
 ghost use Rattle.solvable_maps.specs.Iterations.{width};
-ghost use Rattle.monos.specs.Variables.{most_variables};
 ghost use Rattle.expo.specs.Bases.{IsCoprimeBase};
 ghost use Rattle.expo.specs.Powers.{key_of_power, side_of};
 ghost use Rattle.closed_forms.specs.Limits.{IsLow, AreLow};
 ghost use Rattle.closed_forms.specs.Solved.{IsMade, IsPower};
 
+use crate::recurrence::Recurrence;
 use coprime_base::{BaseError, exponents};
 use expo::Power;
 use frac128::{Frac, Whole};
@@ -97,36 +97,34 @@ fn difference(more: u16, less: u16) -> i32
     i32::from(more) - i32::from(less)
 }
 
-/// The n-th power of a number times a variable.
-pub(crate) fn growing_monomial(
-    alloc: Global,
-    vars: usize,
-    variable: usize,
-    own: &Power,
-) -> Result<Mono, AllocError>
-    requires small { AreLow own.now.exponents.items }
-    requires variable { variable < vars }
-    requires few { width (length own.now.exponents.items) vars ≤ most_variables }
-    ensures ok { let x = key_of_power own.now in
-        IfOk result (λ mono. mono ≡ with_key 0 x (unit vars variable)) }
-{
-    let unit = Mono::variable(alloc, vars, variable)?;
-    behind_power(alloc, own, &unit)
-}
+impl Recurrence<'_, '_> {
+    /// The n-th power of λ times a variable.
+    pub(crate) fn growing_monomial(
+        &self,
+        alloc: Global,
+        variable: usize,
+    ) -> Result<Mono, AllocError>
+        requires { variable < self.now.vars }
+        ensures ok { IfOk result (λ mono. mono
+            ≡ with_key 0 (key_of_power self.now.own) (unit self.now.vars variable)) }
+    {
+        let unit = Mono::variable(alloc, self.vars, variable)?;
+        self.behind_power(alloc, &unit)
+    }
 
-/// The n-th power of a number times a monomial in the variables.
-pub(crate) fn behind_power(alloc: Global, own: &Power, variables: &Mono) -> Result<Mono, AllocError>
-    requires small { AreLow own.now.exponents.items }
-    requires few { width (length own.now.exponents.items) (length variables.now)
-        ≤ most_variables }
-    ensures ok { let x = key_of_power own.now in
-        IfOk result (λ mono. mono ≡ with_key 0 x variables.now) }
-{
-    let mut exponents = vec![in alloc; 0, u16::from(own.negative)]?;
-    push_sides(&mut exponents, &own.exponents, false)?;
-    push_sides(&mut exponents, &own.exponents, true)?;
-    let front = Mono::new(alloc, &exponents)?;
-    front.concat(alloc, variables)
+    /// The n-th power of λ times a monomial in the variables.
+    pub(crate) fn behind_power(&self, alloc: Global, variables: &Mono) -> Result<Mono, AllocError>
+        requires { length variables.now ≡ self.now.vars }
+        ensures ok { IfOk result (λ mono. mono
+            ≡ with_key 0 (key_of_power self.now.own) variables.now) }
+    {
+        let own = &self.own;
+        let mut exponents = vec![in alloc; 0, u16::from(own.negative)]?;
+        push_sides(&mut exponents, &own.exponents, false)?;
+        push_sides(&mut exponents, &own.exponents, true)?;
+        let front = Mono::new(alloc, &exponents)?;
+        front.concat(alloc, variables)
+    }
 }
 
 /// Puts the exponents above the line, or those below it, behind the others.

@@ -1,5 +1,5 @@
 //! The splittings of all classes.
-ghost use Rattle.std.specs.Prelude.{◌≡◌, ◌≤◌, List, All, length, IfOk, OnOk, IfErr};
+ghost use Rattle.std.specs.Prelude.{◌≡◌, ◌≤◌, List, All, length, IfOk, IfErr};
 ghost use Rattle.algebra.specs.Fraction.{Fraction};
 ghost use Rattle.polynomials.specs.Terms.{Terms};
 ghost use Rattle.algebra.specs.Each.{Each};
@@ -8,7 +8,7 @@ ghost use Rattle.poly.specs.Seen.{terms_each};
 ghost use Rattle.solvable.specs.Refusal.{AreClassesOf, IsSolvable};
 ghost use Rattle.solvable_maps.specs.Classes.{IsClass, IsReachedClass, first_of};
 ghost use Rattle.closed_forms.specs.Limits.{most_images};
-ghost use Rattle.closed_forms.specs.Splits.{groups_in, AreSplits, AreSplitsTo, IsSplitAmong, IsSplitOf, IfRefusedAt, IfRefusedMatrix};
+ghost use Rattle.closed_forms.specs.Splits.{groups_in, AreSplits, IsSplitAmong, IsSplitOf, IfRefusedAt, IfRefusedMatrix};
 
 use crate::FormsError;
 use crate::linear_parts::class_matrix;
@@ -33,38 +33,10 @@ pub(crate) fn splits_of(
         (IsReachedClass (terms_each images.now.items))) }
 {
     let mut splits = Vec::new(alloc);
-    match push_splits(alloc, images, groups, &mut splits) {
-        Ok(()) => Ok(splits),
-        Err(error) => Err(error),
+    for first in 0..images.len() {
+        splits.push(split_from(alloc, images, groups, first)?)?;
     }
-}
-
-/// Puts the splittings for the other variables behind those for the first ones.
-fn push_splits(
-    alloc: Global,
-    images: &Vec<Poly<Frac, Grevlex>>,
-    groups: &[Vec<usize>],
-    splits: &mut Vec<Option<Split>>,
-) -> Result<(), FormsError>
-    requires few { length images.now.items ≤ most_images }
-    requires square { All (λ p. p.arity ≡ length images.now.items) images.now.items }
-    requires solvable { IsSolvable (terms_each images.now.items) }
-    requires classes { AreClassesOf (terms_each images.now.items) groups.now }
-    requires begun { AreSplitsTo (terms_each images.now.items) splits.now.items }
-    ensures splits { OnOk result (AreSplits (terms_each images.now.items) splits.new.items) }
-    ensures refused { IfErr result (IfRefusedAt (terms_each images.now.items)
-        (IsReachedClass (terms_each images.now.items))) }
-{
-    if splits.len() >= images.len() {
-        return Ok(());
-    }
-    match split_from(alloc, images, groups, splits.len()) {
-        Ok(found) => {
-            splits.push(found)?;
-            push_splits(alloc, images, groups, splits)
-        }
-        Err(error) => Err(error),
-    }
+    Ok(splits)
 }
 
 /// The splitting of the class that begins with this variable, where one does.

@@ -42,22 +42,16 @@ module _ (t : ℕ) (c : After-has_any t) (images : List (Terms Fraction)) (base 
   stays : (i : ℕ) × (i < length c.deref-in-Ok.result.now)
       × (get_or c.deref-in-Ok.result.now i false ≡ true)
       → IsSettled images base c.args.polys.now c.args.since c.args.since
-  stays some = settled_here images base (groups_in c.args.groups.now) (told c.args.states.now)
-      c.args.polys.now c.args.since h (c.args.since - 1) one (terms_each c.deref.result.now) is
-      c.deref-in-Ok.result.now count marked some
+  stays some = settled_here h one is c.deref-in-Ok.result.now count marked some
 
   before : ((i : ℕ) → get_or c.deref-in-Ok.result.now i false ≡ false)
       → IsSettling images base (groups_in c.args.groups.now) (told c.args.states.now)
       c.args.polys.now (c.args.since - 1)
-  before none = settling_before images base (groups_in c.args.groups.now)
-      (told c.args.states.now) c.args.polys.now c.args.since h (c.args.since - 1) one
-      (terms_each c.deref.result.now) is c.deref-in-Ok.result.now count marked none
+  before none = settling_before h one is c.deref-in-Ok.result.now count marked none
 
   lower : (d : ℕ) → IsSettled images base c.args.polys.now (c.args.since - 1) d
       → IsSettled images base c.args.polys.now c.args.since d
-  lower = settled_before images base (groups_in c.args.groups.now)
-      (told c.args.states.now) c.args.polys.now c.args.since h (c.args.since - 1) one
-      (terms_each c.deref.result.now) is c.deref-in-Ok.result.now count marked
+  lower = settled_before h one is c.deref-in-Ok.result.now count marked
 
 pub returns-then-has_any-clause-settled : goal.returns-then-has_any-clause-settled
 returns-then-has_any-clause-settled t c = λ images base h.
@@ -77,7 +71,7 @@ returns-else-has_any-clause-refused t c = λ images base h.
     IfErr-weaker c.least.result _ _
     (of_class (IsWideIteration base images (c.args.since - 1))
     (IsWideIteration base images c.args.since)
-    (λ v w. wide_before base images (c.args.since - 1) c.args.since v (one t at images base h) w))
+    (λ v. wide_before (one t at images base h)))
     (c.least.ensures.refused images base (before t at images base h
     (c.has_any.ensures.none c.if-has_any.false)))
 
@@ -85,8 +79,7 @@ pub returns-in-Err-clause-refused : goal.returns-in-Err-clause-refused
 returns-in-Err-clause-refused t c = λ images base h.
     of_class (IsPastOfClass (groups_in c.args.groups.now) c.args.polys.now (c.args.since - 1))
     (IsWideIteration base images c.args.since)
-    (λ v w. wide_here images base (groups_in c.args.groups.now) (told c.args.states.now)
-    c.args.polys.now c.args.since h (c.args.since - 1) v
+    (λ v w. wide_here h (c.args.since - 1) v
     (let o = one_more c.args.since c.if-since-eq0.false in omega (arith, o))
     (inl (let o = one_more c.args.since c.if-since-eq0.false in omega (arith, o))) w)
     c.in-Err.error c.in-Err.ensures.refused

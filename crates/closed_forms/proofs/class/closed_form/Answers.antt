@@ -30,7 +30,7 @@ returns-clause-normal c =
     let bs = sizes c.args.base.now.items in
     let m = length c.args.setting.now.earlier.items in
     subst (λ (p : FracPoly). IsNormalForm bs grevlex m (terms_in p)) (sym c.into_body.ensures)
-    (over_normal bs m c.in_ok-closed.closed c.in_ok-closed.ensures.over)
+    (over_normal c.in_ok-closed.ensures.over)
 
 pub returns-clause-next : goal.returns-clause-next
 returns-clause-next c =

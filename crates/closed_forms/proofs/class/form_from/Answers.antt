@@ -1,6 +1,4 @@
-use Rattle.std.proofs.Common.{length}
 use Rattle.std.proofs.lemmas.Result.{IfOk-weaker}
-use Rattle.coprime_base.specs.Sizes.{sizes}
 use Rattle.closed_forms.proofs.FormsFrom.{one_later_over, one_later_is, one_later_past, one_later_form, one_later_wide}
 use Rattle.closed_forms.proofs.LaterForms.{ok_both}
 use Rattle.closed_forms.proofs.Marks.{off}
@@ -8,21 +6,18 @@ use Rattle.closed_forms.proofs.class.form_from.Goals as goal
 
 pub returns-then-is_zero-clause-over : goal.returns-then-is_zero-clause-over
 returns-then-is_zero-clause-over c = IfOk-weaker c.before-then-is_zero.result _ _
-    (λ e is. one_later_over (sizes c.args.base.now.items)
-    (length c.args.setting.now.earlier.items) c.args.inhomogeneity.now c.requires.over e is)
+    (one_later_over c.requires.over)
     c.before-then-is_zero.ensures.before
 
 pub returns-then-is_zero-clause-form : goal.returns-then-is_zero-clause-form
 returns-then-is_zero-clause-form c = ok_both c.before-then-is_zero.result _ _ _
     (λ e is h. one_later_form (c.is_zero.ensures.0 c.if-is_zero.true)
-    (one_later_is (sizes c.args.base.now.items) (length c.args.setting.now.earlier.items)
-    c.args.inhomogeneity.now c.requires.over e is h)) c.before-then-is_zero.ensures.before
+    (one_later_is c.requires.over e is h)) c.before-then-is_zero.ensures.before
     c.before-then-is_zero.ensures.values
 
 pub returns-then-is_zero-clause-wide : goal.returns-then-is_zero-clause-wide
 returns-then-is_zero-clause-wide c = λ w. one_later_wide (c.is_zero.ensures.0 c.if-is_zero.true)
-    (one_later_past (sizes c.args.base.now.items) (length c.args.setting.now.earlier.items)
-    c.args.inhomogeneity.now c.requires.over (c.before-then-is_zero.ensures.wide w))
+    (one_later_past c.requires.over (c.before-then-is_zero.ensures.wide w))
 
 pub some_form-requires-clause-nonzero : goal.some_form-requires-clause-nonzero
 some_form-requires-clause-nonzero c = off c.is_zero.result c.if-is_zero.false c.is_zero.ensures.1

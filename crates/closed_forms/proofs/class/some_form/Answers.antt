@@ -1,4 +1,6 @@
-use Rattle.std.proofs.Common.{length, ap, sym, subst, ◌∙◌}
+use Rattle.std.proofs.Common.{◌≡◌, ◌≤◌, length, ap, sym, subst, ◌∙◌}
+use Rattle.std.proofs.lemmas.List.{length-map}
+use Rattle.solvable_maps.specs.Iterations.{width}
 use Rattle.coprime_base.specs.Sizes.{sizes}
 use Rattle.frac128.specs.FracMeaning.{fraction_of}
 use Rattle.linear.specs.Rows.{fractions_of}
@@ -15,26 +17,58 @@ use Rattle.closed_forms.proofs.FormsFrom.{at_once_past}
 use Rattle.closed_forms.proofs.Mixing.{tell}
 use Rattle.closed_forms.proofs.Settling.{inhomogeneity_arities, inhomogeneity_normal}
 use Rattle.closed_forms.proofs.class.some_form.Goals as goal
+use Rattle.closed_forms.proofs.class.some_form.Goals.{After-deref}
 
-pub solve-requires-clause-arities : goal.solve-requires-clause-arities
-solve-requires-clause-arities c =
-    let bs = sizes c.args.base.now.items in
-    inhomogeneity_arities bs c.len-vars.result c.args.inhomogeneity.now
-    (subst (λ m. IsExpoOver bs m c.args.inhomogeneity.now)
-    (sym (c.len-vars.ensures ∙ c.args.setting.now.earlier.ok.0)) c.requires.over)
-    c.deref.result.now
-    (c.deref.ensures.value ∙ ap (λ v. v.items) c.terms-terms.ensures
-    ∙ ap (λ p. p.terms.items) c.body.ensures)
+-- the terms of the inhomogeneity, and how many variables they have
+module _ (c : After-deref) where
+  terms_are : c.deref.result.now ≡ c.args.inhomogeneity.now.body.terms.items
+  terms_are = c.deref.ensures.value ∙ ap (λ v. v.items) c.terms.ensures
+      ∙ ap (λ p. p.terms.items) c.body.ensures
 
-pub solve-requires-clause-normal : goal.solve-requires-clause-normal
-solve-requires-clause-normal c =
-    inhomogeneity_normal (sizes c.args.base.now.items) (length c.args.setting.now.earlier.items)
-    c.args.inhomogeneity.now c.requires.over c.deref.result.now
-    (c.deref.ensures.value ∙ ap (λ v. v.items) c.terms-terms.ensures
-    ∙ ap (λ p. p.terms.items) c.body.ensures)
+  count_is : c.len.result ≡ length c.args.setting.now.earlier.items
+  count_is = c.len.ensures ∙ c.args.setting.now.earlier.ok.0
+
+  over : IsExpoOver (sizes c.args.base.now.items) c.len.result c.args.inhomogeneity.now
+  over = subst (λ m. IsExpoOver (sizes c.args.base.now.items) m c.args.inhomogeneity.now)
+      (sym count_is) c.requires.over
+
+  few : width (length (sizes c.args.base.now.items)) c.len.result ≤ 4096
+  few = subst (λ m. width (length (sizes c.args.base.now.items)) m ≤ 4096) (sym count_is)
+      c.requires.setting.few
+
+  count : length c.in_ok-own.own.exponents.items ≡ length c.args.base.now.items
+  count = c.in_ok-own.ensures.power.count ∙ length-map c.args.base.now.items _
+
+pub invariant_of-recurrence : goal.invariant_of-recurrence
+invariant_of-recurrence c =
+    let at = (goal.at.invariant_of-recurrence c).After-deref in
+    record {
+      coprime = c.requires.setting.coprime;
+      few = few at;
+      count = count at;
+      small = c.in_ok-own.ensures.small;
+      arities = inhomogeneity_arities (over at) (terms_are at);
+      normal = inhomogeneity_normal (over at) (terms_are at);
+    }
+
+pub invariant_of-recurrence-2 : goal.invariant_of-recurrence-2
+invariant_of-recurrence-2 c =
+    let at = (goal.at.invariant_of-recurrence-2 c).After-deref in
+    record {
+      coprime = c.requires.setting.coprime;
+      few = few at;
+      count = count at;
+      small = c.in_ok-own.ensures.small;
+      arities = inhomogeneity_arities (over at) (terms_are at);
+      normal = inhomogeneity_normal (over at) (terms_are at);
+    }
+
+pub power_over-requires-clause-base : goal.power_over-requires-clause-base
+power_over-requires-clause-base c = c.requires.setting.coprime
 
 pub returns-then-setting-eq0-clause-wide : goal.returns-then-setting-eq0-clause-wide
 returns-then-setting-eq0-clause-wide c =
+    let at = (goal.at.returns-then-setting-eq0-clause-wide c).After-deref in
     let bs = sizes c.args.base.now.items in
     let m = length c.args.setting.now.earlier.items in
     let f = fractions_of c.args.form.now in
@@ -42,11 +76,9 @@ returns-then-setting-eq0-clause-wide c =
     λ w. at_once_past bs m f c.args.group.now (fraction_of c.args.value.now) x
     (ahead_in c.args.setting.now) (terms_in c.args.inhomogeneity.now.body) c.requires.nonzero
     c.in_ok-own.ensures.power.is c.if-setting-eq0.true
-    (subst (λ q. IsPastSolved bs m f c.args.group.now x (tell q))
-    (c.deref.ensures.value ∙ ap (λ v. v.items) c.terms-terms.ensures
-    ∙ ap (λ p. p.terms.items) c.body.ensures)
-    (subst (λ k. IsPastSolved bs k f c.args.group.now x (tell c.deref.result.now))
-    (c.len-vars.ensures ∙ c.args.setting.now.earlier.ok.0) (c.solve.ensures.wide w)))
+    (subst (λ q. IsPastSolved bs m f c.args.group.now x (tell q)) (terms_are at)
+    (subst (λ k. IsPastSolved bs k f c.args.group.now x (tell c.deref.result.now)) (count_is at)
+    (c.solve.ensures.wide w)))
 
 pub returns-in_err-there-clause-wide : goal.returns-in_err-there-clause-wide
 returns-in_err-there-clause-wide c =
@@ -56,38 +88,18 @@ returns-in_err-there-clause-wide c =
     (subst (λ ps. IsPastMix (fractions_of c.args.form.now) (terms_each ps))
     c.deref-2.ensures.value (c.in_err-there.ensures.wide w)))
 
-pub solve_later-requires-clause-arities : goal.solve_later-requires-clause-arities
-solve_later-requires-clause-arities c =
-    let bs = sizes c.args.base.now.items in
-    inhomogeneity_arities bs c.in_ok-there.there.arity c.args.inhomogeneity.now
-    (subst (λ m. IsExpoOver bs m c.args.inhomogeneity.now)
-    (sym (c.in_ok-there.ensures.arity ∙ c.len-vars.ensures
-    ∙ c.args.setting.now.earlier.ok.0)) c.requires.over)
-    c.deref-3.result.now
-    (c.deref-3.ensures.value ∙ ap (λ v. v.items) c.terms-terms.ensures
-    ∙ ap (λ p. p.terms.items) c.body.ensures)
-
-pub solve_later-requires-clause-normal : goal.solve_later-requires-clause-normal
-solve_later-requires-clause-normal c =
-    inhomogeneity_normal (sizes c.args.base.now.items) (length c.args.setting.now.earlier.items)
-    c.args.inhomogeneity.now c.requires.over c.deref-3.result.now
-    (c.deref-3.ensures.value ∙ ap (λ v. v.items) c.terms-terms.ensures
-    ∙ ap (λ p. p.terms.items) c.body.ensures)
-
 pub returns-clause-wide : goal.returns-clause-wide
 returns-clause-wide c =
+    let at = (goal.at.returns-clause-wide c).After-deref in
     let bs = sizes c.args.base.now.items in
     let s = c.args.setting.now in
     let m = length s.earlier.items in
     let l = fraction_of c.args.value.now in
-    let there = c.in_ok-there.there in
     let q = terms_in c.args.inhomogeneity.now.body in
     λ w. later_past c.requires.nonzero c.if-setting-eq0.false
     (subst (λ ps. IsPastLater bs m l s.iterations
     (part (fractions_of c.args.form.now) (terms_each ps)) q) c.deref-2.ensures.value
     (subst (λ p. IsPastLater bs m l s.iterations p q) c.in_ok-there.ensures.terms
-    (subst (λ k. IsPastLater bs k l s.iterations (terms_in there) q)
-    (c.in_ok-there.ensures.arity ∙ c.len-vars.ensures ∙ s.earlier.ok.0)
-    (subst (λ ts. IsPastLater bs there.arity l s.iterations (terms_in there) (tell ts))
-    (c.deref-3.ensures.value ∙ ap (λ v. v.items) c.terms-terms.ensures
-    ∙ ap (λ p. p.terms.items) c.body.ensures) (c.solve_later.ensures.wide w)))))
+    (subst (λ k. IsPastLater bs k l s.iterations (terms_in c.in_ok-there.there) q) (count_is at)
+    (subst (λ ts. IsPastLater bs c.len.result l s.iterations (terms_in c.in_ok-there.there)
+    (tell ts)) (terms_are at) (c.solve_later.ensures.wide w)))))

@@ -1,4 +1,4 @@
-use Rattle.std.proofs.Common.{◌≡◌, ◌+◌, ◌*◌, inl, inr, length, ap, subst, ◌∙◌}
+use Rattle.std.proofs.Common.{◌≡◌, ◌+◌, inl, inr, length, ap, subst, ◌∙◌}
 use Rattle.std.proofs.lemmas.List.{length_push}
 use Rattle.std.proofs.lemmas.List.Elements.{All-push, All-same}
 use Rattle.algebra.specs.Fraction.{fraction_size}
@@ -12,7 +12,7 @@ use Rattle.closed_forms.specs.Inhomogeneities.{collect_terms, part}
 use Rattle.closed_forms.specs.Sums.{IsPastMix}
 use Rattle.closed_forms.specs.Values.{IsExpoOver}
 use Rattle.closed_forms.proofs.Chaining.{variables_next, row_past}
-use Rattle.closed_forms.proofs.Making.{code_width, normal_over}
+use Rattle.closed_forms.proofs.Making.{normal_over}
 use Rattle.expo.proofs.Solved.{handed_on}
 use Rattle.closed_forms.proofs.class.variables.Goals as goal
 
@@ -45,8 +45,7 @@ loop-row-preserved c =
     let more = c.in_ok-push.ensures.items in
     let sum_is : terms_in c.in_ok-sum.sum ≡ part (fractions_of c.row-item.result.items) forms =
     c.in_ok-sum.ensures.terms ∙ ap (λ r. part (fractions_of r) forms) c.deref.ensures.value in
-    let arity = c.in_ok-sum.ensures.arity ∙ ap (λ k. 2 + 2 * k + m) (c.len.ensures
-    ∙ c.args.base.now.ok.0) ∙ code_width c.args.base.now.items m in (
+    let arity = c.in_ok-sum.ensures.arity ∙ c.width.ensures in (
       ap length more ∙ length_push out e ∙ ap (λ k. k + 1) c.loop-row.invariant.0,
       All-same (IsExpoOver bs m) c.push.new.self.items _ more (All-push (IsExpoOver bs m) out e
           c.loop-row.invariant.1 (normal_over bs _ m _ e arity c.in_ok-normal.ensures.normal)),

@@ -25,19 +25,21 @@ weighted_sum-requires-clause-arities c =
 
 pub compose-requires-clause-arities : goal.compose-requires-clause-arities
 compose-requires-clause-arities c =
-    over_images (width (length (sizes c.args.base.now)) (length c.args.setting.now.earlier.items))
+    over_images (width (length (sizes c.args.base.now.items))
+    (length c.args.setting.now.earlier.items))
     c.args.setting.now.earlier.items c.requires.some c.requires.earlier
 
 pub returns-clause-arity : goal.returns-clause-arity
 returns-clause-arity c =
     c.in_ok-compose.ensures.composition.arity
-    ∙ arity_of_is (width (length (sizes c.args.base.now)) (length c.args.setting.now.earlier.items))
+    ∙ arity_of_is (width (length (sizes c.args.base.now.items))
+    (length c.args.setting.now.earlier.items))
     c.args.setting.now.earlier.items c.requires.some c.requires.earlier
 
 pub returns-clause-terms : goal.returns-clause-terms
 returns-clause-terms c =
     let i = c.in_ok-compose.ensures.composition in
-    moved_is (sizes c.args.base.now) (length c.args.setting.now.earlier.items)
+    moved_is (sizes c.args.base.now.items) (length c.args.setting.now.earlier.items)
     (fractions_of c.args.form.now) (terms_each c.args.setting.now.rests.items)
     c.args.setting.now.earlier.items c.in_ok-part.part c.in_ok-compose.field-0
     c.requires.some c.requires.earlier (c.in_ok-part.ensures.terms

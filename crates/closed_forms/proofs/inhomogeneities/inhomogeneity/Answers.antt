@@ -1,11 +1,11 @@
-use Rattle.std.proofs.Common.{◌≡◌, ◌+◌, ◌*◌, ◌≤◌, All, Err, length, refl, sym, ap, subst, ◌∙◌, arith}
-use Rattle.std.proofs.lemmas.List.{length-map}
+use Rattle.std.proofs.Common.{◌≡◌, All, Err, length, refl, sym, ap, subst, ◌∙◌, arith}
 use Rattle.algebra.specs.Fraction.{fractions, fraction_size}
 use Rattle.algebra.specs.Size.{IsPast}
 use Rattle.polynomials.specs.Weight.{weight, IsPastSum}
 use Rattle.linear.specs.Rows.{fractions_of, rows_of}
 use Rattle.poly.specs.Seen.{terms_in, terms_each}
 use Rattle.coprime_base.specs.Sizes.{sizes}
+use Rattle.solvable_maps.specs.Iterations.{width}
 use Rattle.solvable.proofs.Using.{FracPoly}
 use Rattle.closed_forms.specs.ClassSetting.{variables_over, moved_of}
 use Rattle.closed_forms.specs.Inhomogeneities.{part}
@@ -17,43 +17,26 @@ use Rattle.closed_forms.proofs.Mixing.{if_ok_where}
 use Rattle.closed_forms.proofs.inhomogeneities.inhomogeneity.Goals as goal
 use Rattle.closed_forms.proofs.inhomogeneities.inhomogeneity.Goals.{In_ok-moved}
 
-pub compose_rests-requires-clause-few : goal.compose_rests-requires-clause-few
-compose_rests-requires-clause-few c = subst (λ ws. variables_over (sizes ws) c.args.setting.now
-    ≤ 4096) (sym c.deref.ensures.value) c.requires.few
-
-pub compose_rests-requires-clause-earlier : goal.compose_rests-requires-clause-earlier
-compose_rests-requires-clause-earlier c =
-    subst (λ ws. All (λ (p : FracPoly). p.arity ≡ variables_over (sizes ws) c.args.setting.now)
-    c.args.setting.now.earlier.items) (sym c.deref.ensures.value) c.requires.setting.earlier
-
 -- how many exponents the terms have, and what is moved
 module _ (c : In_ok-moved) where
-  width_is : 2 + 2 * c.len.result + c.len-2.result ≡ variables_over (sizes c.args.base.now.items)
-      c.args.setting.now
-  width_is =
-      let n : c.len.result ≡ length (sizes c.args.base.now.items) = c.len.ensures
-      ∙ c.args.base.now.ok.0 ∙ sym (length-map c.args.base.now.items _) in
-      let m : c.len-2.result ≡ length c.args.setting.now.earlier.items = c.len-2.ensures
-      ∙ c.args.setting.now.earlier.ok.0 in
-      omega (arith, n, m)
+  width_is : c.width-arity.result ≡ variables_over (sizes c.args.base.now.items) c.args.setting.now
+  width_is = c.width-arity.ensures ∙ ap (width (length (sizes c.args.base.now.items)))
+      (c.len.ensures ∙ c.args.setting.now.earlier.ok.0)
 
   moved_arity : c.in_ok-moved.moved.arity ≡ variables_over (sizes c.args.base.now.items)
       c.args.setting.now
   moved_arity = c.in_ok-moved.ensures.arity
-      ∙ ap (λ ws. variables_over (sizes ws) c.args.setting.now) c.deref.ensures.value
 
   moved_is : terms_in c.in_ok-moved.moved ≡ moved_of (sizes c.args.base.now.items)
       (fractions_of c.args.form.now) c.args.setting.now
   moved_is = c.in_ok-moved.ensures.terms
-      ∙ ap (λ ws. moved_of (sizes ws) (fractions_of c.args.form.now) c.args.setting.now)
-      c.deref.ensures.value
 
 pub combination_of_earlier-requires-clause-few : goal.combination_of_earlier-requires-clause-few
 combination_of_earlier-requires-clause-few c =
     omega (
       arith,
       width_is (goal.at.combination_of_earlier-requires-clause-few c).In_ok-moved,
-      c.requires.few,
+      c.requires.setting.few,
     )
 
 pub combination_of_earlier-requires-clause-done : goal.combination_of_earlier-requires-clause-done

@@ -1,0 +1,310 @@
+-- What is known of a map in work.
+--   form_base_in, early_in      its base, and how many of its values are zero
+--   class_later, iteration_later     what a refusal tells of it
+--   none_yet            before the first class
+--   comes_next          a class that comes next;  next_class, next_inside, first_low: its variables
+--   at_first, split_here, values_here, ready_here, forms_next, wide_first     with its splitting
+--   inside_in, alike_at, alike_in, settling_in     behind the last class
+--   passing_in, passing_wide, form_in     from which number of iterations on its polynomials are the state, and which variables pass
+use Rattle.std.proofs.Common.{◌≡◌, ◌≢◌, inl, inr, ℕ, zero, suc, ◌+◌, ◌<◌, ◌≤◌, Bool, false, List, [], ◌∷◌, length, get_or, All, Vec, Global, Option, Some, None, refl, sym, ap, subst, ◌∙◌, arith}
+use Rattle.std.proofs.lemmas.Bool.{cases_eq}
+use Rattle.std.proofs.lemmas.List.{length-map}
+use Rattle.algebra.specs.Each.{Each}
+use Rattle.algebra.specs.Fraction.{Fraction, ℚ}
+use Rattle.polynomials.specs.Terms.{Terms}
+use Rattle.solvable_maps.specs.Class.{AreClasses}
+use Rattle.solvable_maps.specs.Uses.{uses}
+use Rattle.solvable_maps.specs.Classes.{IsClass, IsFormBase, first_of}
+use Rattle.solvable_maps.specs.Iterations.{width, IsClosedFormFrom}
+use Rattle.solvable_maps.proofs.Classwise.{next_is_class, class_some}
+use Rattle.linear.specs.Rows.{fractions_of, rows_of}
+use Rattle.coprime_base.specs.Sizes.{sizes}
+use Rattle.eigen_split.specs.declared.splitting.Split.{Split}
+use Rattle.expo.specs.declared.exponential.Expo.{Expo}
+use Rattle.solvable.proofs.Using.{FracPoly, length_each}
+use Rattle.algebra.proofs.In.{in_get}
+use Rattle.closed_forms.specs.declared.map_in_work.MapInWork.{MapInWork}
+use Rattle.closed_forms.specs.declared.errors.FormsError.{FormsError}
+use Rattle.closed_forms.specs.ClassForms.{zeros_of, AreVariablesOf, IsPastClassOf}
+use Rattle.closed_forms.specs.Known.{IsReady, IsWideClass, IsWideIteration}
+use Rattle.closed_forms.specs.MapInWork.{images_in, IsInWork, AreFormsBut}
+use Rattle.closed_forms.specs.Put.{IsPutTo}
+use Rattle.closed_forms.specs.Refusal.{IfOfClass, IfWide, IfWideIteration, IfLater}
+use Rattle.closed_forms.specs.Settling.{AreAlike, AreAllMarked, IsPastOfClass, IsSettling, IsSettled}
+use Rattle.closed_forms.specs.Solved.{IsMade}
+use Rattle.closed_forms.specs.Splits.{groups_in, IsSplitOf}
+use Rattle.closed_forms.specs.States.{after, AreZeros}
+use Rattle.closed_forms.specs.Values.{values_in, bodies_of, IsExpoOver, AreOver}
+use Rattle.closed_forms.specs.View.{ArePassing, IsFormOf}
+use Rattle.closed_forms.proofs.Ahead.{zeros_low}
+use Rattle.closed_forms.proofs.Counting.{twelve_values}
+use Rattle.closed_forms.proofs.Ending.{form_base_is, closed_is, closed_count, of_class, later_class, later_iteration}
+use Rattle.closed_forms.proofs.Filling.{values_made, values_at, first_here}
+use Rattle.closed_forms.proofs.Forming.{groups_inside}
+use Rattle.closed_forms.proofs.Least.{wide_here, passing_none, passing_marked}
+use Rattle.closed_forms.proofs.Placing.{bodies-count, known_begun, known_ready, ready_variables, known_next, over_normals, put_all, put_over}
+use Rattle.closed_forms.proofs.Settling.{room}
+use Rattle.closed_forms.proofs.Splitting.{first_in, first_is, map_of}
+use Rattle.closed_forms.proofs.StateLists.{told, states_get, states_count, state_length, state_over}
+
+abbrev numbers : MapInWork → List ℕ
+numbers w = sizes w.base.items
+
+abbrev listed : MapInWork → List FracPoly
+listed w = w.images.now.items
+
+module _ {w : MapInWork} (is : IsInWork w) where
+  pub form_base_in : IsFormBase (images_in w) (numbers w)
+  form_base_in = form_base_is (images_in w) w.splits.items is.splits (map_of (listed w) is.square)
+      (numbers w) is.base
+
+  zeros : AreZeros (images_in w) w.iterations
+  zeros = record { splits = w.splits.items; are = is.splits; count = sym is.iterations }
+
+  pub early_in : w.iterations ≤ 12
+  early_in =
+      let a = zeros_low (values_in w.splits.items) in
+      let b = twelve_values (listed w) is.few is.square w.splits.items is.splits in
+      let d = is.iterations in
+      omega (arith, a, b, d)
+
+  pub class_later : (e : FormsError) → IfWide (numbers w) (images_in w) w.iterations e
+      → IfLater (images_in w) e
+  class_later = later_class (images_in w) (numbers w) form_base_in w.iterations zeros
+
+  pub iteration_later : (e : FormsError) → IfWideIteration (numbers w) (images_in w) w.iterations e
+      → IfLater (images_in w) e
+  iteration_later = later_iteration (images_in w) (numbers w) form_base_in w.iterations zeros
+
+  pub room_in : width (length (numbers w)) (length (listed w)) ≤ 4096
+  room_in = room w.base.items (length (listed w)) is.short is.few
+
+  -- before the first class
+  pub none_yet : (es : List Expo) → length es ≡ length (listed w)
+      → AreOver (numbers w) (length (listed w)) es
+      → AreFormsBut w (groups_in w.classes.items) es
+  none_yet es count over = record {
+    over = over;
+    known = known_begun (numbers w) (images_in w) w.splits.items w.iterations
+        (groups_in w.classes.items) is.classes
+        (bodies_of es) (bodies-count es ∙ count ∙ sym (length_each (listed w))) (sym is.iterations);
+  }
+
+-- ---- a class that comes next
+pub comes_next : {w : MapInWork} {groups rest : List (Vec ℕ Global)} {group : Vec ℕ Global}
+    {g : List ℕ} {es : List Expo} → groups ≡ group ∷ rest → g ≡ group.items
+    → AreFormsBut w (groups_in groups) es → AreFormsBut w (g ∷ groups_in rest) es
+comes_next {w} {groups} {rest} {group} {g} {es} cut at h = subst (λ gs. AreFormsBut w gs es)
+    (ap groups_in cut ∙ ap (λ x. x ∷ groups_in rest) (sym at)) h
+
+module _ {w : MapInWork} {g : List ℕ} {rest : List (List ℕ)} {es : List Expo} (is : IsInWork w)
+    (forms : AreFormsBut w (g ∷ rest) es) where
+  pub next_class : IsClass (images_in w) g
+  next_class = go forms.known.classes
+    where
+      go : AreClasses (uses (images_in w)) (length (images_in w)) forms.known.earlier (g ∷ rest)
+          → IsClass (images_in w) g
+      go (k, next, class, later) = next_is_class (images_in w) forms.known.earlier g k next class
+
+  pub next_some : 0 < length g
+  next_some = class_some (images_in w) g next_class
+
+  pub next_inside : All (λ i. i < length es) g
+  next_inside = λ a d l.
+      let e = bodies-count es in
+      let n = forms.known.turned.size in
+      let i = (next_class.is.inside (get_or g a d) (in_get g a d l)).0 in
+      omega (arith, e, n, i)
+
+  first_at : (get_or g 0 0) ≡ first_of g
+  first_at = first_is g (get_or g 0 0) next_some refl
+
+  pub first_low : (get_or g 0 0) < length w.splits.items
+  first_low =
+      let l = (next_class.is.inside (first_of g) (first_in (images_in w) g next_class)).0 in
+      let n = is.splits.count in
+      let e = first_at in
+      omega (arith, l, n, e)
+
+  module _ {found : Option Split} (read : found ≡ get_or w.splits.items (get_or g 0 0) found) where
+    pub at_first : (split : Split) × (found ≡ Some split) × IsSplitOf (images_in w) g split
+    at_first =
+        let s = (is.splits.each (get_or g 0 0) found first_low).every g next_class (sym first_at) in
+        (s.0, read ∙ s.1, s.2)
+
+    module _ {split : Split} (some : found ≡ Some split) where
+      pub split_here : IsSplitOf (images_in w) g split
+      split_here =
+          let s = at_first in
+          let e : Some s.0 ≡ Some split = sym s.1 ∙ some in
+          let own : s.0 ≡ split = cc in
+          subst (IsSplitOf (images_in w) g) own s.2
+
+      here : get_or w.splits.items (first_of g) None ≡ Some split
+      here = first_here w.splits.items (get_or g 0 0) (first_of g) found split first_at read some
+          first_low
+
+      pub values_here : Each (λ c. c ≢ ℚ.zero → IsMade (numbers w) c)
+          (fractions_of split.values.items)
+      values_here = values_at (λ c. c ≢ ℚ.zero → IsMade (numbers w) c) w.splits.items (get_or g 0 0)
+          found split
+          first_low read some (values_made (values_in w.splits.items) (numbers w) is.base)
+
+      pub ready_here : IsReady (numbers w) (images_in w) w.iterations (zeros_of split) g
+          (bodies_of es)
+      ready_here = known_ready (numbers w) (images_in w) w.splits.items w.iterations (g ∷ rest) rest
+          g (bodies_of es)
+          refl forms.known split here
+
+      pub forms_next : {news new : List Expo} → length news ≡ length g
+          → AreOver (numbers w) (length w.images.now.items) news
+          → IsPutTo (length news) g news es new
+          → ((r : IsReady (numbers w) (images_in w) w.iterations (zeros_of split) g (bodies_of es))
+          → AreVariablesOf (numbers w) (images_in w) (r.since + zeros_of split) g (bodies_of news))
+          → AreFormsBut w rest new
+      forms_next {news} {new} count over put variables =
+          let whole = put_all g news es new count put in
+          record {
+            over = put_over (numbers w) (length w.images.now.items) g news es new whole count over
+                forms.over;
+            known = known_next (numbers w) (images_in w) w.splits.items w.iterations (g ∷ rest) rest
+                g news es new refl
+                forms.known whole count (λ i inside. (next_class.is.inside i inside).0) split here
+                (ready_variables (numbers w) (images_in w) w.splits.items w.iterations (g ∷ rest)
+                rest g (bodies_of es)
+                refl forms.known split here (bodies_of news) variables);
+          }
+
+      pub wide_first : IsPastClassOf (numbers w) (images_in w) w.iterations g split (bodies_of es)
+          → IsWideClass (numbers w) (images_in w) w.iterations (get_or g 0 0)
+      wide_first past = record {
+        class = g;
+        polys = bodies_of es;
+        forms = rows_of split.forms.items;
+        values = fractions_of split.values.items;
+        ready = ready_here;
+        normal = over_normals (numbers w) (length (images_in w)) es
+            (subst (λ n. AreOver (numbers w) n es)
+            (sym (length_each w.images.now.items)) forms.over);
+        first = sym first_at;
+        are = split_here.found;
+        past = past;
+      }
+
+-- ---- behind the last class
+own_item : (xs : List (Vec FracPoly Global)) (k : ℕ) (d : Vec FracPoly Global) → k < length xs
+    → get_or xs k d ≡ get_or xs k (get_or xs k d)
+own_item [] k d l = absurd (omega (arith, l))
+own_item (x ∷ xs) zero d l = refl
+own_item (x ∷ xs) (suc k) d l = own_item xs k d (omega (arith, l))
+
+module _ {w : MapInWork} {es : List Expo} (is : IsInWork w) (forms : AreFormsBut w [] es) where
+  own : AreOver (numbers w) (length (images_in w)) es
+  own = subst (λ m. AreOver (numbers w) m es) (sym (length_each (listed w))) forms.over
+
+  closed : IsClosedFormFrom (numbers w) (images_in w) w.iterations (bodies_of es)
+  closed = closed_is (numbers w) (images_in w) w.splits.items w.iterations es own forms.known
+
+  many : length es ≡ length (listed w)
+  many = closed_count (numbers w) (images_in w) w.iterations es closed ∙ length_each (listed w)
+
+  pub inside_in : All (λ (g : Vec ℕ Global). All (λ i. i < length es) g.items) w.classes.items
+  inside_in = groups_inside (listed w) w.classes.items (length es) (sym many) is.classes
+
+  states_many : length w.states.items ≡ w.iterations + 1
+  states_many = states_count (images_in w) w.iterations w.states.items is.states
+
+  pub alike_at : (i : ℕ) (v : Vec FracPoly Global) → i ≤ w.iterations
+      → v ≡ get_or w.states.items i v → AreAlike es v.items
+  alike_at i v low at =
+      let size = state_length (listed w) w.iterations w.states.items is.states i v low at in
+      let all = state_over (listed w) w.iterations w.states.items is.states i v low at
+      is.arities in
+      let n = many in (
+        size ∙ sym n,
+        λ j e p l e_at p_at. subst (λ (q : FracPoly). q.arity ≡ length (listed w)) (sym p_at)
+            (all j p (omega (arith, size, n, l)))
+            ∙ sym (subst (IsExpoOver (numbers w) (length (listed w))) (sym e_at)
+            (forms.over j e l)).over_vars,
+      )
+
+  pub alike_in : All (λ (v : Vec FracPoly Global). AreAlike es v.items) w.states.items
+  alike_in k d l =
+      let n = states_many in
+      alike_at k (get_or w.states.items k d) (omega (arith, l, n)) (own_item w.states.items k d l)
+
+  pub settling_in : IsSettling (images_in w) (numbers w) (groups_in w.classes.items)
+      (told w.states.items) es w.iterations
+  settling_in = record {
+    map = map_of (listed w) is.square;
+    coprime = is.base.coarsest.base.coprime;
+    over = own;
+    count = many ∙ sym (length_each (listed w));
+    classes = is.classes;
+    states = λ i l. ap (λ l. get_or l i []) is.states
+        ∙ states_get (images_in w) w.iterations i []
+        (let n = states_many in
+        let d : length (told w.states.items) ≡ length w.states.items =
+        length-map w.states.items _ in
+        omega (arith, l, n, d));
+    closed = closed;
+  }
+
+  pub settling_at : {gs : List (Vec ℕ Global)} {l : List Expo} {vs : List (Vec FracPoly Global)}
+      → gs ≡ w.classes.items → l ≡ es → vs ≡ w.states.items
+      → IsSettling (images_in w) (numbers w) (groups_in gs) (told vs) l w.iterations
+  settling_at a b d = rw (a, b, d) settling_in
+
+  module _ {since : ℕ} (settled : IsSettled (images_in w) (numbers w) es w.iterations since) where
+    pub passing_in : (marks : List Bool) {start : List (Terms Fraction)}
+        → start ≡ after (images_in w) 0
+        → (since ≡ 0 → (i : ℕ) → get_or marks i false ≡ false)
+        → (since ≢ 0 → AreAllMarked es 0 start (groups_in w.classes.items) marks)
+        → ArePassing (numbers w) (length (images_in w)) (bodies_of es) marks
+    passing_in marks {start} state none marked = elim (cases_eq since 0) [
+      | inl e ↦ passing_none settling_in marks
+          (subst (λ n. IsClosedFormFrom (numbers w) (images_in w) n (bodies_of es)) e
+          settled.closed) (none e)
+      | inr n ↦ passing_marked settling_in marks state (marked n)
+    ]
+
+    pub passing_wide : (e : FormsError)
+        → IfOfClass (λ v. (since ≢ 0) × IsPastOfClass (groups_in w.classes.items) es 0 v) e
+        → IfWideIteration (numbers w) (images_in w) w.iterations e
+    passing_wide = of_class (λ v. (since ≢ 0) × IsPastOfClass (groups_in w.classes.items) es 0 v)
+        (IsWideIteration (numbers w) (images_in w) w.iterations)
+        (λ v h. wide_here settling_in 0 v
+        (some since w.iterations h.0 settled.low) (inr refl) h.1)
+      where
+        some : (a b : ℕ) → a ≢ 0 → a ≤ b → 0 < b
+        some a b n l = grind (arith, n, l)
+
+pub form_in : {w : MapInWork} (is : IsInWork w) (polys : Vec Expo Global) (since : ℕ)
+    (passing : Vec Bool Global) → AreFormsBut w [] polys.items
+    → IsSettled (images_in w) (sizes w.base.items) polys.items w.iterations since
+    → length passing.items ≡ length polys.items
+    → ArePassing (sizes w.base.items) (length (images_in w)) (bodies_of polys.items) passing.items
+    → IsFormOf (images_in w) (record {
+      base = w.base;
+      polys = polys;
+      since = since;
+      passing = passing;
+    })
+form_in {w} is polys since passing forms settled told passes =
+    let size = length_each (listed w) in
+    let own = subst (λ m. AreOver (numbers w) m polys.items) (sym size) forms.over in
+    let count = closed_count (numbers w) (images_in w) since polys.items settled.closed in
+    let n : length (numbers w) ≡ length w.base.items = length-map w.base.items _ in
+    record {
+      base = form_base_in is;
+      closed = settled.closed;
+      least = settled.least;
+      normal = over_normals (numbers w) (length (images_in w)) polys.items own;
+      over = own;
+      count = count;
+      told = told ∙ count;
+      passes = passes;
+      short = (let s = is.short in omega (arith, s, n));
+      early = (let a = settled.low in let b = early_in is in omega (arith, a, b));
+      few = subst (λ m. width (length (numbers w)) m ≤ 4096) (sym size) (room_in is);
+    }

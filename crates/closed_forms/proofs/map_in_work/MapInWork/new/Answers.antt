@@ -1,0 +1,104 @@
+use Rattle.std.proofs.Common.{◌≡◌, Err, length, sym, ap, subst, ◌∙◌, arith, rules}
+use Rattle.exponentials.specs.Base.{IsTheBase}
+use Rattle.poly.specs.Seen.{terms_each}
+use Rattle.coprime_base.specs.Sizes.{sizes}
+use Rattle.solvable.proofs.Using.{length_each}
+use Rattle.solvable_maps.specs.Classes.{sizes_of}
+use Rattle.closed_forms.specs.Refusal.{IfRefusedBy}
+use Rattle.closed_forms.specs.Splits.{groups_in}
+use Rattle.closed_forms.specs.States.{zeros_in, some_of}
+use Rattle.closed_forms.specs.Values.{values_in}
+use Rattle.closed_forms.proofs.Ahead.{zeros_low}
+use Rattle.closed_forms.proofs.Counting.{twelve_values, values_few}
+use Rattle.closed_forms.proofs.Ending.{form_base_is, all_pass, is_too_long, later_state, refused_first, refused_on}
+use Rattle.closed_forms.proofs.Splitting.{map_of}
+use Rattle.closed_forms.proofs.map_in_work.MapInWork.new.Goals as goal
+use Rattle.closed_forms.proofs.map_in_work.MapInWork.new.Goals.{After-zeros_of-iterations}
+
+pub splits_of-requires-clause-classes : goal.splits_of-requires-clause-classes
+splits_of-requires-clause-classes c = rw c.deref.ensures.value c.in-Ok.ensures.classes
+
+pub returns-in_err-splits-clause-refused : goal.returns-in_err-splits-clause-refused
+returns-in_err-splits-clause-refused c =
+    let M = terms_each c.args.images.now.items in
+    let e = c.in_err-splits.field-0.0 in
+    refused_on (IfRefusedBy M) e c.from_residual.result c.from_residual.ensures.1
+    (refused_first M e c.in_err-splits.ensures.refused)
+
+pub long_class-requires : goal.long_class-requires
+long_class-requires c = rw c.deref-2.ensures.value c.in-Ok.ensures.classes
+
+pub returns-in-Some-clause-refused : goal.returns-in-Some-clause-refused
+returns-in-Some-clause-refused c =
+    let images = c.args.images.now.items in
+    is_too_long (terms_each images) (c.in-Ok.ensures.solvable (search rules))
+    (all_pass images c.requires.square c.in_ok-splits.splits.items c.in_ok-splits.ensures.splits)
+    (groups_in c.deref-2.result.now) (rw c.deref-2.ensures.value c.in-Ok.ensures.classes)
+    (length images) c.in-Some.variable
+    c.in_ok-variable.field-0 (sym (length_each images)) c.in-Some.is c.in_ok-variable.ensures
+
+pub base_of-requires : goal.base_of-requires
+base_of-requires c = record {
+  few = rw c.deref-3.ensures.value (twelve_values c.args.images.now.items c.requires.few
+      c.requires.square c.in_ok-splits.splits.items c.in_ok-splits.ensures.splits);
+}
+
+pub zeros_of-iterations-requires : goal.zeros_of-iterations-requires
+zeros_of-iterations-requires c = rw c.deref-4.ensures.value (twelve_values c.args.images.now.items
+    c.requires.few c.requires.square c.in_ok-splits.splits.items c.in_ok-splits.ensures.splits)
+
+-- the base of the values but zero, and how many are zero
+module _ (c : After-zeros_of-iterations) where
+  base_is : IsTheBase (sizes_of (some_of (values_in c.in_ok-splits.splits.items)))
+      (sizes c.in_ok-base.base.items)
+  base_is = subst (λ splits. IsTheBase (sizes_of (some_of (values_in splits)))
+      (sizes c.in_ok-base.base.items)) c.deref-3.ensures.value c.in_ok-base.ensures.base
+
+  count_is : c.zeros_of-iterations.result ≡ zeros_in (values_in c.in_ok-splits.splits.items)
+  count_is = c.zeros_of-iterations.ensures
+      ∙ ap (λ splits. zeros_in (values_in splits)) c.deref-4.ensures.value
+
+pub states-requires-clause-some : goal.states-requires-clause-some
+states-requires-clause-some c = λ some.
+    let images = c.args.images.now.items in
+    let splits = c.in_ok-splits.splits.items in
+    let a = zeros_low (values_in splits) in
+    let b = values_few (terms_each images) (map_of images c.requires.square) splits
+    c.in_ok-splits.ensures.splits in
+    let d = length_each images in
+    let e = count_is (goal.at.states-requires-clause-some c).After-zeros_of-iterations in
+    omega (arith, a, b, d, e, some)
+
+pub returns-in-Err-Wide-clause-refused : goal.returns-in-Err-Wide-clause-refused
+returns-in-Err-Wide-clause-refused c =
+    let at = (goal.at.returns-in-Err-Wide-clause-refused c).After-zeros_of-iterations in
+    let images = c.args.images.now.items in
+    let M = terms_each images in
+    let splits = c.in_ok-splits.splits.items in
+    let are = c.in_ok-splits.ensures.splits in
+    let bs = sizes c.in_ok-base.base.items in
+    record {
+      solvable = c.in-Ok.ensures.solvable (search rules);
+      pass = all_pass images c.requires.square splits are;
+      later = later_state M bs
+          (form_base_is M splits are (map_of images c.requires.square) bs (base_is at))
+          c.zeros_of-iterations.result
+          (record { splits = splits; are = are; count = sym (count_is at) })
+          (c.in-Err-Wide.ensures.wide (ap Err c.in-Err-Wide.field-0-is));
+    }
+
+pub returns-clause-work : goal.returns-clause-work
+returns-clause-work c =
+    let at = (goal.at.returns-clause-work c).After-zeros_of-iterations in
+    record {
+      few = c.requires.few;
+      square = c.requires.square;
+      solvable = c.in-Ok.ensures.solvable (search rules);
+      classes = c.in-Ok.ensures.classes;
+      splits = c.in_ok-splits.ensures.splits;
+      base = base_is at;
+      short = c.in_ok-base.ensures.few;
+      iterations = count_is at;
+      states = c.in-Ok-states.ensures.states;
+      arities = c.in-Ok-states.ensures.arities;
+    }

@@ -1,0 +1,60 @@
+use Rattle.std.proofs.Common.{◌≡◌, All, inl, inr, length, ap, sym, subst, ◌∙◌}
+use Rattle.std.proofs.lemmas.Result.{IfOk-weaker}
+use Rattle.algebra.specs.Fraction.{fraction_size}
+use Rattle.algebra.specs.Size.{IsPast}
+use Rattle.polynomials.specs.Weight.{weight}
+use Rattle.frac128.specs.declared.fraction.Frac.{Frac}
+use Rattle.poly.specs.Seen.{terms_in}
+use Rattle.poly.specs.declared.Term.{Term}
+use Rattle.solvable_maps.specs.Expo.{with_normal_keys}
+use Rattle.solvable_maps.specs.Iterations.{width}
+use Rattle.expo.proofs.Solved.{handed_on}
+use Rattle.closed_forms.specs.Inhomogeneities.{collect_terms}
+use Rattle.closed_forms.specs.Recurrences.{base_by}
+use Rattle.closed_forms.proofs.Making.{poly_is, normal_over, room_before}
+use Rattle.closed_forms.proofs.Mixing.{tell, arity_all}
+use Rattle.closed_forms.proofs.recurrence.Recurrence.normal_sum.Goals as goal
+use Rattle.closed_forms.proofs.recurrence.Recurrence.normal_sum.Goals.{In_ok-sum}
+
+pub from_terms-requires-clause-arities : goal.from_terms-requires-clause-arities
+from_terms-requires-clause-arities c =
+    subst (λ w. All (λ (t : Term Frac). length t.mono ≡ w) c.args.terms.items)
+    (sym c.width.ensures) c.requires
+
+-- how many exponents the sum has, and what it is
+module _ (c : In_ok-sum) where
+  arity_is : c.in_ok-sum.sum.arity ≡ width (length (base_by c.args.self.now)) c.args.self.now.vars
+  arity_is = c.in_ok-sum.ensures.sum.arity ∙ c.width.ensures
+
+  made : terms_in c.in_ok-sum.sum ≡ collect_terms (tell c.args.terms.items)
+  made =
+      let w = width (length (base_by c.args.self.now)) c.args.self.now.vars in
+      poly_is w c.in_ok-sum.sum (tell c.args.terms.items)
+      (arity_all w c.args.terms.items c.requires) arity_is c.in_ok-sum.ensures.sum.same
+
+pub returns-in_err-sum-clause-wide : goal.returns-in_err-sum-clause-wide
+returns-in_err-sum-clause-wide c =
+    handed_on c.in_err-sum.field-0.0 c.from_residual.result c.from_residual.ensures.1
+    (λ w. inl (c.in_err-sum.ensures.wide w))
+
+pub normal-requires-clause-front : goal.normal-requires-clause-front
+normal-requires-clause-front c =
+    room_before (base_by c.args.self.now) c.in_ok-sum.sum.arity c.args.self.now.vars
+    (arity_is (goal.at.normal-requires-clause-front c).In_ok-sum)
+
+pub returns-clause-normal : goal.returns-clause-normal
+returns-clause-normal c =
+    let at = (goal.at.returns-clause-normal c).In_ok-sum in
+    let bs = base_by c.args.self.now in
+    IfOk-weaker c.normal.result _ _
+    (λ y h. record {
+      over_base = h.over_base;
+      over_vars = (normal_over bs c.in_ok-sum.sum.arity c.args.self.now.vars
+          (terms_in c.in_ok-sum.sum) y (arity_is at) h).over_vars;
+      terms = h.terms ∙ ap (λ q. collect_terms (with_normal_keys (length bs) q)) (made at);
+    }) c.normal.ensures.normal
+
+pub returns-clause-wide : goal.returns-clause-wide
+returns-clause-wide c =
+    let at = (goal.at.returns-clause-wide c).In_ok-sum in
+    λ w. inr (subst (λ p. IsPast (weight fraction_size p)) (made at) (c.normal.ensures.wide w))
