@@ -22,6 +22,18 @@ from pathlib import Path
 names = "abcdefgh"
 Path("deep.loop").write_text("vars x; branch { x=" + "(" * 63 + "-x" + "+1)" * 63 + "; }")
 Path("minus.loop").write_text("vars x; branch { x=" + "-" * 64 + "x; }")
+sides = {
+    "sum": "y" + "+y" * 1024,
+    "difference": "y" + "-y" * 1024,
+    "product": "y" + "*1" * 1024,
+    "quotient": "y" + "/1" * 1024,
+    "left": "(" * 64 + "y" + "+y)" * 64 + "-y" * 960,
+    "right": "y-(" * 64 + "y" + "-y" * 960 + ")" * 64,
+    "mixed": "y+1*(" * 64 + "y" + "-y" * 896 + ")" * 64,
+}
+for name, side in sides.items():
+    Path(f"{name}.loop").write_text(f"vars x, y; init x={side}; branch {{ y=-y; x={side}; }} branch {{ x=-x; y=-y; }}")
+    Path(f"{name}.equation").write_text(f"x={side}")
 Path("same.loop").write_text("vars " + ", ".join(names) + "; branch { }")
 Path("deep.json").write_text('{"basis":' + "[" * 126 + "]" * 126 + "}")
 Path("too-deep.json").write_text("[" * 500_000)
@@ -46,6 +58,16 @@ row 0 chain forms.chain
 row 0 relations forms.seqs
 row 0 basis deep.loop
 row 0 basis minus.loop
+for side in sum difference product quotient left right mixed; do
+    equation=$(cat "$side.equation")
+    row 0 basis "$side.loop"
+    row 0 member "$side.loop" "$equation"
+    row 0 decide "$side.loop" "$equation"
+    row 0 cert "$side.loop"
+    mv answer "$side.json"
+    row 0 check "$side.loop" "$side.json"
+    row 0 run "$side.loop" 1,2,2 0,0
+done
 row 3 check same.loop deep.json
 row 3 check same.loop too-deep.json
 row 3 checkfull same.loop too-deep.json

@@ -4,7 +4,7 @@ ghost use Rattle.std.specs.Prelude.{◌≡◌, length};
 use crate::rows::no_such_row;
 use cert_form::{read_cert, write_cert};
 use frac128::Frac;
-use loop_model::{Expr, Names, NamesError, expr_poly};
+use loop_model::{BinaryOperator, Expr, Names, NamesError, expr_poly};
 use monos::Grevlex;
 use poly::Poly;
 use poly_text::{
@@ -75,7 +75,12 @@ fn expression(alloc: Global, text: &str, names: &Names) -> Result<String, AllocE
 
 // Where the operator of a sum stands, the names in the sum, and where it ends.
 fn head(alloc: Global, expr: &Expr, end: usize, names: &Names) -> Result<String, AllocError> {
-    let Expr::Add { at, .. } = expr else {
+    let Expr::Binary {
+        at,
+        operator: BinaryOperator::Add,
+        ..
+    } = expr
+    else {
         return String::from_str(alloc, "no sum");
     };
     let used = used_names(alloc, expr, names)?;

@@ -1,15 +1,18 @@
 -- An expression of the code and its operands.
---   seen_number, seen_neg, seen_add, ..     what it is seen as
+--   seen_number, seen_unary, seen_binary, ..     what it is seen as
 --   size_of e                      the number of its operators
 --   IsOperand P l e                an operand is smaller, and has what the expression has
---   of_neg, of_add, ..             the operands
---   divisor_of, variable_of        the divisor and the variable
-use Rattle.std.proofs.Common.{◌≡◌, ◌≢◌, ℕ, suc, ◌+◌, ◌<◌, ℤ, pos, arith, sym, ap, ap₂, subst, ◌∙◌, Box, Global}
+--   of_unary, of_binary            the operands;  variable_of: the variable
+use Rattle.std.proofs.Common.{◌≡◌, ℕ, suc, ◌+◌, ◌<◌, arith, refl, sym, ap, ap₂, subst, ◌∙◌, Box, Global}
 use Rattle.loops.specs.WellFormed.{Uses}
 use Rattle.frac128.specs.declared.Whole.{Whole}
 use Rattle.loops.specs.Program as program
 use Rattle.loops.specs.Program.{number, variable, neg, add, sub, mul, divide, power}
-use Rattle.loop_model.specs.ExpressionView.{expr_of}
+use Rattle.loop_model.specs.ExpressionView.{expr_of, unary_of, binary_of, IsDefined}
+use Rattle.loop_model.specs.declared.expr.UnaryOperator.TheVariants as operators
+use Rattle.loop_model.specs.declared.expr.UnaryOperator.{UnaryOperator}
+use Rattle.loop_model.specs.declared.expr.BinaryOperator.TheVariants as pairs
+use Rattle.loop_model.specs.declared.expr.BinaryOperator.{BinaryOperator}
 use Rattle.loop_model.specs.declared.expr.Expr as code
 use Rattle.loop_model.specs.declared.expr.Expr.{Expr}
 
@@ -23,30 +26,16 @@ unfolding expr_of
 seen_variable x i h = ap expr_of h
 
 module _ (x : Expr) (at : ℕ) (l : Box Expr Global) (y : Expr) (left : y ≡ l.value) where
-  pub seen_neg : x ≡ code.Neg at l → expr_of x ≡ neg at (expr_of y)
+  pub seen_unary : (o : UnaryOperator) → x ≡ code.Unary at o l
+      → expr_of x ≡ unary_of o at (expr_of y)
   unfolding expr_of
-  seen_neg h = ap expr_of h ∙ ap (λ z. neg at (expr_of z)) (sym left)
+  seen_unary o h = ap expr_of h ∙ ap (λ z. unary_of o at (expr_of z)) (sym left)
 
-  pub seen_divide : (n : Whole) → x ≡ code.Div at l n → expr_of x ≡ divide at (expr_of y) n.value
+  pub seen_binary : (r : Box Expr Global) (z : Expr) → z ≡ r.value → (o : BinaryOperator)
+      → x ≡ code.Binary at o l r → expr_of x ≡ binary_of o at (expr_of y) (expr_of z)
   unfolding expr_of
-  seen_divide n h = ap expr_of h ∙ ap (λ z. divide at (expr_of z) n.value) (sym left)
-
-  pub seen_power : (n : ℕ) → x ≡ code.Power at l n → expr_of x ≡ power at (expr_of y) n
-  unfolding expr_of
-  seen_power n h = ap expr_of h ∙ ap (λ z. power at (expr_of z) n) (sym left)
-
-  module _ (r : Box Expr Global) (z : Expr) (right : z ≡ r.value) where
-    pub seen_add : x ≡ code.Add at l r → expr_of x ≡ add at (expr_of y) (expr_of z)
-    unfolding expr_of
-    seen_add h = ap expr_of h ∙ ap₂ (λ u v. add at (expr_of u) (expr_of v)) (sym left) (sym right)
-
-    pub seen_sub : x ≡ code.Sub at l r → expr_of x ≡ sub at (expr_of y) (expr_of z)
-    unfolding expr_of
-    seen_sub h = ap expr_of h ∙ ap₂ (λ u v. sub at (expr_of u) (expr_of v)) (sym left) (sym right)
-
-    pub seen_mul : x ≡ code.Mul at l r → expr_of x ≡ mul at (expr_of y) (expr_of z)
-    unfolding expr_of
-    seen_mul h = ap expr_of h ∙ ap₂ (λ u v. mul at (expr_of u) (expr_of v)) (sym left) (sym right)
+  seen_binary r z right o h =
+      ap expr_of h ∙ ap₂ (λ u v. binary_of o at (expr_of u) (expr_of v)) (sym left) (sym right)
 
 -- ---- sizes
 unfoldable pub size_of : program.Expr ℕ → ℕ
@@ -64,57 +53,39 @@ pub record IsOperand (P : ℕ → Type 0) (l e : program.Expr ℕ) : Type 0 wher
   pub smaller : size_of e < size_of l
   pub uses : Uses P e
 
+-- an operator has operands, which are smaller
+module _ (P : ℕ → Type 0) (at : ℕ) (e : program.Expr ℕ) where
+  one_operand : (o : UnaryOperator) → Uses P (unary_of o at e)
+      → (size_of (unary_of o at e) ≡ suc (size_of e)) × Uses P e × IsDefined o
+  unfolding size_of Uses
+  one_operand operators.Neg u = (refl, u, tt)
+  one_operand (operators.Div by) u = (refl, u.0, u.1)
+  one_operand (operators.Power n) u = (refl, u, tt)
+
+  two_operands : (f : program.Expr ℕ) (o : BinaryOperator) → Uses P (binary_of o at e f)
+      → (size_of (binary_of o at e f) ≡ suc (size_of e + size_of f)) × Uses P e × Uses P f
+  unfolding size_of Uses
+  two_operands f pairs.Add u = (refl, u.0, u.1)
+  two_operands f pairs.Sub u = (refl, u.0, u.1)
+  two_operands f pairs.Mul u = (refl, u.0, u.1)
+
 -- P holds of the variables of l
 module _ (l : program.Expr ℕ) (P : ℕ → Type 0) (u : Uses P l) where
-  module _ (at : ℕ) (e : program.Expr ℕ) where
-    pub of_neg : l ≡ neg at e → IsOperand P l e
-    unfolding size_of Uses
-    of_neg h = let s : size_of l ≡ suc (size_of e) = ap size_of h in record {
-      smaller = omega arith;
-      uses = subst (λ x. Uses P x) h u;
-    }
+  pub of_unary : (o : UnaryOperator) (at : ℕ) (e : program.Expr ℕ) → l ≡ unary_of o at e
+      → IsOperand P l e × IsDefined o
+  of_unary o at e h =
+      let k = one_operand P at e o (subst (λ x. Uses P x) h u) in
+      let s : size_of l ≡ suc (size_of e) = ap size_of h ∙ k.0 in
+      (record { smaller = omega arith; uses = k.1 }, k.2)
 
-    pub of_divide : (n : ℤ) → l ≡ divide at e n → IsOperand P l e
-    unfolding size_of Uses
-    of_divide n h = let s : size_of l ≡ suc (size_of e) = ap size_of h in
-        record { smaller = omega arith; uses = (subst (λ x. Uses P x) h u).0 }
-
-    pub divisor_of : (n : ℤ) → l ≡ divide at e n → n ≢ pos 0
-    unfolding Uses
-    divisor_of n h = (subst (λ x. Uses P x) h u).1
-
-    pub of_power : (n : ℕ) → l ≡ power at e n → IsOperand P l e
-    unfolding size_of Uses
-    of_power n h = let s : size_of l ≡ suc (size_of e) = ap size_of h in
-        record { smaller = omega arith; uses = subst (λ x. Uses P x) h u }
-
-  module _ (at : ℕ) (e f : program.Expr ℕ) where
-    pub of_add : l ≡ add at e f → IsOperand P l e × IsOperand P l f
-    unfolding size_of Uses
-    of_add h =
-        let s : size_of l ≡ suc (size_of e + size_of f) = ap size_of h in
-        let both = subst (λ x. Uses P x) h u in (
-          record { smaller = omega arith; uses = both.0 },
-          record { smaller = omega arith; uses = both.1 },
-        )
-
-    pub of_sub : l ≡ sub at e f → IsOperand P l e × IsOperand P l f
-    unfolding size_of Uses
-    of_sub h =
-        let s : size_of l ≡ suc (size_of e + size_of f) = ap size_of h in
-        let both = subst (λ x. Uses P x) h u in (
-          record { smaller = omega arith; uses = both.0 },
-          record { smaller = omega arith; uses = both.1 },
-        )
-
-    pub of_mul : l ≡ mul at e f → IsOperand P l e × IsOperand P l f
-    unfolding size_of Uses
-    of_mul h =
-        let s : size_of l ≡ suc (size_of e + size_of f) = ap size_of h in
-        let both = subst (λ x. Uses P x) h u in (
-          record { smaller = omega arith; uses = both.0 },
-          record { smaller = omega arith; uses = both.1 },
-        )
+  pub of_binary : (o : BinaryOperator) (at : ℕ) (e f : program.Expr ℕ) → l ≡ binary_of o at e f
+      → IsOperand P l e × IsOperand P l f
+  of_binary o at e f h =
+      let k = two_operands P at e f o (subst (λ x. Uses P x) h u) in
+      let s : size_of l ≡ suc (size_of e + size_of f) = ap size_of h ∙ k.0 in (
+        record { smaller = omega arith; uses = k.1 },
+        record { smaller = omega arith; uses = k.2 },
+      )
 
   pub variable_of : (i : ℕ) → l ≡ variable i → P i
   unfolding Uses

@@ -1,6 +1,6 @@
 -- A loop is well formed and within the limits. The type keeps the truncated facts; each has one proof at most.
 --   formed lp, limited lp      the facts themselves
-use Rattle.std.proofs.Common.{◌≢◌, ℕ, ◌<◌, ◌≤◌, Bool, false, ◌≡◌, List, [], ◌∷◌, length, All}
+use Rattle.std.proofs.Common.{◌≢◌, ℕ, ◌<◌, ◌≤◌, false, ◌≡◌, List, [], ◌∷◌, length, All}
 use native.Mathlib.Nat.{ℕ_set}
 use mathlib.Core.Bool.{Bool-set}
 use Rattle.std.specs.Coded.{×_prop, Unit-prop, le_prop}

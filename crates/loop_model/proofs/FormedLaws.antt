@@ -2,7 +2,7 @@
 --   StandsIn m s e p        p stands for the value of e at the state s, and no operation that forms it passes a limit
 --   formed_number, formed_variable     with no operation
 --   formed_neg, formed_add, ..         with the operator's answer
---   stopped_neg, stops_left, ..      a stop in an operand
+--   stopped_neg, stopped_binary, stops_left, ..      a stop in an operand
 --   same_operations, same_operations_all     the operations at states of the same polynomials
 --   operations_all-append, operations_all-push     those of more expressions
 --   formed_as, stopped_as   the clauses of a result, and of an error that is handed on
@@ -24,6 +24,9 @@ use Rattle.poly.specs.Standing.{StandsFor}
 use Rattle.loop_model.specs.FracPoly.{FracPoly}
 use Rattle.loop_model.specs.Operations.{operations_all, Operation, opposite_at, sum_at, difference_at, product_at, quotient_at, value, power_of, partial_powers, operations, IsFree, PassesLimit}
 use Rattle.loop_model.specs.Stops.{Stops, Forms, Does}
+use Rattle.loop_model.specs.ExpressionView.{binary_of}
+use Rattle.loop_model.specs.declared.expr.BinaryOperator.TheVariants as pairs
+use Rattle.loop_model.specs.declared.expr.BinaryOperator.{BinaryOperator}
 use Rattle.loop_model.specs.declared.map_error.MapError.{MapError}
 use Rattle.loop_model.proofs.OperationLaws.{SameOperation, AllSameOperations, same_operations-append, same_forms, stops_front, stops_behind, forms_behind, does_last, handed_on}
 
@@ -195,6 +198,12 @@ module _ (m : ℕ) (s : List (Terms Fraction)) where
     pub stopped_mul : Stops m (ops (program.mul at e f)) x
     unfolding operations
     stopped_mul = stops_front m (ops e ++ ops f) _ x h
+
+  pub stopped_binary : (o : BinaryOperator) (at : ℕ) (e f : Expr ℕ) (x : MapError)
+      → StopsInOne e f x → Stops m (ops (binary_of o at e f)) x
+  stopped_binary pairs.Add at e f x h = stopped_add at e f x h
+  stopped_binary pairs.Sub at e f x h = stopped_sub at e f x h
+  stopped_binary pairs.Mul at e f x h = stopped_mul at e f x h
 
 -- ---- the same states
 module _ (m : ℕ) (s t : List (Terms Fraction)) (h : AllSame ℚ s t) where

@@ -3,9 +3,11 @@ pub mod Places
 pub mod NameLaws
 pub mod OperationLaws
 pub mod OperatorLaws
+pub mod Operators
 pub mod PowerLaws
 pub mod FormedLaws
 pub mod ExprSize
+pub mod Spine
 pub mod Variables
 pub mod StateLaws
 pub mod Formed

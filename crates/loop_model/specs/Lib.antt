@@ -2,6 +2,7 @@ pub mod Ascii
 pub mod Words
 pub mod Names
 pub mod Uses
+pub mod Spine
 pub mod ExpressionView
 pub mod SeenNames
 pub mod FracPoly

@@ -3,7 +3,7 @@
 --   Forms m os q r      r is a polynomial that stands for q, and no operation passes a limit; or r stops at one
 --   Does m o r          the same of one operation and its result
 --   IsValueAt ps e p, IsFreeAt ps e, StopsAt ps e x     p stands for the value of the expression e, where the variables have the values ps;
---                       no operation that forms it passes a limit; x is such a stop
+--                       no operation that forms it passes a limit; x is such a stop;  IsFormed ps e r says so of a result
 --   answer_at at r      the answer of the operator at this offset, whose operation was done: Wide, and then the number of terms
 use Rattle.std.specs.Prelude.{ℕ, List, [], ◌∷◌, nat_le, length, if◌then◌else◌, Result, Ok, Err}
 use Rattle.algebra.specs.Fraction.{Fraction}
@@ -35,6 +35,10 @@ IsValueAt ps e p = StandsFor (arity_of ps) p (value (arity_of ps) (terms_each ps
 
 abbrev pub IsFreeAt : List FracPoly → Expr ℕ → Type 0
 IsFreeAt ps e = IsFree (arity_of ps) (operations (arity_of ps) (terms_each ps) e)
+
+abbrev pub IsFormed : List FracPoly → Expr ℕ → Result FracPoly MapError → Type 0
+IsFormed ps e r =
+    let m = arity_of ps in let s = terms_each ps in Forms m (operations m s e) (value m s e) r
 
 abbrev pub StopsAt : List FracPoly → Expr ℕ → MapError → Type 0
 StopsAt ps e x = Stops (arity_of ps) (operations (arity_of ps) (terms_each ps) e) x

@@ -1,19 +1,22 @@
 //! Forms polynomials from expressions.
 
-ghost use Rattle.std.specs.Prelude.{◌≡◌, ◌≢◌, ◌<◌, ◌≤◌, ◌↔◌, pos, [], length, get_or, All, IfOk, IfErr, IsTrue};
+ghost use Rattle.std.specs.Prelude.{◌≡◌, ◌≢◌, ◌<◌, ◌≤◌, ◌↔◌, ℕ, List, pos, [], length, get_or, All, Ok, IfOk, IfErr, IfSome, IsTrue};
 ghost use Rattle.algebra.specs.Fraction.{ℚ, whole, inverse};
 ghost use Rattle.polynomials.specs.Terms.{constant, times};
 ghost use Rattle.frac128.specs.FracMeaning.{fraction_of};
+ghost use Rattle.loops.specs.Program as program;
 ghost use Rattle.loops.specs.WellFormed.{Uses};
 ghost use Rattle.poly.specs.Seen.{terms_in, terms_each, arity_of};
 ghost use Rattle.poly.specs.Standing.{IsInVariables};
 ghost use Rattle.monos.specs.Variables.{most_variables};
-ghost use Rattle.loop_model.specs.ExpressionView.{expr_of};
+ghost use Rattle.loop_model.specs.FracPoly.{FracPoly};
+ghost use Rattle.loop_model.specs.ExpressionView.{expr_of, unary_of, binary_of, IsDefined};
 ghost use Rattle.loop_model.specs.Operations.{opposite_at, sum_at, difference_at, product_at, quotient_at, partial_powers, power_of, HasHighDegree};
+ghost use Rattle.loop_model.specs.Spine.{first_operand};
 ghost use Rattle.loop_model.specs.Stops as stops;
-ghost use Rattle.loop_model.specs.Stops.{Forms, Does, IsValueAt, IsFreeAt, StopsAt};
+ghost use Rattle.loop_model.specs.Stops.{Forms, Does, IsFormed, IsValueAt, IsFreeAt, StopsAt};
 
-use crate::{Expr, MapError};
+use crate::{BinaryOperator, Expr, MapError, UnaryOperator};
 use frac128::{Frac, Whole};
 use monos::Grevlex;
 use poly::Poly;
@@ -29,6 +32,7 @@ const MOST_TERMS: usize = 4096;
 /// The polynomial of the expression, where the variables have the values of `state`, which share one arity; the result has it too,
 /// or the arity 0 where the state is empty. Each operator is tested in turn, operands from left to right and then the operator:
 /// the degree of a product, the weight of the operation, and the number of terms.
+#[cycle(expr_poly)]
 pub fn expr_poly(
     alloc: Global,
     expr: &Expr,
@@ -40,36 +44,78 @@ pub fn expr_poly(
     ensures free { IfOk result (λ _. IsFreeAt state.now.items (expr_of expr.now)) }
     ensures stops { IfErr result (StopsAt state.now.items (expr_of expr.now)) }
 {
-    match expr {
+    let mut parts = expr.left_spine(alloc)?;
+    let mut poly = Poly::zero(alloc, Grevlex, 0);
+    while let Some(part) = parts.pop() {
+        poly = part_poly(alloc, part, &poly, state)?;
+    }
+    Ok(poly)
+}
+
+/// The polynomial of the expression, where `first` is that of its first operand.
+#[cycle(expr_poly)]
+fn part_poly(
+    alloc: Global,
+    part: &Expr,
+    first: &Poly<Frac, Grevlex>,
+    state: &Vec<Poly<Frac, Grevlex>>,
+) -> Result<Poly<Frac, Grevlex>, MapError>
+    requires state { All (IsInVariables (arity_of state.now.items)) state.now.items }
+    requires uses { Uses (λ i. i < length state.now.items) (expr_of part.now) }
+    requires first { IfSome (first_operand (expr_of part.now))
+        (λ e. IsFormed state.now.items e (Ok first.now)) }
+    ensures { IsFormed state.now.items (expr_of part.now) result }
+{
+    match part {
         Expr::Number { value } => number(alloc, state, value),
         Expr::Variable { index } => variable(alloc, state, *index),
-        Expr::Neg { at, of } => {
-            let of = expr_poly(alloc, of, state)?;
-            opposite(alloc, *at, &of)
-        }
-        Expr::Add { at, left, right } => {
-            let left = expr_poly(alloc, left, state)?;
+        Expr::Unary { at, operator, .. } => unary_poly(alloc, *at, operator, first),
+        Expr::Binary {
+            at,
+            operator,
+            right,
+            ..
+        } => {
             let right = expr_poly(alloc, right, state)?;
-            sum(alloc, *at, &left, &right)
+            binary_poly(alloc, *at, operator, first, &right)
         }
-        Expr::Sub { at, left, right } => {
-            let left = expr_poly(alloc, left, state)?;
-            let right = expr_poly(alloc, right, state)?;
-            difference(alloc, *at, &left, &right)
-        }
-        Expr::Mul { at, left, right } => {
-            let left = expr_poly(alloc, left, state)?;
-            let right = expr_poly(alloc, right, state)?;
-            product(alloc, *at, &left, &right)
-        }
-        Expr::Div { at, of, by } => {
-            let of = expr_poly(alloc, of, state)?;
-            quotient(alloc, *at, &of, by)
-        }
-        Expr::Power { at, of, exponent } => {
-            let of = expr_poly(alloc, of, state)?;
-            power(alloc, *at, &of, *exponent)
-        }
+    }
+}
+
+/// The answer of an operator with one operand.
+fn unary_poly(
+    alloc: Global,
+    at: usize,
+    operator: &UnaryOperator,
+    of: &Poly<Frac, Grevlex>,
+) -> Result<Poly<Frac, Grevlex>, MapError>
+    requires { IsDefined operator.now }
+    ensures { (ps : List FracPoly) (e : program.Expr ℕ) → IsFormed ps e (Ok of.now)
+        → IsFormed ps (unary_of operator.now at e) result }
+{
+    match operator {
+        UnaryOperator::Neg => opposite(alloc, at, of),
+        UnaryOperator::Div { by } => quotient(alloc, at, of, by),
+        UnaryOperator::Power { exponent } => power(alloc, at, of, *exponent),
+    }
+}
+
+/// The answer of an operator with two operands.
+fn binary_poly(
+    alloc: Global,
+    at: usize,
+    operator: &BinaryOperator,
+    left: &Poly<Frac, Grevlex>,
+    right: &Poly<Frac, Grevlex>,
+) -> Result<Poly<Frac, Grevlex>, MapError>
+    requires { IsInVariables left.now.arity right.now }
+    ensures { (ps : List FracPoly) (e f : program.Expr ℕ) → IsFormed ps e (Ok left.now)
+        → IsFormed ps f (Ok right.now) → IsFormed ps (binary_of operator.now at e f) result }
+{
+    match operator {
+        BinaryOperator::Add => sum(alloc, at, left, right),
+        BinaryOperator::Sub => difference(alloc, at, left, right),
+        BinaryOperator::Mul => product(alloc, at, left, right),
     }
 }
 

@@ -18,7 +18,7 @@ mod state;
 mod statement;
 pub mod words;
 
-pub use expr::Expr;
+pub use expr::{BinaryOperator, Expr, UnaryOperator};
 pub use forming::{expr_poly, product, sum};
 pub use loop_::Loop;
 pub use map_error::MapError;

@@ -1,22 +1,22 @@
 -- What the checked operations on fractions give.
 --   ok_or_none r          the number of an answer; none where it was too wide
---   added, subtracted, multiplied, divided      an answer with the clauses of an operation is that of the checked operation
-use Rattle.std.proofs.Common.{List, length, get_or, ◌≡◌, ◌∙◌, sym, ap, ap₂, refl, ℕ, zero, suc, ◌+◌, ◌-◌, add-one, ◌<◌, ◌≤◌, ◌^◌, Bool, true, false, ◌&&◌, ◌+ℤ◌, unsigned_abs, Option, Some, None, Result, Ok, Err, inl, inr, ⊎_elim, ◌↔◌, IfOk, IsErr, arith, if◌then◌else◌}
+--   sum_is, product_is    an answer with the clauses of an operation is that of the checked operation
+use Rattle.std.proofs.Common.{List, length, get_or, ◌≡◌, ◌∙◌, sym, ap, refl, ℕ, zero, suc, ◌+◌, ◌-◌, add-one, ◌<◌, ◌≤◌, ◌^◌, Bool, true, false, ◌&&◌, ◌+ℤ◌, unsigned_abs, Option, Some, None, Result, Ok, Err, inl, inr, ⊎_elim, ◌↔◌, IfOk, IsErr, arith, if◌then◌else◌}
 use native.Mathlib.Nat as N
 use Rattle.std.specs.Prelude.{option_map}
 use Rattle.std.specs.Result.{result_ok}
 use Rattle.std.proofs.lemmas.Bool.Decides.{nat_tests}
-use Rattle.algebra.specs.Fraction.{Fraction, ℚ, fraction_size, inverse}
+use Rattle.algebra.specs.Fraction.{Fraction, ℚ, fraction_size}
 use Rattle.algebra.specs.Size.{IsPast}
 use Rattle.frac128.specs.Sums.{part, SumIsPast, left_past, right_past, parts_past, den_past}
 use Rattle.frac128.specs.FracMeaning.{fraction_of}
 use Rattle.frac128.specs.declared.fraction.Frac.{Frac}
 use Rattle.ring_laws.specs.declared.Wide.{Wide}
-use Rattle.loop_runs.specs.Checked.{fits, number_fits, sum_fits}
+use Rattle.loop_runs.specs.Checked.{fits, number_fits, sum_fits, checked_sum as sum, checked_product as product, checked_power as power}
 use Rattle.loop_runs.specs.Seen.{numbers_of}
 use Rattle.std.proofs.lemmas.List.{get_or-map}
 use Rattle.std.proofs.lemmas.Bool.{and_parts}
-use Rattle.loop_runs.proofs.CheckedValues.{sum, difference, product, power, on, both, power-suc}
+use Rattle.loop_runs.proofs.CheckedValues.{on, power-suc}
 
 abbrev pub ok_or_none : Result Frac Wide → Option Fraction
 ok_or_none r = option_map fraction_of (result_ok r)
@@ -81,7 +81,7 @@ answer_is (Ok x) v false Past ok wide fit past = absurd (let e = wide.1 (past re
 answer_is (Err e) v true Past ok wide fit past = absurd (fit refl (wide.0 refl))
 answer_is (Err e) v false Past ok wide fit past = refl
 
-sum_is : (r : Result Frac Wide) (p q : Fraction) → IfOk r (λ x. fraction_of x ≡ ℚ.add p q)
+pub sum_is : (r : Result Frac Wide) (p q : Fraction) → IfOk r (λ x. fraction_of x ≡ ℚ.add p q)
     → (IsErr r ↔ SumIsPast p q) → ok_or_none r ≡ sum p q
 sum_is r p q ok wide = answer_is r (ℚ.add p q) (sum_fits p q) (SumIsPast p q) ok wide
     (sum_fits-past p q) (not_sum_fits p q)
@@ -90,33 +90,6 @@ pub product_is : (r : Result Frac Wide) (p q : Fraction) → IfOk r (λ x. fract
     → (IsErr r ↔ IsPast (fraction_size (ℚ.mul p q))) → ok_or_none r ≡ product p q
 product_is r p q ok wide = answer_is r (ℚ.mul p q) (number_fits (ℚ.mul p q)) _ ok wide
     (number_fits-past (ℚ.mul p q)) (not_number_fits (ℚ.mul p q))
-
--- ---- operations on the values p and q of two expressions
-pub added : (r : Result Frac Wide) (p q : Fraction) (a b : Option Fraction) → Some p ≡ a
-    → Some q ≡ b
-    → IfOk r (λ z. fraction_of z ≡ ℚ.add p q) → (IsErr r ↔ SumIsPast p q)
-    → ok_or_none r ≡ both sum a b
-added r p q a b ea eb ok wide = sum_is r p q ok wide ∙ ap₂ (both sum) ea eb
-
-pub subtracted : (r : Result Frac Wide) (p q : Fraction) (a b : Option Fraction) → Some p ≡ a
-    → Some q ≡ b
-    → IfOk r (λ z. fraction_of z ≡ ℚ.add p (ℚ.neg q)) → (IsErr r ↔ SumIsPast p (ℚ.neg q))
-    → ok_or_none r ≡ both difference a b
-subtracted r p q a b ea eb ok wide = sum_is r p (ℚ.neg q) ok wide ∙ ap₂ (both difference) ea eb
-
-pub multiplied : (r : Result Frac Wide) (p q : Fraction) (a b : Option Fraction) → Some p ≡ a
-    → Some q ≡ b
-    → IfOk r (λ z. fraction_of z ≡ ℚ.mul p q) → (IsErr r ↔ IsPast (fraction_size (ℚ.mul p q)))
-    → ok_or_none r ≡ both product a b
-multiplied r p q a b ea eb ok wide = product_is r p q ok wide ∙ ap₂ (both product) ea eb
-
-pub divided : (r : Result Frac Wide) (p q : Fraction) (a : Option Fraction) (n : Fraction)
-    → Some p ≡ a → q ≡ n
-    → IfOk r (λ z. fraction_of z ≡ ℚ.mul p (inverse q))
-    → (IsErr r ↔ IsPast (fraction_size (ℚ.mul p (inverse q))))
-    → ok_or_none r ≡ on (λ x. product x (inverse n)) a
-divided r p q a n ea en ok wide = product_is r p (inverse q) ok wide
-    ∙ ap₂ (λ b m. on (λ x. product x (inverse m)) b) ea en
 
 -- ---- powers of b, of which k factors are multiplied
 power_none : (b : Fraction) (k d : ℕ) → power b k ≡ None → power b (d + k) ≡ None

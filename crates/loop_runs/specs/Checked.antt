@@ -7,6 +7,8 @@
 --   all_fit e s          each operation of the expression e at the state s fits
 --   number_if b p        the number p where b is true, and none otherwise
 --   checked_value e s    the value of e at s, if all operations fit
+--   checked_sum p q, checked_difference p q, checked_product p q, checked_power p n      the operations on numbers, none where the result doesn't fit
+--   unary_value o p, binary_value o p q      the operator o of numbers, in the same way
 use Rattle.std.specs.Prelude.{ℕ, zero, suc, ◌+ℤ◌, unsigned_abs, Bool, true, ◌&&◌, nat_lt, if◌then◌else◌, List, Option, Some, None}
 use Rattle.algebra.specs.Arithmetic as numeral
 use Rattle.algebra.specs.Fraction.{Fraction, ℚ, whole, inverse}
@@ -14,6 +16,10 @@ use Rattle.algebra.specs.Limits.{number_limit}
 use Rattle.loops.specs.Program.{Expr, number, variable, neg, add, sub, mul, divide, power}
 use Rattle.loops.specs.Run.{value}
 use Rattle.frac128.specs.Sums.{part}
+use Rattle.loop_model.specs.declared.expr.UnaryOperator.{UnaryOperator}
+use Rattle.loop_model.specs.declared.expr.UnaryOperator.TheVariants.{Neg, Div, Power}
+use Rattle.loop_model.specs.declared.expr.BinaryOperator.{BinaryOperator}
+use Rattle.loop_model.specs.declared.expr.BinaryOperator.TheVariants.{Add, Sub, Mul}
 
 abbrev pub fits : ℕ → Bool
 fits n = nat_lt n number_limit
@@ -48,3 +54,25 @@ number_if b p = if b then Some p else None
 
 unfoldable pub checked_value : {At : Type 0} → Expr At → List Fraction → Option Fraction
 checked_value e s = number_if (all_fit e s) (value e s)
+
+abbrev pub checked_sum : Fraction → Fraction → Option Fraction
+checked_sum p q = number_if (sum_fits p q) (ℚ.add p q)
+
+abbrev pub checked_difference : Fraction → Fraction → Option Fraction
+checked_difference p q = checked_sum p (ℚ.neg q)
+
+abbrev pub checked_product : Fraction → Fraction → Option Fraction
+checked_product p q = number_if (number_fits (ℚ.mul p q)) (ℚ.mul p q)
+
+abbrev pub checked_power : Fraction → ℕ → Option Fraction
+checked_power p n = number_if (powers_fit p n) (power_of p n)
+
+abbrev pub unary_value : UnaryOperator → Fraction → Option Fraction
+unary_value Neg p = Some (ℚ.neg p)
+unary_value (Div by) p = checked_product p (inverse (whole by.value))
+unary_value (Power exponent) p = checked_power p exponent
+
+abbrev pub binary_value : BinaryOperator → Fraction → Fraction → Option Fraction
+binary_value Add p q = checked_sum p q
+binary_value Sub p q = checked_difference p q
+binary_value Mul p q = checked_product p q

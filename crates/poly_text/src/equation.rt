@@ -13,7 +13,7 @@ ghost use Rattle.poly_text.specs.Equations.{sum_of, equation_of, free_state, tel
 
 use crate::{Cursor, Lexeme, Refusal, SumReader, TextError};
 use frac128::Frac;
-use loop_model::{Expr, MapError, Names, expr_poly, free_state};
+use loop_model::{BinaryOperator, Expr, MapError, Names, expr_poly, free_state};
 use monos::Grevlex;
 use poly::Poly;
 use std::alloc::Global;
@@ -107,8 +107,9 @@ fn read_difference(alloc: Global, text: &[u8], names: &Names) -> Result<Expr, Te
     }
     let (right, end) = reader.sum(middle.next(), 0, 0)?;
     expect_end(end)?;
-    Ok(Expr::Sub {
+    Ok(Expr::Binary {
         at,
+        operator: BinaryOperator::Sub,
         left: left.value,
         right: right.value,
     })

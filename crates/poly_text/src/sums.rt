@@ -23,7 +23,7 @@ use crate::cursor::{Cursor, Read};
 use crate::lexemes::Lexeme;
 use crate::{Refusal, TextError};
 use frac128::Whole;
-use loop_model::{Expr, MOST_BYTES, Names};
+use loop_model::{BinaryOperator, Expr, MOST_BYTES, Names, UnaryOperator};
 use std::alloc::Global;
 
 /// The most operators of a sum.
@@ -84,10 +84,16 @@ fn joint(negative: bool, at: usize, left: Box<Expr>, right: Box<Expr>) -> Expr
     ensures { expr_of result
         ≡ grammar.joint negative at (expr_of left.value) (expr_of right.value) }
 {
-    if negative {
-        Expr::Sub { at, left, right }
+    let operator = if negative {
+        BinaryOperator::Sub
     } else {
-        Expr::Add { at, left, right }
+        BinaryOperator::Add
+    };
+    Expr::Binary {
+        at,
+        operator,
+        left,
+        right,
     }
 }
 
@@ -232,7 +238,8 @@ impl SumReader<'_> {
         let (exponent, end) = exponent(next)?;
         let operators = atom.operators + 1;
         let of = atom.value;
-        let value = Box::new(self.alloc, Expr::Power { at, of, exponent })?;
+        let operator = UnaryOperator::Power { exponent };
+        let value = Box::new(self.alloc, Expr::Unary { at, operator, of })?;
         Ok((Part { value, operators }, end))
     }
 
@@ -263,7 +270,8 @@ impl SumReader<'_> {
         let (factor, end) = self.factor(cursor.next(), operators + 1, depth + 1)?;
         let operators = factor.operators;
         let of = factor.value;
-        let value = Box::new(self.alloc, Expr::Neg { at, of })?;
+        let operator = UnaryOperator::Neg;
+        let value = Box::new(self.alloc, Expr::Unary { at, operator, of })?;
         Ok((Part { value, operators }, end))
     }
 
@@ -307,7 +315,8 @@ impl SumReader<'_> {
         let (divisor, end) = self.divisor(next, operators, depth)?;
         let by = whole(divisor);
         let of = product.value;
-        let value = Box::new(self.alloc, Expr::Div { at, of, by })?;
+        let operator = UnaryOperator::Div { by };
+        let value = Box::new(self.alloc, Expr::Unary { at, operator, of })?;
         Ok((Part { value, operators }, end))
     }
 
@@ -324,7 +333,16 @@ impl SumReader<'_> {
         let (factor, end) = self.factor(next, product.operators + 1, depth)?;
         let operators = factor.operators;
         let (left, right) = (product.value, factor.value);
-        let value = Box::new(self.alloc, Expr::Mul { at, left, right })?;
+        let operator = BinaryOperator::Mul;
+        let value = Box::new(
+            self.alloc,
+            Expr::Binary {
+                at,
+                operator,
+                left,
+                right,
+            },
+        )?;
         Ok((Part { value, operators }, end))
     }
 

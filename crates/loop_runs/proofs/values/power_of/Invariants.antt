@@ -1,6 +1,6 @@
 use Rattle.std.proofs.Common.{◌≡◌, Some}
 use Rattle.frac128.specs.FracMeaning.{fraction_of}
-use Rattle.loop_runs.proofs.CheckedValues.{power}
+use Rattle.loop_runs.specs.Checked.{checked_power as power}
 use Rattle.loop_runs.proofs.values.power_of.Given as goal
 
 abbrev pub invariant-loop-iteration : goal.invariant-loop-iteration
