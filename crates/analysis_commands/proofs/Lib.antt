@@ -50,6 +50,11 @@ pub mod StartedWitnesses
 pub mod TurnedRuns
 pub mod TurnedWitnesses
 pub mod WorkedLoops
+pub mod SquaresClasses
+pub mod SquaresSolutions
+pub mod SquaresUnrefused
+pub mod SquaresRuns
+pub mod SquaresWitnesses
 pub mod FewUnits
 pub mod BasesPushing
 pub mod ChainAnalysing

@@ -86,7 +86,7 @@ minus_scaled = record {
   values = λ n x. minus_at ℚ_ring (power ℚ minus n) x;
 }
 
-ones : (n : ℕ) → power ℚ one n ≡ one
+pub ones : (n : ℕ) → power ℚ one n ≡ one
 unfolding power
 ones zero = refl
 ones (suc n) = one-mul ℚ_ring (power ℚ one n) ∙ ones n

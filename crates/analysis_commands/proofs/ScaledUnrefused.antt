@@ -78,7 +78,7 @@ none_past cs (inr p) =
 abbrev pub nothing : List (Terms Fraction)
 nothing = [] ∷ []
 
-part_of_none : (by : List Fraction) → part by [] ≡ []
+pub part_of_none : (by : List Fraction) → part by [] ≡ []
 unfolding collect
 part_of_none by = ap collect_terms (nothing_mixed by)
 
@@ -177,7 +177,7 @@ module _ (c : Fraction) (base : List ℕ) (narrow : IsNarrow c) where
   product_own (x ∷ y ∷ out) p = absurd (let s = p.size in omega (arith, s))
 
   -- ---- the inhomogeneity of its form is 0
-  before_fits : IsPastBefore (one ∷ []) (matrix_of c) rows [] → ⊥
+  pub before_fits : IsPastBefore (one ∷ []) (matrix_of c) rows [] → ⊥
   before_fits (turned_past p) = before_row p
   before_fits (back_past t is p) = behind_row (subst (λ t. IsPastRow 1 t rows) (product_own t is) p)
   before_fits (before by is p) = none_past by p
