@@ -3,7 +3,7 @@
 --   closed_shown       with the cofactors of the divisions that closed it
 --   out_shown          an exhausted budget: an analysis that ran out of units
 --   unanalysed         any other answer: why the analysis was refused
---   status_told        the answer to a refusal has the refusal's status
+--   status_told        the answer to a refusal has the refusal's status;  refused_not_yes: which isn't that of a yes
 --   limit_analysed     the answer where an operation of the maps passes a limit
 --   formed_analysed    where none does and each branch splits: a yes, or a number that doesn't fit, or an exhausted budget
 --   unformed_analysed  where not each branch has one: a fault, or a number that doesn't fit

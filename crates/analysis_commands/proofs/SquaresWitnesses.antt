@@ -158,16 +158,16 @@ minus_some e = (let z : negsuc 0 ≡ pos 0 = whole_injective (negsuc 0) (pos 0) 
 less_two_some : whole (negsuc 1) ≡ ℚ.zero → ⊥
 less_two_some e = (let z : negsuc 1 ≡ pos 0 = whole_injective (negsuc 1) (pos 0) e in cc)
 
-abbrev IsFalling : Terms Fraction → Type 0
-IsFalling p = IsPolynomial ℚ grevlex 3 p
+abbrev IsDescending : Terms Fraction → Type 0
+IsDescending p = IsPolynomial ℚ grevlex 3 p
 
 term_falls : (e : List ℕ) (c : Fraction) → length e ≡ 3 → (c ≡ ℚ.zero → ⊥)
-    → IsFalling ((e, c) ∷ [])
+    → IsDescending ((e, c) ∷ [])
 unfolding Each Falls
 term_falls e c l some = record { nonzero = (some, tt); arity = (l, tt); falls = (tt, tt) }
 
 pair_falls : (d e : List ℕ) (b c : Fraction) → length d ≡ 3 → length e ≡ 3 → (b ≡ ℚ.zero → ⊥)
-    → (c ≡ ℚ.zero → ⊥) → compare grevlex e d ≡ Less → IsFalling ((d, b) ∷ (e, c) ∷ [])
+    → (c ≡ ℚ.zero → ⊥) → compare grevlex e d ≡ Less → IsDescending ((d, b) ∷ (e, c) ∷ [])
 unfolding Each Falls
 pair_falls d e b c k l some other less = record {
   nonzero = (some, (other, tt));
@@ -178,7 +178,7 @@ pair_falls d e b c k l some other less = record {
 triple_falls : (d e f : List ℕ) (a b c : Fraction) → length d ≡ 3 → length e ≡ 3 → length f ≡ 3
     → (a ≡ ℚ.zero → ⊥) → (b ≡ ℚ.zero → ⊥) → (c ≡ ℚ.zero → ⊥) → compare grevlex e d ≡ Less
     → compare grevlex f d ≡ Less → compare grevlex f e ≡ Less
-    → IsFalling ((d, a) ∷ (e, b) ∷ (f, c) ∷ [])
+    → IsDescending ((d, a) ∷ (e, b) ∷ (f, c) ∷ [])
 unfolding Each Falls
 triple_falls d e f a b c k l m some other last less lesser least = record {
   nonzero = (some, (other, (last, tt)));
@@ -316,10 +316,10 @@ unfolding operations value_of variables unit_exponents constant Algebra.times Al
     fraction Fraction.product is_lowest reduce gcd
 question_operations = refl
 
-twice_falls : IsFalling twice
+twice_falls : IsDescending twice
 twice_falls = term_falls of_a two refl two_some
 
-odd_falls : IsFalling odd
+odd_falls : IsDescending odd
 unfolding compare grevlex
 odd_falls = pair_falls of_a of_one two one refl refl two_some one_some refl
 
@@ -362,7 +362,7 @@ unfolding collect insert place compare grevlex Algebra.negate fraction Fraction.
     Fraction.opposite is_lowest reduce gcd
 asked_is = refl
 
-asked_falls : IsFalling squares_asked
+asked_falls : IsDescending squares_asked
 unfolding compare grevlex
 asked_falls = triple_falls of_a of_t of_one (whole (negsuc 1)) one minus refl refl refl
     less_two_some one_some minus_some refl refl refl

@@ -4,7 +4,7 @@
 --   negated_..   of the loop `vars x; init x=1; branch { x=-x; }`, whose basis is x^2 - 1
 -- What meets each premise:
 --   ReadsLoop                          doubled_read, negated_read, where the outside tells the bytes
---   IsNeverRefused, IsWithinBudget     doubled_never_refused, doubled_within, with any budget from 5 on; negated_.., from 7 on
+--   IsNeverRefused, IsWithinBudget     doubled_never_refused, doubled_within, with any budget from 5 on; negated_never_refused, negated_within, from 7 on
 --   AreFree, AllSplit                  doubled_free, doubled_splits; negated_free, negated_splits
 --   AreForms                           doubled_are; negated_are
 --   NeverPast, IsAnswered              negated_never_past, negated_answered: of x^2 - 1, with nothing left; within any budget from 8 on: asked_few

@@ -4,3 +4,4 @@ pub mod CheckJudgements
 pub mod CheckPromises
 pub mod CheckfullPromises
 pub mod CheckfullJudgements
+pub mod ShortCertificates

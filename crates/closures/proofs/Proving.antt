@@ -1,5 +1,6 @@
 -- The calls of the divisions behind a closing, one after another, as its entries.
 --   proof_begins          behind a closing that ends with a list the tests come next
+--   start_past            where the composition that a test divides is past, so is the proof there
 --   test_begins           a test begins
 --   test_follows          the entries of its division go on from those before
 --   test_over             where it has ended the next one comes

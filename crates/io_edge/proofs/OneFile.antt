@@ -1,7 +1,7 @@
 -- What a command promises that reads one file as something, and then ends.
 --   Concludes t               a status that answers to what was read may have, and no refusal has
 --   concludes_yes, concludes_no, concludes_exhausted      so a yes, a no, an exhausted budget
---   OneFile X F               the file, how it is read, the answer to a fault, and the end behind what was read;  course_of: its course
+--   OneFile X F               the file, how it is read, the answer to a fault, and the end behind what was read;  course_of: its course;  next: the end, as a course
 --   settled                   its answers are settled
 --   answered, ends_at_fault   the answer where the bytes are told
 --   tells, writes             what holds of the file, and what is written, where the answer concludes

@@ -1,6 +1,6 @@
 -- A closed form of a branch from some number of iterations on: what agrees from there on agrees at each n, and at negative numbers the form goes back: it undoes as many iterations, up to what it is at 0.
 --   back n xs              the point -n, (-1)^n, 1/b^n, b^n;  next_at_back: one more at -n - 1 is -n
---   next_images, next_values     one iteration more, and its value
+--   next_images, next_values     one iteration more, and its value;  arity_next: the images have an exponent for each variable
 --   same_from              polynomials with the same values from some n on have them at each n
 --   IsForm since f E       polynomials in n, s, u, v and the variables whose values from `since` on are the iterations
 --   next_iteration              an iteration more is an iteration of the state first, at each n

@@ -1,6 +1,7 @@
 -- The least cycle: walks of a given length as a test, no cycle needs more steps than there are variables, and the choice place by place.
 --   any_below m test         some number below m passes the test
---   walk uses m k i j        a walk of just k steps leads from i to j, as a test; walk_out, walk_in: that it is one
+--   walk uses m k i j        a walk of just k steps leads from i to j, as a test; walk_out, walk_in: that it is one (Steps)
+--   starts k v w             the test whether a nonlinear use of w by v starts a cycle of k steps more;  no_short_none: where none does for k below m, there is no cycle
 --   Once xs                  xs has no number twice;  once_short: of numbers below m it has at most m
 --   simple_walk              a walk can be had that meets no variable twice
 --   short_cycle              where there is a cycle there is one of at most m steps
