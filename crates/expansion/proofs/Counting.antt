@@ -75,11 +75,11 @@ of_one (suc n) = of_one n ∙ sym (N.mul-one (1 ^ n)) ∙ sym (N.pow-suc 1 n)
 pub power_some : (by n : ℕ) → 0 < by → 0 < by ^ n
 power_some by n h = let o : 1 ≤ by ^ n = N.one-le-pow n by h in omega arith
 
-at_least : (x y : ℕ) → 0 < y → x ≤ x * y
+pub at_least : (x y : ℕ) → 0 < y → x ≤ x * y
 at_least x y h = subst (λ z. z ≤ x * y) (N.mul-one x) (N.mul-le-mul_left x (let o : 1 ≤ y =
     omega arith in o))
 
-at_least_right : (x y : ℕ) → 0 < x → y ≤ x * y
+pub at_least_right : (x y : ℕ) → 0 < x → y ≤ x * y
 at_least_right x y h = subst (λ z. y ≤ z) (N.mul_comm y x) (at_least y x h)
 
 pub raised_more : (by t found next : ℕ) → found ≡ by ^ t → next ≡ found * by → next ≡ by ^ (t + 1)

@@ -1,4 +1,5 @@
-//! Counts the terms that a composition or a combination multiplies out to, before like ones are collected, up to a limit.
+//! Counts the terms that a composition or a combination multiplies out to, before like ones are collected, up to a limit; of compositions
+//! also with products that are equal but for their order counted once.
 //!
 //! Proved: each count is exact up to the limit, and told to be above it exactly where it is.
 //!
@@ -12,8 +13,11 @@ ghost use Rattle.frac128.specs.FracMeaning.{fraction_of};
 ghost use Rattle.expansion.specs.Counts as counts;
 ghost use Rattle.expansion.specs.Counts.{IsCount, factor_terms};
 
+mod lengths;
+
 use frac128::Frac;
-use monos::Grevlex;
+pub use lengths::{composition_length, list_length, next_lengths};
+use monos::{Grevlex, Order};
 use poly::{Poly, Term};
 
 /// The most terms that are counted.
@@ -134,9 +138,9 @@ pub fn composition_terms(
 
 /// How many terms the sum of the products of the cofactors with the elements, place by place, multiplies out to; nothing where these are
 /// more than 2^20.
-pub fn combination_terms(
-    cofactors: &[Poly<Frac, Grevlex>],
-    list: &[Poly<Frac, Grevlex>],
+pub fn combination_terms<O: Order>(
+    cofactors: &[Poly<Frac, O>],
+    list: &[Poly<Frac, O>],
 ) -> Option<u64>
     ensures { IsCount (counts.combination_terms (terms_each cofactors.now) (terms_each list.now))
         result }

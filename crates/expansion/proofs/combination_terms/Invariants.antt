@@ -6,7 +6,7 @@ use Rattle.expansion.specs.Counts.{most_terms, combination_terms}
 use Rattle.expansion.proofs.combination_terms.Given as goal
 
 abbrev pub invariant-loop-cofactor : goal.invariant-loop-cofactor
-invariant-loop-cofactor l =
+invariant-loop-cofactor g l =
     let left = combination_terms (terms_each (iter_rest (zip_first l.cofactor-iterator)))
     (terms_each (iter_rest (zip_second l.cofactor-iterator))) in
     record {

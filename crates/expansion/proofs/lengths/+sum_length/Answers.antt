@@ -1,0 +1,48 @@
+use Rattle.std.proofs.Common.{inl, inr, map, subst, ◌∙◌}
+use Rattle.algebra.proofs.Lists.{nil_from_length, one_from_length}
+use Rattle.frac128.specs.FracMeaning.{fraction_of}
+use Rattle.poly.specs.Seen.{terms_each}
+use Rattle.poly.specs.View.{term_of}
+use Rattle.expansion.specs.Counts.{factor_terms, IsCount}
+use Rattle.expansion.specs.Lengths.{product_length, term_length}
+use Rattle.expansion.proofs.Counting.{of_zero, none_above, some_is, count_of}
+use Rattle.expansion.proofs.LengthLaws.{sum_none, sum_one, sum_past, sum_parts}
+use Rattle.expansion.proofs.lengths.+sum_length.Goals as goal
+
+pub returns-in-empty : goal.returns-in-empty
+returns-in-empty t c =
+    of_zero _ (sum_none (term_length (terms_each c.args.images.now)) (term_of fraction_of)
+    c.args.terms.now
+    (nil_from_length c.args.terms.now c.in-empty.len_below))
+
+pub returns-in-len1 : goal.returns-in-len1
+returns-in-len1 t c =
+    let one = one_from_length _ _ c.in-len1.len_at_least c.in-len1.len_below c.term-item.is in
+    let ns = map factor_terms (terms_each c.args.images.now) in
+    count_of _ _ c.product_length.result
+    (sum_one (term_length (terms_each c.args.images.now)) (term_of fraction_of) c.term-item.result
+    c.args.terms.now one)
+    (subst (λ e. IsCount (product_length ns e) c.product_length.result)
+    (c.as_slice.ensures ∙ c.exponents.ensures.exponents) c.product_length.ensures)
+
+pub returns-in_default-sum_length : goal.returns-in_default-sum_length
+returns-in_default-sum_length t c =
+    sum_past (term_length (terms_each c.args.images.now)) (term_of fraction_of) c.args.terms.now _ _
+    _ c.split_at.ensures.front c.split_at.ensures.back
+    (inl (none_above _ c.sum_length.result c.sum_length.ensures c.in_default-sum_length.not-Some))
+
+pub returns-in_default-sum_length-2 : goal.returns-in_default-sum_length-2
+returns-in_default-sum_length-2 t c =
+    sum_past (term_length (terms_each c.args.images.now)) (term_of fraction_of) c.args.terms.now _ _
+    _ c.split_at.ensures.front c.split_at.ensures.back
+    (inr (none_above _ c.sum_length-in_default.result c.sum_length-in_default.ensures
+    c.in_default-sum_length-2.not-Some))
+
+pub returns-in-Some-sum_length : goal.returns-in-Some-sum_length
+returns-in-Some-sum_length t c =
+    let left = some_is _ c.in-Some.left c.sum_length.result c.sum_length.ensures c.in-Some.is in
+    let right = some_is _ c.in-Some-sum_length.right c.sum_length-in_default.result
+    c.sum_length-in_default.ensures c.in-Some-sum_length.is in
+    sum_parts (term_length (terms_each c.args.images.now)) (term_of fraction_of) c.args.terms.now _
+    _ _ c.split_at.ensures.front c.split_at.ensures.back
+    c.in-Some.left c.in-Some-sum_length.right c.sum.result left.0 right.0 c.sum.ensures
