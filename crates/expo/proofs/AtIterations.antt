@@ -13,7 +13,7 @@ use Rattle.algebra.specs.Ring.{CommRing}
 use Rattle.algebra.proofs.FieldLaws as FL
 use Rattle.algebra.proofs.RingLaws as L
 use Rattle.algebra.proofs.RingSolver.{ring_rules, ring}
-use Rattle.algebra.specs.Fraction.{Fraction, ℚ, fraction_size, whole, inverse}
+use Rattle.algebra.specs.Fraction.{Fraction, ℚ, fraction_size, whole}
 use Rattle.algebra.specs.Size.{IsPast}
 use Rattle.algebra.proofs.Fractions.{ℚ_ring, ℚ_field}
 use Rattle.algebra.proofs.Wholes.{of_int-whole}

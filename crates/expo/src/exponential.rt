@@ -6,6 +6,7 @@ ghost use Rattle.coprime_base.specs.Sizes.{sizes};
 ghost use Rattle.solvable_maps.specs.Iterations.{width};
 ghost use Rattle.expo.specs.Bases.{IsCoprimeBase, IsOwnNormal, coprime_base_prop, own_normal_prop};
 
+use crate::widths::width;
 use frac128::{Frac, Whole};
 use monos::Grevlex;
 use poly::Poly;
@@ -81,7 +82,7 @@ impl Expo {
         ensures vars { IfOk result (λ e. e.vars ≡ vars) }
         ensures terms { IfOk result (λ e. terms_in e.body ≡ []) }
     {
-        let body = Poly::zero(alloc, Grevlex, 2 + 2 * base.len() + vars);
+        let body = Poly::zero(alloc, Grevlex, width(base.len(), vars));
         Expo::of(alloc, base, vars, body)
     }
 

@@ -12,6 +12,7 @@ ghost use Rattle.monos.specs.Variables.{most_variables};
 ghost use Rattle.expo.specs.Bases.{IsCoprimeBase};
 ghost use Rattle.expo.specs.Images.{IsMultiple, LikeIn, more, multiples, factor, factors_of};
 
+use crate::widths::width;
 use frac128::{Frac, Whole};
 use monos::{Grevlex, Mono};
 use poly::{Poly, Term};
@@ -31,13 +32,13 @@ pub(crate) fn images_at_next(
     ensures arities { let w = width (length (sizes base.now)) vars in
         IfOk result (λ images. All (λ p. p.arity ≡ w) images.items) }
 {
-    let arity = 2 + 2 * base.len() + vars;
+    let arity = width(base.len(), vars);
     let mut images = Vec::with_capacity(alloc, arity)?;
     images.push(one_more(alloc, arity)?)?;
     images.push(multiple(alloc, arity, 1, Frac::one().neg())?)?;
     push_multiples(alloc, &mut images, arity, 2, base, false)?;
     push_multiples(alloc, &mut images, arity, 2 + base.len(), base, true)?;
-    push_variables(alloc, &mut images, arity, 2 + 2 * base.len())?;
+    push_variables(alloc, &mut images, arity, width(base.len(), 0))?;
     Ok(images)
 }
 
@@ -51,7 +52,7 @@ pub(crate) fn images_at_zero(
     ensures images { IfOk result (λ images. terms_each images.items ≡ zero_images count vars) }
     ensures arities { IfOk result (λ images. All (λ p. p.arity ≡ vars) images.items) }
 {
-    let mut images = Vec::with_capacity(alloc, 2 + 2 * count + vars)?;
+    let mut images = Vec::with_capacity(alloc, width(count, vars))?;
     images.push(Poly::zero(alloc, Grevlex, vars))?;
     for _ in 0..2 * count + 1 {
         images.push(Poly::one(alloc, Grevlex, vars)?)?;

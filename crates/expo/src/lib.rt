@@ -16,8 +16,10 @@ mod points;
 mod powers;
 mod solution;
 mod table;
+mod widths;
 
 pub use exponential::Expo;
 pub use points::power;
 pub use powers::Power;
 pub use solution::solve_term;
+pub use widths::width;

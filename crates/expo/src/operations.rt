@@ -18,6 +18,7 @@ use crate::Expo;
 use crate::exponents::{monomial_inverse_form, normal_monomial};
 use crate::images::{images_at_next, images_at_zero};
 use crate::points::images_at_iteration;
+use crate::widths::width;
 use frac128::{Frac, Whole};
 use monos::Grevlex;
 use poly::{Poly, Term};
@@ -45,7 +46,7 @@ impl Expo {
             → IsPast (weight fraction_size (terms_in body.now)) }
     {
         let count = base.len();
-        let vars = body.arity() - 2 - 2 * count;
+        let vars = body.arity() - width(count, 0);
         let terms = normal_terms(alloc, body.terms(), count)?;
         let body = Poly::from_terms(alloc, Grevlex, body.arity(), terms)?;
         Ok(Expo::of(alloc, base, vars, body)?)

@@ -13,6 +13,7 @@ ghost use Rattle.expo.specs.Points.{number_image, iteration_images, powers_by, I
 
 use crate::images::{factor_of, push_variables};
 use crate::table::frac_of_usize;
+use crate::widths::width;
 use frac128::{Frac, Whole};
 use monos::Grevlex;
 use poly::Poly;
@@ -47,7 +48,7 @@ pub(crate) fn images_at_iteration(
     ensures arities { IfOk result (λ images. All (λ p. p.arity ≡ vars) images.items) }
     ensures wide { IsErrOf result ArithmeticError.Wide → IsPastPoint (sizes base.now) iterations }
 {
-    let mut images = Vec::with_capacity(alloc, 2 + 2 * base.len() + vars)?;
+    let mut images = Vec::with_capacity(alloc, width(base.len(), vars))?;
     images.push(number_of(alloc, vars, iterations)?)?;
     images.push(Poly::constant(alloc, Grevlex, vars, &sign(iterations))?)?;
     push_powers(alloc, &mut images, vars, base, iterations, false)?;

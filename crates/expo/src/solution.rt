@@ -16,6 +16,7 @@ ghost use Rattle.expo.specs.Solutions.{AreOther, AreEqual, AreTabled, IsPastTabl
 use crate::Expo;
 use crate::powers::{Evaluated, Key, Power};
 use crate::table::{equal_numbers, other_numbers};
+use crate::widths::width;
 use frac128::{Frac, Whole};
 use monos::Grevlex;
 use poly::{Poly, Term};
@@ -47,7 +48,7 @@ pub fn solve_term(
     let inhomogeneity = inhomogeneity.evaluate(alloc, base)?;
     let own = own.evaluate(alloc, base)?;
     let terms = terms_of_table(alloc, vars, degree, &inhomogeneity, &own)?;
-    let arity = 2 + 2 * base.len() + vars;
+    let arity = width(base.len(), vars);
     let body = Poly::from_distinct(alloc, Grevlex, arity, terms)?;
     Ok(Expo::of(alloc, base, vars, body)?)
 }

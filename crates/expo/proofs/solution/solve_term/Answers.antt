@@ -1,4 +1,4 @@
-use Rattle.std.proofs.Common.{◌≡◌, ◌+◌, ◌*◌, length, refl, ap, sym, subst, ◌∙◌, arith}
+use Rattle.std.proofs.Common.{◌≡◌, length, refl, ap, sym, subst, ◌∙◌}
 use Rattle.std.proofs.lemmas.List.{length-map}
 use Rattle.algebra.specs.Fraction.{ℚ}
 use Rattle.polynomials.specs.Order.{grevlex}
@@ -75,7 +75,8 @@ list_is c are =
     let bs = sizes c.args.base.now.items in
     let n : c.len.result ≡ length bs = c.len.ensures ∙ c.args.base.now.ok.0
     ∙ sym (length-map c.args.base.now.items _) in
-    let w : 2 + 2 * c.len.result + c.args.vars ≡ width (length bs) c.args.vars = omega (arith, n) in
+    let w : c.width-arity.result ≡ width (length bs) c.args.vars =
+    c.width-arity.ensures ∙ ap (λ k. width k c.args.vars) n in
     let i = c.in_ok-body.ensures in
     let q = terms_in c.in_ok-body.body in
     normal_list (length bs) (width (length bs) c.args.vars) q
@@ -87,10 +88,11 @@ from_distinct-requires-clause-arities c =
     let bs = sizes c.args.base.now.items in
     let n : c.len.result ≡ length bs = c.len.ensures ∙ c.args.base.now.ok.0
     ∙ sym (length-map c.args.base.now.items _) in
-    let w : width (length bs) c.args.vars ≡ 2 + 2 * c.len.result + c.args.vars = omega (arith, n) in
+    let w : c.width-arity.result ≡ width (length bs) c.args.vars =
+    c.width-arity.ensures ∙ ap (λ k. width k c.args.vars) n in
     let ts = c.in_ok-terms.terms.items in
-    all_arity fraction_of (2 + 2 * c.len.result + c.args.vars) ts
-    (subst (λ n. Arity n (terms_of fraction_of ts)) w
+    all_arity fraction_of c.width-arity.result ts
+    (subst (λ n. Arity n (terms_of fraction_of ts)) (sym w)
     (parts (goal.at.from_distinct-requires-clause-arities c).In_ok-terms).arity)
 
 pub from_distinct-requires-clause-distinct : goal.from_distinct-requires-clause-distinct

@@ -1,4 +1,4 @@
-use Rattle.std.proofs.Common.{◌≡◌, ◌≤◌, ◌-◌, ◌*◌, All, length, ap, ap₂, sym, subst, ◌∙◌, arith}
+use Rattle.std.proofs.Common.{◌≡◌, ◌≤◌, ◌-◌, All, length, ap, ap₂, sym, subst, ◌∙◌, arith}
 use Rattle.std.proofs.lemmas.List.{length-map}
 use Rattle.polynomials.specs.Polynomial.{Arity}
 use Rattle.frac128.specs.FracMeaning.{fraction_of}
@@ -70,9 +70,10 @@ returns-clause-normal c =
     let count_is : c.len-count.result ≡ length bs = c.len-count.ensures ∙ c.args.base.now.ok.0
     ∙ sym (length-map c.args.base.now.items _) in
     let few = c.arity.ensures.arity in
-    made_expo bs _ (vars_of bs p.arity) (c.arity.result - 2 - 2 * c.len-count.result)
+    let front = c.width.ensures in
+    made_expo bs _ (vars_of bs p.arity) (c.arity.result - c.width.result)
     (terms_in c.in_ok-body.body) (normal_of bs (terms_in p)) (ap sizes c.deref-2.ensures.value)
-    (omega (arith, few, count_is))
+    (omega (arith, few, count_is, front))
     (list_is at.In_ok-body (made_is at.In_ok-terms)).is c.in_ok-of.field-0
     c.in_ok-of.ensures.base c.in_ok-of.ensures.vars c.in_ok-of.ensures.terms
 
