@@ -28,7 +28,7 @@ use Rattle.rounds.specs.BranchMap.{map_of}
 use Rattle.loop_model.specs.Operations.{operations, operations_all, PassesLimit}
 use Rattle.loop_model.specs.Maps.{maps_operations, statements_operations, AreFree}
 use Rattle.solvable.specs.Refusal.{IsSolvable}
-use Rattle.closed_forms.specs.Lengths.{class_length, sum_length, IsShort}
+use Rattle.closed_forms.specs.Lengths.{class_length, IsShort}
 use Rattle.closed_forms.specs.Refusal.{AllPass}
 use Rattle.closed_forms.proofs.LengthLaws.{single_short}
 use Rattle.eigen_split.proofs.OneNumber.{single_splits}
@@ -85,7 +85,7 @@ gone_passes g c = subst (Passes gone) (sym (gone_class g c)) (record {
 
 -- ---- its length
 gone_length : class_length gone (0 ∷ []) (1 ∷ []) ≡ 0
-unfolding class_length sum_length
+unfolding class_length
 gone_length = refl
 
 pub gone_short : IsShort gone

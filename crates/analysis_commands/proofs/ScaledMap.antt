@@ -54,7 +54,8 @@ use Rattle.solvable_maps.proofs.Numbers.{one_form}
 use Rattle.solvable_maps.proofs.OneForm.{all_values}
 use Rattle.eigen_split.specs.Refusal.{IsSingle}
 use Rattle.eigen_split.proofs.OneNumber.{single_splits}
-use Rattle.closed_forms.specs.Lengths.{power_length, product_length, sum_length, class_length, IsShort}
+use Rattle.expansion.specs.Lengths.{power_length, product_length}
+use Rattle.closed_forms.specs.Lengths.{class_length, IsShort}
 use Rattle.closed_forms.proofs.LengthLaws.{ones, single_short}
 use Rattle.rounds.proofs.Alone.{own, own_is_eigenvalue, eigenvalue_is_own}
 
@@ -126,7 +127,7 @@ module _ (c : Fraction) where
 
   -- ---- its length
   scaled_length : class_length (scaled c) (0 ∷ []) (1 ∷ []) ≡ 1
-  unfolding class_length sum_length product_length power_length
+  unfolding class_length product_length power_length
   scaled_length = refl
 
   pub scaled_short : IsShort (scaled c)

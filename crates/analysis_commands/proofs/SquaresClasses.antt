@@ -31,7 +31,8 @@ use Rattle.solvable_maps.specs.Uses.{uses, strongly}
 use Rattle.solvable_maps.proofs.Classes.{class_one}
 use Rattle.solvable_maps.proofs.Linear.{map_bounded}
 use Rattle.eigen_split.proofs.OneNumber.{single_splits}
-use Rattle.closed_forms.specs.Lengths.{power_length, product_length, sum_length, class_length, IsShort}
+use Rattle.expansion.specs.Lengths.{power_length, product_length}
+use Rattle.closed_forms.specs.Lengths.{class_length, IsShort}
 use Rattle.rounds.proofs.Alone.{own, own_is_eigenvalue, eigenvalue_is_own}
 use Rattle.analysis_commands.proofs.ScaledMap.{one, base_is}
 use Rattle.analysis_commands.proofs.ScaledNumbers.{two, one_scaled}
@@ -277,7 +278,7 @@ few : (n k : ℕ) → k ≤ 4 → n ≡ k → n ≤ most_terms
 few n k l e = let most = most_is in omega (arith, l, e, most)
 
 pub squares_short : IsShort squares_images
-unfolding class_length sum_length product_length power_length
+unfolding class_length product_length power_length
 squares_short = record {
   groups = order;
   are = classes;

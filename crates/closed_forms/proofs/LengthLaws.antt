@@ -1,23 +1,15 @@
 -- How long classes are, as the code counts it.
---   power_none, power_more, power_past     the powers of a sum, one factor after another
---   power_next, power_long      the same of a count so far
---   factor_fits             what is multiplied fits
---   some_first, few_first, rest_lengths     the first of some lengths, and the others
---   products_none, products_more, products_past      a product
---   sums_none, sums_one, sums_parts, sums_past     a sum
+--   some_first, few_first, rest_lengths     the first of some lengths, and the others;  lengths_some: none is 0
 --   none_of_class, class_more, class_past_rest, class_past_own     a class
 --   set-count, set_lengths, some_lengths     lengths with those of a class
 --   long_one                    its first class that is too long is one;  long_not, long_or_short     a map isn't both too long and short;  single_short: one of one variable
 --   ones                    each variable is one term to begin with
-use Rattle.std.proofs.Common.{◌≡◌, ◌⊎◌, inl, inr, ℕ, zero, suc, ◌+◌, ◌-◌, ◌*◌, ◌/◌, ◌^◌, ◌<◌, ◌≤◌, List, [], ◌∷◌, ◌++◌, T, length, set, replicate, Vec, Global, All, refl, sym, ap, ap₂, subst, ◌∙◌, arith, Option}
-use native.Mathlib.Nat as N
-use Rattle.std.proofs.Math.Nat.{le-div_iff_mul-le}
+use Rattle.std.proofs.Common.{◌≡◌, inl, inr, ℕ, zero, suc, ◌+◌, ◌<◌, ◌≤◌, List, [], ◌∷◌, T, length, set, replicate, Vec, Global, All, refl, sym, ap, ap₂, subst, ◌∙◌, arith, Option}
 use Rattle.std.proofs.lemmas.List.{length-set}
-use Rattle.algebra.proofs.RatioLaws.{mul-pos}
 use Rattle.algebra.specs.Fraction.{Fraction}
 use Rattle.polynomials.specs.Terms.{Terms}
 use Rattle.expansion.specs.Counts.{most_terms, IsCount}
-use Rattle.expansion.proofs.Counting.{most_is, one_fits, count_of, of_zero}
+use Rattle.expansion.proofs.Counting.{one_fits, count_of, of_zero}
 use Rattle.algebra.specs.Each.{Each}
 use Rattle.solvable_maps.specs.Classes.{IsClass}
 use Rattle.solvable_maps.proofs.Classwise.{class_some}
@@ -27,68 +19,7 @@ use Rattle.closed_forms.proofs.Splitting.{classes_are}
 use Rattle.solvable_maps.specs.Class.{IsClassOf, IsNext, AreClasses}
 use Rattle.solvable_maps.specs.Uses.{uses, poly_at}
 use Rattle.solvable_maps.proofs.Classes.{classes_one, reached_within}
-use Rattle.closed_forms.specs.Lengths.{AreLengths, power_length, product_length, sum_length, class_length, with_length, at_least_one, with_class, IsLongAmong, AreShort, IsLong, IsShort}
-
--- ---- powers
-pub power_none : (n : ℕ) → power_length n 0 ≡ 1
-unfolding power_length
-power_none n = refl
-
-power_step : (n e : ℕ) → power_length n (suc e) ≡ power_length n e * (n + e) / (e + 1)
-unfolding power_length
-power_step n e = refl
-
-pub power_more : (n e : ℕ) → power_length n (e + 1) ≡ power_length n e * (n + e) / (e + 1)
-power_more n e = let o : e + 1 ≡ suc e = omega arith in ap (power_length n) o ∙ power_step n e
-
-grown : (c n e : ℕ) → 0 < n → c ≤ c * (n + e) / (e + 1)
-grown c n e h =
-    (le-div_iff_mul-le (let o : zero < e + 1 = omega arith in o)).1
-    (N.mul-le-mul_left c (let o : e + 1 ≤ n + e = omega (arith, h) in o))
-
-pub power_later : (n e k : ℕ) → 0 < n → power_length n e ≤ power_length n (e + k)
-power_later n e zero h = let o : e + 0 ≡ e = omega arith in N.le_of_eq (sym (ap (power_length n) o))
-power_later n e (suc k) h =
-    let before = power_later n e k h in
-    let more = power_more n (e + k) in
-    let step = grown (power_length n (e + k)) n (e + k) h in
-    let o : e + suc k ≡ e + k + 1 = omega arith in
-    let last = ap (power_length n) o in omega (arith, before, more, step, last)
-
-pub power_past : (n e f : ℕ) → 0 < n → e ≤ f → most_terms < power_length n e
-    → most_terms < power_length n f
-power_past n e f h l past =
-    let o : e + (f - e) ≡ f = omega (arith, l) in
-    let later = power_later n e (f - e) h in
-    let last = ap (power_length n) o in omega (arith, past, later, last)
-
-power_some : (n e : ℕ) → 0 < n → 0 < power_length n e
-power_some n e h =
-    let o : 0 + e ≡ e = omega arith in
-    let later = power_later n 0 e h in
-    let last = ap (power_length n) o in
-    let first = power_none n in omega (arith, later, last, first)
-
--- what is next, where the count so far is at most the limit, and what it says where it isn't
-pub power_next : (n e found next : ℕ) → found ≡ power_length n e
-    → next ≡ found * (n + e) / (e + 1) → next ≡ power_length n (e + 1)
-power_next n e found next is f = f ∙ ap (λ x. x * (n + e) / (e + 1)) is ∙ sym (power_more n e)
-
-pub power_long : (n e times found : ℕ) → 0 < n → e < times → found ≡ power_length n e
-    → most_terms < found * (n + e) / (e + 1) → most_terms < power_length n times
-power_long n e times found h l is past =
-    power_past n (e + 1) times h (let o : e + 1 ≤ times = omega (arith, l) in o)
-    (subst (λ k. most_terms < k)
-    (power_next n e found (found * (n + e) / (e + 1)) is refl) past)
-
--- ---- what is multiplied fits
-pub factor_fits : (a b : ℕ) → a ≤ most_terms → b ≤ most_terms + 65536 → a * b < 2 ^ 64
-factor_fits a b h l =
-    let e = most_is in
-    let x : a * b ≤ 1048576 * 1114112 = N.mul-le-mul (let o : a ≤ 1048576 = omega (arith, h, e) in
-    o)
-    (let o : b ≤ 1114112 = omega (arith, l, e) in o) in
-    omega (arith, x)
+use Rattle.closed_forms.specs.Lengths.{AreLengths, sum_length, class_length, with_length, at_least_one, with_class, IsLongAmong, AreShort, IsLong, IsShort}
 
 -- ---- lengths of sums
 pub some_first : (n : ℕ) (ns all : List ℕ) → all ≡ n ∷ ns → AreLengths all → 0 < n
@@ -97,86 +28,13 @@ some_first n ns all e are = (subst AreLengths e are).0
 pub few_first : (n : ℕ) (ns all : List ℕ) → all ≡ n ∷ ns → AreLengths all → n ≤ most_terms
 few_first n ns all e are = (subst AreLengths e are).1
 
+pub lengths_some : (ns : List ℕ) → AreLengths ns → Each (λ n. 0 < n) ns
+unfolding Each
+lengths_some [] are = tt
+lengths_some (n ∷ ns) are = (are.0, lengths_some ns are.2)
+
 pub rest_lengths : (n : ℕ) (ns all : List ℕ) → all ≡ n ∷ ns → AreLengths all → AreLengths ns
 rest_lengths n ns all e are = (subst AreLengths e are).2
-
--- ---- products
-pub products_none : (ns e : List ℕ) → (length ns ≡ 0) ⊎ (length e ≡ 0) → 1 ≡ product_length ns e
-unfolding product_length
-products_none [] e h = refl
-products_none (n ∷ ns) [] h = refl
-products_none (n ∷ ns) (k ∷ e) (inl h) = absurd (omega (arith, h))
-products_none (n ∷ ns) (k ∷ e) (inr h) = absurd (omega (arith, h))
-
-products_some : (ns e : List ℕ) → AreLengths ns → 0 < product_length ns e
-unfolding product_length
-products_some [] e h = omega arith
-products_some (n ∷ ns) [] h = omega arith
-products_some (n ∷ ns) (k ∷ e) h = mul-pos (power_length n k) (product_length ns e)
-    (power_some n k h.0) (products_some ns e h.2)
-
-products-cons : (n : ℕ) (ns : List ℕ) (k : ℕ) (e : List ℕ)
-    → product_length (n ∷ ns) (k ∷ e) ≡ power_length n k * product_length ns e
-unfolding product_length
-products-cons n ns k e = refl
-
-at_least : (x y : ℕ) → 0 < y → x ≤ x * y
-at_least x y h = subst (λ z. z ≤ x * y) (N.mul-one x) (N.mul-le-mul_left x (let o : 1 ≤ y =
-    omega (arith, h) in o))
-
-at_least_right : (x y : ℕ) → 0 < x → y ≤ x * y
-at_least_right x y h = subst (λ z. y ≤ z) (N.mul_comm y x) (at_least y x h)
-
-pub products_more : (n : ℕ) (ns all : List ℕ) (k : ℕ) (e whole : List ℕ) (rest power : ℕ)
-    (o : Option ℕ) → all ≡ n ∷ ns → whole ≡ k ∷ e → rest ≡ product_length ns e
-    → power ≡ power_length n k → IsCount (power * rest) o → IsCount (product_length all whole) o
-products_more n ns all k e whole rest power o f g r p h =
-    count_of (power * rest) (product_length all whole) o
-    (ap₂ ◌*◌ p r ∙ sym (products-cons n ns k e) ∙ sym (ap₂ product_length f g)) h
-
-pub products_past : (n : ℕ) (ns all : List ℕ) (k : ℕ) (e whole : List ℕ) → all ≡ n ∷ ns
-    → whole ≡ k ∷ e → AreLengths all
-    → (most_terms < product_length ns e) ⊎ (most_terms < power_length n k)
-    → most_terms < product_length all whole
-products_past n ns all k e whole f g are h =
-    let cut = subst AreLengths f are in
-    let is = ap₂ product_length f g ∙ products-cons n ns k e in
-    let left = at_least (power_length n k) (product_length ns e) (products_some ns e cut.2) in
-    let right = at_least_right (power_length n k) (product_length ns e) (power_some n k cut.0) in
-    elim h [
-      | inl past ↦ omega (arith, is, right, past)
-      | inr past ↦ omega (arith, is, left, past)
-    ]
-
--- ---- sums
-sums-append : (p q : Terms Fraction) (ns : List ℕ)
-    → sum_length (p ++ q) ns ≡ sum_length p ns + sum_length q ns
-unfolding sum_length
-sums-append [] q ns = sym (N.zero-add (sum_length q ns))
-sums-append (t ∷ p) q ns = let rest = sums-append p q ns in omega (arith, rest)
-
-pub sums_none : (ns : List ℕ) → sum_length [] ns ≡ 0
-unfolding sum_length
-sums_none ns = refl
-
-pub sums_one : (t : List ℕ × Fraction) (ns : List ℕ) → product_length ns t.0
-    ≡ sum_length (t ∷ []) ns
-unfolding sum_length
-sums_one t ns = sym (N.add-zero (product_length ns t.0))
-
-pub sums_past : (ts front back : Terms Fraction) (ns : List ℕ) → front ++ back ≡ ts
-    → (most_terms < sum_length front ns) ⊎ (most_terms < sum_length back ns)
-    → most_terms < sum_length ts ns
-sums_past ts front back ns e h =
-    let f = ap (λ p. sum_length p ns) (sym e) ∙ sums-append front back ns in
-    elim h [ inl past ↦ omega (arith, f, past) | inr past ↦ omega (arith, f, past) ]
-
-pub sums_parts : (ts front back : Terms Fraction) (ns : List ℕ) (left right : ℕ) (o : Option ℕ)
-    → front ++ back ≡ ts → left ≡ sum_length front ns → right ≡ sum_length back ns
-    → IsCount (left + right) o → IsCount (sum_length ts ns) o
-sums_parts ts front back ns left right o e l r h =
-    count_of (left + right) (sum_length ts ns) o
-    (ap₂ ◌+◌ l r ∙ sym (sums-append front back ns) ∙ ap (λ p. sum_length p ns) e) h
 
 -- ---- classes
 module _ (images : List (Terms Fraction)) where

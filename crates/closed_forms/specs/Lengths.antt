@@ -1,17 +1,17 @@
 -- How long the classes of a map are: how many terms their polynomials multiply out to with a sum of as many terms as its class's length for each variable of an earlier class, where products that are equal but for their order count once.
 --   AreLengths ns              the numbers of terms of some sums: none is 0, or above the limit
---   power_length n e           how many products of e of n terms there are, whatever their order: n (n + 1) .. (n + e - 1) / e!
---   product_length ns e        how many terms the product of sums of so many terms, each as often as e says, multiplies out to
---   sum_length p ns            the sum of these over the terms of p
+--   sum_length p ns            how many terms p multiplies out to with sums of so many terms for its variables
 --   class_length images g ns     the sum of these over the polynomials of the class g
 --   with_length g n ns         the numbers ns with n for each variable of g
 --   at_least_one n             a sum that is 0 counts as one term
 --   IsLongAmong images groups ns v     of these classes, one after another, v is the first variable of the first that is too long;  AreShort: none is
 --   IsLong images v, IsShort images    the same of all classes of the map, in their order, where each variable is one term to begin with
-use Rattle.std.specs.Prelude.{◌≡◌, ◌⊎◌, ℕ, zero, suc, ◌+◌, ◌*◌, ◌/◌, ◌<◌, ◌≤◌, List, [], ◌∷◌, length, replicate, set}
+use Rattle.std.specs.Prelude.{◌≡◌, ◌⊎◌, ℕ, zero, suc, ◌+◌, ◌<◌, ◌≤◌, List, [], ◌∷◌, length, replicate, set}
+use Rattle.std.specs.List.{sum_by}
 use Rattle.algebra.specs.Fraction.{Fraction}
 use Rattle.polynomials.specs.Terms.{Terms}
 use Rattle.expansion.specs.Counts.{most_terms}
+use Rattle.expansion.specs.Lengths.{product_length}
 use Rattle.solvable_maps.specs.Class.{AreClasses}
 use Rattle.solvable_maps.specs.Classes.{first_of}
 use Rattle.solvable_maps.specs.Uses.{uses, poly_at}
@@ -20,18 +20,8 @@ abbrev pub AreLengths : List ℕ → Type 0
 AreLengths [] = Unit {0}
 AreLengths (n ∷ ns) = (0 < n) × (n ≤ most_terms) × AreLengths ns
 
-unfoldable pub power_length : ℕ → ℕ → ℕ
-power_length n zero = 1
-power_length n (suc e) = power_length n e * (n + e) / (e + 1)
-
-unfoldable pub product_length : List ℕ → List ℕ → ℕ
-product_length [] e = 1
-product_length (n ∷ ns) [] = 1
-product_length (n ∷ ns) (k ∷ e) = power_length n k * product_length ns e
-
-unfoldable pub sum_length : Terms Fraction → List ℕ → ℕ
-sum_length [] ns = 0
-sum_length (t ∷ p) ns = product_length ns t.0 + sum_length p ns
+abbrev pub sum_length : Terms Fraction → List ℕ → ℕ
+sum_length p ns = sum_by (λ t. product_length ns t.0) p
 
 unfoldable pub class_length : List (Terms Fraction) → List ℕ → List ℕ → ℕ
 class_length images [] ns = 0

@@ -3,46 +3,23 @@ ghost use Rattle.std.specs.Prelude.{◌≡◌, ◌≤◌, ◌<◌, ◌*◌, All,
 ghost use Rattle.poly.specs.Seen.{terms_each};
 ghost use Rattle.poly.specs.View.{terms_of};
 ghost use Rattle.frac128.specs.FracMeaning.{fraction_of};
-ghost use Rattle.expansion.specs.Counts.{IsCount, most_terms};
+ghost use Rattle.expansion.specs.Counts.{IsCount};
+ghost use Rattle.expansion.specs.Lengths.{product_length};
 ghost use Rattle.solvable.specs.Refusal.{AreClassesOf};
 ghost use Rattle.closed_forms.specs.Lengths as lengths;
 ghost use Rattle.closed_forms.specs.Lengths.{AreLengths, IsLongAmong, AreShort};
 ghost use Rattle.closed_forms.specs.Splits.{groups_in};
 
-use expansion::sum;
+use expansion::{product, products, sum};
 use frac128::Frac;
 use monos::Grevlex;
 use poly::{Poly, Term};
 use std::alloc::{AllocError, Global};
 
-/// The number, unless it is above the limit.
-fn limited(count: u64) -> Option<u64>
-    ensures { IsCount count result }
-{
-    sum(count, 0)
-}
-
-/// How many products there are of as many of the terms as the exponent says, whatever their order.
-fn power_length(terms: u64, exponent: u16) -> Option<u64>
-    requires some { 0 < terms }
-    requires few { terms ≤ most_terms }
-    ensures { IsCount (lengths.power_length terms exponent) result }
-{
-    let mut found = 1;
-    for taken in 0..exponent {
-        let before = u64::from(taken);
-        let Some(next) = limited(found * (terms + before) / (before + 1)) else {
-            return None;
-        };
-        found = next;
-    }
-    Some(found)
-}
-
 /// How many terms the product of sums of so many terms, each as often as its exponent says, multiplies out to.
 fn product_length(exponents: &[u16], sums: &[u64]) -> Option<u64>
     requires { AreLengths sums.now }
-    ensures { IsCount (lengths.product_length sums.now exponents.now) result }
+    ensures { IsCount (product_length sums.now exponents.now) result }
 {
     let (Some((terms, sums)), Some((exponent, exponents))) = (
         sums.split_first(),
@@ -53,10 +30,10 @@ fn product_length(exponents: &[u16], sums: &[u64]) -> Option<u64>
     let Some(rest) = product_length(exponents, sums) else {
         return None;
     };
-    let Some(power) = power_length(*terms, *exponent) else {
+    let Some(power) = products(*terms, *exponent) else {
         return None;
     };
-    limited(power * rest)
+    product(power, rest)
 }
 
 /// How many terms a sum multiplies out to with sums of so many terms for its variables, by halves of the sum.

@@ -4,13 +4,14 @@
 --   power_above                    a power of more terms than the limit
 --   factor_fits                    what is multiplied fits
 --   lengths_none, lengths_more     a product of sums of so many terms
---   product_past                   a product with a factor, or others, above the limit
+--   product_past                   a product with a factor, or others, above the limit;  factors_some: a factor has some terms
 --   sum_none, sum_one, sum_parts, sum_past     sums over lists, by halves
 use Rattle.std.proofs.Common.{◌≡◌, ◌⊎◌, inl, inr, ℕ, zero, suc, ◌+◌, ◌-◌, ◌*◌, ◌/◌, ◌^◌, ◌<◌, ◌≤◌, List, [], ◌∷◌, map, take, drop, length, refl, sym, ap, ap₂, subst, ◌∙◌, arith, Option}
 use native.Mathlib.Nat as N
 use Rattle.std.specs.List.{sum_by}
 use Rattle.std.proofs.lemmas.List.Sums.{sum_by-append, sum_by-cons}
 use Rattle.std.proofs.Math.Nat.{div-one, le-div_iff_mul-le}
+use Rattle.algebra.specs.Each.{Each}
 use Rattle.algebra.proofs.RatioLaws.{mul-pos}
 use Rattle.polynomials.specs.Terms.{Terms}
 use Rattle.expansion.specs.Counts.{most_terms, factor_terms, IsCount}
@@ -108,37 +109,33 @@ lengths_more n ns all k e whole rest power o f g r p h =
     count_of (power * rest) (product_length all whole) o
     (ap₂ ◌*◌ p r ∙ sym (lengths-cons n ns k e) ∙ sym (ap₂ product_length f g)) h
 
--- ---- products of polynomials
-module _ {A : Type 0} where
-  products_some : (ps : List (Terms A)) (e : List ℕ) → 0 < product_length (map factor_terms ps) e
-  unfolding product_length
-  products_some [] e = omega arith
-  products_some (p ∷ ps) [] = omega arith
-  products_some (p ∷ ps) (k ∷ e) =
-      mul-pos (power_length (factor_terms p) k) (product_length (map factor_terms ps) e)
-      (power_some (factor_terms p) k (at_least_one p)) (products_some ps e)
+-- ---- products of sums, each of some terms
+products_some : (ns e : List ℕ) → Each (λ n. 0 < n) ns → 0 < product_length ns e
+unfolding product_length Each
+products_some [] e h = omega arith
+products_some (n ∷ ns) [] h = omega arith
+products_some (n ∷ ns) (k ∷ e) h = mul-pos (power_length n k) (product_length ns e)
+    (power_some n k h.0) (products_some ns e h.1)
 
-  products-cons : (p : Terms A) (ps : List (Terms A)) (k : ℕ) (e : List ℕ)
-      → product_length (map factor_terms (p ∷ ps)) (k ∷ e)
-      ≡ power_length (factor_terms p) k * product_length (map factor_terms ps) e
-  unfolding product_length
-  products-cons p ps k e = refl
+pub product_past : (n : ℕ) (ns all : List ℕ) (k : ℕ) (e whole : List ℕ) → all ≡ n ∷ ns
+    → whole ≡ k ∷ e → Each (λ n. 0 < n) all
+    → (most_terms < product_length ns e) ⊎ (most_terms < power_length n k)
+    → most_terms < product_length all whole
+unfolding Each
+product_past n ns all k e whole f g are h =
+    let some = subst (Each (λ n. 0 < n)) f are in
+    let is = ap₂ product_length f g ∙ lengths-cons n ns k e in
+    let left = at_least (power_length n k) (product_length ns e) (products_some ns e some.1) in
+    let right = at_least_right (power_length n k) (product_length ns e) (power_some n k some.0) in
+    elim h [
+      | inl past ↦ omega (arith, is, right, past)
+      | inr past ↦ omega (arith, is, left, past)
+    ]
 
-  pub product_past : (p : Terms A) (ps all : List (Terms A)) (k : ℕ) (e whole : List ℕ)
-      → all ≡ p ∷ ps → whole ≡ k ∷ e
-      → (most_terms < product_length (map factor_terms ps) e)
-      ⊎ (most_terms < power_length (factor_terms p) k)
-      → most_terms < product_length (map factor_terms all) whole
-  product_past p ps all k e whole f g h =
-      let n = power_length (factor_terms p) k in
-      let m = product_length (map factor_terms ps) e in
-      let is = ap₂ (λ x y. product_length (map factor_terms x) y) f g ∙ products-cons p ps k e in
-      let left = at_least n m (products_some ps e) in
-      let right = at_least_right n m (power_some (factor_terms p) k (at_least_one p)) in
-      elim h [
-        | inl past ↦ omega (arith, is, right, past)
-        | inr past ↦ omega (arith, is, left, past)
-      ]
+pub factors_some : {A : Type 0} (ps : List (Terms A)) → Each (λ n. 0 < n) (map factor_terms ps)
+unfolding Each
+factors_some [] = tt
+factors_some (p ∷ ps) = (at_least_one p, factors_some ps)
 
 -- ---- sums over what the items of a list are seen as, by its parts
 module _ {X Y : Type 0} (f : X → ℕ) (see : Y → X) where

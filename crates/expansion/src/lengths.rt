@@ -6,13 +6,13 @@ ghost use Rattle.frac128.specs.FracMeaning.{fraction_of};
 ghost use Rattle.expansion.specs.Counts.{IsCount, factor_terms, most_terms};
 ghost use Rattle.expansion.specs.Lengths as lengths;
 
-use crate::{factor, limited, sum};
+use crate::{factor, limited, product, sum};
 use frac128::Frac;
 use monos::Grevlex;
 use poly::{Poly, Term};
 
-/// How many products there are of as many of the terms as the exponent says, whatever their order.
-fn products(terms: u64, exponent: u16) -> Option<u64>
+/// How many products there are of as many of the terms as the exponent says, whatever their order. Nothing where these are more than 2^20.
+pub fn products(terms: u64, exponent: u16) -> Option<u64>
     requires some { 0 < terms }
     requires few { terms ≤ most_terms }
     ensures { IsCount (lengths.power_length terms exponent) result }
@@ -59,7 +59,7 @@ fn product_length(exponents: &[u16], images: &[Poly<Frac, Grevlex>]) -> Option<u
     let Some(power) = power_length(image, *exponent) else {
         return None;
     };
-    limited(power * rest)
+    product(power, rest)
 }
 
 /// How many terms a sum multiplies out to with the images for its variables, by halves of the sum.

@@ -16,7 +16,7 @@ ghost use Rattle.expansion.specs.Counts.{IsCount, factor_terms};
 mod lengths;
 
 use frac128::Frac;
-pub use lengths::{composition_length, list_length, next_lengths};
+pub use lengths::{composition_length, list_length, next_lengths, products};
 use monos::{Grevlex, Order};
 use poly::{Poly, Term};
 
@@ -46,7 +46,7 @@ pub fn sum(left: u64, right: u64) -> Option<u64>
 }
 
 /// The product, unless it is above the limit.
-fn product(left: u64, right: u64) -> Option<u64>
+pub fn product(left: u64, right: u64) -> Option<u64>
     ensures { IsCount (left * right) result }
 {
     match left.checked_mul(right) {
