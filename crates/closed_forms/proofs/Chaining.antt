@@ -2,7 +2,6 @@
 --   next_none, next_push      no form; one form more
 --   each_at                   what holds of the numbers of a list holds of the one at a place
 --   next_begun, next_code, past_code      the same by the places of the code's lists
---   next_told, past_told      what is told of lists, of the same lists
 --   variables_next, row_past, map-at      polynomials of variables
 use Rattle.std.proofs.Common.{◌≡◌, ◌<◌, ℕ, zero, suc, ◌+◌, List, [], ◌∷◌, ◌++◌, map, take, length, get_or, Vec, Global, refl, sym, ap, ap₂, subst, ◌∙◌, arith, below_more}
 use Rattle.std.proofs.lemmas.List.{length-map, length_push, map_push, take_at, take-append-le}
@@ -25,9 +24,8 @@ use Rattle.solvable_maps.specs.Iterations.{IsNormalForm}
 use Rattle.eigen_split.specs.declared.splitting.Split.{Split}
 use Rattle.expo.specs.declared.exponential.Expo.{Expo}
 use Rattle.closed_forms.specs.declared.inhomogeneities.ClassSetting.{ClassSetting}
-use Rattle.closed_forms.specs.ClassForms.{ahead_in, IsNormalOver, IsNextOf, IsPastFormOf, AreNextOf, IsPastNextOf}
-use Rattle.closed_forms.specs.Later.{Ahead}
-use Rattle.closed_forms.specs.Known.{IsNextForm, AreNextForms, IsPastNext, IsPastVariable, IsPastRowOf, variable_in}
+use Rattle.closed_forms.specs.ClassForms.{parts_of, IsNormalOver, IsNextOf, IsPastFormOf, AreNextOf, IsPastNextOf}
+use Rattle.closed_forms.specs.Known.{ClassParts, IsNextAt, AreNextForms, IsPastVariable, IsPastRowOf, variable_in}
 use Rattle.closed_forms.specs.Values.{bodies_of}
 use Rattle.eigen_split.proofs.Reading.{list_row}
 use Rattle.closed_forms.proofs.Rows.{entry_at}
@@ -42,42 +40,35 @@ at_last : (ys : List (Terms Fraction)) (y : Terms Fraction) → poly_at (ys ++ y
 at_last [] y = refl
 at_last (z ∷ ys) y = at_last ys y
 
-module _ (base : List ℕ) (m : ℕ) (g : List ℕ) (rests ps : List (Terms Fraction))
-    (matrix back : List (List Fraction)) (a : Ahead) (forms : List (List Fraction))
-    (values : List Fraction) where
-  abbrev Are : List (Terms Fraction) → Type 0
-  Are done = AreNextForms base m g rests ps matrix back a forms values done
-
-  abbrev Next : ℕ → List (Terms Fraction) → Terms Fraction → Type 0
-  Next k done y = IsNextForm base m g rests ps matrix back a (row_at forms k)
-      (entries ℚ_field values k) done y
-
-  next_none : Are []
+module _ (c : ClassParts) where
+  next_none : AreNextForms c []
   unfolding Each
   next_none = record { each = λ i l. absurd (omega (arith, l)); normal = tt }
 
-  next_push : (done : List (Terms Fraction)) (y : Terms Fraction) → Are done
-      → IsNormalForm base grevlex m y → Next (length done) done y → Are (done ++ y ∷ [])
+  next_push : (done : List (Terms Fraction)) (y : Terms Fraction) → AreNextForms c done
+      → IsNormalForm c.base grevlex c.vars y → IsNextAt c (length done) done y
+      → AreNextForms c (done ++ y ∷ [])
   unfolding Each
   next_push done y h normal next = record {
-    each = λ i l. below_more (λ k. Next k (take k (done ++ y ∷ [])) (poly_at (done ++ y ∷ []) k))
-        (length done) before last i (let e = length_push done y in omega (arith, l, e));
-    normal = each-append (IsNormalForm base grevlex m) done (y ∷ []) h.normal (normal, tt);
+    each = λ i l. below_more
+        (λ k. IsNextAt c k (take k (done ++ y ∷ [])) (poly_at (done ++ y ∷ []) k)) (length done)
+        before last i (let e = length_push done y in omega (arith, l, e));
+    normal = each-append (IsNormalForm c.base grevlex c.vars) done (y ∷ []) h.normal (normal, tt);
   }
     where
       before : (k : ℕ) → k < length done
-          → Next k (take k (done ++ y ∷ [])) (poly_at (done ++ y ∷ []) k)
+          → IsNextAt c k (take k (done ++ y ∷ [])) (poly_at (done ++ y ∷ []) k)
       before k b =
-          subst (λ z. Next k (take k (done ++ y ∷ [])) z) (sym (at_before done y k b))
-          (subst (λ d. Next k d (poly_at done k))
+          subst (λ z. IsNextAt c k (take k (done ++ y ∷ [])) z) (sym (at_before done y k b))
+          (subst (λ d. IsNextAt c k d (poly_at done k))
           (sym (take-append-le k done (y ∷ []) (omega (arith, b)))) (h.each k b))
 
-      last : Next (length done) (take (length done) (done ++ y ∷ []))
+      last : IsNextAt c (length done) (take (length done) (done ++ y ∷ []))
           (poly_at (done ++ y ∷ []) (length done))
       last =
-          subst (λ z. Next (length done) (take (length done) (done ++ y ∷ [])) z)
+          subst (λ z. IsNextAt c (length done) (take (length done) (done ++ y ∷ [])) z)
           (sym (at_last done y))
-          (subst (λ d. Next (length done) d y) (sym (take_at done (y ∷ []) (length done) refl))
+          (subst (λ d. IsNextAt c (length done) d y) (sym (take_at done (y ∷ []) (length done) refl))
           next)
 
 -- ---- as the code has them
@@ -91,9 +82,7 @@ each_at P (y ∷ xs) (suc i) x l is h = each_at P xs i x (omega (arith, l)) is h
 module _ (base g : List ℕ) (s : ClassSetting) (split : Split) where
   pub next_begun : (done : List FracPoly) → done ≡ [] → AreNextOf base g s split (terms_each done)
   next_begun done e = subst (λ (l : List FracPoly). AreNextOf base g s split (terms_each l)) (sym e)
-      (next_none base (length s.earlier.items) g (terms_each s.rests.items)
-      (terms_each s.earlier.items) (rows_of s.matrix.items) (rows_of s.back.items) (ahead_in s)
-      (rows_of split.forms.items) (fractions_of split.values.items))
+      (next_none (parts_of base g s split))
 
   module _ (dones given : List FracPoly) (place : ℕ) (form : Vec Frac Global) (row : List Frac)
       (value : Frac) (same : given ≡ dones) (count : length dones ≡ place)
@@ -122,10 +111,7 @@ module _ (base g : List ℕ) (s : ClassSetting) (split : Split) where
         → AreNextOf base g s split (terms_each more)
     next_code more y e h normal next =
         subst (AreNextOf base g s split) (sym (ap terms_each e ∙ map_push terms_in dones y))
-        (next_push base (length s.earlier.items) g (terms_each s.rests.items)
-        (terms_each s.earlier.items) (rows_of s.matrix.items) (rows_of s.back.items) (ahead_in s)
-        (rows_of split.forms.items) (fractions_of split.values.items) (terms_each dones)
-        (terms_in y) h normal
+        (next_push (parts_of base g s split) (terms_each dones) (terms_in y) h normal
         (subst (λ (t : Told). IsNextOf base g s t.0 t.1 t.2 (terms_in y))
         (λ i. (row_is i, value_is i, given_is i)) next))
 
@@ -140,27 +126,6 @@ module _ (base g : List ℕ) (s : ClassSetting) (split : Split) where
       past = subst (λ (t : Told). IsPastFormOf base g s t.0 t.1 t.2)
           (λ i. (row_is i, value_is i, given_is i)) past;
     }
-
--- ---- of the same lists
-module _ (base : List ℕ) (g : List ℕ) (m m' : ℕ) (rests rests' ps ps' : List (Terms Fraction))
-    (matrix matrix' : List (List Fraction)) (a : m ≡ m') (b : rests ≡ rests') (c : ps ≡ ps')
-    (d : matrix ≡ matrix') (x x' : Ahead) (e : x ≡ x') (back forms : List (List Fraction))
-    (values : List Fraction) where
-  abbrev Lists : Type 0
-  Lists = ℕ × List (Terms Fraction) × List (Terms Fraction) × List (List Fraction) × Ahead
-
-  same_lists : (P : Lists → Type 0) → P (m, rests, ps, matrix, x) → P (m', rests', ps', matrix', x')
-  same_lists P h = subst P (λ i. (a i, b i, c i, d i, e i)) h
-
-  pub next_told : (done : List (Terms Fraction)) → AreNextForms base m g rests ps matrix back x
-      forms values done → AreNextForms base m' g rests' ps' matrix' back x' forms values done
-  next_told done h = same_lists (λ (t : Lists). AreNextForms base t.0 g t.1 t.2 t.3 back t.4 forms
-      values done) h
-
-  pub past_told : IsPastNext base m g rests ps matrix back x forms values
-      → IsPastNext base m' g rests' ps' matrix' back x' forms values
-  past_told h = same_lists (λ (t : Lists). IsPastNext base t.0 g t.1 t.2 t.3 back t.4 forms values)
-      h
 
 -- ---- rows of the inverse
 pub variables_next : (base : List ℕ) (done : List (Terms Fraction)) (back : List (Vec Frac Global))

@@ -33,12 +33,12 @@ use Rattle.solvable_maps.proofs.FormSplits.{forms_inverse}
 use Rattle.expo.specs.declared.exponential.Expo.{Expo}
 use Rattle.closed_forms.specs.declared.inhomogeneities.ClassSetting.{ClassSetting}
 use Rattle.closed_forms.specs.Later.{ahead_of}
-use Rattle.closed_forms.specs.ClassForms.{IsSettingOf, ahead_in, zeros_of, AreNextOf, IsPastNextOf, AreVariablesOf, IsPastClassOf}
-use Rattle.closed_forms.specs.Known.{rests_in, IsReady, AreNextForms, IsPastRowOf, form_past, variable_past, variable_in}
+use Rattle.closed_forms.specs.ClassForms.{IsSettingOf, ahead_in, zeros_of, parts_of, AreNextOf, IsPastNextOf, AreVariablesOf, IsPastClassOf}
+use Rattle.closed_forms.specs.Known.{IsReady, parts_in, AreNextForms, IsPastNext, IsPastRowOf, form_past, variable_past, variable_in}
 use Rattle.closed_forms.specs.ClassSetting.{IsClassSetting}
 use Rattle.closed_forms.specs.Splits.{IsSplitOf}
 use Rattle.closed_forms.specs.Values.{bodies_of, IsExpoOver, AreOver}
-use Rattle.closed_forms.proofs.Chaining.{next_told, past_told, map-at}
+use Rattle.closed_forms.proofs.Chaining.{map-at}
 use Rattle.closed_forms.proofs.Joining.{own_normal, over_normal}
 use Rattle.expo.specs.Bases.{IsCoprimeBase, IsOwnNormal}
 use Rattle.closed_forms.proofs.Mixing.{tell, all_arity, polys_arity}
@@ -129,6 +129,20 @@ module _ {bs : List ℕ} {images : List FracPoly} {g : List ℕ} {es : List Expo
   ahead_is = ap₂ (λ n state. record { iterations = n; state = state }) h.setting.iterations
       h.setting.ahead
 
+  parts_are : parts_of bs g s split ≡ parts_in bs M z g forms values (bodies_of es) back
+  parts_are = λ i. record {
+    base = bs;
+    vars = vars_own i;
+    class = g;
+    rests = h.setting.rests i;
+    polys = h.setting.earlier i;
+    matrix = h.setting.matrix i;
+    back = back;
+    ahead = ahead_is i;
+    forms = forms;
+    values = values;
+  }
+
   pub group_low : All (λ j. j < length s.earlier.items) g
   group_low = subst (λ n. All (λ j. j < n) g) (sym vars_is) (class_inside images g h.class)
 
@@ -176,12 +190,8 @@ module _ {bs : List ℕ} {images : List FracPoly} {g : List ℕ} {es : List Expo
 
   module _ (done : List FracPoly) (count : length done ≡ length split.forms.items)
       (next : AreNextOf bs g s split (terms_each done)) where
-    own : AreNextForms bs (length M) g (rests_in M g) (bodies_of es) (class_matrix M g) back
-        (ahead_of M g z) forms values (terms_each done)
-    own = next_told bs g (length s.earlier.items) (length M) (terms_each s.rests.items)
-        (rests_in M g) (terms_each s.earlier.items) (bodies_of es) (rows_of s.matrix.items)
-        (class_matrix M g) vars_own h.setting.rests h.setting.earlier h.setting.matrix (ahead_in s)
-        (ahead_of M g z) ahead_is back forms values (terms_each done) next
+    own : AreNextForms (parts_in bs M z g forms values (bodies_of es) back) (terms_each done)
+    own = subst (λ p. AreNextForms p (terms_each done)) parts_are next
 
     own_count : length (terms_each done) ≡ length g
     own_count = length_each done ∙ count ∙ forms_count h.splits
@@ -205,11 +215,7 @@ module _ {bs : List ℕ} {images : List FracPoly} {g : List ℕ} {es : List Expo
   pub past_forms : IsPastNextOf bs g s split → IsPastClassOf bs M z g split (bodies_of es)
   past_forms past = form_past back h.setting.back
       (past_next bs h.coprime.0 M is h.solvable g h.class z values (bodies_of es) h.ready all forms
-      back h.splits.are inverse_is
-      (past_told bs g (length s.earlier.items) (length M) (terms_each s.rests.items) (rests_in M g)
-      (terms_each s.earlier.items) (bodies_of es) (rows_of s.matrix.items) (class_matrix M g)
-      vars_own h.setting.rests h.setting.earlier h.setting.matrix (ahead_in s) (ahead_of M g z)
-      ahead_is back forms values past))
+      back h.splits.are inverse_is (subst IsPastNext parts_are past))
 
 -- ---- one form
 module _ {base : List ℕ} {m : ℕ} {q : Expo} (over : IsExpoOver base m q) {ts : List (Term Frac)}

@@ -37,7 +37,7 @@ use Rattle.closed_forms.specs.Solved.{IsSolvedForm}
 use Rattle.closed_forms.specs.States.{zeros_in}
 use Rattle.closed_forms.specs.Inhomogeneities.{part, part_by_forms, both, inhomogeneity_in}
 use Rattle.closed_forms.specs.Sums.{mix}
-use Rattle.closed_forms.specs.Known.{rests_in, IsReady, AreDone, IsNextForm, AreNextForms, IsPastNext, IsPastFormAt, IsPastRowOf, IsPastVariableAt, variable_in}
+use Rattle.closed_forms.specs.Known.{rests_in, parts_in, IsReady, AreDone, IsNextForm, AreNextForms, IsPastNext, IsPastFormAt, IsPastRowOf, IsPastVariableAt, variable_in}
 use Rattle.closed_forms.proofs.Ahead.{ahead_value, later_recurs, later_there, one_later_recurs, zeros_none, zeros_one, zeros_next, zeros_part}
 use Rattle.closed_forms.proofs.Mixing.{mix-arity}
 use Rattle.closed_forms.proofs.Recurring.{collected_value, collected-arity, normalized-arity, part_value, form_recurs}
@@ -229,8 +229,7 @@ module _ (base : List ℕ) (c : Coprime base) (images : List (Terms Fraction))
       from k = ready.since + zeros_in (take k values)
 
       turned_to : (done : List (Terms Fraction)) → length done ≤ length g
-          → AreNextForms base m g (rests_in images g) ps (class_matrix images g) back a forms
-          values done
+          → AreNextForms (parts_in base images z g forms values ps back) done
           → (k : ℕ) → k ≤ length done → (i : ℕ) → i < k
           → IsFormAfterIterations base images (from k) g (row_at forms i) (poly_at done i)
       turned_to done few h zero b i l = absurd (omega (arith, l))
@@ -259,8 +258,7 @@ module _ (base : List ℕ) (c : Coprime base) (images : List (Terms Fraction))
           (poly_at done j) (before j p)) next i (omega (arith, l))
 
       pub next_done : (done : List (Terms Fraction)) → length done ≤ length g
-          → AreNextForms base m g (rests_in images g) ps (class_matrix images g) back a forms
-          values done → AreDone base images g forms done
+          → AreNextForms (parts_in base images z g forms values ps back) done → AreDone base images g forms done
       next_done done few h = record {
         since = from (length done);
         each = λ i l. turned_to done few h (length done) (omega arith)
@@ -269,8 +267,7 @@ module _ (base : List ℕ) (c : Coprime base) (images : List (Terms Fraction))
       }
 
       pub variable_turned : (done : List (Terms Fraction)) → length done ≡ length g
-          → AreNextForms base m g (rests_in images g) ps (class_matrix images g) back a forms
-          values done → (i : ℕ) → i < length g → (p : Terms Fraction)
+          → AreNextForms (parts_in base images z g forms values ps back) done → (i : ℕ) → i < length g → (p : Terms Fraction)
           → p ≡ variable_in base (row_at back i) done
           → IsAfterIterations base images (ready.since + zeros_in values) (place g i) p
       variable_turned done count h i l p e =
@@ -291,8 +288,8 @@ module _ (base : List ℕ) (c : Coprime base) (images : List (Terms Fraction))
           (normal-arities base m done h.normal))) n s
           ∙ part_value (row_at back i) done (point base n s))
 
-      pub past_next : IsPastNext base m g (rests_in images g) ps (class_matrix images g) back a
-          forms values → IsPastFormAt base images z g forms values ps back
+      pub past_next : IsPastNext (parts_in base images z g forms values ps back)
+          → IsPastFormAt base images z g forms values ps back
       past_next h =
           let e = are.count in
           let f = h.few in
@@ -304,8 +301,7 @@ module _ (base : List ℕ) (c : Coprime base) (images : List (Terms Fraction))
           }
 
       pub past_row : (done : List (Terms Fraction)) → length done ≡ length g
-          → AreNextForms base m g (rests_in images g) ps (class_matrix images g) back a forms
-          values done → IsPastRowOf back done → IsPastVariableAt base images g forms back
+          → AreNextForms (parts_in base images z g forms values ps back) done → IsPastRowOf back done → IsPastVariableAt base images g forms back
       past_row done count h past = record {
         done = done;
         all = count;

@@ -4,6 +4,7 @@
 --   ahead_in s                      that number of iterations, and what they are
 --   IsNormalOver base s p           p is normal, over this base and as many variables as there are closed forms
 --   IsNextOf base g s w l done y    y is the closed form of the form w with the value l, from the forms before it;  IsPastFormOf base g s w l done: making it is past
+--   parts_of base g s split         what they are made from
 --   AreNextOf base g s split done   done are the closed forms of the first forms, one after another;  IsPastNextOf base g s split: making the next one is past
 --   AreVariablesOf base images since g ps     from `since` on ps are the closed forms of the variables of the class g, one after another
 --   zeros_of split                  how many of the values are zero
@@ -21,7 +22,7 @@ use Rattle.solvable_maps.specs.Classes.{class_matrix}
 use Rattle.solvable_maps.specs.AfterIterations.{place, IsAfterIterations}
 use Rattle.solvable_maps.specs.Iterations.{IsNormalForm}
 use Rattle.closed_forms.specs.Inverses.{IsBehind}
-use Rattle.closed_forms.specs.Known.{rests_in, IsNextForm, AreNextForms, IsPastForm, IsPastNext, IsPastClass}
+use Rattle.closed_forms.specs.Known.{rests_in, IsNextForm, ClassParts, AreNextForms, IsPastForm, IsPastNext, IsPastClass}
 use Rattle.closed_forms.specs.Later.{Ahead}
 use Rattle.closed_forms.specs.States.{after, zeros_in}
 use Rattle.closed_forms.specs.Values.{bodies_of}
@@ -59,17 +60,25 @@ IsPastFormOf base g s w l done =
     (terms_each s.earlier.items) (rows_of s.matrix.items) (rows_of s.back.items) (ahead_in s) w l
     done
 
+abbrev pub parts_of : List ℕ → List ℕ → ClassSetting → Split → ClassParts
+parts_of base g s split = record {
+  base = base;
+  vars = length s.earlier.items;
+  class = g;
+  rests = terms_each s.rests.items;
+  polys = terms_each s.earlier.items;
+  matrix = rows_of s.matrix.items;
+  back = rows_of s.back.items;
+  ahead = ahead_in s;
+  forms = rows_of split.forms.items;
+  values = fractions_of split.values.items;
+}
+
 abbrev pub AreNextOf : List ℕ → List ℕ → ClassSetting → Split → List (Terms Fraction) → Type 0
-AreNextOf base g s split done =
-    AreNextForms base (length s.earlier.items) g (terms_each s.rests.items)
-    (terms_each s.earlier.items) (rows_of s.matrix.items) (rows_of s.back.items) (ahead_in s)
-    (rows_of split.forms.items) (fractions_of split.values.items) done
+AreNextOf base g s split done = AreNextForms (parts_of base g s split) done
 
 abbrev pub IsPastNextOf : List ℕ → List ℕ → ClassSetting → Split → Type 0
-IsPastNextOf base g s split =
-    IsPastNext base (length s.earlier.items) g (terms_each s.rests.items)
-    (terms_each s.earlier.items) (rows_of s.matrix.items) (rows_of s.back.items) (ahead_in s)
-    (rows_of split.forms.items) (fractions_of split.values.items)
+IsPastNextOf base g s split = IsPastNext (parts_of base g s split)
 
 abbrev pub AreVariablesOf : List ℕ → List (Terms Fraction) → ℕ → List ℕ → List (Terms Fraction)
     → Type 0

@@ -4,7 +4,9 @@
 --                             with as many iterations more as the splittings that are left have zeros, z
 --   IsReady base images z k g ps     the same where, of the classes in their order, g comes next: with k iterations more, at most z
 --   AreDone base images g forms done    from some number of iterations on done are the closed forms of the first of the forms, as many as there are, normal
---   IsNextForm .. y           y is made of a form's inhomogeneity, from the forms before it;  AreNextForms .. done: each is, one after another
+--   IsNextForm .. y           y is made of a form's inhomogeneity, from the forms before it
+--   ClassParts                what the closed forms of a class's forms are made from;  parts_in images z g ..: those of the class g
+--   IsNextAt c k done y       y is made so for the form at k;  AreNextForms c done: each is, one after another;  IsPastNext c: making the next one is past
 --   variable_in base row done     the polynomial of a variable, by a row of the inverse from those of the forms
 --   IsPastForm, IsPastVariable, IsPastClass     a number or a weight is past in making a form, a variable, or one of a class
 --   IsWideClass base images z v     that is so of the class whose first variable is v, with the forms and values that its matrix
@@ -94,23 +96,50 @@ pub data IsPastForm (base : List ℕ) (m : ℕ) (g : List ℕ) (rests ps : List 
       → IsPastFrom base m w g l a q
       → IsPastForm base m g rests ps matrix back a w l done
 
--- one after another
-pub record AreNextForms (base : List ℕ) (m : ℕ) (g : List ℕ) (rests ps : List (Terms Fraction))
-    (matrix back : List (List Fraction)) (a : Ahead) (forms : List (List Fraction))
-    (values : List Fraction) (done : List (Terms Fraction)) : Type 0 where
-  pub each : (i : ℕ) → i < length done
-      → IsNextForm base m g rests ps matrix back a (row_at forms i) (entries ℚ_field values i)
-      (take i done) (poly_at done i)
-  pub normal : Each (IsNormalForm base grevlex m) done
+-- what the closed forms of the class's forms are made from, and these and their values
+pub record ClassParts : Type 0 where
+  pub base : List ℕ
+  pub vars : ℕ
+  pub class : List ℕ
+  pub rests : List (Terms Fraction)
+  pub polys : List (Terms Fraction)
+  pub matrix : List (List Fraction)
+  pub back : List (List Fraction)
+  pub ahead : Ahead
+  pub forms : List (List Fraction)
+  pub values : List Fraction
 
-pub record IsPastNext (base : List ℕ) (m : ℕ) (g : List ℕ) (rests ps : List (Terms Fraction))
-    (matrix back : List (List Fraction)) (a : Ahead) (forms : List (List Fraction))
-    (values : List Fraction) : Type 0 where
+abbrev pub parts_in : List ℕ → List (Terms Fraction) → ℕ → List ℕ → List (List Fraction)
+    → List Fraction → List (Terms Fraction) → List (List Fraction) → ClassParts
+parts_in base images z g forms values ps back = record {
+  base = base;
+  vars = length images;
+  class = g;
+  rests = rests_in images g;
+  polys = ps;
+  matrix = class_matrix images g;
+  back = back;
+  ahead = ahead_of images g z;
+  forms = forms;
+  values = values;
+}
+
+abbrev pub IsNextAt : ClassParts → ℕ → List (Terms Fraction) → Terms Fraction → Type 0
+IsNextAt c k done y =
+    IsNextForm c.base c.vars c.class c.rests c.polys c.matrix c.back c.ahead (row_at c.forms k)
+    (entries ℚ_field c.values k) done y
+
+-- one after another
+pub record AreNextForms (c : ClassParts) (done : List (Terms Fraction)) : Type 0 where
+  pub each : (i : ℕ) → i < length done → IsNextAt c i (take i done) (poly_at done i)
+  pub normal : Each (IsNormalForm c.base grevlex c.vars) done
+
+pub record IsPastNext (c : ClassParts) : Type 0 where
   pub done : List (Terms Fraction)
-  pub few : length done < length forms
-  pub are : AreNextForms base m g rests ps matrix back a forms values done
-  pub past : IsPastForm base m g rests ps matrix back a (row_at forms (length done))
-      (entries ℚ_field values (length done)) done
+  pub few : length done < length c.forms
+  pub are : AreNextForms c done
+  pub past : IsPastForm c.base c.vars c.class c.rests c.polys c.matrix c.back c.ahead
+      (row_at c.forms (length done)) (entries ℚ_field c.values (length done)) done
 
 abbrev pub variable_in : List ℕ → List Fraction → List (Terms Fraction) → Terms Fraction
 variable_in base row done = collect_terms (with_normal_keys (length base) (part row done))
