@@ -68,7 +68,8 @@ module _ (c : ClassParts) where
       last =
           subst (λ z. IsNextAt c (length done) (take (length done) (done ++ y ∷ [])) z)
           (sym (at_last done y))
-          (subst (λ d. IsNextAt c (length done) d y) (sym (take_at done (y ∷ []) (length done) refl))
+          (subst (λ d. IsNextAt c (length done) d y)
+          (sym (take_at done (y ∷ []) (length done) refl))
           next)
 
 -- ---- as the code has them

@@ -5,7 +5,9 @@
 --   before_is, sum_is, inhomogeneity_is           the inhomogeneity of a form
 --   steady_is, product_is   the solution of a term
 --   normal_over, room_before     what is made normal
+--   base_width               how many variables a polynomial over a base has
 use Rattle.std.proofs.Common.{◌≡◌, ◌<◌, ◌≤◌, ℕ, ◌-◌, List, [], ◌∷◌, ◌++◌, length, All, sym, ap, ap₂, subst, ◌∙◌, arith}
+use Rattle.std.proofs.lemmas.List.{length-map}
 use Rattle.algebra.specs.Each.{Each}
 use Rattle.algebra.proofs.Each.{each-append}
 use Rattle.algebra.specs.Fraction.{Fraction, ℚ}
@@ -16,7 +18,9 @@ use Rattle.polynomials.specs.Terms.{Terms, Same, times, compose}
 use Rattle.polynomials.proofs.Arity.{arity-times, arity-compose}
 use Rattle.polynomials.proofs.Orders.{grevlex_order}
 use Rattle.machines.proofs.Collecting.{collect-is}
+use Rattle.frac128.specs.declared.Whole.{Whole}
 use Rattle.poly.specs.Seen.{terms_in, terms_each, arity_of}
+use Rattle.coprime_base.specs.Sizes.{sizes}
 use Rattle.solvable.proofs.Using.{FracPoly}
 use Rattle.solvable_maps.specs.Expo.{with_normal_keys}
 use Rattle.solvable_maps.specs.Iterations.{width}
@@ -79,6 +83,10 @@ normal_over bs w m ts e k h = record {
 
 pub room_before : (bs : List ℕ) (w m : ℕ) → w ≡ width (length bs) m → width (length bs) 0 ≤ w
 room_before bs w m k = omega (arith, k)
+
+pub base_width : (ws : List Whole) (n m : ℕ) → n ≡ length ws → width n m
+    ≡ width (length (sizes ws)) m
+base_width ws n m e = ap (λ k. width k m) (e ∙ sym (length-map ws _))
 
 pub sum_is : (w : ℕ) (p q r : FracPoly) (ps qs : Terms Fraction) → p.arity ≡ w → q.arity ≡ w
     → r.arity ≡ p.arity → terms_in p ≡ ps → terms_in q ≡ qs

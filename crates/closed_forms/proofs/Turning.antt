@@ -258,7 +258,8 @@ module _ (base : List ℕ) (c : Coprime base) (images : List (Terms Fraction))
           (poly_at done j) (before j p)) next i (omega (arith, l))
 
       pub next_done : (done : List (Terms Fraction)) → length done ≤ length g
-          → AreNextForms (parts_in base images z g forms values ps back) done → AreDone base images g forms done
+          → AreNextForms (parts_in base images z g forms values ps back) done
+          → AreDone base images g forms done
       next_done done few h = record {
         since = from (length done);
         each = λ i l. turned_to done few h (length done) (omega arith)
@@ -267,7 +268,8 @@ module _ (base : List ℕ) (c : Coprime base) (images : List (Terms Fraction))
       }
 
       pub variable_turned : (done : List (Terms Fraction)) → length done ≡ length g
-          → AreNextForms (parts_in base images z g forms values ps back) done → (i : ℕ) → i < length g → (p : Terms Fraction)
+          → AreNextForms (parts_in base images z g forms values ps back) done → (i : ℕ)
+          → i < length g → (p : Terms Fraction)
           → p ≡ variable_in base (row_at back i) done
           → IsAfterIterations base images (ready.since + zeros_in values) (place g i) p
       variable_turned done count h i l p e =
@@ -301,7 +303,8 @@ module _ (base : List ℕ) (c : Coprime base) (images : List (Terms Fraction))
           }
 
       pub past_row : (done : List (Terms Fraction)) → length done ≡ length g
-          → AreNextForms (parts_in base images z g forms values ps back) done → IsPastRowOf back done → IsPastVariableAt base images g forms back
+          → AreNextForms (parts_in base images z g forms values ps back) done
+          → IsPastRowOf back done → IsPastVariableAt base images g forms back
       past_row done count h past = record {
         done = done;
         all = count;

@@ -28,9 +28,8 @@ use crate::matrices::inverse;
 use crate::powers::power_over;
 use crate::recurrence::Recurrence;
 use crate::sums::weighted_sum;
-use crate::widths::width;
 use eigen_split::Split;
-use expo::Expo;
+use expo::{Expo, width};
 use frac128::{Frac, Whole};
 use monos::Grevlex;
 use poly::Poly;
@@ -293,7 +292,7 @@ fn variables(
 {
     let mut out = Vec::new(alloc);
     for row in back {
-        let sum = weighted_sum(alloc, row, forms, width(base, vars))?;
+        let sum = weighted_sum(alloc, row, forms, width(base.len(), vars))?;
         out.push(Expo::normal(alloc, base, &sum)?)?;
     }
     Ok(out)

@@ -9,8 +9,7 @@ ghost use Rattle.closed_forms.specs.Values.{IsExpoOver};
 
 use crate::products::row_times;
 use crate::sums::weighted_sum;
-use crate::widths::width;
-use expo::Expo;
+use expo::{Expo, width};
 use frac128::{Frac, Whole};
 use monos::Grevlex;
 use poly::Poly;
@@ -53,7 +52,7 @@ pub(crate) fn inhomogeneity(
         → IsPastInhomogeneityOf (sizes base.now.items)
         (fractions_of form.now) setting.now (terms_each done.now) }
 {
-    let arity = width(base, setting.earlier.len());
+    let arity = width(base.len(), setting.earlier.len());
     let moved = compose_rests(alloc, form, setting, base)?;
     let combination_of_earlier = combination_of_earlier(alloc, form, setting, done, arity)?;
     let sum = moved.add(alloc, &combination_of_earlier)?;

@@ -1,5 +1,5 @@
 //! How long the classes of a map are: how many terms their polynomials multiply out to, class by class.
-ghost use Rattle.std.specs.Prelude.{◌≡◌, ◌≤◌, ◌<◌, ◌*◌, All, length, map, replicate, IfOk, MatchOption};
+ghost use Rattle.std.specs.Prelude.{◌≡◌, ◌<◌, All, length, replicate, IfOk, MatchOption};
 ghost use Rattle.poly.specs.Seen.{terms_each};
 ghost use Rattle.poly.specs.View.{terms_of};
 ghost use Rattle.frac128.specs.FracMeaning.{fraction_of};

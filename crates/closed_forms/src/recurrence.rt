@@ -12,8 +12,7 @@ ghost use Rattle.closed_forms.specs.Solved.{steady as steady_of};
 
 use crate::powers::power_of;
 use crate::sums::push_copies;
-use crate::widths::width;
-use expo::{Expo, Power, solve_term};
+use expo::{Expo, Power, solve_term, width};
 use frac128::{Frac, Whole};
 use monos::{Grevlex, Mono};
 use poly::{Poly, Term};
@@ -116,7 +115,7 @@ impl Recurrence<'_, '_> {
             IsErrOf result ArithmeticError.Wide → IsPast (weight fraction_size p)
             ⊎ IsPast (weight fraction_size (collect_terms p)) }
     {
-        let sum = Poly::from_terms(alloc, Grevlex, width(self.base, self.vars), terms)?;
+        let sum = Poly::from_terms(alloc, Grevlex, width(self.base.len(), self.vars), terms)?;
         Expo::normal(alloc, self.base, &sum)
     }
 }
@@ -133,7 +132,7 @@ fn steady(
         IfOk result (λ p. terms_in p ≡ steady_of (length (sizes base.now.items)) t) }
 {
     let arity = term.mono.arity();
-    let first = width(base, 0);
+    let first = width(base.len(), 0);
     let variables = term.mono.without_first(alloc, first)?;
     let mono = Mono::one(alloc, first)?.concat(alloc, &variables)?;
     let coef = term.coef;

@@ -9,7 +9,7 @@ ghost use Rattle.expo.specs.View.{base_of};
 use crate::bases::coarsest_of;
 use crate::columns::{fractional_of, names_of, text_of_poly};
 use crate::row_error::RowError;
-use expo::{Expo, Power, solve_term};
+use expo::{Expo, Power, solve_term, width};
 use frac128::Whole;
 use loop_model::Names;
 use std::alloc::Global;
@@ -189,7 +189,7 @@ fn variables_in(names: &Names, base: &[Whole]) -> Option<usize>
     if base.len() > 2000 {
         return None;
     }
-    names.len().checked_sub(2 + 2 * base.len())
+    names.len().checked_sub(width(base.len(), 0))
 }
 
 /// The names of n, s, the u and the v, and of variables behind them.

@@ -7,6 +7,7 @@ ghost use Rattle.monos.specs.Variables.{most_variables};
 ghost use Rattle.poly.specs.Seen.{terms_in};
 ghost use Rattle.task_lists.specs.Blocks.{HasFront, relation_of};
 
+use expo::width;
 use frac128::Frac;
 use monos::{Blocks, Mono};
 use poly::{Poly, Term};
@@ -18,7 +19,7 @@ pub fn front(numbers: usize) -> usize
     requires { front numbers ≤ most_variables }
     ensures { result ≡ front numbers }
 {
-    2 + 2 * numbers
+    width(numbers, 0)
 }
 
 /// The product of two variables, less one, over a base of so many numbers: these variables stand in front.

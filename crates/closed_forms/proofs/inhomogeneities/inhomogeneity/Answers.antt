@@ -11,17 +11,29 @@ use Rattle.closed_forms.specs.ClassSetting.{variables_over, moved_of}
 use Rattle.closed_forms.specs.Inhomogeneities.{part}
 use Rattle.closed_forms.specs.Inhomogeneities as past
 use Rattle.expo.proofs.Outcomes.{wide_of}
-use Rattle.closed_forms.proofs.Making.{normal_over, room_before, inhomogeneity_is, sum_is}
+use Rattle.closed_forms.proofs.Making.{normal_over, room_before, base_width, inhomogeneity_is, sum_is}
 use Rattle.expo.proofs.Solved.{handed_on}
 use Rattle.closed_forms.proofs.Mixing.{if_ok_where}
 use Rattle.closed_forms.proofs.inhomogeneities.inhomogeneity.Goals as goal
 use Rattle.closed_forms.proofs.inhomogeneities.inhomogeneity.Goals.{In_ok-moved}
 
+pub width-arity-requires : goal.width-arity-requires
+width-arity-requires c =
+    let e = base_width c.args.base.now.items c.len.result c.len-2.result
+    (c.len.ensures ∙ c.args.base.now.ok.0) in
+    let n : c.len-2.result ≡ length c.args.setting.now.earlier.items = c.len-2.ensures
+    ∙ c.args.setting.now.earlier.ok.0 in
+    let few = c.requires.setting.few in
+    omega (arith, e, n, few)
+
 -- how many exponents the terms have, and what is moved
 module _ (c : In_ok-moved) where
   width_is : c.width-arity.result ≡ variables_over (sizes c.args.base.now.items) c.args.setting.now
-  width_is = c.width-arity.ensures ∙ ap (width (length (sizes c.args.base.now.items)))
-      (c.len.ensures ∙ c.args.setting.now.earlier.ok.0)
+  width_is = c.width-arity.ensures
+      ∙ base_width c.args.base.now.items c.len.result c.len-2.result
+      (c.len.ensures ∙ c.args.base.now.ok.0)
+      ∙ ap (width (length (sizes c.args.base.now.items)))
+      (c.len-2.ensures ∙ c.args.setting.now.earlier.ok.0)
 
   moved_arity : c.in_ok-moved.moved.arity ≡ variables_over (sizes c.args.base.now.items)
       c.args.setting.now

@@ -6,25 +6,39 @@ use Rattle.frac128.specs.declared.fraction.Frac.{Frac}
 use Rattle.poly.specs.View.{term_of}
 use Rattle.poly.specs.declared.Term.{Term}
 use Rattle.coprime_base.specs.Sizes.{sizes}
+use Rattle.solvable_maps.specs.Iterations.{width}
 use Rattle.closed_forms.proofs.Joining.{all_one, still_made}
-use Rattle.closed_forms.proofs.Making.{steady_is}
+use Rattle.closed_forms.proofs.Making.{steady_is, base_width}
 use Rattle.closed_forms.proofs.Mixing.{tell}
 use Rattle.closed_forms.proofs.Recurring.{still_long}
 use Rattle.closed_forms.proofs.recurrence.steady.Goals as goal
+use Rattle.closed_forms.proofs.recurrence.steady.Goals.{After-width-first}
 
 pub width-first-requires : goal.width-first-requires
-width-first-requires c = omega (
-  arith,
-  c.arity-arity.ensures.arity,
-  c.arity-arity.ensures.bound,
-  c.requires.width,
-)
+width-first-requires c =
+    let e = base_width c.args.base.now.items c.len.result 0 (c.len.ensures ∙ c.args.base.now.ok.0)
+    in
+    omega (
+      arith,
+      e,
+      c.arity-arity.ensures.arity,
+      c.arity-arity.ensures.bound,
+      c.requires.width,
+    )
+
+first_is : (c : After-width-first) → c.width-first.result
+    ≡ width (length (sizes c.args.base.now.items)) 0
+first_is c = c.width-first.ensures ∙ base_width c.args.base.now.items c.len.result 0
+    (c.len.ensures ∙ c.args.base.now.ok.0)
 
 pub without_first-requires : goal.without_first-requires
-without_first-requires c = omega (arith, c.width-first.ensures, c.requires.width)
+without_first-requires c =
+    let first = first_is (goal.at.without_first-requires c).After-width-first in
+    omega (arith, first, c.requires.width)
 
 pub concat-requires : goal.concat-requires
 concat-requires c =
+    let first = first_is (goal.at.concat-requires c).After-width-first in
     let one = ap length c.in_ok-one.ensures.ok ∙ length-replicate c.width-first.result 0 in
     let others = ap length c.in_ok-variables.ensures.ok
     ∙ length-drop c.width-first.result c.args.term.now.mono in
@@ -32,7 +46,7 @@ concat-requires c =
       arith,
       one,
       others,
-      c.width-first.ensures,
+      first,
       c.arity-arity.ensures.arity,
       c.arity-arity.ensures.bound,
       c.requires.width,
@@ -42,7 +56,8 @@ pub from_distinct-requires-clause-arities : goal.from_distinct-requires-clause-a
 from_distinct-requires-clause-arities c =
     let r = length (sizes c.args.base.now.items) in
     let e = c.args.term.now.mono in
-    let is = still_made r c.width-first.result e _ _ c.in_ok-mono.mono c.width-first.ensures
+    let is = still_made r c.width-first.result e _ _ c.in_ok-mono.mono
+    (first_is (goal.at.from_distinct-requires-clause-arities c).After-width-first)
     c.in_ok-one.ensures.ok c.in_ok-variables.ensures.ok c.in_ok-mono.ensures.ok in
     all_one (λ (t : Term Frac). length t.mono ≡ c.arity-arity.result) c.in_ok-terms.terms.items _
     c.in_ok-terms.ensures.items (ap length is ∙ still_long r e c.requires.width
@@ -62,7 +77,7 @@ returns-clause-terms c =
     let bs = sizes c.args.base.now.items in
     let t = term_of fraction_of c.args.term.now in
     let is = still_made (length bs) c.width-first.result t.0 _ _ c.in_ok-mono.mono
-    c.width-first.ensures
+    (first_is (goal.at.returns-clause-terms c).After-width-first)
     c.in_ok-one.ensures.ok c.in_ok-variables.ensures.ok c.in_ok-mono.ensures.ok in
     IfOk-weaker c.from_distinct.result _ _
     (λ p i. steady_is bs t (length t.0) p c.in_ok-mono.mono

@@ -1,4 +1,4 @@
-use Rattle.std.proofs.Common.{◌≡◌, All, inl, inr, length, ap, sym, subst, ◌∙◌}
+use Rattle.std.proofs.Common.{◌≡◌, All, inl, inr, length, ap, sym, subst, ◌∙◌, arith}
 use Rattle.std.proofs.lemmas.Result.{IfOk-weaker}
 use Rattle.algebra.specs.Fraction.{fraction_size}
 use Rattle.algebra.specs.Size.{IsPast}
@@ -11,20 +11,43 @@ use Rattle.solvable_maps.specs.Iterations.{width}
 use Rattle.expo.proofs.Solved.{handed_on}
 use Rattle.closed_forms.specs.Inhomogeneities.{collect_terms}
 use Rattle.closed_forms.specs.Recurrences.{base_by}
-use Rattle.closed_forms.proofs.Making.{poly_is, normal_over, room_before}
+use Rattle.closed_forms.proofs.Making.{poly_is, normal_over, room_before, base_width}
 use Rattle.closed_forms.proofs.Mixing.{tell, arity_all}
 use Rattle.closed_forms.proofs.recurrence.Recurrence.normal_sum.Goals as goal
-use Rattle.closed_forms.proofs.recurrence.Recurrence.normal_sum.Goals.{In_ok-sum}
+use Rattle.closed_forms.proofs.recurrence.Recurrence.normal_sum.Goals.{After-width, In_ok-sum}
+
+width_is : (c : After-width) → c.width.result ≡ width (length (base_by c.args.self.now))
+    c.args.self.now.vars
+width_is c =
+    let r = c.args.self.now in
+    c.width.ensures ∙ base_width r.base.now.items c.len.result r.vars
+    (c.len.ensures ∙ r.base.now.ok.0)
+
+pub width-requires : goal.width-requires
+width-requires c =
+    let r = c.args.self.now in
+    let e = base_width r.base.now.items c.len.result r.vars (c.len.ensures ∙ r.base.now.ok.0) in
+    let few = r.few in
+    omega (arith, e, few)
+
+pub from_terms-requires-clause-few : goal.from_terms-requires-clause-few
+from_terms-requires-clause-few c =
+    let e = width_is (goal.at.from_terms-requires-clause-few c).After-width in
+    let few = c.args.self.now.few in
+    omega (arith, e, few)
 
 pub from_terms-requires-clause-arities : goal.from_terms-requires-clause-arities
 from_terms-requires-clause-arities c =
     subst (λ w. All (λ (t : Term Frac). length t.mono ≡ w) c.args.terms.items)
-    (sym c.width.ensures) c.requires
+    (sym (width_is (goal.at.from_terms-requires-clause-arities c).After-width)) c.requires
 
 -- how many exponents the sum has, and what it is
 module _ (c : In_ok-sum) where
   arity_is : c.in_ok-sum.sum.arity ≡ width (length (base_by c.args.self.now)) c.args.self.now.vars
-  arity_is = c.in_ok-sum.ensures.sum.arity ∙ c.width.ensures
+  arity_is =
+      let r = c.args.self.now in
+      c.in_ok-sum.ensures.sum.arity ∙ c.width.ensures
+      ∙ base_width r.base.now.items c.len.result r.vars (c.len.ensures ∙ r.base.now.ok.0)
 
   made : terms_in c.in_ok-sum.sum ≡ collect_terms (tell c.args.terms.items)
   made =
