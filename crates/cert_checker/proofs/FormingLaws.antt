@@ -29,6 +29,6 @@ maps_unformed program c (Map (map_error.Limit at)) free h = stops_behind (length
 maps_unformed program c (Map (map_error.Wide at)) free h = stops_behind (length program.names)
     (start_operations program) (branches_operations program) (map_error.Wide at) free h
 maps_unformed program c (Map map_error.Memory) free h = absurd h
-maps_unformed program c (Limit branch i) free h = absurd h
-maps_unformed program c (Wide branch i) free h = absurd h
+maps_unformed program c (Limit place i) free h = absurd h
+maps_unformed program c (Wide place i) free h = absurd h
 maps_unformed program c Memory free h = tt

@@ -7,7 +7,7 @@
 --   step_found, step_refused           what the search among the steps finds
 --   refused_identity                   the refusal of an identity, where all maps are formed
 --   passed_more           the branches before pass
-use Rattle.std.proofs.Common.{◌≡◌, ◌↔◌, ℕ, ◌<◌, ◌≤◌, ◌+◌, List, [], get_or, length, arith, add-one, sym, ap, subst, ◌∙◌}
+use Rattle.std.proofs.Common.{◌≡◌, ◌↔◌, ℕ, ◌<◌, ◌≤◌, ◌+◌, List, [], get_or, length, arith, sym, ap, subst, ◌∙◌}
 use Rattle.std.specs.Prelude.{All, Option, Some, None}
 use borrow.Author.Count.{below_more}
 use Rattle.std.proofs.lemmas.List.{length-map}
@@ -39,6 +39,8 @@ use Rattle.cert_checker.specs.Stops.{Stops, IfStops}
 use Rattle.expansion.specs.Counts.{most_terms}
 use Rattle.cert_checker.specs.Long.{start_terms, step_terms, total, IsFirstLong, IfLong}
 use Rattle.cert_checker.specs.Short.{ShortStart, ShortStep}
+use Rattle.cert_checker.specs.Places.{at_start, in_branch}
+use Rattle.cert_checker.specs.Views.{place_view}
 use Rattle.cert_checker.specs.Wide.{WideIdentity, LongIdentity, IfCheckRefused}
 
 module _ (lp : Loop) where
@@ -86,15 +88,15 @@ first_along P Q n k (Some i) h e f = record {
 -- an identity is too wide
 abbrev IfTooWide : Program (Expr ℕ) → Certificate → CheckError → Type 0
 IfTooWide program c (error.Map e) = ⊥
-IfTooWide program c (error.Limit branch i) = ⊥
-IfTooWide program c (error.Wide branch i) = WideIdentity program c branch i
+IfTooWide program c (error.Limit place i) = ⊥
+IfTooWide program c (error.Wide place i) = WideIdentity program c (place_view place) i
 IfTooWide program c error.Memory = Unit {0}
 
 pub refused_identity : (program : Program (Expr ℕ)) (c : Certificate) (e : CheckError)
     → AreFree program → IfTooWide program c e → IfCheckRefused program c e
 refused_identity program c (error.Map e) free h = absurd h
-refused_identity program c (error.Limit branch i) free h = absurd h
-refused_identity program c (error.Wide branch i) free h = (free, h)
+refused_identity program c (error.Limit place i) free h = absurd h
+refused_identity program c (error.Wide place i) free h = (free, h)
 refused_identity program c error.Memory free h = tt
 
 module _ (program : Program (Expr ℕ)) (c : Certificate) (over : IsOver program c) (basis : Polys)
@@ -136,13 +138,13 @@ module _ (program : Program (Expr ℕ)) (c : Certificate) (over : IsOver program
 
   pub start_refused : (images : List FracPoly) → AllStandFor (length program.names) images
       (start_map program) → (e : CheckError)
-      → IfStops e 0 (Stops (StartHolds (length images) (polys_in basis) (terms_each images))
+      → IfStops e at_start (Stops (StartHolds (length images) (polys_in basis) (terms_each images))
       (StartIsPast (polys_in basis) (terms_each images)) (length basis.items))
       → IfTooWide program c e
   start_refused images stand (error.Map e) h = absurd h
-  start_refused images stand (error.Limit b i) h = absurd h
-  start_refused images stand (error.Wide b i) h = subst (λ b. WideIdentity program c b i) (sym h.0)
-      (record {
+  start_refused images stand (error.Limit place i) h = absurd h
+  start_refused images stand (error.Wide place i) h =
+      subst (λ at. WideIdentity program c at i) (sym h.0) (record {
         within = let l : i < length basis.items = h.1.within in omega (arith, same_count);
         before = λ j l. (start_tells images stand j).0 (h.1.before j l);
         images = terms_each images;
@@ -157,12 +159,12 @@ module _ (program : Program (Expr ℕ)) (c : Certificate) (over : IsOver program
 
   pub start_long : (images : List FracPoly) → AllStandFor (length program.names) images
       (start_map program) → (e : CheckError) → AreFree program
-      → IfLong e 0 (IsFirstLong (start_terms (polys_in basis) (terms_each images))
+      → IfLong e at_start (IsFirstLong (start_terms (polys_in basis) (terms_each images))
       (length basis.items)) → IfCheckRefused program c e
   start_long images stand (error.Map e) free h = absurd h
-  start_long images stand (error.Limit b i) free h = (
+  start_long images stand (error.Limit place i) free h = (
     free,
-    subst (λ b. LongIdentity program c b i) (sym h.0) (record {
+    subst (λ at. LongIdentity program c at i) (sym h.0) (record {
       images = terms_each images;
       is = record {
         polynomials = polynomials_of (length program.names) images
@@ -174,7 +176,7 @@ module _ (program : Program (Expr ℕ)) (c : Certificate) (over : IsOver program
           h.1);
     }),
   )
-  start_long images stand (error.Wide b i) free h = absurd h
+  start_long images stand (error.Wide place i) free h = absurd h
   start_long images stand error.Memory free h = absurd h
 
   pub start_short : (images : List FracPoly) → AllStandFor (length program.names) images
@@ -217,14 +219,14 @@ module _ (program : Program (Expr ℕ)) (c : Certificate) (over : IsOver program
         → PassesStart program c j) → ((a j : ℕ) → a < b → j < length c.basis
         → PassesStep program c a j)
         → (e : CheckError)
-        → IfStops e (b + 1)
+        → IfStops e (in_branch b)
         (Stops (StepHolds (length images) (polys_in basis) (terms_each images) rows)
         (StepIsPast (polys_in basis) (terms_each images) rows) (length basis.items))
         → IfTooWide program c e
     step_refused inside starts earlier (error.Map e) h = absurd h
-    step_refused inside starts earlier (error.Limit k i) h = absurd h
-    step_refused inside starts earlier (error.Wide k i) h = subst (λ k. WideIdentity program c k i)
-        (sym (h.0 ∙ add-one b)) (record {
+    step_refused inside starts earlier (error.Limit place i) h = absurd h
+    step_refused inside starts earlier (error.Wide place i) h =
+        subst (λ at. WideIdentity program c at i) (sym h.0) (record {
           branch_within = inside;
           within = let l : i < length basis.items = h.1.within in omega (arith, same_count);
           starts = starts;
@@ -245,12 +247,12 @@ module _ (program : Program (Expr ℕ)) (c : Certificate) (over : IsOver program
         → PassesStart program c j) → ((a j : ℕ) → a < b → j < length c.basis
         → PassesStep program c a j)
         → (e : CheckError) → AreFree program
-        → IfLong e (b + 1) (IsFirstLong (step_terms (polys_in basis) (terms_each images) rows)
+        → IfLong e (in_branch b) (IsFirstLong (step_terms (polys_in basis) (terms_each images) rows)
         (length basis.items)) → IfCheckRefused program c e
     step_long inside starts earlier (error.Map e) free h = absurd h
-    step_long inside starts earlier (error.Limit k i) free h = (
+    step_long inside starts earlier (error.Limit place i) free h = (
       free,
-      subst (λ k. LongIdentity program c k i) (sym (h.0 ∙ add-one b)) (record {
+      subst (λ at. LongIdentity program c at i) (sym h.0) (record {
         branch_within = inside;
         starts = starts;
         branches_before = earlier;
@@ -268,7 +270,7 @@ module _ (program : Program (Expr ℕ)) (c : Certificate) (over : IsOver program
             (length basis.items) i) at h.1));
       }),
     )
-    step_long inside starts earlier (error.Wide k i) free h = absurd h
+    step_long inside starts earlier (error.Wide place i) free h = absurd h
     step_long inside starts earlier error.Memory free h = absurd h
 
     pub step_short : total (step_terms (polys_in basis) (terms_each images) rows)

@@ -2,22 +2,23 @@
 --   all_hold                       where the certificate is valid and the others hold, all do
 --   first_of, wide_of              the first part that doesn't hold, or that is too wide
 --   start_first, step_first        an identity of the certificate as such a part
---   start_wide, step_wide
+--   identity_wide                  so where it is too wide
 --   further_behind                 a part behind the certificate
 --   failing_verdict                the verdict on a part
 --   wide_refused, refusal          the causes of the refusals
-use Rattle.std.proofs.Common.{◌≡◌, ℕ, zero, suc, ◌-◌, ◌<◌, List, [], ◌++◌, map, flat_map, length, refl, sym, ap, subst, ◌∙◌, arith, append_assoc}
+use Rattle.std.proofs.Common.{◌≡◌, ℕ, ◌<◌, List, [], ◌++◌, map, flat_map, length, refl, sym, ap, subst, ◌∙◌, append_assoc}
 use Rattle.std.proofs.lemmas.List.{append-nil}
 use Rattle.algebra.specs.Each.{Each}
 use Rattle.algebra.proofs.Each.{each-append}
 use Rattle.exponentials.specs.Table.{numbers}
 use Rattle.loops.specs.Program.{Expr, Program}
-use Rattle.loops.specs.Certificate.{IsValid, PassesStart, PassesStep, IsVerdict}
+use Rattle.loops.specs.Certificate.{IsValid, PassesStart, PassesStep, IsFirstStart, IsFirstStep}
 use Rattle.loop_model.specs.declared.map_error.MapError.TheVariants as map_error
 use Rattle.loop_model.specs.Maps.{AreFree}
 use Rattle.completeness.specs.Full.{FullCertificate, certificate}
 use Rattle.completeness.specs.Parts.{Part, in_basis, in_steps, Holds, basis_parts, step_parts, parts, AllHold, IsFirst}
-use Rattle.cert_checker.specs.Views.{failing_in}
+use Rattle.cert_checker.specs.Places.{Place, at_start, in_branch}
+use Rattle.cert_checker.specs.Views.{place_view}
 use Rattle.cert_checker.specs.Wide.{WideIdentity, IfCheckRefused as IfRefusedItself}
 use Rattle.cert_checker.specs.declared.error.CheckError.{CheckError}
 use Rattle.cert_checker.specs.declared.error.CheckError.TheVariants as check_error
@@ -114,32 +115,24 @@ module _ (program : Program (Expr ℕ)) (c : FullCertificate) where
       W (numbered P (in_steps b) (length c.basis) i W
       (record { within = l; before = before; cause = w })))
 
-  pub start_first : (i : ℕ) → IsVerdict program (certificate c) (failing_in 0 i)
+  pub start_first : (i : ℕ) → IsFirstStart program (certificate c) i
       → IsFirst program c (in_basis i)
   start_first i v = first_of (in_basis i) (start_behind i (P (in_basis i) → ⊥) v.within v.before
       v.fails)
 
-  -- branches count from 1 there
-  pub step_first : (branch i : ℕ) → 0 < branch
-      → IsVerdict program (certificate c) (failing_in branch i)
-      → IsFirst program c (in_steps (branch - 1) i)
-  step_first zero i l v = absurd (omega arith)
-  step_first (suc b) i l v =
-      let e : b ≡ suc b - 1 = omega arith in
-      subst (λ a. IsFirst program c (in_steps a i)) e
-      (first_of (in_steps b i) (step_behind b i (P (in_steps b i) → ⊥) v.branch_within v.within
-      v.starts v.branches_before v.before v.fails))
+  pub step_first : (b i : ℕ) → IsFirstStep program (certificate c) b i
+      → IsFirst program c (in_steps b i)
+  step_first b i v = first_of (in_steps b i) (step_behind b i (P (in_steps b i) → ⊥)
+      v.branch_within v.within v.starts v.branches_before v.before v.fails)
 
-  start_wide : (i : ℕ) → WideIdentity program (certificate c) 0 i
-      → IsWide program c (path_of (in_basis i))
-  start_wide i w = wide_of (in_basis i) (start_behind i (IsPastPart program c (in_basis i)) w.within
-      w.before (record { images = w.images; is = w.is; past = w.past }))
-
-  step_wide : (b i : ℕ) → WideIdentity program (certificate c) (suc b) i
-      → IsWide program c (path_of (in_steps b i))
-  step_wide b i w = wide_of (in_steps b i) (step_behind b i (IsPastPart program c (in_steps b i))
-      w.branch_within w.within w.starts w.branches_before w.before
+  identity_wide : (place : Place) (i : ℕ) → WideIdentity program (certificate c) place i
+      → IsWide program c (path_of (identity_part place i))
+  identity_wide at_start i w = wide_of (in_basis i) (start_behind i
+      (IsPastPart program c (in_basis i)) w.within w.before
       (record { images = w.images; is = w.is; past = w.past }))
+  identity_wide (in_branch b) i w = wide_of (in_steps b i) (step_behind b i
+      (IsPastPart program c (in_steps b i)) w.branch_within w.within w.starts w.branches_before
+      w.before (record { images = w.images; is = w.is; past = w.past }))
 
   -- ---- refusals
   pub wide_refused : (path : List ℕ) (r : FullError) → AreFree program → IsWide program c path
@@ -163,13 +156,12 @@ module _ (program : Program (Expr ℕ)) (c : FullCertificate) where
   refusal (check_error.Map (map_error.Wide at)) r h is = subst (IfFullCheckRefused program c)
       (sym is) h
   refusal (check_error.Map map_error.Memory) r h is = absurd h
-  refusal (check_error.Limit branch i) r h is =
-      limit_refused (path_of (identity_part branch i)) r h.0
-      (record { branch = branch; element = i; at = refl; is = h.1 }) is
-  refusal (check_error.Wide zero i) r h is =
-      wide_refused (path_of (in_basis i)) r h.0 (start_wide i h.1) is
-  refusal (check_error.Wide (suc b) i) r h is =
-      wide_refused (path_of (in_steps b i)) r h.0 (step_wide b i h.1) is
+  refusal (check_error.Limit place i) r h is =
+      limit_refused (path_of (identity_part (place_view place) i)) r h.0
+      (record { place = place_view place; element = i; at = refl; is = h.1 }) is
+  refusal (check_error.Wide place i) r h is =
+      wide_refused (path_of (identity_part (place_view place) i)) r h.0
+      (identity_wide (place_view place) i h.1) is
   refusal check_error.Memory r h is = subst (IfFullCheckRefused program c) (sym is) tt
 
 -- the verdict on a part

@@ -17,6 +17,6 @@ abbrev pub IfUnformed : ℕ → List Operation → CheckError → Type 0
 IfUnformed m os (Map (map_error.Limit at)) = IsLimit m os at
 IfUnformed m os (Map (map_error.Wide at)) = IsWide m os at
 IfUnformed m os (Map map_error.Memory) = ⊥
-IfUnformed m os (Limit branch i) = ⊥
-IfUnformed m os (Wide branch i) = ⊥
+IfUnformed m os (Limit place i) = ⊥
+IfUnformed m os (Wide place i) = ⊥
 IfUnformed m os Memory = Unit {0}

@@ -1,5 +1,6 @@
 -- Where a part of a full certificate is too wide, and the causes of refusals.
 --   IsWideAt path e                e tells that the part with this path is too wide; want of memory is free
+--   identity_part place i          the part that this identity of the certificate itself is
 --   IsRefusalOf e r                r is the refusal e of the certificate itself
 --   IsPastOfMap program maps W     W of the polynomials of a map of the program, with their terms in descending order
 --   IsPastBegun program c r b kind i     of making polynomial i that a stage begins with
@@ -9,7 +10,7 @@
 --   IsLimitAt path e               e tells so of the part with this path; want of memory is free
 --   IsUnformed m os e              e is one of the operations os that can't be done
 --   IfFullCheckRefused program c e          the cause of the refusal e: a map of the loop can't be formed, or a part is too long or too wide; want of memory is free
-use Rattle.std.specs.Prelude.{◌≡◌, ℕ, zero, suc, ◌-◌, ◌<◌, ◌≤◌, pred, List, [], get_or, length, string_bytes}
+use Rattle.std.specs.Prelude.{◌≡◌, ℕ, ◌-◌, ◌<◌, ◌≤◌, pred, List, [], get_or, length, string_bytes}
 use Rattle.algebra.specs.Fraction.{Fraction, fractions}
 use Rattle.polynomials.specs.Terms.{Terms}
 use Rattle.polynomials.specs.Weight.{IsPastComposition, IsPastSum}
@@ -23,6 +24,8 @@ use Rattle.loop_model.specs.Maps.{maps_operations, AreFree}
 use Rattle.cert_checker.specs.Passing.{IsPastForm}
 use Rattle.task_lists.specs.Past.{IsPastCombination}
 use Rattle.cert_checker.specs.Identities.{StartIsPast, StepIsPast}
+use Rattle.cert_checker.specs.Places.{Place, at_start, in_branch}
+use Rattle.cert_checker.specs.Views.{place_view}
 use Rattle.cert_checker.specs.Wide.{IsMapOf, LongIdentity}
 use Rattle.cert_checker.specs.declared.error.CheckError.{CheckError}
 use Rattle.cert_checker.specs.declared.error.CheckError.TheVariants as check_error
@@ -72,15 +75,15 @@ module _ (program : Program (Expr ℕ)) (c : FullCertificate) where
     pub at : path_of part ≡ path
     pub is : Behind (Holds program c) (parts program c) part (IsPastPart part)
 
-abbrev pub identity_part : ℕ → ℕ → Part
-identity_part zero i = in_basis i
-identity_part (suc b) i = in_steps b i
+abbrev pub identity_part : Place → ℕ → Part
+identity_part at_start i = in_basis i
+identity_part (in_branch b) i = in_steps b i
 
 pub record IsLong (program : Program (Expr ℕ)) (c : FullCertificate) (path : List ℕ) : Type 0 where
-  pub branch : ℕ
+  pub place : Place
   pub element : ℕ
-  pub at : path_of (identity_part branch element) ≡ path
-  pub is : LongIdentity program (certificate c) branch element
+  pub at : path_of (identity_part place element) ≡ path
+  pub is : LongIdentity program (certificate c) place element
 
 abbrev pub IsUnformed : ℕ → List Operation → MapError → Type 0
 IsUnformed m os (map_error.Limit at) = IsLimit m os at
@@ -107,7 +110,8 @@ IsLimitAt path Memory = Unit {0}
 
 abbrev pub IsRefusalOf : CheckError → FullError → Type 0
 IsRefusalOf (check_error.Map e) r = r ≡ Map e
-IsRefusalOf (check_error.Limit branch i) r = IsLimitAt (path_of (identity_part branch i)) r
-IsRefusalOf (check_error.Wide zero i) r = IsWideAt (path_of (in_basis i)) r
-IsRefusalOf (check_error.Wide (suc b) i) r = IsWideAt (path_of (in_steps b i)) r
+IsRefusalOf (check_error.Limit place i) r =
+    IsLimitAt (path_of (identity_part (place_view place) i)) r
+IsRefusalOf (check_error.Wide place i) r =
+    IsWideAt (path_of (identity_part (place_view place) i)) r
 IsRefusalOf check_error.Memory r = r ≡ Memory

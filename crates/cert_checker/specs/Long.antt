@@ -3,11 +3,13 @@
 --   step_terms basis images rows i      so with the combination of its cofactors
 --   total f n                       the sum of f over the numbers below n
 --   IsFirstLong f n i               i, below n, is the first number up to which this sum is above most_terms
---   IfLong e branch C               e names the branch and an element of which C holds
+--   IfLong e place C                e names the place and an element of which C holds
 use Rattle.std.specs.Prelude.{◌≡◌, ℕ, zero, suc, ◌+◌, ◌<◌, ◌≤◌, List, [], get_or}
 use Rattle.algebra.specs.Fraction.{Fraction}
 use Rattle.polynomials.specs.Terms.{Terms}
 use Rattle.expansion.specs.Counts.{most_terms, composition_terms, combination_terms}
+use Rattle.cert_checker.specs.Places.{Place}
+use Rattle.cert_checker.specs.Views.{place_view}
 use Rattle.cert_checker.specs.declared.error.CheckError.{CheckError}
 use Rattle.cert_checker.specs.declared.error.CheckError.TheVariants.{Map, Limit, Wide, Memory}
 
@@ -27,8 +29,8 @@ pub record IsFirstLong (f : ℕ → ℕ) (n i : ℕ) : Type 0 where
   pub few : total f i ≤ most_terms
   pub long : most_terms < total f (suc i)
 
-abbrev pub IfLong : CheckError → ℕ → (ℕ → Type 0) → Type 0
-IfLong (Map e) branch C = ⊥
-IfLong (Limit b i) branch C = (b ≡ branch) × C i
-IfLong (Wide b i) branch C = ⊥
-IfLong Memory branch C = ⊥
+abbrev pub IfLong : CheckError → Place → (ℕ → Type 0) → Type 0
+IfLong (Map e) place C = ⊥
+IfLong (Limit at i) place C = (place_view at ≡ place) × C i
+IfLong (Wide at i) place C = ⊥
+IfLong Memory place C = ⊥

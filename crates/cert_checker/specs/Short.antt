@@ -25,8 +25,7 @@ module _ (program : Program (Expr ℕ)) (c : Certificate) where
         (branch_map program (get_or program.branches b []))
     pub few : total (step_terms c.basis images (get_or c.steps b [])) (length c.basis) ≤ most_terms
 
-  -- branches count from 1 in a verdict
   abbrev pub AreShort : Verdict → Type 0
   AreShort Valid = ShortStart × ((b : ℕ) → b < length program.branches → ShortStep b)
   AreShort (StartFails i) = ShortStart
-  AreShort (StepFails branch i) = ShortStart × ((b : ℕ) → b < branch → ShortStep b)
+  AreShort (StepFails branch i) = ShortStart × ((b : ℕ) → b ≤ branch → ShortStep b)

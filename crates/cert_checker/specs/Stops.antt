@@ -1,7 +1,9 @@
 -- Where the search of an identity that fails stops for another cause.
 --   Stops P W n i        at the number i below n, behind which P holds of all, and W is the cause
---   IfStops e branch C   e names the branch and an element of which C holds; want of memory is free
+--   IfStops e place C    e names the place and an element of which C holds; want of memory is free
 use Rattle.std.specs.Prelude.{◌≡◌, ℕ, ◌<◌}
+use Rattle.cert_checker.specs.Places.{Place}
+use Rattle.cert_checker.specs.Views.{place_view}
 use Rattle.cert_checker.specs.declared.error.CheckError.{CheckError}
 use Rattle.cert_checker.specs.declared.error.CheckError.TheVariants.{Map, Limit, Wide, Memory}
 
@@ -10,8 +12,8 @@ pub record Stops (P W : ℕ → Type 0) (n i : ℕ) : Type 0 where
   pub before : (j : ℕ) → j < i → P j
   pub cause : W i
 
-abbrev pub IfStops : CheckError → ℕ → (ℕ → Type 0) → Type 0
-IfStops (Map e) branch C = ⊥
-IfStops (Limit b i) branch C = ⊥
-IfStops (Wide b i) branch C = (b ≡ branch) × C i
-IfStops Memory branch C = Unit {0}
+abbrev pub IfStops : CheckError → Place → (ℕ → Type 0) → Type 0
+IfStops (Map e) place C = ⊥
+IfStops (Limit at i) place C = ⊥
+IfStops (Wide at i) place C = (place_view at ≡ place) × C i
+IfStops Memory place C = Unit {0}

@@ -1,9 +1,9 @@
 -- The causes of the checker's refusals.
 --   IsMapOf m images maps                   the images are the maps' polynomials, in m variables, with their terms in descending order
---   WideIdentity program c branch i         all identities before it hold, and the weight of an operation of it is past: of element i, and of the branch, counted from 1, or of the start where it is 0
---   LongIdentity program c branch i         all identities of what is before the branch hold, and element i is the first of it up to which its identities multiply out to more than most_terms terms; so of the start where the branch is 0
+--   WideIdentity program c place i          all identities before it hold, and the weight of an operation of the identity of element i is past: of the start, or of the branch
+--   LongIdentity program c place i          all identities before the place hold, and element i is the first up to which those of the place multiply out to more than most_terms terms
 --   IfCheckRefused program c e                   the cause of the refusal e: a map of the loop can't be formed, or all can and an identity is too long or too wide; want of memory is free
-use Rattle.std.specs.Prelude.{ℕ, zero, suc, ◌<◌, List, [], get_or, length, All}
+use Rattle.std.specs.Prelude.{ℕ, ◌<◌, List, [], get_or, length, All}
 use Rattle.algebra.specs.Fraction.{Fraction, ℚ}
 use Rattle.polynomials.specs.Terms.{Terms, AllSame}
 use Rattle.polynomials.specs.Polynomial.{IsPolynomial}
@@ -15,6 +15,8 @@ use Rattle.loop_model.specs.Maps.{maps_operations, AreFree}
 use Rattle.cert_checker.specs.Forming.{IfUnformed}
 use Rattle.cert_checker.specs.Identities.{StartIsPast, StepIsPast}
 use Rattle.cert_checker.specs.Long.{start_terms, step_terms, IsFirstLong}
+use Rattle.cert_checker.specs.Places.{Place, at_start, in_branch}
+use Rattle.cert_checker.specs.Views.{place_view}
 use Rattle.cert_checker.specs.declared.error.CheckError.{CheckError}
 use Rattle.cert_checker.specs.declared.error.CheckError.TheVariants.{Map, Limit, Wide, Memory}
 
@@ -41,9 +43,9 @@ module _ (program : Program (Expr ℕ)) (c : Certificate) where
         (branch_map program (get_or program.branches b []))
     pub past : StepIsPast c.basis images (get_or c.steps b []) i
 
-  abbrev pub WideIdentity : ℕ → ℕ → Type 0
-  WideIdentity zero i = WideStart i
-  WideIdentity (suc b) i = WideStep b i
+  abbrev pub WideIdentity : Place → ℕ → Type 0
+  WideIdentity at_start i = WideStart i
+  WideIdentity (in_branch b) i = WideStep b i
 
 module _ (program : Program (Expr ℕ)) (c : Certificate) where
   pub record LongStart (i : ℕ) : Type 0 where
@@ -60,13 +62,15 @@ module _ (program : Program (Expr ℕ)) (c : Certificate) where
         (branch_map program (get_or program.branches b []))
     pub long : IsFirstLong (step_terms c.basis images (get_or c.steps b [])) (length c.basis) i
 
-  abbrev pub LongIdentity : ℕ → ℕ → Type 0
-  LongIdentity zero i = LongStart i
-  LongIdentity (suc b) i = LongStep b i
+  abbrev pub LongIdentity : Place → ℕ → Type 0
+  LongIdentity at_start i = LongStart i
+  LongIdentity (in_branch b) i = LongStep b i
 
 abbrev pub IfCheckRefused : Program (Expr ℕ) → Certificate → CheckError → Type 0
 IfCheckRefused program c (Map e) = IfUnformed (length program.names) (maps_operations program)
     (Map e)
-IfCheckRefused program c (Limit branch i) = AreFree program × LongIdentity program c branch i
-IfCheckRefused program c (Wide branch i) = AreFree program × WideIdentity program c branch i
+IfCheckRefused program c (Limit place i) =
+    AreFree program × LongIdentity program c (place_view place) i
+IfCheckRefused program c (Wide place i) =
+    AreFree program × WideIdentity program c (place_view place) i
 IfCheckRefused program c Memory = Unit {0}

@@ -6,17 +6,26 @@ ghost use Rattle.cert_checker.specs.declared.error.CheckError.TheVariants.{Memor
 use loop_model::MapError;
 use std::alloc::{AllocError, AllocFailed};
 
-/// Why a certificate was not judged.
+/// Where an identity of a certificate stands. Branches count from 0.
+#[derive(Clone, Copy, PartialEq, Eq)]
+pub enum Place {
+    /// At the start.
+    Start,
+    /// At this branch.
+    Branch(usize),
+}
+
+/// Why a certificate was not judged. Elements count from 0.
 #[derive(Clone, Copy, PartialEq, Eq)]
 pub enum CheckError {
     /// A map of the loop can't be formed. The maps are formed before any identity is looked at, the start's first and then the
     /// branches' in order. This is never want of memory.
     Map(MapError),
-    /// All identities of the start and of the branches before this one hold, and this is the first of its elements up to which its identities multiply out to
-    /// more than 2^20 terms. Branches count from 1, and 0 is the start; elements count from 0.
-    Limit { branch: usize, element: usize },
-    /// All identities before this one hold, and it is too wide. Branches count from 1, and 0 is the start; elements count from 0.
-    Wide { branch: usize, element: usize },
+    /// All identities of the places before this one hold, and this is the first element up to which those of this place multiply out to
+    /// more than 2^20 terms.
+    Limit { place: Place, element: usize },
+    /// All identities before this one hold, and it is too wide.
+    Wide { place: Place, element: usize },
     /// No memory was left.
     Memory,
 }

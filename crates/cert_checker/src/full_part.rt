@@ -1,10 +1,13 @@
 // The parts of full certificates, and their paths.
 ghost use Rattle.std.specs.Prelude.{◌≡◌, string_bytes, IfOk, IfErr, IsOk, IsErrAnd, OnOk};
+ghost use Rattle.cert_checker.specs.FullWide as full_wide;
 ghost use Rattle.cert_checker.specs.Paths.{path_of};
 ghost use Rattle.cert_checker.specs.Parts as parts;
 ghost use Rattle.cert_checker.specs.Parts.{part_of};
 ghost use Rattle.cert_checker.specs.FullStops.{stop_map};
+ghost use Rattle.cert_checker.specs.Views.{place_view};
 
+use crate::Place;
 use crate::full_stop::Stop;
 use std::alloc::{AllocError, Global};
 
@@ -40,6 +43,16 @@ pub(crate) enum Part {
     Start(usize),
     Stage(usize, usize, Kind, RowPlace),
     End,
+}
+
+/// The part that an identity of the certificate itself is.
+pub(crate) fn identity_part(place: Place, element: usize) -> Part
+    ensures { part_of result ≡ full_wide.identity_part (place_view place) element }
+{
+    match place {
+        Place::Start => Part::Basis(element),
+        Place::Branch(branch) => Part::Step(branch, element),
+    }
 }
 
 fn row_name(row: Row) -> &'static str

@@ -16,7 +16,7 @@ ghost use Rattle.cert_checker.specs.FullWide.{IfFullCheckRefused, IsLimitAt, IsR
 
 use crate::full_error::FullError;
 use crate::full_further::judge_behind;
-use crate::full_part::{Part, text_of};
+use crate::full_part::{Part, identity_part, text_of};
 use crate::full_stop::Stop;
 use crate::{CheckError, Verdict, judge};
 use loop_model::Loop;
@@ -52,7 +52,7 @@ pub fn check_full(alloc: Global, lp: &Loop, cert: &FullCert) -> Result<FullVerdi
         Ok(Verdict::Valid) => {}
         Ok(Verdict::StartFails { element }) => return fails(alloc, Part::Basis(element)),
         Ok(Verdict::StepFails { branch, element }) => {
-            return fails(alloc, Part::Step(branch - 1, element));
+            return fails(alloc, Part::Step(branch, element));
         }
         Err(error) => return Err(refused(alloc, error)),
     }
@@ -95,16 +95,14 @@ fn limit(alloc: Global, part: Part) -> FullError
     }
 }
 
-/// The refusal of the certificate's first parts. The branch 0 is the start.
+/// The refusal of the certificate's first parts.
 fn refused(alloc: Global, error: CheckError) -> FullError
     ensures { IsRefusalOf error result }
 {
     match error {
         CheckError::Map(error) => FullError::Map(error),
-        CheckError::Limit { branch: 0, element } => limit(alloc, Part::Basis(element)),
-        CheckError::Limit { branch, element } => limit(alloc, Part::Step(branch - 1, element)),
-        CheckError::Wide { branch: 0, element } => wide(alloc, Part::Basis(element)),
-        CheckError::Wide { branch, element } => wide(alloc, Part::Step(branch - 1, element)),
+        CheckError::Limit { place, element } => limit(alloc, identity_part(place, element)),
+        CheckError::Wide { place, element } => wide(alloc, identity_part(place, element)),
         CheckError::Memory => FullError::Memory,
     }
 }

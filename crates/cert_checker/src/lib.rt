@@ -13,7 +13,7 @@ ghost use Rattle.loops.specs.Inv.{Inv};
 ghost use Rattle.loop_model.specs.Maps.{AreFree};
 ghost use Rattle.loop_model.specs.View.{program_of};
 ghost use Rattle.cert_form.specs.Cert.{IsWellSized, certificate_of};
-ghost use Rattle.cert_checker.specs.Views.{verdict_of, IsNumbered};
+ghost use Rattle.cert_checker.specs.Views.{verdict_of};
 ghost use Rattle.cert_checker.specs.Short.{AreShort};
 ghost use Rattle.cert_checker.specs.Wide.{IfCheckRefused};
 
@@ -35,7 +35,7 @@ mod limits;
 mod search;
 
 use cert_form::Cert;
-pub use error::CheckError;
+pub use error::{CheckError, Place};
 pub use form_check::closed_form;
 use frac128::Frac;
 pub use full_error::FullError;
@@ -47,7 +47,7 @@ use poly::Poly;
 use search::{first_failing_start, first_failing_step};
 use std::alloc::Global;
 
-/// What a certificate is worth. Elements count from 0, and branches from 1.
+/// What a certificate is worth. Branches and elements count from 0.
 #[derive(Clone, Copy, PartialEq, Eq)]
 pub enum Verdict {
     /// Each of its polynomials is an invariant.
@@ -67,7 +67,6 @@ pub fn check(alloc: Global, lp: &Loop, cert: &Cert) -> Result<Verdict, CheckErro
     requires branches { length cert.now.certificate.steps ≡ length (program_of lp.now).branches }
     ensures verdict { IfOk result (λ v. IsVerdict (program_of lp.now) cert.now.certificate
         (verdict_of v)) }
-    ensures numbered { IfOk result IsNumbered }
     ensures valid { let c = cert.now.certificate in IfOk result (λ v. v ≡ Verdict.Valid →
         (i : ℕ) → i < length c.basis → Inv (program_of lp.now) (element c i)) }
     ensures free { IfOk result (λ v. AreFree (program_of lp.now)) }
@@ -89,7 +88,6 @@ pub fn judge(
     requires branches { length steps.now.items ≡ length (program_of lp.now).branches }
     ensures verdict { IfOk result (λ v. IsVerdict (program_of lp.now)
         (certificate_of basis.now steps.now) (verdict_of v)) }
-    ensures numbered { IfOk result IsNumbered }
     ensures valid { let c = certificate_of basis.now steps.now in IfOk result (λ v.
         v ≡ Verdict.Valid → (i : ℕ) → i < length c.basis
         → Inv (program_of lp.now) (element c i)) }
@@ -105,9 +103,8 @@ pub fn judge(
     if let Some(element) = first_failing_start(alloc, basis, &start)? {
         return Ok(Verdict::StartFails { element });
     }
-    for (index, images) in maps.iter().enumerate() {
-        let branch = index + 1;
-        let rows = &steps[index];
+    for (branch, images) in maps.iter().enumerate() {
+        let rows = &steps[branch];
         test_step(branch, basis, images, rows)?;
         if let Some(element) = first_failing_step(alloc, branch, basis, images, rows)? {
             return Ok(Verdict::StepFails { branch, element });

@@ -5,8 +5,9 @@ ghost use Rattle.cert_form.specs.Cert.{IsSquare, polys_in, rows_in};
 ghost use Rattle.expansion.specs.Counts as counts;
 ghost use Rattle.expansion.specs.Counts.{IsCount, most_terms};
 ghost use Rattle.cert_checker.specs.Long.{start_terms, step_terms, total, IsFirstLong, IfLong};
+ghost use Rattle.cert_checker.specs.Places.{at_start, in_branch};
 
-use crate::CheckError;
+use crate::{CheckError, Place};
 use expansion::{combination_terms, composition_terms, sum};
 use frac128::Frac;
 use monos::Grevlex;
@@ -59,14 +60,14 @@ pub(crate) fn test_start(
     ensures few { let f = start_terms (polys_in basis.now) (polys_in images.now) in
         OnOk result (total f (length basis.now.items) ≤ most_terms) }
     ensures limit { let f = start_terms (polys_in basis.now) (polys_in images.now) in
-        IfErr result (λ e. IfLong e 0 (IsFirstLong f (length basis.now.items))) }
+        IfErr result (λ e. IfLong e at_start (IsFirstLong f (length basis.now.items))) }
 {
     let mut before = 0;
     for (i, element) in basis.iter().enumerate() {
         match with_start(before, element, images) {
             Some(terms) => before = terms,
             None => return Err(CheckError::Limit {
-                branch: 0,
+                place: Place::Start,
                 element: i,
             }),
         }
@@ -74,7 +75,7 @@ pub(crate) fn test_start(
     Ok(())
 }
 
-/// Refuses the first element up to which the identities of the branch, which has this number, multiply out to too many terms.
+/// Refuses the first element up to which the identities of the branch, counted from 0, multiply out to too many terms.
 pub(crate) fn test_step(
     branch: usize,
     basis: &Vec<Poly<Frac, Grevlex>>,
@@ -87,13 +88,17 @@ pub(crate) fn test_step(
         OnOk result (total f (length basis.now.items) ≤ most_terms) }
     ensures limit { let f = step_terms (polys_in basis.now) (polys_in images.now)
         (rows_in rows.now) in
-        IfErr result (λ e. IfLong e branch (IsFirstLong f (length basis.now.items))) }
+        IfErr result (λ e. IfLong e (in_branch branch)
+        (IsFirstLong f (length basis.now.items))) }
 {
     let mut before = 0;
     for (i, element) in basis.iter().enumerate() {
         match with_step(before, element, images, &rows[i], basis) {
             Some(terms) => before = terms,
-            None => return Err(CheckError::Limit { branch, element: i }),
+            None => return Err(CheckError::Limit {
+                place: Place::Branch(branch),
+                element: i,
+            }),
         }
     }
     Ok(())

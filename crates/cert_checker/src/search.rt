@@ -3,10 +3,11 @@ ghost use Rattle.std.specs.Prelude.{◌<◌, length, All, IfOk, IfErr};
 ghost use Rattle.poly.specs.Standing.{IsInVariables};
 ghost use Rattle.cert_form.specs.Cert.{HaveArity, IsSquare, polys_in, rows_in};
 ghost use Rattle.cert_checker.specs.Identities.{StartHolds, StepHolds, StartIsPast, StepIsPast, FirstFailure};
+ghost use Rattle.cert_checker.specs.Places.{at_start, in_branch};
 ghost use Rattle.cert_checker.specs.Stops.{IfStops, Stops};
 
-use crate::CheckError;
 use crate::identity::{start_holds, step_holds};
+use crate::{CheckError, Place};
 use frac128::Frac;
 use monos::Grevlex;
 use poly::Poly;
@@ -28,14 +29,14 @@ pub(crate) fn first_failing_start(
     ensures stops { let holds = StartHolds (length images.now.items) (polys_in basis.now)
         (polys_in images.now) in
         let is_past = StartIsPast (polys_in basis.now) (polys_in images.now) in
-        IfErr result (λ e. IfStops e 0 (Stops holds is_past (length basis.now.items))) }
+        IfErr result (λ e. IfStops e at_start (Stops holds is_past (length basis.now.items))) }
 {
     for (i, element) in basis.iter().enumerate() {
         match start_holds(alloc, element, images) {
             Ok(true) => {}
             Ok(false) => return Ok(Some(i)),
             Err(ArithmeticError::Wide) => return Err(CheckError::Wide {
-                branch: 0,
+                place: Place::Start,
                 element: i,
             }),
             Err(ArithmeticError::Memory) => return Err(CheckError::Memory),
@@ -44,7 +45,7 @@ pub(crate) fn first_failing_start(
     Ok(None)
 }
 
-/// The first element that is not the combination of its row of cofactors after the branch, which has this number.
+/// The first element that is not the combination of its row of cofactors after the branch, counted from 0.
 pub(crate) fn first_failing_step(
     alloc: Global,
     branch: usize,
@@ -62,13 +63,17 @@ pub(crate) fn first_failing_step(
     ensures stops { let m = length images.now.items in
         let holds = StepHolds m (polys_in basis.now) (polys_in images.now) (rows_in rows.now) in
         let is_past = StepIsPast (polys_in basis.now) (polys_in images.now) (rows_in rows.now) in
-        IfErr result (λ e. IfStops e branch (Stops holds is_past (length basis.now.items))) }
+        IfErr result (λ e. IfStops e (in_branch branch)
+        (Stops holds is_past (length basis.now.items))) }
 {
     for (i, element) in basis.iter().enumerate() {
         match step_holds(alloc, element, images, &rows[i], basis) {
             Ok(true) => {}
             Ok(false) => return Ok(Some(i)),
-            Err(ArithmeticError::Wide) => return Err(CheckError::Wide { branch, element: i }),
+            Err(ArithmeticError::Wide) => return Err(CheckError::Wide {
+                place: Place::Branch(branch),
+                element: i,
+            }),
             Err(ArithmeticError::Memory) => return Err(CheckError::Memory),
         }
     }

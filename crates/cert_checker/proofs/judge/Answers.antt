@@ -1,9 +1,9 @@
-use Rattle.std.proofs.Common.{◌≡◌, ◌<◌, ◌+◌, ℕ, [], get_or, length, rules, refl, add-one, arith, sym, subst, Some, None}
+use Rattle.std.proofs.Common.{◌≡◌, ◌<◌, ◌+◌, ℕ, [], get_or, length, rules, refl, arith, sym, subst, Some, None}
 use Rattle.std.proofs.lemmas.List.{length-map}
 use Rattle.std.proofs.lemmas.Result.{err_from_is_err_and}
 use borrow.Author.Count.{below_more}
 use Rattle.loops.specs.Program.{Expr, Program}
-use Rattle.loops.specs.Certificate.{Certificate, IsOver, PassesStart, PassesStep, IsVerdict}
+use Rattle.loops.specs.Certificate.{Certificate, IsOver, PassesStart, PassesStep}
 use Rattle.loops.proofs.Certificates.{certificate_lists_invariants}
 use Rattle.loop_model.specs.View.{program_of}
 use Rattle.loop_model.specs.Maps.{branches_operations, IsBranchMap}
@@ -13,7 +13,6 @@ use Rattle.cert_form.specs.Cert.{certificate_of, rows_in}
 use Rattle.cert_form.proofs.Kept.{kept_over}
 use Rattle.cert_checker.specs.Identities.{FirstFailure}
 use Rattle.cert_checker.specs.Short.{ShortStart, ShortStep}
-use Rattle.cert_checker.specs.Views.{failing_in}
 use Rattle.cert_checker.proofs.FormingLaws.{stops_unformed, maps_unformed}
 use Rattle.cert_checker.proofs.MapsLaws.{branch_here, map_here}
 use Rattle.cert_checker.proofs.RowLaws.{inside, rows_at, square_at, square_over}
@@ -116,8 +115,8 @@ pub returns-in-Some-clause-short : goal.returns-in-Some-clause-short
 returns-in-Some-clause-short c =
     start_is_short (goal.at.returns-in-Some-clause-short c).In_ok-element
 
-pub loop-index-init : goal.loop-index-init
-loop-index-init c = record {
+pub loop-branch-init : goal.loop-branch-init
+loop-branch-init c = record {
   passed = λ a j l k. absurd (omega arith);
   short = λ a l. absurd (omega arith);
 }
@@ -130,7 +129,7 @@ pub index-rows-requires : goal.index-rows-requires
 index-rows-requires c =
     let here = branch_here (program_of c.args.lp.now) c.in_ok-maps.maps.items
     c.deref-images-items.result.now c.in_ok-maps.ensures.maps c.deref-images-items.ensures.value
-    c.loop-index.index c.loop-index-test.true in
+    c.loop-branch.branch c.loop-branch-test.true in
     omega (arith, here, c.requires.branches)
 
 -- a branch and its rows, as the second search takes them
@@ -139,24 +138,24 @@ module _ (c : After-index-rows) where
   entry = (goal.at.After-index-rows c).Start
 
   stand : IsBranchMap (program entry) c.images-item.result
-      (get_or (program entry).branches c.loop-index.index [])
+      (get_or (program entry).branches c.loop-branch.branch [])
   stand = map_here (program entry) c.in_ok-maps.maps.items c.deref-images-items.result.now
-      c.in_ok-maps.ensures.maps c.deref-images-items.ensures.value c.loop-index.index
-      c.loop-index-test.true c.images-item.result c.images-item.is
+      c.in_ok-maps.ensures.maps c.deref-images-items.ensures.value c.loop-branch.branch
+      c.loop-branch-test.true c.images-item.result c.images-item.is
 
   count : length c.images-item.result.items ≡ length (program entry).names
   count = branch_count c.args.lp.now c.images-item.result.items _ stand
 
-  here : c.loop-index.index < length (program entry).branches
+  here : c.loop-branch.branch < length (program entry).branches
   here = branch_here (program entry) c.in_ok-maps.maps.items c.deref-images-items.result.now
-      c.in_ok-maps.ensures.maps c.deref-images-items.ensures.value c.loop-index.index
-      c.loop-index-test.true
+      c.in_ok-maps.ensures.maps c.deref-images-items.ensures.value c.loop-branch.branch
+      c.loop-branch-test.true
 
-  listed : c.loop-index.index < length (cert entry).steps
+  listed : c.loop-branch.branch < length (cert entry).steps
   listed = omega (arith, here, c.requires.branches, length-map c.args.steps.now.items rows_in)
 
-  rows_are : rows_in c.index-rows.result.now ≡ get_or (cert entry).steps c.loop-index.index []
-  rows_are = rows_at c.args.steps.now (cert entry).steps refl c.loop-index.index
+  rows_are : rows_in c.index-rows.result.now ≡ get_or (cert entry).steps c.loop-branch.branch []
+  rows_are = rows_at c.args.steps.now (cert entry).steps refl c.loop-branch.branch
       c.index-rows.result.now c.index-rows.ensures listed
 
 pub test_step-requires : goal.test_step-requires
@@ -165,9 +164,9 @@ test_step-requires c =
     record {
       square = square_over _ _ _ _ _ c.index-rows.result.now refl (count at)
           (sym c.args.basis.now.ok.0)
-          (square_at _ _ c.loop-index.index c.args.steps.now.items c.index-rows.result.now
+          (square_at _ _ c.loop-branch.branch c.args.steps.now.items c.index-rows.result.now
           c.index-rows.ensures (inside c.args.steps.now (cert (entry at)).steps refl
-          c.loop-index.index (listed at)) c.requires.kept.squares);
+          c.loop-branch.branch (listed at)) c.requires.kept.squares);
     }
 
 pub returns-in_err-test_step-clause-refused : goal.returns-in_err-test_step-clause-refused
@@ -179,8 +178,8 @@ returns-in_err-test_step-clause-refused c =
     let p = err_from_is_err_and c.from_residual-in_err-test_step.result
     c.from_residual-in_err-test_step.ensures.1 in
     rw (p.1, p.2) (step_long (program e) (cert e) (over e) c.args.basis.now refl
-    c.loop-index.index c.images-item.result.items (stand at) (rows_in c.index-rows.result.now)
-    (rows_are at) (here at) starts c.loop-index.invariant.passed _
+    c.loop-branch.branch c.images-item.result.items (stand at) (rows_in c.index-rows.result.now)
+    (rows_are at) (here at) starts c.loop-branch.invariant.passed _
     (free_all (program e) c.in_ok-start.ensures.free c.in_ok-maps.ensures.free)
     c.in_err-test_step.ensures.limit)
 
@@ -204,8 +203,8 @@ pub first_failing_step-requires-clause-square : goal.first_failing_step-requires
 first_failing_step-requires-clause-square c =
     let at = (goal.at.first_failing_step-requires-clause-square c).After-index-rows in
     square_over _ _ _ _ _ c.index-rows.result.now refl (count at) (sym c.args.basis.now.ok.0)
-    (square_at _ _ c.loop-index.index c.args.steps.now.items c.index-rows.result.now
-    c.index-rows.ensures (inside c.args.steps.now (cert (entry at)).steps refl c.loop-index.index
+    (square_at _ _ c.loop-branch.branch c.args.steps.now.items c.index-rows.result.now
+    c.index-rows.ensures (inside c.args.steps.now (cert (entry at)).steps refl c.loop-branch.branch
     (listed at)) c.requires.kept.squares)
 
 pub returns-in_err-element-2-clause-refused : goal.returns-in_err-element-2-clause-refused
@@ -218,9 +217,9 @@ returns-in_err-element-2-clause-refused c =
     c.from_residual-in_err-element-2.ensures.1 in
     rw (p.1, p.2) (refused_identity (program e) (cert e) _
     (free_all (program e) c.in_ok-start.ensures.free c.in_ok-maps.ensures.free)
-    (step_refused (program e) (cert e) (over e) c.args.basis.now refl c.loop-index.index
+    (step_refused (program e) (cert e) (over e) c.args.basis.now refl c.loop-branch.branch
     c.images-item.result.items (stand at) (rows_in c.index-rows.result.now) (rows_are at) (here at)
-    starts c.loop-index.invariant.passed _ c.in_err-element-2.ensures.stops))
+    starts c.loop-branch.invariant.passed _ c.in_err-element-2.ensures.stops))
 
 -- what the search among the steps of the branch has found
 module _ (c : In_ok-element-2) where
@@ -228,10 +227,10 @@ module _ (c : In_ok-element-2) where
   behind = (goal.at.In_ok-element-2 c).After-index-rows
 
   steps_found : FirstFailure
-      (PassesStep (program (entry behind)) (cert (entry behind)) c.loop-index.index)
+      (PassesStep (program (entry behind)) (cert (entry behind)) c.loop-branch.branch)
       (length (cert (entry behind)).basis) c.in_ok-element-2.field-0
   steps_found = step_found (program (entry behind)) (cert (entry behind)) (over (entry behind))
-      c.args.basis.now refl c.loop-index.index c.images-item.result.items (stand behind)
+      c.args.basis.now refl c.loop-branch.branch c.images-item.result.items (stand behind)
       (rows_in c.index-rows.result.now) (rows_are behind) c.in_ok-element-2.field-0
       c.in_ok-element-2.ensures.first
 
@@ -242,63 +241,63 @@ returns-in-Some-2-clause-verdict c =
     let starts = starts_hold (goal.at.returns-in-Some-2-clause-verdict c).In_ok-element
     (search rules) in
     let is : c.in_ok-element-2.field-0 ≡ Some c.in-Some-2.element = search rules in
-    let f = subst (FirstFailure (PassesStep (program e) (cert e) c.loop-index.index)
+    let f = subst (FirstFailure (PassesStep (program e) (cert e) c.loop-branch.branch)
     (length (cert e).basis)) is
     (steps_found (goal.at.returns-in-Some-2-clause-verdict c).In_ok-element-2) in
-    subst (λ branch. IsVerdict (program e) (cert e) (failing_in branch c.in-Some-2.element))
-    (sym (add-one c.loop-index.index))
-    (record {
+    record {
       branch_within = here at;
       within = f.within;
       fails = f.fails;
       starts = starts;
-      branches_before = c.loop-index.invariant.passed;
+      branches_before = c.loop-branch.invariant.passed;
       before = f.before;
-    })
+    }
 
 -- the identities of the branches so far aren't too long
-steps_are_short : (c : In_ok-element-2) → (a : ℕ) → a < c.loop-index.index + 1
+steps_are_short : (c : In_ok-element-2) → (a : ℕ) → a < c.loop-branch.branch + 1
     → ShortStep (program_of c.args.lp.now) (certificate_of c.args.basis.now c.args.steps.now) a
 steps_are_short c =
     let at = (goal.at.In_ok-element-2 c).After-index-rows in
     below_more (ShortStep (program_of c.args.lp.now)
-    (certificate_of c.args.basis.now c.args.steps.now)) c.loop-index.index
-    c.loop-index.invariant.short
+    (certificate_of c.args.basis.now c.args.steps.now)) c.loop-branch.branch
+    c.loop-branch.invariant.short
     (step_short (program (entry at)) (cert (entry at)) (over (entry at)) c.args.basis.now refl
-    c.loop-index.index c.images-item.result.items (stand at) (rows_in c.index-rows.result.now)
+    c.loop-branch.branch c.images-item.result.items (stand at) (rows_in c.index-rows.result.now)
     (rows_are at) c.in_ok-test_step.ensures.few)
 
 pub returns-in-Some-2-clause-short : goal.returns-in-Some-2-clause-short
 returns-in-Some-2-clause-short c = (
   start_is_short (goal.at.returns-in-Some-2-clause-short c).In_ok-element,
-  steps_are_short (goal.at.returns-in-Some-2-clause-short c).In_ok-element-2,
+  λ b l.
+      steps_are_short (goal.at.returns-in-Some-2-clause-short c).In_ok-element-2 b
+      (omega (arith, l)),
 )
 
 pub returns-in-Some-2-clause-free : goal.returns-in-Some-2-clause-free
 returns-in-Some-2-clause-free c =
     free_all (program_of c.args.lp.now) c.in_ok-start.ensures.free c.in_ok-maps.ensures.free
 
-pub loop-index-preserved : goal.loop-index-preserved
-loop-index-preserved c =
-    let e = entry (goal.at.loop-index-preserved c).After-index-rows in
+pub loop-branch-preserved : goal.loop-branch-preserved
+loop-branch-preserved c =
+    let e = entry (goal.at.loop-branch-preserved c).After-index-rows in
     let none : c.in_ok-element-2.field-0 ≡ None = search rules in
     record {
       passed =
-          passed_more (program e) (cert e) c.loop-index.index c.loop-index.invariant.passed
-          (subst (FirstFailure (PassesStep (program e) (cert e) c.loop-index.index)
+          passed_more (program e) (cert e) c.loop-branch.branch c.loop-branch.invariant.passed
+          (subst (FirstFailure (PassesStep (program e) (cert e) c.loop-branch.branch)
           (length (cert e).basis)) none
-          (steps_found (goal.at.loop-index-preserved c).In_ok-element-2));
-      short = steps_are_short (goal.at.loop-index-preserved c).In_ok-element-2;
+          (steps_found (goal.at.loop-branch-preserved c).In_ok-element-2));
+      short = steps_are_short (goal.at.loop-branch-preserved c).In_ok-element-2;
     }
 
 pub returns-clause-verdict : goal.returns-clause-verdict
 returns-clause-verdict c =
     let past = past_list c.in_ok-maps.maps.items c.deref-images-items.result.now
-    c.deref-images-items.ensures.value c.loop-index.index c.loop-index-test.false in
+    c.deref-images-items.ensures.value c.loop-branch.branch c.loop-branch-test.false in
     record {
       starts = starts_hold (goal.at.returns-clause-verdict c).In_ok-element (search rules);
       steps = λ b i k l.
-          c.loop-index.invariant.passed b i
+          c.loop-branch.invariant.passed b i
           (omega (
             arith,
             past,
@@ -310,10 +309,10 @@ returns-clause-verdict c =
 pub returns-clause-short : goal.returns-clause-short
 returns-clause-short c =
     let past = past_list c.in_ok-maps.maps.items c.deref-images-items.result.now
-    c.deref-images-items.ensures.value c.loop-index.index c.loop-index-test.false in (
+    c.deref-images-items.ensures.value c.loop-branch.branch c.loop-branch-test.false in (
       start_is_short (goal.at.returns-clause-short c).In_ok-element,
       λ b k.
-          c.loop-index.invariant.short b
+          c.loop-branch.invariant.short b
           (omega (
             arith,
             past,

@@ -1,4 +1,4 @@
-use Rattle.std.proofs.Common.{◌-◌, subst}
+use Rattle.std.proofs.Common.{subst}
 use Rattle.std.proofs.lemmas.Result.{IfOk-weaker}
 use Rattle.loop_model.specs.View.{program_of}
 use Rattle.loop_model.proofs.Formed.{formed}
@@ -6,7 +6,7 @@ use Rattle.loops.specs.Certificate.{IsValid, IsVerdict}
 use Rattle.completeness.specs.Full.{certificate}
 use Rattle.completeness.specs.Parts.{Holds, in_basis, in_steps}
 use Rattle.completeness.proofs.Complete.{full_generates}
-use Rattle.cert_checker.specs.Views.{IsNumbered, verdict_of}
+use Rattle.cert_checker.specs.Views.{verdict_of}
 use Rattle.task_lists.specs.View.{full_of}
 use Rattle.cert_checker.proofs.FullOver.{full_over}
 use Rattle.cert_checker.specs.Further.{further_parts}
@@ -45,9 +45,8 @@ returns-in-Ok-StepFails-clause-verdict c =
     let b = c.in-Ok-StepFails.branch in
     let i = c.in-Ok-StepFails.element in
     IfOk-weaker c.fails-in-Ok-StepFails.result _ _ (λ v is.
-    failing_verdict program cert (in_steps (b - 1) i)
+    failing_verdict program cert (in_steps b i)
     (step_first program cert b i
-    (subst IsNumbered c.in-Ok-StepFails.field-0-is c.in-Ok-StepFails.ensures.numbered)
     (subst (λ v. IsVerdict program (certificate cert) (verdict_of v))
     c.in-Ok-StepFails.field-0-is c.in-Ok-StepFails.ensures.verdict)) v is)
     c.fails-in-Ok-StepFails.ensures.fails
