@@ -1,21 +1,19 @@
 -- What the checker says of a certificate that was read.
 --   is_read           the certificate that was read is one of the loop;  judged_said: a judgement of it answers `check`
 --   refused_said      a refusal of the checker answers `check`
---   step_said         the text of a step that fails, whose branch is counted from 1
-use Rattle.std.proofs.Common.{◌≡◌, ◌<◌, ◌+◌, ◌++◌, ℕ, zero, suc, List, length, sym, ap, subst, arith, add-one}
-use Rattle.std.specs.Prelude.{Some, option_map, codes, decimal}
+use Rattle.std.proofs.Common.{◌≡◌, ℕ, List, length, sym, subst}
+use Rattle.std.specs.Prelude.{Some, option_map}
 use Rattle.loops.specs.Certificate.{Certificate, IsOver}
 use Rattle.loops.specs.Program.{Expr, Program}
 use Rattle.loop_model.specs.declared.map_error.MapError.TheVariants as map_error
 use Rattle.cert_form.specs.Form.{cert_in, ReadsAs}
 use Rattle.cert_form.specs.Cert.{IsComplete}
-use Rattle.cert_checker.specs.Views.{failing_in}
+use Rattle.cert_checker.specs.Views.{place_view}
 use Rattle.cert_checker.specs.Wide.{IfCheckRefused}
 use Rattle.cert_checker.specs.declared.error.CheckError.{CheckError}
 use Rattle.cert_checker.specs.declared.error.CheckError.TheVariants as check_error
-use Rattle.io_edge.specs.declared.answer.Status.TheVariants as status
-use Rattle.io_edge.specs.Texts.{Answer, answer}
-use Rattle.certificate_commands.specs.CheckTexts.{Judgement, verdict, map_limit, map_wide, limit_identity, wide_identity, judgement_answer}
+use Rattle.io_edge.specs.Texts.{Answer}
+use Rattle.certificate_commands.specs.CheckTexts.{Judgement, map_limit, map_wide, limit_identity, wide_identity, judgement_answer}
 use Rattle.certificate_commands.specs.CheckViews.{judgement_of}
 use Rattle.certificate_commands.specs.CertificateAsking.{AnswersCertificate}
 use Rattle.certificate_commands.specs.CheckJudging.{IsJudgement, Judges, certificate_in}
@@ -63,18 +61,8 @@ module _ (l : Program (Expr ℕ)) (bytes : List ℕ) (kept : Certificate) (a : A
   refused_said (check_error.Map (map_error.Wide at)) cause says =
       judged_said l bytes kept a (map_wide at) read cause (cc)
   refused_said (check_error.Map map_error.Memory) cause says = absurd (cc)
-  refused_said (check_error.Limit branch i) cause says =
-      judged_said l bytes kept a (limit_identity branch i) read cause (cc)
-  refused_said (check_error.Wide branch i) cause says =
-      judged_said l bytes kept a (wide_identity branch i) read cause (cc)
+  refused_said (check_error.Limit place i) cause says =
+      judged_said l bytes kept a (limit_identity (place_view place) i) read cause (cc)
+  refused_said (check_error.Wide place i) cause says =
+      judged_said l bytes kept a (wide_identity (place_view place) i) read cause (cc)
   refused_said check_error.Memory cause says = absurd (cc)
-
-pub step_said : (branch i : ℕ) → 0 < branch
-    → answer status.No
-    (codes "step fails: branch " ++ decimal branch ++ codes ", element " ++ decimal (i + 1))
-    ≡ judgement_answer (verdict (failing_in branch i))
-step_said zero i some = absurd (omega arith)
-step_said (suc b) i some =
-    ap (λ n. answer status.No
-    (codes "step fails: branch " ++ decimal n ++ codes ", element " ++ decimal (i + 1)))
-    (sym (add-one b))

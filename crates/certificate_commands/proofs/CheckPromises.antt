@@ -24,6 +24,7 @@ use Rattle.io_edge.proofs.OneFile.{concludes_yes, concludes_no}
 use Rattle.command_parts.specs.FaultTexts.{loop_refusal}
 use Rattle.command_parts.proofs.LoopCourses.{loop_refuses}
 use Rattle.command_parts.proofs.MapLimits.{limit_same, not_free}
+use Rattle.cert_checker.specs.Places.{Place}
 use Rattle.cert_checker.specs.Wide.{LongIdentity}
 use Rattle.certificate_commands.specs.CheckTexts.{Judgement, verdict, map_limit, map_wide, limit_identity, wide_identity, judgement_answer}
 use Rattle.certificate_commands.specs.CertificateAsking.{IsQuestion}
@@ -43,8 +44,8 @@ by_judgement_plain (verdict (start_fails i)) = plain_no _ refl
 by_judgement_plain (verdict (step_fails b i)) = plain_no _ refl
 by_judgement_plain (map_limit at) = (refusing_fault _ refl).plain
 by_judgement_plain (map_wide at) = (refusing_wide _ refl).plain
-by_judgement_plain (limit_identity branch i) = (refusing_fault _ refl).plain
-by_judgement_plain (wide_identity branch i) = (refusing_wide _ refl).plain
+by_judgement_plain (limit_identity place i) = (refusing_fault _ refl).plain
+by_judgement_plain (wide_identity place i) = (refusing_wide _ refl).plain
 
 judges_plain : (l : Program (Expr ℕ)) (listed : Certificate) (a : Answer) → Judges l listed a
     → IsPlain a.status
@@ -88,9 +89,9 @@ module _ (l : Program (Expr ℕ)) (kept listed : Certificate) (a : Answer) (same
       stopped l listed a (loop_refuses (record { reason = limit; at = at }) a says)
   by_judgement (map_wide at) is says =
       stopped l listed a (loop_refuses (record { reason = wide; at = at }) a says)
-  by_judgement (limit_identity branch i) is says =
+  by_judgement (limit_identity place i) is says =
       stopped l listed a (refusing_fault a.status (status_of says))
-  by_judgement (wide_identity branch i) is says =
+  by_judgement (wide_identity place i) is says =
       stopped l listed a (refusing_wide a.status (status_of says))
 
 verdicts : (l : Program (Expr ℕ)) (certificate : List ℕ) (listed : Certificate) (a : Answer)
@@ -149,9 +150,9 @@ by_limit l kept at a f (map_limit at') is says =
     inl (says ∙ ap (λ k. loop_refusal (record { reason = limit; at = k }))
     (limit_same (length l.names) (maps_operations l) at' at is f))
 by_limit l kept at a f (map_wide at') is says = inr (status_of says)
-by_limit l kept at a f (limit_identity branch i) is says =
+by_limit l kept at a f (limit_identity place i) is says =
     absurd (not_free (length l.names) (maps_operations l) at f is.0)
-by_limit l kept at a f (wide_identity branch i) is says =
+by_limit l kept at a f (wide_identity place i) is says =
     absurd (not_free (length l.names) (maps_operations l) at f is.0)
 
 limit_decides : (l : Program (Expr ℕ)) (listed : Certificate) (at : ℕ) (a : Answer)
@@ -162,7 +163,7 @@ limit_decides l listed at a f judges =
 
 -- none does
 module _ (l : Program (Expr ℕ)) (kept listed : Certificate) (a : Answer) (free : AreFree l)
-    (short : (branch i : ℕ) → ¬ (LongIdentity l kept branch i))
+    (short : (place : Place) (i : ℕ) → ¬ (LongIdentity l kept place i))
     (same : (v : Verdict) → IsVerdict l kept v → IsVerdict l listed v) where
   by_failing : (v : Verdict) → v ≢ valid → IsVerdict l kept v → a.status ≡ status.No
       → FreelyDecides IsValid a.status l listed
@@ -178,8 +179,8 @@ module _ (l : Program (Expr ℕ)) (kept listed : Certificate) (a : Answer) (free
       by_failing (step_fails b i) (λ h. (cc)) is.1 (status_of says)
   by_free (map_limit at) is says = absurd (not_free (length l.names) (maps_operations l) at is free)
   by_free (map_wide at) is says = inr (inr (status_of says))
-  by_free (limit_identity branch i) is says = absurd (short branch i is.1)
-  by_free (wide_identity branch i) is says = inr (inr (status_of says))
+  by_free (limit_identity place i) is says = absurd (short place i is.1)
+  by_free (wide_identity place i) is says = inr (inr (status_of says))
 
 free_decides : (l : Program (Expr ℕ)) (certificate : List ℕ) (listed : Certificate) (a : Answer)
     → AreFree l → IsShort l listed → cert_in l.names (length l.branches) certificate ≡ Ok listed

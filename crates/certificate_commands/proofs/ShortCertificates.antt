@@ -2,7 +2,7 @@
 --   squares                the loop vars a, s, t; init a=0, s=1, t=1; branch { a=a+1; t=t+2; s=s+t; }
 --   certificate            its certificate of 2*a - t + 1 and t^2 - 4*s + 2*t + 1, which stay as they are
 --   squares_short          it is short;  full_short: so is each full certificate with a certificate that is
-use Rattle.std.proofs.Common.{◌≡◌, ℕ, zero, suc, ◌≤◌, pos, negsuc, List, [], ◌∷◌, get_or, length, map, All, ap, ap₂, refl, arith, ◌∙◌}
+use Rattle.std.proofs.Common.{◌≡◌, ℕ, zero, suc, ◌+◌, ◌≤◌, pos, negsuc, List, [], ◌∷◌, get_or, length, map, All, ap, ap₂, refl, arith, ◌∙◌}
 use Rattle.std.proofs.lemmas.List.Elements.{All-head, All-tail}
 use Rattle.algebra.specs.Arithmetic.{power}
 use Rattle.algebra.specs.Each.{Each}
@@ -30,6 +30,7 @@ use Rattle.loops.proofs.Examples.{assign, given}
 use Rattle.expansion.specs.Counts.{most_terms, factor_terms, product_terms, composition_terms, combination_terms}
 use Rattle.cert_form.specs.Cert.{IsComplete}
 use Rattle.cert_checker.specs.Long.{start_terms, step_terms, total, IsFirstLong}
+use Rattle.cert_checker.specs.Places.{Place, at_start, in_branch}
 use Rattle.cert_checker.specs.Wide.{IsMapOf, LongIdentity}
 use Rattle.completeness.specs.Full as full
 use Rattle.certificate_commands.specs.CheckJudging.{IsShort}
@@ -221,22 +222,22 @@ squares_short kept complete same = go
         ap₂ (λ gs qs. start_terms gs qs i + combination_terms (cofactors kept 0 i) gs) basis_is e
         ∙ ap (λ row. start_terms elements turned i + combination_terms row elements) (row_is i)
 
-    go : (branch i : ℕ) → LongIdentity squares kept branch i → ⊥
-    go zero i h =
+    go : (place : Place) (i : ℕ) → LongIdentity squares kept place i → ⊥
+    go at_start i h =
         let e = images_are h.images (start_map squares) started h.is start_same started_over
         started_collected in
         let a = start_is h.images 0 e ∙ start_first in
         let b = start_is h.images 1 e ∙ start_second in
         none_long (start_terms kept.basis h.images) (length kept.basis) i (ap length basis_is)
         (omega (arith, a)) (omega (arith, b)) h.long
-    go (suc zero) i h =
+    go (in_branch zero) i h =
         let e = images_are h.images (branch_map squares (get_or squares.branches 0 [])) turned h.is
         branch_same turned_over turned_collected in
         let a = step_is h.images 0 e ∙ step_first in
         let b = step_is h.images 1 e ∙ step_second in
         none_long (step_terms kept.basis h.images (get_or kept.steps 0 [])) (length kept.basis) i
         (ap length basis_is) (omega (arith, a)) (omega (arith, b)) h.long
-    go (suc (suc b)) i h = (let l = h.branch_within in absurd (omega (arith, l)))
+    go (in_branch (suc b)) i h = (let l = h.branch_within in absurd (omega (arith, l)))
 
 -- ---- full certificates
 pub full_short : (l : Program (Expr ℕ)) (c : full.FullCertificate)
@@ -249,4 +250,4 @@ full_short l c complete short path h =
       branches = refl;
       elements = λ b. refl;
       steps = λ b i. AllSame-refl ℚ (cofactors (full.certificate c) b i);
-    }) h.branch h.element h.is
+    }) h.place h.element h.is

@@ -10,6 +10,7 @@ use Rattle.loops.specs.Program.{Expr, Program}
 use Rattle.cert_form.specs.Form.{Reading, cert_in}
 use Rattle.cert_form.specs.Cert.{IsComplete}
 use Rattle.loop_model.specs.Maps.{maps_operations, AreFree}
+use Rattle.cert_checker.specs.Places.{Place}
 use Rattle.cert_checker.specs.Wide.{LongIdentity, WideIdentity}
 use Rattle.io_edge.specs.Texts.{Answer}
 use Rattle.certificate_commands.specs.CheckTexts.{Judgement, verdict, map_limit, map_wide, limit_identity, wide_identity, judgement_answer}
@@ -18,13 +19,13 @@ abbrev pub IsJudgement : Program (Expr ℕ) → Certificate → Judgement → Ty
 IsJudgement l c (verdict v) = AreFree l × IsVerdict l c v
 IsJudgement l c (map_limit at) = IsLimit (length l.names) (maps_operations l) at
 IsJudgement l c (map_wide at) = IsWide (length l.names) (maps_operations l) at
-IsJudgement l c (limit_identity branch i) = AreFree l × LongIdentity l c branch i
-IsJudgement l c (wide_identity branch i) = AreFree l × WideIdentity l c branch i
+IsJudgement l c (limit_identity place i) = AreFree l × LongIdentity l c place i
+IsJudgement l c (wide_identity place i) = AreFree l × WideIdentity l c place i
 
 abbrev pub IsShort : Program (Expr ℕ) → Certificate → Type 0
 IsShort l listed =
     (kept : Certificate) → IsComplete (length l.names) (length l.branches) kept
-    → SameCertificate kept listed → (branch i : ℕ) → ¬ (LongIdentity l kept branch i)
+    → SameCertificate kept listed → (place : Place) (i : ℕ) → ¬ (LongIdentity l kept place i)
 
 pub record Judges (l : Program (Expr ℕ)) (listed : Certificate) (a : Answer) : Type 0 where
   pub kept : Certificate

@@ -1,13 +1,13 @@
 // What the answers of `check` say.
-ghost use Rattle.std.specs.Prelude.{◌≡◌, ◌<◌, Some, option_map, IfOk};
+ghost use Rattle.std.specs.Prelude.{◌≡◌, Some, option_map, IfOk};
 ghost use Rattle.loops.specs.Certificate as certificate;
-ghost use Rattle.cert_checker.specs.Views.{verdict_of, failing_in, IsNumbered};
+ghost use Rattle.cert_checker.specs.Views.{verdict_of, place_view};
 ghost use Rattle.io_edge.specs.Views.{answer_view};
 ghost use Rattle.certificate_commands.specs.CheckViews.{judgement_of};
 ghost use Rattle.certificate_commands.specs.CheckTexts as texts;
 ghost use Rattle.certificate_commands.specs.CheckTexts.{verdict, limit_identity, wide_identity, judgement_answer};
 
-use cert_checker::{CheckError, Verdict};
+use cert_checker::{CheckError, Place, Verdict};
 use command_parts::{fault_line, ordinal};
 use io_edge::{Answer, Status, line};
 use loop_model::MapError;
@@ -15,7 +15,6 @@ use std::alloc::{AllocError, Global};
 
 /// To a certificate that was judged.
 pub(crate) fn verdict_answer(alloc: Global, outcome: Verdict) -> Result<Answer, AllocError>
-    requires { IsNumbered outcome }
     ensures { IfOk result (λ a. answer_view a ≡ judgement_answer (verdict (verdict_of outcome))) }
 {
     match outcome {
@@ -37,8 +36,8 @@ pub(crate) fn check_refusal(alloc: Global, why: CheckError) -> Result<Answer, Al
         CheckError::Map(MapError::Wide { at }) => {
             fault_line(alloc, Status::Wide, "loop: ", "wide", at)
         }
-        CheckError::Limit { branch, element } => limit_at(alloc, branch, element),
-        CheckError::Wide { branch, element } => wide_at(alloc, branch, element),
+        CheckError::Limit { place, element } => limit_at(alloc, place, element),
+        CheckError::Wide { place, element } => wide_at(alloc, place, element),
         CheckError::Map(MapError::Memory) | CheckError::Memory => Err(AllocError),
     }
 }
@@ -53,26 +52,40 @@ fn start_fails(alloc: Global, element: usize) -> Result<Answer, AllocError>
 }
 
 fn step_fails(alloc: Global, branch: usize, element: usize) -> Result<Answer, AllocError>
-    requires { 0 < branch }
     ensures { IfOk result (λ a. answer_view a ≡
-        judgement_answer (verdict (failing_in branch element))) }
+        judgement_answer (verdict (certificate.step_fails branch element))) }
 {
+    let branch = ordinal(branch);
     let element = ordinal(element);
     let text = format!(in alloc; "step fails: branch {branch}, element {element}\n")?;
     Ok(Answer::new(Status::No, text))
 }
 
-fn limit_at(alloc: Global, branch: usize, element: usize) -> Result<Answer, AllocError>
-    ensures { IfOk result (λ a. answer_view a ≡ judgement_answer (limit_identity branch element)) }
+/// The number of the branch in texts, where 0 is the start.
+fn branch_number(place: Place) -> u128
+    ensures { result ≡ texts.branch_number (place_view place) }
 {
+    match place {
+        Place::Start => 0,
+        Place::Branch(branch) => ordinal(branch),
+    }
+}
+
+fn limit_at(alloc: Global, place: Place, element: usize) -> Result<Answer, AllocError>
+    ensures { IfOk result (λ a. answer_view a ≡
+        judgement_answer (limit_identity (place_view place) element)) }
+{
+    let branch = branch_number(place);
     let element = ordinal(element);
     let text = format!(in alloc; "limit: branch {branch}, element {element}\n")?;
     Ok(Answer::new(Status::Fault, text))
 }
 
-fn wide_at(alloc: Global, branch: usize, element: usize) -> Result<Answer, AllocError>
-    ensures { IfOk result (λ a. answer_view a ≡ judgement_answer (wide_identity branch element)) }
+fn wide_at(alloc: Global, place: Place, element: usize) -> Result<Answer, AllocError>
+    ensures { IfOk result (λ a. answer_view a ≡
+        judgement_answer (wide_identity (place_view place) element)) }
 {
+    let branch = branch_number(place);
     let element = ordinal(element);
     let text = format!(in alloc; "wide: branch {branch}, element {element}\n")?;
     Ok(Answer::new(Status::Wide, text))
