@@ -169,6 +169,8 @@ def modules() -> Iterator[Finding]:
 
 
 def is_used(name: str, rest: str) -> bool:
+    if name == "◌>>=◌" and re.search(r"\bdo$", rest, re.M):
+        return True  # a block behind `do` binds by it
     if "◌" in name:
         return all(part in rest for part in name.split("◌") if part)
     return re.search(rf"(?<![\w\-]){re.escape(name)}(?!\w)", rest) is not None

@@ -14,7 +14,7 @@ use Rattle.solvable_maps.specs.Iterations.{width}
 use Rattle.loops.specs.Program.{Expr, Program}
 use Rattle.machines.specs.Collect.{collect}
 use Rattle.rounds.specs.Form.{front, orbit_order, relations, relations_to}
-use Rattle.cert_form.specs.Form.{on, after, part, list_with, shape, not_json, document, has_version, has_names}
+use Rattle.cert_form.specs.Form.{Reading, on, after, part, list_with, shape, not_json, document, has_version, has_names}
 use Rattle.cert_form.specs.Path.{member_path}
 use Rattle.cert_form.proofs.Readings.{on_ok, after_ok, expect_ok, parts_ok, parts_count}
 use Rattle.full_cert.specs.Raw.{raw_at}
@@ -22,9 +22,9 @@ use Rattle.full_cert.specs.Tables.{raws_at, table_at}
 use Rattle.completeness.specs.Stage.{Stage}
 use Rattle.completeness.specs.Full.{FullCertificate, WrittenForm, BranchStages, orbit, meet, form_of, stage_of, of_option, so_far, before, starting}
 use Rattle.completeness.specs.Counts.{IsStageCounted, IsSquare, no_branch, IsBranchCounted, IsCounted}
-use Rattle.full_cert.specs.PartsForm.{stage_at, Start, with_start_out, start_at, block_at, steps_at, base_at, polys_at, with_base, form_at, forms_at}
+use Rattle.full_cert.specs.PartsForm.{stage_at, Start, start_at, start_there, block_at, steps_at, base_at, polys_at, form_at, forms_at}
 use Rattle.full_cert.proofs.PartsCounted.{member_count, table_counted, stage_counted}
-use Rattle.full_cert.specs.Form.{member_stage, orbit_at, alone, with_orbit, branch_at, given_by, branches_at, last_given, round_at, rounds_at, rounds_in, has_kind, with_start, with_forms, with_steps, with_basis, parts_of, full_value, full_in}
+use Rattle.full_cert.specs.Form.{member_stage, orbit_at, meet_at, branch_at, given_by, branches_at, last_given, round_at, rounds_at, rounds_in, has_kind, parts_of, full_value, full_in}
 
 abbrev no_form : WrittenForm
 no_form = record { base = []; polys = [] }
@@ -34,14 +34,14 @@ abbrev MeetFollows : ℕ → Option Stage → Type 0
 MeetFollows n None = ⊥
 MeetFollows n (Some t) = IsStageCounted 1 n t
 
-abbrev MeetAs : Option ℕ → BranchStages → Type 0
-MeetAs None s = s.meet_stage ≡ None
-MeetAs (Some n) s = MeetFollows (n + length s.orbit_stage.out) s.meet_stage
+abbrev MeetAs : Option ℕ → ℕ → Option Stage → Type 0
+MeetAs None given o = o ≡ None
+MeetAs (Some n) given o = MeetFollows (n + given) o
 
 record BranchFollows (before : ℕ) (so_far : Option ℕ) (f : WrittenForm) (s : BranchStages) : Type
     0 where
   orbit : IsStageCounted (front (length f.base)) (before + suc (length f.base)) s.orbit_stage
-  meet : MeetAs so_far s
+  meet : MeetAs so_far (length s.orbit_stage.out) s.meet_stage
 
 abbrev BranchesFollow : ℕ → Option ℕ → List WrittenForm → List BranchStages → Type 0
 BranchesFollow before so_far [] [] = Unit {0}
@@ -63,28 +63,27 @@ member_counted k m gens path name d s h =
     (ok_or (get name d) (shape (member_path path name))) s h in
     stage_counted k m gens (member_path path name) stage.part s stage.gives
 
+meet_follows : (m : ℕ) (so_far : Option ℕ) (given : ℕ) (path : List ℕ) (d : Data) (o : Option Stage)
+    → meet_at m so_far given path d ≡ Ok o → MeetAs so_far given o
+meet_follows m None given path d o h = cc
+meet_follows m (Some n) given path d o h =
+    let t = on_ok _ (member_stage 1 m (n + given) path (codes "meet") d) o h in
+    let e = t.gives in
+    let same : Some t.part ≡ o = cc in
+    subst (MeetFollows (n + given)) same
+    (member_counted 1 m (n + given) path (codes "meet") d t.part t.is)
+
 branch_follows : (m before : ℕ) (so_far : Option ℕ) (f : WrittenForm) (path : List ℕ) (d : Data)
     (s : BranchStages) → branch_at m before so_far f path d ≡ Ok s → BranchFollows before so_far f s
-branch_follows m before None f path d s h =
-    let o = on_ok (λ orbit. Ok (alone orbit)) (orbit_at m before f path d) s
-    (expect_ok (is_some (as_object d)) path _ s h) in
-    let e = o.gives in
-    let same : alone o.part ≡ s = cc in
-    subst (BranchFollows before None f) same (record {
-      orbit = member_counted (front (length f.base)) m (before + suc (length f.base)) path
-          (codes "orbit") d o.part o.is;
-      meet = refl;
-    })
-branch_follows m before (Some n) f path d s h =
-    let o = on_ok (with_orbit m n path d) (orbit_at m before f path d) s
-    (expect_ok (is_some (as_object d)) path _ s h) in
-    let t = on_ok _ (member_stage 1 m (n + length o.part.out) path (codes "meet") d) s o.gives in
+branch_follows m before so_far f path d s h =
+    let o = on_ok _ (orbit_at m before f path d) s (expect_ok (is_some (as_object d)) path _ s h) in
+    let t = on_ok _ (meet_at m so_far (length o.part.out) path d) s o.gives in
     let e = t.gives in
-    let same : record { orbit_stage = o.part; meet_stage = Some t.part } ≡ s = cc in
-    subst (BranchFollows before (Some n) f) same (record {
+    let same : record { orbit_stage = o.part; meet_stage = t.part } ≡ s = cc in
+    subst (BranchFollows before so_far f) same (record {
       orbit = member_counted (front (length f.base)) m (before + suc (length f.base)) path
           (codes "orbit") d o.part o.is;
-      meet = member_counted 1 m (n + length o.part.out) path (codes "meet") d t.part t.is;
+      meet = meet_follows m so_far (length o.part.out) path d t.part t.is;
     })
 
 branches_follow : (m before : ℕ) (so_far : Option ℕ) (fs : List WrittenForm) (path : List ℕ) (b : ℕ)
@@ -304,9 +303,7 @@ square m n path d rows h =
 form_counted : (m : ℕ) (path : List ℕ) (d : Data) (f : WrittenForm) → form_at m path d ≡ Ok f
     → length f.polys ≡ m
 form_counted m path d f h =
-    let b = on_ok (with_base m path d) (base_at (member_path path (codes "base"))
-    (get (codes "base") d))
-    f
+    let b = on_ok _ (base_at (member_path path (codes "base")) (get (codes "base") d)) f
     (expect_ok (is_some (as_object d)) path _ f h) in
     let p = on_ok _ (polys_at m (length b.part) path d) f b.gives in
     let e = p.gives in
@@ -323,8 +320,7 @@ record IsStart (equations : ℕ) (s : Start) : Type 0 where
 start_counted : (m equations : ℕ) (path : List ℕ) (d : Data) (s : Start)
     → start_at m equations path d ≡ Ok s → IsStart equations s
 start_counted m equations path d s h =
-    let o = on_ok (with_start_out m equations path d)
-    (raws_at grevlex m (member_path path (codes "out")) (get (codes "out") d)) s
+    let o = on_ok _ (raws_at grevlex m (member_path path (codes "out")) (get (codes "out") d)) s
     (expect_ok (is_some (as_object d)) path _ s h) in
     let l = on_ok _ (table_at equations (length o.part) grevlex m (member_path path (codes "links"))
     (get (codes "links") d)) s o.gives in
@@ -335,6 +331,9 @@ start_counted m equations path d s h =
     subst (IsStart equations) same (record { links = t.height; widths = t.widths })
 
 -- ---- the whole
+same_ok : {A : Type 0} {a b : A} {r : Reading A} → r ≡ Ok a → r ≡ Ok b → a ≡ b
+same_ok h k = cc
+
 abbrev whole : List (Terms Fraction) → List (List (List (Terms Fraction))) → List WrittenForm
     → Start
     → List (List BranchStages) → FullCertificate
@@ -356,22 +355,18 @@ module _ {At : Type 0} (program : Program (Expr At)) where
 
   parts_counted : (d : Data) (c : FullCertificate) → parts_of program d ≡ Ok c → IsCounted program c
   parts_counted d c h =
-      let b = on_ok (with_basis program d) (raws_at grevlex m (codes "/basis")
-      (get (codes "basis") d)) c h in
-      let t = on_ok (with_steps program d b.part)
-      (steps_at m (length b.part) n (codes "/steps") (get (codes "steps") d)) c b.gives in
-      let f = on_ok (with_forms program d b.part t.part)
-      (forms_at m n (codes "/forms") (get (codes "forms") d)) c t.gives in
-      let s = on_ok (with_start program d b.part t.part f.part)
-      (on (start_at m (length program.init) (codes "/start"))
-      (ok_or (get (codes "start") d) (shape (codes "/start")))) c f.gives in
+      let b = on_ok _ (raws_at grevlex m (codes "/basis") (get (codes "basis") d)) c h in
+      let t = on_ok _ (steps_at m (length b.part) n (codes "/steps") (get (codes "steps") d)) c
+      b.gives in
+      let f = on_ok _ (forms_at m n (codes "/forms") (get (codes "forms") d)) c t.gives in
+      let s = on_ok _ (start_there m (length program.init) (codes "/start")
+      (get (codes "start") d)) c f.gives in
       let object = on_ok (start_at m (length program.init) (codes "/start"))
       (ok_or (get (codes "start") d) (shape (codes "/start"))) s.part s.is in
       let start = start_counted m (length program.init) (codes "/start") object.part s.part
       object.gives in
       let r = on_ok _ (rounds_in m (length s.part.0) f.part (codes "/rounds")
-      (get (codes "rounds") d)) c
-      s.gives in
+      (get (codes "rounds") d)) c s.gives in
       let list = on_ok (rounds_at m (length s.part.0) f.part (codes "/rounds") 0)
       (ok_or (option_and_then as_array (get (codes "rounds") d)) (shape (codes "/rounds")))
       r.part r.is in
@@ -380,8 +375,8 @@ module _ {At : Type 0} (program : Program (Expr At)) where
       let forms : length f.part ≡ n = parts_count (form_at m) (codes "/forms") n
       (option_and_then (list_with n) (get (codes "forms") d)) f.part
       (member_count n (get (codes "forms") d)) f.is in
-      let e = r.gives in
-      let same : whole b.part t.part f.part s.part r.part ≡ c = cc in
+      let same : whole b.part t.part f.part s.part r.part ≡ c =
+      same_ok {r = Ok (whole b.part t.part f.part s.part r.part)} refl r.gives in
       subst (IsCounted program) same (record {
         steps = parts_count (block_at m (length b.part)) (codes "/steps") n
             (option_and_then (list_with n) (get (codes "steps") d)) t.part

@@ -1,6 +1,6 @@
 -- What a full certificate in bytes is, from the document that they are.
 --   full_in-none     where they are none;  full_in-some: where they are one
---   terms_count, equations_count     how many polynomials and equations there are
+--   terms_count, map_count     how many polynomials there are, and elements that others are made of
 use Rattle.std.proofs.Common.{◌≡◌, ℕ, List, Err, map, length, refl, sym, ap, ◌∙◌}
 use Rattle.std.specs.Prelude.{Bool, true, false, Option, Some, None, if◌then◌else◌}
 use Rattle.std.specs.Option.{ok_or}
@@ -10,9 +10,7 @@ use Rattle.serde_json.specs.Data.{Data}
 use Rattle.serde_json.specs.Read.{read}
 use Rattle.std.specs.declared.cmp.PartialEq as PartialEq
 use Rattle.std.proofs.lemmas.List.{length-map}
-use Rattle.loops.specs.Program.{Equation, Expr, Program}
-use Rattle.loop_model.specs.Parts.{equation_of}
-use Rattle.loop_model.specs.declared.statement.Init.{Init}
+use Rattle.loops.specs.Program.{Expr, Program}
 use Rattle.ring_laws.specs.declared.Ring as Ring
 use Rattle.monos.specs.declared.order.Order as Order
 use Rattle.poly.specs.declared.Poly.{Poly}
@@ -43,6 +41,6 @@ pub terms_count : {K O : Type 0} {g : Ring.Ghosts K} {h : PartialEq.Ghosts K} {b
     {e : PartialEq.Ghosts O} (ps : List (Poly K O g h b e)) → length ps ≡ length (terms_each ps)
 terms_count ps = sym (length-map ps terms_in)
 
-pub equations_count : (found : List Init) (init : List (Equation (Expr ℕ)))
-    → map equation_of found ≡ init → length found ≡ length init
-equations_count found init is = sym (length-map found equation_of) ∙ ap length is
+pub map_count : {A B : Type 0} (f : A → B) (xs : List A) (ys : List B) → map f xs ≡ ys
+    → length xs ≡ length ys
+map_count f xs ys is = sym (length-map xs f) ∙ ap length is

@@ -31,10 +31,11 @@ use Rattle.completeness.specs.Full.{WrittenForm}
 use Rattle.completeness.specs.Representation.{pairs_of}
 use Rattle.completeness.specs.Stage.{Stage, block_order}
 use Rattle.completeness.specs.Counts.{IsStageCounted}
-use Rattle.full_cert.specs.PartsForm.{few, base_number_at, base_at, with_base, form_at, with_out, with_pairs, with_gens, with_list, stage_at, Start, with_start_out, start_at, block_at, steps_at, forms_at}
+use Rattle.full_cert.specs.PartsForm.{few, base_number_at, base_at, form_at, stage_at, Start, start_at, block_at, steps_at, forms_at}
 use Rattle.task_lists.specs.Images.{most_bases}
 use Rattle.full_cert.specs.Narrow.{IsNarrowNumber}
 use Rattle.full_cert.specs.Written.{raws_data, rows_data, steps_data, base_number_data, base_data, form_object, form_data, start_object, start_data, stage_object, stage_data}
+use Rattle.full_cert.proofs.Rest.{on_read}
 use Rattle.full_cert.proofs.NumberBack.{numeral_back}
 use Rattle.full_cert.proofs.TermBack.{raw_back}
 
@@ -93,9 +94,10 @@ module _ (O : Rank) (m : ℕ) (o : IsMonomialOrder O) where
       → raw_at O m path (raw_data p) ≡ Ok p
   poly_back path p h = raw_back O m path p o h.is h.narrow
 
-  pub raws_back : (path : List ℕ) (ps : List (Terms Fraction)) → AreReadable O m ps
-      → raws_at O m path (Some (raws_data ps)) ≡ Ok ps
-  raws_back path ps h = parts_back (raw_at O m) raw_data (IsReadable O m) poly_back path _ ps refl h
+  pub raws_back : (path : List ℕ) (d : Option Data) (ps : List (Terms Fraction))
+      → d ≡ Some (raws_data ps) → AreReadable O m ps → raws_at O m path d ≡ Ok ps
+  raws_back path d ps there h = ap (raws_at O m path) there
+      ∙ parts_back (raw_at O m) raw_data (IsReadable O m) poly_back path _ ps refl h
 
   row_with : (n : ℕ) (path : List ℕ) (row : List (Terms Fraction)) → IsRow O m n row
       → raws_with n O m path (raws_data row) ≡ Ok row
@@ -103,22 +105,20 @@ module _ (O : Rank) (m : ℕ) (o : IsMonomialOrder O) where
       parts_back (raw_at O m) raw_data (IsReadable O m) poly_back path _ row
       (with_count raw_data n row h.width) h.are
 
-  pub row_back : (n : ℕ) (path : List ℕ) (row : List (Terms Fraction)) → length row ≡ n
-      → AreReadable O m row → row_at n O m path (Some (raws_data row)) ≡ Ok row
-  row_back n path row width are = row_with n path row (record { width = width; are = are })
-
-  pub table_back : (rows n : ℕ) (path : List ℕ) (table : List (List (Terms Fraction)))
-      → IsTable O m rows n table → table_at rows n O m path (Some (rows_data table)) ≡ Ok table
-  table_back rows n path table h =
-      parts_back (raws_with n O m) raws_data (IsRow O m n) (row_with n) path _ table
+  pub table_back : (rows n : ℕ) (path : List ℕ) (d : Option Data)
+      (table : List (List (Terms Fraction))) → d ≡ Some (rows_data table)
+      → IsTable O m rows n table → table_at rows n O m path d ≡ Ok table
+  table_back rows n path d table there h =
+      ap (table_at rows n O m path) there ∙ parts_back (raws_with n O m) raws_data (IsRow O m n)
+      (row_with n) path _ table
       (with_count raws_data rows table h.height)
       (λ i d l. record { width = h.widths i d l; are = h.are i d l })
 
 -- ---- forms
-base_reads : (path : List ℕ) (base : List ℕ) → length base ≤ most_bases → All IsNarrowNumber base
-    → base_at path (Some (base_data base)) ≡ Ok base
-base_reads path base short narrow =
-    parts_back base_number_at base_number_data IsNarrowNumber
+base_reads : (path : List ℕ) (d : Option Data) (base : List ℕ) → d ≡ Some (base_data base)
+    → length base ≤ most_bases → All IsNarrowNumber base → base_at path d ≡ Ok base
+base_reads path d base there short narrow =
+    ap (base_at path) there ∙ parts_back base_number_at base_number_data IsNarrowNumber
     (λ here n small. ap (λ x. ok_or x (shape here)) (numeral_back n small)) path _ base
     (ap (λ b. if b then Some (items_of (map base_number_data base)) else None)
     (le-leb (count (items_of (map base_number_data base))) most_bases
@@ -144,18 +144,11 @@ pub form_reads : (m : ℕ) (path : List ℕ) (f : WrittenForm) → IsFormReadabl
 form_reads m path f h =
     let b : Data = base_data f.base in
     let p : Data = raws_data f.polys in
-    ap (λ x. on (with_base m path (form_data f)) (base_at (member_path path (codes "base")) x))
-    (at_base b p)
-    ∙ ap (on (with_base m path (form_data f))) (base_reads (member_path path (codes "base")) f.base
-    h.few
-    h.base)
-    ∙ ap (λ x. on (λ polys. Ok (record { base = f.base; polys = polys }))
-    (row_at m grevlex (width (length f.base) m) (member_path path (codes "polys")) x))
+    on_read _ (base_reads (member_path path (codes "base")) _ f.base (at_base b p) h.few h.base)
+    ∙ on_read _ (ap (row_at m grevlex (width (length f.base) m) (member_path path (codes "polys")))
     (at_polys b p)
-    ∙ ap (on (λ polys. Ok (record { base = f.base; polys = polys })))
-    (row_back grevlex (width (length f.base) m) grevlex_order m (member_path path (codes "polys"))
-    f.polys
-    h.count h.polys)
+    ∙ row_with grevlex (width (length f.base) m) grevlex_order m (member_path path (codes "polys"))
+    f.polys (record { width = h.count; are = h.polys }))
 
 -- ---- starts
 pub record IsStartReadable (m equations : ℕ) (s : Start) : Type 0 where
@@ -176,14 +169,10 @@ pub start_reads : (m equations : ℕ) (path : List ℕ) (s : Start) → IsStartR
 start_reads m equations path s h =
     let l : Data = rows_data s.1 in
     let o : Data = raws_data s.0 in
-    ap (λ x. on (with_start_out m equations path (start_data s))
-    (raws_at grevlex m (member_path path (codes "out")) x)) (at_start_out l o)
-    ∙ ap (on (with_start_out m equations path (start_data s)))
-    (raws_back grevlex m grevlex_order (member_path path (codes "out")) s.0 h.out)
-    ∙ ap (λ x. on (λ links. Ok (s.0, links)) (table_at equations (length s.0) grevlex m
-    (member_path path (codes "links")) x)) (at_start_links l o)
-    ∙ ap (on (λ links. Ok (s.0, links))) (table_back grevlex m grevlex_order equations
-    (length s.0) (member_path path (codes "links")) s.1 h.links)
+    on_read _ (raws_back grevlex m grevlex_order (member_path path (codes "out")) _ s.0
+    (at_start_out l o) h.out)
+    ∙ on_read _ (table_back grevlex m grevlex_order equations (length s.0)
+    (member_path path (codes "links")) _ s.1 (at_start_links l o) h.links)
 
 -- ---- stages
 pub record IsStageReadable (k m : ℕ) (s : Stage) : Type 0 where
@@ -225,43 +214,19 @@ stage_reads k m n path s o h c =
     let i : Data = raws_data s.list in
     let u : Data = raws_data s.out in
     let p : Data = rows_data s.pairs in
-    let all : Data = stage_data s in
-    ap (λ x. on (with_list k m path all n) (raws_at (block_order k) (k + m)
-    (member_path path (codes "list")) x)) (at_list g l i u p)
-    ∙ ap (on (with_list k m path all n)) (raws_back (block_order k) (k + m) o
-    (member_path path (codes "list")) s.list h.list)
-    ∙ ap (λ x. on (with_gens k m path all s.list) (table_at n (length s.list) (block_order k)
-    (k + m) (member_path path (codes "gens")) x)) (at_gens g l i u p)
-    ∙ ap (on (with_gens k m path all s.list)) (table_back (block_order k) (k + m) o n
-    (length s.list) (member_path path (codes "gens")) s.gens
+    let w : ℕ = k + m in
+    on_read _ (raws_back (block_order k) w o (member_path path (codes "list")) _ s.list
+    (at_list g l i u p) h.list)
+    ∙ on_read _ (table_back (block_order k) w o n (length s.list) (member_path path (codes "gens"))
+    _ s.gens (at_gens g l i u p)
     (record { height = c.gens; widths = c.gens_widths; are = h.gens }))
-    ∙ ap (λ x. on (with_pairs k m path all s.list s.gens)
-    (table_at (length (pairs_of (length s.list))) (length s.list) (block_order k) (k + m)
-    (member_path path (codes "pairs")) x)) (at_pairs g l i u p)
-    ∙ ap (on (with_pairs k m path all s.list s.gens)) (table_back (block_order k) (k + m) o
-    (length (pairs_of (length s.list))) (length s.list) (member_path path (codes "pairs")) s.pairs
+    ∙ on_read _ (table_back (block_order k) w o (length (pairs_of (length s.list))) (length s.list)
+    (member_path path (codes "pairs")) _ s.pairs (at_pairs g l i u p)
     (record { height = c.pairs; widths = c.pairs_widths; are = h.pairs }))
-    ∙ ap (λ x. on (with_out k m path all s.list s.gens s.pairs)
-    (raws_at grevlex m (member_path path (codes "out")) x)) (at_out g l i u p)
-    ∙ ap (on (with_out k m path all s.list s.gens s.pairs)) (raws_back grevlex m grevlex_order
-    (member_path path (codes "out")) s.out h.out)
-    ∙ ap (λ x. on (λ links. Ok (record {
-      list = s.list;
-      gens = s.gens;
-      pairs = s.pairs;
-      out = s.out;
-      links = links;
-    })) (table_at (length (free_part k s.list)) (length s.out) grevlex m
-    (member_path path (codes "links")) x))
-    (at_links g l i u p)
-    ∙ ap (on (λ links. Ok (record {
-      list = s.list;
-      gens = s.gens;
-      pairs = s.pairs;
-      out = s.out;
-      links = links;
-    }))) (table_back grevlex m grevlex_order (length (free_part k s.list)) (length s.out)
-    (member_path path (codes "links")) s.links
+    ∙ on_read _ (raws_back grevlex m grevlex_order (member_path path (codes "out")) _ s.out
+    (at_out g l i u p) h.out)
+    ∙ on_read _ (table_back grevlex m grevlex_order (length (free_part k s.list)) (length s.out)
+    (member_path path (codes "links")) _ s.links (at_links g l i u p)
     (record { height = c.links; widths = c.links_widths; are = h.links }))
 
 -- ---- of all branches
@@ -270,7 +235,7 @@ pub steps_read : (m n branches : ℕ) (path : List ℕ) (steps : List (List (Lis
     → steps_at m n branches path (Some (steps_data steps)) ≡ Ok steps
 steps_read m n branches path steps many are =
     parts_back (block_at m n) rows_data (IsTable grevlex m n n)
-    (λ here rows h. table_back grevlex m grevlex_order n n here rows h) path _ steps
+    (λ here rows h. table_back grevlex m grevlex_order n n here _ rows refl h) path _ steps
     (with_count rows_data branches steps many) are
 
 pub forms_read : (m branches : ℕ) (path : List ℕ) (forms : List WrittenForm)

@@ -19,7 +19,7 @@ use Rattle.full_cert.specs.Tables.{raws_at, raws_with, table_at}
 use Rattle.completeness.specs.Representation.{pairs_of}
 use Rattle.completeness.specs.Stage.{Stage, block_order}
 use Rattle.completeness.specs.Counts.{IsStageCounted}
-use Rattle.full_cert.specs.PartsForm.{with_list, with_gens, with_pairs, with_out, stage_at}
+use Rattle.full_cert.specs.PartsForm.{stage_at}
 
 -- the list of so many that a member is
 pub member_count : (n : ℕ) (d : Option Data) (ds : Items) → option_and_then (list_with n) d
@@ -49,17 +49,14 @@ table_counted rows n O m path d table h = record {
 pub stage_counted : (k m gens : ℕ) (path : List ℕ) (d : Data) (s : Stage)
     → stage_at k m gens path d ≡ Ok s → IsStageCounted k gens s
 stage_counted k m gens path d s h =
-    let l = on_ok (with_list k m path d gens)
-    (raws_at (block_order k) (k + m) (member_path path (codes "list")) (get (codes "list") d)) s
-    (expect_ok (is_some (as_object d)) path _ s h) in
-    let g = on_ok (with_gens k m path d l.part) (table_at gens (length l.part) (block_order k)
-    (k + m)
+    let l = on_ok _ (raws_at (block_order k) (k + m) (member_path path (codes "list"))
+    (get (codes "list") d)) s (expect_ok (is_some (as_object d)) path _ s h) in
+    let g = on_ok _ (table_at gens (length l.part) (block_order k) (k + m)
     (member_path path (codes "gens")) (get (codes "gens") d)) s l.gives in
-    let p = on_ok (with_pairs k m path d l.part g.part)
-    (table_at (length (pairs_of (length l.part))) (length l.part) (block_order k) (k + m)
-    (member_path path (codes "pairs")) (get (codes "pairs") d)) s g.gives in
-    let o = on_ok (with_out k m path d l.part g.part p.part)
-    (raws_at grevlex m (member_path path (codes "out")) (get (codes "out") d)) s p.gives in
+    let p = on_ok _ (table_at (length (pairs_of (length l.part))) (length l.part) (block_order k)
+    (k + m) (member_path path (codes "pairs")) (get (codes "pairs") d)) s g.gives in
+    let o = on_ok _ (raws_at grevlex m (member_path path (codes "out")) (get (codes "out") d)) s
+    p.gives in
     let n = on_ok _ (table_at (length (free_part k l.part)) (length o.part) grevlex m
     (member_path path (codes "links")) (get (codes "links") d)) s o.gives in
     let gs = table_counted gens (length l.part) (block_order k) (k + m)

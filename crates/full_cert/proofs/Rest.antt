@@ -1,53 +1,58 @@
--- What is left to read of a full certificate, behind its first parts.
---   with_rounds     the rounds, by what they are read as
---   from_start      the start, where it is read, and what follows
-use Rattle.std.proofs.Common.{◌≡◌, ℕ, List, Ok, length, sym, ap, ◌∙◌}
-use Rattle.std.specs.Prelude.{Option, Some, codes}
-use Rattle.std.specs.Option.{ok_or}
+-- Readings of members, one behind another.
+--   on_read         what is left behind a part that was read
+--   fault_as        a fact for a fault, from another
+--   member_as       a member is read as what stands at its path
+--   table_as        so is a list of lists, where there are as many of all
+--   BeginsWith      the first parts of a full certificate are read as these
+--   object_there    the members of an object, where the value is one
+use Rattle.std.proofs.Common.{◌≡◌, ℕ, List, length, Ok, sym, ap, ap₂, ◌∙◌}
+use Rattle.std.specs.Prelude.{Option, true, is_some, codes}
 use Rattle.serde_json.specs.Data.{Data}
-use Rattle.serde_json.specs.Find.{get}
+use Rattle.serde_json.specs.Find.{get, as_object}
 use Rattle.algebra.specs.Fraction.{Fraction}
+use Rattle.polynomials.specs.Order.{Rank, grevlex}
 use Rattle.polynomials.specs.Terms.{Terms}
 use Rattle.loops.specs.Program.{Expr, Program}
-use Rattle.cert_form.specs.Form.{Reading, on, shape}
-use Rattle.completeness.specs.Full.{FullCertificate, WrittenForm, BranchStages}
-use Rattle.full_cert.specs.PartsForm.{Start, start_at}
-use Rattle.full_cert.specs.Form.{rounds_in, with_start, with_forms}
+use Rattle.cert_form.specs.declared.error.CertError.{CertError}
+use Rattle.cert_form.specs.Form.{Fault, Reading, on, expect}
+use Rattle.cert_form.specs.Faults.{IfFault}
+use Rattle.cert_form.specs.Path.{member_path}
+use Rattle.cert_form.proofs.Each.{IfFault-map}
+use Rattle.completeness.specs.Full.{WrittenForm}
+use Rattle.full_cert.specs.Tables.{raws_at, table_at}
+use Rattle.full_cert.specs.PartsForm.{object_at, member_by, steps_at, forms_at}
 
-module _ {At : Type 0} (program : Program (Expr At)) (d : Data) (basis : List (Terms Fraction))
-    (steps : List (List (List (Terms Fraction)))) (forms : List WrittenForm) where
-  abbrev pub rounds_behind : Start → List (List BranchStages) → Reading FullCertificate
-  rounds_behind start rounds = Ok (record {
-    basis = basis;
-    steps = steps;
-    forms = forms;
-    start_out = start.0;
-    start_links = start.1;
-    rounds = rounds;
-  })
+pub on_read : {A B : Type 0} (f : A → Reading B) {r : Reading A} {a : A} → r ≡ Ok a → on f r ≡ f a
+on_read f h = ap (on f) h
 
-  pub with_rounds : (start : Start) (m before : ℕ) (fs : List WrittenForm) (o : Option Data)
-      → m ≡ length program.names → before ≡ length start.0 → fs ≡ forms
-      → o ≡ get (codes "rounds") d → (path : List ℕ) → path ≡ codes "/rounds"
-      → (r : Reading (List (List BranchStages))) → rounds_in m before fs path o ≡ r
-      → with_start program d basis steps forms start ≡ on (rounds_behind start) r
-  with_rounds start m before fs o names count same is path there r h =
-      ap (on (rounds_behind start))
-      (ap (λ k. rounds_in k (length start.0) forms (codes "/rounds") (get (codes "rounds") d))
-      (sym names)
-      ∙ ap (λ k. rounds_in m k forms (codes "/rounds") (get (codes "rounds") d)) (sym count)
-      ∙ ap (λ x. rounds_in m before x (codes "/rounds") (get (codes "rounds") d)) (sym same)
-      ∙ ap (rounds_in m before fs (codes "/rounds")) (sym is)
-      ∙ ap (λ k. rounds_in m before fs k o) (sym there) ∙ h)
+pub fault_as : (e : CertError) {P Q : Fault → Type 0} → IfFault e P → ((f : Fault) → P f → Q f)
+    → IfFault e Q
+fault_as e p h = IfFault-map e h p
 
-  pub from_start : (start : Start) (m equations : ℕ) (v : Data) → m ≡ length program.names
-      → equations ≡ length program.init → Some v ≡ get (codes "start") d
-      → (path : List ℕ) → path ≡ codes "/start" → start_at m equations path v ≡ Ok start
-      → with_start program d basis steps forms start ≡ with_forms program d basis steps forms
-  from_start start m equations v names count is path there h =
-      sym (ap (on (with_start program d basis steps forms))
-      (ap (λ o. on (start_at (length program.names) (length program.init) (codes "/start"))
-      (ok_or o (shape (codes "/start")))) (sym is)
-      ∙ ap (λ k. start_at k (length program.init) (codes "/start") v) (sym names)
-      ∙ ap (λ k. start_at m k (codes "/start") v) (sym count)
-      ∙ ap (λ k. start_at m equations k v) (sym there) ∙ h))
+pub member_as : {A : Type 0} (f : List ℕ → Option Data → Reading A) (path name : List ℕ) (d : Data)
+    {p : List ℕ} {o : Option Data} {r : Reading A} → p ≡ member_path path name → o ≡ get name d
+    → f p o ≡ r → member_by f path name d ≡ r
+member_as f path name d {p = p} at is h =
+    ap (λ x. f x (get name d)) (sym at) ∙ ap (f p) (sym is) ∙ h
+
+pub table_as : (O : Rank) (m : ℕ) (path name : List ℕ) (d : Data) {a b rows n : ℕ} {p : List ℕ}
+    {o : Option Data} {r : Reading (List (List (Terms Fraction)))} → a ≡ rows → b ≡ n
+    → p ≡ member_path path name → o ≡ get name d → table_at a b O m p o ≡ r
+    → member_by (table_at rows n O m) path name d ≡ r
+table_as O m path name d {a = a} {b = b} height width at is h =
+    ap₂ (λ x y. member_by (table_at x y O m) path name d) (sym height) (sym width)
+    ∙ member_as (table_at a b O m) path name d at is h
+
+pub object_there : {A : Type 0} (path : List ℕ) (d : Data) (r : Reading A)
+    → is_some (as_object d) ≡ true → object_at path d r ≡ r
+object_there path d r h = ap (λ b. expect b path r) h
+
+pub record BeginsWith {At : Type 0} (program : Program (Expr At)) (d : Data)
+    (basis : List (Terms Fraction)) (steps : List (List (List (Terms Fraction))))
+    (forms : List WrittenForm) : Type 0 where
+  pub basis_is : raws_at grevlex (length program.names) (codes "/basis") (get (codes "basis") d)
+      ≡ Ok basis
+  pub steps_are : steps_at (length program.names) (length basis) (length program.branches)
+      (codes "/steps") (get (codes "steps") d) ≡ Ok steps
+  pub forms_are : forms_at (length program.names) (length program.branches) (codes "/forms")
+      (get (codes "forms") d) ≡ Ok forms

@@ -16,16 +16,17 @@ use Rattle.polynomials.proofs.Orders.{grevlex_order, blocks_order}
 use Rattle.machines.specs.Collect.{collect}
 use Rattle.loops.specs.Program.{Expr, Program}
 use Rattle.rounds.specs.Form.{front, orbit_order, relations}
-use Rattle.cert_form.specs.Form.{on, after, part, shape}
+use Rattle.cert_form.specs.Form.{Reading, on, after, part, shape}
 use Rattle.cert_form.specs.Path.{member_path}
 use Rattle.cert_form.specs.Written.{list_data}
 use Rattle.completeness.specs.Stage.{Stage, block_order}
 use Rattle.completeness.specs.Full.{FullCertificate, WrittenForm, BranchStages, orbit, meet, form_of, stage_of, front_of, of_option, so_far, before, starting}
 use Rattle.completeness.specs.Counts.{IsStageCounted, no_branch, IsCounted}
-use Rattle.full_cert.specs.PartsForm.{stage_at}
-use Rattle.full_cert.specs.Form.{member_stage, alone, with_orbit, branch_at, given_by, branches_at, last_given, rounds_at, rounds_in}
+use Rattle.full_cert.specs.PartsForm.{object_at, stage_at}
+use Rattle.full_cert.specs.Form.{member_stage, meet_at, branch_at, given_by, branches_at, last_given, rounds_at, rounds_in}
 use Rattle.full_cert.proofs.Counted.{last_of, length-relations_to}
-use Rattle.full_cert.specs.Written.{stage_data, orbit_object, meet_object, branch_data, round_data}
+use Rattle.full_cert.specs.Written.{stage_data, with_meet, branch_data, round_data}
+use Rattle.full_cert.proofs.Rest.{on_read}
 use Rattle.full_cert.proofs.PartsBack.{IsStageReadable, stage_reads, with_count}
 
 block_is_order : (k : ℕ) → IsMonomialOrder (block_order k)
@@ -35,30 +36,26 @@ abbrev no_form : WrittenForm
 no_form = record { base = []; polys = [] }
 
 -- ---- a branch
-abbrev HasMeet : ℕ → Option ℕ → BranchStages → Type 0
-HasMeet m None s = s.meet_stage ≡ None
-HasMeet m (Some n) s = (t : Stage) × (s.meet_stage ≡ Some t) × IsStageReadable 1 m t
-    × IsStageCounted 1 (n + length s.orbit_stage.out) t
+abbrev HasMeet : ℕ → Option ℕ → ℕ → Option Stage → Type 0
+HasMeet m None given o = o ≡ None
+HasMeet m (Some n) given o = (t : Stage) × (o ≡ Some t) × IsStageReadable 1 m t
+    × IsStageCounted 1 (n + given) t
 
 record IsBranchReadable (m before : ℕ) (so_far : Option ℕ) (f : WrittenForm) (s : BranchStages)
     : Type 0 where
   orbit : IsStageReadable (front (length f.base)) m s.orbit_stage
   counted : IsStageCounted (front (length f.base)) (before + suc (length f.base)) s.orbit_stage
-  meet : HasMeet m so_far s
+  meet : HasMeet m so_far (length s.orbit_stage.out) s.meet_stage
 
 module _ (d : Data) where
-  at_alone : get (codes "orbit") (orbit_object d) ≡ Some d
+  at_orbit : (o : Option Stage) → get (codes "orbit") (with_meet o d) ≡ Some d
   unfolding serde_json_on_literals
-  at_alone = refl
+  at_orbit None = refl
+  at_orbit (Some t) = refl
 
-  module _ (e : Data) where
-    at_orbit : get (codes "orbit") (meet_object e d) ≡ Some d
-    unfolding serde_json_on_literals
-    at_orbit = refl
-
-    at_meet : get (codes "meet") (meet_object e d) ≡ Some e
-    unfolding serde_json_on_literals
-    at_meet = refl
+  at_meet : (t : Stage) → get (codes "meet") (with_meet (Some t) d) ≡ Some (stage_data t)
+  unfolding serde_json_on_literals
+  at_meet t = refl
 
 member_reads : (k m n : ℕ) (path name : List ℕ) (d : Data) (s : Stage)
     → get name d ≡ Some (stage_data s) → IsStageReadable k m s → IsStageCounted k n s
@@ -68,46 +65,31 @@ member_reads k m n path name d s there h c =
     there
     ∙ stage_reads k m n (member_path path name) s (block_is_order k) h c
 
-alone_reads : (m before : ℕ) (f : WrittenForm) (path : List ℕ) (o : Stage)
-    → IsStageReadable (front (length f.base)) m o
-    → IsStageCounted (front (length f.base)) (before + suc (length f.base)) o
-    → branch_at m before None f path (branch_data (alone o)) ≡ Ok (alone o)
-alone_reads m before f path o h c =
-    ap (on (λ s. Ok (alone s))) (member_reads (front (length f.base)) m
-    (before + suc (length f.base)) path (codes "orbit") (orbit_object (stage_data o)) o
-    (at_alone (stage_data o)) h c)
+an_object : (o : Option Stage) (d : Data) (path : List ℕ) (r : Reading BranchStages)
+    → object_at path (with_meet o d) r ≡ r
+an_object None d path r = refl
+an_object (Some t) d path r = refl
 
-abbrev both : Stage → Stage → BranchStages
-both o t = record { orbit_stage = o; meet_stage = Some t }
-
-both_read : (m before n : ℕ) (f : WrittenForm) (path : List ℕ) (o t : Stage)
-    → IsStageReadable (front (length f.base)) m o
-    → IsStageCounted (front (length f.base)) (before + suc (length f.base)) o
-    → IsStageReadable 1 m t → IsStageCounted 1 (n + length o.out) t
-    → branch_at m before (Some n) f path (branch_data (both o t)) ≡ Ok (both o t)
-both_read m before n f path o t h c k l =
-    let d : Data = meet_object (stage_data t) (stage_data o) in
-    ap (on (with_orbit m n path d)) (member_reads (front (length f.base)) m
-    (before + suc (length f.base)) path (codes "orbit") d o (at_orbit (stage_data o) (stage_data t))
-    h c)
-    ∙ ap (on (λ s. Ok (both o s))) (member_reads 1 m (n + length o.out) path (codes "meet") d t
-    (at_meet (stage_data o) (stage_data t)) k l)
+meet_reads : (m : ℕ) (so_far : Option ℕ) (given : ℕ) (path : List ℕ) (o : Option Stage) (d : Data)
+    → HasMeet m so_far given o → meet_at m so_far given path (with_meet o d) ≡ Ok o
+meet_reads m None given path o d h = ap (λ x. Ok x) (sym h)
+meet_reads m (Some n) given path o d h =
+    let there : get (codes "meet") (with_meet o d) ≡ Some (stage_data h.0) =
+    subst (λ x. get (codes "meet") (with_meet x d) ≡ Some (stage_data h.0)) (sym h.1)
+    (at_meet d h.0) in
+    on_read _ (member_reads 1 m (n + given) path (codes "meet") (with_meet o d) h.0 there h.2 h.3)
+    ∙ ap (λ x. Ok x) (sym h.1)
 
 branch_reads : (m before : ℕ) (so_far : Option ℕ) (f : WrittenForm) (path : List ℕ)
     (s : BranchStages)
     → IsBranchReadable m before so_far f s
     → branch_at m before so_far f path (branch_data s) ≡ Ok s
-branch_reads m before None f path s h =
-    let same : alone s.orbit_stage ≡ s =
-    sym (ap (λ x. record { orbit_stage = s.orbit_stage; meet_stage = x }) h.meet) in
-    subst (λ b. branch_at m before None f path (branch_data b) ≡ Ok b) same
-    (alone_reads m before f path s.orbit_stage h.orbit h.counted)
-branch_reads m before (Some n) f path s h =
-    let t : Stage = h.meet.0 in
-    let same : both s.orbit_stage t ≡ s =
-    sym (ap (λ x. record { orbit_stage = s.orbit_stage; meet_stage = x }) h.meet.1) in
-    subst (λ b. branch_at m before (Some n) f path (branch_data b) ≡ Ok b) same
-    (both_read m before n f path s.orbit_stage t h.orbit h.counted h.meet.2 h.meet.3)
+branch_reads m before so_far f path s h =
+    let d : Data = stage_data s.orbit_stage in
+    an_object s.meet_stage d path _
+    ∙ on_read _ (member_reads (front (length f.base)) m (before + suc (length f.base)) path
+    (codes "orbit") (branch_data s) s.orbit_stage (at_orbit d s.meet_stage) h.orbit h.counted)
+    ∙ on_read _ (meet_reads m so_far (length s.orbit_stage.out) path s.meet_stage d h.meet)
 
 -- ---- branches and rounds, one after another
 abbrev AreBranchesReadable : ℕ → ℕ → Option ℕ → List WrittenForm → List BranchStages → Type 0

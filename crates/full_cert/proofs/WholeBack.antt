@@ -3,7 +3,7 @@
 --   value_back       its value is read as it
 use Rattle.std.proofs.Common.{◌≡◌, ℕ, ◌<◌, ◌≤◌, List, [], ◌∷◌, length, map, refl, ap, ap₂, ◌∙◌, Ok}
 use Rattle.std.specs.Prelude.{All, true, false, ◌&&◌, Option, Some, codes}
-use Rattle.std.specs.Option.{ok_or, option_map_or}
+use Rattle.std.specs.Option.{option_map_or}
 use Rattle.std.proofs.lemmas.Slice.Eq.{bytes_eq-Decides}
 use Rattle.serde_json.specs.Data.{Data, string, number, unsigned}
 use Rattle.serde_json.specs.View.{items_of}
@@ -13,16 +13,16 @@ use Rattle.polynomials.specs.Order.{grevlex}
 use Rattle.polynomials.proofs.Orders.{grevlex_order}
 use Rattle.loops.specs.Program.{Expr, Program}
 use Rattle.solvable_maps.specs.Iterations.{width}
-use Rattle.cert_form.specs.Form.{on, expect, is_number, is_text, is_list_of, are_texts, has_version, has_names, shape}
+use Rattle.cert_form.specs.Form.{expect, is_number, is_text, is_list_of, are_texts, has_version, has_names}
 use Rattle.cert_form.specs.Written.{list_data}
-use Rattle.full_cert.specs.Tables.{raws_at}
 use Rattle.completeness.specs.Full.{FullCertificate, WrittenForm}
-use Rattle.full_cert.specs.PartsForm.{start_at, steps_at, forms_at}
+use Rattle.full_cert.specs.PartsForm.{start_there, steps_at, forms_at}
 use Rattle.task_lists.specs.Images.{most_bases}
 use Rattle.completeness.specs.Counts.{IsCounted}
-use Rattle.full_cert.specs.Form.{has_kind, rounds_in, with_start, with_forms, with_steps, with_basis, parts_of, full_value}
+use Rattle.full_cert.specs.Form.{has_kind, rounds_in, parts_of, full_value}
 use Rattle.full_cert.specs.Narrow.{IsNarrowNumber}
 use Rattle.full_cert.specs.Written.{raws_data, steps_data, form_data, start_data, round_data, full_object, full_data}
+use Rattle.full_cert.proofs.Rest.{on_read}
 use Rattle.full_cert.proofs.PartsBack.{AreReadable, AreRowsReadable, raws_back, steps_read, forms_read, start_reads}
 use Rattle.full_cert.proofs.RoundsBack.{AreStagesReadable, rounds_read}
 
@@ -104,70 +104,34 @@ module _ {At : Type 0} (program : Program (Expr At)) (c : FullCertificate) where
     abbrev d : Data
     d = full_data program.names c
 
-    rounds_back : with_start program d c.basis c.steps c.forms (c.start_out, c.start_links) ≡ Ok c
-    rounds_back =
-        ap (λ x. on (λ rounds. Ok (record {
-          basis = c.basis;
-          steps = c.steps;
-          forms = c.forms;
-          start_out = c.start_out;
-          start_links = c.start_links;
-          rounds = rounds;
-        })) (rounds_in m (length c.start_out) c.forms (codes "/rounds") x)) (at_rounds b f r s t v)
-        ∙ ap (on (λ rounds. Ok (record {
-          basis = c.basis;
-          steps = c.steps;
-          forms = c.forms;
-          start_out = c.start_out;
-          start_links = c.start_links;
-          rounds = rounds;
-        }))) (rounds_read program c counted h.stages some (codes "/rounds"))
-
-    start_back : with_forms program d c.basis c.steps c.forms ≡ Ok c
-    start_back =
-        ap (λ x. on (with_start program d c.basis c.steps c.forms)
-        (on (start_at m (length program.init) (codes "/start"))
-        (ok_or x (shape (codes "/start"))))) (at_start b f r s t v)
-        ∙ ap (on (with_start program d c.basis c.steps c.forms)) (start_reads m
-        (length program.init) (codes "/start") (c.start_out, c.start_links) (record {
-          out = h.out;
-          links = record { height = counted.links; widths = counted.links_widths; are = h.links };
+    parts_back : parts_of program d ≡ Ok c
+    parts_back =
+        on_read _ (raws_back grevlex m grevlex_order (codes "/basis") _ c.basis
+        (at_basis b f r s t v) h.basis)
+        ∙ on_read _ (ap (steps_at m (length c.basis) (length program.branches) (codes "/steps"))
+        (at_steps b f r s t v) ∙ steps_read m (length c.basis) (length program.branches)
+        (codes "/steps") c.steps counted.steps (λ i e l. record {
+          height = (counted.squares i e l).height;
+          widths = (counted.squares i e l).widths;
+          are = h.steps i e l;
         }))
-        ∙ rounds_back
-
-    forms_back : with_steps program d c.basis c.steps ≡ Ok c
-    forms_back =
-        ap (λ x. on (with_forms program d c.basis c.steps)
-        (forms_at m (length program.branches) (codes "/forms") x)) (at_forms b f r s t v)
-        ∙ ap (on (with_forms program d c.basis c.steps)) (forms_read m (length program.branches)
-        (codes "/forms") c.forms counted.forms (λ i e l. record {
+        ∙ on_read _ (ap (forms_at m (length program.branches) (codes "/forms"))
+        (at_forms b f r s t v) ∙ forms_read m (length program.branches) (codes "/forms") c.forms
+        counted.forms (λ i e l. record {
           few = h.few i e l;
           base = h.bases i e l;
           count = counted.polys i e l;
           polys = h.polys i e l;
         }))
-        ∙ start_back
-
-    steps_back : with_basis program d c.basis ≡ Ok c
-    steps_back =
-        ap (λ x. on (with_steps program d c.basis)
-        (steps_at m (length c.basis) (length program.branches) (codes "/steps") x))
-        (at_steps b f r s t v)
-        ∙ ap (on (with_steps program d c.basis)) (steps_read m (length c.basis)
-        (length program.branches) (codes "/steps") c.steps counted.steps (λ i e l. record {
-          height = (counted.squares i e l).height;
-          widths = (counted.squares i e l).widths;
-          are = h.steps i e l;
+        ∙ on_read _ (ap (start_there m (length program.init) (codes "/start"))
+        (at_start b f r s t v) ∙ start_reads m (length program.init) (codes "/start")
+        (c.start_out, c.start_links) (record {
+          out = h.out;
+          links = record { height = counted.links; widths = counted.links_widths; are = h.links };
         }))
-        ∙ forms_back
-
-    basis_back : parts_of program d ≡ Ok c
-    basis_back =
-        ap (λ x. on (with_basis program d) (raws_at grevlex m (codes "/basis") x))
-        (at_basis b f r s t v)
-        ∙ ap (on (with_basis program d)) (raws_back grevlex m grevlex_order (codes "/basis") c.basis
-        h.basis)
-        ∙ steps_back
+        ∙ on_read _ (ap (rounds_in m (length c.start_out) c.forms (codes "/rounds"))
+        (at_rounds b f r s t v)
+        ∙ rounds_read program c counted h.stages some (codes "/rounds"))
 
     version_there : has_version 1 d ≡ true
     version_there = ap (λ o. option_map_or (is_number 1) o false) (at_version b f r s t v)
@@ -187,7 +151,7 @@ module _ {At : Type 0} (program : Program (Expr At)) (c : FullCertificate) where
         ∙ ap (λ x. expect x (codes "/kind") (expect (has_names program.names d) (codes "/vars")
         (parts_of program d))) kind_there
         ∙ ap (λ x. expect x (codes "/vars") (parts_of program d)) names_there
-        ∙ basis_back
+        ∙ parts_back
 
     pub value_back : full_value program (full_data names c) ≡ Ok c
     value_back = ap (λ ns. full_value program (full_data ns c)) same ∙ value_there

@@ -1,5 +1,6 @@
 -- What a full certificate is in JSON, and where its first fault stands.
 --   member_stage               a stage, the member of an object
+--   meet_at m s n path d       the intersection, where the orbit gives n polynomials, and s is the number of those so far: none for the first branch
 --   branch_at m before s f path d     the stages of a branch with the form f, where the list before the round has `before` polynomials; s is the number of those
 --                              so far, and none for the first branch
 --   branches_at, rounds_at     the stages of the branches with the forms, the first at place b; the rounds, the first at place r
@@ -12,9 +13,7 @@ use Rattle.std.specs.Prelude.{Bool, ℕ, suc, ◌+◌, ◌^◌, List, [], ◌∷
 use Rattle.std.specs.Option.{ok_or, option_map_or}
 use Rattle.serde_json.specs.Data.{Data, Items, no_items, item}
 use Rattle.serde_json.specs.Find.{get, as_object, as_array}
-use Rattle.algebra.specs.Fraction.{Fraction}
 use Rattle.polynomials.specs.Order.{grevlex}
-use Rattle.polynomials.specs.Terms.{Terms}
 use Rattle.loops.specs.Program.{Expr, Program}
 use Rattle.rounds.specs.Form.{front}
 use Rattle.cert_form.specs.Form.{Reading, on, after, part, expect, list_with, is_text, has_version, has_names, not_json, shape, document}
@@ -22,7 +21,7 @@ use Rattle.cert_form.specs.Path.{member_path}
 use Rattle.full_cert.specs.Tables.{raws_at}
 use Rattle.completeness.specs.Stage.{Stage}
 use Rattle.completeness.specs.Full.{FullCertificate, WrittenForm, BranchStages}
-use Rattle.full_cert.specs.PartsForm.{object_at, stage_at, Start, start_at, steps_at, forms_at}
+use Rattle.full_cert.specs.PartsForm.{◌>>=◌, object_at, stage_at, start_there, steps_at, forms_at}
 
 abbrev pub member_stage : ℕ → ℕ → ℕ → List ℕ → List ℕ → Data → Reading Stage
 member_stage k m gens path name d =
@@ -37,19 +36,17 @@ abbrev pub orbit_at : ℕ → ℕ → WrittenForm → List ℕ → Data → Read
 orbit_at m before f path d =
     member_stage (front (length f.base)) m (before + suc (length f.base)) path (codes "orbit") d
 
-abbrev pub alone : Stage → BranchStages
-alone s = record { orbit_stage = s; meet_stage = None }
-
-abbrev pub with_orbit : ℕ → ℕ → List ℕ → Data → Stage → Reading BranchStages
-with_orbit m so_far path d orbit =
-    on (λ meet. Ok (record { orbit_stage = orbit; meet_stage = Some meet }))
-    (member_stage 1 m (so_far + length orbit.out) path (codes "meet") d)
+abbrev pub meet_at : ℕ → Option ℕ → ℕ → List ℕ → Data → Reading (Option Stage)
+meet_at m None given path d = Ok None
+meet_at m (Some so_far) given path d = do
+  meet ← member_stage 1 m (so_far + given) path (codes "meet") d
+  Ok (Some meet)
 
 abbrev pub branch_at : ℕ → ℕ → Option ℕ → WrittenForm → List ℕ → Data → Reading BranchStages
-branch_at m before None f path d =
-    object_at path d (on (λ orbit. Ok (alone orbit)) (orbit_at m before f path d))
-branch_at m before (Some so_far) f path d =
-    object_at path d (on (with_orbit m so_far path d) (orbit_at m before f path d))
+branch_at m before so_far f path d = object_at path d do
+  orbit ← orbit_at m before f path d
+  meet ← meet_at m so_far (length orbit.out) path d
+  Ok (record { orbit_stage = orbit; meet_stage = meet })
 
 -- how many polynomials the list so far has behind these stages
 abbrev pub given_by : BranchStages → ℕ
@@ -89,45 +86,23 @@ abbrev pub has_kind : Data → Bool
 has_kind d = option_map_or (is_text (codes "full")) (get (codes "kind") d) false
 
 module _ {At : Type 0} (program : Program (Expr At)) (d : Data) where
-  abbrev pub with_start : List (Terms Fraction) → List (List (List (Terms Fraction)))
-      → List WrittenForm
-      → Start → Reading FullCertificate
-  with_start basis steps forms start =
-      on (λ rounds. Ok (record {
-        basis = basis;
-        steps = steps;
-        forms = forms;
-        start_out = start.0;
-        start_links = start.1;
-        rounds = rounds;
-      }))
-      (rounds_in (length program.names) (length start.0) forms (codes "/rounds")
-      (get (codes "rounds") d))
-
-  abbrev pub with_forms : List (Terms Fraction) → List (List (List (Terms Fraction)))
-      → List WrittenForm
-      → Reading FullCertificate
-  with_forms basis steps forms =
-      on (with_start basis steps forms)
-      (on (start_at (length program.names) (length program.init) (codes "/start"))
-      (ok_or (get (codes "start") d) (shape (codes "/start"))))
-
-  abbrev pub with_steps : List (Terms Fraction) → List (List (List (Terms Fraction)))
-      → Reading FullCertificate
-  with_steps basis steps =
-      on (with_forms basis steps)
-      (forms_at (length program.names) (length program.branches) (codes "/forms")
-      (get (codes "forms") d))
-
-  abbrev pub with_basis : List (Terms Fraction) → Reading FullCertificate
-  with_basis basis =
-      on (with_steps basis)
-      (steps_at (length program.names) (length basis) (length program.branches) (codes "/steps")
-      (get (codes "steps") d))
-
   abbrev pub parts_of : Reading FullCertificate
-  parts_of = on with_basis
-      (raws_at grevlex (length program.names) (codes "/basis") (get (codes "basis") d))
+  parts_of = do
+    let m = length program.names
+    let n = length program.branches
+    basis ← raws_at grevlex m (codes "/basis") (get (codes "basis") d)
+    steps ← steps_at m (length basis) n (codes "/steps") (get (codes "steps") d)
+    forms ← forms_at m n (codes "/forms") (get (codes "forms") d)
+    (out, links) ← start_there m (length program.init) (codes "/start") (get (codes "start") d)
+    rounds ← rounds_in m (length out) forms (codes "/rounds") (get (codes "rounds") d)
+    Ok (record {
+      basis = basis;
+      steps = steps;
+      forms = forms;
+      start_out = out;
+      start_links = links;
+      rounds = rounds;
+    })
 
   abbrev pub full_value : Reading FullCertificate
   full_value =

@@ -1,5 +1,6 @@
 //! The stages of branches and rounds, read.
 ghost use Rattle.std.specs.Prelude.{◌≡◌, ◌≤◌, ◌<◌, ◌+◌, Ok, Err, Some, None, All, length, vec_len, map, IfOk, IfErr, IfSome};
+ghost use Rattle.std.specs.Option.{option_map};
 ghost use Rattle.serde_json.specs.View.{view, items_view};
 ghost use Rattle.rounds.specs.Form.{front};
 ghost use Rattle.cert_form.specs.Faults.{IfFault};
@@ -72,85 +73,33 @@ fn read_orbit<'a>(
     )
 }
 
-// The stages of the first branch, which has no intersection.
-fn read_first<'a>(
+// The intersection of a further branch, where the list so far has so many polynomials and its orbit gives so many.
+fn read_meet<'a>(
     alloc: Global,
     path: &'a Path<'a>,
     value: &Value,
     variables: usize,
-    before: usize,
-    form: &FullForm,
-) -> Result<FullBranch, CertError>
+    so_far: Option<usize>,
+    given: usize,
+) -> Result<Option<FullStage>, CertError>
     requires variables { variables ≤ most_loop_variables }
-    requires few { vec_len form.now.base ≤ most_bases }
-    requires short { before < given_bound }
-    ensures images { IfOk result (IsBranchIn variables form.now) }
-    ensures ok { IfOk result (λ b. spec.branch_at variables before None (form_in form.now)
-        (path_bytes path.now) (view value.now) ≡ Ok (branch_in b)) }
-    ensures fault { IfErr result (λ e. IfFault e (λ f. spec.branch_at variables before None
-        (form_in form.now) (path_bytes path.now) (view value.now) ≡ Err f)) }
+    requires short { given < given_bound }
+    requires short_so_far { IfSome so_far (λ n. n < given_bound) }
+    ensures images { IfOk result (λ meet. IfSome meet (IsStageIn 1 variables)) }
+    ensures ok { IfOk result (λ meet. spec.meet_at variables so_far given (path_bytes path.now)
+        (view value.now) ≡ Ok (option_map stage_in meet)) }
+    ensures fault { IfErr result (λ e. IfFault e (λ f. spec.meet_at variables so_far given
+        (path_bytes path.now) (view value.now) ≡ Err f)) }
 {
-    if !value.is_object() {
-        return Err(shape_at(alloc, path));
-    }
-    let orbit = read_orbit(alloc, path, value, variables, before, form)?;
-    Ok(FullBranch { orbit, meet: None })
-}
-
-// The stages of a branch with this orbit, where the list so far has so many polynomials.
-fn with_orbit<'a>(
-    alloc: Global,
-    path: &'a Path<'a>,
-    value: &Value,
-    variables: usize,
-    so_far: usize,
-    orbit: FullStage,
-) -> Result<FullBranch, CertError>
-    requires variables { variables ≤ most_loop_variables }
-    requires short { so_far < given_bound }
-    ensures orbit { IfOk result (λ b. b.orbit ≡ orbit) }
-    ensures meet { IfOk result (λ b. IfSome b.meet (IsStageIn 1 variables)) }
-    ensures ok { IfOk result (λ b. spec.with_orbit variables so_far (path_bytes path.now)
-        (view value.now) (stage_in orbit) ≡ Ok (branch_in b)) }
-    ensures fault { IfErr result (λ e. IfFault e (λ f. spec.with_orbit variables so_far
-        (path_bytes path.now) (view value.now) (stage_in orbit) ≡ Err f)) }
-{
-    let gens = so_far + orbit.out.len();
+    let Some(count) = so_far else {
+        return Ok(None);
+    };
+    let gens = count + given;
     let meet = read_member(alloc, path, value, "meet", 1, variables, gens)?;
-    Ok(FullBranch {
-        orbit,
-        meet: Some(meet),
-    })
+    Ok(Some(meet))
 }
 
-// The stages of a further branch.
-fn read_further<'a>(
-    alloc: Global,
-    path: &'a Path<'a>,
-    value: &Value,
-    variables: usize,
-    before: usize,
-    so_far: usize,
-    form: &FullForm,
-) -> Result<FullBranch, CertError>
-    requires variables { variables ≤ most_loop_variables }
-    requires few { vec_len form.now.base ≤ most_bases }
-    requires short { before < given_bound }
-    requires short_so_far { so_far < given_bound }
-    ensures images { IfOk result (IsBranchIn variables form.now) }
-    ensures ok { IfOk result (λ b. spec.branch_at variables before (Some so_far)
-        (form_in form.now) (path_bytes path.now) (view value.now) ≡ Ok (branch_in b)) }
-    ensures fault { IfErr result (λ e. IfFault e (λ f. spec.branch_at variables before
-        (Some so_far) (form_in form.now) (path_bytes path.now) (view value.now) ≡ Err f)) }
-{
-    if !value.is_object() {
-        return Err(shape_at(alloc, path));
-    }
-    let orbit = read_orbit(alloc, path, value, variables, before, form)?;
-    with_orbit(alloc, path, value, variables, so_far, orbit)
-}
-
-// The stages of a branch: a further one where there is a list so far.
+// The stages of a branch, with an intersection where there is a list so far.
 fn read_branch<'a>(
     alloc: Global,
     path: &'a Path<'a>,
@@ -170,10 +119,12 @@ fn read_branch<'a>(
     ensures fault { IfErr result (λ e. IfFault e (λ f. spec.branch_at variables before so_far
         (form_in form.now) (path_bytes path.now) (view value.now) ≡ Err f)) }
 {
-    match so_far {
-        None => read_first(alloc, path, value, variables, before, form),
-        Some(count) => read_further(alloc, path, value, variables, before, count, form),
+    if !value.is_object() {
+        return Err(shape_at(alloc, path));
     }
+    let orbit = read_orbit(alloc, path, value, variables, before, form)?;
+    let meet = read_meet(alloc, path, value, variables, so_far, orbit.out.len())?;
+    Ok(FullBranch { orbit, meet })
 }
 
 // How many polynomials the list so far has behind these stages.

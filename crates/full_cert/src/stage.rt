@@ -13,7 +13,7 @@ ghost use Rattle.cert_form.specs.Path.{path_bytes};
 ghost use Rattle.full_cert.specs.Tables.{table_at};
 ghost use Rattle.task_lists.specs.Rows.{rows_of};
 ghost use Rattle.full_cert.specs.PartsForm as spec;
-ghost use Rattle.task_lists.specs.Images.{AreBlockPolys, AreBlockRows, ArePolys, IsStageIn};
+ghost use Rattle.task_lists.specs.Images.{AreBlockRows, IsStageIn};
 ghost use Rattle.task_lists.specs.View.{stage_in};
 
 use crate::{list_in, read_raws, read_rows, read_table};
@@ -94,143 +94,6 @@ fn read_pairs<'a>(
     read_rows(alloc, path, list, count, Blocks { first: front }, arity)
 }
 
-// The stage of these parts, with its links.
-fn with_out<'a>(
-    alloc: Global,
-    path: &'a Path<'a>,
-    value: &Value,
-    front: usize,
-    variables: usize,
-    list: BlockPolys,
-    gens: Vec<BlockPolys>,
-    pairs: Vec<BlockPolys>,
-    out: Polys,
-) -> Result<FullStage, CertError>
-    requires few { front + variables ≤ most_variables }
-    requires list { AreBlockPolys front (front + variables) list }
-    requires gens { AreBlockRows front (front + variables) gens }
-    requires pairs { AreBlockRows front (front + variables) pairs }
-    requires out { ArePolys variables out }
-    ensures images { IfOk result (IsStageIn front variables) }
-    ensures ok { IfOk result (λ s. spec.with_out front variables (path_bytes path.now)
-        (view value.now) (terms_each list.items) (rows_of gens.items) (rows_of pairs.items)
-        (terms_each out.items) ≡ Ok (stage_in s)) }
-    ensures fault { IfErr result (λ e. IfFault e (λ f. spec.with_out front variables
-        (path_bytes path.now) (view value.now) (terms_each list.items) (rows_of gens.items)
-        (rows_of pairs.items) (terms_each out.items) ≡ Err f)) }
-{
-    let place = Path::Member(path, "links");
-    let free = free_count(&list, front);
-    let links = read_table(
-        alloc,
-        &place,
-        value.get("links"),
-        free,
-        out.len(),
-        Grevlex,
-        variables,
-    )?;
-    Ok(FullStage {
-        list,
-        gens,
-        pairs,
-        out,
-        links,
-    })
-}
-
-// The stage of these parts, with what it gives and its links.
-fn with_pairs<'a>(
-    alloc: Global,
-    path: &'a Path<'a>,
-    value: &Value,
-    front: usize,
-    variables: usize,
-    list: BlockPolys,
-    gens: Vec<BlockPolys>,
-    pairs: Vec<BlockPolys>,
-) -> Result<FullStage, CertError>
-    requires few { front + variables ≤ most_variables }
-    requires list { AreBlockPolys front (front + variables) list }
-    requires gens { AreBlockRows front (front + variables) gens }
-    requires pairs { AreBlockRows front (front + variables) pairs }
-    ensures images { IfOk result (IsStageIn front variables) }
-    ensures ok { IfOk result (λ s. spec.with_pairs front variables (path_bytes path.now)
-        (view value.now) (terms_each list.items) (rows_of gens.items) (rows_of pairs.items)
-        ≡ Ok (stage_in s)) }
-    ensures fault { IfErr result (λ e. IfFault e (λ f. spec.with_pairs front variables
-        (path_bytes path.now) (view value.now) (terms_each list.items) (rows_of gens.items)
-        (rows_of pairs.items) ≡ Err f)) }
-{
-    let place = Path::Member(path, "out");
-    let out = read_raws(alloc, &place, value.get("out"), Grevlex, variables)?;
-    with_out(alloc, path, value, front, variables, list, gens, pairs, out)
-}
-
-// The stage of these parts, with its pairs and what follows.
-fn with_gens<'a>(
-    alloc: Global,
-    path: &'a Path<'a>,
-    value: &Value,
-    front: usize,
-    variables: usize,
-    list: BlockPolys,
-    gens: Vec<BlockPolys>,
-) -> Result<FullStage, CertError>
-    requires few { front + variables ≤ most_variables }
-    requires list { AreBlockPolys front (front + variables) list }
-    requires gens { AreBlockRows front (front + variables) gens }
-    ensures images { IfOk result (IsStageIn front variables) }
-    ensures ok { IfOk result (λ s. spec.with_gens front variables (path_bytes path.now)
-        (view value.now) (terms_each list.items) (rows_of gens.items) ≡ Ok (stage_in s)) }
-    ensures fault { IfErr result (λ e. IfFault e (λ f. spec.with_gens front variables
-        (path_bytes path.now) (view value.now) (terms_each list.items) (rows_of gens.items)
-        ≡ Err f)) }
-{
-    let place = Path::Member(path, "pairs");
-    let pairs = read_pairs(
-        alloc,
-        &place,
-        value.get("pairs"),
-        list.len(),
-        front,
-        front + variables,
-    )?;
-    with_pairs(alloc, path, value, front, variables, list, gens, pairs)
-}
-
-// The stage of this list, with its other parts.
-fn with_list<'a>(
-    alloc: Global,
-    path: &'a Path<'a>,
-    value: &Value,
-    front: usize,
-    variables: usize,
-    gens: usize,
-    list: BlockPolys,
-) -> Result<FullStage, CertError>
-    requires few { front + variables ≤ most_variables }
-    requires list { AreBlockPolys front (front + variables) list }
-    ensures images { IfOk result (IsStageIn front variables) }
-    ensures ok { IfOk result (λ s. spec.with_list front variables (path_bytes path.now)
-        (view value.now) gens (terms_each list.items) ≡ Ok (stage_in s)) }
-    ensures fault { IfErr result (λ e. IfFault e (λ f. spec.with_list front variables
-        (path_bytes path.now) (view value.now) gens (terms_each list.items) ≡ Err f)) }
-{
-    let place = Path::Member(path, "gens");
-    let order = Blocks { first: front };
-    let gens = read_table(
-        alloc,
-        &place,
-        value.get("gens"),
-        gens,
-        list.len(),
-        order,
-        front + variables,
-    )?;
-    with_gens(alloc, path, value, front, variables, list, gens)
-}
-
 /// The stage that eliminates the first variables and begins with so many polynomials.
 pub fn read_stage<'a>(
     alloc: Global,
@@ -250,8 +113,26 @@ pub fn read_stage<'a>(
     if !value.is_object() {
         return Err(shape_at(alloc, path));
     }
+    let (order, arity) = (Blocks { first: front }, front + variables);
     let place = Path::Member(path, "list");
-    let order = Blocks { first: front };
-    let list = read_raws(alloc, &place, value.get("list"), order, front + variables)?;
-    with_list(alloc, path, value, front, variables, gens, list)
+    let list = read_raws(alloc, &place, value.get("list"), order, arity)?;
+    let count = list.len();
+    let place = Path::Member(path, "gens");
+    let rows = value.get("gens");
+    let gens = read_table(alloc, &place, rows, gens, count, order, arity)?;
+    let place = Path::Member(path, "pairs");
+    let pairs = read_pairs(alloc, &place, value.get("pairs"), count, front, arity)?;
+    let place = Path::Member(path, "out");
+    let out = read_raws(alloc, &place, value.get("out"), Grevlex, variables)?;
+    let place = Path::Member(path, "links");
+    let free = free_count(&list, front);
+    let rows = value.get("links");
+    let links = read_table(alloc, &place, rows, free, out.len(), Grevlex, variables)?;
+    Ok(FullStage {
+        list,
+        gens,
+        pairs,
+        out,
+        links,
+    })
 }
