@@ -97,11 +97,15 @@ TWELVE_SUMS = ("vars a, b, c, d, e, f, g, h, i, j, k, l; init a=0; branch { "
 TWELVE_SQUARES = certificate(list("abcdefghijkl"), ["*".join(f"{name}^2" for name in "abcdefghijkl")], [[["1"]]])
 
 
+def random_exponents(terms, seed):
+    """This many lists of three large exponents, in ascending order."""
+    random.seed(seed)
+    return sorted({tuple(random.randrange(1, 30_000) for _ in range(3)) for _ in range(terms)})
+
+
 def random_sum(terms, seed):
     """A sum of this many terms in three variables with large exponents, each of them a multiple of x."""
-    random.seed(seed)
-    exponents = {tuple(random.randrange(1, 30_000) for _ in range(3)) for _ in range(terms)}
-    return "+".join(f"x^{a}*y^{b}*z^{c}" for a, b, c in sorted(exponents))
+    return "+".join(f"x^{a}*y^{b}*z^{c}" for a, b, c in random_exponents(terms, seed))
 
 
 def long_product():
@@ -116,6 +120,40 @@ def cancelling_products(branches, terms, cofactor_terms):
     cofactor = "+".join(f"x^{exponent}" for exponent in range(2, cofactor_terms + 2))
     opposite = "-" + cofactor.replace("+", "-")
     return certificate(names, ["0", long, long], [[["0", cofactor, opposite], ["0", "1", "0"], ["0", "0", "1"]]] * branches)
+
+
+def full_certificate(names, polys, out, links):
+    """The text of a full certificate without elements, of a branch whose form has these polynomials, with this start and no rounds."""
+    return json.dumps({"version": 1, "kind": "full", "vars": names, "basis": [], "steps": [[]], "forms": [{"base": [], "polys": polys}],
+                       "start": {"out": out, "links": links}, "rounds": []}, separators=(",", ":"))
+
+
+def unit(place, variables):
+    """The exponents of one variable."""
+    return [int(other == place) for other in range(variables)]
+
+
+def still(count):
+    """The form of a branch that leaves its variables as they are, over n, s and the variables."""
+    return [[["1", unit(place + 2, count + 2)]] for place in range(count)]
+
+
+def long_form():
+    """A form whose first polynomial has twelve terms, for a branch that raises the first variable to the sixteenth power."""
+    drift = [["1", [1, 0] + unit(place, 12)] for place in range(1, 12)]
+    return full_certificate(list(NAMES), [still(12)[0] + drift] + still(12)[1:], [], [])
+
+
+def long_form_later():
+    """A form of 11,000 terms with n^99, each of which is a hundred at n + 1."""
+    drift = [["1", [99, 0, exponent]] for exponent in range(1, 11_000)]
+    return full_certificate(["a"], [still(1)[0] + drift], [], [])
+
+
+def long_start():
+    """A start of one equation whose two parts have 3,000 terms each."""
+    out, link = ([["1", exponents] for exponents in random_exponents(3000, seed)] for seed in (1, 2))
+    return full_certificate(list("xyz"), still(3), [out], [[link]])
 
 
 # Loops whose analysis takes more steps than the usual budget: none of their numbers is too wide before.
@@ -155,6 +193,13 @@ def main():
             pathlib.Path("some.loop").write_text(loop)
             pathlib.Path("some.json").write_text(text)
             row(f"check of {what}, in {len(text)} bytes", ["check", "some.loop", "some.json"], status, seconds, megabytes, 1)
+        for what, loop, text in (
+                ("a form of twelve terms in a sixteenth power", f"vars {', '.join(NAMES)}; branch {{ a=a^12*a^4; }}", long_form()),
+                ("a form of 11,000 terms with n^99", "vars a; branch { }", long_form_later()),
+                ("a start whose two parts have 3,000 terms", "vars x, y, z; init x=0; branch { }", long_start())):
+            pathlib.Path("some.loop").write_text(loop)
+            pathlib.Path("some.json").write_text(text)
+            row(f"checkfull of {what}, in {len(text)} bytes", ["checkfull", "some.loop", "some.json"], 3, 1, 100, 1)
         pathlib.Path("turns.loop").write_text(
             "vars a, b, c, d, e, f, g, h, i, j, k, l; branch { a=a+1; b=b+a; c=c+b; d=d+c; e=e+2*a; f=f-e; g=g+1/2; h=h+a*b; i=i+g; j=j-a; k=k+3*e; l=l+2; }")
         row("run of 4096 letters over 12 variables", ["run", "turns.loop", ",".join(["1"] * 4096), twelve], 0, 0.5)

@@ -11,6 +11,8 @@ pub mod Bases
 pub mod Normal
 pub mod Passings
 pub mod Stopping
+pub mod PartTotals
+mod StageTotals
 pub mod StageSteps
 pub mod Placed
 pub mod Branches
@@ -21,3 +23,4 @@ pub mod Begun
 pub mod StartLists
 pub mod Kept
 mod FullOver
+pub mod Counted

@@ -6,7 +6,7 @@
 --   normal_same, next_same     what is made normal, and what is had at n + 1
 --   same_tells        whether what two polynomials stand for is the same
 --   moved_past        where a composition's polynomial is past, the composition is
-use Rattle.std.proofs.Common.{◌≡◌, ◌↔◌, inl, ℕ, ◌+◌, ◌-◌, ◌<◌, ◌≤◌, Bool, true, false, List, [], ◌∷◌, ◌++◌, length, get_or, take, drop, take-append-drop, IsTrue, refl, sym, ap, ap₂, subst, subst₂, ◌∙◌, arith, true≢false}
+use Rattle.std.proofs.Common.{◌≡◌, ◌↔◌, inl, ℕ, ◌-◌, ◌<◌, ◌≤◌, Bool, true, false, List, [], ◌∷◌, ◌++◌, length, get_or, take, drop, take-append-drop, IsTrue, refl, sym, ap, ap₂, subst, subst₂, ◌∙◌, arith, true≢false}
 use Rattle.std.specs.Prelude.{All}
 use Rattle.algebra.specs.Each.{Each}
 use Rattle.algebra.specs.Fraction.{Fraction, ℚ, rationals, fractions, fraction_size}
@@ -15,7 +15,7 @@ use Rattle.algebra.proofs.Fractions.{ℚ_ring, ℚ_field, fractions_ring}
 use Rattle.algebra.proofs.SizeLaws.{fractions_bounded, past_under}
 use Rattle.polynomials.specs.Order.{grevlex}
 use Rattle.polynomials.specs.Polynomial.{Arity}
-use Rattle.polynomials.specs.Terms.{Terms, Same, variables, compose}
+use Rattle.polynomials.specs.Terms.{Terms, Same, compose}
 use Rattle.polynomials.specs.Weight.{weight, composition_weight, IsPastComposition}
 use Rattle.polynomials.proofs.Orders.{grevlex_order}
 use Rattle.polynomials.proofs.Past.{composition_under}

@@ -1,4 +1,5 @@
 -- The judging of parts, one after another.
+--   from_zero, one_more          the numbers below n, cut at one of them, and one more
 --   behind_in, stop_in           where it stops within some of the parts, behind those that hold, it stops so
 --   numbers_hold, numbered, numbers_stop   parts that are numbered
 --   more_hold, here_stops        the number that comes next, by what is told of it
@@ -33,7 +34,7 @@ numbers-split lo (suc i) (suc n) l =
     ap (λ xs. lo ∷ xs) (numbers-split (suc lo) i n (omega arith))
     ∙ ap₂ (λ x y. lo ∷ (numbers (suc lo) i ++ x ∷ numbers (suc x) y)) e d
 
-from_zero : (i n : ℕ) → i < n → numbers 0 n ≡ numbers 0 i ++ i ∷ numbers (suc i) (n - suc i)
+pub from_zero : (i n : ℕ) → i < n → numbers 0 n ≡ numbers 0 i ++ i ∷ numbers (suc i) (n - suc i)
 from_zero i n l =
     let z : 0 + i ≡ i = omega arith in
     numbers-split 0 i n l
@@ -43,6 +44,9 @@ zero-push : (n : ℕ) → numbers 0 (suc n) ≡ numbers 0 n ++ n ∷ []
 zero-push n =
     let z : 0 + n ≡ n = omega arith in
     numbers-push 0 n ∙ ap (λ k. numbers 0 n ++ k ∷ []) z
+
+pub one_more : (n : ℕ) → numbers 0 (n + 1) ≡ numbers 0 n ++ n ∷ []
+one_more n = ap (numbers 0) (add-one n) ∙ zero-push n
 
 -- ---- within other parts
 module _ {A : Type 0} (P : A → Type 0) where
@@ -165,9 +169,8 @@ module _ {A : Type 0} (P : A → Type 0) (parts : ℕ → List A) where
   pub several_hold : (i : ℕ) → Each P (flat_map parts (numbers 0 i)) → Each P (parts i)
       → Each P (flat_map parts (numbers 0 (i + 1)))
   several_hold i h k =
-      let next : numbers 0 (i + 1) ≡ numbers 0 i ++ i ∷ [] = ap (numbers 0) (add-one i)
-      ∙ zero-push i in
-      subst (Each P) (sym (ap (flat_map parts) next ∙ flat_map-append parts (numbers 0 i) (i ∷ [])
+      subst (Each P) (sym (ap (flat_map parts) (one_more i)
+      ∙ flat_map-append parts (numbers 0 i) (i ∷ [])
       ∙ ap (λ t. flat_map parts (numbers 0 i) ++ t) (append-nil (parts i))))
       (each-append P (flat_map parts (numbers 0 i)) (parts i) h k)
 

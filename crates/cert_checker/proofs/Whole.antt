@@ -5,8 +5,9 @@
 --   identity_wide                  so where it is too wide
 --   further_behind                 a part behind the certificate
 --   failing_verdict                the verdict on a part
---   wide_refused, refusal          the causes of the refusals
-use Rattle.std.proofs.Common.{◌≡◌, ℕ, ◌<◌, List, [], ◌++◌, map, flat_map, length, refl, sym, ap, subst, ◌∙◌, append_assoc}
+--   wide_refused, limit_refused, refusal     the causes of the refusals;  long_part: of a part behind the certificate
+--   start_invalid, step_invalid    where an identity fails, the certificate isn't valid
+use Rattle.std.proofs.Common.{◌≡◌, ℕ, ◌<◌, List, [], ◌++◌, map, flat_map, length, inl, inr, refl, sym, ap, subst, ◌∙◌, append_assoc}
 use Rattle.std.proofs.lemmas.List.{append-nil}
 use Rattle.algebra.specs.Each.{Each}
 use Rattle.algebra.proofs.Each.{each-append}
@@ -26,6 +27,7 @@ use Rattle.cert_checker.specs.Further.{further_parts}
 use Rattle.cert_checker.specs.Paths.{path_of}
 use Rattle.cert_checker.specs.FullStops.{Behind}
 use Rattle.cert_checker.specs.FullWide.{IsPastPart, IsWide, IsLong, IsLimitAt, IsWideAt, IsRefusalOf, identity_part, IfFullCheckRefused}
+use Rattle.cert_checker.specs.LongParts.{IsFirstBeyond, part_terms}
 use Rattle.cert_checker.specs.Verdicts.{IsFailing, IsVerdictOf}
 use Rattle.cert_checker.specs.declared.full_verdict.FullVerdict.{FullVerdict}
 use Rattle.cert_checker.specs.declared.full_verdict.FullVerdict.TheVariants.{Complete, Fails}
@@ -149,6 +151,20 @@ module _ (program : Program (Expr ℕ)) (c : FullCertificate) where
   limit_refused path (Wide at) free w is = absurd is
   limit_refused path Memory free w is = tt
 
+  pub long_part : (part : Part) → IsValid program (certificate c)
+      → IsFirstBeyond (part_terms program c) 0 (further_parts program c) part
+      → IsLong program c (path_of part)
+  long_part part v first = inr (record { part = part; at = refl; valid = v; first = first })
+
+  -- where an identity fails, the certificate isn't valid
+  pub start_invalid : (i : ℕ) → IsFirstStart program (certificate c) i
+      → IsValid program (certificate c) → ⊥
+  start_invalid i v valid = v.fails (valid.starts i v.within)
+
+  pub step_invalid : (b i : ℕ) → IsFirstStep program (certificate c) b i
+      → IsValid program (certificate c) → ⊥
+  step_invalid b i v valid = v.fails (valid.steps b i v.branch_within v.within)
+
   pub refusal : (e : CheckError) (r : FullError) → IfRefusedItself program (certificate c) e
       → IsRefusalOf e r → IfFullCheckRefused program c r
   refusal (check_error.Map (map_error.Limit at)) r h is = subst (IfFullCheckRefused program c)
@@ -158,7 +174,7 @@ module _ (program : Program (Expr ℕ)) (c : FullCertificate) where
   refusal (check_error.Map map_error.Memory) r h is = absurd h
   refusal (check_error.Limit place i) r h is =
       limit_refused (path_of (identity_part (place_view place) i)) r h.0
-      (record { place = place_view place; element = i; at = refl; is = h.1 }) is
+      (inl (record { place = place_view place; element = i; at = refl; is = h.1 })) is
   refusal (check_error.Wide place i) r h is =
       wide_refused (path_of (identity_part (place_view place) i)) r h.0
       (identity_wide (place_view place) i h.1) is

@@ -6,11 +6,12 @@
 --   IsPastBegun program c r b kind i     of making polynomial i that a stage begins with
 --   IsPastPart program c part      of an operation of the part
 --   IsWide program c path          so it is of the part with this path, and those before it hold
---   IsLong program c path          the part with this path is an identity of the certificate itself that is too long
+--   IsLongIdentity program c path     the part with this path is an identity of the certificate itself that is too long
+--   IsLong program c path          so it is, or the part is the first behind the certificate up to which those behind it multiply out to too many terms
 --   IsLimitAt path e               e tells so of the part with this path; want of memory is free
 --   IsUnformed m os e              e is one of the operations os that can't be done
 --   IfFullCheckRefused program c e          the cause of the refusal e: a map of the loop can't be formed, or a part is too long or too wide; want of memory is free
-use Rattle.std.specs.Prelude.{◌≡◌, ℕ, ◌-◌, ◌<◌, ◌≤◌, pred, List, [], get_or, length, string_bytes}
+use Rattle.std.specs.Prelude.{◌≡◌, ◌⊎◌, ℕ, ◌-◌, ◌<◌, ◌≤◌, pred, List, [], get_or, length, string_bytes}
 use Rattle.algebra.specs.Fraction.{Fraction, fractions}
 use Rattle.polynomials.specs.Terms.{Terms}
 use Rattle.polynomials.specs.Weight.{IsPastComposition, IsPastSum}
@@ -31,6 +32,7 @@ use Rattle.cert_checker.specs.declared.error.CheckError.{CheckError}
 use Rattle.cert_checker.specs.declared.error.CheckError.TheVariants as check_error
 use Rattle.completeness.specs.Full.{FullCertificate, certificate, Kind, orbit, meet, form_of, stage_of, so_far, before}
 use Rattle.completeness.specs.Parts.{Part, in_basis, in_steps, in_forms, in_start, in_round, at_end, Holds, parts}
+use Rattle.cert_checker.specs.LongParts.{IsLongPart}
 use Rattle.cert_checker.specs.Paths.{path_of}
 use Rattle.cert_checker.specs.StageParts.{IsPastPlace}
 use Rattle.cert_checker.specs.FullStops.{Behind}
@@ -79,11 +81,15 @@ abbrev pub identity_part : Place → ℕ → Part
 identity_part at_start i = in_basis i
 identity_part (in_branch b) i = in_steps b i
 
-pub record IsLong (program : Program (Expr ℕ)) (c : FullCertificate) (path : List ℕ) : Type 0 where
+pub record IsLongIdentity (program : Program (Expr ℕ)) (c : FullCertificate) (path : List ℕ) : Type
+    0 where
   pub place : Place
   pub element : ℕ
   pub at : path_of (identity_part place element) ≡ path
   pub is : LongIdentity program (certificate c) place element
+
+abbrev pub IsLong : Program (Expr ℕ) → FullCertificate → List ℕ → Type 0
+IsLong program c path = IsLongIdentity program c path ⊎ IsLongPart program c path
 
 abbrev pub IsUnformed : ℕ → List Operation → MapError → Type 0
 IsUnformed m os (map_error.Limit at) = IsLimit m os at

@@ -15,3 +15,4 @@ pub mod FullWide
 pub mod Verdicts
 pub mod InverseForm
 pub mod Further
+pub mod LongParts

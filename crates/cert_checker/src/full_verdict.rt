@@ -2,13 +2,16 @@
 //! invariants. No crate of completions or closed forms is below.
 
 ghost use Rattle.std.specs.Prelude.{◌≡◌, length, IfOk, IfErr};
+ghost use Rattle.loops.specs.Certificate.{IsValid};
 ghost use Rattle.loops.specs.Inv.{Inv};
 ghost use Rattle.loop_model.specs.Maps.{AreFree};
 ghost use Rattle.loop_model.specs.View.{program_of};
 ghost use Rattle.rounds.specs.Generate.{Generates};
+ghost use Rattle.completeness.specs.Full.{certificate};
 ghost use Rattle.task_lists.specs.Images.{IsFullIn};
 ghost use Rattle.task_lists.specs.View.{full_of};
 ghost use Rattle.completeness.specs.Counts.{IsCounted};
+ghost use Rattle.cert_checker.specs.LongParts.{AreFew};
 ghost use Rattle.cert_checker.specs.Parts.{part_of};
 ghost use Rattle.cert_checker.specs.Paths.{path_of};
 ghost use Rattle.cert_checker.specs.Verdicts.{IsFailing, IsVerdictOf};
@@ -18,6 +21,7 @@ use crate::full_error::FullError;
 use crate::full_further::judge_behind;
 use crate::full_part::{Part, identity_part, text_of};
 use crate::full_stop::Stop;
+use crate::long_parts::first_long_part;
 use crate::{CheckError, Verdict, judge};
 use loop_model::Loop;
 use std::alloc::Global;
@@ -36,6 +40,8 @@ pub enum FullVerdict {
 /// is complete, its polynomials generate the invariants: each of them is one, and each invariant is a sum of
 /// products with them.
 ///
+/// `Limit` where the identities of the certificate itself are too long, as `check` says, or it is valid and the parts behind it multiply
+/// out to more than 2^20 terms: these are counted before any of them is judged, and the first up to which they are too many is named.
 /// `Wide` only where the parts before hold, and the weight of a composition, a product, a sum or a difference of the
 /// named part is past.
 pub fn check_full(alloc: Global, lp: &Loop, cert: &FullCert) -> Result<FullVerdict, FullError>
@@ -46,6 +52,8 @@ pub fn check_full(alloc: Global, lp: &Loop, cert: &FullCert) -> Result<FullVerdi
         IfOk result (λ v. v ≡ FullVerdict.Complete
         → Generates (length program.names) c.basis (Inv program)) }
     ensures free { IfOk result (λ v. AreFree (program_of lp.now)) }
+    ensures few { let program = program_of lp.now in let c = full_of cert.now in
+        IfOk result (λ v. IsValid program (certificate c) → AreFew program c) }
     ensures refused { IfErr result (IfFullCheckRefused (program_of lp.now) (full_of cert.now)) }
 {
     match judge(alloc, lp, &cert.basis, &cert.steps) {
@@ -55,6 +63,11 @@ pub fn check_full(alloc: Global, lp: &Loop, cert: &FullCert) -> Result<FullVerdi
             return fails(alloc, Part::Step(branch, element));
         }
         Err(error) => return Err(refused(alloc, error)),
+    }
+    match first_long_part(alloc, lp, cert) {
+        Ok(None) => {}
+        Ok(Some(part)) => return Err(limit(alloc, part)),
+        Err(_) => return Err(FullError::Memory),
     }
     match judge_behind(alloc, lp, cert) {
         Ok(()) => Ok(FullVerdict::Complete),

@@ -32,6 +32,7 @@ mod full_verdict;
 mod identity;
 pub mod laws;
 mod limits;
+mod long_parts;
 mod search;
 
 use cert_form::Cert;

@@ -1,9 +1,12 @@
--- A worked certificate none of whose identities is too long, and full certificates with one.
+-- A worked certificate none of whose identities is too long, and a full certificate with it, no part of which is.
 --   squares                the loop vars a, s, t; init a=0, s=1, t=1; branch { a=a+1; t=t+2; s=s+t; }
 --   certificate            its certificate of 2*a - t + 1 and t^2 - 4*s + 2*t + 1, which stay as they are
---   squares_short          it is short;  full_short: so is each full certificate with a certificate that is
-use Rattle.std.proofs.Common.{◌≡◌, ℕ, zero, suc, ◌+◌, ◌≤◌, pos, negsuc, List, [], ◌∷◌, get_or, length, map, All, ap, ap₂, refl, arith, ◌∙◌}
-use Rattle.std.proofs.lemmas.List.Elements.{All-head, All-tail}
+--   squares_short          it is short;  full_short: so is each full certificate with a certificate that is, whose other parts multiply out to few terms
+--   squares_full           one with it: with the closed form and the start, and no rounds;  squares_full_short: it is short
+use Rattle.std.proofs.Common.{◌≡◌, inl, inr, ℕ, zero, suc, ◌+◌, ◌≤◌, pos, negsuc, List, [], ◌∷◌, get_or, length, map, All, ap, ap₂, subst, refl, arith, ◌∙◌}
+use Rattle.std.specs.List.{sum_by}
+use Rattle.std.proofs.lemmas.List.Elements.{All-nil, All-cons, All-head, All-tail}
+use Rattle.std.proofs.lemmas.List.Sums.{sum_by-cons}
 use Rattle.algebra.specs.Arithmetic.{power}
 use Rattle.algebra.specs.Each.{Each}
 use Rattle.algebra.specs.Sum.{sum_over}
@@ -16,23 +19,31 @@ use Rattle.polynomials.specs.Algebra as Algebra
 use Rattle.polynomials.specs.Exponent.{plus, same, unit_exponents}
 use Rattle.polynomials.specs.Order.{grevlex, compare}
 use Rattle.polynomials.specs.Polynomial.{AllArity, IsPolynomial}
-use Rattle.polynomials.specs.Terms.{Terms, Same, AllSame, constant, variables, monomial_at, evaluate}
+use Rattle.polynomials.specs.Terms.{Terms, AllSame, constant, variables, monomial_at, evaluate}
 use Rattle.polynomials.proofs.Orders.{grevlex_order}
 use Rattle.polynomials.proofs.Same.{Same-trans, AllSame-refl}
 use Rattle.polynomials.proofs.SameDecided.{agree_at, test_same, same_from_test}
 use Rattle.machines.specs.Collect.{collect, insert, place}
-use Rattle.machines.proofs.Collecting.{collect-is}
+use Rattle.machines.proofs.Collecting.{collect-is, collect-polynomial}
 use Rattle.loops.specs.Certificate.{Certificate, cofactors}
 use Rattle.loops.specs.Effect.{store, init_statement, value_of, after_statement, after_branch, start_from}
 use Rattle.loops.specs.Map.{branch_map, start_map}
 use Rattle.loops.specs.Program.{Expr, Program, number, variable, add}
 use Rattle.loops.proofs.Examples.{assign, given}
+use Rattle.rounds.specs.BranchMap.{map_of}
+use Rattle.rounds.specs.Start.{start_list, in_order}
 use Rattle.expansion.specs.Counts.{most_terms, factor_terms, product_terms, composition_terms, combination_terms}
+use Rattle.expansion.specs.Lengths.{power_length, product_length, list_length, next_lengths}
+use Rattle.expansion.proofs.Counting.{most_is}
 use Rattle.cert_form.specs.Cert.{IsComplete}
 use Rattle.cert_checker.specs.Long.{start_terms, step_terms, total, IsFirstLong}
+use Rattle.cert_checker.specs.Further.{further_parts}
+use Rattle.cert_checker.specs.LongParts.{part_terms, AreFew}
 use Rattle.cert_checker.specs.Places.{Place, at_start, in_branch}
 use Rattle.cert_checker.specs.Wide.{IsMapOf, LongIdentity}
+use Rattle.cert_checker.proofs.PartTotals.{not_beyond}
 use Rattle.completeness.specs.Full as full
+use Rattle.completeness.specs.Parts.{in_forms, in_start, at_end}
 use Rattle.certificate_commands.specs.CheckJudging.{IsShort}
 use Rattle.certificate_commands.specs.CheckfullJudging as checkfull
 
@@ -65,10 +76,7 @@ abbrev elements : List (Terms Fraction)
 elements = first ∷ second ∷ []
 
 abbrev pub certificate : Certificate
-certificate = record {
-  basis = elements;
-  steps = ((one ∷ [] ∷ []) ∷ ([] ∷ one ∷ []) ∷ []) ∷ [];
-}
+certificate = record { basis = elements; steps = ((one ∷ [] ∷ []) ∷ ([] ∷ one ∷ []) ∷ []) ∷ [] }
 
 -- ---- the maps
 abbrev started : List (Terms Fraction)
@@ -117,8 +125,7 @@ all_along [] [] us h k = k
 all_along [] (q ∷ qs) us h k = absurd h
 all_along (p ∷ ps) [] us h k = absurd h
 all_along (p ∷ ps) (q ∷ qs) [] h k = absurd k
-all_along (p ∷ ps) (q ∷ qs) (u ∷ us) h k =
-    (Same-trans ℚ h.0 k.0, all_along ps qs us h.1 k.1)
+all_along (p ∷ ps) (q ∷ qs) (u ∷ us) h k = (Same-trans ℚ h.0 k.0, all_along ps qs us h.1 k.1)
 
 -- ---- polynomials that are the same are equal to these, with their terms collected
 collected : (m : ℕ) (qs ps : List (Terms Fraction)) → All (IsPolynomial ℚ grevlex m) qs
@@ -242,8 +249,8 @@ squares_short kept complete same = go
 -- ---- full certificates
 pub full_short : (l : Program (Expr ℕ)) (c : full.FullCertificate)
     → IsComplete (length l.names) (length l.branches) (full.certificate c)
-    → IsShort l (full.certificate c) → checkfull.IsShort l c
-full_short l c complete short path h =
+    → IsShort l (full.certificate c) → AreFew l c → checkfull.IsShort l c
+full_short l c complete short few path (inl h) =
     short (full.certificate c) complete
     (record {
       basis = AllSame-refl ℚ c.basis;
@@ -251,3 +258,112 @@ full_short l c complete short path h =
       elements = λ b. refl;
       steps = λ b i. AllSame-refl ℚ (cofactors (full.certificate c) b i);
     }) h.place h.element h.is
+full_short l c complete short few path (inr h) =
+    not_beyond (part_terms l c) (further_parts l c) h.part few h.first
+
+-- a + n, s + n t + n^2 + n and t + 2 n, over n, (-1)^n, a, s and t
+abbrev closed : List (Terms Fraction)
+closed =
+    ((0 ∷ 0 ∷ 1 ∷ 0 ∷ 0 ∷ [], whole (pos 1)) ∷ (1 ∷ 0 ∷ 0 ∷ 0 ∷ 0 ∷ [], whole (pos 1)) ∷ [])
+    ∷ ((1 ∷ 0 ∷ 0 ∷ 0 ∷ 1 ∷ [], whole (pos 1)) ∷ (2 ∷ 0 ∷ 0 ∷ 0 ∷ 0 ∷ [], whole (pos 1)) ∷ (
+      0 ∷ 0 ∷ 0 ∷ 1 ∷ 0 ∷ [],
+      whole (pos 1),
+    ) ∷ (1 ∷ 0 ∷ 0 ∷ 0 ∷ 0 ∷ [], whole (pos 1)) ∷ [])
+    ∷ ((0 ∷ 0 ∷ 0 ∷ 0 ∷ 1 ∷ [], whole (pos 1)) ∷ (1 ∷ 0 ∷ 0 ∷ 0 ∷ 0 ∷ [], whole (pos 2)) ∷ [])
+    ∷ []
+
+-- a, s - 1 and t - 1
+abbrev zeros : List (Terms Fraction)
+zeros =
+    ((1 ∷ 0 ∷ 0 ∷ [], whole (pos 1)) ∷ [])
+    ∷ ((0 ∷ 1 ∷ 0 ∷ [], whole (pos 1)) ∷ (0 ∷ 0 ∷ 0 ∷ [], whole (negsuc 0)) ∷ [])
+    ∷ ((0 ∷ 0 ∷ 1 ∷ [], whole (pos 1)) ∷ (0 ∷ 0 ∷ 0 ∷ [], whole (negsuc 0)) ∷ [])
+    ∷ []
+
+abbrev pub squares_full : full.FullCertificate
+squares_full = record {
+  basis = elements;
+  steps = certificate.steps;
+  forms = record { base = []; polys = closed } ∷ [];
+  start_out = zeros;
+  start_links = (one ∷ [] ∷ [] ∷ []) ∷ ([] ∷ one ∷ [] ∷ []) ∷ ([] ∷ [] ∷ one ∷ []) ∷ [];
+  rounds = [];
+}
+
+map_is : map_of squares 1 ≡ turned
+unfolding map_of collect insert place compare grevlex Algebra.times Algebra.shift
+    sum_over constant monomial_at evaluate power value_of store after_statement
+    after_branch unit_exponents variables branch_map plus same fraction Fraction.sum
+    Fraction.product
+    Fraction.opposite Fraction.inverse is_lowest reduce gcd
+map_is = refl
+
+form_terms : part_terms squares squares_full (in_forms 0) ≡ 27
+unfolding product_length power_length factor_terms
+form_terms = ap (λ qs. list_length qs closed + next_lengths closed) map_is
+
+start_terms_of : (i : ℕ) → part_terms squares squares_full (in_start i) ≤ 2
+unfolding combination_terms
+start_terms_of zero = omega arith
+start_terms_of (suc zero) = omega arith
+start_terms_of (suc (suc zero)) = omega arith
+start_terms_of (suc (suc (suc i))) = omega arith
+
+parts_are : further_parts squares squares_full
+    ≡ in_forms 0 ∷ in_start 0 ∷ in_start 1 ∷ in_start 2 ∷ at_end ∷ []
+unfolding start_list in_order
+parts_are = refl
+
+squares_few : AreFew squares squares_full
+squares_few =
+    let is = ap (sum_by (part_terms squares squares_full)) parts_are in
+    let f = part_terms squares squares_full in
+    let one = sum_by-cons f (in_forms 0) (in_start 0 ∷ in_start 1 ∷ in_start 2 ∷ at_end ∷ []) in
+    let two = sum_by-cons f (in_start 0) (in_start 1 ∷ in_start 2 ∷ at_end ∷ []) in
+    let three = sum_by-cons f (in_start 1) (in_start 2 ∷ at_end ∷ []) in
+    let four = sum_by-cons f (in_start 2) (at_end ∷ []) in
+    let a = form_terms in
+    let b = start_terms_of 0 in
+    let c = start_terms_of 1 in
+    let d = start_terms_of 2 in
+    let m = most_is in
+    omega (arith, is, one, two, three, four, a, b, c, d, m)
+
+-- ---- its certificate is complete
+polynomials : (ps : List (Terms Fraction)) → AllArity 3 ps
+    → All (IsPolynomial ℚ grevlex 3) (map (collect rationals grevlex) ps)
+unfolding Each
+polynomials [] a = All-nil _
+polynomials (p ∷ ps) a = All-cons (IsPolynomial ℚ grevlex 3) (collect rationals grevlex p)
+    (map (collect rationals grevlex) ps)
+    (collect-polynomial ℚ_field grevlex grevlex_order 3 p a.0) (polynomials ps a.1)
+
+rows_polynomials : (b i : ℕ) → All (IsPolynomial ℚ grevlex 3) (cofactors certificate b i)
+rows_polynomials zero i = subst (All (IsPolynomial ℚ grevlex 3)) (rows_collected i)
+    (polynomials (cofactors certificate 0 i) (rows_over i))
+rows_polynomials (suc b) i = All-nil _
+
+elements_polynomials : All (IsPolynomial ℚ grevlex 3) elements
+elements_polynomials = subst (All (IsPolynomial ℚ grevlex 3)) elements_collected
+    (polynomials elements elements_over)
+
+heights : All (λ rows. length rows ≡ 2) certificate.steps
+heights zero d l = refl
+heights (suc i) d l = absurd (omega (arith, l))
+
+widths : All (All (λ row. length row ≡ 2)) certificate.steps
+widths zero d l zero e k = refl
+widths zero d l (suc zero) e k = refl
+widths zero d l (suc (suc j)) e k = absurd (omega (arith, k))
+widths (suc i) d l j e k = absurd (omega (arith, l))
+
+pub squares_full_short : checkfull.IsShort squares squares_full
+squares_full_short = full_short squares squares_full
+    (record {
+      elements = elements_polynomials;
+      cofactors = rows_polynomials;
+      count = refl;
+      heights = heights;
+      widths = widths;
+    })
+    squares_short squares_few

@@ -84,7 +84,7 @@ pub fn bases_up_to_a_degree_are_low_parts()
         other ≡ basis_text a.loop.names (low_part d a.certificate.basis) }
 {}
 
-/// What `full` said of a text, where no identity of the certificate itself is too long, `checkfull` of the same text calls complete, unless a number doesn't fit there, memory is wanting,
+/// What `full` said of a text, where no part of it is too long, `checkfull` of the same text calls complete, unless a number doesn't fit there, memory is wanting,
 /// or a file, which may be too long, or the sink fails.
 pub fn full_certificates_are_called_complete()
     ensures { (text said : List ℕ) (budget : ℕ) (m : Journal)

@@ -1,4 +1,5 @@
 use Rattle.std.proofs.Common.{subst}
+use Rattle.std.proofs.lemmas.Option.{MatchOption-at_some}
 use Rattle.std.proofs.lemmas.Result.{IfOk-weaker}
 use Rattle.loop_model.specs.View.{program_of}
 use Rattle.loop_model.proofs.Formed.{formed}
@@ -15,7 +16,7 @@ use Rattle.cert_checker.specs.Paths.{path_of}
 use Rattle.cert_checker.specs.FullStops.{IsStop}
 use Rattle.cert_checker.specs.FullWide.{IsPastPart}
 use Rattle.cert_checker.proofs.Kept.{kept_of}
-use Rattle.cert_checker.proofs.Whole.{all_hold, further_behind, first_of, wide_of, start_first, step_first, failing_verdict, wide_refused, refusal}
+use Rattle.cert_checker.proofs.Whole.{all_hold, further_behind, first_of, wide_of, start_first, step_first, start_invalid, step_invalid, long_part, failing_verdict, wide_refused, limit_refused, refusal}
 use Rattle.cert_checker.proofs.full_verdict.check_full.Goals as goal
 use Rattle.cert_checker.proofs.full_verdict.check_full.Goals.{In-Ok-Valid}
 
@@ -38,6 +39,14 @@ returns-in-Ok-StartFails-clause-verdict c =
     (start_first program cert i (subst (λ v. IsVerdict program (certificate cert) (verdict_of v))
     c.in-Ok-StartFails.field-0-is c.in-Ok-StartFails.ensures.verdict)) v is) c.fails.ensures.fails
 
+pub returns-in-Ok-StartFails-clause-few : goal.returns-in-Ok-StartFails-clause-few
+returns-in-Ok-StartFails-clause-few c =
+    let program = program_of c.args.lp.now in
+    let cert = full_of c.args.cert.now in
+    IfOk-weaker c.fails.result _ _ (λ v is all. absurd (start_invalid program cert
+    c.in-Ok-StartFails.element (subst (λ v. IsVerdict program (certificate cert) (verdict_of v))
+    c.in-Ok-StartFails.field-0-is c.in-Ok-StartFails.ensures.verdict) all)) c.fails.ensures.fails
+
 pub returns-in-Ok-StepFails-clause-verdict : goal.returns-in-Ok-StepFails-clause-verdict
 returns-in-Ok-StepFails-clause-verdict c =
     let program = program_of c.args.lp.now in
@@ -51,9 +60,29 @@ returns-in-Ok-StepFails-clause-verdict c =
     c.in-Ok-StepFails.field-0-is c.in-Ok-StepFails.ensures.verdict)) v is)
     c.fails-in-Ok-StepFails.ensures.fails
 
+pub returns-in-Ok-StepFails-clause-few : goal.returns-in-Ok-StepFails-clause-few
+returns-in-Ok-StepFails-clause-few c =
+    let program = program_of c.args.lp.now in
+    let cert = full_of c.args.cert.now in
+    IfOk-weaker c.fails-in-Ok-StepFails.result _ _ (λ v is all. absurd (step_invalid program cert
+    c.in-Ok-StepFails.branch c.in-Ok-StepFails.element
+    (subst (λ v. IsVerdict program (certificate cert) (verdict_of v))
+    c.in-Ok-StepFails.field-0-is c.in-Ok-StepFails.ensures.verdict) all))
+    c.fails-in-Ok-StepFails.ensures.fails
+
 pub returns-in-Err-clause-refused : goal.returns-in-Err-clause-refused
 returns-in-Err-clause-refused c = refusal (program_of c.args.lp.now) (full_of c.args.cert.now)
     c.in-Err.error c.refused.result c.in-Err.ensures.refused c.refused.ensures
+
+pub returns-in-Ok-Some-clause-refused : goal.returns-in-Ok-Some-clause-refused
+returns-in-Ok-Some-clause-refused c =
+    let program = program_of c.args.lp.now in
+    let cert = full_of c.args.cert.now in
+    let part = part_of c.in-Ok-Some.part in
+    limit_refused program cert (path_of part) c.limit.result c.in-Ok-Valid.ensures.free
+    (long_part program cert part (valid (goal.at.returns-in-Ok-Some-clause-refused c).In-Ok-Valid)
+    (MatchOption-at_some _ _ c.in-Ok-Some.part c.in-Ok-Some.field-0-is c.in-Ok-Some.ensures))
+    c.limit.ensures
 
 pub returns-in-Ok-clause-verdict : goal.returns-in-Ok-clause-verdict
 returns-in-Ok-clause-verdict c = all_hold (program_of c.args.lp.now) (full_of c.args.cert.now)

@@ -1,0 +1,13 @@
+use Rattle.std.proofs.Common.{length}
+use Rattle.std.specs.List.{flat_map}
+use Rattle.loop_model.specs.View.{program_of}
+use Rattle.completeness.specs.Parts.{branch_parts}
+use Rattle.completeness.specs.Stage.{below}
+use Rattle.task_lists.specs.View.{full_of}
+use Rattle.cert_checker.specs.LongParts.{IsTotal, part_terms}
+use Rattle.cert_checker.proofs.long_parts.count_rounds.Given as goal
+
+abbrev pub invariant-loop-round : goal.invariant-loop-round
+invariant-loop-round l = IsTotal (part_terms (program_of l.lp) (full_of l.cert)) l.before
+    (flat_map (λ r. flat_map (branch_parts (program_of l.lp) (full_of l.cert) r)
+    (below (length (program_of l.lp).branches))) (below l.round)) l.terms
