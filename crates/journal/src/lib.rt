@@ -207,6 +207,7 @@ impl Meter {
     /// Begins a task. Budget exactly where that is a unit and the units so far equal the limit.
     pub fn begin(&mut self, task: Task) -> Result<(), MeterError>
         ensures ok { OnOk result (self.new ≡ with_entry self.old (Begun (task_of task))) }
+        ensures few { units_of self.old.entries ≤ most_units }
         ensures within { units_of self.new.entries ≤ self.new.limit }
         ensures err { OnErr result (self.new ≡ self.old) }
         ensures budget { IsErrOf result MeterError.Budget
@@ -228,6 +229,7 @@ impl Meter {
 
     /// Puts an entry behind the others.
     fn add(&mut self, entry: Entry) -> Result<(), MeterError>
+        ensures few { units_of self.old.entries ≤ most_units }
         ensures within { units_of self.new.entries ≤ self.new.limit }
         ensures ok { OnOk result (self.new ≡ with_entry self.old (entry_of entry)) }
         ensures err { OnErr result (self.new ≡ self.old) }
@@ -242,6 +244,14 @@ impl Meter {
             self.used += 1;
         }
         Ok(())
+    }
+
+    /// No more units are used than are allowed, and no more are allowed than `most_units`: that is so of each meter, and callers learn it from this call, which does nothing.
+    pub fn within_limit(&self)
+        ensures within { units_of self.now.entries ≤ self.now.limit }
+        ensures few { self.now.limit ≤ most_units }
+    {
+        let _ = &self.used;
     }
 
     /// How many of the entries are units.
