@@ -9,7 +9,7 @@
 --   joined                 the image of two lists put together
 --   none_left              neither part has a term where there is none
 --   zero_of, some_left     whether nothing is left
---   moved_X                the cancellation that is found, behind terms that went there
+--   Moved, moved           what is left is the same, and the cancellation that is found is of the first of the other terms
 use Rattle.std.proofs.Common.{◌≡◌, ◌≢◌, ◌↔◌, inl, inr, ℕ, ◌<◌, Bool, true, false, IsTrue, cond, List, [], ◌∷◌, ◌++◌, length, map, take, drop, position, get_or, ◌+◌, ◌-◌, Some, None, append_assoc, take-append-drop, refl, sym, ap, ap₂, subst, ◌∙◌, Ordering, Less, Equal, Greater, arith}
 use Rattle.std.proofs.lemmas.List.{get_or-drop, length-drop, map-append}
 use Rattle.algebra.specs.Each.{Each}
@@ -231,40 +231,42 @@ module _ (S : Scalars) (r : IsRing S.arithmetic) (f : IsFieldOf S.arithmetic S.i
       (weight-part R S.size b done rest) (under_refl whole hw)) past))
 
 -- ---- the terms before the one that is found go to those that are done
-module _ (S : Scalars) (ls : List (List ℕ)) (gs : List (Terms S.Elem))
-    (done rest front back g : Terms S.Elem) (i k : ℕ) (h : ls ≡ map lead_of gs)
-    (u : AreUndivided ls done) (f : FoundAt S gs rest i k) (at : get_or gs k [] ≡ g)
-    (go : front ≡ done ++ take i rest) (stay : back ≡ drop i rest) where
-  pub moved_same : front ++ back ≡ done ++ rest
-  moved_same = ap₂ (λ (x y : Terms S.Elem). x ++ y) go stay ∙ parts_moved i done rest
-
-  pub moved_some : 0 < length back
-  moved_some =
-      let size : length back ≡ length rest - i = ap length stay ∙ length-drop i rest in
-      let within = f.term_in in
-      omega (arith, size, within)
-
-  first_is : term_at S back 0 ≡ term_at S rest i
-  first_is =
-      let here : i + 0 ≡ i = omega arith in
-      ap (λ (q : Terms S.Elem). term_at S q 0) stay ∙ get_or-drop i rest 0 ([], S.zero)
-      ∙ ap (term_at S rest) here
-
-  pub moved_divided : divides (lead_of g) (term_at S back 0).0 ≡ true
-  moved_divided = ap₂ (λ (q : Terms S.Elem) (t : List ℕ × S.Elem). divides (lead_of q) t.0) (sym at)
-      first_is ∙ f.divided
-
-  pub moved_found : find_cut (field S) all_places gs (done ++ rest)
+pub record Moved (S : Scalars) (gs : List (Terms S.Elem)) (done rest front back g : Terms S.Elem)
+    (k : ℕ) : Type 0 where
+  pub whole : front ++ back ≡ done ++ rest
+  pub some : 0 < length back
+  pub divided : divides (lead_of g) (term_at S back 0).0 ≡ true
+  pub found : find_cut (field S) all_places gs (done ++ rest)
       ≡ Some (cutting_of S k (term_at S back 0) g)
-  moved_found = found_behind S ls gs done rest h u ∙ f.is
-      ∙ ap₂ (λ (t : List ℕ × S.Elem) (q : Terms S.Elem). Some (cutting_of S k t q)) (sym first_is)
-      at
-
-  pub moved_past : IsPastCut S (field S) (front ++ back) (cutting_of S 0 (term_at S back 0) g)
+  pub past : IsPastCut S (field S) (front ++ back) (cutting_of S 0 (term_at S back 0) g)
       → IsPastReduction S (field S) gs (done ++ rest)
-  moved_past past = record {
-    cutting = cutting_of S k (term_at S back 0) g;
-    found = moved_found;
-    past = subst (λ (p : Terms S.Elem).
-        IsPastCut S (field S) p (cutting_of S k (term_at S back 0) g)) moved_same past;
-  }
+
+pub moved : (S : Scalars) (ls : List (List ℕ)) (gs : List (Terms S.Elem))
+    (done rest front back g : Terms S.Elem) (i k : ℕ) → ls ≡ map lead_of gs → AreUndivided ls done
+    → FoundAt S gs rest i k → get_or gs k [] ≡ g → front ≡ done ++ take i rest → back ≡ drop i rest
+    → Moved S gs done rest front back g k
+moved S ls gs done rest front back g i k h u f at go stay =
+    let size : length back ≡ length rest - i = ap length stay ∙ length-drop i rest in
+    let within = f.term_in in
+    let here : i + 0 ≡ i = omega arith in
+    let first : term_at S back 0 ≡ term_at S rest i =
+    ap (λ (q : Terms S.Elem). term_at S q 0) stay ∙ get_or-drop i rest 0 ([], S.zero)
+    ∙ ap (term_at S rest) here in
+    let whole : front ++ back ≡ done ++ rest =
+    ap₂ (λ (x y : Terms S.Elem). x ++ y) go stay ∙ parts_moved i done rest in
+    let found : find_cut (field S) all_places gs (done ++ rest)
+    ≡ Some (cutting_of S k (term_at S back 0) g) = found_behind S ls gs done rest h u ∙ f.is
+    ∙ ap₂ (λ (t : List ℕ × S.Elem) (q : Terms S.Elem). Some (cutting_of S k t q)) (sym first) at in
+    record {
+      whole = whole;
+      some = omega (arith, size, within);
+      divided = ap₂ (λ (q : Terms S.Elem) (t : List ℕ × S.Elem). divides (lead_of q) t.0) (sym at)
+          first ∙ f.divided;
+      found = found;
+      past = λ past. record {
+        cutting = cutting_of S k (term_at S back 0) g;
+        found = found;
+        past = subst (λ (p : Terms S.Elem).
+            IsPastCut S (field S) p (cutting_of S k (term_at S back 0) g)) whole past;
+      };
+    }

@@ -161,10 +161,11 @@ impl<K: Field, O: Order> Current<K, O> {
             → IsPastCut K.scalars (field K.scalars) (left_of self.old) (cutting_of K.scalars 0
             (term_at K.scalars (terms_in self.old.rest) 0) (terms_in g.now)) }
     {
+        let factor = factor_at(alloc, &self.rest, 0, g)?;
         let zero = Poly::zero(alloc, self.rest.order(), self.rest.arity());
         let rest = mem::replace(&mut self.rest, zero);
         let spare = mem::replace(&mut self.spare, Vec::new(alloc));
-        let (left, factor, spare) = cancel_lead(alloc, rest, g, spare)?;
+        let (left, spare) = rest.cancel_lead(alloc, &factor, g, spare)?;
         self.rest = left;
         self.spare = spare;
         Ok(factor)
@@ -197,34 +198,6 @@ pub fn cancel<K: Field, O: Order>(
     let factor = factor_at(alloc, &p, at, g)?;
     let poly = p.sub_multiple(alloc, &factor, g)?;
     Ok((poly, factor))
-}
-
-/// The polynomial less the multiple of `g` that has its first term, with the factor of `g` and a list that is left. What is left is written into the list that is given.
-/// `Wide` only where the weight of that is past.
-fn cancel_lead<K: Field, O: Order>(
-    alloc: Global,
-    p: Poly<K, O>,
-    g: &Poly<K, O>,
-    spare: Vec<Term<K>>,
-) -> Result<(Poly<K, O>, Term<K>, Vec<Term<K>>), ArithmeticError>
-    requires order { g.now.order ≡ p.order }
-    requires arity { g.now.arity ≡ p.arity }
-    requires nonzero { terms_in g.now ≢ [] }
-    requires first { 0 < length (terms_in p) }
-    requires divided { divides (lead_of (terms_in g.now))
-        (term_at K.scalars (terms_in p) 0).0 ≡ true }
-    ensures order { IfOk result (λ c. c.0.order ≡ p.order) }
-    ensures arity { IfOk result (λ c. c.0.arity ≡ p.arity) }
-    ensures cutting { IfOk result (λ c. Cuts K.scalars (O.order p.order) (terms_in p)
-        (term_at K.scalars (terms_in p) 0) (terms_in g.now)
-        c.1.mono (K.meaning c.1.coef) (terms_in c.0)) }
-    ensures wide { IsErrOf result ArithmeticError.Wide
-        → IsPastCut K.scalars (field K.scalars) (terms_in p)
-        (cutting_of K.scalars 0 (term_at K.scalars (terms_in p) 0) (terms_in g.now)) }
-{
-    let factor = factor_at(alloc, &p, 0, g)?;
-    let (poly, rest) = p.cancel_lead(alloc, &factor, g, spare)?;
-    Ok((poly, factor, rest))
 }
 
 /// The factor of `g` whose multiple has the term at this place of the polynomial as its first.

@@ -9,9 +9,9 @@ use Rattle.polynomials.specs.Polynomial.{IsPolynomial}
 use Rattle.divide.specs.Current.{left_of, done_of}
 use Rattle.divide.specs.Cutting.{FoundAt, cutting_of, term_at}
 use Rattle.divide.proofs.OneCut.{seen_at, along, leads_long, after_any}
-use Rattle.divide.proofs.Parts.{found_behind, undivided_more, moved_same, moved_some, moved_divided, moved_found, moved_past}
+use Rattle.divide.proofs.Parts.{Moved, moved, found_behind, undivided_more}
 use Rattle.divide.proofs.current.Current.next_cut.Given.{Over}
-use Rattle.divide.proofs.current.Current.next_cut.Goals.{In-Some}
+use Rattle.divide.proofs.current.Current.next_cut.Goals.{In-Some, After-index-list-place}
 use Rattle.divide.proofs.current.Current.next_cut.Goals as goal
 
 pub find-requires : goal.find-requires
@@ -55,88 +55,67 @@ finish-requires g c =
     let within = (found g (goal.at.finish-requires g c).In-Some).term_in in
     omega (arith, within)
 
+-- ---- the terms before it are done
+finished : (g : Over) (c : After-index-list-place g)
+    → Moved g.K.Ring.scalars (terms_each c.args.list.now) (done_of c.args.self.now)
+    (terms_in c.args.self.now.rest) (done_of c.finish.new.self) (terms_in c.finish.new.self.rest)
+    (terms_in c.index-list-place.result) c.in-Some.place.element
+finished g c =
+    let f = found g (goal.at.After-index-list-place g c).In-Some in
+    moved g.K.Ring.scalars c.args.leads.now _ _ _ _ _ _ c.in-Some.place.term _ c.requires.leads
+    c.requires.current.undivided f
+    (seen_at terms_in c.args.list.now c.in-Some.place.element c.index-list-place.result []
+    f.element_in c.index-list-place.is) c.in_ok-finish.ensures.done c.in_ok-finish.ensures.rest
+
 pub cancel_first-requires : goal.cancel_first-requires
 cancel_first-requires g c =
-    let at = (goal.at.cancel_first-requires g c).In-Some in
+    let at = goal.at.cancel_first-requires g c in
     let s = c.args.self.now in
-    let t = c.finish.new.self in
-    let e = c.index-list-place.result in
-    let f = found g at in
-    let gs = terms_each c.args.list.now in
-    let is = seen_at terms_in c.args.list.now c.in-Some.place.element e [] f.element_in
-    c.index-list-place.is in
+    let f = finished g at.After-index-list-place in
+    let like = c.in_ok-finish.ensures.like in
     let one = subst (λ q. (q.order ≡ s.rest.order) × (q.arity ≡ s.rest.arity) × (terms_in q ≢ []))
-    (sym c.index-list-place.is) (c.requires.divisors c.in-Some.place.element e (inside g at)) in
+    (sym c.index-list-place.is)
+    (c.requires.divisors c.in-Some.place.element c.index-list-place.result (inside g at.In-Some)) in
     record {
-      order = one.0 ∙ sym c.in_ok-finish.ensures.like.0;
-      arity = one.1 ∙ sym c.in_ok-finish.ensures.like.1;
+      order = one.0 ∙ sym like.0;
+      arity = one.1 ∙ sym like.1;
       nonzero = one.2;
-      first = moved_some g.K.Ring.scalars c.args.leads.now gs (done_of s) (terms_in s.rest)
-          (done_of t) (terms_in t.rest) (terms_in e) c.in-Some.place.term c.in-Some.place.element
-          c.requires.leads c.requires.current.undivided f is c.in_ok-finish.ensures.done
-          c.in_ok-finish.ensures.rest;
-      divided = moved_divided g.K.Ring.scalars c.args.leads.now gs (done_of s) (terms_in s.rest)
-          (done_of t) (terms_in t.rest) (terms_in e) c.in-Some.place.term c.in-Some.place.element
-          c.requires.leads c.requires.current.undivided f is c.in_ok-finish.ensures.done
-          c.in_ok-finish.ensures.rest;
-      descending = along g.K.Ring.scalars g.O.Order.order _ _ _ _ _
-          (sym c.in_ok-finish.ensures.like.0) (sym c.in_ok-finish.ensures.like.1)
-          (subst (λ q. IsPolynomial g.K.Ring.scalars.arithmetic (g.O.Order.order s.rest.order)
-          s.rest.arity q) (sym (moved_same g.K.Ring.scalars c.args.leads.now gs (done_of s)
-          (terms_in s.rest) (done_of t) (terms_in t.rest) (terms_in e) c.in-Some.place.term
-          c.in-Some.place.element c.requires.leads c.requires.current.undivided f is
-          c.in_ok-finish.ensures.done c.in_ok-finish.ensures.rest))
-          c.requires.current.descending);
+      first = f.some;
+      divided = f.divided;
+      descending = along g.K.Ring.scalars g.O.Order.order _ _ _ _ _ (sym like.0) (sym like.1)
+          (subst (IsPolynomial g.K.Ring.scalars.arithmetic (g.O.Order.order s.rest.order)
+          s.rest.arity) (sym f.whole) c.requires.current.descending);
     }
 
 pub returns-in_err-factor-clause-wide : goal.returns-in_err-factor-clause-wide
 returns-in_err-factor-clause-wide g c =
-    let at = (goal.at.returns-in_err-factor-clause-wide g c).In-Some in
-    let s = c.args.self.now in
-    let t = c.finish.new.self in
-    let e = c.index-list-place.result in
-    let f = found g at in
-    let is = seen_at terms_in c.args.list.now c.in-Some.place.element e [] f.element_in
-    c.index-list-place.is in
+    let at = (goal.at.returns-in_err-factor-clause-wide g c).After-index-list-place in
     let p = err_from_is_err_and c.from_residual-in_err-factor.result
     c.from_residual-in_err-factor.ensures.1 in
-    λ w. moved_past g.K.Ring.scalars c.args.leads.now (terms_each c.args.list.now) (done_of s)
-    (terms_in s.rest) (done_of t) (terms_in t.rest) (terms_in e) c.in-Some.place.term
-    c.in-Some.place.element c.requires.leads c.requires.current.undivided f is
-    c.in_ok-finish.ensures.done c.in_ok-finish.ensures.rest
-    (c.in_err-factor.ensures.wide (cc (p.1, p.2, w)))
+    λ w. (finished g at).past (c.in_err-factor.ensures.wide (cc (p.1, p.2, w)))
 
 pub returns-clause-ok : goal.returns-clause-ok
 returns-clause-ok g c =
     let S = g.K.Ring.scalars in
-    let at = (goal.at.returns-clause-ok g c).In-Some in
     let s = c.args.self.now in
     let t = c.finish.new.self in
-    let u = c.cancel_first.new.self in
     let e = c.index-list-place.result in
     let k = c.in-Some.place.element in
-    let f = found g at in
-    let is = seen_at terms_in c.args.list.now k e [] f.element_in c.index-list-place.is in
+    let f = finished g (goal.at.returns-clause-ok g c).After-index-list-place in
     let cut = c.in_ok-factor.ensures.cutting in
     let first = term_at S (terms_in t.rest) 0 in
-    let left = subst (λ o. left_of u ≡ after_cut (field S) (g.O.Order.order o) (left_of t)
-    (cutting_of S 0 first (terms_in e))) c.in_ok-finish.ensures.like.0 cut.left_is in
+    let left = subst (λ o. left_of c.cancel_first.new.self
+    ≡ after_cut (field S) (g.O.Order.order o) (left_of t) (cutting_of S 0 first (terms_in e)))
+    c.in_ok-finish.ensures.like.0 cut.left_is in
     record {
       cutting = cutting_of S k first (terms_in e);
-      found = moved_found S c.args.leads.now (terms_each c.args.list.now) (done_of s)
-          (terms_in s.rest) (done_of t) (terms_in t.rest) (terms_in e) c.in-Some.place.term k
-          c.requires.leads c.requires.current.undivided f is c.in_ok-finish.ensures.done
-          c.in_ok-finish.ensures.rest;
+      found = f.found;
       element = c.in-Ok.ensures.1;
       by = cut.by_is;
       number = cut.number_is;
       left = left ∙ after_any S _ _ _ _ 0 k
           ∙ ap (λ q. after_cut (field S) (g.O.Order.order s.rest.order) q
-          (cutting_of S k first (terms_in e)))
-          (moved_same S c.args.leads.now (terms_each c.args.list.now) (done_of s)
-          (terms_in s.rest) (done_of t) (terms_in t.rest) (terms_in e) c.in-Some.place.term k
-          c.requires.leads c.requires.current.undivided f is c.in_ok-finish.ensures.done
-          c.in_ok-finish.ensures.rest);
+          (cutting_of S k first (terms_in e))) f.whole;
     }
 
 pub returns-clause-current : goal.returns-clause-current
