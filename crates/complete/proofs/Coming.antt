@@ -30,85 +30,92 @@ use Rattle.machines.specs.Completion.{State, degree, leads, with_element, with_e
 use Rattle.machines.specs.Cut.{Cutting, lead_of, find_cut, after_cut, all_places, monic}
 use Rattle.machines.specs.Event.{Pair, Cut, Keep, Zero}
 use Rattle.machines.specs.Pairs.{multiple, sugar, skip_covered}
-use Rattle.machines.specs.Past.{IsPastMonic, IsPastPair, IsPastReducing, IsPastReduction, IsPastTaking, IsPastCompletion, IsPastStart}
+use Rattle.machines.specs.Past.{IsPastMonic, IsPastPair, IsPastReducing, IsPastReduction, IsPastTaking, IsPastActing, IsPastCompletion, IsPastStart}
 
-module _ {A : Type 0} where
-  abbrev pub now : List (Terms A) → List ℕ → ℕ → List (ℕ × ℕ) → Option (Terms A) → State A
-  now bs ss n w c = record { basis = bs; sugars = ss; waiting = w; current = c; pair_sugar = n }
-
-module _ (S : Scalars) (O : Rank) (bs : List (Terms S.Elem)) (ss : List ℕ) (n : ℕ)
-    (w : List (ℕ × ℕ)) where
+module _ (S : Scalars) (O : Rank) (s : State S.Elem) where
   abbrev F : FieldArithmetic S.Elem
   F = field S
 
   -- ---- with a current polynomial
-  module _ (o : Option (Terms S.Elem)) (p : Terms S.Elem) (is : o ≡ Some p) where
-    pub cut_comes : (c : Cutting S.Elem) (q : Terms S.Elem) (m : ℕ) → find_cut F all_places bs p
-        ≡ Some c → m ≡ c.place → q ≡ after_cut F O p c → next F O (now bs ss n w o) ≡ Some (
-          Cut m,
-          now bs ss n w (Some q),
-        )
-    unfolding next next_completion next_reduction
-    cut_comes c q m e at left = ap (λ x. next F O (now bs ss n w x)) is
-        ∙ ap (λ x. Some (next_reduction F O (now bs ss n w (Some p)) p x)) e
-        ∙ ap₂ (λ k x. Some (Cut k, now bs ss n w (Some x))) (sym at) (sym left)
+  module _ (p : Terms S.Elem) (is : s.current ≡ Some p) where
+    comes : next F O s ≡ Some (next_reduction F O s p (find_cut F all_places s.basis p))
+    unfolding next next_completion
+    comes = ap (next_completion F O s) is
 
-    pub zero_comes : p ≡ [] → next F O (now bs ss n w o) ≡ Some (Zero, now bs ss n w None)
-    unfolding next next_completion next_reduction find_cut
-    zero_comes e = ap (λ x. next F O (now bs ss n w x)) (is ∙ ap Some e)
+    pub cut_comes : (c : Cutting S.Elem) (q : Terms S.Elem) (m : ℕ)
+        → find_cut F all_places s.basis p ≡ Some c → m ≡ c.place → q ≡ after_cut F O p c
+        → next F O s ≡ Some (Cut m, record s { current = Some q })
+    unfolding next_reduction
+    cut_comes c q m e at left = comes ∙ ap (λ x. Some (next_reduction F O s p x)) e
+        ∙ ap₂ (λ k x. Some (Cut k, record s { current = Some x })) (sym at) (sym left)
 
-    keeping : (q : Terms S.Elem) → q ≢ [] → next_reduction F O (now bs ss n w (Some q)) q None
-        ≡ (Keep, with_element F O (now bs ss n w (Some q)) (monic F q) n)
+    pub zero_comes : p ≡ [] → next F O s ≡ Some (Zero, record s { current = None })
+    unfolding next_reduction find_cut
+    zero_comes e = comes
+        ∙ ap (λ x. Some (next_reduction F O s x (find_cut F all_places s.basis x))) e
+
+    keeping : (q : Terms S.Elem) → q ≢ [] → next_reduction F O s q None
+        ≡ (Keep, with_element F O s (monic F q) s.pair_sugar)
     unfolding next_reduction
     keeping [] m = absurd (m refl)
     keeping (t ∷ q) m = refl
 
     -- whatever else is said to be current when the element is put in
-    pub keep_comes : (v : Option (Terms S.Elem)) → find_cut F all_places bs p ≡ None → p ≢ []
-        → next F O (now bs ss n w o) ≡ Some (Keep, with_element F O (now bs ss n w v) (monic F p) n)
-    unfolding next next_completion with_element
-    keep_comes v e m = ap (λ x. next F O (now bs ss n w x)) is
-        ∙ ap (λ x. Some (next_reduction F O (now bs ss n w (Some p)) p x)) e ∙ ap Some (keeping p m)
+    pub keep_comes : (v : Option (Terms S.Elem)) → find_cut F all_places s.basis p ≡ None → p ≢ []
+        → next F O s ≡ Some (
+          Keep,
+          with_element F O (record s { current = v }) (monic F p) s.pair_sugar,
+        )
+    unfolding with_element
+    keep_comes v e m = comes ∙ ap (λ x. Some (next_reduction F O s p x)) e ∙ ap Some (keeping p m)
 
-    pub keep_past : find_cut F all_places bs p ≡ None → IsPastMonic S F p
-        → IsPastCompletion S F (now bs ss n w o)
-    keep_past e h = subst (λ x. IsPastCompletion S F (now bs ss n w x)) (sym is)
+    pub keep_past : find_cut F all_places s.basis p ≡ None → IsPastMonic S F p
+        → IsPastCompletion S F s
+    keep_past e h = subst (IsPastActing S F s.basis s.waiting) (sym is)
         (subst (IsPastReducing S F p) (sym e) h)
 
-    pub cut_past : IsPastReduction S F bs p → IsPastCompletion S F (now bs ss n w o)
-    cut_past h = subst (λ x. IsPastCompletion S F (now bs ss n w x)) (sym is)
+    pub cut_past : IsPastReduction S F s.basis p → IsPastCompletion S F s
+    cut_past h = subst (IsPastActing S F s.basis s.waiting) (sym is)
         (subst (IsPastReducing S F p) (sym h.found) h.past)
 
   -- ---- without one
-  module _ (ls : List (List ℕ)) (leads_are : ls ≡ map lead_of bs) (o : Option (Terms S.Elem))
-      (is : o ≡ None) where
-    pub pair_comes : (a : ℕ × ℕ) (v : List (ℕ × ℕ)) (p : Terms S.Elem) → skip_covered ls w ≡ a ∷ v
-        → p ≡ s_polynomial F O bs a → next F O (now bs ss n w o) ≡ Some (
+  module _ (ls : List (List ℕ)) (leads_are : ls ≡ map lead_of s.basis) (is : s.current ≡ None) where
+    skipped : (w : List (ℕ × ℕ)) → skip_covered ls s.waiting ≡ w
+        → skip_covered (leads s.basis) s.waiting ≡ w
+    skipped w e = ap (λ x. skip_covered x s.waiting) (sym leads_are) ∙ e
+
+    taken : (w : List (ℕ × ℕ)) → skip_covered ls s.waiting ≡ w → next F O s ≡ next_pair F O s w
+    unfolding next next_completion
+    taken w e = ap (next_completion F O s) is ∙ ap (next_pair F O s) (skipped w e)
+
+    pub pair_comes : (a : ℕ × ℕ) (v : List (ℕ × ℕ)) (p : Terms S.Elem)
+        → skip_covered ls s.waiting ≡ a ∷ v
+        → p ≡ s_polynomial F O s.basis a → next F O s ≡ Some (
           Pair a.0 a.1,
-          now bs ss (sugar ls ss a) v (Some p),
+          record s { waiting = v; current = Some p; pair_sugar = sugar ls s.sugars a },
         )
-    unfolding next next_completion next_pair
-    pair_comes a v p e q = ap (λ x. next F O (now bs ss n w x)) is
-        ∙ ap (next_pair F O (now bs ss n w None)) (ap (λ x. skip_covered x w) (sym leads_are) ∙ e)
-        ∙ ap₂ (λ x (ms : List (List ℕ)). Some (Pair a.0 a.1, now bs ss (sugar ms ss a) v (Some x)))
-        (sym q) (sym leads_are)
+    unfolding next_pair
+    pair_comes a v p e q = taken (a ∷ v) e
+        ∙ ap₂ (λ x (ms : List (List ℕ)). Some (
+          Pair a.0 a.1,
+          record s { waiting = v; current = Some x; pair_sugar = sugar ms s.sugars a },
+        )) (sym q) (sym leads_are)
 
-    pub none_comes : skip_covered ls w ≡ [] → next F O (now bs ss n w o) ≡ None
-    unfolding next next_completion next_pair
-    none_comes e = ap (λ x. next F O (now bs ss n w x)) is
-        ∙ ap (next_pair F O (now bs ss n w None)) (ap (λ x. skip_covered x w) (sym leads_are) ∙ e)
+    pub none_comes : skip_covered ls s.waiting ≡ [] → next F O s ≡ None
+    unfolding next_pair
+    none_comes e = taken [] e
 
-    pub pair_past : (a : ℕ × ℕ) (v : List (ℕ × ℕ)) → skip_covered ls w ≡ a ∷ v → IsPastPair S F bs a
-        → IsPastCompletion S F (now bs ss n w o)
-    pair_past a v e h = subst (λ x. IsPastCompletion S F (now bs ss n w x)) (sym is)
-        (subst (IsPastTaking S F bs) (sym (ap (λ x. skip_covered x w) (sym leads_are) ∙ e)) h)
+    pub pair_past : (a : ℕ × ℕ) (v : List (ℕ × ℕ)) → skip_covered ls s.waiting ≡ a ∷ v
+        → IsPastPair S F s.basis a → IsPastCompletion S F s
+    pair_past a v e h = subst (IsPastActing S F s.basis s.waiting) (sym is)
+        (subst (IsPastTaking S F s.basis) (sym (skipped (a ∷ v) e)) h)
 
   -- ---- the two elements of a pair
-  module _ (a : ℕ × ℕ) (l : List ℕ) (f g : Terms S.Elem) (left : get_or bs a.0 [] ≡ f)
-      (right : get_or bs a.1 [] ≡ g) (is : multiple (leads bs) a ≡ l) where
+  module _ (a : ℕ × ℕ) (l : List ℕ) (f g : Terms S.Elem) (left : get_or s.basis a.0 [] ≡ f)
+      (right : get_or s.basis a.1 [] ≡ g) (is : multiple (leads s.basis) a ≡ l) where
     pub s_polynomial_is : (p : Terms S.Elem)
         → p ≡ collect F O (shift S.arithmetic (over l (lead_of f)) S.one f ++ negate S.arithmetic
-        (shift S.arithmetic (over l (lead_of g)) S.one g)) → p ≡ s_polynomial F O bs a
+        (shift S.arithmetic (over l (lead_of g)) S.one g)) → p ≡ s_polynomial F O s.basis a
     unfolding s_polynomial
     s_polynomial_is p e = e
         ∙ (λ i. collect F O (shift S.arithmetic (over (sym is i) (lead_of (sym left i))) S.one
@@ -119,10 +126,10 @@ module _ (S : Scalars) (O : Rank) (bs : List (Terms S.Elem)) (ss : List ℕ) (n 
     Past l f g = IsPastSum S f g ⊎ ¬ (FitsMonomial (plus (over l (lead_of f)) (degrees f)))
         ⊎ ¬ (FitsMonomial (plus (over l (lead_of g)) (degrees g)))
 
-    pub pair_weight : Past l f g → IsPastPair S F bs a
-    pair_weight h = subst (λ x. Past (multiple (leads bs) a) x (get_or bs a.1 [])) (sym left)
-        (subst (λ y. Past (multiple (leads bs) a) f y) (sym right) (subst (λ k. Past k f g) (sym is)
-        h))
+    pub pair_weight : Past l f g → IsPastPair S F s.basis a
+    pair_weight h = subst (λ x. Past (multiple (leads s.basis) a) x (get_or s.basis a.1 []))
+        (sym left) (subst (λ y. Past (multiple (leads s.basis) a) f y) (sym right)
+        (subst (λ k. Past k f g) (sym is) h))
 
 -- ---- the generators
 module _ {A : Type 0} (F : FieldArithmetic A) (O : Rank) where

@@ -16,7 +16,7 @@ use Rattle.complete.specs.declared.element.Completing.{Completing}
 use Rattle.divide.specs.Current.{IsCurrent}
 use Rattle.complete.specs.Completing.{state_of, current_of, FitsCompletion, IsSmall}
 use Rattle.complete.specs.Pairs.{pair_of, keys, InOrder, Stands, HasSugar, waiting_pairs, rows_of, IsTold}
-use Rattle.complete.specs.Table.{IsTriangle, Tells, Once}
+use Rattle.complete.specs.Table.{Tells, Once}
 
 drop_none : {X : Type 0} (k : ℕ) → drop {A = X} k [] ≡ []
 drop_none zero = refl
@@ -63,7 +63,6 @@ module _ {K O : Type 0} {g : Ring.Ghosts K} {h : PartialEq.Ghosts K} {k : Order.
       in_order = subst (InOrder (keys (k.order o) s.queue.mixed)) (sym none_waits) tt;
       once = subst (λ ps. Once (map pair_of ps)) (sym none_waits) tt;
       count = ap length rows ∙ sym (ap length leads);
-      triangle = subst IsTriangle (sym rows) (λ j l. absurd (omega (arith, l)));
     };
     current = subst (λ c. IfSome c (λ q. (q.rest.order ≡ o) × (q.rest.arity ≡ m)
         × IsCurrent s.leads.items q)) (sym current) tt;

@@ -26,7 +26,7 @@ use Rattle.machines.specs.Pairs.{multiple, sugar, with_new}
 use Rattle.complete.specs.declared.pair.Pair.{Pair}
 use Rattle.complete.specs.declared.pairs.Queue.{Queue}
 use Rattle.complete.specs.declared.table.Table.{Table}
-use Rattle.complete.specs.Table.{of_either, IsTriangle, Tells, Once}
+use Rattle.complete.specs.Table.{of_either, Tells, Once}
 
 abbrev pub pair_of : Pair → ℕ × ℕ
 pair_of a = (a.parts.value.left, a.parts.value.right)
@@ -96,7 +96,6 @@ pub record IsQueue (O : Rank) (ls : List (List ℕ)) (ss : List ℕ) (q : Queue)
   pub in_order : InOrder (keys O q.mixed) (waiting_pairs q)
   pub once : Once (map pair_of (waiting_pairs q))
   pub count : length (rows_of q.table) ≡ length ls
-  pub triangle : IsTriangle (rows_of q.table)
 
 abbrev pub IsTold : Queue → Type 0
 IsTold q = Tells (rows_of q.table) (map pair_of (waiting_pairs q))

@@ -40,8 +40,7 @@ pub fn complete_in<K: Field, O: Order>(
     ensures basis { IfOk result (λ gs. IsBasis order arity gens.now gs.items) }
     ensures few { IfOk result (λ gs. length gs.items ≤ list_limit) }
 {
-    // for its contract, which tells the prover that no more units are used than are allowed
-    let _ = meter.used();
+    meter.within_limit();
     let mut state = first_state(alloc, order, arity, gens)?;
     while step(alloc, &mut state, meter)? {}
     Ok(state.basis)

@@ -3,7 +3,7 @@ ghost use Rattle.std.specs.Prelude.{◌≡◌, ◌<◌, ◌≤◌, ◌+◌, ◌+
 ghost use Rattle.std.specs.Ordering.{is_lt};
 ghost use Rattle.machines.specs.Pairs.{mixes_degrees, is_covered, skip_covered};
 ghost use Rattle.complete.specs.Pairs.{pair_of, keys, Stands, AllStand, InOrder, enter, enters, covers_pair, HaveVariables, rows_of, waiting_pairs, HasRoom, IsQueue, IsTold, IsWithNew};
-ghost use Rattle.complete.specs.Table.{IsTriangle, Tells, Once};
+ghost use Rattle.complete.specs.Table.{Tells, Once};
 ghost use Rattle.complete.specs.Limits.{place_limit};
 
 use crate::pair::Pair;
@@ -49,7 +49,6 @@ fn place_of<O: Order>(order: O, mixed: bool, pair: &Pair, list: &[Pair]) -> usiz
 /// Whether the lead at a place divides the pair's multiple, is none of the pair's two, and waits with neither.
 fn covers(pair: &Pair, table: &Table, place: u32, lead: &Mono) -> bool
     requires same { length lead.now ≡ length pair.now.parts.value.multiple }
-    requires triangle { IsTriangle (rows_of table.now) }
     requires inside { place < length (rows_of table.now) }
     requires apart { pair.now.parts.value.left < pair.now.parts.value.right }
     requires right_in { pair.now.parts.value.right < length (rows_of table.now) }
@@ -76,7 +75,6 @@ fn is_covered(pair: &Pair, table: &Table, leads: &[Mono]) -> bool
     requires long { All (λ e. length e ≡ length pair.now.parts.value.multiple) leads.now }
     requires stands { Stands leads.now pair.now }
     requires count { length (rows_of table.now) ≡ length leads.now }
-    requires triangle { IsTriangle (rows_of table.now) }
     ensures { (w : List (ℕ × ℕ)) → Tells (rows_of table.now) w
         → result ≡ is_covered leads.now w (pair_of pair.now) }
 {
@@ -95,14 +93,12 @@ pub(crate) fn covered_count(list: &[Pair], leads: &[Mono], table: &mut Table) ->
     requires long { All (λ a. All (λ e. length e ≡ length a.parts.value.multiple) leads.now)
         list.now }
     requires count { length (rows_of table.old) ≡ length leads.now }
-    requires triangle { IsTriangle (rows_of table.old) }
     requires told { Tells (rows_of table.old) (map pair_of list.now) }
     requires once { Once (map pair_of list.now) }
     ensures bound { result ≤ length list.now }
     ensures settled { skip_covered leads.now (map pair_of list.now)
         ≡ map pair_of (drop result list.now) }
     ensures count { length (rows_of table.new) ≡ length (rows_of table.old) }
-    ensures triangle { IsTriangle (rows_of table.new) }
     ensures told { result < length list.now
         → Tells (rows_of table.new) (map pair_of (drop (result + 1) list.now)) }
 {

@@ -1,7 +1,6 @@
 //! Which pairs of places wait, as a table.
-ghost use Rattle.std.specs.Prelude.{◌≡◌, ◌≢◌, ◌<◌, [], ◌∷◌, ◌++◌, length, OnOk};
-ghost use Rattle.complete.specs.Table.{of_either, without, IsTriangle};
-ghost use Rattle.complete.specs.Pairs.{rows_of};
+ghost use Rattle.std.specs.Prelude.{map};
+ghost use Rattle.complete.specs.Table.{IsTriangle};
 
 use std::alloc::{AllocError, Global};
 
@@ -9,9 +8,14 @@ use std::alloc::{AllocError, Global};
 #[derive(Drop)]
 pub(crate) struct Table {
     rows: Vec<Vec<bool>>,
+    pub ghost triangle: { IsTriangle (map (λ row. row.items) rows.items) },
 }
 
 impl Table {
+    ghost use Rattle.std.specs.Prelude.{◌≡◌, ◌≢◌, ◌<◌, [], ◌∷◌, ◌++◌, length, OnOk};
+    ghost use Rattle.complete.specs.Pairs.{rows_of};
+    ghost use Rattle.complete.specs.Table.{of_either, without};
+
     /// The table of no places.
     pub(crate) fn new(alloc: Global) -> Table
         ensures { rows_of result ≡ [] }
@@ -24,7 +28,6 @@ impl Table {
     /// Whether the pair of two places waits.
     pub(crate) fn waits(&self, i: u32, j: u32) -> bool
         requires apart { i ≢ j }
-        requires triangle { IsTriangle (rows_of self.now) }
         requires inside { (i < length (rows_of self.now)) × (j < length (rows_of self.now)) }
         ensures { result ≡ of_either (rows_of self.now) i j }
     {
@@ -38,7 +41,6 @@ impl Table {
     /// Notes that the pair of two places waits no longer.
     pub(crate) fn take(&mut self, left: u32, right: u32)
         requires apart { left < right }
-        requires triangle { IsTriangle (rows_of self.old) }
         requires inside { right < length (rows_of self.old) }
         ensures { rows_of self.new ≡ without (rows_of self.old) left right }
     {
@@ -47,6 +49,7 @@ impl Table {
 
     /// A place more, with an entry for its pair with each earlier one.
     pub(crate) fn push(&mut self, row: Vec<bool>) -> Result<(), AllocError>
+        requires { length row.items ≡ length (rows_of self.old) }
         ensures row { OnOk result (rows_of self.new ≡ rows_of self.old ++ row.items ∷ []) }
     {
         self.rows.push(row)?;

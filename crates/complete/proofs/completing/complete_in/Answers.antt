@@ -37,8 +37,8 @@ returns-in_err-state-clause-ran g c = unmade (completion_of c.args.order c.args.
 pub loop-state-init : goal.loop-state-init
 loop-state-init g c = (
   c.in_ok-state.ensures.fits,
-  subst (λ n. n ≤ c.args.meter.now.limit) c.used.ensures.used c.used.ensures.within,
-  c.used.ensures.few,
+  c.within_limit.ensures.within,
+  c.within_limit.ensures.few,
   going_here _ c.args.meter.now _ c.in_ok-state.ensures.ok,
   c.in_ok-state.ensures.told,
 )

@@ -1,4 +1,4 @@
-use Rattle.std.proofs.Common.{◌≡◌, map, Some, None, IfOk, refl, sym, ap, subst, ◌∙◌}
+use Rattle.std.proofs.Common.{◌≡◌, Some, None, IfOk, refl, sym, ap, subst, ◌∙◌}
 use Rattle.std.proofs.lemmas.Option.{MatchOption-at_some, MatchOption-at_none}
 use Rattle.algebra.specs.Scalars.{field}
 use Rattle.poly.specs.Seen.{terms_each}
@@ -10,9 +10,8 @@ use Rattle.machines.specs.Work.{StepOrEnd, StoppedAt}
 use Rattle.machines.proofs.Working.{step_of}
 use Rattle.divide.specs.Current.{left_of, Cancels, IsCurrent}
 use Rattle.divide.proofs.Divided.{no_true, wide_of, budget_of}
-use Rattle.complete.specs.Pairs.{pair_of, waiting_pairs}
 use Rattle.complete.specs.Completing.{state_of, current_of}
-use Rattle.complete.proofs.Coming.{now, cut_comes, zero_comes, keep_comes, cut_past, keep_past, known}
+use Rattle.complete.proofs.Coming.{cut_comes, zero_comes, keep_comes, cut_past, keep_past, known}
 use Rattle.complete.proofs.Like.{fits_idle, fits_with}
 use Rattle.complete.proofs.completing.step.Given.{Over}
 use Rattle.complete.proofs.completing.step.Goals.{In_default, In-Some, In_default-2}
@@ -24,9 +23,7 @@ idle g c = c.in_default.ensures.after ∙ c.in_default.ensures.value
 
 same : (g : Over) (c : In_default g)
     → state_of (record c.args.state.now { current = c.take.new.self }) ≡ state_of c.args.state.now
-same g c = let s = c.args.state.now in
-    ap (λ o. now (terms_each s.basis.items) s.sugars.items s.pair_sugar
-    (map pair_of (waiting_pairs s.queue)) (current_of o)) (idle g c)
+same g c = ap (λ o. state_of (record c.args.state.now { current = o })) (idle g c)
 
 pub take_pair-requires-clause-fits : goal.take_pair-requires-clause-fits
 take_pair-requires-clause-fits g c =
@@ -74,8 +71,7 @@ returns-in_err-cut-clause-wide g c =
     let at = (goal.at.returns-in_err-cut-clause-wide g c).In-Some in
     let s = c.args.state.now in
     let F = field g.K.Ring.scalars in
-    λ w. cut_past g.K.Ring.scalars (g.O.Order.order s.order) (terms_each s.basis.items)
-    s.sugars.items s.pair_sugar (map pair_of (waiting_pairs s.queue)) (current_of s.current)
+    λ w. cut_past g.K.Ring.scalars (g.O.Order.order s.order) (state_of s)
     (left_of c.in-Some.current) (ap current_of (was g at))
     (subst (λ l. IsPastReduction g.K.Ring.scalars F (terms_each l) (left_of c.in-Some.current))
     c.deref.ensures.value
@@ -94,8 +90,7 @@ returns-in_err-note-clause-budget g c =
     λ w. record {
       event = _;
       following = _;
-      comes = cut_comes g.K.Ring.scalars (g.O.Order.order s.order) (terms_each s.basis.items)
-          s.sugars.items s.pair_sugar (map pair_of (waiting_pairs s.queue)) (current_of s.current)
+      comes = cut_comes g.K.Ring.scalars (g.O.Order.order s.order) (state_of s)
           (left_of p) (ap current_of (was g at)) t.cutting _ _ t.found refl refl;
       unit = refl;
       exhausted = (c.in_err-note.ensures.budget.0
@@ -116,8 +111,7 @@ returns-in-Some-2-clause-ok g c =
     (left_of p) t.cutting) (like g at).0 t.left in
     step_of (next (field g.K.Ring.scalars) (g.O.Order.order s.order)) (state_of s) _
     c.args.meter.now c.note.new.self _
-    (cut_comes g.K.Ring.scalars (g.O.Order.order s.order) (terms_each s.basis.items) s.sugars.items
-    s.pair_sugar (map pair_of (waiting_pairs s.queue)) (current_of s.current) (left_of p)
+    (cut_comes g.K.Ring.scalars (g.O.Order.order s.order) (state_of s) (left_of p)
     (ap current_of (was g at)) t.cutting (left_of q) c.in-Some-2.cut.element t.found
     t.element left)
     c.in_ok-note.ensures.ok c.in_ok-note.ensures.within
@@ -148,15 +142,11 @@ returns-then-is_zero-clause-ok g c =
     let s = c.args.state.now in
     step_of (next (field g.K.Ring.scalars) (g.O.Order.order s.order)) (state_of s) _
     c.args.meter.now c.note-then-is_zero.new.self _
-    (zero_comes g.K.Ring.scalars (g.O.Order.order s.order) (terms_each s.basis.items) s.sugars.items
-    s.pair_sugar (map pair_of (waiting_pairs s.queue)) (current_of s.current)
+    (zero_comes g.K.Ring.scalars (g.O.Order.order s.order) (state_of s)
     (left_of c.in-Some.current) (ap current_of (was g at.In-Some))
     (sym (stays g at.In_default-2).1 ∙ c.if-is_zero.ensures.0 refl)
-    ∙ ap (λ o. Some (
-      Zero,
-      now (terms_each s.basis.items) s.sugars.items s.pair_sugar
-          (map pair_of (waiting_pairs s.queue)) (current_of o),
-    )) (sym c.in-Some.ensures.after))
+    ∙ ap (λ o. Some (Zero, record (state_of s) { current = current_of o }))
+    (sym c.in-Some.ensures.after))
     c.in_ok-note-2.ensures.ok c.in_ok-note-2.ensures.within
 
 pub returns-then-is_zero-clause-fits : goal.returns-then-is_zero-clause-fits
@@ -176,8 +166,7 @@ returns-in_err-monic-clause-wide g c =
     let left = stays g at.In_default-2 in
     let s = c.args.state.now in
     let F = field g.K.Ring.scalars in
-    λ w. keep_past g.K.Ring.scalars (g.O.Order.order s.order) (terms_each s.basis.items)
-    s.sugars.items s.pair_sugar (map pair_of (waiting_pairs s.queue)) (current_of s.current)
+    λ w. keep_past g.K.Ring.scalars (g.O.Order.order s.order) (state_of s)
     (left_of c.in-Some.current) (ap current_of (was g at.In-Some)) left.0
     (subst (IsPastMonic g.K.Ring.scalars F) (c.in_ok-into_poly.ensures.terms ∙ left.1)
     (c.in_err-monic.ensures.wide (cc (wide_of c.from_residual-in_err-monic.result
@@ -209,12 +198,11 @@ returns-clause-ok g c =
     let left = stays g at.In_default-2 in
     let v = current_of c.take.new.self in
     let element = c.in_ok-add_element.ensures.element
-    ∙ ap (λ m. with_element F O (now (terms_each s.basis.items) s.sugars.items s.pair_sugar
-    (map pair_of (waiting_pairs s.queue)) v) m s.pair_sugar) (c.in_ok-monic.ensures.monic
+    ∙ ap (λ m. with_element F O (record (state_of s) { current = v }) m s.pair_sugar)
+    (c.in_ok-monic.ensures.monic
     ∙ ap (monic F) (c.in_ok-into_poly.ensures.terms ∙ left.1)) in
     step_of (next F O) (state_of s) _ c.args.meter.now c.note-2.new.self _
-    (keep_comes g.K.Ring.scalars O (terms_each s.basis.items) s.sugars.items s.pair_sugar
-    (map pair_of (waiting_pairs s.queue)) (current_of s.current) (left_of p)
+    (keep_comes g.K.Ring.scalars O (state_of s) (left_of p)
     (ap current_of (was g at.In-Some)) v left.0
     (λ e. no_true (c.if-is_zero.ensures.1 (left.1 ∙ e)))
     ∙ ap (λ t. Some (Keep, t)) (sym element))

@@ -1,8 +1,9 @@
-use Rattle.std.proofs.Common.{◌≡◌, ◌≢◌, ◌+◌, ◌<◌, ◌≤◌, [], ◌∷◌, Some, map, drop, length, get_or, refl, sym, ap, subst, ◌∙◌, arith}
+use Rattle.std.proofs.Common.{◌≡◌, ◌≢◌, ℕ, ◌+◌, ◌<◌, ◌≤◌, [], ◌∷◌, Some, map, drop, length, get_or, refl, sym, ap, subst, ◌∙◌, arith}
 use Rattle.std.proofs.lemmas.Bool.{ltb-true}
 use Rattle.std.proofs.lemmas.List.{take_rest, length-map}
 use Rattle.algebra.specs.Scalars.{field}
-use Rattle.machines.specs.Completion.{next}
+use Rattle.polynomials.specs.Terms.{Terms}
+use Rattle.machines.specs.Completion.{State, next}
 use Rattle.machines.specs.Cut.{lead_of}
 use Rattle.machines.specs.Event.{Pair}
 use Rattle.machines.specs.Pairs.{multiple, skip_covered}
@@ -11,9 +12,9 @@ use Rattle.poly.specs.Seen.{terms_in, terms_each}
 use Rattle.divide.proofs.Divided.{wide_of, budget_of}
 use Rattle.divide.proofs.OneCut.{along, leads_long}
 use Rattle.complete.specs.declared.pair.Parts.{Parts}
-use Rattle.complete.specs.Pairs.{pair_of, rows_of, waiting_pairs, keys, Stands, AllStand, HasSugar}
+use Rattle.complete.specs.Pairs.{pair_of, rows_of, keys, Stands, AllStand, HasSugar}
 use Rattle.complete.specs.Completing.{state_of, current_of, IsSmall}
-use Rattle.complete.proofs.Coming.{now, pair_comes, none_comes, pair_past, pair_weight, s_polynomial_is}
+use Rattle.complete.proofs.Coming.{pair_comes, none_comes, pair_past, pair_weight, s_polynomial_is}
 use Rattle.complete.proofs.Made.{collected_along}
 use Rattle.complete.proofs.Placing.{keys_total}
 use Rattle.complete.proofs.Putting.{left_in}
@@ -49,9 +50,8 @@ returns-in_default-clause-ok g c =
     c.deref-2.ensures.value c.covered_count-covered.ensures.settled in
     let out = subst (λ xs. length xs ≤ s.queue.taken + c.covered_count-covered.result)
     c.deref-3.ensures.value c.in_default.ensures.lookup.3 in (
-      none_comes g.K.Ring.scalars (g.O.Order.order s.order) (terms_each s.basis.items)
-          s.sugars.items s.pair_sugar (map pair_of (waiting_pairs s.queue)) s.leads.items
-          c.requires.fits.leads (current_of s.current) (ap current_of c.requires.idle)
+      none_comes g.K.Ring.scalars (g.O.Order.order s.order) (state_of s) s.leads.items
+          c.requires.fits.leads (ap current_of c.requires.idle)
           (skip_covered ∙ seen_end pair_of s.queue.pairs.items (s.queue.taken
           + c.covered_count-covered.result) out),
       refl,
@@ -195,31 +195,35 @@ multiple_is : (g : Over) (c : In-Some g)
 multiple_is g c = ap (λ ls. multiple ls (pair_of c.in-Some.pair.now)) (sym c.requires.fits.leads)
     ∙ sym (stands g c).multiple_is
 
+-- the state with this current polynomial, where the pair waits no longer
+abbrev pair_taken : (g : Over) (c : In_ok-p g) → ℕ → Terms g.K.Ring.scalars.Elem
+    → State g.K.Ring.scalars.Elem
+pair_taken g c n p =
+    let s = c.args.state.now in
+    record (state_of s) {
+      waiting = map pair_of (drop (s.queue.taken + c.covered_count-covered.result + 1)
+          s.queue.pairs.items);
+      current = Some p;
+      pair_sugar = n;
+    }
+
 comes : (g : Over) (c : In_ok-p g)
     → next (field g.K.Ring.scalars) (g.O.Order.order c.args.state.now.order)
     (state_of c.args.state.now)
     ≡ Some (
       Pair c.deref-4.result.now.left c.deref-5.result.now.right,
-      now (terms_each c.args.state.now.basis.items) c.args.state.now.sugars.items
-          c.deref-6.result.now.sugar
-          (map pair_of (drop (c.args.state.now.queue.taken + c.covered_count-covered.result + 1)
-          c.args.state.now.queue.pairs.items)) (Some (terms_in c.in_ok-p.p)),
+      pair_taken g c c.deref-6.result.now.sugar (terms_in c.in_ok-p.p),
     )
 comes g c =
     let S = g.K.Ring.scalars in
     let s = c.args.state.now in
     let O = g.O.Order.order s.order in
-    let gs = terms_each s.basis.items in
-    let w = map pair_of (waiting_pairs s.queue) in
     let a = c.in-Some.pair.now in
-    let later = map pair_of (drop (s.queue.taken + c.covered_count-covered.result + 1)
-    s.queue.pairs.items) in
     let at = (goal.at.In_ok-p g c).After-index-second in
     let pair = (goal.at.In_ok-p g c).In-Some in
-    pair_comes S O gs s.sugars.items s.pair_sugar w s.leads.items c.requires.fits.leads
-    (current_of s.current) (ap current_of c.requires.idle) (pair_of a) _ (terms_in c.in_ok-p.p)
-    (next_pair g pair)
-    (s_polynomial_is S O gs s.sugars.items s.pair_sugar w (pair_of a) c.deref-7.result.now.multiple
+    pair_comes S O (state_of s) s.leads.items c.requires.fits.leads
+    (ap current_of c.requires.idle) (pair_of a) _ (terms_in c.in_ok-p.p) (next_pair g pair)
+    (s_polynomial_is S O (state_of s) (pair_of a) c.deref-7.result.now.multiple
     (terms_in c.index-first.result.now) (terms_in c.index-second.result.now) (left_at g at)
     (right_at g at) (multiple_is g pair
     ∙ sym (ap (λ (p : Parts). p.multiple) c.deref-7.ensures)) (terms_in c.in_ok-p.p)
@@ -227,12 +231,11 @@ comes g c =
     _ (first g at).0 c.in_ok-p.ensures.terms))
     ∙ ap (λ n. Some (
       Pair a.parts.value.left a.parts.value.right,
-      now gs s.sugars.items n later
-          (Some (terms_in c.in_ok-p.p)),
+      pair_taken g c n (terms_in c.in_ok-p.p),
     )) (sym (sugar_is g pair))
     ∙ sym (λ i. Some (
       Pair (c.deref-4.ensures i).left (c.deref-5.ensures i).right,
-      now gs s.sugars.items (c.deref-6.ensures i).sugar later (Some (terms_in c.in_ok-p.p)),
+      pair_taken g c (c.deref-6.ensures i).sugar (terms_in c.in_ok-p.p),
     ))
 
 pub returns-in_err-p-clause-wide : goal.returns-in_err-p-clause-wide
@@ -240,14 +243,12 @@ returns-in_err-p-clause-wide g c =
     let S = g.K.Ring.scalars in
     let s = c.args.state.now in
     let O = g.O.Order.order s.order in
-    let gs = terms_each s.basis.items in
-    let w = map pair_of (waiting_pairs s.queue) in
     let a = c.in-Some.pair.now in
     let at = (goal.at.returns-in_err-p-clause-wide g c).After-index-second in
     let pair = (goal.at.returns-in_err-p-clause-wide g c).In-Some in
-    λ wide. pair_past S O gs s.sugars.items s.pair_sugar w s.leads.items c.requires.fits.leads
-    (current_of s.current) (ap current_of c.requires.idle) (pair_of a) _ (next_pair g pair)
-    (pair_weight S O gs s.sugars.items s.pair_sugar w (pair_of a) c.deref-7.result.now.multiple
+    λ wide. pair_past S O (state_of s) s.leads.items c.requires.fits.leads
+    (ap current_of c.requires.idle) (pair_of a) _ (next_pair g pair)
+    (pair_weight S O (state_of s) (pair_of a) c.deref-7.result.now.multiple
     (terms_in c.index-first.result.now) (terms_in c.index-second.result.now) (left_at g at)
     (right_at g at) (multiple_is g pair
     ∙ sym (ap (λ (p : Parts). p.multiple) c.deref-7.ensures))
@@ -269,14 +270,13 @@ returns-in_err-note-clause-budget g c = λ w. record {
 pub returns-clause-ok : goal.returns-clause-ok
 returns-clause-ok g c =
     let s = c.args.state.now in
+    let at = (goal.at.returns-clause-ok g c).In_ok-p in
     step_of (next (field g.K.Ring.scalars) (g.O.Order.order s.order)) (state_of s) _
     c.args.meter.now c.note.new.self _
-    (comes g (goal.at.returns-clause-ok g c).In_ok-p
+    (comes g at
     ∙ ap (λ q. Some (
       Pair c.deref-4.result.now.left c.deref-5.result.now.right,
-      now (terms_each s.basis.items) s.sugars.items c.deref-6.result.now.sugar
-          (map pair_of (drop (s.queue.taken + c.covered_count-covered.result + 1)
-          s.queue.pairs.items)) (Some q),
+      pair_taken g at c.deref-6.result.now.sugar q,
     )) (sym c.new.ensures.left))
     c.in_ok-note.ensures.ok c.in_ok-note.ensures.within
 
@@ -312,7 +312,6 @@ returns-clause-fits g c =
             (omega arith) q.in_order;
         once = once_later items t n (omega arith) q.once;
         count = c.covered_count-covered.ensures.count ∙ q.count;
-        triangle = c.covered_count-covered.ensures.triangle;
       };
       current = (
         c.new.ensures.order ∙ c.in_ok-p.ensures.order ∙ one.0,

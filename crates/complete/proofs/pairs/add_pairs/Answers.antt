@@ -1,6 +1,6 @@
 use Rattle.std.proofs.Common.{◌≡◌, ℕ, ◌<◌, ◌≤◌, ◌+◌, List, ◌++◌, ◌∷◌, [], not, cond, length, map, drop, refl, sym, ap, ap₂, subst, ◌∙◌, arith}
 use Rattle.std.specs.List.{All}
-use Rattle.std.proofs.lemmas.List.{drop_all, take_all, length_push, length-map, get_or_append_left, get_or_push}
+use Rattle.std.proofs.lemmas.List.{drop_all, take_all, length_push, get_or_append_left, get_or_push}
 use Rattle.std.proofs.lemmas.List.Elements.{All-nil, All-push, All-append}
 use Rattle.std.proofs.lemmas.Result.{on_ok_weaker}
 use Rattle.polynomials.proofs.Exponent.{length-lcm}
@@ -9,10 +9,10 @@ use Rattle.machines.specs.Pairs.{coprime, put_pair, with_new}
 use Rattle.machines.proofs.Waiting.{AllWithin}
 use Rattle.complete.specs.declared.pair.Pair.{Pair}
 use Rattle.complete.specs.Pairs.{pair_of, keys, InOrder, enters, waiting_pairs, rows_of, HasRoom}
-use Rattle.complete.specs.Table.{IsTriangle, Tells, Once}
+use Rattle.complete.specs.Table.{Tells, Once}
 use Rattle.complete.proofs.Entering.{all_enter, enters_none}
 use Rattle.complete.proofs.Putting.{Kept, kept_none, kept_enter, kept_enters, kept_more, put_as, stands_at, sugar_there, stand_long, all_stand_long, within_all, coprime_is, slice_front, slice_last, new_next, new_end}
-use Rattle.complete.proofs.Tables.{once_all, told_new, triangle_more}
+use Rattle.complete.proofs.Tables.{once_all, told_new}
 use Rattle.complete.proofs.Walking.{next_leads}
 use Rattle.complete.proofs.pairs.add_pairs.Given.{Over}
 use Rattle.complete.proofs.pairs.add_pairs.Goals.{Joined-waits, After-push-2, then-waits+in_ok-pair+in_ok-put_pair, else-waits}
@@ -239,10 +239,6 @@ returns-clause-queue g c = on_ok_weaker c.push-2.result (λ e. (
       once = subst Once (sym (all_pairs g c)) (once_all O ls ss c.args.lead.now c.args.leads.now _
           (within g c) q.once);
       count = omega (arith, size, more, leads, count);
-      triangle =
-          subst IsTriangle (sym is)
-          (triangle_more t row (length-map c.args.leads.now (λ x. not (coprime x c.args.lead.now))
-          ∙ sym count) q.triangle);
     }
     )) c.push-2.ensures.row
 

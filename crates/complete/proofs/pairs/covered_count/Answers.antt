@@ -1,13 +1,13 @@
 use Rattle.std.proofs.Common.{◌≤◌, length, refl, sym, ap, ap₂, subst, ◌∙◌, arith}
 use Rattle.complete.specs.declared.pair.Parts.{Parts}
 use Rattle.complete.specs.Pairs.{pair_of, rows_of, Stands}
-use Rattle.complete.specs.Table.{IsTriangle, without}
-use Rattle.complete.proofs.Tables.{without_long, without_triangle}
+use Rattle.complete.specs.Table.{without}
+use Rattle.complete.proofs.Tables.{without_long}
 use Rattle.complete.proofs.Walking.{seen_drop, seen_end, told_behind, settled_here, settled_next, settled_none, both_ends}
 use Rattle.complete.proofs.pairs.covered_count.Goals as goal
 
 pub loop-i-init : goal.loop-i-init
-loop-i-init c = (refl, c.requires.told, c.requires.count, c.requires.triangle)
+loop-i-init c = (refl, c.requires.told, c.requires.count)
 
 pub take-requires-clause-apart : goal.take-requires-clause-apart
 take-requires-clause-apart c =
@@ -38,7 +38,8 @@ returns-then-not-is_covered-clause-settled c =
     ∙ ap₂ (λ (p q : Parts). without (rows_of c.loop-i.table) p.left q.right) c.deref.ensures
     c.deref-in-loop-i.ensures in
     let told = told_behind c.args.list.now c.loop-i.i c.index-list-i.result _ _ c.loop-i-test.true
-    c.index-list-i.is taken s.left_first (omega (arith, right, count)) i.3 c.requires.once
+    c.index-list-i.is taken s.left_first (omega (arith, right, count)) c.loop-i.table.triangle
+    c.requires.once
     i.1 in
     i.0 ∙ settled_here c.args.leads.now _ _ _ (seen_drop pair_of c.args.list.now c.loop-i.i
     c.index-list-i.result c.loop-i-test.true c.index-list-i.is)
@@ -55,7 +56,7 @@ returns-then-not-is_covered-clause-told c = λ l.
     ∙ ap₂ (λ (p q : Parts). without (rows_of c.loop-i.table) p.left q.right) c.deref.ensures
     c.deref-in-loop-i.ensures in
     told_behind c.args.list.now c.loop-i.i c.index-list-i.result _ _ l c.index-list-i.is taken
-    s.left_first (omega (arith, right, count)) i.3 c.requires.once i.1
+    s.left_first (omega (arith, right, count)) c.loop-i.table.triangle c.requires.once i.1
 
 pub loop-i-preserved : goal.loop-i-preserved
 loop-i-preserved c =
@@ -68,7 +69,8 @@ loop-i-preserved c =
     ∙ ap₂ (λ (p q : Parts). without (rows_of c.loop-i.table) p.left q.right) c.deref.ensures
     c.deref-in-loop-i.ensures in
     let told = told_behind c.args.list.now c.loop-i.i c.index-list-i.result _ _ c.loop-i-test.true
-    c.index-list-i.is taken s.left_first (omega (arith, right, count)) i.3 c.requires.once
+    c.index-list-i.is taken s.left_first (omega (arith, right, count)) c.loop-i.table.triangle
+    c.requires.once
     i.1 in (
       i.0 ∙ settled_next c.args.leads.now _ _ _ (seen_drop pair_of c.args.list.now c.loop-i.i
           c.index-list-i.result c.loop-i-test.true c.index-list-i.is)
@@ -76,8 +78,6 @@ loop-i-preserved c =
       told,
       ap length taken ∙ without_long _ c.index-list-i.result.parts.value.left
           c.index-list-i.result.parts.value.right ∙ i.2,
-      subst IsTriangle (sym taken) (without_triangle _ c.index-list-i.result.parts.value.left
-          c.index-list-i.result.parts.value.right (omega (arith, right, count)) i.3),
     )
 
 pub returns-clause-settled : goal.returns-clause-settled
