@@ -23,7 +23,7 @@ use Rattle.poly.specs.Standing.{IsInVariables}
 use Rattle.loop_model.specs.FracPoly.{FracPoly}
 use Rattle.coprime_base.specs.Sizes.{sizes}
 use Rattle.expo.specs.Bases.{IsCoprimeBase}
-use Rattle.completeness.specs.Full.{WrittenForm, orbit, meet, form_of, of_kind, of_option, stage_of, so_far, before, front_of}
+use Rattle.corollaries.specs.Full.{WrittenForm, orbit, meet, form_of, of_kind, of_option, stage_of, so_far, before, front_of}
 use Rattle.task_lists.specs.Starting.{FitsOrbit, IsPastOrbit, IsPastMeet}
 use Rattle.task_lists.specs.Images.{ArePolys, IsStageIn, IsBranchIn, IsFullIn}
 use Rattle.task_lists.specs.View.{form_in, stage_in, full_of}

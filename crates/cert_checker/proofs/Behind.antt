@@ -6,8 +6,8 @@ use Rattle.algebra.specs.Each.{Each}
 use Rattle.algebra.proofs.Each.{each-append}
 use Rattle.loops.specs.Program.{Expr, Program}
 use Rattle.rounds.specs.Start.{start_list}
-use Rattle.completeness.specs.Full.{FullCertificate}
-use Rattle.completeness.specs.Parts.{Part, in_forms, in_start, at_end, Holds, form_parts, start_parts, round_parts}
+use Rattle.corollaries.specs.Full.{FullCertificate}
+use Rattle.corollaries.specs.Parts.{Part, in_forms, in_start, at_end, Holds, form_parts, start_parts, round_parts}
 use Rattle.cert_checker.specs.Further.{further_parts}
 use Rattle.cert_checker.specs.Parts.{part_of, in_forms as forms_stop_as, in_starts as starts_stop_as}
 use Rattle.cert_checker.specs.FullStops.{IsStop, StopsAt}

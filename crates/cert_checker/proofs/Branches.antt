@@ -17,10 +17,10 @@ use Rattle.polynomials.specs.Terms.{Terms}
 use Rattle.machines.specs.Collect.{collect}
 use Rattle.loops.specs.Program.{Expr, Program}
 use Rattle.rounds.specs.Form.{inverse_of_form, orbit_list, orbit_order, relations}
-use Rattle.completeness.specs.Stage.{Stage, Place, in_list, in_gens, in_pairs, in_links, HoldsAt, places}
-use Rattle.completeness.specs.Full.{FullCertificate, WrittenForm, as_form, orbit, meet, of_option, stage_of, so_far, before, front_of, starting}
-use Rattle.completeness.specs.Parts.{Part, in_round, Holds, stage_parts, branch_parts}
-use Rattle.completeness.specs.Counts.{IsCounted, no_branch}
+use Rattle.corollaries.specs.Stage.{Stage, Place, in_list, in_gens, in_pairs, in_links, HoldsAt, places}
+use Rattle.corollaries.specs.Full.{FullCertificate, WrittenForm, as_form, orbit, meet, of_option, stage_of, so_far, before, front_of, starting}
+use Rattle.corollaries.specs.Parts.{Part, in_round, Holds, stage_parts, branch_parts}
+use Rattle.corollaries.specs.Counts.{IsCounted, no_branch}
 use Rattle.task_lists.specs.View.{branch_in, round_in, full_of}
 use Rattle.task_lists.specs.declared.parts.FullBranch.{FullBranch}
 use Rattle.task_lists.specs.declared.parts.FullCert.{FullCert}

@@ -24,8 +24,8 @@ use Rattle.rounds.specs.BranchMap.{map_of}
 use Rattle.poly.specs.Seen.{terms_each}
 use Rattle.loop_model.specs.FracPoly.{FracPoly}
 use Rattle.loop_model.specs.Maps.{IsBranchMap}
-use Rattle.completeness.specs.Counts.{IsCounted, no_branch}
-use Rattle.completeness.specs.Full.{FullCertificate, WrittenForm, form_of}
+use Rattle.corollaries.specs.Counts.{IsCounted, no_branch}
+use Rattle.corollaries.specs.Full.{FullCertificate, WrittenForm, form_of}
 use Rattle.task_lists.specs.View.{form_in, full_of}
 use Rattle.task_lists.specs.declared.parts.FullForm.{FullForm}
 use Rattle.task_lists.specs.declared.parts.FullCert.{FullCert}

@@ -28,13 +28,13 @@ use Rattle.poly.proofs.Standing.{polynomial_over, arities_over, stands_over, sta
 use Rattle.loop_model.specs.FracPoly.{FracPoly}
 use Rattle.coprime_base.specs.Sizes.{sizes}
 use Rattle.expo.specs.Bases.{IsCoprimeBase}
-use Rattle.completeness.specs.FormIdentities.{IsRightForm}
-use Rattle.completeness.specs.Full.{as_form, form_of}
+use Rattle.corollaries.specs.FormIdentities.{IsRightForm}
+use Rattle.corollaries.specs.Full.{as_form, form_of}
 use Rattle.cert_checker.specs.Passing.{FitsForm, IsPastForm}
 use Rattle.task_lists.specs.Images.{IsFormOver, IsFullIn}
 use Rattle.task_lists.specs.View.{form_in, full_of}
 use Rattle.task_lists.specs.declared.parts.FullForm.{FullForm}
-use Rattle.completeness.specs.Counts.{IsCounted}
+use Rattle.corollaries.specs.Counts.{IsCounted}
 use Rattle.task_lists.specs.declared.parts.FullCert.{FullCert}
 use Rattle.cert_checker.specs.Wide.{IsMapOf}
 use Rattle.cert_checker.specs.InverseForm.{IsInverseForm}

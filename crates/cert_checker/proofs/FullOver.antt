@@ -17,8 +17,8 @@ use Rattle.loops.specs.Program.{Expr, Program}
 use Rattle.rounds.specs.Form.{front}
 use Rattle.cert_form.specs.Cert.{Polys}
 use Rattle.cert_form.proofs.Kept.{seen_length}
-use Rattle.completeness.specs.Stage.{no_stage, IsStageOver}
-use Rattle.completeness.specs.Full.{WrittenForm, BranchStages, Kind, orbit, meet, front_of, of_kind, of_option, IsFullOver}
+use Rattle.corollaries.specs.Stage.{no_stage, IsStageOver}
+use Rattle.corollaries.specs.Full.{WrittenForm, BranchStages, Kind, orbit, meet, front_of, of_kind, of_option, IsFullOver}
 use Rattle.task_lists.specs.Rows.{rows_of}
 use Rattle.task_lists.specs.Images.{ArePolys, AreRows, IsFormOver, IsStageIn, IsBranchIn, AreBranchesIn, IsFullIn}
 use Rattle.task_lists.specs.View.{form_in, stage_in, branch_in, round_in, full_of}

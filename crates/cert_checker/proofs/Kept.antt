@@ -8,7 +8,7 @@ use Rattle.loops.specs.Program.{Expr, Program}
 use Rattle.poly.specs.Seen.{terms_in, terms_each}
 use Rattle.cert_form.specs.Cert.{Polys, IsWellSized}
 use Rattle.task_lists.specs.Rows.{rows_of}
-use Rattle.completeness.specs.Counts.{IsSquare as IsSquareTable, IsCounted}
+use Rattle.corollaries.specs.Counts.{IsSquare as IsSquareTable, IsCounted}
 use Rattle.task_lists.specs.Images.{IsFullIn}
 use Rattle.task_lists.specs.View.{full_of}
 use Rattle.task_lists.specs.declared.parts.FullCert.{FullCert}

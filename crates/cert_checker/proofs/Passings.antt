@@ -15,7 +15,7 @@ use Rattle.polynomials.proofs.Same.{AllSame-at}
 use Rattle.loops.proofs.Maps.{length-variables}
 use Rattle.solvable_maps.specs.Iterations.{width, IsNormal}
 use Rattle.solvable_maps.specs.Expo.{with_normal_keys, next_images, zero_images}
-use Rattle.completeness.specs.FormIdentities.{IsRightForm}
+use Rattle.corollaries.specs.FormIdentities.{IsRightForm}
 use Rattle.expo.specs.Bases.{IsCoprimeBase}
 use Rattle.cert_checker.specs.Passing.{PassesAt, IsPastAt, IsPastForm}
 

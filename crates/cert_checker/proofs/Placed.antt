@@ -8,8 +8,8 @@ use Rattle.algebra.proofs.Each.{each-append}
 use Rattle.algebra.specs.Fraction.{Fraction}
 use Rattle.polynomials.specs.Terms.{Terms}
 use Rattle.machines.specs.Elimination.{free_part}
-use Rattle.completeness.specs.Representation.{pairs_of}
-use Rattle.completeness.specs.Stage.{Stage, Place, in_list, in_gens, in_pairs, in_links, HoldsAt, below, places}
+use Rattle.corollaries.specs.Representation.{pairs_of}
+use Rattle.corollaries.specs.Stage.{Stage, Place, in_list, in_gens, in_pairs, in_links, HoldsAt, below, places}
 use Rattle.cert_checker.specs.Parts.{place_of, place_at}
 use Rattle.cert_checker.specs.StageParts.{IsPastPlace}
 use Rattle.cert_checker.specs.FullStops.{IsStop, StopsAt, stop_map}

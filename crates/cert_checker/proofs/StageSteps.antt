@@ -25,7 +25,7 @@ use Rattle.poly.specs.Standing.{IsInVariables}
 use Rattle.ring_laws.specs.declared.ArithmeticError.{ArithmeticError}
 use Rattle.ring_laws.specs.declared.ArithmeticError.TheVariants as arithmetic_error
 use Rattle.task_lists.specs.Rows.{rows_of, HaveWidth}
-use Rattle.completeness.specs.Representation.{pairs_of, IsLcmRepresentation}
+use Rattle.corollaries.specs.Representation.{pairs_of, IsLcmRepresentation}
 use Rattle.task_lists.specs.Past.{IsPastCombination}
 use Rattle.task_lists.proofs.Combining.{place_in}
 use Rattle.task_lists.proofs.Monic.{monic_some}

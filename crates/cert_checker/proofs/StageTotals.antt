@@ -14,11 +14,11 @@ use Rattle.machines.specs.Elimination.{free_part}
 use Rattle.loops.specs.Program.{Expr, Program}
 use Rattle.rounds.specs.Start.{start_list}
 use Rattle.expansion.specs.Counts.{most_terms}
-use Rattle.completeness.specs.Counts.{IsStageCounted}
-use Rattle.completeness.specs.Full.{FullCertificate, orbit, meet}
-use Rattle.completeness.specs.Parts.{Part, in_forms, in_start, at_end, form_parts, start_parts, round_parts, stage_parts, branch_parts}
-use Rattle.completeness.specs.Representation.{pairs_of}
-use Rattle.completeness.specs.Stage.{Stage, Place, in_list, in_gens, in_pairs, in_links, below, places}
+use Rattle.corollaries.specs.Counts.{IsStageCounted}
+use Rattle.corollaries.specs.Full.{FullCertificate, orbit, meet}
+use Rattle.corollaries.specs.Parts.{Part, in_forms, in_start, at_end, form_parts, start_parts, round_parts, stage_parts, branch_parts}
+use Rattle.corollaries.specs.Representation.{pairs_of}
+use Rattle.corollaries.specs.Stage.{Stage, Place, in_list, in_gens, in_pairs, in_links, below, places}
 use Rattle.cert_checker.specs.Further.{further_parts}
 use Rattle.cert_checker.specs.LongParts.{IsTotal, IsFirstBeyond, row_terms, place_terms, part_terms, AreFew}
 use Rattle.cert_checker.proofs.PartTotals.{total_none, total_then, beyond_in, beyond_first, total_map, beyond_map, total_free}

@@ -16,8 +16,8 @@ use Rattle.loops.specs.Program.{Expr, Program}
 use Rattle.loops.specs.Certificate.{IsValid, PassesStart, PassesStep, IsFirstStart, IsFirstStep}
 use Rattle.loop_model.specs.declared.map_error.MapError.TheVariants as map_error
 use Rattle.loop_model.specs.Maps.{AreFree}
-use Rattle.completeness.specs.Full.{FullCertificate, certificate}
-use Rattle.completeness.specs.Parts.{Part, in_basis, in_steps, Holds, basis_parts, step_parts, parts, AllHold, IsFirst}
+use Rattle.corollaries.specs.Full.{FullCertificate, certificate}
+use Rattle.corollaries.specs.Parts.{Part, in_basis, in_steps, Holds, basis_parts, step_parts, parts, AllHold, IsFirst}
 use Rattle.cert_checker.specs.Places.{Place, at_start, in_branch}
 use Rattle.cert_checker.specs.Views.{place_view}
 use Rattle.cert_checker.specs.Wide.{WideIdentity, IfCheckRefused as IfRefusedItself}

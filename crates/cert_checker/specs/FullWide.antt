@@ -30,8 +30,8 @@ use Rattle.cert_checker.specs.Views.{place_view}
 use Rattle.cert_checker.specs.Wide.{IsMapOf, LongIdentity}
 use Rattle.cert_checker.specs.declared.error.CheckError.{CheckError}
 use Rattle.cert_checker.specs.declared.error.CheckError.TheVariants as check_error
-use Rattle.completeness.specs.Full.{FullCertificate, certificate, Kind, orbit, meet, form_of, stage_of, so_far, before}
-use Rattle.completeness.specs.Parts.{Part, in_basis, in_steps, in_forms, in_start, in_round, at_end, Holds, parts}
+use Rattle.corollaries.specs.Full.{FullCertificate, certificate, Kind, orbit, meet, form_of, stage_of, so_far, before}
+use Rattle.corollaries.specs.Parts.{Part, in_basis, in_steps, in_forms, in_start, in_round, at_end, Holds, parts}
 use Rattle.cert_checker.specs.LongParts.{IsLongPart}
 use Rattle.cert_checker.specs.Paths.{path_of}
 use Rattle.cert_checker.specs.StageParts.{IsPastPlace}

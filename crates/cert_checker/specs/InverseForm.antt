@@ -13,8 +13,8 @@ use Rattle.poly.specs.Seen.{terms_each}
 use Rattle.poly.specs.Standing.{IsInVariables}
 use Rattle.loop_model.specs.FracPoly.{FracPoly}
 use Rattle.expo.specs.Bases.{IsCoprimeBase}
-use Rattle.completeness.specs.Stage.{Stage}
-use Rattle.completeness.specs.Full.{BranchStages, form_of}
+use Rattle.corollaries.specs.Stage.{Stage}
+use Rattle.corollaries.specs.Full.{BranchStages, form_of}
 use Rattle.task_lists.specs.Images.{ArePolys}
 use Rattle.task_lists.specs.View.{full_of}
 use Rattle.task_lists.specs.declared.parts.FullBranch.{FullBranch}

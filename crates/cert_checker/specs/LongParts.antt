@@ -15,9 +15,9 @@ use Rattle.loops.specs.Certificate.{IsValid}
 use Rattle.rounds.specs.BranchMap.{map_of}
 use Rattle.expansion.specs.Counts.{most_terms, combination_terms}
 use Rattle.expansion.specs.Lengths.{composition_length, list_length, next_lengths}
-use Rattle.completeness.specs.Stage.{Stage, Place, in_list, in_gens, in_pairs, in_links}
-use Rattle.completeness.specs.Full.{FullCertificate, orbit, meet, certificate, form_of, stage_of, before}
-use Rattle.completeness.specs.Parts.{Part, in_basis, in_steps, in_forms, in_start, in_round, at_end}
+use Rattle.corollaries.specs.Stage.{Stage, Place, in_list, in_gens, in_pairs, in_links}
+use Rattle.corollaries.specs.Full.{FullCertificate, orbit, meet, certificate, form_of, stage_of, before}
+use Rattle.corollaries.specs.Parts.{Part, in_basis, in_steps, in_forms, in_start, in_round, at_end}
 use Rattle.cert_checker.specs.Further.{further_parts}
 use Rattle.cert_checker.specs.Paths.{path_of}
 

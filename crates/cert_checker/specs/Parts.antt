@@ -4,9 +4,9 @@
 --   place_at r i, stage_part r b k p     the place i of a list; the part at a place of a stage
 --   in_forms, in_starts            why the judging of numbers has stopped, as parts
 use Rattle.std.specs.Prelude.{ℕ, List, codes}
-use Rattle.completeness.specs.Stage as stage
-use Rattle.completeness.specs.Full as full
-use Rattle.completeness.specs.Parts as whole
+use Rattle.corollaries.specs.Stage as stage
+use Rattle.corollaries.specs.Full as full
+use Rattle.corollaries.specs.Parts as whole
 use Rattle.cert_checker.specs.FullStops.{stop_map}
 use Rattle.cert_checker.specs.declared.full_part.Row.{Row}
 use Rattle.cert_checker.specs.declared.full_part.Row.TheVariants as row

@@ -2,9 +2,9 @@
 --   path_of part     its text
 use Rattle.std.specs.Prelude.{ℕ, List, ◌++◌, codes}
 use Rattle.cert_form.specs.Form.{part}
-use Rattle.completeness.specs.Stage.{Place, in_list, in_gens, in_pairs, in_links}
-use Rattle.completeness.specs.Full.{Kind, orbit, meet}
-use Rattle.completeness.specs.Parts.{Part, in_basis, in_steps, in_forms, in_start, in_round, at_end}
+use Rattle.corollaries.specs.Stage.{Place, in_list, in_gens, in_pairs, in_links}
+use Rattle.corollaries.specs.Full.{Kind, orbit, meet}
+use Rattle.corollaries.specs.Parts.{Part, in_basis, in_steps, in_forms, in_start, in_round, at_end}
 
 abbrev pub kind_path : List ℕ → Kind → List ℕ
 kind_path path orbit = path ++ codes "/" ++ codes "orbit"

@@ -9,8 +9,8 @@ use Rattle.algebra.specs.Fraction.{Fraction, ℚ, rationals, fractions}
 use Rattle.polynomials.specs.Terms.{Terms, Same, combination}
 use Rattle.machines.specs.Cut.{lead_number}
 use Rattle.machines.specs.Past.{IsPastPair}
-use Rattle.completeness.specs.Representation.{pairs_of, IsLcmRepresentation}
-use Rattle.completeness.specs.Stage.{Stage, Place, in_list, in_gens, in_pairs, in_links, block_order}
+use Rattle.corollaries.specs.Representation.{pairs_of, IsLcmRepresentation}
+use Rattle.corollaries.specs.Stage.{Stage, Place, in_list, in_gens, in_pairs, in_links, block_order}
 use Rattle.task_lists.specs.Past.{IsPastCombination}
 
 abbrev pub IsMonicAt : List (Terms Fraction) → ℕ → Type 0

@@ -3,8 +3,8 @@
 --   IsVerdictOf program c v      v is complete, and all parts of c hold, or v has the path of the first part that doesn't
 use Rattle.std.specs.Prelude.{◌≡◌, ℕ, List, string_bytes}
 use Rattle.loops.specs.Program.{Expr, Program}
-use Rattle.completeness.specs.Full.{FullCertificate}
-use Rattle.completeness.specs.Parts.{Part, AllHold, IsFirst}
+use Rattle.corollaries.specs.Full.{FullCertificate}
+use Rattle.corollaries.specs.Parts.{Part, AllHold, IsFirst}
 use Rattle.cert_checker.specs.Paths.{path_of}
 use Rattle.cert_checker.specs.declared.full_verdict.FullVerdict.{FullVerdict}
 use Rattle.cert_checker.specs.declared.full_verdict.FullVerdict.TheVariants.{Complete, Fails}

@@ -7,7 +7,7 @@ ghost use Rattle.polynomials.specs.Terms.{Same, variables, compose};
 ghost use Rattle.polynomials.specs.Weight.{weight, IsPastComposition};
 ghost use Rattle.solvable_maps.specs.Iterations.{width};
 ghost use Rattle.solvable_maps.specs.Expo.{with_normal_keys, next_images, zero_images};
-ghost use Rattle.completeness.specs.FormIdentities.{IsRightForm};
+ghost use Rattle.corollaries.specs.FormIdentities.{IsRightForm};
 ghost use Rattle.rounds.specs.Form.{inverse_form, inverse_of_form};
 ghost use Rattle.monos.specs.Variables.{most_variables};
 ghost use Rattle.poly.specs.Seen.{terms_in, terms_each};

@@ -2,11 +2,11 @@
 ghost use Rattle.std.specs.Prelude.{◌<◌, ℕ, length, IfOk, IfErr};
 ghost use Rattle.loop_model.specs.Maps.{AreBranchMaps};
 ghost use Rattle.loop_model.specs.View.{program_of};
-ghost use Rattle.completeness.specs.Parts.{Holds, in_forms};
+ghost use Rattle.corollaries.specs.Parts.{Holds, in_forms};
 ghost use Rattle.task_lists.specs.Images.{IsFullIn};
 ghost use Rattle.task_lists.specs.View.{full_of};
 ghost use Rattle.cert_checker.specs.InverseForm.{AreInverseForm};
-ghost use Rattle.completeness.specs.Counts.{IsCounted};
+ghost use Rattle.corollaries.specs.Counts.{IsCounted};
 ghost use Rattle.cert_checker.specs.FullStops.{StopsAt};
 ghost use Rattle.cert_checker.specs.FullWide.{IsPastPart};
 

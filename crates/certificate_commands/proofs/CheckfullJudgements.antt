@@ -6,7 +6,7 @@ use Rattle.std.specs.Prelude.{Some, option_map, string_bytes}
 use Rattle.loops.specs.Inv.{Inv}
 use Rattle.loops.specs.Program.{Expr, Program}
 use Rattle.rounds.specs.Generate.{Generates}
-use Rattle.completeness.specs.Full.{FullCertificate}
+use Rattle.corollaries.specs.Full.{FullCertificate}
 use Rattle.loop_model.specs.declared.map_error.MapError.TheVariants as map_error
 use Rattle.loop_model.specs.Maps.{AreFree}
 use Rattle.full_cert.specs.Form.{full_in}

@@ -8,8 +8,8 @@ use Rattle.algebra.proofs.Each.{each-right}
 use Rattle.loops.specs.Inv.{Inv}
 use Rattle.loops.specs.Program.{Expr, Program}
 use Rattle.rounds.specs.Generate.{Generates}
-use Rattle.completeness.specs.Full.{FullCertificate}
-use Rattle.completeness.specs.Parts.{Part, Holds, AllHold, IsFirst}
+use Rattle.corollaries.specs.Full.{FullCertificate}
+use Rattle.corollaries.specs.Parts.{Part, Holds, AllHold, IsFirst}
 use Rattle.poly_text.specs.Reasons.{limit, wide}
 use Rattle.loop_model.specs.Operations.{IsLimit}
 use Rattle.loop_model.specs.Maps.{maps_operations, AreFree}

@@ -42,8 +42,8 @@ use Rattle.cert_checker.specs.LongParts.{part_terms, AreFew}
 use Rattle.cert_checker.specs.Places.{Place, at_start, in_branch}
 use Rattle.cert_checker.specs.Wide.{IsMapOf, LongIdentity}
 use Rattle.cert_checker.proofs.PartTotals.{not_beyond}
-use Rattle.completeness.specs.Full as full
-use Rattle.completeness.specs.Parts.{in_forms, in_start, at_end}
+use Rattle.corollaries.specs.Full as full
+use Rattle.corollaries.specs.Parts.{in_forms, in_start, at_end}
 use Rattle.certificate_commands.specs.CheckJudging.{IsShort}
 use Rattle.certificate_commands.specs.CheckfullJudging as checkfull
 

@@ -4,8 +4,8 @@ use Rattle.std.specs.Prelude.{◌≡◌, ℕ, List, length, codes}
 use Rattle.loops.specs.Inv.{Inv}
 use Rattle.loops.specs.Program.{Expr, Program}
 use Rattle.rounds.specs.Generate.{Generates}
-use Rattle.completeness.specs.Full.{FullCertificate}
-use Rattle.completeness.specs.Parts.{AllHold}
+use Rattle.corollaries.specs.Full.{FullCertificate}
+use Rattle.corollaries.specs.Parts.{AllHold}
 use Rattle.full_cert.specs.Form.{full_in}
 use Rattle.certificate_commands.specs.CertificateAsking.{IsQuestion}
 

@@ -9,8 +9,8 @@ use Rattle.loops.specs.Program.{Expr, Program}
 use Rattle.rounds.specs.Generate.{Generates}
 use Rattle.loop_model.specs.Operations.{IsLimit, IsWide as IsWideOperation}
 use Rattle.loop_model.specs.Maps.{maps_operations, AreFree}
-use Rattle.completeness.specs.Full.{FullCertificate}
-use Rattle.completeness.specs.Parts.{Part, AllHold, IsFirst}
+use Rattle.corollaries.specs.Full.{FullCertificate}
+use Rattle.corollaries.specs.Parts.{Part, AllHold, IsFirst}
 use Rattle.cert_checker.specs.Paths.{path_of}
 use Rattle.cert_checker.specs.FullWide.{IsLong, IsWide}
 use Rattle.io_edge.specs.Texts.{Answer}

@@ -19,9 +19,9 @@ use Rattle.cert_form.specs.Path.{member_path}
 use Rattle.cert_form.proofs.Readings.{on_ok, after_ok, expect_ok, parts_ok, parts_count}
 use Rattle.full_cert.specs.Raw.{raw_at}
 use Rattle.full_cert.specs.Tables.{raws_at, table_at}
-use Rattle.completeness.specs.Stage.{Stage}
-use Rattle.completeness.specs.Full.{FullCertificate, WrittenForm, BranchStages, orbit, meet, form_of, stage_of, of_option, so_far, before, starting}
-use Rattle.completeness.specs.Counts.{IsStageCounted, IsSquare, no_branch, IsBranchCounted, IsCounted}
+use Rattle.corollaries.specs.Stage.{Stage}
+use Rattle.corollaries.specs.Full.{FullCertificate, WrittenForm, BranchStages, orbit, meet, form_of, stage_of, of_option, so_far, before, starting}
+use Rattle.corollaries.specs.Counts.{IsStageCounted, IsSquare, no_branch, IsBranchCounted, IsCounted}
 use Rattle.full_cert.specs.PartsForm.{stage_at, Start, start_at, start_there, block_at, steps_at, base_at, polys_at, form_at, forms_at}
 use Rattle.full_cert.proofs.PartsCounted.{member_count, table_counted, stage_counted}
 use Rattle.full_cert.specs.Form.{member_stage, orbit_at, meet_at, branch_at, given_by, branches_at, last_given, round_at, rounds_at, rounds_in, has_kind, parts_of, full_value, full_in}

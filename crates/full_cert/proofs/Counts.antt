@@ -18,7 +18,7 @@ use Rattle.exponentials.specs.Table.{numbers}
 use Rattle.machines.specs.Elimination.{free, all_free, free_part}
 use Rattle.machines.proofs.Front.{kept-append}
 use Rattle.machines.specs.Front.{IsFreeOfFirst}
-use Rattle.completeness.specs.Representation.{pairs_of}
+use Rattle.corollaries.specs.Representation.{pairs_of}
 
 -- ---- free of the first variables
 module _ {A : Type 0} (k : ℕ) where

@@ -14,7 +14,7 @@ use Rattle.cert_form.specs.Form.{Reading, on, after, part}
 use Rattle.cert_form.specs.Faults.{IfFault}
 use Rattle.cert_form.proofs.Each.{IfFault-map, after-after, after-nil}
 use Rattle.cert_form.proofs.Zip.{zip_push}
-use Rattle.completeness.specs.Full.{WrittenForm, BranchStages}
+use Rattle.corollaries.specs.Full.{WrittenForm, BranchStages}
 use Rattle.algebra.proofs.Lists.{take_one}
 use Rattle.task_lists.specs.declared.parts.FullForm.{FullForm}
 use Rattle.task_lists.specs.Images.{IsBranchIn}

@@ -10,7 +10,7 @@ use Rattle.cert_form.specs.declared.error.CertError.{CertError}
 use Rattle.cert_form.specs.Form.{Reading, on, after, part}
 use Rattle.cert_form.specs.Faults.{IfFault}
 use Rattle.cert_form.proofs.Each.{IfFault-map, after-after}
-use Rattle.completeness.specs.Full.{WrittenForm, BranchStages}
+use Rattle.corollaries.specs.Full.{WrittenForm, BranchStages}
 use Rattle.full_cert.specs.Form.{last_given, round_at, rounds_at}
 
 module _ {A : Type 0} (see : A → List BranchStages) (m before : ℕ) (fs : List WrittenForm)

@@ -27,10 +27,10 @@ use Rattle.cert_form.specs.Written.{list_data}
 use Rattle.full_cert.specs.Raw.{raw_at}
 use Rattle.full_cert.specs.Tables.{raws_at, raws_with, row_at, table_at}
 use Rattle.full_cert.specs.RawWritten.{raw_data}
-use Rattle.completeness.specs.Full.{WrittenForm}
-use Rattle.completeness.specs.Representation.{pairs_of}
-use Rattle.completeness.specs.Stage.{Stage, block_order}
-use Rattle.completeness.specs.Counts.{IsStageCounted}
+use Rattle.corollaries.specs.Full.{WrittenForm}
+use Rattle.corollaries.specs.Representation.{pairs_of}
+use Rattle.corollaries.specs.Stage.{Stage, block_order}
+use Rattle.corollaries.specs.Counts.{IsStageCounted}
 use Rattle.full_cert.specs.PartsForm.{few, base_number_at, base_at, form_at, stage_at, Start, start_at, block_at, steps_at, forms_at}
 use Rattle.task_lists.specs.Images.{most_bases}
 use Rattle.full_cert.specs.Narrow.{IsNarrowNumber}

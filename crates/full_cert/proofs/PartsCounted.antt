@@ -16,9 +16,9 @@ use Rattle.cert_form.specs.Path.{member_path}
 use Rattle.cert_form.proofs.Readings.{on_ok, expect_ok, list_count, parts_ok, parts_count}
 use Rattle.full_cert.specs.Raw.{raw_at}
 use Rattle.full_cert.specs.Tables.{raws_at, raws_with, table_at}
-use Rattle.completeness.specs.Representation.{pairs_of}
-use Rattle.completeness.specs.Stage.{Stage, block_order}
-use Rattle.completeness.specs.Counts.{IsStageCounted}
+use Rattle.corollaries.specs.Representation.{pairs_of}
+use Rattle.corollaries.specs.Stage.{Stage, block_order}
+use Rattle.corollaries.specs.Counts.{IsStageCounted}
 use Rattle.full_cert.specs.PartsForm.{stage_at}
 
 -- the list of so many that a member is

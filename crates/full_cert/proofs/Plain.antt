@@ -12,8 +12,8 @@ use Rattle.algebra.specs.Fraction.{Fraction}
 use Rattle.polynomials.specs.Terms.{Terms}
 use Rattle.cert_form.specs.Written.{list_data}
 use Rattle.full_cert.specs.RawWritten.{exponent_data, term_data, raw_data}
-use Rattle.completeness.specs.Stage.{Stage}
-use Rattle.completeness.specs.Full.{BranchStages, FullCertificate, WrittenForm}
+use Rattle.corollaries.specs.Stage.{Stage}
+use Rattle.corollaries.specs.Full.{BranchStages, FullCertificate, WrittenForm}
 use Rattle.full_cert.specs.Written.{raws_data, rows_data, steps_data, base_number_data, base_data, form_data, start_data, stage_data, branch_data, with_meet, round_data, full_data}
 
 each_no_float : {A : Type 0} (f : A → Data) → ((a : A) → has_float (f a) ≡ false) → (us : List A)

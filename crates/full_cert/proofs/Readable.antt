@@ -19,14 +19,14 @@ use Rattle.poly.specs.Seen.{terms_each}
 use Rattle.poly_text.specs.Narrow.{IsNarrow}
 use Rattle.cert_form.proofs.Kept.{seen_length}
 use Rattle.task_lists.specs.Rows.{rows_of}
-use Rattle.completeness.specs.Stage.{block_order}
-use Rattle.completeness.specs.Full.{WrittenForm, BranchStages, orbit, meet, of_option}
+use Rattle.corollaries.specs.Stage.{block_order}
+use Rattle.corollaries.specs.Full.{WrittenForm, BranchStages, orbit, meet, of_option}
 use Rattle.task_lists.specs.Images.{most_bases, in_blocks, ArePolys, AreRows, IsFormOver, IsStageIn, IsBranchIn, AreBranchesIn, IsFullIn}
 use Rattle.task_lists.specs.View.{form_in, stage_in, branch_in, round_in, full_of}
 use Rattle.task_lists.specs.declared.parts.FullForm.{FullForm}
 use Rattle.task_lists.specs.declared.parts.FullStage.{FullStage}
 use Rattle.task_lists.proofs.Descending.{fall_images, fall_rows, fall_over}
-use Rattle.completeness.specs.Counts.{no_branch, IsCounted}
+use Rattle.corollaries.specs.Counts.{no_branch, IsCounted}
 use Rattle.task_lists.specs.declared.parts.FullBranch.{FullBranch}
 use Rattle.task_lists.specs.declared.parts.FullCert.{FullCert}
 use Rattle.cert_form.specs.Cert.{Polys}

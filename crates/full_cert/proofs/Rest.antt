@@ -18,7 +18,7 @@ use Rattle.cert_form.specs.Form.{Fault, Reading, on, expect}
 use Rattle.cert_form.specs.Faults.{IfFault}
 use Rattle.cert_form.specs.Path.{member_path}
 use Rattle.cert_form.proofs.Each.{IfFault-map}
-use Rattle.completeness.specs.Full.{WrittenForm}
+use Rattle.corollaries.specs.Full.{WrittenForm}
 use Rattle.full_cert.specs.Tables.{raws_at, table_at}
 use Rattle.full_cert.specs.PartsForm.{object_at, member_by, steps_at, forms_at}
 

@@ -19,9 +19,9 @@ use Rattle.rounds.specs.Form.{front, orbit_order, relations}
 use Rattle.cert_form.specs.Form.{Reading, on, after, part, shape}
 use Rattle.cert_form.specs.Path.{member_path}
 use Rattle.cert_form.specs.Written.{list_data}
-use Rattle.completeness.specs.Stage.{Stage, block_order}
-use Rattle.completeness.specs.Full.{FullCertificate, WrittenForm, BranchStages, orbit, meet, form_of, stage_of, front_of, of_option, so_far, before, starting}
-use Rattle.completeness.specs.Counts.{IsStageCounted, no_branch, IsCounted}
+use Rattle.corollaries.specs.Stage.{Stage, block_order}
+use Rattle.corollaries.specs.Full.{FullCertificate, WrittenForm, BranchStages, orbit, meet, form_of, stage_of, front_of, of_option, so_far, before, starting}
+use Rattle.corollaries.specs.Counts.{IsStageCounted, no_branch, IsCounted}
 use Rattle.full_cert.specs.PartsForm.{object_at, stage_at}
 use Rattle.full_cert.specs.Form.{member_stage, meet_at, branch_at, given_by, branches_at, last_given, rounds_at, rounds_in}
 use Rattle.full_cert.proofs.Counted.{last_of, length-relations_to}

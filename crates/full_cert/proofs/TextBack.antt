@@ -15,8 +15,8 @@ use Rattle.cert_form.specs.declared.error.CertError.TheVariants as error
 use Rattle.cert_form.specs.Form.{Reading, Fault, on, document, not_json}
 use Rattle.cert_form.specs.Faults.{IfFault}
 use Rattle.cert_form.specs.Written.{AreBlanks}
-use Rattle.completeness.specs.Full.{FullCertificate}
-use Rattle.completeness.specs.Counts.{IsCounted}
+use Rattle.corollaries.specs.Full.{FullCertificate}
+use Rattle.corollaries.specs.Counts.{IsCounted}
 use Rattle.full_cert.specs.Form.{full_value, full_in}
 use Rattle.task_lists.specs.Images.{IsFullIn}
 use Rattle.task_lists.specs.View.{full_of}

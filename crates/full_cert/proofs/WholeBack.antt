@@ -15,10 +15,10 @@ use Rattle.loops.specs.Program.{Expr, Program}
 use Rattle.solvable_maps.specs.Iterations.{width}
 use Rattle.cert_form.specs.Form.{expect, is_number, is_text, is_list_of, are_texts, has_version, has_names}
 use Rattle.cert_form.specs.Written.{list_data}
-use Rattle.completeness.specs.Full.{FullCertificate, WrittenForm}
+use Rattle.corollaries.specs.Full.{FullCertificate, WrittenForm}
 use Rattle.full_cert.specs.PartsForm.{start_there, steps_at, forms_at}
 use Rattle.task_lists.specs.Images.{most_bases}
-use Rattle.completeness.specs.Counts.{IsCounted}
+use Rattle.corollaries.specs.Counts.{IsCounted}
 use Rattle.full_cert.specs.Form.{has_kind, rounds_in, parts_of, full_value}
 use Rattle.full_cert.specs.Narrow.{IsNarrowNumber}
 use Rattle.full_cert.specs.Written.{raws_data, steps_data, form_data, start_data, round_data, full_object, full_data}

@@ -8,7 +8,7 @@ use Rattle.serde_json.specs.View.{view, items_view}
 use Rattle.serde_json.specs.declared.value.Value.{Value}
 use Rattle.cert_form.specs.Written.{list_data, IsWritten}
 use Rattle.cert_form.proofs.Listed.{Listed, each_one, list_is}
-use Rattle.completeness.specs.Full.{FullCertificate}
+use Rattle.corollaries.specs.Full.{FullCertificate}
 use Rattle.full_cert.specs.Narrow.{ArePolysNarrow, AreRowsNarrow, IsFormNarrow, IsStartNarrow, IsBranchNarrow, IsFullNarrow}
 use Rattle.full_cert.specs.Written.{raws_data, steps_data, form_data, round_data, start_data, full_object, full_data}
 

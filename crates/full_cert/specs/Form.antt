@@ -19,8 +19,8 @@ use Rattle.rounds.specs.Form.{front}
 use Rattle.cert_form.specs.Form.{Reading, on, after, part, expect, list_with, is_text, has_version, has_names, not_json, shape, document}
 use Rattle.cert_form.specs.Path.{member_path}
 use Rattle.full_cert.specs.Tables.{raws_at}
-use Rattle.completeness.specs.Stage.{Stage}
-use Rattle.completeness.specs.Full.{FullCertificate, WrittenForm, BranchStages}
+use Rattle.corollaries.specs.Stage.{Stage}
+use Rattle.corollaries.specs.Full.{FullCertificate, WrittenForm, BranchStages}
 use Rattle.full_cert.specs.PartsForm.{◌>>=◌, object_at, stage_at, start_there, steps_at, forms_at}
 
 abbrev pub member_stage : ℕ → ℕ → ℕ → List ℕ → List ℕ → Data → Reading Stage

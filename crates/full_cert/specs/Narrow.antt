@@ -8,8 +8,8 @@ use Rattle.algebra.specs.Fraction.{Fraction}
 use Rattle.polynomials.specs.Terms.{Terms}
 use Rattle.poly_text.specs.Narrow.{IsNarrow}
 use Rattle.poly_text.specs.Number.{numeral_bound}
-use Rattle.completeness.specs.Stage.{Stage}
-use Rattle.completeness.specs.Full.{BranchStages, FullCertificate, WrittenForm}
+use Rattle.corollaries.specs.Stage.{Stage}
+use Rattle.corollaries.specs.Full.{BranchStages, FullCertificate, WrittenForm}
 use Rattle.full_cert.specs.PartsForm.{Start}
 
 abbrev pub ArePolysNarrow : List (Terms Fraction) → Type 0

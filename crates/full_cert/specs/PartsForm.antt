@@ -24,9 +24,9 @@ use Rattle.poly_text.specs.Number.{numeral_of}
 use Rattle.cert_form.specs.Form.{Reading, on, expect, count, list_with, parts, shape}
 use Rattle.cert_form.specs.Path.{member_path}
 use Rattle.full_cert.specs.Tables.{raws_at, row_at, table_at}
-use Rattle.completeness.specs.Full.{WrittenForm}
-use Rattle.completeness.specs.Representation.{pairs_of}
-use Rattle.completeness.specs.Stage.{Stage, block_order}
+use Rattle.corollaries.specs.Full.{WrittenForm}
+use Rattle.corollaries.specs.Representation.{pairs_of}
+use Rattle.corollaries.specs.Stage.{Stage, block_order}
 use Rattle.task_lists.specs.Images.{most_bases}
 
 infixl 10 ◌>>=◌

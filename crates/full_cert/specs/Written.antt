@@ -11,8 +11,8 @@ use Rattle.algebra.specs.Fraction.{Fraction}
 use Rattle.polynomials.specs.Terms.{Terms}
 use Rattle.cert_form.specs.Written.{list_data}
 use Rattle.full_cert.specs.RawWritten.{raw_data}
-use Rattle.completeness.specs.Stage.{Stage}
-use Rattle.completeness.specs.Full.{BranchStages, FullCertificate, WrittenForm}
+use Rattle.corollaries.specs.Stage.{Stage}
+use Rattle.corollaries.specs.Full.{BranchStages, FullCertificate, WrittenForm}
 use Rattle.full_cert.specs.PartsForm.{Start}
 
 abbrev pub raws_data : List (Terms Fraction) → Data

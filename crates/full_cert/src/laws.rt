@@ -2,7 +2,7 @@
 ghost use Rattle.std.specs.Prelude.{◌≡◌, length, IfOk, IfErr};
 ghost use Rattle.cert_form.specs.declared.error.CertError.TheVariants.{Memory};
 ghost use Rattle.loop_model.specs.View.{program_of};
-ghost use Rattle.completeness.specs.Counts.{IsCounted};
+ghost use Rattle.corollaries.specs.Counts.{IsCounted};
 ghost use Rattle.task_lists.specs.Images.{IsFullIn};
 ghost use Rattle.task_lists.specs.View.{full_of};
 

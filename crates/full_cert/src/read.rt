@@ -3,7 +3,7 @@ ghost use Rattle.std.specs.Prelude.{◌≡◌, ◌<◌, Ok, Err, length, IfOk, I
 ghost use Rattle.serde_json.specs.View.{view};
 ghost use Rattle.loop_model.specs.View.{program_of};
 ghost use Rattle.cert_form.specs.Faults.{IfFault};
-ghost use Rattle.completeness.specs.Counts.{IsCounted};
+ghost use Rattle.corollaries.specs.Counts.{IsCounted};
 ghost use Rattle.task_lists.specs.Images.{IsFullIn};
 ghost use Rattle.full_cert.specs.Form as spec;
 ghost use Rattle.task_lists.specs.View.{full_of};

@@ -32,9 +32,9 @@ use Rattle.journal.specs.View as view
 use Rattle.invariant_fix.specs.Refusals.{AllHaveForms, IsRefusedBranch}
 use Rattle.invariant_fix.specs.declared.errors.AnalyseError.{AnalyseError}
 use Rattle.invariant_fix.specs.declared.errors.AnalyseError.TheVariants as error
-use Rattle.completeness.specs.Full.{FullCertificate}
-use Rattle.completeness.specs.Followed.{IsFinished, IsOut}
-use Rattle.completeness.proofs.One as traces
+use Rattle.corollaries.specs.Full.{FullCertificate}
+use Rattle.corollaries.specs.Followed.{IsFinished, IsOut}
+use Rattle.corollaries.proofs.One as traces
 use Rattle.full_cert.specs.Form.{full_in}
 use Rattle.full_trace.specs.Late.{AllBeginAtZero, IsFirstLate}
 use Rattle.full_trace.specs.Traced as trace

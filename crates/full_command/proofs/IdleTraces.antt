@@ -18,8 +18,8 @@ use Rattle.rounds.specs.Analysis.{Setting, starts, block, starting}
 use Rattle.rounds.specs.Form.{Form}
 use Rattle.rounds.specs.Journal.{setting_of}
 use Rattle.rounds.specs.Start.{start_list, in_order}
-use Rattle.completeness.specs.Followed.{IsPast, IsPastDividends}
-use Rattle.completeness.specs.Trace.{State, fresh, completing, no_results, finished, next, move_of, moves, list_dividends, link_dividends, stage_of, after, link_from, divide_from}
+use Rattle.corollaries.specs.Followed.{IsPast, IsPastDividends}
+use Rattle.corollaries.specs.Trace.{State, fresh, completing, no_results, finished, next, move_of, moves, list_dividends, link_dividends, stage_of, after, link_from, divide_from}
 use Rattle.analysis_commands.proofs.IdleRuns.{x_loop}
 
 abbrev begun : State

@@ -5,9 +5,9 @@ use Rattle.machines.specs.Journal.{Entry}
 use Rattle.loops.specs.Program.{Expr, Program}
 use Rattle.rounds.specs.Journal.{since_of}
 use Rattle.rounds.proofs.Forms.{forms_are_one}
-use Rattle.completeness.specs.Full.{WrittenForm, as_form}
-use Rattle.completeness.specs.Trace.{State}
-use Rattle.completeness.specs.Followed.{Follows}
+use Rattle.corollaries.specs.Full.{WrittenForm, as_form}
+use Rattle.corollaries.specs.Trace.{State}
+use Rattle.corollaries.specs.Followed.{Follows}
 use Rattle.full_trace.specs.Late.{AllBeginAtZero}
 
 written_at_zero : (fs : List WrittenForm) (b : ℕ) → since_of (map as_form fs) b ≡ 0

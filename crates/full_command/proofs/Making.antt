@@ -31,13 +31,13 @@ use Rattle.invariant_fix.specs.Refusals.{AllHaveForms, HasFollowed, IfUnformedLo
 use Rattle.invariant_fix.specs.declared.errors.AnalyseError.{AnalyseError}
 use Rattle.invariant_fix.specs.declared.errors.AnalyseError.TheVariants as error
 use Rattle.invariant_fix.specs.declared.found.Analysis.{Analysis}
-use Rattle.completeness.specs.Counts as counts
-use Rattle.completeness.specs.Counts.{IsCounted}
-use Rattle.completeness.specs.Full.{FullCertificate}
-use Rattle.completeness.specs.Parts.{AllHold}
-use Rattle.completeness.specs.Certified.{full_from}
-use Rattle.completeness.proofs.Certified.{finished_full}
-use Rattle.completeness.proofs.Counted.{finished_counted}
+use Rattle.corollaries.specs.Counts as counts
+use Rattle.corollaries.specs.Counts.{IsCounted}
+use Rattle.corollaries.specs.Full.{FullCertificate}
+use Rattle.corollaries.specs.Parts.{AllHold}
+use Rattle.corollaries.specs.Certified.{full_from}
+use Rattle.corollaries.proofs.Certified.{finished_full}
+use Rattle.corollaries.proofs.Counted.{finished_counted}
 use Rattle.task_lists.specs.Images.{ArePolys, AreRows, AreBranchesIn, IsFormOver, IsFullIn}
 use Rattle.task_lists.specs.View.{form_in, start_in, round_in, full_of}
 use Rattle.task_lists.specs.declared.parts.FullBranch.{FullBranch}

@@ -19,9 +19,9 @@ use Rattle.loops.specs.Program.{Expr, Program}
 use Rattle.rounds.specs.Analysis.{Setting, Work, block, order}
 use Rattle.rounds.specs.Journal.{setting_of, AreForms}
 use Rattle.rounds.proofs.Forms.{forms_are_one}
-use Rattle.completeness.specs.Full.{WrittenForm, as_form}
-use Rattle.completeness.specs.Followed.{Follows, IsFinished, IsPast, IsPastDividing, IsPastDividends, IsPastTidying, IsPastDivided, IsPastCompleting}
-use Rattle.completeness.specs.Trace.{Dividend, Results, State, fresh, completing, dividing, tidying_up, linking, finished, list_dividends, link_dividends, next, moves}
+use Rattle.corollaries.specs.Full.{WrittenForm, as_form}
+use Rattle.corollaries.specs.Followed.{Follows, IsFinished, IsPast, IsPastDividing, IsPastDividends, IsPastTidying, IsPastDivided, IsPastCompleting}
+use Rattle.corollaries.specs.Trace.{Dividend, Results, State, fresh, completing, dividing, tidying_up, linking, finished, list_dividends, link_dividends, next, moves}
 use Rattle.analysis_commands.proofs.Fitting.{first_holds, second_holds, division_fits, division_holds, pair_fits, pair_holds, tidying_fits, tidying_holds, acting_fits, acting_holds, work_fits, work_holds, all_fit, each_fits_on}
 
 -- behind what has ended

@@ -35,9 +35,9 @@ use Rattle.rounds.specs.Start.{start_list, start_polynomial, in_order}
 use Rattle.rounds.specs.Analysis.{block, starting}
 use Rattle.rounds.specs.Journal.{setting_of}
 use Rattle.analysis_commands.proofs.Fitting.{all_fit, then_fit, work_fits, orbit_fits, less_fits, dropping_fits, tailing_fits, acting_fits, taking_fits, left_fits, found_fits, reducing_fits, both_fit, exponents_fit, size_fits, each_fits}
-use Rattle.completeness.specs.Full.{WrittenForm, as_form}
-use Rattle.completeness.specs.Representation.{pairs_of}
-use Rattle.completeness.specs.Trace.{Results, State, Step, no_results, fresh, goes, finished, list_dividends, link_dividends, stage_of, next, moves, after_branch, after, link_from, divide_from}
+use Rattle.corollaries.specs.Full.{WrittenForm, as_form}
+use Rattle.corollaries.specs.Representation.{pairs_of}
+use Rattle.corollaries.specs.Trace.{Results, State, Step, no_results, fresh, goes, finished, list_dividends, link_dividends, stage_of, next, moves, after_branch, after, link_from, divide_from}
 use Rattle.full_command.proofs.TraceFitting.{TraceRun, ended_fits, dividing_fits, dividends_fit, trace_tidying_fits, divided_fits, completing_fits, trace_fits}
 use Rattle.analysis_commands.proofs.TurnedRuns.{doubled_program, doubled_key, negated_program, negated_key}
 

@@ -11,9 +11,9 @@
 -- The others are met by what analysis_commands/proofs/Witnesses names.
 use Rattle.std.proofs.Common.{ℕ, ◌≤◌, [], ◌∷◌, map, sym, subst, arith, None}
 use Rattle.machines.specs.Journal.{Begin, Start, units_of}
-use Rattle.completeness.specs.Full.{WrittenForm, as_form}
-use Rattle.completeness.specs.Trace.{no_results}
-use Rattle.completeness.specs.Followed.{IsFinished}
+use Rattle.corollaries.specs.Full.{WrittenForm, as_form}
+use Rattle.corollaries.specs.Trace.{no_results}
+use Rattle.corollaries.specs.Followed.{IsFinished}
 use Rattle.analysis_commands.proofs.IdleLoops.{one_loop, two_loop, x_form, x_forms, two_forms, x_finished, two_finished}
 use Rattle.analysis_commands.proofs.Witnesses as idle
 use Rattle.analysis_commands.proofs.IdentityMap.{turned}

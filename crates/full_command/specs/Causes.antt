@@ -19,9 +19,9 @@ use Rattle.rounds.specs.Journal.{setting_of}
 use Rattle.invariant_fix.specs.Answers.{IsLeastLevel}
 use Rattle.invariant_fix.specs.Refusals.{AllHaveForms}
 use Rattle.invariant_fix.specs.declared.errors.AnalyseError.{AnalyseError}
-use Rattle.completeness.specs.Full.{FullCertificate, as_form}
-use Rattle.completeness.specs.Trace.{Results, State}
-use Rattle.completeness.specs.Followed.{Follows, IsFinished, IsOut, IsPast}
+use Rattle.corollaries.specs.Full.{FullCertificate, as_form}
+use Rattle.corollaries.specs.Trace.{Results, State}
+use Rattle.corollaries.specs.Followed.{Follows, IsFinished, IsOut, IsPast}
 use Rattle.io_edge.specs.Texts.{Answer, line}
 use Rattle.analysis_commands.specs.Causes as causes
 use Rattle.analysis_commands.specs.RefusalTexts.{refusal_answer}

@@ -24,11 +24,11 @@ use Rattle.invariant_fix.specs.Answers.{IsLeastLevel}
 use Rattle.invariant_fix.specs.Closing.{AreSteps}
 use Rattle.invariant_fix.specs.Refusals.{AllHaveForms, HasFollowed, IfUnformedLoop}
 use Rattle.invariant_fix.specs.declared.errors.AnalyseError.{AnalyseError}
-use Rattle.completeness.specs.Full.{FullCertificate}
-use Rattle.completeness.specs.Parts.{AllHold}
-use Rattle.completeness.specs.Trace.{Results}
-use Rattle.completeness.specs.Followed.{IsFinished}
-use Rattle.completeness.specs.Certified.{full_from}
+use Rattle.corollaries.specs.Full.{FullCertificate}
+use Rattle.corollaries.specs.Parts.{AllHold}
+use Rattle.corollaries.specs.Trace.{Results}
+use Rattle.corollaries.specs.Followed.{IsFinished}
+use Rattle.corollaries.specs.Certified.{full_from}
 use Rattle.full_cert.specs.Form.{full_in}
 use Rattle.full_trace.specs.Late.{AllBeginAtZero, IsFirstLate}
 use Rattle.full_trace.specs.Traced as trace

@@ -6,8 +6,8 @@ use Rattle.loops.specs.Inv.{Inv}
 use Rattle.loops.specs.Program.{Expr, Program}
 use Rattle.rounds.specs.Generate.{Generates}
 use Rattle.loop_text.specs.LoopReader.{loop_of}
-use Rattle.completeness.specs.Full.{FullCertificate}
-use Rattle.completeness.specs.Parts.{AllHold}
+use Rattle.corollaries.specs.Full.{FullCertificate}
+use Rattle.corollaries.specs.Parts.{AllHold}
 use Rattle.full_cert.specs.Form.{full_in}
 use Rattle.analysis_commands.specs.Headline.{IsBasisOf}
 use Rattle.full_command.specs.Texts.{certificate_answer}

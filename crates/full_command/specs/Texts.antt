@@ -2,7 +2,7 @@
 --   certificate_answer names c     the full certificate c, and a line's end
 --   late_answer b                  that the branch b, which counts from 0, is the first that begins late
 use Rattle.std.specs.Prelude.{ℕ, ◌+◌, List, ◌++◌, codes, decimal}
-use Rattle.completeness.specs.Full.{FullCertificate}
+use Rattle.corollaries.specs.Full.{FullCertificate}
 use Rattle.io_edge.specs.declared.answer.Status.TheVariants as status
 use Rattle.io_edge.specs.Texts.{Answer, answer}
 use Rattle.full_cert.specs.Written.{full_text}

@@ -41,8 +41,8 @@ use Rattle.divide.specs.Outcomes.{refusal_of}
 use Rattle.complete.specs.Raising.{raised_to}
 use Rattle.complete.proofs.Coming.{s_polynomial_is, pair_weight}
 use Rattle.complete.proofs.Drawn.{got, lead_got}
-use Rattle.completeness.specs.Rows.{with_pair, ArePairsDivided, IsRefusedInPairs}
-use Rattle.completeness.proofs.AwaitingRows.{pair_divided_behind}
+use Rattle.corollaries.specs.Rows.{with_pair, ArePairsDivided, IsRefusedInPairs}
+use Rattle.corollaries.proofs.AwaitingRows.{pair_divided_behind}
 use Rattle.task_lists.specs.Rows.{rows_of}
 use Rattle.full_trace.specs.Rows.{IsPairDivided, IsPairRefused}
 use Rattle.full_trace.proofs.RowsMade.{Polynomial, Divided}

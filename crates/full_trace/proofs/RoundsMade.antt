@@ -23,14 +23,14 @@ use Rattle.polynomials.specs.Terms.{Terms}
 use Rattle.machines.specs.Journal.{Entry, Journal, units_of}
 use Rattle.rounds.specs.Analysis as analysis
 use Rattle.rounds.specs.Form.{front}
-use Rattle.completeness.specs.Full.{WrittenForm, as_form, BranchStages}
+use Rattle.corollaries.specs.Full.{WrittenForm, as_form, BranchStages}
 use Rattle.coprime_base.specs.Sizes.{sizes}
 use Rattle.poly.specs.Seen.{terms_each}
 use Rattle.loop_model.specs.FracPoly.{FracPoly}
-use Rattle.completeness.specs.Coming.{IsGoing, Comes}
-use Rattle.completeness.specs.Rounds.{behind, OrbitBegins, ComesBehind}
-use Rattle.completeness.specs.Trace.{Results, Step, after_round}
-use Rattle.completeness.proofs.Rounds.{round_begins}
+use Rattle.corollaries.specs.Coming.{IsGoing, Comes}
+use Rattle.corollaries.specs.Rounds.{behind, OrbitBegins, ComesBehind}
+use Rattle.corollaries.specs.Trace.{Results, Step, after_round}
+use Rattle.corollaries.proofs.Rounds.{round_begins}
 use Rattle.task_lists.specs.Images.{IsBranchIn}
 use Rattle.task_lists.specs.View.{form_in, branch_in, round_in}
 use Rattle.task_lists.specs.declared.parts.FullBranch.{FullBranch}

@@ -25,8 +25,8 @@ use Rattle.divide.specs.Division.{division_of, HasCofactors}
 use Rattle.divide.specs.Outcomes.{refusal_of}
 use Rattle.divide.specs.declared.EngineError.{EngineError}
 use Rattle.divide.specs.declared.dividing.Division.{Division}
-use Rattle.completeness.specs.Rows.{AreDivided, IsRefusedIn}
-use Rattle.completeness.proofs.AwaitingRows.{divided_behind}
+use Rattle.corollaries.specs.Rows.{AreDivided, IsRefusedIn}
+use Rattle.corollaries.proofs.AwaitingRows.{divided_behind}
 use Rattle.task_lists.specs.Rows.{rows_of}
 use Rattle.complete.specs.Completing.{AreLike}
 

@@ -24,8 +24,8 @@ use Rattle.machines.proofs.Places.{get_map}
 use Rattle.monos.specs.declared.order.Blocks.{Blocks}
 use Rattle.monos.specs.declared.order.Grevlex.{Grevlex}
 use Rattle.rounds.proofs.Lawful.{kept-nothing}
-use Rattle.completeness.specs.Representation.{pairs_of}
-use Rattle.completeness.specs.Stage.{block_order}
+use Rattle.corollaries.specs.Representation.{pairs_of}
+use Rattle.corollaries.specs.Stage.{block_order}
 use Rattle.poly.specs.Seen.{terms_in, terms_each}
 use Rattle.divide.specs.Current.{AreDivisors}
 use Rattle.complete.specs.Completing.{completion_of, HasElements, IsBasis}
@@ -34,10 +34,10 @@ use Rattle.task_lists.proofs.Monic.{monic_some}
 use Rattle.task_lists.proofs.Places.{pairs_within}
 use Rattle.task_lists.specs.Blocks.{Blocked, in_blocks}
 use Rattle.loop_model.specs.FracPoly.{FracPoly}
-use Rattle.completeness.specs.Making.{IsListMade, IsOutMade, IsRefusedBehindOut, IsStageRefused, IsStartRefused}
-use Rattle.completeness.specs.Rows.{AreDivided, IsRefusedIn, ArePairsDivided, IsRefusedInPairs}
-use Rattle.completeness.proofs.Sizes.{rows_units, pair_rows_units, out_within}
-use Rattle.completeness.proofs.Staged.{kept_ones}
+use Rattle.corollaries.specs.Making.{IsListMade, IsOutMade, IsRefusedBehindOut, IsStageRefused, IsStartRefused}
+use Rattle.corollaries.specs.Rows.{AreDivided, IsRefusedIn, ArePairsDivided, IsRefusedInPairs}
+use Rattle.corollaries.proofs.Sizes.{rows_units, pair_rows_units, out_within}
+use Rattle.corollaries.proofs.Staged.{kept_ones}
 
 -- ---- the completion
 module _ (k m : ℕ) (begin : List Blocked) (v : Vec Blocked) (old mid : Journal)

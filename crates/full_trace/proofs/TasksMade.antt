@@ -24,8 +24,8 @@ use Rattle.rounds.specs.Form as form
 use Rattle.rounds.specs.Form.{front, relations, orbit_order, pulled_back_by}
 use Rattle.rounds.specs.Past.{IsPastOrbit, IsPastStarting, task_of_work}
 use Rattle.rounds.proofs.RelationTerms.{relations_not_kept, blend_not_kept}
-use Rattle.completeness.specs.Full.{as_form}
-use Rattle.completeness.specs.Stage.{Stage}
+use Rattle.corollaries.specs.Full.{as_form}
+use Rattle.corollaries.specs.Stage.{Stage}
 use Rattle.poly.specs.Seen.{terms_in, terms_each}
 use Rattle.journal.specs.View as view
 use Rattle.journal.specs.View.{with_entry}
@@ -36,14 +36,14 @@ use Rattle.divide.specs.declared.EngineError.TheVariants as engine_error
 use Rattle.loop_model.specs.FracPoly.{FracPoly}
 use Rattle.ideal_ops.specs.Blending.{blend_of}
 use Rattle.ideal_ops.specs.Calls.{AreOver}
-use Rattle.completeness.specs.Coming.{IsGoing, Comes, IsStopped, Refuses}
-use Rattle.completeness.specs.Making.{Eliminates, IsStageMade, IsStartMade, IsStartRefused}
-use Rattle.completeness.specs.Rounds.{behind, OrbitBegins, OrbitEnds, MeetBegins, MeetEnds}
-use Rattle.completeness.specs.Trace.{Results, no_results, goes, start_of, after_round}
-use Rattle.completeness.proofs.Sizes.{stage_few, start_few, stage_units}
-use Rattle.completeness.proofs.Staged.{stage_awaits, stage_refused}
-use Rattle.completeness.proofs.Starting.{start_awaits, start_refused}
-use Rattle.completeness.proofs.Tasks.{orbit_eliminates, meet_eliminates, task_stopped, task_lost, after_start}
+use Rattle.corollaries.specs.Coming.{IsGoing, Comes, IsStopped, Refuses}
+use Rattle.corollaries.specs.Making.{Eliminates, IsStageMade, IsStartMade, IsStartRefused}
+use Rattle.corollaries.specs.Rounds.{behind, OrbitBegins, OrbitEnds, MeetBegins, MeetEnds}
+use Rattle.corollaries.specs.Trace.{Results, no_results, goes, start_of, after_round}
+use Rattle.corollaries.proofs.Sizes.{stage_few, start_few, stage_units}
+use Rattle.corollaries.proofs.Staged.{stage_awaits, stage_refused}
+use Rattle.corollaries.proofs.Starting.{start_awaits, start_refused}
+use Rattle.corollaries.proofs.Tasks.{orbit_eliminates, meet_eliminates, task_stopped, task_lost, after_start}
 use Rattle.coprime_base.specs.Sizes.{sizes}
 use Rattle.task_lists.specs.Images.{IsStageIn}
 use Rattle.task_lists.specs.declared.parts.FullStage.{FullStage}

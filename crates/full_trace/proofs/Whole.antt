@@ -18,12 +18,12 @@ use Rattle.rounds.specs.Form.{Form}
 use Rattle.rounds.specs.Journal.{setting_of, AreForms}
 use Rattle.coprime_base.specs.Sizes.{sizes}
 use Rattle.closed_forms.specs.Values.{bodies_of}
-use Rattle.completeness.specs.Full.{WrittenForm, as_form}
-use Rattle.completeness.specs.Coming.{IsGoing, Comes}
-use Rattle.completeness.specs.Followed.{Follows}
-use Rattle.completeness.specs.Rounds.{behind}
-use Rattle.completeness.specs.Trace as trace
-use Rattle.completeness.specs.Trace.{State, fresh, no_results, Step, goes, start_of, next, moves}
+use Rattle.corollaries.specs.Full.{WrittenForm, as_form}
+use Rattle.corollaries.specs.Coming.{IsGoing, Comes}
+use Rattle.corollaries.specs.Followed.{Follows}
+use Rattle.corollaries.specs.Rounds.{behind}
+use Rattle.corollaries.specs.Trace as trace
+use Rattle.corollaries.specs.Trace.{State, fresh, no_results, Step, goes, start_of, next, moves}
 use Rattle.task_lists.specs.View.{form_in, start_in, round_in}
 use Rattle.invariant_fix.specs.Setting.{form_of, FitsSetting, IsSettingOf, HoldsOf}
 use Rattle.invariant_fix.specs.declared.branches.Branch.{Branch}

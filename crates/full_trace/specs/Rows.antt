@@ -17,7 +17,7 @@ use Rattle.ring_laws.specs.declared.Ring as Ring
 use Rattle.monos.specs.declared.order.Order as Order
 use Rattle.poly.specs.declared.Poly.{Poly}
 use Rattle.complete.specs.Completing.{AreLike}
-use Rattle.completeness.specs.Rows.{IsDividedIn, with_pair, IsRefusedAt}
+use Rattle.corollaries.specs.Rows.{IsDividedIn, with_pair, IsRefusedAt}
 
 module _ {K O : Type 0} {g : Ring.Ghosts K} {h : PartialEq.Ghosts K} {k : Order.Ghosts O}
     {l : PartialEq.Ghosts O} where

@@ -23,12 +23,12 @@ use Rattle.poly.specs.Seen.{terms_each}
 use Rattle.coprime_base.specs.Sizes.{sizes}
 use Rattle.closed_forms.specs.Values.{bodies_of}
 use Rattle.closed_forms.specs.declared.Form.{Form}
-use Rattle.completeness.specs.Full.{WrittenForm, as_form}
+use Rattle.corollaries.specs.Full.{WrittenForm, as_form}
 use Rattle.loop_model.specs.FracPoly.{FracPoly}
 use Rattle.journal.specs.View as view
 use Rattle.ideal_ops.specs.Calls.{AreOver}
-use Rattle.completeness.specs.Coming.{IsGoing, IsStopped, IsOutOf}
-use Rattle.completeness.specs.Making.{IsStageRefused}
+use Rattle.corollaries.specs.Coming.{IsGoing, IsStopped, IsOutOf}
+use Rattle.corollaries.specs.Making.{IsStageRefused}
 use Rattle.task_lists.specs.Images.{IsStageIn}
 use Rattle.task_lists.specs.declared.parts.FullStage.{FullStage}
 use Rattle.task_lists.specs.declared.parts.FullBranch.{FullBranch}

@@ -9,9 +9,9 @@ use Rattle.machines.specs.Journal.{Entry, Task, Journal}
 use Rattle.loops.specs.Program.{Expr, Program}
 use Rattle.rounds.specs.Journal.{setting_of}
 use Rattle.journal.specs.View as view
-use Rattle.completeness.specs.Full.{as_form}
-use Rattle.completeness.specs.Trace.{State, Results}
-use Rattle.completeness.specs.Followed.{Follows, IsFinished, IsOut, IsPast, task_of}
+use Rattle.corollaries.specs.Full.{as_form}
+use Rattle.corollaries.specs.Trace.{State, Results}
+use Rattle.corollaries.specs.Followed.{Follows, IsFinished, IsOut, IsPast, task_of}
 use Rattle.task_lists.specs.Images.{ArePolys, AreRows, IsFormOver}
 use Rattle.task_lists.specs.View.{form_in, start_in}
 use Rattle.task_lists.specs.Images.{AreBranchesIn}

@@ -3,11 +3,11 @@ ghost use Rattle.std.specs.Prelude.{◌≡◌, ◌<◌, ◌≤◌, ◌+◌, ◌�
 ghost use Rattle.algebra.specs.Fraction.{Fraction};
 ghost use Rattle.polynomials.specs.Terms.{Terms};
 ghost use Rattle.machines.specs.Journal.{units_of};
-ghost use Rattle.completeness.specs.Full.{BranchStages};
+ghost use Rattle.corollaries.specs.Full.{BranchStages};
 ghost use Rattle.poly.specs.Seen.{terms_each};
-ghost use Rattle.completeness.specs.Coming.{Comes};
-ghost use Rattle.completeness.specs.Rounds.{behind, OrbitBegins, ComesBehind};
-ghost use Rattle.completeness.specs.Trace.{Results, finished, after_round};
+ghost use Rattle.corollaries.specs.Coming.{Comes};
+ghost use Rattle.corollaries.specs.Rounds.{behind, OrbitBegins, ComesBehind};
+ghost use Rattle.corollaries.specs.Trace.{Results, finished, after_round};
 ghost use Rattle.task_lists.specs.View.{branch_in, round_in};
 ghost use Rattle.invariant_fix.specs.Setting.{FitsSetting};
 ghost use Rattle.full_trace.specs.Tasks.{Along, Stops, Knows, given_in, after_row, after_rows, fronts_of, IsBranchOver, AreBranchesOver};

@@ -7,7 +7,7 @@ ghost use Rattle.poly.specs.Seen.{terms_in, terms_each};
 ghost use Rattle.divide.specs.Current.{AreDivisors};
 ghost use Rattle.divide.specs.Outcomes.{refusal_of};
 ghost use Rattle.divide.specs.Limits.{list_limit};
-ghost use Rattle.completeness.specs.Rows.{ArePairsDivided, IsRefusedInPairs};
+ghost use Rattle.corollaries.specs.Rows.{ArePairsDivided, IsRefusedInPairs};
 ghost use Rattle.task_lists.specs.Rows.{rows_of};
 ghost use Rattle.complete.specs.Completing.{AreLike};
 ghost use Rattle.full_trace.specs.Rows.{AreRowsLike, IsPairDivided, IsPairRefused};

@@ -4,7 +4,7 @@ ghost use Rattle.poly.specs.Seen.{terms_each};
 ghost use Rattle.divide.specs.Current.{AreDivisors};
 ghost use Rattle.divide.specs.Outcomes.{refusal_of};
 ghost use Rattle.divide.specs.Limits.{list_limit};
-ghost use Rattle.completeness.specs.Rows.{AreDivided, IsRefusedIn};
+ghost use Rattle.corollaries.specs.Rows.{AreDivided, IsRefusedIn};
 ghost use Rattle.task_lists.specs.Rows.{rows_of};
 ghost use Rattle.complete.specs.Completing.{AreLike};
 ghost use Rattle.full_trace.specs.Rows.{AreRowsLike};

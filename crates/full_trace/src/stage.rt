@@ -7,7 +7,7 @@ ghost use Rattle.complete.specs.Limits.{generators_limit};
 ghost use Rattle.ideal_ops.specs.Eliminating.{HaveBlock};
 ghost use Rattle.task_lists.specs.Images.{IsStageIn};
 ghost use Rattle.task_lists.specs.View.{stage_in};
-ghost use Rattle.completeness.specs.Making.{IsStageMade, IsStageRefused};
+ghost use Rattle.corollaries.specs.Making.{IsStageMade, IsStageRefused};
 
 use crate::pairs::divide_pairs;
 use crate::rows::divide_each;

@@ -8,7 +8,7 @@ use Rattle.std.proofs.lemmas.List.{drop_all}
 use Rattle.algebra.specs.FieldArithmetic.{FieldArithmetic}
 use Rattle.polynomials.specs.Order.{Rank}
 use Rattle.polynomials.specs.Terms.{Terms, times}
-use Rattle.completeness.specs.Representation.{IsLeadBelow, AreBelow}
+use Rattle.corollaries.specs.Representation.{IsLeadBelow, AreBelow}
 
 module _ {A : Type 0} (F : FieldArithmetic A) (O : Rank) (e : List ℕ) (qs gs : List (Terms A)) where
   abbrev pub BelowFrom : ℕ → Type 0

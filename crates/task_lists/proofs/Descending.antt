@@ -19,7 +19,7 @@ use Rattle.poly.specs.Seen.{terms_in, terms_each, IsImage}
 use Rattle.poly.specs.Standing.{IsInVariables}
 use Rattle.poly.proofs.Standing.{polynomial_over, arities_over}
 use Rattle.task_lists.specs.Rows.{rows_of, HaveImages}
-use Rattle.completeness.specs.Stage.{block_order, IsStageOver}
+use Rattle.corollaries.specs.Stage.{block_order, IsStageOver}
 use Rattle.task_lists.specs.Images.{in_blocks, ArePolys, IsStageIn}
 use Rattle.task_lists.specs.View.{stage_in}
 use Rattle.task_lists.specs.declared.parts.FullStage.{FullStage}

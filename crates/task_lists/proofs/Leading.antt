@@ -15,7 +15,7 @@ use Rattle.polynomials.specs.Polynomial.{Arity, IsPolynomial}
 use Rattle.polynomials.specs.Terms.{Terms, Same, coefficient}
 use Rattle.polynomials.proofs.Lead.{lead_along, lead_unique, lead_of_first}
 use Rattle.polynomials.proofs.Same.{Same-sym}
-use Rattle.completeness.specs.Representation.{IsLeadBelow}
+use Rattle.corollaries.specs.Representation.{IsLeadBelow}
 
 nothing : (d : List ℕ) → coefficient ℚ [] d ≡ ℚ.zero
 unfolding Algebra.coefficient sum_over

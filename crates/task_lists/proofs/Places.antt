@@ -12,7 +12,7 @@ use Rattle.std.proofs.lemmas.Grind.{flat_map-append}
 use Rattle.algebra.specs.Each.{Each}
 use Rattle.algebra.proofs.Each.{each-append, each-map}
 use Rattle.exponentials.specs.Table.{numbers}
-use Rattle.completeness.specs.Representation.{pairs_of}
+use Rattle.corollaries.specs.Representation.{pairs_of}
 
 -- behind them one more
 pub numbers-push : (lo n : ℕ) → numbers lo (suc n) ≡ numbers lo n ++ (lo + n) ∷ []

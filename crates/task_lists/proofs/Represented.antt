@@ -18,7 +18,7 @@ use Rattle.machines.specs.High.{IsPastRaised}
 use Rattle.machines.specs.Pairs.{multiple}
 use Rattle.machines.specs.Past.{IsPastPair}
 use Rattle.machines.proofs.Collecting.{collect-same}
-use Rattle.completeness.specs.Representation.{AreBelow, IsLcmRepresentation}
+use Rattle.corollaries.specs.Representation.{AreBelow, IsLcmRepresentation}
 use Rattle.task_lists.specs.Raising.{raised_to}
 
 module _ (gs : List (Terms Fraction)) (a : ℕ × ℕ) (e : List ℕ) (f g : Terms Fraction)

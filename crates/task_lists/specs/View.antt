@@ -9,8 +9,8 @@ use Rattle.algebra.specs.Fraction.{Fraction}
 use Rattle.polynomials.specs.Terms.{Terms}
 use Rattle.poly.specs.Seen.{terms_each}
 use Rattle.coprime_base.specs.Sizes.{sizes}
-use Rattle.completeness.specs.Stage.{Stage}
-use Rattle.completeness.specs.Full.{FullCertificate, WrittenForm, BranchStages}
+use Rattle.corollaries.specs.Stage.{Stage}
+use Rattle.corollaries.specs.Full.{FullCertificate, WrittenForm, BranchStages}
 use Rattle.task_lists.specs.Rows.{rows_of}
 use Rattle.task_lists.specs.declared.parts.FullForm.{FullForm}
 use Rattle.task_lists.specs.declared.parts.FullStage.{FullStage}

@@ -7,7 +7,7 @@ ghost use Rattle.machines.specs.Cut.{lead_number};
 ghost use Rattle.machines.specs.Elimination.{free_part};
 ghost use Rattle.poly.specs.Seen.{terms_in, terms_each};
 ghost use Rattle.poly.specs.Standing.{IsInVariables};
-ghost use Rattle.completeness.specs.Representation.{pairs_of};
+ghost use Rattle.corollaries.specs.Representation.{pairs_of};
 
 use frac128::Frac;
 use monos::{Blocks, Grevlex, Order};
@@ -49,7 +49,7 @@ pub fn free_elements(
 }
 
 /// The pairs of places of a list of `count`, the lower one first, by the first and then by the second.
-#[tactic(auto, unfolding(completeness::specs::Representation::pairs_of))]
+#[tactic(auto, unfolding(corollaries::specs::Representation::pairs_of))]
 pub fn all_pairs(alloc: Global, count: usize) -> Result<Vec<(usize, usize)>, AllocError>
     ensures { IfOk result (λ pairs. pairs.items ≡ pairs_of count) }
 {

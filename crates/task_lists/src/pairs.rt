@@ -6,7 +6,7 @@ ghost use Rattle.polynomials.specs.Weight.{IsPastProduct};
 ghost use Rattle.machines.specs.Past.{IsPastPair};
 ghost use Rattle.monos.specs.Variables.{most_variables};
 ghost use Rattle.poly.specs.Seen.{terms_in, terms_each, IsImage};
-ghost use Rattle.completeness.specs.Representation.{IsLeadBelow, AreBelow, IsLcmRepresentation};
+ghost use Rattle.corollaries.specs.Representation.{IsLeadBelow, AreBelow, IsLcmRepresentation};
 ghost use Rattle.task_lists.specs.Past.{IsPastCombination};
 
 use crate::combination::combination;

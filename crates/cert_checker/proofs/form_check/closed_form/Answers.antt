@@ -7,7 +7,7 @@ use Rattle.algebra.proofs.Lists.{take_next, have_more}
 use Rattle.polynomials.specs.Order.{grevlex}
 use Rattle.solvable_maps.specs.Iterations.{width}
 use Rattle.rounds.specs.Form.{inverse_form}
-use Rattle.completeness.specs.FormIdentities.{IsRightForm}
+use Rattle.corollaries.specs.FormIdentities.{IsRightForm}
 use Rattle.poly.specs.Seen.{terms_in, terms_each}
 use Rattle.poly.specs.Standing.{IsInVariables}
 use Rattle.coprime_base.specs.Sizes.{sizes}

@@ -8,12 +8,12 @@ use Rattle.loop_model.specs.Maps.{IsBranchMap}
 use Rattle.loop_model.specs.View.{program_of}
 use Rattle.loop_model.proofs.BranchMaps.{maps_count}
 use Rattle.loop_model.specs.FracPoly.{FracPoly}
-use Rattle.completeness.specs.FormIdentities.{IsRightForm}
-use Rattle.completeness.specs.Parts.{Holds, in_forms}
+use Rattle.corollaries.specs.FormIdentities.{IsRightForm}
+use Rattle.corollaries.specs.Parts.{Holds, in_forms}
 use Rattle.cert_checker.proofs.MapsLaws.{branch_here, map_here}
 use Rattle.cert_checker.proofs.VerdictLaws.{branch_count}
 use Rattle.cert_checker.specs.Passing.{Passes}
-use Rattle.completeness.specs.Full.{as_form}
+use Rattle.corollaries.specs.Full.{as_form}
 use Rattle.task_lists.specs.View.{form_in, full_of}
 use Rattle.poly.specs.Seen.{terms_each}
 use Rattle.cert_checker.specs.InverseForm.{IsInverseForm}

@@ -1,7 +1,7 @@
 use Rattle.std.proofs.Common.{◌≡◌, ℕ, ◌<◌, get_or, length, Vec, Global}
 use Rattle.loop_model.specs.FracPoly.{FracPoly}
 use Rattle.loop_model.specs.View.{program_of}
-use Rattle.completeness.specs.Parts.{Holds, in_forms}
+use Rattle.corollaries.specs.Parts.{Holds, in_forms}
 use Rattle.task_lists.specs.View.{full_of}
 use Rattle.cert_checker.specs.InverseForm.{IsInverseForm}
 use Rattle.cert_checker.proofs.full_forms.judge_forms.Given as goal

@@ -5,7 +5,7 @@ use Rattle.algebra.specs.Fraction.{ℚ}
 use Rattle.polynomials.specs.Terms.{AllSame}
 use Rattle.loop_model.specs.View.{program_of}
 use Rattle.poly.specs.Seen.{terms_each}
-use Rattle.completeness.specs.Full.{before}
+use Rattle.corollaries.specs.Full.{before}
 use Rattle.task_lists.specs.View.{round_in, full_of}
 use Rattle.cert_checker.proofs.full_further.judge_end.Goals as goal
 

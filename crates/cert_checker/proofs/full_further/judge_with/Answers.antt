@@ -4,7 +4,7 @@ use Rattle.std.proofs.lemmas.List.{length-map}
 use Rattle.std.proofs.lemmas.Result.{err_from_is_err_and, on_ok_weaker, IfErr-weaker}
 use Rattle.loop_model.specs.View.{program_of}
 use Rattle.poly.specs.Seen.{terms_in}
-use Rattle.completeness.specs.Parts.{Holds}
+use Rattle.corollaries.specs.Parts.{Holds}
 use Rattle.task_lists.specs.View.{full_of}
 use Rattle.cert_checker.specs.Further.{further_parts}
 use Rattle.cert_checker.specs.Parts.{part_of}

@@ -11,11 +11,11 @@ use Rattle.loops.specs.Program.{Expr, Program}
 use Rattle.loop_model.specs.View.{program_of}
 use Rattle.poly.specs.Seen.{terms_each}
 use Rattle.loop_model.specs.FracPoly.{FracPoly}
-use Rattle.completeness.specs.Stage.{HoldsAt, places}
-use Rattle.completeness.specs.Full.{FullCertificate, orbit, meet, stage_of, so_far, starting}
-use Rattle.completeness.specs.Parts.{Holds, stage_parts}
+use Rattle.corollaries.specs.Stage.{HoldsAt, places}
+use Rattle.corollaries.specs.Full.{FullCertificate, orbit, meet, stage_of, so_far, starting}
+use Rattle.corollaries.specs.Parts.{Holds, stage_parts}
 use Rattle.task_lists.specs.Starting.{meet_starting, IsPastMeet, FitsMeet}
-use Rattle.completeness.specs.Counts.{IsStageCounted}
+use Rattle.corollaries.specs.Counts.{IsStageCounted}
 use Rattle.task_lists.specs.Images.{IsStageIn}
 use Rattle.task_lists.specs.View.{form_in, stage_in, round_in, full_of}
 use Rattle.cert_checker.specs.InverseForm.{given_list}

@@ -9,11 +9,11 @@ use Rattle.loop_model.specs.View.{program_of}
 use Rattle.rounds.specs.Form.{front}
 use Rattle.poly.specs.Seen.{terms_each}
 use Rattle.coprime_base.specs.Sizes.{sizes}
-use Rattle.completeness.specs.Stage.{HoldsAt, places}
-use Rattle.completeness.specs.Full.{FullCertificate, WrittenForm, orbit, front_of, stage_of, before, starting}
-use Rattle.completeness.specs.Parts.{Holds, stage_parts}
+use Rattle.corollaries.specs.Stage.{HoldsAt, places}
+use Rattle.corollaries.specs.Full.{FullCertificate, WrittenForm, orbit, front_of, stage_of, before, starting}
+use Rattle.corollaries.specs.Parts.{Holds, stage_parts}
 use Rattle.task_lists.specs.Starting.{orbit_starting, IsPastOrbit}
-use Rattle.completeness.specs.Counts.{IsStageCounted}
+use Rattle.corollaries.specs.Counts.{IsStageCounted}
 use Rattle.task_lists.specs.Images.{IsStageIn}
 use Rattle.task_lists.specs.View.{form_in, stage_in, round_in, full_of}
 use Rattle.cert_checker.specs.InverseForm.{IsInverseForm}

@@ -3,7 +3,7 @@ use Rattle.std.proofs.lemmas.Result.{err_from_is_err_and}
 use Rattle.algebra.specs.Each.{Each}
 use Rattle.loop_model.specs.View.{program_of}
 use Rattle.loop_model.proofs.BranchMaps.{inside_seen, past_seen}
-use Rattle.completeness.specs.Parts.{Holds, branch_parts}
+use Rattle.corollaries.specs.Parts.{Holds, branch_parts}
 use Rattle.task_lists.specs.View.{full_of}
 use Rattle.cert_checker.specs.Parts.{part_of}
 use Rattle.cert_checker.specs.FullWide.{IsPastPart}

@@ -4,9 +4,9 @@ use Rattle.std.proofs.lemmas.Result.{err_from_is_err_and}
 use Rattle.algebra.specs.Each.{Each}
 use Rattle.loops.specs.Program.{Expr, Program}
 use Rattle.loop_model.specs.View.{program_of}
-use Rattle.completeness.specs.Full.{FullCertificate}
-use Rattle.completeness.specs.Parts.{Part, Holds, branch_parts}
-use Rattle.completeness.specs.Stage.{below}
+use Rattle.corollaries.specs.Full.{FullCertificate}
+use Rattle.corollaries.specs.Parts.{Part, Holds, branch_parts}
+use Rattle.corollaries.specs.Stage.{below}
 use Rattle.task_lists.specs.View.{full_of, round_in}
 use Rattle.cert_checker.specs.Parts.{part_of}
 use Rattle.cert_checker.specs.FullWide.{IsPastPart}

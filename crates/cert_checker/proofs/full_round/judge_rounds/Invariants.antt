@@ -2,8 +2,8 @@ use Rattle.std.proofs.Common.{length}
 use Rattle.std.specs.List.{flat_map}
 use Rattle.algebra.specs.Each.{Each}
 use Rattle.loop_model.specs.View.{program_of}
-use Rattle.completeness.specs.Parts.{Holds, branch_parts}
-use Rattle.completeness.specs.Stage.{below}
+use Rattle.corollaries.specs.Parts.{Holds, branch_parts}
+use Rattle.corollaries.specs.Stage.{below}
 use Rattle.task_lists.specs.View.{full_of}
 use Rattle.cert_checker.proofs.full_round.judge_rounds.Given as goal
 

@@ -2,7 +2,7 @@ use Rattle.std.proofs.Common.{◌<◌, ◌-◌, length, sym, ap, ◌∙◌, arit
 use Rattle.std.proofs.lemmas.List.{length-map}
 use Rattle.loop_model.specs.View.{program_of}
 use Rattle.loop_model.proofs.BranchMaps.{count_seen}
-use Rattle.completeness.specs.Full.{so_far}
+use Rattle.corollaries.specs.Full.{so_far}
 use Rattle.task_lists.specs.View.{form_in, round_in, full_of}
 use Rattle.cert_checker.specs.InverseForm.{given_list}
 use Rattle.cert_checker.proofs.Branches.{before_none, round_size, branch_at, given_is, before_is, last_branch}

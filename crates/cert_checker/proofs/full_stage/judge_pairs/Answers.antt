@@ -7,8 +7,8 @@ use Rattle.polynomials.specs.Terms.{Terms}
 use Rattle.ring_laws.specs.declared.ArithmeticError.TheVariants as arithmetic_error
 use Rattle.poly.specs.Seen.{terms_in, terms_each}
 use Rattle.task_lists.specs.Rows.{rows_of}
-use Rattle.completeness.specs.Representation.{pairs_of}
-use Rattle.completeness.specs.Stage.{block_order}
+use Rattle.corollaries.specs.Representation.{pairs_of}
+use Rattle.corollaries.specs.Stage.{block_order}
 use Rattle.task_lists.proofs.Places.{pairs_within}
 use Rattle.cert_checker.specs.StageParts.{pair_of, IsRepresentedAt, IsPastPairAt}
 use Rattle.cert_checker.proofs.Stopping.{here_stops, more_hold}

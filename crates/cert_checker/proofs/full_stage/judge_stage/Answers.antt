@@ -5,8 +5,8 @@ use Rattle.std.proofs.lemmas.Result.{err_from_is_err_and, on_ok_weaker, IfErr-we
 use Rattle.machines.specs.Elimination.{free_part}
 use Rattle.poly.specs.Seen.{terms_in, terms_each}
 use Rattle.task_lists.specs.Rows.{rows_of, HaveWidth}
-use Rattle.completeness.specs.Representation.{pairs_of}
-use Rattle.completeness.specs.Stage.{HoldsAt, in_list, in_gens, in_pairs, places}
+use Rattle.corollaries.specs.Representation.{pairs_of}
+use Rattle.corollaries.specs.Stage.{HoldsAt, in_list, in_gens, in_pairs, places}
 use Rattle.task_lists.specs.Starting.{starting, IsPastAt}
 use Rattle.task_lists.specs.View.{stage_in}
 use Rattle.cert_checker.specs.Parts.{place_of, place_at}

@@ -4,9 +4,9 @@ use Rattle.std.proofs.lemmas.Result.{IfOk-weaker}
 use Rattle.loop_model.specs.View.{program_of}
 use Rattle.loop_model.proofs.Formed.{formed}
 use Rattle.loops.specs.Certificate.{IsValid, IsVerdict}
-use Rattle.completeness.specs.Full.{certificate}
-use Rattle.completeness.specs.Parts.{Holds, in_basis, in_steps}
-use Rattle.completeness.proofs.Complete.{full_generates}
+use Rattle.corollaries.specs.Full.{certificate}
+use Rattle.corollaries.specs.Parts.{Holds, in_basis, in_steps}
+use Rattle.corollaries.proofs.Complete.{full_generates}
 use Rattle.cert_checker.specs.Views.{verdict_of}
 use Rattle.task_lists.specs.View.{full_of}
 use Rattle.cert_checker.proofs.FullOver.{full_over}

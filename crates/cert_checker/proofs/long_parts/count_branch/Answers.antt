@@ -5,10 +5,10 @@ use Rattle.std.proofs.lemmas.List.{length-map}
 use Rattle.loops.specs.Program.{Expr, Program}
 use Rattle.poly.specs.Seen.{terms_each}
 use Rattle.loop_model.specs.View.{program_of}
-use Rattle.completeness.specs.Counts.{IsStageCounted, no_branch}
-use Rattle.completeness.specs.Full.{FullCertificate, orbit, meet, form_of, stage_of, front_of, before, starting}
-use Rattle.completeness.specs.Parts.{in_round, stage_parts}
-use Rattle.completeness.specs.Stage.{places}
+use Rattle.corollaries.specs.Counts.{IsStageCounted, no_branch}
+use Rattle.corollaries.specs.Full.{FullCertificate, orbit, meet, form_of, stage_of, front_of, before, starting}
+use Rattle.corollaries.specs.Parts.{in_round, stage_parts}
+use Rattle.corollaries.specs.Stage.{places}
 use Rattle.task_lists.specs.View.{form_in, stage_in, round_in, full_of}
 use Rattle.cert_checker.specs.LongParts.{IsTotal, IsFirstBeyond, part_terms}
 use Rattle.cert_checker.specs.Parts.{place_of}

@@ -7,9 +7,9 @@ use Rattle.expansion.specs.Counts.{IsCount}
 use Rattle.expansion.specs.Lengths.{list_length, next_lengths}
 use Rattle.loop_model.specs.View.{program_of}
 use Rattle.loop_model.proofs.BranchMaps.{maps_count}
-use Rattle.completeness.specs.Full.{form_of}
-use Rattle.completeness.specs.Parts.{in_forms}
-use Rattle.completeness.specs.Stage.{below}
+use Rattle.corollaries.specs.Full.{form_of}
+use Rattle.corollaries.specs.Parts.{in_forms}
+use Rattle.corollaries.specs.Stage.{below}
 use Rattle.task_lists.specs.View.{form_in, full_of}
 use Rattle.cert_checker.specs.LongParts.{IsTotal, part_terms}
 use Rattle.cert_checker.proofs.Counted as counts

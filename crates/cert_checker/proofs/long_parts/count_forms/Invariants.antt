@@ -1,6 +1,6 @@
 use Rattle.loop_model.specs.View.{program_of}
-use Rattle.completeness.specs.Parts.{in_forms}
-use Rattle.completeness.specs.Stage.{below}
+use Rattle.corollaries.specs.Parts.{in_forms}
+use Rattle.corollaries.specs.Stage.{below}
 use Rattle.task_lists.specs.View.{full_of}
 use Rattle.cert_checker.specs.LongParts.{IsTotal, part_terms}
 use Rattle.cert_checker.proofs.long_parts.count_forms.Given as goal

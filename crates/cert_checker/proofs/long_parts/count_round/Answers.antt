@@ -1,7 +1,7 @@
 use Rattle.std.proofs.Common.{length}
 use Rattle.loop_model.specs.View.{program_of}
 use Rattle.loop_model.proofs.BranchMaps.{inside_seen}
-use Rattle.completeness.specs.Parts.{branch_parts}
+use Rattle.corollaries.specs.Parts.{branch_parts}
 use Rattle.task_lists.specs.View.{full_of}
 use Rattle.cert_checker.specs.LongParts.{part_terms}
 use Rattle.cert_checker.specs.Parts.{part_of}

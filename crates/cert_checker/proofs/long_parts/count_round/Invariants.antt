@@ -1,7 +1,7 @@
 use Rattle.std.specs.List.{flat_map}
 use Rattle.loop_model.specs.View.{program_of}
-use Rattle.completeness.specs.Parts.{branch_parts}
-use Rattle.completeness.specs.Stage.{below}
+use Rattle.corollaries.specs.Parts.{branch_parts}
+use Rattle.corollaries.specs.Stage.{below}
 use Rattle.task_lists.specs.View.{full_of}
 use Rattle.cert_checker.specs.LongParts.{IsTotal, part_terms}
 use Rattle.cert_checker.proofs.long_parts.count_round.Given as goal

@@ -2,9 +2,9 @@ use Rattle.std.proofs.Common.{ℕ, List, flat_map, length, arith}
 use Rattle.std.proofs.lemmas.List.{length-map}
 use Rattle.loops.specs.Program.{Expr, Program}
 use Rattle.loop_model.specs.View.{program_of}
-use Rattle.completeness.specs.Full.{FullCertificate}
-use Rattle.completeness.specs.Parts.{Part, branch_parts}
-use Rattle.completeness.specs.Stage.{below}
+use Rattle.corollaries.specs.Full.{FullCertificate}
+use Rattle.corollaries.specs.Parts.{Part, branch_parts}
+use Rattle.corollaries.specs.Stage.{below}
 use Rattle.task_lists.specs.View.{full_of, round_in}
 use Rattle.cert_checker.specs.LongParts.{part_terms}
 use Rattle.cert_checker.specs.Parts.{part_of}

@@ -1,5 +1,5 @@
 use Rattle.poly.specs.Seen.{terms_each}
-use Rattle.completeness.specs.Stage.{below}
+use Rattle.corollaries.specs.Stage.{below}
 use Rattle.task_lists.specs.Rows.{rows_of}
 use Rattle.cert_checker.specs.LongParts.{IsTotal, row_terms}
 use Rattle.cert_checker.proofs.long_parts.count_rows.Given as goal

@@ -9,8 +9,8 @@ use Rattle.cert_form.specs.Form.{on}
 use Rattle.cert_form.specs.Path.{path_bytes}
 use Rattle.cert_form.proofs.Each.{IfFault-map}
 use Rattle.cert_form.proofs.Paths.{member_is}
-use Rattle.completeness.specs.Representation.{pairs_of}
-use Rattle.completeness.specs.Stage.{block_order}
+use Rattle.corollaries.specs.Representation.{pairs_of}
+use Rattle.corollaries.specs.Stage.{block_order}
 use Rattle.full_cert.specs.Tables.{raws_at}
 use Rattle.full_cert.proofs.Documents.{terms_count}
 use Rattle.full_cert.proofs.Rest.{on_read, member_as, table_as, object_there}

@@ -3,7 +3,7 @@ use Rattle.std.proofs.lemmas.List.Elements.{All-nil, All-same}
 use Rattle.algebra.proofs.Lists.{have_more}
 use Rattle.poly.specs.Seen.{terms_each}
 use Rattle.task_lists.specs.View.{round_in}
-use Rattle.completeness.specs.Rounds.{behind}
+use Rattle.corollaries.specs.Rounds.{behind}
 use Rattle.full_trace.specs.Tasks.{Stops, after_rows, fronts_of, AreBranchesOver}
 use Rattle.full_trace.proofs.RoundsMade.{passed_error, lost, round_due, round_over, known_over, rounds_begun, known_begun}
 use Rattle.full_trace.proofs.each_round.all_rounds.Goals as goal

@@ -4,9 +4,9 @@ use Rattle.algebra.specs.Fraction.{Fraction}
 use Rattle.polynomials.specs.Terms.{Terms}
 use Rattle.poly.specs.Seen.{terms_each}
 use Rattle.task_lists.specs.View.{round_in}
-use Rattle.completeness.specs.Coming.{Comes}
-use Rattle.completeness.specs.Rounds.{behind}
-use Rattle.completeness.specs.Trace.{after_round}
+use Rattle.corollaries.specs.Coming.{Comes}
+use Rattle.corollaries.specs.Rounds.{behind}
+use Rattle.corollaries.specs.Trace.{after_round}
 use Rattle.full_trace.specs.Tasks.{Along, Knows, after_rows, fronts_of, AreBranchesOver}
 use Rattle.full_trace.proofs.each_round.all_rounds.Given as goal
 

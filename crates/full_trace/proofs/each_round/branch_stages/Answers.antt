@@ -2,8 +2,8 @@ use Rattle.std.proofs.Common.{sym, subst}
 use Rattle.std.proofs.lemmas.Result.{err_from_is_err_and}
 use Rattle.poly.specs.Seen.{terms_each}
 use Rattle.task_lists.specs.View.{stage_in}
-use Rattle.completeness.specs.Rounds.{within, MeetBegins}
-use Rattle.completeness.proofs.Rounds.{orbit_at, meet_at, met_at}
+use Rattle.corollaries.specs.Rounds.{within, MeetBegins}
+use Rattle.corollaries.proofs.Rounds.{orbit_at, meet_at, met_at}
 use Rattle.full_trace.proofs.RoundsMade.{place_inside, knows_later}
 use Rattle.full_trace.proofs.each_round.branch_stages.Goals as goal
 

@@ -3,8 +3,8 @@ use Rattle.std.proofs.lemmas.List.{length-append}
 use Rattle.poly.specs.Seen.{terms_each}
 use Rattle.task_lists.specs.View.{stage_in, branch_in}
 use Rattle.task_lists.specs.declared.parts.FullBranch.{FullBranch}
-use Rattle.completeness.specs.Rounds.{OrbitBegins}
-use Rattle.completeness.proofs.Rounds.{first_at, round_at}
+use Rattle.corollaries.specs.Rounds.{OrbitBegins}
+use Rattle.corollaries.proofs.Rounds.{first_at, round_at}
 use Rattle.full_trace.specs.Tasks.{Stops, Knows, given_in, after_row, fronts_of, AreBranchesOver}
 use Rattle.full_trace.proofs.RoundsMade.{row_last, branch_pushed, fronts_count, none_left, knows_later, passed_error, lost, first_done, branch_done, known_row, branch_due, borrowed}
 use Rattle.full_trace.proofs.each_round.round_stages.Goals as goal

@@ -1,8 +1,8 @@
 use Rattle.std.proofs.Common.{◌≡◌, ◌≤◌, ℕ, [], map, take, length}
 use Rattle.poly.specs.Seen.{terms_each}
 use Rattle.task_lists.specs.View.{branch_in}
-use Rattle.completeness.specs.Rounds.{OrbitBegins, ComesBehind}
-use Rattle.completeness.specs.Trace.{Results}
+use Rattle.corollaries.specs.Rounds.{OrbitBegins, ComesBehind}
+use Rattle.corollaries.specs.Trace.{Results}
 use Rattle.full_trace.specs.Tasks.{Along, Knows, after_row, fronts_of, AreBranchesOver}
 use Rattle.full_trace.proofs.each_round.round_stages.Given as goal
 

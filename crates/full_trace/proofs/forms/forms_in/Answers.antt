@@ -4,7 +4,7 @@ use Rattle.std.proofs.lemmas.List.{map-id, map-append}
 use Rattle.std.proofs.lemmas.Iterator.Adapters.{YieldsList-from_vec}
 use Rattle.std.proofs.lemmas.Iterator.Consumers.{YieldsList-end}
 use Rattle.algebra.proofs.Lists.{have_more}
-use Rattle.completeness.specs.Full.{WrittenForm}
+use Rattle.corollaries.specs.Full.{WrittenForm}
 use Rattle.coprime_base.specs.Sizes.{sizes}
 use Rattle.task_lists.specs.View.{form_in}
 use Rattle.task_lists.specs.declared.parts.FullForm.{FullForm}

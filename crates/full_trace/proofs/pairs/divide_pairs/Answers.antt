@@ -3,7 +3,7 @@ use Rattle.std.proofs.lemmas.List.{take_all, get_or_default}
 use Rattle.std.proofs.lemmas.List.Elements.{All-nil, All-same}
 use Rattle.poly.specs.Seen.{terms_each}
 use Rattle.algebra.proofs.Lists.{have_more}
-use Rattle.completeness.specs.Rows.{ArePairsDivided, IsRefusedInPairs}
+use Rattle.corollaries.specs.Rows.{ArePairsDivided, IsRefusedInPairs}
 use Rattle.task_lists.specs.Rows.{rows_of}
 use Rattle.complete.specs.Completing.{AreLike}
 use Rattle.full_trace.proofs.RowsMade.{passed}

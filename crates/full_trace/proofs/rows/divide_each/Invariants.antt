@@ -1,6 +1,6 @@
 use Rattle.std.proofs.Common.{◌≡◌, take}
 use Rattle.poly.specs.Seen.{terms_each}
-use Rattle.completeness.specs.Rows.{AreDivided}
+use Rattle.corollaries.specs.Rows.{AreDivided}
 use Rattle.task_lists.specs.Rows.{rows_of}
 use Rattle.full_trace.specs.Rows.{AreRowsLike}
 use Rattle.full_trace.proofs.rows.divide_each.Given as goal

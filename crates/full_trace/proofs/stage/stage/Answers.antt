@@ -1,9 +1,9 @@
 use Rattle.std.proofs.Common.{length, ap, ◌∙◌, arith}
 use Rattle.poly.specs.Seen.{terms_in, terms_each}
 use Rattle.std.proofs.lemmas.List.{length-map}
-use Rattle.completeness.specs.Representation.{pairs_of}
+use Rattle.corollaries.specs.Representation.{pairs_of}
 use Rattle.task_lists.specs.Rows.{rows_of}
-use Rattle.completeness.specs.Making.{IsStageRefused}
+use Rattle.corollaries.specs.Making.{IsStageRefused}
 use Rattle.full_trace.proofs.RowsMade.{passed}
 use Rattle.full_trace.proofs.StageMade.{pairs_inside, free_is, free_divisors, free_short, refused_pairs, refused_out, out_few, refused_links}
 use Rattle.full_trace.proofs.stage.stage.Goals as goal

@@ -1,7 +1,7 @@
 use Rattle.std.proofs.Common.{arith}
 use Rattle.std.proofs.lemmas.List.{length-map}
 use Rattle.poly.specs.Seen.{terms_in, terms_each}
-use Rattle.completeness.specs.Making.{IsStartRefused}
+use Rattle.corollaries.specs.Making.{IsStartRefused}
 use Rattle.full_trace.proofs.RowsMade.{passed}
 use Rattle.full_trace.proofs.StageMade.{start_out_refused, start_out_few, start_links_refused}
 use Rattle.full_trace.proofs.start.trace_start.Goals as goal

@@ -1,6 +1,6 @@
 use Rattle.std.proofs.Common.{sym, ap, subst, ◌∙◌, arith}
 use Rattle.std.proofs.lemmas.List.{length-map}
-use Rattle.completeness.specs.Full.{as_form}
+use Rattle.corollaries.specs.Full.{as_form}
 use Rattle.poly.specs.Seen.{terms_in, terms_each}
 use Rattle.rounds.specs.Form.{front}
 use Rattle.invariant_fix.specs.Orbits.{numbers_of, vars_of, pulled_back_list, HaveFront}

@@ -3,7 +3,7 @@ use Rattle.std.proofs.lemmas.List.{length-map}
 use Rattle.std.proofs.lemmas.Result.{err_from_is_err_and}
 use Rattle.algebra.specs.Fraction.{ℚ, rationals}
 use Rattle.polynomials.specs.Terms.{times}
-use Rattle.completeness.specs.Representation.{IsLeadBelow}
+use Rattle.corollaries.specs.Representation.{IsLeadBelow}
 use Rattle.poly.specs.Seen.{terms_in, terms_each}
 use Rattle.task_lists.proofs.Below.{below_start, below_more, below_fails, below_end}
 use Rattle.task_lists.proofs.Combining.{place_in, product_past, image_at}

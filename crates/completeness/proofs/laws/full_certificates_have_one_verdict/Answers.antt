@@ -1,5 +1,0 @@
-use Rattle.completeness.proofs.Verdicts.{verdict_exists, verdict_unique}
-use Rattle.completeness.proofs.laws.full_certificates_have_one_verdict.Goals as goal
-
-pub returns : goal.returns
-returns c s = record { some = verdict_exists; one = verdict_unique }

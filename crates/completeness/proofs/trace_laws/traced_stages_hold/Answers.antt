@@ -1,5 +1,0 @@
-use Rattle.completeness.proofs.Traces.{traced_holds, out_reduced}
-use Rattle.completeness.proofs.trace_laws.traced_stages_hold.Goals as goal
-
-pub returns : goal.returns
-returns c = record { holds = traced_holds; reduced = out_reduced }
