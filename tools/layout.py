@@ -63,10 +63,9 @@ ANY_IMPORT = re.compile(r"^\s*(?:(?:pub|ghost|unfoldable)\s+)*use\s+(?:Rattle\.(
 STRUCTURES = {"ℚ_field", "ℚ_ring", "ℤ_ring", "algebra_ring", "Algebra", "algebra", "coef", "monomial", "poly_ring", "Poly", "poly", "poly_constant", "poly_evaluate"}
 KEPT_FACTS = {"RingLaws", "abs-pos", "same_abs", "is_lowest-in", "lowest-whole", "rest-residue", "each_prop"}
 
-# What a crate may stand on neither itself nor through others. What judges certificates completes nothing and finds no closed form; who asks for
-# a judgement knows besides what a meter is, since every command does.
-COMPUTATIONS = {"divide", "complete", "reduced_basis", "ideal_ops", "linear", "solvable", "eigen_split", "closed_forms", "invariant_fix"}
-WITHOUT = {"cert_checker": COMPUTATIONS | {"journal"}, "full_cert": COMPUTATIONS | {"journal"}, "certificate_commands": COMPUTATIONS}
+# What a crate may stand on neither itself nor through others. What judges certificates completes nothing, finds no closed form and has no meter.
+COMPUTATIONS = {"journal", "divide", "complete", "reduced_basis", "ideal_ops", "linear", "solvable", "eigen_split", "closed_forms", "invariant_fix"}
+WITHOUT = {"cert_checker": COMPUTATIONS, "full_cert": COMPUTATIONS}
 
 # Words that are out of use: what is said in their place, and below which path they had that meaning (everywhere, where none is given).
 RETIRED = (

@@ -5,3 +5,13 @@ pub mod CheckPromises
 pub mod CheckfullPromises
 pub mod CheckfullJudgements
 pub mod ShortCertificates
+pub mod Late
+pub mod FullMaking
+pub mod FullRefusing
+pub mod FullCertifying
+pub mod FullPromises
+pub mod TraceFitting
+pub mod TurnedTraces
+pub mod IdleTraces
+pub mod LateLoop
+pub mod FullWitnesses

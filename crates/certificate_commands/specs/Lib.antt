@@ -16,3 +16,10 @@ pub mod CheckfullCourse
 pub mod CheckfullHeadline
 pub mod CheckfullClauses
 pub mod CheckfullViews
+pub mod FullTexts
+pub mod FullHeadline
+pub mod FullCertified
+pub mod FullMade
+pub mod FullCauses
+pub mod FullCourse
+pub mod FullClauses

@@ -27,13 +27,13 @@ use Rattle.closures.specs.Closing.{closed}
 use Rattle.closures.specs.Ends.{ComesNext}
 use Rattle.closures.specs.UpTo.{IsReducedUpTo}
 use Rattle.closures.proofs.Ended.{closed_is}
-use Rattle.degree_search.specs.Causes as search
-use Rattle.degree_search.specs.Causes.{IsClosing, Finds}
-use Rattle.degree_search.specs.Found.{IsPartOf, IfSearchStops}
-use Rattle.degree_search.specs.Search.{Part, entries_of, IsSearch}
-use Rattle.degree_search.specs.declared.error.SearchError.{SearchError}
-use Rattle.degree_search.specs.declared.whole_search.Finding.{Finding}
-use Rattle.degree_search.specs.declared.error.SearchError.TheVariants as error
+use Rattle.closing.specs.SearchCauses as search
+use Rattle.closing.specs.SearchCauses.{IsClosing, Finds}
+use Rattle.closing.specs.Found.{IsPartOf, IfSearchStops}
+use Rattle.closing.specs.Search.{Part, entries_of, IsSearch}
+use Rattle.closing.specs.declared.search_error.SearchError.{SearchError}
+use Rattle.closing.specs.declared.whole_search.Finding.{Finding}
+use Rattle.closing.specs.declared.search_error.SearchError.TheVariants as error
 use Rattle.io_edge.specs.declared.answer.Answer as made
 use Rattle.io_edge.specs.Texts.{Answer}
 use Rattle.io_edge.specs.Views.{answer_view}

@@ -43,10 +43,10 @@ use Rattle.closures.specs.Proving as proving
 use Rattle.closures.specs.Proving.{testing, tests_of, tests_from, tests}
 use Rattle.closing.specs.Causes.{IsComposing, IsLimitAt, IsWideAt}
 use Rattle.closing.specs.Progress.{StopsAt}
-use Rattle.degree_search.specs.Causes.{IsInClosing, IsOut}
-use Rattle.degree_search.specs.Worked.{squaring}
-use Rattle.degree_search.proofs.Countered.{nothing_next, nothing_follows, nothing_comes}
-use Rattle.degree_search.proofs.Squaring.{two, nothing_left, two_samples, always_sampled, never_missing}
+use Rattle.closing.specs.SearchCauses.{IsInClosing, IsOut}
+use Rattle.closing.specs.Worked.{squaring}
+use Rattle.closing.proofs.Countered.{nothing_next, nothing_follows, nothing_comes}
+use Rattle.closing.proofs.Squaring.{two, nothing_left, two_samples, always_sampled, never_missing}
 use Rattle.closing_commands.specs.declared.evidence.Evidence.{Evidence}
 use Rattle.closing_commands.specs.declared.evidence.Evidence.TheVariants as kinds
 use Rattle.closing_commands.specs.Degrees.{IsOutOf, IsWideTest}

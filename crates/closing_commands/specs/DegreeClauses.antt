@@ -17,7 +17,7 @@ use Rattle.poly_text.specs.Reasons.{Fault, limit}
 use Rattle.loop_model.specs.Operations.{IsLimit, IsWide}
 use Rattle.loop_model.specs.Maps.{maps_operations, AreFree}
 use Rattle.loop_text.specs.LoopReader.{loop_of}
-use Rattle.degree_search.specs.Causes.{IsNoSample, HasNoElement}
+use Rattle.closing.specs.SearchCauses.{IsNoSample, HasNoElement}
 use Rattle.io_edge.specs.declared.answer.Status.{Status}
 use Rattle.io_edge.specs.declared.answer.Status.TheVariants as status
 use Rattle.io_edge.specs.Texts.{Answer}

@@ -9,10 +9,10 @@ use Rattle.loops.specs.Inv.{Inv}
 use Rattle.loops.specs.Program.{Expr, Program}
 use Rattle.poly.specs.Seen.{terms_each}
 use Rattle.closures.specs.UpTo.{IsReducedUpTo}
-use Rattle.degree_search.specs.Found.{FindsFirst, FitsFinding}
-use Rattle.degree_search.specs.declared.whole_search.Finding.{Finding}
-use Rattle.degree_search.specs.declared.error.SearchError.{SearchError}
-use Rattle.degree_search.specs.declared.error.SearchError.TheVariants as error
+use Rattle.closing.specs.Found.{FindsFirst, FitsFinding}
+use Rattle.closing.specs.declared.whole_search.Finding.{Finding}
+use Rattle.closing.specs.declared.search_error.SearchError.{SearchError}
+use Rattle.closing.specs.declared.search_error.SearchError.TheVariants as error
 use Rattle.io_edge.specs.Texts.{Answer}
 use Rattle.replay_commands.specs.CounterTexts.{limit_answer, wide_answer}
 use Rattle.closing_commands.specs.declared.degree_arguments.Request as made

@@ -26,10 +26,10 @@ use Rattle.closures.specs.Ends.{IsClosure}
 use Rattle.closures.specs.Follows.{IsPastTask}
 use Rattle.closures.specs.UpTo.{IsReducedUpTo}
 use Rattle.closing.specs.Causes.{IsLimitAt, IsWideAt}
-use Rattle.degree_search.specs.Causes as search
-use Rattle.degree_search.specs.Causes.{IsClosing, Finds, IsInClosing, IsOut, StopsAtWord, IsNoSample, HasNoElement}
-use Rattle.degree_search.specs.Limits.{most_monomials}
-use Rattle.degree_search.specs.Search.{Part, monomials}
+use Rattle.closing.specs.SearchCauses as search
+use Rattle.closing.specs.SearchCauses.{IsClosing, Finds, IsInClosing, IsOut, StopsAtWord, IsNoSample, HasNoElement}
+use Rattle.closing.specs.Limits.{most_monomials}
+use Rattle.closing.specs.Search.{Part, monomials}
 use Rattle.io_edge.specs.declared.answer.Status.TheVariants as status
 use Rattle.io_edge.specs.Texts.{Answer}
 use Rattle.command_parts.specs.ReadBack.{IsReadBack}

@@ -2,7 +2,7 @@
 ghost use Rattle.std.specs.Prelude.{◌≡◌, ◌≤◌, ℕ, Ok, codes};
 ghost use Rattle.loop_model.specs.Maps.{AreFree};
 ghost use Rattle.loop_text.specs.LoopReader.{loop_of};
-ghost use Rattle.degree_search.specs.Worked.{squaring};
+ghost use Rattle.closing.specs.Worked.{squaring};
 ghost use Rattle.closing_commands.specs.declared.evidence.Evidence.{Evidence};
 ghost use Rattle.closing_commands.specs.DegreeClauses.{HasLimit, HasWide, IsWithin};
 

@@ -15,8 +15,8 @@ use Rattle.certificate_commands.specs.CertificateArguments.{Request}
 use Rattle.certificate_commands.specs.CertificateAsking.{Decides}
 use Rattle.certificate_commands.specs.CheckfullClauses.{ChecksFull}
 use Rattle.certificate_commands.specs.CheckfullJudging.{IsShort}
-use Rattle.full_command.specs.Headline.{ShowsFull}
-use Rattle.full_command.specs.Causes.{HasFinished}
+use Rattle.certificate_commands.specs.FullHeadline.{ShowsFull}
+use Rattle.certificate_commands.specs.FullCauses.{HasFinished}
 
 abbrev EndsComplete : Status → Type 0
 EndsComplete s = (s ≡ status.Yes) ⊎ ((s ≡ status.Wide) ⊎ IsExcused s)

@@ -36,7 +36,7 @@ use Rattle.closing_commands.specs.DecideHeadline.{ShowsCounter}
 use Rattle.closing_commands.proofs.DecidePromises as decide_promises
 use Rattle.closing_commands.specs.DegreeArguments as degree_arguments
 use Rattle.closing_commands.proofs.DegreePromises as degree_promises
-use Rattle.full_command.proofs.Promises as full_promises
+use Rattle.certificate_commands.proofs.FullPromises as full_promises
 use Rattle.invar_app.proofs.HelpPromises as help_promises
 use Rattle.invar_app.specs.Arguments.{Command, basis, basis_up_to, member, check, checkfull, run, gen, chain, chainrun, counter, full, relations, decide, help, course_of, usage, usage_answer}
 use Rattle.invar_app.specs.Promises.{Promises}

@@ -41,7 +41,7 @@ use Rattle.closing_commands.specs.DecideArguments as decide_arguments
 use Rattle.closing_commands.specs.DecideCourse as decide_course
 use Rattle.closing_commands.specs.DegreeArguments as degree_arguments
 use Rattle.closing_commands.specs.DegreeCourse as degree_course
-use Rattle.full_command.specs.Course as full_course
+use Rattle.certificate_commands.specs.FullCourse as full_course
 use Rattle.invar_app.specs.declared.pages.Page.{Page}
 use Rattle.invar_app.specs.declared.pages.Page.TheVariants.{Overview, Version}
 use Rattle.invar_app.specs.HelpPages.{page_behind_help, page_alone}

@@ -25,7 +25,7 @@ use Rattle.closing_commands.specs.DecideArguments as decide_arguments
 use Rattle.closing_commands.specs.DecideClauses.{DecidesAny}
 use Rattle.closing_commands.specs.DegreeArguments as degree_arguments
 use Rattle.closing_commands.specs.DegreeClauses.{FindsUpTo}
-use Rattle.full_command.specs.Clauses.{FindsFull}
+use Rattle.certificate_commands.specs.FullClauses.{FindsFull}
 use Rattle.invar_app.specs.declared.pages.Page.{Page}
 use Rattle.invar_app.specs.HelpClauses.{Helps}
 use Rattle.invar_app.specs.Arguments.{Command, basis, basis_up_to, member, check, checkfull, run, gen, chain, chainrun, counter, full, relations, decide, help, course_of, usage_answer}

@@ -35,15 +35,14 @@ ghost use Rattle.closing_commands.specs.DecideHeadline.{Shows, ShowsCounter};
 ghost use Rattle.closing_commands.specs.DegreeArguments as degree_arguments;
 ghost use Rattle.closing_commands.specs.DegreeClauses.{EndsUpTo};
 ghost use Rattle.closing_commands.specs.DegreeHeadline.{ShowsUpTo};
-ghost use Rattle.full_command.specs.Headline.{ShowsFull};
+ghost use Rattle.certificate_commands.specs.FullHeadline.{ShowsFull};
 ghost use Rattle.invar_app.specs.Arguments as command;
 ghost use Rattle.invar_app.specs.Arguments.{basis_by, command_by, command_of, command_in, course_of};
 ghost use Rattle.invar_app.specs.Promises.{Promises};
 
 use analysis_commands::{Kind, basis, chain, member, relate, tally};
-use certificate_commands::{check, checkfull};
+use certificate_commands::{check, checkfull, full};
 use closing_commands::{Evidence, basis_up_to, decide, names_degree};
-use full_command::full;
 pub use io_edge::Status;
 use io_edge::{Answer, Files, Sink, finish};
 use journal::Meter;

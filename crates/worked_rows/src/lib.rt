@@ -1,10 +1,21 @@
 //! Worked rows: lines with columns between tabs, the last of which is the answer that is wanted. A program answers the rows; its answers
-//! are compared here, those that differ are told, and both are counted.
+//! are compared here, those that differ are told, and both are counted. Rows of what calls on monomials, numbers and polynomials answer stand
+//! here as tests: each kind of row is a small function that says whether the call answers what is wanted; each generic function is called
+//! at a type, through its bound.
 //!
-//! Proved: a text agrees with a row exactly where it is the one that the row has, and a tally counts each row once.
+//! Proved: a text agrees with a row exactly where it is the one that the row has, and a tally counts each row once; the tests are safe and
+//! end, and the gate runs them.
 #![tactic(auto)]
 
+#[cfg(test)]
+mod fraction_rows;
+#[cfg(test)]
+mod monomial_rows;
+#[cfg(test)]
+mod polynomial_rows;
 mod tally;
+#[cfg(test)]
+mod tests;
 mod text;
 
 use std::alloc::{AllocError, Global};

@@ -1,0 +1,11 @@
+use Rattle.std.proofs.Common.{◌≡◌, ◌≤◌, ◌+◌, length}
+use Rattle.closing.specs.Limits.{most_monomials}
+use Rattle.closing.proofs.MonomialsListed.{degrees_below}
+use Rattle.closing.proofs.monomials.with_variable.Given as goal
+
+abbrev pub invariant-loop-total : goal.invariant-loop-total
+invariant-loop-total l = record {
+  within : l.total ≤ l.degree + 1;
+  all : l.longer.items ≡ degrees_below l.variables l.degree l.total;
+  few : length l.longer.items ≤ most_monomials;
+}

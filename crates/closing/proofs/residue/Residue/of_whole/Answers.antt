@@ -1,0 +1,14 @@
+use Rattle.std.proofs.Common.{pos, subst}
+use mir.Syntax.{w128}
+use Rattle.std.proofs.lemmas.Int.{to_z-of_z}
+use Rattle.closures.specs.Modulo.{AreCongruent}
+use Rattle.closing.specs.Modulus.{modulus}
+use Rattle.closing.proofs.Products.{whole_is}
+use Rattle.closing.proofs.residue.Residue.of_whole.Goals as goal
+
+pub returns : goal.returns
+returns c =
+    let r = c.with_sign.result.value in
+    subst (AreCongruent (pos modulus) (pos r)) (to_z-of_z w128 c.args.number c.ranges.number)
+    (whole_is r c.short_rest.result.value c.unsigned_abs.result _ c.with_sign.ensures
+    c.short_rest.ensures c.unsigned_abs.ensures.value)

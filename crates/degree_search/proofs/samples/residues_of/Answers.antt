@@ -1,8 +1,0 @@
-use Rattle.degree_search.proofs.Drawn.{residues_more}
-use Rattle.degree_search.proofs.samples.residues_of.Goals as goal
-
-pub loop-number-preserved : goal.loop-number-preserved
-loop-number-preserved c =
-    residues_more c.args.numbers.now c.loop-number.residues.items c.push.new.self.items
-    c.loop-number.number-index c.from_number.result c.loop-number-test.true
-    c.loop-number.invariant c.from_number.ensures c.in_ok-push.ensures.items

@@ -1,9 +1,0 @@
-pub mod Added
-pub mod Dots
-pub mod Entries
-pub mod Forms
-pub mod Fractions
-pub mod Picked
-pub mod Products
-pub mod Rests
-pub mod Iterations
