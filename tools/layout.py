@@ -20,10 +20,11 @@ With --since, of each file only where it changed since that revision; with --rul
   pages      docs/CRATES.md isn't what tools/crates.py writes; a page names a file, a crate or a word of the sources that isn't there; or the picture
              in docs/ARCHITECTURE.md leaves a crate out, or draws it before one that it names
   words      a word that is out of use stands in a source or on a page, outside of texts in quotes
+  links      more functions are links of chains than may be; tools/links.py says what these are, and lists them
   edges      a note, and no finding: a crate stands on another by at most three import lines, through which alone something is below it
 
-Each row is a file, a line (0: the whole file), and what is wrong there. The status is 1 where there is a row. Those on crates, heads and
-pages are about the whole repository, also with --since.
+Each row is a file, a line (0: the whole file), and what is wrong there. The status is 1 where there is a row. Those on crates, heads, pages
+and links are about the whole repository, also with --since.
 """
 import argparse
 import os
@@ -38,11 +39,14 @@ from itertools import takewhile
 from pathlib import Path
 
 import crates
+import links
 from crates import Crate
 
 TOP = Path(__file__).resolve().parent.parent
 CRATES = TOP / "crates.txt"
 COLUMNS, LINES, EDITS, FEW_IMPORTS = 100, 600, 60, 3
+# how many links the crates may have: as many as they had when a change last took some away
+MOST_LINKS = 217
 # an import in a file of definitions or proofs, and in one of code
 THEORY_IMPORT = re.compile(r"^\s*use (Rattle\.[^;\n{]*)\.\{([^}]*)\}", re.M)
 CODE_IMPORT = re.compile(r"^\s*ghost use (Rattle\.[^;\n{]*)\.\{([^}]*)\};", re.M)
@@ -267,6 +271,12 @@ def words() -> Iterator[Finding]:
         yield from retired_in(page, page.read_text(encoding="utf-8"))
 
 
+def chain_links() -> Iterator[Finding]:
+    found = links.links()
+    if len(found) > MOST_LINKS:
+        yield Finding("links", TOP / "crates", 0, f"{len(found)} links are more than {MOST_LINKS}; tools/links.py lists them")
+
+
 @cache
 def listed() -> dict[str, Crate]:
     return crates.listed()
@@ -442,13 +452,16 @@ def pages() -> Iterator[Finding]:
                     yield Finding("pages", page, number, f"no crate {name}")
 
 
-OF_TREE = {"edits": edits, "modules": modules, "order": order, "theory": theory, "below": below, "named": named, "pages": pages, "words": words}
+OF_TREE = {
+    "edits": edits, "modules": modules, "order": order, "theory": theory, "below": below, "named": named, "pages": pages, "words": words,
+    "links": chain_links,
+}
 OF_FILE = {
     "imports": imports, "columns": columns, "lengths": lengths, "heads": heads, "digits": digits, "borrowed": borrowed,
 }
 NOTES = {"edges": edges}
 # what has to do with more than the file in which it stands
-OF_ALL = {"heads", "order", "theory", "below", "named", "pages"}
+OF_ALL = {"heads", "order", "theory", "below", "named", "pages", "links"}
 
 
 def findings(rules: set[str]) -> Iterator[Finding]:
