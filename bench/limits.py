@@ -169,9 +169,18 @@ LONG_ANALYSES = {
 # Sums of seven variables, whose sixth powers have 924 terms each, and are composed with one another.
 SIXTH_POWERS = "vars a, b, c, d, e, f, g, h, p, q, r; init p=0, q=0, r=0; branch { p=p+(b+c+d+e+f+g+h)^6; q=q+(a+c+d+e+f+g+h)^6; r=r+(a+b+d+e+f+g+h)^6; }"
 
+# A sum of eleven variables in a power: a twelfth has 646,646 terms, a thirteenth over a million.
+ELEVEN_SUMS = "vars a, b, c, d, e, f, g, h, i, j, k, x; init x=a^{power}; branch {{ a=a+b+c+d+e+f+g+h+i+j+k; }}"
+SEVEN_IN_TURN = "vars a, b, c, d, e, f, g, x; init x=a^8; branch { a=a+b; b=b+c; c=c+d; d=d+e; e=e+f; f=f+g; }"
+
 # Each of twelve variables but the last becomes the cube of the sum of those behind it: its third turn has millions of terms.
 SUMS_OF_CUBES = ("vars a, b, c, d, e, f, g, h, i, j, k, l; branch { "
                  + " ".join(f"{name}=({'+'.join(NAMES[place + 1:])})^3;" for place, name in enumerate(NAMES[:-1])) + " }")
+
+
+# Exchanges of two of six variables, and a product of 2,002 terms that is 0 at each start: each of 1,555 words has to be composed.
+EXCHANGES = "vars a, b, c, d, e, f, x; init x=0; " + " ".join(f"branch {{ ({one}, {other}) = ({other}, {one}); }}" for one, other in ("ab", "bc", "cd", "de", "ef", "af"))
+LONG_PRODUCT = "x*(a+b+c+d+e+f)^9 = 0"
 
 
 def main():
@@ -203,11 +212,19 @@ def main():
         pathlib.Path("turns.loop").write_text(
             "vars a, b, c, d, e, f, g, h, i, j, k, l; branch { a=a+1; b=b+a; c=c+b; d=d+c; e=e+2*a; f=f-e; g=g+1/2; h=h+a*b; i=i+g; j=j-a; k=k+3*e; l=l+2; }")
         row("run of 4096 letters over 12 variables", ["run", "turns.loop", ",".join(["1"] * 4096), twelve], 0, 0.5)
+        pathlib.Path("exchanges.loop").write_text(EXCHANGES)
+        row("counter of six exchanges up to four letters, 2,002 terms a word", ["counter", "--length", "4", "exchanges.loop", LONG_PRODUCT], 0, 10, 100, 1)
         for name, text in LONG_ANALYSES.items():
             pathlib.Path("long.loop").write_text(text)
             row(f"basis of {name}, up to the usual budget", ["basis", "long.loop"], 5, 60, 100, 1)
         pathlib.Path("long.loop").write_text(SUMS_OF_CUBES)
         row("basis of sums of cubes, eleven behind one another", ["basis", "long.loop"], 3, 0.5, 50)
+        for what, text, status, seconds, megabytes in (
+                ("a sum of eleven variables in a twelfth power", ELEVEN_SUMS.format(power=12), 0, 60, 300),
+                ("one in a thirteenth power, a task that is too long", ELEVEN_SUMS.format(power=13), 3, 0.5, 50),
+                ("seven variables in turn, a task that is too long", SEVEN_IN_TURN, 3, 0.5, 50)):
+            pathlib.Path("long.loop").write_text(text)
+            row(f"basis of {what}", ["basis", "long.loop"], status, seconds, megabytes, 1)
         pathlib.Path("long.loop").write_text(SIXTH_POWERS)
         row("basis of three sums of sixth powers of seven variables", ["basis", "long.loop"], 0, 24, 200, 1)
     sys.exit(1 if failed else 0)

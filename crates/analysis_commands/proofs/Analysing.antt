@@ -5,7 +5,8 @@
 --   unanalysed         any other answer: why the analysis was refused
 --   status_told        the answer to a refusal has the refusal's status;  refused_not_yes: which isn't that of a yes
 --   limit_analysed     the answer where an operation of the maps passes a limit
---   formed_analysed    where none does and each branch splits: a yes, or a number that doesn't fit, or an exhausted budget
+--   formed_analysed    where none does, each branch splits and no task is too long: a yes, or a number that doesn't fit, or an exhausted budget
+--   formed             the same, by how the analysis ended
 --   unformed_analysed  where not each branch has one: a fault, or a number that doesn't fit
 --   all_analysed       where nothing refuses and a finished journal is within the budget: a yes
 --   branch_analysed    where the first that has none is refused for a cause of its own: this refusal, or a number that doesn't fit
@@ -30,6 +31,7 @@ use Rattle.solvable.specs.Refusal.{IsSolvable}
 use Rattle.closed_forms.specs.Lengths.{IsShort}
 use Rattle.closed_forms.specs.Refusal.{AllPass, Refusal, not_solvable, eigenvalues, range, wide_split, limit_form, wide_form, IfFormRefused, refusal_in}
 use Rattle.closed_forms.specs.declared.errors.FormsError.{FormsError}
+use Rattle.journal.specs.declared.Task.{Task}
 use Rattle.invariant_fix.specs.Refusals.{AllHaveForms, HasForm, IsRefusedBranch, TellsBranch, IsRefused}
 use Rattle.invariant_fix.specs.declared.errors.AnalyseError.{AnalyseError}
 use Rattle.invariant_fix.specs.declared.errors.AnalyseError.TheVariants as error
@@ -44,7 +46,7 @@ use Rattle.command_parts.specs.FaultTexts.{loop_refusal}
 use Rattle.analysis_commands.specs.Headline.{ShowsAnalysis}
 use Rattle.analysis_commands.specs.Analyses.{empty_journal, Ending, found, refused, EndsWith, answer_of, Analyses}
 use Rattle.analysis_commands.specs.Completeness.{AllSplit}
-use Rattle.analysis_commands.specs.Causes.{HasFinished, IsClosed, IsExhausted, IsNeverRefused, IsWithinBudget, IsExact, IsUnanalysed}
+use Rattle.analysis_commands.specs.Causes.{HasFinished, IsClosed, IsExhausted, IsNeverLong, IsNeverRefused, IsWithinBudget, IsExact, IsUnanalysed}
 use Rattle.io_edge.proofs.OfStatuses.{status_of, text_of, no_answer}
 use Rattle.analysis_commands.proofs.Refused.{refusal_parts, refusal_kind, Refused, at_fault, too_wide, exhausted}
 use Rattle.command_parts.proofs.MapLimits.{limit_same, not_free}
@@ -102,6 +104,7 @@ module _ (kind : Kind) (l : Program (Expr ℕ)) (budget : ℕ) (m : Journal) (a 
         list = c.basis;
         finished = ends.1.ended.finished;
         least = ends.1.ended.least;
+        short = ends.1.ended.short;
       },
     )
     shown (refused e) ends says h = absurd (refused_not_yes e a.status (refused_kind e says) h)
@@ -165,6 +168,8 @@ module _ (kind : Kind) (l : Program (Expr ℕ)) (budget : ℕ) (m : Journal) (a 
   limited at first (refused (error.Map map_error.Memory)) ends says = absurd (no_answer a says)
   limited at first (refused (error.Branch b e)) ends says =
       absurd (not_free (length l.names) (maps_operations l) at first ends.1.1.0)
+  limited at first (refused (error.Limit task)) ends says =
+      absurd (not_free (length l.names) (maps_operations l) at first ends.1.0)
   limited at first (refused (error.Wide task)) ends says =
       absurd (not_free (length l.names) (maps_operations l) at first ends.1.0)
   limited at first (refused error.Budget) ends says =
@@ -199,23 +204,34 @@ module _ (kind : Kind) (l : Program (Expr ℕ)) (budget : ℕ) (m : Journal) (a 
       go (Some r) t says =
           (r, t, (let both : Some (branch_answer l.names b r) ≡ Some a = says in cc))
 
-  pub formed : AreFree l → AllSplit l → (e : Ending) → EndsWith l budget m kind e
+  -- no task is too long
+  abbrev pub IsUnlimited : Ending → Type 0
+  IsUnlimited e = (task : Task) → e ≡ refused (error.Limit task) → ⊥
+
+  unlimited : IsNeverLong l → (e : Ending) → EndsWith l budget m kind e → IsUnlimited e
+  unlimited never e ends task same =
+      let s = (subst (EndsWith l budget m kind) same ends).1.2 in
+      never m.entries s.state s.follows s.long
+
+  pub formed : AreFree l → AllSplit l → (e : Ending) → IsUnlimited e → EndsWith l budget m kind e
       → answer_of kind l.names budget e ≡ Some a → (a.status ≡ status.Yes)
       ⊎ ((a.status ≡ status.Wide) ⊎ (a.status ≡ status.Budget))
-  formed free forms (found c) ends says = inl (sym (status_of (found_same c says)))
-  formed free forms (refused (error.Map (map_error.Limit at))) ends says =
+  formed free forms (found c) short ends says = inl (sym (status_of (found_same c says)))
+  formed free forms (refused (error.Map (map_error.Limit at))) short ends says =
       absurd (not_free (length l.names) (maps_operations l) at ends.1.1.1 free)
-  formed free forms (refused (error.Map (map_error.Wide at))) ends says =
+  formed free forms (refused (error.Map (map_error.Wide at))) short ends says =
       inr (inl (status_told (error.Map (map_error.Wide at)) status.Wide refl says))
-  formed free forms (refused (error.Map map_error.Memory)) ends says = absurd (no_answer a says)
-  formed free forms (refused (error.Branch b e)) ends says =
+  formed free forms (refused (error.Map map_error.Memory)) short ends says =
+      absurd (no_answer a says)
+  formed free forms (refused (error.Branch b e)) short ends says =
       let t = told_branch b e ends.1.1.1 says in
       inr (inl (status_of t.2 ∙ branch_wide b t.0 (forms b t.1.within) t.1.is))
-  formed free forms (refused (error.Wide task)) ends says =
+  formed free forms (refused (error.Limit task)) short ends says = absurd (short task refl)
+  formed free forms (refused (error.Wide task)) short ends says =
       inr (inl (status_told (error.Wide task) status.Wide refl says))
-  formed free forms (refused error.Budget) ends says =
+  formed free forms (refused error.Budget) short ends says =
       inr (inr (status_told error.Budget status.Budget refl says))
-  formed free forms (refused error.Memory) ends says = absurd (no_answer a says)
+  formed free forms (refused error.Memory) short ends says = absurd (no_answer a says)
 
   unformed : AreFree l → ¬ (AllHaveForms l) → (e : Ending) → EndsWith l budget m kind e
       → answer_of kind l.names budget e ≡ Some a → (a.status ≡ status.Fault)
@@ -238,6 +254,8 @@ module _ (kind : Kind) (l : Program (Expr ℕ)) (budget : ℕ) (m : Journal) (a 
   completed never within (refused (error.Branch b e)) ends says =
       let t = some_told (refusal_in e) (IsRefusedBranch l b) ends.1.1.1 in
       absurd (never.branches b t.0 t.1.within t.1.is)
+  completed never within (refused (error.Limit task)) ends says = let s = ends.1.2 in
+      absurd (never.short m.entries s.state s.follows s.long)
   completed never within (refused (error.Wide task)) ends says = let s = ends.1.2 in
       absurd (never.states m.entries s.state s.follows s.past)
   completed never within (refused error.Budget) ends says =
@@ -286,6 +304,8 @@ module _ (kind : Kind) (l : Program (Expr ℕ)) (budget : ℕ) (m : Journal) (a 
     branch_told (refused (error.Map map_error.Memory)) ends says = absurd (no_answer a says)
     branch_told (refused (error.Branch b' e')) ends says =
         let t = told_branch b' e' ends.1.1.1 says in of_branch b' t.0 t.1 t.2
+    branch_told (refused (error.Limit task)) ends says =
+        absurd (no_form l (suc b) r exact first.is (ends.1.1 b first.within))
     branch_told (refused (error.Wide task)) ends says =
         inr (status_told (error.Wide task) status.Wide refl says)
     branch_told (refused error.Budget) ends says =
@@ -319,10 +339,11 @@ limit_analysed kind l budget at m a first h =
     limited kind l budget m a at first h.ending h.ends h.says
 
 pub formed_analysed : (kind : Kind) (l : Program (Expr ℕ)) (budget : ℕ) (m : Journal) (a : Answer)
-    → AreFree l → AllSplit l → Analyses kind l budget m a
+    → AreFree l → AllSplit l → IsNeverLong l → Analyses kind l budget m a
     → (a.status ≡ status.Yes) ⊎ ((a.status ≡ status.Wide) ⊎ (a.status ≡ status.Budget))
-formed_analysed kind l budget m a free forms h =
-    formed kind l budget m a free forms h.ending h.ends h.says
+formed_analysed kind l budget m a free forms never h =
+    formed kind l budget m a free forms h.ending
+    (unlimited kind l budget m a never h.ending h.ends) h.ends h.says
 
 pub unformed_analysed : (kind : Kind) (l : Program (Expr ℕ)) (budget : ℕ) (m : Journal) (a : Answer)
     → AreFree l → ¬ (AllHaveForms l) → Analyses kind l budget m a

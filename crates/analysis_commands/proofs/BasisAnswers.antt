@@ -92,6 +92,7 @@ closed_of l m a free forms closed least reduced =
         finished = closed.finished;
         least = least;
         basis = reduced;
+        short = closed.short;
       };
       steps = closed.steps;
     }

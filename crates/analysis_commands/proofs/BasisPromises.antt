@@ -67,8 +67,8 @@ module _ (request : Request) where
       unformed = λ l r free not. or_fault (course request) call f
           (λ s. unformed_analysed request.kind l request.budget m s.answer free not
           (answered path call f l r s));
-      found = λ l r free forms. or_found (course request) call f
-          (λ s. formed_analysed request.kind l request.budget m s.answer free forms
+      found = λ l r free forms never. or_found (course request) call f
+          (λ s. formed_analysed request.kind l request.budget m s.answer free forms never
           (answered path call f l r s));
       enough = λ l r within. not_ended path call f concludes_exhausted l r
           (λ a h out. not_exhausted r.text l request.budget m a.text r.reads within

@@ -56,7 +56,7 @@ use Rattle.analysis_commands.proofs.Refused.{refusal_parts, refusal_kind, refuse
 use Rattle.analysis_commands.specs.ChainTexts.{bases_text, in_loop}
 use Rattle.analysis_commands.specs.ChainHeadline.{ShowsChain}
 use Rattle.analysis_commands.specs.ChainAnalyses.{Ending, found, refused, EndsWith, between_answer, error_answer, answer_of, refused_answer, Analyses}
-use Rattle.analysis_commands.specs.ChainCauses.{HasFinished, IsExhausted, IsUnanalysed, AreFormedBefore, IsWithinBudget, IsNeverRefused, IsNeverRefusedAt}
+use Rattle.analysis_commands.specs.ChainCauses.{HasFinished, IsExhausted, IsUnanalysed, AreFormedBefore, IsNeverLongAt, IsWithinBudget, IsNeverRefused, IsNeverRefusedAt}
 
 -- ---- one loop
 -- the answer behind that of its loop
@@ -116,31 +116,34 @@ module _ (c : Chain (Expr ℕ)) (budget : ℕ) (m : Journal) (j : ℕ) (x : Answ
       ]
 
   told_wide : (e : AnalyseError) → refusal_status e ≡ Some status.Wide
-      → Says (loop_error.Analysis e)
-      → x.status ≡ status.Wide
+      → Says (loop_error.Analysis e) → x.status ≡ status.Wide
   told_wide e same says = status_told kinds.Basis p budget m x e status.Wide same says
 
   -- where no operation passes a limit and each branch splits
-  formed_refusal : IsFreeAt → AllSplit (loop_at c j) → (e : LoopError) → Refuses e → Says e
-      → (x.status ≡ status.Wide) ⊎ (e ≡ loop_error.Analysis error.Budget)
-  formed_refusal free split (loop_error.Analysis (error.Map (map_error.Limit at))) r says =
+  formed_refusal : IsFreeAt → AllSplit (loop_at c j) → IsNeverLongAt c budget j → (e : LoopError)
+      → Refuses e → Says e → (x.status ≡ status.Wide) ⊎ (e ≡ loop_error.Analysis error.Budget)
+  formed_refusal free split never (loop_error.Analysis (error.Map (map_error.Limit at))) r says =
       absurd (not_free (length p.names) (operations_at c j) at r.1.1 free)
-  formed_refusal free split (loop_error.Analysis (error.Map (map_error.Wide at))) r says =
+  formed_refusal free split never (loop_error.Analysis (error.Map (map_error.Wide at))) r says =
       inl (told_wide (error.Map (map_error.Wide at)) refl says)
-  formed_refusal free split (loop_error.Analysis (error.Map map_error.Memory)) r says =
+  formed_refusal free split never (loop_error.Analysis (error.Map map_error.Memory)) r says =
       absurd (no_answer x says)
-  formed_refusal free split (loop_error.Analysis (error.Branch b y)) r says =
+  formed_refusal free split never (loop_error.Analysis (error.Branch b y)) r says =
       elim (wide_or_exhausted (error.Branch b y) says
       (formed kinds.Basis p budget (alone.empty_journal budget) x (free_loop free) split
-      (alone.refused (error.Branch b y)) (refl, (refl, (free_loop free, r.1.1))) says)) [
+      (alone.refused (error.Branch b y)) (λ task same. cc) (refl, (refl, (free_loop free, r.1.1)))
+      says)) [
         | inl wide ↦ inl wide
         | inr exhausted ↦ absurd (let z : error.Branch b y ≡ error.Budget = exhausted in cc)
       ]
-  formed_refusal free split (loop_error.Analysis (error.Wide task)) r says =
+  formed_refusal free split never (loop_error.Analysis (error.Limit task)) r says = let l = r.1 in
+      absurd (never l.left l.given l.known m.entries l.so.state l.so.follows l.so.long)
+  formed_refusal free split never (loop_error.Analysis (error.Wide task)) r says =
       inl (told_wide (error.Wide task) refl says)
-  formed_refusal free split (loop_error.Analysis error.Budget) r says = inr refl
-  formed_refusal free split (loop_error.Analysis error.Memory) r says = absurd (no_answer x says)
-  formed_refusal free split loop_error.Between r says = inl (between_wide says)
+  formed_refusal free split never (loop_error.Analysis error.Budget) r says = inr refl
+  formed_refusal free split never (loop_error.Analysis error.Memory) r says =
+      absurd (no_answer x says)
+  formed_refusal free split never loop_error.Between r says = inl (between_wide says)
 
   limit_at : (at : ℕ) → IsLimit (length (loop_at c j).names) (operations_at c j) at
       → (e : LoopError) → Refuses e → Says e
@@ -156,6 +159,8 @@ module _ (c : Chain (Expr ℕ)) (budget : ℕ) (m : Journal) (j : ℕ) (x : Answ
       absurd (no_answer x says)
   limit_at at first (loop_error.Analysis (error.Branch b y)) r says =
       absurd (not_free (length p.names) (operations_at c j) at first r.1.0)
+  limit_at at first (loop_error.Analysis (error.Limit task)) r says =
+      absurd (not_free (length p.names) (operations_at c j) at first (free_named c j r.0.0))
   limit_at at first (loop_error.Analysis (error.Wide task)) r says =
       inr (told_wide (error.Wide task) refl says)
   limit_at at first (loop_error.Analysis error.Budget) r says =
@@ -176,6 +181,8 @@ module _ (c : Chain (Expr ℕ)) (budget : ℕ) (m : Journal) (j : ℕ) (x : Answ
       branch_told kinds.Basis p budget (alone.empty_journal budget) x (free_loop free) b y exact
       first
       (alone.refused (error.Branch d z)) (refl, (refl, (free_loop free, r.1.1))) says
+  branch_at free b y exact first (loop_error.Analysis (error.Limit task)) r says =
+      absurd (no_form p (suc b) y exact first.is (r.0.1 b first.within))
   branch_at free b y exact first (loop_error.Analysis (error.Wide task)) r says =
       inr (told_wide (error.Wide task) refl says)
   branch_at free b y exact first (loop_error.Analysis error.Budget) r says =
@@ -198,8 +205,9 @@ module _ (c : Chain (Expr ℕ)) (budget : ℕ) (m : Journal) (j : ℕ) (x : Answ
   never_refused never (loop_error.Analysis (error.Branch b y)) r says =
       let t = some_told (refusal_in y) (IsRefusedBranch p b) r.1.1 in
       absurd (never.branches b t.0 t.1.within t.1.is)
-  never_refused never (loop_error.Analysis (error.Wide task)) r says =
-      let l = r.1 in
+  never_refused never (loop_error.Analysis (error.Limit task)) r says = let l = r.1 in
+      absurd (never.short l.left l.given l.known m.entries l.so.state l.so.follows l.so.long)
+  never_refused never (loop_error.Analysis (error.Wide task)) r says = let l = r.1 in
       absurd (never.states l.left l.given l.known m.entries l.so.state l.so.follows l.so.past)
   never_refused never (loop_error.Analysis error.Budget) r says = refl
   never_refused never (loop_error.Analysis error.Memory) r says = absurd (no_answer x says)
@@ -389,26 +397,26 @@ module _ (text : List ℕ) (c : Chain (Expr ℕ)) (budget : ℕ) (m : Journal) (
   -- a refusal of a loop that is formed, where its budget isn't exhausted
   wide_at : (r : bases.Refused) → Tells c budget a r → IsRefusedIn c budget m r
       → IsFree (length c.first.names) (operations_at c r.place) → AllSplit (loop_at c r.place)
-      → (r.error ≡ loop_error.Analysis error.Budget → ⊥) → a.status ≡ status.Wide
-  wide_at r says ends free split never =
+      → IsNeverLongAt c budget r.place → (r.error ≡ loop_error.Analysis error.Budget → ⊥)
+      → a.status ≡ status.Wide
+  wide_at r says ends free split short never =
       let o = of_loop c budget a r says in
-      elim (formed_refusal c budget m r.place o.x (free_named c r.place free) split r.error
+      elim (formed_refusal c budget m r.place o.x (free_named c r.place free) split short r.error
       ends.refused o.says) [
         | inl wide ↦ status_of o.is_told ∙ wide
         | inr exhausted ↦ absurd (never exhausted)
       ]
 
-  wide_before : (j : ℕ) → Reaches c budget j → AreFormedBefore c j → (r : bases.Refused)
-      → Tells c budget a r → IsRefusedIn c budget m r
-      → r.place < j → a.status ≡ status.Wide
+  wide_before : (j : ℕ) → Reaches c budget j → AreFormedBefore c budget j → (r : bases.Refused)
+      → Tells c budget a r → IsRefusedIn c budget m r → r.place < j → a.status ≡ status.Wide
   wide_before j known before r says ends l =
       let f = before r.place l in
       let b = before_place c budget j r.place known l in
-      wide_at r says ends f.0 (all_split (loop_at c r.place) f.1)
+      wide_at r says ends f.0.0 (all_split (loop_at c r.place) f.0.1) f.1
       (unexhausted r ends b.0 b.1.0 b.1.1.0 b.1.1.1)
 
   module _ (j : ℕ) (within : j ≤ length c.further) (known : Reaches c budget j)
-      (before : AreFormedBefore c j) where
+      (before : AreFormedBefore c budget j) where
     limited_so : (at : ℕ) → IsLimit (length c.first.names) (operations_at c j) at
         → (e : Ending) → EndsWith c budget m e → answer_of c.first.names budget e ≡ Some a
         → (a ≡ in_loop j (loop_refusal (record { reason = limit; at = at })))
@@ -443,8 +451,7 @@ module _ (text : List ℕ) (c : Chain (Expr ℕ)) (budget : ℕ) (m : Journal) (
             ]
 
     branch_so : IsFree (length c.first.names) (operations_at c j) → (b : ℕ) (y : Refusal)
-        → IsExact y
-        → IsRefusedBranch (loop_at c j) b y → (e : Ending) → EndsWith c budget m e
+        → IsExact y → IsRefusedBranch (loop_at c j) b y → (e : Ending) → EndsWith c budget m e
         → answer_of c.first.names budget e ≡ Some a
         → (a ≡ in_loop j (branch_answer c.first.names b y)) ⊎ (a.status ≡ status.Wide)
     branch_so free b y exact first (found bases) ends says =
@@ -498,14 +505,15 @@ module _ (text : List ℕ) (c : Chain (Expr ℕ)) (budget : ℕ) (m : Journal) (
             ]
 
   all_formed : ((j : ℕ) → j ≤ length c.further
-      → IsFree (length c.first.names) (operations_at c j) × AllSplit (loop_at c j))
+      → IsFree (length c.first.names) (operations_at c j) × AllSplit (loop_at c j)
+      × IsNeverLongAt c budget j)
       → (e : Ending) → EndsWith c budget m e → answer_of c.first.names budget e ≡ Some a
       → (a.status ≡ status.Yes) ⊎ ((a.status ≡ status.Wide) ⊎ (a.status ≡ status.Budget))
   all_formed each (found bases) ends says = inl (status_of (found_is c budget a bases says))
   all_formed each (refused r) ends says =
       let o = of_loop c budget a r says in
       let f = each r.place ends.within in
-      elim (formed_refusal c budget m r.place o.x (free_named c r.place f.0) f.1 r.error
+      elim (formed_refusal c budget m r.place o.x (free_named c r.place f.0) f.1 f.2 r.error
       ends.refused o.says) [
         | inl wide ↦ inr (inl (status_of o.is_told ∙ wide))
         | inr exhausted ↦ inr (inr (status_of o.is_told
@@ -555,15 +563,15 @@ module _ (text : List ℕ) (c : Chain (Expr ℕ)) (budget : ℕ) (m : Journal) (
   unanalysed h not = cause text c budget m a is h.ending h.ends h.says not
 
   pub limit_analysed : (j : ℕ) → j ≤ length c.further → Reaches c budget j
-      → AreFormedBefore c j → (at : ℕ) → IsLimit (length c.first.names) (operations_at c j) at
-      → Analyses c budget m a
-      → (a ≡ in_loop j (loop_refusal (record { reason = limit; at = at })))
+      → AreFormedBefore c budget j → (at : ℕ) → IsLimit (length c.first.names) (operations_at c j)
+      at
+      → Analyses c budget m a → (a ≡ in_loop j (loop_refusal (record { reason = limit; at = at })))
       ⊎ (a.status ≡ status.Wide)
   limit_analysed j within known before at first h =
       limited_so text c budget m a is j within known before at first h.ending h.ends h.says
 
   pub branch_analysed : (j : ℕ) → j ≤ length c.further → Reaches c budget j
-      → AreFormedBefore c j → IsFree (length c.first.names) (operations_at c j) → (b : ℕ)
+      → AreFormedBefore c budget j → IsFree (length c.first.names) (operations_at c j) → (b : ℕ)
       (y : Refusal) → IsExact y → IsRefusedBranch (loop_at c j) b y → Analyses c budget m a
       → (a ≡ in_loop j (branch_answer c.first.names b y)) ⊎ (a.status ≡ status.Wide)
   branch_analysed j within known before free b y exact first h =
@@ -571,14 +579,15 @@ module _ (text : List ℕ) (c : Chain (Expr ℕ)) (budget : ℕ) (m : Journal) (
       h.says
 
   pub unformed_analysed : (j : ℕ) → j ≤ length c.further → Reaches c budget j
-      → AreFormedBefore c j → ¬ (AllHaveForms (loop_at c j)) → Analyses c budget m a
+      → AreFormedBefore c budget j → ¬ (AllHaveForms (loop_at c j)) → Analyses c budget m a
       → (a.status ≡ status.Fault) ⊎ (a.status ≡ status.Wide)
   unformed_analysed j within known before not h =
       unformed_so text c budget m a is j within known before not h.ending h.ends h.says
 
   pub formed_analysed
       : ((j : ℕ) → j ≤ length c.further
-      → IsFree (length c.first.names) (operations_at c j) × AllSplit (loop_at c j))
+      → IsFree (length c.first.names) (operations_at c j) × AllSplit (loop_at c j)
+      × IsNeverLongAt c budget j)
       → Analyses c budget m a
       → (a.status ≡ status.Yes) ⊎ ((a.status ≡ status.Wide) ⊎ (a.status ≡ status.Budget))
   formed_analysed each h = all_formed text c budget m a is each h.ending h.ends h.says

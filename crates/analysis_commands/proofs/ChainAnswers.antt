@@ -163,6 +163,8 @@ module _ (c : Chain (Expr ℕ)) (budget : ℕ) (m : Journal) (j : ℕ) where
       → HasWorked c budget m j
   worked reached (loop_error.Analysis (error.Map e)) r = nothing_yet j reached r.0
   worked reached (loop_error.Analysis (error.Branch b e)) r = nothing_yet j reached r.0
+  worked reached (loop_error.Analysis (error.Limit task)) r = inl (loop_weaker c budget m j _ _
+      (λ left given h. inr (record { state = h.state; follows = h.follows })) r.1)
   worked reached (loop_error.Analysis (error.Wide task)) r = inl (loop_weaker c budget m j _ _
       (λ left given h. inr (record { state = h.state; follows = h.follows })) r.1)
   worked reached (loop_error.Analysis error.Budget) (formed, inl l) =
@@ -197,6 +199,7 @@ module _ (c : Chain (Expr ℕ)) (budget : ℕ) (m : Journal) (j : ℕ) where
     where
       free : IsFree (length c.first.names) (operations_at c j)
       free = subst (λ n. IsFree n (operations_at c j)) (ap length (names_at j)) r.1.0
+  named_at (loop_error.Analysis (error.Limit task)) r = tt
   named_at (loop_error.Analysis (error.Wide task)) r = tt
   named_at (loop_error.Analysis error.Budget) r = tt
   named_at (loop_error.Analysis error.Memory) r = tt

@@ -27,17 +27,19 @@ use Rattle.rounds.specs.Analysis.{Setting, State, fresh, finished, next, moves}
 use Rattle.rounds.specs.Form.{Form}
 use Rattle.rounds.specs.Journal.{setting_from, FollowsFrom, IsFinishedFrom}
 use Rattle.rounds.specs.Past.{IsPast}
+use Rattle.invariant_fix.specs.Long.{IsLong}
+use Rattle.invariant_fix.proofs.TaskLengths.{fresh_short}
 use Rattle.corollaries.specs.Analysed.{Analysed, first, further, GivenTo, at_first, behind}
 use Rattle.corollaries.specs.Between.{IsMapped, IsExhaustedLeading, IsPastLeading}
 use Rattle.loops.specs.Chain.{Chain, IsChain}
 use Rattle.corollaries.proofs.Analysed.{analysed_one, analysed_basis}
 use Rattle.analysis_commands.proofs.IdleCode.{idle_code, idle_mapped, idle_fits, idle_unexhausted}
-use Rattle.analysis_commands.proofs.ChangedCode.{changed_code, changed_mapped, changed_never_past, less_five, behind_entries, behind_units, behind_finished, behind_never_past}
+use Rattle.analysis_commands.proofs.ChangedCode.{changed_code, changed_mapped, changed_never_past, less_five, behind_entries, behind_units, behind_finished, behind_never_past, behind_never_long}
 use Rattle.corollaries.proofs.Mapped.{mapped_one}
 use Rattle.loop_runs.specs.Limits.{most_loops}
 use Rattle.loop_text.specs.ChainReader.{chain_of}
 use Rattle.invariant_fix.specs.Bases.{operations_at}
-use Rattle.analysis_commands.proofs.IdleRuns.{never_past}
+use Rattle.analysis_commands.proofs.IdleRuns.{never_past, never_long}
 use Rattle.analysis_commands.proofs.IdleLoops.{one_loop, x_free, x_narrow, x_branches, x_forms, x_form, x_finished}
 use Rattle.analysis_commands.proofs.ChainAnalysing.{chain_formed}
 use Rattle.analysis_commands.specs.ChainCauses.{IsWithinBudget, IsNeverRefusedAt, IsNeverRefused}
@@ -106,6 +108,13 @@ module _ (program : Program (Expr ℕ)) (forms : List Form) where
       elim (subst (IsPast (setting_from program (Some []) forms None)) (sym (only_fresh es s r))
       past) [ inl h ↦ h | inr h ↦ h ]
 
+  never_long_from : (es : List Entry) (s : State)
+      → IsRun (moves (setting_from program (Some []) forms None)) fresh es s
+      → IsLong (setting_from program (Some []) forms None) s → ⊥
+  never_long_from es s r long =
+      fresh_short (setting_from program (Some []) forms None)
+      (subst (IsLong (setting_from program (Some []) forms None)) (sym (only_fresh es s r)) long)
+
 finished_from : IsFinishedFrom one_loop [] [] 0 []
 unfolding IsRun
 finished_from = record {
@@ -117,6 +126,10 @@ finished_from = record {
 never_past_behind : (es : List Entry) (s : State) (f : FollowsFrom one_loop (Some []) None es s)
     → IsPast (setting_from one_loop (Some []) f.forms None) s → ⊥
 never_past_behind es s f past = never_past_from one_loop f.forms es s f.run past
+
+never_long_behind : (es : List Entry) (s : State) (f : FollowsFrom one_loop (Some []) None es s)
+    → IsLong (setting_from one_loop (Some []) f.forms None) s → ⊥
+never_long_behind es s f long = never_long_from one_loop f.forms es s f.run long
 
 nothing_done : {budget : ℕ} → units_of [] ≤ budget
 unfolding units_of
@@ -130,7 +143,9 @@ module _ (code : List (Statement (Expr ℕ))) (ks : List (Terms Fraction))
     → ⊥) (behind_entries : List Entry)
     (hs : List (Terms Fraction)) (ended : IsFinishedFrom one_loop ks behind_entries 0 hs)
     (fit : (fs : List Entry) (s : State) (f : FollowsFrom one_loop (Some ks) None fs s)
-    → IsPast (setting_from one_loop (Some ks) f.forms None) s → ⊥) (budget : ℕ)
+    → IsPast (setting_from one_loop (Some ks) f.forms None) s → ⊥)
+    (short : (fs : List Entry) (s : State) (f : FollowsFrom one_loop (Some ks) None fs s)
+    → IsLong (setting_from one_loop (Some ks) f.forms None) s → ⊥) (budget : ℕ)
     (few : units_of behind_entries ≤ budget) where
   abbrev c : Chain (Expr ℕ)
   c = idle_chain code
@@ -170,31 +185,40 @@ module _ (code : List (Statement (Expr ℕ))) (ks : List (Terms Fraction))
         (given_first left given k) f.run)
         (subst (λ o. IsPast (setting_from one_loop o f.forms None) s)
         (given_first left given k) past);
+    short = λ left given k es s f long. never_long ([] ∷ []) f.forms es s
+        (subst (λ o. IsRun (moves (setting_from one_loop o f.forms None)) fresh es s)
+        (given_first left given k) f.run)
+        (subst (λ o. IsLong (setting_from one_loop o f.forms None) s)
+        (given_first left given k) long);
     code = λ i gs e. absurd (omega (arith, e));
   }
 
-  fit_second : (left : ℕ) (given : Option (List (Terms Fraction)))
+  -- what is so of no state of the analysis from the list is so of none from what is given
+  second : (P : Setting → State → Type 0)
+      → ((es : List Entry) (s : State) (f : FollowsFrom one_loop (Some ks) None es s)
+      → P (setting_from one_loop (Some ks) f.forms None) s → ⊥) → (left : ℕ)
+      (given : Option (List (Terms Fraction)))
       → GivenTo (idle_chain code) budget 1 left given → (es : List Entry) (s : State)
       (f : FollowsFrom one_loop given None es s)
-      → IsPast (setting_from one_loop given f.forms None) s → ⊥
-  fit_second left given k es s f past =
-      go given (given_second left given k) f past
+      → P (setting_from one_loop given f.forms None) s → ⊥
+  second P never left given k es s f h = go given (given_second left given k) f h
     where
       go : (o : Option (List (Terms Fraction))) → o ≡ Some ks
           → (f : FollowsFrom one_loop o None es s)
-          → IsPast (setting_from one_loop o f.forms None) s → ⊥
-      go o e f past = fit es s (record {
+          → P (setting_from one_loop o f.forms None) s → ⊥
+      go o e f h = never es s (record {
         forms = f.forms;
         are_forms = f.are_forms;
         run = subst (λ o. IsRun (moves (setting_from one_loop o f.forms None)) fresh es s) e f.run;
-      }) (subst (λ o. IsPast (setting_from one_loop o f.forms None) s) e past)
+      }) (subst (λ o. P (setting_from one_loop o f.forms None) s) e h)
 
   refused_second : IsNeverRefusedAt (idle_chain code) budget 1
   refused_second = record {
     free = subst (IsFree 1) (sym none) x_free;
     maps = λ at. subst (λ os. IsWide 1 os at → ⊥) (sym none) (x_narrow at);
     branches = x_branches;
-    states = λ left given k es s f past. fit_second left given k es s f past;
+    states = λ left given k es s f past. second IsPast fit left given k es s f past;
+    short = λ left given k es s f long. second IsLong short left given k es s f long;
     code = λ i gs e a es past.
         (let same : i ≡ 0 = omega (arith, e) in
         never es (subst (λ hs. IsPastLeading one_loop code hs es)
@@ -212,11 +236,12 @@ no_code = refl
 
 pub plain_never_refused : (budget : ℕ) → IsNeverRefused plain_chain budget
 plain_never_refused budget = never_refused [] [] (refl, refl) (chain_formed plain_text plain_chain
-    plain_read) no_code (λ es h. h) [] [] finished_from never_past_behind budget nothing_done
+    plain_read) no_code (λ es h. h) [] [] finished_from never_past_behind never_long_behind budget
+    nothing_done
 
 pub plain_within : (budget : ℕ) → IsWithinBudget plain_chain budget
 plain_within budget = within [] [] (refl, refl) (chain_formed plain_text plain_chain plain_read)
-    no_code (λ es h. h) [] [] finished_from never_past_behind budget nothing_done
+    no_code (λ es h. h) [] [] finished_from never_past_behind never_long_behind budget nothing_done
 
 -- ---- with code
 no_operation : operations_at code_chain 1 ≡ maps_operations one_loop
@@ -233,12 +258,14 @@ code_never_exhausted limit es h = idle_unexhausted ([] ∷ []) limit es h
 pub code_never_refused : (budget : ℕ) → IsNeverRefused code_chain budget
 code_never_refused budget =
     never_refused idle_code [] (idle_mapped ([] ∷ [])) (chain_formed code_text code_chain code_read)
-    no_operation code_never_past [] [] finished_from never_past_behind budget nothing_done
+    no_operation code_never_past [] [] finished_from never_past_behind never_long_behind budget
+    nothing_done
 
 pub code_within : (budget : ℕ) → IsWithinBudget code_chain budget
 code_within budget =
     within idle_code [] (idle_mapped ([] ∷ [])) (chain_formed code_text code_chain code_read)
-    no_operation code_never_past [] [] finished_from never_past_behind budget nothing_done
+    no_operation code_never_past [] [] finished_from never_past_behind never_long_behind budget
+    nothing_done
 
 -- ---- with code that changes the variable
 changed_operation : operations_at changed_chain 1 ≡ maps_operations one_loop
@@ -249,12 +276,12 @@ pub changed_never_refused : (budget : ℕ) → 1 ≤ budget → IsNeverRefused c
 changed_never_refused budget some =
     never_refused changed_code (less_five ∷ []) changed_mapped
     (chain_formed changed_text changed_chain changed_read) changed_operation changed_never_past
-    behind_entries (less_five ∷ []) behind_finished behind_never_past budget
+    behind_entries (less_five ∷ []) behind_finished behind_never_past behind_never_long budget
     (subst (λ n. n ≤ budget) (sym behind_units) some)
 
 pub changed_within : (budget : ℕ) → 1 ≤ budget → IsWithinBudget changed_chain budget
 changed_within budget some =
     within changed_code (less_five ∷ []) changed_mapped
     (chain_formed changed_text changed_chain changed_read) changed_operation changed_never_past
-    behind_entries (less_five ∷ []) behind_finished behind_never_past budget
+    behind_entries (less_five ∷ []) behind_finished behind_never_past behind_never_long budget
     (subst (λ n. n ≤ budget) (sym behind_units) some)

@@ -39,16 +39,20 @@ use Rattle.rounds.specs.Form.{relation, relations_to, passes}
 use Rattle.rounds.specs.Start.{start_list, start_polynomial, in_order}
 use Rattle.rounds.specs.Analysis as analysis
 use Rattle.rounds.specs.Analysis.{State, finished, next, block, starting, closing_from, after_iterations}
-use Rattle.analysis_commands.proofs.Fitting.{start_fits, all_fit, then_fit, state_fits, work_fits, orbit_fits, less_fits, elimination_fits, behind_fits, dropping_fits, tailing_fits, acting_fits, taking_fits, left_fits, found_fits, reducing_fits, both_fit, exponents_fit, size_fits, each_fits}
+use Rattle.expansion.specs.Counts.{most_terms, factor_terms}
+use Rattle.expansion.specs.Lengths.{product_length, power_length}
+use Rattle.invariant_fix.specs.Long.{task_length, work_length, orbit_length_since, lengths_before}
+use Rattle.analysis_commands.proofs.Fitting.{start_fits, all_fit, then_fit, state_fits, numbers_fit, work_fits, orbit_fits, less_fits, elimination_fits, behind_fits, dropping_fits, tailing_fits, acting_fits, taking_fits, left_fits, found_fits, reducing_fits, both_fit, exponents_fit, size_fits, each_fits}
 use Rattle.machines.specs.Run.{IsRun}
 use Rattle.machines.proofs.Working.{work_begun}
 use Rattle.rounds.specs.Journal.{setting_from, FollowsFrom, IsFinishedFrom}
 use Rattle.rounds.specs.Past.{IsPast}
+use Rattle.invariant_fix.specs.Long.{IsLong}
 use Rattle.corollaries.specs.Between.{starting as starting_code, code_order, between, list_of, IsMapped, IsExhaustedLeading, IsPastLeading}
 use Rattle.corollaries.specs.CodeBetween.{copies}
 use Rattle.analysis_commands.proofs.CodeFitting.{making_fits, never_leads_past}
 use Rattle.analysis_commands.proofs.IdleLoops.{one_loop, x_form, x_forms}
-use Rattle.analysis_commands.proofs.Traces.{never_past, comes_by}
+use Rattle.analysis_commands.proofs.Traces.{never_past, never_too_long, comes_by}
 
 abbrev setting_five : Statement (Expr ℕ)
 setting_five = record { targets = 0 ∷ []; values = number (pos 5) ∷ [] }
@@ -195,7 +199,9 @@ behind_units = refl
 
 behind_run : Run one_loop (Some (less_five ∷ [])) (x_form ∷ []) None 3 behind_entries
     (finished 0 (less_five ∷ []))
-unfolding on trace all_fit then_fit state_fits work_fits orbit_fits less_fits elimination_fits
+unfolding on trace all_fit then_fit state_fits
+    numbers_fit task_length work_length orbit_length_since lengths_before product_length
+    power_length factor_terms most_terms work_fits orbit_fits less_fits elimination_fits
     behind_fits
     dropping_fits tailing_fits acting_fits taking_fits left_fits found_fits reducing_fits both_fit
     exponents_fit size_fits each_fits weight degrees composition_weight composition_degrees lcm
@@ -220,4 +226,10 @@ pub behind_never_past : (fs : List Entry) (s : State)
     (f : FollowsFrom one_loop (Some (less_five ∷ [])) None fs s)
     → IsPast (setting_from one_loop (Some (less_five ∷ [])) f.forms None) s → ⊥
 behind_never_past = never_past one_loop (Some (less_five ∷ [])) (x_form ∷ []) x_forms None 3
+    behind_entries _ behind_run
+
+pub behind_never_long : (fs : List Entry) (s : State)
+    (f : FollowsFrom one_loop (Some (less_five ∷ [])) None fs s)
+    → IsLong (setting_from one_loop (Some (less_five ∷ [])) f.forms None) s → ⊥
+behind_never_long = never_too_long one_loop (Some (less_five ∷ [])) (x_form ∷ []) x_forms None 3
     behind_entries _ behind_run

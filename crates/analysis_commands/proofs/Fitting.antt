@@ -9,9 +9,10 @@
 --   pair_holds, acting_holds      where the tests of a pair, and of what comes next, say yes, nothing there is past
 --   tailing_fits, dropping_fits, tidying_fits, tidying_holds      the next event of an interreduction
 --   less_fits, orbit_fits, work_fits, work_holds      the differences of two lists, the compositions of an orbit, and what a task begins with
---   state_fits A s          nothing of the state is past; where an iteration is taken by itself it says no
+--   numbers_fit A s         nothing of the state is past; where an iteration is taken by itself it says no
+--   state_fits A s          so it is, and the state's task isn't too long
 --   all_fit next test n s   the test says yes of s and of the states behind it, of which the last comes after at most n steps
---   each_fits_on            so of each state on a run from s;  never: so none of an analysis is past
+--   each_fits_on            so of each state on a run from s;  never, never_long: so none of an analysis is past, and no task is too long
 use Rattle.std.proofs.Common.{◌≡◌, inl, inr, ℕ, zero, suc, ◌+◌, ◌^◌, Bool, true, false, ltb, List, [], ◌∷◌, drop, length, map, get_or, slice_get, refl, sym, subst, Option, Some, None, arith}
 use Rattle.std.specs.Prelude.{◌&&◌, ◌⊎◌, is_some, not}
 use Rattle.std.specs.List.{Any}
@@ -39,6 +40,8 @@ use Rattle.rounds.specs.Form.{Form, front, inverse_of_form, passes, passing, for
 use Rattle.rounds.specs.Graph.{images_behind, at_before}
 use Rattle.rounds.specs.Past as rounds
 use Rattle.rounds.specs.Past.{the_t, one_less_t, IsPastLess, IsPastGraph, IsPastOrbitSince, IsPastMeet}
+use Rattle.expansion.specs.Counts.{most_terms}
+use Rattle.invariant_fix.specs.Long.{task_length, IsLong}
 
 -- ---- tests
 pub first_holds : (a b : Bool) → a && b ≡ true → a ≡ true
@@ -359,27 +362,40 @@ module _ (A : Setting) where
       start_holds (starting A (orbit k b gs so_far)) (second_holds _ _ e) h
   work_holds (meet k b gs so_far hs) e h = meet_holds (meet k b gs so_far hs) so_far hs e h
 
-  unfoldable pub state_fits : State → Bool
-  state_fits fresh = true
-  state_fits (working w s) = work_fits w && elimination_fits (order A w) (free_part (block A w)) s
-  state_fits (closing k b i gs s) =
+  unfoldable pub numbers_fit : State → Bool
+  numbers_fit fresh = true
+  numbers_fit (working w s) = work_fits w && elimination_fits (order A w) (free_part (block A w)) s
+  numbers_fit (closing k b i gs s) =
       composition_fits (get_or A.maps b []) (get_or gs i []) && division_fits gs s
-  state_fits (turning k gs) = true
-  state_fits (asking k gs s) = division_fits gs s
+  numbers_fit (turning k gs) = true
+  numbers_fit (asking k gs s) = division_fits gs s
+
+  pub numbers_hold : (s : State) → numbers_fit s ≡ true → rounds.IsPast A s → ⊥
+  unfolding numbers_fit
+  numbers_hold fresh e (inl h) = h
+  numbers_hold fresh e (inr h) = h
+  numbers_hold (working w s) e (inl h) = work_holds w (first_holds _ _ e) h
+  numbers_hold (working w s) e (inr h) =
+      elimination_holds (order A w) (free_part (block A w)) s (second_holds _ _ e) h
+  numbers_hold (closing k b i gs s) e (inl h) = both_hold _ _ (first_holds _ _ e) h
+  numbers_hold (closing k b i gs s) e (inr h) = division_holds gs s (second_holds _ _ e) h
+  numbers_hold (turning k gs) e (inl h) = h
+  numbers_hold (turning k gs) e (inr h) = h
+  numbers_hold (asking k gs s) e (inl h) = h
+  numbers_hold (asking k gs s) e (inr h) = division_holds gs s e h
+
+  unfoldable pub state_fits : State → Bool
+  state_fits s = ltb (task_length A s) (suc most_terms) && numbers_fit s
 
   pub state_holds : (s : State) → state_fits s ≡ true → rounds.IsPast A s → ⊥
   unfolding state_fits
-  state_holds fresh e (inl h) = h
-  state_holds fresh e (inr h) = h
-  state_holds (working w s) e (inl h) = work_holds w (first_holds _ _ e) h
-  state_holds (working w s) e (inr h) =
-      elimination_holds (order A w) (free_part (block A w)) s (second_holds _ _ e) h
-  state_holds (closing k b i gs s) e (inl h) = both_hold _ _ (first_holds _ _ e) h
-  state_holds (closing k b i gs s) e (inr h) = division_holds gs s (second_holds _ _ e) h
-  state_holds (turning k gs) e (inl h) = h
-  state_holds (turning k gs) e (inr h) = h
-  state_holds (asking k gs s) e (inl h) = h
-  state_holds (asking k gs s) e (inr h) = division_holds gs s e h
+  state_holds s e h = numbers_hold s (second_holds _ _ e) h
+
+  pub state_short : (s : State) → state_fits s ≡ true → IsLong A s → ⊥
+  unfolding state_fits
+  state_short s e h =
+      let l = ltb-true (task_length A s) (suc most_terms) (first_holds _ _ e) in
+      omega (arith, l, h)
 
 -- ---- all states of a run
 module _ {S E : Type 0} (next : S → Option (E × S)) (test : S → Bool) where
@@ -406,3 +422,7 @@ module _ {S E : Type 0} (next : S → Option (E × S)) (test : S → Bool) where
 pub never : (A : Setting) (n : ℕ) (u : State) → all_fit (moves A) (state_fits A) n u ≡ true
     → (es : List Entry) (s : State) → IsRun (moves A) u es s → rounds.IsPast A s → ⊥
 never A n u e es s r = state_holds A s (each_fits_on (moves A) (state_fits A) n u e es s r)
+
+pub never_long : (A : Setting) (n : ℕ) (u : State) → all_fit (moves A) (state_fits A) n u ≡ true
+    → (es : List Entry) (s : State) → IsRun (moves A) u es s → IsLong A s → ⊥
+never_long A n u e es s r = state_short A s (each_fits_on (moves A) (state_fits A) n u e es s r)

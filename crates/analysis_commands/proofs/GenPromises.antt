@@ -19,7 +19,7 @@ use Rattle.io_edge.proofs.Outcomes.{Said, yes_said, said_with, refusal_told, wri
 use Rattle.analysis_commands.specs.declared.kind.Kind.TheVariants.{Basis}
 use Rattle.analysis_commands.specs.Analyses.{refused, Analyses}
 use Rattle.analysis_commands.specs.Completeness.{AllSplit}
-use Rattle.analysis_commands.specs.Causes.{IsExhausted, IsNeverRefused, IsWithinBudget}
+use Rattle.analysis_commands.specs.Causes.{IsExhausted, IsNeverLong, IsNeverRefused, IsWithinBudget}
 use Rattle.analysis_commands.specs.Counting.{ShowsCounts, StopsAt, IsExhaustedAt, AnswersFamily, IsFamily}
 use Rattle.analysis_commands.specs.GenCourse.{course}
 use Rattle.analysis_commands.specs.GenClauses.{Tallies}
@@ -92,13 +92,13 @@ module _ (n : ℕ) where
   }
 
   -- ---- where it ends
-  found : (m : Journal) (a : Answer) → IsFamily n (λ l. AreFree l × AllSplit l)
+  found : (m : Journal) (a : Answer) → IsFamily n (λ l. AreFree l × AllSplit l × IsNeverLong l)
       → AnswersFamily n m a
       → (a.status ≡ status.Yes) ⊎ ((a.status ≡ status.Wide) ⊎ (a.status ≡ status.Budget))
   found m a each (inl told) = inl told.0
   found m a each (inr stop) =
       let has = each stop.place stop.refused.loop stop.within stop.refused.is_loop in
-      formed_analysed Basis stop.refused.loop usual_budget m a has.0 has.1
+      formed_analysed Basis stop.refused.loop usual_budget m a has.0 has.1 has.2
       (stop_analyses n m a stop)
 
   enough : (m : Journal) (a : Answer) → IsFamily n (λ l. IsWithinBudget l usual_budget)

@@ -1,6 +1,6 @@
 -- Loops of one variable without init, whose branches do nothing.
 --   x_loop branches      the loop with these branches
---   never_past           no state of its analysis is past
+--   never_past, never_long     no state of its analysis is past, and no task is too long
 --   never_past_asked     nor one of the division of a polynomial behind it
 --   x_run, x_ends        the analysis: it begins with no equation, and ends with none
 --   asked_run, some_answered     and with a question: what has a term is left as it is
@@ -29,6 +29,8 @@ use Rattle.rounds.specs.Analysis.{Setting, State, fresh, working, asking, starts
 use Rattle.rounds.specs.Form.{Form}
 use Rattle.rounds.specs.Journal.{setting_of}
 use Rattle.rounds.specs.Past.{IsPast}
+use Rattle.invariant_fix.specs.Long.{IsLong}
+use Rattle.invariant_fix.proofs.TaskLengths.{fresh_short, starts_short}
 use Rattle.rounds.specs.Start.{start_list, in_order}
 
 abbrev pub x_loop : List (List (Statement (Expr ℕ))) → Program (Expr ℕ)
@@ -85,20 +87,29 @@ module _ (branches : List (List (Statement (Expr ℕ)))) (forms : List Form) whe
   fits_begun p (inr (inl h)) = h
   fits_begun p (inr (inr h)) = h.1
 
+  -- what is so at neither of the two states is so at none of a run
+  module _ (P : State → Type 0) (at_fresh : P fresh → ⊥) (at_begun : P begun → ⊥) where
+    never_at : (es : List Entry) (s : State) → IsRun (moves (A None)) fresh es s → P s → ⊥
+    unfolding IsRun state_of
+    never_at [] s r h = at_fresh (subst P (sym r) h)
+    never_at (e ∷ []) s r h =
+        at_begun (subst P (sym (ap state_of (sym (first None) ∙ r.1) ∙ r.2)) h)
+    never_at (e ∷ f ∷ es) s r h = absurd (go r.0 (ap state_of (sym (first None) ∙ r.1)) r.2.1)
+      where
+        go : (u : State) → begun ≡ u → moves (A None) u ≡ Some (f, r.2.0) → ⊥
+        go u e is =
+            let none = subst (λ v. moves (A None) v ≡ None) e
+            (ap (analysis.move_of (A None)) ends) in
+            let z : ◌≡◌ {A = Option (Entry × State)} None (Some (f, r.2.0)) = sym none ∙ is in
+            cc
+
   pub never_past : (es : List Entry) (s : State) → IsRun (moves (A None)) fresh es s
       → IsPast (A None) s → ⊥
-  unfolding IsRun state_of
-  never_past [] s r h = fits_fresh None (subst (IsPast (A None)) (sym r) h)
-  never_past (e ∷ []) s r h =
-      fits_begun None (subst (IsPast (A None)) (sym (ap state_of (sym (first None) ∙ r.1) ∙ r.2)) h)
-  never_past (e ∷ f ∷ es) s r h =
-      absurd (go r.0 (ap state_of (sym (first None) ∙ r.1)) r.2.1)
-    where
-      go : (u : State) → begun ≡ u → moves (A None) u ≡ Some (f, r.2.0) → ⊥
-      go u e is =
-          let none = subst (λ v. moves (A None) v ≡ None) e (ap (analysis.move_of (A None)) ends) in
-          let z : ◌≡◌ {A = Option (Entry × State)} None (Some (f, r.2.0)) = sym none ∙ is in
-          cc
+  never_past = never_at (IsPast (A None)) (fits_fresh None) (fits_begun None)
+
+  pub never_long : (es : List Entry) (s : State) → IsRun (moves (A None)) fresh es s
+      → IsLong (A None) s → ⊥
+  never_long = never_at (IsLong (A None)) (fresh_short (A None)) (starts_short (A None) _)
 
   -- ---- the division behind it
   no_cut : (p : Terms Fraction) → find_cut rationals all_places [] p ≡ None

@@ -41,7 +41,7 @@ use Rattle.io_edge.proofs.OfStatuses.{status_of, text_of, no_answer, some_answer
 use Rattle.command_parts.proofs.MapLimits.{not_free}
 use Rattle.analysis_commands.specs.declared.kind.Kind.TheVariants as kinds
 use Rattle.analysis_commands.specs.Analyses.{empty_journal, refused, Analyses}
-use Rattle.analysis_commands.specs.Causes.{IsNeverRefused, IsExact}
+use Rattle.analysis_commands.specs.Causes.{IsNeverLong, IsNeverRefused, IsExact}
 use Rattle.analysis_commands.specs.Completeness.{AllSplit}
 use Rattle.command_parts.specs.Equations.{equation_in, operations_of, polynomial_of}
 use Rattle.analysis_commands.specs.MemberCauses.{IsAsking, HasAffirmed, HasDenied, IsExhaustedAsking, NeverStops, NeverPast}
@@ -320,20 +320,20 @@ module _ (l : Program (Expr ℕ)) (e : Expr ℕ) (budget : ℕ) (m : Journal) (a
       → (a.status ≡ status.Wide) ⊎ (a.status ≡ status.Budget)
   undecided x says = wide_or_exhausted x a.status (division_is x says)
 
-  decided : AreFree l → AllSplit l → (d : Decision) → Ends d → Says d
+  decided : AreFree l → AllSplit l → IsNeverLong l → (d : Decision) → Ends d → Says d
       → IsDecided ⊎ ((a.status ≡ status.Wide) ⊎ (a.status ≡ status.Budget))
-  decided free split (unanalysed x) ends says =
-      elim (formed_analysed kinds.Basis l budget m a free split (analysis x ends says)) [
+  decided free split never (unanalysed x) ends says =
+      elim (formed_analysed kinds.Basis l budget m a free split never (analysis x ends says)) [
         | inl is ↦ absurd (refused_yes x says is)
         | inr other ↦ inr other
       ]
-  decided free split (undivided x) ends says = inr (undecided x says)
-  decided free split (yes qs) ends says = inl (by_yes qs ends says)
-  decided free split no ends says = inl (by_no ends says)
+  decided free split never (undivided x) ends says = inr (undecided x says)
+  decided free split never (yes qs) ends says = inl (by_yes qs ends says)
+  decided free split never no ends says = inl (by_no ends says)
 
-  pub decided_asking : AreFree l → AllSplit l
+  pub decided_asking : AreFree l → AllSplit l → IsNeverLong l
       → IsDecided ⊎ ((a.status ≡ status.Wide) ⊎ (a.status ≡ status.Budget))
-  decided_asking free split = decided free split asks.decision asks.ends asks.says
+  decided_asking free split never = decided free split never asks.decision asks.ends asks.says
 
   -- ---- where nothing is refused
   module _ (never : IsNeverRefused l) (narrow : NeverPast l p) (es : List Entry) (k : ℕ)
@@ -348,6 +348,8 @@ module _ (l : Program (Expr ℕ)) (e : Expr ℕ) (budget : ℕ) (m : Journal) (a
     never_refused (error.Branch b x) ends says =
         let t = some_told (refusal_in x) (IsRefusedBranch l b) ends.1.1.1 in
         never.branches b t.0 t.1.within t.1.is
+    never_refused (error.Limit task) ends says =
+        let s = ends.1.2 in never.short m.entries s.state s.follows s.long
     never_refused (error.Wide task) ends says =
         let s = ends.1.2 in never.states m.entries s.state s.follows s.past
     never_refused error.Budget ends says =

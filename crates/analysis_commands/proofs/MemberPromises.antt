@@ -29,7 +29,7 @@ use Rattle.command_parts.specs.FaultTexts.{loop_refusal}
 use Rattle.command_parts.specs.LoopReading.{loop_at, by_loop}
 use Rattle.command_parts.proofs.LoopCourses.{loop_refuses}
 use Rattle.command_parts.proofs.MapLimits.{not_free}
-use Rattle.analysis_commands.specs.Causes.{IsNeverRefused, IsExact}
+use Rattle.analysis_commands.specs.Causes.{IsNeverLong, IsNeverRefused, IsExact}
 use Rattle.analysis_commands.specs.Completeness.{AllSplit}
 use Rattle.command_parts.specs.Equations.{equation_in, operations_of, polynomial_of}
 use Rattle.analysis_commands.specs.MemberCauses.{IsAsking, IsEquationFault, HasAffirmed, HasDenied, IsExhaustedAsking, IsAsked, NeverStops, NeverPast}
@@ -300,11 +300,11 @@ module _ (request : Request) (call : Call)
         (λ a asks. unformed_asking l e request.budget m a asks free not)
         (λ a is. inr is))
 
-    decided : AreFree l → AllSplit l → EndsAsked call.status l e
-    decided free split =
+    decided : AreFree l → AllSplit l → IsNeverLong l → EndsAsked call.status l e
+    decided free split never =
         elim (or_excused path call f (λ s. asked_here l e s (by_question
         (λ a. IsDecided l e a ⊎ IsOpen a)
-        (λ a asks. decided_asking l e request.budget m a asks free split)
+        (λ a asks. decided_asking l e request.budget m a asks free split never)
         (λ a is. inr (inl is)) s))) [ inl excused ↦ inr (inr (inr excused)) | inr h ↦ h ]
 
     not_both : (s : Status) → s ≡ status.Wide → s ≡ status.Budget → ⊥
@@ -369,7 +369,7 @@ module _ (request : Request) (call : Call)
     limit_passed = λ l e at r first. limit_passed l e r at first;
     branch_refused = λ l e b x r free exact first. branch_refused l e r free b x exact first;
     unformed = λ l e r free not. unformed l e r free not;
-    decided = λ l e r free split. decided l e r free split;
+    decided = λ l e r free split never. decided l e r free split never;
     enough = λ l e es k gs last r done few. enough l e r es k gs last done few;
     completes = λ l e es k gs last r never refuses narrow done few.
         completes l e es k gs last r never refuses narrow done few;

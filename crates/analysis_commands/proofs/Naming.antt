@@ -24,7 +24,7 @@ use Rattle.closed_forms.specs.declared.errors.FormsError.{FormsError}
 use Rattle.closed_forms.specs.declared.errors.FormsError.TheVariants as forms_error
 use Rattle.invariant_fix.specs.Refusals.{IsRefusedBranch, IsRefused}
 use Rattle.invariant_fix.specs.declared.errors.AnalyseError.{AnalyseError}
-use Rattle.invariant_fix.specs.declared.errors.AnalyseError.TheVariants.{Map, Branch, Wide, Budget, Memory}
+use Rattle.invariant_fix.specs.declared.errors.AnalyseError.TheVariants.{Map, Branch, Limit, Wide, Budget, Memory}
 use Rattle.analysis_commands.specs.Naming.{AreBelow, AreNamedIn, AreNamed}
 
 module _ (images : List (Terms Fraction)) where
@@ -108,6 +108,7 @@ named program before after (Branch b e) r =
     (refusal_named (map_of program (suc b)) e
     (and_weaker (refusal_in e) (IsRefusedBranch program b) (IfFormRefused (map_of program (suc b)))
     (λ x h. h.is) r.1.1))
+named program before after (Limit task) r = tt
 named program before after (Wide task) r = tt
 named program before after Budget r = tt
 named program before after Memory r = tt

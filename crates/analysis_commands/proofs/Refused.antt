@@ -57,6 +57,7 @@ forms_kind b forms_error.Memory s is = absurd (cc)
 pub refusal_kind : (e : AnalyseError) (s : Status) → refusal_status e ≡ Some s → Refused e s
 refusal_kind (error.Map e) s is = map_kind e s is
 refusal_kind (error.Branch b e) s is = forms_kind b e s is
+refusal_kind (error.Limit task) s is = at_fault (some_status _ s is)
 refusal_kind (error.Wide task) s is = too_wide (some_status _ s is)
 refusal_kind error.Budget s is = exhausted (some_status _ s is) refl
 refusal_kind error.Memory s is = absurd (cc)

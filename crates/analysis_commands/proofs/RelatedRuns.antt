@@ -1,5 +1,5 @@
 -- Loops with the setting of StartedRuns, and the elimination behind their analysis where the one variable is shown.
---   never_past_of        no state of their analysis is past
+--   never_past_of, never_long_of     no state of their analysis is past, and no task is too long
 --   one_basis            it ends with one list
 --   ended_elimination    the elimination from this list has nothing to do
 --   behind_fits          nothing of it is past
@@ -38,7 +38,8 @@ use Rattle.rounds.specs.Past.{IsPast as IsPastAt}
 use Rattle.corollaries.specs.Order.{place_in, starting, block_order}
 use Rattle.corollaries.specs.Journal.{elimination_from, IsPastOrdering, IsPastBehind, IsEliminated, list_of}
 use Rattle.loops.specs.Turning.{places}
-use Rattle.analysis_commands.proofs.StartedRuns.{gens, still, tested, gone, A, run, ends, never_past, composed, no_start}
+use Rattle.invariant_fix.specs.Long.{IsLong}
+use Rattle.analysis_commands.proofs.StartedRuns.{gens, still, tested, gone, A, run, ends, never_past, never_long, composed, no_start}
 
 abbrev pub the_entries : List Entry
 the_entries = Begin Start ∷ Begin (Closed 0 1 1) ∷ Did (Cut 0) ∷ Did Zero ∷ []
@@ -59,6 +60,18 @@ module _ (program : Program (Expr ℕ)) (one_branch : length program.branches �
       go (x ∷ []) l r p = never_past x es s
           (subst (λ (B : Setting). IsRun (moves B) fresh es s) (set x) r)
           (subst (λ (B : Setting). IsPastAt B s) (set x) p)
+      go (x ∷ y ∷ fs) l r p = absurd (omega (arith, l))
+
+  pub never_long_of : (es : List Entry) (s : State) (f : Follows program None es s)
+      → IsLong (setting_of program f.forms None) s → ⊥
+  never_long_of es s f p = go f.forms (f.are_forms.count ∙ one_branch) f.run p
+    where
+      go : (fs : List Form) → length fs ≡ 1 → IsRun (moves (setting_of program fs None)) fresh es s
+          → IsLong (setting_of program fs None) s → ⊥
+      go [] l r p = absurd (omega (arith, l))
+      go (x ∷ []) l r p = never_long x es s
+          (subst (λ (B : Setting). IsRun (moves B) fresh es s) (set x) r)
+          (subst (λ (B : Setting). IsLong B s) (set x) p)
       go (x ∷ y ∷ fs) l r p = absurd (omega (arith, l))
 
   pub one_basis : (es : List Entry) (k : ℕ) (gs : List (Terms Fraction))

@@ -39,7 +39,7 @@ use Rattle.io_edge.proofs.OfStatuses.{status_of, text_of, some_status, no_answer
 use Rattle.analysis_commands.specs.declared.kind.Kind.TheVariants as kinds
 use Rattle.analysis_commands.specs.Analyses as analysing
 use Rattle.analysis_commands.specs.Analyses.{Analyses}
-use Rattle.analysis_commands.specs.Causes.{IsExact}
+use Rattle.analysis_commands.specs.Causes.{IsNeverLong, IsExact}
 use Rattle.analysis_commands.specs.Completeness.{AllSplit}
 use Rattle.analysis_commands.specs.RefusalTexts.{refusal_answer, branch_answer}
 use Rattle.analysis_commands.specs.RelationsTexts.{sequences_refusal, map_answer, found_answer, wide_answer, relations_refusal}
@@ -92,6 +92,8 @@ module _ (ns : List (List ℕ)) (budget : ℕ) (a : Answer) where
   kind_of (relating.Analysis (error.Map e)) says = map_kind e says
   kind_of (relating.Analysis (error.Branch b e)) says =
       as_analysis (error.Branch b e) (λ h. cc) says
+  kind_of (relating.Analysis (error.Limit task)) says =
+      as_analysis (error.Limit task) (λ h. cc) says
   kind_of (relating.Analysis (error.Wide task)) says = as_analysis (error.Wide task) (λ h. cc) says
   kind_of (relating.Analysis error.Budget) says = a_budget (budget_status says) (inr refl)
   kind_of (relating.Analysis error.Memory) says = absurd (no_answer a says)
@@ -251,6 +253,8 @@ module _ (qs : List (Sequence (Expr ℕ))) (budget : ℕ) (m : Journal) (a : Ans
       absurd (no_answer a says)
   limited at first (refused (relating.Analysis (error.Branch b e))) ends says =
       absurd (not_free (length (names qs)) (maps_operations (program_of qs)) at first ends.1.1.0)
+  limited at first (refused (relating.Analysis (error.Limit task))) ends says =
+      absurd (not_free (length (names qs)) (maps_operations (program_of qs)) at first ends.1.0)
   limited at first (refused (relating.Analysis (error.Wide task))) ends says =
       absurd (not_free (length (names qs)) (maps_operations (program_of qs)) at first ends.1.0)
   limited at first (refused (relating.Analysis error.Budget)) ends says =
@@ -272,29 +276,33 @@ module _ (qs : List (Sequence (Expr ℕ))) (budget : ℕ) (m : Journal) (a : Ans
     says = says;
   }
 
-  formed : AreFree (program_of qs) → AllSplit (program_of qs) → (e : Ending)
+  formed : AreFree (program_of qs) → AllSplit (program_of qs) → IsNeverLong (program_of qs)
+      → (e : Ending)
       → EndsWith qs budget m e → answer_of qs budget e ≡ Some a
       → (a.status ≡ status.Yes) ⊎ ((a.status ≡ status.Wide) ⊎ (a.status ≡ status.Budget))
-  formed free split (related gs) ends says = inl (yes_of gs says)
-  formed free split (refused (relating.Analysis (error.Map (map_error.Limit at)))) ends says =
+  formed free split never (related gs) ends says = inl (yes_of gs says)
+  formed free split never (refused (relating.Analysis (error.Map (map_error.Limit at)))) ends says =
       absurd (not_free (length (names qs)) (maps_operations (program_of qs)) at ends.1.1.1 free)
-  formed free split (refused (relating.Analysis (error.Map (map_error.Wide at)))) ends says =
+  formed free split never (refused (relating.Analysis (error.Map (map_error.Wide at)))) ends says =
       inr (inl (map_wide a at says))
-  formed free split (refused (relating.Analysis (error.Map map_error.Memory))) ends says =
+  formed free split never (refused (relating.Analysis (error.Map map_error.Memory))) ends says =
       absurd (no_answer a says)
-  formed free split (refused (relating.Analysis (error.Branch b e))) ends says =
-      formed_analysed kinds.Basis (program_of qs) budget m a free split
+  formed free split never (refused (relating.Analysis (error.Branch b e))) ends says =
+      formed_analysed kinds.Basis (program_of qs) budget m a free split never
       (analysed (error.Branch b e) ends says)
-  formed free split (refused (relating.Analysis (error.Wide task))) ends says =
-      formed_analysed kinds.Basis (program_of qs) budget m a free split
+  formed free split never (refused (relating.Analysis (error.Limit task))) ends says =
+      let s = ends.1.2 in absurd (never m.entries s.state s.follows s.long)
+  formed free split never (refused (relating.Analysis (error.Wide task))) ends says =
+      formed_analysed kinds.Basis (program_of qs) budget m a free split never
       (analysed (error.Wide task) ends says)
-  formed free split (refused (relating.Analysis error.Budget)) ends says =
+  formed free split never (refused (relating.Analysis error.Budget)) ends says =
       inr (inr (budget_status (names qs) budget a says))
-  formed free split (refused (relating.Analysis error.Memory)) ends says = absurd (no_answer a says)
-  formed free split (refused relating.Wide) ends says = inr (inl (elimination_wide says))
-  formed free split (refused relating.Budget) ends says =
+  formed free split never (refused (relating.Analysis error.Memory)) ends says =
+      absurd (no_answer a says)
+  formed free split never (refused relating.Wide) ends says = inr (inl (elimination_wide says))
+  formed free split never (refused relating.Budget) ends says =
       inr (inr (budget_status (names qs) budget a says))
-  formed free split (refused relating.Memory) ends says = absurd (no_answer a says)
+  formed free split never (refused relating.Memory) ends says = absurd (no_answer a says)
 
   unformed_kind : ¬ (AllHaveForms (program_of qs)) → (e : RelationsError)
       → EndsWith qs budget m (refused e) → Kind e a
@@ -327,6 +335,9 @@ module _ (qs : List (Sequence (Expr ℕ))) (budget : ℕ) (m : Journal) (a : Ans
   completed never within (refused (relating.Analysis (error.Branch b e))) ends says =
       let t = some_told (refusal_in e) (IsRefusedBranch (program_of qs) b) ends.1.1.1 in
       absurd (never.analysis.branches b t.0 t.1.within t.1.is)
+  completed never within (refused (relating.Analysis (error.Limit task))) ends says =
+      let s = ends.1.2 in
+      absurd (never.analysis.short m.entries s.state s.follows s.long)
   completed never within (refused (relating.Analysis (error.Wide task))) ends says =
       let s = ends.1.2 in
       absurd (never.analysis.states m.entries s.state s.follows s.past)
@@ -357,6 +368,8 @@ module _ (qs : List (Sequence (Expr ℕ))) (budget : ℕ) (m : Journal) (a : Ans
     branch_told (refused (relating.Analysis (error.Branch c e))) ends says =
         branch_analysed kinds.Basis (program_of qs) budget m a free b r exact first
         (analysed (error.Branch c e) ends says)
+    branch_told (refused (relating.Analysis (error.Limit task))) ends says =
+        absurd (has_none ends.1.1)
     branch_told (refused (relating.Analysis (error.Wide task))) ends says =
         branch_analysed kinds.Basis (program_of qs) budget m a free b r exact first
         (analysed (error.Wide task) ends says)
@@ -391,8 +404,9 @@ module _ (qs : List (Sequence (Expr ℕ))) (budget : ℕ) (m : Journal) (a : Ans
   limit_related at first = limited qs budget m a at first h.ending h.ends h.says
 
   pub formed_related : AreFree (program_of qs) → AllSplit (program_of qs)
+      → IsNeverLong (program_of qs)
       → (a.status ≡ status.Yes) ⊎ ((a.status ≡ status.Wide) ⊎ (a.status ≡ status.Budget))
-  formed_related free split = formed qs budget m a free split h.ending h.ends h.says
+  formed_related free split never = formed qs budget m a free split never h.ending h.ends h.says
 
   pub unformed_related : ¬ (AllHaveForms (program_of qs))
       → (a.status ≡ status.Fault) ⊎ (a.status ≡ status.Wide)

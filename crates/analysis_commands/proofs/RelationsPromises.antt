@@ -63,9 +63,9 @@ module _ (request : FileRequest) where
           exact first);
       unformed = λ qs r free not. or_fault (course request) call f
           (λ s. unformed_related qs request.budget m s.answer (answered path call f qs r s) not);
-      found = λ qs r free split. or_found (course request) call f
+      found = λ qs r free split never. or_found (course request) call f
           (λ s. formed_related qs request.budget m s.answer (answered path call f qs r s) free
-          split);
+          split never);
       enough = λ qs r within. not_ended path call f concludes_exhausted qs r
           (λ a h out. related_within r.text qs request.budget m a.text r.reads within
           (exhausted_shown qs request.budget m a h r.text r.reads out));

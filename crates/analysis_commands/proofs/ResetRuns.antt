@@ -37,7 +37,10 @@ use Rattle.rounds.specs.Form.{Form, relation, relations_to, passes}
 use Rattle.rounds.specs.Start.{start_list, start_polynomial, in_order}
 use Rattle.rounds.specs.Analysis as analysis
 use Rattle.rounds.specs.Analysis.{finished, next, block, starting, closing_from, after_iterations}
-use Rattle.analysis_commands.proofs.Fitting.{all_fit, then_fit, state_fits, work_fits, orbit_fits, less_fits, elimination_fits, behind_fits, dropping_fits, tailing_fits, acting_fits, taking_fits, left_fits, found_fits, reducing_fits, both_fit, exponents_fit, size_fits, each_fits}
+use Rattle.expansion.specs.Counts.{most_terms, factor_terms}
+use Rattle.expansion.specs.Lengths.{product_length, power_length}
+use Rattle.invariant_fix.specs.Long.{task_length, work_length, orbit_length_since, lengths_before}
+use Rattle.analysis_commands.proofs.Fitting.{all_fit, then_fit, state_fits, numbers_fit, work_fits, orbit_fits, less_fits, elimination_fits, behind_fits, dropping_fits, tailing_fits, acting_fits, taking_fits, left_fits, found_fits, reducing_fits, both_fit, exponents_fit, size_fits, each_fits}
 
 abbrev pub reset_program : Program (Expr ℕ)
 reset_program = record {
@@ -67,7 +70,9 @@ abbrev pub reset_basis : List (Terms Fraction)
 reset_basis = ((2 ∷ [], whole (pos 1)) ∷ (1 ∷ [], whole (negsuc 4)) ∷ []) ∷ []
 
 pub reset_run : Run reset_program None reset_forms None 12 reset_entries (finished 1 reset_basis)
-unfolding on trace all_fit then_fit state_fits work_fits orbit_fits less_fits elimination_fits
+unfolding on trace all_fit then_fit state_fits
+    numbers_fit task_length work_length orbit_length_since lengths_before product_length
+    power_length factor_terms most_terms work_fits orbit_fits less_fits elimination_fits
     behind_fits
     dropping_fits tailing_fits acting_fits taking_fits left_fits found_fits reducing_fits both_fit
     exponents_fit size_fits each_fits weight degrees composition_weight composition_degrees lcm

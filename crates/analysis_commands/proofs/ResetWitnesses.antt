@@ -49,7 +49,7 @@ use Rattle.analysis_commands.proofs.ResetMap.{gone, gone_solvable, gone_passes, 
 use Rattle.analysis_commands.proofs.ResetUnrefused.{gone_turned, gone_unrefused}
 use Rattle.analysis_commands.proofs.ResetRuns.{reset_program, reset_form, reset_forms, reset_entries, reset_units, reset_basis, reset_run}
 use Rattle.analysis_commands.proofs.StartedWitnesses.{none_of}
-use Rattle.analysis_commands.proofs.Traces.{never_past, comes_by}
+use Rattle.analysis_commands.proofs.Traces.{never_past, never_too_long, comes_by}
 
 -- ---- its map
 reset_map : map_of reset_program 1 ≡ gone
@@ -166,6 +166,8 @@ reset_never_refused = record {
   branches = unrefused;
   states = λ es s f p. never_past reset_program None reset_forms reset_are None 12 reset_entries
       (finished 1 reset_basis) reset_run es s f p;
+  short = λ es s f p. never_too_long reset_program None reset_forms reset_are None 12
+      reset_entries (finished 1 reset_basis) reset_run es s f p;
 }
 
 pub reset_within : (budget : ℕ) → 4 ≤ budget → IsWithinBudget reset_program budget

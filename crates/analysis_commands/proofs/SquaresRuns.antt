@@ -40,7 +40,10 @@ use Rattle.rounds.specs.Start.{start_list, start_polynomial, in_order}
 use Rattle.rounds.specs.Word.{branch_of}
 use Rattle.rounds.specs.Analysis as analysis
 use Rattle.rounds.specs.Analysis.{answered, next, block, starting, closing_from, after_iterations}
-use Rattle.analysis_commands.proofs.Fitting.{all_fit, then_fit, state_fits, work_fits, orbit_fits, less_fits, elimination_fits, behind_fits, dropping_fits, tailing_fits, acting_fits, taking_fits, left_fits, found_fits, reducing_fits, both_fit, exponents_fit, size_fits, each_fits}
+use Rattle.expansion.specs.Counts.{most_terms, factor_terms}
+use Rattle.expansion.specs.Lengths.{product_length, power_length}
+use Rattle.invariant_fix.specs.Long.{task_length, work_length, orbit_length_since, lengths_before}
+use Rattle.analysis_commands.proofs.Fitting.{all_fit, then_fit, state_fits, numbers_fit, work_fits, orbit_fits, less_fits, elimination_fits, behind_fits, dropping_fits, tailing_fits, acting_fits, taking_fits, left_fits, found_fits, reducing_fits, both_fit, exponents_fit, size_fits, each_fits}
 use Rattle.rounds.specs.Journal.{setting_of}
 use Rattle.rounds.proofs.Squares.{squares_form, squares_journal, squares_basis}
 
@@ -98,7 +101,9 @@ nothing_left = record {
 
 pub asked_run : Run squares_program None squares_forms (Some squares_asked) 20 asked_entries
     (answered 1 squares_basis nothing_left)
-unfolding on trace all_fit then_fit state_fits work_fits orbit_fits less_fits elimination_fits
+unfolding on trace all_fit then_fit state_fits
+    numbers_fit task_length work_length orbit_length_since lengths_before product_length
+    power_length factor_terms most_terms work_fits orbit_fits less_fits elimination_fits
     behind_fits
     dropping_fits tailing_fits acting_fits taking_fits left_fits found_fits reducing_fits both_fit
     exponents_fit size_fits each_fits weight degrees composition_weight composition_degrees lcm

@@ -37,7 +37,8 @@ use Rattle.loops.specs.WellFormed.{local_places}
 use Rattle.loops.proofs.Examples.{squares}
 use Rattle.solvable_maps.specs.Classes.{IsFormBase}
 use Rattle.solvable_maps.specs.Iterations.{IsClosedFormFrom}
-use Rattle.rounds.specs.Analysis.{State, finished, fresh, moves, next}
+use Rattle.invariant_fix.specs.Long.{IsLong}
+use Rattle.rounds.specs.Analysis.{Setting, State, finished, fresh, moves, next}
 use Rattle.rounds.specs.BranchMap.{map_of}
 use Rattle.rounds.specs.Form.{Form, IsClosedForm}
 use Rattle.rounds.specs.Journal.{setting_of, AreForms, Follows, IsFinished, IsAnswered}
@@ -66,7 +67,7 @@ use Rattle.analysis_commands.proofs.SquaresClasses.{squares_images, squares_solv
 use Rattle.analysis_commands.proofs.SquaresUnrefused.{squares_unrefused}
 use Rattle.analysis_commands.proofs.SquaresRuns.{squares_program, squares_forms, same_raw, same_setting, squares_units, squares_question, squares_asked, asked_entries, asked_units, nothing_left, asked_run}
 use Rattle.analysis_commands.proofs.Traces.{never_past, comes_by}
-use Rattle.analysis_commands.proofs.WorkedLoops.{squares_never_past}
+use Rattle.analysis_commands.proofs.WorkedLoops.{squares_never_past, squares_never_long}
 
 -- ---- its map and its closed form
 same_map : map_of squares 1 ≡ map_of squares_program 1
@@ -245,16 +246,19 @@ unrefused : (b : ℕ) (r : Refusal) → b < 1 → ¬ (IfFormRefused (map_of squa
 unrefused zero r less h = squares_unrefused r (subst (λ ms. IfFormRefused ms r) squares_map h)
 unrefused (suc b) r less h = absurd (omega (arith, less))
 
-states_fit : (es : List Entry) (s : State) (f : Follows squares_program None es s)
-    → IsPast (setting_of squares_program f.forms None) s → ⊥
-states_fit es s f p =
+-- what is so at no state of the analysis by the worked setting is so at none of it by the program's
+at_no_state : (P : Setting → State → Type 0) → ((es : List Entry) (s : State)
+    → IsRun (moves (setting_of squares squares_forms None)) fresh es s
+    → P (setting_of squares squares_forms None) s → ⊥) → (es : List Entry) (s : State)
+    (f : Follows squares_program None es s) → P (setting_of squares_program f.forms None) s → ⊥
+at_no_state P never es s f p =
     let same = forms_are_one squares_program f.forms squares_forms f.are_forms
     squares_program_are in
-    squares_never_past es s
+    never es s
     (subst (λ A. IsRun (moves A) fresh es s) (sym same_setting)
     (subst (λ gs. IsRun (moves (setting_of squares_program gs None)) fresh es s) same f.run))
-    (subst (λ A. IsPast A s) (sym same_setting)
-    (subst (λ gs. IsPast (setting_of squares_program gs None) s) same p))
+    (subst (λ A. P A s) (sym same_setting)
+    (subst (λ gs. P (setting_of squares_program gs None) s) same p))
 
 pub squares_never_refused : IsNeverRefused squares_program
 squares_never_refused = record {
@@ -262,7 +266,8 @@ squares_never_refused = record {
   maps = narrow_of (maps_operations squares_program) _ _ _ squares_operations first_done second_done
       third_done;
   branches = unrefused;
-  states = states_fit;
+  states = λ es s f p. at_no_state IsPast squares_never_past es s f p;
+  short = λ es s f p. at_no_state IsLong squares_never_long es s f p;
 }
 
 squares_ends : IsFinished squares_program squares_journal 1 squares_basis

@@ -1,7 +1,7 @@
 -- A loop of one variable that begins with 1, and whose branch does nothing.
 --   one_program          the loop;  A form: the setting of its analysis, where this is the form of its branch
 --   first, .., ends      what it does: it begins with x - 1, tests it once, and ends with it
---   never_past           no state of its analysis is past
+--   never_past, never_long     no state of its analysis is past, and no task is too long
 --   run                  the analysis
 use Rattle.std.proofs.Common.{◌≡◌, inl, inr, ℕ, zero, suc, pos, List, [], ◌∷◌, slice_get, refl, sym, ap, subst, ◌∙◌, Option, Some, None, arith}
 use Rattle.std.specs.Prelude.{◌<◌, slice_index}
@@ -41,6 +41,10 @@ use Rattle.rounds.specs.Journal.{setting_of}
 use Rattle.rounds.specs.Past.{IsPast as IsPastAt}
 use Rattle.machines.specs.Past as past
 use Rattle.rounds.specs.Start.{start_list, start_polynomial, in_order}
+use Rattle.expansion.specs.Counts.{most_terms, factor_terms}
+use Rattle.expansion.specs.Lengths.{product_length, power_length}
+use Rattle.invariant_fix.specs.Long.{IsLong, task_length}
+use Rattle.invariant_fix.proofs.TaskLengths.{fresh_short, starts_short}
 
 abbrev pub one_program : Program (Expr ℕ)
 one_program = record {
@@ -225,6 +229,10 @@ module _ (form : Form) where
   fits_tested s not (inl h) = composed h
   fits_tested s not (inr h) = not h
 
+  short_tested : (s : division.State Fraction) → IsLong (A form) (tested s) → ⊥
+  unfolding task_length product_length power_length factor_terms most_terms
+  short_tested s h = let z : 1048576 < 2 = h in omega (arith, z)
+
   -- a run stands still, or goes on
   data Goes (u : State) (es : List Entry) (s : State) : Type 0 where
     here : s ≡ u → Goes u es s
@@ -236,37 +244,51 @@ module _ (form : Form) where
   goes_on u [] s r = here (sym r)
   goes_on u (e ∷ es) s r = on e r.0 es r.1 r.2
 
-  -- from u, from which the next state is v, and from v nothing is past
-  before : (u v : State) (f : Entry) → moves (A form) u ≡ Some (f, v) → (IsPastAt (A form) u → ⊥)
-      → ((es : List Entry) (s : State) → IsRun (moves (A form)) v es s → IsPastAt (A form) s → ⊥)
-      → (es : List Entry) (s : State) → IsRun (moves (A form)) u es s → IsPastAt (A form) s → ⊥
-  unfolding state_of
-  before u v f m not next es s r h = go (goes_on u es s r)
-    where
-      go : Goes u es s → ⊥
-      go (here e) = not (subst (IsPastAt (A form)) e h)
-      go (on e w fs n r) =
-          next fs s (subst (λ x. IsRun (moves (A form)) x fs s) (sym (ap state_of (sym m ∙ n))) r) h
+  module _ (P : State → Type 0) where
+    -- from u, from which the next state is v, and from v it is so of none
+    before : (u v : State) (f : Entry) → moves (A form) u ≡ Some (f, v) → (P u → ⊥)
+        → ((es : List Entry) (s : State) → IsRun (moves (A form)) v es s → P s → ⊥)
+        → (es : List Entry) (s : State) → IsRun (moves (A form)) u es s → P s → ⊥
+    unfolding state_of
+    before u v f m not next es s r h = go (goes_on u es s r)
+      where
+        go : Goes u es s → ⊥
+        go (here e) = not (subst P e h)
+        go (on e w fs n r) = next fs s (subst (λ x. IsRun (moves (A form)) x fs s)
+            (sym (ap state_of (sym m ∙ n))) r) h
 
-  at_end : (u : State) → moves (A form) u ≡ None → (IsPastAt (A form) u → ⊥)
-      → (es : List Entry) (s : State) → IsRun (moves (A form)) u es s → IsPastAt (A form) s → ⊥
-  at_end u m not es s r h = go (goes_on u es s r)
-    where
-      go : Goes u es s → ⊥
-      go (here e) = not (subst (IsPastAt (A form)) e h)
-      go (on e w fs n r) = absurd (let z : ◌≡◌ {A = Option (Entry × State)} None (Some (e, w)) =
-          sym m ∙ n in cc)
+    at_end : (u : State) → moves (A form) u ≡ None → (P u → ⊥)
+        → (es : List Entry) (s : State) → IsRun (moves (A form)) u es s → P s → ⊥
+    at_end u m not es s r h = go (goes_on u es s r)
+      where
+        go : Goes u es s → ⊥
+        go (here e) = not (subst P e h)
+        go (on e w fs n r) = absurd (let z : ◌≡◌ {A = Option (Entry × State)} None
+            (Some (e, w)) = sym m ∙ n in cc)
+
+    never_at : (P fresh → ⊥) → (P begun → ⊥)
+        → (P (tested (division.initial_state gens less)) → ⊥) → (P (tested cut) → ⊥)
+        → (P (tested gone) → ⊥) → (es : List Entry) (s : State)
+        → IsRun (moves (A form)) fresh es s → P s → ⊥
+    never_at a b c d e =
+        before fresh begun (Begin Start) (first form) a
+        (before begun (tested (division.initial_state gens less)) (Begin (Closed 0 1 1))
+        (second form) b
+        (before (tested (division.initial_state gens less)) (tested cut) (Did (Cut 0)) (third form)
+        c
+        (before (tested cut) (tested gone) (Did Zero) (fourth form) d
+        (at_end (tested gone) (ap (analysis.move_of (A form)) (ends form)) e))))
 
   pub never_past : (es : List Entry) (s : State) → IsRun (moves (A form)) fresh es s
       → IsPastAt (A form) s → ⊥
-  never_past = before fresh begun (Begin Start) (first form) fits_fresh
-      (before begun (tested (division.initial_state gens less)) (Begin (Closed 0 1 1)) (second form)
-      fits_begun
-      (before (tested (division.initial_state gens less)) (tested cut) (Did (Cut 0)) (third form)
+  never_past = never_at (IsPastAt (A form)) fits_fresh fits_begun
       (fits_tested (division.initial_state gens less) dividing_fits)
-      (before (tested cut) (tested gone) (Did Zero) (fourth form) (fits_tested cut cut_state_fits)
-      (at_end (tested gone) (ap (analysis.move_of (A form)) (ends form))
-      (fits_tested gone gone_fits)))))
+      (fits_tested cut cut_state_fits) (fits_tested gone gone_fits)
+
+  pub never_long : (es : List Entry) (s : State) → IsRun (moves (A form)) fresh es s
+      → IsLong (A form) s → ⊥
+  never_long = never_at (IsLong (A form)) (fresh_short (A form)) (starts_short (A form) _)
+      (short_tested (division.initial_state gens less)) (short_tested cut) (short_tested gone)
 
   pub run : IsRun (moves (A form)) fresh (Begin Start ∷ Begin (Closed 0 1 1) ∷ Did (Cut 0)
       ∷ Did Zero ∷ []) (tested gone)

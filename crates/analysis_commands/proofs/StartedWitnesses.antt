@@ -51,7 +51,7 @@ use Rattle.analysis_commands.specs.RelationsClauses.{IsNeverStopped, IsRelatedWi
 use Rattle.analysis_commands.proofs.IdentityMap.{still, still_solvable, still_passes, still_short, turned_normal, still_base_is, same_iterations, still_unrefused}
 use Rattle.analysis_commands.proofs.IdleLoops.{x_form}
 use Rattle.analysis_commands.proofs.StartedRuns.{one_program, gens, gone, tested, A, the_setting, run, ends}
-use Rattle.analysis_commands.proofs.RelatedRuns.{the_entries, never_past_of, one_basis, ended_elimination, behind_fits}
+use Rattle.analysis_commands.proofs.RelatedRuns.{the_entries, never_past_of, never_long_of, one_basis, ended_elimination, behind_fits}
 
 -- ---- loops of one variable with one branch, whose map leaves it as it is
 pub none_of : {X : Type 0} (xs before behind : List X) (x : X) → xs ≡ [] → xs ≡ before ++ x ∷ behind
@@ -86,6 +86,7 @@ module _ (l : Program (Expr ℕ)) (single : length l.branches ≡ 1)
     maps = narrow_of;
     branches = unrefused_of;
     states = λ es s f p. never_past_of l single setting es s f p;
+    short = λ es s f p. never_long_of l single setting es s f p;
   }
 
   forms_of : AreForms l (x_form ∷ [])

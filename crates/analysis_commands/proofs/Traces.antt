@@ -1,6 +1,6 @@
 -- Analyses by computation.
 --   Run l given forms asked n es end      from what is given, with these forms the entries of at most n steps are es, then comes the end, and no state on the way is past, by the test
---   never_past                      of a loop with these forms, no state of the analysis is past
+--   never_past, never_too_long      of a loop with these forms, no state of the analysis is past, and no task is too long
 --   comes_by                        its entries are a journal, behind which the end comes
 use Rattle.std.proofs.Common.{◌≡◌, ℕ, List, subst, Option, true}
 use Rattle.polynomials.specs.Terms.{Terms}
@@ -14,7 +14,8 @@ use Rattle.rounds.specs.Form.{Form}
 use Rattle.rounds.specs.Journal.{setting_from, AreForms, FollowsFrom, ComesFrom}
 use Rattle.rounds.specs.Past.{IsPast}
 use Rattle.rounds.proofs.Forms.{forms_are_one}
-use Rattle.analysis_commands.proofs.Fitting.{all_fit, state_fits, never}
+use Rattle.invariant_fix.specs.Long.{IsLong}
+use Rattle.analysis_commands.proofs.Fitting.{all_fit, state_fits, never, never_long}
 
 pub record Run (l : Program (Expr ℕ)) (given : Option (List (Terms Fraction))) (forms : List Form)
     (asked : Option (Terms Fraction)) (n : ℕ) (es : List Entry) (end : Step) : Type 0 where
@@ -36,6 +37,14 @@ module _ (l : Program (Expr ℕ)) (given : Option (List (Terms Fraction))) (form
       never (setting_from l given forms asked) n fresh r.fits fs s
       (subst (λ gs. IsRun (moves (setting_from l given gs asked)) fresh fs s) same f.run)
       (subst (λ gs. IsPast (setting_from l given gs asked) s) same p)
+
+  pub never_too_long : (fs : List Entry) (s : State) (f : FollowsFrom l given asked fs s)
+      → IsLong (setting_from l given f.forms asked) s → ⊥
+  never_too_long fs s f p =
+      let same : f.forms ≡ forms = forms_are_one l f.forms forms f.are_forms are in
+      never_long (setting_from l given forms asked) n fresh r.fits fs s
+      (subst (λ gs. IsRun (moves (setting_from l given gs asked)) fresh fs s) same f.run)
+      (subst (λ gs. IsLong (setting_from l given gs asked) s) same p)
 
   pub comes_by : ComesFrom l given asked es end
   comes_by =

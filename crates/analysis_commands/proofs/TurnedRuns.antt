@@ -40,7 +40,10 @@ use Rattle.rounds.specs.Form.{Form, relation, relations_to, passes}
 use Rattle.rounds.specs.Start.{start_list, start_polynomial, in_order}
 use Rattle.rounds.specs.Analysis as analysis
 use Rattle.rounds.specs.Analysis.{State, finished, answered, next, block, starting, closing_from, after_iterations}
-use Rattle.analysis_commands.proofs.Fitting.{all_fit, then_fit, state_fits, work_fits, orbit_fits, less_fits, elimination_fits, behind_fits, dropping_fits, tailing_fits, acting_fits, taking_fits, left_fits, found_fits, reducing_fits, both_fit, exponents_fit, size_fits, each_fits}
+use Rattle.expansion.specs.Counts.{most_terms, factor_terms}
+use Rattle.expansion.specs.Lengths.{product_length, power_length}
+use Rattle.invariant_fix.specs.Long.{task_length, work_length, orbit_length_since, lengths_before}
+use Rattle.analysis_commands.proofs.Fitting.{all_fit, then_fit, state_fits, numbers_fit, work_fits, orbit_fits, less_fits, elimination_fits, behind_fits, dropping_fits, tailing_fits, acting_fits, taking_fits, left_fits, found_fits, reducing_fits, both_fit, exponents_fit, size_fits, each_fits}
 
 abbrev pub begun_with_one : Expr ℕ → Program (Expr ℕ)
 begun_with_one e = record {
@@ -85,7 +88,9 @@ unfolding units_of
 doubled_units = refl
 
 pub doubled_run : Run doubled_program None doubled_forms None 10 doubled_entries (finished 1 [])
-unfolding on trace all_fit then_fit state_fits work_fits orbit_fits less_fits elimination_fits
+unfolding on trace all_fit then_fit state_fits
+    numbers_fit task_length work_length orbit_length_since lengths_before product_length
+    power_length factor_terms most_terms work_fits orbit_fits less_fits elimination_fits
     behind_fits
     dropping_fits tailing_fits acting_fits taking_fits left_fits found_fits reducing_fits both_fit
     exponents_fit size_fits each_fits weight degrees composition_weight composition_degrees lcm
@@ -118,7 +123,9 @@ square_less = (2 ∷ [], one) ∷ (0 ∷ [], whole (negsuc 0)) ∷ []
 
 pub negated_run : Run negated_program None negated_forms None 15 negated_entries
     (finished 1 (square_less ∷ []))
-unfolding on trace all_fit then_fit state_fits work_fits orbit_fits less_fits elimination_fits
+unfolding on trace all_fit then_fit state_fits
+    numbers_fit task_length work_length orbit_length_since lengths_before product_length
+    power_length factor_terms most_terms work_fits orbit_fits less_fits elimination_fits
     behind_fits
     dropping_fits tailing_fits acting_fits taking_fits left_fits found_fits reducing_fits both_fit
     exponents_fit size_fits each_fits weight degrees composition_weight composition_degrees lcm
@@ -148,7 +155,9 @@ nothing_left = record { current = None; cofactors = ((0 ∷ [], one) ∷ []) ∷
 
 pub asked_run : Run negated_program None negated_forms (Some square_less) 18 asked_entries
     (answered 1 (square_less ∷ []) nothing_left)
-unfolding on trace all_fit then_fit state_fits work_fits orbit_fits less_fits elimination_fits
+unfolding on trace all_fit then_fit state_fits
+    numbers_fit task_length work_length orbit_length_since lengths_before product_length
+    power_length factor_terms most_terms work_fits orbit_fits less_fits elimination_fits
     behind_fits
     dropping_fits tailing_fits acting_fits taking_fits left_fits found_fits reducing_fits both_fit
     exponents_fit size_fits each_fits weight degrees composition_weight composition_degrees lcm

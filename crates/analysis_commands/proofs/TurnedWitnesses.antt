@@ -58,7 +58,7 @@ use Rattle.analysis_commands.proofs.IdleQuestions.{alone}
 use Rattle.analysis_commands.proofs.ScaledMap.{one, scaled, scaled_solvable, scaled_passes, scaled_short, IsScaled, scaled_base_is, same_iterations}
 use Rattle.analysis_commands.proofs.ScaledUnrefused.{fits, IsNarrow, scaled_unrefused}
 use Rattle.analysis_commands.proofs.ScaledNumbers.{two, minus, double_scaled, minus_scaled, double_narrow, minus_narrow}
-use Rattle.analysis_commands.proofs.Traces.{never_past, comes_by}
+use Rattle.analysis_commands.proofs.Traces.{never_past, never_too_long, comes_by}
 use Rattle.analysis_commands.proofs.TurnedRuns.{form_with, doubled_program, doubled_forms, doubled_key, doubled_entries, doubled_units, doubled_run, negated_program, negated_forms, negated_key, negated_entries, negated_units, negated_run, square_less, asked_entries, asked_units, nothing_left, asked_run}
 
 -- ---- loops of one variable with one branch, whose map is a number times it
@@ -250,6 +250,8 @@ doubled_never_refused = record {
   states = λ es s f p. never_past doubled_program None doubled_forms doubled_are None 10
       doubled_entries
       _ doubled_run es s f p;
+  short = λ es s f p. never_too_long doubled_program None doubled_forms doubled_are None 10
+      doubled_entries _ doubled_run es s f p;
 }
 
 pub doubled_within : (budget : ℕ) → 5 ≤ budget → IsWithinBudget doubled_program budget
@@ -299,6 +301,8 @@ negated_never_refused = record {
   states = λ es s f p. never_past negated_program None negated_forms negated_are None 15
       negated_entries
       _ negated_run es s f p;
+  short = λ es s f p. never_too_long negated_program None negated_forms negated_are None 15
+      negated_entries _ negated_run es s f p;
 }
 
 pub negated_within : (budget : ℕ) → 7 ≤ budget → IsWithinBudget negated_program budget

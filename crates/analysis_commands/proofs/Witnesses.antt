@@ -43,7 +43,7 @@ use Rattle.analysis_commands.specs.Causes.{IsNeverRefused, IsWithinBudget, IsExa
 use Rattle.analysis_commands.specs.Completeness.{AllSplit}
 use Rattle.analysis_commands.specs.MemberCauses.{NeverStops, NeverPast}
 use Rattle.analysis_commands.proofs.ScaledMap.{one}
-use Rattle.analysis_commands.proofs.IdleRuns.{nothing_left, never_past, never_past_asked}
+use Rattle.analysis_commands.proofs.IdleRuns.{nothing_left, never_past, never_long, never_past_asked}
 use Rattle.analysis_commands.proofs.IdleLoops.{one_loop, two_loop, x_free, x_narrow, two_narrow, x_split, two_split, x_branches, two_branches, x_finished, two_finished, zero_asked, some_asked}
 use Rattle.analysis_commands.proofs.IdleLoops as loops
 use Rattle.analysis_commands.proofs.IdleQuestions.{x, yes_question, no_question, yes_free, no_free, yes_narrow, no_narrow, yes_polynomial, no_polynomial}
@@ -60,6 +60,7 @@ one_never_refused = record {
   maps = x_narrow;
   branches = λ b r l. x_branches b r l;
   states = λ es s f. never_past ([] ∷ []) f.forms es s f.run;
+  short = λ es s f. never_long ([] ∷ []) f.forms es s f.run;
 }
 
 pub two_never_refused : IsNeverRefused two_loop
@@ -68,6 +69,7 @@ two_never_refused = record {
   maps = two_narrow;
   branches = λ b r l. two_branches b r l;
   states = λ es s f. never_past ([] ∷ [] ∷ []) f.forms es s f.run;
+  short = λ es s f. never_long ([] ∷ [] ∷ []) f.forms es s f.run;
 }
 
 pub one_within : (budget : ℕ) → IsWithinBudget one_loop budget

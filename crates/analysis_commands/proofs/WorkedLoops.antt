@@ -1,5 +1,5 @@
--- Of loops whose finished journals are worked out in rounds (proofs/), no state of the analysis is past, by computation.
---   squares_never_past     of vars a, s, t; init a=0, s=1, t=1; branch { a=a+1; t=t+2; s=s+t; }
+-- Of loops whose finished journals are worked out in rounds (proofs/), no state of the analysis is past, and of that of the squares no task is too long, by computation.
+--   squares_never_past, squares_never_long     of vars a, s, t; init a=0, s=1, t=1; branch { a=a+1; t=t+2; s=s+t; }
 --   powers_never_past      of vars x, y, z; init x=1, y=1, z=1; branch { x=2*x; y=y/2; z=-z; }
 --   resets_never_past      of vars x; init x=5; branch { x=3; }, which begins late: with a copy, and an intersection
 use Rattle.std.proofs.Common.{◌≡◌, List, [], ◌∷◌, refl, None, true}
@@ -34,7 +34,10 @@ use Rattle.rounds.specs.Start.{start_list, start_polynomial, in_order}
 use Rattle.rounds.specs.Analysis as analysis
 use Rattle.rounds.specs.Analysis.{Setting, State, fresh, next, moves, block, starting, closing_from, after_iterations}
 use Rattle.rounds.specs.Journal.{setting_of}
-use Rattle.analysis_commands.proofs.Fitting.{never, all_fit, then_fit, state_fits, work_fits, orbit_fits, less_fits, elimination_fits, behind_fits, dropping_fits, tailing_fits, acting_fits, taking_fits, left_fits, found_fits, reducing_fits, both_fit, exponents_fit, size_fits, each_fits}
+use Rattle.expansion.specs.Counts.{most_terms, factor_terms}
+use Rattle.expansion.specs.Lengths.{product_length, power_length}
+use Rattle.invariant_fix.specs.Long.{IsLong, task_length, work_length, orbit_length_since, lengths_before}
+use Rattle.analysis_commands.proofs.Fitting.{never, never_long, all_fit, then_fit, state_fits, numbers_fit, work_fits, orbit_fits, less_fits, elimination_fits, behind_fits, dropping_fits, tailing_fits, acting_fits, taking_fits, left_fits, found_fits, reducing_fits, both_fit, exponents_fit, size_fits, each_fits}
 use Rattle.machines.specs.Journal.{Entry}
 use Rattle.machines.specs.Run.{IsRun}
 use Rattle.rounds.specs.Past.{IsPast}
@@ -47,7 +50,9 @@ abbrev squares_setting : Setting
 squares_setting = setting_of squares (squares_form ∷ []) None
 
 squares_fit : all_fit (moves squares_setting) (state_fits squares_setting) 17 fresh ≡ true
-unfolding all_fit then_fit state_fits work_fits orbit_fits less_fits elimination_fits behind_fits
+unfolding all_fit then_fit state_fits
+    numbers_fit task_length work_length orbit_length_since lengths_before product_length
+    power_length factor_terms most_terms work_fits orbit_fits less_fits elimination_fits behind_fits
     dropping_fits tailing_fits acting_fits taking_fits left_fits found_fits reducing_fits both_fit
     exponents_fit size_fits each_fits weight degrees composition_weight composition_degrees lcm
     exponents.lcm next block starting passes closing_from after_iterations analysis.after_branch
@@ -68,11 +73,18 @@ pub squares_never_past : (es : List Entry) (s : State)
     → IsPast (setting_of squares (squares_form ∷ []) None) s → ⊥
 squares_never_past = never squares_setting 17 fresh squares_fit
 
+pub squares_never_long : (es : List Entry) (s : State)
+    → IsRun (moves (setting_of squares (squares_form ∷ []) None)) fresh es s
+    → IsLong (setting_of squares (squares_form ∷ []) None) s → ⊥
+squares_never_long = never_long squares_setting 17 fresh squares_fit
+
 abbrev powers_setting : Setting
 powers_setting = setting_of powers (powers_form ∷ []) None
 
 powers_fit : all_fit (moves powers_setting) (state_fits powers_setting) 30 fresh ≡ true
-unfolding all_fit then_fit state_fits work_fits orbit_fits less_fits elimination_fits behind_fits
+unfolding all_fit then_fit state_fits
+    numbers_fit task_length work_length orbit_length_since lengths_before product_length
+    power_length factor_terms most_terms work_fits orbit_fits less_fits elimination_fits behind_fits
     dropping_fits tailing_fits acting_fits taking_fits left_fits found_fits reducing_fits both_fit
     exponents_fit size_fits each_fits weight degrees composition_weight composition_degrees lcm
     exponents.lcm next block starting passes closing_from after_iterations analysis.after_branch
@@ -97,7 +109,9 @@ abbrev resets_setting : Setting
 resets_setting = setting_of resets (reset_form ∷ []) None
 
 resets_fit : all_fit (moves resets_setting) (state_fits resets_setting) 12 fresh ≡ true
-unfolding all_fit then_fit state_fits work_fits orbit_fits less_fits elimination_fits behind_fits
+unfolding all_fit then_fit state_fits
+    numbers_fit task_length work_length orbit_length_since lengths_before product_length
+    power_length factor_terms most_terms work_fits orbit_fits less_fits elimination_fits behind_fits
     dropping_fits tailing_fits acting_fits taking_fits left_fits found_fits reducing_fits both_fit
     exponents_fit size_fits each_fits weight degrees composition_weight composition_degrees lcm
     exponents.lcm next block starting passes closing_from after_iterations analysis.after_branch

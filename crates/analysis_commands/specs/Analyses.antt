@@ -1,6 +1,6 @@
 -- How the analysis of a loop ends, and what `basis` and `cert` answer then.
 --   empty_journal budget            the meter with which an analysis begins
---   HasFound l m gs             the journal m is that of the finished analysis of l, which ended with the list gs: the reduced basis of the invariants of l, after as few rounds as have them all
+--   HasFound l m gs             the journal m is that of the finished analysis of l, which ended with the list gs: the reduced basis of the invariants of l, after as few rounds as have them all; no task on the way is too long
 --   HasClosed l m c            so, with the list of c, whose cofactors are those of the divisions that closed the analysis
 --   IsUnfound l budget m e   the analysis of l with this budget has no basis for this reason, and leaves the journal m
 --   Ending                   found: a certificate with the list; refused: why there is none
@@ -17,7 +17,7 @@ use Rattle.loops.specs.Certificate.{Certificate, IsValid}
 use Rattle.loops.specs.Program.{Expr, Program}
 use Rattle.loop_model.specs.Maps.{AreFree}
 use Rattle.rounds.specs.Journal.{setting_of, IsFinished}
-use Rattle.invariant_fix.specs.Answers.{IsLeastLevel}
+use Rattle.invariant_fix.specs.Answers.{AreShortFrom, IsLeastLevel}
 use Rattle.invariant_fix.specs.Closing.{AreSteps}
 use Rattle.invariant_fix.specs.Refusals.{AllHaveForms, HasFollowed, IsRefused}
 use Rattle.invariant_fix.specs.declared.errors.AnalyseError.{AnalyseError}
@@ -37,6 +37,7 @@ pub record HasFound (l : Program (Expr ℕ)) (m : Journal) (gs : List (Terms Fra
   pub finished : IsFinished l m.entries rounds gs
   pub least : IsLeastLevel l rounds
   pub basis : IsBasisOf l gs
+  pub short : AreShortFrom l None m.entries
 
 pub record HasClosed (l : Program (Expr ℕ)) (m : Journal) (c : Certificate) : Type 0 where
   pub ended : HasFound l m c.basis

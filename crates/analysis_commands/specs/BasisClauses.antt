@@ -17,7 +17,7 @@ use Rattle.command_parts.specs.LoopReading.{loop_at, IsLoopFault, ReadsLoop}
 use Rattle.analysis_commands.specs.RefusalTexts.{branch_answer}
 use Rattle.analysis_commands.specs.Headline.{ShowsAnalysis}
 use Rattle.analysis_commands.specs.Completeness.{AllSplit, EndsFound}
-use Rattle.analysis_commands.specs.Causes.{HasFinished, IsClosed, IsExhausted, IsAnalysed, IsUnanalysed, IsNeverRefused, IsWithinBudget, IsExact}
+use Rattle.analysis_commands.specs.Causes.{HasFinished, IsClosed, IsExhausted, IsAnalysed, IsUnanalysed, IsNeverLong, IsNeverRefused, IsWithinBudget, IsExact}
 use Rattle.analysis_commands.specs.BasisArguments.{Request}
 
 abbrev pub Refuses : Call → Request → Answer → Type 0
@@ -61,7 +61,7 @@ pub record Finds (request : Request) (call : Call) : Type 0 where
       → ¬ (AllHaveForms l) → EndsAtFault call.status
   -- where none comes, a basis, but for numbers that don't fit and an exhausted budget
   pub found : (l : Program (Expr ℕ)) → ReadsLoop call request.file (Ok l) → AreFree l → AllSplit l
-      → EndsFound call.status
+      → IsNeverLong l → EndsFound call.status
   -- the budget isn't exhausted where some finished journal has at most as many units
   pub enough : (l : Program (Expr ℕ)) → ReadsLoop call request.file (Ok l)
       → IsWithinBudget l request.budget → call.status ≢ status.Budget

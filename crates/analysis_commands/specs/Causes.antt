@@ -1,10 +1,11 @@
 -- How an analysis ends, over the bytes of LOOP.
---   HasFinished text budget m        the bytes are a loop, no operation of its maps passes a limit, and the journal m, with this budget, is that of its finished analysis, after as few rounds as have all its invariants
+--   HasFinished text budget m        the bytes are a loop, no operation of its maps passes a limit, and the journal m, with this budget, is that of its finished analysis, after as few rounds as have all its invariants; no task on the way is too long
 --   IsClosed kind text m said        they are a loop, m is the journal of its finished analysis, and what is said is its list, or the certificate with the cofactors of the divisions that closed it
 --   IsExhausted text budget m said       they are a loop whose maps are free and whose branches have closed forms, the entries of m follow its analysis, as many of them are units as the budget, what comes next is a unit, and the budget is said
 --   IsAnalysed text budget m         they are a loop, and the meter was opened for its analysis
 --   IsUnanalysed text budget m a     they are a loop, and a tells why its analysis, which left m, has no basis
---   IsNeverRefused l                 no operation of the maps passes a limit or is past, no branch is refused, and no state of the analysis is past
+--   IsNeverLong l                    no task that the analysis comes to is too long
+--   IsNeverRefused l                 no operation of the maps passes a limit or is past, no branch is refused, no state of the analysis is past, and no task is too long
 --   IsWithinBudget l budget          some finished journal of the loop has at most as many units as the budget
 --   IsExact r                        the refusal r of a branch has a cause that is no weight: a chain, a class that doesn't split, one whose sums are out of range, one that is too wide before its splitting, or one that is too long
 use Rattle.std.specs.Prelude.{◌≡◌, ◌<◌, ◌≤◌, ⊤, ℕ, suc, List, ◌++◌, length, None, Ok, codes, decimal}
@@ -21,8 +22,9 @@ use Rattle.rounds.specs.BranchMap.{map_of}
 use Rattle.rounds.specs.Journal.{setting_of, Follows, IsFinished, IsOut}
 use Rattle.rounds.specs.Past.{IsPast}
 use Rattle.closed_forms.specs.Refusal.{Refusal, not_solvable, eigenvalues, range, wide_split, limit_form, wide_form, IfFormRefused}
-use Rattle.invariant_fix.specs.Answers.{IsLeastLevel}
+use Rattle.invariant_fix.specs.Answers.{AreShortFrom, IsLeastLevel}
 use Rattle.invariant_fix.specs.Closing.{AreSteps}
+use Rattle.invariant_fix.specs.Long.{IsLong}
 use Rattle.invariant_fix.specs.Refusals.{AllHaveForms}
 use Rattle.io_edge.specs.Texts.{Answer, line}
 use Rattle.analysis_commands.specs.declared.kind.Kind.{Kind}
@@ -38,6 +40,7 @@ pub record HasFinished (text : List ℕ) (budget : ℕ) (m : Journal) : Type 0 w
   pub list : List (Terms Fraction)
   pub finished : IsFinished loop m.entries rounds list
   pub least : IsLeastLevel loop rounds
+  pub short : AreShortFrom loop None m.entries
 
 pub record IsClosed (kind : Kind) (text : List ℕ) (m : Journal) (said : List ℕ) : Type 0 where
   pub loop : Program (Expr ℕ)
@@ -68,6 +71,10 @@ pub record IsUnanalysed (text : List ℕ) (budget : ℕ) (m : Journal) (a : Answ
   pub is_loop : loop_of text ≡ Ok loop
   pub refused : AnswersRefusal loop budget m a
 
+abbrev pub IsNeverLong : Program (Expr ℕ) → Type 0
+IsNeverLong l = (es : List Made) (s : State) (f : Follows l None es s)
+    → IsLong (setting_of l f.forms None) s → ⊥
+
 pub record IsNeverRefused (l : Program (Expr ℕ)) : Type 0 where
   pub free : AreFree l
   pub maps : (at : ℕ) → IsWide (length l.names) (maps_operations l) at → ⊥
@@ -75,6 +82,7 @@ pub record IsNeverRefused (l : Program (Expr ℕ)) : Type 0 where
       → ¬ (IfFormRefused (map_of l (suc b)) r)
   pub states : (es : List Made) (s : State) (f : Follows l None es s)
       → IsPast (setting_of l f.forms None) s → ⊥
+  pub short : IsNeverLong l
 
 pub record IsWithinBudget (l : Program (Expr ℕ)) (budget : ℕ) : Type 0 where
   pub entries : List Made

@@ -3,9 +3,10 @@
 --   IsExhausted text budget m said       they are a chain; of one of its loops no operation of the maps, nor of the code before it, passes a limit and each branch has a closed form; the entries of m follow it from what is given to it, or the elimination of its code, as many of them are units as are left or allowed, what comes next is a unit, and the budget is said of this loop
 --   IsAnalysed text budget m         they are a chain, and the meter was opened for the analysis of one of its loops, or for the code before one
 --   IsUnanalysed text budget m a     they are a chain, and a tells why the analysis of one of its loops, which left m, has no basis
---   AreFormedBefore c j              the loops before the place j are formed
+--   IsNeverLongAt c budget j         no task that the analysis of loop j comes to, from what is given, is too long
+--   AreFormedBefore c budget j       the loops before the place j are formed, and none of their tasks is too long
 --   IsWithinBudget c budget          each loop has a finished journal of at most as many units as the budget, with that of the code before it
---   IsNeverRefusedAt c budget j      no operation of the code or of the maps passes a limit or is past, no branch is refused, no state of the analysis from what is given is past, and none of the code's elimination
+--   IsNeverRefusedAt c budget j      no operation of the code or of the maps passes a limit or is past, no branch is refused, no state of the analysis from what is given is past and no task is too long, and none of the code's elimination
 --   IsNeverRefused c budget          so it is for each loop of c
 use Rattle.std.specs.Prelude.{◌≡◌, ◌⊎◌, ◌<◌, ◌≤◌, ℕ, suc, List, ◌++◌, length, Option, Some, None, Ok, codes, decimal, ◌+◌}
 use Rattle.algebra.specs.Fraction.{Fraction}
@@ -23,6 +24,7 @@ use Rattle.loops.specs.Chain.{Chain, code_at, loop_at}
 use Rattle.corollaries.specs.Analysed.{Analysed, GivenTo}
 use Rattle.loop_text.specs.ChainReader.{chain_of}
 use Rattle.invariant_fix.specs.Bases.{IsFormed, InLoop, InCode, operations_at, IsRefusedIn}
+use Rattle.invariant_fix.specs.Long.{IsLong}
 use Rattle.invariant_fix.specs.declared.refused.Refused.{Refused}
 use Rattle.io_edge.specs.Texts.{Answer, line}
 use Rattle.analysis_commands.specs.ChainAnalyses.{HasAnalysed, refused_answer}
@@ -60,8 +62,14 @@ pub record IsUnanalysed (text : List ℕ) (budget : ℕ) (m : Journal) (a : Answ
   pub ends : IsRefusedIn chain budget m refused
   pub says : refused_answer chain.first.names budget refused ≡ Some a
 
-abbrev pub AreFormedBefore : Chain (Expr ℕ) → ℕ → Type 0
-AreFormedBefore c j = (i : ℕ) → i < j → IsFormed c i
+abbrev pub IsNeverLongAt : Chain (Expr ℕ) → (budget j : ℕ) → Type 0
+IsNeverLongAt c budget j = (left : ℕ) (given : Option (List (Terms Fraction)))
+    → GivenTo c budget j left given → (es : List Made) (s : State)
+    (f : FollowsFrom (loop_at c j) given None es s)
+    → IsLong (setting_from (loop_at c j) given f.forms None) s → ⊥
+
+abbrev pub AreFormedBefore : Chain (Expr ℕ) → (budget j : ℕ) → Type 0
+AreFormedBefore c budget j = (i : ℕ) → i < j → IsFormed c i × IsNeverLongAt c budget i
 
 pub record IsWithinBudget (c : Chain (Expr ℕ)) (budget : ℕ) : Type 0 where
   pub list : List (Terms Fraction)
@@ -75,6 +83,7 @@ pub record IsNeverRefusedAt (c : Chain (Expr ℕ)) (budget j : ℕ) : Type 0 whe
   pub states : (left : ℕ) (given : Option (List (Terms Fraction))) → GivenTo c budget j left given
       → (es : List Made) (s : State) (f : FollowsFrom (loop_at c j) given None es s)
       → IsPast (setting_from (loop_at c j) given f.forms None) s → ⊥
+  pub short : IsNeverLongAt c budget j
   pub code : (i : ℕ) (gs : List (Terms Fraction)) → j ≡ suc i → Analysed c budget i gs
       → (es : List Made) → IsPastLeading c.first (code_at c j) gs es → ⊥
 

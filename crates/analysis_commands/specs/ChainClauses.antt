@@ -21,7 +21,7 @@ use Rattle.analysis_commands.specs.Causes.{IsExact}
 use Rattle.analysis_commands.specs.ChainTexts.{in_loop}
 use Rattle.command_parts.specs.ChainReading.{IsChainFault, ReadsChain}
 use Rattle.analysis_commands.specs.ChainHeadline.{ShowsChain}
-use Rattle.analysis_commands.specs.ChainCauses.{HasFinished, IsExhausted, IsAnalysed, IsUnanalysed, AreFormedBefore, IsWithinBudget, IsNeverRefused}
+use Rattle.analysis_commands.specs.ChainCauses.{HasFinished, IsExhausted, IsAnalysed, IsUnanalysed, AreFormedBefore, IsNeverLongAt, IsWithinBudget, IsNeverRefused}
 use Rattle.command_parts.specs.FileRequests.{FileRequest}
 
 abbrev pub Refuses : Call → FileRequest → Answer → Type 0
@@ -38,14 +38,16 @@ pub record FindsEach (request : FileRequest) (call : Call) : Type 0 where
   -- a fault, or a number that doesn't fit: the text tells the first fault of CHAIN, or why the
   -- analysis of a loop has no basis, said of this loop
   pub why : TellsWhy call (Refuses call request)
-  -- an exhausted budget: of a loop, or of the code before it, as many entries are units as are left, and
+  -- an exhausted budget: of a loop, or of the code before it, as many entries are units as are
+  -- left, and
   -- what comes next is one
   pub exhausted : call.status ≡ status.Budget → IfTold call.files.before request.file
       (λ text. Wrote call.sink (IsExhausted text request.budget call.meter.after))
   -- never no
   pub no : call.status ≢ status.No
   -- the meter is opened with what is left of the budget, and the entries follow the analysis of a
-  -- loop; or with the budget for the code before a loop, and they are a beginning of its elimination
+  -- loop; or with the budget for the code before a loop, and they are a beginning of its
+  -- elimination
   pub journal : (call.meter.after ≡ call.meter.before)
       ⊎ IfTold call.files.before request.file
       (λ text. IsAnalysed text request.budget call.meter.after)
@@ -55,23 +57,24 @@ pub record FindsEach (request : FileRequest) (call : Call) : Type 0 where
   -- behind loops that are formed and finished within the budget: the first operation of the code
   -- before a loop, or then of its maps, that passes a limit
   pub limit_passed : (c : Chain (Expr ℕ)) (j at : ℕ) → ReadsChain call request.file (Ok c)
-      → j ≤ length c.further → Reaches c request.budget j → AreFormedBefore c j
+      → j ≤ length c.further → Reaches c request.budget j → AreFormedBefore c request.budget j
       → IsLimit (length c.first.names) (operations_at c j) at
       → EndsOrWide call (in_loop j (loop_refusal (record { reason = limit; at = at })))
   -- the first branch of a loop that has no closed form; a fault where one has none
   pub branch_refused : (c : Chain (Expr ℕ)) (j b : ℕ) (r : Refusal)
       → ReadsChain call request.file (Ok c) → j ≤ length c.further
-      → Reaches c request.budget j → AreFormedBefore c j
+      → Reaches c request.budget j → AreFormedBefore c request.budget j
       → IsFree (length c.first.names) (operations_at c j) → IsExact r
       → IsRefusedBranch (loop_at c j) b r
       → EndsOrWide call (in_loop j (branch_answer c.first.names b r))
   pub unformed : (c : Chain (Expr ℕ)) (j : ℕ) → ReadsChain call request.file (Ok c)
-      → j ≤ length c.further → Reaches c request.budget j → AreFormedBefore c j
+      → j ≤ length c.further → Reaches c request.budget j → AreFormedBefore c request.budget j
       → ¬ (AllHaveForms (loop_at c j)) → EndsAtFault call.status
   -- where no loop is refused so, the bases, but for numbers that don't fit and an exhausted budget
   pub found : (c : Chain (Expr ℕ)) → ReadsChain call request.file (Ok c)
       → ((j : ℕ) → j ≤ length c.further
-      → IsFree (length c.first.names) (operations_at c j) × AllSplit (loop_at c j))
+      → IsFree (length c.first.names) (operations_at c j) × AllSplit (loop_at c j)
+      × IsNeverLongAt c request.budget j)
       → EndsFound call.status
   -- the budget isn't exhausted where each loop has a finished journal within it
   pub enough : (c : Chain (Expr ℕ)) → ReadsChain call request.file (Ok c)

@@ -7,7 +7,7 @@ use Rattle.io_edge.specs.declared.answer.Status.TheVariants as status
 use Rattle.io_edge.specs.Outcome.{Call}
 use Rattle.io_edge.specs.Clauses.{Wrote, TellsWhy, IsExcused}
 use Rattle.analysis_commands.specs.Completeness.{AllSplit, EndsFound}
-use Rattle.analysis_commands.specs.Causes.{IsNeverRefused, IsWithinBudget}
+use Rattle.analysis_commands.specs.Causes.{IsNeverLong, IsNeverRefused, IsWithinBudget}
 use Rattle.analysis_commands.specs.Counting.{ShowsCounts, StopsAt, IsExhaustedAt, HasCounted, IsFamily}
 
 pub record Tallies (n : ℕ) (call : Call) : Type 0 where
@@ -24,9 +24,10 @@ pub record Tallies (n : ℕ) (call : Call) : Type 0 where
   -- the meter is opened with the usual budget for a loop of the family, and the entries follow its
   -- analysis
   pub journal : (call.meter.after ≡ call.meter.before) ⊎ HasCounted n call.meter.after
-  -- the counts, but for numbers that don't fit and exhausted budgets, where the maps are free and each
+  -- the counts, but for numbers that don't fit and exhausted budgets, where the maps are free and
+  -- each
   -- branch splits
-  pub found : IsFamily n (λ l. AreFree l × AllSplit l) → EndsFound call.status
+  pub found : IsFamily n (λ l. AreFree l × AllSplit l × IsNeverLong l) → EndsFound call.status
   -- no budget is exhausted where each loop has a finished journal within it
   pub enough : IsFamily n (λ l. IsWithinBudget l usual_budget) → call.status ≢ status.Budget
   -- and so, where nothing refuses, there are the counts

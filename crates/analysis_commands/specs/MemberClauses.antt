@@ -36,7 +36,7 @@ use Rattle.command_parts.specs.FaultTexts.{loop_refusal}
 use Rattle.command_parts.specs.LoopReading.{loop_at, IsLoopFault, ReadsLoop}
 use Rattle.analysis_commands.specs.RefusalTexts.{branch_answer}
 use Rattle.analysis_commands.specs.Completeness.{AllSplit}
-use Rattle.analysis_commands.specs.Causes.{IsNeverRefused, IsExact}
+use Rattle.analysis_commands.specs.Causes.{IsNeverLong, IsNeverRefused, IsExact}
 use Rattle.command_parts.specs.Equations.{equation_in, operations_of, polynomial_of, Holds, FormsFreely}
 use Rattle.analysis_commands.specs.MemberHeadline.{ShowsYes, ShowsNo}
 use Rattle.analysis_commands.specs.MemberCauses.{IsEquationFault, IsEquationStop, IsUndecided, HasAffirmed, HasDenied, IsExhaustedAsking, IsAsked, NeverStops, NeverPast}
@@ -121,10 +121,11 @@ pub record Decides (request : Request) (call : Call) : Type 0 where
   pub unformed : (l : Program (Expr ℕ)) (e : Expr ℕ) → AsksOf call request l e → AreFree l
       → ¬ (AllHaveForms l) → EndsAtFault call.status
   -- where none comes: yes exactly where the equation holds at the end of every run, no exactly
-  -- where it doesn't, but for numbers that don't fit and an exhausted budget; which isn't exhausted where
+  -- where it doesn't, but for numbers that don't fit and an exhausted budget; which isn't exhausted
+  -- where
   -- some answered journal has at most as many units; and yes or no, where nothing refuses
   pub decided : (l : Program (Expr ℕ)) (e : Expr ℕ) → AsksOf call request l e → AreFree l
-      → AllSplit l → EndsAsked call.status l e
+      → AllSplit l → IsNeverLong l → EndsAsked call.status l e
   pub enough : (l : Program (Expr ℕ)) (e : Expr ℕ) (es : List Entry) (rounds : ℕ)
       (gs : List (Terms Fraction)) (last : division.State Fraction) → AsksOf call request l e
       → IsAnswered l (polynomial_of l e) es rounds gs last → units_of es ≤ request.budget

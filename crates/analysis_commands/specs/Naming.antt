@@ -5,7 +5,7 @@ use Rattle.std.specs.Prelude.{ℕ, ◌<◌, ⊤, List, All}
 use Rattle.closed_forms.specs.declared.errors.FormsError.{FormsError}
 use Rattle.closed_forms.specs.declared.errors.FormsError.TheVariants as forms_error
 use Rattle.invariant_fix.specs.declared.errors.AnalyseError.{AnalyseError}
-use Rattle.invariant_fix.specs.declared.errors.AnalyseError.TheVariants.{Map, Branch, Wide, Budget, Memory}
+use Rattle.invariant_fix.specs.declared.errors.AnalyseError.TheVariants.{Map, Branch, Limit, Wide, Budget, Memory}
 
 abbrev pub AreBelow : ℕ → List ℕ → Type 0
 AreBelow n is = All (λ i. i < n) is
@@ -22,6 +22,7 @@ AreNamedIn n forms_error.Memory = ⊤
 abbrev pub AreNamed : ℕ → AnalyseError → Type 0
 AreNamed n (Map e) = ⊤
 AreNamed n (Branch b e) = AreNamedIn n e
+AreNamed n (Limit task) = ⊤
 AreNamed n (Wide task) = ⊤
 AreNamed n Budget = ⊤
 AreNamed n Memory = ⊤

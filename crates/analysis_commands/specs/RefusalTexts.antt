@@ -84,6 +84,7 @@ abbrev pub refusal_text : List (List ℕ) → ℕ → AnalyseError → List ℕ
 refusal_text names budget (refusal.Map e) = line (map_text e)
 refusal_text names budget (refusal.Branch b e) =
     line (codes "branch " ++ decimal (b + 1) ++ codes ": " ++ forms_text names e)
+refusal_text names budget (refusal.Limit task) = line (codes "limit: " ++ place_text task)
 refusal_text names budget (refusal.Wide task) = line (codes "wide: " ++ place_text task)
 refusal_text names budget refusal.Budget = line (codes "budget: " ++ decimal budget)
 refusal_text names budget refusal.Memory = line (codes "memory")

@@ -23,7 +23,7 @@ use Rattle.corollaries.specs.Journal.{IsEnded, IsOut, IsStopped}
 use Rattle.loop_text.specs.SeqReader.{sequences_of}
 use Rattle.analysis_commands.specs.RefusalTexts.{branch_answer}
 use Rattle.analysis_commands.specs.Completeness.{AllSplit, EndsFound}
-use Rattle.analysis_commands.specs.Causes.{IsNeverRefused, IsExact}
+use Rattle.analysis_commands.specs.Causes.{IsNeverLong, IsNeverRefused, IsExact}
 use Rattle.analysis_commands.specs.RelationsAnswers.{HasRelated, AnswersUnrelated}
 use Rattle.analysis_commands.specs.RelationsTexts.{sequences_refusal}
 use Rattle.analysis_commands.specs.RelationsReading.{IsSequencesFault, ReadsSequences}
@@ -114,7 +114,8 @@ pub record FindsRelations (request : FileRequest) (call : Call) : Type 0 where
       → AreFree (program_of qs) → ¬ (AllHaveForms (program_of qs)) → EndsAtFault call.status
   -- where it has one, the relations, but for numbers that don't fit and an exhausted budget
   pub found : (qs : List (Sequence (Expr ℕ))) → ReadsSequences call request.file (Ok qs)
-      → AreFree (program_of qs) → AllSplit (program_of qs) → EndsFound call.status
+      → AreFree (program_of qs) → AllSplit (program_of qs) → IsNeverLong (program_of qs)
+      → EndsFound call.status
   -- the budget isn't exhausted where some journal that has ended has at most as many units
   pub enough : (qs : List (Sequence (Expr ℕ))) → ReadsSequences call request.file (Ok qs)
       → IsRelatedWithin qs request.budget → call.status ≢ status.Budget

@@ -5,7 +5,6 @@
 --   AreSequencesOr name files result     FILE was read into this loop, or refused so
 --   ReadsSequences call name reading     the bytes of FILE are told, and this is what they say
 use Rattle.std.specs.Prelude.{ℕ, List, Result, Ok, Err}
-use Rattle.std.specs.declared.alloc.AllocError.{AllocError}
 use Rattle.io_edge.specs.Outside.{FilesView}
 use Rattle.loops.specs.Program.{Expr}
 use Rattle.poly_text.specs.Reasons.{Fault}
@@ -13,7 +12,7 @@ use Rattle.loops.specs.Sequences.{Sequence}
 use Rattle.loop_text.specs.SeqReader.{sequences_of}
 use Rattle.loop_text.specs.declared.sequences.Seqs.{Seqs}
 use Rattle.loop_text.specs.SequenceSeen.{IsLoopOf}
-use Rattle.io_edge.specs.declared.answer.Answer as made
+use Rattle.io_edge.specs.declared.refusal.Refusal.{Refusal}
 use Rattle.io_edge.specs.Texts.{Answer}
 use Rattle.io_edge.specs.Course.{Course}
 use Rattle.io_edge.specs.Change.{Change}
@@ -33,8 +32,7 @@ pub record HasReadSequences (name : List ℕ) (s : Seqs) (files : Change FilesVi
   pub read : HasReadAs sequences_of (loop_at name) sequences files
   pub is : IsLoopOf s sequences
 
-abbrev pub AreSequencesOr : List ℕ → Change FilesView → Result Seqs (Result made.Answer AllocError)
-    → Type 0
+abbrev pub AreSequencesOr : List ℕ → Change FilesView → Result Seqs Refusal → Type 0
 AreSequencesOr name files (Ok s) = HasReadSequences name s files
 AreSequencesOr name files (Err refusal) =
     IsRefusedAt sequences_of sequences_refusal (loop_at name) files refusal

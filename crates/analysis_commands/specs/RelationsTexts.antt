@@ -7,9 +7,8 @@
 use Rattle.std.specs.Prelude.{ℕ, List, Option, Some, None, codes}
 use Rattle.algebra.specs.Fraction.{Fraction}
 use Rattle.polynomials.specs.Terms.{Terms}
-use Rattle.poly_text.specs.Reasons.{limit, wide, Fault}
+use Rattle.poly_text.specs.Reasons.{Fault}
 use Rattle.loop_model.specs.declared.map_error.MapError.{MapError}
-use Rattle.loop_model.specs.declared.map_error.MapError.TheVariants as map_error
 use Rattle.invariant_fix.specs.declared.errors.AnalyseError.TheVariants as analysis
 use Rattle.invariant_fix.specs.declared.relations_error.RelationsError.{RelationsError}
 use Rattle.invariant_fix.specs.declared.relations_error.RelationsError.TheVariants as error
@@ -17,7 +16,7 @@ use Rattle.command_parts.specs.BasisTexts.{basis_text}
 use Rattle.analysis_commands.specs.RefusalTexts.{refusal_answer}
 use Rattle.io_edge.specs.declared.answer.Status.TheVariants as status
 use Rattle.io_edge.specs.Texts.{Answer, with_text, answer}
-use Rattle.command_parts.specs.FaultTexts.{text_refusal}
+use Rattle.command_parts.specs.FaultTexts.{text_refusal, map_refusal}
 
 abbrev pub sequences_refusal : Fault → Answer
 sequences_refusal f = text_refusal (codes "sequences: ") f
@@ -26,9 +25,7 @@ abbrev pub found_answer : List (List ℕ) → List (Terms Fraction) → Answer
 found_answer names gs = with_text status.Yes (basis_text names gs)
 
 abbrev pub map_answer : MapError → Option Answer
-map_answer (map_error.Limit at) = Some (sequences_refusal (record { reason = limit; at = at }))
-map_answer (map_error.Wide at) = Some (sequences_refusal (record { reason = wide; at = at }))
-map_answer map_error.Memory = None
+map_answer e = map_refusal (codes "sequences: ") e
 
 abbrev pub wide_answer : Answer
 wide_answer = answer status.Wide (codes "wide: relations")
@@ -37,6 +34,8 @@ abbrev pub relations_refusal : List (List ℕ) → ℕ → RelationsError → Op
 relations_refusal names budget (error.Analysis (analysis.Map e)) = map_answer e
 relations_refusal names budget (error.Analysis (analysis.Branch b e)) =
     refusal_answer names budget (analysis.Branch b e)
+relations_refusal names budget (error.Analysis (analysis.Limit task)) =
+    refusal_answer names budget (analysis.Limit task)
 relations_refusal names budget (error.Analysis (analysis.Wide task)) =
     refusal_answer names budget (analysis.Wide task)
 relations_refusal names budget (error.Analysis analysis.Budget) =

@@ -1,7 +1,6 @@
 // The arguments behind `basis` and `cert`.
 ghost use Rattle.std.specs.Prelude.{◌≡◌, map, string_bytes, option_map};
-ghost use Rattle.command_parts.specs.Budgets.{units_of};
-ghost use Rattle.analysis_commands.specs.BasisArguments.{request_in, request_within};
+ghost use Rattle.analysis_commands.specs.BasisArguments.{request_in};
 ghost use Rattle.analysis_commands.specs.BasisViews.{view};
 
 use crate::kind::Kind;
@@ -21,21 +20,14 @@ pub(crate) fn read_arguments(kind: Kind, arguments: &[String]) -> Option<Request
     ensures { option_map view result ≡ request_in kind (map string_bytes arguments.now) }
 {
     match arguments {
-        [file] if names_a_file(file) => within_budget(kind, Some(Budget::usual()), file),
+        [file] if names_a_file(file) => {
+            let budget = Budget::usual();
+            Some(Request { kind, budget, file })
+        }
         [option, number, file] if option.as_str() == "--budget" && names_a_file(file) => {
-            within_budget(kind, read_budget(number.as_bytes()), file)
+            let budget = read_budget(number.as_bytes())?;
+            Some(Request { kind, budget, file })
         }
         _ => None,
-    }
-}
-
-/// The analysis of this file, where there is a budget.
-fn within_budget(kind: Kind, budget: Option<Budget>, file: &String) -> Option<Request<'_>>
-    ensures { option_map view result
-        ≡ request_within kind (option_map units_of budget) (string_bytes file.now) }
-{
-    match budget {
-        Some(budget) => Some(Request { kind, budget, file }),
-        None => None,
     }
 }

@@ -45,6 +45,6 @@ fn answer_to<F: Files>(
 {
     match read_program(alloc, files, request.file) {
         Ok(lp) => answer_to_analysis(alloc, &lp, request.kind, request.budget, meter),
-        Err(refusal) => refusal,
+        Err(refusal) => refusal.into_answer(),
     }
 }

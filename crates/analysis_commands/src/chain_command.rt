@@ -43,6 +43,6 @@ fn answer_to<F: Files>(
 {
     match read_file_chain(alloc, files, request.file) {
         Ok(chain) => answer_to_chain(alloc, &chain, request.budget, meter),
-        Err(refusal) => refusal,
+        Err(refusal) => refusal.into_answer(),
     }
 }

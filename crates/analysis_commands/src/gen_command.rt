@@ -13,7 +13,7 @@ ghost use Rattle.analysis_commands.specs.Counting.{IsCounted, IsNext, HasOpenedF
 ghost use Rattle.analysis_commands.specs.GenArguments.{request_in};
 ghost use Rattle.analysis_commands.specs.GenCourse.{course};
 
-use crate::analysis::answer_to_refusal;
+use crate::answer_to_refusal;
 use crate::gen_arguments::read_arguments;
 use command_parts::Budget;
 use invariant_fix::analyse;
@@ -95,8 +95,7 @@ fn count_basis(
     meter.open(budget.units);
     match analyse(alloc, lp, meter) {
         Ok(found) => {
-            // for its contract, which tells the prover that no more units are used than are allowed
-            let _ = meter.used();
+            meter.within_limit();
             counts.add(&found.basis);
             Ok(None)
         }

@@ -24,7 +24,6 @@ mod refusals;
 mod relations_command;
 pub mod text_laws;
 
-pub use analysis::answer_to_refusal;
 pub use answers::yes_text;
 pub use basis_command::basis;
 pub use certificates::certificate_text;
@@ -32,5 +31,5 @@ pub use chain_command::chain;
 pub use gen_command::tally;
 pub use kind::Kind;
 pub use member_command::member;
-pub use refusals::{member_text, refusal_text};
+pub use refusals::answer_to_refusal;
 pub use relations_command::relate;

@@ -1,7 +1,6 @@
 // The arguments behind `member`.
 ghost use Rattle.std.specs.Prelude.{◌≡◌, map, string_bytes, option_map};
-ghost use Rattle.command_parts.specs.Budgets.{units_of};
-ghost use Rattle.analysis_commands.specs.MemberArguments.{request_in, request_within};
+ghost use Rattle.analysis_commands.specs.MemberArguments.{request_in};
 ghost use Rattle.analysis_commands.specs.MemberViews.{view};
 
 use command_parts::{Budget, read_budget};
@@ -20,31 +19,19 @@ pub(crate) fn read_arguments(arguments: &[String]) -> Option<Request<'_>>
     ensures { option_map view result ≡ request_in (map string_bytes arguments.now) }
 {
     match arguments {
-        [file, equation] if names_a_file(file) => {
-            within_budget(Some(Budget::usual()), file, equation)
-        }
-        [option, number, file, equation] if option.as_str() == "--budget" && names_a_file(file) => {
-            within_budget(read_budget(number.as_bytes()), file, equation)
-        }
-        _ => None,
-    }
-}
-
-/// The question to this file for this equation, where there is a budget.
-fn within_budget<'a>(
-    budget: Option<Budget>,
-    file: &'a String,
-    equation: &'a String,
-) -> Option<Request<'a>>
-    ensures { option_map view result ≡ request_within (option_map units_of budget)
-        (string_bytes file.now) (string_bytes equation.now) }
-{
-    match budget {
-        Some(budget) => Some(Request {
-            budget,
+        [file, equation] if names_a_file(file) => Some(Request {
+            budget: Budget::usual(),
             file,
             equation,
         }),
-        None => None,
+        [option, number, file, equation] if option.as_str() == "--budget" && names_a_file(file) => {
+            let budget = read_budget(number.as_bytes())?;
+            Some(Request {
+                budget,
+                file,
+                equation,
+            })
+        }
+        _ => None,
     }
 }

@@ -42,6 +42,6 @@ fn answer_to<F: Files>(
 {
     match read_program(alloc, files, request.file) {
         Ok(lp) => answer_to_equation(alloc, &lp, request.budget, request.equation, meter),
-        Err(refusal) => refusal,
+        Err(refusal) => refusal.into_answer(),
     }
 }

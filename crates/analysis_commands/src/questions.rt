@@ -13,9 +13,8 @@ ghost use Rattle.analysis_commands.specs.Questions.{Asks, HasAsked, undivided_an
 ghost use Rattle.analysis_commands.specs.Questions as answers;
 ghost use Rattle.analysis_commands.specs.MemberCourse.{with_question};
 
-use crate::analysis::answer_to_refusal;
-use crate::{member_text, yes_text};
-use command_parts::{Budget, read_polynomial};
+use crate::{answer_to_refusal, yes_text};
+use command_parts::{Budget, exhausted_answer, read_polynomial};
 use divide::EngineError;
 use frac128::Frac;
 use invariant_fix::{Analysis, Membership, analyse, member};
@@ -45,7 +44,7 @@ pub(crate) fn answer_to_equation(
 {
     match read_polynomial(alloc, lp, equation) {
         Ok(p) => answer_to_question(alloc, lp, budget, &p, meter),
-        Err(refusal) => refusal,
+        Err(refusal) => refusal.into_answer(),
     }
 }
 
@@ -115,20 +114,9 @@ fn membership_answer(
 fn division_refusal(alloc: Global, budget: u64, error: EngineError) -> Result<Answer, AllocError>
     ensures { IfOk result (λ a. undivided_answer budget error ≡ Some (answer_view a)) }
 {
-    let Some(status) = division_status(error) else {
-        return Err(AllocError);
-    };
-    let text = member_text(alloc, budget, error)?;
-    Ok(Answer::new(status, text))
-}
-
-/// The status of a refused division. None exactly for want of memory.
-fn division_status(error: EngineError) -> Option<Status>
-    ensures { result ≡ answers.division_status error }
-{
     match error {
-        EngineError::Wide => Some(Status::Wide),
-        EngineError::Budget => Some(Status::Budget),
-        EngineError::Memory => None,
+        EngineError::Wide => line(alloc, Status::Wide, "wide: member", ""),
+        EngineError::Budget => exhausted_answer(alloc, budget),
+        EngineError::Memory => Err(AllocError),
     }
 }

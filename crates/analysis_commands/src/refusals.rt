@@ -1,108 +1,106 @@
-//! The texts of refusals.
-ghost use Rattle.std.specs.Prelude.{◌≡◌, ◌<◌, ◌+◌, ◌++◌, All, length, codes, decimal, string_bytes, IfOk, OnOk};
+//! The answers to refusals.
+ghost use Rattle.std.specs.Prelude.{◌≡◌, ◌<◌, ◌+◌, ◌++◌, All, Some, length, option_map, codes, decimal, string_bytes, IfOk, OnOk};
 ghost use Rattle.std.specs.Fmt.{signed_decimal};
 ghost use Rattle.analysis_commands.specs.Naming.{AreNamed, AreNamedIn};
-ghost use Rattle.command_parts.specs.BasisTexts.{line};
-ghost use Rattle.analysis_commands.specs.RefusalTexts.{names_at, listed_behind, forms_text, place_text, map_text, refusal_text, member_text};
+ghost use Rattle.io_edge.specs.Texts.{answer};
+ghost use Rattle.io_edge.specs.Views.{answer_view};
+ghost use Rattle.analysis_commands.specs.RefusalTexts.{names_at, listed_behind, forms_text, place_text, refusal_answer};
+ghost use Rattle.analysis_commands.specs.Statuses.{forms_status};
 
 use closed_forms::FormsError;
-use divide::EngineError;
+use command_parts::{exhausted_answer, map_refusal};
 use invariant_fix::AnalyseError;
+use io_edge::{Answer, Status, line};
 use itoa::Buffer;
 use journal::Task;
-use loop_model::{MapError, Names};
+use loop_model::Names;
 use std::alloc::{AllocError, Global};
 
-/// Why an analysis with this budget has no basis, as a line (docs/FORMATS.md).
-pub fn refusal_text(
+/// The answer to an analysis with this budget that was refused (docs/FORMATS.md).
+pub fn answer_to_refusal(
     alloc: Global,
     names: &Names,
     budget: u64,
     error: &AnalyseError,
-) -> Result<String, AllocError>
+) -> Result<Answer, AllocError>
     requires { AreNamed (length names.now) error.now }
-    ensures { IfOk result (λ text. string_bytes text ≡ refusal_text names.now budget error.now) }
+    ensures { IfOk result (λ a. refusal_answer names.now budget error.now
+        ≡ Some (answer_view a)) }
 {
     match error {
-        AnalyseError::Map(error) => map_text(alloc, error),
-        AnalyseError::Branch { branch, error } => branch_text(alloc, names, *branch, error),
+        AnalyseError::Map(stop) => map_refusal(alloc, "loop: ", stop),
+        AnalyseError::Branch { branch, error } => branch_refusal(alloc, names, *branch, error),
+        AnalyseError::Limit { task } => {
+            let place = place_text(alloc, task)?;
+            line(alloc, Status::Fault, "limit: ", place.as_str())
+        }
         AnalyseError::Wide { task } => {
             let place = place_text(alloc, task)?;
-            format!(in alloc; "wide: {place}\n")
+            line(alloc, Status::Wide, "wide: ", place.as_str())
         }
-        AnalyseError::Budget => format!(in alloc; "budget: {budget}\n"),
-        AnalyseError::Memory => String::from_str(alloc, "memory\n"),
+        AnalyseError::Budget => exhausted_answer(alloc, budget),
+        AnalyseError::Memory => Err(AllocError),
     }
 }
 
-/// Why the division of a polynomial with this budget has no end, as a line.
-pub fn member_text(alloc: Global, budget: u64, error: EngineError) -> Result<String, AllocError>
-    ensures { IfOk result (λ text. string_bytes text ≡ member_text budget error) }
-{
-    match error {
-        EngineError::Wide => String::from_str(alloc, "wide: member\n"),
-        EngineError::Budget => format!(in alloc; "budget: {budget}\n"),
-        EngineError::Memory => String::from_str(alloc, "memory\n"),
-    }
-}
-
-/// The map that is not formed.
-fn map_text(alloc: Global, error: &MapError) -> Result<String, AllocError>
-    ensures { IfOk result (λ text. string_bytes text ≡ line (map_text error.now)) }
-{
-    match error {
-        MapError::Limit { at } => format!(in alloc; "loop: limit at {at}\n"),
-        MapError::Wide { at } => format!(in alloc; "loop: wide at {at}\n"),
-        MapError::Memory => String::from_str(alloc, "memory\n"),
-    }
-}
-
-/// The branch that has no closed form, and why.
-fn branch_text(
+/// The answer to a branch that has no closed form.
+fn branch_refusal(
     alloc: Global,
     names: &Names,
     branch: usize,
     error: &FormsError,
-) -> Result<String, AllocError>
+) -> Result<Answer, AllocError>
     requires { AreNamedIn (length names.now) error.now }
-    ensures { IfOk result (λ text. string_bytes text
-        ≡ line (codes "branch " ++ decimal (branch + 1) ++ codes ": "
-        ++ forms_text names.now error.now)) }
+    ensures { IfOk result (λ a. option_map (λ status. answer status
+        (codes "branch " ++ decimal (branch + 1) ++ codes ": " ++ forms_text names.now error.now))
+        (forms_status error.now) ≡ Some (answer_view a)) }
 {
     let number = branch as u128 + 1;
-    let cause = forms_text(alloc, names, error)?;
-    format!(in alloc; "branch {number}: {cause}\n")
+    let (status, cause) = forms_cause(alloc, names, error)?;
+    let text = format!(in alloc; "branch {number}: {cause}\n")?;
+    Ok(Answer::new(status, text))
 }
 
-/// Why a branch has no closed form.
-fn forms_text(alloc: Global, names: &Names, error: &FormsError) -> Result<String, AllocError>
+/// Why a branch has no closed form, behind the status of that.
+fn forms_cause(
+    alloc: Global,
+    names: &Names,
+    error: &FormsError,
+) -> Result<(Status, String), AllocError>
     requires { AreNamedIn (length names.now) error.now }
-    ensures { IfOk result (λ text. string_bytes text ≡ forms_text names.now error.now) }
+    ensures status { IfOk result (λ cause. forms_status error.now ≡ Some cause.0) }
+    ensures text { IfOk result (λ cause. string_bytes cause.1 ≡ forms_text names.now error.now) }
 {
     match error {
-        FormsError::NotSolvable { cycle } => cause_with_names(
-            alloc,
-            "not solvable: ",
-            names,
-            cycle,
-        ),
-        FormsError::Eigen { class } => cause_with_names(alloc, "eigenvalues: ", names, class),
-        FormsError::Range { class, sum } => range_text(alloc, names, class, *sum),
+        FormsError::NotSolvable { cycle } => {
+            let text = cause_with_names(alloc, "not solvable: ", names, cycle)?;
+            Ok((Status::Fault, text))
+        }
+        FormsError::Eigen { class } => {
+            let text = cause_with_names(alloc, "eigenvalues: ", names, class)?;
+            Ok((Status::Fault, text))
+        }
+        FormsError::Range { class, sum } => {
+            Ok((Status::Fault, range_text(alloc, names, class, *sum)?))
+        }
         FormsError::WideSplit {
             class,
             candidate,
             power,
             row,
-        } => split_text(alloc, names, class, *candidate, *power, *row),
+        } => {
+            let text = split_text(alloc, names, class, *candidate, *power, *row)?;
+            Ok((Status::Wide, text))
+        }
         FormsError::LimitForm { variable } => {
             let name = names.name(*variable);
-            format!(in alloc; "limit in forms: {name}")
+            Ok((Status::Fault, format!(in alloc; "limit in forms: {name}")?))
         }
         FormsError::WideForm { variable } => {
             let name = names.name(*variable);
-            format!(in alloc; "wide in forms: {name}")
+            Ok((Status::Wide, format!(in alloc; "wide in forms: {name}")?))
         }
-        FormsError::Memory => String::from_str(alloc, "memory"),
+        FormsError::Memory => Err(AllocError),
     }
 }
 

@@ -9,6 +9,7 @@ ghost use Rattle.ideal_ops.specs.Calls.{AreOver};
 ghost use Rattle.command_parts.specs.ReadBack.{IsReadBack};
 ghost use Rattle.io_edge.specs.Change.{◌⟶◌};
 ghost use Rattle.io_edge.specs.Views.{answer_view, seen_answer};
+ghost use Rattle.io_edge.specs.Refusals.{Refuses};
 ghost use Rattle.io_edge.specs.Outcome.{Says, Obeys};
 ghost use Rattle.analysis_commands.specs.RelationsAnswers.{AreSequences, Relates, HasRelated};
 ghost use Rattle.analysis_commands.specs.RelationsTexts as texts;
@@ -18,13 +19,15 @@ ghost use Rattle.analysis_commands.specs.RelationsCourse.{course};
 ghost use Rattle.command_parts.specs.FileViews.{view};
 ghost use Rattle.analysis_commands.specs.RelationsViews.{AreNamedBy};
 
-use crate::analysis::answer_to_refusal;
-use command_parts::{Budget, FileRequest, basis_text, fault_line, read_file_request, text_refusal};
+use crate::answer_to_refusal;
+use command_parts::{
+    Budget, FileRequest, basis_text, map_refusal, read_file_request, text_refusal,
+};
 use frac128::Frac;
 use invariant_fix::{AnalyseError, RelationsError, relations};
 use io_edge::{Answer, Files, Refusal, Status, read_file, reply};
 use journal::Meter;
-use loop_model::{MapError, Names};
+use loop_model::Names;
 use loop_text::{Seqs, read_seqs};
 use monos::Grevlex;
 use poly::Poly;
@@ -61,7 +64,7 @@ fn answer_to<F: Files>(
 {
     match read_sequences(alloc, files, request.file) {
         Ok(seqs) => answer_to_sequences(alloc, &seqs, request.budget, meter),
-        Err(refusal) => refusal,
+        Err(refusal) => refusal.into_answer(),
     }
 }
 
@@ -81,11 +84,10 @@ fn read_sequences<F: Files>(alloc: Global, files: &mut F, name: &String) -> Resu
 }
 
 // To the first fault of a text of sequences.
-fn sequences_refusal(alloc: Global, why: TextError) -> Result<Answer, AllocError>
-    ensures { IfOk result (λ a. option_map texts.sequences_refusal (fault_of why)
-        ≡ Some (answer_view a)) }
+fn sequences_refusal(alloc: Global, why: TextError) -> Refusal
+    ensures { Refuses result (option_map texts.sequences_refusal (fault_of why)) }
 {
-    text_refusal(alloc, "sequences: ", why)
+    Refusal::of(text_refusal(alloc, "sequences: ", why))
 }
 
 /// The answer to the relations of sequences, with this budget.
@@ -135,22 +137,13 @@ fn answer_to_no_relations(
         ≡ Some (answer_view a)) }
 {
     match error {
-        RelationsError::Analysis(AnalyseError::Map(stop)) => map_answer(alloc, stop),
+        RelationsError::Analysis(AnalyseError::Map(stop)) => {
+            map_refusal(alloc, "sequences: ", stop)
+        }
         RelationsError::Analysis(error) => answer_to_refusal(alloc, names, budget, error),
         RelationsError::Wide => wide_answer(alloc),
         RelationsError::Budget => answer_to_refusal(alloc, names, budget, &AnalyseError::Budget),
         RelationsError::Memory => Err(AllocError),
-    }
-}
-
-/// The answer to an operation of a map that can't be done.
-fn map_answer(alloc: Global, stop: &MapError) -> Result<Answer, AllocError>
-    ensures { IfOk result (λ a. texts.map_answer stop.now ≡ Some (answer_view a)) }
-{
-    match stop {
-        MapError::Limit { at } => fault_line(alloc, Status::Fault, "sequences: ", "limit", *at),
-        MapError::Wide { at } => fault_line(alloc, Status::Wide, "sequences: ", "wide", *at),
-        MapError::Memory => Err(AllocError),
     }
 }
 

@@ -7,18 +7,16 @@
 --   inverse_form_here                  the form of a branch, backward
 --   orbit_fits, orbit_past         what an orbit begins with
 --   meet_past                      what an intersection begins with
-use Rattle.std.proofs.Common.{◌≡◌, ◌<◌, ◌≤◌, ◌+◌, ◌-◌, ℕ, zero, suc, List, [], ◌∷◌, get_or, length, refl, sym, ap, subst, subst₂, ◌∙◌, arith}
+use Rattle.std.proofs.Common.{◌≡◌, ◌<◌, ◌≤◌, ◌+◌, ℕ, zero, suc, List, [], ◌∷◌, get_or, length, refl, sym, ap, subst, subst₂, ◌∙◌, arith}
 use Rattle.std.specs.Prelude.{All, Option, Some, None, Vec, vec_len, IfSome, pred}
 use Rattle.std.specs.declared.alloc.Global.{Global}
 use Rattle.std.specs.List.{AllZip}
 use Rattle.std.specs.Option.{option_map}
 use Rattle.std.proofs.lemmas.List.{get_or-map, length-map}
-use Rattle.algebra.specs.Fraction.{fractions}
-use Rattle.polynomials.specs.Weight.{IsPastComposition, IsPastSum}
 use Rattle.loops.specs.Program.{Expr, Program}
 use Rattle.rounds.specs.Form.{front}
 use Rattle.monos.specs.Variables.{most_variables}
-use Rattle.poly.specs.Seen.{terms_in, terms_each}
+use Rattle.poly.specs.Seen.{terms_each}
 use Rattle.poly.specs.Standing.{IsInVariables}
 use Rattle.loop_model.specs.FracPoly.{FracPoly}
 use Rattle.coprime_base.specs.Sizes.{sizes}
@@ -110,8 +108,8 @@ module _ (cert : FullCert) (b : ℕ) (form : FullForm) (l : b < length cert.form
   module _ (program : Program (Expr ℕ)) (back list : Vec FracPoly Global)
       (h : IsInverseForm program cert b back) where
     pub orbit_fits : (m : ℕ) → m ≡ length program.names → 0 < length program.names
-        → ArePolys (length program.names) list → FitsOrbit m form.base back list
-    orbit_fits m e some over = subst (λ n. FitsOrbit n form.base back list) (sym e) (record {
+        → ArePolys (length program.names) list → FitsOrbit m form.base back list.items
+    orbit_fits m e some over = subst (λ n. FitsOrbit n form.base back list.items) (sym e) (record {
       some = some;
       coprime = subst IsCoprimeBase (sym base_is) h.base;
       few = subst (λ bs. front (length bs) + length program.names ≤ most_variables) (sym base_is)
@@ -124,22 +122,16 @@ module _ (cert : FullCert) (b : ℕ) (form : FullForm) (l : b < length cert.form
     })
 
     pub orbit_past : (r : ℕ) → terms_each list.items ≡ before program (full_of cert) r → (i : ℕ)
-        → IsPastOrbit back list i → IsPastBegun program (full_of cert) r b orbit i
-    orbit_past r same i past = (
-      subst (λ n. i < n) (sym (length-map list.items terms_in) ∙ ap length same) past.0,
-      subst₂ (λ gs ks. IsPastComposition fractions (get_or gs i []) ks) same h.is past.1,
-    )
+        → IsPastOrbit (terms_each back.items) (terms_each list.items) i
+        → IsPastBegun program (full_of cert) r b orbit i
+    orbit_past r same i past = subst₂ (λ ks gs. IsPastOrbit ks gs i) h.is same past
 
 -- ---- what an intersection begins with
 pub meet_past : (program : Program (Expr ℕ)) (cert : FullCert) (r b : ℕ)
     (left right : Vec FracPoly Global)
     → terms_each left.items ≡ so_far (full_of cert) r (pred b)
     → terms_each right.items ≡ (stage_of (full_of cert) r b orbit).out → (i : ℕ)
-    → IsPastMeet left right i → IsPastBegun program (full_of cert) r b meet i
+    → IsPastMeet (terms_each left.items) (terms_each right.items) i
+    → IsPastBegun program (full_of cert) r b meet i
 meet_past program cert r b left right same also i past =
-    let size : length left.items ≡ length (so_far (full_of cert) r (pred b)) =
-    sym (length-map left.items terms_in) ∙ ap length same in (
-      subst (λ n. n ≤ i) size past.0,
-      subst₂ (λ n gs. IsPastSum fractions (get_or gs (i - n) []) (get_or gs (i - n) [])) size also
-          past.1,
-    )
+    subst₂ (λ gs hs. IsPastMeet gs hs i) same also past

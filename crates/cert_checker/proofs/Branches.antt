@@ -6,17 +6,16 @@
 --   stage_all, stage_stops         what is told of the places of a stage, of the parts
 --   orbit_alone, both_hold         the stages of a branch hold
 --   orbit_stops, meet_stops        where they stop
-use Rattle.std.proofs.Common.{◌≡◌, ℕ, zero, suc, ◌-◌, ◌<◌, List, [], ◌++◌, map, get_or, length, true, true≢false, refl, sym, ap, subst, ◌∙◌, inl, inr, arith}
+use Rattle.std.proofs.Common.{◌≡◌, ℕ, zero, suc, ◌-◌, ◌<◌, List, [], ◌++◌, get_or, length, true, true≢false, refl, sym, ap, ap₂, subst, ◌∙◌, inl, inr, arith}
 use Rattle.std.specs.Prelude.{pred, Option, Some, None, is_some, Vec, vec_len}
 use Rattle.std.specs.declared.alloc.Global.{Global}
 use Rattle.std.proofs.lemmas.List.{append-nil, get_or-map, length-map}
 use Rattle.algebra.specs.Each.{Each}
 use Rattle.algebra.proofs.Each.{each-append, each-map}
-use Rattle.algebra.specs.Fraction.{Fraction, rationals}
+use Rattle.algebra.specs.Fraction.{Fraction}
 use Rattle.polynomials.specs.Terms.{Terms}
-use Rattle.machines.specs.Collect.{collect}
 use Rattle.loops.specs.Program.{Expr, Program}
-use Rattle.rounds.specs.Form.{inverse_of_form, orbit_list, orbit_order, relations}
+use Rattle.rounds.specs.Form.{inverse_of_form, orbit_list, whole_orbit_list}
 use Rattle.corollaries.specs.Stage.{Stage, Place, in_list, in_gens, in_pairs, in_links, HoldsAt, places}
 use Rattle.corollaries.specs.Full.{FullCertificate, WrittenForm, as_form, orbit, meet, of_option, stage_of, so_far, before, front_of, starting}
 use Rattle.corollaries.specs.Parts.{Part, in_round, Holds, stage_parts, branch_parts}
@@ -24,7 +23,6 @@ use Rattle.corollaries.specs.Counts.{IsCounted, no_branch}
 use Rattle.task_lists.specs.View.{branch_in, round_in, full_of}
 use Rattle.task_lists.specs.declared.parts.FullBranch.{FullBranch}
 use Rattle.task_lists.specs.declared.parts.FullCert.{FullCert}
-use Rattle.task_lists.specs.Starting.{pulled_back}
 use Rattle.cert_checker.specs.InverseForm.{given_by, given_list}
 use Rattle.cert_checker.specs.Parts.{part_of, place_of, kind_of, stage_part}
 use Rattle.cert_checker.specs.StageParts.{IsPastPlace}
@@ -87,20 +85,11 @@ pub last_branch : (n : ℕ) → pred n ≡ n - 1
 last_branch zero = refl
 last_branch (suc n) = omega arith
 
-module _ (m : ℕ) where
-  list_with : ℕ → List (Terms Fraction) → List (Terms Fraction) → List (Terms Fraction)
-  list_with r back gs = map (pulled_back r m back) gs
-      ++ map (collect rationals (orbit_order r)) (relations r m)
-
-  pub orbit_starts : (f : WrittenForm) (base : List ℕ) (back gs hs : List (Terms Fraction))
-      → base ≡ f.base → back ≡ inverse_of_form (as_form f) → gs ≡ hs
-      → map (pulled_back (length base) m back) gs
-      ++ map (collect rationals (orbit_order (length base))) (relations (length base) m)
-      ≡ orbit_list (as_form f) m hs
-  unfolding list_with
-  orbit_starts f base back gs hs d e g = ap (λ b. list_with (length b) back gs) d
-      ∙ ap (λ k. list_with (length f.base) k gs) e
-      ∙ ap (list_with (length f.base) (inverse_of_form (as_form f))) g
+pub orbit_starts : (m : ℕ) (f : WrittenForm) (base : List ℕ) (back gs hs : List (Terms Fraction))
+    → base ≡ f.base → back ≡ inverse_of_form (as_form f) → gs ≡ hs
+    → whole_orbit_list (length base) m back gs ≡ orbit_list (as_form f) m hs
+orbit_starts m f base back gs hs d e g = ap (λ b. whole_orbit_list (length b) m back gs) d
+    ∙ ap₂ (whole_orbit_list (length f.base) m) e g
 
 -- ---- the places of a stage
 place_weaker : (V W : ℕ → Type 0) → ((i : ℕ) → V i → W i) → (s : Stage) (p : Place)

@@ -11,19 +11,19 @@
 --   IsLimitAt path e               e tells so of the part with this path; want of memory is free
 --   IsUnformed m os e              e is one of the operations os that can't be done
 --   IfFullCheckRefused program c e          the cause of the refusal e: a map of the loop can't be formed, or a part is too long or too wide; want of memory is free
-use Rattle.std.specs.Prelude.{◌≡◌, ◌⊎◌, ℕ, ◌-◌, ◌<◌, ◌≤◌, pred, List, [], get_or, length, string_bytes}
-use Rattle.algebra.specs.Fraction.{Fraction, fractions}
+use Rattle.std.specs.Prelude.{◌≡◌, ◌⊎◌, ℕ, pred, List, [], get_or, length, string_bytes}
+use Rattle.algebra.specs.Fraction.{Fraction}
 use Rattle.polynomials.specs.Terms.{Terms}
-use Rattle.polynomials.specs.Weight.{IsPastComposition, IsPastSum}
 use Rattle.loops.specs.Program.{Expr, Program}
 use Rattle.loops.specs.Map.{start_map, branch_map}
-use Rattle.rounds.specs.Form.{Form, inverse_of_form}
+use Rattle.rounds.specs.Form.{inverse_of_form}
 use Rattle.loop_model.specs.Operations.{Operation, IsLimit, IsWide as IsWideOperation}
 use Rattle.loop_model.specs.declared.map_error.MapError.{MapError}
 use Rattle.loop_model.specs.declared.map_error.MapError.TheVariants as map_error
 use Rattle.loop_model.specs.Maps.{maps_operations, AreFree}
 use Rattle.cert_checker.specs.Passing.{IsPastForm}
 use Rattle.task_lists.specs.Past.{IsPastCombination}
+use Rattle.task_lists.specs.Starting.{IsPastOrbit, IsPastMeet}
 use Rattle.cert_checker.specs.Identities.{StartIsPast, StepIsPast}
 use Rattle.cert_checker.specs.Places.{Place, at_start, in_branch}
 use Rattle.cert_checker.specs.Views.{place_view}
@@ -46,17 +46,9 @@ pub record IsPastOfMap (m : ℕ) (maps : List (Terms Fraction)) (W : List (Terms
   pub past : W images
 
 module _ (program : Program (Expr ℕ)) (c : FullCertificate) where
-  abbrev pub IsPastPulledBack : Form → List (Terms Fraction) → ℕ → Type 0
-  IsPastPulledBack f gs i =
-      (i < length gs) × IsPastComposition fractions (get_or gs i []) (inverse_of_form f)
-
-  abbrev pub IsPastBlended : List (Terms Fraction) → List (Terms Fraction) → ℕ → Type 0
-  IsPastBlended ks hs i = (length ks ≤ i)
-      × IsPastSum fractions (get_or hs (i - length ks) []) (get_or hs (i - length ks) [])
-
   abbrev pub IsPastBegun : ℕ → ℕ → Kind → ℕ → Type 0
-  IsPastBegun r b orbit i = IsPastPulledBack (form_of c b) (before program c r) i
-  IsPastBegun r b meet i = IsPastBlended (so_far c r (pred b)) (stage_of c r b orbit).out i
+  IsPastBegun r b orbit i = IsPastOrbit (inverse_of_form (form_of c b)) (before program c r) i
+  IsPastBegun r b meet i = IsPastMeet (so_far c r (pred b)) (stage_of c r b orbit).out i
 
   abbrev pub IsPastPart : Part → Type 0
   IsPastPart (in_basis e) = IsPastOfMap (length program.names) (start_map program)

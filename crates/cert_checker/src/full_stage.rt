@@ -61,7 +61,7 @@ fn is_made<'a>(
     ensures holds { IfOk result (λ holds. IsTrue holds ↔
         Same ℚ (get_or (begins.starting variables begin.now) place [])
         (combination ℚ (terms_each cofactors.now.items) (terms_each list.now.items))) }
-    ensures wide { IsErrOf result ArithmeticError.Wide → begins.IsPastAt variables begin.now place
+    ensures wide { IsErrOf result ArithmeticError.Wide → begins.IsPastAt begin.now place
         ⊎ IsPastCombination (terms_each cofactors.now.items) (terms_each list.now.items) }
 {
     let p = element_of(alloc, begin, variables, place)?;
@@ -87,7 +87,7 @@ fn judge_gens<'a>(
         → IsMadeAt hs (rows_of gens.now) (terms_each list.now.items) i) }
     ensures stops { let hs = begins.starting variables begin.now in IfErr result
         (StopsAt (IsMadeAt hs (rows_of gens.now) (terms_each list.now.items))
-        (λ i. begins.IsPastAt variables begin.now i
+        (λ i. begins.IsPastAt begin.now i
         ⊎ IsPastMade (rows_of gens.now) (terms_each list.now.items) i) (length hs)) }
 {
     for (i, row) in gens.iter().enumerate() {
@@ -179,7 +179,7 @@ pub(crate) fn judge_stage<'a>(
         (Each (HoldsAt front hs (stage_in stage.now)) (places front hs (stage_in stage.now))) }
     ensures stops { let hs = begins.starting variables begin.now in IfErr result
         (IsStop place_of (HoldsAt front hs (stage_in stage.now))
-        (IsPastPlace (begins.IsPastAt variables begin.now) (stage_in stage.now))
+        (IsPastPlace (begins.IsPastAt begin.now) (stage_in stage.now))
         (places front hs (stage_in stage.now))) }
 {
     in_row(Row::List, judge_list(&stage.list))?;

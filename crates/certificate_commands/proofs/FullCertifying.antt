@@ -46,7 +46,7 @@ use Rattle.command_parts.specs.FaultTexts.{loop_refusal}
 use Rattle.command_parts.proofs.MapLimits.{not_free}
 use Rattle.analysis_commands.specs.declared.kind.Kind.TheVariants as kinds
 use Rattle.analysis_commands.specs.Analyses.{IsUnfound, Analyses}
-use Rattle.analysis_commands.specs.Causes.{IsUnanalysed, IsExact}
+use Rattle.analysis_commands.specs.Causes.{IsUnanalysed, IsNeverLong, IsExact}
 use Rattle.analysis_commands.specs.Completeness.{AllSplit}
 use Rattle.analysis_commands.specs.RefusalTexts.{refusal_answer, branch_answer}
 use Rattle.analysis_commands.proofs.Analysing as analysing
@@ -150,13 +150,7 @@ module _ (l : Program (Expr ℕ)) (budget : ℕ) (m : Journal) (a : Answer) wher
               given = x.given;
               finished = x.finished;
             },
-            record {
-              loop = l;
-              is_loop = is_loop;
-              certificate = c;
-              certified = x;
-              says = t;
-            },
+            record { loop = l; is_loop = is_loop; certificate = c; certified = x; says = t },
           ),
         )
     shown (first_late b) ends is h =
@@ -280,6 +274,7 @@ module _ (l : Program (Expr ℕ)) (budget : ℕ) (m : Journal) (a : Answer) wher
       → refusal_answer l.names budget e ≡ Some a → AllBeginAtZero l
   untraced_at_zero (error.Map e) ends is = absurd ends.stopped
   untraced_at_zero (error.Branch b e) ends is = absurd ends.stopped
+  untraced_at_zero (error.Limit task) ends is = absurd ends.stopped
   untraced_at_zero (error.Wide task) ends is =
       let s = ends.stopped in followed_at_zero l ends.analysed.rounds m.entries s.state s.follows
   untraced_at_zero error.Budget ends is =
@@ -303,17 +298,21 @@ module _ (l : Program (Expr ℕ)) (budget : ℕ) (m : Journal) (a : Answer) wher
   late_branch free forms b first (untraced e) ends is =
       absurd (never_late l (untraced_at_zero e ends is) b first)
 
-  formed : AreFree l → AllSplit l → AllBeginAtZero l → (e : Ending) → EndsWith l budget m e
+  formed : AreFree l → AllSplit l → AllBeginAtZero l → IsNeverLong l → (e : Ending)
+      → EndsWith l budget m e
       → answer_of l.names budget e ≡ Some a → (a.status ≡ status.Yes)
       ⊎ ((a.status ≡ status.Wide) ⊎ (a.status ≡ status.Budget))
-  formed free split at_zero (certified c) ends is = inl (says_yes c is)
-  formed free split at_zero (first_late b) ends is = absurd (never_late l at_zero b ends.first)
-  formed free split at_zero (unanalysed e) ends is =
-      analysing.formed_analysed kinds.Basis l budget m a free split (refusal e ends.unfound is)
-  formed free split at_zero (untraced e) ends is = elim (untraced_ends l budget m a e ends is) [
-    | inl wide ↦ inr (inl wide)
-    | inr exhausted ↦ inr (inr exhausted.0)
-  ]
+  formed free split at_zero never (certified c) ends is = inl (says_yes c is)
+  formed free split at_zero never (first_late b) ends is =
+      absurd (never_late l at_zero b ends.first)
+  formed free split at_zero never (unanalysed e) ends is =
+      analysing.formed_analysed kinds.Basis l budget m a free split never
+      (refusal e ends.unfound is)
+  formed free split at_zero never (untraced e) ends is =
+      elim (untraced_ends l budget m a e ends is) [
+        | inl wide ↦ inr (inl wide)
+        | inr exhausted ↦ inr (inr exhausted.0)
+      ]
 
   completed : (within : IsWithinBudget l budget) → IsNeverRefused l within.analysis.rounds
       → (e : Ending) → EndsWith l budget m e → answer_of l.names budget e ≡ Some a
@@ -327,6 +326,7 @@ module _ (l : Program (Expr ℕ)) (budget : ℕ) (m : Journal) (a : Answer) wher
       (refusal e ends.unfound is)
   completed within never (untraced (error.Map e)) ends is = absurd ends.stopped
   completed within never (untraced (error.Branch b e)) ends is = absurd ends.stopped
+  completed within never (untraced (error.Limit task)) ends is = absurd ends.stopped
   completed within never (untraced (error.Wide task)) ends is =
       let same = as_many_rounds l budget ends.analysed within in
       let s = subst (λ k. trace.HasStopped l k (view.task_of task) m.entries) (sym same)
@@ -398,10 +398,10 @@ late_told l budget m a free forms b first h =
     late_branch l budget m a free forms b first h.ending h.ends h.says
 
 pub formed_told : (l : Program (Expr ℕ)) (budget : ℕ) (m : Journal) (a : Answer) → AreFree l
-    → AllSplit l → AllBeginAtZero l → Certifies l budget m a
+    → AllSplit l → AllBeginAtZero l → IsNeverLong l → Certifies l budget m a
     → (a.status ≡ status.Yes) ⊎ ((a.status ≡ status.Wide) ⊎ (a.status ≡ status.Budget))
-formed_told l budget m a free split at_zero h =
-    formed l budget m a free split at_zero h.ending h.ends h.says
+formed_told l budget m a free split at_zero never h =
+    formed l budget m a free split at_zero never h.ending h.ends h.says
 
 pub all_told : (l : Program (Expr ℕ)) (budget : ℕ) (m : Journal) (a : Answer)
     → (within : IsWithinBudget l budget) → IsNeverRefused l within.analysis.rounds

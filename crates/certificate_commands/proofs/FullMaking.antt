@@ -194,12 +194,12 @@ module _ (l : Program (Expr ℕ)) (budget : ℕ) (a : Analysis) (found : IsFound
 pub found_by : (l : Program (Expr ℕ)) (budget : ℕ) (before m : Journal)
     → before ≡ empty_journal budget
     → m.limit ≡ before.limit → (a : Analysis) → AreFree l → AllHaveForms l
-    → IsClosedBy l a m.entries → (n : ℕ) → n ≡ units_of m.entries → n ≤ m.limit
+    → IsClosedBy l a m.entries → units_of m.entries ≤ m.limit
     → IsLeastLevel l a.rounds → IsBasisOf l (terms_each a.basis.items)
     → IsValid l (certificate_of a) → AreOver (length l.names) a.basis.items
     → All (λ (rows : Rows). IsSquare (length l.names) (length a.basis.items) rows.items)
     a.steps.items → IsFoundBy l budget a
-found_by l budget before m is kept a free forms closed n used within least basis valid over
+found_by l budget before m is kept a free forms closed within least basis valid over
     squares =
     let limit : m.limit ≡ budget = kept ∙ ap (λ (j : Journal). j.limit) is in
     record {
@@ -207,7 +207,7 @@ found_by l budget before m is kept a free forms closed n used within least basis
       forms = forms;
       entries = m.entries;
       closed = closed;
-      few = omega (arith, used, within, limit);
+      few = omega (arith, within, limit);
       least = least;
       is_basis = basis;
       valid = valid;
@@ -310,6 +310,7 @@ module _ (lp : Loop) (budget : ℕ) (m : Journal) (is : m ≡ empty_journal budg
       → IsRefused (program_of lp) (empty_journal budget) m e
   refused_so (error.Map e) h = (is, h)
   refused_so (error.Branch b e) h = (is, h)
+  refused_so (error.Limit task) h = absurd h
   refused_so (error.Wide task) h = absurd h
   refused_so error.Budget h = absurd h
   refused_so error.Memory h = inl (ap (λ (j : Journal). j.entries) is)

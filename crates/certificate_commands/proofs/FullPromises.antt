@@ -72,8 +72,8 @@ module _ (request : FileRequest) where
       begins_late = λ l b r free forms first. or_wide (course request) call f (late_answer b)
           (λ s. late_told l request.budget m s.answer free forms b first
           (answered path call f l r s));
-      found = λ l r free split at_zero. or_found (course request) call f
-          (λ s. formed_told l request.budget m s.answer free split at_zero
+      found = λ l r free split at_zero never. or_found (course request) call f
+          (λ s. formed_told l request.budget m s.answer free split at_zero never
           (answered path call f l r s));
       enough = λ l r within. not_ended path call f concludes_exhausted l r
           (λ a h out. within_told r.text l request.budget m a.text r.reads within

@@ -22,7 +22,7 @@ use Rattle.analysis_commands.specs.Analyses.{refused, IsUnfound, Analyses}
 use Rattle.analysis_commands.specs.Statuses.{refusal_status}
 use Rattle.analysis_commands.specs.RefusalTexts.{refusal_answer}
 use Rattle.io_edge.proofs.OfStatuses.{no_answer}
-use Rattle.analysis_commands.proofs.Analysing.{formed_analysed, status_told}
+use Rattle.analysis_commands.proofs.Analysing.{formed, status_told}
 use Rattle.analysis_commands.proofs.Refused.{refusal_parts, refusal_kind, Refused, at_fault, too_wide, exhausted}
 use Rattle.certificate_commands.specs.FullCertified.{IsUntraced}
 
@@ -43,9 +43,13 @@ wide_alone e s other (exhausted is same) h = absurd (other same)
 not_exhausted : (l : Program (Expr ℕ)) (e : AnalyseError) → IfUnformedLoop l e → e ≢ error.Budget
 not_exhausted l (error.Map e) h = λ same. cc
 not_exhausted l (error.Branch b e) h = λ same. cc
+not_exhausted l (error.Limit task) h = λ same. cc
 not_exhausted l (error.Wide task) h = λ same. cc
 not_exhausted l error.Budget h = absurd h
 not_exhausted l error.Memory h = λ same. cc
+
+refused_same : (e d : AnalyseError) → refused e ≡ refused d → e ≡ d
+refused_same e d same = cc
 
 module _ (l : Program (Expr ℕ)) (budget : ℕ) (m : Journal) (a : Answer) where
   pub unformed_wide : AreFree l → AllHaveForms l → (e : AnalyseError) → IsUnfound l budget m e
@@ -53,9 +57,10 @@ module _ (l : Program (Expr ℕ)) (budget : ℕ) (m : Journal) (a : Answer) wher
   unformed_wide free forms e ends cause says =
       wide_alone e a.status (not_exhausted l e cause)
       (refusal_kind e a.status (refusal_parts l.names budget e a says).0)
-      (formed_analysed kinds.Basis l budget m a free
-      (λ b inside. let h = forms b inside in (h.solvable, h.pass, h.short))
-      (as_analysed l budget m a e ends says))
+      (formed kinds.Basis l budget m a free
+      (λ b inside. let h = forms b inside in (h.solvable, h.pass, h.short)) (refused e)
+      (λ task same. subst (IfUnformedLoop l) (refused_same e (error.Limit task) same) cause)
+      ends says)
 
   abbrev EndsUntraced : AnalyseError → Type 0
   EndsUntraced e = (a.status ≡ status.Wide) ⊎ ((a.status ≡ status.Budget) × (e ≡ error.Budget))
@@ -68,6 +73,7 @@ module _ (l : Program (Expr ℕ)) (budget : ℕ) (m : Journal) (a : Answer) wher
       → refusal_answer l.names budget e ≡ Some a → EndsUntraced e
   untraced_ends (error.Map e) u says = absurd u.stopped
   untraced_ends (error.Branch b e) u says = absurd u.stopped
+  untraced_ends (error.Limit task) u says = absurd u.stopped
   untraced_ends (error.Wide task) u says = inl (told (error.Wide task) status.Wide refl says)
   untraced_ends error.Budget u says = inr (told error.Budget status.Budget refl says, refl)
   untraced_ends error.Memory u says = absurd (no_answer a says)
@@ -76,6 +82,7 @@ pub stopped_named : (l : Program (Expr ℕ)) (rounds : ℕ) (m : Journal) (e : A
     → trace.IsStopped l rounds m e → AreNamed n e
 stopped_named l rounds m (error.Map e) n cause = absurd cause
 stopped_named l rounds m (error.Branch b e) n cause = absurd cause
+stopped_named l rounds m (error.Limit task) n cause = absurd cause
 stopped_named l rounds m (error.Wide task) n cause = tt
 stopped_named l rounds m error.Budget n cause = tt
 stopped_named l rounds m error.Memory n cause = tt
@@ -91,6 +98,7 @@ unformed_named l e names same cause = subst (λ ns. AreNamed (length ns) e) (sym
     go : (e : AnalyseError) → IfUnformedLoop l e → AreNamed (length l.names) e
     go (error.Map e) cause = tt
     go (error.Branch b e) cause = named l before before (error.Branch b e) (refl, cause)
+    go (error.Limit task) cause = tt
     go (error.Wide task) cause = tt
     go error.Budget cause = tt
     go error.Memory cause = tt

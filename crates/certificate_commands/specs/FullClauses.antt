@@ -17,7 +17,7 @@ use Rattle.command_parts.specs.FaultTexts.{loop_refusal}
 use Rattle.command_parts.specs.LoopReading.{loop_at, IsLoopFault, ReadsLoop}
 use Rattle.analysis_commands.specs.RefusalTexts.{branch_answer}
 use Rattle.analysis_commands.specs.Completeness.{AllSplit, EndsFound}
-use Rattle.analysis_commands.specs.Causes.{IsUnanalysed, IsExact}
+use Rattle.analysis_commands.specs.Causes.{IsUnanalysed, IsNeverLong, IsExact}
 use Rattle.command_parts.specs.FileRequests.{FileRequest}
 use Rattle.full_trace.specs.Late.{AllBeginAtZero, IsFirstLate}
 use Rattle.certificate_commands.specs.FullTexts.{late_answer}
@@ -78,7 +78,7 @@ pub record FindsFull (request : FileRequest) (call : Call) : Type 0 where
       → AreFree l → AllHaveForms l → IsFirstLate l b → EndsOrWide call (late_answer b)
   -- where none comes, a certificate, but for numbers that don't fit and an exhausted budget
   pub found : (l : Program (Expr ℕ)) → ReadsLoop call request.file (Ok l) → AreFree l → AllSplit l
-      → AllBeginAtZero l → EndsFound call.status
+      → AllBeginAtZero l → IsNeverLong l → EndsFound call.status
   -- the budget isn't exhausted where a finished journal and the trace have at most as many units
   pub enough : (l : Program (Expr ℕ)) → ReadsLoop call request.file (Ok l)
       → IsWithinBudget l request.budget → call.status ≢ status.Budget

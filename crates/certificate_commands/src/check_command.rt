@@ -48,11 +48,11 @@ fn answer_to<F: Files>(
 {
     let lp = match read_program(alloc, files, request.file) {
         Ok(lp) => lp,
-        Err(refusal) => return refusal,
+        Err(refusal) => return refusal.into_answer(),
     };
     match read_file(alloc, files, request.certificate, CERTIFICATE_LIMIT) {
         Ok(bytes) => judge(alloc, &lp, &bytes),
-        Err(refusal) => refusal,
+        Err(refusal) => refusal.into_answer(),
     }
 }
 

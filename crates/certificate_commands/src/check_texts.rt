@@ -8,9 +8,8 @@ ghost use Rattle.certificate_commands.specs.CheckTexts as texts;
 ghost use Rattle.certificate_commands.specs.CheckTexts.{verdict, limit_identity, wide_identity, judgement_answer};
 
 use cert_checker::{CheckError, Place, Verdict};
-use command_parts::{fault_line, ordinal};
+use command_parts::{map_refusal, ordinal};
 use io_edge::{Answer, Status, line};
-use loop_model::MapError;
 use std::alloc::{AllocError, Global};
 
 /// To a certificate that was judged.
@@ -30,15 +29,10 @@ pub(crate) fn check_refusal(alloc: Global, why: CheckError) -> Result<Answer, Al
         Some (answer_view a)) }
 {
     match why {
-        CheckError::Map(MapError::Limit { at }) => {
-            fault_line(alloc, Status::Fault, "loop: ", "limit", at)
-        }
-        CheckError::Map(MapError::Wide { at }) => {
-            fault_line(alloc, Status::Wide, "loop: ", "wide", at)
-        }
+        CheckError::Map(stop) => map_refusal(alloc, "loop: ", &stop),
         CheckError::Limit { place, element } => limit_at(alloc, place, element),
         CheckError::Wide { place, element } => wide_at(alloc, place, element),
-        CheckError::Map(MapError::Memory) | CheckError::Memory => Err(AllocError),
+        CheckError::Memory => Err(AllocError),
     }
 }
 

@@ -5,9 +5,8 @@ ghost use Rattle.certificate_commands.specs.CheckfullTexts.{judgement_answer};
 ghost use Rattle.certificate_commands.specs.CheckfullViews.{judgement_in, judgement_of};
 
 use cert_checker::{FullError, FullVerdict};
-use command_parts::fault_line;
+use command_parts::map_refusal;
 use io_edge::{Answer, Status, line};
-use loop_model::MapError;
 use std::alloc::{AllocError, Global};
 
 /// To a full certificate that was judged.
@@ -26,14 +25,9 @@ pub(crate) fn judge_refusal(alloc: Global, why: FullError) -> Result<Answer, All
         Some (answer_view a)) }
 {
     match why {
-        FullError::Map(MapError::Limit { at }) => {
-            fault_line(alloc, Status::Fault, "loop: ", "limit", at)
-        }
-        FullError::Map(MapError::Wide { at }) => {
-            fault_line(alloc, Status::Wide, "loop: ", "wide", at)
-        }
+        FullError::Map(stop) => map_refusal(alloc, "loop: ", &stop),
         FullError::Limit { path } => line(alloc, Status::Fault, "limit: ", path.as_str()),
         FullError::Wide { path } => line(alloc, Status::Wide, "wide: ", path.as_str()),
-        FullError::Map(MapError::Memory) | FullError::Memory => Err(AllocError),
+        FullError::Memory => Err(AllocError),
     }
 }

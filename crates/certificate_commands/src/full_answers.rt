@@ -58,8 +58,7 @@ fn answer_to_analysis(
 {
     match analyse(alloc, lp, meter) {
         Ok(found) => {
-            // its contract: no more entries are units than the budget
-            let _ = meter.used();
+            meter.within_limit();
             answer_to_trace(alloc, lp, budget, setting, found, meter)
         }
         Err(error) => answer_to_refusal(alloc, lp.names(), budget.units, &error),

@@ -41,6 +41,6 @@ fn answer_to<F: Files>(
 {
     match read_program(alloc, files, request.file) {
         Ok(lp) => answer_to_loop(alloc, &lp, request.budget, meter),
-        Err(refusal) => refusal,
+        Err(refusal) => refusal.into_answer(),
     }
 }

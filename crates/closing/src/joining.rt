@@ -67,8 +67,7 @@ pub(crate) fn take(
         → Reaches (program_of lp.now) P meter.old.entries progress (candidate_of P candidate)
         waiting → Takes (program_of lp.now) P waiting meter.new.limit meter.new.entries result }
 {
-    // for its contract, which tells the prover that no more units are used than are allowed
-    let _ = meter.used();
+    meter.within_limit();
     let division = match rest_of(
         alloc,
         progress.number,
@@ -128,8 +127,7 @@ fn join(
             image,
         }));
     }
-    // for its contract, which tells the prover that no more units are used than are allowed
-    let _ = meter.used();
+    meter.within_limit();
     let list = match extended_list(
         alloc,
         progress.number,

@@ -61,8 +61,7 @@ pub fn close(
         Sequel::Counter(counter) => return Ok(Verdict::Counter(counter)),
     };
     while !progress.kept.is_empty() {
-        // for its contract, which tells the prover that no more units are used than are allowed
-        let _ = meter.used();
+        meter.within_limit();
         match next_level(alloc, lp, maps, progress, meter)? {
             Sequel::On(next) => progress = next,
             Sequel::Counter(counter) => return Ok(Verdict::Counter(counter)),

@@ -53,8 +53,7 @@ pub(crate) fn fill(
 {
     let mut sampling = sampling;
     while sampling.goes_on() {
-        // for its contract, which tells the prover that no more units are used than are allowed
-        let _ = meter.used();
+        meter.within_limit();
         sampling = take(alloc, lp, sampling, meter)?;
     }
     Ok(sampling)
@@ -84,8 +83,6 @@ fn take(
     ensures takes { (d : ℕ) → IsUnfinished (program_of lp.now) d meter.old.entries sampling
         → IfSampled (program_of lp.now) d meter.new.limit meter.new.entries result }
 {
-    // for its contract, which tells the prover that no more units are used than are allowed
-    let _ = meter.used();
     match meter.begin(Task::Sample {
         number: sampling.taken,
     }) {

@@ -76,8 +76,7 @@ pub fn search(
 {
     let mut sampling = begin(alloc, lp, maps, degree)?;
     loop {
-        // for its contract, which tells the prover that no more units are used than are allowed
-        let _ = meter.used();
+        meter.within_limit();
         sampling = fill(alloc, lp, sampling, meter)?;
         match close_elements(alloc, lp, maps, sampling, meter)? {
             Sequel::Found(finding) => return Ok(finding),
@@ -130,12 +129,10 @@ fn close_elements(
 {
     let elements = elements_left(alloc, lp, &sampling)?;
     let mut closing = Meter::new(alloc);
-    // for its contract, which tells the prover how many units are allowed
-    let _ = meter.used();
+    meter.within_limit();
     closing.open(meter.left());
     let verdict = close(alloc, lp, maps, &elements, &mut closing);
-    // for its contract, which tells the prover that no more units are used than are allowed
-    let _ = closing.used();
+    closing.within_limit();
     match verdict {
         Ok(Verdict::Basis(closure)) => Ok(Sequel::Found(Finding {
             elements,

@@ -70,7 +70,7 @@ use Rattle.closing_commands.specs.declared.evidence.Evidence.{Evidence}
 use Rattle.closing_commands.specs.declared.evidence.Evidence.TheVariants as kinds
 use Rattle.closing_commands.specs.Deciding.{HasCountered, IsOnTheWay, IsOutOf, TellsCounter, Decides, HasAsked, Answers, Leaves}
 use Rattle.closing_commands.specs.ProvedLists.{AreBegun, AreExhausted, TellsProving}
-use Rattle.closing_commands.specs.ProvedTexts.{exhausted_answer}
+use Rattle.command_parts.specs.FaultTexts.{exhausted_answer}
 use Rattle.closing_commands.specs.DecideTexts.{closure_answer, no_answer as told_no}
 use Rattle.closing_commands.specs.DecideViews.{stop_answer}
 

@@ -43,7 +43,7 @@ use Rattle.replay_commands.specs.CounterTexts.{limit_answer, wide_answer, map_an
 use Rattle.closing_commands.specs.declared.evidence.Evidence.{Evidence}
 use Rattle.closing_commands.specs.declared.evidence.Evidence.TheVariants as kinds
 use Rattle.closing_commands.specs.ProvedLists.{AreBegun, TellsProving}
-use Rattle.closing_commands.specs.ProvedTexts.{exhausted_answer}
+use Rattle.command_parts.specs.FaultTexts.{exhausted_answer}
 use Rattle.closing_commands.specs.DegreeTexts.{basis_answer, degree_answer, sample_answer, element_answer}
 use Rattle.closing_commands.specs.DegreeViews.{search_answer, HasLeadOver, IsFound}
 use Rattle.closing_commands.proofs.ProvedTold.{polynomials_over}

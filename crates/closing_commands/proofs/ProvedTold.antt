@@ -35,7 +35,8 @@ use Rattle.io_edge.specs.Views.{answer_view}
 use Rattle.io_edge.proofs.OfStatuses.{no_answer, some_answer, status_of, text_of}
 use Rattle.closing_commands.specs.Rows.{HasRows}
 use Rattle.closing_commands.specs.ProvedLists.{AreBegun, TellsProof, TellsProving}
-use Rattle.closing_commands.specs.ProvedTexts.{certificate_answer, exhausted_answer, wide_test_answer}
+use Rattle.command_parts.specs.FaultTexts.{exhausted_answer}
+use Rattle.closing_commands.specs.ProvedTexts.{certificate_answer, wide_test_answer}
 use Rattle.closing_commands.specs.ProvedViews.{proving_answer}
 
 pub polynomials_over : (m : ℕ) (ps : List FracPoly) → AreOver m ps

@@ -26,7 +26,7 @@ use Rattle.io_edge.specs.declared.answer.Status.TheVariants as status
 use Rattle.io_edge.specs.Texts.{Answer}
 use Rattle.io_edge.specs.Outcome.{Call}
 use Rattle.io_edge.specs.Clauses.{Wrote, TellsWhy, IfTold, IsExcused, Ends, EndsOrWide, EndsTooLong, IsLonger}
-use Rattle.command_parts.specs.FaultTexts.{loop_refusal}
+use Rattle.command_parts.specs.FaultTexts.{loop_refusal, exhausted_answer}
 use Rattle.command_parts.specs.LoopReading.{loop_at, IsLoopFault, ReadsLoop}
 use Rattle.command_parts.specs.Equations.{equation_in, operations_of, polynomial_of, Holds, FormsFreely}
 use Rattle.command_parts.specs.EquationReading.{equation_refusal, IsUnformed}
@@ -35,7 +35,6 @@ use Rattle.replay_commands.specs.CounterHeadline.{IsQuestion}
 use Rattle.closing_commands.specs.declared.evidence.Evidence.{Evidence}
 use Rattle.closing_commands.specs.Deciding.{HasClosed, HasCountered, IsOutOf, IsWideAtWord, IsWideTest, TellsStop, HasAsked}
 use Rattle.closing_commands.specs.DecideHeadline.{Shows, ShowsCounter}
-use Rattle.closing_commands.specs.ProvedTexts.{exhausted_answer}
 use Rattle.closing_commands.specs.DecideArguments.{Request}
 
 -- ---- over the bytes of the file, and the meter

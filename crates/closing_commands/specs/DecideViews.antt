@@ -7,7 +7,7 @@ use Rattle.closing.specs.declared.error.ClosingError.TheVariants as error
 use Rattle.io_edge.specs.Texts.{Answer}
 use Rattle.replay_commands.specs.CounterTexts.{limit_answer, wide_answer}
 use Rattle.closing_commands.specs.declared.decide_arguments.Request as made
-use Rattle.closing_commands.specs.ProvedTexts.{exhausted_answer}
+use Rattle.command_parts.specs.FaultTexts.{exhausted_answer}
 use Rattle.closing_commands.specs.DecideArguments.{Request}
 
 abbrev pub view : made.Request → Request

@@ -40,7 +40,8 @@ use Rattle.command_parts.specs.ReadBack.{IsReadBack}
 use Rattle.replay_commands.specs.CounterTexts.{limit_answer, wide_answer}
 use Rattle.closing_commands.specs.declared.evidence.Evidence.{Evidence}
 use Rattle.closing_commands.specs.declared.evidence.Evidence.TheVariants as kinds
-use Rattle.closing_commands.specs.ProvedTexts.{exhausted_answer, wide_test_answer}
+use Rattle.command_parts.specs.FaultTexts.{exhausted_answer}
+use Rattle.closing_commands.specs.ProvedTexts.{wide_test_answer}
 use Rattle.closing_commands.specs.ProvedLists.{AreProved, AreBegun, AreExhausted, IsPastTest, TellsMap, TellsProof}
 use Rattle.closing_commands.specs.DecideTexts.{closure_answer, no_answer}
 

@@ -23,10 +23,9 @@ use Rattle.io_edge.specs.declared.answer.Status.TheVariants as status
 use Rattle.io_edge.specs.Texts.{Answer}
 use Rattle.io_edge.specs.Outcome.{Call}
 use Rattle.io_edge.specs.Clauses.{Wrote, TellsWhy, IfTold, IsExcused, Ends, EndsOrWide, EndsTooLong, IsLonger}
-use Rattle.command_parts.specs.FaultTexts.{loop_refusal}
+use Rattle.command_parts.specs.FaultTexts.{loop_refusal, exhausted_answer}
 use Rattle.command_parts.specs.LoopReading.{loop_at, IsLoopFault, ReadsLoop}
 use Rattle.closing_commands.specs.declared.evidence.Evidence.{Evidence}
-use Rattle.closing_commands.specs.ProvedTexts.{exhausted_answer}
 use Rattle.closing_commands.specs.Degrees.{HasFound, IsOutOf, IsLimitWord, IsWideWord, IsWideTest, HasMany, TellsStop, HasSearched}
 use Rattle.closing_commands.specs.DegreeTexts.{degree_answer}
 use Rattle.closing_commands.specs.DegreeHeadline.{ShowsUpTo}

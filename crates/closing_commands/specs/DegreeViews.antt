@@ -16,7 +16,7 @@ use Rattle.closing.specs.declared.search_error.SearchError.TheVariants as error
 use Rattle.io_edge.specs.Texts.{Answer}
 use Rattle.replay_commands.specs.CounterTexts.{limit_answer, wide_answer}
 use Rattle.closing_commands.specs.declared.degree_arguments.Request as made
-use Rattle.closing_commands.specs.ProvedTexts.{exhausted_answer}
+use Rattle.command_parts.specs.FaultTexts.{exhausted_answer}
 use Rattle.closing_commands.specs.DegreeTexts.{degree_answer, sample_answer, element_answer}
 use Rattle.closing_commands.specs.Degrees.{HasMany}
 use Rattle.closing_commands.specs.DegreeArguments.{Request}

@@ -24,7 +24,8 @@ use Rattle.io_edge.specs.declared.answer.Status.TheVariants as status
 use Rattle.io_edge.specs.Texts.{Answer}
 use Rattle.replay_commands.specs.CounterTexts.{map_answer}
 use Rattle.closing_commands.specs.Rows.{HasRows}
-use Rattle.closing_commands.specs.ProvedTexts.{certificate_answer, exhausted_answer, wide_test_answer}
+use Rattle.command_parts.specs.FaultTexts.{exhausted_answer}
+use Rattle.closing_commands.specs.ProvedTexts.{certificate_answer, wide_test_answer}
 
 module _ (l : Program (Expr ℕ)) (P : List (Terms Fraction)) (es : List Entry)
     (gs : List (Terms Fraction)) where

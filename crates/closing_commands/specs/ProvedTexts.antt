@@ -1,6 +1,5 @@
 -- Answers that `decide`, `prove` and those up to a degree share.
 --   certificate_answer names c    yes: the certificate
---   exhausted_answer n            to an exhausted budget
 --   wide_test_answer b i          to a number of the closing division of the element i, with the branch b, that may not fit
 use Rattle.std.specs.Prelude.{ℕ, List, ◌++◌, codes, decimal}
 use Rattle.loops.specs.Certificate.{Certificate}
@@ -10,9 +9,6 @@ use Rattle.io_edge.specs.Texts.{Answer, answer}
 
 abbrev pub certificate_answer : List (List ℕ) → Certificate → Answer
 certificate_answer names c = answer status.Yes (text_of names c)
-
-abbrev pub exhausted_answer : ℕ → Answer
-exhausted_answer n = answer status.Budget (codes "budget: " ++ decimal n)
 
 abbrev pub wide_test_answer : ℕ → ℕ → Answer
 wide_test_answer b i =

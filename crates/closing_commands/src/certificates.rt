@@ -15,10 +15,9 @@ ghost use Rattle.closing_commands.specs.ProvedLists.{AreBegun, TellsProving};
 ghost use Rattle.closing_commands.specs.ProvedTexts as texts;
 ghost use Rattle.closing_commands.specs.ProvedViews.{proving_answer};
 
-use crate::exhausted::exhausted_answer;
 use cert_form::{Cert, write_cert};
 use closing::{ClosureProof, ProvingError, proof_of};
-use command_parts::Budget;
+use command_parts::{Budget, exhausted_answer};
 use counter_run::Maps;
 use frac128::Frac;
 use io_edge::{Answer, Status};

@@ -1,7 +1,6 @@
 // The arguments behind `decide` and `prove`.
 ghost use Rattle.std.specs.Prelude.{◌≡◌, map, string_bytes, option_map};
-ghost use Rattle.command_parts.specs.Budgets.{units_of};
-ghost use Rattle.closing_commands.specs.DecideArguments.{request_in, request_within};
+ghost use Rattle.closing_commands.specs.DecideArguments.{request_in};
 ghost use Rattle.closing_commands.specs.DecideViews.{view};
 
 use crate::evidence::Evidence;
@@ -22,33 +21,21 @@ pub(crate) fn read_arguments(evidence: Evidence, arguments: &[String]) -> Option
     ensures { option_map view result ≡ request_in evidence (map string_bytes arguments.now) }
 {
     match arguments {
-        [file, equation] if names_a_file(file) => {
-            within_budget(evidence, Some(Budget::usual()), file, equation)
-        }
-        [option, number, file, equation] if option.as_str() == "--budget" && names_a_file(file) => {
-            within_budget(evidence, read_budget(number.as_bytes()), file, equation)
-        }
-        _ => None,
-    }
-}
-
-/// The question to this file for this equation, where there is a budget.
-fn within_budget<'a>(
-    evidence: Evidence,
-    budget: Option<Budget>,
-    file: &'a String,
-    equation: &'a String,
-) -> Option<Request<'a>>
-    ensures { option_map view result ≡ request_within evidence (option_map units_of budget)
-        (string_bytes file.now) (string_bytes equation.now) }
-{
-    match budget {
-        Some(budget) => Some(Request {
+        [file, equation] if names_a_file(file) => Some(Request {
             evidence,
-            budget,
+            budget: Budget::usual(),
             file,
             equation,
         }),
-        None => None,
+        [option, number, file, equation] if option.as_str() == "--budget" && names_a_file(file) => {
+            let budget = read_budget(number.as_bytes())?;
+            Some(Request {
+                evidence,
+                budget,
+                file,
+                equation,
+            })
+        }
+        _ => None,
     }
 }

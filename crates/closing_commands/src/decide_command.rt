@@ -28,7 +28,7 @@ use crate::decide_arguments::{Request, read_arguments};
 use crate::decide_texts::{closing_refusal, closure_answer, no_answer};
 use crate::evidence::Evidence;
 use closing::{Counter, Verdict, close};
-use command_parts::{Budget, read_polynomial, read_program};
+use command_parts::{Budget, map_refusal, read_polynomial, read_program};
 use counter_run::{CounterError, CounteringWord, Found, Maps, maps_of, run_of};
 use frac128::Frac;
 use io_edge::{Answer, Files, Status, reply};
@@ -36,7 +36,7 @@ use journal::Meter;
 use loop_model::Loop;
 use monos::Grevlex;
 use poly::Poly;
-use replay_commands::{map_answer, word_answer};
+use replay_commands::word_answer;
 use std::alloc::{AllocError, Global};
 
 /// What `decide` or `prove` answers to the arguments behind it; none where they ask no question.
@@ -74,7 +74,7 @@ fn answer_to<F: Files>(
             request.equation,
             meter,
         ),
-        Err(refusal) => refusal,
+        Err(refusal) => refusal.into_answer(),
     }
 }
 
@@ -98,7 +98,7 @@ fn answer_to_equation(
 {
     match read_polynomial(alloc, lp, equation) {
         Ok(polynomial) => answer_by_maps(alloc, evidence, lp, budget, &polynomial, meter),
-        Err(refusal) => refusal,
+        Err(refusal) => refusal.into_answer(),
     }
 }
 
@@ -121,7 +121,7 @@ fn answer_by_maps(
     meter.open(budget.units);
     match maps_of(alloc, lp) {
         Ok(maps) => { answer_by_closing(alloc, evidence, lp, &maps, budget, polynomial, meter) }
-        Err(error) => map_answer(alloc, &error),
+        Err(error) => map_refusal(alloc, "loop: ", &error),
     }
 }
 
@@ -195,8 +195,7 @@ fn answer_by_list(
     ensures asked { (p : Terms Fraction) → terms_each polynomials.now ≡ p ∷ []
         → HasAsked (program_of lp.now) p meter.new evidence budget.units }
 {
-    // for its contract, which tells the prover that no more units are used than are allowed
-    let _ = meter.used();
+    meter.within_limit();
     match evidence {
         Evidence::Basis => closure_answer(alloc, lp.names(), &list),
         Evidence::Certificate => {

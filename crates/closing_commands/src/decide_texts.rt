@@ -9,9 +9,8 @@ ghost use Rattle.command_parts.specs.ReadBack.{IsReadBack};
 ghost use Rattle.closing_commands.specs.DecideTexts as texts;
 ghost use Rattle.closing_commands.specs.DecideViews.{stop_answer};
 
-use crate::exhausted::exhausted_answer;
 use closing::ClosingError;
-use command_parts::basis_text;
+use command_parts::{basis_text, exhausted_answer};
 use frac128::Frac;
 use io_edge::{Answer, Status};
 use loop_model::Names;

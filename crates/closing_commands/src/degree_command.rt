@@ -19,12 +19,11 @@ use crate::degree_arguments::{Request, read_arguments};
 use crate::degree_texts::{basis_answer, search_refusal};
 use crate::evidence::Evidence;
 use closing::{Finding, append, search};
-use command_parts::{Budget, read_program};
+use command_parts::{Budget, map_refusal, read_program};
 use counter_run::{Maps, maps_of};
 use io_edge::{Answer, Files, reply};
 use journal::Meter;
 use loop_model::Loop;
-use replay_commands::map_answer;
 use std::alloc::{AllocError, Global};
 
 /// What `basis` or `cert` answers to the arguments behind it that name a degree; none where they don't ask so.
@@ -62,7 +61,7 @@ fn answer_to<F: Files>(
             request.degree,
             meter,
         ),
-        Err(refusal) => refusal,
+        Err(refusal) => refusal.into_answer(),
     }
 }
 
@@ -83,7 +82,7 @@ fn answer_by_maps(
     meter.open(budget.units);
     match maps_of(alloc, lp) {
         Ok(maps) => answer_by_search(alloc, evidence, lp, &maps, budget, degree, meter),
-        Err(error) => map_answer(alloc, &error),
+        Err(error) => map_refusal(alloc, "loop: ", &error),
     }
 }
 
@@ -153,8 +152,7 @@ fn list_answer(
         budget.units (answer_view a)) }
     ensures searched { HasSearched (program_of lp.now) degree meter.new Basis budget.units }
 {
-    // for its contract, which tells the prover that no more units are used than are allowed
-    let _ = finding.closing.used();
+    finding.closing.within_limit();
     append(meter, &finding.closing)?;
     basis_answer(alloc, lp.names(), &finding.elements)
 }
@@ -183,10 +181,9 @@ fn proof_answer(
         closing,
     } = finding;
     let mut closing = closing;
-    // for its contract, which tells the prover that no more units are used than are allowed
-    let _ = closing.used();
+    closing.within_limit();
     let answer = certificate_answer(alloc, lp, maps, budget, &elements, &closure, &mut closing);
-    let _ = closing.used();
+    closing.within_limit();
     append(meter, &closing)?;
     answer
 }

@@ -8,9 +8,8 @@ ghost use Rattle.command_parts.specs.ReadBack.{IsReadBack};
 ghost use Rattle.closing_commands.specs.DegreeTexts as texts;
 ghost use Rattle.closing_commands.specs.DegreeViews.{search_answer, HasLeadOver};
 
-use crate::exhausted::exhausted_answer;
 use closing::SearchError;
-use command_parts::basis_text;
+use command_parts::{basis_text, exhausted_answer};
 use frac128::Frac;
 use io_edge::{Answer, Status};
 use loop_model::Names;

@@ -16,7 +16,6 @@ mod degree_command;
 pub mod degree_laws;
 mod degree_texts;
 mod evidence;
-mod exhausted;
 
 pub use decide_command::decide;
 pub use degree_arguments::names_degree;

@@ -5,14 +5,13 @@
 --   IsChainOr name files result     CHAIN was read into this chain, or refused so
 --   ReadsChain call name reading    the bytes of CHAIN are told, and this is what they say: a chain, or a first fault
 use Rattle.std.specs.Prelude.{ℕ, List, Result, Ok, Err}
-use Rattle.std.specs.declared.alloc.AllocError.{AllocError}
 use Rattle.poly_text.specs.Reasons.{Fault}
 use Rattle.loops.specs.Program.{Expr}
 use Rattle.loops.specs.Chain.{Chain}
 use Rattle.loop_runs.specs.ChainSeen.{chain_in}
 use Rattle.loop_runs.specs.declared.chain.Chain as code
 use Rattle.loop_text.specs.ChainReader.{chain_of}
-use Rattle.io_edge.specs.declared.answer.Answer as made
+use Rattle.io_edge.specs.declared.refusal.Refusal.{Refusal}
 use Rattle.io_edge.specs.Texts.{Answer}
 use Rattle.io_edge.specs.Course.{Course}
 use Rattle.io_edge.specs.Change.{Change}
@@ -31,8 +30,7 @@ IsChainFault text a = IsFaultOf chain_of loop_refusal text a
 abbrev pub HasReadChain : List ℕ → Chain (Expr ℕ) → Change FilesView → Type 0
 HasReadChain name c files = HasReadAs chain_of (loop_at name) c files
 
-abbrev pub IsChainOr : List ℕ → Change FilesView
-    → Result code.Chain (Result made.Answer AllocError) → Type 0
+abbrev pub IsChainOr : List ℕ → Change FilesView → Result code.Chain Refusal → Type 0
 IsChainOr name files (Ok c) = HasReadChain name (chain_in c) files
 IsChainOr name files (Err refusal) = IsRefusedAt chain_of loop_refusal (loop_at name) files refusal
 

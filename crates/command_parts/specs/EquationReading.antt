@@ -14,22 +14,19 @@ use Rattle.poly.specs.Seen.{terms_in}
 use Rattle.loop_model.specs.FracPoly.{FracPoly}
 use Rattle.loop_model.specs.Stops.{Stops}
 use Rattle.loop_model.specs.declared.map_error.MapError.{MapError}
-use Rattle.loop_model.specs.declared.map_error.MapError.TheVariants as map_error
 use Rattle.poly_text.specs.Faults.{fault_of}
-use Rattle.poly_text.specs.Reasons.{Fault, limit, wide}
+use Rattle.poly_text.specs.Reasons.{Fault}
 use Rattle.poly_text.specs.declared.equation.PolyTextError.{PolyTextError}
 use Rattle.poly_text.specs.declared.equation.PolyTextError.TheVariants as unread
 use Rattle.io_edge.specs.Texts.{Answer}
-use Rattle.command_parts.specs.FaultTexts.{text_refusal}
+use Rattle.command_parts.specs.FaultTexts.{text_refusal, map_refusal}
 use Rattle.command_parts.specs.Equations.{equation_in, operations_of, polynomial_of, FormsFreely}
 
 abbrev pub equation_refusal : Fault → Answer
 equation_refusal f = text_refusal (codes "equation: ") f
 
 abbrev pub stop_answer : MapError → Option Answer
-stop_answer (map_error.Limit at) = Some (equation_refusal (record { reason = limit; at = at }))
-stop_answer (map_error.Wide at) = Some (equation_refusal (record { reason = wide; at = at }))
-stop_answer map_error.Memory = None
+stop_answer e = map_refusal (codes "equation: ") e
 
 abbrev pub unread_answer : PolyTextError → Option Answer
 unread_answer (unread.Text fault) = option_map equation_refusal (fault_of fault)

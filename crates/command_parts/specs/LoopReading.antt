@@ -7,14 +7,13 @@
 --   IsLoopOr name files result      LOOP was read into this loop, or refused so
 --   ReadsLoop call name reading     the bytes of LOOP are told, and this is what they say: a loop, or a first fault
 use Rattle.std.specs.Prelude.{ℕ, List, Result, Ok, Err}
-use Rattle.std.specs.declared.alloc.AllocError.{AllocError}
 use Rattle.io_edge.specs.Outside.{FilesView}
 use Rattle.poly_text.specs.Reasons.{Fault}
 use Rattle.loops.specs.Program.{Expr, Program}
 use Rattle.loop_model.specs.declared.loop_.Loop.{Loop}
 use Rattle.loop_model.specs.View.{program_of}
 use Rattle.loop_text.specs.LoopReader.{loop_of}
-use Rattle.io_edge.specs.declared.answer.Answer as made
+use Rattle.io_edge.specs.declared.refusal.Refusal.{Refusal}
 use Rattle.io_edge.specs.Texts.{Answer}
 use Rattle.io_edge.specs.Course.{File, Course}
 use Rattle.io_edge.specs.Change.{Change}
@@ -40,8 +39,7 @@ IsLoopFault text a = IsFaultOf loop_of loop_refusal text a
 abbrev pub HasReadLoop : List ℕ → Program (Expr ℕ) → Change FilesView → Type 0
 HasReadLoop name l files = HasReadAs loop_of (loop_at name) l files
 
-abbrev pub IsLoopOr : List ℕ → Change FilesView → Result Loop (Result made.Answer AllocError)
-    → Type 0
+abbrev pub IsLoopOr : List ℕ → Change FilesView → Result Loop Refusal → Type 0
 IsLoopOr name files (Ok lp) = HasReadLoop name (program_of lp) files
 IsLoopOr name files (Err refusal) = IsRefusedAt loop_of loop_refusal (loop_at name) files refusal
 

@@ -1,17 +1,13 @@
 // CHAIN is read into a chain, or into the answer that it is none.
-ghost use Rattle.std.specs.Prelude.{◌≡◌, ℕ, List, IfOk, Some, option_map, string_bytes};
-ghost use Rattle.poly_text.specs.Faults.{fault_of};
+ghost use Rattle.std.specs.Prelude.{◌≡◌, ℕ, List, string_bytes};
 ghost use Rattle.io_edge.specs.Change.{◌⟶◌};
-ghost use Rattle.io_edge.specs.Views.{answer_view};
-ghost use Rattle.command_parts.specs.FaultTexts as texts;
 ghost use Rattle.command_parts.specs.ChainReading.{IsChainOr};
 
-use crate::text_refusal;
-use io_edge::{Answer, Files, Refusal, read_file};
+use crate::fault_texts::loop_refusal;
+use io_edge::{Files, Refusal, read_file};
 use loop_runs::Chain;
 use loop_text::read_chain;
-use poly_text::TextError;
-use std::alloc::{AllocError, Global};
+use std::alloc::Global;
 
 const CHAIN_LIMIT: usize = 65_536;
 
@@ -32,14 +28,6 @@ pub fn read_file_chain<F: Files>(
     };
     match read_chain(alloc, &bytes) {
         Ok(chain) => Ok(chain),
-        Err(e) => Err(chain_refusal(alloc, e)),
+        Err(why) => Err(loop_refusal(alloc, why)),
     }
-}
-
-// To the first fault of CHAIN.
-fn chain_refusal(alloc: Global, why: TextError) -> Result<Answer, AllocError>
-    ensures { IfOk result (λ a. option_map texts.loop_refusal (fault_of why) ≡
-        Some (answer_view a)) }
-{
-    text_refusal(alloc, "loop: ", why)
 }

@@ -1,19 +1,19 @@
 //! The argument EQUATION, as each command reads it that asks about an equation of a loop.
 
-ghost use Rattle.std.specs.Prelude.{◌≡◌, Some, string_bytes, IfOk, IfErr};
+ghost use Rattle.std.specs.Prelude.{string_bytes, IfOk, IfErr, IfSome};
 ghost use Rattle.loop_model.specs.View.{program_of};
-ghost use Rattle.io_edge.specs.Views.{answer_view};
+ghost use Rattle.io_edge.specs.Refusals.{Refuses, seen_refusal};
 ghost use Rattle.command_parts.specs.Equations.{equation_in};
 ghost use Rattle.command_parts.specs.EquationReading.{unread_answer, IsPolynomialOf, IsUnread};
 
-use crate::{fault_line, text_refusal};
+use crate::{map_refusal, text_refusal};
 use frac128::Frac;
-use io_edge::{Answer, Refusal, Status};
-use loop_model::{Loop, MapError};
+use io_edge::Refusal;
+use loop_model::Loop;
 use monos::Grevlex;
 use poly::Poly;
 use poly_text::{PolyTextError, read_equation};
-use std::alloc::{AllocError, Global};
+use std::alloc::Global;
 
 /// How answers name the argument.
 const PART: &str = "equation: ";
@@ -29,7 +29,7 @@ pub fn read_polynomial(
         (IsPolynomialOf (program_of lp.now) (string_bytes equation.now)) }
     ensures unread { let l = program_of lp.now in
         let reading = equation_in l.names (string_bytes equation.now) in
-        IfErr result (λ refusal. IfOk refusal (λ a. IsUnread l reading (answer_view a))) }
+        IfErr result (λ refusal. IfSome (seen_refusal refusal) (IsUnread l reading)) }
 {
     match read_equation(alloc, equation.as_bytes(), lp.names()) {
         Ok(polynomial) => Ok(polynomial),
@@ -38,17 +38,12 @@ pub fn read_polynomial(
 }
 
 // To an equation that has no polynomial.
-fn refusal(alloc: Global, why: PolyTextError) -> Result<Answer, AllocError>
-    ensures { IfOk result (λ a. unread_answer why ≡ Some (answer_view a)) }
+fn refusal(alloc: Global, why: PolyTextError) -> Refusal
+    ensures { Refuses result (unread_answer why) }
 {
     match why {
-        PolyTextError::Text(fault) => text_refusal(alloc, PART, fault),
-        PolyTextError::Map(MapError::Limit { at }) => {
-            fault_line(alloc, Status::Fault, PART, "limit", at)
-        }
-        PolyTextError::Map(MapError::Wide { at }) => {
-            fault_line(alloc, Status::Wide, PART, "wide", at)
-        }
-        PolyTextError::Map(MapError::Memory) | PolyTextError::Memory => Err(AllocError),
+        PolyTextError::Text(fault) => Refusal::of(text_refusal(alloc, PART, fault)),
+        PolyTextError::Map(stop) => Refusal::of(map_refusal(alloc, PART, &stop)),
+        PolyTextError::Memory => Refusal::Memory,
     }
 }

@@ -1,7 +1,6 @@
 // The arguments `[--budget N] FILE`.
 ghost use Rattle.std.specs.Prelude.{◌≡◌, map, string_bytes, option_map};
-ghost use Rattle.command_parts.specs.Budgets.{units_of};
-ghost use Rattle.command_parts.specs.FileRequests.{request_in, request_within};
+ghost use Rattle.command_parts.specs.FileRequests.{request_in};
 ghost use Rattle.command_parts.specs.FileViews.{view};
 
 use crate::budget::Budget;
@@ -20,21 +19,14 @@ pub fn read_file_request(arguments: &[String]) -> Option<FileRequest<'_>>
     ensures { option_map view result ≡ request_in (map string_bytes arguments.now) }
 {
     match arguments {
-        [file] if names_a_file(file) => within_budget(Some(Budget::usual()), file),
+        [file] if names_a_file(file) => {
+            let budget = Budget::usual();
+            Some(FileRequest { budget, file })
+        }
         [option, number, file] if option.as_str() == "--budget" && names_a_file(file) => {
-            within_budget(read_budget(number.as_bytes()), file)
+            let budget = read_budget(number.as_bytes())?;
+            Some(FileRequest { budget, file })
         }
         _ => None,
-    }
-}
-
-/// The request for this file, where there is a budget.
-fn within_budget(budget: Option<Budget>, file: &String) -> Option<FileRequest<'_>>
-    ensures { option_map view result
-        ≡ request_within (option_map units_of budget) (string_bytes file.now) }
-{
-    match budget {
-        Some(budget) => Some(FileRequest { budget, file }),
-        None => None,
     }
 }

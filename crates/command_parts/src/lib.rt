@@ -20,7 +20,7 @@ pub use bases::{basis_text, push_line};
 pub use budget::Budget;
 pub use chain_reading::read_file_chain;
 pub use equation_argument::read_polynomial;
-pub use fault_texts::{fault_line, ordinal, text_refusal};
+pub use fault_texts::{exhausted_answer, fault_line, map_refusal, ordinal, text_refusal};
 pub use file_request::{FileRequest, read_file_request};
 pub use loop_reading::read_program;
 pub use numerals::{read_budget, read_count, read_letters, read_values};

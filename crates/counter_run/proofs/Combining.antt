@@ -1,35 +1,69 @@
 -- Sums of multiples of the images of monomials.
 --   adds_multiple      a multiple, and then the sum
+--   composed           the sum of all terms' images
+--   put_in             one image more among those that are known
+--   found_at           the image of a monomial, at its place
 --   found_image        an image that is known is that of its monomial
 --   adds_term, adds_known     the multiple of the image of a term's monomial is the term's image
 --   known_at           the images in as many variables
 --   each_item          what holds of each holds of the item at a place
-use Rattle.std.proofs.Common.{◌≡◌, ◌≢◌, ℕ, zero, suc, ◌<◌, List, [], ◌∷◌, map, length, get_or, refl, sym, subst, arith, All, Any, IfOk, Result, Ok, Err}
+use Rattle.std.proofs.Common.{◌≡◌, ◌≢◌, ℕ, zero, suc, ◌<◌, List, [], ◌∷◌, ◌++◌, map, length, get_or, take, drop, refl, sym, subst, arith, All, Any, IfOk, Option, Some, Result, Ok, Err, Bor}
+use Rattle.std.specs.Slice.{IsItemAt}
+use Rattle.std.proofs.lemmas.List.Elements.{All-cons, All-append, All-take, All-drop}
 use Rattle.algebra.specs.Each.{Each}
 use Rattle.algebra.specs.Fraction.{Fraction, ℚ}
 use Rattle.polynomials.specs.Terms.{Terms, constant, times}
 use Rattle.poly.specs.Seen.{Is, terms_in, terms_each}
-use Rattle.poly.specs.Standing.{IsInVariables}
+use Rattle.poly.specs.Standing.{IsInVariables, StandsFor}
 use Rattle.poly.proofs.Standing.{arities_over}
 use Rattle.loop_model.specs.FracPoly.{FracPoly}
-use Rattle.loop_model.specs.Operations.{sum_at}
-use Rattle.loop_model.specs.Stops.{Does}
 use Rattle.loop_model.specs.declared.map_error.MapError.{MapError}
 use Rattle.counter_run.specs.Composition.{factors}
-use Rattle.counter_run.specs.Combination.{IsPowerProduct, AreMonomialImages, AddsMultiple, Adds}
+use Rattle.counter_run.specs.Combination.{IsPowerProduct, AreMonomialImages, IsComposed, AddsMultiple, Adds}
+use Rattle.counter_run.specs.OpenSums.{terms_so_far, IsCollected, IsSumWith}
 use Rattle.counter_run.specs.declared.combination.MonomialImage.{MonomialImage}
+use Rattle.counter_run.specs.declared.open_sum.OpenSum.{OpenSum}
 use Rattle.counter_run.proofs.Composed.{arity-factors}
+use Rattle.counter_run.proofs.Compositions.{SummingFrom, summing_from_all}
 use Rattle.counter_run.proofs.Scaling.{scaled_formed}
 
-pub adds_multiple : (c : Fraction) (q s multiple : FracPoly) (r : Result FracPoly MapError)
+pub adds_multiple : (c : Fraction) (q multiple : FracPoly) (s : OpenSum)
+    (r : Result OpenSum MapError)
     → Is q.order q.arity (times ℚ (constant q.arity c) (terms_in q)) multiple
-    → Does s.arity (sum_at 0 (terms_in s) (terms_in multiple)) r → IfOk r (AddsMultiple c q s)
-adds_multiple c q s multiple (Ok next) h d = record {
+    → IfOk r (IsSumWith multiple s) → IfOk r (AddsMultiple c q s)
+adds_multiple c q multiple s (Ok next) h d = record {
   multiple = multiple;
   is = record { order = refl; arity = h.arity; same = h.same };
   sum = d;
 }
-adds_multiple c q s multiple (Err e) h d = tt
+adds_multiple c q multiple s (Err e) h d = tt
+
+pub composed : (m : ℕ) (images : List (Terms Fraction)) (p left : Terms Fraction) (s : OpenSum)
+    (r : Result FracPoly MapError) → left ≡ [] → s.total.arity ≡ m
+    → SummingFrom m images p left (terms_so_far s) → IfOk r (IsCollected s)
+    → IfOk r (IsComposed m images p)
+composed m images p left s (Ok total) e a goes is =
+    summing_from_all m images p left (terms_so_far s) e goes total
+    (subst (λ k. StandsFor k total (terms_so_far s)) a is)
+composed m images p left s (Err e) none a goes is = tt
+
+pub put_in : (m : ℕ) (images : List (Terms Fraction)) (ts : List MonomialImage) (i : ℕ)
+    (t : MonomialImage) → AreMonomialImages m images ts
+    → IsPowerProduct m images t.monomial t.image
+    → AreMonomialImages m images (take i ts ++ t ∷ drop i ts)
+put_in m images ts i t h k =
+    let P : MonomialImage → Type 0 = λ x. IsPowerProduct m images x.monomial x.image in
+    All-append P (take i ts) (t ∷ drop i ts) (All-take P i ts h)
+    (All-cons P t (drop i ts) k (All-drop P i ts h))
+
+pub found_at : (ts : List MonomialImage) (i : ℕ) (r : Option (Bor MonomialImage))
+    (item : Bor MonomialImage) (e : List ℕ) → IsItemAt ts i r → r ≡ Some item
+    → item.now.monomial ≡ e → Any (λ t. (t.monomial ≡ e) × (t.image ≡ item.now.image)) ts
+found_at ts i r item e h is same =
+    let g : IsItemAt ts i (Some item) = subst (IsItemAt ts i) is h in
+    let at : item.now ≡ get_or ts i item.now = g.1 in
+    let inside : i < length ts = g.3.0 in
+    (i, item.now, inside, sym at, (same, refl))
 
 pub each_item : {X Y : Type 0} (f : X → Y) (P : Y → Type 0) (xs : List X) (i : ℕ) (x : X)
     → Each P (map f xs) → i < length xs → x ≡ get_or xs i x → P (f x)
@@ -49,9 +83,9 @@ module _ (m : ℕ) where
       (subst (λ d. IsPowerProduct m images d t.image) same.0 here)
 
   module _ (images : List FracPoly) (over : All (IsInVariables m) images) (t : List ℕ × Fraction)
-      (n : t.1 ≢ ℚ.zero) (q total : FracPoly)
+      (n : t.1 ≢ ℚ.zero) (q : FracPoly) (total : OpenSum)
       (h : IsPowerProduct m (terms_each images) t.0 q) where
-    pub adds_term : (next : FracPoly) → AddsMultiple t.1 q total next
+    pub adds_term : (next : OpenSum) → AddsMultiple t.1 q total next
         → Adds m (terms_each images) t total next
     adds_term next k = record {
       term = k.multiple;
@@ -62,7 +96,7 @@ module _ (m : ℕ) where
       sum = k.sum;
     }
 
-    pub adds_known : (r : Result FracPoly MapError) → IfOk r (AddsMultiple t.1 q total)
+    pub adds_known : (r : Result OpenSum MapError) → IfOk r (AddsMultiple t.1 q total)
         → IfOk r (Adds m (terms_each images) t total)
     adds_known (Ok next) k = adds_term next k
     adds_known (Err e) k = tt

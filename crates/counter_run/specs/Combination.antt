@@ -11,15 +11,16 @@ use Rattle.polynomials.specs.Terms.{Terms, constant, times}
 use Rattle.poly.specs.Seen.{terms_in}
 use Rattle.poly.specs.Standing.{StandsFor}
 use Rattle.loop_model.specs.FracPoly.{FracPoly}
-use Rattle.loop_model.specs.Operations.{sum_at}
-use Rattle.loop_model.specs.Stops.{Forms, Does}
+use Rattle.loop_model.specs.Stops.{Forms}
 use Rattle.counter_run.specs.Composition.{factors, product_of, product_operations, term_product, composition_onto, composition_operations}
+use Rattle.counter_run.specs.OpenSums.{IsSumWith}
 use Rattle.counter_run.specs.declared.combination.MonomialImage.{MonomialImage}
+use Rattle.counter_run.specs.declared.open_sum.OpenSum.{OpenSum}
 
-pub record AddsMultiple (c : Fraction) (q s r : FracPoly) : Type 0 where
+pub record AddsMultiple (c : Fraction) (q : FracPoly) (s r : OpenSum) : Type 0 where
   pub multiple : FracPoly
   pub is : StandsFor q.arity multiple (times ℚ (constant q.arity c) (terms_in q))
-  pub sum : Does s.arity (sum_at 0 (terms_in s) (terms_in multiple)) (Ok r)
+  pub sum : IsSumWith multiple s r
 
 module _ (m : ℕ) (images : List (Terms Fraction)) where
   abbrev pub IsPowerProduct : List ℕ → FracPoly → Type 0
@@ -34,8 +35,8 @@ module _ (m : ℕ) (images : List (Terms Fraction)) where
   IsComposed p q =
       Forms m (composition_operations m images [] p) (composition_onto m images [] p) (Ok q)
 
-  pub record Adds (t : List ℕ × Fraction) (s r : FracPoly) : Type 0 where
+  pub record Adds (t : List ℕ × Fraction) (s r : OpenSum) : Type 0 where
     pub term : FracPoly
     pub formed : Forms m (product_operations (constant m t.1) (factors images t.0))
         (term_product m images t) (Ok term)
-    pub sum : Does s.arity (sum_at 0 (terms_in s) (terms_in term)) (Ok r)
+    pub sum : IsSumWith term s r

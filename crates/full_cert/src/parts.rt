@@ -5,7 +5,7 @@ ghost use Rattle.cert_form.specs.Written.{list_data, IsWritten};
 ghost use Rattle.task_lists.specs.View.{form_in, start_in, stage_in};
 ghost use Rattle.full_cert.specs.Seen.{size_of};
 ghost use Rattle.full_cert.specs.Narrow.{IsNarrowNumber, IsFormNarrow, IsStartNarrow, IsStageNarrow};
-ghost use Rattle.full_cert.specs.Written.{base_number_data, form_object, form_data, start_object, start_data, stage_object, stage_data};
+ghost use Rattle.full_cert.specs.Written.{base_number_data, form_data, start_data, stage_data};
 
 use crate::list_texts::{raws_value, rows_value};
 use frac128::Whole;
@@ -34,22 +34,18 @@ fn base_value(alloc: Global, base: &[Whole]) -> Result<Value, AllocError>
     Ok(Value::from(values))
 }
 
-// The object of these members.
-fn form_object_of(alloc: Global, base: Value, polys: Value) -> Result<Value, AllocError>
-    ensures { IfOk result (λ v. view v ≡ form_object (view base) (view polys)) }
-{
-    let mut members = Map::new(alloc);
-    put(&mut members, alloc, "base", base)?;
-    put(&mut members, alloc, "polys", polys)?;
-    Ok(Value::from(members))
-}
-
 fn form_value(alloc: Global, form: &FullForm) -> Result<Value, AllocError>
     ensures { IfOk result (IsWritten form_data IsFormNarrow (form_in form.now)) }
 {
-    let base = base_value(alloc, &form.base)?;
-    let polys = raws_value(alloc, &form.polys)?;
-    form_object_of(alloc, base, polys)
+    let mut members = Map::new(alloc);
+    put(&mut members, alloc, "base", base_value(alloc, &form.base)?)?;
+    put(
+        &mut members,
+        alloc,
+        "polys",
+        raws_value(alloc, &form.polys)?,
+    )?;
+    Ok(Value::from(members))
 }
 
 /// Forms.
@@ -64,43 +60,18 @@ pub(crate) fn forms_value(alloc: Global, forms: &[FullForm]) -> Result<Value, Al
     Ok(Value::from(values))
 }
 
-// The object of these members.
-fn start_object_of(alloc: Global, links: Value, out: Value) -> Result<Value, AllocError>
-    ensures { IfOk result (λ v. view v ≡ start_object (view links) (view out)) }
-{
-    let mut members = Map::new(alloc);
-    put(&mut members, alloc, "links", links)?;
-    put(&mut members, alloc, "out", out)?;
-    Ok(Value::from(members))
-}
-
 /// A start.
 pub(crate) fn start_value(alloc: Global, start: &FullStart) -> Result<Value, AllocError>
     ensures { IfOk result (IsWritten start_data IsStartNarrow (start_in start.now)) }
 {
-    let links = rows_value(alloc, &start.links)?;
-    let out = raws_value(alloc, &start.out)?;
-    start_object_of(alloc, links, out)
-}
-
-// The object of these members.
-fn stage_object_of(
-    alloc: Global,
-    gens: Value,
-    links: Value,
-    list: Value,
-    out: Value,
-    pairs: Value,
-) -> Result<Value, AllocError>
-    ensures { IfOk result (λ v. view v ≡ stage_object (view gens) (view links) (view list)
-        (view out) (view pairs)) }
-{
     let mut members = Map::new(alloc);
-    put(&mut members, alloc, "gens", gens)?;
-    put(&mut members, alloc, "links", links)?;
-    put(&mut members, alloc, "list", list)?;
-    put(&mut members, alloc, "out", out)?;
-    put(&mut members, alloc, "pairs", pairs)?;
+    put(
+        &mut members,
+        alloc,
+        "links",
+        rows_value(alloc, &start.links)?,
+    )?;
+    put(&mut members, alloc, "out", raws_value(alloc, &start.out)?)?;
     Ok(Value::from(members))
 }
 
@@ -108,10 +79,21 @@ fn stage_object_of(
 pub(crate) fn stage_value(alloc: Global, stage: &FullStage) -> Result<Value, AllocError>
     ensures { IfOk result (IsWritten stage_data IsStageNarrow (stage_in stage.now)) }
 {
-    let gens = rows_value(alloc, &stage.gens)?;
-    let links = rows_value(alloc, &stage.links)?;
-    let list = raws_value(alloc, &stage.list)?;
-    let out = raws_value(alloc, &stage.out)?;
-    let pairs = rows_value(alloc, &stage.pairs)?;
-    stage_object_of(alloc, gens, links, list, out, pairs)
+    let mut members = Map::new(alloc);
+    put(&mut members, alloc, "gens", rows_value(alloc, &stage.gens)?)?;
+    put(
+        &mut members,
+        alloc,
+        "links",
+        rows_value(alloc, &stage.links)?,
+    )?;
+    put(&mut members, alloc, "list", raws_value(alloc, &stage.list)?)?;
+    put(&mut members, alloc, "out", raws_value(alloc, &stage.out)?)?;
+    put(
+        &mut members,
+        alloc,
+        "pairs",
+        rows_value(alloc, &stage.pairs)?,
+    )?;
+    Ok(Value::from(members))
 }

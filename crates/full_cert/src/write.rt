@@ -1,11 +1,10 @@
 //! Writes full certificates.
 ghost use Rattle.std.specs.Prelude.{◌≡◌, ◌++◌, ℕ, List, Some, string_bytes, IfOk};
-ghost use Rattle.serde_json.specs.View.{view};
 ghost use Rattle.cert_form.specs.Form.{document};
 ghost use Rattle.cert_form.specs.Written.{AreBlanks, IsWritten};
 ghost use Rattle.task_lists.specs.View.{full_of};
 ghost use Rattle.full_cert.specs.Narrow.{IsFullNarrow};
-ghost use Rattle.full_cert.specs.Written.{full_object, full_data, full_text};
+ghost use Rattle.full_cert.specs.Written.{full_data, full_text};
 
 use crate::branches::rounds_value;
 use crate::list_texts::{raws_value, steps_value};
@@ -18,46 +17,50 @@ use task_lists::FullCert;
 
 const VERSION: u64 = 1;
 
-// The object of these members.
-fn object_of(
-    alloc: Global,
-    basis: Value,
-    forms: Value,
-    rounds: Value,
-    start: Value,
-    steps: Value,
-    vars: Value,
-) -> Result<Value, AllocError>
-    ensures { IfOk result (λ v. view v ≡ full_object (view basis) (view forms) (view rounds)
-        (view start) (view steps) (view vars)) }
+// The object of the parts, whose members stand in the order of their names.
+fn full_value(alloc: Global, cert: &FullCert, names: &Names) -> Result<Value, AllocError>
+    ensures { IfOk result (IsWritten (full_data names.now) IsFullNarrow (full_of cert.now)) }
 {
     let mut members = Map::new(alloc);
-    put(&mut members, alloc, "basis", basis)?;
-    put(&mut members, alloc, "forms", forms)?;
+    put(
+        &mut members,
+        alloc,
+        "basis",
+        raws_value(alloc, &cert.basis)?,
+    )?;
+    put(
+        &mut members,
+        alloc,
+        "forms",
+        forms_value(alloc, &cert.forms)?,
+    )?;
     put(
         &mut members,
         alloc,
         "kind",
         Value::try_from_str(alloc, "full")?,
     )?;
-    put(&mut members, alloc, "rounds", rounds)?;
-    put(&mut members, alloc, "start", start)?;
-    put(&mut members, alloc, "steps", steps)?;
-    put(&mut members, alloc, "vars", vars)?;
+    put(
+        &mut members,
+        alloc,
+        "rounds",
+        rounds_value(alloc, &cert.rounds)?,
+    )?;
+    put(
+        &mut members,
+        alloc,
+        "start",
+        start_value(alloc, &cert.start)?,
+    )?;
+    put(
+        &mut members,
+        alloc,
+        "steps",
+        steps_value(alloc, &cert.steps)?,
+    )?;
+    put(&mut members, alloc, "vars", names_value(alloc, names)?)?;
     put(&mut members, alloc, "version", Value::from(VERSION))?;
     Ok(Value::from(members))
-}
-
-fn full_value(alloc: Global, cert: &FullCert, names: &Names) -> Result<Value, AllocError>
-    ensures { IfOk result (IsWritten (full_data names.now) IsFullNarrow (full_of cert.now)) }
-{
-    let basis = raws_value(alloc, &cert.basis)?;
-    let forms = forms_value(alloc, &cert.forms)?;
-    let rounds = rounds_value(alloc, &cert.rounds)?;
-    let start = start_value(alloc, &cert.start)?;
-    let steps = steps_value(alloc, &cert.steps)?;
-    let vars = names_value(alloc, names)?;
-    object_of(alloc, basis, forms, rounds, start, steps, vars)
 }
 
 /// The full certificate as the text of a file, over these names: compact JSON. It is read as its document, also with blanks behind it.

@@ -8,6 +8,7 @@
 --   pair_stops, pair_ends  the division behind that, refused, and ended
 use Rattle.std.proofs.Common.{◌≡◌, ◌≢◌, ◌⊎◌, inl, inr, ℕ, suc, ◌+◌, ◌<◌, List, [], ◌∷◌, ◌++◌, map, take, drop, length, get_or, Result, Ok, Err, IfErr, refl, sym, ap, ap₂, subst, ◌∙◌, take-append-drop, drop-cons}
 use Rattle.std.specs.Global.{Vec}
+use Rattle.std.specs.Prelude.{None}
 use Rattle.std.specs.Result.{IsErrAnd}
 use Rattle.std.specs.declared.cmp.PartialEq as PartialEq
 use Rattle.std.proofs.lemmas.List.{map-append}
@@ -18,7 +19,7 @@ use Rattle.polynomials.specs.Order.{Rank}
 use Rattle.polynomials.specs.Terms.{Terms, negate}
 use Rattle.polynomials.specs.Weight.{IsPastSum}
 use Rattle.machines.specs.Collect.{collect}
-use Rattle.machines.specs.Completion.{s_polynomial}
+use Rattle.machines.specs.Completion.{State, s_polynomial}
 use Rattle.machines.specs.Cut.{lead_of}
 use Rattle.machines.specs.High.{IsPastRaised}
 use Rattle.machines.specs.Journal.{Entry, Journal, units_of}
@@ -108,6 +109,15 @@ module _ {O : Type 0} {k : Order.Ghosts O} {l : PartialEq.Ghosts O} where
       (a : ℕ × ℕ) (inside : (a.0 < length list) × (a.1 < length list)) (f g : Polynomial O k l)
       (f_is : f ≡ get_or list a.0 f) (g_is : g ≡ get_or list a.1 g) (e : List ℕ)
       (e_is : e ≡ lcm (lead_of (terms_in f)) (lead_of (terms_in g))) where
+    abbrev here : State Fraction
+    here = record {
+      basis = terms_each list;
+      sugars = [];
+      waiting = [];
+      current = None;
+      pair_sugar = 0;
+    }
+
     multiple_is : lcm (get_or (map lead_of (terms_each list)) a.0 [])
         (get_or (map lead_of (terms_each list)) a.1 []) ≡ e
     multiple_is = ap₂ lcm (lead_got terms_in list a.0 f inside.0 f_is)
@@ -117,7 +127,7 @@ module _ {O : Type 0} {k : Order.Ghosts O} {l : PartialEq.Ghosts O} where
         → p ≡ collect rationals (k.order f.order) (raised_to fractions e (terms_in f)
         ++ negate ℚ (raised_to fractions e (terms_in g)))
         → p ≡ s_polynomial rationals (k.order o) (terms_each list) a
-    is_pair p h = s_polynomial_is fractions (k.order o) (terms_each list) [] 0 [] a e (terms_in f)
+    is_pair p h = s_polynomial_is fractions (k.order o) here a e (terms_in f)
         (terms_in g) (got terms_in list a.0 f inside.0 f_is)
         (got terms_in list a.1 g inside.1 g_is) multiple_is p
         (h ∙ ap (λ q. collect rationals (k.order q) (raised_to fractions e (terms_in f)
@@ -127,7 +137,7 @@ module _ {O : Type 0} {k : Order.Ghosts O} {l : PartialEq.Ghosts O} where
     pub past_pair : IsPastSum fractions (terms_in f) (terms_in g)
         ⊎ IsPastRaised e (terms_in f) ⊎ IsPastRaised e (terms_in g)
         → IsPastPair fractions rationals (terms_each list) a
-    past_pair h = pair_weight fractions (k.order o) (terms_each list) [] 0 [] a e (terms_in f)
+    past_pair h = pair_weight fractions (k.order o) here a e (terms_in f)
         (terms_in g) (got terms_in list a.0 f inside.0 f_is)
         (got terms_in list a.1 g inside.1 g_is) multiple_is h
 

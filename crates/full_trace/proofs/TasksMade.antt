@@ -12,7 +12,6 @@ use Rattle.algebra.specs.Fraction.{Fraction, ℚ, rationals}
 use Rattle.polynomials.specs.Order.{grevlex, blocks}
 use Rattle.polynomials.specs.Polynomial.{IsPolynomial}
 use Rattle.polynomials.specs.Terms.{Terms}
-use Rattle.machines.specs.Collect.{collect}
 use Rattle.machines.specs.Elimination.{blend}
 use Rattle.machines.specs.Journal as journal
 use Rattle.machines.specs.Journal.{Entry, Begin, Journal, units_of}
@@ -21,8 +20,8 @@ use Rattle.machines.proofs.Lengths.{kept_made}
 use Rattle.rounds.specs.Analysis as analysis
 use Rattle.rounds.specs.Analysis.{Work, starts, orbit, meet}
 use Rattle.rounds.specs.Form as form
-use Rattle.rounds.specs.Form.{front, relations, orbit_order, pulled_back_by}
-use Rattle.rounds.specs.Past.{IsPastOrbit, IsPastStarting, task_of_work}
+use Rattle.rounds.specs.Form.{front, orbit_relations, pulled_back_by}
+use Rattle.rounds.specs.Past.{IsPastComposed, IsPastOrbit, IsPastStarting, task_of_work}
 use Rattle.rounds.proofs.RelationTerms.{relations_not_kept, blend_not_kept}
 use Rattle.corollaries.specs.Full.{as_form}
 use Rattle.corollaries.specs.Stage.{Stage}
@@ -136,6 +135,10 @@ module _ (s : Setting) (fits : FitsSetting s) (place : ℕ) (within : place < le
       s.branches.items place branch 0 within
       ∙ ap (λ (c : Branch). front (length (sizes c.form.base.items))) (sym is)
 
+  back_at : terms_each branch.back.items ≡ form.inverse_of_form (form_of branch.form)
+  back_at = subst (λ (c : Branch). terms_each c.back.items ≡ form.inverse_of_form (form_of c.form))
+      (sym is) (fits.branches place branch within).back
+
   pub orbit_over : (x : FullStage) → IsStageIn (front (numbers_of branch)) (vars_of branch) x
       → IsStageIn (get_or (fronts_of s) place 0) s.arity x
   orbit_over x h = subst (λ k. IsStageIn k s.arity x) (sym fronts_at)
@@ -157,6 +160,8 @@ module _ (s : Setting) (fits : FitsSetting s) (place : ℕ) (within : place < le
       unfolding analysis.starting
       orbit_begins k hs = ap₂ (λ (f : form.Form) (m : ℕ). form.orbit_list f m (terms_each gs))
           form_at (i.arity ∙ sym vars_at)
+          ∙ ap (λ ps. form.whole_orbit_list (numbers_of branch) (vars_of branch) ps (terms_each gs))
+          (sym back_at)
 
       eliminates : (k : ℕ) (hs : List (Terms Fraction))
           → Eliminates A (orbit k place (terms_each gs) hs) (front (numbers_of branch))
@@ -171,7 +176,7 @@ module _ (s : Setting) (fits : FitsSetting s) (place : ℕ) (within : place < le
       past_here : (k : ℕ) (hs : List (Terms Fraction)) → IsPastPulledBack branch gs
           → IsPastStarting A (orbit k place (terms_each gs) hs)
       past_here k hs p = inl (subst (λ (f : form.Form). IsPastOrbit f A.arity (terms_each gs))
-          (sym form_at) p)
+          (sym form_at) (subst (λ ps. IsPastComposed ps (terms_each gs)) back_at p))
 
     module _ (k : ℕ) (old mid new : Journal) (n : ℕ) (named : n ≡ suc place)
         (begin : mid ≡ with_entry old (Begin (journal.Orbit k n))) where
@@ -218,13 +223,12 @@ module _ (s : Setting) (fits : FitsSetting s) (place : ℕ) (within : place < le
           over = subst (λ j. AreOver j out) vars_at over;
           few = (let r = numbers_of branch in
               let v = vars_of branch in
-              let f = form_of branch.form in
+              let pulled = pulled_back_by r v (terms_each branch.back.items) in
               let a = stage_few (front r) (pulled_back_list branch gs) x mid.entries new.entries
               m in
-              let few = kept_made rationals (front r) (map (pulled_back_by f v) (terms_each gs))
-              (map (collect rationals (orbit_order r)) (relations r v))
-              (relations_not_kept r v) in
-              let b = length-map (terms_each gs) (pulled_back_by f v) in
+              let few = kept_made rationals (front r) (map pulled (terms_each gs))
+              (orbit_relations r v) (relations_not_kept r v) in
+              let b = length-map (terms_each gs) pulled in
               let c = length-map gs terms_in in
               let e = length-map out terms_in in
               let g = ap length same in

@@ -108,6 +108,7 @@ module _ (program : Program (Expr ℕ)) (w : IsWellFormed program) (s : Setting)
       → HasFollowed program R after.entries
   followed_here after (error.Map e) h = absurd h
   followed_here after (error.Branch b e) h = absurd h
+  followed_here after (error.Limit task) h = absurd h
   followed_here after (error.Wide task) h = inr (record {
     state = h.state;
     follows = follows_here after.entries h.state h.run;
@@ -123,6 +124,7 @@ module _ (program : Program (Expr ℕ)) (w : IsWellFormed program) (s : Setting)
   unfolding follows_here
   stopped_here after (error.Map e) h = absurd h
   stopped_here after (error.Branch b e) h = absurd h
+  stopped_here after (error.Limit task) h = absurd h
   stopped_here after (error.Wide task) h = record {
     state = h.state;
     follows = follows_here after.entries h.state h.run;

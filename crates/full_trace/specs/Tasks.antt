@@ -52,6 +52,7 @@ Along s P = (A : analysis.Setting) → IsSettingIn s A → P A
 abbrev pub Stops : analysis.Setting → ℕ → Journal → AnalyseError → Type 0
 Stops A rounds after (error.Map e) = ⊥
 Stops A rounds after (error.Branch b e) = ⊥
+Stops A rounds after (error.Limit task) = ⊥
 Stops A rounds after (error.Wide task) = IsStopped A rounds (view.task_of task) after.entries
 Stops A rounds after error.Budget = IsOutOf A rounds after.limit after.entries
 Stops A rounds after error.Memory = IsGoing A rounds after.entries

@@ -17,7 +17,7 @@ use Rattle.task_lists.specs.View.{form_in, start_in}
 use Rattle.task_lists.specs.Images.{AreBranchesIn}
 use Rattle.task_lists.specs.View.{round_in}
 use Rattle.invariant_fix.specs.declared.errors.AnalyseError.{AnalyseError}
-use Rattle.invariant_fix.specs.declared.errors.AnalyseError.TheVariants.{Map, Branch, Wide, Budget, Memory}
+use Rattle.invariant_fix.specs.declared.errors.AnalyseError.TheVariants.{Map, Branch, Limit, Wide, Budget, Memory}
 use Rattle.full_trace.specs.declared.found.Trace.{Trace}
 
 module _ (program : Program (Expr ℕ)) (rounds : ℕ) where
@@ -44,6 +44,7 @@ module _ (program : Program (Expr ℕ)) (rounds : ℕ) where
   abbrev pub IsStopped : Journal → AnalyseError → Type 0
   IsStopped after (Map e) = ⊥
   IsStopped after (Branch b e) = ⊥
+  IsStopped after (Limit task) = ⊥
   IsStopped after (Wide task) = HasStopped (view.task_of task) after.entries
   IsStopped after Budget = IsOut program rounds after.limit after.entries
   IsStopped after Memory = HasFollowed after.entries

@@ -54,8 +54,7 @@ pub(crate) fn stage(
     let gens = divide_each(alloc, order, arity, begin, &list, meter)?;
     let pairs = divide_pairs(alloc, order, arity, &list, &places, meter)?;
     let out = tidy_in(alloc, Grevlex, variables, &free, meter)?;
-    // for its contract, which tells the prover that no more units are used than are allowed
-    let _ = meter.used();
+    meter.within_limit();
     let links = divide_each(alloc, Grevlex, variables, &free, &out, meter)?;
     Ok(FullStage {
         list,

@@ -48,8 +48,7 @@ fn trace_start(
 {
     let list = complete_in(alloc, Grevlex, arity, starts, meter)?;
     let out = tidy_in(alloc, Grevlex, arity, &list, meter)?;
-    // for its contract, which tells the prover that no more units are used than are allowed
-    let _ = meter.used();
+    meter.within_limit();
     let links = divide_each(alloc, Grevlex, arity, starts, &out, meter)?;
     Ok(FullStart { out, links })
 }

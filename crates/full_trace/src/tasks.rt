@@ -23,12 +23,12 @@ use crate::stage::stage;
 use divide::EngineError;
 use frac128::Frac;
 use ideal_ops::blend;
-use invariant_fix::{AnalyseError, Branch, Setting, in_task, number_of_place, orbit_list};
+use invariant_fix::{AnalyseError, Branch, Setting, in_task, number_of_place};
 use journal::{Meter, Task};
 use monos::Grevlex;
 use poly::Poly;
 use std::alloc::Global;
-use task_lists::{FullStage, front};
+use task_lists::{FullStage, front, orbit_list};
 
 /// The stage of the orbit of a list along a branch. `Wide` only where the weight of a composition is past, or as that of `stage`.
 fn orbit_stage(
@@ -49,9 +49,10 @@ fn orbit_stage(
         (front (numbers_of branch.now)) (pulled_back_list branch.now basis.now) meter.old meter.new
         (refusal_of e)) }
 {
-    let begin = orbit_list(alloc, branch, basis)?;
-    let first = front(branch.form.base.len());
-    stage(alloc, first, branch.images.len(), &begin, meter)
+    let base = &branch.form.base;
+    let vars = branch.images.len();
+    let begin = orbit_list(alloc, base, &branch.back, vars, basis)?;
+    stage(alloc, front(base.len()), vars, &begin, meter)
 }
 
 /// The stage of the intersection of two lists. `Wide` only as that of `stage`.
@@ -106,8 +107,6 @@ pub(crate) fn orbit(
         OrbitBegins A rounds d meter.old.entries round place (terms_each basis.now) hs
         → IfErr result (Stops A rounds meter.new)) }
 {
-    // for its contract, which tells the prover that no more units are used than are allowed
-    let _ = meter.used();
     let task = Task::Orbit {
         round,
         branch: number_of_place(place),
@@ -147,8 +146,6 @@ pub(crate) fn meet(
         (terms_each so_far.now) (terms_each next.now)
         → IfErr result (Stops A rounds meter.new)) }
 {
-    // for its contract, which tells the prover that no more units are used than are allowed
-    let _ = meter.used();
     let task = Task::Meet {
         round,
         branch: number_of_place(place),

@@ -93,6 +93,7 @@ module _ (c : Chain (Expr ℕ)) (budget : ℕ) where
         → IsRefusedAt c budget m 0 (loop_error.Analysis e)
     first_refusal (error.Map e) r = r
     first_refusal (error.Branch b e) r = r
+    first_refusal (error.Limit task) r = ((r.0, r.1), at_start _ r.2)
     first_refusal (error.Wide task) r = ((r.0, r.1), at_start _ r.2)
     first_refusal error.Budget r = (
       (r.0, r.1),
@@ -168,6 +169,7 @@ module _ (c : Chain (Expr ℕ)) (budget : ℕ) where
           → IsRefusedAt c budget m (suc n) e
       refusal (loop_error.Analysis (error.Map e)) r = r
       refusal (loop_error.Analysis (error.Branch b e)) r = r
+      refusal (loop_error.Analysis (error.Limit task)) r = (r.0, in_loop _ _ (λ left ks so. so) r.1)
       refusal (loop_error.Analysis (error.Wide task)) r = (r.0, in_loop _ _ (λ left ks so. so) r.1)
       refusal (loop_error.Analysis error.Budget) (formed, inl l) =
           (formed, inl (in_loop _ _ (λ left ks so. so) l))

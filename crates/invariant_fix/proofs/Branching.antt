@@ -19,6 +19,7 @@ use Rattle.invariant_fix.specs.Setting.{setting_of}
 use Rattle.invariant_fix.specs.Steps.{HasMeet, HasWhole, turning, branching, branched, iteration_begins, iteration_ends, iteration_meets, iteration_met, orbiting, orbited, meeting, met, started, closing}
 use Rattle.invariant_fix.specs.declared.setting.Setting as setting
 use Rattle.invariant_fix.proofs.Lists.{units_begun}
+use Rattle.invariant_fix.proofs.TaskLengths.{turning_short}
 use Rattle.invariant_fix.proofs.Tasks.{begun_task}
 
 -- ---- numbers of iterations
@@ -116,6 +117,7 @@ module _ (s : setting.Setting) (k : ℕ) (gs : List FracPoly) where
     run = begun_task (setting_of s) old mid (journal.Round k) (analysis.turning k (terms_each gs)) c
         e;
     is = turning_next;
+    short = turning_short (setting_of s) k (terms_each gs);
   }
 
   pub round_unit : (old mid : Journal) → mid ≡ with_entry old (Begin (journal.Round k))

@@ -3,7 +3,7 @@
 --   block_first, block_arity      of the list, that isn't empty
 --   way_is                        what is done
 --   over_of, reduced_of           what it gives
---   gens_count, whole_length, late_length, orbit_length, iteration_length     how many there are
+--   gens_count, late_length, orbit_length, iteration_length     how many there are
 use Rattle.std.proofs.Common.{◌≡◌, ℕ, zero, suc, ◌+◌, ◌-◌, ◌<◌, ◌≤◌, List, [], ◌∷◌, ◌++◌, map, drop, length, refl, ap, ap₂, subst, arith}
 use Rattle.std.proofs.lemmas.List.{length-map, length-append, length-drop}
 use Rattle.std.proofs.lemmas.List.Elements.{All-head}
@@ -14,7 +14,7 @@ use Rattle.machines.specs.Collect.{collect}
 use Rattle.machines.specs.Elimination.{free_part}
 use Rattle.loops.proofs.Maps.{length-variables}
 use Rattle.poly.specs.Seen.{arity_of, terms_in, terms_each}
-use Rattle.rounds.specs.Form.{Form, front, normal, orbit_order, relations, relations_to, relation, pulled_back_by, passes, passing, form_before, late_order, list_since, orbit_list, iteration_before, iteration_front, iteration_list}
+use Rattle.rounds.specs.Form.{Form, front, inverse_of_form, normal, relations, pulled_back_by, passes, passing, form_before, late_order, list_since, orbit_list, iteration_before, iteration_front, iteration_list}
 use Rattle.rounds.specs.Graph.{less, at_before}
 use Rattle.rounds.specs.Results.{IsReducedList}
 use Rattle.ideal_ops.specs.Calls as ideal
@@ -22,6 +22,7 @@ use Rattle.ideal_ops.specs.Calls.{Way, AreOver, first_block, IsEliminationOf}
 use Rattle.ideal_ops.specs.Eliminating.{HaveBlock}
 use Rattle.loop_model.specs.FracPoly.{FracPoly}
 use Rattle.invariant_fix.specs.Blocked.{Blocked}
+use Rattle.task_lists.proofs.Elements.{orbit_count, relations_count}
 use Rattle.invariant_fix.proofs.Lists.{reduced_list}
 
 pub record AreStarting (n m : ℕ) (ts : List (Terms Fraction)) (gens : List Blocked) : Type 0 where
@@ -66,15 +67,6 @@ module _ {n m : ℕ} {list : List (Terms Fraction)} {gens : List Blocked}
           (reduced_list (arity_of gens - first_block gens) (terms_each hs) _ h.reduced)
 
 -- ---- how many there are
-relations_count : (r w n : ℕ) → length (relations_to r w n) ≡ n
-unfolding relations_to
-relations_count r w zero = refl
-relations_count r w (suc n) =
-    let a = length-append (relations_to r w n) (relation w (suc (suc n)) (suc (suc (r + n)))
-    ∷ []) in
-    let b = relations_count r w n in
-    omega (arith, a, b)
-
 less_length : (xs ys : List (Terms Fraction)) → length xs ≡ length ys
     → length (less xs ys) ≡ length ys
 less_length [] [] e = refl
@@ -91,15 +83,6 @@ last_length k m =
 module _ (f : Form) (m : ℕ) (gs : List (Terms Fraction)) where
   abbrev r : ℕ
   r = length f.base
-
-  whole_length : length (list_since 0 f m gs) ≡ length gs + suc (length f.base)
-  whole_length =
-      let a = length-append (map (pulled_back_by f m) gs) (map (collect rationals (orbit_order r))
-      (relations r m)) in
-      let b = length-map gs (pulled_back_by f m) in
-      let c = length-map (relations r m) (collect rationals (orbit_order r)) in
-      let d = relations_count r (front r + m) r in
-      omega (arith, a, b, c, d)
 
   module _ (count : length f.polys ≡ m) where
     late_length : (d : ℕ) → length (list_since (suc d) f m gs)
@@ -124,7 +107,7 @@ module _ (f : Form) (m : ℕ) (gs : List (Terms Fraction)) where
         let j : length ds ≡ length ys = less_length (drop (k + t) (variables ℚ (k + t + m))) ys
         (omega (arith, l, i, count)) in
         let n = length-map (relations r (t + m)) (collect rationals O) in
-        let o = relations_count r (front r + (t + m)) r in
+        let o = relations_count r (t + m) in
         omega (arith, a, b, c, e, h, i, j, n, o, count)
 
     abbrev IsShort : ℕ → Type 0
@@ -134,7 +117,9 @@ module _ (f : Form) (m : ℕ) (gs : List (Terms Fraction)) where
     orbit_length = go f.since
       where
         go : (d : ℕ) → IsShort (length (list_since d f m gs))
-        go zero = let a = whole_length in (omega (arith, a), omega (arith, a))
+        go zero =
+            let a = orbit_count (pulled_back_by r m (inverse_of_form f)) gs r m in
+            (omega (arith, a), omega (arith, a))
         go (suc d) = let a = late_length d in (omega (arith, a), omega (arith, a))
 
   pub iteration_length : (images : List (Terms Fraction)) → length images ≡ m

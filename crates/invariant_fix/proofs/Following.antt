@@ -1,7 +1,7 @@
 -- The analysis by the code's own setting, as that of the program.
 --   forms_of s             the closed forms
 --   are_forms, all_have    one for each branch
---   follow_run, follow_next, follow_past, follow_steps     runs, what comes next, what is past, and closing divisions
+--   follow_run, follow_next, follow_past, follow_long, follow_steps     runs, what comes next, what is past, what is too long, and closing divisions
 --   square_of              the steps are square lists in the loop's variables
 --   begun_here, begun_given      the analysis begins, at the starts or at what is given
 --   basis_of, level_of, kept_of, closed_by, valid_of, is_stopped       what an analysis tells of the program
@@ -37,13 +37,16 @@ use Rattle.rounds.specs.Kept.{IsKept}
 use Rattle.rounds.specs.Results.{IsReducedList}
 use Rattle.rounds.specs.Past.{IsPast}
 use Rattle.rounds.specs.Start.{start_list}
+use Rattle.rounds.proofs.Forms.{forms_are_one}
 use Rattle.rounds.proofs.Invariants.{level_of_round, invariants_of_closed_round, first_closed_round}
 use Rattle.rounds.proofs.Settings.{with_starts, alike_next, alike_run, alike_past}
 use Rattle.rounds.proofs.Theorem.{finished_is, finished_from}
-use Rattle.invariant_fix.specs.Answers.{IsClosedByFrom, IsLeastLevel, certificate_of}
+use Rattle.invariant_fix.specs.Answers.{AreShortFrom, IsClosedByFrom, IsLeastLevel, certificate_of}
 use Rattle.invariant_fix.specs.Closing.{AreSteps, seen_branch_steps, seen_steps, HasSteps, IsSquare}
 use Rattle.invariant_fix.specs.Coming.{Comes, Refuses}
 use Rattle.invariant_fix.specs.Lists.{IsList}
+use Rattle.expansion.specs.Counts.{most_terms}
+use Rattle.invariant_fix.specs.Long.{IsLong, short_moves}
 use Rattle.invariant_fix.specs.Refusals.{AllHaveForms, HasFollowedFrom, IsStoppedFrom, IsRefusedFrom}
 use Rattle.invariant_fix.specs.Setting.{setting_of, given_of, most_first, form_of, FitsSetting, IsSettingOf}
 use Rattle.invariant_fix.specs.Steps.{starting, started, closed}
@@ -55,6 +58,8 @@ use Rattle.invariant_fix.specs.declared.setting.Setting.{Setting}
 use Rattle.invariant_fix.proofs.Certified.{closed_valid, row_long}
 use Rattle.invariant_fix.proofs.Forms.{all_forms, item_at}
 use Rattle.invariant_fix.proofs.Squares.{square_is}
+use Rattle.invariant_fix.proofs.ShortRuns.{any_run, each_short}
+use Rattle.invariant_fix.proofs.TaskLengths.{alike_length, fresh_short}
 use Rattle.invariant_fix.proofs.Works.{collected_starts}
 
 maps_same : (program : Program (Expr ℕ)) (bs : List (List (Statement (Expr ℕ)))) (cs : List Branch)
@@ -76,9 +81,10 @@ module _ (s : Setting) where
   unfolding next IsRun
   first_here es e = record {
     state = fresh;
-    run = subst (λ l. IsRun (moves (setting_of s)) fresh l fresh)
+    run = subst (λ l. IsRun (short_moves (setting_of s)) fresh l fresh)
         (sym e) refl;
     is = refl;
+    short = fresh_short (setting_of s);
   }
 
   -- at the starts, or at what is given
@@ -163,6 +169,24 @@ module _ (program : Program (Expr ℕ)) (w : IsWellFormed program) (s : Setting)
       (alike_past (setting_of s) (start_list program)
       alike t p)
 
+  follow_long : (t : State) → IsLong (setting_of s) t
+      → IsLong (setting_from program (given_of s.given) forms_of None) t
+  follow_long t l = subst (λ C. IsLong C t) (sym same) (subst (λ n. most_terms < n)
+      (sym (alike_length (setting_of s) (start_list program) t)) l)
+
+  -- and back
+  back_run : (es : List Entry) (t : State)
+      → IsRun (moves (setting_from program (given_of s.given) forms_of None)) fresh es t
+      → IsRun (moves (setting_of s)) fresh es t
+  back_run es t r =
+      alike_run B (setting_of s).starts (sym alike) es fresh t
+      (subst (λ C. IsRun (moves C) fresh es t) same r)
+
+  back_long : (t : State) → IsLong (setting_from program (given_of s.given) forms_of None) t
+      → IsLong (setting_of s) t
+  back_long t l = subst (λ n. most_terms < n)
+      (alike_length (setting_of s) (start_list program) t) (subst (λ C. IsLong C t) same l)
+
   follow_steps : (gs : List (Terms Fraction)) (qs : List (List (List (Terms Fraction))))
       → AreSteps (setting_of s) gs qs
       → AreSteps (setting_from program (given_of s.given) forms_of None)
@@ -181,9 +205,25 @@ module _ (program : Program (Expr ℕ)) (w : IsWellFormed program) (s : Setting)
     };
   })
 
-  follows : (es : List Entry) (t : State) → IsRun (moves (setting_of s)) fresh es t
+  -- the es lead to t, and no task on the way is too long
+  short_of : (es : List Entry) (t : State) → IsRun (short_moves (setting_of s)) fresh es t
+      → (IsLong (setting_of s) t → ⊥) → AreShortFrom program (given_of s.given) es
+  short_of es t r short fs gs u parts f long =
+      let one = forms_are_one program f.forms forms_of f.are_forms are_forms in
+      each_short (setting_of s) fs gs fresh t u
+      (subst (λ xs. IsRun (short_moves (setting_of s)) fresh xs t) parts r) short
+      (back_run fs u (subst (λ xs. IsRun (moves (setting_from program (given_of s.given) xs None))
+      fresh fs u) one f.run))
+      (back_long u (subst (λ xs. IsLong (setting_from program (given_of s.given) xs None) u) one
+      long))
+
+  follows : (es : List Entry) (t : State) → IsRun (short_moves (setting_of s)) fresh es t
       → FollowsFrom program (given_of s.given) None es t
-  follows es t r = record { forms = forms_of; are_forms = are_forms; run = follow_run es t r }
+  follows es t r = record {
+    forms = forms_of;
+    are_forms = are_forms;
+    run = follow_run es t (any_run (setting_of s) fresh t es r);
+  }
 
   -- ---- a finished analysis
   module _ (es : List Entry) (k : ℕ) (gs : List (Terms Fraction))
@@ -236,6 +276,7 @@ module _ (program : Program (Expr ℕ)) (w : IsWellFormed program) (s : Setting)
   closed_by a es c h = record {
     finished = finished_of es a.rounds (terms_each a.basis.items) c;
     steps = follow_steps (terms_each a.basis.items) (seen_steps a.steps.items) h;
+    short = short_of es c.state c.run c.short;
   }
 
   pub valid_of : s.given ≡ None → (a : Analysis) (es : List Entry)
@@ -277,20 +318,24 @@ module _ (program : Program (Expr ℕ)) (w : IsWellFormed program) (s : Setting)
 
   pub comes_followed : (es : List Entry) (step : Step) → Comes (setting_of s) es step
       → HasFollowedFrom program (given_of s.given) es
-  comes_followed es step c = inr (record { state = c.state; follows = follows es c.state c.run })
+  comes_followed es step c = inr (record {
+    state = c.state;
+    follows = follows es c.state c.run;
+  })
 
   -- ---- a refusal
   pub refuses_followed : (after : Journal) (e : AnalyseError) → Refuses (setting_of s) after e
       → HasFollowedFrom program (given_of s.given) after.entries
   refuses_followed after (error.Map e) h = absurd h
   refuses_followed after (error.Branch b e) h = absurd h
+  refuses_followed after (error.Limit task) h =
+      inr (record { state = h.state; follows = follows after.entries h.state h.run })
   refuses_followed after (error.Wide task) h =
       inr (record { state = h.state; follows = follows after.entries h.state h.run })
   refuses_followed after error.Budget h =
       inr (record {
         state = h.comes.state;
-        follows = follows after.entries h.comes.state
-            h.comes.run;
+        follows = follows after.entries h.comes.state h.comes.run;
       })
   refuses_followed after error.Memory h =
       inr (record { state = h.state; follows = follows after.entries h.state h.run })
@@ -300,6 +345,12 @@ module _ (program : Program (Expr ℕ)) (w : IsWellFormed program) (s : Setting)
   unfolding follows
   is_stopped after (error.Map e) h = absurd h
   is_stopped after (error.Branch b e) h = absurd h
+  is_stopped after (error.Limit task) h = record {
+    state = h.state;
+    follows = follows after.entries h.state h.run;
+    is_task = h.is_task;
+    long = follow_long h.state h.long;
+  }
   is_stopped after (error.Wide task) h = record {
     state = h.state;
     follows = follows after.entries h.state h.run;
@@ -326,6 +377,7 @@ pub refused_stopped : (program : Program (Expr ℕ)) (given : Option (List (Term
     → IsStoppedFrom program given after e → IsRefusedFrom program given before after e
 refused_stopped program given free forms before after (error.Map e) h = absurd h
 refused_stopped program given free forms before after (error.Branch b e) h = absurd h
+refused_stopped program given free forms before after (error.Limit task) h = (free, forms, h)
 refused_stopped program given free forms before after (error.Wide task) h = (free, forms, h)
 refused_stopped program given free forms before after error.Budget h = (free, forms, h)
 refused_stopped program given free forms before after error.Memory h = h

@@ -27,7 +27,7 @@ use Rattle.loop_model.specs.Maps.{start_operations, branches_operations}
 use Rattle.loop_model.proofs.MapsFormed.{free_all}
 use Rattle.rounds.specs.BranchMap.{map_of}
 use Rattle.invariant_fix.specs.declared.errors.AnalyseError.{AnalyseError}
-use Rattle.invariant_fix.specs.declared.errors.AnalyseError.TheVariants.{Map, Branch, Wide, Budget, Memory}
+use Rattle.invariant_fix.specs.declared.errors.AnalyseError.TheVariants.{Map, Branch, Limit, Wide, Budget, Memory}
 use Rattle.invariant_fix.specs.Refusals.{IfUnformed, IfUnformedLoop, IfRefusedBranch}
 use Rattle.invariant_fix.specs.Setting.{IsMapIn, AreMapsTo}
 
@@ -40,6 +40,7 @@ module _ (program : Program (Expr ℕ)) where
       → IfUnformed program e → IfUnformedLoop program e
   loop_unformed (Map e) free h = (h.0, stops_behind m _ _ e free h.1)
   loop_unformed (Branch b e) free h = (free_all program free h.0, h.1)
+  loop_unformed (Limit task) free h = absurd h
   loop_unformed (Wide task) free h = absurd h
   loop_unformed Budget free h = absurd h
   loop_unformed Memory free h = tt
@@ -49,6 +50,7 @@ module _ (program : Program (Expr ℕ)) where
       → IfUnformed program e
   branch_unformed (Map e) free h = absurd h
   branch_unformed (Branch b e) free h = (free, h)
+  branch_unformed (Limit task) free h = absurd h
   branch_unformed (Wide task) free h = absurd h
   branch_unformed Budget free h = absurd h
   branch_unformed Memory free h = tt

@@ -1,8 +1,8 @@
 -- The form of a branch as that of lists from graphs, where it isn't the state from the start on.
 --   late_front, late_list, late_past       an orbit
 --   iteration_front_is, iteration_list_is, iteration_past_is      an iteration
---   whole_front, whole_list, whole_past    an orbit where the form is the state from the start on
-use Rattle.std.proofs.Common.{◌≡◌, ◌⊎◌, ℕ, zero, suc, ◌+◌, ◌<◌, Bool, false, List, [], map, get_or, length, refl, sym, ap, subst, ◌∙◌}
+--   whole_fits, whole_front, whole_list, whole_past    an orbit where the form is the state from the start on
+use Rattle.std.proofs.Common.{◌≡◌, ◌⊎◌, ℕ, zero, suc, ◌+◌, ◌<◌, Bool, false, List, [], map, get_or, length, refl, sym, ap, subst, ◌∙◌, arith}
 use mathlib.Core.Path.{fun_ext}
 use Rattle.std.specs.Global.{Vec}
 use Rattle.std.specs.List.{Any}
@@ -17,25 +17,40 @@ use Rattle.coprime_base.specs.Sizes.{sizes}
 use Rattle.expo.specs.declared.exponential.Expo.{Expo}
 use Rattle.loop_model.specs.FracPoly.{FracPoly}
 use Rattle.closed_forms.specs.Values as values
-use Rattle.rounds.specs.Form.{Form, front, inverse_of_form, passes, passing, form_before, front_since, list_since, late_orbit_list, iteration_before, iteration_graph}
-use Rattle.rounds.specs.Past.{IsPastGraph, IsPastOrbitSince, iteration_images}
+use Rattle.rounds.specs.Form.{Form, front, inverse_of_form, passes, passing, form_before, front_since, list_since, whole_orbit_list, late_orbit_list, iteration_before, iteration_graph}
+use Rattle.rounds.specs.Past.{IsPastComposed, IsPastGraph, IsPastOrbitSince, iteration_images}
 use Rattle.task_lists.specs.Late.{bodies_in, copies_in, front_in, orbit_of, iteration_of, IsPastOrbitOf, IsPastIterationOf, vars_in, which, form_in}
+use Rattle.ideal_ops.specs.Calls.{AreOver}
+use Rattle.task_lists.specs.Starting.{FitsOrbit}
 use Rattle.task_lists.specs.declared.late_form.LateForm.{LateForm}
 use Rattle.invariant_fix.specs.Orbits.{numbers_of, vars_of, orbit_front_of, orbit_list_of, iteration_front_of, iteration_list_of, pulled_back_list, IsPastPullingBack, IsPastTurning, IsPastPulledBack}
 use Rattle.invariant_fix.specs.Setting.{form_of, FitsBranch}
 use Rattle.invariant_fix.specs.declared.branches.Branch.{Branch}
 
 -- ---- where the form is the state from the start on
-module _ (b : Branch) (at_once : b.form.since ≡ 0) where
-  pub whole_front : orbit_front_of b ≡ front (numbers_of b)
-  whole_front = ap (λ d. front_since d (form_of b.form) (vars_of b)) at_once
+module _ (b : Branch) (fits : FitsBranch (vars_of b) b) where
+  pub whole_fits : (m : ℕ) → m ≡ vars_of b → 0 < vars_of b → (gs : List FracPoly)
+      → AreOver (vars_of b) gs → FitsOrbit m b.form.base b.back gs
+  whole_fits m e some gs over = subst (λ n. FitsOrbit n b.form.base b.back gs) (sym e) (record {
+    some = some;
+    coprime = fits.base;
+    few = (let f = fits.few in omega (arith, f));
+    count = fits.back_count;
+    backs = fits.back_arity;
+    elements = over;
+  })
 
-  pub whole_list : (gs : List FracPoly) → orbit_list_of b gs ≡ pulled_back_list b gs
-  whole_list gs = ap (λ d. list_since d (form_of b.form) (vars_of b) (terms_each gs)) at_once
+  module _ (at_once : b.form.since ≡ 0) where
+    pub whole_front : orbit_front_of b ≡ front (numbers_of b)
+    whole_front = ap (λ d. front_since d (form_of b.form) (vars_of b)) at_once
 
-  pub whole_past : (gs : List FracPoly) → IsPastPulledBack b gs → IsPastPullingBack b gs
-  whole_past gs p = subst (λ d. IsPastOrbitSince d (form_of b.form) (vars_of b) (terms_each gs))
-      (sym at_once) p
+    pub whole_list : (gs : List FracPoly) → orbit_list_of b gs ≡ pulled_back_list b gs
+    whole_list gs = ap (λ d. list_since d (form_of b.form) (vars_of b) (terms_each gs)) at_once
+        ∙ ap (λ ps. whole_orbit_list (numbers_of b) (vars_of b) ps (terms_each gs)) (sym fits.back)
+
+    pub whole_past : (gs : List FracPoly) → IsPastPulledBack b gs → IsPastPullingBack b gs
+    whole_past gs p = subst (λ d. IsPastOrbitSince d (form_of b.form) (vars_of b) (terms_each gs))
+        (sym at_once) (subst (λ ps. IsPastComposed ps (terms_each gs)) fits.back p)
 
 -- ---- where it isn't
 module _ (f : Form) (m : ℕ) (gs : List (Terms Fraction)) where

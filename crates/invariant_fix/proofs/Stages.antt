@@ -72,6 +72,7 @@ module _ (p : Program (Expr ℕ)) (bs : List (List (Statement (Expr ℕ)))) (xs 
       → IsRefusedStage p [] bs xs budget m (loop_error.Analysis e)
   refused_without (error.Map e) r = r
   refused_without (error.Branch b e) r = r
+  refused_without (error.Limit task) r = ((r.0, r.1), no_code_mapped _ r.2)
   refused_without (error.Wide task) r = ((r.0, r.1), no_code_mapped _ r.2)
   refused_without error.Budget r = (
     (r.0, r.1),
@@ -130,6 +131,7 @@ module _ (p : Program (Expr ℕ)) (code : List (Statement (Expr ℕ)))
   then_unformed free (error.Map e) h = (begun, (h.0, stops_behind size these those e free h.1))
   then_unformed free (error.Branch b e) h =
       (begun, (All-append (λ o. ¬ (PassesLimit size o)) these those free h.0, h.1))
+  then_unformed free (error.Limit task) h = absurd h
   then_unformed free (error.Wide task) h = absurd h
   then_unformed free error.Budget h = absurd h
   then_unformed free error.Memory h = no_memory
@@ -204,6 +206,7 @@ module _ (p : Program (Expr ℕ)) (a : Statement (Expr ℕ)) (cs : List (Stateme
         → IsRefusedStage p (a ∷ cs) bs xs budget m (loop_error.Analysis e)
     mapped_refused formed (error.Map e) r = absurd r
     mapped_refused formed (error.Branch b e) r = absurd r
+    mapped_refused formed (error.Limit task) r = (formed, code_mapped _ r)
     mapped_refused formed (error.Wide task) r = (formed, code_mapped _ r)
     mapped_refused formed error.Budget r = (
       formed,

@@ -111,8 +111,8 @@ mapped_list p c xs over budget start m begun v r =
     })
 
 -- how many units it has left
-pub units_left : (start m : Journal) (budget used left : ℕ) → start ≡ empty_journal budget
-    → m.limit ≡ start.limit → used ≡ units_of m.entries → used ≤ m.limit
-    → left ≡ m.limit - units_of m.entries → units_of m.entries + left ≡ budget
-units_left start m budget used left begun same is within rest =
-    let e = ap (λ (j : Journal). j.limit) begun in omega (arith, e, same, is, within, rest)
+pub units_left : (start m : Journal) (budget left : ℕ) → start ≡ empty_journal budget
+    → m.limit ≡ start.limit → units_of m.entries ≤ m.limit → left ≡ m.limit - units_of m.entries
+    → units_of m.entries + left ≡ budget
+units_left start m budget left begun same within rest =
+    let e = ap (λ (j : Journal). j.limit) begun in omega (arith, e, same, within, rest)

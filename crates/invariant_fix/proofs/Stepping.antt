@@ -1,6 +1,7 @@
 -- The closing division of an element with a branch, and what comes behind it.
 --   composed_is          a composition of the code, collected
 --   element_at           the dividend of the test
+--   step_long            where the dividend is too long
 --   step_open, step_next, step_done, step_refused      what an answer of the division tells
 --   ran_test             what divide has done, in the words of the test
 use Rattle.std.proofs.Common.{◌≡◌, ◌≢◌, ℕ, suc, ◌<◌, ◌≤◌, List, [], ◌∷◌, length, get_or, None, sym, ap, ap₂, subst, ◌∙◌, arith, Vec, Global}
@@ -24,6 +25,8 @@ use Rattle.machines.proofs.Collecting.{collect-is}
 use Rattle.machines.proofs.Units.{units_added}
 use Rattle.poly.specs.Seen.{arity_of, terms_in, terms_each, Is}
 use Rattle.poly.proofs.Standing.{arities_over}
+use Rattle.expansion.specs.Counts.{most_terms}
+use Rattle.expansion.specs.Lengths.{composition_length}
 use Rattle.divide.specs.Division.{division_of, HasCofactors}
 use Rattle.divide.specs.Outcomes.{refusal_of}
 use Rattle.divide.specs.declared.EngineError as engine
@@ -39,11 +42,12 @@ use Rattle.invariant_fix.specs.Errors.{in_task}
 use Rattle.invariant_fix.specs.Setting.{setting_of}
 use Rattle.invariant_fix.specs.Steps.{closing, testing, turning}
 use Rattle.invariant_fix.specs.declared.branches.Branch.{Branch}
+use Rattle.invariant_fix.specs.declared.errors.AnalyseError.TheVariants.{Limit}
 use Rattle.invariant_fix.specs.declared.setting.Setting.{Setting}
 use Rattle.invariant_fix.proofs.Blocks.{graded_polynomial}
 use Rattle.invariant_fix.proofs.Lists.{units_begun}
 use Rattle.invariant_fix.proofs.Started.{ran_started}
-use Rattle.invariant_fix.proofs.Tests.{nothing_left, something_left, test_passed, test_failed, test_refused}
+use Rattle.invariant_fix.proofs.Tests.{nothing_left, something_left, test_passed, test_failed, test_long, test_refused}
 
 -- ---- a composition
 first_arity : (m : ℕ) (images : List FracPoly) → 0 < m → length images ≡ m → AreOver m images
@@ -111,13 +115,32 @@ module _ (s : Setting) (k place i : ℕ) (gs : List FracPoly) (branch : Branch) 
     begun_test = begun ∙ ap₂ (λ a b. with_entry old (Begin (journal.Closed k a b))) named numbered
 
     module _ (c : Comes (setting_of s) old.entries (testing s k place i gs)) where
-      pub step_refused : {R : Type 0} {G : R → division.State Fraction → Type 0}
+      pub step_long : most_terms
+          < composition_length (terms_in element) (terms_each branch.images.items)
+          → Refuses (setting_of s) mid (Limit (task.Closed k n j))
+      step_long l =
+          test_long (setting_of s) k place i (terms_each gs) (pullback_by branch element)
+          element_at old mid mid c begun_test
+          (subst (λ n. most_terms < n) (ap₂ composition_length (sym terms_at) (sym map_at)) l)
+          (task.Closed k n j)
+          (ap₂ (journal.Closed k) named numbered)
+
+      abbrev pub IsShortTest : Type 0
+      IsShortTest =
+          most_terms < composition_length (terms_in element) (terms_each branch.images.items) → ⊥
+
+      few_test : IsShortTest → most_terms < composition_length (get_or (terms_each gs) i [])
+          (get_or (setting_of s).maps place []) → ⊥
+      few_test few l = few (subst (λ n. most_terms < n) (ap₂ composition_length terms_at map_at) l)
+
+      pub step_refused : IsShortTest → {R : Type 0} {G : R → division.State Fraction → Type 0}
           (e : engine.EngineError) → Ran (test_of branch element gs) G mid new
           (stopped (refusal_of e)) → Refuses (setting_of s) new (in_task (task.Closed k n j) e)
-      step_refused e r =
+      step_refused few e r =
           test_refused (setting_of s) k place i (terms_each gs) (pullback_by branch element)
           element_at old
-          mid new c begun_test _ past (task.Closed k n j) (ap₂ (journal.Closed k) named
+          mid new c begun_test (few_test few) _ past (task.Closed k n j)
+          (ap₂ (journal.Closed k) named
           numbered) e r
         where
           past : IsPastComposition fractions (terms_in element) (terms_each branch.images.items)
@@ -140,22 +163,22 @@ module _ (s : Setting) (k place i : ℕ) (gs : List FracPoly) (branch : Branch) 
             let b = units_begun old mid (journal.Closed k n j) begun in
             omega (arith, a, b)
 
-        pub step_open : terms_in d.remainder ≢ []
+        pub step_open : IsShortTest → terms_in d.remainder ≢ []
             → Comes (setting_of s) new.entries (turning (suc k) gs)
-        step_open e =
+        step_open few e =
             let (q, f) = something_left t.last (λ z. e (t.gives.remainder ∙ z)) in
             test_failed (setting_of s) k place i (terms_each gs) (pullback_by branch element)
             element_at old
-            mid new c begun_test t.last t.finished q f
+            mid new c begun_test (few_test few) t.last t.finished q f
 
         gone : terms_in d.remainder ≡ [] → t.last.current ≡ None
         gone e = nothing_left (terms_each gs) t.last t.finished.ended (sym t.gives.remainder ∙ e)
 
-        pub step_next : terms_in d.remainder ≡ []
+        pub step_next : IsShortTest → terms_in d.remainder ≡ []
             → Comes (setting_of s) new.entries (closing s k place (suc i) gs)
-        step_next e = test_passed (setting_of s) k place i (terms_each gs)
+        step_next few e = test_passed (setting_of s) k place i (terms_each gs)
             (pullback_by branch element)
-            element_at old mid new c begun_test t.last t.finished (gone e)
+            element_at old mid new c begun_test (few_test few) t.last t.finished (gone e)
 
         pub step_done : terms_in d.remainder ≡ [] → (qs : Vec FracPoly Global) → qs ≡ d.cofactors
             → IsClosing (setting_of s) place i (terms_each gs) (terms_each qs.items)

@@ -3,8 +3,9 @@
 --   past_start                     where its start is past
 --   begun_task                     the entries with the beginning of a task follow the analysis
 --   task_ended                     where the work has ended
+--   task_long                      where it is too long
 --   task_refused                   what a refusal of it tells
-use Rattle.std.proofs.Common.{◌≡◌, inl, inr, List, [], ◌∷◌, map, Option, refl, sym, ap, subst, ◌∙◌}
+use Rattle.std.proofs.Common.{◌≡◌, ◌<◌, inl, inr, List, [], ◌∷◌, map, Option, refl, sym, ap, subst, ◌∙◌}
 use Rattle.std.specs.Global.{Vec}
 use Rattle.algebra.specs.Fraction.{Fraction, rationals, fractions}
 use Rattle.polynomials.specs.Order.{grevlex}
@@ -21,7 +22,7 @@ use Rattle.machines.proofs.Runs.{run_joined, run_then}
 use Rattle.poly.specs.Seen.{terms_each}
 use Rattle.loop_model.specs.FracPoly.{FracPoly}
 use Rattle.ideal_ops.specs.Calls.{Way, elimination_of, IsListOf}
-use Rattle.rounds.specs.Analysis.{Setting, Work, starts, iteration, iteration_meet, orbit, meet, State, fresh, working, goes, block, order, starting, start_of, after, next_work, next, move_of, moves}
+use Rattle.rounds.specs.Analysis.{Setting, Work, starts, iteration, iteration_meet, orbit, meet, State, fresh, working, goes, block, order, starting, start_of, after, next_work, next, move_of}
 use Rattle.rounds.specs.Past.{IsPastStarting, task_of_work}
 use Rattle.divide.specs.Outcomes.{refusal_of}
 use Rattle.divide.specs.declared.EngineError as engine
@@ -29,18 +30,23 @@ use Rattle.divide.specs.declared.EngineError.TheVariants as engine_error
 use Rattle.journal.specs.View as view
 use Rattle.journal.specs.View.{with_entry}
 use Rattle.journal.specs.declared.Task as declared_task
-use Rattle.invariant_fix.specs.Coming.{Comes, IsStopped, IsOut, Refuses}
+use Rattle.invariant_fix.specs.Coming.{Comes, IsStopped, IsLongAt, IsOut, Refuses}
 use Rattle.invariant_fix.specs.Errors.{in_task}
+use Rattle.expansion.specs.Counts.{most_terms}
+use Rattle.invariant_fix.specs.Long.{work_length, short_moves}
 use Rattle.invariant_fix.specs.Started.{with_past_start}
+use Rattle.invariant_fix.proofs.ShortRuns.{short_step}
+use Rattle.invariant_fix.proofs.TaskLengths.{work_is, work_short}
 
 -- ---- the beginning of a task
 module _ (A : Setting) where
   pub begun_task : (old mid : Journal) (t : journal.Task) (s : State)
       → Comes A old.entries (goes (Begin t) s) → mid ≡ with_entry old (Begin t)
-      → IsRun (moves A) fresh mid.entries s
+      → IsRun (short_moves A) fresh mid.entries s
   begun_task old mid t s c e =
-      subst (λ (j : Journal). IsRun (moves A) fresh j.entries s) (sym e)
-      (run_then (moves A) fresh c.state s old.entries (Begin t) c.run (ap (move_of A) c.is))
+      subst (λ (j : Journal). IsRun (short_moves A) fresh j.entries s) (sym e)
+      (run_then (short_moves A) fresh c.state s old.entries (Begin t) c.run
+      (short_step A c.state c.short ∙ ap (move_of A) c.is))
 
 module _ (A : Setting) (w : Work) where
   abbrev pub way_of : Way fractions
@@ -59,14 +65,16 @@ module _ (A : Setting) (w : Work) where
   unfolding next
   work_next s = refl
 
-  work_run : (s t : elimination.State Fraction) (es : List Event) → IsRun step s es t
-      → IsRun (moves A) (working w s) (map Did es) (working w t)
+  work_run : (most_terms < work_length A w → ⊥) → (s t : elimination.State Fraction)
+      (es : List Event) → IsRun step s es t
+      → IsRun (short_moves A) (working w s) (map Did es) (working w t)
   unfolding IsRun
-  work_run s t [] h = ap (working w) h
-  work_run s t (e ∷ es) (u, n, r) = (
+  work_run few s t [] h = ap (working w) h
+  work_run few s t (e ∷ es) (u, n, r) = (
     working w u,
-    ap (move_of A) (work_next s ∙ ap (next_work A w s) n),
-    work_run u t es r,
+    short_step A (working w s) (work_short A w s few)
+        ∙ ap (move_of A) (work_next s ∙ ap (next_work A w s) n),
+    work_run few u t es r,
   )
 
   pub past_start : machine.IsPastStart fractions rationals (starting A w) → IsPastStarting A w
@@ -82,17 +90,29 @@ module _ (A : Setting) (w : Work) where
   module _ (old mid new : Journal)
       (c : Comes A old.entries (goes (Begin (task_of_work w)) (start_of A w)))
       (m : mid ≡ with_entry old (Begin (task_of_work w))) where
-    here : IsRun (moves A) fresh mid.entries (start_of A w)
+    here : IsRun (short_moves A) fresh mid.entries (start_of A w)
     here = begun_task A old mid (task_of_work w) (start_of A w) c m
 
-    at : (t : elimination.State Fraction) → Done step first mid.entries new.entries t
-        → IsRun (moves A) fresh new.entries (working w t)
-    at t d =
-        subst (λ es. IsRun (moves A) fresh es (working w t)) (sym d.entries)
-        (run_joined (moves A) fresh (start_of A w) (working w t) mid.entries (map Did d.events) here
-        (work_run first t d.events d.run))
+    at : (most_terms < work_length A w → ⊥) → (t : elimination.State Fraction)
+        → Done step first mid.entries new.entries t
+        → IsRun (short_moves A) fresh new.entries (working w t)
+    at few t d =
+        subst (λ es. IsRun (short_moves A) fresh es (working w t)) (sym d.entries)
+        (run_joined (short_moves A) fresh (start_of A w) (working w t) mid.entries
+        (map Did d.events) here (work_run few first t d.events d.run))
 
-    module _ (W : Way fractions) (same : W ≡ way_of) (P : Type 0) where
+    pub task_long : most_terms < work_length A w → (t : declared_task.Task)
+        → view.task_of t ≡ task_of_work w
+        → IsLongAt A (view.task_of t) mid.entries
+    task_long l t named = record {
+      state = start_of A w;
+      run = here;
+      is_task = sym named;
+      long = subst (λ n. most_terms < n) (work_is A w first) l;
+    }
+
+    module _ (few : most_terms < work_length A w → ⊥) (W : Way fractions) (same : W ≡ way_of)
+        (P : Type 0) where
       pub task_ended : (ls : Vec FracPoly) → Ran (with_past_start (elimination_of W) P) (IsListOf W)
           mid new
           (done ls) → Comes A new.entries (after A w (terms_each ls.items))
@@ -102,9 +122,10 @@ module _ (A : Setting) (w : Work) where
           same r).to in
           record {
             state = working w h.last;
-            run = at h.last h.finished.work;
+            run = at few h.last h.finished.work;
             is = work_next h.last
                 ∙ ap (next_work A w h.last) h.finished.ended ∙ ap (after A w) (sym h.gives);
+            short = work_short A w h.last few;
           }
 
       module _ (past : P → IsPastStarting A w) (t : declared_task.Task) (named : view.task_of t
@@ -113,7 +134,7 @@ module _ (A : Setting) (w : Work) where
             → IsStopped A (view.task_of t) new.entries
         task_wide (inl p) = record {
           state = working w p.at;
-          run = at p.at p.work;
+          run = at few p.at p.work;
           is_task = sym named;
           past = inr p.past;
         }
@@ -132,9 +153,10 @@ module _ (A : Setting) (w : Work) where
           following = working w h.following;
           comes = record {
             state = working w h.at;
-            run = at h.at h.work;
+            run = at few h.at h.work;
             is = work_next h.at
                 ∙ ap (next_work A w h.at) h.comes;
+            short = work_short A w h.at few;
           };
           unit = h.unit;
           exhausted = h.exhausted;
@@ -145,7 +167,10 @@ module _ (A : Setting) (w : Work) where
             (refusal_of e) → Refuses A new (in_task t e)
         refused engine_error.Wide h = task_wide h
         refused engine_error.Budget h = task_out h
-        refused engine_error.Memory h = record { state = working w h.at; run = at h.at h.work }
+        refused engine_error.Memory h = record {
+          state = working w h.at;
+          run = at few h.at h.work;
+        }
 
         pub task_refused : {R : Type 0} {G : R → elimination.State Fraction → Type 0}
             (e : engine.EngineError) → Ran (with_past_start (elimination_of W) P) G mid new

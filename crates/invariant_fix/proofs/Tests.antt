@@ -1,6 +1,7 @@
 -- The closing tests of a round as tasks of the analysis: divisions, and what comes behind them.
 --   test_run                       runs of a division
 --   test_passed, test_failed       where the division of an element has ended, with nothing left and with something
+--   test_long                      where the element with the branch's map is too long
 --   test_refused                   what a refusal of it tells
 --   nothing_left, something_left   what a rest tells of the state that a division has ended with
 --   test_here, tests_go_on, tests_end     the tests one after another
@@ -20,16 +21,21 @@ use Rattle.machines.specs.Machines as machines
 use Rattle.machines.specs.Run.{IsRun, HasEnded}
 use Rattle.machines.specs.Work.{Work as Done, WorkToEnd, IsExhausted}
 use Rattle.machines.proofs.Runs.{run_joined}
-use Rattle.rounds.specs.Analysis.{Setting, State, fresh, closing, turning, goes, finished, pullback, after_closing, test, closing_from, after_test, closed_by, next, move_of, moves}
+use Rattle.rounds.specs.Analysis.{Setting, State, fresh, closing, turning, goes, finished, pullback, after_closing, test, closing_from, after_test, closed_by, next, move_of}
+use Rattle.expansion.specs.Counts.{most_terms}
+use Rattle.expansion.specs.Lengths.{composition_length}
 use Rattle.divide.specs.Outcomes.{refusal_of}
 use Rattle.divide.specs.declared.EngineError as engine
 use Rattle.divide.specs.declared.EngineError.TheVariants as engine_error
 use Rattle.journal.specs.View as view
 use Rattle.journal.specs.View.{with_entry}
 use Rattle.journal.specs.declared.Task as declared_task
-use Rattle.invariant_fix.specs.Coming.{Comes, IsStopped, IsOut, Refuses}
+use Rattle.invariant_fix.specs.Coming.{Comes, IsStopped, IsLongAt, IsOut, Refuses}
 use Rattle.invariant_fix.specs.Errors.{in_task}
 use Rattle.invariant_fix.specs.Started.{with_past_start}
+use Rattle.invariant_fix.specs.Long.{short_moves}
+use Rattle.invariant_fix.proofs.ShortRuns.{short_step}
+use Rattle.invariant_fix.proofs.TaskLengths.{closing_is, closing_short}
 use Rattle.invariant_fix.proofs.Tasks.{begun_task}
 
 -- ---- what is left
@@ -67,14 +73,18 @@ module _ (A : Setting) (k b i : ℕ) (gs : List (Terms Fraction)) where
   unfolding next
   test_next s = refl
 
-  test_run : (s t : division.State Fraction) (es : List Event) → IsRun step s es t
-      → IsRun (moves A) (closing k b i gs s) (map Did es) (closing k b i gs t)
+  abbrev IsFew : Type 0
+  IsFew = most_terms < composition_length (get_or gs i []) (get_or A.maps b []) → ⊥
+
+  test_run : IsFew → (s t : division.State Fraction) (es : List Event) → IsRun step s es t
+      → IsRun (short_moves A) (closing k b i gs s) (map Did es) (closing k b i gs t)
   unfolding IsRun
-  test_run s t [] h = ap (closing k b i gs) h
-  test_run s t (e ∷ es) (u, n, r) = (
+  test_run few s t [] h = ap (closing k b i gs) h
+  test_run few s t (e ∷ es) (u, n, r) = (
     closing k b i gs u,
-    ap (move_of A) (test_next s ∙ ap (closed_by A k b i gs s) n),
-    test_run u t es r,
+    short_step A (closing k b i gs s) (closing_short A k b i gs s few)
+        ∙ ap (move_of A) (test_next s ∙ ap (closed_by A k b i gs s) n),
+    test_run few u t es r,
   )
 
   module _ (p : Terms Fraction) (is : p ≡ pullback A b (get_or gs i [])) (old mid new : Journal)
@@ -83,46 +93,60 @@ module _ (A : Setting) (k b i : ℕ) (gs : List (Terms Fraction)) where
     abbrev start : State
     start = closing k b i gs (division.initial_state gs p)
 
-    here : IsRun (moves A) fresh mid.entries start
+    here : IsRun (short_moves A) fresh mid.entries start
     here =
-        subst (λ q. IsRun (moves A) fresh mid.entries
+        subst (λ q. IsRun (short_moves A) fresh mid.entries
         (closing k b i gs (division.initial_state gs q)))
         (sym is)
         (begun_task A old mid (journal.Closed k (suc b) (suc i))
         (closing k b i gs (division.initial_state gs dividend)) c m)
 
-    at : (t : division.State Fraction) → Done step (division.initial_state gs p) mid.entries
+    at : IsFew → (t : division.State Fraction) → Done step (division.initial_state gs p) mid.entries
         new.entries t
-        → IsRun (moves A) fresh new.entries (closing k b i gs t)
-    at t d =
-        subst (λ es. IsRun (moves A) fresh es (closing k b i gs t)) (sym d.entries)
-        (run_joined (moves A) fresh start (closing k b i gs t) mid.entries (map Did d.events) here
-        (test_run (division.initial_state gs p) t d.events d.run))
+        → IsRun (short_moves A) fresh new.entries (closing k b i gs t)
+    at few t d =
+        subst (λ es. IsRun (short_moves A) fresh es (closing k b i gs t)) (sym d.entries)
+        (run_joined (short_moves A) fresh start (closing k b i gs t) mid.entries
+        (map Did d.events) here (test_run few (division.initial_state gs p) t d.events d.run))
 
-    test_ended : (t : division.State Fraction) → WorkToEnd step (division.initial_state gs p)
-        mid.entries
+    test_ended : IsFew → (t : division.State Fraction)
+        → WorkToEnd step (division.initial_state gs p) mid.entries
         new.entries t → Comes A new.entries (after_test A k b i gs t.current)
-    test_ended t f = record {
+    test_ended few t f = record {
       state = closing k b i gs t;
-      run = at t f.work;
+      run = at few t f.work;
       is = test_next t
           ∙ ap (closed_by A k b i gs t) f.ended;
+      short = closing_short A k b i gs t few;
     }
 
-    pub test_passed : (t : division.State Fraction) → WorkToEnd (division.next rationals grevlex gs)
+    pub test_passed : IsFew → (t : division.State Fraction)
+        → WorkToEnd (division.next rationals grevlex gs)
         (division.initial_state gs p) mid.entries new.entries t → t.current ≡ None
         → Comes A new.entries (closing_from A k b (suc i) gs)
-    test_passed t f e = subst (λ o. Comes A new.entries (after_test A k b i gs o)) e
-        (test_ended t f)
+    test_passed few t f e = subst (λ o. Comes A new.entries (after_test A k b i gs o)) e
+        (test_ended few t f)
 
-    pub test_failed : (t : division.State Fraction) → WorkToEnd (division.next rationals grevlex gs)
-        (division.initial_state gs p) mid.entries new.entries t → (q : Terms Fraction)
+    pub test_failed : IsFew → (t : division.State Fraction)
+        → WorkToEnd (division.next rationals grevlex gs) (division.initial_state gs p) mid.entries
+        new.entries t → (q : Terms Fraction)
         → t.current ≡ Some q
         → Comes A new.entries (goes (Begin (journal.Round (suc k))) (turning (suc k) gs))
-    test_failed t f q e = subst (λ o. Comes A new.entries (after_test A k b i gs o)) e
-        (test_ended t f)
+    test_failed few t f q e = subst (λ o. Comes A new.entries (after_test A k b i gs o)) e
+        (test_ended few t f)
 
-    module _ (P : Type 0) (past : P → IsPastComposition fractions (get_or gs i [])
+    pub test_long : most_terms < composition_length (get_or gs i []) (get_or A.maps b [])
+        → (task : declared_task.Task) → view.task_of task ≡ journal.Closed k (suc b) (suc i)
+        → IsLongAt A (view.task_of task) mid.entries
+    test_long l task named = record {
+      state = start;
+      run = here;
+      is_task = sym named;
+      long = subst (λ n. most_terms < n)
+          (closing_is A k b i gs (division.initial_state gs p)) l;
+    }
+
+    module _ (few : IsFew) (P : Type 0) (past : P → IsPastComposition fractions (get_or gs i [])
         (get_or A.maps b [])) (task : declared_task.Task) (named : view.task_of task
         ≡ journal.Closed k (suc b) (suc i)) where
       test_wide : Stops (with_past_start (machines.division fractions grevlex gs p) P) mid new
@@ -130,12 +154,17 @@ module _ (A : Setting) (k b i : ℕ) (gs : List (Terms Fraction)) where
           → IsStopped A (view.task_of task) new.entries
       test_wide (inl x) = record {
         state = closing k b i gs x.at;
-        run = at x.at x.work;
+        run = at few x.at x.work;
         is_task = sym named;
         past = inr x.past;
       }
       test_wide (inr (n, x)) = subst (λ (j : Journal). IsStopped A (view.task_of task) j.entries)
-          (sym n) (record { state = start; run = here; is_task = sym named; past = inl (past x) })
+          (sym n) (record {
+            state = start;
+            run = here;
+            is_task = sym named;
+            past = inl (past x);
+          })
 
       test_out : IsExhausted (division.next rationals grevlex gs) (division.initial_state gs p)
           new.limit
@@ -145,9 +174,10 @@ module _ (A : Setting) (k b i : ℕ) (gs : List (Terms Fraction)) where
         following = closing k b i gs s.following;
         comes = record {
           state = closing k b i gs s.at;
-          run = at s.at s.work;
+          run = at few s.at s.work;
           is = test_next s.at
               ∙ ap (closed_by A k b i gs s.at) s.comes;
+          short = closing_short A k b i gs s.at few;
         };
         unit = s.unit;
         exhausted = s.exhausted;
@@ -161,7 +191,7 @@ module _ (A : Setting) (k b i : ℕ) (gs : List (Terms Fraction)) where
       test_refused engine_error.Budget r = test_out r.to
       test_refused engine_error.Memory r = let h = r.to in record {
         state = closing k b i gs h.at;
-        run = at h.at h.work;
+        run = at few h.at h.work;
       }
 
 -- ---- one after another

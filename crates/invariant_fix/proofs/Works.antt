@@ -4,8 +4,8 @@
 --   met_next, met_known, met_units, met_refused    a meet
 --   iteration_met_next, iteration_met_known, iteration_met_units, iteration_met_refused     that with an iteration
 --   form_at, map_at                    the form and the map of a branch
---   orbit_next, orbit_known, whole_known, orbit_units, orbit_refused    an orbit
---   iteration_next, iteration_known, iteration_units, iteration_refused        an iteration
+--   orbit_next, orbit_known, whole_known, orbit_units, orbit_long, orbit_refused    an orbit
+--   iteration_next, iteration_known, iteration_units, iteration_long, iteration_refused        an iteration
 use Rattle.std.proofs.Common.{◌≡◌, ◌⊎◌, inl, inr, ℕ, suc, ◌+◌, ◌*◌, ◌<◌, ◌≤◌, List, [], ◌∷◌, map, length, get_or, None, Option, refl, sym, ap, ap₂, subst, ◌∙◌, arith}
 use Rattle.std.specs.Global.{Vec}
 use Rattle.std.proofs.lemmas.List.Elements.{All-tail}
@@ -42,16 +42,20 @@ use Rattle.loop_model.specs.FracPoly.{FracPoly}
 use Rattle.invariant_fix.specs.Coming.{Comes, Refuses}
 use Rattle.invariant_fix.specs.Errors.{in_task}
 use Rattle.invariant_fix.specs.Lists.{IsList}
+use Rattle.expansion.specs.Counts.{most_terms}
+use Rattle.invariant_fix.specs.Long.{orbit_length, iteration_length, work_length}
 use Rattle.invariant_fix.specs.Orbits.{orbit_front_of, orbit_list_of, pulling_back, orbit_of, turning, iteration_of}
 use Rattle.invariant_fix.specs.Setting.{setting_of, most_first, form_of, FitsSetting, FitsBranch}
 use Rattle.invariant_fix.specs.Steps.{HasWhole, starting as start_step, started, orbiting, orbited, meeting, met, iteration_begins, iteration_ends, iteration_meets, iteration_met}
 use Rattle.invariant_fix.specs.declared.branches.Branch.{Branch}
+use Rattle.invariant_fix.specs.declared.errors.AnalyseError.TheVariants.{Limit}
 use Rattle.invariant_fix.specs.declared.setting.Setting.{Setting}
 use Rattle.invariant_fix.proofs.Lists.{units_begun, list_bound, units_follow, start_reduced, meet_reduced, known}
 use Rattle.machines.proofs.Lengths.{made, NothingKept, kept_made}
 use Rattle.rounds.proofs.RelationTerms.{blend_not_kept}
 use Rattle.rounds.proofs.Few.{whole_few, orbit_few, iteration_few}
-use Rattle.invariant_fix.proofs.Tasks.{way_of, past_start, task_ended, task_refused}
+use Rattle.invariant_fix.proofs.TaskLengths.{orbit_is, iteration_is, starts_few, meet_few, iteration_meet_few}
+use Rattle.invariant_fix.proofs.Tasks.{way_of, past_start, task_ended, task_long, task_refused}
 
 -- ---- the first task
 module _ (s : Setting) (fits : FitsSetting s) where
@@ -86,8 +90,8 @@ module _ (s : Setting) (fits : FitsSetting s) where
       pub start_next : Comes (setting_of s) old.entries (start_step s) → (gs : Vec FracPoly)
           → Ran (elimination_of (ideal.sum_way ps [])) (IsListOf (ideal.sum_way ps [])) mid new
           (done gs) → Comes (setting_of s) new.entries (started s gs.items)
-      start_next c gs h = task_ended (setting_of s) starts old mid new c begun (ideal.sum_way ps [])
-          start_way P gs h
+      start_next c gs h = task_ended (setting_of s) starts old mid new c begun
+          (starts_few (setting_of s)) (ideal.sum_way ps []) start_way P gs h
 
       pub start_known : s.given ≡ None → (gs : Vec FracPoly)
           → Ran (elimination_of (ideal.sum_way ps [])) (IsListOf (ideal.sum_way ps [])) mid new
@@ -116,7 +120,8 @@ module _ (s : Setting) (fits : FitsSetting s) where
           → Ran (elimination_of (ideal.sum_way ps [])) G mid new (stopped (refusal_of e))
           → Refuses (setting_of s) new (in_task task.Start e)
       start_refused c e r =
-          task_refused (setting_of s) starts old mid new c begun (ideal.sum_way ps []) start_way P
+          task_refused (setting_of s) starts old mid new c begun (starts_few (setting_of s))
+          (ideal.sum_way ps []) start_way P
           (λ p. past_start (setting_of s) starts (subst (λ (V : Way fractions).
           IsPastStart fractions rationals V.gens) start_way p)) task.Start refl e r
 
@@ -141,7 +146,8 @@ module _ (s : Setting) (k b : ℕ) (hs ks : List FracPoly) (old mid new : Journa
       → Comes (setting_of s) new.entries (met s k b gs hs ks ls.items)
   met_next gs c ls h = task_ended (setting_of s) (meet k b gs (terms_each hs) (terms_each ks)) old
       mid new
-      c begun_meet (ideal.intersection_way hs ks) (meet_way gs) Q ls h
+      c begun_meet (meet_few (setting_of s) k b gs (terms_each hs) (terms_each ks))
+      (ideal.intersection_way hs ks) (meet_way gs) Q ls h
 
   module _ (units more : ℕ) (kh : IsList s.arity (most_first s.arity s.given) units hs)
       (kk : IsList s.arity more units ks) (ls : Vec FracPoly)
@@ -174,7 +180,9 @@ module _ (s : Setting) (k b : ℕ) (hs ks : List FracPoly) (old mid new : Journa
       → Refuses (setting_of s) new (in_task (task.Meet k n) e)
   met_refused gs c e r =
       let w = meet k b gs (terms_each hs) (terms_each ks) in
-      task_refused (setting_of s) w old mid new c begun_meet (ideal.intersection_way hs ks)
+      task_refused (setting_of s) w old mid new c begun_meet
+      (meet_few (setting_of s) k b gs (terms_each hs) (terms_each ks))
+      (ideal.intersection_way hs ks)
       (meet_way gs) Q
       (λ p. past_start (setting_of s) w (subst (λ (V : Way fractions).
       IsPastStart fractions rationals
@@ -206,7 +214,9 @@ module _ (s : Setting) (k b i : ℕ) (hs ks : List FracPoly) (old mid new : Jour
   iteration_met_next gs c ls h = task_ended (setting_of s) (iteration_meet k b i gs (terms_each hs)
       (terms_each ks))
       old mid new
-      c begun_iteration_meet (ideal.intersection_way hs ks) (iteration_meet_way gs) QT ls h
+      c begun_iteration_meet
+      (iteration_meet_few (setting_of s) k b i gs (terms_each hs) (terms_each ks))
+      (ideal.intersection_way hs ks) (iteration_meet_way gs) QT ls h
 
   module _ (units more : ℕ) (kh : IsList s.arity (most_first s.arity s.given) units hs)
       (kk : IsList s.arity more units ks) (ls : Vec FracPoly)
@@ -245,6 +255,7 @@ module _ (s : Setting) (k b i : ℕ) (hs ks : List FracPoly) (old mid new : Jour
   iteration_met_refused gs c e r =
       let w = iteration_meet k b i gs (terms_each hs) (terms_each ks) in
       task_refused (setting_of s) w old mid new c begun_iteration_meet
+      (iteration_meet_few (setting_of s) k b i gs (terms_each hs) (terms_each ks))
       (ideal.intersection_way hs ks)
       (iteration_meet_way gs)
       QT
@@ -297,13 +308,29 @@ module _ (s : Setting) (fits : FitsSetting s) (place : ℕ) (within : place < le
     abbrev U : Type 0
     U = (orbit_of branch gs).IsPastStart
 
-    pub orbit_next : (hs : List (Terms Fraction))
+    abbrev pub IsShortOrbit : Type 0
+    IsShortOrbit = most_terms
+        < orbit_length (form_of branch.form) (length branch.images.items) (terms_each gs) → ⊥
+
+    orbit_size : (hs : List (Terms Fraction))
+        → orbit_length (form_of branch.form) (length branch.images.items) (terms_each gs)
+        ≡ work_length (setting_of s) (orbit k place (terms_each gs) hs)
+    orbit_size hs =
+        ap₂ (λ (f : form.Form) m. orbit_length f m (terms_each gs)) (sym form_at) vars_at
+        ∙ orbit_is (setting_of s) k place (terms_each gs) hs
+
+    few_orbit : IsShortOrbit → (hs : List (Terms Fraction))
+        → most_terms < work_length (setting_of s) (orbit k place (terms_each gs) hs) → ⊥
+    few_orbit few hs l = few (subst (λ x. most_terms < x) (sym (orbit_size hs)) l)
+
+    pub orbit_next : IsShortOrbit → (hs : List (Terms Fraction))
         → Comes (setting_of s) old.entries (orbiting s k place gs hs) → (ls : Vec FracPoly)
         → Ran (orbit_of branch gs) (IsListOf (pulling_back branch gs)) mid new (done ls)
         → Comes (setting_of s) new.entries (orbited s k place gs hs ls.items)
-    orbit_next hs c ls h = task_ended (setting_of s) (orbit k place (terms_each gs) hs) old mid new
+    orbit_next few hs c ls h = task_ended (setting_of s) (orbit k place (terms_each gs) hs) old mid
+        new
         c
-        begun_orbit (pulling_back branch gs) (orbit_way hs) U ls h
+        begun_orbit (few_orbit few hs) (pulling_back branch gs) (orbit_way hs) U ls h
 
     module _ (kg : IsList s.arity (most_first s.arity s.given) (units_of old.entries) gs)
         (ls : Vec FracPoly) (h : Ran (orbit_of branch gs) (IsListOf (pulling_back branch gs)) mid
@@ -368,6 +395,16 @@ module _ (s : Setting) (fits : FitsSetting s) (place : ℕ) (within : place < le
             known s.arity (most_first s.arity s.given) (units_of new.entries) ls.items parts
             (omega (arith, bound, few, b, d, e))
 
+    pub orbit_long : (hs : List (Terms Fraction))
+        → Comes (setting_of s) old.entries (orbiting s k place gs hs)
+        → most_terms < orbit_length (form_of branch.form) (length branch.images.items)
+        (terms_each gs)
+        → Refuses (setting_of s) mid (Limit (task.Orbit k n))
+    orbit_long hs c l =
+        task_long (setting_of s) (orbit k place (terms_each gs) hs) old mid mid c begun_orbit
+        (subst (λ x. most_terms < x) (orbit_size hs) l)
+        (task.Orbit k n) (ap (journal.Orbit k) named)
+
     past_here : U → (hs : List (Terms Fraction))
         → IsPastStarting (setting_of s) (orbit k place (terms_each gs) hs)
     past_here (inl p) hs =
@@ -378,14 +415,15 @@ module _ (s : Setting) (fits : FitsSetting s) (place : ℕ) (within : place < le
     past_here (inr p) hs =
         inr (subst (λ (V : Way fractions). IsPastStart fractions rationals V.gens) (orbit_way hs) p)
 
-    pub orbit_refused : (hs : List (Terms Fraction))
+    pub orbit_refused : IsShortOrbit → (hs : List (Terms Fraction))
         → Comes (setting_of s) old.entries (orbiting s k place gs hs)
         → {R : Type 0} {G : R → elimination.State Fraction → Type 0} (e : engine.EngineError)
         → Ran (orbit_of branch gs) G mid new (stopped (refusal_of e))
         → Refuses (setting_of s) new (in_task (task.Orbit k n) e)
-    orbit_refused hs c e r =
+    orbit_refused few hs c e r =
         task_refused (setting_of s) (orbit k place (terms_each gs) hs) old mid new c begun_orbit
-        (pulling_back branch gs) (orbit_way hs) U (λ p. past_here p hs) (task.Orbit k n)
+        (few_orbit few hs) (pulling_back branch gs) (orbit_way hs) U (λ p. past_here p hs)
+        (task.Orbit k n)
         (ap (journal.Orbit k) named) e r
 
   -- ---- an iteration
@@ -412,15 +450,36 @@ module _ (s : Setting) (fits : FitsSetting s) (place : ℕ) (within : place < le
     abbrev V : Type 0
     V = (iteration_of branch ks).IsPastStart
 
-    pub iteration_next : (gs hs : List (Terms Fraction))
+    abbrev pub IsShortIteration : Type 0
+    IsShortIteration = most_terms < iteration_length (form_of branch.form)
+        (length branch.images.items) (terms_each branch.images.items) (terms_each ks) → ⊥
+
+    iteration_size : (gs hs : List (Terms Fraction))
+        → iteration_length (form_of branch.form) (length branch.images.items)
+        (terms_each branch.images.items) (terms_each ks)
+        ≡ work_length (setting_of s) (iteration k place i gs (terms_each ks) hs)
+    iteration_size gs hs =
+        ap₂ (λ (f : form.Form) m. iteration_length f m (terms_each branch.images.items)
+        (terms_each ks)) (sym form_at) vars_at
+        ∙ ap (λ fs. iteration_length (analysis.form_of (setting_of s) place) s.arity fs
+        (terms_each ks)) (sym map_at)
+        ∙ iteration_is (setting_of s) k place i gs (terms_each ks) hs
+
+    few_iteration : IsShortIteration → (gs hs : List (Terms Fraction)) → most_terms
+        < work_length (setting_of s) (iteration k place i gs (terms_each ks) hs) → ⊥
+    few_iteration few gs hs l = few (subst (λ x. most_terms < x) (sym (iteration_size gs hs)) l)
+
+    pub iteration_next : IsShortIteration → (gs hs : List (Terms Fraction))
         → Comes (setting_of s) old.entries (iteration_begins s k place i gs ks hs)
         → (ls : Vec FracPoly)
         → Ran (iteration_of branch ks) (IsListOf (turning branch ks)) mid new (done ls)
         → Comes (setting_of s) new.entries (iteration_ends s k place i gs ks hs ls.items)
-    iteration_next gs hs c ls h = task_ended (setting_of s) (iteration k place i gs (terms_each ks)
+    iteration_next few gs hs c ls h =
+        task_ended (setting_of s) (iteration k place i gs (terms_each ks)
         hs) old
         mid new
-        c begun_iteration (turning branch ks) (iteration_way gs hs) V ls h
+        c begun_iteration (few_iteration few gs hs) (turning branch ks) (iteration_way gs hs) V ls
+        h
 
     module _ (most : ℕ) (kk : IsList s.arity most (units_of old.entries) ks) (ls : Vec FracPoly)
         (h : Ran (iteration_of branch ks) (IsListOf (turning branch ks)) mid new (done ls)) where
@@ -451,6 +510,17 @@ module _ (s : Setting) (fits : FitsSetting s) (place : ℕ) (within : place < le
           ))
           (omega (arith, bound, few, b, d, e))
 
+    pub iteration_long : (gs hs : List (Terms Fraction))
+        → Comes (setting_of s) old.entries (iteration_begins s k place i gs ks hs)
+        → most_terms < iteration_length (form_of branch.form) (length branch.images.items)
+        (terms_each branch.images.items) (terms_each ks)
+        → Refuses (setting_of s) mid (Limit (task.Iteration k n j))
+    iteration_long gs hs c l =
+        task_long (setting_of s) (iteration k place i gs (terms_each ks) hs) old mid mid c
+        begun_iteration
+        (subst (λ x. most_terms < x) (iteration_size gs hs) l)
+        (task.Iteration k n j) (ap₂ (journal.Iteration k) named counted)
+
     past_iteration : V → (gs hs : List (Terms Fraction))
         → IsPastStarting (setting_of s) (iteration k place i gs (terms_each ks) hs)
     past_iteration (inl p) gs hs =
@@ -466,14 +536,14 @@ module _ (s : Setting) (fits : FitsSetting s) (place : ℕ) (within : place < le
         (iteration_way gs hs)
         p)
 
-    pub iteration_refused : (gs hs : List (Terms Fraction))
+    pub iteration_refused : IsShortIteration → (gs hs : List (Terms Fraction))
         → Comes (setting_of s) old.entries (iteration_begins s k place i gs ks hs)
         → {R : Type 0} {G : R → elimination.State Fraction → Type 0} (e : engine.EngineError)
         → Ran (iteration_of branch ks) G mid new (stopped (refusal_of e))
         → Refuses (setting_of s) new (in_task (task.Iteration k n j) e)
-    iteration_refused gs hs c e r =
+    iteration_refused few gs hs c e r =
         task_refused (setting_of s) (iteration k place i gs (terms_each ks) hs) old mid new c
-        begun_iteration
+        begun_iteration (few_iteration few gs hs)
         (turning branch ks) (iteration_way gs hs) V (λ p. past_iteration p gs hs)
         (task.Iteration k n j)
         (ap₂ (journal.Iteration k) named counted) e r

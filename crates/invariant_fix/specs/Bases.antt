@@ -29,7 +29,7 @@ use Rattle.loops.specs.Chain.{Chain, code_at, loop_at}
 use Rattle.corollaries.specs.Analysed.{Analysed, GivenTo}
 use Rattle.corollaries.specs.CodeBetween.{copies}
 use Rattle.loop_model.specs.Maps.{branch_operations, maps_operations}
-use Rattle.invariant_fix.specs.Refusals.{AllHaveForms, IfUnformedBy, HasStoppedFrom, HasFollowedFrom}
+use Rattle.invariant_fix.specs.Refusals.{AllHaveForms, IfUnformedBy, HasLongFrom, HasStoppedFrom, HasFollowedFrom}
 use Rattle.invariant_fix.specs.declared.errors.AnalyseError.TheVariants as error
 use Rattle.invariant_fix.specs.declared.refused.LoopError.{LoopError}
 use Rattle.invariant_fix.specs.declared.refused.LoopError.TheVariants.{Analysis, Between}
@@ -79,6 +79,9 @@ module _ (c : Chain (Expr ℕ)) where
         (m ≡ empty_journal budget) × IfUnformedBy (loop_at c j) (operations_at j) (error.Map e)
     IsRefusedAt (Analysis (error.Branch b e)) =
         (m ≡ empty_journal budget) × IfUnformedBy (loop_at c j) (operations_at j) (error.Branch b e)
+    IsRefusedAt (Analysis (error.Limit task)) =
+        IsFormed j
+        × InLoop (λ left given. HasLongFrom (loop_at c j) given (view.task_of task) m.entries)
     IsRefusedAt (Analysis (error.Wide task)) =
         IsFormed j
         × InLoop (λ left given. HasStoppedFrom (loop_at c j) given (view.task_of task) m.entries)

@@ -18,7 +18,7 @@ use Rattle.corollaries.specs.Between.{IsMapped, IsExhaustedLeading, IsPastLeadin
 use Rattle.loops.specs.Chain.{loop_of}
 use Rattle.corollaries.specs.CodeBetween.{copies}
 use Rattle.loop_model.specs.Maps.{maps_operations}
-use Rattle.invariant_fix.specs.Refusals.{AllHaveForms, IfUnformedBy, HasStoppedFrom, HasFollowedFrom}
+use Rattle.invariant_fix.specs.Refusals.{AllHaveForms, IfUnformedBy, HasLongFrom, HasStoppedFrom, HasFollowedFrom}
 use Rattle.invariant_fix.specs.declared.errors.AnalyseError.TheVariants as error
 use Rattle.invariant_fix.specs.Bases.{empty_journal, code_operations}
 use Rattle.invariant_fix.specs.declared.refused.LoopError.{LoopError}
@@ -70,6 +70,9 @@ module _ (program : Program (Expr ℕ)) (code : List (Statement (Expr ℕ)))
   IsRefusedStage (Analysis (error.Branch b e)) =
       (m ≡ empty_journal budget) × IfUnformedBy (loop_of program bs) stage_operations
       (error.Branch b e)
+  IsRefusedStage (Analysis (error.Limit task)) =
+      IsFormedStage × MappedFrom (λ left list. HasLongFrom (loop_of program bs) (Some list)
+      (view.task_of task) m.entries)
   IsRefusedStage (Analysis (error.Wide task)) =
       IsFormedStage × MappedFrom (λ left list. HasStoppedFrom (loop_of program bs) (Some list)
       (view.task_of task) m.entries)

@@ -1,42 +1,27 @@
 -- What an orbit along a branch begins with, and a single iteration of it.
 --   numbers_of b, vars_of b   how many numbers the branch's base has, and how many variables it is of
---   width_of b                how many variables stand in the list of an orbit that is whole: those in front, and these
 --   orbit_front_of b          how many variables an orbit eliminates;  orbit_list_of b gs: the list that it begins with
 --   pulling back b gs            what is done for the orbit of the gs along the branch b;  orbit_of b gs: as a machine, whose start is made by compositions
 --   turning b gs, iteration_of b gs     the same for one iteration
---   pulled_back_element b g       g with the form of b backward for its variables, normal;  pulled_back_each b gs: each of them
---   normal_of b p             p with s s and the u v replaced by 1
---   relations_of r m          s s - 1 and the u v - 1;  pulled_back_list b gs: the gs pulled back, and these
---   HaveFront r m ps          the variables in front, over a base of r numbers, are the first block of the order of each, and m variables stand behind them
---   IsPastAt b g, IsPastPulledBack b gs     the composition is past, at g or at one of the gs
+--   pulled_back_list b gs     what an orbit begins with where the form of b is the state from the start on;  IsPastPulledBack b gs: the composition is past at one of the gs
 --   IsPastPullingBack b gs, IsPastTurning b gs     what makes the list of an orbit, or of an iteration, is past
-use Rattle.std.specs.Prelude.{◌⊎◌, ◌+◌, ◌++◌, ℕ, List, length, map}
-use Rattle.std.specs.List.{Any}
-use Rattle.algebra.specs.Fraction.{Fraction, fractions, rationals}
+use Rattle.std.specs.Prelude.{◌⊎◌, ℕ, List, length}
+use Rattle.algebra.specs.Fraction.{Fraction, fractions}
 use Rattle.polynomials.specs.Order.{grevlex, blocks}
 use Rattle.polynomials.specs.Terms.{Terms}
-use Rattle.polynomials.specs.Weight.{IsPastComposition}
-use Rattle.machines.specs.Collect.{collect}
 use Rattle.machines.specs.Elimination.{free_part}
-use Rattle.rounds.specs.Form.{front, inverse_of_form, normal, orbit_order, orbit_front, orbit_list, iteration_front, iteration_list, relations, pulled_back_by}
-use Rattle.rounds.specs.Past.{IsPastOrbit, IsPastIteration}
+use Rattle.rounds.specs.Form.{orbit_front, orbit_list, iteration_front, iteration_list}
+use Rattle.rounds.specs.Past.{IsPastComposed, IsPastOrbit, IsPastIteration}
 use Rattle.coprime_base.specs.Sizes.{sizes}
-use Rattle.poly.specs.Seen.{terms_in, terms_each}
+use Rattle.poly.specs.Seen.{terms_each}
 use Rattle.loop_model.specs.FracPoly.{FracPoly}
 use Rattle.machines.specs.Elimination as elimination
 use Rattle.machines.specs.Machine.{Machine}
 use Rattle.ideal_ops.specs.Calls.{Way, elimination_of}
-use Rattle.ideal_ops.specs.Eliminating.{HaveBlock}
-use Rattle.invariant_fix.specs.Blocked.{Blocked}
+use Rattle.task_lists.specs.Starting.{orbit_starting}
 use Rattle.invariant_fix.specs.Setting.{form_of}
 use Rattle.invariant_fix.specs.Started.{with_past_start}
 use Rattle.invariant_fix.specs.declared.branches.Branch.{Branch}
-
-abbrev pub relations_of : (r m : ℕ) → List (Terms Fraction)
-relations_of r m = map (collect rationals (orbit_order r)) (relations r m)
-
-abbrev pub HaveFront : (r m : ℕ) → List Blocked → Type 0
-HaveFront r m ps = HaveBlock (front r) (front r + m) ps
 
 module _ (b : Branch) where
   abbrev pub numbers_of : ℕ
@@ -45,28 +30,12 @@ module _ (b : Branch) where
   abbrev pub vars_of : ℕ
   vars_of = length b.images.items
 
-  abbrev pub width_of : ℕ
-  width_of = front numbers_of + vars_of
-
   -- ---- an orbit that is whole
-  abbrev pub pulled_back_element : FracPoly → Terms Fraction
-  pulled_back_element g = pulled_back_by (form_of b.form) vars_of (terms_in g)
-
-  abbrev pub pulled_back_each : List FracPoly → List (Terms Fraction)
-  pulled_back_each gs = map (pulled_back_by (form_of b.form) vars_of) (terms_each gs)
-
   abbrev pub pulled_back_list : List FracPoly → List (Terms Fraction)
-  pulled_back_list gs = pulled_back_each gs ++ relations_of numbers_of vars_of
-
-  abbrev pub normal_of : FracPoly → Terms Fraction
-  normal_of p = normal grevlex numbers_of (terms_in p)
-
-  abbrev pub IsPastAt : FracPoly → Type 0
-  IsPastAt g = IsPastComposition fractions (terms_in g) (inverse_of_form (form_of b.form))
+  pulled_back_list gs = orbit_starting vars_of b.form.base b.back gs
 
   abbrev pub IsPastPulledBack : List FracPoly → Type 0
-  IsPastPulledBack gs =
-      Any (λ g. IsPastComposition fractions g (inverse_of_form (form_of b.form))) (terms_each gs)
+  IsPastPulledBack gs = IsPastComposed (terms_each b.back.items) (terms_each gs)
 
   -- ---- an orbit
   abbrev pub orbit_front_of : ℕ

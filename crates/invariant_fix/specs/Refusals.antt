@@ -6,6 +6,7 @@
 --   IsRefusedBranch program b r  the branch b, which counts from 0, is the first that is refused, and r says why
 --   TellsBranch program b e      so, for the refusal that the error e tells; it isn't want of memory
 --   HasStoppedFrom program given task es     the es follow the program from what is given, and what is made next in this task is past
+--   HasLongFrom program given task es    they do so up to this task, and the compositions that it begins with are too long
 --   HasFollowedFrom program given es         the es are none, or follow the program from what is given
 --   HasStopped, HasFollowed      the same from its starts
 --   IfRefusedBranch program e    the refusal e is that of a branch, or want of memory
@@ -34,8 +35,9 @@ use Rattle.closed_forms.specs.Refusal.{AllPass, Refusal, IfFormRefused, refusal_
 use Rattle.closed_forms.specs.declared.errors.FormsError.{FormsError}
 use Rattle.closed_forms.specs.declared.errors.FormsError.TheVariants as forms_error
 use Rattle.journal.specs.View as view
+use Rattle.invariant_fix.specs.Long.{IsLong}
 use Rattle.invariant_fix.specs.declared.errors.AnalyseError.{AnalyseError}
-use Rattle.invariant_fix.specs.declared.errors.AnalyseError.TheVariants.{Map, Branch, Wide, Budget, Memory}
+use Rattle.invariant_fix.specs.declared.errors.AnalyseError.TheVariants.{Map, Branch, Limit, Wide, Budget, Memory}
 
 abbrev pub analysis_error_of : MapError → AnalyseError
 analysis_error_of (map_error.Limit at) = Map (map_error.Limit at)
@@ -78,6 +80,12 @@ module _ (program : Program (Expr ℕ)) where
       pub is_task : task_of state ≡ task
       pub past : IsPast (setting_from program given follows.forms None) state
 
+    pub record HasLongFrom (task : Task) (es : List Entry) : Type 0 where
+      pub state : State
+      pub follows : FollowsFrom program given None es state
+      pub is_task : task_of state ≡ task
+      pub long : IsLong (setting_from program given follows.forms None) state
+
     pub record IsFollowingFrom (es : List Entry) : Type 0 where
       pub state : State
       pub follows : FollowsFrom program given None es state
@@ -94,6 +102,7 @@ module _ (program : Program (Expr ℕ)) where
   abbrev pub IfRefusedBranch : AnalyseError → Type 0
   IfRefusedBranch (Map e) = ⊥
   IfRefusedBranch (Branch b e) = TellsBranch b e
+  IfRefusedBranch (Limit task) = ⊥
   IfRefusedBranch (Wide task) = ⊥
   IfRefusedBranch Budget = ⊥
   IfRefusedBranch Memory = Unit {0}
@@ -101,6 +110,7 @@ module _ (program : Program (Expr ℕ)) where
   abbrev pub IfUnformedBy : List Operation → AnalyseError → Type 0
   IfUnformedBy os (Map e) = (e ≢ map_error.Memory) × Stops (length program.names) os e
   IfUnformedBy os (Branch b e) = IsFree (length program.names) os × TellsBranch b e
+  IfUnformedBy os (Limit task) = ⊥
   IfUnformedBy os (Wide task) = ⊥
   IfUnformedBy os Budget = ⊥
   IfUnformedBy os Memory = Unit {0}
@@ -114,6 +124,7 @@ module _ (program : Program (Expr ℕ)) where
   abbrev pub IsStoppedFrom : Option (List (Terms Fraction)) → Journal → AnalyseError → Type 0
   IsStoppedFrom given after (Map e) = ⊥
   IsStoppedFrom given after (Branch b e) = ⊥
+  IsStoppedFrom given after (Limit task) = HasLongFrom given (view.task_of task) after.entries
   IsStoppedFrom given after (Wide task) = HasStoppedFrom given (view.task_of task) after.entries
   IsStoppedFrom given after Budget = IsOutFrom program given None after.limit after.entries
   IsStoppedFrom given after Memory = HasFollowedFrom given after.entries
@@ -122,6 +133,8 @@ module _ (program : Program (Expr ℕ)) where
       → Type 0
   IsRefusedFrom given before after (Map e) = (after ≡ before) × IfUnformedLoop (Map e)
   IsRefusedFrom given before after (Branch b e) = (after ≡ before) × IfUnformedLoop (Branch b e)
+  IsRefusedFrom given before after (Limit task) =
+      AreFree program × AllHaveForms × HasLongFrom given (view.task_of task) after.entries
   IsRefusedFrom given before after (Wide task) =
       AreFree program × AllHaveForms × HasStoppedFrom given (view.task_of task) after.entries
   IsRefusedFrom given before after Budget =

@@ -34,7 +34,7 @@ use task_lists::start_list;
 
 /// The reduced basis of all polynomial invariants of a loop, in rounds (Rodríguez-Carbonell and Kapur, "Generating all polynomial invariants in simple loops", Journal of Symbolic Computation 42, 2007).
 ///
-/// The entries that it makes are those of the analysis of the loop (docs/DEFINITIONS.md, section 19), up to the end or to the refusal. Refusals come in the order of `AnalyseError`, that of the first branch that has one. `Wide` only where the weight of making the starting list, or of the next event, of its task is past; `Budget` only where the units are exhausted and the next entry is one.
+/// The entries that it makes are those of the analysis of the loop (docs/DEFINITIONS.md, section 19), up to the end or to the refusal. Refusals come in the order of `AnalyseError`, that of the first branch that has one. `Limit` only where the compositions that its task begins with multiply out to more than 2^20 terms; `Wide` only where the weight of making the starting list, or of the next event, of its task is past; `Budget` only where the units are exhausted and the next entry is one.
 pub fn analyse(alloc: Global, lp: &Loop, meter: &mut Meter) -> Result<Analysis, AnalyseError>
     requires unbegun { meter.old.entries ≡ [] }
     ensures limit { meter.new.limit ≡ meter.old.limit }

@@ -230,8 +230,7 @@ pub(crate) fn mapped(
         + copies (length (program_of lp.now).names) (code_in lp.now)
         + units_of meter.new.entries) }
 {
-    // for its contract, which tells the prover that no more units are used than are allowed
-    let _ = meter.used();
+    meter.within_limit();
     let gens = code_list(alloc, &lp.branches()[0], values, basis)?;
     if gens.is_empty() {
         return Ok(Vec::new(alloc));

@@ -46,8 +46,7 @@ pub(crate) fn first_basis(
 {
     meter.open(budget);
     let found = analyse(alloc, lp, meter)?;
-    // for its contract, which tells the prover that no more units are used than are allowed
-    let _ = meter.used();
+    meter.within_limit();
     let Analysis { basis, .. } = found;
     Ok(basis)
 }
@@ -74,8 +73,7 @@ fn basis_from(
 {
     meter.open(units);
     let found = analyse_from(alloc, lp, given, meter)?;
-    // for its contract, which tells the prover that no more units are used than are allowed
-    let _ = meter.used();
+    meter.within_limit();
     let Analysis { basis, .. } = found;
     Ok(basis)
 }
@@ -101,8 +99,7 @@ fn basis_in(
 {
     meter.open(units);
     let found = analyse_in(alloc, setting, given, meter)?;
-    // for its contract, which tells the prover that no more units are used than are allowed
-    let _ = meter.used();
+    meter.within_limit();
     let Analysis { basis, .. } = found;
     Ok(basis)
 }
@@ -150,8 +147,7 @@ pub(crate) fn stage_basis(
         Err(EngineError::Budget) => return Err(LoopError::Analysis(AnalyseError::Budget)),
         Err(EngineError::Memory) => return Err(LoopError::Analysis(AnalyseError::Memory)),
     };
-    // for its contract, which tells the prover that no more units are used than are allowed
-    let _ = meter.used();
+    meter.within_limit();
     let left = meter.left();
     match basis_in(alloc, setting, &given, left, meter) {
         Ok(basis) => Ok(basis),

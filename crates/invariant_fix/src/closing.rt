@@ -16,6 +16,7 @@ use crate::branches::Branch;
 use crate::errors::{in_task, number_of_place};
 use crate::setting::Setting;
 use divide::{Division, EngineError, divide};
+use expansion::composition_length;
 use frac128::Frac;
 use journal::{Meter, Task};
 use monos::Grevlex;
@@ -121,21 +122,19 @@ fn closing_step(
     ensures units { IfOk result (λ _. Follow meter.old meter.new) }
     ensures err { IfErr result (Stops setting.now meter.new) }
 {
-    // for its contract, which tells the prover that no more units are used than are allowed
-    let _ = meter.used();
+    meter.within_limit();
     let task = Task::Closed {
         round,
         branch: number_of_place(place),
         element: number_of_place(element),
     };
     meter.begin(task)?;
-    match closing_division(
-        alloc,
-        &setting.branches[place],
-        &basis[element],
-        basis,
-        meter,
-    ) {
+    let branch = &setting.branches[place];
+    let tested = &basis[element];
+    if composition_length(tested, branch.images.as_slice()).is_none() {
+        return Err(AnalyseError::Limit { task });
+    }
+    match closing_division(alloc, branch, tested, basis, meter) {
         Ok(division) => Ok(cofactors_of(division)),
         Err(error) => Err(in_task(task, error)),
     }

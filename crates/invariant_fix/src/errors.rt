@@ -15,6 +15,9 @@ pub enum AnalyseError {
     /// The first branch that has no closed form here, counted from 0. Never for want of memory.
     #[error("branch {branch}: {error}")]
     Branch { branch: usize, error: FormsError },
+    /// The list or the polynomial that this task begins with is too long: its compositions multiply out to more than 2^20 terms.
+    #[error("a composition is too long")]
+    Limit { task: Task },
     /// A number or an exponent does not fit: the weight of making the task's starting list, or of its next event, is past.
     #[error("a number or an exponent is too wide")]
     Wide { task: Task },

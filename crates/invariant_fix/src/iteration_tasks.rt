@@ -14,6 +14,7 @@ ghost use Rattle.invariant_fix.specs.Steps.{Awaits, Knows, KnowsIterations, Stop
 use crate::AnalyseError;
 use crate::branches::Branch;
 use crate::errors::{in_task, number_of_place};
+use crate::lengths::iteration_length;
 use crate::orbits::late_form;
 use crate::setting::Setting;
 use divide::EngineError;
@@ -85,15 +86,17 @@ fn iteration(
         hs)
         → IfErr result (Stops setting.now meter.new) }
 {
-    // for its contract, which tells the prover that no more units are used than are allowed
-    let _ = meter.used();
     let task = Task::Iteration {
         round,
         branch: number_of_place(place),
         iteration: taken + 1,
     };
     meter.begin(task)?;
-    match eliminated_iteration(alloc, &setting.branches[place], before, meter) {
+    let branch = &setting.branches[place];
+    if iteration_length(branch, before).is_none() {
+        return Err(AnalyseError::Limit { task });
+    }
+    match eliminated_iteration(alloc, branch, before, meter) {
         Ok(list) => Ok(list),
         Err(error) => Err(in_task(task, error)),
     }
@@ -150,8 +153,6 @@ fn meet_with_iteration(
         (iteration_meets setting.now round place taken gs so_far.now turned.now)
         → IfErr result (Stops setting.now meter.new) }
 {
-    // for its contract, which tells the prover that no more units are used than are allowed
-    let _ = meter.used();
     let task = Task::IterationMeet {
         round,
         branch: number_of_place(place),

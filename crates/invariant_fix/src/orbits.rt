@@ -1,38 +1,31 @@
 //! The orbit of a list along a branch: what is in its ideal after any number of iterations of the branch, from where its form begins to be the state.
-ghost use Rattle.std.specs.Prelude.{◌≡◌, ◌≤◌, ◌<◌, ◌+◌, ◌++◌, List, length, IfOk, OnOk, IfErr, IsErrOf};
-ghost use Rattle.algebra.specs.Fraction.{Fraction, fraction_size};
-ghost use Rattle.algebra.specs.Size.{IsPast};
+ghost use Rattle.std.specs.Prelude.{◌≡◌, ◌≤◌, ◌<◌, ◌+◌, List, length, IfOk, IfErr, IsErrOf};
+ghost use Rattle.algebra.specs.Fraction.{Fraction};
 ghost use Rattle.polynomials.specs.Terms.{Terms};
-ghost use Rattle.polynomials.specs.Weight.{weight};
-ghost use Rattle.rounds.specs.Form.{front};
 ghost use Rattle.rounds.specs.Results.{IsReducedList};
-ghost use Rattle.monos.specs.Variables.{most_variables};
-ghost use Rattle.poly.specs.Seen.{terms_in, terms_each};
-ghost use Rattle.coprime_base.specs.Sizes.{sizes};
-ghost use Rattle.expo.specs.Bases.{IsCoprimeBase};
+ghost use Rattle.poly.specs.Seen.{terms_each};
 ghost use Rattle.machines.specs.Machine.{Ran};
 ghost use Rattle.divide.specs.Outcomes.{outcome_of};
 ghost use Rattle.ideal_ops.specs.Calls.{IsListOf, AreOver};
 ghost use Rattle.ideal_ops.specs.Eliminating.{HaveBlock};
-ghost use Rattle.invariant_fix.specs.Orbits.{numbers_of, vars_of, pulling_back, orbit_of, orbit_front_of, orbit_list_of, pulled_back_element, pulled_back_each, pulled_back_list, normal_of, relations_of, HaveFront, IsPastAt, IsPastPulledBack, IsPastPullingBack};
-ghost use Rattle.task_lists.specs.Blocks.{HasFront};
+ghost use Rattle.invariant_fix.specs.Orbits.{vars_of, pulling_back, orbit_of, orbit_front_of, orbit_list_of, IsPastPullingBack};
 ghost use Rattle.invariant_fix.specs.Setting.{FitsSetting, FitsBranch, most_starting_elements};
 ghost use Rattle.invariant_fix.specs.Steps.{Awaits, Knows, KnowsIterations, Stops, Follow, HasWhole, orbiting, orbited};
 
 use crate::AnalyseError;
 use crate::branches::Branch;
 use crate::errors::{in_task, number_of_place};
+use crate::lengths::orbit_length;
 use crate::setting::Setting;
 use divide::EngineError;
-use expo::Expo;
 use frac128::Frac;
 use ideal_ops::eliminate;
 use journal::{Meter, Task};
 use monos::{Blocks, Grevlex};
 use poly::Poly;
 use ring_laws::ArithmeticError;
-use std::alloc::{AllocError, Global};
-use task_lists::{LateForm, front, relation};
+use std::alloc::Global;
+use task_lists::{LateForm, orbit_list};
 
 /// The orbit of a list along the branch at this place, in this round.
 pub(crate) fn orbit(
@@ -59,14 +52,16 @@ pub(crate) fn orbit(
         → Awaits setting.now meter.old (orbiting setting.now round place basis.now hs)
         → IfErr result (Stops setting.now meter.new) }
 {
-    // for its contract, which tells the prover that no more units are used than are allowed
-    let _ = meter.used();
     let task = Task::Orbit {
         round,
         branch: number_of_place(place),
     };
     meter.begin(task)?;
-    match eliminated_orbit(alloc, &setting.branches[place], basis, meter) {
+    let branch = &setting.branches[place];
+    if orbit_length(branch, basis).is_none() {
+        return Err(AnalyseError::Limit { task });
+    }
+    match eliminated_orbit(alloc, branch, basis, meter) {
         Ok(orbit) => Ok(orbit),
         Err(error) => Err(in_task(task, error)),
     }
@@ -109,7 +104,8 @@ fn starting_list(
     ensures wide { IsErrOf result ArithmeticError.Wide → IsPastPullingBack branch.now basis.now }
 {
     if branch.form.since == 0 {
-        return orbit_list(alloc, branch, basis);
+        let vars = branch.images.len();
+        return orbit_list(alloc, &branch.form.base, &branch.back, vars, basis);
     }
     late_form(branch).orbit_list(alloc, basis)
 }
@@ -127,110 +123,4 @@ pub(crate) fn late_form(branch: &Branch) -> LateForm<'_>
         back: &branch.back,
         passing: &branch.form.passing,
     }
-}
-
-/// The list that an orbit begins with where the form is the state from the start on: the elements with the inverse form for the variables, and then s s - 1 and the u_j v_j - 1.
-pub fn orbit_list(
-    alloc: Global,
-    branch: &Branch,
-    basis: &[Poly<Frac, Grevlex>],
-) -> Result<Vec<Poly<Frac, Blocks>>, ArithmeticError>
-    requires branch { FitsBranch (vars_of branch.now) branch.now }
-    requires some { 0 < vars_of branch.now }
-    requires basis { AreOver (vars_of branch.now) basis.now }
-    ensures list { IfOk result (λ gens.
-        terms_each gens.items ≡ pulled_back_list branch.now basis.now) }
-    ensures block { IfOk result (λ gens.
-        HaveFront (numbers_of branch.now) (vars_of branch.now) gens.items) }
-    ensures wide { IsErrOf result ArithmeticError.Wide → IsPastPulledBack branch.now basis.now }
-{
-    let mut gens = Vec::new(alloc);
-    push_pulled_back(alloc, &mut gens, branch, basis)?;
-    push_relations(
-        alloc,
-        &mut gens,
-        branch.form.base.len(),
-        branch.images.len(),
-    )?;
-    Ok(gens)
-}
-
-/// Appends each element, with the inverse form put for the variables.
-fn push_pulled_back(
-    alloc: Global,
-    gens: &mut Vec<Poly<Frac, Blocks>>,
-    branch: &Branch,
-    basis: &[Poly<Frac, Grevlex>],
-) -> Result<(), ArithmeticError>
-    requires branch { FitsBranch (vars_of branch.now) branch.now }
-    requires some { 0 < vars_of branch.now }
-    requires basis { AreOver (vars_of branch.now) basis.now }
-    requires block { HaveFront (numbers_of branch.now) (vars_of branch.now) gens.old.items }
-    ensures list { OnOk result (terms_each gens.new.items
-        ≡ terms_each gens.old.items ++ pulled_back_each branch.now basis.now) }
-    ensures block { OnOk result
-        (HaveFront (numbers_of branch.now) (vars_of branch.now) gens.new.items) }
-    ensures wide { IsErrOf result ArithmeticError.Wide → IsPastPulledBack branch.now basis.now }
-{
-    for element in basis {
-        gens.push(pulled_back(alloc, branch, element)?)?;
-    }
-    Ok(())
-}
-
-/// The polynomial with the inverse form for its variables, normal.
-fn pulled_back(
-    alloc: Global,
-    branch: &Branch,
-    element: &Poly<Frac, Grevlex>,
-) -> Result<Poly<Frac, Blocks>, ArithmeticError>
-    requires branch { FitsBranch (vars_of branch.now) branch.now }
-    requires element { element.now.arity ≡ vars_of branch.now }
-    requires some { 0 < element.now.arity }
-    ensures pulled_back { IfOk result (λ p. terms_in p
-        ≡ pulled_back_element branch.now element.now) }
-    ensures block { IfOk result (HasFront (numbers_of branch.now) (vars_of branch.now)) }
-    ensures wide { IsErrOf result ArithmeticError.Wide → IsPastAt branch.now element.now }
-{
-    let moved = element.compose(alloc, &branch.back)?;
-    let normal = normal_body(alloc, branch, &moved)?;
-    let first = front(branch.form.base.len());
-    Ok(normal.reorder(alloc, Blocks { first })?)
-}
-
-/// The polynomial with s s and the u_j v_j replaced by 1.
-fn normal_body(
-    alloc: Global,
-    branch: &Branch,
-    body: &Poly<Frac, Grevlex>,
-) -> Result<Poly<Frac, Grevlex>, ArithmeticError>
-    requires base { IsCoprimeBase (sizes branch.now.form.base.items) }
-    requires front { front (numbers_of branch.now) ≤ body.now.arity }
-    ensures normal { IfOk result (λ p. terms_in p ≡ normal_of branch.now body.now) }
-    ensures arity { IfOk result (λ p. p.arity ≡ body.now.arity) }
-    ensures wide { IsErrOf result ArithmeticError.Wide
-        → IsPast (weight fraction_size (terms_in body.now)) }
-{
-    Ok(Expo::normal(alloc, &branch.form.base, body)?.into_body())
-}
-
-/// Puts s s - 1, and then the u_j v_j - 1, behind the others.
-fn push_relations(
-    alloc: Global,
-    gens: &mut Vec<Poly<Frac, Blocks>>,
-    numbers: usize,
-    vars: usize,
-) -> Result<(), AllocError>
-    requires few { front numbers + vars ≤ most_variables }
-    requires block { HaveFront numbers vars gens.old.items }
-    ensures list { OnOk result (terms_each gens.new.items
-        ≡ terms_each gens.old.items ++ relations_of numbers vars) }
-    ensures block { OnOk result (HaveFront numbers vars gens.new.items) }
-{
-    gens.push(relation(alloc, numbers, vars, 1, 1)?)?;
-    for number in 0..numbers {
-        let power = 2 + number;
-        gens.push(relation(alloc, numbers, vars, power, power + numbers)?)?;
-    }
-    Ok(())
 }

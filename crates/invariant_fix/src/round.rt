@@ -44,8 +44,7 @@ pub(crate) fn rounds(
     let mut round = 0;
     let mut basis = start;
     loop {
-        // for its contract, which tells the prover that no more units are used than are allowed
-        let _ = meter.used();
+        meter.within_limit();
         if let Some(steps) = closing_steps(alloc, setting, round, &basis, meter)? {
             return Ok(Analysis {
                 basis,
@@ -133,8 +132,6 @@ fn list_behind(
     ensures units { IfOk result (λ _. Follow meter.old meter.new) }
     ensures err { IfErr result (Stops setting.now meter.new) }
 {
-    // for its contract, which tells the prover that no more units are used than are allowed
-    let _ = meter.used();
     if setting.branches[place].form.since < 2 {
         return meet_orbit(alloc, setting, round, place, basis, so_far, meter);
     }
@@ -197,8 +194,6 @@ fn meet_with_orbit(
         (meeting setting.now round place gs so_far.now next.now)
         → IfErr result (Stops setting.now meter.new) }
 {
-    // for its contract, which tells the prover that no more units are used than are allowed
-    let _ = meter.used();
     let task = Task::Meet {
         round,
         branch: number_of_place(place),

@@ -96,8 +96,7 @@ fn eliminated(
         (IsListOf vars shown.now) meter.old meter.new (outcome_of result) }
     ensures arity { IfOk result (λ gs. AreOver (length (visible vars shown.now)) gs.items) }
 {
-    // for its contract, which tells the prover that no more units are used than are allowed
-    let _ = meter.used();
+    meter.within_limit();
     let gens = ordered(alloc, vars, shown, basis)?;
     eliminate(alloc, &gens, meter)
 }

@@ -4,7 +4,7 @@
 --   reads_on          a file was read, and it goes on by the bytes
 --   stops_at          a file gave no bytes
 --   read_told         a read behind another one, where the same is told
---   refused           what a refusal says, and want of memory;  replied: the same of an answer
+--   refused           what a refusal says, of its answer;  refused_made: of the answer as it is made;  replied: what an answer says
 --   obeys             what was asked for was done;  obeys_nothing: nothing was asked for;  obeys_without: memory was wanting
 --   obeys_as          a command that is one of several;  obeys_same: what is asked for is the same
 --   finishes          what was asked for was done, and delivered
@@ -19,10 +19,12 @@ use Rattle.machines.specs.Journal.{Journal}
 use Rattle.io_edge.specs.declared.answer.Answer as made
 use Rattle.io_edge.specs.Texts.{Answer, unread}
 use Rattle.io_edge.specs.Views.{answer_view, seen_answer}
+use Rattle.io_edge.specs.declared.refusal.Refusal.{Refusal}
+use Rattle.io_edge.specs.Refusals.{seen_refusal}
 use Rattle.io_edge.specs.Change.{Change, ◌⟶◌}
 use Rattle.io_edge.specs.Delivery.{Delivers}
 use Rattle.io_edge.specs.Course.{File, Got, Course, reads, ends, IsTold}
-use Rattle.io_edge.specs.Outcome.{Call, HasRead, Says, Refuses, Obeys, reply_of, answer_to, Finishes}
+use Rattle.io_edge.specs.Outcome.{Call, HasRead, Says, Obeys, reply_of, answer_to, Finishes}
 
 none_added : (old new : List Entry) → new ≡ old → new ≡ old ++ []
 none_added old new e = e ∙ sym (append-nil old)
@@ -108,10 +110,20 @@ read_told file got before after told same h = record {
 }
 
 -- ---- what a refusal and an answer say
-pub refused : (refusal : Result made.Answer AllocError) (o : Option Answer)
-    → Refuses refusal o → IfSome (seen_answer refusal) (λ a. o ≡ Some a)
-refused (Ok a) o h = h
-refused (Err e) o h = tt
+pub refused : (refusal : Refusal) (r : Result made.Answer AllocError) (P : Answer → Type 0)
+    → IfSome (seen_refusal refusal) P → seen_answer r ≡ seen_refusal refusal
+    → IfSome (seen_answer r) P
+refused refusal r P h same = subst (λ seen. IfSome seen P) (sym same) h
+
+pub refused_made : (refusal : Refusal) (r : Result made.Answer AllocError) (P : Answer → Type 0)
+    → IfSome (seen_refusal refusal) P → seen_answer r ≡ seen_refusal refusal
+    → IfOk r (λ a. P (answer_view a))
+refused_made refusal r P h same = go r (refused refusal r P h same)
+  where
+    go : (r : Result made.Answer AllocError) → IfSome (seen_answer r) P
+        → IfOk r (λ a. P (answer_view a))
+    go (Ok a) h = h
+    go (Err e) h = tt
 
 pub replied : (r : Result made.Answer AllocError) (P : Answer → Type 0)
     → IfOk r (λ a. P (answer_view a)) → IfSome (seen_answer r) P

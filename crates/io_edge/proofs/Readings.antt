@@ -6,18 +6,20 @@
 --   is_silent             the course leaves the meter alone where whatever it goes on with does
 --   at_something, at_fault    the outcome where the bytes are told;  on_reading: what follows for each text that is told
 use Rattle.std.proofs.Common.{◌≡◌, ℕ, List, refl, sym, subst, ap, ◌∙◌, Result, Ok, Err, inl, inr}
-use Rattle.std.specs.Prelude.{Option, Some, None, IfSome, IfOk, option_map}
+use Rattle.std.specs.Prelude.{Option, Some, None, IfSome, option_map}
 use Rattle.std.specs.declared.alloc.AllocError.{AllocError}
 use Rattle.io_edge.specs.Outside.{FilesView}
 use Rattle.machines.specs.Journal.{Journal}
 use Rattle.io_edge.specs.declared.answer.Answer as made
 use Rattle.io_edge.specs.Texts.{Answer}
-use Rattle.io_edge.specs.Views.{answer_view, seen_answer}
+use Rattle.io_edge.specs.Views.{seen_answer}
+use Rattle.io_edge.specs.declared.refusal.Refusal.{Refusal}
+use Rattle.io_edge.specs.Refusals.{seen_refusal}
 use Rattle.io_edge.specs.Course.{File, Course, Outcome, IsSilent, EachAnswer}
 use Rattle.io_edge.specs.Outcome.{Call, Says}
 use Rattle.io_edge.specs.Change.{Change, ◌⟶◌}
 use Rattle.io_edge.specs.Reading.{by_reading, with_file, IsFaultOf, HasReadAs, IsRefusedAt, SaysOf}
-use Rattle.io_edge.proofs.Going.{unheard, at_end, reads_on, stops_at, refused}
+use Rattle.io_edge.proofs.Going.{unheard, at_end, reads_on, stops_at}
 use Rattle.io_edge.proofs.Outcomes.{at_some, if_told}
 
 module _ {X F : Type 0} (reading : List ℕ → Result X F) (refusal_of : F → Answer) where
@@ -29,31 +31,37 @@ module _ {X F : Type 0} (reading : List ℕ → Result X F) (refusal_of : F → 
 
   module _ (next : X → Course) where
     fault_says : (text : List ℕ) (files : Change FilesView) (m : Journal)
-        (refusal : Result made.Answer AllocError) (said : Result X F)
+        (answer : Option Answer) (said : Result X F)
         → reading text ≡ said → files.after.reads ≡ files.before.reads
         → files.after.tries ≡ files.before.tries
-        → IfOk refusal (λ a. IsFaultOf reading refusal_of text (answer_view a))
-        → Says (by_reading reading refusal_of said next) files (m ⟶ m) (seen_answer refusal)
-    fault_says text files m (Err e) said is unread untried h =
+        → IfSome answer (IsFaultOf reading refusal_of text)
+        → Says (by_reading reading refusal_of said next) files (m ⟶ m) answer
+    fault_says text files m None said is unread untried h =
         unheard files (by_reading reading refusal_of said next) m unread untried
-    fault_says text files m (Ok a) (Ok x) is unread untried h =
+    fault_says text files m (Some a) (Ok x) is unread untried h =
         absurd (let e : Ok x ≡ Err h.fault = sym is ∙ h.is in let z : ⊥ = cc in z)
-    fault_says text files m (Ok a) (Err fault) is unread untried h =
+    fault_says text files m (Some a) (Err fault) is unread untried h =
         let same : h.fault ≡ fault = (let e : Err h.fault ≡ Err fault = sym h.is ∙ is in cc) in
-        at_end files _ _ m m (Some (answer_view a)) unread untried (inl refl)
-        (h.says ∙ ap refusal_of same)
+        at_end files _ _ m m (Some a) unread untried (inl refl) (h.says ∙ ap refusal_of same)
 
-    pub refused_says : (file : File) (before after : FilesView) (m : Journal)
-        (refusal : Result made.Answer AllocError)
+    says_refusal : (file : File) (before after : FilesView) (m : Journal) (refusal : Refusal)
         → IsRefusedAt reading refusal_of file (before ⟶ after) refusal
         → Says (with_file reading refusal_of file next) (before ⟶ after) (m ⟶ m)
-        (seen_answer refusal)
-    refused_says file before after m refusal (inl unread) =
-        stops_at (before ⟶ after) file _ unread.0 m (seen_answer refusal) unread.1
-        (refused refusal _ unread.2)
-    refused_says file before after m refusal (inr fault) =
-        reads_on file _ fault.0 before after after (m ⟶ m) (seen_answer refusal) fault.1
-        (fault_says fault.0 _ m refusal (reading fault.0) refl refl refl fault.2)
+        (seen_refusal refusal)
+    says_refusal file before after m refusal (inl unread) =
+        stops_at (before ⟶ after) file _ unread.0 m (seen_refusal refusal) unread.1 unread.2
+    says_refusal file before after m refusal (inr fault) =
+        reads_on file _ fault.0 before after after (m ⟶ m) (seen_refusal refusal) fault.1
+        (fault_says fault.0 _ m (seen_refusal refusal) (reading fault.0) refl refl refl fault.2)
+
+    pub refused_says : (file : File) (before after : FilesView) (m : Journal) (refusal : Refusal)
+        (r : Result made.Answer AllocError)
+        → IsRefusedAt reading refusal_of file (before ⟶ after) refusal
+        → seen_answer r ≡ seen_refusal refusal
+        → Says (with_file reading refusal_of file next) (before ⟶ after) (m ⟶ m) (seen_answer r)
+    refused_says file before after m refusal r h same =
+        subst (Says (with_file reading refusal_of file next) (before ⟶ after) (m ⟶ m))
+        (sym same) (says_refusal file before after m refusal h)
 
     pub reading_says : (file : File) (before between after : FilesView) (x : X)
         (meter : Change Journal) (answer : Option Answer)

@@ -2,7 +2,8 @@
 --   Call                        what a call did: to the files, to the sink and to the meter, and its status
 --   call_of files sink meter status     the call that did these
 --   HasRead file got files      the file was read, and the read gave this
---   IsReadOr file files result  the file was read, and the result is its bytes, or the answer that there are none
+--   IsUnread file files refusal     the file gave no bytes, and the refusal tells why, or memory was wanting
+--   IsReadOr file files result  the file was read, and the result is its bytes, or the refusal that there are none
 --   Says course files meter answer      the course was gone, and the answer is by what its reads gave; or none, for want of memory
 --   IsIdle files meter          nothing was read, and the meter is as it was
 --   Obeys course request files meter result     where the arguments ask for something, its course was gone, and the result is the answer or want of memory; where they ask for nothing, nothing was done, and the result says so
@@ -11,7 +12,7 @@
 --   IsCarriedOut course call    the course was gone, and the answer by what its reads gave was delivered, or that of want of memory
 --   IsUnasked usage call        nothing was done, and this answer was delivered
 --   Finishes course request usage call  what was asked for was carried out; where nothing was, the call says so
-use Rattle.std.specs.Prelude.{◌≡◌, ◌≤◌, ◌+◌, List, ◌++◌, length, Option, Some, None, Result, Ok, Err, IfOk, IfSome, unwrap_or, ℕ}
+use Rattle.std.specs.Prelude.{◌≡◌, ◌≤◌, ◌+◌, List, ◌++◌, length, Option, Some, None, Result, Ok, Err, IfSome, unwrap_or, ℕ}
 use Rattle.std.specs.Global.{Vec}
 use Rattle.std.specs.declared.alloc.AllocError.{AllocError}
 use Rattle.io_edge.specs.declared.files.FilesError.{FilesError}
@@ -22,6 +23,8 @@ use Rattle.io_edge.specs.declared.answer.Status.{Status}
 use Rattle.io_edge.specs.declared.answer.Answer as made
 use Rattle.io_edge.specs.Texts.{Answer, memory_answer, unread}
 use Rattle.io_edge.specs.Views.{answer_view}
+use Rattle.io_edge.specs.declared.refusal.Refusal.{Refusal}
+use Rattle.io_edge.specs.Refusals.{Refuses}
 use Rattle.io_edge.specs.Change.{Change}
 use Rattle.io_edge.specs.Delivery.{Delivers}
 use Rattle.io_edge.specs.Course.{File, Got, Course, entries, IsTold, AreTold, Keeps, IsAnswer}
@@ -41,14 +44,13 @@ pub record HasRead (file : File) (got : Got) (files : Change FilesView) : Type 0
   pub tried : files.after.tries ≤ files.before.tries + 1
   pub is_told : IsTold (files.before.told file.name) file.limit got
 
-abbrev pub Refuses : Result made.Answer AllocError → Option Answer → Type 0
-Refuses refusal a = IfOk refusal (λ made. a ≡ Some (answer_view made))
-
-abbrev pub IsReadOr : File → Change FilesView → Result (Vec ℕ) (Result made.Answer AllocError)
-    → Type 0
-IsReadOr file files (Ok bytes) = HasRead file (Ok bytes.items) files
-IsReadOr file files (Err refusal) =
+abbrev pub IsUnread : File → Change FilesView → Refusal → Type 0
+IsUnread file files refusal =
     (e : FilesError) × HasRead file (Err e) files × Refuses refusal (unread file.name e)
+
+abbrev pub IsReadOr : File → Change FilesView → Result (Vec ℕ) Refusal → Type 0
+IsReadOr file files (Ok bytes) = HasRead file (Ok bytes.items) files
+IsReadOr file files (Err refusal) = IsUnread file files refusal
 
 pub record Says (course : Course) (files : Change FilesView) (meter : Change Journal)
     (answer : Option Answer) : Type 0 where

@@ -3,24 +3,17 @@
 --   with_file file next          the file is read, and so it goes on
 --   IsFaultOf text a             a tells the first fault of the text
 --   HasReadAs file x files       the file was read, and its text says x
---   IsUnread file files refusal      the file gave no bytes, and the refusal tells why, or memory was wanting
 --   IsFaulty file files refusal      the file was read, and the refusal tells its first fault, or memory was wanting
 --   IsRefusedAt file files refusal   the one or the other
 --   SaysOf call file said        the bytes of the file are told, and this is what they say
-use Rattle.std.specs.Prelude.{◌≡◌, ◌⊎◌, ℕ, List, Some, Result, Ok, Err, IfOk}
-use Rattle.std.specs.declared.alloc.AllocError.{AllocError}
-use Rattle.io_edge.specs.declared.files.FilesError.{FilesError}
+use Rattle.std.specs.Prelude.{◌≡◌, ◌⊎◌, ℕ, List, Some, Result, Ok, Err, IfSome}
 use Rattle.io_edge.specs.Outside.{FilesView}
-use Rattle.io_edge.specs.declared.answer.Answer as made
-use Rattle.io_edge.specs.Texts.{Answer, unread}
-use Rattle.io_edge.specs.Views.{answer_view}
+use Rattle.io_edge.specs.declared.refusal.Refusal.{Refusal}
+use Rattle.io_edge.specs.Refusals.{seen_refusal}
+use Rattle.io_edge.specs.Texts.{Answer}
 use Rattle.io_edge.specs.Course.{File, Course, reads, silent}
 use Rattle.io_edge.specs.Change.{Change}
-use Rattle.io_edge.specs.Outcome.{Call, HasRead, Refuses}
-
-abbrev pub IsUnread : File → Change FilesView → Result made.Answer AllocError → Type 0
-IsUnread file files refusal =
-    (e : FilesError) × HasRead file (Err e) files × Refuses refusal (unread file.name e)
+use Rattle.io_edge.specs.Outcome.{Call, HasRead, IsUnread}
 
 module _ {X F : Type 0} (reading : List ℕ → Result X F) where
   pub record HasReadAs (file : File) (x : X) (files : Change FilesView) : Type 0 where
@@ -46,10 +39,10 @@ module _ {X F : Type 0} (reading : List ℕ → Result X F) (refusal_of : F → 
     pub is : reading text ≡ Err fault
     pub says : a ≡ refusal_of fault
 
-  abbrev pub IsFaulty : File → Change FilesView → Result made.Answer AllocError → Type 0
+  abbrev pub IsFaulty : File → Change FilesView → Refusal → Type 0
   IsFaulty file files refusal =
       (text : List ℕ) × HasRead file (Ok text) files
-      × IfOk refusal (λ a. IsFaultOf text (answer_view a))
+      × IfSome (seen_refusal refusal) (IsFaultOf text)
 
-  abbrev pub IsRefusedAt : File → Change FilesView → Result made.Answer AllocError → Type 0
+  abbrev pub IsRefusedAt : File → Change FilesView → Refusal → Type 0
   IsRefusedAt file files refusal = IsUnread file files refusal ⊎ IsFaulty file files refusal

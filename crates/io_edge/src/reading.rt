@@ -1,16 +1,15 @@
 // A file is read into bytes, or into the answer that it can't be.
-ghost use Rattle.std.specs.Prelude.{◌≡◌, ◌++◌, Some, IfOk, ℕ, List, string_bytes};
+ghost use Rattle.std.specs.Prelude.{◌≡◌, ◌++◌, IfOk, ℕ, List, string_bytes};
 ghost use Rattle.io_edge.specs.Change.{◌⟶◌};
 ghost use Rattle.io_edge.specs.Views.{answer_view};
+ghost use Rattle.io_edge.specs.Refusals.{Refuses};
 ghost use Rattle.io_edge.specs.Texts as texts;
 ghost use Rattle.io_edge.specs.Outcome.{IsReadOr};
 
 use crate::answer::{Answer, Status};
+use crate::refusal::Refusal;
 use crate::{Files, FilesError};
 use std::alloc::{AllocError, Global};
-
-/// The answer with which a command ends before it has what it needs, or want of memory for it.
-pub type Refusal = Result<Answer, AllocError>;
 
 /// The bytes of a file of at most `limit` bytes, or the answer that it can't be read or is too long.
 pub fn read_file<F: Files>(
@@ -30,14 +29,15 @@ pub fn read_file<F: Files>(
 }
 
 // To a read that gave no bytes.
-fn unread(alloc: Global, name: &String, why: FilesError) -> Result<Answer, AllocError>
-    ensures { IfOk result (λ a. texts.unread (string_bytes name.now) why ≡ Some (answer_view a)) }
+fn unread(alloc: Global, name: &String, why: FilesError) -> Refusal
+    ensures { Refuses result (texts.unread (string_bytes name.now) why) }
 {
-    match why {
-        FilesError::TooLong => line(alloc, Status::ReadFault, "too long: ", name.as_str()),
-        FilesError::Failed => line(alloc, Status::ReadFault, "read fault: ", name.as_str()),
-        FilesError::Memory => Err(AllocError),
-    }
+    let cause = match why {
+        FilesError::TooLong => "too long: ",
+        FilesError::Failed => "read fault: ",
+        FilesError::Memory => return Refusal::Memory,
+    };
+    Refusal::of(line(alloc, Status::ReadFault, cause, name.as_str()))
 }
 
 /// The answer of this status whose text is a line of the two parts.

@@ -7,15 +7,13 @@
 --     may
 --                                not fit
 --   map_answer e                 to a map of the loop that can't be formed; want of memory has none
-use Rattle.std.specs.Prelude.{ℕ, List, ◌++◌, Option, Some, None, codes, decimal}
+use Rattle.std.specs.Prelude.{ℕ, List, ◌++◌, Option, codes, decimal}
 use Rattle.std.specs.List.{flat_map}
 use Rattle.algebra.specs.Fraction.{Fraction}
-use Rattle.poly_text.specs.Reasons.{limit, wide}
 use Rattle.loop_model.specs.declared.map_error.MapError.{MapError}
-use Rattle.loop_model.specs.declared.map_error.MapError.TheVariants as map_error
 use Rattle.io_edge.specs.declared.answer.Status.TheVariants as status
 use Rattle.io_edge.specs.Texts.{Answer, line, with_text, answer}
-use Rattle.command_parts.specs.FaultTexts.{loop_refusal}
+use Rattle.command_parts.specs.FaultTexts.{map_refusal}
 use Rattle.poly_text.specs.Text.{number_text}
 use Rattle.command_parts.specs.StateTexts.{states_text}
 
@@ -42,6 +40,4 @@ abbrev pub wide_answer : List ℕ → Answer
 wide_answer w = answer status.Wide (codes "wide: " ++ word_text w)
 
 abbrev pub map_answer : MapError → Option Answer
-map_answer (map_error.Limit at) = Some (loop_refusal (record { reason = limit; at = at }))
-map_answer (map_error.Wide at) = Some (loop_refusal (record { reason = wide; at = at }))
-map_answer map_error.Memory = None
+map_answer e = map_refusal (codes "loop: ") e

@@ -50,7 +50,7 @@ fn answer_to<F: Files>(
 {
     match read_file_chain(alloc, files, request.file) {
         Ok(chain) => answer_of(alloc, &chain, request),
-        Err(refusal) => refusal,
+        Err(refusal) => refusal.into_answer(),
     }
 }
 

@@ -1,6 +1,6 @@
 // The arguments behind `counter`.
 ghost use Rattle.std.specs.Prelude.{◌≡◌, [], ◌∷◌, map, string_bytes, option_map};
-ghost use Rattle.replay_commands.specs.CounterArguments.{length_of, request_in, request_within};
+ghost use Rattle.replay_commands.specs.CounterArguments.{length_of, request_in};
 ghost use Rattle.replay_commands.specs.CounterViews.{view};
 
 use io_edge::names_a_file;
@@ -21,32 +21,20 @@ pub(crate) fn read_arguments(arguments: &[String]) -> Option<Request<'_>>
     ensures { option_map view result ≡ request_in (map string_bytes arguments.now) }
 {
     match arguments {
-        [file, equation] if names_a_file(file) => {
-            request_within(Some(USUAL_LENGTH), file, equation)
-        }
-        [option, number, file, equation] if option.as_str() == "--length" && names_a_file(file) => {
-            request_within(read_length(number.as_bytes()), file, equation)
-        }
-        _ => None,
-    }
-}
-
-/// The request for this file and this equation, where there is a length.
-fn request_within<'a>(
-    most: Option<u32>,
-    file: &'a String,
-    equation: &'a String,
-) -> Option<Request<'a>>
-    ensures { option_map view result
-        ≡ request_within most (string_bytes file.now) (string_bytes equation.now) }
-{
-    match most {
-        Some(most) => Some(Request {
-            most,
+        [file, equation] if names_a_file(file) => Some(Request {
+            most: USUAL_LENGTH,
             file,
             equation,
         }),
-        None => None,
+        [option, number, file, equation] if option.as_str() == "--length" && names_a_file(file) => {
+            let most = read_length(number.as_bytes())?;
+            Some(Request {
+                most,
+                file,
+                equation,
+            })
+        }
+        _ => None,
     }
 }
 

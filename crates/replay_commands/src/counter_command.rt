@@ -48,7 +48,7 @@ fn answer_to<F: Files>(
 {
     match read_program(alloc, files, request.file) {
         Ok(lp) => answer_by_equation(alloc, &lp, request.equation, request.most),
-        Err(refusal) => refusal,
+        Err(refusal) => refusal.into_answer(),
     }
 }
 
@@ -65,7 +65,7 @@ fn answer_by_equation(
 {
     match read_polynomial(alloc, lp, equation) {
         Ok(polynomial) => answer_by_search(alloc, lp, &polynomial, most),
-        Err(refusal) => refusal,
+        Err(refusal) => refusal.into_answer(),
     }
 }
 

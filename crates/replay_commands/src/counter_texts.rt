@@ -8,12 +8,12 @@ ghost use Rattle.poly_text.specs.Text.{number_text};
 ghost use Rattle.replay_commands.specs.CounterTexts as texts;
 ghost use Rattle.replay_commands.specs.CounterViews.{tells_found, tells_error};
 
-use command_parts::{fault_line, push_states};
+use command_parts::{map_refusal, push_states};
 use counter_run::{CounterError, Found};
 use frac128::Frac;
 use io_edge::{Answer, Status};
 use itoa::Buffer;
-use loop_model::{MapError, Names};
+use loop_model::Names;
 use poly_text::push_number;
 use std::alloc::{AllocError, Global};
 
@@ -83,21 +83,10 @@ pub(crate) fn search_refusal(alloc: Global, why: &CounterError) -> Result<Answer
     ensures { IfOk result (λ a. tells_error why.now ≡ Some (answer_view a)) }
 {
     match why {
-        CounterError::Map(stop) => map_answer(alloc, stop),
+        CounterError::Map(stop) => map_refusal(alloc, "loop: ", stop),
         CounterError::Limit { word } => word_answer(alloc, Status::Fault, "limit: word", word),
         CounterError::Wide { word } => word_answer(alloc, Status::Wide, "wide: word", word),
         CounterError::Memory => Err(AllocError),
-    }
-}
-
-/// To a map of the loop that can't be formed.
-pub fn map_answer(alloc: Global, stop: &MapError) -> Result<Answer, AllocError>
-    ensures { IfOk result (λ a. texts.map_answer stop.now ≡ Some (answer_view a)) }
-{
-    match stop {
-        MapError::Limit { at } => fault_line(alloc, Status::Fault, "loop: ", "limit", *at),
-        MapError::Wide { at } => fault_line(alloc, Status::Wide, "loop: ", "wide", *at),
-        MapError::Memory => Err(AllocError),
     }
 }
 

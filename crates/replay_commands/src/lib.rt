@@ -17,6 +17,6 @@ mod run_texts;
 
 pub use chainrun_command::chainrun;
 pub use counter_command::counter;
-pub use counter_texts::{map_answer, push_run, word_answer};
+pub use counter_texts::{push_run, word_answer};
 pub use run_command::run;
 pub use run_texts::{run_refusal, states_answer};

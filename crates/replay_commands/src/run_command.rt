@@ -49,7 +49,7 @@ fn answer_to<F: Files>(
 {
     match read_program(alloc, files, request.file) {
         Ok(lp) => answer_of(alloc, &lp, &request.start, &request.word),
-        Err(refusal) => refusal,
+        Err(refusal) => refusal.into_answer(),
     }
 }
 

@@ -10,7 +10,7 @@ use Rattle.polynomials.specs.Terms.{Terms, variables, compose}
 use Rattle.machines.specs.Collect.{collect}
 use Rattle.machines.specs.Elimination.{free_part}
 use Rattle.machines.proofs.Lengths.{made, NothingKept, kept_made}
-use Rattle.rounds.specs.Form.{Form, front, normal, passes, passing, form_before, late_order, orbit_front, orbit_list, orbit_order, front_since, list_since, relations, iteration_before, iteration_front, iteration_list, pulled_back_by}
+use Rattle.rounds.specs.Form.{Form, front, inverse_of_form, normal, passes, passing, form_before, late_order, orbit_front, orbit_list, orbit_relations, front_since, list_since, relations, iteration_before, iteration_front, iteration_list, pulled_back_by}
 use Rattle.rounds.specs.Graph.{less, at_before}
 use Rattle.rounds.proofs.RelationTerms.{all_not_kept, relations_not_kept}
 
@@ -27,9 +27,10 @@ module _ (f : Form) (m : ℕ) (gs : List (Terms Fraction)) where
   whole : HasFew 0 (length gs)
   whole =
       let r = length f.base in
-      let a = kept_made rationals (front r) (map (pulled_back_by f m) gs)
-      (map (collect rationals (orbit_order r)) (relations r m)) (relations_not_kept r m) in
-      let b = length-map gs (pulled_back_by f m) in
+      let pulled = pulled_back_by r m (inverse_of_form f) in
+      let a = kept_made rationals (front r) (map pulled gs) (orbit_relations r m)
+      (relations_not_kept r m) in
+      let b = length-map gs pulled in
       omega (arith, a, b)
 
   pub whole_few : f.since ≡ 0 → length (free_part (orbit_front f m)

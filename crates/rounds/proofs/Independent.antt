@@ -1,5 +1,6 @@
 -- The points of a base are independent: what is a member of an ideal at each of them is one of that ideal padded and the relations.
 --   points_are_independent      the theorem
+--   arity_relations             the relations of a base are polynomials in the variables and what stands in front of them
 --   points_of_base              the points of a base have as many numbers as stand in front of the variables
 use Rattle.std.proofs.Common.{◌≡◌, ℕ, zero, suc, ◌+◌, ◌<◌, ◌⊎◌, inl, inr, List, [], ◌∷◌, ◌++◌, map, get_or, take, drop, length, arith, refl, sym, ap, ap₂, subst, ◌∙◌, take-append-drop, length-take, length-drop, append_assoc}
 use Rattle.std.proofs.lemmas.List.{length-map, length-append, map-append, drop-drop, get_or-take, get_or-drop}

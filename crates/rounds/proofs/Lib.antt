@@ -19,7 +19,6 @@ pub mod Few
 pub mod Relations
 pub mod BranchIterations
 pub mod PullBack
-pub mod PulledBack
 pub mod Turned
 pub mod Lawful
 pub mod Theorem

@@ -29,7 +29,7 @@ use Rattle.machines.specs.Journal.{Entry, Begin, Did}
 use Rattle.machines.specs.Machine.{Machine}
 use Rattle.machines.specs.Machines as machines
 use Rattle.machines.specs.Division as division
-use Rattle.rounds.specs.Form.{Form, pulled_back_by, orbit_front, orbit_list, iteration_front, iteration_list}
+use Rattle.rounds.specs.Form.{Form, inverse_of_form, pulled_back_by, orbit_front, orbit_list, iteration_front, iteration_list}
 
 pub record Setting : Type 0 where
   pub arity : ℕ
@@ -97,7 +97,8 @@ module _ (A : Setting) where
   order (meet k b gs so_far hs) = blocks 1 grevlex grevlex
 
   abbrev pub pulled_back : ℕ → Terms Fraction → Terms Fraction
-  pulled_back b g = pulled_back_by (form_of b) A.arity g
+  pulled_back b g =
+      pulled_back_by (length (form_of b).base) A.arity (inverse_of_form (form_of b)) g
 
   unfoldable pub starting : Work → List (Terms Fraction)
   starting starts = map (collect rationals grevlex) A.starts

@@ -9,7 +9,8 @@
 --   normal O r p         p with s s and the u_j v_j left out, collected
 --   backward O r p       p with -n for n, u and v exchanged, collected
 --   orbit_order r        the order that eliminates the variables in front
---   pulled_back_by f m g     g, of m variables, with the form f backward (inverse_of_form f) for its variables, normal
+--   pulled_back_by r m back g     g, of m variables, with the polynomials `back` for these, normal, over a base of r numbers
+--   orbit_relations r m  the relations in this order;  whole_orbit_list r m back gs: the gs with `back` for their variables, normal, and these
 --   at_zero f m i        the polynomial of the variable i at n = 0;  passes f m i: it isn't that variable
 --   copies m passes i n, passing m passes     the variables from the ith on that pass, of n, and how many pass of all
 --   with_room_for k t m p      p, in k + m variables, with t variables behind the first k
@@ -19,7 +20,7 @@
 --   late_orbit_list f m passes gs     the list that an orbit begins with where the form isn't the state from 0 on: the gs at what was, each variable less its form there,
 --                        and the relations
 --   orbit_front f m      how many variables an orbit eliminates
---   orbit_list f m gs    the list that it begins with: the gs pulled back, and the relations, where the form is the state from 0 on
+--   orbit_list f m gs    the list that it begins with: where the form is the state from 0 on, that of the gs with the inverse form
 --   at_minus_one f m p   p at n = -1;  iteration_before, iteration_graph, iteration_list f m images gs     the same for one iteration, with the form there and the branch's map
 --   IsClosedForm program b f      f is the closed form of branch b: over the base of the sizes of all eigenvalues but 0, normal, and from the least number of iterations on
 use Rattle.std.specs.Prelude.{◌≤◌, ℕ, zero, suc, ◌+◌, Bool, true, false, cond, List, [], ◌∷◌, ◌++◌, map, drop, length, get_or}
@@ -80,10 +81,15 @@ orbit_order r = blocks (front r) grevlex grevlex
 abbrev pub inverse_of_form : Form → List (Terms Fraction)
 inverse_of_form f = map (inverse_form grevlex (length f.base)) f.polys
 
-abbrev pub pulled_back_by : Form → ℕ → Terms Fraction → Terms Fraction
-pulled_back_by f m g =
-    let r = length f.base in
-    normal (orbit_order r) r (compose ℚ (front r + m) g (inverse_of_form f))
+abbrev pub pulled_back_by : ℕ → ℕ → List (Terms Fraction) → Terms Fraction → Terms Fraction
+pulled_back_by r m back g = normal (orbit_order r) r (compose ℚ (front r + m) g back)
+
+abbrev pub orbit_relations : ℕ → ℕ → List (Terms Fraction)
+orbit_relations r m = map (collect rationals (orbit_order r)) (relations r m)
+
+abbrev pub whole_orbit_list : ℕ → ℕ → List (Terms Fraction) → List (Terms Fraction)
+    → List (Terms Fraction)
+whole_orbit_list r m back gs = map (pulled_back_by r m back) gs ++ orbit_relations r m
 
 -- ---- which variables pass, and what was
 abbrev pub at_zero : Form → ℕ → ℕ → Terms Fraction
@@ -145,9 +151,7 @@ abbrev pub orbit_front : Form → ℕ → ℕ
 orbit_front f m = front_since f.since f m
 
 abbrev pub list_since : ℕ → Form → ℕ → List (Terms Fraction) → List (Terms Fraction)
-list_since zero f m gs =
-    map (pulled_back_by f m) gs
-    ++ map (collect rationals (orbit_order (length f.base))) (relations (length f.base) m)
+list_since zero f m gs = whole_orbit_list (length f.base) m (inverse_of_form f) gs
 list_since (suc d) f m gs = late_orbit_list f m (passes f m) gs
 
 abbrev pub orbit_list : Form → ℕ → List (Terms Fraction) → List (Terms Fraction)

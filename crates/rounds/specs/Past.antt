@@ -1,5 +1,6 @@
 -- Where a journal may stop since numbers don't fit: the weight of making a task's starting list, or of what comes next, is past.
 --   IsPastLess xs ys           of one of the differences, place by place
+--   IsPastComposed ps gs       of a composition of one of the gs with the ps
 --   IsPastGraph k t m before fs gs       of a composition or a difference that makes the list of a graph: the fs and the gs at `before`
 --   IsPastOrbit f m gs         of one that makes the starting list of an orbit, of the form f
 --   iteration_images f m            the values of the variables in front after one iteration, and the variables
@@ -35,16 +36,19 @@ IsPastLess [] ys = ⊥
 IsPastLess (x ∷ xs) [] = ⊥
 IsPastLess (x ∷ xs) (y ∷ ys) = IsPastSum fractions x y ⊎ IsPastLess xs ys
 
+abbrev pub IsPastComposed : List (Terms Fraction) → List (Terms Fraction) → Type 0
+IsPastComposed ps gs = Any (λ g. IsPastComposition fractions g ps) gs
+
 abbrev pub IsPastGraph : ℕ → ℕ → ℕ → List (Terms Fraction) → List (Terms Fraction)
     → List (Terms Fraction) → Type 0
 IsPastGraph k t m before fs gs =
-    Any (λ g. IsPastComposition fractions g before) gs
-    ⊎ (Any (λ f. IsPastComposition fractions f (images_behind k (k + t + m) before)) fs
+    IsPastComposed before gs
+    ⊎ (IsPastComposed (images_behind k (k + t + m) before) fs
     ⊎ IsPastLess (drop (k + t) (variables ℚ (k + t + m)))
     (map (λ f. collect rationals grevlex (at_before k t m before f)) fs))
 
 abbrev pub IsPastOrbitSince : ℕ → Form → ℕ → List (Terms Fraction) → Type 0
-IsPastOrbitSince zero f m gs = Any (λ g. IsPastComposition fractions g (inverse_of_form f)) gs
+IsPastOrbitSince zero f m gs = IsPastComposed (inverse_of_form f) gs
 IsPastOrbitSince (suc d) f m gs =
     let which = passes f m in
     IsPastGraph (front (length f.base)) (passing m which) m
@@ -58,7 +62,7 @@ iteration_images f m = map (constant m) (point_of f.base 1) ++ variables ℚ m
 
 abbrev pub IsPastIteration : Form → ℕ → List (Terms Fraction) → List (Terms Fraction) → Type 0
 IsPastIteration f m fs gs =
-    Any (λ p. IsPastComposition fractions p (iteration_images f m)) (inverse_of_form f)
+    IsPastComposed (iteration_images f m) (inverse_of_form f)
     ⊎ IsPastGraph 0 (iteration_front f m) m
     (map (collect rationals grevlex) (iteration_before f m (passes f m))) fs gs
 

@@ -1,5 +1,5 @@
 -- The polynomials of the lists that stages begin with, place by place.
---   relation_later     those of the relations
+--   relation_later     those of the relations;  relations_count: how many these are
 --   orbit_count, meet_count            how many there are
 --   positive                           a place that isn't the first
 --   seen_at                            an image, at its place
@@ -9,9 +9,8 @@ use Rattle.std.proofs.lemmas.List.{get_or-map, length-map, get_or_append_left, g
 use Rattle.algebra.specs.Fraction.{Fraction, rationals}
 use Rattle.polynomials.specs.Terms.{Terms}
 use Rattle.machines.specs.Collect.{collect}
-use Rattle.rounds.specs.Form.{front, orbit_order, relation, relations_to, relations}
+use Rattle.rounds.specs.Form.{front, orbit_order, orbit_relations, relation, relations_to, relations}
 use Rattle.task_lists.specs.Blocks.{relation_of}
-use Rattle.task_lists.specs.Starting.{relations_of}
 
 module _ (r w : ℕ) where
   relations_length : (n : ℕ) → length (relations_to r w n) ≡ n
@@ -41,7 +40,8 @@ module _ (r w : ℕ) where
           ∙ ap (λ k. relation w (suc (suc k)) (suc (suc (r + k)))) e
 
 pub relation_later : (r m place : ℕ) → 1 ≤ place → place ≤ r
-    → relation_of r m (1 + place) (1 + place + r) ≡ get_or (relations_of r m) place []
+    → relation_of r m (1 + place) (1 + place + r)
+    ≡ collect rationals (orbit_order r) (get_or (relations r m) place [])
 relation_later r m zero l k = absurd (omega (arith, l))
 relation_later r m (suc j) l k =
     let e : 1 + suc j ≡ suc (suc j) = omega arith in
@@ -49,16 +49,17 @@ relation_later r m (suc j) l k =
     ap₂ (relation_of r m) e f
     ∙ ap (collect rationals (orbit_order r))
     (sym (relation_place r (front r + m) r j (omega (arith, k))))
-    ∙ sym (get_or-map (collect rationals (orbit_order r)) (relations_to r (front r + m) r) j [] []
-    (let n = relations_length r (front r + m) r in omega (arith, k, n)))
+
+pub relations_count : (r m : ℕ) → length (relations r m) ≡ suc r
+relations_count r m = ap suc (relations_length r (front r + m) r)
 
 pub orbit_count : (f : Terms Fraction → Terms Fraction) (xs : List (Terms Fraction)) (r m : ℕ)
-    → length (map f xs ++ relations_of r m) ≡ length xs + suc r
+    → length (map f xs ++ orbit_relations r m) ≡ length xs + suc r
 orbit_count f xs r m =
-    let all = length-append (map f xs) (relations_of r m) in
+    let all = length-append (map f xs) (orbit_relations r m) in
     let first = length-map xs f in
-    let back = length-map (relations_to r (front r + m) r) (collect rationals (orbit_order r)) in
-    let n = relations_length r (front r + m) r in
+    let back = length-map (relations r m) (collect rationals (orbit_order r)) in
+    let n = relations_count r m in
     omega (arith, all, first, back, n)
 
 pub meet_count : (f g : Terms Fraction → Terms Fraction) (xs ys : List (Terms Fraction))

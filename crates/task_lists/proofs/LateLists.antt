@@ -14,19 +14,18 @@ use Rattle.algebra.proofs.Basics.{same_head, same_tail}
 use Rattle.algebra.proofs.Each.{each-append, each-drop}
 use Rattle.algebra.specs.Fraction.{Fraction, ℚ, rationals, fractions, fraction_size}
 use Rattle.algebra.specs.Size.{IsPast, sum_size}
-use Rattle.algebra.proofs.Fractions.{ℚ_ring, ℚ_field, fractions_ring}
+use Rattle.algebra.proofs.Fractions.{ℚ_ring, ℚ_field}
 use Rattle.algebra.proofs.SizeLaws.{fractions_bounded, past_under}
 use Rattle.polynomials.specs.Order.{grevlex}
 use Rattle.polynomials.specs.Polynomial.{Arity, AllArity, IsPolynomial}
 use Rattle.polynomials.specs.Terms.{Terms, Same, AllSame, variables, negate, compose}
-use Rattle.polynomials.specs.Weight.{weight, composition_weight, IsPastComposition, IsPastSum}
+use Rattle.polynomials.specs.Weight.{weight, IsPastSum}
 use Rattle.polynomials.proofs.Arity.{arity-append, arity-compose, arity-negate, arity-variables}
 use Rattle.polynomials.proofs.ByValues.{same_by_values}
 use Rattle.polynomials.proofs.Orders.{grevlex_order}
-use Rattle.polynomials.proofs.Past.{composition_under}
 use Rattle.polynomials.proofs.Same.{Same-refl, Same-sym, Same-trans, same_append, same_negate}
 use Rattle.polynomials.proofs.ValueAt.{value_at_same, value_at-compose}
-use Rattle.polynomials.proofs.Weight.{composition-pos, weight-append, weight-negate, weight-pos, weight_of_polynomial}
+use Rattle.polynomials.proofs.Weight.{weight-append, weight-negate, weight-pos, weight_of_polynomial}
 use Rattle.machines.specs.Collect.{collect}
 use Rattle.machines.proofs.Collecting.{collect-is, collect-same}
 use Rattle.machines.proofs.Padding.{at}
@@ -46,6 +45,7 @@ use Rattle.task_lists.specs.Shapes.{before_in, passers, width_of}
 use Rattle.task_lists.specs.declared.late_form.LateForm.{LateForm}
 use Rattle.task_lists.specs.declared.shape.Shape.{Shape}
 use Rattle.task_lists.proofs.Passers.{before_are, passers_are, passers_few}
+use Rattle.task_lists.proofs.Placing.{heavy_composed}
 
 -- ---- polynomials that are the same
 alike_compose : (w : ℕ) (p q : Terms Fraction) (images : List (Terms Fraction)) → AllArity w images
@@ -229,16 +229,6 @@ module _ (k t m : ℕ) where
       other (alike_itself (take k (variables ℚ (k + t + m)))) h)) fs)) (alike_itself []))
 
 -- ---- what is too heavy
-heavy_composed : (w : ℕ) (p g : Terms Fraction) (images : List (Terms Fraction))
-    → IsPolynomial ℚ grevlex w p → Same ℚ p (compose ℚ w g images) → IsPast (weight fraction_size p)
-    → IsPastComposition fractions g images
-heavy_composed w p g images h s past =
-    inl (past_under (weight fraction_size p) (composition_weight fraction_size g images)
-    (composition-pos ℚ_ring fraction_size fractions_bounded w g images)
-    (composition_under fractions fractions_ring fractions_bounded grevlex grevlex_order w p g images
-    h
-    s) past)
-
 heavy_less : (w : ℕ) (p x y : Terms Fraction) → IsPolynomial ℚ grevlex w p
     → Same ℚ p (x ++ negate ℚ y) → IsPast (weight fraction_size p)
     → IsPastSum fractions x (collect rationals grevlex y)

@@ -1,19 +1,26 @@
 -- Polynomials in the order that eliminates the first variables, one after another.
 --   IsLeft, left_next, left_end     what is still to be put, as one goes behind another
 --   normal_is, placed_is            an element
---   relation_placed, relations_none, relations_more      the relations
-use Rattle.std.proofs.Common.{◌≡◌, ℕ, suc, ◌+◌, ◌-◌, ◌<◌, ◌≤◌, List, [], ◌∷◌, ◌++◌, map, length, refl, sym, ap, ap₂, subst, ◌∙◌, arith, append_assoc}
+--   heavy_composed                  where a composition is too heavy
+--   relation_placed                 a relation
+use Rattle.std.proofs.Common.{◌≡◌, inl, ℕ, ◌+◌, ◌-◌, ◌≤◌, List, [], ◌∷◌, ◌++◌, map, get_or, length, sym, ap, subst, ◌∙◌, arith, append_assoc}
 use Rattle.std.proofs.lemmas.List.{append-nil, map-append}
 use Rattle.std.proofs.lemmas.Slice.Zip.{AllZip-long}
 use Rattle.algebra.proofs.Lists.{nil_from_length}
 use Rattle.algebra.specs.Each.{Each}
-use Rattle.algebra.specs.Fraction.{Fraction, ℚ, rationals}
-use Rattle.algebra.proofs.Fractions.{ℚ_ring, ℚ_field}
+use Rattle.algebra.specs.Fraction.{Fraction, ℚ, fractions, fraction_size, rationals}
+use Rattle.algebra.specs.Size.{IsPast}
+use Rattle.algebra.proofs.Fractions.{ℚ_ring, ℚ_field, fractions_ring}
+use Rattle.algebra.proofs.SizeLaws.{fractions_bounded, past_under}
 use Rattle.polynomials.specs.Order.{grevlex, blocks}
-use Rattle.polynomials.specs.Polynomial.{Arity, AllArity}
-use Rattle.polynomials.specs.Terms.{Terms, Same}
+use Rattle.polynomials.specs.Polynomial.{Arity, AllArity, IsPolynomial}
+use Rattle.polynomials.specs.Terms.{Terms, Same, compose}
+use Rattle.polynomials.specs.Weight.{weight, composition_weight, IsPastComposition}
+use Rattle.polynomials.proofs.Arity.{arity_at}
 use Rattle.polynomials.proofs.Orders.{grevlex_order, blocks_order}
+use Rattle.polynomials.proofs.Past.{composition_under}
 use Rattle.polynomials.proofs.Same.{Same-trans}
+use Rattle.polynomials.proofs.Weight.{composition-pos}
 use Rattle.machines.specs.Collect.{collect}
 use Rattle.machines.proofs.Collecting.{collect-is, collect-same}
 use Rattle.poly.specs.Seen.{terms_in, terms_each, Is}
@@ -22,8 +29,8 @@ use Rattle.solvable_maps.specs.Expo.{with_normal_keys}
 use Rattle.solvable_maps.specs.Iterations.{width}
 use Rattle.solvable_maps.proofs.Lengths.{arity-normalized}
 use Rattle.solvable_maps.proofs.Retold.{same_normalized}
-use Rattle.rounds.specs.Form.{front, normal, orbit_order, relation, relations_to}
-use Rattle.rounds.proofs.RelationTerms.{relation_arity}
+use Rattle.rounds.specs.Form.{front, normal, orbit_order, relations}
+use Rattle.rounds.proofs.Independent.{arity_relations}
 use Rattle.loop_model.specs.FracPoly.{FracPoly}
 use Rattle.task_lists.specs.Blocks.{Blocked, in_blocks}
 use Rattle.task_lists.proofs.TwoTerms.{block_polynomial}
@@ -102,35 +109,25 @@ module _ (n w r : ℕ) (p made : FracPoly) (b : Blocked) (normals : terms_in mad
       (Same-trans ℚ (collect-same ℚ_field grevlex grevlex_order (with_normal_keys r (terms_in p)))
       (same_normalized ℚ_ring r (terms_in p) q s.same)))
 
+-- what is composed, where it is too heavy
+pub heavy_composed : (w : ℕ) (p g : Terms Fraction) (images : List (Terms Fraction))
+    → IsPolynomial ℚ grevlex w p → Same ℚ p (compose ℚ w g images) → IsPast (weight fraction_size p)
+    → IsPastComposition fractions g images
+heavy_composed w p g images h s past =
+    inl (past_under (weight fraction_size p) (composition_weight fraction_size g images)
+    (composition-pos ℚ_ring fraction_size fractions_bounded w g images)
+    (composition_under fractions fractions_ring fractions_bounded grevlex grevlex_order w p g images
+    h s) past)
+
 -- ---- the relations
-pub relation_placed : (n r m i j : ℕ) → i < front r → j < front r → (p b : Blocked)
-    → terms_in p ≡ collect rationals (orbit_order r) (relation (front r + m) i j)
+pub relation_placed : (n r m i : ℕ) (p b : Blocked)
+    → terms_in p ≡ collect rationals (orbit_order r) (get_or (relations r m) i [])
     → p.arity ≡ front r + m → Is (in_blocks n) p.arity (terms_in p) b
-    → terms_in b ≡ collect rationals (blocks n grevlex grevlex) (relation (front r + m) i j)
-relation_placed n r m i j k l p b terms size is =
-    collected_is n (front r + m) b is.order (is.arity ∙ size) (relation (front r + m) i j)
-    (relation_arity (front r + m) i j (omega (arith, k)) (omega (arith, l)))
+    → terms_in b ≡ collect rationals (blocks n grevlex grevlex) (get_or (relations r m) i [])
+relation_placed n r m i p b terms size is =
+    let relation = get_or (relations r m) i [] in
+    collected_is n (front r + m) b is.order (is.arity ∙ size) relation
+    (arity_at (front r + m) (relations r m) (arity_relations r m) i)
     (Same-trans ℚ (subst (Same ℚ (terms_in b)) terms is.same)
     (collect-same ℚ_field (orbit_order r)
-    (blocks_order (front r) grevlex grevlex grevlex_order grevlex_order)
-    (relation (front r + m) i j)))
-
-module _ (f : Terms Fraction → Terms Fraction) (r w : ℕ) (olds : List (Terms Fraction))
-    (first : Terms Fraction) where
-  pub relations_none : olds ++ f first ∷ [] ≡ olds ++ map f (first ∷ relations_to r w 0)
-  unfolding relations_to
-  relations_none = refl
-
-  pub relations_more : (n : ℕ) (news : List (Terms Fraction)) (t : Terms Fraction)
-      → news ≡ olds ++ map f (first ∷ relations_to r w n)
-      → t ≡ f (relation w (suc (suc n)) (suc (suc (r + n))))
-      → news ++ t ∷ [] ≡ olds ++ map f (first ∷ relations_to r w (n + 1))
-  unfolding relations_to
-  relations_more n news t e is =
-      ap₂ (λ l x. l ++ x ∷ []) e is
-      ∙ append_assoc olds (map f (first ∷ relations_to r w n))
-      (f (relation w (suc (suc n)) (suc (suc (r + n)))) ∷ [])
-      ∙ ap (λ l. olds ++ f first ∷ l) (sym (map-append f (relations_to r w n)
-      (relation w (suc (suc n)) (suc (suc (r + n))) ∷ [])))
-      ∙ ap (λ k. olds ++ map f (first ∷ relations_to r w k)) (let z : suc n ≡ n + 1 = omega arith in
-      z)
+    (blocks_order (front r) grevlex grevlex grevlex_order grevlex_order) relation))

@@ -10,11 +10,9 @@
 --   orbit_of f gs, iteration_of f fs gs     the lists of an orbit, and of an iteration of the branch fs
 --   IsPastOrbitOf f gs, IsPastIterationOf f fs gs     the weight of a composition, of a difference or of a value that makes one is past
 use Rattle.std.specs.Prelude.{◌≡◌, ◌⊎◌, ◌<◌, ◌≤◌, ◌+◌, ℕ, Bool, false, List, [], All, map, length, get_or}
-use Rattle.std.specs.List.{Any}
-use Rattle.algebra.specs.Fraction.{Fraction, fractions, rationals}
+use Rattle.algebra.specs.Fraction.{Fraction, rationals}
 use Rattle.polynomials.specs.Order.{grevlex, blocks}
 use Rattle.polynomials.specs.Terms.{Terms}
-use Rattle.polynomials.specs.Weight.{IsPastComposition}
 use Rattle.machines.specs.Collect.{collect}
 use Rattle.monos.specs.Variables.{most_variables}
 use Rattle.poly.specs.Seen.{terms_in, terms_each}
@@ -27,7 +25,7 @@ use Rattle.loop_model.specs.FracPoly.{FracPoly}
 use Rattle.rounds.specs.Form as form
 use Rattle.rounds.specs.Form.{front, inverse_of_form, passing, form_before, late_orbit_list, iteration_before, iteration_graph}
 use Rattle.rounds.specs.Graph.{graph_list}
-use Rattle.rounds.specs.Past.{IsPastGraph, iteration_images}
+use Rattle.rounds.specs.Past.{IsPastComposed, IsPastGraph, iteration_images}
 use Rattle.task_lists.specs.declared.late_form.LateForm.{LateForm}
 use Rattle.task_lists.specs.declared.shape.Shape.{Shape}
 
@@ -97,8 +95,7 @@ module _ (f : LateForm) where
 
   abbrev pub IsPastIterationOf : List FracPoly → List FracPoly → Type 0
   IsPastIterationOf fs gs =
-      Any (λ p. IsPastComposition fractions p (iteration_images form_in vars_in))
-      (inverse_of_form form_in)
+      IsPastComposed (iteration_images form_in vars_in) (inverse_of_form form_in)
       ⊎ IsPastGraph 0 copies_in vars_in
       (map (collect rationals grevlex) (iteration_before form_in vars_in which)) (terms_each fs)
       (terms_each gs)

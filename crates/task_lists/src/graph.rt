@@ -1,5 +1,5 @@
 //! The list of a graph of what was and what is.
-ghost use Rattle.std.specs.Prelude.{◌≡◌, ◌⊎◌, ◌≤◌, ◌<◌, ◌+◌, ◌++◌, List, [], length, map, drop, All, Any, IfOk, OnOk, IsErrOf};
+ghost use Rattle.std.specs.Prelude.{◌≡◌, ◌⊎◌, ◌≤◌, ◌<◌, ◌+◌, ◌++◌, List, [], length, map, drop, All, IfOk, OnOk, IsErrOf};
 ghost use Rattle.algebra.specs.Fraction.{Fraction, ℚ, fractions, rationals};
 ghost use Rattle.polynomials.specs.Order.{grevlex};
 ghost use Rattle.polynomials.specs.Terms.{Terms, variables, compose, negate};
@@ -10,7 +10,7 @@ ghost use Rattle.poly.specs.Seen.{terms_in, terms_each};
 ghost use Rattle.poly.specs.Standing.{IsInVariables, StandsFor, AllStandFor};
 ghost use Rattle.rounds.specs.Form.{variable_at};
 ghost use Rattle.rounds.specs.Graph.{images_behind, less, graph_list};
-ghost use Rattle.rounds.specs.Past.{IsPastLess, IsPastGraph};
+ghost use Rattle.rounds.specs.Past.{IsPastLess, IsPastComposed, IsPastGraph};
 ghost use Rattle.task_lists.specs.Shapes.{width_of};
 
 use crate::shape::Shape;
@@ -67,8 +67,7 @@ fn push_composed(
         ++ map (λ g. compose ℚ (width_of shape) g (terms_each before.now.items))
         (terms_each list.now))) }
     ensures wide { IsErrOf result ArithmeticError.Wide
-        → Any (λ g. IsPastComposition fractions g (terms_each before.now.items))
-        (terms_each list.now) }
+        → IsPastComposed (terms_each before.now.items) (terms_each list.now) }
 {
     for element in list {
         out.push(element.compose(alloc, before)?)?;
@@ -118,8 +117,7 @@ fn push_differences(
         ++ less (drop (shape.front + shape.copies + place) (variables ℚ w))
         (map (λ f. compose ℚ w f (terms_each images.now.items)) (terms_each forms.now)))) }
     ensures wide { let w = width_of shape in IsErrOf result ArithmeticError.Wide
-        → Any (λ f. IsPastComposition fractions f (terms_each images.now.items))
-        (terms_each forms.now)
+        → IsPastComposed (terms_each images.now.items) (terms_each forms.now)
         ⊎ IsPastLess (drop (shape.front + shape.copies + place) (variables ℚ w))
         (map (λ f. collect rationals grevlex (compose ℚ w f (terms_each images.now.items)))
         (terms_each forms.now)) }

@@ -10,7 +10,7 @@ ghost use Rattle.poly.specs.Standing.{IsInVariables, StandsFor, AllStandFor};
 ghost use Rattle.expo.specs.View.{base_of};
 ghost use Rattle.expo.specs.declared.exponential.Expo.{Expo};
 ghost use Rattle.rounds.specs.Form.{front, inverse_form, at_minus_one};
-ghost use Rattle.rounds.specs.Past.{iteration_images};
+ghost use Rattle.rounds.specs.Past.{iteration_images, IsPastComposed};
 ghost use Rattle.task_lists.specs.Placed.{HaveBlock};
 ghost use Rattle.task_lists.specs.Shapes.{width_of};
 ghost use Rattle.task_lists.specs.Late.{FitsForm, HasShape, numbers_in, orbit_graph_of, iteration_graph_of, orbit_of, iteration_of, IsPastOrbitOf, IsPastIterationOf, copies_in, front_in, vars_in, bodies_in, form_over, IsExpoOver};
@@ -174,7 +174,7 @@ fn push_told(
         ++ map (at_minus_one (form_over bs) m) (bodies_in polys.now))) }
     ensures wide { (bs : List ℕ) (m : ℕ) → All (IsExpoOver bs m) polys.now
         → IsErrOf result ArithmeticError.Wide
-        → Any (λ p. IsPastComposition fractions p (iteration_images (form_over bs) m))
+        → IsPastComposed (iteration_images (form_over bs) m)
         (map (inverse_form grevlex (length bs)) (bodies_in polys.now)) }
 {
     let Some((poly, polys)) = polys.split_first() else {

@@ -1,5 +1,5 @@
 //! Polynomials in the order that eliminates the first variables.
-ghost use Rattle.std.specs.Prelude.{◌≡◌, ◌≤◌, ◌<◌, ◌+◌, ◌++◌, ℕ, List, length, map, All, Any, IfOk, OnOk, IsErrOf};
+ghost use Rattle.std.specs.Prelude.{◌≡◌, ◌≤◌, ◌+◌, ◌++◌, ℕ, List, [], length, map, get_or, All, Any, IfOk, OnOk, IsErrOf};
 ghost use Rattle.algebra.specs.Fraction.{Fraction, rationals, fraction_size};
 ghost use Rattle.algebra.specs.Size.{IsPast};
 ghost use Rattle.polynomials.specs.Order.{grevlex, blocks};
@@ -12,10 +12,11 @@ ghost use Rattle.poly.specs.Seen.{terms_in, terms_each};
 ghost use Rattle.poly.specs.Standing.{IsInVariables, AllStandFor};
 ghost use Rattle.coprime_base.specs.Sizes.{sizes};
 ghost use Rattle.expo.specs.Bases.{IsCoprimeBase};
-ghost use Rattle.rounds.specs.Form.{front, normal, relation, relations};
+ghost use Rattle.rounds.specs.Form.{front, normal, relations};
 ghost use Rattle.task_lists.specs.Placed.{HaveBlock};
 
-use crate::{front, normal_of, relation};
+use crate::orbit::normal_of;
+use crate::relations::{front, relation_at};
 use frac128::{Frac, Whole};
 use monos::{Blocks, Grevlex};
 use poly::Poly;
@@ -81,33 +82,29 @@ pub(crate) fn push_relations(
     ensures block { let n = front numbers + copies in HaveBlock n (n + variables) gens.old.items
         → OnOk result (HaveBlock n (n + variables) gens.new.items) }
 {
-    gens.push(placed_relation(alloc, numbers, copies, variables, 1, 1)?)?;
-    for number in 0..numbers {
-        let power = 2 + number;
-        gens.push(placed_relation(alloc, numbers, copies, variables, power, power + numbers)?)?;
+    for place in 0..numbers + 1 {
+        gens.push(placed_relation(alloc, numbers, copies, variables, place)?)?;
     }
     Ok(())
 }
 
-/// The product of two of the variables in front, less one.
+/// The relation at this place.
 fn placed_relation(
     alloc: Global,
     numbers: usize,
     copies: usize,
     variables: usize,
-    left: usize,
-    right: usize,
+    place: usize,
 ) -> Result<Poly<Frac, Blocks>, AllocError>
     requires few { front numbers + (copies + variables) ≤ most_variables }
-    requires left { left < front numbers }
-    requires right { right < front numbers }
+    requires place { place ≤ numbers }
     ensures relation { IfOk result (λ p. terms_in p
         ≡ collect rationals (blocks (front numbers + copies) grevlex grevlex)
-        (relation (front numbers + (copies + variables)) left right)) }
+        (get_or (relations numbers (copies + variables)) place [])) }
     ensures block { let n = front numbers + copies in
         IfOk result (λ p. (p.order.first ≡ n) × (p.arity ≡ n + variables)) }
 {
     let first = front(numbers) + copies;
-    let relation = relation(alloc, numbers, copies + variables, left, right)?;
+    let relation = relation_at(alloc, numbers, copies + variables, place)?;
     relation.reorder(alloc, Blocks { first })
 }

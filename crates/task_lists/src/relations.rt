@@ -1,8 +1,10 @@
 //! The relations between the powers over a base.
-ghost use Rattle.std.specs.Prelude.{◌≡◌, ◌≤◌, ◌<◌, ◌+◌, IfOk};
+ghost use Rattle.std.specs.Prelude.{◌≡◌, ◌≤◌, ◌<◌, ◌+◌, [], get_or, IfOk};
+ghost use Rattle.algebra.specs.Fraction.{rationals};
 ghost use Rattle.polynomials.specs.Exponent.{plus};
+ghost use Rattle.machines.specs.Collect.{collect};
 ghost use Rattle.solvable_maps.specs.Uses.{unit};
-ghost use Rattle.rounds.specs.Form.{front};
+ghost use Rattle.rounds.specs.Form.{front, orbit_order, relations};
 ghost use Rattle.monos.specs.Variables.{most_variables};
 ghost use Rattle.poly.specs.Seen.{terms_in};
 ghost use Rattle.task_lists.specs.Blocks.{HasFront, relation_of};
@@ -22,8 +24,27 @@ pub fn front(numbers: usize) -> usize
     width(numbers, 0)
 }
 
+/// The relation at this place: s s - 1, and then the u_j v_j - 1.
+pub(crate) fn relation_at(
+    alloc: Global,
+    numbers: usize,
+    vars: usize,
+    place: usize,
+) -> Result<Poly<Frac, Blocks>, AllocError>
+    requires few { front numbers + vars ≤ most_variables }
+    requires place { place ≤ numbers }
+    ensures relation { IfOk result (λ p. terms_in p
+        ≡ collect rationals (orbit_order numbers) (get_or (relations numbers vars) place [])) }
+    ensures block { IfOk result (HasFront numbers vars) }
+{
+    if place == 0 {
+        return relation(alloc, numbers, vars, 1, 1);
+    }
+    relation(alloc, numbers, vars, 1 + place, 1 + place + numbers)
+}
+
 /// The product of two variables, less one, over a base of so many numbers: these variables stand in front.
-pub fn relation(
+fn relation(
     alloc: Global,
     numbers: usize,
     vars: usize,

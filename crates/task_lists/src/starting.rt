@@ -1,21 +1,20 @@
 //! What a stage begins with.
-ghost use Rattle.std.specs.Prelude.{◌≡◌, ◌<◌, ◌≤◌, ◌+◌, [], length, get_or, IfOk, IsErrOf};
+ghost use Rattle.std.specs.Prelude.{◌<◌, ◌+◌, [], length, get_or, IfOk, IsErrOf};
 ghost use Rattle.algebra.specs.Fraction.{ℚ};
 ghost use Rattle.polynomials.specs.Terms.{Same};
 ghost use Rattle.rounds.specs.Form.{front};
-ghost use Rattle.monos.specs.Variables.{most_variables};
-ghost use Rattle.poly.specs.Seen.{terms_in, IsImage};
-ghost use Rattle.task_lists.specs.Blocks.{in_blocks, HasFront};
-ghost use Rattle.task_lists.specs.Starting.{numbers_of, orbit_starting, meet_starting, starting, front_of, relations_of, FitsOrbit, FitsMeet, FitsStart, IsPastOrbit, IsPastMeet, IsPastAt};
+ghost use Rattle.poly.specs.Seen.{terms_in, terms_each, IsImage};
+ghost use Rattle.task_lists.specs.Blocks.{in_blocks};
+ghost use Rattle.task_lists.specs.Starting.{numbers_of, orbit_starting, meet_starting, starting, front_of, FitsOrbit, FitsMeet, FitsStart, IsPastOrbit, IsPastMeet, IsPastAt};
 
 use crate::meet::{times_rest, times_t};
 use crate::orbit::pulled_back;
-use crate::relations::relation;
+use crate::relations::relation_at;
 use frac128::{Frac, Whole};
 use monos::{Blocks, Grevlex};
 use poly::Poly;
 use ring_laws::ArithmeticError;
-use std::alloc::{AllocError, Global};
+use std::alloc::Global;
 
 /// What a stage begins with.
 #[derive(Clone, Copy)]
@@ -40,7 +39,7 @@ pub fn element_of<'a>(
         (IsImage (in_blocks (front_of list.now)) (front_of list.now + variables)) }
     ensures same { IfOk result (λ p.
         Same ℚ (terms_in p) (get_or (starting variables list.now) place [])) }
-    ensures wide { IsErrOf result ArithmeticError.Wide → IsPastAt variables list.now place }
+    ensures wide { IsErrOf result ArithmeticError.Wide → IsPastAt list.now place }
 {
     match *list {
         Starting::Orbit(base, back, list) => {
@@ -59,13 +58,14 @@ fn orbit_element(
     variables: usize,
     place: usize,
 ) -> Result<Poly<Frac, Blocks>, ArithmeticError>
-    requires fits { FitsOrbit variables base.now back.now list.now }
-    requires place { place < length (orbit_starting variables base.now back.now list.now) }
+    requires fits { FitsOrbit variables base.now back.now list.now.items }
+    requires place { place < length (orbit_starting variables base.now back.now list.now.items) }
     ensures image { let r = numbers_of base.now in
         IfOk result (IsImage (in_blocks (front r)) (front r + variables)) }
     ensures same { IfOk result (λ p. Same ℚ (terms_in p)
-        (get_or (orbit_starting variables base.now back.now list.now) place [])) }
-    ensures wide { IsErrOf result ArithmeticError.Wide → IsPastOrbit back.now list.now place }
+        (get_or (orbit_starting variables base.now back.now list.now.items) place [])) }
+    ensures wide { IsErrOf result ArithmeticError.Wide
+        → IsPastOrbit (terms_each back.now.items) (terms_each list.now.items) place }
 {
     if place < list.len() {
         return pulled_back(alloc, base, back, &list[place]);
@@ -86,29 +86,11 @@ fn meet_element(
     ensures image { IfOk result (IsImage (in_blocks 1) (1 + variables)) }
     ensures same { IfOk result (λ p.
         Same ℚ (terms_in p) (get_or (meet_starting left.now right.now) place [])) }
-    ensures wide { IsErrOf result ArithmeticError.Wide → IsPastMeet left.now right.now place }
+    ensures wide { IsErrOf result ArithmeticError.Wide
+        → IsPastMeet (terms_each left.now.items) (terms_each right.now.items) place }
 {
     if place < left.len() {
         return Ok(times_t(alloc, &left[place])?);
     }
     times_rest(alloc, &right[place - left.len()])
-}
-
-/// The relation at this place.
-fn relation_at(
-    alloc: Global,
-    numbers: usize,
-    variables: usize,
-    place: usize,
-) -> Result<Poly<Frac, Blocks>, AllocError>
-    requires few { front numbers + variables ≤ most_variables }
-    requires place { place ≤ numbers }
-    ensures relation { IfOk result (λ p.
-        terms_in p ≡ get_or (relations_of numbers variables) place []) }
-    ensures block { IfOk result (HasFront numbers variables) }
-{
-    if place == 0 {
-        return relation(alloc, numbers, variables, 1, 1);
-    }
-    relation(alloc, numbers, variables, 1 + place, 1 + place + numbers)
 }

@@ -1,5 +1,8 @@
 use Rattle.std.proofs.Common.{string_bytes}
 use Rattle.loop_model.specs.View.{program_of}
+use Rattle.io_edge.proofs.Going.{refused_made}
+use Rattle.command_parts.specs.Equations.{equation_in}
+use Rattle.command_parts.specs.EquationReading.{IsUnread}
 use Rattle.analysis_commands.proofs.MemberAnswers.{formed_says, unformed_says}
 use Rattle.analysis_commands.proofs.questions.answer_to_equation.Goals as goal
 
@@ -16,4 +19,8 @@ returns-in-Ok c = λ files idle untried.
 pub returns-in-Err : goal.returns-in-Err
 returns-in-Err c = λ files idle untried.
     unformed_says (program_of c.args.lp.now) (string_bytes c.args.equation.now) c.args.budget.units
-    c.args.meter.now files idle untried c.in-Err.refusal c.in-Err.ensures.unread
+    c.args.meter.now files idle untried c.into_answer.result
+    (refused_made c.in-Err.refusal c.into_answer.result
+    (IsUnread (program_of c.args.lp.now)
+    (equation_in (program_of c.args.lp.now).names (string_bytes c.args.equation.now)))
+    c.in-Err.ensures.unread c.into_answer.ensures)

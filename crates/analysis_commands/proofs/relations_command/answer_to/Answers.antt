@@ -25,4 +25,4 @@ returns-in-Ok g c =
 
 pub returns-in-Err : goal.returns-in-Err
 returns-in-Err g c = refused_says sequences_of sequences_refusal _ _ _ _ c.args.meter.now
-    c.in-Err.refusal c.in-Err.ensures
+    c.in-Err.refusal c.into_answer.result c.in-Err.ensures c.into_answer.ensures

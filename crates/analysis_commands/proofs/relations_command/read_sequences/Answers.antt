@@ -1,7 +1,7 @@
 use Rattle.std.proofs.Common.{rules, inr}
-use Rattle.std.proofs.lemmas.Result.{IfOk-weaker}
+use Rattle.std.proofs.lemmas.Option.{IfSome_then}
 use Rattle.poly_text.specs.Faults.{fault_of}
-use Rattle.io_edge.specs.Views.{answer_view}
+use Rattle.io_edge.specs.Refusals.{seen_refusal}
 use Rattle.loop_text.specs.SeqReader.{sequences_of}
 use Rattle.io_edge.proofs.Readings.{fault_is}
 use Rattle.analysis_commands.specs.RelationsTexts.{sequences_refusal}
@@ -17,8 +17,7 @@ returns g c =
     inr (
       c.in-Ok.bytes.items,
       c.in-Ok.ensures.read,
-      IfOk-weaker c.sequences_refusal.result _ _
+      IfSome_then (seen_refusal c.sequences_refusal.result) c.sequences_refusal.ensures
           (λ a told. fault_is sequences_of sequences_refusal (fault_of c.in-Err-read_seqs.why)
-          c.in-Ok.bytes.items
-          (answer_view a) (search rules) told) c.sequences_refusal.ensures,
+          c.in-Ok.bytes.items a (search rules) told),
     )

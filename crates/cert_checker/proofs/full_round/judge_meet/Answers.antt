@@ -169,7 +169,7 @@ returns-clause-stops c =
     let e = (goal.at.returns-clause-stops c).After-len in
     let hs = meet_starting (left e) (right e) in
     let s = stage_in c.in-Some.stage in
-    let begun = IsPastMeet (left e) (right e) in
+    let begun = IsPastMeet (terms_each (left e).items) (terms_each (right e).items) in
     IfErr-weaker c.in_stage.result _ _ (λ x is. carried c.judge_stage-judged.result
     (stop_map (stage_part c.args.round c.args.branch kind.Meet)) x
     (IsStop place_of (HoldsAt 1 hs s) (IsPastPlace begun s) (places 1 hs s))

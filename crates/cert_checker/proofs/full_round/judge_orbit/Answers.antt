@@ -59,10 +59,11 @@ module _ (c : After-len-2) where
 
   abbrev list : List (Terms Fraction)
   list = orbit_starting c.len-2.result c.index.result.now.base c.index-2.result.now
-      c.list_before-list.result.now
+      c.list_before-list.result.now.items
 
   abbrev past : ℕ → Type 0
-  past = IsPastOrbit c.index-2.result.now c.list_before-list.result.now
+  past = IsPastOrbit (terms_each c.index-2.result.now.items)
+      (terms_each c.list_before-list.result.now.items)
 
   abbrev at_round : After-index-3
   at_round = (goal.at.After-len-2 c).After-index-3
@@ -80,7 +81,7 @@ module _ (c : After-len-2) where
 
   starts : list ≡ starting program full c.args.round c.args.branch orbit
   starts = ap (λ n. orbit_starting n c.index.result.now.base c.index-2.result.now
-      c.list_before-list.result.now) variables
+      c.list_before-list.result.now.items) variables
       ∙ orbit_starts (length program.names) form
       (sizes c.index.result.now.base.items) (terms_each c.index-2.result.now.items)
       (terms_each c.list_before-list.result.now.items) (before program full c.args.round)

@@ -17,7 +17,7 @@ loop-i-preserved c =
     let hs = starting c.args.variables c.args.begin.now in
     let gs = terms_each c.args.list.now.items in
     more_hold (IsMadeAt hs (rows_of c.args.gens.now) gs)
-    (λ i. IsPastAt c.args.variables c.args.begin.now i ⊎ IsPastMade (rows_of c.args.gens.now) gs i)
+    (λ i. IsPastAt c.args.begin.now i ⊎ IsPastMade (rows_of c.args.gens.now) gs i)
     (length hs) c.loop-i.i (omega (arith, c.loop-i-test.true, c.requires.count))
     c.loop-i.invariant c.is_made.result
     (made_holds (λ row. terms_each row.items) c.args.gens.now c.loop-i.i c.index-gens-i.result
@@ -25,7 +25,7 @@ loop-i-preserved c =
     c.index-gens-i.is hs gs c.is_made.result c.is_made.ensures.holds)
     (made_past (λ row. terms_each row.items) c.args.gens.now c.loop-i.i c.index-gens-i.result
     c.loop-i-test.true c.index-gens-i.is
-    gs (IsPastAt c.args.variables c.args.begin.now c.loop-i.i) c.is_made.result
+    gs (IsPastAt c.args.begin.now c.loop-i.i) c.is_made.result
     c.is_made.ensures.wide)
     c.in_ok-told.ensures.holds
 
@@ -35,7 +35,7 @@ returns-in_err-told-clause-stops c =
     let gs = terms_each c.args.list.now.items in
     let p = err_from_is_err_and c.from_residual.result c.from_residual.ensures.1 in
     rw (p.1, p.2) (here_stops (IsMadeAt hs (rows_of c.args.gens.now) gs)
-    (λ i. IsPastAt c.args.variables c.args.begin.now i ⊎ IsPastMade (rows_of c.args.gens.now) gs i)
+    (λ i. IsPastAt c.args.begin.now i ⊎ IsPastMade (rows_of c.args.gens.now) gs i)
     (length hs) c.loop-i.i (omega (arith, c.loop-i-test.true, c.requires.count))
     c.loop-i.invariant c.is_made.result
     (made_holds (λ row. terms_each row.items) c.args.gens.now c.loop-i.i c.index-gens-i.result
@@ -43,7 +43,7 @@ returns-in_err-told-clause-stops c =
     c.index-gens-i.is hs gs c.is_made.result c.is_made.ensures.holds)
     (made_past (λ row. terms_each row.items) c.args.gens.now c.loop-i.i c.index-gens-i.result
     c.loop-i-test.true c.index-gens-i.is
-    gs (IsPastAt c.args.variables c.args.begin.now c.loop-i.i) c.is_made.result
+    gs (IsPastAt c.args.begin.now c.loop-i.i) c.is_made.result
     c.is_made.ensures.wide)
     _ c.in_err-told.ensures.stops)
 

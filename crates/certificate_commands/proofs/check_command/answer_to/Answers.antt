@@ -15,7 +15,7 @@ use Rattle.certificate_commands.proofs.check_command.answer_to.Goals as goal
 
 pub returns-in-Err : goal.returns-in-Err
 returns-in-Err g c m = refused_says loop_of loop_refusal _ _ _ _ m c.in-Err.refusal
-    c.in-Err.ensures.read
+    c.into_answer.result c.in-Err.ensures.read c.into_answer.ensures
 
 pub returns-in-Ok-read_file : goal.returns-in-Ok-read_file
 returns-in-Ok-read_file g c m =
@@ -37,4 +37,5 @@ returns g c m =
     reading_says loop_of loop_refusal _ _ _ _ _ l (m ⟶ m) _ c.in-Ok.ensures.read
     (stops_at _ (certificate_at (string_bytes c.args.request.certificate.now)) _ unread.0 m _
     (read_told _ _ _ _ _ c.in-Ok.ensures.told unread.1)
-    (refused c.in-Err-read_file.refusal _ unread.2))
+    (refused c.in-Err-read_file.refusal c.into_answer-in-Err-read_file.result _ unread.2
+    c.into_answer-in-Err-read_file.ensures))

@@ -9,8 +9,8 @@ pub answer_to_trace-requires-clause-found : goal.answer_to_trace-requires-clause
 answer_to_trace-requires-clause-found c =
     found_by (program_of c.args.lp.now) c.args.budget.units c.args.meter.now c.analyse.new.meter
     c.requires.opened c.in-Ok.ensures.limit c.in-Ok.found c.in-Ok.ensures.free
-    c.in-Ok.ensures.forms c.in-Ok.ensures.closed c.used.result c.used.ensures.used
-    c.used.ensures.within c.in-Ok.ensures.rounds c.in-Ok.ensures.basis
+    c.in-Ok.ensures.forms c.in-Ok.ensures.closed c.within_limit.ensures.within
+    c.in-Ok.ensures.rounds c.in-Ok.ensures.basis
     c.in-Ok.ensures.certificate c.in-Ok.ensures.over c.in-Ok.ensures.square
 
 pub answer_to_refusal-requires : goal.answer_to_refusal-requires

@@ -18,4 +18,4 @@ returns-in-Ok g c =
 
 pub returns-in-Err : goal.returns-in-Err
 returns-in-Err g c = refused_says loop_of loop_refusal _ _ _ _ c.args.meter.now c.in-Err.refusal
-    c.in-Err.ensures.read
+    c.into_answer.result c.in-Err.ensures.read c.into_answer.ensures

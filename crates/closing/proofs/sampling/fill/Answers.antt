@@ -36,8 +36,7 @@ pub loop-alloc-smaller : goal.loop-alloc-smaller
 loop-alloc-smaller c =
     omega (
       arith,
-      c.used.ensures.used,
-      c.used.ensures.within,
+      c.within_limit.ensures.within,
       c.take.ensures.limit,
       c.in_ok-sampling.ensures.units,
     )

@@ -16,13 +16,13 @@ pub overflow_add-sampling-in-Counts : goal.overflow_add-sampling-in-Counts
 overflow_add-sampling-in-Counts c =
     let few = few_taken (program_of c.args.lp.now) c.requires.sampled.0 c.args.meter.now.entries []
     c.args.sampling c.requires.sampled.1 in
-    omega (arith, few, c.used.ensures.used, c.used.ensures.within, c.used.ensures.few)
+    omega (arith, few, c.begin.ensures.few)
 
 pub overflow_add-sampling-in-Combination : goal.overflow_add-sampling-in-Combination
 overflow_add-sampling-in-Combination c =
     let few = few_taken (program_of c.args.lp.now) c.requires.sampled.0 c.args.meter.now.entries []
     c.args.sampling c.requires.sampled.1 in
-    omega (arith, few, c.used.ensures.used, c.used.ensures.within, c.used.ensures.few)
+    omega (arith, few, c.begin.ensures.few)
 
 pub returns-in-Counts-clause-units : goal.returns-in-Counts-clause-units
 returns-in-Counts-clause-units c =

@@ -20,8 +20,7 @@ returns-in-Ok-Basis-clause-sequel c = λ d e.
     let opened = ap (λ (j : Journal). j.limit) c.open.ensures in
     let limit = c.close-verdict.ensures.limit in
     let left = c.left.ensures in
-    let used = c.used.ensures.used in
-    let within = c.used.ensures.within in
+    let within = c.within_limit.ensures.within in
     found (program_of c.args.lp.now) d c.args.meter.now c.args.sampling e
     c.in_ok-elements.elements.items (c.in_ok-elements.ensures.left d e.parts e.at)
     c.deref.result.now c.deref.ensures.value
@@ -31,7 +30,7 @@ returns-in-Ok-Basis-clause-sequel c = λ d e.
       closing = c.close-verdict.new.meter;
     }) refl c.in_ok-elements.ensures.over c.in_ok-elements.ensures.few c.in-Ok-Basis.field-0
     (search rules) c.in-Ok-Basis.ensures.closes c.in-Ok-Basis.ensures.fits
-    (omega (arith, opened, limit, left, used, within))
+    (omega (arith, opened, limit, left, within))
 
 pub returns-in_err-append-in-Ok-Counter-clause-sequel :
     goal.returns-in_err-append-in-Ok-Counter-clause-sequel
@@ -49,11 +48,10 @@ returns-in_err-append-in-Ok-Counter-clause-sequel c = λ d e.
 pub refute-requires-clause-few : goal.refute-requires-clause-few
 refute-requires-clause-few c =
     let e = c.requires.enough in
-    let used = c.used.ensures.used in
-    let within = c.used.ensures.within in
-    let few = c.used.ensures.few in
+    let within = c.within_limit.ensures.within in
+    let few = c.within_limit.ensures.few in
     few_counted (program_of c.args.lp.now) e.0 c.args.meter.now.entries c.args.sampling e.1
-    most_units (omega (arith, used, within, few))
+    most_units (omega (arith, within, few))
 
 pub refute-requires-clause-maps : goal.refute-requires-clause-maps
 refute-requires-clause-maps c = c.requires.enough.1.at.maps
@@ -143,8 +141,7 @@ returns-clause-sequel c = λ d e.
     let opened = ap (λ (j : Journal). j.limit) c.open.ensures in
     let limit = c.close-verdict.ensures.limit in
     let left = c.left.ensures in
-    let used = c.used.ensures.used in
-    let within = c.used.ensures.within in
+    let within = c.within_limit.ensures.within in
     let kept = c.append-in-Err.ensures.limit in
     stop_told (program_of c.args.lp.now) d c.args.meter.now.entries
     c.args.sampling e c.in_ok-elements.elements.items
@@ -152,5 +149,5 @@ returns-clause-sequel c = λ d e.
     c.close-verdict.new.meter.limit c.close-verdict.new.meter.entries c.in-Err.error
     c.in-Err.ensures.stopped c.append-in-Err.new.meter
     c.in_ok-append-in-Err.ensures.entries
-    (omega (arith, opened, limit, left, used, within, kept)) c.refusal_of.result
+    (omega (arith, opened, limit, left, within, kept)) c.refusal_of.result
     c.refusal_of.ensures

@@ -87,8 +87,7 @@ loop-sampling-smaller c =
       arith,
       more,
       c.in_ok-sampling-2.ensures.units,
-      c.used.ensures.used,
-      c.used.ensures.within,
+      c.within_limit.ensures.within,
       c.fill.ensures.limit,
       c.close_elements.ensures.limit,
     )

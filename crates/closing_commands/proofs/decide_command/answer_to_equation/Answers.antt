@@ -1,5 +1,8 @@
 use Rattle.std.proofs.Common.{inl, inr, refl, string_bytes}
 use Rattle.loop_model.specs.View.{program_of}
+use Rattle.io_edge.proofs.Going.{refused_made}
+use Rattle.command_parts.specs.Equations.{equation_in}
+use Rattle.command_parts.specs.EquationReading.{IsUnread}
 use Rattle.closing_commands.proofs.DecideTold.{answers_equation, leaves_equation, answers_unread}
 use Rattle.closing_commands.proofs.decide_command.answer_to_equation.Goals as goal
 
@@ -23,8 +26,11 @@ returns-in-Ok-clause-leaves c =
 pub returns-in-Err-clause-answers : goal.returns-in-Err-clause-answers
 returns-in-Err-clause-answers c =
     answers_unread c.args.evidence (program_of c.args.lp.now) (string_bytes c.args.equation.now)
-    c.args.budget.units c.args.meter.now c.args.meter.now c.in-Err.refusal refl
-    c.in-Err.ensures.unread
+    c.args.budget.units c.args.meter.now c.args.meter.now c.into_answer.result refl
+    (refused_made c.in-Err.refusal c.into_answer.result
+    (IsUnread (program_of c.args.lp.now)
+    (equation_in (program_of c.args.lp.now).names (string_bytes c.args.equation.now)))
+    c.in-Err.ensures.unread c.into_answer.ensures)
 
 pub returns-in-Err-clause-leaves : goal.returns-in-Err-clause-leaves
 returns-in-Err-clause-leaves c = inl refl

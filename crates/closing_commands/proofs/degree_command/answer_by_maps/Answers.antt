@@ -8,11 +8,11 @@ use Rattle.closing_commands.proofs.degree_command.answer_by_maps.Goals as goal
 
 pub returns-in-Err-clause-answer : goal.returns-in-Err-clause-answer
 returns-in-Err-clause-answer c =
-    IfOk-weaker c.map_answer.result _ _
+    IfOk-weaker c.map_refusal.result _ _
     (λ a says. map_told (program_of c.args.lp.now) c.args.degree c.open.new.self
     c.args.budget.units (ap (λ (j : Journal). j.limit) c.open.ensures) c.args.evidence
     (ap (λ (j : Journal). j.entries) c.open.ensures) c.in-Err.error c.in-Err.ensures.stops
-    (answer_view a) says) c.map_answer.ensures
+    (answer_view a) says) c.map_refusal.ensures
 
 pub returns-in-Err-clause-searched : goal.returns-in-Err-clause-searched
 returns-in-Err-clause-searched c =

@@ -1,7 +1,7 @@
 use Rattle.std.proofs.Common.{rules, string_bytes}
-use Rattle.std.proofs.lemmas.Result.{IfOk-weaker}
+use Rattle.std.proofs.lemmas.Option.{IfSome_then}
 use Rattle.loop_model.specs.View.{program_of}
-use Rattle.io_edge.specs.Views.{answer_view}
+use Rattle.io_edge.specs.Refusals.{seen_refusal}
 use Rattle.command_parts.proofs.Reading.{polynomial_read, refusal_read}
 use Rattle.command_parts.proofs.equation_argument.read_polynomial.Goals as goal
 
@@ -12,7 +12,6 @@ returns-in-Ok-clause-polynomial c =
 
 pub returns-in-Err-clause-unread : goal.returns-in-Err-clause-unread
 returns-in-Err-clause-unread c =
-    IfOk-weaker c.refusal.result _ _
+    IfSome_then (seen_refusal c.refusal.result) c.refusal.ensures
     (λ a says. refusal_read (program_of c.args.lp.now) (string_bytes c.args.equation.now) _
-    c.names.result.now (search rules) c.names.ensures.names c.in-Err.why c.in-Err.ensures
-    (answer_view a) says) c.refusal.ensures
+    c.names.result.now (search rules) c.names.ensures.names c.in-Err.why c.in-Err.ensures a says)

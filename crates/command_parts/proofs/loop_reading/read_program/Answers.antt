@@ -1,7 +1,7 @@
 use Rattle.std.proofs.Common.{rules, inr}
-use Rattle.std.proofs.lemmas.Result.{IfOk-weaker}
+use Rattle.std.proofs.lemmas.Option.{IfSome_then}
 use Rattle.poly_text.specs.Faults.{fault_of}
-use Rattle.io_edge.specs.Views.{answer_view}
+use Rattle.io_edge.specs.Refusals.{seen_refusal}
 use Rattle.loop_text.specs.LoopReader.{loop_of}
 use Rattle.io_edge.proofs.Readings.{fault_is}
 use Rattle.command_parts.specs.FaultTexts.{loop_refusal}
@@ -12,9 +12,7 @@ returns-clause-read g c =
     inr (
       c.in-Ok.bytes.items,
       c.in-Ok.ensures.read,
-      IfOk-weaker c.loop_refusal.result _ _
-          (λ a told. fault_is loop_of loop_refusal (fault_of c.in-Err-read_loop.e)
-          c.in-Ok.bytes.items
-          (answer_view a)
-          (search rules) told) c.loop_refusal.ensures,
+      IfSome_then (seen_refusal c.loop_refusal.result) c.loop_refusal.ensures
+          (λ a told. fault_is loop_of loop_refusal (fault_of c.in-Err-read_loop.why)
+          c.in-Ok.bytes.items a (search rules) told),
     )

@@ -1,12 +1,17 @@
-use Rattle.std.proofs.Common.{◌≢◌, refl, ap, ◌∙◌}
+use Rattle.std.proofs.Common.{◌≢◌, [], ◌∷◌, Ok, ap, subst, ◌∙◌}
 use Rattle.std.proofs.lemmas.List.{drop_all}
 use Rattle.algebra.specs.Fraction.{ℚ}
+use Rattle.polynomials.specs.Terms.{constant}
 use Rattle.frac128.specs.FracMeaning.{fraction_of}
 use Rattle.poly.specs.Seen.{terms_in, terms_each}
 use Rattle.poly.specs.View.{term_of, terms_of}
-use Rattle.counter_run.proofs.Combining.{each_item, known_at}
+use Rattle.loop_model.specs.Operations.{sum_at, IsFree}
+use Rattle.loop_model.specs.Stops.{Forms}
+use Rattle.counter_run.specs.Composition.{factors, product_operations, term_product}
+use Rattle.counter_run.specs.OpenSums.{terms_so_far}
+use Rattle.counter_run.proofs.Combining.{composed, each_item, known_at}
 use Rattle.loop_model.proofs.Items.{in_list, item_of, past_list}
-use Rattle.counter_run.proofs.Compositions.{summing_arity, summing_more, summing_all, read_at}
+use Rattle.counter_run.proofs.Compositions.{summing_from_more, read_at}
 use Rattle.counter_run.proofs.combination.combine.Goals as goal
 
 pub with_term-requires-clause-nonzero : goal.with_term-requires-clause-nonzero
@@ -29,18 +34,24 @@ loop-term-preserved c =
     (read_at p.terms.items c.deref-term-items.result.now
     (c.deref-term-items.ensures.value ∙ ap (λ v. v.items) c.terms.ensures)
     c.loop-term.term-index c.term-item.result c.loop-term-test.true c.term-item.is) in
-    let adds = c.in_ok-total.ensures.sum in
+    let adds = c.in_ok-so_far.ensures.sum in
+    let arity = c.loop-term.invariant.arity in
+    let formed : Forms p.arity
+    (product_operations (constant p.arity (fraction_of c.term-item.result.coef))
+    (factors images c.term-item.result.mono))
+    (term_product p.arity images (term_of fraction_of c.term-item.result)) (Ok adds.term) =
+    subst (λ k. Forms k (product_operations (constant k (fraction_of c.term-item.result.coef))
+    (factors images c.term-item.result.mono))
+    (term_product k images (term_of fraction_of c.term-item.result)) (Ok adds.term))
+    c.arity-in-loop-term.ensures.arity adds.formed in
     record {
-      arity =
-          summing_arity p.arity images (terms_in p) (term_of fraction_of c.term-item.result) _ _
-          order c.loop-term.total c.loop-term.invariant.arity c.loop-term.invariant.goes
-          c.arity-in-loop-term.result c.arity-in-loop-term.ensures.arity images refl adds.term
-          c.in_ok-total.total adds.sum;
+      arity = adds.sum.arity ∙ arity;
       goes =
-          summing_more p.arity images (terms_in p) (term_of fraction_of c.term-item.result) _ _
-          order c.loop-term.total c.loop-term.invariant.arity c.loop-term.invariant.goes
-          c.arity-in-loop-term.result c.arity-in-loop-term.ensures.arity images refl adds.term
-          adds.formed c.in_ok-total.total adds.sum;
+          summing_from_more p.arity images (terms_in p) (term_of fraction_of c.term-item.result) _ _
+          order (terms_so_far c.loop-term.so_far) c.loop-term.invariant.goes adds.term formed
+          (terms_so_far c.in_ok-so_far.so_far) adds.sum.same
+          (subst (λ k. IsFree k (sum_at 0 (terms_so_far c.loop-term.so_far) (terms_in adds.term)
+          ∷ [])) arity adds.sum.free);
       known =
           known_at c.arity-in-loop-term.result p.arity images _
           c.arity-in-loop-term.ensures.arity c.with_term.ensures.known;
@@ -52,6 +63,7 @@ returns-clause-combined c =
     let past = past_list p.terms.items c.deref-term-items.result.now
     (c.deref-term-items.ensures.value ∙ ap (λ v. v.items) c.terms.ensures)
     c.loop-term.term-index c.loop-term-test.false in
-    summing_all p.arity (terms_each c.args.images.now.items) (terms_in p) _ c.loop-term.total
+    composed p.arity (terms_each c.args.images.now.items) (terms_in p) _ c.loop-term.so_far
+    c.collected.result
     (ap (terms_of fraction_of) (drop_all c.loop-term.term-index p.terms.items past))
-    c.loop-term.invariant.arity c.loop-term.invariant.goes
+    c.loop-term.invariant.arity c.loop-term.invariant.goes c.collected.ensures

@@ -1,11 +1,7 @@
-use Rattle.std.proofs.Common.{sym, refl}
+use Rattle.counter_run.proofs.Combining.{found_at}
 use Rattle.counter_run.proofs.combination.image_of.Goals as goal
 
-pub returns-then-eq : goal.returns-then-eq
-returns-then-eq c = (
-  c.loop-item.item-index,
-  c.item-item.result,
-  c.loop-item-test.true,
-  sym c.item-item.is,
-  ((c.eq.ensures.same).0 c.if-eq.true, refl),
-)
+pub returns-in-Some : goal.returns-in-Some
+returns-in-Some c =
+    found_at c.args.known.now c.place_of.result c.get.result c.in-Some.item c.args.monomial.now
+    c.get.ensures.lookup c.in-Some.is ((c.eq.ensures.same).0 c.if-eq.true)

@@ -12,7 +12,7 @@ returns-in-Some-clause-sum c =
     let known = subst (AreMonomialImages c.args.arity (terms_each images))
     (sym c.deref.ensures.value) c.requires.known in
     adds_known c.args.arity images c.requires.images (term_of fraction_of c.args.term.now)
-    c.requires.nonzero c.in-Some.image.now c.args.total.now
+    c.requires.nonzero c.in-Some.image.now c.args.so_far
     (found_image c.args.arity (terms_each images) c.deref.result.now c.args.term.now.mono
     c.in-Some.image.now known c.in-Some.ensures) c.with_multiple.result c.with_multiple.ensures
 
@@ -22,5 +22,5 @@ returns-clause-sum c =
     let formed : IsPowerProduct c.args.arity (terms_each images) c.args.term.now.mono
     c.in_ok-image.image = search rules in
     adds_term c.args.arity images c.requires.images (term_of fraction_of c.args.term.now)
-    c.requires.nonzero c.in_ok-image.image c.args.total.now formed c.in_ok-next.next
+    c.requires.nonzero c.in_ok-image.image c.args.so_far formed c.in_ok-next.next
     c.in_ok-next.ensures

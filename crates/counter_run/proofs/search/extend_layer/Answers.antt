@@ -5,7 +5,7 @@ use Rattle.loop_model.specs.View.{program_of}
 use Rattle.counter_run.specs.Search.{IsComposedWord, HasZeroImage, IsImageOf, IfWordStops}
 use Rattle.counter_run.proofs.Combining.{known_at}
 use Rattle.loop_model.proofs.Items.{in_list, item_of, item_has}
-use Rattle.counter_run.proofs.Searching.{stop_here, hit_here, more_one}
+use Rattle.counter_run.proofs.Searching.{stop_here, hit_here, more_word}
 use Rattle.counter_run.proofs.search.extend_layer.Goals as goal
 
 pub returns-in_err-next-clause-stopped : goal.returns-in_err-next-clause-stopped
@@ -25,7 +25,7 @@ returns-in_err-next-clause-stopped c =
     c.loop-suffix-test.true c.suffix-item.is in
     let e = err_from_is_err_and c.from_residual.result c.from_residual.ensures.1 in
     rw (e.1, e.2)
-    (stop_here program p c.args.letter ts c.loop-suffix.suffix-index
+    (stop_here program p c.args.keeps c.args.letter ts c.loop-suffix.suffix-index
     c.args.words.items c.loop-suffix.words.items c.loop-suffix.invariant.appends
     c.suffix-item.result inside at c.in_err-next.field-0.0 c.requires.letter
     composed.letters c.in_err-next.ensures.stopped)
@@ -48,7 +48,7 @@ returns-in_err-image-clause-stopped c =
     let e = err_from_is_err_and c.from_residual-in_err-image.result
     c.from_residual-in_err-image.ensures.1 in
     rw (e.1, e.2)
-    (stop_here program p c.args.letter ts c.loop-suffix.suffix-index
+    (stop_here program p c.args.keeps c.args.letter ts c.loop-suffix.suffix-index
     c.args.words.items c.loop-suffix.words.items c.loop-suffix.invariant.appends
     c.suffix-item.result inside at c.in_err-image.field-0.0 c.requires.letter
     composed.letters
@@ -66,7 +66,7 @@ returns-in-Some-clause-found c =
     let at = item_of ts c.deref-suffix-items.result.now
     c.deref-suffix-items.ensures.value c.loop-suffix.suffix-index
     c.suffix-item.result c.suffix-item.is in
-    hit_here program p c.args.letter ts c.loop-suffix.suffix-index c.args.words.items
+    hit_here program p c.args.keeps c.args.letter ts c.loop-suffix.suffix-index c.args.words.items
     c.loop-suffix.words.items c.loop-suffix.invariant.appends c.suffix-item.result
     inside at
     (record { word = c.in_ok-next.next.word; image = c.in-Some.image }) c.in_ok-next.next
@@ -91,14 +91,15 @@ loop-suffix-preserved c =
     c.loop-suffix-test.true c.suffix-item.is in
     let none : c.in_ok-image.image ≡ None = search rules in
     record {
-      appends = more_one program p c.args.letter ts c.loop-suffix.suffix-index c.args.words.items
+      appends = more_word program p c.args.keeps c.args.letter ts c.loop-suffix.suffix-index
+          c.args.words.items
           c.loop-suffix.words.items c.loop-suffix.invariant.appends c.suffix-item.result
           inside at
-          c.in_ok-next.next c.push.new.self.items c.in_ok-next.ensures.word
+          c.in_ok-next.next c.keep_word.new.words.items c.in_ok-next.ensures.word
           c.in_ok-next.ensures.composes
           (subst (HasZeroImage program p) c.in_ok-next.ensures.word
           (subst (IsImageOf program p c.in_ok-next.next.word.items) none
-          c.in_ok-image.ensures.tested)) c.in_ok-push.ensures.items;
+          c.in_ok-image.ensures.tested)) c.in_ok-keep_word.ensures;
       known =
           known_at c.suffix-item.result.polynomial.arity (length program.names)
           (terms_each c.args.images.now.items) _ composed.stands.arity

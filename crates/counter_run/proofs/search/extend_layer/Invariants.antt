@@ -11,7 +11,7 @@ invariant-loop-suffix l =
     let program = program_of l.lp in
     let m = length program.names in
     record {
-      appends : Appends program (terms_in l.polynomial)
+      appends : Appends program (terms_in l.polynomial) l.keeps
           (with_letter l.letter (words_in (take l.suffix-index l.layer.items)))
           l.initial.words.items l.words.items;
       known : AreMonomialImages m (terms_each l.images.items) l.known.items;

@@ -12,7 +12,7 @@ use Rattle.counter_run.proofs.search.next_layer.Goals as goal
 
 pub loop-index-init : goal.loop-index-init
 loop-index-init c =
-    letters_none (program_of c.args.lp.now) (terms_in c.args.polynomial.now)
+    letters_none (program_of c.args.lp.now) (terms_in c.args.polynomial.now) c.args.keeps
     (words_in c.args.layer.now.items) c.new-words.result.items c.new-words.ensures.items
 
 pub index-images-requires : goal.index-images-requires
@@ -41,7 +41,7 @@ returns-in_err-more-clause-stopped c =
     c.branches-index-end.ensures.branches c.loop-index-test.true in
     let e = err_from_is_err_and c.from_residual.result c.from_residual.ensures.1 in
     rw (e.1, e.2)
-    (letter_stopped program p (words_in c.args.layer.now.items)
+    (letter_stopped program p c.args.keeps (words_in c.args.layer.now.items)
     (length program.branches) c.loop-index.index inside [] c.loop-index.words.items
     c.loop-index.invariant c.in_err-more.field-0.0 c.in_err-more.ensures.stopped)
 
@@ -51,10 +51,10 @@ returns-in-Found-clause-found c =
     let p = terms_in c.args.polynomial.now in
     let inside = inside_seen _ c.branches-index-end.result.now program.branches c.loop-index.index
     c.branches-index-end.ensures.branches c.loop-index-test.true in
-    letter_found program p (words_in c.args.layer.now.items)
+    letter_found program p c.args.keeps (words_in c.args.layer.now.items)
     (length program.branches) c.loop-index.index inside [] c.loop-index.words.items
     c.loop-index.invariant (λ w. IsCounteringWord program p w c.in-Found.found_word)
-    (subst (IsLayer program p
+    (subst (IsLayer program p c.args.keeps
     (with_letter (c.loop-index.index + 1) (words_in c.args.layer.now.items))
     c.loop-index.words.items) c.in-Found.is c.in_ok-more.ensures.found)
 
@@ -64,10 +64,10 @@ loop-index-preserved c =
     let p = terms_in c.args.polynomial.now in
     let inside = inside_seen _ c.branches-index-end.result.now program.branches c.loop-index.index
     c.branches-index-end.ensures.branches c.loop-index-test.true in
-    letter_more program p (words_in c.args.layer.now.items)
+    letter_more program p c.args.keeps (words_in c.args.layer.now.items)
     (length program.branches) c.loop-index.index inside [] c.loop-index.words.items
     c.loop-index.invariant c.in-Words.more.items
-    (subst (IsLayer program p
+    (subst (IsLayer program p c.args.keeps
     (with_letter (c.loop-index.index + 1) (words_in c.args.layer.now.items))
     c.loop-index.words.items) c.in-Words.is c.in_ok-more.ensures.found)
 
@@ -81,6 +81,6 @@ returns-clause-found c =
     c.branches-index-end.ensures.branches in
     let same : c.loop-index.index ≡ length program.branches =
     omega (arith, count, past, last, c.loop-index-test.false) in
-    subst (λ n. Appends program (terms_in c.args.polynomial.now)
+    subst (λ n. Appends program (terms_in c.args.polynomial.now) c.args.keeps
     (with_each_letter n (words_in c.args.layer.now.items)) [] c.loop-index.words.items) same
     c.loop-index.invariant

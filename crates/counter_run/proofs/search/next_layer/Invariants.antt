@@ -7,5 +7,5 @@ use Rattle.counter_run.proofs.search.next_layer.Given as goal
 
 abbrev pub invariant-loop-index : goal.invariant-loop-index
 invariant-loop-index l =
-    Appends (program_of l.lp) (terms_in l.polynomial)
+    Appends (program_of l.lp) (terms_in l.polynomial) l.keeps
     (with_each_letter l.index (words_in l.layer.items)) [] l.words.items

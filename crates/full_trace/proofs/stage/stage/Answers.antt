@@ -81,8 +81,7 @@ divide_each-requires-2-clause-few c =
     c.in-Ok-free_elements.ensures.arity c.deref-5.ensures.value)
     c.in_ok-out.out c.tidy_in.new.meter c.in_ok-out.ensures.ran
     (let a = length-map c.args.begin.now terms_in in let b = c.requires.few in omega (arith, a, b))
-    (let a = c.used.ensures.used in let b = c.used.ensures.within in
-    let d = c.used.ensures.few in omega (arith, a, b, d))
+    (omega (arith, c.within_limit.ensures.within, c.within_limit.ensures.few))
     c.deref-7.result.now c.deref-7.ensures.value
 
 pub returns-in_err-links-clause-refused : goal.returns-in_err-links-clause-refused

@@ -22,8 +22,7 @@ divide_each-requires-clause-few c =
     c.in_ok-out.ensures.ran
     (let a = length-map c.args.starts.now terms_in in let b = c.requires.few in
     omega (arith, a, b))
-    (let a = c.used.ensures.used in let b = c.used.ensures.within in
-    let d = c.used.ensures.few in omega (arith, a, b, d))
+    (omega (arith, c.within_limit.ensures.within, c.within_limit.ensures.few))
     c.deref-2.result.now c.deref-2.ensures.value
 
 pub returns-in_err-links-clause-refused : goal.returns-in_err-links-clause-refused

@@ -148,9 +148,9 @@ basis_in-requires-clause-few c =
     let few = c.in-Ok-mapped.ensures.few in
     let e = ap (λ (ks : List FracPoly). length ks) c.deref-2.ensures.value in
     let before = c.requires.few in
-    let units = units_left c.open.new.self c.mapped.new.meter c.args.budget c.used.result
-    c.left-left.result c.open.ensures c.in-Ok-mapped.ensures.ran.limit c.used.ensures.used
-    c.used.ensures.within c.left-left.ensures in
+    let units = units_left c.open.new.self c.mapped.new.meter c.args.budget c.left-left.result
+    c.open.ensures c.in-Ok-mapped.ensures.ran.limit c.within_limit.ensures.within
+    c.left-left.ensures in
     let budget = c.requires.budget in
     let names = c.args.stage.now.code.few_names in
     let copied = few_assigned (code_in c.args.stage.now.code) 0
@@ -169,9 +169,9 @@ returns-in-Ok-basis_in-clause-ok c = λ p is.
     (loop_free p g is c.in-Ok-setting_of.ensures.free)
     (loop_forms p g is c.in-Ok-setting_of.ensures.forms) in
     let ks = c.deref-2.result.now in
-    let units = units_left c.open.new.self c.mapped.new.meter c.args.budget c.used.result
-    c.left-left.result c.open.ensures c.in-Ok-mapped.ensures.ran.limit c.used.ensures.used
-    c.used.ensures.within c.left-left.ensures in
+    let units = units_left c.open.new.self c.mapped.new.meter c.args.budget c.left-left.result
+    c.open.ensures c.in-Ok-mapped.ensures.ran.limit c.within_limit.ensures.within
+    c.left-left.ensures in
     let few = subst (λ ns. length c.in-Ok-mapped.given.items ≤ length c.args.before.now
     + copies (length ns) (code_in g.code) + units_of c.mapped.new.meter.entries) is.0.0
     c.in-Ok-mapped.ensures.few in
@@ -204,9 +204,9 @@ returns-clause-err c = λ p is.
     (loop_free p g is c.in-Ok-setting_of.ensures.free)
     (loop_forms p g is c.in-Ok-setting_of.ensures.forms) in
     let ks = c.deref-2.result.now in
-    let units = units_left c.open.new.self c.mapped.new.meter c.args.budget c.used.result
-    c.left-left.result c.open.ensures c.in-Ok-mapped.ensures.ran.limit c.used.ensures.used
-    c.used.ensures.within c.left-left.ensures in
+    let units = units_left c.open.new.self c.mapped.new.meter c.args.budget c.left-left.result
+    c.open.ensures c.in-Ok-mapped.ensures.ran.limit c.within_limit.ensures.within
+    c.left-left.ensures in
     stage_refused p (stage_of g).branches c.args.before.now c.args.budget c.open.new.self
     c.open.ensures c.mapped.new.meter ks c.in-Ok-mapped.given (sym c.deref-2.ensures.value)
     c.left-left.result units c.basis_in.new.meter c.basis_in.ensures.limit c.in-Err-basis_in.error

@@ -1,25 +1,39 @@
-use Rattle.std.proofs.Common.{◌+◌, sym, subst, ◌∙◌}
+use Rattle.std.proofs.Common.{◌+◌, sym, ap, subst, subst₂, ◌∙◌}
 use Rattle.std.proofs.lemmas.Result.{IfOk-weaker}
 use Rattle.ideal_ops.specs.Eliminating.{HaveBlock}
 use Rattle.task_lists.specs.Late.{front_in}
+use Rattle.task_lists.specs.Starting.{orbit_starting}
 use Rattle.invariant_fix.specs.Orbits.{vars_of}
-use Rattle.invariant_fix.proofs.LateForms.{whole_front, whole_list, whole_past, vars_are, late_front, late_list, late_past}
+use Rattle.invariant_fix.proofs.LateForms.{whole_fits, whole_front, whole_list, whole_past, vars_are, late_front, late_list, late_past}
 use Rattle.invariant_fix.proofs.orbits.starting_list.Goals as goal
 
+pub orbit_list-requires : goal.orbit_list-requires
+orbit_list-requires c = record {
+  fits = whole_fits c.args.branch.now c.requires.branch c.len-vars.result
+      (c.len-vars.ensures ∙ c.args.branch.now.images.ok.0) c.requires.some c.args.basis.now
+      c.requires.basis;
+}
+
 pub returns-then-branch-eq0-clause-list : goal.returns-then-branch-eq0-clause-list
-returns-then-branch-eq0-clause-list c = IfOk-weaker c.orbit_list.result _ _
-    (λ g e. e ∙ sym (whole_list c.args.branch.now c.if-branch-eq0.true c.args.basis.now))
+returns-then-branch-eq0-clause-list c =
+    let b = c.args.branch.now in
+    let vars = c.len-vars.ensures ∙ b.images.ok.0 in
+    IfOk-weaker c.orbit_list.result _ _
+    (λ g e. e ∙ ap (λ m. orbit_starting m b.form.base b.back c.args.basis.now) vars
+    ∙ sym (whole_list b c.requires.branch c.if-branch-eq0.true c.args.basis.now))
     c.orbit_list.ensures.list
 
 pub returns-then-branch-eq0-clause-block : goal.returns-then-branch-eq0-clause-block
-returns-then-branch-eq0-clause-block c = IfOk-weaker c.orbit_list.result _ _
-    (λ g h. subst (λ n. HaveBlock n (n + vars_of c.args.branch.now) g.items)
-    (sym (whole_front c.args.branch.now c.if-branch-eq0.true)) h)
-    c.orbit_list.ensures.block
+returns-then-branch-eq0-clause-block c =
+    let b = c.args.branch.now in
+    IfOk-weaker c.orbit_list.result _ _
+    (λ g h. subst₂ (λ n m. HaveBlock n (n + m) g.items)
+    (sym (whole_front b c.requires.branch c.if-branch-eq0.true))
+    (c.len-vars.ensures ∙ b.images.ok.0) h) c.orbit_list.ensures.block
 
 pub returns-then-branch-eq0-clause-wide : goal.returns-then-branch-eq0-clause-wide
-returns-then-branch-eq0-clause-wide c = λ w.
-    whole_past c.args.branch.now c.if-branch-eq0.true c.args.basis.now (c.orbit_list.ensures.wide w)
+returns-then-branch-eq0-clause-wide c = λ w. whole_past c.args.branch.now c.requires.branch
+    c.if-branch-eq0.true c.args.basis.now (c.orbit_list.ensures.wide w)
 
 pub returns-clause-list : goal.returns-clause-list
 returns-clause-list c =

@@ -17,11 +17,10 @@ invariant_of-result c =
     let k = c.loop-basis.invariant.known in
     let f = k.few in
     let m = c.requires.fits.few_first in
-    let u = c.used.ensures.used in
-    let w = c.used.ensures.within in
-    let l = c.used.ensures.few in
+    let w = c.within_limit.ensures.within in
+    let l = c.within_limit.ensures.few in
     record {
-      few = omega (arith, f, m, u, w, l);
+      few = omega (arith, f, m, w, l);
       arity = one_arity c.args.setting.now.arity c.loop-basis.basis.items k.arity;
       reduced = ∣ reduced_at_own c.args.setting.now.arity _ _ c.loop-basis.basis.items k ∣₁;
     }
@@ -31,6 +30,5 @@ loop-basis-smaller c =
     let limit = c.next_basis.ensures.limit ∙ c.closing_steps.ensures.limit in
     let a = c.in_ok-steps.ensures.units in
     let b = c.in_ok-basis.ensures.units in
-    let w = c.used.ensures.within in
-    let u = c.used.ensures.used in
-    omega (arith, limit, a, b, w, u)
+    let w = c.within_limit.ensures.within in
+    omega (arith, limit, a, b, w)

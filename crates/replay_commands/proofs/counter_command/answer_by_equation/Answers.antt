@@ -1,5 +1,8 @@
 use Rattle.std.proofs.Common.{string_bytes}
 use Rattle.loop_model.specs.View.{program_of}
+use Rattle.io_edge.proofs.Going.{refused_made}
+use Rattle.command_parts.specs.Equations.{equation_in}
+use Rattle.command_parts.specs.EquationReading.{IsUnread}
 use Rattle.replay_commands.proofs.CounterTold.{answers_equation, answers_unread}
 use Rattle.replay_commands.proofs.counter_command.answer_by_equation.Goals as goal
 
@@ -15,4 +18,8 @@ returns-in-Ok c =
 pub returns-in-Err : goal.returns-in-Err
 returns-in-Err c =
     answers_unread (program_of c.args.lp.now) (string_bytes c.args.equation.now) c.args.most
-    c.in-Err.refusal c.in-Err.ensures.unread
+    c.into_answer.result
+    (refused_made c.in-Err.refusal c.into_answer.result
+    (IsUnread (program_of c.args.lp.now)
+    (equation_in (program_of c.args.lp.now).names (string_bytes c.args.equation.now)))
+    c.in-Err.ensures.unread c.into_answer.ensures)

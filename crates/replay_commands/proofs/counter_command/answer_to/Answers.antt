@@ -15,4 +15,4 @@ returns-in-Ok g c m =
 
 pub returns-in-Err : goal.returns-in-Err
 returns-in-Err g c m = refused_says loop_of loop_refusal _ _ _ _ m c.in-Err.refusal
-    c.in-Err.ensures.read
+    c.into_answer.result c.in-Err.ensures.read c.into_answer.ensures

@@ -1,20 +1,21 @@
 use Rattle.std.proofs.Common.{◌≡◌, ◌<◌, ◌≤◌, ◌-◌, [], get_or, length, sym, ap, subst, ◌∙◌, arith}
-use Rattle.std.proofs.lemmas.List.{length-map}
+use Rattle.std.proofs.lemmas.List.{get_or-map, length-map}
 use Rattle.std.proofs.lemmas.Result.{IfOk-weaker}
-use Rattle.algebra.specs.Fraction.{ℚ}
-use Rattle.polynomials.specs.Terms.{Same}
+use Rattle.algebra.specs.Fraction.{ℚ, rationals}
+use Rattle.machines.specs.Collect.{collect}
 use Rattle.poly.specs.Seen.{terms_in, terms_each}
 use Rattle.poly.specs.Standing.{IsInVariables}
 use Rattle.poly.proofs.IsLaws.{same_equal}
-use Rattle.task_lists.specs.Starting.{numbers_of, relations_of, pulled_back}
-use Rattle.task_lists.proofs.Elements.{orbit_count, seen_at, at_front, at_back}
+use Rattle.rounds.specs.Form.{orbit_order, orbit_relations, pulled_back_by, relations}
+use Rattle.task_lists.specs.Starting.{numbers_of}
+use Rattle.task_lists.proofs.Elements.{orbit_count, relations_count, seen_at, at_front, at_back}
 use Rattle.task_lists.proofs.starting.orbit_element.Goals as goal
 
 pub relation_at-requires-clause-place : goal.relation_at-requires-clause-place
 relation_at-requires-clause-place c =
     let r = numbers_of c.args.base.now in
     let list = c.args.list.now.items in
-    let all = orbit_count (pulled_back r c.args.variables (terms_each c.args.back.now.items))
+    let all = orbit_count (pulled_back_by r c.args.variables (terms_each c.args.back.now.items))
     (terms_each list) r c.args.variables in
     let elements = length-map list terms_in in
     let numbers : c.len-2.result ≡ r = c.len-2.ensures ∙ c.args.base.now.ok.0
@@ -32,12 +33,12 @@ returns-then-place-len-clause-same c =
     let element = c.index.result.now in
     let arity : element.arity ≡ c.args.variables = subst (IsInVariables c.args.variables)
     (sym c.index.ensures) (c.requires.fits.elements c.args.place element inside) in
-    IfOk-weaker c.pulled_back.result _ _ (λ p is. subst (Same ℚ (terms_in p))
-    (at_front (pulled_back r c.args.variables (terms_each c.args.back.now.items)) (terms_each list)
-    (relations_of r c.args.variables) c.args.place (terms_in c.index.result.now)
+    IfOk-weaker c.pulled_back.result _ _ (λ p is. same_equal ℚ (terms_in p) _ (is
+    ∙ ap (λ k. pulled_back_by r k back (terms_in element)) arity
+    ∙ at_front (pulled_back_by r c.args.variables back) (terms_each list)
+    (orbit_relations r c.args.variables) c.args.place (terms_in element)
     (omega (arith, inside, length-map list terms_in))
-    (seen_at terms_in list c.args.place c.index.result.now inside c.index.ensures))
-    (subst (λ k. Same ℚ (terms_in p) (pulled_back r k back (terms_in element))) arity is.same))
+    (seen_at terms_in list c.args.place element inside c.index.ensures)))
     c.pulled_back.ensures.pulled_back
 
 pub returns-clause-same : goal.returns-clause-same
@@ -50,7 +51,14 @@ returns-clause-same c =
     ∙ sym (length-map list terms_in) in
     let behind : c.len-3.result ≤ c.args.place =
     omega (arith, c.if-place-len.false, c.len.ensures, c.len-3.ensures) in
+    let m = c.args.variables in
+    let j = c.args.place - c.len-3.result in
+    let all = orbit_count (pulled_back_by r m (terms_each c.args.back.now.items)) (terms_each list)
+    r m in
+    let within : j < length (relations r m) = (let n = relations_count r m in
+    omega (arith, c.requires.place, all, n, size, behind)) in
     same_equal ℚ (terms_in c.in_ok-relation_at.field-0) _ (c.in_ok-relation_at.ensures.relation
-    ∙ ap (λ k. get_or (relations_of k c.args.variables) (c.args.place - c.len-3.result) []) numbers
-    ∙ at_back (pulled_back r c.args.variables (terms_each c.args.back.now.items)) (terms_each list)
-    (relations_of r c.args.variables) c.args.place c.len-3.result size behind)
+    ∙ ap (λ k. collect rationals (orbit_order k) (get_or (relations k m) j [])) numbers
+    ∙ sym (get_or-map (collect rationals (orbit_order r)) (relations r m) j [] [] within)
+    ∙ at_back (pulled_back_by r m (terms_each c.args.back.now.items)) (terms_each list)
+    (orbit_relations r m) c.args.place c.len-3.result size behind)

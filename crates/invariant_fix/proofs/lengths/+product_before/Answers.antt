@@ -1,0 +1,60 @@
+use Rattle.std.proofs.Common.{inl, inr, ap, ◌∙◌}
+use Rattle.std.proofs.lemmas.List.{length-map}
+use Rattle.poly.specs.Seen.{terms_in, terms_each}
+use Rattle.expansion.proofs.Counting.{of_first, none_above, some_is}
+use Rattle.expansion.proofs.LengthLaws.{lengths_none}
+use Rattle.invariant_fix.specs.Long.{lengths_told}
+use Rattle.invariant_fix.proofs.LongLaws.{told_none, told_more, told_past}
+use Rattle.invariant_fix.proofs.lengths.+product_before.Goals as goal
+
+pub returns-in_default : goal.returns-in_default
+returns-in_default t c =
+    of_first _ (told_none c.args.passing.now (terms_each c.args.back.now) c.args.exponents.now
+    (inr (length-map c.args.back.now terms_in ∙ c.in_default.ensures''.cases)))
+
+pub returns-in_default-2 : goal.returns-in_default-2
+returns-in_default-2 t c =
+    of_first _ (told_none c.args.passing.now (terms_each c.args.back.now) c.args.exponents.now
+    (inl c.in_default.ensures'.cases))
+
+pub returns-in_default-3 : goal.returns-in_default-3
+returns-in_default-3 t c =
+    of_first _ (lengths_none (lengths_told c.args.passing.now (terms_each c.args.back.now))
+    c.args.exponents.now (inr c.in_default.ensures.cases))
+
+pub returns-in_default-product_before : goal.returns-in_default-product_before
+returns-in_default-product_before t c =
+    told_past c.in-Some-Some-Some.passes.now c.in-Some-Some-Some.passing.now c.args.passing.now
+    (terms_in c.in-Some-Some-Some.first.now) (terms_each c.in-Some-Some-Some.back.now)
+    (terms_each c.args.back.now) c.in-Some-Some-Some.exponent.now
+    c.in-Some-Some-Some.exponents.now c.args.exponents.now
+    c.in-Some-Some-Some.ensures'.cases.0 (ap terms_each c.in-Some-Some-Some.ensures''.cases.0)
+    c.in-Some-Some-Some.ensures.cases.0
+    (inl (none_above _ c.product_before.result c.product_before.ensures
+    c.in_default-product_before.not-Some))
+
+pub returns-in_default-power_before : goal.returns-in_default-power_before
+returns-in_default-power_before t c =
+    told_past c.in-Some-Some-Some.passes.now c.in-Some-Some-Some.passing.now c.args.passing.now
+    (terms_in c.in-Some-Some-Some.first.now) (terms_each c.in-Some-Some-Some.back.now)
+    (terms_each c.args.back.now) c.in-Some-Some-Some.exponent.now
+    c.in-Some-Some-Some.exponents.now c.args.exponents.now
+    c.in-Some-Some-Some.ensures'.cases.0 (ap terms_each c.in-Some-Some-Some.ensures''.cases.0)
+    c.in-Some-Some-Some.ensures.cases.0
+    (inr (none_above _ c.power_before.result c.power_before.ensures
+    c.in_default-power_before.not-Some))
+
+pub returns : goal.returns
+returns t c =
+    let rest = some_is _ c.in-Some.rest c.product_before.result c.product_before.ensures
+    c.in-Some.is in
+    let power = some_is _ c.in-Some-power_before.power c.power_before.result
+    c.power_before.ensures c.in-Some-power_before.is in
+    told_more c.in-Some-Some-Some.passes.now c.in-Some-Some-Some.passing.now c.args.passing.now
+    (terms_in c.in-Some-Some-Some.first.now) (terms_each c.in-Some-Some-Some.back.now)
+    (terms_each c.args.back.now) c.in-Some-Some-Some.exponent.now
+    c.in-Some-Some-Some.exponents.now c.args.exponents.now
+    c.in-Some-Some-Some.ensures'.cases.0 (ap terms_each c.in-Some-Some-Some.ensures''.cases.0)
+    c.in-Some-Some-Some.ensures.cases.0
+    c.in-Some.rest c.in-Some-power_before.power c.product.result rest.0 power.0
+    c.product.ensures
