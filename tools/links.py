@@ -3,12 +3,12 @@
 
 Usage: tools/links.py
 
-A link is a private function that is called in one place of its crate, by another function, with three arguments or more besides the allocator, at least
-half of which are parameters of the caller, handed on as they are (`x`, `&x` or `&mut x`). A sequence that is cut into links says at each of them again
-what is known of the arguments; a type for what is under way, with its facts as ghost fields, says it once. Functions that share their name with another
-of the crate are left out.
+A chain is a sequence that is cut into functions each of which is called by the one before alone. A link of one is a private function with one caller
+and three parameters or more besides `self` and the allocator that hands on at least half of them, as they are (`x`, `&x` or `&mut x`), to another
+private function of which it is the one caller. Each link says again what is known of what it hands on; a type for what is under way, with its facts
+as ghost fields, says it once. Functions that share their name with another of the crate are left out.
 
-Each row is a file, a line, the link, how many of its arguments are handed on, and by whom.
+Each row is a file, a line, the link, how many of its parameters it hands on, and to whom.
 """
 import re
 from collections import Counter, defaultdict
@@ -17,7 +17,9 @@ from dataclasses import dataclass
 from pathlib import Path
 
 TOP = Path(__file__).resolve().parent.parent
-FEW_ARGUMENTS = 3
+FEW_PARAMETERS = 3
+# a link's parameters that aren't counted: what a method is of, and where lists are made
+LEFT_OUT = {"self", "alloc"}
 HEAD = re.compile(r"^(?P<indent> *)(?P<public>pub(?:\(\w+\))? )?fn (?P<name>\w+)(?:<[^>(]*>)?\(", re.M)
 COMMENT = re.compile(r"//[^\n]*")
 LITERAL = re.compile(r""""(?:[^"\\]|\\.)*"|'(?:[^'\\\n]|\\.)'""")
@@ -40,12 +42,12 @@ class Link:
     path: Path
     line: int
     name: str
-    caller: str
+    next_name: str
     handed: int
-    arguments: int
+    parameters: int
 
     def __str__(self) -> str:
-        return f"{self.name} is handed {self.handed} of its {self.arguments} arguments by its one caller, {self.caller}"
+        return f"{self.name} hands on {self.handed} of its {self.parameters} parameters to {self.next_name}"
 
 
 def without_comments_and_literals(text: str) -> str:
@@ -85,33 +87,36 @@ def functions_in(path: Path) -> Iterator[Function]:
             line=text.count("\n", 0, head.start("name")) + 1,
             name=head["name"],
             is_private=(head["public"] or "pub(").startswith("pub("),
-            parameters=frozenset(map(parameter_name, parameters)),
+            parameters=frozenset(map(parameter_name, parameters)) - LEFT_OUT,
             body=body if bracket else behind,
         )
 
 
-def calls_of(name: str, functions: list[Function]) -> Iterator[tuple[Function, list[str]]]:
-    """Each call in the bodies of functions: who calls, and with which arguments besides the allocator."""
+def calls_of(name: str, functions: list[Function]) -> Iterator[tuple[Function, set[str]]]:
+    """Each call in the bodies of functions: who calls, and with which arguments."""
     call = re.compile(rf"(?<!\w){name}(?:::<[^>]*>)?\(")
     for function in functions:
         for found in call.finditer(function.body):
             arguments, _ = listed_from(function.body, found.end() - 1)
-            yield function, [BORROW.sub("", argument) for argument in arguments if argument != "alloc"]
+            yield function, {BORROW.sub("", argument) for argument in arguments}
 
 
 def links_of(crate: Path) -> Iterator[Link]:
     functions = [function for path in sorted((crate / "src").rglob("*.rt")) for function in functions_in(path)]
     bearers = Counter(function.name for function in functions)
+    # each private function with one caller, and with which arguments it is called
+    called, callees = {}, defaultdict(list)
     for function in functions:
-        if not function.is_private or bearers[function.name] > 1:
-            continue
-        calls = list(calls_of(function.name, functions))
-        if len(calls) != 1 or calls[0][0] is function:
-            continue
-        caller, arguments = calls[0]
-        handed = sum(argument in caller.parameters for argument in arguments)
-        if len(arguments) >= FEW_ARGUMENTS and 2 * handed >= len(arguments):
-            yield Link(function.path, function.line, function.name, caller.name, handed, len(arguments))
+        if function.is_private and bearers[function.name] == 1:
+            calls = list(calls_of(function.name, functions))
+            if len(calls) == 1 and calls[0][0] is not function:
+                caller, called[function.name] = calls[0]
+                callees[caller.name].append(function.name)
+    for function in functions:
+        if function.name in called and len(function.parameters) >= FEW_PARAMETERS:
+            handed, next_name = max(((len(called[name] & function.parameters), name) for name in callees[function.name]), default=(0, ""))
+            if 2 * handed >= len(function.parameters):
+                yield Link(function.path, function.line, function.name, next_name, handed, len(function.parameters))
 
 
 def links() -> list[Link]:
