@@ -26,7 +26,7 @@ if [ "$1" = --one ]; then
     rm -f "$copy/crates/$name/must-fail/"*.edit
     cp "$copy/bench/edits/$name/"*.edit "$copy/crates/$name/must-fail/"
     cd "$copy"
-    rt must-fail "$name" >"$copy.said" 2>&1 || true
+    tools/rt.py must-fail "$name" >"$copy.said" 2>&1 || true
     cat "$copy.said"
     rm -rf "$copy"
     exit

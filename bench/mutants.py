@@ -5,10 +5,12 @@ Usage: bench/mutants.py BEFORE AFTER [COUNT [SEED]]     (COUNT is 12,000 and SEE
 
 BEFORE and AFTER are two programs `invar`, as `.ci/run` or `rt run` in crates/invar builds them. The same SEED gives the same texts.
 
-Texts are those of examples/, of bench/loops.txt and of the rows of crates/acceptance: loops, equations, and the polynomials of
-certificates. To them come texts on both sides of each limit of docs/LANGUAGE.md. Each is tried as it is, then with one to four changes: bytes and
-tokens dropped, doubled, exchanged, inserted or replaced, parts repeated, and limits passed. The commands are `run` with each branch once, `check`,
-`member` and `basis` with budgets of a few steps, so what is read starts no long analysis.
+Texts are those of examples/, of the lists in bench/ and of the rows of crates/acceptance: loops, loops in sequence, sequences, equations, certificates
+and the polynomials in them, full certificates. To them come texts on both sides of each limit of docs/LANGUAGE.md, and loops that multiply out to too
+many terms. Each is tried as it is, then with one to four changes: bytes and tokens dropped, doubled, exchanged, inserted or replaced, parts repeated,
+and limits passed. The commands are those that read such a text: runs with each branch once, the judges, counter-runs of at most two letters, and
+analyses and questions with budgets of a few steps, so what is read starts no long analysis. A program that ends by a signal, or that doesn't end
+within a minute, is told too.
 """
 import collections
 import functools
@@ -24,8 +26,10 @@ import tempfile
 TOP = pathlib.Path(__file__).resolve().parent.parent
 ROWS = TOP / "crates/acceptance/data/rows.txt"
 LOOP_ROWS = TOP / "crates/acceptance/data/loops.txt"
-LOOPS = TOP / "bench/loops.txt"
-SECONDS = 30
+LOOPS, CHAINS, SEQUENCES = (TOP / "bench" / name for name in ("loops.txt", "chains.txt", "sequences.txt"))
+FULL_ROWS = TOP / "crates/acceptance/data/full.txt"
+SECONDS = 60
+STATUSES = range(9)
 MOST_SHOWN = 5
 MOST_BYTES = 65_536
 
@@ -116,6 +120,17 @@ def loops_beside_limits():
         "  (b_2, C) = (C, b_2 + alpha^0/3);\n}\nbranch { } # the end"
 
 
+def loops_beside_lengths():
+    """Loops whose closed forms, and loops whose orbits, multiply out to 2^20 terms or to more."""
+    names = "abcdefghijkl"
+    for size in (3, 4, 5, 12):
+        rest = "+".join(names[2 : size + 1])
+        yield from (f"vars {', '.join(names)}; branch {{ a=b^{power}; b=({rest}+1)^{power}; }}" for power in (2, 3, 5, 8))
+    for size in (2, 4, 7, 11):
+        total = "+".join(names[: size + 1])
+        yield from (f"vars x, {', '.join(names[:11])}; init x=a^{power}; branch {{ a={total}; }}" for power in (2, 5, 8, 12, 16))
+
+
 def equations_beside_limits():
     for text in sums("a", "t"):
         yield from (f"{text} = s", f"s = {text}")
@@ -178,6 +193,26 @@ def written_certificates():
         elif row[0] == "CERT" and len(row) == 2 and row[1].startswith("{") and row[1].endswith("}"):
             found.append((loop, row[1]))
     return [(loop, text) for loop, text in dict.fromkeys(found) if '"kind"' not in text]
+
+
+def written_chains():
+    """The loops in sequence of the repository."""
+    return [path.read_text() for path in sorted((TOP / "examples/chains").glob("*.chain"))] + [row[1] for row in rows_of(CHAINS) if len(row) == 2]
+
+
+def written_sequences():
+    return [row[1] for row in rows_of(SEQUENCES) if len(row) == 2]
+
+
+def written_full_certificates():
+    """The full certificates of the repository, each with its loop."""
+    found, loop = [((TOP / "examples/sign.loop").read_text(), (TOP / "examples/sign-full.json").read_text())], ""
+    for row in rows_of(FULL_ROWS):
+        if row[0] == "LOOP" and len(row) == 2:
+            loop = row[1].replace("~", "\n")
+        elif row[0] == "CERT" and len(row) == 2:
+            found.append((loop, row[1]))
+    return found
 
 
 # ---- changes of a text
@@ -408,6 +443,35 @@ def member(loop, equation):
     return Command(["member", "--budget", "40", "text.loop", equation], **{"text.loop": loop})
 
 
+def counter(loop, equation):
+    return Command(["counter", "--length", "2", "text.loop", equation], **{"text.loop": loop})
+
+
+def decide(loop, equation):
+    return Command(["decide", "--budget", "40", "text.loop", equation], **{"text.loop": loop})
+
+
+def prove(loop, equation):
+    return Command(["prove", "--budget", "40", "text.loop", equation], **{"text.loop": loop})
+
+
+def chain(loops):
+    return Command(["chain", "--budget", "8", "text.chain"], **{"text.chain": loops})
+
+
+def chainrun(loops):
+    """The first branch of each loop once, from a state of the loops' size."""
+    return Command(["chainrun", "text.chain", "/".join("1" * (loops.count("then") + 1)), ",".join(start_of(loops))], **{"text.chain": loops})
+
+
+def relations(sequences):
+    return Command(["relations", "--budget", "8", "text.sequences"], **{"text.sequences": sequences})
+
+
+def checkfull(loop, certificate):
+    return Command(["checkfull", "text.loop", "text.json"], **{"text.loop": loop, "text.json": certificate})
+
+
 def check(loop, certificate):
     return Command(["check", "text.loop", "text.json"], **{"text.loop": loop, "text.json": certificate})
 
@@ -436,7 +500,10 @@ class Commands:
     def __init__(self, seed):
         self.changer = Changer(seed)
         self.loops = written_loops()
-        self.limit_loops = list(loops_beside_limits())
+        self.limit_loops = [*loops_beside_limits(), *loops_beside_lengths()]
+        self.chains = written_chains()
+        self.sequences = written_sequences()
+        self.full_certificates = written_full_certificates()
         self.squares = (TOP / "examples/squares.loop").read_text()
         self.equations = written_equations()
         self.limit_equations = list(equations_beside_limits())
@@ -454,6 +521,11 @@ class Commands:
             yield member(loop, equation)
         for loop, certificate in self.certificates:
             yield check(loop, certificate)
+        for loops in self.chains:
+            yield from (chain(loops), chainrun(loops))
+        yield from map(relations, self.sequences)
+        for loop, certificate in self.full_certificates:
+            yield checkfull(loop, certificate)
         for text in self.limit_flats:
             yield check_of_flat(["x", "y"], text)
             yield check("vars x, y; branch { }", json.dumps({"basis": ["0", text], "steps": [[["0", text], ["1", "1"]]], "vars": ["x", "y"], "version": 1}))
@@ -490,9 +562,28 @@ class Commands:
         loop, certificate = self.changer.pick(self.certificates)
         return check(loop, self.changer.changed(certificate, Changer.OF_SUMS))
 
+    def changed_question(self):
+        loop, equation = self.changer.pick(self.equations + [(self.squares, self.changer.pick(self.limit_equations))] * 40)
+        if self.changer.pick([True, False]):
+            loop = self.changer.changed(loop, Changer.OF_SUMS + Changer.OF_LOOPS)
+        else:
+            equation = self.changer.changed(equation, Changer.OF_SUMS)
+        return self.changer.pick([counter, decide, prove])(loop, equation)
+
+    def changed_chain(self):
+        return self.changer.pick([chain, chainrun])(self.changer.changed(self.changer.pick(self.chains), Changer.OF_SUMS + Changer.OF_LOOPS))
+
+    def changed_sequences(self):
+        return relations(self.changer.changed(self.changer.pick(self.sequences), Changer.OF_SUMS))
+
+    def changed_full_certificate(self):
+        loop, certificate = self.changer.pick(self.full_certificates)
+        return checkfull(loop, self.changer.changed(certificate, Changer.OF_SUMS))
+
     def changed(self):
         kinds = [self.changed_run] * 9 + [self.changed_equation] * 5 + [self.changed_polynomial] * 2 + [self.changed_flat] * 3
         kinds += [self.changed_basis, self.changed_loop_of_certificate, self.changed_certificate]
+        kinds += [self.changed_question, self.changed_chain, self.changed_sequences, self.changed_full_certificate] * 2
         return self.changer.pick(kinds)()
 
     def first(self, count):
@@ -510,7 +601,7 @@ class Commands:
 def kind(command, status, said):
     """What an answer is counted as: its text without offsets, numbers and names, or the command that has it."""
     line = said.decode("latin-1").partition("\n")[0]
-    fault = re.match(r"(loop|equation|certificate): [a-z ]+?(?= at |$)|(values|start|no branch|branch|wide|budget|read fault|too long|usage)(?=\W)", line)
+    fault = re.match(r"(loop|equation|certificate|chain|sequences): [a-z ]+?(?= at |$)|(values|start|no branch|branch|wide|budget|read fault|too long|usage)(?=\W)", line)
     return fault[0] if status not in (0, 1) and fault else command.words[0].decode()
 
 
@@ -524,20 +615,23 @@ def main():
     programs, numbers = [str(pathlib.Path(path).resolve()) for path in sys.argv[1:3]], sys.argv[3:]
     count, seed = map(int, numbers + ["12000", "1"][len(numbers) :])
     commands = Commands(seed).first(count)
-    counts, differ = collections.defaultdict(collections.Counter), 0
+    counts, differ, broken = collections.defaultdict(collections.Counter), 0, 0
     with tempfile.TemporaryDirectory() as folder:
         os.chdir(folder)
         for command in commands:
             before, after = command.answers(programs)
             counts[str(before[0])][kind(command, *before[:2])] += 1
+            if after[0] not in STATUSES:
+                broken += 1
+                print(f"NO ANSWER {after[0]}\n{shown(command)}", flush=True)
             if before != after:
                 differ += 1
                 if differ <= MOST_SHOWN:
                     print(f"DIFFERENT\n{shown(command)}\n    before {before}\n    after {after}", flush=True)
     for status, kinds in sorted(counts.items()):
         print(f"status {status}: {kinds.total():,} ({', '.join(f'{name} {number:,}' for name, number in kinds.most_common())})")
-    print(f"{len(commands):,} texts by the seed {seed}, {differ:,} differ")
-    sys.exit(1 if differ else 0)
+    print(f"{len(commands):,} texts by the seed {seed}, {differ:,} differ, {broken:,} without an answer")
+    sys.exit(1 if differ or broken else 0)
 
 
 if __name__ == "__main__":

@@ -26,6 +26,8 @@ from kept import TOP
 from progress import Progress, told
 
 WORKERS = int(os.environ.get("INVAR_WORKERS") or os.cpu_count() or 1)
+# `rt`, which sums the sources of each crate once
+RT = os.path.join(TOP, "tools", "rt.py")
 # what `rt` leaves in the folder `out` of a crate: its library, and what was checked of it
 LIBRARY, CHECKED = "rlib", "incremental"
 # how nice a crate's proof is to those on the longest chain: so much for each part of the chain that it misses, up to the most
@@ -78,7 +80,7 @@ def jobs(size, beside, least, workers):
 def call(top, name, *words, niceness=0):
     """Runs a command of `rt` in the folder of a crate: its status, and what it prints."""
     folder = os.path.join(top, "crates", name)
-    words = ["nice", "-n", str(niceness), "rt", *words]
+    words = ["nice", "-n", str(niceness), sys.executable, RT, *words]
     how = {"stdin": subprocess.DEVNULL, "stdout": subprocess.PIPE, "stderr": subprocess.STDOUT, "start_new_session": True}
     with subprocess.Popen(words, cwd=folder, text=True, **how) as command:
         CALLS.add(command)
