@@ -5,7 +5,7 @@ use Rattle.std.specs.Prelude.{insert}
 use Rattle.std.proofs.lemmas.List.{take_more, take-map, drop-map}
 use Rattle.algebra.specs.Ring.{CommRing}
 use Rattle.algebra.specs.Fraction.{Fraction, inverse, fraction_size}
-use Rattle.algebra.specs.Size.{sum_size, product_size, times_size, IsPast}
+use Rattle.algebra.specs.Size.{sum_size, product_size, IsPast}
 use Rattle.algebra.proofs.Fractions.{ℚ_ring}
 use Rattle.algebra.proofs.SizeLaws.{under-sum, under_refl, past_under}
 use Rattle.algebra.proofs.ProductSizes.{product_den-pos, times_under_product}
@@ -22,36 +22,32 @@ abbrev R : CommRing Fraction
 R = ℚ_ring
 
 -- ---- one row
-pub clear_same : (row fresh : List Frac) (c : ℕ) (factor : Frac) → c < length row
+pub clear_same : (row fresh : List Frac) (c : ℕ) {factor : Frac} → c < length row
     → factor ≡ get_or row c factor → fraction_of factor ≡ R.zero
     → fractions_of row ≡ less (fractions_of row) (entry (fractions_of row) c) (fractions_of fresh)
-clear_same row fresh c factor h e z = sym (less-none (fractions_of row) (entry (fractions_of row) c)
+clear_same row fresh c {factor = factor} h e z = sym (less-none (fractions_of row)
     (fractions_of fresh) (entry_at row c factor h e ∙ z))
 
-pub clear_less : (row fresh : List Frac) (c : ℕ) (factor : Frac) (out : List Frac) → c < length row
-    → factor ≡ get_or row c factor → fractions_of out ≡ less (fractions_of row) (fraction_of factor)
-    (fractions_of fresh)
+pub clear_less : (row fresh : List Frac) (c : ℕ) {factor : Frac} (out : List Frac) → c < length row
+    → factor ≡ get_or row c factor
+    → fractions_of out ≡ less (fractions_of row) (fraction_of factor) (fractions_of fresh)
     → fractions_of out ≡ less (fractions_of row) (entry (fractions_of row) c) (fractions_of fresh)
-clear_less row fresh c factor out h e q = q
+clear_less row fresh c {factor = factor} out h e q = q
     ∙ ap (λ a. less (fractions_of row) a (fractions_of fresh)) (sym (entry_at row c factor h e))
 
-pub clear_wide : (row fresh : List Frac) (c : ℕ) (factor : Frac) → c < length row
-    → factor ≡ get_or row c factor → IsPastLess (fractions_of row) (fraction_of factor)
-    (fractions_of fresh) → IsPastClear (fractions_of row) c (fractions_of fresh)
-clear_wide row fresh c factor h e p =
+pub clear_wide : (row fresh : List Frac) (c : ℕ) {factor : Frac} → c < length row
+    → factor ≡ get_or row c factor
+    → IsPastLess (fractions_of row) (fraction_of factor) (fractions_of fresh)
+    → IsPastClear (fractions_of row) c (fractions_of fresh)
+clear_wide row fresh c {factor = factor} h e p =
     let a = fraction_of factor in
     let row' = fractions_of row in
     let fresh' = fractions_of fresh in
     let product_some = product_den-pos (row_size fresh') (weigh a) (row_some fresh') (some a) in
-    subst (λ b.
-    IsPast (sum_size (row_size row') (product_size (row_size fresh') (fraction_size b))))
-    (sym (entry_at row c factor h e))
-    (past_under (sum_size (row_size row') (times_size (row_size fresh') (weigh a)))
-    (sum_size (row_size row') (product_size (row_size fresh') (weigh a)))
-    (lcm-pos (row_size row').den (product_size (row_size fresh') (weigh a)).den
-    (row_some row') product_some)
-    (under-sum (row_size row') (times_size (row_size fresh') (weigh a)) (row_size row')
-    (product_size (row_size fresh') (weigh a)) (row_some row') (times-some (row_size fresh')
+    subst (λ b. IsPast (sum_size (row_size row')
+    (product_size (row_size fresh') (fraction_size b)))) (sym (entry_at row c factor h e))
+    (past_under _ _ (lcm-pos (row_size row').den _ (row_some row') product_some)
+    (under-sum (row_size row') _ (row_size row') _ (row_some row') (times-some (row_size fresh')
     (weigh a) (row_some fresh') (some a)) (row_some row') product_some
     (under_refl (row_size row') (row_some row')) (times_under_product (row_size fresh') (weigh a)
     (row_clean fresh') (clean a))) p)
@@ -68,13 +64,14 @@ cleared-append c h [] ys = refl
 cleared-append c h (x ∷ xs) ys = ap (λ l. less x (entry x c) h ∷ l) (cleared-append c h xs ys)
 
 pub cleared_more : (c : ℕ) (fresh : List Fraction) (rows : List (Vec Frac Global)) (i : ℕ)
-    (row : Vec Frac Global) (out more : List (Vec Frac Global)) (next : Vec Frac Global)
+    {row : Vec Frac Global} (out : List (Vec Frac Global)) {more : List (Vec Frac Global)}
+    (next : Vec Frac Global)
     → i < length rows → row ≡ get_or rows i row
     → fractions_of next.items ≡ less (fractions_of row.items) (entry (fractions_of row.items) c)
-    fresh → more ≡ out ++ next ∷ []
-    → rows_of out ≡ clear_column c fresh (rows_of (take i rows))
+    fresh
+    → more ≡ out ++ next ∷ [] → rows_of out ≡ clear_column c fresh (rows_of (take i rows))
     → rows_of more ≡ clear_column c fresh (rows_of (take (i + 1) rows))
-cleared_more c fresh rows i row out more next h e q p s =
+cleared_more c fresh rows i {row = row} out next h e q p s =
     ap rows_of p ∙ rows-append out (next ∷ []) ∙ ap₂ (λ l a. l ++ a ∷ []) s q
     ∙ sym (ap (λ l. clear_column c fresh (rows_of l)) (take_more rows i row h
     ∙ ap (λ z. take i rows ++ z ∷ []) (sym e))
@@ -113,7 +110,7 @@ reduced-length by (e ∷ rows) row = reduced-length by rows (less row (entry by 
 pub quotient-length : (row : List Fraction) → length (quotient row) ≡ length row
 quotient-length row = scaled-length (inverse (entry row (lead row))) row
 
-module _ (rows : List (Vec Frac Global)) (row : List Frac) (column : ℕ) (fresh : Vec Frac Global)
+module _ (rows : List (Vec Frac Global)) (row : List Frac) {column : ℕ} (fresh : Vec Frac Global)
     (is : IsFresh (rows_of rows) (fractions_of row) column (fractions_of fresh.items)) where
   fresh_width : length fresh.items ≡ length row
   fresh_width = sym (fractions-length fresh.items) ∙ ap length is.is
@@ -129,20 +126,20 @@ module _ (rows : List (Vec Frac Global)) (row : List Frac) (column : ℕ) (fresh
   fresh_column = (let h = is.within in let f = fresh_width in let l = fractions-length row in
       omega (arith, h, f, l))
 
-  pub insert_within : (more : List (Vec Frac Global)) (at n : ℕ)
+  pub insert_within : (more : List (Vec Frac Global)) {at : ℕ} (n : ℕ)
       → rows_of more ≡ clear_column column (fractions_of fresh.items) (rows_of rows)
       → at ≡ place column (rows_of rows) → n ≡ length more → at ≤ n
-  insert_within more at n e p l =
+  insert_within more n e p l =
       (let h = place-within column (rows_of rows) in
       let k : length more ≡ length (rows_of rows) = sym (rows-length more) ∙ ap length e
       ∙ cleared-length column (fractions_of fresh.items) (rows_of rows) in
       omega (arith, h, k, p, l))
 
-  pub added_is : (more final : List (Vec Frac Global)) (at : ℕ)
+  pub added_is : (more : List (Vec Frac Global)) {final : List (Vec Frac Global)} (at : ℕ)
       → rows_of more ≡ clear_column column (fractions_of fresh.items) (rows_of rows)
       → at ≡ place column (rows_of rows) → final ≡ insert more at fresh
       → IsAdded (rows_of rows) (fractions_of row) (rows_of final)
-  added_is more final at e p f = record {
+  added_is more at e p f = record {
     within = subst (λ c. c < length (fractions_of row)) is.column is.within;
     is = ap rows_of f ∙ rows_insert more at fresh
         ∙ ap₂ (λ l i. insert l i (fractions_of fresh.items)) e p
@@ -164,6 +161,6 @@ module _ (rows : List (Vec Frac Global)) (row : List Frac) (column : ℕ) (fresh
       -- ---- the cause of a refusal
 
 -- ---- what calls return
-pub found_some : {X : Type 0} (found : Option X) (x : X) (P : Type 0) (Q : X → Type 0)
+pub found_some : {X : Type 0} {found : Option X} {x : X} (P : Type 0) (Q : X → Type 0)
     → found ≡ Some x → MatchOption found P Q → Q x
-found_some found x P Q e h = subst (λ f. MatchOption f P Q) e h
+found_some P Q e h = subst (λ f. MatchOption f P Q) e h

@@ -51,7 +51,7 @@ lead_is : (row : List Fraction) (c : ℕ) → ((i : ℕ) → i < c → at row i 
     → lead row ≡ c
 lead_is [] c h e = absurd (F.one-ne-zero (sym e))
 lead_is (a ∷ row) zero h e = lead-some a (lead row) (λ z. F.one-ne-zero (sym e ∙ z))
-lead_is (a ∷ row) (suc c) h e = lead-zero a (lead row) (h 0 (omega arith))
+lead_is (a ∷ row) (suc c) h e = lead-zero (lead row) (h 0 (omega arith))
     ∙ ap suc (lead_is row c (λ i l. h (suc i) (omega arith)) e)
 
 lead_below : (row : List Fraction) (i : ℕ) → i < lead row → at row i ≡ R.zero
@@ -60,7 +60,7 @@ lead_below (a ∷ row) i l =
     elim (FL.dec_zero F a) [
       | no ne ↦ absurd (let z : after_zero a.num (lead row) ≡ 0 = lead-some a (lead row) ne in
           omega (arith, z, l))
-      | yes z ↦ (let s : after_zero a.num (lead row) ≡ suc (lead row) = lead-zero a (lead row) z in
+      | yes z ↦ (let s : after_zero a.num (lead row) ≡ suc (lead row) = lead-zero (lead row) z in
           (elim i as (λ i. i < after_zero a.num (lead row) → at (a ∷ row) i ≡ R.zero) [
             | zero
                 ↦ λ l. z
@@ -246,17 +246,17 @@ tables-append (g ∷ given) row = ap (λ l. at g ∷ l) (tables-append given row
 past_end : (n : ℕ) (row : List Fraction) → length row ≡ n → (i : ℕ) → n ≤ i → at row i ≡ R.zero
 past_end n row e i l = entries-past F row i (omega arith)
 
-same_widths : (n m : ℕ) (rows : List (List Fraction)) → m ≡ n → Each (λ e. length e ≡ n) rows
+same_widths : (n : ℕ) {m : ℕ} (rows : List (List Fraction)) → m ≡ n → Each (λ e. length e ≡ n) rows
     → Each (λ e. length e ≡ m) rows
-same_widths n m rows e w = subst (λ k. Each (λ (r : List Fraction). length r ≡ k) rows) (sym e) w
+same_widths n rows e w = subst (λ k. Each (λ (r : List Fraction). length r ≡ k) rows) (sym e) w
 
 pub echelon_none : (n : ℕ) → IsEchelonOf n [] []
 unfolding Each
 echelon_none n = record { widths = tt; pivots = []; are = refl; reduced = RL.rref_none F n }
 
-pub echelon_own : (n : ℕ) (given rows : List (List Fraction)) → IsEchelonOf n given rows
+pub echelon_own : (n : ℕ) {given rows : List (List Fraction)} → IsEchelonOf n given rows
     → IsEchelonOf n rows rows
-echelon_own n given rows e = record {
+echelon_own n e = record {
   widths = e.widths;
   pivots = e.pivots;
   are = e.are;
@@ -279,7 +279,7 @@ module _ (n : ℕ) (given rows : List (List Fraction)) (row : List Fraction) (wi
   align = aligned rows e.pivots e.are e.reduced.reduced
 
   rest_is : at (reduce_row rows row) ≡ S.reduced_by F e.pivots (at row)
-  rest_is = reduced_is rows e.pivots row align (same_widths n (length row) rows width e.widths)
+  rest_is = reduced_is rows e.pivots row align (same_widths n rows width e.widths)
 
   rest_width : length (reduce_row rows row) ≡ n
   rest_width = reduced-length row rows row ∙ width
@@ -341,10 +341,10 @@ module _ (n : ℕ) (given rows : List (List Fraction)) (row : List Fraction) (wi
     echelon_added more q =
         subst (IsEchelonOf n (given ++ row ∷ [])) (sym q)
         (record {
-          widths = insert_each (λ l. length l ≡ n) (clear_column (lead rest) h rows)
+          widths = insert_each (λ l. length l ≡ n) _
               (place (lead rest) rows) h h_width (cleared_widths n (lead rest) h rows e.widths);
           pivots = S.with_row F (lead rest) (at h) e.pivots;
-          are = added_tables (lead rest) h rows e.pivots align (same_widths n (length h) rows
+          are = added_tables (lead rest) h rows e.pivots align (same_widths n rows
               h_width e.widths);
           reduced = subst (λ us. IsRref F n us (S.with_row F (lead rest) (at h) e.pivots))
               (sym (tables-append given row))

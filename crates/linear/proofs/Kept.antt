@@ -17,27 +17,27 @@ unfolding Each
 all_of {P} Q [] f e = All-nil P
 all_of {P} Q (v ∷ rows) f e = All-cons P v rows (f v e.0) (all_of Q rows f e.1)
 
-pub kept_widths : (n m : ℕ) (rows slice : List (Vec Frac Global)) → m ≡ n → slice ≡ rows
+pub kept_widths : {n m : ℕ} {rows slice : List (Vec Frac Global)} → m ≡ n → slice ≡ rows
     → IsEchelonOf n (rows_of rows) (rows_of rows) → All (λ v. length v.items ≡ m) slice
-kept_widths n m rows slice e q k =
+kept_widths {n = n} {m = m} {rows = rows} e q k =
     subst (λ (l : List (Vec Frac Global)). All (λ v. length v.items ≡ m) l) (sym q)
     (all_of (λ r. length r ≡ n) rows (λ v w. sym (fractions-length v.items) ∙ w ∙ sym e) k.widths)
 
-pub kept_below : (n m : ℕ) (rows slice : List (Vec Frac Global)) → m ≡ n → slice ≡ rows
+pub kept_below : {n : ℕ} (m : ℕ) {rows slice : List (Vec Frac Global)} → m ≡ n → slice ≡ rows
     → IsEchelonOf n (rows_of rows) (rows_of rows) → All (λ v. lead (fractions_of v.items) < m) slice
-kept_below n m rows slice e q k =
+kept_below {n = n} m {rows = rows} e q k =
     subst (λ (l : List (Vec Frac Global)). All (λ v. lead (fractions_of v.items) < m) l) (sym q)
     (all_of (λ r. lead r < n) rows (λ v w. subst (λ x. lead (fractions_of v.items) < x) (sym e) w)
     (kept_leads n (rows_of rows) k))
 
-pub kept_none : (n : ℕ) (rows : List (Vec Frac Global)) → rows ≡ []
+pub kept_none : (n : ℕ) {rows : List (Vec Frac Global)} → rows ≡ []
     → IsEchelonOf n (rows_of rows) (rows_of rows)
-kept_none n rows e = subst (λ (l : List (Vec Frac Global)). IsEchelonOf n (rows_of l) (rows_of l))
+kept_none n e = subst (λ (l : List (Vec Frac Global)). IsEchelonOf n (rows_of l) (rows_of l))
     (sym e) (echelon_none n)
 
-module _ (e : Echelon) (n : ℕ) (rows slice : List (Vec Frac Global)) (row : List Frac)
-    (view : record { width = n; rows = rows_of rows } ≡ e) (s : slice ≡ rows) (w : length row
-    ≡ e.width) (k : IsEchelonOf n (rows_of rows) (rows_of rows)) where
+module _ {e : Echelon} {n : ℕ} {rows slice : List (Vec Frac Global)} (row : List Frac)
+    (view : record { width = n; rows = rows_of rows } ≡ e) (s : slice ≡ rows)
+    (w : length row ≡ e.width) (k : IsEchelonOf n (rows_of rows) (rows_of rows)) where
   pub same_width : length row ≡ n
   same_width = w ∙ sym (ap (λ (x : Echelon). x.width) view)
 
@@ -51,7 +51,7 @@ module _ (e : Echelon) (n : ℕ) (rows slice : List (Vec Frac Global)) (row : Li
         (rows_of more)) s added
 
     pub kept_more : IsEchelonOf n (rows_of more) (rows_of more)
-    kept_more = echelon_own n (rows_of rows ++ fractions_of row ∷ []) (rows_of more)
+    kept_more = echelon_own n
         (echelon_added n (rows_of rows) (rows_of rows) (fractions_of row) width_is k here.within
         (rows_of more) here.is)
 

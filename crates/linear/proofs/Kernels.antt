@@ -24,12 +24,12 @@ use Rattle.linear.proofs.Clearing.{rows-append}
 shorter : (i w : ℕ) → i < w → w - i ≡ suc (w - (i + 1))
 shorter i w h = omega arith
 
-pub row_more : (rows : List (List Fraction)) (j w i : ℕ) (all : List Fraction)
-    (out more : List Frac) (x : Frac) → i < w → fraction_of x ≡ kernel_entry rows j i
-    → more ≡ out ++ x ∷ []
-    → all ≡ fractions_of out ++ kernel_row rows j i (w - i) → all ≡ fractions_of more
-    ++ kernel_row rows j (i + 1) (w - (i + 1))
-row_more rows j w i all out more x h e p s =
+pub row_more : (rows : List (List Fraction)) (j w i : ℕ) {all : List Fraction} (out : List Frac)
+    {more : List Frac} (x : Frac)
+    → i < w → fraction_of x ≡ kernel_entry rows j i → more ≡ out ++ x ∷ []
+    → all ≡ fractions_of out ++ kernel_row rows j i (w - i)
+    → all ≡ fractions_of more ++ kernel_row rows j (i + 1) (w - (i + 1))
+row_more rows j w i out x h e p s =
     s ∙ ap (λ m. fractions_of out ++ kernel_row rows j i m) (shorter i w h)
     ∙ ap₂ (λ a k. fractions_of out ++ a ∷ kernel_row rows j k (w - (i + 1))) (sym e)
     (sym (add-one i))
@@ -49,10 +49,10 @@ module _ (rows : List (List Fraction)) (w i : ℕ) (all : List (List Fraction))
       ∙ ap₂ (λ b k. rows_of out ++ cond b (kernel_row rows i 0 w ∷ kernel_rows rows w k
       (w - (i + 1))) (kernel_rows rows w k (w - (i + 1)))) q (sym (add-one i))
 
-  pub rows_more : (more : List (Vec Frac Global)) (v : Vec Frac Global) → is_free i rows ≡ true
+  pub rows_more : {more : List (Vec Frac Global)} (v : Vec Frac Global) → is_free i rows ≡ true
       → fractions_of v.items ≡ kernel_row rows i 0 w → more ≡ out ++ v ∷ []
       → all ≡ rows_of more ++ kernel_rows rows w (i + 1) (w - (i + 1))
-  rows_more more v q e p =
+  rows_more v q e p =
       opened true q ∙ ap (λ a. rows_of out ++ a ∷ kernel_rows rows w (i + 1) (w - (i + 1))) (sym e)
       ∙ sym (append_assoc (rows_of out) (fractions_of v.items ∷ [])
       (kernel_rows rows w (i + 1) (w - (i + 1))))
@@ -120,7 +120,7 @@ module _ (n : ℕ) (rows : List (List Fraction)) (ps : Pivots F) (a : Aligned ro
   vector_is j h = fun_ext (λ i. elim (cases_lt i n) [
     | inl l ↦ row_at rows j 0 n i l ∙ ap (kernel_entry rows j) (let e : 0 + i ≡ i = omega arith in
         e) ∙ entry_is rows ps j i a
-    | inr g ↦ entries-past F (kernel_row rows j 0 n) i (let e = row-length rows j 0 n in
+    | inr g ↦ entries-past F _ i (let e = row-length rows j 0 n in
         omega (arith, e, g)) ∙ sym (past_zero n ps j i inside h g)
   ])
 
@@ -158,9 +158,9 @@ vectors_widths rows n k (suc m) = go (is_free k rows) (vectors_widths rows n (su
     go true h = (row-length rows k 0 n, h)
     go false h = h
 
-pub kernel_is : (n : ℕ) (rows : List (List Fraction)) → IsEchelonOf n rows rows
+pub kernel_is : {n : ℕ} {rows : List (List Fraction)} → IsEchelonOf n rows rows
     → AreKernel n rows (kernel_rows rows n 0 n)
-kernel_is n rows k = record {
+kernel_is {n = n} {rows = rows} k = record {
   widths = vectors_widths rows n 0 n;
   pivots = k.pivots;
   reduced = k.reduced;

@@ -25,8 +25,8 @@ abbrev R : CommRing Fraction
 R = ℚ_ring
 
 -- ---- where a row leads
-pub lead-zero : (a : Fraction) (n : ℕ) → a ≡ R.zero → after_zero a.num n ≡ suc n
-lead-zero a n e = ap (λ (z : ℤ). after_zero z n) (ap (λ (x : Fraction). x.num) e
+pub lead-zero : {a : Fraction} (n : ℕ) → a ≡ R.zero → after_zero a.num n ≡ suc n
+lead-zero n e = ap (λ (z : ℤ). after_zero z n) (ap (λ (x : Fraction). x.num) e
     ∙ ap (λ (p : Ratio). p.num) ratio-zero)
 
 pub lead-some : (a : Fraction) (n : ℕ) → a ≢ R.zero → after_zero a.num n ≡ 0
@@ -43,20 +43,19 @@ drop_fractions i row x h e = ap fractions_of (drop-cons row i x h
     ∙ ap (λ y. y ∷ drop (suc i) row) (sym e))
     ∙ ap (λ j. fraction_of x ∷ fractions_of (drop j row)) (sym (add-one i))
 
-pub lead_here : (i all : ℕ) (row : List Frac) (x : Frac) → i < length row → x ≡ get_or row i x
+pub lead_here : (i : ℕ) {all : ℕ} (row : List Frac) (x : Frac) → i < length row → x ≡ get_or row i x
     → fraction_of x ≢ R.zero → all ≡ i + lead (fractions_of (drop i row)) → i ≡ all
-lead_here i all row x h e ne s = (let z : lead (fractions_of (drop i row)) ≡ 0 =
+lead_here i row x h e ne s = (let z : lead (fractions_of (drop i row)) ≡ 0 =
     ap lead (drop_fractions i row x h e)
     ∙ lead-some (fraction_of x) (lead (fractions_of (drop (i + 1) row))) ne in
     omega (arith, s, z))
 
-pub lead_next : (i all : ℕ) (row : List Frac) (x : Frac) → i < length row → x ≡ get_or row i x
+pub lead_next : (i : ℕ) {all : ℕ} (row : List Frac) (x : Frac) → i < length row → x ≡ get_or row i x
     → fraction_of x ≡ R.zero → all ≡ i + lead (fractions_of (drop i row))
     → all ≡ i + 1 + lead (fractions_of (drop (i + 1) row))
-lead_next i all row x h e z s =
+lead_next i row x h e z s =
     (let q : lead (fractions_of (drop i row)) ≡ suc (lead (fractions_of (drop (i + 1) row))) =
-    ap lead (drop_fractions i row x h e)
-    ∙ lead-zero (fraction_of x) (lead (fractions_of (drop (i + 1) row))) z in
+    ap lead (drop_fractions i row x h e) ∙ lead-zero (lead (fractions_of (drop (i + 1) row))) z in
     omega (arith, s, q))
 
 pub entry_at : (row : List Frac) (i : ℕ) (x : Frac) → i < length row → x ≡ get_or row i x
@@ -80,12 +79,12 @@ less-zero_of : (a b : Fraction) → R.add a (R.neg (R.mul R.zero b)) ≡ a
 less-zero_of a b = ap (λ z. R.add a (R.neg z)) (L.zero-mul R b) ∙ ap (R.add a) (L.neg-zero R)
     ∙ R.add-zero a
 
-pub less-none : (row : List Fraction) (c : Fraction) (other : List Fraction) → c ≡ R.zero
+pub less-none : (row : List Fraction) {c : Fraction} (other : List Fraction) → c ≡ R.zero
     → less row c other ≡ row
-less-none [] c other e = refl
-less-none (a ∷ row) c [] e = refl
-less-none (a ∷ row) c (b ∷ other) e = ap₂ ◌∷◌ (ap (λ z. R.add a (R.neg (R.mul z b))) e
-    ∙ less-zero_of a b) (less-none row c other e)
+less-none [] other e = refl
+less-none (a ∷ row) [] e = refl
+less-none (a ∷ row) {c = c} (b ∷ other) e = ap₂ ◌∷◌ (ap (λ z. R.add a (R.neg (R.mul z b))) e
+    ∙ less-zero_of a b) (less-none row other e)
 
 -- its weight
 sum-some : (s t : Size) → 0 < s.den → 0 < t.den → 0 < (sum_size s t).den
@@ -114,11 +113,10 @@ less-under (a ∷ row) c (b ∷ other) l =
     let product_some = times-some (weigh b) (weigh c) (some b) (some c) in
     let others_some = times-some (row_size other) (weigh c) (row_some other) (some c) in
     let first : IsUnder (weigh d) first_bound =
-    under_trans (weigh d) (sum_size (weigh a) (weigh (R.mul c b))) first_bound (some d)
-    (sum-some (weigh a) (times_size (weigh b) (weigh c)) (some a) product_some)
-    (difference_within fraction_arithmetic fraction_size fractions_bounded a (R.mul c b))
-    (under-sum (weigh a) (weigh (R.mul c b)) (weigh a) (times_size (weigh b) (weigh c)) (some a)
-    (some (R.mul c b)) (some a) product_some (under_refl (weigh a) (some a))
+    under_trans (weigh d) _ first_bound (some d) (sum-some (weigh a)
+    (times_size (weigh b) (weigh c)) (some a) product_some) (difference_within fraction_arithmetic
+    fraction_size fractions_bounded a (R.mul c b)) (under-sum (weigh a) (weigh (R.mul c b))
+    (weigh a) _ (some a) (some (R.mul c b)) (some a) product_some (under_refl (weigh a) (some a))
     (subst (λ z. IsUnder (weigh z) (times_size (weigh b) (weigh c))) (fractions_ring.mul_comm b c)
     (fractions_bounded.mul_size b c))) in
     let both : IsUnder (sum_size (weigh d) (row_size rest)) (sum_size first_bound rest_bound) =
@@ -135,13 +133,10 @@ less-under (a ∷ row) c (b ∷ other) l =
     let others = times_size (sum_size (weigh b) (row_size other)) (weigh c) in
     let others_all = times-some (sum_size (weigh b) (row_size other)) (weigh c)
     (sum-some (weigh b) (row_size other) (some b) (row_some other)) (some c) in
-    under_trans (sum_size (weigh d) (row_size rest)) (sum_size rows products) (sum_size rows others)
-    (sum-some (weigh d) (row_size rest) (some d) (row_some rest))
-    (sum-some rows others rows_some others_all)
-    (subst (IsUnder (sum_size (weigh d) (row_size rest)))
-    (swap_sums (weigh a) (times_size (weigh b) (weigh c)) (row_size row)
-    (times_size (row_size other) (weigh c)) (some a) product_some (row_some row)
-    others_some) both)
+    under_trans _ _ _ (sum-some (weigh d) (row_size rest) (some d) (row_some rest))
+    (sum-some rows others rows_some others_all) (subst (IsUnder (sum_size (weigh d)
+    (row_size rest))) (swap_sums (weigh a) (times_size (weigh b) (weigh c)) (row_size row)
+    (times_size (row_size other) (weigh c)) (some a) product_some (row_some row) others_some) both)
     (under-sum rows products rows others rows_some products_some rows_some others_all
     (under_refl rows rows_some) (under_sum-times (weigh b) (row_size other) (weigh c) (some b)
     (row_some other) (some c)))
@@ -157,7 +152,7 @@ reduced-grows by (e ∷ rows) s h =
     let t = sum_size s p in
     let t_some = sum-some s p h p_some in
     let r = reduced-grows by rows t t_some in
-    (r.0, under_trans s t (reduced_size by rows t) h r.0 (sum-left s p h p_some) r.1)
+    (r.0, under_trans s t _ h r.0 (sum-left s p h p_some) r.1)
 
 pub record Going (by : List Fraction) (rows left : List (List Fraction))
     (rest : List Fraction) : Type 0 where
@@ -168,9 +163,9 @@ pub record Going (by : List Fraction) (rows left : List (List Fraction))
   pub is : reduced_by by rows by ≡ reduced_by by left rest
   pub width : length rest ≡ length by
 
-pub going_first : (by : List Fraction) (rows : List (List Fraction)) (rest : List Fraction)
+pub going_first : {by : List Fraction} (rows : List (List Fraction)) {rest : List Fraction}
     → rest ≡ by → Going by rows rows rest
-going_first by rows rest e = subst (Going by rows rows) (sym e) (record {
+going_first {by = by} rows e = subst (Going by rows rows) (sym e) (record {
   bound = row_size by;
   bound_some = row_some by;
   under = under_refl (row_size by) (row_some by);
@@ -199,19 +194,16 @@ module _ (by : List Fraction) (rows left : List (List Fraction)) (e rest : List 
   within : IsUnder (sum_size (row_size rest) (times_size (row_size e) (weigh (entry by (lead e)))))
       next_bound
   within =
-      under-sum (row_size rest) (times_size (row_size e) (weigh factor)) g.bound
-      (product_size (row_size e) (weigh factor)) (row_some rest) times_some g.bound_some
-      product_some
+      under-sum (row_size rest) _ g.bound _ (row_some rest) times_some g.bound_some product_some
       g.under (times_under_product (row_size e) (weigh factor) (row_clean e) (clean factor))
 
-  pub going_more : (more : List Fraction) → more ≡ less rest factor e → Going by rows left more
-  going_more more q =
+  pub going_more : {more : List Fraction} → more ≡ less rest factor e → Going by rows left more
+  going_more q =
       subst (Going by rows left) (sym q)
       (record {
         bound = next_bound;
         bound_some = next_some;
-        under = under_trans (row_size (less rest factor e))
-            (sum_size (row_size rest) (times_size (row_size e) (weigh factor))) next_bound
+        under = under_trans _ _ next_bound
             (row_some (less rest factor e)) next_some
             (less-under rest factor e (g.width ∙ sym width)) within;
         sizes = g.sizes;
@@ -220,18 +212,14 @@ module _ (by : List Fraction) (rows left : List (List Fraction)) (e rest : List 
       })
 
   pub going_same : factor ≡ R.zero → Going by rows left rest
-  going_same z = going_more rest (sym (less-none rest factor e z))
+  going_same z = going_more (sym (less-none rest e z))
 
   pub going_wide : IsPastLess rest factor e → IsPast (reduced_size by rows (row_size by))
   going_wide h =
       let r = reduced-grows by left next_bound next_some in
-      subst IsPast (sym g.sizes)
-      (past_under (sum_size (row_size rest) (times_size (row_size e) (weigh factor)))
-      (reduced_size by left next_bound) r.0
-      (under_trans (sum_size (row_size rest) (times_size (row_size e) (weigh factor))) next_bound
-      (reduced_size by left next_bound)
-      (sum-some (row_size rest) (times_size (row_size e) (weigh factor)) (row_some rest)
-      times_some) r.0 within r.1) h)
+      subst IsPast (sym g.sizes) (past_under _ _ r.0 (under_trans _ next_bound _
+      (sum-some (row_size rest) (times_size (row_size e) (weigh factor)) (row_some rest) times_some)
+      r.0 within r.1) h)
 
 -- ---- over what the code has
 next_rows : (i : ℕ) (rows : List (Vec Frac Global)) (e : Vec Frac Global) → i < length rows
@@ -240,11 +228,10 @@ next_rows : (i : ℕ) (rows : List (Vec Frac Global)) (e : Vec Frac Global) → 
 next_rows i rows e h q = ap rows_of (drop-cons rows i e h ∙ ap (λ y. y ∷ drop (suc i) rows) (sym q))
     ∙ ap (λ j. fractions_of e.items ∷ rows_of (drop j rows)) (sym (add-one i))
 
-module _ (row : List Frac) (all : List (Vec Frac Global)) (i : ℕ) (e rest : Vec Frac Global)
-    (within_all : i < length all) (at : e ≡ get_or all i e)
-    (widths : All (λ v. length v.items ≡ length row) all)
-    (g : Going (fractions_of row) (rows_of all) (rows_of (drop i all))
-    (fractions_of rest.items)) where
+module _ (row : List Frac) (all : List (Vec Frac Global)) (i : ℕ) {e : Vec Frac Global}
+    (rest : Vec Frac Global) (within_all : i < length all) (at : e ≡ get_or all i e)
+    (widths : All (λ v. length v.items ≡ length row) all) (g : Going (fractions_of row)
+    (rows_of all) (rows_of (drop i all)) (fractions_of rest.items)) where
   begun : Going (fractions_of row) (rows_of all) (fractions_of e.items ∷ rows_of (drop (i + 1) all))
       (fractions_of rest.items)
   begun = subst (λ l. Going (fractions_of row) (rows_of all) l (fractions_of rest.items))
@@ -258,7 +245,7 @@ module _ (row : List Frac) (all : List (Vec Frac Global)) (i : ℕ) (e rest : Ve
   same_width = sym (fractions-length rest.items) ∙ begun.width ∙ sym width_is
       ∙ fractions-length e.items
 
-  module _ (lead_is : ℕ) (factor : Frac) (l : lead_is ≡ lead (fractions_of e.items))
+  module _ {lead_is : ℕ} {factor : Frac} (l : lead_is ≡ lead (fractions_of e.items))
       (h : lead_is < length row) (f : factor ≡ get_or row lead_is factor) where
     factor_is : entry (fractions_of row) (lead (fractions_of e.items)) ≡ fraction_of factor
     factor_is = ap (entry (fractions_of row)) (sym l) ∙ entry_at row lead_is factor h f
@@ -268,7 +255,7 @@ module _ (row : List Frac) (all : List (Vec Frac Global)) (i : ℕ) (e rest : Ve
         (rows_of (drop (i + 1) all)) (fractions_of more)
     iteration_less more q =
         going_more (fractions_of row) (rows_of all) (rows_of (drop (i + 1) all))
-        (fractions_of e.items) (fractions_of rest.items) width_is begun (fractions_of more)
+        (fractions_of e.items) (fractions_of rest.items) width_is begun
         (q ∙ ap (λ c. less (fractions_of rest.items) c (fractions_of e.items)) (sym factor_is))
 
     pub iteration_same : fraction_of factor ≡ R.zero → Going (fractions_of row) (rows_of all)
@@ -293,15 +280,16 @@ going_done row all i rest h g =
     sym (g.is ∙ ap (λ (l : List (Vec Frac Global)). reduced_by (fractions_of row) (rows_of l)
     (fractions_of rest)) (drop_all i all h))
 
-pub going_width : (row : List Frac) (rows left : List (List Fraction)) (rest : List Frac)
+pub going_width : (row : List Frac) {rows left : List (List Fraction)} (rest : List Frac)
     → Going (fractions_of row) rows left (fractions_of rest) → length rest ≡ length row
-going_width row rows left rest g = sym (fractions-length rest) ∙ g.width ∙ fractions-length row
+going_width row rest g = sym (fractions-length rest) ∙ g.width ∙ fractions-length row
 
 -- ---- products
-pub scaled-past : (row : List Frac) (i : ℕ) (x c : Frac) → i < length row → x ≡ get_or row i x
-    → IsPast (fraction_size (ℚ.mul (fraction_of x) (fraction_of c)))
+pub scaled-past : (row : List Frac) (i : ℕ) {x : Frac} (c : Frac) → i < length row
+    → x ≡ get_or row i x → IsPast (fraction_size (ℚ.mul (fraction_of x) (fraction_of c)))
     → IsPastScaled (fractions_of row) (fraction_of c)
-scaled-past row i x c h e p = record { number = fraction_of x; within = among row i h e; past = p }
+scaled-past row i {x = x} c h e p =
+    record { number = fraction_of x; within = among row i h e; past = p }
   where
     among : (row : List Frac) (i : ℕ) → i < length row → x ≡ get_or row i x
         → In (fraction_of x) (fractions_of row)
@@ -319,12 +307,12 @@ scaled-append : (c : Fraction) (xs ys : List Fraction) → scale_row c (xs ++ ys
 scaled-append c [] ys = refl
 scaled-append c (x ∷ xs) ys = ap (λ l. R.mul x c ∷ l) (scaled-append c xs ys)
 
-pub scaled_more : (c : Fraction) (row : List Frac) (i : ℕ) (x : Frac) (out more : List Frac)
-    (y : Frac) → i < length row → x ≡ get_or row i x → fraction_of y ≡ R.mul (fraction_of x) c
-    → more ≡ out ++ y ∷ []
-    → fractions_of out ≡ scale_row c (fractions_of (take i row))
+pub scaled_more : (c : Fraction) (row : List Frac) (i : ℕ) {x : Frac} (out : List Frac)
+    {more : List Frac} (y : Frac)
+    → i < length row → x ≡ get_or row i x → fraction_of y ≡ R.mul (fraction_of x) c
+    → more ≡ out ++ y ∷ [] → fractions_of out ≡ scale_row c (fractions_of (take i row))
     → fractions_of more ≡ scale_row c (fractions_of (take (i + 1) row))
-scaled_more c row i x out more y h e m p s =
+scaled_more c row i {x = x} out y h e m p s =
     ap fractions_of p ∙ fractions-append out (y ∷ []) ∙ ap₂ (λ l a. l ++ a ∷ []) s m
     ∙ sym (ap (λ l. scale_row c (fractions_of l)) (take_one row i x h e)
     ∙ ap (scale_row c) (fractions-append (take i row) (x ∷ []))
@@ -336,7 +324,7 @@ entry-under [] a i = absurd i
 entry-under (x ∷ row) a (inl e) = subst (λ y. IsUnder (weigh y) (sum_size (weigh x) (row_size row)))
     (sym e) (sum-left (weigh x) (row_size row) (some x) (row_some row))
 entry-under (x ∷ row) a (inr i) =
-    under_trans (weigh a) (row_size row) (sum_size (weigh x) (row_size row)) (some a)
+    under_trans (weigh a) (row_size row) _ (some a)
     (sum-some (weigh x) (row_size row) (some x) (row_some row)) (entry-under row a i)
     (sum-right (weigh x) (row_size row) (some x) (row_some row))
 
@@ -354,13 +342,12 @@ quotient_past row b ne p =
     let div = size (weigh b).den (weigh b).size in
     let div_some : 0 < div.den = size_some b ne in
     past_product (weigh p.number) div (row_size row) div (row_some row) div_some
-    (entry-under row p.number p.within) (under_refl div div_some)
-    (past_under (weigh (R.mul p.number (inverse b))) (quotient_size (weigh p.number) (weigh b))
+    (entry-under row p.number p.within) (under_refl div div_some) (past_under _ _
     (product_den-pos (weigh p.number) div (some p.number) div_some)
     (fraction_quotients_bounded p.number b ne) p.past)
 
 nonzero_some : (a : Fraction) (n : ℕ) → after_zero a.num n ≡ 0 → a ≢ R.zero
-nonzero_some a n z e = (let s : after_zero a.num n ≡ suc n = lead-zero a n e in
+nonzero_some a n z e = (let s : after_zero a.num n ≡ suc n = lead-zero n e in
     absurd (omega (arith, z, s)))
 
 pub after_cases : (z : ℤ) (n : ℕ) → (after_zero z n ≡ 0) ⊎ (after_zero z n ≡ suc n)
@@ -386,7 +373,7 @@ lead_within (a ∷ row) = (let h = lead_within row in elim (after_cases a.num (l
 ])
 
 -- ---- the row that is added, over what the code has
-module _ (rows : List (List Fraction)) (row rest : List Frac) (column : ℕ) (is : fractions_of rest
+module _ (rows : List (List Fraction)) (row rest : List Frac) {column : ℕ} (is : fractions_of rest
     ≡ reduce_row rows (fractions_of row)) (width : length rest ≡ length row)
     (at : column ≡ lead (fractions_of rest)) (ne : column ≢ length rest) where
   pub column_within : column < length rest
@@ -425,8 +412,9 @@ module _ (rows : List (List Fraction)) (row rest : List Frac) (column : ℕ) (is
           ∙ ap quotient is;
     }
 
-pub below : (row : List Frac) (all : List (Vec Frac Global)) (i : ℕ) (e : Vec Frac Global) (l : ℕ)
+pub below : (row : List Frac) (all : List (Vec Frac Global)) (i : ℕ) {e : Vec Frac Global} {l : ℕ}
     → i < length all → e ≡ get_or all i e → l ≡ lead (fractions_of e.items)
     → All (λ v. lead (fractions_of v.items) < length row) all → l < length row
-below row all i e l h at q a = subst (λ n. n < length row) (sym q) (subst (λ (v : Vec Frac Global).
+below row all i {e = e} h at q a =
+    subst (λ n. n < length row) (sym q) (subst (λ (v : Vec Frac Global).
     lead (fractions_of v.items) < length row) (sym at) (a i e h))

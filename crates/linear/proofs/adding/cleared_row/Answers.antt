@@ -9,20 +9,17 @@ within c m n e h = subst (λ x. c < x) (sym e) h
 
 pub returns-then-is_zero-clause-row : goal.returns-then-is_zero-clause-row
 returns-then-is_zero-clause-row c =
-    ap fractions_of (c.in_ok-copy_row.ensures ∙ c.as_slice.ensures.value)
-    ∙ clear_same c.args.row.now.items c.args.fresh.now.items c.args.column c.index-factor.result.now
-    (within c.args.column _ _ c.requires.width c.requires.column) c.index-factor.ensures
-    (c.if-is_zero.ensures.0 refl)
+    ap fractions_of (c.in_ok-copy_row.ensures ∙ c.as_slice.ensures.value) ∙ clear_same
+    c.args.row.now.items c.args.fresh.now.items c.args.column (within c.args.column _ _
+    c.requires.width c.requires.column) c.index-factor.ensures (c.if-is_zero.ensures.0 refl)
 
 pub returns-clause-row : goal.returns-clause-row
 returns-clause-row c =
-    IfOk-weaker c.less_of.result _ _
-    (λ out. clear_less c.args.row.now.items c.args.fresh.now.items c.args.column
-    c.index-factor.result.now out.items (within c.args.column _ _ c.requires.width
-    c.requires.column) c.index-factor.ensures) c.less_of.ensures.row
+    IfOk-weaker c.less_of.result _ _ (λ out. clear_less c.args.row.now.items c.args.fresh.now.items
+    c.args.column out.items (within c.args.column _ _ c.requires.width c.requires.column)
+    c.index-factor.ensures) c.less_of.ensures.row
 
 pub returns-clause-wide : goal.returns-clause-wide
 returns-clause-wide c = λ h.
-    clear_wide c.args.row.now.items c.args.fresh.now.items c.args.column c.index-factor.result.now
-    (within c.args.column _ _ c.requires.width c.requires.column) c.index-factor.ensures
-    (c.less_of.ensures.wide h)
+    clear_wide c.args.row.now.items c.args.fresh.now.items c.args.column (within c.args.column _ _
+    c.requires.width c.requires.column) c.index-factor.ensures (c.less_of.ensures.wide h)

@@ -15,12 +15,11 @@ loop-column-preserved c =
     elim c.if-has_no_lead.branch [
       | then-has_no_lead+in_ok-vector_of+in_ok-push v ↦ subst (λ (o : Vec (Vec Frac Global) Global).
           all ≡ rows_of o.items ++ kernel_rows rows w (i + 1) (w - (i + 1))) (sym v.vectors-is)
-          (rows_more rows w i all c.loop-column.vectors.items c.loop-column-test.true
-          c.loop-column.invariant v.push.new.self.items v.in_ok-vector_of.field-0
-          (sym c.has_no_lead.ensures ∙ v.if-has_no_lead.true) v.in_ok-vector_of.ensures
-          v.in_ok-push.ensures.items)
+          (rows_more rows w i all _ c.loop-column-test.true c.loop-column.invariant
+          v.in_ok-vector_of.field-0 (sym c.has_no_lead.ensures ∙ v.if-has_no_lead.true)
+          v.in_ok-vector_of.ensures v.in_ok-push.ensures.items)
       | else-has_no_lead v ↦ subst (λ (o : Vec (Vec Frac Global) Global). all ≡ rows_of o.items
           ++ kernel_rows rows w (i + 1) (w - (i + 1))) (sym v.vectors-is)
-          (rows_same rows w i all c.loop-column.vectors.items c.loop-column-test.true
+          (rows_same rows w i all _ c.loop-column-test.true
           c.loop-column.invariant (sym c.has_no_lead.ensures ∙ v.if-has_no_lead.false))
     ]

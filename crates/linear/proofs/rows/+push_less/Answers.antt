@@ -5,20 +5,17 @@ use Rattle.linear.proofs.Weights.{wide_mul, wide_sub, wide_rest}
 use Rattle.linear.proofs.rows.+push_less.Goals as goal
 
 pub returns-in_err-product-clause-wide : goal.returns-in_err-product-clause-wide
-returns-in_err-product-clause-wide t c = λ h. wide_mul c.args.row.now c.args.other.now
-    c.in-Some-Some.row.now c.in-Some-Some.other.now c.in-Some-Some.first.now
-    c.in-Some-Some.second.now c.args.factor.now c.in-Some-Some.ensures.cases.0
+returns-in_err-product-clause-wide t c =
+    λ h. wide_mul c.args.other.now c.args.factor.now c.in-Some-Some.ensures.cases.0
     c.in-Some-Some.ensures'.cases.0 (c.in_err-product.ensures.wide.0 refl)
 
 pub returns-in_err-sub-clause-wide : goal.returns-in_err-sub-clause-wide
-returns-in_err-sub-clause-wide t c = λ h. wide_sub c.args.row.now c.args.other.now
-    c.in-Some-Some.row.now c.in-Some-Some.other.now c.in-Some-Some.first.now
-    c.in-Some-Some.second.now c.args.factor.now c.in_ok-product.product
+returns-in_err-sub-clause-wide t c =
+    λ h. wide_sub c.args.other.now c.args.factor.now c.in_ok-product.product
     c.in-Some-Some.ensures.cases.0 c.in-Some-Some.ensures'.cases.0 c.in_ok-product.ensures.ok
     (difference_past (fraction_of c.in-Some-Some.first.now) (fraction_of c.in_ok-product.product)
     (c.in_err-sub.ensures.wide.0 refl))
 
 pub returns-clause-wide : goal.returns-clause-wide
-returns-clause-wide t c = λ h. wide_rest c.args.row.now c.args.other.now c.in-Some-Some.row.now
-    c.in-Some-Some.other.now c.in-Some-Some.first.now c.in-Some-Some.second.now c.args.factor.now
+returns-clause-wide t c = λ h. wide_rest c.args.other.now c.args.factor.now
     c.in-Some-Some.ensures.cases.0 c.in-Some-Some.ensures'.cases.0 (c.push_less.ensures.wide h)
