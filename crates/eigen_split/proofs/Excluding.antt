@@ -260,10 +260,11 @@ module _ (n : ℕ) (rows : List (List Fraction)) (p : ℤ) where
       excluded = record { is = zero_row }
 
 -- as the code has it
-pub excluded_iteration : (n : ℕ) (rows : List (List Fraction)) (d : ℕ) (p q : ℤ)
-    (cs : List (Residue 65521)) (f : Found) → IsReady n rows d → q ≡ p → IsAnnihilating n d rows cs
+pub excluded_iteration : {n : ℕ} (rows : List (List Fraction)) (d : ℕ) (p q : ℤ)
+    (cs : List (Residue 65521)) (f : Found)
+    → IsReady n rows d → q ≡ p → IsAnnihilating n d rows cs
     → value_in GF (integer_in GF q) GF.zero cs ≢ GF.zero → IsIteration n rows p f f
-excluded_iteration n rows d p q cs f ready e root ne =
+excluded_iteration {n = n} rows d p q cs f ready e root ne =
     no_eigenvalue
     (excluded n rows p cs (subst (λ d. IsAnnihilating n d rows cs) ready.least root)
     (subst (λ p. value_in GF (integer_in GF p) GF.zero cs ≢ GF.zero) e ne) ready.count

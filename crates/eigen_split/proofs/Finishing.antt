@@ -38,28 +38,27 @@ candidate_last b = omega (arith, ints)
 module _ (n : ℕ) (rows : List (List Fraction)) (size : length rows ≡ n)
     (widths : Each (λ row. length row ≡ n) rows) where
   searched_to : (b k : ℕ) (f : Found) → k ≤ 2 * b + 1 → IterationsTo n rows b k f
-      → IsSearchedTo n rows size widths b (pos k +ℤ neg_ℤ (pos b)) f
-  searched_to b zero f l e = subst (IsSearchedTo n rows size widths b (pos 0 +ℤ neg_ℤ (pos b)))
-      (sym e) (subst (λ m. IsSearchedTo n rows size widths b m (record { forms = []; values = [] }))
-      (candidate_first b) (first n rows size widths b))
+      → IsSearchedTo rows size widths b (pos k +ℤ neg_ℤ (pos b)) f
+  searched_to b zero f l e = subst (IsSearchedTo rows size widths b (pos 0 +ℤ neg_ℤ (pos b)))
+      (sym e) (subst (λ m. IsSearchedTo rows size widths b m (record { forms = []; values = [] }))
+      (candidate_first b) (first rows size widths b))
   searched_to b (suc k) f l h =
-      subst (λ m. IsSearchedTo n rows size widths b m f) (candidate_next b k)
-      (turned n rows size widths b (pos k +ℤ neg_ℤ (pos b)) h.0 f
+      subst (λ m. IsSearchedTo rows size widths b m f) (candidate_next b k)
+      (turned rows size widths b (pos k +ℤ neg_ℤ (pos b)) h.0 f
       (candidate_within b k (omega arith)) h.2 (searched_to b k h.0 (omega arith) h.1))
 
   others_done : (b : ℕ) (f : Found) → b ≡ greatest_sum n rows → AreOthers n rows b f
-      → IsSearchedTo n rows size widths (greatest_sum n rows) (pos (suc (greatest_sum n rows))) f
+      → IsSearchedTo rows size widths (greatest_sum n rows) (pos (suc (greatest_sum n rows))) f
   others_done b f bound others =
-      subst (λ b. IsSearchedTo n rows size widths b (pos (suc b)) f) bound
-      (subst (λ m. IsSearchedTo n rows size widths b m f) (candidate_last b)
-      (searched_to b (2 * b + 1) f (omega arith) others))
+      subst (λ b. IsSearchedTo rows size widths b (pos (suc b)) f) bound (subst (λ m. IsSearchedTo
+      rows size widths b m f) (candidate_last b) (searched_to b (2 * b + 1) f (omega arith) others))
 
   pub ended : (b : ℕ) (f : Found) → b ≡ greatest_sum n rows → IsWholeSearch n rows b f
-      → IsAllSearched n rows size widths f
+      → IsAllSearched rows size widths f
   ended b f bound (enough others l) =
-      without_zero n rows size widths f l (others_done b f bound others)
+      without_zero rows size widths f l (others_done b f bound others)
   ended b f bound (zero_last e others l h) =
-      with_zero n rows size widths e f h (others_done b e bound others)
+      with_zero rows size widths e f h (others_done b e bound others)
 
 -- ---- column sums
 greatest_place : (m : ℕ) (f : ℕ → ℕ) (x : ℕ) → 0 < x → x ≤ greatest_of m f → (j : ℕ) × (j < m)
@@ -109,10 +108,10 @@ rows_widths n (x ∷ xs) h = (
   rows_widths n xs (All-tail (λ (row : Vec Frac Global). length row.items ≡ n) x xs h),
 )
 
-pub is_ready : (xs : List (Vec Frac Global)) (d : ℕ) → length xs ≤ 12
+pub is_ready : (xs : List (Vec Frac Global)) {d : ℕ} → length xs ≤ 12
     → All (λ row. length row.items ≡ length xs) xs → d ≡ denominator (rows_of xs) → d < 2 ^ 127
     → greatest_sum (length xs) (rows_of xs) ≤ limit (length xs) → IsReady (length xs) (rows_of xs) d
-is_ready xs d few square least small within =
+is_ready xs few square least small within =
     record {
       count = length-map xs (λ (v : Vec Frac Global). fractions_of v.items);
       widths = rows_widths (length xs) xs square;
@@ -153,7 +152,7 @@ module _ (xs : List (Vec Frac Global)) (d s b : ℕ) (f : Found)
         ready.small (subst (λ s. s < 2 ^ 127) e fits),
   )
 
-  at_end : IsAllSearched (length xs) (rows_of xs) ready.count ready.widths f
+  at_end : IsAllSearched (rows_of xs) ready.count ready.widths f
   at_end = ended (length xs) (rows_of xs) ready.count ready.widths b f (same ∙ e) whole
 
   pub ok_answer : length f.forms ≡ length xs
@@ -161,9 +160,9 @@ module _ (xs : List (Vec Frac Global)) (d s b : ℕ) (f : Found)
       × AreSearched (length xs) (rows_of xs) f.forms f.values × Ascending f.values
       × IsWithin (length xs) (rows_of xs) × IsSearched (length xs) (rows_of xs) f.forms f.values
   ok_answer q = (
-    forms_are (length xs) (rows_of xs) ready.count ready.widths f at_end q,
-    splits (length xs) (rows_of xs) ready.count ready.widths f at_end q,
-    searched (length xs) (rows_of xs) ready.count ready.widths f at_end,
+    forms_are (rows_of xs) ready.count ready.widths f at_end q,
+    splits (rows_of xs) ready.count ready.widths f at_end q,
+    searched (rows_of xs) ready.count ready.widths f at_end,
     values_ascend (length xs) (rows_of xs) b f whole,
     within,
     subst (λ b. IsWholeSearch (length xs) (rows_of xs) b f) (same ∙ e) whole,
@@ -172,7 +171,7 @@ module _ (xs : List (Vec Frac Global)) (d s b : ℕ) (f : Found)
   pub eigen_answer : (length f.forms ≡ length xs → ⊥) → IfSplitRefused (length xs) (rows_of xs)
       Eigen
   eigen_answer ne = (
-    no_split (length xs) (rows_of xs) ready.count ready.widths f at_end ne,
+    no_split (rows_of xs) ready.count ready.widths f at_end ne,
     λ l. within,
   )
 
@@ -188,24 +187,24 @@ pub sum_refused : (xs : List (Vec Frac Global)) (d : ℕ) → 2 ≤ length xs
 sum_refused xs d some e h = (some, (refl, refl, too_wide (length xs) (rows_of xs) d e h))
 
 -- ---- the loop over the candidates
-pub iterations_more : (n : ℕ) (rows : List (List Fraction)) (b k : ℕ) (e f : Found) (p : ℤ)
+pub iterations_more : {n : ℕ} {rows : List (List Fraction)} (b k : ℕ) {e f : Found} {p : ℤ}
     → IterationsTo n rows b k e → p ≡ pos k +ℤ neg_ℤ (pos b) → IsOther n rows p e f
     → IterationsTo n rows b (k + 1) f
-iterations_more n rows b k e f p h q t = subst (λ m. IterationsTo n rows b m f) (sym (add-one k)) (
-  e,
-  h,
-  subst (λ p. IsOther n rows p e f) q t,
-)
+iterations_more {n = n} {rows = rows} b k {e = e} {f = f} {p = p} h q t =
+    subst (λ m. IterationsTo n rows b m f) (sym (add-one k)) (
+      e,
+      h,
+      subst (λ p. IsOther n rows p e f) q t,
+    )
 
 -- ---- one candidate with forms
-pub iteration_found : (n : ℕ) (rows : List (List Fraction)) (d : ℕ) (p q r : ℤ) (f : Found)
+pub iteration_found : {n : ℕ} (rows : List (List Fraction)) (d : ℕ) (p q r : ℤ) (f : Found)
     (forms more : List (Vec Frac Global)) (values : List Frac) (v : Frac) (count : ℕ)
     → d ≡ denominator rows → q ≡ p → r ≡ p → AreFormsOf n rows q (rows_of forms)
-    → fraction_of v ≡ over r d
-    → count ≡ length forms → rows_of more ≡ f.forms ++ rows_of forms
+    → fraction_of v ≡ over r d → count ≡ length forms → rows_of more ≡ f.forms ++ rows_of forms
     → fractions_of values ≡ f.values ++ copies count (fraction_of v)
     → IsIteration n rows p f (record { forms = rows_of more; values = fractions_of values })
-iteration_found n rows d p q r f forms more values v count least e g a w c h k =
+iteration_found {n = n} rows d p q r f forms more values v count least e g a w c h k =
     new_forms (rows_of forms) (subst (λ q. AreFormsOf n rows q (rows_of forms)) e a)
     (ap₂ (λ fs vs. record { forms = fs; values = vs }) h
     (k ∙ ap₂ (λ m x. f.values ++ copies m x) (c

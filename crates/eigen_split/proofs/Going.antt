@@ -32,10 +32,10 @@ pub record Going (n : ℕ) (rows : List (List Fraction)) (d : ℕ) (p : ℤ) (k 
   pub kernel : HasKernel n rows p k grown
   pub grew : HasGrownTo n rows p k
 
-module _ (n : ℕ) (rows : List (List Fraction)) (d : ℕ) (p : ℤ) (ready : IsReady n rows d) where
-  pub going_first : (ints : List (List ℤ)) (known : Echelon) → ints ≡ shifted_rows d p rows
+module _ {n : ℕ} {rows : List (List Fraction)} {d : ℕ} (p : ℤ) (ready : IsReady n rows d) where
+  pub going_first : {ints : List (List ℤ)} (known : Echelon) → ints ≡ shifted_rows d p rows
       → known ≡ record { width = n; rows = [] } → Going n rows d p 0 ints [] known 0
-  going_first ints known e q = record {
+  going_first known e q = record {
     ints_are = e;
     made = refl;
     width = ap (λ (x : Echelon). x.width) q;
@@ -84,22 +84,23 @@ module _ (n : ℕ) (rows : List (List Fraction)) (d : ℕ) (p : ℤ) (ready : Is
         widths = widths_are d p rows k new is;
       }
 
-  pub kernel_at : (k : ℕ) (xs : List (Vec Whole Global)) (vectors : List (List Fraction))
+  pub kernel_at : {k : ℕ} {xs : List (Vec Whole Global)} {vectors : List (List Fraction)}
       → IsPowerAt k xs → IsKernelOf xs vectors → IsKernelAt n (multiple n rows p k) vectors
-  kernel_at k xs vectors now h = subst (λ l. IsKernelAt n l vectors) (meant k (ints_of xs) now.is)
+  kernel_at {k = k} {xs = xs} {vectors = vectors} now h =
+      subst (λ l. IsKernelAt n l vectors) (meant k (ints_of xs) now.is)
       (subst (λ m. IsKernelAt m (whole_rows (ints_of xs)) vectors) now.count h)
 
-  pub going_next : (k : ℕ) (old now : List (Vec Whole Global))
-      (forms more : List (List Fraction)) (vectors : List (Vec Frac Global))
-      (known known' : Echelon) (grown size count : ℕ) → Going n rows d p k (ints_of old) forms known
-      grown
-      → IsPowerAt k now → IsKernelOf now (rows_of vectors) → AreAdded forms (rows_of vectors) more
-      → known'.width ≡ size → IsEchelonOf size more known'.rows → size ≡ n
-      → count ≡ length vectors → count ≢ grown
-      → Going n rows d p (k + 1) (ints_of now) more known' count
-  going_next k old now forms more vectors known known' grown size count g e h a w f q c ne =
+  pub going_next : (k : ℕ) (old now : List (Vec Whole Global)) (forms : List (List Fraction))
+      {more : List (List Fraction)} (vectors : List (Vec Frac Global)) (known known' : Echelon)
+      (grown size count : ℕ)
+      → Going n rows d p k (ints_of old) forms known grown → IsPowerAt k now
+      → IsKernelOf now (rows_of vectors) → AreAdded forms (rows_of vectors) more
+      → known'.width ≡ size → IsEchelonOf size more known'.rows → size ≡ n → count ≡ length vectors
+      → count ≢ grown → Going n rows d p (k + 1) (ints_of now) more known' count
+  going_next k old now forms {more = more} vectors known known' grown size count g e h a w f q c
+      ne =
       let kernel : IsKernelAt n (multiple n rows p k) (rows_of vectors) =
-      kernel_at k now (rows_of vectors) e h in
+      kernel_at e h in
       let many : length (rows_of vectors) ≡ count = rows-length vectors ∙ sym c in
       subst (λ m. Going n rows d p m (ints_of now) more known' count) (sym (add-one k))
       (record {
@@ -111,19 +112,19 @@ module _ (n : ℕ) (rows : List (List Fraction)) (d : ℕ) (p : ℤ) (ready : Is
         grew = (g.grew, (grown, count, g.kernel, (rows_of vectors, kernel, many), λ z. ne (sym z)));
       })
 
-  pub going_stop : (k : ℕ) (old now : List (Vec Whole Global)) (forms : List (List Fraction))
+  pub going_stop : (k : ℕ) (old now : List (Vec Whole Global)) {forms : List (List Fraction)}
       (vectors : List (Vec Frac Global)) (known : Echelon) (grown count : ℕ)
-      → Going n rows d p k (ints_of old) forms known grown → k ≤ n
-      → IsPowerAt k now → IsKernelOf now (rows_of vectors) → count ≡ length vectors
-      → count ≡ grown → AreFormsOf n rows p forms
-  going_stop k old now forms vectors known grown count g l e h c q = record {
+      → Going n rows d p k (ints_of old) forms known grown → k ≤ n → IsPowerAt k now
+      → IsKernelOf now (rows_of vectors) → count ≡ length vectors → count ≡ grown
+      → AreFormsOf n rows p forms
+  going_stop k old now vectors known grown count g l e h c q = record {
     powers = k;
     few = l;
     made = g.made;
     ended = inr (
       grown,
       g.kernel,
-      (rows_of vectors, kernel_at k now (rows_of vectors) e h, rows-length vectors ∙ sym c ∙ q),
+      (rows_of vectors, kernel_at e h, rows-length vectors ∙ sym c ∙ q),
     );
   }
 
@@ -180,7 +181,7 @@ module _ (n : ℕ) (rows : List (List Fraction)) (d : ℕ) (p : ℤ) (ready : Is
             found = forms;
             are = g.made;
             vectors = rows_of vectors;
-            kernel = kernel_at k now (rows_of vectors) a b;
+            kernel = kernel_at a b;
             past = past.2;
           },
         ),

@@ -93,15 +93,15 @@ one_row_is [] x l e = absurd (omega arith)
 one_row_is (y ∷ []) x l e = ap (λ z. fraction_of z ∷ []) (sym e)
 one_row_is (y ∷ z ∷ row) x l e = absurd (omega arith)
 
-pub one_matrix : (xs : List (Vec Frac Global)) (row : Vec Frac Global) (x : Frac) → length xs ≡ 1
+pub one_matrix : (xs : List (Vec Frac Global)) {row : Vec Frac Global} {x : Frac} → length xs ≡ 1
     → All (λ v. length v.items ≡ length xs) xs → row ≡ get_or xs 0 row → x ≡ get_or row.items 0 x
     → rows_of xs ≡ (fraction_of x ∷ []) ∷ []
-one_matrix [] row x l w e q = absurd (omega arith)
-one_matrix (v ∷ []) row x l w e q =
+one_matrix [] l w e q = absurd (omega arith)
+one_matrix (v ∷ []) {row = row} {x = x} l w e q =
     ap (λ (v : Vec Frac Global). fractions_of v.items ∷ []) (sym e)
     ∙ ap (λ r. r ∷ []) (one_row_is row.items x (ap (λ (v : Vec Frac Global). length v.items) e
     ∙ All-head (λ (r : Vec Frac Global). length r.items ≡ 1) v [] w) q)
-one_matrix (v ∷ u ∷ xs) row x l w e q = absurd (omega arith)
+one_matrix (v ∷ u ∷ xs) l w e q = absurd (omega arith)
 
 module _ (n : ℕ) (rows forms : List (List Fraction)) (values : List Fraction) (a : Fraction)
     (one : n ≡ 1) (is : rows ≡ (a ∷ []) ∷ []) (s : IsSingle a forms values) where

@@ -35,14 +35,14 @@ list_row [] i row l e = absurd (omega arith)
 list_row (r ∷ rows) zero row l e = ap (λ (v : Vec Frac Global). fractions_of v.items) (sym e)
 list_row (r ∷ rows) (suc i) row l e = list_row rows i row (omega arith) e
 
-pub list_width : (n : ℕ) (rows : List (Vec Frac Global)) (i : ℕ) (row : Vec Frac Global)
+pub list_width : (n : ℕ) (rows : List (Vec Frac Global)) (i : ℕ) {row : Vec Frac Global}
     → Each (λ r. length r ≡ n) (rows_of rows) → i < length rows → row ≡ get_or rows i row
     → length row.items ≡ n
 unfolding Each
-list_width n [] i row w l e = absurd (omega arith)
-list_width n (r ∷ rows) zero row w l e = ap (λ (v : Vec Frac Global). length v.items) e
+list_width n [] i w l e = absurd (omega arith)
+list_width n (r ∷ rows) zero w l e = ap (λ (v : Vec Frac Global). length v.items) e
     ∙ sym (length-map r.items fraction_of) ∙ w.0
-list_width n (r ∷ rows) (suc i) row w l e = list_width n rows i row w.1 (omega arith) e
+list_width n (r ∷ rows) (suc i) {row = row} w l e = list_width n rows i w.1 (omega arith) e
 
 pub limit_small : (n : ℕ) → limit n ≤ 4096
 limit_small n = go (leb n 8)
@@ -51,14 +51,14 @@ limit_small n = go (leb n 8)
     go true = omega arith
     go false = omega arith
 
-pub candidate_small : (n : ℕ) (rows : List (List Fraction)) (d : ℕ) (p : ℤ) → IsReady n rows d
+pub candidate_small : {n : ℕ} {rows : List (List Fraction)} {d : ℕ} {p : ℤ} → IsReady n rows d
     → IsCandidate n rows p → nat_abs p ≤ limit n
-candidate_small n rows d p ready c = (let l = ready.within in let w = c.within in
+candidate_small ready c = (let l = ready.within in let w = c.within in
     omega (arith, l, w))
 
-pub ready_entry : (n : ℕ) (rows : List (List Fraction)) (d : ℕ) → IsReady n rows d → (i j : ℕ)
+pub ready_entry : {n : ℕ} {rows : List (List Fraction)} {d : ℕ} → IsReady n rows d → (i j : ℕ)
     → i < n → j < n → nat_abs (whole_number d (entry (row_at rows i) j)) ≤ 4096
-ready_entry n rows d ready i j l h =
+ready_entry {n = n} {rows = rows} {d = d} ready i j l h =
     subst (λ d. nat_abs (whole_number d (entry (row_at rows i) j)) ≤ 4096) (sym ready.least)
     (let a = entry_in_sum (denominator rows) rows i j (subst (λ m. i < m) (sym ready.count) l) in
     let b = at_most_greatest n (sum_of_column (denominator rows) rows) j h in
@@ -80,10 +80,10 @@ fits_over p d some small h past =
     let bottom : (over p d).den ≤ d = subst (λ (q : Ratio). q.den ≤ d) (sym r) (div-le_self d g) in
     elim past [ inl l ↦ omega (arith, l, top, h) | inr l ↦ omega (arith, l, bottom, small) ]
 
-pub at_entry : (rows : List (Vec Frac Global)) (i j : ℕ) (row : Vec Frac Global) (x : Frac)
+pub at_entry : (rows : List (Vec Frac Global)) (i j : ℕ) {row : Vec Frac Global} {x : Frac}
     → i < length rows → row ≡ get_or rows i row → j < length row.items → x ≡ get_or row.items j x
     → entry (row_at (rows_of rows) i) j ≡ fraction_of x
-at_entry rows i j row x l e h q = ap (λ r. entry r j) (list_row rows i row l e)
+at_entry rows i j {row = row} {x = x} l e h q = ap (λ r. entry r j) (list_row rows i row l e)
     ∙ entry_at row.items j x h q
 
 pub num_small : (f : Frac) → nat_abs (fraction_of f).num < 2 ^ 127

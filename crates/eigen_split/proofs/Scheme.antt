@@ -18,11 +18,11 @@ use Rattle.eigen_split.specs.Residues.{GF, gfs, gf_rows, zeros, next_in, next_en
 use Rattle.eigen_split.proofs.Excluding.{natural-residue}
 use Rattle.eigen_split.proofs.Sums.{length-over}
 
-pub get_mapped : {A B : Type 0} (g : A → B) (xs : List A) (i : ℕ) (x : A) (d : B) → i < length xs
+pub get_mapped : {A B : Type 0} (g : A → B) (xs : List A) (i : ℕ) {x : A} (d : B) → i < length xs
     → x ≡ get_or xs i x → get_or (map g xs) i d ≡ g x
-get_mapped g [] i x d l e = absurd (omega arith)
-get_mapped g (y ∷ xs) zero x d l e = ap g (sym e)
-get_mapped g (y ∷ xs) (suc i) x d l e = get_mapped g xs i x d (omega arith) e
+get_mapped g [] i d l e = absurd (omega arith)
+get_mapped g (y ∷ xs) zero d l e = ap g (sym e)
+get_mapped g (y ∷ xs) (suc i) {x = x} d l e = get_mapped g xs i d (omega arith) e
 
 -- ---- the scheme
 module _ {A : Type 0} (N : Arithmetic A) (n : ℕ) (columns : List (List A)) where
@@ -44,31 +44,32 @@ pub record IsScheme (n d : ℕ) (rows : List (List Fraction)) (now : List (List 
   pub is : now ≡ matrix_in GF n (residue_columns n d rows) (zeros GF n) cs
 
 module _ (n d : ℕ) (rows : List (List Fraction)) where
-  pub scheme_count : (now : List (List (Residue 65521))) (cs : List (Residue 65521))
+  pub scheme_count : {now : List (List (Residue 65521))} {cs : List (Residue 65521)}
       → IsScheme n d rows now cs → length now ≡ n
-  scheme_count now cs s = ap length s.is ∙ scheme-length GF n (residue_columns n d rows) cs
+  scheme_count {cs = cs} s = ap length s.is ∙ scheme-length GF n _ cs
       (zeros GF n) (length-over (λ i. map (λ j. GF.zero) (numbers_to n)) n)
 
-  pub columns_count : (columns : List (List (Residue 65521))) → columns ≡ residue_columns n d rows
+  pub columns_count : {columns : List (List (Residue 65521))} → columns ≡ residue_columns n d rows
       → length columns ≡ n
-  columns_count columns e = ap length e ∙ length-over _ n
+  columns_count e = ap length e ∙ length-over _ n
 
-  pub scheme_next : (now next columns : List (List (Residue 65521)))
-      (cs more : List (Residue 65521)) (c : Residue 65521) (m : ℕ) → IsScheme n d rows now cs
-      → columns ≡ residue_columns n d rows → m ≡ n
+  pub scheme_next : {now next columns : List (List (Residue 65521))}
+      {cs more : List (Residue 65521)} (c : Residue 65521) {m : ℕ}
+      → IsScheme n d rows now cs → columns ≡ residue_columns n d rows → m ≡ n
       → next ≡ next_in GF m columns c now → more ≡ cs ++ c ∷ [] → IsScheme n d rows next more
-  scheme_next now next columns cs more c m s e q h k = record {
+  scheme_next {now = now} {columns = columns} {cs = cs} c {m = m} s e q h k = record {
     is = h ∙ ap (λ m. next_in GF m columns c now) q ∙ ap₂ (λ cols l. next_in GF n cols c l) e s.is
-        ∙ sym (scheme_more GF n (residue_columns n d rows) cs c (zeros GF n))
+        ∙ sym (scheme_more GF n _ cs c (zeros GF n))
         ∙ ap (matrix_in GF n (residue_columns n d rows) (zeros GF n)) (sym k);
   }
 
   -- all zero
-  pub scheme_end : (now : List (Vec Gf Global)) (cs : List (Residue 65521))
-      → IsScheme n d rows (gf_rows now) cs → ((i : ℕ) → i < n → (row : List (Residue 65521))
-      → row ≡ get_or (gf_rows now) i [] → (j : ℕ) → get_or row j GF.zero ≡ GF.zero)
+  pub scheme_end : (now : List (Vec Gf Global)) {cs : List (Residue 65521)}
+      → IsScheme n d rows (gf_rows now) cs
+      → ((i : ℕ) → i < n → (row : List (Residue 65521)) → row ≡ get_or (gf_rows now) i [] → (j : ℕ)
+      → get_or row j GF.zero ≡ GF.zero)
       → IsAnnihilating n d rows cs
-  scheme_end now cs s h = record {
+  scheme_end now s h = record {
     none = λ i j l k. ap (λ m. entry_in GF m i j) (sym s.is)
         ∙ h i l (get_or (gf_rows now) i []) refl j;
   }

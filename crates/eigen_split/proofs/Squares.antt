@@ -22,23 +22,25 @@ use Rattle.eigen_split.proofs.Kernels.{each_over}
 use Rattle.eigen_split.proofs.Multiples.{fits_next, dot_bound}
 
 -- ---- one more
-pub mapped_more : {A B : Type 0} (g : A → B) (f : ℕ → B) (j : ℕ) (out more : List A) (x : A)
+pub mapped_more : {A B : Type 0} (g : A → B) (f : ℕ → B) (j : ℕ) (out : List A) {more : List A}
+    (x : A)
     → map g out ≡ map f (numbers_to j) → more ≡ out ++ x ∷ [] → g x ≡ f j
     → map g more ≡ map f (numbers_to (j + 1))
-mapped_more g f j out more x e q h =
+mapped_more g f j out x e q h =
     ap (map g) q ∙ map-append g out (x ∷ []) ∙ ap₂ (λ a b. a ++ b ∷ []) e h ∙ sym (over-more f j)
     ∙ ap (λ k. map f (numbers_to k)) (sym (add-one j))
 
 pub ints_more : (f : ℕ → ℤ) (j : ℕ) (out more : List Whole) (x : Whole)
     → ints out ≡ map f (numbers_to j) → more ≡ out ++ x ∷ [] → x.value ≡ f j
     → ints more ≡ map f (numbers_to (j + 1))
-ints_more f j out more x e q h = mapped_more (λ (w : Whole). w.value) f j out more x e q h
+ints_more f j out more x e q h = mapped_more (λ (w : Whole). w.value) f j out x e q h
 
-pub rows_more : (f : ℕ → List ℤ) (j : ℕ) (out more : List (Vec Whole Global)) (v : Vec Whole Global)
+pub rows_more : (f : ℕ → List ℤ) (j : ℕ) (out : List (Vec Whole Global))
+    {more : List (Vec Whole Global)} (v : Vec Whole Global)
     → ints_of out ≡ map f (numbers_to j) → more ≡ out ++ v ∷ [] → ints v.items ≡ f j
     → ints_of more ≡ map f (numbers_to (j + 1))
-rows_more f j out more v e q h = mapped_more (λ (v : Vec Whole Global). ints v.items) f j out more v
-    e q h
+rows_more f j out {more = more} v e q h =
+    mapped_more (λ (v : Vec Whole Global). ints v.items) f j out v e q h
 
 -- ---- from lists of numbers to what the code has
 pub all_rows : (P : List ℤ → Type 0) (xs : List (Vec Whole Global)) → Each P (ints_of xs)
@@ -84,12 +86,13 @@ module _ (d : ℕ) (p : ℤ) (rows : List (List Fraction)) (k : ℕ) (xs : List 
       (all_widths (length rows) xs (subst (Each (λ r. length r ≡ length rows)) (sym e)
       (rows-widths d p rows k)))
 
-pub fit_next : (n : ℕ) (d : ℕ) (p : ℤ) (rows : List (List Fraction)) (k : ℕ)
-    (xs columns : List (Vec Whole Global)) → IsReady n rows d → nat_abs p ≤ limit n → 0 < k → k < n
-    → ints_of xs ≡ power_rows d p rows (k - 1) → ints_of columns ≡ int_columns (length rows)
-    (shifted_rows d p rows)
+pub fit_next : {n : ℕ} (d : ℕ) (p : ℤ) (rows : List (List Fraction)) (k : ℕ)
+    (xs columns : List (Vec Whole Global))
+    → IsReady n rows d → nat_abs p ≤ limit n → 0 < k → k < n
+    → ints_of xs ≡ power_rows d p rows (k - 1)
+    → ints_of columns ≡ int_columns (length rows) (shifted_rows d p rows)
     → All (λ row. All (λ column. FitsProduct (ints row.items) (ints column.items)) columns) xs
-fit_next n d p rows k xs columns ready c some l e q =
+fit_next {n = n} d p rows k xs columns ready c some l e q =
     let h = fits_next n p rows (subst (IsReady n rows) ready.least ready) c (k - 1) (omega arith) in
     let f = subst
     (λ d. Each
@@ -104,7 +107,7 @@ fit_next n d p rows k xs columns ready c some l e q =
     (power_rows d p rows (k - 1)) f))
 
 -- ---- the parts of a sum of products
-module _ (left right l r : List Whole) (a b : Whole) (e : left ≡ a ∷ l) (q : right ≡ b ∷ r)
+module _ {left right l r : List Whole} {a b : Whole} (e : left ≡ a ∷ l) (q : right ≡ b ∷ r)
     (f : FitsProduct (ints left) (ints right)) where
   both : FitsProduct (a.value ∷ ints l) (b.value ∷ ints r)
   both = subst (λ xs. FitsProduct (ints xs) (b.value ∷ ints r)) e

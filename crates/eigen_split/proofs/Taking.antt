@@ -172,10 +172,10 @@ added_more found vs more v a m = record {
 }
 
 -- ---- the columns one after another
-pub at_more : (n : ℕ) (rows : List (List Fraction)) (j : ℕ) (e f : Echelon) (v : List Fraction)
+pub at_more : (n : ℕ) (rows : List (List Fraction)) (j : ℕ) (e f : Echelon) {v : List Fraction}
     → IsEchelonAt n rows j e → v ≡ column j rows → f.width ≡ e.width → IsWithRow e v f
     → IsEchelonAt n rows (j + 1) f
-at_more n rows j e f v h q w m = (
+at_more n rows j e f {v = v} h q w m = (
   w ∙ h.0,
   subst (λ k. IsEchelonOf n (map (λ j. column j rows) (numbers_to k)) f.rows) (sym (add-one j))
       (subst (λ l. IsEchelonOf n l f.rows) (ap (λ x. map (λ j. column j rows) (numbers_to j) ++ x
@@ -210,8 +210,7 @@ tables-length (v ∷ vs) = ap suc (tables-length vs)
 pub kernel_few : (n : ℕ) (rows vectors : List (List Fraction)) → IsKernelAt n rows vectors
     → length vectors ≤ n
 kernel_few n rows vectors k =
-    let a = same_count n k.are.pivots (free_from ℚ_field k.are.pivots 0 n) (tables ℚ_field vectors)
-    k.are.are in
+    let a = same_count n k.are.pivots _ (tables ℚ_field vectors) k.are.are in
     let b = few_free k.are.pivots 0 n in
     let c = tables-length vectors in
     omega (arith, a, b, c)
@@ -281,16 +280,16 @@ taken_step n found xs forms more j x e f t l q w g m h =
     ])
 
 -- the refusal of the vector at the place j
-pub vector_refused : (n : ℕ) (found more : List (List Fraction)) (xs : List (Vec Frac Global))
-    (j : ℕ) (x : Vec Frac Global) (p : ℤ) (power row : ℕ) (e : Echelon) (error : EigenError)
-    → row ≡ n + j + 1
-    → Taken n found (rows_of (take j xs)) more e → j < length xs → x ≡ get_or xs j x
-    → IfRowPast e.rows (fractions_of x.items) p power row error
+pub vector_refused : (n : ℕ) (found : List (List Fraction)) {more : List (List Fraction)}
+    (xs : List (Vec Frac Global)) (j : ℕ) (x : Vec Frac Global) (p : ℤ) (power : ℕ) {row : ℕ}
+    (e : Echelon) (error : EigenError)
+    → row ≡ n + j + 1 → Taken n found (rows_of (take j xs)) more e → j < length xs
+    → x ≡ get_or xs j x → IfRowPast e.rows (fractions_of x.items) p power row error
     → IfVectorPast n found (rows_of xs) p power error
-vector_refused n found more xs j x p power row e Eigen r t l at past = absurd past
-vector_refused n found more xs j x p power row e (Range sum) r t l at past = absurd past
-vector_refused n found more xs j x p power row e Memory r t l at past = tt
-vector_refused n found more xs j x p power row e (Wide candidate w z) r t l at past = (
+vector_refused n found xs j x p power e Eigen r t l at past = absurd past
+vector_refused n found xs j x p power e (Range sum) r t l at past = absurd past
+vector_refused n found xs j x p power e Memory r t l at past = tt
+vector_refused n found xs j x p power e (Wide candidate w z) r t l at past = (
   past.0,
   past.1,
   (

@@ -48,7 +48,7 @@ repeated-length : (k : ℕ) (c : Fraction) → length (copies k c) ≡ k
 repeated-length zero c = refl
 repeated-length (suc k) c = ap suc (repeated-length k c)
 
-module _ (n : ℕ) (rows : List (List Fraction)) (size : length rows ≡ n)
+module _ {n : ℕ} (rows : List (List Fraction)) (size : length rows ≡ n)
     (widths : Each (λ row. length row ≡ n) rows) where
   abbrev S : Space ℚ_ring (Row ℚ_field n)
   S = rows_of ℚ_field n

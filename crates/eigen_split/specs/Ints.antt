@@ -10,13 +10,17 @@
 --   FitsProduct xs ys               the sum of the products fits, whatever its order
 --   AllFit rows columns      each row fits beside each column
 --   most_rows                a matrix has at most so many rows;  most_sum: the greatest limit of a column sum
---   IsReady n rows d         a matrix of n rows, 2 to most_rows, with its least common denominator, whose column sums are within the limit
+--   IsReady n rows d         a matrix of n rows, 2 to most_rows, with its least common denominator, whose column sums are within the limit;
+--                            ready_prop: that is a proposition
 use Rattle.std.specs.Prelude.{◌≡◌, ℕ, zero, suc, ◌+◌, ◌*◌, ◌<◌, ◌≤◌, ℤ, pos, ◌+ℤ◌, ◌*ℤ◌, neg_ℤ, cond, eqb, List, [], ◌∷◌, map, length, get_or, All}
+use Rattle.std.specs.Coded.{le_prop}
 use Rattle.std.specs.declared.alloc.Global.{Global}
 use Rattle.std.specs.declared.vec.Vec.{Vec}
 use lib.IntN.{nat_abs}
+use native.Mathlib.Nat.{ℕ_set}
 use Rattle.frac128.specs.declared.Whole.{Whole}
 use Rattle.algebra.specs.Each.{Each}
+use Rattle.algebra.proofs.Each.{each_prop}
 use Rattle.algebra.specs.Fraction.{Fraction, whole}
 use Rattle.algebra.specs.Limits.{number_limit}
 use Rattle.vectors.specs.Adding.{entry}
@@ -90,3 +94,13 @@ pub record IsReady (n : ℕ) (rows : List (List Fraction)) (d : ℕ) : Type 0 wh
   pub least : d ≡ denominator rows
   pub small : d < number_limit
   pub within : greatest_sum n rows ≤ limit n
+
+at_most_prop : (m n : ℕ) → IsProp (m ≤ n)
+at_most_prop m n = le_prop
+
+pub ready_prop : (n : ℕ) (rows : List (List Fraction)) (d : ℕ) → IsProp (IsReady n rows d)
+ready_prop n rows d = hlevel (
+  ℕ_set,
+  each_prop (λ row. length row ≡ n) (λ row. ℕ_set _ _) rows,
+  at_most_prop,
+)

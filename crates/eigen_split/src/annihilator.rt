@@ -2,40 +2,62 @@
 ghost use Rattle.std.specs.Prelude.{◌≡◌, ◌≢◌, ◌<◌, All, length, map, cond, eqb, pos, IfOk, IsTrue};
 ghost use Rattle.algebra.specs.Integers.{integer_in, natural_in};
 ghost use Rattle.gf65521.specs.GfMeaning.{residue_of};
-ghost use Rattle.linear.specs.Rows.{rows_of};
-ghost use Rattle.eigen_split.specs.Ints.{IsReady};
 ghost use Rattle.vectors.specs.Causes.{numbers_to};
 ghost use Rattle.eigen_split.specs.Residues.{GF, gfs, gf_rows, dot_in, trace_in, next_entry, next_in, zeros, value_in, residue_at, residue_columns, IsNone, IsAnnihilating};
 
-use crate::powers::entry;
-use frac128::Frac;
+use crate::multiple::WholeMultiple;
 use gf65521::Gf;
 use ring_laws::{Field, Ring};
 use std::alloc::{AllocError, Global};
 
-/// The coefficients, from the leading one on, of a polynomial modulo the prime of which the matrix times its denominator is a root.
-/// It is the characteristic one, by Faddeev's method (Gantmacher, "The Theory of Matrices", chapter IV, section 5), or zero, should its last matrix not be zero.
-pub(crate) fn annihilator(
-    alloc: Global,
-    matrix: &Vec<Vec<Frac>>,
-    denominator: u128,
-) -> Result<Vec<Gf>, AllocError>
-    requires { IsReady (length matrix.now.items) (rows_of matrix.now.items) denominator }
-    ensures { IfOk result (λ found. IsAnnihilating (length matrix.now.items) denominator
-        (rows_of matrix.now.items) (gfs found.items)) }
-{
-    let columns = columns(alloc, matrix, denominator)?;
-    let mut rows = zero_rows(alloc, matrix.len())?;
-    let mut coefficients = Vec::new(alloc);
-    for degree in 0..matrix.len() + 1 {
-        let coefficient = coefficient(rows.as_slice(), columns.as_slice(), degree);
-        rows = next_rows(alloc, &rows, &columns, &coefficient)?;
-        coefficients.push(coefficient)?;
+impl WholeMultiple<'_> {
+    ghost use Rattle.eigen_split.specs.WholeMultiple.{rows_in, size_of};
+
+    /// The coefficients, from the leading one on, of a polynomial modulo the prime of which it is a root.
+    /// It is the characteristic one, by Faddeev's method (Gantmacher, "The Theory of Matrices", chapter IV, section 5), or zero, should its last matrix not be zero.
+    pub(crate) fn annihilator(&self, alloc: Global) -> Result<Vec<Gf>, AllocError>
+        ensures { IfOk result (λ found. IsAnnihilating (size_of self.now) self.now.denominator
+            (rows_in self.now) (gfs found.items)) }
+    {
+        let columns = self.residue_columns(alloc)?;
+        let mut rows = zero_rows(alloc, self.matrix.len())?;
+        let mut coefficients = Vec::new(alloc);
+        for degree in 0..self.matrix.len() + 1 {
+            let coefficient = coefficient(rows.as_slice(), columns.as_slice(), degree);
+            rows = next_rows(alloc, &rows, &columns, &coefficient)?;
+            coefficients.push(coefficient)?;
+        }
+        if are_zero(rows.as_slice()) {
+            Ok(coefficients)
+        } else {
+            Ok(Vec::new(alloc))
+        }
     }
-    if are_zero(rows.as_slice()) {
-        Ok(coefficients)
-    } else {
-        Ok(Vec::new(alloc))
+
+    /// Its columns, modulo the prime.
+    fn residue_columns(&self, alloc: Global) -> Result<Vec<Vec<Gf>>, AllocError>
+        ensures { IfOk result (λ out. gf_rows out.items
+            ≡ residue_columns (size_of self.now) self.now.denominator (rows_in self.now)) }
+    {
+        let mut out = Vec::new(alloc);
+        for j in 0..self.matrix.len() {
+            out.push(self.residue_column(alloc, j)?)?;
+        }
+        Ok(out)
+    }
+
+    /// A column of it, modulo the prime.
+    fn residue_column(&self, alloc: Global, j: usize) -> Result<Vec<Gf>, AllocError>
+        requires { j < size_of self.now }
+        ensures { IfOk result (λ out. gfs out.items
+            ≡ map (λ i. residue_at self.now.denominator (rows_in self.now) i j)
+            (numbers_to (size_of self.now))) }
+    {
+        let mut out = Vec::new(alloc);
+        for i in 0..self.matrix.len() {
+            out.push(residue(self.entry(i, j).value()))?;
+        }
+        Ok(out)
     }
 }
 
@@ -57,43 +79,6 @@ fn value(polynomial: &[Gf], at: &Gf, before: &Gf) -> Gf
         return *before;
     };
     value(rest, at, &sum(&product(before, at), first))
-}
-
-/// The columns of the matrix times its denominator, modulo the prime.
-fn columns(
-    alloc: Global,
-    matrix: &Vec<Vec<Frac>>,
-    denominator: u128,
-) -> Result<Vec<Vec<Gf>>, AllocError>
-    requires { IsReady (length matrix.now.items) (rows_of matrix.now.items) denominator }
-    ensures { IfOk result (λ out. gf_rows out.items
-        ≡ residue_columns (length matrix.now.items) denominator (rows_of matrix.now.items)) }
-{
-    let mut out = Vec::new(alloc);
-    for j in 0..matrix.len() {
-        out.push(column(alloc, matrix, denominator, j)?)?;
-    }
-    Ok(out)
-}
-
-/// A column of that matrix.
-fn column(
-    alloc: Global,
-    matrix: &Vec<Vec<Frac>>,
-    denominator: u128,
-    j: usize,
-) -> Result<Vec<Gf>, AllocError>
-    requires ready { IsReady (length matrix.now.items) (rows_of matrix.now.items) denominator }
-    requires column { j < length matrix.now.items }
-    ensures { IfOk result (λ out. gfs out.items
-        ≡ map (λ i. residue_at denominator (rows_of matrix.now.items) i j)
-        (numbers_to (length matrix.now.items))) }
-{
-    let mut out = Vec::new(alloc);
-    for i in 0..matrix.len() {
-        out.push(residue(entry(matrix, denominator, i, j).value()))?;
-    }
-    Ok(out)
 }
 
 /// So many rows of as many zeros.

@@ -3,13 +3,14 @@ ghost use Rattle.std.specs.Prelude.{◌≡◌, ◌<◌, ◌≤◌, ◌+◌, All,
 ghost use Rattle.linear.specs.Rows.{fractions_of, rows_of};
 ghost use Rattle.linear.specs.View.{IsWithRow};
 ghost use Rattle.vectors.specs.Adding.{IsEchelonOf};
-ghost use Rattle.eigen_split.specs.Ints.{ints_of, AllFit, IsReady, most_rows};
+ghost use Rattle.eigen_split.specs.Ints.{ints_of, AllFit, most_rows};
 ghost use Rattle.eigen_split.specs.Search.{AreAdded, IsTakenIf, AreFormsOf};
 ghost use Rattle.eigen_split.specs.Refusal.{IsCandidate};
 ghost use Rattle.eigen_split.specs.Parts.{next_rows, IsKernelOf, IsEchelonOfColumns, IfColumnPastOf, IfVectorPast, IfRowPast, IfPastIn};
 
 use crate::EigenError;
-use crate::powers::{column, columns_of, less_candidate, product};
+use crate::multiple::WholeMultiple;
+use crate::powers::{column, columns_of, product};
 use frac128::{Frac, Whole};
 use linear::{LinearError, Rref};
 use std::alloc::{AllocError, Global};
@@ -74,59 +75,72 @@ fn echelon_of(
     Ok(echelon)
 }
 
-/// The vectors that are no combination of the forms so far go behind these, one after another. `Wide` only where adding that vector is past.
-fn take_new(
-    vectors: &Vec<Vec<Frac>>,
-    place: &CandidatePower,
+/// The forms of a candidate so far, and their echelon list.
+#[derive(Drop)]
+struct KnownForms {
+    /// How many numbers a form has.
     size: usize,
-    known: &mut Rref,
-    forms: &mut Vec<Vec<Frac>>,
-) -> Result<(), EigenError>
-    requires few { length vectors.now.items ≤ most_rows }
-    requires size { size ≤ most_rows }
-    requires widths { All (λ v. length v.items ≡ size) vectors.now.items }
-    requires width { known.old.width ≡ size }
-    requires known { IsEchelonOf size (rows_of forms.old.items) known.old.rows }
-    ensures width { known.new.width ≡ size }
-    ensures taken { OnOk result
-        (AreAdded (rows_of forms.old.items) (rows_of vectors.now.items) (rows_of forms.new.items)) }
-    ensures known { OnOk result (IsEchelonOf size (rows_of forms.new.items) known.new.rows) }
-    ensures refused { IfErr result (IfVectorPast size (rows_of forms.old.items)
-        (rows_of vectors.now.items) place.now.candidate place.now.power) }
-{
-    for j in 0..vectors.len() {
-        let row = (size + j) as u32 + 1;
-        if let Err(error) = take_one(&vectors[j], row, place, known, forms) {
-            return Err(error);
-        }
-    }
-    Ok(())
+    forms: Vec<Vec<Frac>>,
+    echelon: Rref,
+    ghost few: { size ≤ most_rows },
+    ghost width: { echelon.width ≡ size },
 }
 
-/// The same for one vector.
-fn take_one(
-    vector: &Vec<Frac>,
-    row: u32,
-    place: &CandidatePower,
-    known: &mut Rref,
-    forms: &mut Vec<Vec<Frac>>,
-) -> Result<(), EigenError>
-    requires { length vector.now.items ≡ known.old.width }
-    ensures width { known.new.width ≡ known.old.width }
-    ensures more { OnOk result (IsWithRow known.old (fractions_of vector.now.items) known.new) }
-    ensures taken { OnOk result (IsTakenIf known.old.rows (fractions_of vector.now.items)
-        (rows_of forms.old.items) (rows_of forms.new.items)) }
-    ensures refused { IfErr result (IfRowPast known.old.rows (fractions_of vector.now.items)
-        place.now.candidate place.now.power row) }
-{
-    match known.add_row(vector) {
-        Ok(true) => {
-            forms.push(vector.as_slice().to_vec(*forms.allocator())?)?;
-            Ok(())
+impl KnownForms {
+    /// The vectors that are no combination of the forms so far go behind these, one after another. `Wide` only where adding that vector is past.
+    fn take_new(
+        &mut self,
+        vectors: &Vec<Vec<Frac>>,
+        place: &CandidatePower,
+    ) -> Result<(), EigenError>
+        requires few { length vectors.now.items ≤ most_rows }
+        requires widths { All (λ v. length v.items ≡ self.old.size) vectors.now.items }
+        requires echelon { IsEchelonOf self.old.size (rows_of self.old.forms.items)
+            self.old.echelon.rows }
+        ensures size { self.new.size ≡ self.old.size }
+        ensures taken { OnOk result (AreAdded (rows_of self.old.forms.items)
+            (rows_of vectors.now.items) (rows_of self.new.forms.items)) }
+        ensures echelon { OnOk result
+            (IsEchelonOf self.old.size (rows_of self.new.forms.items) self.new.echelon.rows) }
+        ensures refused { IfErr result (IfVectorPast self.old.size (rows_of self.old.forms.items)
+            (rows_of vectors.now.items) place.now.candidate place.now.power) }
+    {
+        for j in 0..vectors.len() {
+            let row = (self.size + j) as u32 + 1;
+            if let Err(error) = self.take_one(&vectors[j], row, place) {
+                return Err(error);
+            }
         }
-        Ok(false) => Ok(()),
-        Err(LinearError::Wide { .. }) => Err(place.wide(row)),
-        Err(LinearError::Memory) => Err(EigenError::Memory),
+        Ok(())
+    }
+
+    /// The same for one vector.
+    fn take_one(
+        &mut self,
+        vector: &Vec<Frac>,
+        row: u32,
+        place: &CandidatePower,
+    ) -> Result<(), EigenError>
+        requires { length vector.now.items ≡ self.old.size }
+        ensures size { self.new.size ≡ self.old.size }
+        ensures more { OnOk result
+            (IsWithRow self.old.echelon (fractions_of vector.now.items) self.new.echelon) }
+        ensures taken { OnOk result (IsTakenIf self.old.echelon.rows
+            (fractions_of vector.now.items) (rows_of self.old.forms.items)
+            (rows_of self.new.forms.items)) }
+        ensures refused { IfErr result (IfRowPast self.old.echelon.rows
+            (fractions_of vector.now.items) place.now.candidate place.now.power row) }
+    {
+        match self.echelon.add_row(vector) {
+            Ok(true) => {
+                let form = vector.as_slice().to_vec(*self.forms.allocator())?;
+                self.forms.push(form)?;
+                Ok(())
+            }
+            Ok(false) => Ok(()),
+            Err(LinearError::Wide { .. }) => Err(place.wide(row)),
+            Err(LinearError::Memory) => Err(EigenError::Memory),
+        }
     }
 }
 
@@ -147,46 +161,50 @@ fn next_power(
     product(alloc, rows.as_slice(), columns.as_slice())
 }
 
-/// The forms of a candidate, which is told as a number too. `Wide` only where adding that column of that power is past, or, above the size, adding that vector of its kernel.
-pub(crate) fn forms_of(
-    alloc: Global,
-    matrix: &Vec<Vec<Frac>>,
-    denominator: u128,
-    candidate: i32,
-    number: &Whole,
-) -> Result<Vec<Vec<Frac>>, EigenError>
-    requires ready { IsReady (length matrix.now.items) (rows_of matrix.now.items) denominator }
-    requires candidate { IsCandidate (length matrix.now.items) (rows_of matrix.now.items)
-        number.now.value }
-    requires number { number.now.value ≡ candidate }
-    ensures forms { IfOk result (λ forms. AreFormsOf (length matrix.now.items)
-        (rows_of matrix.now.items) number.now.value (rows_of forms.items)) }
-    ensures refused { IfErr result (IfPastIn (length matrix.now.items) (rows_of matrix.now.items)) }
-{
-    let size = matrix.len();
-    let first = less_candidate(alloc, matrix, denominator, number)?;
-    let columns = columns_of(alloc, &first)?;
-    let mut power = first;
-    let mut known = Rref::new(alloc, size);
-    let mut forms = Vec::new(alloc);
-    let mut grown = 0;
-    for step in 0..size {
-        let place = CandidatePower {
-            candidate,
-            power: step as u32 + 1,
+impl WholeMultiple<'_> {
+    ghost use Rattle.eigen_split.specs.WholeMultiple.{rows_in, size_of};
+
+    /// The forms of a candidate, which is told as a number too. `Wide` only where adding that column of that power is past, or, above the size, adding that vector of its kernel.
+    pub(crate) fn forms_of(
+        &self,
+        alloc: Global,
+        candidate: i32,
+        number: &Whole,
+    ) -> Result<Vec<Vec<Frac>>, EigenError>
+        requires candidate { IsCandidate (size_of self.now) (rows_in self.now) number.now.value }
+        requires number { number.now.value ≡ candidate }
+        ensures forms { IfOk result (λ forms. AreFormsOf (size_of self.now) (rows_in self.now)
+            number.now.value (rows_of forms.items)) }
+        ensures refused { IfErr result (IfPastIn (size_of self.now) (rows_in self.now)) }
+    {
+        let size = self.matrix.len();
+        let first = self.less_candidate(alloc, number)?;
+        let columns = columns_of(alloc, &first)?;
+        let mut power = first;
+        let mut known = KnownForms {
+            size,
+            forms: Vec::new(alloc),
+            echelon: Rref::new(alloc, size),
         };
-        power = next_power(alloc, power, &columns, step)?;
-        let vectors = match kernel(alloc, &power, &place) {
-            Ok(vectors) => vectors,
-            Err(error) => return Err(error),
-        };
-        if vectors.len() == grown {
-            return Ok(forms);
+        let mut grown = 0;
+        for step in 0..size {
+            let place = CandidatePower {
+                candidate,
+                power: step as u32 + 1,
+            };
+            power = next_power(alloc, power, &columns, step)?;
+            let vectors = match kernel(alloc, &power, &place) {
+                Ok(vectors) => vectors,
+                Err(error) => return Err(error),
+            };
+            if vectors.len() == grown {
+                return Ok(known.forms);
+            }
+            grown = vectors.len();
+            if let Err(error) = known.take_new(&vectors, &place) {
+                return Err(error);
+            }
         }
-        grown = vectors.len();
-        if let Err(error) = take_new(&vectors, &place, size, &mut known, &mut forms) {
-            return Err(error);
-        }
+        Ok(known.forms)
     }
-    Ok(forms)
 }

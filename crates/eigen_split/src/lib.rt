@@ -6,25 +6,25 @@
 //! Notion: eigenvalues; the characteristic polynomial by Faddeev's method: Gantmacher, *The Theory of Matrices*, IV.5.
 #![tactic(auto)]
 
-ghost use Rattle.std.specs.Prelude.{◌≡◌, ◌<◌, ◌≤◌, pos, All, length, IsOk, IfOk, IfErr};
-ghost use Rattle.algebra.specs.Limits.{number_limit};
+ghost use Rattle.std.specs.Prelude.{◌≡◌, ◌≤◌, pos, All, length, IsOk, IfOk, IfErr};
 ghost use Rattle.frac128.specs.FracMeaning.{fraction_of};
 ghost use Rattle.linear.specs.Rows.{fractions_of, rows_of};
-ghost use Rattle.vectors.specs.Matrices.{AreForms, AreSearched, SplitsAt, denominator as denominator_in, greatest_sum as greatest_of};
+ghost use Rattle.vectors.specs.Matrices.{AreForms, AreSearched, SplitsAt};
 ghost use Rattle.vectors.specs.Causes.{limit as limit_of};
 ghost use Rattle.eigen_split.specs.Ints.{most_rows};
 ghost use Rattle.eigen_split.specs.Refusal.{Ascending, IsWithin, IfSplitRefused, IsAnswer, IsSingle, IsSplitInto};
 
 mod annihilator;
 mod levels;
+mod multiple;
 mod powers;
 mod search;
 mod splitting;
 mod whole;
 
 use frac128::Frac;
+use multiple::WholeMultiple;
 use ring_laws::Ring;
-use search::search;
 pub use splitting::Split;
 use std::alloc::{AllocError, AllocFailed, Global};
 use thiserror::Error;
@@ -116,9 +116,28 @@ fn larger(alloc: Global, matrix: &Vec<Vec<Frac>>) -> Result<Split, EigenError>
     requires square { All (λ row. length row.items ≡ length matrix.now.items) matrix.now.items }
     ensures { IsAnswer (length matrix.now.items) (rows_of matrix.now.items) result }
 {
-    match denominator_of(matrix.as_slice()) {
-        Some(denominator) => over(alloc, matrix, denominator),
-        None => Err(too_wide()),
+    let Some(denominator) = denominator_of(matrix.as_slice()) else {
+        return Err(too_wide());
+    };
+    let Some(sum) = greatest_sum(matrix, denominator) else {
+        return Err(too_wide());
+    };
+    if sum > limit(matrix.len()) {
+        return Err(EigenError::Range { sum: sum as i128 });
+    }
+    let multiple = WholeMultiple {
+        matrix,
+        denominator,
+    };
+    match multiple.search(alloc, sum as u32) {
+        Ok(found) => {
+            if found.forms.len() == matrix.len() {
+                Ok(found)
+            } else {
+                Err(EigenError::Eigen)
+            }
+        }
+        Err(error) => Err(error),
     }
 }
 
@@ -130,52 +149,6 @@ fn too_wide() -> EigenError
         candidate: 0,
         power: 0,
         row: 0,
-    }
-}
-
-/// The same with the denominator.
-fn over(alloc: Global, matrix: &Vec<Vec<Frac>>, denominator: u128) -> Result<Split, EigenError>
-    requires some { 2 ≤ length matrix.now.items }
-    requires size { length matrix.now.items ≤ most_rows }
-    requires square { All (λ row. length row.items ≡ length matrix.now.items) matrix.now.items }
-    requires least { denominator ≡ denominator_in (rows_of matrix.now.items) }
-    requires small { denominator < number_limit }
-    ensures { IsAnswer (length matrix.now.items) (rows_of matrix.now.items) result }
-{
-    match greatest_sum(matrix, denominator) {
-        Some(sum) => split_within(alloc, matrix, denominator, sum),
-        None => Err(too_wide()),
-    }
-}
-
-/// The same with the greatest column sum.
-fn split_within(
-    alloc: Global,
-    matrix: &Vec<Vec<Frac>>,
-    denominator: u128,
-    sum: u128,
-) -> Result<Split, EigenError>
-    requires some { 2 ≤ length matrix.now.items }
-    requires size { length matrix.now.items ≤ most_rows }
-    requires square { All (λ row. length row.items ≡ length matrix.now.items) matrix.now.items }
-    requires least { denominator ≡ denominator_in (rows_of matrix.now.items) }
-    requires small { denominator < number_limit }
-    requires sum { sum ≡ greatest_of (length matrix.now.items) (rows_of matrix.now.items) }
-    requires fits { sum < number_limit }
-    ensures { IsAnswer (length matrix.now.items) (rows_of matrix.now.items) result }
-{
-    if sum > limit(matrix.len()) {
-        return Err(EigenError::Range { sum: sum as i128 });
-    }
-    match search(alloc, matrix, denominator, sum as u32) {
-        Ok(found) => {
-            if found.forms.len() == matrix.len() {
-                Ok(found)
-            } else {
-                Err(EigenError::Eigen)
-            }
-        }
-        Err(error) => Err(error),
     }
 }
 

@@ -1,88 +1,101 @@
 //! The search among the candidates.
-ghost use Rattle.std.specs.Prelude.{◌≡◌, ◌<◌, ◌≤◌, ◌+◌, ◌*◌, ◌+ℤ◌, neg_ℤ, ◌++◌, length, pos, IfOk, IfErr, OnOk, unsigned_abs};
+ghost use Rattle.std.specs.Prelude.{◌≡◌, ◌<◌, ◌≤◌, ◌+◌, ◌*◌, ◌+ℤ◌, neg_ℤ, ◌++◌, pos, IfOk, IfErr, OnOk, unsigned_abs};
 ghost use Rattle.algebra.specs.Fraction.{over};
 ghost use Rattle.algebra.specs.Limits.{number_limit};
 ghost use Rattle.frac128.specs.FracMeaning.{fraction_of};
 ghost use Rattle.linear.specs.Rows.{fractions_of, rows_of};
 ghost use Rattle.vectors.specs.Matrices.{greatest_sum};
-ghost use Rattle.eigen_split.specs.Ints.{IsReady, most_sum};
+ghost use Rattle.eigen_split.specs.Ints.{most_sum};
 ghost use Rattle.eigen_split.specs.Search.{AreOthers, IsIteration, IsWholeSearch, copies};
 ghost use Rattle.eigen_split.specs.Parts.{found_of, IfPastIn};
 ghost use Rattle.eigen_split.specs.Refusal.{IsCandidate};
 ghost use Rattle.eigen_split.specs.Residues.{gfs, IsAnnihilating};
 
-use crate::annihilator::{annihilator, is_excluded};
-use crate::levels::forms_of;
+use crate::annihilator::is_excluded;
+use crate::multiple::WholeMultiple;
 use crate::{EigenError, Split};
 use frac128::{Frac, Whole};
 use gf65521::Gf;
 use ring_laws::Ring;
 use std::alloc::{AllocError, Global};
 
-/// The forms of all candidates from -`bound` to `bound` but 0, in ascending order, and behind them those of 0, where they are fewer than the rows.
-pub(crate) fn search(
-    alloc: Global,
-    matrix: &Vec<Vec<Frac>>,
-    denominator: u128,
-    bound: u32,
-) -> Result<Split, EigenError>
-    requires ready { IsReady (length matrix.now.items) (rows_of matrix.now.items) denominator }
-    requires bound { bound ≡ greatest_sum (length matrix.now.items) (rows_of matrix.now.items) }
-    ensures searched { IfOk result (λ found.
-        IsWholeSearch (length matrix.now.items) (rows_of matrix.now.items) bound (found_of found)) }
-    ensures refused { IfErr result (IfPastIn (length matrix.now.items) (rows_of matrix.now.items)) }
-{
-    let polynomial = annihilator(alloc, matrix, denominator)?;
-    let polynomial = polynomial.as_slice();
-    let mut found = match others(alloc, matrix, denominator, polynomial, bound) {
-        Ok(found) => found,
-        Err(error) => return Err(error),
-    };
-    if found.forms.len() >= matrix.len() {
-        return Ok(found);
-    }
-    match iteration(alloc, matrix, denominator, polynomial, 0, &mut found) {
-        Ok(()) => Ok(found),
-        Err(error) => Err(error),
-    }
-}
+impl WholeMultiple<'_> {
+    ghost use Rattle.eigen_split.specs.WholeMultiple.{rows_in, size_of};
 
-/// The forms of the candidates other than 0.
-fn others(
-    alloc: Global,
-    matrix: &Vec<Vec<Frac>>,
-    denominator: u128,
-    polynomial: &[Gf],
-    bound: u32,
-) -> Result<Split, EigenError>
-    requires ready { IsReady (length matrix.now.items) (rows_of matrix.now.items) denominator }
-    requires bound { bound ≡ greatest_sum (length matrix.now.items) (rows_of matrix.now.items) }
-    requires annihilating { IsAnnihilating (length matrix.now.items) denominator
-        (rows_of matrix.now.items) (gfs polynomial.now) }
-    ensures others { IfOk result (λ found.
-        AreOthers (length matrix.now.items) (rows_of matrix.now.items) bound (found_of found)) }
-    ensures refused { IfErr result (IfPastIn (length matrix.now.items) (rows_of matrix.now.items)) }
-{
-    let mut found = Split {
-        forms: Vec::new(alloc),
-        values: Vec::new(alloc),
-    };
-    for step in 0..2 * bound + 1 {
-        let candidate = candidate_at(step, bound);
-        if candidate != 0 {
-            if let Err(error) = iteration(
-                alloc,
-                matrix,
-                denominator,
-                polynomial,
-                candidate,
-                &mut found,
-            ) {
-                return Err(error);
-            }
+    /// The forms of all candidates from -`bound` to `bound` but 0, in ascending order, and behind them those of 0, where they are fewer than the rows.
+    pub(crate) fn search(&self, alloc: Global, bound: u32) -> Result<Split, EigenError>
+        requires { bound ≡ greatest_sum (size_of self.now) (rows_in self.now) }
+        ensures searched { IfOk result (λ found.
+            IsWholeSearch (size_of self.now) (rows_in self.now) bound (found_of found)) }
+        ensures refused { IfErr result (IfPastIn (size_of self.now) (rows_in self.now)) }
+    {
+        let polynomial = self.annihilator(alloc)?;
+        let polynomial = polynomial.as_slice();
+        let mut found = match self.others(alloc, polynomial, bound) {
+            Ok(found) => found,
+            Err(error) => return Err(error),
+        };
+        if found.forms.len() >= self.matrix.len() {
+            return Ok(found);
+        }
+        match self.iteration(alloc, polynomial, 0, &mut found) {
+            Ok(()) => Ok(found),
+            Err(error) => Err(error),
         }
     }
-    Ok(found)
+
+    /// The forms of the candidates other than 0.
+    fn others(&self, alloc: Global, polynomial: &[Gf], bound: u32) -> Result<Split, EigenError>
+        requires bound { bound ≡ greatest_sum (size_of self.now) (rows_in self.now) }
+        requires annihilating { IsAnnihilating (size_of self.now) self.now.denominator
+            (rows_in self.now) (gfs polynomial.now) }
+        ensures others { IfOk result (λ found.
+            AreOthers (size_of self.now) (rows_in self.now) bound (found_of found)) }
+        ensures refused { IfErr result (IfPastIn (size_of self.now) (rows_in self.now)) }
+    {
+        let mut found = Split {
+            forms: Vec::new(alloc),
+            values: Vec::new(alloc),
+        };
+        for step in 0..2 * bound + 1 {
+            let candidate = candidate_at(step, bound);
+            if candidate != 0 {
+                if let Err(error) = self.iteration(alloc, polynomial, candidate, &mut found) {
+                    return Err(error);
+                }
+            }
+        }
+        Ok(found)
+    }
+
+    /// The forms of one candidate, unless it is no eigenvalue.
+    fn iteration(
+        &self,
+        alloc: Global,
+        polynomial: &[Gf],
+        candidate: i32,
+        found: &mut Split,
+    ) -> Result<(), EigenError>
+        requires annihilating { IsAnnihilating (size_of self.now) self.now.denominator
+            (rows_in self.now) (gfs polynomial.now) }
+        requires candidate { IsCandidate (size_of self.now) (rows_in self.now) candidate }
+        ensures iteration { OnOk result (IsIteration (size_of self.now) (rows_in self.now)
+            candidate (found_of found.old) (found_of found.new)) }
+        ensures refused { IfErr result (IfPastIn (size_of self.now) (rows_in self.now)) }
+    {
+        if is_excluded(polynomial, candidate) {
+            return Ok(());
+        }
+        let number = number_of(candidate);
+        let forms = match self.forms_of(alloc, candidate, &number) {
+            Ok(forms) => forms,
+            Err(error) => return Err(error),
+        };
+        let value = value_of(candidate, self.denominator);
+        repeat(&mut found.values, forms.len(), &value)?;
+        join(&mut found.forms, forms)?;
+        Ok(())
+    }
 }
 
 /// The candidate of a step.
@@ -92,39 +105,6 @@ fn candidate_at(step: u32, bound: u32) -> i32
     ensures { result ≡ pos step +ℤ neg_ℤ (pos bound) }
 {
     step as i32 - bound as i32
-}
-
-/// The forms of one candidate, unless it is no eigenvalue.
-fn iteration(
-    alloc: Global,
-    matrix: &Vec<Vec<Frac>>,
-    denominator: u128,
-    polynomial: &[Gf],
-    candidate: i32,
-    found: &mut Split,
-) -> Result<(), EigenError>
-    requires ready { IsReady (length matrix.now.items) (rows_of matrix.now.items) denominator }
-    requires annihilating { IsAnnihilating (length matrix.now.items) denominator
-        (rows_of matrix.now.items) (gfs polynomial.now) }
-    requires candidate { IsCandidate (length matrix.now.items) (rows_of matrix.now.items)
-        candidate }
-    ensures iteration { OnOk result (IsIteration (length matrix.now.items)
-        (rows_of matrix.now.items)
-        candidate (found_of found.old) (found_of found.new)) }
-    ensures refused { IfErr result (IfPastIn (length matrix.now.items) (rows_of matrix.now.items)) }
-{
-    if is_excluded(polynomial, candidate) {
-        return Ok(());
-    }
-    let number = number_of(candidate);
-    let forms = match forms_of(alloc, matrix, denominator, candidate, &number) {
-        Ok(forms) => forms,
-        Err(error) => return Err(error),
-    };
-    let value = value_of(candidate, denominator);
-    repeat(&mut found.values, forms.len(), &value)?;
-    join(&mut found.forms, forms)?;
-    Ok(())
 }
 
 /// The candidate as a number.

@@ -12,11 +12,8 @@ loop-j-preserved c =
     let e = c.len-j-end.ensures in let v = c.args.columns.now.ok.0 in
     omega (arith, l, e, v)) in
     mapped_more residue_of (λ j. next_entry GF (gf_rows c.args.columns.now.items)
-    (residue_of c.args.coefficient.now) (gfs c.args.row.now) c.args.i j) c.loop-j.j
-    c.loop-j.out.items c.push.new.self.items c.sum.result
-    c.loop-j.invariant c.in_ok-push.ensures.items
-    (c.sum.ensures ∙ ap₂ GF.add
+    (residue_of c.args.coefficient.now) (gfs c.args.row.now) c.args.i j) c.loop-j.j _ _
+    c.loop-j.invariant c.in_ok-push.ensures.items (c.sum.ensures ∙ ap₂ GF.add
     (c.dot-product.ensures ∙ ap (dot_in GF (gfs c.args.row.now)) (ap gfs c.as_slice.ensures.value
-    ∙ sym (get_mapped (λ (v : Vec Gf Global). gfs v.items) c.args.columns.now.items
-    c.loop-j.j c.index.result.now [] within c.index.ensures)))
+    ∙ sym (get_mapped (λ (v : Vec Gf Global). gfs v.items) _ c.loop-j.j [] within c.index.ensures)))
     c.on_diagonal.ensures)

@@ -18,9 +18,7 @@ loop-i-preserved c =
     c.len-i-end.ensures in let v = c.args.columns.now.ok.0 in let w = c.requires in
     omega (arith, l, e, v, w)) in
     mapped_more (λ (v : Vec Gf Global). gfs v.items)
-    (λ i. entries (get_or (gf_rows c.args.rows.now.items) i []) i) c.loop-i.i c.loop-i.out.items
-    c.push.new.self.items c.in_ok-next_row.field-0
+    (λ i. entries (get_or (gf_rows c.args.rows.now.items) i []) i) c.loop-i.i _ _
     c.loop-i.invariant c.in_ok-push.ensures.items
     (c.in_ok-next_row.ensures ∙ ap (λ row. entries row c.loop-i.i) (ap gfs c.as_slice.ensures.value
-    ∙ sym (get_mapped (λ (v : Vec Gf Global). gfs v.items) c.args.rows.now.items c.loop-i.i
-    c.index.result.now [] within c.index.ensures)))
+    ∙ sym (get_mapped (λ (v : Vec Gf Global). gfs v.items) _ c.loop-i.i [] within c.index.ensures)))

@@ -4,5 +4,6 @@ use Rattle.eigen_split.proofs.Squares.{mapped_more}
 use Rattle.eigen_split.proofs.annihilator.zero_row.Goals as goal
 
 pub loop-j-preserved : goal.loop-j-preserved
-loop-j-preserved c = mapped_more residue_of (λ j. GF.zero) c.loop-j.j c.loop-j.out.items
-    c.push.new.self.items c.zero.result c.loop-j.invariant c.in_ok-push.ensures.items c.zero.ensures
+loop-j-preserved c =
+    mapped_more residue_of (λ j. GF.zero) c.loop-j.j _ _ c.loop-j.invariant
+    c.in_ok-push.ensures.items c.zero.ensures

@@ -8,6 +8,5 @@ use Rattle.eigen_split.proofs.annihilator.zero_rows.Goals as goal
 pub loop-i-preserved : goal.loop-i-preserved
 loop-i-preserved c =
     mapped_more (λ (v : Vec Gf Global). gfs v.items)
-    (λ i. map (λ j. GF.zero) (numbers_to c.args.size)) c.loop-i.i c.loop-i.out.items
-    c.push.new.self.items c.in_ok-zero_row.field-0
+    (λ i. map (λ j. GF.zero) (numbers_to c.args.size)) c.loop-i.i _ _
     c.loop-i.invariant c.in_ok-push.ensures.items c.in_ok-zero_row.ensures

@@ -5,19 +5,15 @@ use Rattle.eigen_split.proofs.powers.+dot.Goals as goal
 pub dot-requires : goal.dot-requires
 dot-requires t c = (
   search rules,
-  fits_rest c.args.left.now c.args.right.now c.in-Some-Some.left.now
-      c.in-Some-Some.right.now c.in-Some-Some.first.now c.in-Some-Some.second.now
+  fits_rest
       c.in-Some-Some.ensures.cases.0 c.in-Some-Some.ensures'.cases.0 c.requires,
 )
 
 pub product_plus-requires-clause-product : goal.product_plus-requires-clause-product
-product_plus-requires-clause-product t c = fits_product c.args.left.now c.args.right.now
-    c.in-Some-Some.left.now c.in-Some-Some.right.now c.in-Some-Some.first.now
-    c.in-Some-Some.second.now c.in-Some-Some.ensures.cases.0 c.in-Some-Some.ensures'.cases.0
-    c.requires
+product_plus-requires-clause-product t c =
+    fits_product c.in-Some-Some.ensures.cases.0 c.in-Some-Some.ensures'.cases.0 c.requires
 
 pub product_plus-requires-clause-sum : goal.product_plus-requires-clause-sum
-product_plus-requires-clause-sum t c = fits_sum c.args.left.now c.args.right.now
-    c.in-Some-Some.left.now c.in-Some-Some.right.now c.in-Some-Some.first.now
-    c.in-Some-Some.second.now c.in-Some-Some.ensures.cases.0 c.in-Some-Some.ensures'.cases.0
+product_plus-requires-clause-sum t c =
+    fits_sum c.in-Some-Some.ensures.cases.0 c.in-Some-Some.ensures'.cases.0
     c.requires c.dot.result.value c.dot.ensures
