@@ -1,5 +1,5 @@
 //! A polynomial modulo 65,521 of which the matrix is a root: where it is not zero at a candidate, that is no eigenvalue.
-ghost use Rattle.std.specs.Prelude.{◌≡◌, ◌≢◌, ◌<◌, All, length, map, cond, eqb, pos, IfOk, IsTrue};
+ghost use Rattle.std.specs.Prelude.{◌≡◌, ◌≢◌, ◌<◌, All, length, map, cond, pos, IfOk, IsTrue};
 ghost use Rattle.algebra.specs.Integers.{integer_in, natural_in};
 ghost use Rattle.gf65521.specs.GfMeaning.{residue_of};
 ghost use Rattle.vectors.specs.Causes.{numbers_to};
@@ -137,16 +137,16 @@ fn next_row(
     let mut out = Vec::new(alloc);
     for j in 0..columns.len() {
         let product = dot(row, columns[j].as_slice());
-        out.push(sum(&product, &on_diagonal(coefficient, i, j)))?;
+        out.push(sum(&product, &on_diagonal(coefficient, i == j)))?;
     }
     Ok(out)
 }
 
 /// The coefficient on the diagonal, and elsewhere zero.
-fn on_diagonal(coefficient: &Gf, i: usize, j: usize) -> Gf
-    ensures { residue_of result ≡ cond (eqb i j) (residue_of coefficient.now) GF.zero }
+fn on_diagonal(coefficient: &Gf, is_there: bool) -> Gf
+    ensures { residue_of result ≡ cond is_there (residue_of coefficient.now) GF.zero }
 {
-    if i == j { *coefficient } else { Gf::zero() }
+    if is_there { *coefficient } else { Gf::zero() }
 }
 
 /// The coefficient of the next lower degree: one at first, then the opposite of the trace of the rows times the matrix, over the number of those before it.

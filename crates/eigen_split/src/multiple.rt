@@ -1,10 +1,10 @@
 //! The least multiple of a matrix of fractions with whole numbers.
-ghost use Rattle.std.specs.Prelude.{◌≡◌, ◌<◌, ◌≤◌, length, IfOk, unsigned_abs, pos, ◌+ℤ◌, neg_ℤ};
+ghost use Rattle.std.specs.Prelude.{◌≡◌, ◌<◌, ◌≤◌, length, cond, IfOk, unsigned_abs, pos, ◌+ℤ◌, neg_ℤ};
 ghost use Rattle.linear.specs.Rows.{rows_of};
 ghost use Rattle.vectors.specs.Adding.{entry as entry_in};
 ghost use Rattle.vectors.specs.Matrices.{whole_number as whole_of};
 ghost use Rattle.vectors.specs.Causes.{row_at};
-ghost use Rattle.eigen_split.specs.Ints.{ints, ints_of, shifted_entry as entry_of, shifted_row as row_of, shifted_rows, IsReady, ready_prop, most_sum};
+ghost use Rattle.eigen_split.specs.Ints.{ints, ints_of, shifted_row as row_of, shifted_rows, IsReady, ready_prop, most_sum};
 
 use crate::whole::whole_number;
 use frac128::{Frac, Whole};
@@ -54,21 +54,9 @@ impl WholeMultiple<'_> {
     {
         let mut out = Vec::new(alloc);
         for j in 0..self.matrix.len() {
-            out.push(self.shifted_entry(candidate, i, j))?;
+            out.push(less(&self.entry(i, j), &shift(candidate, i == j)))?;
         }
         Ok(out)
-    }
-
-    /// An entry of that matrix.
-    fn shifted_entry(&self, candidate: &Whole, i: usize, j: usize) -> Whole
-        requires candidate { unsigned_abs candidate.now.value ≤ most_sum }
-        requires row { i < size_of self.now }
-        requires column { j < size_of self.now }
-        ensures { result.value
-            ≡ entry_of self.now.denominator candidate.now.value (rows_in self.now) i j }
-    {
-        let entry = self.entry(i, j);
-        less(&entry, &if i == j { *candidate } else { zero() })
     }
 
     /// An entry.
@@ -84,6 +72,13 @@ impl WholeMultiple<'_> {
             None => unreachable!(),
         }
     }
+}
+
+/// What an entry is less by: the candidate on the diagonal, and elsewhere zero.
+fn shift(candidate: &Whole, is_on_diagonal: bool) -> Whole
+    ensures { result.value ≡ cond is_on_diagonal candidate.now.value (pos 0) }
+{
+    if is_on_diagonal { *candidate } else { zero() }
 }
 
 /// The number less a small one.
