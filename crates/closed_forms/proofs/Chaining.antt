@@ -23,7 +23,7 @@ use Rattle.solvable.proofs.Using.{FracPoly, length_each}
 use Rattle.solvable_maps.specs.Iterations.{IsNormalForm}
 use Rattle.eigen_split.specs.declared.splitting.Split.{Split}
 use Rattle.expo.specs.declared.exponential.Expo.{Expo}
-use Rattle.closed_forms.specs.declared.inhomogeneities.ClassSetting.{ClassSetting}
+use Rattle.closed_forms.specs.declared.class.ClassSetting.{ClassSetting}
 use Rattle.closed_forms.specs.ClassForms.{parts_of, IsNormalOver, IsNextOf, IsPastFormOf, AreNextOf, IsPastNextOf}
 use Rattle.closed_forms.specs.Known.{ClassParts, IsNextAt, AreNextForms, IsPastVariable, IsPastRowOf, variable_in}
 use Rattle.closed_forms.specs.Values.{bodies_of}

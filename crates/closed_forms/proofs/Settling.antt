@@ -3,7 +3,7 @@
 --   IsAtHand                         what is known where the forms of a class are made
 --   room                             how many exponents a base makes
 --   vars_is, group_low               how many variables there are; the class's are among them
---   forms_wide, forms_few            as many forms, and as wide, as the class has variables
+--   forms_wide, values_count, forms_few     as many forms and values, and as wide, as the class has variables
 --   setting_is                       what is asked of what forms are made from
 --   inhomogeneity_arities, inhomogeneity_normal    the terms of an inhomogeneity
 --   back_count, variables_turned     the polynomials of the variables
@@ -15,6 +15,7 @@ use Rattle.algebra.specs.Fraction.{Fraction}
 use Rattle.polynomials.specs.Polynomial.{AllArity}
 use Rattle.polynomials.specs.Terms.{Terms}
 use Rattle.solvable_maps.specs.Uses.{poly_at, IsMap}
+use Rattle.frac128.specs.FracMeaning.{fraction_of}
 use Rattle.frac128.specs.declared.Whole.{Whole}
 use Rattle.frac128.specs.declared.fraction.Frac.{Frac}
 use Rattle.coprime_base.specs.Sizes.{sizes}
@@ -31,7 +32,7 @@ use Rattle.solvable_maps.specs.Iterations.{width}
 use Rattle.solvable_maps.proofs.Classwise.{class_few}
 use Rattle.solvable_maps.proofs.FormSplits.{forms_inverse}
 use Rattle.expo.specs.declared.exponential.Expo.{Expo}
-use Rattle.closed_forms.specs.declared.inhomogeneities.ClassSetting.{ClassSetting}
+use Rattle.closed_forms.specs.declared.class.ClassSetting.{ClassSetting}
 use Rattle.closed_forms.specs.Later.{ahead_of}
 use Rattle.closed_forms.specs.ClassForms.{IsSettingOf, ahead_in, zeros_of, parts_of, AreNextOf, IsPastNextOf, AreVariablesOf, IsPastClassOf}
 use Rattle.closed_forms.specs.Known.{IsReady, parts_in, AreNextForms, IsPastNext, IsPastRowOf, form_past, variable_past, variable_in}
@@ -77,6 +78,10 @@ module _ {images : List (Terms Fraction)} {g : List ℕ} {split : Split}
   forms_wide = subst (λ n. All (λ (form : Vec Frac Global). length form.items ≡ n)
       split.forms.items) (sym forms_count) (widths_all split.forms.items
       (rows_of split.forms.items) (length g) refl is.are.widths)
+
+  pub values_count : length split.values.items ≡ length split.forms.items
+  values_count = sym (length-map split.values.items fraction_of) ∙ is.are.value_count
+      ∙ sym forms_count
 
   pub forms_few : (n : ℕ) → IsClass images g → length images ≡ n → n ≤ 12 → length split.forms.items
       ≤ 12

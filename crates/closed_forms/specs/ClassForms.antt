@@ -26,7 +26,7 @@ use Rattle.closed_forms.specs.Known.{rests_in, IsNextForm, ClassParts, AreNextFo
 use Rattle.closed_forms.specs.Later.{Ahead}
 use Rattle.closed_forms.specs.States.{after, zeros_in}
 use Rattle.closed_forms.specs.Values.{bodies_of}
-use Rattle.closed_forms.specs.declared.inhomogeneities.ClassSetting.{ClassSetting}
+use Rattle.closed_forms.specs.declared.class.ClassSetting.{ClassSetting}
 
 pub record IsSettingOf (images : List (Terms Fraction)) (z : ℕ) (g : List ℕ) (split : Split)
     (es : List Expo) (s : ClassSetting) : Type 0 where

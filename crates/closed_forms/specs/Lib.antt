@@ -11,6 +11,7 @@ pub mod Recurrences
 pub mod Known
 pub mod ClassSetting
 pub mod ClassForms
+pub mod ClassInWork
 pub mod Put
 pub mod View
 pub mod MapInWork

@@ -2,39 +2,121 @@
 ghost use Rattle.std.specs.Prelude.{◌≡◌, ◌≢◌, ◌≤◌, ◌<◌, ◌+◌, ℕ, All, length, map, IfOk, IsErrOf};
 ghost use Rattle.algebra.specs.Each.{Each};
 ghost use Rattle.algebra.specs.Fraction.{ℚ};
-ghost use Rattle.frac128.specs.FracMeaning.{fraction_of};
 ghost use Rattle.linear.specs.Rows.{fractions_of, rows_of};
-ghost use Rattle.poly.specs.Seen.{terms_in, terms_each};
+ghost use Rattle.poly.specs.Seen.{terms_each};
 ghost use Rattle.coprime_base.specs.Sizes.{sizes};
 ghost use Rattle.solvable_maps.specs.Uses.{poly_at};
 ghost use Rattle.solvable_maps.specs.Classes.{IsClass};
 ghost use Rattle.solvable_maps.specs.Iterations.{width};
 ghost use Rattle.monos.specs.Variables.{most_variables};
 ghost use Rattle.expo.specs.Bases.{IsCoprimeBase};
-ghost use Rattle.closed_forms.specs.ClassForms.{IsSettingOf, ahead_in, zeros_of, IsNormalOver, IsNextOf, IsPastFormOf, AreNextOf, IsPastNextOf, AreVariablesOf, IsPastClassOf};
+ghost use Rattle.closed_forms.specs.ClassForms.{IsSettingOf, zeros_of, AreVariablesOf, IsPastClassOf};
+ghost use Rattle.closed_forms.specs.ClassInWork.{over_class, IsClassInWork, AreClosedIn, IsPastIn};
 ghost use Rattle.closed_forms.specs.Inverses.{IsPastInverse};
 ghost use Rattle.closed_forms.specs.Known.{variable_in, IsReady, IsPastRowOf};
-ghost use Rattle.closed_forms.specs.Later.{IsFormFrom, IsPastFrom};
 ghost use Rattle.closed_forms.specs.MapInWork.{images_in, IsInWork};
-ghost use Rattle.closed_forms.specs.ClassSetting.{variables_over, IsClassSetting};
 ghost use Rattle.closed_forms.specs.Solved.{IsMade};
 ghost use Rattle.closed_forms.specs.Splits.{IsSplitOf};
-ghost use Rattle.closed_forms.specs.Values.{bodies_of, AreOver, IsExpoOver};
+ghost use Rattle.closed_forms.specs.Values.{bodies_of, AreOver};
 
-use crate::inhomogeneities::{ClassSetting, inhomogeneity};
+use crate::form_in_work::FormInWork;
 use crate::linear_parts::{class_matrix, rests};
 use crate::map_in_work::MapInWork;
 use crate::matrices::inverse;
-use crate::powers::power_over;
-use crate::recurrence::Recurrence;
 use crate::sums::weighted_sum;
 use eigen_split::Split;
 use expo::{Expo, width};
 use frac128::{Frac, Whole};
 use monos::Grevlex;
 use poly::Poly;
-use ring_laws::{ArithmeticError, Ring};
+use ring_laws::ArithmeticError;
 use std::alloc::{AllocError, Global};
+
+/// What the forms of a class are made from.
+#[derive(Drop)]
+pub(crate) struct ClassSetting {
+    /// The polynomials of all variables, where they are known.
+    pub(crate) earlier: Vec<Poly<Frac, Grevlex>>,
+    /// What the class's polynomials have without variables of the class.
+    pub(crate) rests: Vec<Poly<Frac, Grevlex>>,
+    pub(crate) matrix: Vec<Vec<Frac>>,
+    /// The inverse of the matrix of forms.
+    pub(crate) back: Vec<Vec<Frac>>,
+    /// How many values of the branch are zero.
+    pub(crate) iterations: u32,
+    /// The class's variables after that many iterations.
+    pub(crate) ahead: Vec<Poly<Frac, Grevlex>>,
+}
+
+impl ClassSetting {
+    /// What the forms of a class of a map in work are made from.
+    fn new(
+        alloc: Global,
+        work: &MapInWork<'_>,
+        group: &[usize],
+        split: &Split,
+        polys: &[Expo],
+    ) -> Result<ClassSetting, ArithmeticError>
+        requires work { IsInWork work.now }
+        requires class { IsClass (images_in work.now) group.now }
+        requires split { IsSplitOf (images_in work.now) group.now split.now }
+        ensures setting { IfOk result
+            (IsSettingOf (images_in work.now) work.now.iterations group.now split.now polys.now) }
+        ensures arities { IfOk result
+            (λ s. All (λ p. p.arity ≡ length work.now.images.now.items) s.ahead.items) }
+        ensures wide { IsErrOf result ArithmeticError.Wide
+            → IsPastInverse (rows_of split.now.forms.items) }
+    {
+        let earlier = bodies(alloc, polys)?;
+        let rests = rests(alloc, work.images, group)?;
+        let matrix = class_matrix(alloc, work.images, group)?;
+        let back = inverse(alloc, &split.forms)?;
+        let ahead = picked(alloc, work.last_state(), group)?;
+        Ok(ClassSetting {
+            earlier,
+            rests,
+            matrix,
+            back,
+            iterations: work.iterations,
+            ahead,
+        })
+    }
+}
+
+/// A class of which the closed forms are made, one after another.
+#[derive(Drop)]
+pub(crate) struct ClassInWork<'a> {
+    pub(crate) base: &'a Vec<Whole>,
+    /// Its variables.
+    pub(crate) group: &'a [usize],
+    pub(crate) split: &'a Split,
+    pub(crate) setting: ClassSetting,
+}
+
+impl ClassInWork<'_> {
+    /// The polynomials of its forms, one after another.
+    fn closed_forms(&self, alloc: Global) -> Result<Vec<Poly<Frac, Grevlex>>, ArithmeticError>
+        requires { IsClassInWork self.now }
+        ensures count { IfOk result
+            (λ out. length out.items ≡ length self.now.split.now.forms.items) }
+        ensures arities { IfOk result
+            (λ out. All (λ p. p.arity ≡ over_class self.now) out.items) }
+        ensures forms { IfOk result (λ out. AreClosedIn self.now (terms_each out.items)) }
+        ensures wide { IsErrOf result ArithmeticError.Wide → IsPastIn self.now }
+    {
+        let mut done = Vec::new(alloc);
+        for place in 0..self.split.forms.len() {
+            let form = FormInWork {
+                class: self,
+                form: self.split.forms[place].as_slice(),
+                value: &self.split.values[place],
+            };
+            let next = form.closed_form(alloc, &done)?;
+            done.push(next)?;
+        }
+        Ok(done)
+    }
+}
 
 /// The polynomial of each variable of a class.
 pub(crate) fn closed_class(
@@ -64,42 +146,21 @@ pub(crate) fn closed_class(
         → IsPastClassOf (sizes work.now.base.items) (images_in work.now) work.now.iterations
         group.now split.now (bodies_of polys.now) }
 {
-    let setting = setting_of(alloc, work, group, split, polys)?;
-    let forms = closed_forms(alloc, &work.base, group, split, &setting)?;
-    variables(alloc, &work.base, work.images.len(), &setting.back, &forms)
-}
-
-/// What the forms of a class are made from.
-fn setting_of(
-    alloc: Global,
-    work: &MapInWork<'_>,
-    group: &[usize],
-    split: &Split,
-    polys: &[Expo],
-) -> Result<ClassSetting, ArithmeticError>
-    requires work { IsInWork work.now }
-    requires class { IsClass (images_in work.now) group.now }
-    requires split { IsSplitOf (images_in work.now) group.now split.now }
-    ensures setting { IfOk result
-        (IsSettingOf (images_in work.now) work.now.iterations group.now split.now polys.now) }
-    ensures arities { IfOk result
-        (λ s. All (λ p. p.arity ≡ length work.now.images.now.items) s.ahead.items) }
-    ensures wide { IsErrOf result ArithmeticError.Wide
-        → IsPastInverse (rows_of split.now.forms.items) }
-{
-    let earlier = bodies(alloc, polys)?;
-    let rests = rests(alloc, work.images, group)?;
-    let matrix = class_matrix(alloc, work.images, group)?;
-    let back = inverse(alloc, &split.forms)?;
-    let ahead = picked(alloc, work.last_state(), group)?;
-    Ok(ClassSetting {
-        earlier,
-        rests,
-        matrix,
-        back,
-        iterations: work.iterations,
-        ahead,
-    })
+    let setting = ClassSetting::new(alloc, work, group, split, polys)?;
+    let class = ClassInWork {
+        base: &work.base,
+        group,
+        split,
+        setting,
+    };
+    let forms = class.closed_forms(alloc)?;
+    variables(
+        alloc,
+        &work.base,
+        work.images.len(),
+        &class.setting.back,
+        &forms,
+    )
 }
 
 /// The polynomials of some variables.
@@ -132,143 +193,6 @@ fn bodies(alloc: Global, polys: &[Expo]) -> Result<Vec<Poly<Frac, Grevlex>>, All
         out.push(poly.body().copy(alloc)?)?;
     }
     Ok(out)
-}
-
-/// The polynomials of the forms, one after another.
-fn closed_forms(
-    alloc: Global,
-    base: &Vec<Whole>,
-    group: &[usize],
-    split: &Split,
-    setting: &ClassSetting,
-) -> Result<Vec<Poly<Frac, Grevlex>>, ArithmeticError>
-    requires group { All (λ j. j < length setting.now.earlier.items) group.now }
-    requires forms { All (λ form. length form.items ≡ length split.now.forms.items)
-        split.now.forms.items }
-    requires values { length split.now.values.items ≡ length split.now.forms.items }
-    requires made { Each (λ c. c ≢ ℚ.zero → IsMade (sizes base.now.items) c)
-        (fractions_of split.now.values.items) }
-    requires setting { IsClassSetting (sizes base.now.items)
-        (length split.now.forms.items) setting.now }
-    ensures count { IfOk result (λ out. length out.items ≡ length split.now.forms.items) }
-    ensures arities { IfOk result
-        (λ out. All (λ p. p.arity ≡ variables_over (sizes base.now.items) setting.now) out.items) }
-    ensures forms { IfOk result (λ out. AreNextOf (sizes base.now.items)
-        group.now setting.now split.now (terms_each out.items)) }
-    ensures wide { IsErrOf result ArithmeticError.Wide
-        → IsPastNextOf (sizes base.now.items) group.now setting.now split.now }
-{
-    let mut done = Vec::new(alloc);
-    for place in 0..split.forms.len() {
-        let form = split.forms[place].as_slice();
-        let value = &split.values[place];
-        let next = closed_form(alloc, base, group, form, value, setting, &done)?;
-        done.push(next)?;
-    }
-    Ok(done)
-}
-
-/// The polynomial of a form, from those of the forms before it.
-fn closed_form(
-    alloc: Global,
-    base: &Vec<Whole>,
-    group: &[usize],
-    form: &[Frac],
-    value: &Frac,
-    setting: &ClassSetting,
-    done: &[Poly<Frac, Grevlex>],
-) -> Result<Poly<Frac, Grevlex>, ArithmeticError>
-    requires group { All (λ j. j < length setting.now.earlier.items) group.now }
-    requires made { fraction_of value.now ≢ ℚ.zero
-        → IsMade (sizes base.now.items) (fraction_of value.now) }
-    requires setting { IsClassSetting (sizes base.now.items) (length form.now) setting.now }
-    requires done { All (λ p. p.arity ≡ variables_over (sizes base.now.items) setting.now)
-        done.now }
-    ensures arity { IfOk result
-        (λ p. p.arity ≡ variables_over (sizes base.now.items) setting.now) }
-    ensures normal { IfOk result
-        (λ p. IsNormalOver (sizes base.now.items) setting.now (terms_in p)) }
-    ensures next { IfOk result (λ p. IsNextOf (sizes base.now.items) group.now setting.now
-        (fractions_of form.now) (fraction_of value.now) (terms_each done.now) (terms_in p)) }
-    ensures wide { IsErrOf result ArithmeticError.Wide
-        → IsPastFormOf (sizes base.now.items) group.now setting.now
-        (fractions_of form.now) (fraction_of value.now) (terms_each done.now) }
-{
-    let inhomogeneity = inhomogeneity(alloc, base, form, setting, done)?;
-    let closed = form_from(alloc, base, group, form, value, setting, &inhomogeneity)?;
-    Ok(closed.into_body())
-}
-
-/// The polynomial of a form, from the inhomogeneity of its recurrence.
-fn form_from(
-    alloc: Global,
-    base: &Vec<Whole>,
-    group: &[usize],
-    form: &[Frac],
-    value: &Frac,
-    setting: &ClassSetting,
-    inhomogeneity: &Expo,
-) -> Result<Expo, ArithmeticError>
-    requires group { All (λ j. j < length setting.now.earlier.items) group.now }
-    requires made { fraction_of value.now ≢ ℚ.zero
-        → IsMade (sizes base.now.items) (fraction_of value.now) }
-    requires setting { IsClassSetting (sizes base.now.items) (length form.now) setting.now }
-    requires over { IsExpoOver (sizes base.now.items) (length setting.now.earlier.items)
-        inhomogeneity.now }
-    ensures over { IfOk result
-        (IsExpoOver (sizes base.now.items) (length setting.now.earlier.items)) }
-    ensures form { IfOk result (λ y. IsFormFrom (sizes base.now.items)
-        (length setting.now.earlier.items) (fractions_of form.now) group.now
-        (fraction_of value.now) (ahead_in setting.now) (terms_in inhomogeneity.now.body)
-        (terms_in y.body)) }
-    ensures wide { IsErrOf result ArithmeticError.Wide → IsPastFrom (sizes base.now.items)
-        (length setting.now.earlier.items) (fractions_of form.now) group.now
-        (fraction_of value.now) (ahead_in setting.now) (terms_in inhomogeneity.now.body) }
-{
-    if value.is_zero() {
-        return inhomogeneity.before(alloc);
-    }
-    some_form(alloc, base, group, form, value, setting, inhomogeneity)
-}
-
-/// The polynomial of a form with a value that isn't zero.
-fn some_form(
-    alloc: Global,
-    base: &Vec<Whole>,
-    group: &[usize],
-    form: &[Frac],
-    value: &Frac,
-    setting: &ClassSetting,
-    inhomogeneity: &Expo,
-) -> Result<Expo, ArithmeticError>
-    requires group { All (λ j. j < length setting.now.earlier.items) group.now }
-    requires nonzero { fraction_of value.now ≢ ℚ.zero }
-    requires made { IsMade (sizes base.now.items) (fraction_of value.now) }
-    requires setting { IsClassSetting (sizes base.now.items) (length form.now) setting.now }
-    requires over { IsExpoOver (sizes base.now.items) (length setting.now.earlier.items)
-        inhomogeneity.now }
-    ensures over { IfOk result
-        (IsExpoOver (sizes base.now.items) (length setting.now.earlier.items)) }
-    ensures form { IfOk result (λ y. IsFormFrom (sizes base.now.items)
-        (length setting.now.earlier.items) (fractions_of form.now) group.now
-        (fraction_of value.now) (ahead_in setting.now) (terms_in inhomogeneity.now.body)
-        (terms_in y.body)) }
-    ensures wide { IsErrOf result ArithmeticError.Wide → IsPastFrom (sizes base.now.items)
-        (length setting.now.earlier.items) (fractions_of form.now) group.now
-        (fraction_of value.now) (ahead_in setting.now) (terms_in inhomogeneity.now.body) }
-{
-    let own = power_over(alloc, base, value)?;
-    let recurrence = Recurrence {
-        base,
-        vars: setting.earlier.len(),
-        own,
-        inhomogeneity: inhomogeneity.body().terms(),
-    };
-    if setting.iterations == 0 {
-        return recurrence.solve(alloc, form, group);
-    }
-    let there = weighted_sum(alloc, form, &setting.ahead, recurrence.vars)?;
-    recurrence.solve_later(alloc, value, setting.iterations, there)
 }
 
 /// The polynomials of the variables: by the rows of the inverse from those of the forms.

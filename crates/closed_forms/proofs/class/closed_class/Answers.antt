@@ -8,7 +8,7 @@ use Rattle.solvable_maps.specs.Iterations.{width}
 use Rattle.closed_forms.specs.Known.{variable_in, IsPastRowOf}
 use Rattle.expo.proofs.Solved.{handed_on}
 use Rattle.closed_forms.proofs.InWork.{room_in}
-use Rattle.closed_forms.proofs.Settling.{IsAtHand, forms_wide, vars_is, group_low, setting_is, back_count, variables_turned, past_rows, past_forms}
+use Rattle.closed_forms.proofs.Settling.{IsAtHand, forms_wide, values_count, vars_is, group_low, setting_is, back_count, variables_turned, past_rows, past_forms}
 use Rattle.closed_forms.proofs.class.closed_class.Goals as goal
 use Rattle.closed_forms.proofs.class.closed_class.Goals.{In_ok-setting}
 
@@ -29,16 +29,16 @@ at_hand c = record {
   ahead = c.in_ok-setting.ensures.arities;
 }
 
-pub closed_forms-requires-clause-group : goal.closed_forms-requires-clause-group
-closed_forms-requires-clause-group c =
-    group_low (at_hand (goal.at.closed_forms-requires-clause-group c).In_ok-setting)
-
-pub closed_forms-requires-clause-forms : goal.closed_forms-requires-clause-forms
-closed_forms-requires-clause-forms c = forms_wide c.requires.split
-
-pub closed_forms-requires-clause-setting : goal.closed_forms-requires-clause-setting
-closed_forms-requires-clause-setting c =
-    setting_is (at_hand (goal.at.closed_forms-requires-clause-setting c).In_ok-setting)
+pub closed_forms-requires : goal.closed_forms-requires
+closed_forms-requires c =
+    let h = at_hand (goal.at.closed_forms-requires c).In_ok-setting in
+    record {
+      group = group_low h;
+      forms = forms_wide c.requires.split;
+      values = values_count c.requires.split;
+      made = c.requires.made;
+      setting = setting_is h;
+    }
 
 pub variables-requires-clause-base : goal.variables-requires-clause-base
 variables-requires-clause-base c =

@@ -2,7 +2,7 @@ use Rattle.std.proofs.lemmas.Result.{IfOk-weaker}
 use Rattle.closed_forms.proofs.FormsFrom.{one_later_over, one_later_is, one_later_past, one_later_form, one_later_wide}
 use Rattle.closed_forms.proofs.LaterForms.{ok_both}
 use Rattle.closed_forms.proofs.Marks.{off}
-use Rattle.closed_forms.proofs.class.form_from.Goals as goal
+use Rattle.closed_forms.proofs.form_in_work.FormInWork.form_from.Goals as goal
 
 pub returns-then-is_zero-clause-over : goal.returns-then-is_zero-clause-over
 returns-then-is_zero-clause-over c = IfOk-weaker c.before-then-is_zero.result _ _
@@ -21,7 +21,3 @@ returns-then-is_zero-clause-wide c = λ w. one_later_wide (c.is_zero.ensures.0 c
 
 pub some_form-requires-clause-nonzero : goal.some_form-requires-clause-nonzero
 some_form-requires-clause-nonzero c = off c.is_zero.result c.if-is_zero.false c.is_zero.ensures.1
-
-pub some_form-requires-clause-made : goal.some_form-requires-clause-made
-some_form-requires-clause-made c = c.requires.made (off c.is_zero.result c.if-is_zero.false
-    c.is_zero.ensures.1)

@@ -8,7 +8,7 @@ use Rattle.solvable_maps.specs.Uses.{poly_at}
 use Rattle.closed_forms.specs.Inverses.{IsBehind}
 use Rattle.solvable.proofs.Using.{FracPoly, length_each}
 use Rattle.closed_forms.proofs.Splitting.{class_inside}
-use Rattle.closed_forms.proofs.class.setting_of.Goals as goal
+use Rattle.closed_forms.proofs.class.ClassSetting.new.Goals as goal
 
 pub rests-requires-clause-inside : goal.rests-requires-clause-inside
 rests-requires-clause-inside c = class_inside c.args.work.now.images.now.items c.args.group.now

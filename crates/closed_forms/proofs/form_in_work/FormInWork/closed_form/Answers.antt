@@ -1,16 +1,15 @@
 use Rattle.std.proofs.Common.{length, sym, subst}
-use Rattle.linear.specs.Rows.{fractions_of, rows_of}
+use Rattle.linear.specs.Rows.{rows_of}
 use Rattle.polynomials.specs.Order.{grevlex}
 use Rattle.solvable.proofs.Using.{FracPoly}
 use Rattle.solvable_maps.specs.Iterations.{IsNormalForm}
 use Rattle.poly.specs.Seen.{terms_in, terms_each}
-use Rattle.frac128.specs.FracMeaning.{fraction_of}
-use Rattle.coprime_base.specs.Sizes.{sizes}
 use Rattle.expo.proofs.Solved.{handed_on}
+use Rattle.closed_forms.specs.ClassInWork.{base_for, variables_for, numbers_for, value_for}
 use Rattle.closed_forms.specs.ClassForms.{ahead_in}
 use Rattle.closed_forms.specs.Known.{IsNextForm, inhomogeneity_past, making_past}
 use Rattle.closed_forms.proofs.Joining.{over_normal}
-use Rattle.closed_forms.proofs.class.closed_form.Goals as goal
+use Rattle.closed_forms.proofs.form_in_work.FormInWork.closed_form.Goals as goal
 
 pub returns-in_err-inhomogeneity-clause-wide : goal.returns-in_err-inhomogeneity-clause-wide
 returns-in_err-inhomogeneity-clause-wide c = handed_on c.in_err-inhomogeneity.field-0.0
@@ -27,19 +26,20 @@ returns-in_err-closed-clause-wide c =
 
 pub returns-clause-normal : goal.returns-clause-normal
 returns-clause-normal c =
-    let bs = sizes c.args.base.now.items in
-    let m = length c.args.setting.now.earlier.items in
+    let bs = base_for c.args.self.now in
+    let m = variables_for c.args.self.now in
     subst (λ (p : FracPoly). IsNormalForm bs grevlex m (terms_in p)) (sym c.into_body.ensures)
     (over_normal c.in_ok-closed.ensures.over)
 
 pub returns-clause-next : goal.returns-clause-next
 returns-clause-next c =
-    let bs = sizes c.args.base.now.items in
-    let s = c.args.setting.now in
-    subst (λ (p : FracPoly). IsNextForm bs (length s.earlier.items) c.args.group.now
+    let bs = base_for c.args.self.now in
+    let s = c.args.self.now.class.now.setting in
+    subst (λ (p : FracPoly). IsNextForm bs (length s.earlier.items)
+    c.args.self.now.class.now.group.now
     (terms_each s.rests.items) (terms_each s.earlier.items) (rows_of s.matrix.items)
-    (rows_of s.back.items) (ahead_in s) (fractions_of c.args.form.now)
-    (fraction_of c.args.value.now) (terms_each c.args.done.now) (terms_in p))
+    (rows_of s.back.items) (ahead_in s) (numbers_for c.args.self.now)
+    (value_for c.args.self.now) (terms_each c.args.done.now) (terms_in p))
     (sym c.into_body.ensures)
     (record {
       inhomogeneity = terms_in c.in_ok-inhomogeneity.inhomogeneity.body;

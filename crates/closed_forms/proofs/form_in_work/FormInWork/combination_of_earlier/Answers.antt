@@ -1,6 +1,7 @@
 use Rattle.std.proofs.Common.{length, refl, sym, ap, subst, ◌∙◌}
 use Rattle.linear.specs.Rows.{fractions_of, rows_of}
 use Rattle.poly.specs.Seen.{terms_each}
+use Rattle.closed_forms.specs.ClassInWork.{numbers_for}
 use Rattle.closed_forms.specs.Inhomogeneities.{part, IsBy}
 use Rattle.closed_forms.specs.Inhomogeneities as past
 use Rattle.closed_forms.specs.Sums.{IsPastMix}
@@ -8,23 +9,24 @@ use Rattle.expo.proofs.Solved.{handed_on}
 use Rattle.closed_forms.proofs.Mixing.{if_ok_where}
 use Rattle.linear.proofs.Lists.{fractions-length}
 use Rattle.closed_forms.proofs.Rows.{product_at, past_row_at}
-use Rattle.closed_forms.proofs.inhomogeneities.combination_of_earlier.Goals as goal
-use Rattle.closed_forms.proofs.inhomogeneities.combination_of_earlier.Goals.{In_ok-by}
+use Rattle.closed_forms.proofs.form_in_work.FormInWork.combination_of_earlier.Goals as goal
+use Rattle.closed_forms.proofs.form_in_work.FormInWork.combination_of_earlier.Goals.{In_ok-by}
 
 is_by : (c : In_ok-by)
-    → IsBy (fractions_of c.args.form.now) (rows_of c.args.setting.now.matrix.items)
-    (rows_of c.args.setting.now.back.items) (fractions_of c.in_ok-by.by.items)
+    → IsBy (numbers_for c.args.self.now) (rows_of c.args.self.now.class.now.setting.matrix.items)
+    (rows_of c.args.self.now.class.now.setting.back.items) (fractions_of c.in_ok-by.by.items)
 is_by c =
-    let w = fractions_of c.args.form.now in
-    let n = fractions-length c.args.form.now in
+    let w = numbers_for c.args.self.now in
+    let n = fractions-length c.args.self.now.form.now in
     record {
       turned = fractions_of c.in_ok-turned.turned.items;
-      first = product_at (length w) (length c.args.form.now) c.args.form.now c.args.form.now
-          c.args.setting.now.matrix.items c.deref.result.now
+      first = product_at (length w) (length c.args.self.now.form.now) c.args.self.now.form.now
+          c.args.self.now.form.now
+          c.args.self.now.class.now.setting.matrix.items c.deref.result.now
           (fractions_of c.in_ok-turned.turned.items) refl c.deref.ensures.value (sym n)
           c.in_ok-turned.ensures.product;
-      second = product_at (length w) (length c.args.form.now) c.in_ok-turned.turned.items
-          c.deref-2.result.now c.args.setting.now.back.items c.deref-3.result.now
+      second = product_at (length w) (length c.args.self.now.form.now) c.in_ok-turned.turned.items
+          c.deref-2.result.now c.args.self.now.class.now.setting.back.items c.deref-3.result.now
           (fractions_of c.in_ok-by.by.items) c.deref-2.ensures.value c.deref-3.ensures.value (sym n)
           c.in_ok-by.ensures.product;
     }
@@ -51,24 +53,26 @@ returns-clause-wide c =
 
 pub returns-in_err-turned-clause-wide : goal.returns-in_err-turned-clause-wide
 returns-in_err-turned-clause-wide c =
-    let n = fractions-length c.args.form.now in
+    let n = fractions-length c.args.self.now.form.now in
     handed_on c.in_err-turned.field-0.0 c.from_residual.result c.from_residual.ensures.1
-    (λ wide. past.turned (past_row_at (length (fractions_of c.args.form.now))
-    (length c.args.form.now) c.args.form.now c.args.form.now c.args.setting.now.matrix.items
+    (λ wide. past.turned (past_row_at (length (numbers_for c.args.self.now))
+    (length c.args.self.now.form.now) c.args.self.now.form.now c.args.self.now.form.now
+    c.args.self.now.class.now.setting.matrix.items
     c.deref.result.now refl c.deref.ensures.value (sym n) (c.in_err-turned.ensures.wide
     wide)))
 
 pub returns-in_err-by-clause-wide : goal.returns-in_err-by-clause-wide
 returns-in_err-by-clause-wide c =
-    let w = fractions_of c.args.form.now in
-    let n = fractions-length c.args.form.now in
+    let w = numbers_for c.args.self.now in
+    let n = fractions-length c.args.self.now.form.now in
     handed_on c.in_err-by.field-0.0 c.from_residual-in_err-by.result
     c.from_residual-in_err-by.ensures.1
     (λ wide. past.back (fractions_of c.in_ok-turned.turned.items)
-    (product_at (length w) (length c.args.form.now) c.args.form.now c.args.form.now
-    c.args.setting.now.matrix.items c.deref.result.now
+    (product_at (length w) (length c.args.self.now.form.now) c.args.self.now.form.now
+    c.args.self.now.form.now
+    c.args.self.now.class.now.setting.matrix.items c.deref.result.now
     (fractions_of c.in_ok-turned.turned.items) refl c.deref.ensures.value (sym n)
     c.in_ok-turned.ensures.product)
-    (past_row_at (length w) (length c.args.form.now) c.in_ok-turned.turned.items
-    c.deref-2.result.now c.args.setting.now.back.items c.deref-3.result.now
+    (past_row_at (length w) (length c.args.self.now.form.now) c.in_ok-turned.turned.items
+    c.deref-2.result.now c.args.self.now.class.now.setting.back.items c.deref-3.result.now
     c.deref-2.ensures.value c.deref-3.ensures.value (sym n) (c.in_err-by.ensures.wide wide)))

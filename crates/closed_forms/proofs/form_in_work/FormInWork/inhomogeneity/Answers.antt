@@ -2,45 +2,42 @@ use Rattle.std.proofs.Common.{◌≡◌, All, Err, length, refl, sym, ap, subst,
 use Rattle.algebra.specs.Fraction.{fractions, fraction_size}
 use Rattle.algebra.specs.Size.{IsPast}
 use Rattle.polynomials.specs.Weight.{weight, IsPastSum}
-use Rattle.linear.specs.Rows.{fractions_of, rows_of}
+use Rattle.linear.specs.Rows.{rows_of}
 use Rattle.poly.specs.Seen.{terms_in, terms_each}
-use Rattle.coprime_base.specs.Sizes.{sizes}
 use Rattle.solvable_maps.specs.Iterations.{width}
 use Rattle.solvable.proofs.Using.{FracPoly}
-use Rattle.closed_forms.specs.ClassSetting.{variables_over, moved_of}
+use Rattle.closed_forms.specs.ClassInWork.{base_for, over_form, variables_for, numbers_for, moved_by}
 use Rattle.closed_forms.specs.Inhomogeneities.{part}
 use Rattle.closed_forms.specs.Inhomogeneities as past
 use Rattle.expo.proofs.Outcomes.{wide_of}
 use Rattle.closed_forms.proofs.Making.{normal_over, room_before, base_width, inhomogeneity_is, sum_is}
 use Rattle.expo.proofs.Solved.{handed_on}
 use Rattle.closed_forms.proofs.Mixing.{if_ok_where}
-use Rattle.closed_forms.proofs.inhomogeneities.inhomogeneity.Goals as goal
-use Rattle.closed_forms.proofs.inhomogeneities.inhomogeneity.Goals.{In_ok-moved}
+use Rattle.closed_forms.proofs.form_in_work.FormInWork.inhomogeneity.Goals as goal
+use Rattle.closed_forms.proofs.form_in_work.FormInWork.inhomogeneity.Goals.{In_ok-moved}
 
 pub width-arity-requires : goal.width-arity-requires
 width-arity-requires c =
-    let e = base_width c.args.base.now.items c.len.result c.len-2.result
-    (c.len.ensures ∙ c.args.base.now.ok.0) in
-    let n : c.len-2.result ≡ length c.args.setting.now.earlier.items = c.len-2.ensures
-    ∙ c.args.setting.now.earlier.ok.0 in
-    let few = c.requires.setting.few in
+    let e = base_width c.args.self.now.class.now.base.now.items c.len.result c.len-2.result
+    (c.len.ensures ∙ c.args.self.now.class.now.base.now.ok.0) in
+    let n : c.len-2.result ≡ variables_for c.args.self.now = c.len-2.ensures
+    ∙ c.args.self.now.class.now.setting.earlier.ok.0 in
+    let few = c.requires.form.setting.few in
     omega (arith, e, n, few)
 
 -- how many exponents the terms have, and what is moved
 module _ (c : In_ok-moved) where
-  width_is : c.width-arity.result ≡ variables_over (sizes c.args.base.now.items) c.args.setting.now
+  width_is : c.width-arity.result ≡ over_form c.args.self.now
   width_is = c.width-arity.ensures
-      ∙ base_width c.args.base.now.items c.len.result c.len-2.result
-      (c.len.ensures ∙ c.args.base.now.ok.0)
-      ∙ ap (width (length (sizes c.args.base.now.items)))
-      (c.len-2.ensures ∙ c.args.setting.now.earlier.ok.0)
+      ∙ base_width c.args.self.now.class.now.base.now.items c.len.result c.len-2.result
+      (c.len.ensures ∙ c.args.self.now.class.now.base.now.ok.0)
+      ∙ ap (width (length (base_for c.args.self.now)))
+      (c.len-2.ensures ∙ c.args.self.now.class.now.setting.earlier.ok.0)
 
-  moved_arity : c.in_ok-moved.moved.arity ≡ variables_over (sizes c.args.base.now.items)
-      c.args.setting.now
+  moved_arity : c.in_ok-moved.moved.arity ≡ over_form c.args.self.now
   moved_arity = c.in_ok-moved.ensures.arity
 
-  moved_is : terms_in c.in_ok-moved.moved ≡ moved_of (sizes c.args.base.now.items)
-      (fractions_of c.args.form.now) c.args.setting.now
+  moved_is : terms_in c.in_ok-moved.moved ≡ moved_by c.args.self.now
   moved_is = c.in_ok-moved.ensures.terms
 
 pub combination_of_earlier-requires-clause-few : goal.combination_of_earlier-requires-clause-few
@@ -48,7 +45,7 @@ combination_of_earlier-requires-clause-few c =
     omega (
       arith,
       width_is (goal.at.combination_of_earlier-requires-clause-few c).In_ok-moved,
-      c.requires.setting.few,
+      c.requires.form.setting.few,
     )
 
 pub combination_of_earlier-requires-clause-done : goal.combination_of_earlier-requires-clause-done
@@ -64,34 +61,33 @@ add-requires-clause-arity c =
 
 pub normal-requires-clause-front : goal.normal-requires-clause-front
 normal-requires-clause-front c =
-    room_before (sizes c.args.base.now.items) c.in_ok-sum.sum.arity
-    (length c.args.setting.now.earlier.items) (c.in_ok-sum.ensures.sum.arity
+    room_before (base_for c.args.self.now) c.in_ok-sum.sum.arity
+    (variables_for c.args.self.now) (c.in_ok-sum.ensures.sum.arity
     ∙ moved_arity (goal.at.normal-requires-clause-front c).In_ok-moved)
 
 pub returns-clause-over : goal.returns-clause-over
 returns-clause-over c =
     let a = c.in_ok-sum.ensures.sum.arity
     ∙ moved_arity (goal.at.returns-clause-over c).In_ok-moved in
-    if_ok_where c.normal.result _ _ (λ e h. normal_over (sizes c.args.base.now.items)
-    c.in_ok-sum.sum.arity (length c.args.setting.now.earlier.items) _ e a h)
+    if_ok_where c.normal.result _ _ (λ e h. normal_over (base_for c.args.self.now)
+    c.in_ok-sum.sum.arity (variables_for c.args.self.now) _ e a h)
     c.normal.ensures.normal
 
 pub returns-clause-inhomogeneity : goal.returns-clause-inhomogeneity
 returns-clause-inhomogeneity c =
     let at = (goal.at.returns-clause-inhomogeneity c).In_ok-moved in
-    let s = c.args.setting.now in
+    let s = c.args.self.now.class.now.setting in
     let i = c.in_ok-sum.ensures.sum in
-    let sum = sum_is (variables_over (sizes c.args.base.now.items) s) c.in_ok-moved.moved
+    let sum = sum_is (over_form c.args.self.now) c.in_ok-moved.moved
     c.in_ok-combination_of_earlier.combination_of_earlier c.in_ok-sum.sum
-    (moved_of (sizes c.args.base.now.items)
-    (fractions_of c.args.form.now) s)
+    (moved_by c.args.self.now)
     (terms_in c.in_ok-combination_of_earlier.combination_of_earlier)
     (moved_arity at) (c.in_ok-combination_of_earlier.ensures.arity ∙ width_is at) i.arity
     (moved_is at) refl
     i.same in
     if_ok_where c.normal.result _ _
-    (λ e h. inhomogeneity_is (sizes c.args.base.now.items) (length s.earlier.items)
-    (fractions_of c.args.form.now) (terms_each s.rests.items) (terms_each s.earlier.items)
+    (λ e h. inhomogeneity_is (base_for c.args.self.now) (length s.earlier.items)
+    (numbers_for c.args.self.now) (terms_each s.rests.items) (terms_each s.earlier.items)
     (rows_of s.matrix.items) (rows_of s.back.items) (terms_each c.args.done.now)
     (terms_in c.in_ok-combination_of_earlier.combination_of_earlier) (terms_in c.in_ok-sum.sum) e _
     c.in_ok-combination_of_earlier.ensures.terms sum h) c.normal.ensures.normal
@@ -99,15 +95,14 @@ returns-clause-inhomogeneity c =
 pub returns-clause-wide : goal.returns-clause-wide
 returns-clause-wide c =
     let at = (goal.at.returns-clause-wide c).In_ok-moved in
-    let s = c.args.setting.now in
+    let s = c.args.self.now.class.now.setting in
     let i = c.in_ok-sum.ensures.sum in
     let is = c.in_ok-combination_of_earlier.ensures.terms in
     λ h. past.normal_past is.by is.is_by
     (subst (λ ts. IsPast (weight fraction_size ts))
-    (sum_is (variables_over (sizes c.args.base.now.items) s) c.in_ok-moved.moved
+    (sum_is (over_form c.args.self.now) c.in_ok-moved.moved
     c.in_ok-combination_of_earlier.combination_of_earlier c.in_ok-sum.sum
-    (moved_of (sizes c.args.base.now.items)
-    (fractions_of c.args.form.now) s) (part is.by (terms_each c.args.done.now))
+    (moved_by c.args.self.now) (part is.by (terms_each c.args.done.now))
     (moved_arity at) (c.in_ok-combination_of_earlier.ensures.arity ∙ width_is at) i.arity
     (moved_is at) is.terms
     i.same)
