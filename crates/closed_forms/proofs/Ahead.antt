@@ -89,8 +89,8 @@ powers_meet l n (suc z) = swap l (inverse l) (power ℚ l z) (power ℚ (inverse
     swap : (a b p q : Fraction) → R.mul (R.mul a p) (R.mul b q) ≡ R.mul (R.mul a b) (R.mul p q)
     swap a b p q = ring R (a ∷ b ∷ p ∷ q ∷ []) (search ring_rules depth 40) refl
 
-module _ (base : List ℕ) (m : ℕ) (l : Fraction) (z : ℕ) (there q y : Terms Fraction)
-    (is : IsLaterForm base m l z there q y) where
+module _ (base : List ℕ) (m : ℕ) (l : Fraction) (z : ℕ) {there q : Terms Fraction}
+    (y : Terms Fraction) (is : IsLaterForm base m l z there q y) where
   pub later_recurs : HasRecurrence base m l q (λ s. value_at ℚ y (point base 0 s)) y
   unfolding power
   later_recurs = record {
@@ -212,7 +212,7 @@ zeros_low (c ∷ values) =
         go false = omega arith
 
 -- ---- as the code counts them
-module _ (values rest : List Frac) (v : Frac) (e : values ≡ v ∷ rest) (n : ℕ)
+module _ {values rest : List Frac} {v : Frac} (e : values ≡ v ∷ rest) {n : ℕ}
     (count : n ≡ zeros_in (fractions_of rest)) where
   whole : zeros_in (fractions_of values) ≡ zeros_in (fraction_of v ∷ []) + n
   whole = ap (λ l. zeros_in (fractions_of l)) e ∙ zeros_more (fraction_of v) (fractions_of rest)
@@ -235,8 +235,8 @@ module _ (values rest : List Frac) (v : Frac) (e : values ≡ v ∷ rest) (n : �
       let d : length (fractions_of rest) ≡ length rest = length-map rest fraction_of in
       omega (arith, a, b, d, few, count)
 
-module _ (splits rest : List (Option Split)) (split : Split) (e : splits ≡ Some split ∷ rest)
-    (m n : ℕ) (here : m ≡ zeros_in (fractions_of split.values.items))
+module _ {splits rest : List (Option Split)} {split : Split} (e : splits ≡ Some split ∷ rest)
+    {m n : ℕ} (here : m ≡ zeros_in (fractions_of split.values.items))
     (there : n ≡ zeros_in (values_in rest)) where
   pub zeros_all : m + n ≡ zeros_in (values_in splits)
   zeros_all = ap₂ (λ a b. a + b) here there

@@ -109,7 +109,7 @@ pub fractions_next : (f : ℕ → Fraction) (g : List ℕ) (i : ℕ) (row more :
     → i < length g → fractions_of row ≡ map f (take i g) → more ≡ row ++ x ∷ []
     → fraction_of x ≡ f (get_or g i 0) → fractions_of more ≡ map f (take (i + 1) g)
 fractions_next f g i row more x l h e y =
-    fractions-push row more x e ∙ ap₂ (λ a b. a ++ b ∷ []) h y ∙ mapped f g i l
+    fractions-push row x e ∙ ap₂ (λ a b. a ++ b ∷ []) h y ∙ mapped f g i l
 
 pub rows_next : (f : ℕ → List Fraction) (g : List ℕ) (i : ℕ) (rows more : List (Vec Frac Global))
     (x : Vec Frac Global) → i < length g → rows_of rows ≡ map f (take i g) → more ≡ rows ++ x ∷ []
@@ -117,20 +117,22 @@ pub rows_next : (f : ℕ → List Fraction) (g : List ℕ) (i : ℕ) (rows more 
 rows_next f g i rows more x l h e y =
     rows-push rows more x e ∙ ap₂ (λ a b. a ++ b ∷ []) h y ∙ mapped f g i l
 
-pub terms_next : (f : ℕ → Terms Fraction) (g : List ℕ) (i : ℕ) (ps more : List FracPoly)
-    (x : FracPoly) → i < length g → terms_each ps ≡ map f (take i g) → more ≡ ps ++ x ∷ []
+pub terms_next : (f : ℕ → Terms Fraction) (g : List ℕ) (i : ℕ) (ps : List FracPoly)
+    {more : List FracPoly} (x : FracPoly)
+    → i < length g → terms_each ps ≡ map f (take i g) → more ≡ ps ++ x ∷ []
     → terms_in x ≡ f (get_or g i 0) → terms_each more ≡ map f (take (i + 1) g)
-terms_next f g i ps more x l h e y =
+terms_next f g i ps x l h e y =
     ap terms_each e ∙ map-append (λ (p : FracPoly). terms_in p) ps (x ∷ [])
     ∙ ap₂ (λ a b. a ++ b ∷ []) h y ∙ mapped f g i l
 
 -- the linear part of a polynomial of the map, by its place
-pub part_is : (images : List FracPoly) (g : List ℕ) (i : ℕ) (p : FracPoly) (row : List Fraction)
-    → i < length images → p ≡ get_or images i p → All (λ (p : FracPoly). p.arity ≡ length images)
-    images → row ≡ map (λ j. coefficient ℚ (terms_in p) (unit p.arity j)) g
+pub part_is : (images : List FracPoly) (g : List ℕ) (i : ℕ) (p : FracPoly) {row : List Fraction}
+    → i < length images → p ≡ get_or images i p
+    → All (λ (p : FracPoly). p.arity ≡ length images) images
+    → row ≡ map (λ j. coefficient ℚ (terms_in p) (unit p.arity j)) g
     → row ≡ map (λ j. coefficient ℚ (poly_at (terms_each images) i)
     (unit (length (terms_each images)) j)) g
-part_is images g i p row l e all h =
+part_is images g i p l e all h =
     h ∙ ap₂ (λ q m. map (λ j. coefficient ℚ q (unit m j)) g) (sym (poly_at-is images i p l e))
     (arity_at images (length images) i p l e all ∙ sym (length-map images _))
 

@@ -84,7 +84,7 @@ raised_over b zero (suc n) h = subst (λ z. IsQuotient (integer_power b z) (b ^ 
 raised_over b (suc m) (suc n) h =
     subst (λ z. IsQuotient (integer_power b z) (b ^ suc m) (b ^ suc n)) (let e : pos m -ℤ pos n
     ≡ pos (suc m) -ℤ pos (suc n) = omega (arith, ints) in e)
-    (quotient_more b m n (integer_power b (pos m -ℤ pos n)) (raised_over b m n h))
+    (quotient_more b m n _ (raised_over b m n h))
 
 number_over : (bs u v : List ℕ) → Coprime bs → SameLength bs u → SameLength bs v
     → IsQuotient (number bs (differences u v)) (product bs u) (product bs v)
@@ -94,9 +94,7 @@ number_over [] [] (n ∷ v) c f g = absurd g
 number_over (b ∷ bs) [] v c f g = absurd f
 number_over (b ∷ bs) (m ∷ u) [] c f g = absurd g
 number_over (b ∷ bs) (m ∷ u) (n ∷ v) c f g =
-    quotient_product (integer_power b (pos m -ℤ pos n)) (number bs (differences u v)) (b ^ m)
-    (b ^ n)
-    (product bs u) (product bs v)
+    quotient_product _ (number bs (differences u v)) (b ^ m) (b ^ n) (product bs u) (product bs v)
     (raised_over b m n (let h : 1 < b = c.0 in omega arith)) (number_over bs u v c.2 f g)
 
 own_quotient : (x : Fraction) → pos 0 <ℤ x.num → IsQuotient x (size x) x.den

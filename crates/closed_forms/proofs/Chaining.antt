@@ -73,12 +73,12 @@ module _ (c : ClassParts) where
           next)
 
 -- ---- as the code has them
-pub each_at : (P : Fraction → Type 0) (xs : List Frac) (i : ℕ) (x : Frac) → i < length xs
+pub each_at : (P : Fraction → Type 0) (xs : List Frac) (i : ℕ) {x : Frac} → i < length xs
     → x ≡ get_or xs i x → Each P (fractions_of xs) → P (fraction_of x)
 unfolding Each
-each_at P [] i x l is h = absurd (omega (arith, l))
-each_at P (y ∷ xs) zero x l is h = subst (λ z. P (fraction_of z)) (sym is) h.0
-each_at P (y ∷ xs) (suc i) x l is h = each_at P xs i x (omega (arith, l)) is h.1
+each_at P [] i l is h = absurd (omega (arith, l))
+each_at P (y ∷ xs) zero l is h = subst (λ z. P (fraction_of z)) (sym is) h.0
+each_at P (y ∷ xs) (suc i) {x = x} l is h = each_at P xs i (omega (arith, l)) is h.1
 
 module _ (base g : List ℕ) (s : ClassSetting) (split : Split) where
   pub next_begun : (done : List FracPoly) → done ≡ [] → AreNextOf base g s split (terms_each done)
@@ -144,10 +144,11 @@ variables_next base done back i row es more e l is k own h =
     ∙ ap (map f) (sym (take_next (λ (row : Vec Frac Global). fractions_of row.items) back i row l
     is))
 
-pub row_past : (back : List (Vec Frac Global)) (place : ℕ) (row : Vec Frac Global)
-    (done : List (Terms Fraction)) → place < length back → row ≡ get_or back place row
+pub row_past : (back : List (Vec Frac Global)) (place : ℕ) {row : Vec Frac Global}
+    (done : List (Terms Fraction))
+    → place < length back → row ≡ get_or back place row
     → IsPastVariable (fractions_of row.items) done → IsPastRowOf (rows_of back) done
-row_past back place row done l e h = record {
+row_past back place {row = row} done l e h = record {
   place = place;
   within = (let b = length-map back (λ row. fractions_of row.items) in omega (arith, b, l));
   past = subst (λ r. IsPastVariable r done) (sym (list_row back place row l e)) h;

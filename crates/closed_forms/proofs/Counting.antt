@@ -169,7 +169,7 @@ once-append (x ∷ xs) ys o p apart = (
 )
 
 -- ---- the variables of the classes whose first one is not before a place
-module _ (images : List (Terms Fraction)) (is : IsMap (length images) images) where
+module _ {images : List (Terms Fraction)} (is : IsMap (length images) images) where
   record Owned (k : ℕ) (splits : List (Option Split)) : Type 0 where
     own : List ℕ
     once : Once own
@@ -237,9 +237,9 @@ module _ (images : List (Terms Fraction)) (is : IsMap (length images) images) wh
       omega (arith, low, size)
 
 pub twelve_values : (images : List FracPoly) → length images ≤ 12
-    → All (λ (p : FracPoly). p.arity ≡ length images) images → (splits : List (Option Split))
+    → All (λ (p : FracPoly). p.arity ≡ length images) images → {splits : List (Option Split)}
     → AreSplits (terms_each images) splits → length (values_in splits) ≤ 12
-twelve_values images few square splits h =
+twelve_values images few square {splits = splits} h =
     let m = length_each images in
-    let low = values_few (terms_each images) (map_of images square) splits h in
+    let low = values_few (map_of images square) splits h in
     omega (arith, few, m, low)

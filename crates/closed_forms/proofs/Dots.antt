@@ -22,8 +22,8 @@ dot_none (x ∷ row) [] column z h e = h
 dot_none (x ∷ row) (r ∷ matrix) column z h (inl e) = absurd (omega (arith, e))
 dot_none (x ∷ row) (r ∷ matrix) column z h (inr e) = absurd (omega (arith, e))
 
-module _ (row xs : List Frac) (matrix rs : List (Vec Frac Global)) (x : Frac) (r : Vec Frac Global)
-    (column : ℕ) (y : Frac) (e : row ≡ x ∷ xs) (f : matrix ≡ r ∷ rs) (low : column < length r.items)
+module _ {row xs : List Frac} {matrix rs : List (Vec Frac Global)} {x : Frac} {r : Vec Frac Global}
+    (column : ℕ) {y : Frac} (e : row ≡ x ∷ xs) (f : matrix ≡ r ∷ rs) (low : column < length r.items)
     (is : y ≡ get_or r.items column y) where
   pub dot_next : (p d s : Frac) → fraction_of p ≡ ℚ.mul (fraction_of x) (fraction_of y)
       → fraction_of d ≡ sum_of_products ℚ (fractions_of xs) (numbers_at column (rows_of rs))
@@ -59,15 +59,16 @@ module _ (row xs : List Frac) (matrix rs : List (Vec Frac Global)) (x : Frac) (r
       (subst (λ a. SumIsPast a (fraction_of d)) (h
       ∙ ap (ℚ.mul (fraction_of x)) (sym (entry_at r.items column y low is))) past))))
 
-pub rest_low : (matrix rs : List (Vec Frac Global)) (r : Vec Frac Global) (column : ℕ)
+pub rest_low : (matrix : List (Vec Frac Global)) {rs : List (Vec Frac Global)} (r : Vec Frac Global)
+    (column : ℕ)
     → matrix ≡ r ∷ rs → All (λ (v : Vec Frac Global). column < length v.items) matrix
     → All (λ (v : Vec Frac Global). column < length v.items) rs
-rest_low matrix rs r column e all = λ k d l.
+rest_low matrix r column e all = λ k d l.
     subst (λ m. All (λ (v : Vec Frac Global). column < length v.items) m) e all (suc k) d
     (omega (arith, l))
 
-pub head_low : (matrix rs : List (Vec Frac Global)) (r : Vec Frac Global) (column : ℕ)
+pub head_low : {matrix rs : List (Vec Frac Global)} {r : Vec Frac Global} (column : ℕ)
     → matrix ≡ r ∷ rs → All (λ (v : Vec Frac Global). column < length v.items) matrix
     → column < length r.items
-head_low matrix rs r column e all =
+head_low {r = r} column e all =
     subst (λ m. All (λ (v : Vec Frac Global). column < length v.items) m) e all 0 r (omega arith)

@@ -60,7 +60,7 @@ of_split (None ∷ splits) c i = (let r = of_split splits c i in let l = r.withi
       among = r.among;
     })
 of_split (Some split ∷ splits) c i =
-    elim (in_either c (fractions_of split.values.items) (values_in splits) i) [
+    elim (in_either c _ (values_in splits) i) [
       | inl e ↦ record { place = 0; within = omega arith; split = split; is = refl; among = e }
       | inr e ↦ (let r = of_split splits c e in let l = r.within in record {
         place = suc r.place;
@@ -77,7 +77,7 @@ values_from : (splits : List (Option Split)) (k : ℕ) (split : Split) → k < l
 values_from [] k split l e c i = absurd (omega (arith, l))
 values_from (None ∷ splits) zero split l e c i = absurd (let z : ⊥ = cc in z)
 values_from (Some other ∷ splits) zero split l e c i = (let own : split ≡ other = cc in
-    in_left c (fractions_of other.values.items) (values_in splits)
+    in_left c _ (values_in splits)
     (subst (λ (s : Split). In c (fractions_of s.values.items)) own i))
 values_from (None ∷ splits) (suc k) split l e c i = values_from splits k split (omega (arith, l)) e
     c i
@@ -111,10 +111,10 @@ module _ (images : List (Terms Fraction)) (splits : List (Option Split))
 -- ---- bases
 -- ---- refusals
 pub all_pass : (images : List FracPoly) → All (λ (p : FracPoly). p.arity ≡ length images) images
-    → (splits : List (Option Split)) → AreSplits (terms_each images) splits
+    → {splits : List (Option Split)} → AreSplits (terms_each images) splits
     → AllPass (terms_each images)
-all_pass images square splits are = splits_pass (terms_each images) (map_of images square) splits
-    are
+all_pass images square {splits = splits} are =
+    splits_pass (terms_each images) (map_of images square) splits are
 
 pub of_class : (P Q : ℕ → Type 0) → ((v : ℕ) → P v → Q v) → (e : FormsError) → IfOfClass P e
     → IfOfClass Q e
@@ -126,7 +126,7 @@ of_class P Q f (LimitForm variable) h = absurd h
 of_class P Q f (WideForm variable) h = f variable h
 of_class P Q f Memory h = tt
 
-module _ (images : List (Terms Fraction)) (base : List ℕ) (b : IsFormBase images base) (z : ℕ)
+module _ {images : List (Terms Fraction)} {base : List ℕ} (b : IsFormBase images base) {z : ℕ}
     (zeros : AreZeros images z) where
   later_of : (v : ℕ) → IsWideForm base images z v → IsLater images v
   later_of v h = record { base = base; is = b; zeros = z; are = zeros; wide = h }

@@ -49,8 +49,8 @@ module _ {base : List ℕ} {m : ℕ} {inhomogeneity : Expo}
       (terms_in inhomogeneity.body)))
       (next_images (base_of inhomogeneity) k)) over.over_vars h)
 
-module _ (base : List ℕ) (m : ℕ) (w : List Fraction) (g : List ℕ) (l x : Fraction) (a : Ahead)
-    (q : Terms Fraction) (some : l ≢ ℚ.zero) (own : x ≡ l) where
+module _ (base : List ℕ) (m : ℕ) (w : List Fraction) (g : List ℕ) {l : Fraction} (x : Fraction)
+    (a : Ahead) (q : Terms Fraction) (some : l ≢ ℚ.zero) (own : x ≡ l) where
   pub at_once_past : a.iterations ≡ 0 → IsPastSolved base m w g x q → IsPastFrom base m w g l a q
   at_once_past none h = once_past some none
       (subst (λ n. IsPastSolved base m w g n q) own h)

@@ -64,17 +64,17 @@ module _ {w : MapInWork} (is : IsInWork w) where
   pub early_in : w.iterations ≤ 12
   early_in =
       let a = zeros_low (values_in w.splits.items) in
-      let b = twelve_values (listed w) is.few is.square w.splits.items is.splits in
+      let b = twelve_values (listed w) is.few is.square is.splits in
       let d = is.iterations in
       omega (arith, a, b, d)
 
   pub class_later : (e : FormsError) → IfWide (numbers w) (images_in w) w.iterations e
       → IfLater (images_in w) e
-  class_later = later_class (images_in w) (numbers w) form_base_in w.iterations zeros
+  class_later = later_class form_base_in zeros
 
   pub iteration_later : (e : FormsError) → IfWideIteration (numbers w) (images_in w) w.iterations e
       → IfLater (images_in w) e
-  iteration_later = later_iteration (images_in w) (numbers w) form_base_in w.iterations zeros
+  iteration_later = later_iteration form_base_in zeros
 
   pub room_in : width (length (numbers w)) (length (listed w)) ≤ 4096
   room_in = room w.base.items (length (listed w)) is.short is.few
@@ -85,8 +85,7 @@ module _ {w : MapInWork} (is : IsInWork w) where
       → AreFormsBut w (groups_in w.classes.items) es
   none_yet es count over = record {
     over = over;
-    known = known_begun (numbers w) (images_in w) w.splits.items w.iterations
-        (groups_in w.classes.items) is.classes
+    known = known_begun (numbers w) (images_in w) w.splits.items w.iterations is.classes
         (bodies_of es) (bodies-count es ∙ count ∙ sym (length_each (listed w))) (sym is.iterations);
   }
 
@@ -152,9 +151,8 @@ module _ {w : MapInWork} {g : List ℕ} {rest : List (List ℕ)} {es : List Expo
 
       pub ready_here : IsReady (numbers w) (images_in w) w.iterations (zeros_of split) g
           (bodies_of es)
-      ready_here = known_ready (numbers w) (images_in w) w.splits.items w.iterations (g ∷ rest) rest
-          g (bodies_of es)
-          refl forms.known split here
+      ready_here = known_ready (numbers w) (images_in w) w.splits.items w.iterations rest
+          g refl forms.known split here
 
       pub forms_next : {news new : List Expo} → length news ≡ length g
           → AreOver (numbers w) (length w.images.now.items) news
@@ -183,7 +181,7 @@ module _ {w : MapInWork} {g : List ℕ} {rest : List (List ℕ)} {es : List Expo
         forms = rows_of split.forms.items;
         values = fractions_of split.values.items;
         ready = ready_here;
-        normal = over_normals (numbers w) (length (images_in w)) es
+        normal = over_normals (numbers w) es
             (subst (λ n. AreOver (numbers w) n es)
             (sym (length_each w.images.now.items)) forms.over);
         first = sym first_at;
@@ -209,14 +207,14 @@ module _ {w : MapInWork} {es : List Expo} (is : IsInWork w) (forms : AreFormsBut
   many = closed_count (numbers w) (images_in w) w.iterations es closed ∙ length_each (listed w)
 
   pub inside_in : All (λ (g : Vec ℕ Global). All (λ i. i < length es) g.items) w.classes.items
-  inside_in = groups_inside (listed w) w.classes.items (length es) (sym many) is.classes
+  inside_in = groups_inside (listed w) w.classes.items (sym many) is.classes
 
   states_many : length w.states.items ≡ w.iterations + 1
   states_many = states_count (images_in w) w.iterations w.states.items is.states
 
-  pub alike_at : (i : ℕ) (v : Vec FracPoly Global) → i ≤ w.iterations
+  pub alike_at : (i : ℕ) {v : Vec FracPoly Global} → i ≤ w.iterations
       → v ≡ get_or w.states.items i v → AreAlike es v.items
-  alike_at i v low at =
+  alike_at i {v = v} low at =
       let size = state_length (listed w) w.iterations w.states.items is.states i v low at in
       let all = state_over (listed w) w.iterations w.states.items is.states i v low at
       is.arities in
@@ -231,7 +229,7 @@ module _ {w : MapInWork} {es : List Expo} (is : IsInWork w) (forms : AreFormsBut
   pub alike_in : All (λ (v : Vec FracPoly Global). AreAlike es v.items) w.states.items
   alike_in k d l =
       let n = states_many in
-      alike_at k (get_or w.states.items k d) (omega (arith, l, n)) (own_item w.states.items k d l)
+      alike_at k (omega (arith, l, n)) (own_item w.states.items k d l)
 
   pub settling_in : IsSettling (images_in w) (numbers w) (groups_in w.classes.items)
       (told w.states.items) es w.iterations
@@ -299,7 +297,7 @@ form_in {w} is polys since passing forms settled told passes =
       base = form_base_in is;
       closed = settled.closed;
       least = settled.least;
-      normal = over_normals (numbers w) (length (images_in w)) polys.items own;
+      normal = over_normals (numbers w) polys.items own;
       over = own;
       count = count;
       told = told ∙ count;

@@ -45,9 +45,10 @@ use Rattle.closed_forms.specs.Values.{IsExpoOver}
 use Rattle.closed_forms.proofs.Mixing.{tell, term_within, terms-push, more_behind}
 
 -- ---- exponential polynomials
-pub own_is_normal : (base : List ℕ) (m : ℕ) (p : Terms Fraction) → Arity (width (length base) m) p
+pub own_is_normal : (base : List ℕ) (m : ℕ) {p : Terms Fraction} → Arity (width (length base) m) p
     → with_normal_keys (length base) p ≡ p → IsNormal base p
-own_is_normal base m p arity own = subst (IsNormal base) own (normalized-normal base m p arity)
+own_is_normal base m {p = p} arity own =
+    subst (IsNormal base) own (normalized-normal base m p arity)
 
 module _ {base : List ℕ} {m : ℕ} {e : Expo} (over : IsExpoOver base m e) where
   pub over_arity : e.body.arity ≡ width (length base) m
@@ -65,17 +66,17 @@ module _ {base : List ℕ} {m : ℕ} {e : Expo} (over : IsExpoOver base m e) whe
   pub over_normal : IsNormalForm base grevlex m (terms_in e.body)
   over_normal = record {
     polynomial = over_polynomial;
-    normal = own_is_normal base m (terms_in e.body) over_polynomial.arity own_normal;
+    normal = own_is_normal base m over_polynomial.arity own_normal;
   }
 
-pub expo_over : (base : List ℕ) (m : ℕ) (ts : Terms Fraction) (e : Expo) → IsExpo base m ts e
+pub expo_over : {base : List ℕ} (m : ℕ) (ts : Terms Fraction) (e : Expo) → IsExpo base m ts e
     → IsExpoOver base m e
-expo_over base m ts e h = record { over_base = h.over_base; over_vars = h.over_vars }
+expo_over m ts e h = record { over_base = h.over_base; over_vars = h.over_vars }
 
-pub tabled_over : (base : List ℕ) (m a : ℕ) (inhomogeneity own : Power) (e : Expo)
+pub tabled_over : (base : List ℕ) (m a : ℕ) {inhomogeneity : Power} (own : Power) (e : Expo)
     → IsTabled base m a inhomogeneity own e → IsExpoOver base m e
-tabled_over base m a inhomogeneity own e (Solutions.other ts n t i) = expo_over base m ts e i
-tabled_over base m a inhomogeneity own e (Solutions.equal ts n t i) = expo_over base m ts e i
+tabled_over base m a own e (Solutions.other ts n t i) = expo_over m ts e i
+tabled_over base m a own e (Solutions.equal ts n t i) = expo_over m ts e i
 
 -- ---- one of a list
 pub all_one : {A : Type 0} (P : A → Type 0) (xs : List A) (x : A) → xs ≡ x ∷ [] → P x → All P xs
@@ -98,10 +99,10 @@ sides_next below e f z n old mid new h k a b =
     b ∙ ap (λ l. l ++ map (side_of below) f) a ∙ append_assoc old (n ∷ []) (map (side_of below) f)
     ∙ ap (λ x. old ++ x ∷ map (side_of below) f) k ∙ ap (λ l. old ++ map (side_of below) l) (sym h)
 
-pub sides_front : (negative : Bool) (e : List ℤ) (start mid front u : List ℕ)
+pub sides_front : (negative : Bool) (e : List ℤ) {start mid front : List ℕ} (u : List ℕ)
     → start ≡ 0 ∷ cond negative 1 0 ∷ [] → mid ≡ start ++ map (side_of false) e
     → front ≡ mid ++ map (side_of true) e → front ++ u ≡ with_key 0 (power_key negative e) u
-sides_front negative e start mid front u a b d =
+sides_front negative e u a b d =
     ap (λ l. l ++ u) (d ∙ ap (λ l. l ++ map (side_of true) e) (b
     ∙ ap (λ l. l ++ map (side_of false) e) a))
     ∙ append_assoc (0 ∷ cond negative 1 0 ∷ map (side_of false) e) (map (side_of true) e) u
@@ -189,8 +190,7 @@ module _ (m : ℕ) (x : Key) where
       → tell old ++ homogeneous_part m x (fractions_of cs) g ≡ all
       → tell mid ++ homogeneous_part m x (fractions_of cs') g' ≡ all
   growing_next cs cs' c g g' j old mid u all e f k n o h =
-      more_behind (tell old) (tell mid) _ (u.mono, fraction_of u.coef)
-      (homogeneous_part m x (fractions_of cs') g') (terms-push old mid u k) refl
+      more_behind (tell old) _ (u.mono, fraction_of u.coef) _ (terms-push old mid u k) refl
       ∙ ap₂ (λ a b. tell old ++ (a, fraction_of b) ∷ homogeneous_part m x (fractions_of cs') g') n o
       ∙ ap₂ (λ a b. tell old ++ homogeneous_part m x (fractions_of a) b) (sym e) (sym f) ∙ h
 
@@ -201,10 +201,11 @@ module _ (base : List ℕ) (m : ℕ) (l : Fraction) where
   solved_none [] old h = record { solved = []; are = refl; terms = sym (append-nil old) }
   solved_none (t ∷ ts) old h = absurd (omega (arith, h))
 
-  pub solved_next : (ts rest : List (Term Frac)) (t : Term Frac) (p old mid new : Terms Fraction)
+  pub solved_next : (ts rest : List (Term Frac)) (t : Term Frac) {p : Terms Fraction}
+      (old : Terms Fraction) {mid : Terms Fraction} (new : Terms Fraction)
       → ts ≡ t ∷ rest → IsSolvedTerm base m l (term_of fraction_of t) p → mid ≡ old ++ p
       → AreSolvedBehind base m l (tell rest) mid new → AreSolvedBehind base m l (tell ts) old new
-  solved_next ts rest t p old mid new e h k more_solved =
+  solved_next ts rest t {p = p} old new e h k more_solved =
       subst (λ q. AreSolvedBehind base m l (tell q) old new) (sym e) (record {
         solved = p ++ more_solved.solved;
         are = (p, more_solved.solved, h, more_solved.are, refl);
@@ -228,9 +229,9 @@ module _ (base : List ℕ) (m : ℕ) (l : Fraction) where
       (term_of fraction_of t) h (term_within ts i t b is)
 
 -- ---- the solution of a term
-pub still_made : (r first : ℕ) (e one others mono : List ℕ) → first ≡ width r 0
+pub still_made : (r : ℕ) {first : ℕ} (e one others : List ℕ) {mono : List ℕ} → first ≡ width r 0
     → one ≡ replicate first 0 → others ≡ drop first e → mono ≡ one ++ others → mono ≡ still r e
-still_made r first e one others mono f a b c = c ∙ ap₂ ◌++◌ (a ∙ ap (λ n. replicate n 0) f) (b
+still_made r e one others f a b c = c ∙ ap₂ ◌++◌ (a ∙ ap (λ n. replicate n 0) f) (b
     ∙ ap (λ n. drop n e) f)
 
 pub key_solution : (base : List ℕ) (m : ℕ) (t : List ℕ × Fraction) (inhomogeneity own : Power)
@@ -265,10 +266,11 @@ term_past base m t inhomogeneity own a q k h =
     (subst (IsPastSolving (number_of base inhomogeneity) (number_of base own)) q
     (solving_past base a inhomogeneity own h))
 
-pub product_past : (base : List ℕ) (m : ℕ) (l : Fraction) (t : List ℕ × Fraction)
-    (y q : Terms Fraction) → IsKeySolution base m l t y → q ≡ steady (length base) t
-    → IsPastProduct fractions y q → IsPastTerm base m l t
-product_past base m l t y q h e x = Solved.product y h (subst (IsPastProduct fractions y) e x)
+pub product_past : {base : List ℕ} (m : ℕ) {l : Fraction} (t : List ℕ × Fraction)
+    (y : Terms Fraction) {q : Terms Fraction}
+    → IsKeySolution base m l t y → q ≡ steady (length base) t → IsPastProduct fractions y q
+    → IsPastTerm base m l t
+product_past m t y h e x = Solved.product y h (subst (IsPastProduct fractions y) e x)
 
 -- ---- all of them
 module _ (base : List ℕ) (m : ℕ) (w : List Fraction) (g : List ℕ) (own : Power)
@@ -276,10 +278,11 @@ module _ (base : List ℕ) (m : ℕ) (w : List Fraction) (g : List ℕ) (own : P
   abbrev l : Fraction
   l = number_of base own
 
-  pub whole_is : (none grown all : Terms Fraction) → length own.exponents.items ≡ length base
-      → none ≡ [] → grown ≡ none ++ homogeneous_part m (key_of_power own) w g
+  pub whole_is : {none grown : Terms Fraction} (all : Terms Fraction)
+      → length own.exponents.items ≡ length base → none ≡ []
+      → grown ≡ none ++ homogeneous_part m (key_of_power own) w g
       → AreSolvedBehind base m l q grown all → IsWhole base m w g l q all
-  whole_is none grown all k z e h = record {
+  whole_is all k z e h = record {
     negative = own.negative;
     exponents = own.exponents.items;
     power = record { count = k; is = refl };

@@ -5,7 +5,7 @@
 --   start_is, start_lists     its difference from what is there, times a power of the value
 --   grown_next             a polynomial of the variables times a power, term by term;  grown_value: its values
 --   together-arity, joined_is     the two together
-use Rattle.std.proofs.Common.{◌≡◌, ℕ, suc, ℤ, pos, Bool, ◌+◌, List, [], ◌∷◌, ◌++◌, map, length, Result, Ok, Err, refl, sym, ap, ap₂, subst, ◌∙◌}
+use Rattle.std.proofs.Common.{◌≡◌, ℕ, suc, ℤ, pos, Bool, ◌+◌, List, [], ◌∷◌, ◌++◌, length, Result, Ok, Err, refl, sym, ap, ap₂, subst, ◌∙◌}
 use Rattle.std.proofs.lemmas.List.{length-append}
 use Rattle.std.specs.Result.{IfOk}
 use Rattle.algebra.specs.Arithmetic.{power}
@@ -18,7 +18,7 @@ use Rattle.algebra.specs.Fraction.{Fraction, ℚ, inverse, whole}
 use Rattle.algebra.proofs.Fractions.{ℚ_ring}
 use Rattle.polynomials.specs.Order.{grevlex}
 use Rattle.polynomials.specs.Polynomial.{Arity, IsPolynomial}
-use Rattle.polynomials.specs.Terms.{Terms, constant, variables, value_at, monomial_at, sum_of_products}
+use Rattle.polynomials.specs.Terms.{Terms, variables, value_at, monomial_at, sum_of_products}
 use Rattle.polynomials.proofs.Arity.{arity-compose, arity-constants, arity-variables}
 use Rattle.polynomials.proofs.ValueAt.{value_at-append}
 use Rattle.exponentials.specs.Base.{Coprime, SameLength}
@@ -55,9 +55,9 @@ ok_both (Ok x) P Q S f p q = f x p q
 ok_both (Err e) P Q S f p q = tt
 
 pub at-arity : (base : List ℕ) (m n : ℕ) (p : Terms Fraction) → Arity m (at_iteration base m n p)
-at-arity base m n p = arity-compose m ℚ p _ (each-append (Arity m)
-    (map (constant m) (point base n [])) (variables ℚ m) (arity-constants m (point base n []))
-    (arity-variables m ℚ))
+at-arity base m n p =
+    arity-compose m ℚ p _ (each-append (Arity m) _ (variables ℚ m)
+    (arity-constants m (point base n [])) (arity-variables m ℚ))
 
 -- ---- what is collected, made normal
 normal_of_value : (base : List ℕ) → Coprime base → (m k : ℕ) (all sum : Terms Fraction) (e : Expo)
@@ -72,9 +72,10 @@ normal_of_value base c m k all sum e a is x n s =
     ∙ normal-value base c m sum b n s ∙ ap (λ q. value_at ℚ q z) is ∙ collected_value all z
 
 -- ---- the sum
-pub solved_all : (base : List ℕ) (m : ℕ) (l : Fraction) (q none all : Terms Fraction)
+pub solved_all : (base : List ℕ) (m : ℕ) (l : Fraction) (q : Terms Fraction) {none : Terms Fraction}
+    (all : Terms Fraction)
     → none ≡ [] → AreSolvedBehind base m l q none all → AreSolved base m l q all
-solved_all base m l q none all e h = subst (AreSolved base m l q)
+solved_all base m l q all e h = subst (AreSolved base m l q)
     (sym (h.terms ∙ ap (λ x. x ++ h.solved) e)) h.are
 
 pub sum_is : (base : List ℕ) → Coprime base → (m k : ℕ) (l : Fraction) (q all sum : Terms Fraction)
@@ -95,9 +96,9 @@ two_products : (k t u : Fraction) → R.add (R.mul k t) (R.add (R.mul (R.neg k) 
 two_products k t u = ring R (k ∷ t ∷ u ∷ []) (search ring_rules depth 40) refl
 
 module _ (base : List ℕ) (m : ℕ) (l : Fraction) (z : ℕ) (there at p : FracPoly)
-    (sum : Terms Fraction) (numbers : List Fraction) (polys : List FracPoly)
-    (k o : Fraction) (factor : k ≡ power ℚ (inverse l) z) (opposite : o ≡ ℚ.neg k)
-    (are : numbers ≡ k ∷ o ∷ []) (both : polys ≡ there ∷ at ∷ []) where
+    (sum : Terms Fraction) {numbers : List Fraction} {polys : List FracPoly} {k o : Fraction}
+    (factor : k ≡ power ℚ (inverse l) z) (opposite : o ≡ ℚ.neg k) (are : numbers ≡ k ∷ o ∷ [])
+    (both : polys ≡ there ∷ at ∷ []) where
   numbers_are : numbers ≡ power ℚ (inverse l) z ∷ ℚ.neg (power ℚ (inverse l) z) ∷ []
   numbers_are = are ∙ ap₂ (λ a b. a ∷ b ∷ []) factor (opposite ∙ ap ℚ.neg factor)
 
@@ -131,10 +132,9 @@ pub grown_next : (x : Key) (ts rest : List (Term Frac)) (t u : Term Frac)
     → u.mono ≡ with_key 0 x t.mono → u.coef ≡ t.coef → tell old ++ with_powers x (tell ts) ≡ all
     → tell mid ++ with_powers x (tell rest) ≡ all
 grown_next x ts rest t u old mid all e k n o h =
-    more_behind (tell old) (tell mid) _ (u.mono, fraction_of u.coef)
-    (with_powers x (tell rest)) (terms-push old mid u k) refl
-    ∙ ap₂ (λ a b. tell old ++ (a, fraction_of b) ∷ with_powers x (tell rest)) n o
-    ∙ ap (λ l. tell old ++ with_powers x (tell l)) (sym e) ∙ h
+    more_behind (tell old) _ (u.mono, fraction_of u.coef) (with_powers x (tell rest))
+    (terms-push old mid u k) refl ∙ ap₂ (λ a b. tell old ++ (a, fraction_of b) ∷ with_powers x
+    (tell rest)) n o ∙ ap (λ l. tell old ++ with_powers x (tell l)) (sym e) ∙ h
 
 module _ (base : List ℕ) (c : Coprime base) (m : ℕ) (negative : Bool) (e : List ℤ)
     (k : length e ≡ length base) where

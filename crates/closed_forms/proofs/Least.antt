@@ -99,11 +99,10 @@ module _ (base : List ℕ) (images : List (Terms Fraction)) (es : List Expo)
       at_all h s k =
           let a = length-map ps (λ p. value_at ℚ p (point base n s)) in
           let b = long s k in
-          same_entries ℚ_field (values_at ps (point base n s)) (there s) (a ∙ size ∙ sym b)
-          (λ i. elim (cases_lt i m) [
+          same_entries ℚ_field _ (there s) (a ∙ size ∙ sym b) (λ i. elim (cases_lt i m) [
             | inl l ↦ one_at i l (h i l) s k
             | inr l ↦
-                entries-past ℚ_field (values_at ps (point base n s)) i (let c = size in
+                entries-past ℚ_field _ i (let c = size in
                 omega (arith, a, c, l))
                 ∙ sym (entries-past ℚ_field (there s) i (omega (arith, b, l)))
           ])
@@ -190,7 +189,7 @@ module _ {images : List (Terms Fraction)} {base : List ℕ} {groups : List (List
     near = near;
     polys = bodies_of es;
     closed = h.closed;
-    normal = over_normals base (length images) es h.over;
+    normal = over_normals base es h.over;
     class = w.class;
     is = class;
     first = w.first;

@@ -30,8 +30,8 @@ use Rattle.expo.specs.declared.exponential.Expo.{Expo}
 use Rattle.solvable_maps.specs.Classes.{first_of}
 use Rattle.closed_forms.specs.Settling.{IsAt, IsAtPlace, IsMarked, AreMarked, AreAllMarked, KeptMarks, IsPastPlace, IsPastOfClass}
 
-pub off : {P : Type 0} (b : Bool) → b ≡ false → (P → b ≡ true) → P → ⊥
-off b e test p = (let t = test p in let bad : ⊥ = cc in bad)
+pub off : {P : Type 0} {b : Bool} → b ≡ false → (P → b ≡ true) → P → ⊥
+off e test p = (let t = test p in let bad : ⊥ = cc in bad)
 
 pub not_is : (b : Bool) → (not b ≡ false → b ≡ true) × (b ≡ true → not b ≡ false)
 not_is true = ((λ e. refl), (λ e. refl))
@@ -78,7 +78,7 @@ same_item [] i l a b h k = absurd (omega (arith, l))
 same_item (e ∷ es) zero l a b h k = h ∙ sym k
 same_item (e ∷ es) (suc i) l a b h k = same_item es i (omega (arith, l)) a b h k
 
-module _ (es : List Expo) (n : ℕ) (state : List FracPoly) (i : ℕ) (e : Expo) (q : FracPoly)
+module _ (es : List Expo) (n : ℕ) (state : List FracPoly) (i : ℕ) {e : Expo} {q : FracPoly}
     (l : i < length es) (k : i < length state) (own : e ≡ get_or es i e)
     (other : q ≡ get_or state i q) where
   pub place_to : IsAt e n (terms_in q) → IsAtPlace es n (terms_each state) i
@@ -131,10 +131,11 @@ module _ (es : List Expo) (n : ℕ) (state : List (Terms Fraction)) where
       → KeptMarks es n state mid new → KeptMarks es n state old new
   kept_both old mid new h k = λ i m. k i (h i m)
 
-  pub groups_first : (groups rest : List (List ℕ)) (g : List ℕ) (mid new : List Bool)
+  pub groups_first : {groups : List (List ℕ)} (rest : List (List ℕ)) (g : List ℕ)
+      (mid new : List Bool)
       → groups ≡ g ∷ rest → AreMarked es n state g mid → KeptMarks es n state mid new
       → AreAllMarked es n state rest new → AreAllMarked es n state groups new
-  groups_first groups rest g mid new e here kept later h inside i within =
+  groups_first rest g mid new e here kept later h inside i within =
       go (subst (In h) e inside)
     where
       go : In h (g ∷ rest) → IsMarked es n state new i

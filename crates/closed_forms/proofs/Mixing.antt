@@ -38,9 +38,9 @@ terms-push ts more t e = ap tell e ∙ of ts
     of (u ∷ ts) = ap (λ r. (u.mono, fraction_of u.coef) ∷ r) (of ts)
 
 -- what is left of a list at an index, and a term there
-pub left_at : {X : Type 0} (xs : List X) (i : ℕ) (x : X) → i < length xs → x ≡ get_or xs i x
+pub left_at : {X : Type 0} (xs : List X) (i : ℕ) {x : X} → i < length xs → x ≡ get_or xs i x
     → drop i xs ≡ x ∷ drop (i + 1) xs
-left_at xs i x l is = drop_more xs i x l ∙ ap (λ y. y ∷ drop (i + 1) xs) (sym is)
+left_at xs i {x = x} l is = drop_more xs i x l ∙ ap (λ y. y ∷ drop (i + 1) xs) (sym is)
 
 pub term_within : (ts : List (Term Frac)) (i : ℕ) (t : Term Frac) → i < length ts
     → t ≡ get_or ts i t → In (term_of fraction_of t) (tell ts)
@@ -48,19 +48,19 @@ term_within ts i t l is = map-in (term_of fraction_of) ts t (subst (λ u. In u t
     (in_get ts i t l))
 
 -- one term more, and then the others
-pub more_behind : (old mid new : Terms Fraction) (t : List ℕ × Fraction) (rest : Terms Fraction)
+pub more_behind : (old : Terms Fraction) {mid : Terms Fraction} (new : Terms Fraction)
+    (t : List ℕ × Fraction) (rest : Terms Fraction)
     → mid ≡ old ++ t ∷ [] → new ≡ mid ++ rest → new ≡ old ++ t ∷ rest
-more_behind old mid new t rest e h = h ∙ ap (λ r. r ++ rest) e ∙ append_assoc old (t ∷ []) rest
+more_behind old new t rest e h = h ∙ ap (λ r. r ++ rest) e ∙ append_assoc old (t ∷ []) rest
 
-module _ (ts rest : List (Term Frac)) (t : Term Frac) (is : ts ≡ t ∷ rest) where
+module _ (ts rest : List (Term Frac)) {t : Term Frac} (is : ts ≡ t ∷ rest) where
   pub scaled_next : (c : Fraction) (old mid : List (Term Frac)) (u : Term Frac)
       (all : Terms Fraction) → u.mono ≡ t.mono → fraction_of u.coef ≡ ℚ.mul c (fraction_of t.coef)
       → mid ≡ old ++ u ∷ [] → tell old ++ scale_terms rationals c (tell ts) ≡ all
       → tell mid ++ scale_terms rationals c (tell rest) ≡ all
   unfolding scale_terms
   scaled_next c old mid u all m k e h =
-      more_behind (tell old) (tell mid) _ (u.mono, fraction_of u.coef)
-      (scale_terms rationals c (tell rest)) (terms-push old mid u e) refl
+      more_behind (tell old) _ (u.mono, fraction_of u.coef) _ (terms-push old mid u e) refl
       ∙ ap₂ (λ x y. tell old ++ (x, y) ∷ scale_terms rationals c (tell rest)) m k
       ∙ ap (λ l. tell old ++ scale_terms rationals c (tell l)) (sym is) ∙ h
 
@@ -74,7 +74,7 @@ module _ (ts rest : List (Term Frac)) (t : Term Frac) (is : ts ≡ t ∷ rest) w
       → false ≡ mine g t.mono → u.mono ≡ t.mono → u.coef ≡ t.coef → mid ≡ old ++ u ∷ []
       → tell old ++ rest_of g (tell ts) ≡ all → tell mid ++ rest_of g (tell rest) ≡ all
   rest_next g old mid u all none m k e h =
-      more_behind (tell old) (tell mid) _ (u.mono, fraction_of u.coef) (rest_of g (tell rest))
+      more_behind (tell old) _ (u.mono, fraction_of u.coef) (rest_of g (tell rest))
       (terms-push old mid u e) refl
       ∙ ap₂ (λ x y. tell old ++ (x, fraction_of y) ∷ rest_of g (tell rest)) m k
       ∙ ap (λ b. tell old ++ cond b (rest_of g (tell rest)) ((t.mono, fraction_of t.coef)
@@ -136,13 +136,13 @@ pub none_left : (f : List (Term Frac) → Terms Fraction) → f [] ≡ [] → (t
 none_left f none ts i out all l h =
     sym (append-nil out) ∙ ap (λ q. out ++ q) (sym (ap f (drop_all i ts l) ∙ none)) ∙ h
 
-pub head_all : {A : Type 0} (P : A → Type 0) (ts rest : List A) (t : A) → ts ≡ t ∷ rest → All P ts
+pub head_all : {A : Type 0} (P : A → Type 0) {ts rest : List A} {t : A} → ts ≡ t ∷ rest → All P ts
     → P t
-head_all P ts rest t e all = subst (λ r. All P r) e all 0 t (omega arith)
+head_all P {t = t} e all = subst (λ r. All P r) e all 0 t (omega arith)
 
-pub tail_all : {A : Type 0} (P : A → Type 0) (ts rest : List A) (t : A) → ts ≡ t ∷ rest → All P ts
+pub tail_all : {A : Type 0} (P : A → Type 0) {ts rest : List A} {t : A} → ts ≡ t ∷ rest → All P ts
     → All P rest
-tail_all P ts rest t e all = λ k d l. subst (λ r. All P r) e all (suc k) d (omega (arith, l))
+tail_all P e all = λ k d l. subst (λ r. All P r) e all (suc k) d (omega (arith, l))
 
 -- ---- variables of a class
 is_true : (b : Bool) → T b → true ≡ b

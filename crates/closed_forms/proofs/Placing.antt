@@ -158,10 +158,10 @@ module _ (base : List ℕ) (images : List (Terms Fraction)) (splits : List (Opti
   abbrev m : ℕ
   m = length images
 
-  pub known_begun : (groups : List (List ℕ)) → AreClasses (uses images) m [] groups
+  pub known_begun : {groups : List (List ℕ)} → AreClasses (uses images) m [] groups
       → (ps : List (Terms Fraction)) → length ps ≡ m → zeros_in (values_in splits) ≡ z
       → AreKnown base images splits z groups ps
-  known_begun groups classes ps size count = record {
+  known_begun classes ps size count = record {
     before = [];
     order = classes;
     earlier = [];
@@ -187,7 +187,7 @@ module _ (base : List ℕ) (images : List (Terms Fraction)) (splits : List (Opti
       ∙ ap (λ l. concat before ++ l) (append-nil g)
 
   -- the splitting of the class that comes next, which is left, and how many zeros it has
-  module _ (groups rest : List (List ℕ)) (g : List ℕ) (ps : List (Terms Fraction))
+  module _ {groups : List (List ℕ)} (rest : List (List ℕ)) (g : List ℕ) {ps : List (Terms Fraction)}
       (e : groups ≡ g ∷ rest) (h : AreKnown base images splits z groups ps) (split : Split)
       (here : get_or splits (first_of g) None ≡ Some split) where
     next_all : AreClasses (uses images) m h.earlier (g ∷ rest)
@@ -256,7 +256,7 @@ module _ (base : List ℕ) (images : List (Terms Fraction)) (splits : List (Opti
         class = class;
         since = h.since;
         turned = h.turned;
-        within = (let a = h.sum in let b = sum_left groups rest g ps e h split here in
+        within = (let a = h.sum in let b = sum_left rest g e h split here in
             omega (arith, a, b));
       })
 
@@ -276,7 +276,7 @@ module _ (base : List ℕ) (images : List (Terms Fraction)) (splits : List (Opti
       d = h.since + zeros_in (fractions_of split.values.items)
 
       inside_first : In (first_of g) g
-      inside_first = first_within groups rest g (bodies_of old) e h split here
+      inside_first = first_within rest g e h split here
 
       size : length (bodies_of old) ≡ m
       size = h.turned.size
@@ -328,7 +328,7 @@ module _ (base : List ℕ) (images : List (Terms Fraction)) (splits : List (Opti
             (λ same. out (in_right j h.earlier g (subst (λ i. In i g) (sym same) inside_first)))
             ∙ h.others j x (λ before. out (in_left j h.earlier g before));
         sum = (let a = h.sum in
-            let b = sum_left groups rest g (bodies_of old) e h split here in omega (arith, a, b));
+            let b = sum_left rest g e h split here in omega (arith, a, b));
       }
 
   pub known_last : (ps : List (Terms Fraction)) → AreKnown base images splits z [] ps
@@ -338,13 +338,13 @@ module _ (base : List ℕ) (images : List (Terms Fraction)) (splits : List (Opti
       a
 
 -- ---- over a base
-pub over_normals : (base : List ℕ) (m : ℕ) (es : List Expo) → AreOver base m es
+pub over_normals : (base : List ℕ) {m : ℕ} (es : List Expo) → AreOver base m es
     → Each (IsNormalForm base grevlex m) (bodies_of es)
 unfolding Each
-over_normals base m [] h = tt
-over_normals base m (e ∷ es) h = (
+over_normals base [] h = tt
+over_normals base {m = m} (e ∷ es) h = (
   over_normal (h 0 e (omega arith)),
-  over_normals base m es
+  over_normals base es
       (λ k d l. h (suc k) d (omega (arith, l))),
 )
 

@@ -209,10 +209,8 @@ module _ (base : List ℕ) (c : Coprime base) (m : ℕ) where
   pub whole-arity : (cs : List Fraction) (g : List ℕ) (l : Fraction) (q p : Terms Fraction)
       → Arity w q → IsWhole base m cs g l q p → Arity w p
   whole-arity cs g l q p a h =
-      subst (Arity w) (sym h.terms)
-      (each-append (λ (t : List ℕ × Fraction). length t.0 ≡ w)
-      (homogeneous_part m (power_key h.negative h.exponents) cs g) h.solved
-      (growing-arity h.negative h.exponents h.power.count cs g)
+      subst (Arity w) (sym h.terms) (each-append (λ (t : List ℕ × Fraction). length t.0 ≡ w) _
+      h.solved (growing-arity h.negative h.exponents h.power.count cs g)
       (solved-arity l q h.solved a h.are))
 
   -- ---- recurrences

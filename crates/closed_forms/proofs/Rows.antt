@@ -38,9 +38,9 @@ entries-last [] x (suc i) e = absurd (omega (arith, e))
 entries-last (y ∷ xs) x zero e = absurd (omega (arith, e))
 entries-last (y ∷ xs) x (suc i) e = entries-last xs x i (omega (arith, e))
 
-pub fractions-push : (xs more : List Frac) (x : Frac) → more ≡ xs ++ x ∷ []
+pub fractions-push : (xs : List Frac) {more : List Frac} (x : Frac) → more ≡ xs ++ x ∷ []
     → fractions_of more ≡ fractions_of xs ++ fraction_of x ∷ []
-fractions-push xs more x e = ap fractions_of e ∙ of xs
+fractions-push xs x e = ap fractions_of e ∙ of xs
   where
     of : (xs : List Frac) → fractions_of (xs ++ x ∷ []) ≡ fractions_of xs ++ fraction_of x ∷ []
     of [] = refl
@@ -87,11 +87,9 @@ pub identity_next : (n p i : ℕ) (form row more : List Frac) (x : Frac) → i <
     → fraction_of x ≡ cond (eqb i p) ℚ.one ℚ.zero → fractions_of more ≡ fractions_of form
     ++ take (i + 1) (unit_list n p)
 identity_next n p i form row more x l h e y =
-    fractions-push row more x e
-    ∙ ap₂ (λ a b. a ++ b ∷ []) h (y ∙ sym (identity-entry n p i l))
-    ∙ append_assoc (fractions_of form) (take i (unit_list n p)) (entries ℚ_field (unit_list n p) i
-    ∷ [])
-    ∙ ap (λ r. fractions_of form ++ r)
+    fractions-push row x e ∙ ap₂ (λ a b. a ++ b ∷ []) h (y ∙ sym (identity-entry n p i l))
+    ∙ append_assoc (fractions_of form) (take i (unit_list n p))
+    (entries ℚ_field (unit_list n p) i ∷ []) ∙ ap (λ r. fractions_of form ++ r)
     (sym (take-entry (unit_list n p) i (let e = unit-length n p in omega (arith, l, e)))
     ∙ ap (λ j. take j (unit_list n p)) (sym (add-one i)))
 
@@ -136,9 +134,9 @@ pub product_next : (n : ℕ) (row : List Fraction) (rows : List (List Fraction))
     → more ≡ out ++ x ∷ [] → fraction_of x ≡ sum_of_products ℚ row (numbers_at n rows)
     → IsProduct (n + 1) row rows (fractions_of more)
 product_next n row rows out more x h e y = record {
-  size = ap length (fractions-push out more x e)
+  size = ap length (fractions-push out x e)
       ∙ length-append (fractions_of out) (fraction_of x ∷ []) ∙ ap (λ k. k + 1) h.size;
-  each = λ j l. ap (λ r. entries ℚ_field r j) (fractions-push out more x e) ∙ at j (last j l);
+  each = λ j l. ap (λ r. entries ℚ_field r j) (fractions-push out x e) ∙ at j (last j l);
 }
   where
     last : (j : ℕ) → j < n + 1 → (j < n) ⊎ (j ≡ n)
@@ -152,19 +150,19 @@ product_next n row rows out more x h e y = record {
         omega (arith, q, s)) ∙ y ∙ ap (λ k. sum_of_products ℚ row (numbers_at k rows)) (sym q)
 
 -- of the same row and matrix, as calls give them
-pub product_at : (n m : ℕ) (row own : List Frac) (rows given : List (Vec Frac Global))
-    (out : List Fraction) → own ≡ row → given ≡ rows → m ≡ n
-    → IsProduct m (fractions_of own) (rows_of given) out
+pub product_at : {n m : ℕ} {row own : List Frac} {rows given : List (Vec Frac Global)}
+    {out : List Fraction}
+    → own ≡ row → given ≡ rows → m ≡ n → IsProduct m (fractions_of own) (rows_of given) out
     → IsProduct n (fractions_of row) (rows_of rows) out
-product_at n m row own rows given out e f g h =
+product_at {m = m} {row = row} {rows = rows} {given = given} {out = out} e f g h =
     subst (λ k. IsProduct k (fractions_of row) (rows_of rows) out) g
     (subst (λ l. IsProduct m (fractions_of row) (rows_of l) out) f
     (subst (λ l. IsProduct m (fractions_of l) (rows_of given) out) e h))
 
-pub past_row_at : (n m : ℕ) (row own : List Frac) (rows given : List (Vec Frac Global)) → own ≡ row
+pub past_row_at : {n m : ℕ} {row own : List Frac} {rows given : List (Vec Frac Global)} → own ≡ row
     → given ≡ rows → m ≡ n → IsPastRow m (fractions_of own) (rows_of given)
     → IsPastRow n (fractions_of row) (rows_of rows)
-past_row_at n m row own rows given e f g h =
+past_row_at {m = m} {row = row} {rows = rows} {given = given} e f g h =
     subst (λ k. IsPastRow k (fractions_of row) (rows_of rows)) g
     (subst (λ l. IsPastRow m (fractions_of row) (rows_of l)) f
     (subst (λ l. IsPastRow m (fractions_of l) (rows_of given)) e h))
@@ -222,7 +220,7 @@ low_at n (v ∷ items) h zero d l = (let e = fractions-length v.items in
     let w : length (fractions_of v.items) ≡ n + n = h.0 in omega (arith, e, w))
 low_at n (v ∷ items) h (suc k) d l = low_at n items h.1 k d (omega (arith, l))
 
-pub widths_low : (n : ℕ) (items : List (Vec Frac Global)) (rows : List (List Fraction))
+pub widths_low : (n : ℕ) (items : List (Vec Frac Global)) {rows : List (List Fraction)}
     → rows_of items ≡ rows → Each (λ row. length row ≡ n + n) rows
     → All (λ (v : Vec Frac Global). n ≤ length v.items) items
-widths_low n items rows e h = low_at n items (subst (Each (λ row. length row ≡ n + n)) (sym e) h)
+widths_low n items e h = low_at n items (subst (Each (λ row. length row ≡ n + n)) (sym e) h)

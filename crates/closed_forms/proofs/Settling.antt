@@ -83,9 +83,9 @@ module _ {images : List (Terms Fraction)} {g : List ℕ} {split : Split}
   values_count = sym (length-map split.values.items fraction_of) ∙ is.are.value_count
       ∙ sym forms_count
 
-  pub forms_few : (n : ℕ) → IsClass images g → length images ≡ n → n ≤ 12 → length split.forms.items
-      ≤ 12
-  forms_few n class e l = (let a = class_few images g class in let b = forms_count in
+  pub forms_few : {n : ℕ} → IsClass images g → length images ≡ n → n ≤ 12
+      → length split.forms.items ≤ 12
+  forms_few class e l = (let a = class_few images g class in let b = forms_count in
       omega (arith, a, b, e, l))
 
 -- ---- what is known where the forms of a class are made
@@ -149,7 +149,7 @@ module _ {bs : List ℕ} {images : List FracPoly} {g : List ℕ} {es : List Expo
   }
 
   pub group_low : All (λ j. j < length s.earlier.items) g
-  group_low = subst (λ n. All (λ j. j < n) g) (sym vars_is) (class_inside images g h.class)
+  group_low = subst (λ n. All (λ j. j < n) g) (sym vars_is) (class_inside images h.class)
 
   inverse_is : IsInverse (length g) forms back
   inverse_is =
@@ -206,20 +206,19 @@ module _ {bs : List ℕ} {images : List FracPoly} {g : List ℕ} {es : List Expo
         → (r : IsReady bs M z (zeros_of split) g (bodies_of es))
         → AreVariablesOf bs M (r.since + zeros_of split) g (bodies_of news)
     variables_turned news e r = λ a l.
-        variable_turned bs h.coprime.0 M is h.solvable g h.class z values (bodies_of es) r all forms
-        back h.splits.are inverse_is (terms_each done) own_count own a l
-        (poly_at (bodies_of news) a)
+        variable_turned bs h.coprime.0 M is h.solvable g h.class z values r all forms back
+        h.splits.are inverse_is (terms_each done) own_count own a l (poly_at (bodies_of news) a)
         (ap (λ ps. poly_at ps a) e ∙ map-at (λ row. variable_in bs row (terms_each done)) back a
         (let q = inverse_is.size in omega (arith, l, q)))
 
     pub past_rows : IsPastRowOf back (terms_each done) → IsPastClassOf bs M z g split (bodies_of es)
     past_rows past = variable_past back h.setting.back
-        (past_row bs h.coprime.0 M is h.solvable g h.class z values (bodies_of es) h.ready all forms
+        (past_row bs h.coprime.0 M is h.solvable g h.class z values h.ready all forms
         back h.splits.are inverse_is (terms_each done) own_count own past)
 
   pub past_forms : IsPastNextOf bs g s split → IsPastClassOf bs M z g split (bodies_of es)
   past_forms past = form_past back h.setting.back
-      (past_next bs h.coprime.0 M is h.solvable g h.class z values (bodies_of es) h.ready all forms
+      (past_next bs h.coprime.0 M is h.solvable g h.class z values h.ready all forms
       back h.splits.are inverse_is (subst IsPastNext parts_are past))
 
 -- ---- one form

@@ -61,30 +61,31 @@ not_zero x n = go (is_zero x) refl
     go true e = absurd (n ((zero_is x).0 e))
     go false e = e
 
-pub some_next : {E : Type 0} (r : Result Unit E) (old mid new : List Fraction)
-    (values rest : List Frac) (v : Frac) → values ≡ v ∷ rest → fraction_of v ≢ ℚ.zero
-    → mid ≡ old ++ fraction_of v ∷ [] → OnOk r (new ≡ mid ++ some_of (fractions_of rest))
+pub some_next : {E : Type 0} (r : Result Unit E) (old : List Fraction) {mid : List Fraction}
+    (new : List Fraction) (values rest : List Frac) (v : Frac)
+    → values ≡ v ∷ rest → fraction_of v ≢ ℚ.zero → mid ≡ old ++ fraction_of v ∷ []
+    → OnOk r (new ≡ mid ++ some_of (fractions_of rest))
     → OnOk r (new ≡ old ++ some_of (fractions_of values))
-some_next (Ok u) old mid new values rest v e n k h = h
+some_next (Ok u) old new values rest v e n k h = h
     ∙ ap (λ l. l ++ some_of (fractions_of rest)) k
     ∙ append_assoc old (fraction_of v ∷ []) (some_of (fractions_of rest))
     ∙ ap (λ l. old ++ l) (sym (ap (λ b. cond b (some_of (fractions_of rest))
     (fraction_of v ∷ some_of (fractions_of rest))) (not_zero (fraction_of v) n)))
     ∙ ap (λ l. old ++ some_of (fractions_of l)) (sym e)
-some_next (Err u) old mid new values rest v e n k h = tt
+some_next (Err u) old new values rest v e n k h = tt
 
-pub some_more : {E : Type 0} (r : Result Unit E) (old mid new : List Fraction)
-    (splits rest : List (Option Split)) (split : Split) → splits ≡ Some split ∷ rest
-    → mid ≡ old ++ some_of (fractions_of split.values.items)
+pub some_more : {E : Type 0} (r : Result Unit E) (old : List Fraction) {mid : List Fraction}
+    (new : List Fraction) (splits rest : List (Option Split)) (split : Split)
+    → splits ≡ Some split ∷ rest → mid ≡ old ++ some_of (fractions_of split.values.items)
     → OnOk r (new ≡ mid ++ some_of (values_in rest))
     → OnOk r (new ≡ old ++ some_of (values_in splits))
-some_more (Ok u) old mid new splits rest split e k h =
+some_more (Ok u) old new splits rest split e k h =
     let xs = fractions_of split.values.items in
     h ∙ ap (λ l. l ++ some_of (values_in rest)) k
     ∙ append_assoc old (some_of xs) (some_of (values_in rest))
     ∙ ap (λ l. old ++ l) (sym (some-append xs (values_in rest)))
     ∙ ap (λ l. old ++ some_of (values_in l)) (sym e)
-some_more (Err u) old mid new splits rest split e k h = tt
+some_more (Err u) old new splits rest split e k h = tt
 
 pub some_nonzero : (values : List Fraction) → Each (λ c. c ≢ ℚ.zero) (some_of values)
 unfolding Each
@@ -118,11 +119,12 @@ pub behind_none : (f : Fraction → ℕ) (old : List ℕ) (values : List Frac) �
 behind_none f old [] e = sym (append-nil old)
 behind_none f old (v ∷ values) e = absurd (omega (arith, e))
 
-pub behind_next : (f : Fraction → ℕ) (old mid new : List Whole) (values rest : List Frac) (v : Frac)
-    (w : Whole) → values ≡ v ∷ rest → mid ≡ old ++ w ∷ [] → unsigned_abs w.value ≡ f (fraction_of v)
+pub behind_next : (f : Fraction → ℕ) (old : List Whole) {mid : List Whole} (new : List Whole)
+    {values rest : List Frac} {v : Frac} (w : Whole)
+    → values ≡ v ∷ rest → mid ≡ old ++ w ∷ [] → unsigned_abs w.value ≡ f (fraction_of v)
     → sizes new ≡ sizes mid ++ map f (fractions_of rest)
     → sizes new ≡ sizes old ++ map f (fractions_of values)
-behind_next f old mid new values rest v w e k n h =
+behind_next f old {mid = mid} new {rest = rest} w e k n h =
     h ∙ ap (λ l. l ++ map f (fractions_of rest)) (sizes-push old mid w k)
     ∙ append_assoc (sizes old) (unsigned_abs w.value ∷ []) (map f (fractions_of rest))
     ∙ ap (λ x. sizes old ++ x ∷ map f (fractions_of rest)) n
@@ -135,18 +137,19 @@ unfolding Each
 head_nonzero values rest v e h = subst (λ l. Each (λ c. c ≢ ℚ.zero) (fractions_of l)) e h
 
 -- ---- all values
-pub values_are : (new old : List Frac) (vs : List Fraction) → fractions_of new ≡ fractions_of old
-    ++ vs → old ≡ [] → fractions_of new ≡ vs
-values_are new old vs h e = h ∙ ap (λ l. fractions_of l ++ vs) e
+pub values_are : (new : List Frac) {old : List Frac} (vs : List Fraction)
+    → fractions_of new ≡ fractions_of old ++ vs → old ≡ [] → fractions_of new ≡ vs
+values_are new vs h e = h ∙ ap (λ l. fractions_of l ++ vs) e
 
-pub positive_none : (ws : List Whole) → ws ≡ [] → ArePositive ws
-positive_none ws e = subst ArePositive (sym e) (λ k d l. absurd (omega (arith, l)))
+pub positive_none : {ws : List Whole} → ws ≡ [] → ArePositive ws
+positive_none e = subst ArePositive (sym e) (λ k d l. absurd (omega (arith, l)))
 
-pub sizes_are : (last mid old : List Whole) (values : List Frac) (vs : List Fraction) → old ≡ []
+pub sizes_are : (last mid : List Whole) {old : List Whole} (values : List Frac) (vs : List Fraction)
+    → old ≡ []
     → sizes mid ≡ sizes old ++ map (λ (c : Fraction). unsigned_abs c.num) (fractions_of values)
     → sizes last ≡ sizes mid ++ map (λ (c : Fraction). c.den) (fractions_of values)
     → fractions_of values ≡ vs → sizes last ≡ sizes_of vs
-sizes_are last mid old values vs e h k v = k
+sizes_are last mid values vs e h k v = k
     ∙ ap (λ l. l ++ map (λ (c : Fraction). c.den) (fractions_of values)) (h
     ∙ ap (λ l. sizes l ++ map (λ (c : Fraction). unsigned_abs c.num) (fractions_of values)) e)
     ∙ ap sizes_of v
@@ -161,13 +164,13 @@ unfolding fraction_of
 den_fits x z e = subst (λ y. unsigned_abs y < 2 ^ 127) (sym e) x.den.in_range
 
 -- and are the same where a call has them
-pub num_passed : (x : Frac) (z : ℤ) → z ≡ (fraction_of x).num → to_z w128 (of_z w128 z)
-    ≡ (fraction_of x).num
-num_passed x z e = to_z-of_z w128 z (fits_signed_from_abs w128 z (num_fits x z e)) ∙ e
+pub num_passed : (x : Frac) {z : ℤ} → z ≡ (fraction_of x).num
+    → to_z w128 (of_z w128 z) ≡ (fraction_of x).num
+num_passed x {z = z} e = to_z-of_z w128 z (fits_signed_from_abs w128 z (num_fits x z e)) ∙ e
 
-pub den_passed : (x : Frac) (z : ℤ) → z ≡ pos (fraction_of x).den → to_z w128 (of_z w128 z)
-    ≡ pos (fraction_of x).den
-den_passed x z e = to_z-of_z w128 z (fits_signed_from_abs w128 z (den_fits x z e)) ∙ e
+pub den_passed : (x : Frac) {z : ℤ} → z ≡ pos (fraction_of x).den
+    → to_z w128 (of_z w128 z) ≡ pos (fraction_of x).den
+den_passed x {z = z} e = to_z-of_z w128 z (fits_signed_from_abs w128 z (den_fits x z e)) ∙ e
 
 pub num_some : (x : Fraction) (z : ℤ) → z ≡ x.num → x ≢ ℚ.zero → z ≢ pos 0
 num_some x z e n h = n (top_zero x (sym e ∙ h))

@@ -89,10 +89,10 @@ module _ (images : List (Terms Fraction)) where
         (subst (λ i. In i h) (sym e) (first_in h q))
 
     -- ---- the class that begins with a variable
-    pub among_skip : (groups rest : List (List ℕ)) (g : List ℕ) (k : ℕ) (found : Option Split)
+    pub among_skip : {groups rest : List (List ℕ)} (g : List ℕ) (k : ℕ) (found : Option Split)
         → groups ≡ g ∷ rest → first_of g ≢ k → IsSplitAmong images rest k found
         → IsSplitAmong images groups k found
-    among_skip groups rest g k found e n h = subst (λ x. IsSplitAmong images x k found) (sym e)
+    among_skip g k found e n h = subst (λ x. IsSplitAmong images x k found) (sym e)
         (record {
           every = λ f inside first. elim inside [
             | inl q ↦ absurd (n (sym (ap first_of q) ∙ first))
@@ -101,11 +101,12 @@ module _ (images : List (Terms Fraction)) where
           only = λ split is_found. (let r = h.only split is_found in (r.0, inr r.1, r.2, r.3));
         })
 
-    pub among_here : (groups rest : List (List ℕ)) (g : List ℕ) (k : ℕ) (split : Split)
+    pub among_here : {groups : List (List ℕ)} (rest : List (List ℕ)) (g : List ℕ) (k : ℕ)
+        (split : Split)
         → groups ≡ g ∷ rest → Each (IsClass images) groups → first_of g ≡ k
         → IsSplitOf images g split → IsSplitAmong images groups k (Some split)
     unfolding Each
-    among_here groups rest g k split e all first h =
+    among_here rest g k split e all first h =
         subst (λ x. IsSplitAmong images x k (Some split)) (sym e) (record {
           every = λ f inside first_is. (
             split,
@@ -209,11 +210,11 @@ map_of images square = subst (λ n. IsMap n (terms_each images)) (sym (length_ea
     (is_map images square)
 
 -- the first of some classes, and the later ones
-pub this_class : (images : List (Terms Fraction)) (groups rest : List (Vec ℕ Global))
-    (g : Vec ℕ Global) → groups ≡ g ∷ rest → Each (IsClass images) (groups_in groups)
-    → IsClass images g.items
+pub this_class : (images : List (Terms Fraction)) {groups rest : List (Vec ℕ Global)}
+    {g : Vec ℕ Global}
+    → groups ≡ g ∷ rest → Each (IsClass images) (groups_in groups) → IsClass images g.items
 unfolding Each
-this_class images groups rest g e h = (subst (λ l. Each (IsClass images) (groups_in l)) e h).0
+this_class images e h = (subst (λ l. Each (IsClass images) (groups_in l)) e h).0
 
 pub later_classes : (images : List (Terms Fraction)) (groups rest : List (Vec ℕ Global))
     (g : Vec ℕ Global) → groups ≡ g ∷ rest → Each (IsClass images) (groups_in groups)
@@ -226,13 +227,13 @@ first_is [] x l e = absurd (omega (arith, l))
 first_is (i ∷ g) x l e = e
 
 -- as indexing reads it
-pub first_read : (g : List ℕ) (x : ℕ) → 0 < length g → x ≡ get_or g 0 x → x ≡ first_of g
-first_read [] x l e = absurd (omega (arith, l))
-first_read (i ∷ g) x l e = e
+pub first_read : (g : List ℕ) {x : ℕ} → 0 < length g → x ≡ get_or g 0 x → x ≡ first_of g
+first_read [] l e = absurd (omega (arith, l))
+first_read (i ∷ g) l e = e
 
-pub class_inside : (images : List FracPoly) (g : List ℕ) → IsClass (terms_each images) g
+pub class_inside : (images : List FracPoly) {g : List ℕ} → IsClass (terms_each images) g
     → All (λ i. i < length images) g
-class_inside images g class =
+class_inside images {g = g} class =
     go g (λ j i. subst (λ n. j < n) (length_each images) (class.is.inside j i).0)
   where
     go : (g : List ℕ) → ((j : ℕ) → In j g → j < length images) → (k : ℕ) (d : ℕ) → k < length g
@@ -241,14 +242,14 @@ class_inside images g class =
     go (j ∷ g) h zero d l = h j (inl refl)
     go (j ∷ g) h (suc k) d l = go g (λ i e. h i (inr e)) k d (omega (arith, l))
 
-rows_widths : (xs : List (Vec Frac Global)) (rows : List (List Fraction)) (n : ℕ)
+rows_widths : (xs : List (Vec Frac Global)) {rows : List (List Fraction)} (n : ℕ)
     → rows_of xs ≡ rows → Each (λ (row : List Fraction). length row ≡ n) rows
     → (k : ℕ) (d : Vec Frac Global) → k < length xs → length (get_or xs k d).items ≡ n
 unfolding Each
-rows_widths [] rows n e h k d l = absurd (omega (arith, l))
-rows_widths (x ∷ xs) rows n e h zero d l = sym (length-map x.items _)
+rows_widths [] n e h k d l = absurd (omega (arith, l))
+rows_widths (x ∷ xs) n e h zero d l = sym (length-map x.items _)
     ∙ (subst (Each (λ (row : List Fraction). length row ≡ n)) (sym e) h).0
-rows_widths (x ∷ xs) rows n e h (suc k) d l = rows_widths xs (rows_of xs) n refl
+rows_widths (x ∷ xs) n e h (suc k) d l = rows_widths xs n refl
     (subst (Each (λ (row : List Fraction). length row ≡ n)) (sym e) h).1 k d (omega (arith, l))
 
 mapped_widths : (f : ℕ → List Fraction) (n : ℕ) → ((i : ℕ) → length (f i) ≡ n) → (g : List ℕ)
@@ -260,7 +261,7 @@ mapped_widths f n h (i ∷ g) = (h i, mapped_widths f n h g)
 pub widths_all : (xs : List (Vec Frac Global)) (rows : List (List Fraction)) (n : ℕ)
     → rows_of xs ≡ rows → Each (λ (row : List Fraction). length row ≡ n) rows
     → All (λ (row : Vec Frac Global). length row.items ≡ n) xs
-widths_all xs rows n e h = rows_widths xs rows n e h
+widths_all xs rows n e h = rows_widths xs n e h
 
 module _ (images : List (Terms Fraction)) (g : List ℕ) (xs : List (Vec Frac Global))
     (is : rows_of xs ≡ class_matrix images g) where
@@ -275,7 +276,7 @@ module _ (images : List (Terms Fraction)) (g : List ℕ) (xs : List (Vec Frac Gl
       (λ i. length-map g (λ j. coefficient ℚ (poly_at images i) (unit (length images) j))) g
 
   pub matrix_wide : All (λ (row : Vec Frac Global). length row.items ≡ length g) xs
-  matrix_wide = rows_widths xs (class_matrix images g) (length g) is matrix-widths
+  matrix_wide = rows_widths xs (length g) is matrix-widths
 
   pub matrix_square : All (λ (row : Vec Frac Global). length row.items ≡ length xs) xs
   matrix_square = λ k d l. matrix_wide k d l ∙ sym matrix_count

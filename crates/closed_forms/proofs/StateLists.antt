@@ -108,11 +108,9 @@ image_next state images out more i image p some over l is e a s h =
     let m = length state in
     let S = terms_each state in
     let at = arity_of_is m state some over in
-    ap terms_each e ∙ map_push terms_in out p
-    ∙ ap₂ (λ ps q. ps ++ q ∷ []) h
-    (poly_is m p (compose ℚ m (terms_in image) S)
-    (arity-compose m ℚ (terms_in image) S (polys_arity m state over)) (a ∙ at)
-    (subst (λ n. Same ℚ (terms_in p) (compose ℚ n (terms_in image) S)) at s))
+    ap terms_each e ∙ map_push terms_in out p ∙ ap₂ (λ ps q. ps ++ q ∷ []) h (poly_is p _
+    (arity-compose m ℚ (terms_in image) S (polys_arity m state over)) (a ∙ at) (subst (λ n. Same ℚ
+    (terms_in p) (compose ℚ n (terms_in image) S)) at s))
     ∙ sym (take_next (turned m S) images i image l is)
 
 turned_each : (m : ℕ) (state : List (Terms Fraction)) (images : List FracPoly)
@@ -167,10 +165,10 @@ module _ (M : List (Terms Fraction)) (n : ℕ) (found : List (Vec FracPoly Globa
       (terms_each v.items) (omega (arith, l, c)))
       ∙ ap (λ l. get_or l i (terms_each v.items)) are ∙ states_get M n i (terms_each v.items) l
 
-  pub states_next : (more : List (Vec FracPoly Global)) (v : Vec FracPoly Global)
+  pub states_next : {more : List (Vec FracPoly Global)} (v : Vec FracPoly Global)
       → more ≡ found ++ v ∷ [] → terms_each v.items ≡ after M (suc n)
       → told more ≡ states_to M (n + 1)
-  states_next more v e h =
+  states_next v e h =
       ap told e ∙ map_push (λ (x : Vec FracPoly Global). terms_each x.items) found v
       ∙ ap₂ (λ xs x. xs ++ x ∷ []) are h
       ∙ ap (states_to M) (let k : suc n ≡ n + 1 = omega arith in k)

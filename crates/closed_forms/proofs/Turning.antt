@@ -90,7 +90,7 @@ module _ (base : List ℕ) (c : Coprime base) (images : List (Terms Fraction))
       ≡ rests_at images g y
   rest-values y = map-map (λ p. value_at ℚ p y) (λ i. rest_of g (poly_at images i)) g
 
-  module _ (z : ℕ) (values : List Fraction) (ps : List (Terms Fraction))
+  module _ (z : ℕ) (values : List Fraction) {ps : List (Terms Fraction)}
       (ready : IsReady base images z (zeros_in values) g ps) (all : AllArity w ps) where
     abbrev a : Ahead
     a = ahead_of images g z
@@ -98,10 +98,8 @@ module _ (base : List ℕ) (c : Coprime base) (images : List (Terms Fraction))
     both-arity : (cs by : List Fraction) (done : List (Terms Fraction)) → Each (Arity w) done
         → Arity w (both base m cs (rests_in images g) ps by done)
     both-arity cs by done d =
-        collected-arity w (part_by_forms base m cs (rests_in images g) ps ++ part by done)
-        (each-append (λ (t : List ℕ × Fraction). length t.0 ≡ w)
-        (part_by_forms base m cs (rests_in images g) ps) (part by done)
-        (collected-arity w (compose ℚ w (part cs (rests_in images g)) ps)
+        collected-arity w _ (each-append (λ (t : List ℕ × Fraction). length t.0 ≡ w) _
+        (part by done) (collected-arity w _
         (arity-compose w ℚ (part cs (rests_in images g)) ps all))
         (collected-arity w (mix by done) (mix-arity w by done d)))
 
@@ -110,10 +108,8 @@ module _ (base : List ℕ) (c : Coprime base) (images : List (Terms Fraction))
         → (q : Terms Fraction) → q ≡ inhomogeneity_in base m cs (rests_in images g) ps by done
         → Arity w q
     inhomogeneity-arity cs by done d q e =
-        subst (Arity w) (sym e)
-        (collected-arity w (with_normal_keys r (both base m cs (rests_in images g) ps by done))
-        (normalized-arity base m (both base m cs (rests_in images g) ps by done)
-        (both-arity cs by done d)))
+        subst (Arity w) (sym e) (collected-arity w _
+        (normalized-arity base m _ (both-arity cs by done d)))
 
     inhomogeneity_value : (cs by : List Fraction) (done : List (Terms Fraction))
         → Each (Arity w) done
@@ -125,17 +121,14 @@ module _ (base : List ℕ) (c : Coprime base) (images : List (Terms Fraction))
     inhomogeneity_value cs by done d q e n s l late =
         let x = point base n s in
         let rests = rests_in images g in
-        ap (λ p. value_at ℚ p x) e
-        ∙ collected_value (with_normal_keys r (both base m cs rests ps by done)) x
-        ∙ normal-value base c m (both base m cs rests ps by done) (both-arity cs by done d) n s
-        ∙ collected_value (part_by_forms base m cs rests ps ++ part by done) x
-        ∙ value_at-append ℚ_ring (part_by_forms base m cs rests ps) (part by done) x
-        ∙ ap₂ ℚ.add
-        (collected_value (compose ℚ w (part cs rests) ps) x
-        ∙ rests_turned base images ready.since is ready.earlier ready.first g ready.next
-        ready.class ps ready.turned n s l late cs (part cs rests) w
-        (λ y. part_value cs rests y ∙ ap (sum_of_products ℚ cs) (rest-values y)))
-        (part_value by done x)
+        ap (λ p. value_at ℚ p x) e ∙ collected_value
+        (with_normal_keys r (both base m cs rests ps by done)) x ∙ normal-value base c m _
+        (both-arity cs by done d) n s ∙ collected_value
+        (part_by_forms base m cs rests ps ++ part by done) x ∙ value_at-append ℚ_ring
+        (part_by_forms base m cs rests ps) (part by done) x ∙ ap₂ ℚ.add (collected_value (compose ℚ
+        w (part cs rests) ps) x ∙ rests_turned base images ready.since is ready.earlier ready.first
+        g ready.next ready.class ps ready.turned n s l late cs (part cs rests) w (λ y. part_value cs
+        rests y ∙ ap (sum_of_products ℚ cs) (rest-values y))) (part_value by done x)
 
     module _ (forms back : List (List Fraction))
         (are : AreForms (length g) (class_matrix images g) forms values)
@@ -193,22 +186,18 @@ module _ (base : List ℕ) (c : Coprime base) (images : List (Terms Fraction))
         at_later some form =
             let meets : d + (z - d) ≡ z = omega (arith, early) in
             later_form base images d is solvable g class forms back values are inverse k l done
-            count
-            known h.is.is_by.turned h.is.by first second h.inhomogeneity inhomogeneity_is some
-            (λ s. value_at ℚ y (point base 0 s)) y
-            (later_recurs base m v z (part own a.state) h.inhomogeneity y form) (z - d)
-            (subst (λ n. HasValueAfter base images g own n y) (sym meets)
-            (record {
-              is = λ s b. later_there base m v z (part own a.state) h.inhomogeneity y form some s b
+            count known h.is.is_by.turned h.is.by first second h.inhomogeneity inhomogeneity_is some
+            _ y (later_recurs base m v z y form) (z - d) (subst (λ n. HasValueAfter base images g
+            own n y) (sym meets) (record {
+              is = λ s b. later_there base m v z y form some s b
                   ∙ ahead_value images own g low z s b;
             }))
 
         at_zero : v ≡ ℚ.zero → IsOneLater base m h.inhomogeneity y → Turned (suc d)
         at_zero nothing form =
             zero_form base images d is solvable g class forms back values are inverse k l done count
-            known h.is.is_by.turned h.is.by first second h.inhomogeneity inhomogeneity_is nothing
-            (λ s. value_at ℚ y (point base 0 s)) y
-            (one_later_recurs base m v h.inhomogeneity y nothing form)
+            known h.is.is_by.turned h.is.by first second h.inhomogeneity inhomogeneity_is nothing _
+            y (one_later_recurs base m v h.inhomogeneity y nothing form)
 
         next_turned : Turned (d + zeros_in (v ∷ []))
         next_turned = go h.made

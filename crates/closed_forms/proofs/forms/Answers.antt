@@ -29,28 +29,23 @@ returns-in-Ok-clause-least c = IfOk-weaker c.form.result _ _ (λ form h. h.least
 
 pub returns-in-Ok-clause-normal : goal.returns-in-Ok-clause-normal
 returns-in-Ok-clause-normal c = IfOk-weaker c.form.result _ _
-    (normal_in c.args.images.now.items)
-    (told (goal.at.returns-in-Ok-clause-normal c).After-form)
+    (normal_in _) (told (goal.at.returns-in-Ok-clause-normal c).After-form)
 
 pub returns-in-Ok-clause-over : goal.returns-in-Ok-clause-over
 returns-in-Ok-clause-over c = IfOk-weaker c.form.result _ _
-    (over_in c.args.images.now.items)
-    (told (goal.at.returns-in-Ok-clause-over c).After-form)
+    (over_in _) (told (goal.at.returns-in-Ok-clause-over c).After-form)
 
 pub returns-in-Ok-clause-count : goal.returns-in-Ok-clause-count
 returns-in-Ok-clause-count c = IfOk-weaker c.form.result _ _
-    (count_in c.args.images.now.items)
-    (told (goal.at.returns-in-Ok-clause-count c).After-form)
+    (count_in _) (told (goal.at.returns-in-Ok-clause-count c).After-form)
 
 pub returns-in-Ok-clause-told : goal.returns-in-Ok-clause-told
 returns-in-Ok-clause-told c = IfOk-weaker c.form.result _ _
-    (told_in c.args.images.now.items)
-    (told (goal.at.returns-in-Ok-clause-told c).After-form)
+    (told_in _) (told (goal.at.returns-in-Ok-clause-told c).After-form)
 
 pub returns-in-Ok-clause-passes : goal.returns-in-Ok-clause-passes
 returns-in-Ok-clause-passes c = IfOk-weaker c.form.result _ _
-    (passes_in c.args.images.now.items)
-    (told (goal.at.returns-in-Ok-clause-passes c).After-form)
+    (passes_in _) (told (goal.at.returns-in-Ok-clause-passes c).After-form)
 
 pub returns-in-Ok-clause-short : goal.returns-in-Ok-clause-short
 returns-in-Ok-clause-short c = IfOk-weaker c.form.result _ _ (λ form h. h.short)
@@ -62,8 +57,7 @@ returns-in-Ok-clause-early c = IfOk-weaker c.form.result _ _ (λ form h. h.early
 
 pub returns-in-Ok-clause-few : goal.returns-in-Ok-clause-few
 returns-in-Ok-clause-few c = IfOk-weaker c.form.result _ _
-    (few_in c.args.images.now.items)
-    (told (goal.at.returns-in-Ok-clause-few c).After-form)
+    (few_in _) (told (goal.at.returns-in-Ok-clause-few c).After-form)
 
 pub returns-in-Ok-clause-solvable : goal.returns-in-Ok-clause-solvable
 returns-in-Ok-clause-solvable c = λ ok. subst (λ (v : Vec FracPoly Global).
@@ -74,13 +68,12 @@ returns-in-Ok-clause-pass c = λ ok.
     let w = c.in-Ok.work in
     let is = c.in-Ok.ensures.work in
     subst (λ (v : Vec FracPoly Global). AllPass (terms_each v.items)) c.in-Ok.ensures.images
-    (all_pass w.images.now.items is.square w.splits.items is.splits)
+    (all_pass _ is.square is.splits)
 
 pub returns-in-Ok-clause-refused : goal.returns-in-Ok-clause-refused
 returns-in-Ok-clause-refused c =
     let w = c.in-Ok.work in
     let is = c.in-Ok.ensures.work in
     subst (λ (v : Vec FracPoly Global). IfErr c.form.result (IfRefusedBy (terms_each v.items)))
-    c.in-Ok.ensures.images
-    (IfErr-weaker c.form.result _ _ (refused_later (images_in w) is.solvable
-    (all_pass w.images.now.items is.square w.splits.items is.splits)) c.form.ensures.refused)
+    c.in-Ok.ensures.images (IfErr-weaker _ _ _ (refused_later (images_in w) is.solvable
+    (all_pass _ is.square is.splits)) c.form.ensures.refused)

@@ -10,28 +10,22 @@ use Rattle.closed_forms.proofs.base.+push_denominators.Goals as goal
 
 pub returns-in_default-clause-sizes : goal.returns-in_default-clause-sizes
 returns-in_default-clause-sizes t c = behind_none (λ (x : Fraction). x.den)
-    (sizes c.args.out.now.items) c.args.values.now c.in_default.ensures.cases
+    (sizes c.args.out.now.items) _ c.in_default.ensures.cases
 
 pub size_of-requires : goal.size_of-requires
-size_of-requires t c = den_fits c.in-Some.value.now _ (den_passed c.in-Some.value.now c.den.result
+size_of-requires t c = den_fits c.in-Some.value.now _ (den_passed c.in-Some.value.now
     c.den.ensures)
 
 pub returns-clause-sizes : goal.returns-clause-sizes
 returns-clause-sizes t c =
-    on_ok_where c.push_denominators.result _ _
-    (behind_next (λ (x : Fraction). x.den) c.args.out.now.items c.push.new.self.items
-    c.push_denominators.new.out.items c.args.values.now c.in-Some.values.now
-    c.in-Some.value.now c.size_of.result
-    c.in-Some.ensures.cases.0 c.in_ok-push.ensures.items (c.size_of.ensures.size
-    ∙ ap unsigned_abs (den_passed c.in-Some.value.now c.den.result c.den.ensures)))
+    on_ok_where c.push_denominators.result _ _ (behind_next (λ (x : Fraction). x.den) _ _
+    c.size_of.result c.in-Some.ensures.cases.0 c.in_ok-push.ensures.items
+    (c.size_of.ensures.size ∙ ap unsigned_abs (den_passed c.in-Some.value.now c.den.ensures)))
     c.push_denominators.ensures.sizes
 
 pub returns-clause-positive : goal.returns-clause-positive
 returns-clause-positive t c =
-    on_ok_where c.push_denominators.result _ _
-    (λ h old.
-    h (have_more (λ (w : Whole). pos 0 <ℤ w.value) c.args.out.now.items c.push.new.self.items
-    c.size_of.result c.in_ok-push.ensures.items old
+    on_ok_where c.push_denominators.result _ _ (λ h old. h (have_more (λ (w : Whole). pos 0
+    <ℤ w.value) _ _ _ c.in_ok-push.ensures.items old
     (c.size_of.ensures.positive (den_some (fraction_of c.in-Some.value.now) _
-    (den_passed c.in-Some.value.now c.den.result c.den.ensures)))))
-    c.push_denominators.ensures.positive
+    (den_passed c.in-Some.value.now c.den.ensures))))) c.push_denominators.ensures.positive

@@ -9,9 +9,7 @@ returns-in_default t c = values_none (fractions_of c.args.out.now.items) c.args.
     c.in_default.ensures.cases
 
 pub returns-in_ok-push_some-in-Some-first : goal.returns-in_ok-push_some-in-Some-first
-returns-in_ok-push_some-in-Some-first t c = some_more c.push_values-in-Some-first.result
-    (fractions_of c.args.out.now.items) (fractions_of c.push_some.new.out.items)
-    (fractions_of c.push_values-in-Some-first.new.out.items) c.args.splits.now
+returns-in_ok-push_some-in-Some-first t c = some_more _ _ _ c.args.splits.now
     c.in-Some.splits.now c.in-Some-first.split
     (c.in-Some.ensures.cases.0 ∙ ap (λ x. x ∷ c.in-Some.splits.now) c.in-Some-first.is)
     (c.in_ok-push_some-in-Some-first.ensures ∙ ap (λ l. fractions_of c.args.out.now.items

@@ -14,48 +14,39 @@ use Rattle.closed_forms.proofs.base.base_of.Goals as goal
 pub base-requires : goal.base-requires
 base-requires c =
     let vs = some_of (values_in c.args.splits.now) in
-    let is = values_are c.push_values.new.out.items c.new-values.result.items vs
-    c.in_ok-push_values.ensures c.new-values.ensures.items in
+    let is = values_are _ vs c.in_ok-push_values.ensures c.new-values.ensures.items in
     c.in_ok-push_denominators.ensures.positive
-    (c.in_ok-push_numerators.ensures.positive (positive_none c.new-sizes.result.items
-    c.new-sizes.ensures.items)
+    (c.in_ok-push_numerators.ensures.positive (positive_none c.new-sizes.ensures.items)
     (subst (Each (λ c. c ≢ ℚ.zero)) (sym (ap fractions_of c.as_slice.ensures.value ∙ is))
     (some_nonzero (values_in c.args.splits.now))))
 
 pub returns-clause-base : goal.returns-clause-base
 returns-clause-base c =
     let vs = some_of (values_in c.args.splits.now) in
-    let seen = values_are c.push_values.new.out.items c.new-values.result.items vs
-    c.in_ok-push_values.ensures c.new-values.ensures.items in
+    let seen = values_are _ vs c.in_ok-push_values.ensures c.new-values.ensures.items in
     IfOk-weaker c.base.result _ _ (λ found is. subst (λ list. IsTheBase list (sizes found.items))
-    (sizes_are c.push_denominators.new.out.items c.push_numerators.new.out.items
-    c.new-sizes.result.items c.push_values.new.out.items vs c.new-sizes.ensures.items
+    (sizes_are _ _ _ vs c.new-sizes.ensures.items
     (c.in_ok-push_numerators.ensures.sizes ∙ ap (λ (l : List Frac). sizes c.new-sizes.result.items
-    ++ map (λ (x : Fraction). unsigned_abs x.num) (fractions_of l))
-    c.as_slice.ensures.value)
-    (c.in_ok-push_denominators.ensures.sizes
-    ∙ ap (λ (l : List Frac). sizes c.push_numerators.new.out.items ++ map (λ (x : Fraction).
-    x.den) (fractions_of l)) c.as_slice-2.ensures.value) seen) is) c.base.ensures.base
+    ++ map (λ (x : Fraction). unsigned_abs x.num) (fractions_of l)) c.as_slice.ensures.value)
+    (c.in_ok-push_denominators.ensures.sizes ∙ ap (λ (l : List Frac). sizes
+    c.push_numerators.new.out.items ++ map (λ (x : Fraction). x.den) (fractions_of l))
+    c.as_slice-2.ensures.value) seen) is) c.base.ensures.base
 
 pub returns-clause-few : goal.returns-clause-few
 returns-clause-few c =
     let vs = some_of (values_in c.args.splits.now) in
-    let is = values_are c.push_values.new.out.items c.new-values.result.items vs
-    c.in_ok-push_values.ensures c.new-values.ensures.items in
+    let is = values_are _ vs c.in_ok-push_values.ensures c.new-values.ensures.items in
     let few = some_few (values_in c.args.splits.now) in
     let positive = c.in_ok-push_denominators.ensures.positive
-    (c.in_ok-push_numerators.ensures.positive (positive_none c.new-sizes.result.items
-    c.new-sizes.ensures.items)
+    (c.in_ok-push_numerators.ensures.positive (positive_none c.new-sizes.ensures.items)
     (subst (Each (λ c. c ≢ ℚ.zero)) (sym (ap fractions_of c.as_slice.ensures.value ∙ is))
     (some_nonzero (values_in c.args.splits.now)))) in
-    let all = sizes_are c.push_denominators.new.out.items c.push_numerators.new.out.items
-    c.new-sizes.result.items c.push_values.new.out.items vs c.new-sizes.ensures.items
+    let all = sizes_are _ _ _ vs c.new-sizes.ensures.items
     (c.in_ok-push_numerators.ensures.sizes ∙ ap (λ (l : List Frac). sizes c.new-sizes.result.items
-    ++ map (λ (x : Fraction). unsigned_abs x.num) (fractions_of l))
-    c.as_slice.ensures.value)
-    (c.in_ok-push_denominators.ensures.sizes
-    ∙ ap (λ (l : List Frac). sizes c.push_numerators.new.out.items ++ map (λ (x : Fraction).
-    x.den) (fractions_of l)) c.as_slice-2.ensures.value) is in
+    ++ map (λ (x : Fraction). unsigned_abs x.num) (fractions_of l)) c.as_slice.ensures.value)
+    (c.in_ok-push_denominators.ensures.sizes ∙ ap (λ (l : List Frac). sizes
+    c.push_numerators.new.out.items ++ map (λ (x : Fraction). x.den) (fractions_of l))
+    c.as_slice-2.ensures.value) is in
     let size : length vs ≤ 12 = omega (arith, few, c.requires.few) in
-    IfOk-weaker c.base.result _ _ (λ found found_is. few_sizes c.push_denominators.new.out.items
+    IfOk-weaker c.base.result _ _ (λ found found_is. few_sizes _
     found.items vs size all positive found_is) c.base.ensures.base

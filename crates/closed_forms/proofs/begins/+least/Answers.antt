@@ -68,10 +68,8 @@ returns-else-has_any-clause-settled t c = λ images base h.
 pub returns-else-has_any-clause-refused : goal.returns-else-has_any-clause-refused
 returns-else-has_any-clause-refused t c = λ images base h.
     let at = (goal.at.returns-else-has_any-clause-refused t c).After-has_any in
-    IfErr-weaker c.least.result _ _
-    (of_class (IsWideIteration base images (c.args.since - 1))
-    (IsWideIteration base images c.args.since)
-    (λ v. wide_before (one t at images base h)))
+    IfErr-weaker _ _ _ (of_class (IsWideIteration base images (c.args.since - 1))
+    (IsWideIteration base images c.args.since) (λ v. wide_before (one t at images base h)))
     (c.least.ensures.refused images base (before t at images base h
     (c.has_any.ensures.none c.if-has_any.false)))
 

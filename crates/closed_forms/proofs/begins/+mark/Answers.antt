@@ -12,15 +12,14 @@ pub mark_class-requires-clause-inside : goal.mark_class-requires-clause-inside
 mark_class-requires-clause-inside t c =
     subst (λ g. All (λ i. i < length c.args.polys.now) g) (sym c.as_slice-group.ensures.value)
     (head_all (λ (g : Vec ℕ Global). All (λ i. i < length c.args.polys.now) g.items)
-    c.args.groups.now c.in-Some.groups.now c.in-Some.group.now c.in-Some.ensures.cases.0
-    c.requires.inside)
+    c.in-Some.ensures.cases.0 c.requires.inside)
 
 pub mark-requires : goal.mark-requires
 mark-requires t c = (
   search rules,
   (
     tail_all (λ (g : Vec ℕ Global). All (λ i. i < length c.args.polys.now) g.items)
-        c.args.groups.now c.in-Some.groups.now c.in-Some.group.now c.in-Some.ensures.cases.0
+        c.in-Some.ensures.cases.0
         c.requires.inside,
     (c.requires.alike, c.in-Ok.ensures.count),
   ),
@@ -28,21 +27,19 @@ mark-requires t c = (
 
 pub returns-in-Ok-clause-kept : goal.returns-in-Ok-clause-kept
 returns-in-Ok-clause-kept t c = on_ok_where c.mark.result _ _
-    (λ h. kept_both c.args.polys.now c.args.iterations (terms_each c.args.state.now)
-    c.args.marks.now.items c.mark_class.new.marks.items c.mark.new.marks.items
+    (λ h. kept_both c.args.polys.now c.args.iterations (terms_each c.args.state.now) _ _ _
     c.in-Ok.ensures.kept h) c.mark.ensures.kept
 
 pub returns-in-Ok-clause-marked : goal.returns-in-Ok-clause-marked
-returns-in-Ok-clause-marked t c = both c.mark.result _ _ _
+returns-in-Ok-clause-marked t c = both _ _ _ _
     (λ k h. groups_first c.args.polys.now c.args.iterations (terms_each c.args.state.now)
-    (groups_in c.args.groups.now) (groups_in c.in-Some.groups.now) c.as_slice-group.result.now
-    c.mark_class.new.marks.items c.mark.new.marks.items
-    (ap groups_in c.in-Some.ensures.cases.0
-    ∙ ap (λ x. x ∷ groups_in c.in-Some.groups.now) (sym c.as_slice-group.ensures.value))
-    c.in-Ok.ensures.marked k h) c.mark.ensures.kept c.mark.ensures.marked
+    (groups_in c.in-Some.groups.now) c.as_slice-group.result.now _ c.mark.new.marks.items
+    (ap groups_in c.in-Some.ensures.cases.0 ∙ ap (λ x. x ∷ groups_in c.in-Some.groups.now)
+    (sym c.as_slice-group.ensures.value)) c.in-Ok.ensures.marked k h) c.mark.ensures.kept
+    c.mark.ensures.marked
 
 pub returns-in-Ok-clause-refused : goal.returns-in-Ok-clause-refused
-returns-in-Ok-clause-refused t c = IfErr-weaker c.mark.result _ _
+returns-in-Ok-clause-refused t c = IfErr-weaker _ _ _
     (λ e h. of_class
     (IsPastOfClass (groups_in c.in-Some.groups.now) c.args.polys.now c.args.iterations)
     (IsPastOfClass (groups_in c.args.groups.now) c.args.polys.now c.args.iterations)

@@ -6,7 +6,7 @@ use Rattle.closed_forms.proofs.Ending.{of_class}
 use Rattle.closed_forms.proofs.begins.passing.Goals as goal
 
 pub returns-clause-refused : goal.returns-clause-refused
-returns-clause-refused c = IfErr-weaker c.apart.result _ _
+returns-clause-refused c = IfErr-weaker _ _ _
     (of_class (IsPastOfClass (groups_in c.args.groups.now) c.args.polys.now 0)
     (λ v. (c.args.since ≢ 0) × IsPastOfClass (groups_in c.args.groups.now) c.args.polys.now 0 v)
     (λ v w. (c.if-since-eq0.false, w))) c.apart.ensures.refused

@@ -13,7 +13,7 @@ loop-poly-preserved c =
     let i = c.loop-poly.poly-index in
     let out = c.loop-poly.out.items in
     let p = c.in_ok-copy.field-0 in (
-      λ w h. All-same (λ (p : FracPoly). p.arity ≡ w) c.push.new.self.items _
+      λ w h. All-same (λ (p : FracPoly). p.arity ≡ w) _ _
           c.in_ok-push.ensures.items
           (All-push (λ (p : FracPoly). p.arity ≡ w) out p (c.loop-poly.invariant.0 w h)
           (body_arity es i w c.poly-item.result p c.loop-poly-test.true c.poly-item.is
@@ -25,4 +25,4 @@ loop-poly-preserved c =
 
 pub returns-clause-terms : goal.returns-clause-terms
 returns-clause-terms c = c.loop-poly.invariant.1
-    ∙ ap bodies_of (take_all c.loop-poly.poly-index c.args.polys.now c.loop-poly-test.false)
+    ∙ ap bodies_of (take_all _ _ c.loop-poly-test.false)

@@ -21,13 +21,12 @@ use Rattle.closed_forms.proofs.class.variables.Goals.{After-width}
 
 width_is : (c : After-width) → c.width.result ≡ width (length (sizes c.args.base.now.items))
     c.args.vars
-width_is c = c.width.ensures ∙ base_width c.args.base.now.items c.len.result c.args.vars
+width_is c = c.width.ensures ∙ base_width _ c.args.vars
     (c.len.ensures ∙ c.args.base.now.ok.0)
 
 pub width-requires : goal.width-requires
 width-requires c =
-    let e = base_width c.args.base.now.items c.len.result c.args.vars
-    (c.len.ensures ∙ c.args.base.now.ok.0) in
+    let e = base_width _ c.args.vars (c.len.ensures ∙ c.args.base.now.ok.0) in
     let few = c.requires.few in
     omega (arith, e, few)
 
@@ -44,11 +43,9 @@ weighted_sum-requires-clause-arities c =
 
 pub returns-in_err-sum-clause-wide : goal.returns-in_err-sum-clause-wide
 returns-in_err-sum-clause-wide c = handed_on c.in_err-sum.field-0.0 c.from_residual.result
-    c.from_residual.ensures.1
-    (λ w. row_past c.args.back.now c.loop-row.row-index c.row-item.result
-    (terms_each c.args.forms.now) c.loop-row-test.true c.row-item.is
-    (inl (subst (λ r. IsPastMix (fractions_of r) (terms_each c.args.forms.now))
-    c.deref.ensures.value (c.in_err-sum.ensures.wide w))))
+    c.from_residual.ensures.1 (λ w. row_past c.args.back.now _ (terms_each c.args.forms.now)
+    c.loop-row-test.true c.row-item.is (inl (subst (λ r. IsPastMix (fractions_of r)
+    (terms_each c.args.forms.now)) c.deref.ensures.value (c.in_err-sum.ensures.wide w))))
 
 pub returns-in_err-normal-clause-wide : goal.returns-in_err-normal-clause-wide
 returns-in_err-normal-clause-wide c =
@@ -56,10 +53,9 @@ returns-in_err-normal-clause-wide c =
     let sum_is : terms_in c.in_ok-sum.sum ≡ part (fractions_of c.row-item.result.items) forms =
     c.in_ok-sum.ensures.terms ∙ ap (λ r. part (fractions_of r) forms) c.deref.ensures.value in
     handed_on c.in_err-normal.field-0.0 c.from_residual-in_err-normal.result
-    c.from_residual-in_err-normal.ensures.1
-    (λ w. row_past c.args.back.now c.loop-row.row-index c.row-item.result forms c.loop-row-test.true
-    c.row-item.is
-    (inr (subst (λ q. IsPast (weight fraction_size q)) sum_is (c.in_err-normal.ensures.wide w))))
+    c.from_residual-in_err-normal.ensures.1 (λ w. row_past c.args.back.now _ forms
+    c.loop-row-test.true c.row-item.is (inr (subst (λ q. IsPast (weight fraction_size q)) sum_is
+    (c.in_err-normal.ensures.wide w))))
 
 pub loop-row-preserved : goal.loop-row-preserved
 loop-row-preserved c =
@@ -74,8 +70,8 @@ loop-row-preserved c =
     let arity = c.in_ok-sum.ensures.arity
     ∙ width_is (goal.at.loop-row-preserved c).After-width in (
       ap length more ∙ length_push out e ∙ ap (λ k. k + 1) c.loop-row.invariant.0,
-      All-same (IsExpoOver bs m) c.push.new.self.items _ more (All-push (IsExpoOver bs m) out e
-          c.loop-row.invariant.1 (normal_over bs _ m _ e arity c.in_ok-normal.ensures.normal)),
+      All-same (IsExpoOver bs m) _ _ more (All-push (IsExpoOver bs m) out e
+          c.loop-row.invariant.1 (normal_over bs m _ e arity c.in_ok-normal.ensures.normal)),
       variables_next bs forms c.args.back.now c.loop-row.row-index c.row-item.result out
           c.push.new.self.items e c.loop-row-test.true c.row-item.is more
           (c.in_ok-normal.ensures.normal.terms

@@ -25,18 +25,13 @@ pub returns-clause-start : goal.returns-clause-start
 returns-clause-start c =
     let there = c.args.there in
     let sum = c.args.sum.now in
-    ok_both c.weighted_sum.result _ _ _
-    (λ p a e. start_is (sizes sum.base.items) there.arity (fraction_of c.args.value.now)
-    c.args.iterations there c.in_ok-at.at p (terms_in sum.body) (fractions_of c.deref.result.now)
-    c.deref-2.result.now (fraction_of c.in_ok-factor.factor)
-    (fraction_of c.neg-opposite.result)
+    ok_both _ _ _ _ (λ p a e. start_is (sizes sum.base.items) there.arity
+    (fraction_of c.args.value.now) c.args.iterations there c.in_ok-at.at p (terms_in sum.body)
     (c.in_ok-factor.ensures.ok ∙ ap (λ x. power ℚ x c.args.iterations) c.reciprocal.ensures)
-    c.neg-opposite.ensures
-    (ap fractions_of (c.deref.ensures.value ∙ c.in_ok-numbers.ensures.items))
-    (c.deref-2.ensures.value ∙ c.in_ok-polys.ensures.items)
-    (a ∙ c.arity-arity.ensures.arity)
-    (λ s l. c.in_ok-at.ensures.values s (l ∙ c.requires.arity)) e)
-    c.weighted_sum.ensures.arity c.weighted_sum.ensures.terms
+    c.neg-opposite.ensures (ap fractions_of (c.deref.ensures.value ∙ c.in_ok-numbers.ensures.items))
+    (c.deref-2.ensures.value ∙ c.in_ok-polys.ensures.items) (a ∙ c.arity-arity.ensures.arity)
+    (λ s l. c.in_ok-at.ensures.values s (l ∙ c.requires.arity)) e) c.weighted_sum.ensures.arity
+    c.weighted_sum.ensures.terms
 
 pub returns-clause-wide : goal.returns-clause-wide
 returns-clause-wide c =
@@ -45,21 +40,15 @@ returns-clause-wide c =
     let bs = sizes sum.base.items in
     let at = c.in_ok-at.at in
     let iteration = c.in_ok-at.ensures.iteration in
-    let at_is = poly_is there.arity at (at_iteration bs there.arity c.args.iterations
-    (terms_in sum.body))
-    (at-arity bs there.arity c.args.iterations (terms_in sum.body)) (iteration.arity
-    ∙ sym c.requires.arity)
-    (subst (λ k. Same ℚ (terms_in at) (at_iteration bs k c.args.iterations (terms_in sum.body)))
-    (sym c.requires.arity) iteration.same) in
-    λ w. difference_past (subst (λ q. IsPastMix
-    (power ℚ (inverse (fraction_of c.args.value.now)) c.args.iterations
-    ∷ ℚ.neg (power ℚ (inverse (fraction_of c.args.value.now)) c.args.iterations) ∷ [])
-    (terms_in there ∷ q ∷ [])) at_is
-    (start_lists bs there.arity (fraction_of c.args.value.now) c.args.iterations there at there
-    (terms_in sum.body) (fractions_of c.deref.result.now) c.deref-2.result.now
-    (fraction_of c.in_ok-factor.factor) (fraction_of c.neg-opposite.result)
+    let at_is = poly_is at _ (at-arity bs there.arity c.args.iterations (terms_in sum.body))
+    (iteration.arity ∙ sym c.requires.arity) (subst (λ k. Same ℚ (terms_in at)
+    (at_iteration bs k c.args.iterations (terms_in sum.body))) (sym c.requires.arity)
+    iteration.same) in
+    λ w. difference_past (subst (λ q. IsPastMix (power ℚ (inverse (fraction_of c.args.value.now))
+    c.args.iterations ∷ ℚ.neg (power ℚ (inverse (fraction_of c.args.value.now)) c.args.iterations)
+    ∷ []) (terms_in there ∷ q ∷ [])) at_is (start_lists bs there.arity
+    (fraction_of c.args.value.now) c.args.iterations there at there (terms_in sum.body)
     (c.in_ok-factor.ensures.ok ∙ ap (λ x. power ℚ x c.args.iterations) c.reciprocal.ensures)
-    c.neg-opposite.ensures
-    (ap fractions_of (c.deref.ensures.value ∙ c.in_ok-numbers.ensures.items))
+    c.neg-opposite.ensures (ap fractions_of (c.deref.ensures.value ∙ c.in_ok-numbers.ensures.items))
     (c.deref-2.ensures.value ∙ c.in_ok-polys.ensures.items) IsPastMix
     (c.weighted_sum.ensures.wide w)))

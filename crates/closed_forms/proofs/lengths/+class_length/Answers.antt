@@ -1,6 +1,5 @@
 use Rattle.std.proofs.Common.{◌<◌, length, sym, ap, subst, ◌∙◌, rules}
 use Rattle.frac128.specs.FracMeaning.{fraction_of}
-use Rattle.poly.specs.Seen.{terms_in, terms_each}
 use Rattle.poly.specs.View.{terms_of}
 use Rattle.expansion.specs.Counts.{most_terms}
 use Rattle.expansion.proofs.Counting.{none_above, some_is}
@@ -11,52 +10,42 @@ use Rattle.closed_forms.proofs.Mixing.{head_all, tail_all}
 use Rattle.closed_forms.proofs.lengths.+class_length.Goals as goal
 
 pub returns-in_default : goal.returns-in_default
-returns-in_default t c = none_of_class (terms_each c.args.images.now) c.args.group.now
+returns-in_default t c = none_of_class _ c.args.group.now
     c.args.sums.now c.in_default.ensures.cases
 
 pub class_length-requires : goal.class_length-requires
 class_length-requires t c = (
   search rules,
   (
-    tail_all (λ i. i < length c.args.images.now) c.args.group.now c.in-Some.group.now
-        c.in-Some.variable.now c.in-Some.ensures.cases.0 c.requires.inside,
+    tail_all (λ i. i < length c.args.images.now) c.in-Some.ensures.cases.0 c.requires.inside,
     c.requires.sums,
   ),
 )
 
 pub returns-in_default-class_length : goal.returns-in_default-class_length
 returns-in_default-class_length t c =
-    class_past_rest (terms_each c.args.images.now) c.in-Some.variable.now c.in-Some.group.now
-    c.args.group.now c.args.sums.now c.in-Some.ensures.cases.0
-    (none_above _ c.class_length.result c.class_length.ensures
+    class_past_rest _ c.in-Some.variable.now c.in-Some.group.now c.args.group.now c.args.sums.now
+    c.in-Some.ensures.cases.0 (none_above _ _ c.class_length.ensures
     c.in_default-class_length.not-Some)
 
 pub returns-in_default-sum_length : goal.returns-in_default-sum_length
 returns-in_default-sum_length t c =
-    let low = head_all (λ i. i < length c.args.images.now) c.args.group.now c.in-Some.group.now
-    c.in-Some.variable.now c.in-Some.ensures.cases.0 c.requires.inside in
-    class_past_own (terms_each c.args.images.now) c.in-Some.variable.now c.in-Some.group.now
-    c.args.group.now c.args.sums.now (terms_in c.index-images-variable.result)
-    c.in-Some.ensures.cases.0
-    (sym (poly_at-is c.args.images.now c.in-Some.variable.now c.index-images-variable.result low
-    c.index-images-variable.is))
-    (subst (λ ts. most_terms < sum_length (terms_of fraction_of ts) c.args.sums.now)
-    (c.deref.ensures.value ∙ ap (λ v. v.items) c.terms.ensures)
-    (none_above _ c.sum_length.result c.sum_length.ensures c.in_default-sum_length.not-Some))
+    let low = head_all (λ i. i < length c.args.images.now) c.in-Some.ensures.cases.0
+    c.requires.inside in
+    class_past_own _ c.in-Some.variable.now c.in-Some.group.now c.args.group.now c.args.sums.now
+    c.in-Some.ensures.cases.0 (sym (poly_at-is _ _ _ low c.index-images-variable.is)) (subst (λ ts.
+    most_terms < sum_length (terms_of fraction_of ts) c.args.sums.now)
+    (c.deref.ensures.value ∙ ap (λ v. v.items) c.terms.ensures) (none_above _ _ c.sum_length.ensures
+    c.in_default-sum_length.not-Some))
 
 pub returns : goal.returns
 returns t c =
-    let low = head_all (λ i. i < length c.args.images.now) c.args.group.now c.in-Some.group.now
-    c.in-Some.variable.now c.in-Some.ensures.cases.0 c.requires.inside in
-    let rest = some_is _ c.in-Some-class_length.rest c.class_length.result
-    c.class_length.ensures c.in-Some-class_length.is in
-    let own = some_is _ c.in-Some-sum_length.own c.sum_length.result c.sum_length.ensures
-    c.in-Some-sum_length.is in
-    class_more (terms_each c.args.images.now) c.in-Some.variable.now c.in-Some.group.now
-    c.args.group.now c.args.sums.now (terms_in c.index-images-variable.result)
-    c.in-Some-sum_length.own c.in-Some-class_length.rest c.sum.result
-    c.in-Some.ensures.cases.0
-    (sym (poly_at-is c.args.images.now c.in-Some.variable.now c.index-images-variable.result low
-    c.index-images-variable.is))
-    (own.0 ∙ ap (λ ts. sum_length (terms_of fraction_of ts) c.args.sums.now)
+    let low = head_all (λ i. i < length c.args.images.now) c.in-Some.ensures.cases.0
+    c.requires.inside in
+    let rest = some_is _ _ _ c.class_length.ensures c.in-Some-class_length.is in
+    let own = some_is _ _ _ c.sum_length.ensures c.in-Some-sum_length.is in
+    class_more _ c.in-Some.variable.now c.in-Some.group.now c.args.group.now c.args.sums.now
+    c.in-Some-sum_length.own c.in-Some-class_length.rest c.sum.result c.in-Some.ensures.cases.0
+    (sym (poly_at-is _ _ _ low c.index-images-variable.is)) (own.0 ∙ ap (λ ts. sum_length
+    (terms_of fraction_of ts) c.args.sums.now)
     (c.deref.ensures.value ∙ ap (λ v. v.items) c.terms.ensures)) rest.0 c.sum.ensures

@@ -13,10 +13,9 @@ first_long-requires t c =
     let g = c.as_slice-group.result.now in
     let ns = c.args.sums.now.items in
     let new = c.set_lengths.new.sums.items in
-    let told = some_is _ c.in-Some-class_length.terms c.class_length.result
-    c.class_length.ensures c.in-Some-class_length.is in
+    let told = some_is _ _ _ c.class_length.ensures c.in-Some-class_length.is in
     let few = subst (λ x. class_length M g x ≤ most_terms) c.as_slice.ensures.value told.1 in
-    let is = class_counted M g ns new c.in-Some-class_length.terms c.at_least_one.result
+    let is = class_counted M g ns new c.at_least_one.result
     (told.0 ∙ ap (class_length M g) c.as_slice.ensures.value) c.at_least_one.ensures
     c.set_lengths.ensures in (
       search rules,
@@ -25,10 +24,9 @@ first_long-requires t c =
         (
           count_counted M g ns new is ∙ c.requires.count,
           (
-            tail_all (λ (g : Vec ℕ Global). 0 < length g.items) c.args.groups.now
-                c.in-Some.groups.now c.in-Some.group.now c.in-Some.ensures.cases.0 c.requires.some,
+            tail_all (λ (g : Vec ℕ Global). 0 < length g.items) c.in-Some.ensures.cases.0
+                c.requires.some,
             tail_all (λ (g : Vec ℕ Global). All (λ i. i < length c.args.images.now) g.items)
-                c.args.groups.now c.in-Some.groups.now c.in-Some.group.now
                 c.in-Some.ensures.cases.0 c.requires.inside,
           ),
         ),

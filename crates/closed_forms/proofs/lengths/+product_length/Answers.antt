@@ -6,12 +6,11 @@ use Rattle.closed_forms.proofs.lengths.+product_length.Goals as goal
 
 pub returns-in_default : goal.returns-in_default
 returns-in_default t c =
-    of_first _ (lengths_none c.args.sums.now c.args.exponents.now
-    (inr c.in_default.ensures'.cases))
+    of_first _ (lengths_none _ _ (inr c.in_default.ensures'.cases))
 
 pub returns-in_default-2 : goal.returns-in_default-2
 returns-in_default-2 t c =
-    of_first _ (lengths_none c.args.sums.now c.args.exponents.now (inl c.in_default.ensures.cases))
+    of_first _ (lengths_none _ _ (inl c.in_default.ensures.cases))
 
 pub product_length-requires : goal.product_length-requires
 product_length-requires t c =
@@ -19,11 +18,8 @@ product_length-requires t c =
 
 pub returns-in_default-product_length : goal.returns-in_default-product_length
 returns-in_default-product_length t c =
-    product_past c.in-Some-Some.terms.now c.in-Some-Some.sums.now c.args.sums.now
-    c.in-Some-Some.exponent.now c.in-Some-Some.exponents.now c.args.exponents.now
-    c.in-Some-Some.ensures.cases.0 c.in-Some-Some.ensures'.cases.0
-    (lengths_some c.args.sums.now c.requires)
-    (inl (none_above _ c.product_length.result c.product_length.ensures
+    product_past _ _ _ _ _ _ c.in-Some-Some.ensures.cases.0 c.in-Some-Some.ensures'.cases.0
+    (lengths_some c.args.sums.now c.requires) (inl (none_above _ _ c.product_length.ensures
     c.in_default-product_length.not-Some))
 
 pub products-requires-clause-some : goal.products-requires-clause-some
@@ -34,21 +30,13 @@ products-requires-clause-few t c = few_first _ _ _ c.in-Some-Some.ensures.cases.
 
 pub returns-in_default-products : goal.returns-in_default-products
 returns-in_default-products t c =
-    product_past c.in-Some-Some.terms.now c.in-Some-Some.sums.now c.args.sums.now
-    c.in-Some-Some.exponent.now c.in-Some-Some.exponents.now c.args.exponents.now
-    c.in-Some-Some.ensures.cases.0 c.in-Some-Some.ensures'.cases.0
-    (lengths_some c.args.sums.now c.requires)
-    (inr (none_above _ c.products.result c.products.ensures
+    product_past _ _ _ _ _ _ c.in-Some-Some.ensures.cases.0 c.in-Some-Some.ensures'.cases.0
+    (lengths_some c.args.sums.now c.requires) (inr (none_above _ _ c.products.ensures
     c.in_default-products.not-Some))
 
 pub returns : goal.returns
 returns t c =
-    let rest = some_is _ c.in-Some.rest c.product_length.result c.product_length.ensures
-    c.in-Some.is in
-    let power = some_is _ c.in-Some-products.power c.products.result
-    c.products.ensures c.in-Some-products.is in
-    lengths_more c.in-Some-Some.terms.now c.in-Some-Some.sums.now c.args.sums.now
-    c.in-Some-Some.exponent.now c.in-Some-Some.exponents.now c.args.exponents.now
-    c.in-Some.rest c.in-Some-products.power c.product.result
-    c.in-Some-Some.ensures.cases.0 c.in-Some-Some.ensures'.cases.0 rest.0 power.0
-    c.product.ensures
+    let rest = some_is _ _ _ c.product_length.ensures c.in-Some.is in
+    let power = some_is _ _ _ c.products.ensures c.in-Some-products.is in
+    lengths_more _ _ _ _ _ _ _ _ _ c.in-Some-Some.ensures.cases.0 c.in-Some-Some.ensures'.cases.0
+    rest.0 power.0 c.product.ensures

@@ -7,7 +7,6 @@ pub set_lengths-requires : goal.set_lengths-requires
 set_lengths-requires t c = (
   search rules,
   subst (λ n. All (λ i. i < n) c.in-Some.group.now)
-      (sym (length-set c.args.sums.now.items c.in-Some.variable.now c.args.terms))
-      (tail_all (λ i. i < length c.args.sums.now.items) c.args.group.now c.in-Some.group.now
-      c.in-Some.variable.now c.in-Some.ensures.cases.0 c.requires.inside),
+      (sym (length-set c.args.sums.now.items c.in-Some.variable.now c.args.terms)) (tail_all (λ i. i
+      < length c.args.sums.now.items) c.in-Some.ensures.cases.0 c.requires.inside),
 )

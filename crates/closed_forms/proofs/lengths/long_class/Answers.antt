@@ -1,5 +1,4 @@
 use Rattle.std.proofs.Common.{length, sym, ap, subst}
-use Rattle.poly.specs.Seen.{terms_each}
 use Rattle.closed_forms.specs.Lengths.{AreLengths}
 use Rattle.closed_forms.proofs.Forming.{groups_inside}
 use Rattle.closed_forms.proofs.LengthLaws.{ones, classes_some}
@@ -12,9 +11,9 @@ first_long-requires-clause-sums c =
 
 pub first_long-requires-clause-some : goal.first_long-requires-clause-some
 first_long-requires-clause-some c =
-    classes_some (terms_each c.args.images.now.items) c.args.groups.now c.requires
+    classes_some _ c.args.groups.now c.requires
 
 pub first_long-requires-clause-inside : goal.first_long-requires-clause-inside
 first_long-requires-clause-inside c =
-    groups_inside c.args.images.now.items c.args.groups.now (length c.as_slice.result.now)
+    groups_inside c.args.images.now.items c.args.groups.now
     (sym (ap length c.as_slice.ensures.value)) c.requires

@@ -15,18 +15,17 @@ use Rattle.closed_forms.proofs.linear_parts.linear_part.Goals as goal
 
 pub number_of-requires-clause-distinct : goal.number_of-requires-clause-distinct
 number_of-requires-clause-distinct c =
-    subst (λ (ts : List (Term Frac)). IsDistinct (tell ts)) (sym (c.deref.ensures.value
-    ∙ ap (λ v. v.items) c.terms.ensures)) (distinct_falls grevlex grevlex_order
-    (terms_in c.args.poly.now) c.args.poly.now.polynomial.falls)
+    subst (λ (ts : List (Term Frac)). IsDistinct (tell ts)) (sym (c.deref.ensures.value ∙ ap (λ v.
+    v.items) c.terms.ensures)) (distinct_falls grevlex grevlex_order _
+    c.args.poly.now.polynomial.falls)
 
 pub number_of-requires-clause-inside : goal.number_of-requires-clause-inside
 number_of-requires-clause-inside c = λ k d l.
-    subst (λ n. get_or c.args.group.now c.loop-variable.variable-index 0 < n)
-    (sym (all_arity c.args.poly.now.arity c.deref.result.now
+    subst (λ n. get_or c.args.group.now c.loop-variable.variable-index 0 < n) (sym (all_arity _ _
     (subst (λ (ts : List (Term Frac)). Arity c.args.poly.now.arity (tell ts))
     (sym (c.deref.ensures.value ∙ ap (λ v. v.items) c.terms.ensures))
-    c.args.poly.now.polynomial.arity) k d l))
-    (c.requires c.loop-variable.variable-index 0 c.loop-variable-test.true)
+    c.args.poly.now.polynomial.arity) k d l)) (c.requires c.loop-variable.variable-index 0
+    c.loop-variable-test.true)
 
 pub loop-variable-preserved : goal.loop-variable-preserved
 loop-variable-preserved c =
@@ -34,11 +33,8 @@ loop-variable-preserved c =
     fractions_next (λ j. coefficient ℚ (terms_in c.args.poly.now) (unit c.args.poly.now.arity j))
     c.args.group.now i c.loop-variable.row.items c.push.new.self.items c.number_of.result
     c.loop-variable-test.true c.loop-variable.invariant c.in_ok-push.ensures.items
-    (c.number_of.ensures c.args.poly.now.arity
-    (all_arity c.args.poly.now.arity c.deref.result.now
-    (subst (λ (ts : List (Term Frac)). Arity c.args.poly.now.arity (tell ts))
-    (sym (c.deref.ensures.value ∙ ap (λ v. v.items) c.terms.ensures))
-    c.args.poly.now.polynomial.arity))
-    ∙ ap (λ (ts : List (Term Frac)).
+    (c.number_of.ensures c.args.poly.now.arity (all_arity _ _ (subst (λ (ts : List (Term Frac)).
+    Arity c.args.poly.now.arity (tell ts)) (sym (c.deref.ensures.value ∙ ap (λ v. v.items)
+    c.terms.ensures)) c.args.poly.now.polynomial.arity)) ∙ ap (λ (ts : List (Term Frac)).
     coefficient ℚ (tell ts) (unit c.args.poly.now.arity (get_or c.args.group.now i 0)))
     (c.deref.ensures.value ∙ ap (λ v. v.items) c.terms.ensures))

@@ -18,7 +18,7 @@ pub loop-term-preserved : goal.loop-term-preserved
 loop-term-preserved c =
     let ts = c.args.terms.now in
     let i = c.loop-term.term-index in
-    let is = left_at ts i c.term-item.result c.loop-term-test.true c.term-item.is in
+    let is = left_at ts i c.loop-term-test.true c.term-item.is in
     record {
       distinct = distinct_rest _ _ c.term-item.result is c.loop-term.invariant.distinct;
       number = λ m all x h. c.loop-term.invariant.number m all x (alone_later _ _ c.term-item.result
@@ -31,12 +31,10 @@ returns-then-is_alone c = λ m all.
     let ts = c.args.terms.now in
     let i = c.loop-term.term-index in
     c.loop-term.invariant.number m all _ (alone_here _ _ c.term-item.result c.args.variable m
-    (left_at ts i c.term-item.result c.loop-term-test.true c.term-item.is)
-    (c.if-is_alone.ensures.0 refl) (All-drop (λ (u : Term Frac). length u.mono ≡ m) i ts all)
-    c.loop-term.invariant.distinct)
+    (left_at ts i c.loop-term-test.true c.term-item.is) (c.if-is_alone.ensures.0 refl)
+    (All-drop (λ (u : Term Frac). length u.mono ≡ m) i ts all) c.loop-term.invariant.distinct)
 
 pub returns : goal.returns
 returns c = λ m all. c.loop-term.invariant.number m all c.zero.result
     (none_alone _ (unit m c.args.variable) c.zero.result
-    (ap length (drop_all c.loop-term.term-index c.args.terms.now c.loop-term-test.false))
-    c.zero.ensures)
+    (ap length (drop_all _ _ c.loop-term-test.false)) c.zero.ensures)

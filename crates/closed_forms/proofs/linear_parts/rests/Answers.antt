@@ -1,4 +1,4 @@
-use Rattle.std.proofs.Common.{length, get_or, sym, ap, ◌∙◌, ◌≡◌}
+use Rattle.std.proofs.Common.{length, sym, ap, ◌∙◌, ◌≡◌}
 use Rattle.solvable_maps.specs.Uses.{poly_at}
 use Rattle.poly.specs.Seen.{terms_each}
 use Rattle.solvable_maps.specs.AfterIterations.{rest_of}
@@ -12,16 +12,13 @@ loop-variable-preserved c =
     let images = c.args.images.now.items in
     let g = c.args.group.now in
     let i = c.loop-variable.variable-index in
-    let low = place_low g (length images) i c.requires.inside c.loop-variable-test.true in (
-      have_more (λ (p : FracPoly). p.arity ≡ length images) c.loop-variable.out.items
-          c.push.new.self.items c.in_ok-rest_of.field-0 c.in_ok-push.ensures.items
-          c.loop-variable.invariant.0
-          (c.in_ok-rest_of.ensures.arity ∙ arity_at images (length images) (get_or g i 0)
-          c.index.result.now low c.index.ensures c.requires.square),
-      terms_next (λ i. rest_of g (poly_at (terms_each images) i)) g i c.loop-variable.out.items
-          c.push.new.self.items c.in_ok-rest_of.field-0 c.loop-variable-test.true
+    let low = place_low g _ i c.requires.inside c.loop-variable-test.true in (
+      have_more (λ (p : FracPoly). p.arity ≡ length images) _ _ _ c.in_ok-push.ensures.items
+          c.loop-variable.invariant.0 (c.in_ok-rest_of.ensures.arity ∙ arity_at images _ _ _ low
+          c.index.ensures c.requires.square),
+      terms_next (λ i. rest_of g (poly_at (terms_each images) i)) g i _ c.in_ok-rest_of.field-0
+          c.loop-variable-test.true
           c.loop-variable.invariant.1 c.in_ok-push.ensures.items
-          (c.in_ok-rest_of.ensures.terms
-          ∙ ap (rest_of g) (sym (poly_at-is images (get_or g i 0) c.index.result.now low
-          c.index.ensures))),
+          (c.in_ok-rest_of.ensures.terms ∙ ap (rest_of g)
+          (sym (poly_at-is images _ _ low c.index.ensures))),
     )

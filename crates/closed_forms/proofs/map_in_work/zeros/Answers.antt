@@ -11,9 +11,8 @@ loop-preserved c =
     let m = c.args.count in
     let n = length_push c.loop.polys.items c.in_ok-zero.field-0 in (
       ap length c.in_ok-push.ensures.items ∙ n ∙ ap (λ k. k + 1) c.loop.invariant.0,
-      All-same (IsExpoOver bs m) c.push.new.self.items _ c.in_ok-push.ensures.items
-          (All-push (IsExpoOver bs m) c.loop.polys.items c.in_ok-zero.field-0 c.loop.invariant.1
-          (record {
+      All-same (IsExpoOver bs m) _ _ c.in_ok-push.ensures.items
+          (All-push (IsExpoOver bs m) _ _ c.loop.invariant.1 (record {
             over_base = c.in_ok-zero.ensures.base;
             over_vars = c.in_ok-zero.ensures.vars;
           })),

@@ -5,6 +5,5 @@ use Rattle.closed_forms.proofs.matrices.inverse.Goals as goal
 
 pub halves-requires : goal.halves-requires
 halves-requires c =
-    widths_low (length c.args.forms.now) c.as_slice.result.now c.in_ok-echelon.echelon.rows
-    (ap rows_of c.as_slice.ensures.value ∙ c.rows.ensures)
-    c.in_ok-echelon.ensures.echelon.widths
+    widths_low (length c.args.forms.now) c.as_slice.result.now
+    (ap rows_of c.as_slice.ensures.value ∙ c.rows.ensures) c.in_ok-echelon.ensures.echelon.widths

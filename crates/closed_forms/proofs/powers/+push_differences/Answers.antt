@@ -6,11 +6,11 @@ use Rattle.closed_forms.proofs.Mixing.{on_ok_where}
 use Rattle.closed_forms.proofs.powers.+push_differences.Goals as goal
 
 pub returns-in_default : goal.returns-in_default
-returns-in_default t c = differences_none c.args.up.now c.args.down.now c.args.out.now.items
+returns-in_default t c = differences_none _ _ c.args.out.now.items
     (inr c.in_default.ensures'.cases)
 
 pub returns-in_default-2 : goal.returns-in_default-2
-returns-in_default-2 t c = differences_none c.args.up.now c.args.down.now c.args.out.now.items
+returns-in_default-2 t c = differences_none _ _ c.args.out.now.items
     (inl c.in_default.ensures.cases)
 
 pub returns : goal.returns

@@ -12,14 +12,12 @@ returns-in_default t c = sides_none c.args.below c.args.exponents.now c.args.out
 pub side-requires : goal.side-requires
 side-requires t c =
     let fits : SFits w32 c.in-Some.exponent.now = search rules in
-    simp to_z-of_z (head_all (λ z. unsigned_abs z < 128) c.args.exponents.now
-    c.in-Some.exponents.now c.in-Some.exponent.now c.in-Some.ensures.cases.0 c.requires)
+    simp to_z-of_z (head_all (λ z. unsigned_abs z < 128) c.in-Some.ensures.cases.0 c.requires)
 
 pub push_sides-requires : goal.push_sides-requires
 push_sides-requires t c = (
   search rules,
-  tail_all (λ z. unsigned_abs z < 128) c.args.exponents.now
-      c.in-Some.exponents.now c.in-Some.exponent.now c.in-Some.ensures.cases.0 c.requires,
+  tail_all (λ z. unsigned_abs z < 128) c.in-Some.ensures.cases.0 c.requires,
 )
 
 pub returns : goal.returns

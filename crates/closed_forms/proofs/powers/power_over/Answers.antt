@@ -24,7 +24,7 @@ unreachable-requires c =
     let bs = sizes c.args.base.now.items in
     let s = fraction_of c.sign_and_size-negative.result.1 in
     let positive = c.sign_and_size-negative.ensures.positive in
-    let made = made_size bs c.sign_and_size-negative.result.0 s (fraction_of c.args.value.now)
+    let made = made_size bs _ s (fraction_of c.args.value.now)
     c.sign_and_size-negative.ensures.value c.requires.made in
     c.in-Err-NotInBase.ensures.none (ap Err c.in-Err-NotInBase.field-0-is) _
     (some_exponents bs c.requires.base.0 s positive made)

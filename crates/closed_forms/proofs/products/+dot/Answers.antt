@@ -14,38 +14,26 @@ returns-in_default-clause-sum t c = dot_none c.args.row.now c.args.matrix.now c.
 
 pub returns-in_err-product-clause-wide : goal.returns-in_err-product-clause-wide
 returns-in_err-product-clause-wide t c = λ h.
-    past_product c.args.row.now c.in-Some-Some.row.now c.args.matrix.now c.in-Some-Some.matrix.now
-    c.in-Some-Some.number.now c.in-Some-Some.other.now c.args.column c.index.result.now
-    c.in-Some-Some.ensures.cases.0 c.in-Some-Some.ensures'.cases.0
-    (head_low c.args.matrix.now c.in-Some-Some.matrix.now c.in-Some-Some.other.now c.args.column
-    c.in-Some-Some.ensures'.cases.0 c.requires) c.index.ensures
+    past_product _ c.in-Some-Some.ensures.cases.0 c.in-Some-Some.ensures'.cases.0
+    (head_low _ c.in-Some-Some.ensures'.cases.0 c.requires) c.index.ensures
     (c.in_err-product.ensures.wide.0 refl)
 
 pub dot-requires : goal.dot-requires
 dot-requires t c = (
   search rules,
-  rest_low c.args.matrix.now c.in-Some-Some.matrix.now
+  rest_low c.args.matrix.now
       c.in-Some-Some.other.now c.args.column c.in-Some-Some.ensures'.cases.0 c.requires,
 )
 
 pub returns-clause-sum : goal.returns-clause-sum
 returns-clause-sum t c =
-    if_ok_where c.add.result _ _
-    (λ s e. dot_next c.args.row.now c.in-Some-Some.row.now c.args.matrix.now
-    c.in-Some-Some.matrix.now c.in-Some-Some.number.now c.in-Some-Some.other.now c.args.column
-    c.index.result.now
-    c.in-Some-Some.ensures.cases.0 c.in-Some-Some.ensures'.cases.0
-    (head_low c.args.matrix.now c.in-Some-Some.matrix.now c.in-Some-Some.other.now c.args.column
-    c.in-Some-Some.ensures'.cases.0 c.requires) c.index.ensures
-    c.in_ok-product.product c.in_ok-dot.field-0 s c.in_ok-product.ensures.ok c.in_ok-dot.ensures.sum
-    e) c.add.ensures.ok
+    if_ok_where c.add.result _ _ (λ s e. dot_next _ c.in-Some-Some.ensures.cases.0
+    c.in-Some-Some.ensures'.cases.0 (head_low _ c.in-Some-Some.ensures'.cases.0 c.requires)
+    c.index.ensures c.in_ok-product.product c.in_ok-dot.field-0 s c.in_ok-product.ensures.ok
+    c.in_ok-dot.ensures.sum e) c.add.ensures.ok
 
 pub returns-clause-wide : goal.returns-clause-wide
 returns-clause-wide t c = λ h.
-    past_sum c.args.row.now c.in-Some-Some.row.now c.args.matrix.now c.in-Some-Some.matrix.now
-    c.in-Some-Some.number.now c.in-Some-Some.other.now c.args.column c.index.result.now
-    c.in-Some-Some.ensures.cases.0 c.in-Some-Some.ensures'.cases.0
-    (head_low c.args.matrix.now c.in-Some-Some.matrix.now c.in-Some-Some.other.now c.args.column
-    c.in-Some-Some.ensures'.cases.0 c.requires) c.index.ensures
-    c.in_ok-product.product c.in_ok-dot.field-0 c.in_ok-product.ensures.ok c.in_ok-dot.ensures.sum
-    (c.add.ensures.wide.0 h)
+    past_sum _ c.in-Some-Some.ensures.cases.0 c.in-Some-Some.ensures'.cases.0
+    (head_low _ c.in-Some-Some.ensures'.cases.0 c.requires) c.index.ensures c.in_ok-product.product
+    c.in_ok-dot.field-0 c.in_ok-product.ensures.ok c.in_ok-dot.ensures.sum (c.add.ensures.wide.0 h)

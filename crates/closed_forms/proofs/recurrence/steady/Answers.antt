@@ -16,7 +16,7 @@ use Rattle.closed_forms.proofs.recurrence.steady.Goals.{After-width-first}
 
 pub width-first-requires : goal.width-first-requires
 width-first-requires c =
-    let e = base_width c.args.base.now.items c.len.result 0 (c.len.ensures ∙ c.args.base.now.ok.0)
+    let e = base_width _ 0 (c.len.ensures ∙ c.args.base.now.ok.0)
     in
     omega (
       arith,
@@ -28,7 +28,7 @@ width-first-requires c =
 
 first_is : (c : After-width-first) → c.width-first.result
     ≡ width (length (sizes c.args.base.now.items)) 0
-first_is c = c.width-first.ensures ∙ base_width c.args.base.now.items c.len.result 0
+first_is c = c.width-first.ensures ∙ base_width _ 0
     (c.len.ensures ∙ c.args.base.now.ok.0)
 
 pub without_first-requires : goal.without_first-requires
@@ -56,7 +56,7 @@ pub from_distinct-requires-clause-arities : goal.from_distinct-requires-clause-a
 from_distinct-requires-clause-arities c =
     let r = length (sizes c.args.base.now.items) in
     let e = c.args.term.now.mono in
-    let is = still_made r c.width-first.result e _ _ c.in_ok-mono.mono
+    let is = still_made r e _ _
     (first_is (goal.at.from_distinct-requires-clause-arities c).After-width-first)
     c.in_ok-one.ensures.ok c.in_ok-variables.ensures.ok c.in_ok-mono.ensures.ok in
     all_one (λ (t : Term Frac). length t.mono ≡ c.arity-arity.result) c.in_ok-terms.terms.items _
@@ -76,12 +76,10 @@ pub returns-clause-terms : goal.returns-clause-terms
 returns-clause-terms c =
     let bs = sizes c.args.base.now.items in
     let t = term_of fraction_of c.args.term.now in
-    let is = still_made (length bs) c.width-first.result t.0 _ _ c.in_ok-mono.mono
+    let is = still_made (length bs) t.0 _ _
     (first_is (goal.at.returns-clause-terms c).After-width-first)
     c.in_ok-one.ensures.ok c.in_ok-variables.ensures.ok c.in_ok-mono.ensures.ok in
-    IfOk-weaker c.from_distinct.result _ _
-    (λ p i. steady_is bs t (length t.0) p c.in_ok-mono.mono
-    (fraction_of c.args.term.now.coef) (tell c.in_ok-terms.terms.items)
-    (ap tell c.in_ok-terms.ensures.items)
-    is refl (ap length is ∙ still_long (length bs) t.0 c.requires.width) (i.arity
-    ∙ c.arity-arity.ensures.arity) i.same) c.from_distinct.ensures
+    IfOk-weaker c.from_distinct.result _ _ (λ p i. steady_is bs t (length t.0) p c.in_ok-mono.mono
+    (ap tell c.in_ok-terms.ensures.items) is refl
+    (ap length is ∙ still_long (length bs) t.0 c.requires.width)
+    (i.arity ∙ c.arity-arity.ensures.arity) i.same) c.from_distinct.ensures

@@ -11,15 +11,13 @@ use Rattle.closed_forms.proofs.Splitting.{among_none, among_skip, among_here, fi
 use Rattle.closed_forms.proofs.splits.+split_from.Goals as goal
 
 pub returns-in_default-clause-split : goal.returns-in_default-clause-split
-returns-in_default-clause-split t c = among_none (terms_each c.args.images.now.items)
-    (groups_in c.args.groups.now) c.args.first (length-map c.args.groups.now _
+returns-in_default-clause-split t c =
+    among_none (terms_each c.args.images.now.items) _ c.args.first (length-map c.args.groups.now _
     ∙ c.in_default.ensures.cases)
 
 pub index-requires : goal.index-requires
 index-requires t c =
-    let some = class_some (terms_each c.args.images.now.items) c.in-Some.group.now.items
-    (this_class (terms_each c.args.images.now.items) c.args.groups.now c.in-Some.groups.now
-    c.in-Some.group.now c.in-Some.ensures.cases.0 c.requires.classes) in
+    let some = class_some _ _ (this_class _ c.in-Some.ensures.cases.0 c.requires.classes) in
     omega (arith, some, c.in-Some.group.now.ok.0)
 
 pub split_from-requires : goal.split_from-requires
@@ -29,7 +27,7 @@ split_from-requires t c = (
     c.requires.few,
     (
       c.requires.square,
-      later_classes (terms_each c.args.images.now.items)
+      later_classes _
           c.args.groups.now c.in-Some.groups.now c.in-Some.group.now c.in-Some.ensures.cases.0
           c.requires.classes,
     ),
@@ -40,53 +38,47 @@ pub returns-then-index-first-clause-split : goal.returns-then-index-first-clause
 returns-then-index-first-clause-split t c =
     let images = terms_each c.args.images.now.items in
     let g = c.in-Some.group.now in
-    let some = class_some images g.items (this_class images c.args.groups.now c.in-Some.groups.now g
+    let some = class_some images g.items (this_class images
     c.in-Some.ensures.cases.0 c.requires.classes) in
-    let first = first_read g.items c.index.result.now some c.index.ensures in
-    if_ok_where c.split_from.result _ _
-    (λ found h. among_skip images (map_of c.args.images.now.items c.requires.square)
-    (groups_in c.args.groups.now) (groups_in c.in-Some.groups.now) g.items c.args.first found
-    (ap groups_in c.in-Some.ensures.cases.0) (λ e. c.if-index-first.true (first ∙ e)) h)
-    c.split_from.ensures.split
+    let first = first_read g.items some c.index.ensures in
+    if_ok_where c.split_from.result _ _ (λ found h. among_skip images (map_of _ c.requires.square)
+    g.items c.args.first found (ap groups_in c.in-Some.ensures.cases.0)
+    (λ e. c.if-index-first.true (first ∙ e)) h) c.split_from.ensures.split
 
 pub returns-then-index-first-clause-refused : goal.returns-then-index-first-clause-refused
 returns-then-index-first-clause-refused t c =
     let images = terms_each c.args.images.now.items in
-    IfErr-weaker c.split_from.result _ _
-    (refused_moved images _ _ (λ g h. (
+    IfErr-weaker _ _ _ (refused_moved images _ _ (λ g h. (
       subst (In g) (sym (ap groups_in c.in-Some.ensures.cases.0))
           (inr h.0),
       h.1,
     ))) c.split_from.ensures.refused
 
 pub split_of-requires-clause-class : goal.split_of-requires-clause-class
-split_of-requires-clause-class t c = this_class (terms_each c.args.images.now.items)
-    c.args.groups.now c.in-Some.groups.now c.in-Some.group.now c.in-Some.ensures.cases.0
+split_of-requires-clause-class t c = this_class _ c.in-Some.ensures.cases.0
     c.requires.classes
 
 pub returns-in-Ok-clause-split : goal.returns-in-Ok-clause-split
 returns-in-Ok-clause-split t c =
     let images = terms_each c.args.images.now.items in
     let g = c.in-Some.group.now in
-    let some = class_some images g.items (this_class images c.args.groups.now c.in-Some.groups.now g
+    let some = class_some images g.items (this_class images
     c.in-Some.ensures.cases.0 c.requires.classes) in
-    let first = first_read g.items c.index.result.now some c.index.ensures in
-    among_here images (map_of c.args.images.now.items c.requires.square)
-    (groups_in c.args.groups.now) (groups_in c.in-Some.groups.now) g.items c.args.first
-    c.in-Ok.found (ap groups_in c.in-Some.ensures.cases.0) c.requires.classes (sym first
-    ∙ c.if-index-first.false) c.in-Ok.ensures.split
+    let first = first_read g.items some c.index.ensures in
+    among_here images (map_of _ c.requires.square) (groups_in c.in-Some.groups.now) g.items
+    c.args.first c.in-Ok.found (ap groups_in c.in-Some.ensures.cases.0) c.requires.classes
+    (sym first ∙ c.if-index-first.false) c.in-Ok.ensures.split
 
 pub returns-in-Err-clause-refused : goal.returns-in-Err-clause-refused
 returns-in-Err-clause-refused t c =
     let images = terms_each c.args.images.now.items in
     let g = c.in-Some.group.now in
-    let some = class_some images g.items (this_class images c.args.groups.now c.in-Some.groups.now g
+    let some = class_some images g.items (this_class images
     c.in-Some.ensures.cases.0 c.requires.classes) in
-    let first = first_read g.items c.index.result.now some c.index.ensures in
+    let first = first_read g.items some c.index.ensures in
     refused_moved images _ _
     (λ h e. (
       subst (In h) (sym (ap groups_in c.in-Some.ensures.cases.0)) (inl e),
       ap first_of e
           ∙ sym first ∙ c.if-index-first.false,
-    ))
-    c.in-Err.error c.in-Err.ensures.refused
+    )) _ c.in-Err.ensures.refused

@@ -10,14 +10,13 @@ use Rattle.closed_forms.proofs.splits.split_of.Goals as goal
 pub class_matrix-requires-clause-inside : goal.class_matrix-requires-clause-inside
 class_matrix-requires-clause-inside c =
     subst (λ (g : List ℕ). All (λ i. i < length c.args.images.now.items) g)
-    (sym c.as_slice.ensures.value) (class_inside c.args.images.now.items c.args.group.now.items
-    c.requires.class)
+    (sym c.as_slice.ensures.value) (class_inside _ c.requires.class)
 
 pub split-requires-clause-some : goal.split-requires-clause-some
 split-requires-clause-some c =
     let images = terms_each c.args.images.now.items in
     let g = c.args.group.now.items in
-    let n = matrix_count images g c.in_ok-matrix.matrix.items (c.in_ok-matrix.ensures
+    let n = matrix_count images g _ (c.in_ok-matrix.ensures
     ∙ ap (class_matrix (terms_each c.args.images.now.items)) c.as_slice.ensures.value) in
     let some = class_some images g c.requires.class in
     omega (arith, n, some)
@@ -26,7 +25,7 @@ pub split-requires-clause-size : goal.split-requires-clause-size
 split-requires-clause-size c =
     let images = terms_each c.args.images.now.items in
     let g = c.args.group.now.items in
-    let n = matrix_count images g c.in_ok-matrix.matrix.items (c.in_ok-matrix.ensures
+    let n = matrix_count images g _ (c.in_ok-matrix.ensures
     ∙ ap (class_matrix (terms_each c.args.images.now.items)) c.as_slice.ensures.value) in
     let few = class_few images g c.requires.class in
     let m = length_each c.args.images.now.items in
@@ -34,14 +33,12 @@ split-requires-clause-size c =
     omega (arith, n, few, m, low)
 
 pub split-requires-clause-square : goal.split-requires-clause-square
-split-requires-clause-square c = matrix_square (terms_each c.args.images.now.items)
-    c.args.group.now.items c.in_ok-matrix.matrix.items (c.in_ok-matrix.ensures
+split-requires-clause-square c = matrix_square _ _ _ (c.in_ok-matrix.ensures
     ∙ ap (class_matrix (terms_each c.args.images.now.items)) c.as_slice.ensures.value)
 
 pub returns-in-Ok-clause-split : goal.returns-in-Ok-clause-split
 returns-in-Ok-clause-split c =
-    split_is (terms_each c.args.images.now.items) c.args.group.now.items c.in_ok-matrix.matrix.items
-    (c.in_ok-matrix.ensures ∙ ap (class_matrix (terms_each c.args.images.now.items))
+    split_is _ _ _ (c.in_ok-matrix.ensures ∙ ap (class_matrix (terms_each c.args.images.now.items))
     c.as_slice.ensures.value) c.in-Ok.found c.in-Ok.ensures.forms c.in-Ok.ensures.found
     (c.in-Ok.ensures.splits refl) (c.in-Ok.ensures.within refl)
 
@@ -52,8 +49,7 @@ returns-clause-refused c =
     let same : c.in_ok-class-in-Err.class.items ≡ g =
     c.in_ok-class-in-Err.ensures.items_if_clones_equal (λ x y e. e)
     ∙ c.as_slice-in-Err.ensures.value in
-    refused_moved images _ _ (λ h e. e ∙ same) c.class_refusal.result
-    (c.class_refusal.ensures images (subst (λ x. IfRefusedMatrix images x c.in-Err.error) (sym same)
-    (matrix_refused images g c.in_ok-matrix.matrix.items (c.in_ok-matrix.ensures
-    ∙ ap (class_matrix (terms_each c.args.images.now.items)) c.as_slice.ensures.value)
-    c.in-Err.error c.in-Err.ensures.refused)))
+    refused_moved images _ _ (λ h e. e ∙ same) _ (c.class_refusal.ensures images (subst (λ x.
+    IfRefusedMatrix images x c.in-Err.error) (sym same) (matrix_refused images g _
+    (c.in_ok-matrix.ensures ∙ ap (class_matrix (terms_each c.args.images.now.items))
+    c.as_slice.ensures.value) c.in-Err.error c.in-Err.ensures.refused)))

@@ -12,19 +12,19 @@ use Rattle.closed_forms.proofs.splits.splits_of.Goals as goal
 pub loop-first-init : goal.loop-first-init
 loop-first-init c =
     let none = ap length c.new-splits.ensures.items in (
-      splits_none (terms_each c.args.images.now.items) c.new-splits.result.items none,
+      splits_none (terms_each c.args.images.now.items) _ none,
       none,
     )
 
 pub split_from-requires-clause-classes : goal.split_from-requires-clause-classes
-split_from-requires-clause-classes c = classes_are (terms_each c.args.images.now.items) []
-    (groups_in c.args.groups.now) c.requires.classes
+split_from-requires-clause-classes c =
+    classes_are (terms_each c.args.images.now.items) [] _ c.requires.classes
 
 pub loop-first-preserved : goal.loop-first-preserved
 loop-first-preserved c =
     let images = terms_each c.args.images.now.items in
     let groups = groups_in c.args.groups.now in
-    let is = map_of c.args.images.now.items c.requires.square in
+    let is = map_of _ c.requires.square in
     let old = c.loop-first.splits.items in
     let found = c.in_ok-split_from.field-0 in
     let place = c.loop-first.invariant.1 in
@@ -70,9 +70,7 @@ returns-in_err-split_from-clause-refused c =
     let groups = groups_in c.args.groups.now in
     let all = classes_are images [] groups c.requires.classes in
     let e = c.in_err-split_from.field-0.0 in
-    refused_on (IfRefusedAt images (IsReachedClass images)) e c.from_residual.result
-    c.from_residual.ensures.1
-    (refused_moved images _ _
-    (λ g h. first_refused images c.requires.solvable c.loop-first.splits.items
+    refused_on (IfRefusedAt images (IsReachedClass images)) e _ c.from_residual.ensures.1
+    (refused_moved images _ _ (λ g h. first_refused images c.requires.solvable _
     c.loop-first.invariant.0.each g (each_in (IsClass images) groups g all h.0)
     (h.1 ∙ sym c.loop-first.invariant.1)) e c.in_err-split_from.ensures.refused)

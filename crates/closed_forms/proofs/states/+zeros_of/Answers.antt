@@ -6,16 +6,13 @@ use Rattle.closed_forms.proofs.states.+zeros_of.Goals as goal
 
 pub overflow_add-result : goal.overflow_add-result
 overflow_add-result t c =
-    let room = zeros_fit c.args.splits.now c.in-Some.splits.now c.in-Some-first.split
-    (c.in-Some.ensures.cases.0 ∙ ap (λ x. x ∷ c.in-Some.splits.now) c.in-Some-first.is)
-    c.zeros_among.result c.zeros_of-in-Some-first.result
-    (c.zeros_among.ensures ∙ ap (λ l. zeros_in (fractions_of l)) c.as_slice.ensures.value)
-    c.zeros_of-in-Some-first.ensures c.requires in
+    let room = zeros_fit (c.in-Some.ensures.cases.0 ∙ ap (λ x. x ∷ c.in-Some.splits.now)
+    c.in-Some-first.is) (c.zeros_among.ensures ∙ ap (λ l. zeros_in (fractions_of l))
+    c.as_slice.ensures.value) c.zeros_of-in-Some-first.ensures c.requires in
     omega (arith, room)
 
 pub returns-in-Some-first : goal.returns-in-Some-first
-returns-in-Some-first t c = zeros_all c.args.splits.now c.in-Some.splits.now c.in-Some-first.split
+returns-in-Some-first t c = zeros_all
     (c.in-Some.ensures.cases.0 ∙ ap (λ x. x ∷ c.in-Some.splits.now) c.in-Some-first.is)
-    c.zeros_among.result c.zeros_of-in-Some-first.result
     (c.zeros_among.ensures ∙ ap (λ l. zeros_in (fractions_of l)) c.as_slice.ensures.value)
     c.zeros_of-in-Some-first.ensures

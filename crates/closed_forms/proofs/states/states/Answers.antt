@@ -66,15 +66,13 @@ loop-iteration-preserved c =
     let next = c.in_ok-next.next in
     let size = state_length M iteration found c.loop-iteration.invariant.0 iteration v (omega arith)
     c.index.ensures in (
-      states_next (terms_each M) iteration found c.loop-iteration.invariant.0
-          c.push-in-loop-iteration.new.self.items next c.in_ok-push-2.ensures.items
+      states_next (terms_each M) iteration found c.loop-iteration.invariant.0 next
+          c.in_ok-push-2.ensures.items
           (next_is M iteration found c.loop-iteration.invariant.0 iteration v (omega arith)
           c.index.ensures
           c.deref.result.now (terms_each next.items) c.deref.ensures.value
           c.in_ok-next.ensures.terms),
       have_more (λ (v : Vec FracPoly Global). All (λ (p : FracPoly). p.arity ≡ length M) v.items)
-          found c.push-in-loop-iteration.new.self.items next c.in_ok-push-2.ensures.items
-          c.loop-iteration.invariant.1
-          (subst (λ n. All (λ (p : FracPoly). p.arity ≡ n) next.items) size
-          c.in_ok-next.ensures.arities),
+          found _ next c.in_ok-push-2.ensures.items c.loop-iteration.invariant.1 (subst (λ n. All
+          (λ (p : FracPoly). p.arity ≡ n) next.items) size c.in_ok-next.ensures.arities),
     )

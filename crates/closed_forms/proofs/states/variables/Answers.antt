@@ -12,7 +12,7 @@ loop-variable-preserved c =
     let is = c.in_ok-variable.ensures.variable in (
       variable_next _ m i c.loop-variable-test.true p is c.loop-variable.out.items
           c.push.new.self.items c.in_ok-push.ensures.items c.loop-variable.invariant.0,
-      have_more (λ (p : FracPoly). p.arity ≡ m) c.loop-variable.out.items c.push.new.self.items p
+      have_more (λ (p : FracPoly). p.arity ≡ m) _ _ p
           c.in_ok-push.ensures.items c.loop-variable.invariant.1
           (variable_arity _ m i c.loop-variable-test.true p is),
     )

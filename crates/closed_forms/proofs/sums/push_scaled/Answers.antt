@@ -8,16 +8,14 @@ use Rattle.closed_forms.proofs.sums.push_scaled.Goals as goal
 pub loop-term-preserved : goal.loop-term-preserved
 loop-term-preserved c =
     let i = c.loop-term.term-index in
-    scaled_next _ _ c.term-item.result
-    (left_at c.args.terms.now i c.term-item.result c.loop-term-test.true c.term-item.is)
+    scaled_next _ _ (left_at _ i c.loop-term-test.true c.term-item.is)
     (fraction_of c.args.number.now) c.loop-term.out.items c.push.new.self.items _ _
-    c.in_ok-mono.ensures.ok c.in_ok-coef.ensures.ok c.in_ok-push.ensures.items
-    c.loop-term.invariant
+    c.in_ok-mono.ensures.ok c.in_ok-coef.ensures.ok c.in_ok-push.ensures.items c.loop-term.invariant
 
 pub returns-clause-terms : goal.returns-clause-terms
 returns-clause-terms c =
     none_left (λ ts. scale_terms rationals (fraction_of c.args.number.now) (tell ts))
-    (scaled_none (fraction_of c.args.number.now)) c.args.terms.now c.loop-term.term-index _ _
+    (scaled_none (fraction_of c.args.number.now)) _ _ _ _
     c.loop-term-test.false c.loop-term.invariant
 
 pub returns-in_err-coef-clause-wide : goal.returns-in_err-coef-clause-wide

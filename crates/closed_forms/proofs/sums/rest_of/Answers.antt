@@ -11,12 +11,10 @@ use Rattle.closed_forms.proofs.sums.rest_of.Goals as goal
 
 pub push_rest-requires : goal.push_rest-requires
 push_rest-requires c = λ k d l k' d' l'.
-    subst (λ n. get_or c.args.group.now k' d' < n)
-    (sym (all_arity c.args.poly.now.arity c.deref.result.now
+    subst (λ n. get_or c.args.group.now k' d' < n) (sym (all_arity _ _
     (subst (λ (ts : List (Term Frac)). Arity c.args.poly.now.arity (tell ts))
     (sym (c.deref.ensures.value ∙ ap (λ v. v.items) c.terms.ensures))
-    c.args.poly.now.polynomial.arity) k d l))
-    (c.requires k' d' l')
+    c.args.poly.now.polynomial.arity) k d l)) (c.requires k' d' l')
 
 pub from_descending-requires-clause-descending : goal.from_descending-requires-clause-descending
 from_descending-requires-clause-descending c =

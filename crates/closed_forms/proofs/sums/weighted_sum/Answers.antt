@@ -10,19 +10,14 @@ use Rattle.closed_forms.proofs.sums.weighted_sum.Goals as goal
 
 pub from_terms-requires-clause-arities : goal.from_terms-requires-clause-arities
 from_terms-requires-clause-arities c =
-    all_arity c.args.arity c.push_mixed.new.out.items
-    (subst (Arity c.args.arity) (sym (c.in_ok-push_mixed.ensures.terms
-    ∙ ap (λ l. tell l ++ mix (fractions_of c.args.numbers.now)
-    (terms_each c.args.polys.now)) c.new-terms.ensures.items))
-    (mix-arity c.args.arity (fractions_of c.args.numbers.now) (terms_each c.args.polys.now)
-    (polys_arity c.args.arity c.args.polys.now c.requires.arities)))
+    all_arity _ _ (subst (Arity c.args.arity) (sym (c.in_ok-push_mixed.ensures.terms ∙ ap (λ l. tell
+    l ++ mix (fractions_of c.args.numbers.now) (terms_each c.args.polys.now))
+    c.new-terms.ensures.items)) (mix-arity c.args.arity (fractions_of c.args.numbers.now) _
+    (polys_arity _ _ c.requires.arities)))
 
 pub returns-clause-terms : goal.returns-clause-terms
 returns-clause-terms c =
-    IfOk-weaker c.from_terms.result _ _
-    (λ p i. part_is c.args.arity (fractions_of c.args.numbers.now) c.args.polys.now
-    (tell c.push_mixed.new.out.items) p c.requires.arities
-    (c.in_ok-push_mixed.ensures.terms
-    ∙ ap (λ l. tell l ++ mix (fractions_of c.args.numbers.now) (terms_each c.args.polys.now))
-    c.new-terms.ensures.items)
+    IfOk-weaker c.from_terms.result _ _ (λ p i. part_is c.args.arity _ c.args.polys.now p
+    c.requires.arities (c.in_ok-push_mixed.ensures.terms ∙ ap (λ l. tell l ++ mix
+    (fractions_of c.args.numbers.now) (terms_each c.args.polys.now)) c.new-terms.ensures.items)
     i.arity i.same) c.from_terms.ensures.sum

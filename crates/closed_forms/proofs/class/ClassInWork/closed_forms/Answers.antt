@@ -15,7 +15,7 @@ pub loop-place-init : goal.loop-place-init
 loop-place-init c =
     let none = c.new-done.ensures.items in (
       ap length none,
-      All-same (λ (p : FracPoly). p.arity ≡ over_class c.args.self.now) c.new-done.result.items []
+      All-same (λ (p : FracPoly). p.arity ≡ over_class c.args.self.now) _ []
           none
           (All-nil (λ (p : FracPoly). p.arity ≡ over_class c.args.self.now)),
       next_begun (base_in c.args.self.now) c.args.self.now.group.now c.args.self.now.setting
@@ -34,9 +34,8 @@ closed_form-requires-clause-form c =
     record {
       group = c.requires.group;
       made = each_at (λ x. x ≢ ℚ.zero → IsMade (base_in w) x) w.split.now.values.items
-          c.loop-place.place c.index-in-loop-place.result.now
-          (omega (arith, low, c.requires.values))
-          c.index-in-loop-place.ensures c.requires.made;
+          c.loop-place.place (omega (arith, low, c.requires.values)) c.index-in-loop-place.ensures
+          c.requires.made;
       setting = subst (λ n. IsClassSetting (base_in w) n w.setting) (sym wide) c.requires.setting;
     }
 
@@ -71,7 +70,7 @@ loop-place-preserved c =
     let next = c.in_ok-next.next in
     let more = c.in_ok-push.ensures.items in (
       ap length more ∙ length_push done next ∙ ap (λ k. k + 1) c.loop-place.invariant.0,
-      All-same (λ (p : FracPoly). p.arity ≡ over_class c.args.self.now) c.push.new.self.items _ more
+      All-same (λ (p : FracPoly). p.arity ≡ over_class c.args.self.now) _ _ more
           (All-push (λ (p : FracPoly). p.arity ≡ over_class c.args.self.now) done next
           c.loop-place.invariant.1
           c.in_ok-next.ensures.arity),

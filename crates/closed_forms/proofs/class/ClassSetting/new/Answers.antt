@@ -11,18 +11,17 @@ use Rattle.closed_forms.proofs.Splitting.{class_inside}
 use Rattle.closed_forms.proofs.class.ClassSetting.new.Goals as goal
 
 pub rests-requires-clause-inside : goal.rests-requires-clause-inside
-rests-requires-clause-inside c = class_inside c.args.work.now.images.now.items c.args.group.now
+rests-requires-clause-inside c = class_inside _
     c.requires.class
 
 pub class_matrix-requires-clause-inside : goal.class_matrix-requires-clause-inside
-class_matrix-requires-clause-inside c = class_inside c.args.work.now.images.now.items
-    c.args.group.now
+class_matrix-requires-clause-inside c = class_inside _
     c.requires.class
 
 pub inverse-requires-clause-few : goal.inverse-requires-clause-few
 inverse-requires-clause-few c =
     subst (λ (fs : List (Vec Frac Global)). length fs ≤ 12) (sym c.deref.ensures.value)
-    (forms_few c.requires.split (length c.args.work.now.images.now.items) c.requires.class
+    (forms_few c.requires.split c.requires.class
     (length_each c.args.work.now.images.now.items) c.requires.work.few)
 
 pub inverse-requires-clause-square : goal.inverse-requires-clause-square
@@ -34,10 +33,9 @@ inverse-requires-clause-square c =
 pub picked-requires : goal.picked-requires
 picked-requires c =
     let M = c.args.work.now.images.now.items in
-    subst (λ n. All (λ i. i < n) c.args.group.now)
-    (sym (sym (length_each c.last_state.result.now) ∙ ap length c.last_state.ensures.terms
-    ∙ after_count (terms_each M) c.args.work.now.iterations ∙ length_each M))
-    (class_inside M c.args.group.now c.requires.class)
+    subst (λ n. All (λ i. i < n) c.args.group.now) (sym (sym (length_each c.last_state.result.now)
+    ∙ ap length c.last_state.ensures.terms ∙ after_count (terms_each M) c.args.work.now.iterations
+    ∙ length_each M)) (class_inside M c.requires.class)
 
 pub returns-clause-setting : goal.returns-clause-setting
 returns-clause-setting c = record {

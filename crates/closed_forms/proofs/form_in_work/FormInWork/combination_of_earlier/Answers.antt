@@ -1,4 +1,4 @@
-use Rattle.std.proofs.Common.{length, refl, sym, ap, subst, ◌∙◌}
+use Rattle.std.proofs.Common.{refl, sym, ap, subst, ◌∙◌}
 use Rattle.linear.specs.Rows.{fractions_of, rows_of}
 use Rattle.poly.specs.Seen.{terms_each}
 use Rattle.closed_forms.specs.ClassInWork.{numbers_for}
@@ -20,14 +20,9 @@ is_by c =
     let n = fractions-length c.args.self.now.form.now in
     record {
       turned = fractions_of c.in_ok-turned.turned.items;
-      first = product_at (length w) (length c.args.self.now.form.now) c.args.self.now.form.now
-          c.args.self.now.form.now
-          c.args.self.now.class.now.setting.matrix.items c.deref.result.now
-          (fractions_of c.in_ok-turned.turned.items) refl c.deref.ensures.value (sym n)
+      first = product_at refl c.deref.ensures.value (sym n)
           c.in_ok-turned.ensures.product;
-      second = product_at (length w) (length c.args.self.now.form.now) c.in_ok-turned.turned.items
-          c.deref-2.result.now c.args.self.now.class.now.setting.back.items c.deref-3.result.now
-          (fractions_of c.in_ok-by.by.items) c.deref-2.ensures.value c.deref-3.ensures.value (sym n)
+      second = product_at c.deref-2.ensures.value c.deref-3.ensures.value (sym n)
           c.in_ok-by.ensures.product;
     }
 
@@ -54,25 +49,16 @@ returns-clause-wide c =
 pub returns-in_err-turned-clause-wide : goal.returns-in_err-turned-clause-wide
 returns-in_err-turned-clause-wide c =
     let n = fractions-length c.args.self.now.form.now in
-    handed_on c.in_err-turned.field-0.0 c.from_residual.result c.from_residual.ensures.1
-    (λ wide. past.turned (past_row_at (length (numbers_for c.args.self.now))
-    (length c.args.self.now.form.now) c.args.self.now.form.now c.args.self.now.form.now
-    c.args.self.now.class.now.setting.matrix.items
-    c.deref.result.now refl c.deref.ensures.value (sym n) (c.in_err-turned.ensures.wide
-    wide)))
+    handed_on c.in_err-turned.field-0.0 c.from_residual.result c.from_residual.ensures.1 (λ wide.
+    past.turned (past_row_at refl c.deref.ensures.value (sym n)
+    (c.in_err-turned.ensures.wide wide)))
 
 pub returns-in_err-by-clause-wide : goal.returns-in_err-by-clause-wide
 returns-in_err-by-clause-wide c =
     let w = numbers_for c.args.self.now in
     let n = fractions-length c.args.self.now.form.now in
     handed_on c.in_err-by.field-0.0 c.from_residual-in_err-by.result
-    c.from_residual-in_err-by.ensures.1
-    (λ wide. past.back (fractions_of c.in_ok-turned.turned.items)
-    (product_at (length w) (length c.args.self.now.form.now) c.args.self.now.form.now
-    c.args.self.now.form.now
-    c.args.self.now.class.now.setting.matrix.items c.deref.result.now
-    (fractions_of c.in_ok-turned.turned.items) refl c.deref.ensures.value (sym n)
-    c.in_ok-turned.ensures.product)
-    (past_row_at (length w) (length c.args.self.now.form.now) c.in_ok-turned.turned.items
-    c.deref-2.result.now c.args.self.now.class.now.setting.back.items c.deref-3.result.now
-    c.deref-2.ensures.value c.deref-3.ensures.value (sym n) (c.in_err-by.ensures.wide wide)))
+    c.from_residual-in_err-by.ensures.1 (λ wide. past.back
+    (fractions_of c.in_ok-turned.turned.items) (product_at refl c.deref.ensures.value (sym n)
+    c.in_ok-turned.ensures.product) (past_row_at c.deref-2.ensures.value c.deref-3.ensures.value
+    (sym n) (c.in_err-by.ensures.wide wide)))

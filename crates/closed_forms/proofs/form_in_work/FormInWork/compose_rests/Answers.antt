@@ -1,7 +1,6 @@
-use Rattle.std.proofs.Common.{◌≡◌, All, length, sym, ap, subst, ◌∙◌, arith}
+use Rattle.std.proofs.Common.{◌≡◌, All, sym, ap, subst, ◌∙◌, arith}
 use Rattle.poly.specs.Seen.{terms_each}
 use Rattle.solvable.proofs.Using.{FracPoly}
-use Rattle.solvable_maps.specs.Iterations.{width}
 use Rattle.closed_forms.specs.ClassInWork.{base_for, variables_for, numbers_for}
 use Rattle.closed_forms.specs.Inhomogeneities.{part}
 use Rattle.closed_forms.proofs.Making.{arity_of_is, over_images, moved_is}
@@ -25,25 +24,16 @@ weighted_sum-requires-clause-arities c =
 
 pub compose-requires-clause-arities : goal.compose-requires-clause-arities
 compose-requires-clause-arities c =
-    over_images (width (length (base_for c.args.self.now))
-    (variables_for c.args.self.now))
-    c.args.self.now.class.now.setting.earlier.items c.requires.setting.some
-    c.requires.setting.earlier
+    over_images _ _ c.requires.setting.some c.requires.setting.earlier
 
 pub returns-clause-arity : goal.returns-clause-arity
 returns-clause-arity c =
-    c.in_ok-compose.ensures.composition.arity
-    ∙ arity_of_is (width (length (base_for c.args.self.now))
-    (variables_for c.args.self.now))
-    c.args.self.now.class.now.setting.earlier.items c.requires.setting.some
+    c.in_ok-compose.ensures.composition.arity ∙ arity_of_is _ _ c.requires.setting.some
     c.requires.setting.earlier
 
 pub returns-clause-terms : goal.returns-clause-terms
 returns-clause-terms c =
     let i = c.in_ok-compose.ensures.composition in
-    moved_is (base_for c.args.self.now) (variables_for c.args.self.now)
-    (numbers_for c.args.self.now) (terms_each c.args.self.now.class.now.setting.rests.items)
-    c.args.self.now.class.now.setting.earlier.items c.in_ok-part.part c.in_ok-compose.field-0
-    c.requires.setting.some c.requires.setting.earlier (c.in_ok-part.ensures.terms
-    ∙ ap (λ (ps : _). part (numbers_for c.args.self.now) (terms_each ps))
-    c.deref.ensures.value) i.arity i.same
+    moved_is (base_for c.args.self.now) _ _ _ _ c.in_ok-part.part c.in_ok-compose.field-0
+    c.requires.setting.some c.requires.setting.earlier (c.in_ok-part.ensures.terms ∙ ap (λ (ps : _).
+    part (numbers_for c.args.self.now) (terms_each ps)) c.deref.ensures.value) i.arity i.same

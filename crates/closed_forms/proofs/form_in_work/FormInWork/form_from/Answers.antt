@@ -10,7 +10,7 @@ returns-then-is_zero-clause-over c = IfOk-weaker c.before-then-is_zero.result _ 
     c.before-then-is_zero.ensures.before
 
 pub returns-then-is_zero-clause-form : goal.returns-then-is_zero-clause-form
-returns-then-is_zero-clause-form c = ok_both c.before-then-is_zero.result _ _ _
+returns-then-is_zero-clause-form c = ok_both _ _ _ _
     (λ e is h. one_later_form (c.is_zero.ensures.0 c.if-is_zero.true)
     (one_later_is c.requires.over e is h)) c.before-then-is_zero.ensures.before
     c.before-then-is_zero.ensures.values
@@ -20,4 +20,4 @@ returns-then-is_zero-clause-wide c = λ w. one_later_wide (c.is_zero.ensures.0 c
     (one_later_past c.requires.over (c.before-then-is_zero.ensures.wide w))
 
 pub some_form-requires-clause-nonzero : goal.some_form-requires-clause-nonzero
-some_form-requires-clause-nonzero c = off c.is_zero.result c.if-is_zero.false c.is_zero.ensures.1
+some_form-requires-clause-nonzero c = off c.if-is_zero.false c.is_zero.ensures.1

@@ -6,7 +6,7 @@ use Rattle.linear.specs.Rows.{rows_of}
 use Rattle.poly.specs.Seen.{terms_in, terms_each}
 use Rattle.solvable_maps.specs.Iterations.{width}
 use Rattle.solvable.proofs.Using.{FracPoly}
-use Rattle.closed_forms.specs.ClassInWork.{base_for, over_form, variables_for, numbers_for, moved_by}
+use Rattle.closed_forms.specs.ClassInWork.{base_for, over_form, variables_for, moved_by}
 use Rattle.closed_forms.specs.Inhomogeneities.{part}
 use Rattle.closed_forms.specs.Inhomogeneities as past
 use Rattle.expo.proofs.Outcomes.{wide_of}
@@ -18,8 +18,7 @@ use Rattle.closed_forms.proofs.form_in_work.FormInWork.inhomogeneity.Goals.{In_o
 
 pub width-arity-requires : goal.width-arity-requires
 width-arity-requires c =
-    let e = base_width c.args.self.now.class.now.base.now.items c.len.result c.len-2.result
-    (c.len.ensures ∙ c.args.self.now.class.now.base.now.ok.0) in
+    let e = base_width _ c.len-2.result (c.len.ensures ∙ c.args.self.now.class.now.base.now.ok.0) in
     let n : c.len-2.result ≡ variables_for c.args.self.now = c.len-2.ensures
     ∙ c.args.self.now.class.now.setting.earlier.ok.0 in
     let few = c.requires.form.setting.few in
@@ -29,8 +28,7 @@ width-arity-requires c =
 module _ (c : In_ok-moved) where
   width_is : c.width-arity.result ≡ over_form c.args.self.now
   width_is = c.width-arity.ensures
-      ∙ base_width c.args.self.now.class.now.base.now.items c.len.result c.len-2.result
-      (c.len.ensures ∙ c.args.self.now.class.now.base.now.ok.0)
+      ∙ base_width _ c.len-2.result (c.len.ensures ∙ c.args.self.now.class.now.base.now.ok.0)
       ∙ ap (width (length (base_for c.args.self.now)))
       (c.len-2.ensures ∙ c.args.self.now.class.now.setting.earlier.ok.0)
 
@@ -61,16 +59,14 @@ add-requires-clause-arity c =
 
 pub normal-requires-clause-front : goal.normal-requires-clause-front
 normal-requires-clause-front c =
-    room_before (base_for c.args.self.now) c.in_ok-sum.sum.arity
-    (variables_for c.args.self.now) (c.in_ok-sum.ensures.sum.arity
+    room_before _ _ (c.in_ok-sum.ensures.sum.arity
     ∙ moved_arity (goal.at.normal-requires-clause-front c).In_ok-moved)
 
 pub returns-clause-over : goal.returns-clause-over
 returns-clause-over c =
     let a = c.in_ok-sum.ensures.sum.arity
     ∙ moved_arity (goal.at.returns-clause-over c).In_ok-moved in
-    if_ok_where c.normal.result _ _ (λ e h. normal_over (base_for c.args.self.now)
-    c.in_ok-sum.sum.arity (variables_for c.args.self.now) _ e a h)
+    if_ok_where c.normal.result _ _ (λ e h. normal_over (base_for c.args.self.now) _ _ e a h)
     c.normal.ensures.normal
 
 pub returns-clause-inhomogeneity : goal.returns-clause-inhomogeneity
@@ -78,19 +74,11 @@ returns-clause-inhomogeneity c =
     let at = (goal.at.returns-clause-inhomogeneity c).In_ok-moved in
     let s = c.args.self.now.class.now.setting in
     let i = c.in_ok-sum.ensures.sum in
-    let sum = sum_is (over_form c.args.self.now) c.in_ok-moved.moved
-    c.in_ok-combination_of_earlier.combination_of_earlier c.in_ok-sum.sum
-    (moved_by c.args.self.now)
-    (terms_in c.in_ok-combination_of_earlier.combination_of_earlier)
-    (moved_arity at) (c.in_ok-combination_of_earlier.ensures.arity ∙ width_is at) i.arity
-    (moved_is at) refl
-    i.same in
-    if_ok_where c.normal.result _ _
-    (λ e h. inhomogeneity_is (base_for c.args.self.now) (length s.earlier.items)
-    (numbers_for c.args.self.now) (terms_each s.rests.items) (terms_each s.earlier.items)
-    (rows_of s.matrix.items) (rows_of s.back.items) (terms_each c.args.done.now)
-    (terms_in c.in_ok-combination_of_earlier.combination_of_earlier) (terms_in c.in_ok-sum.sum) e _
-    c.in_ok-combination_of_earlier.ensures.terms sum h) c.normal.ensures.normal
+    let sum = sum_is c.in_ok-moved.moved c.in_ok-combination_of_earlier.combination_of_earlier
+    c.in_ok-sum.sum (moved_arity at) (c.in_ok-combination_of_earlier.ensures.arity ∙ width_is at)
+    i.arity (moved_is at) refl i.same in
+    if_ok_where c.normal.result _ _ (λ e h. inhomogeneity_is _ _ _ _ _ _ (rows_of s.back.items) _ e
+    _ c.in_ok-combination_of_earlier.ensures.terms sum h) c.normal.ensures.normal
 
 pub returns-clause-wide : goal.returns-clause-wide
 returns-clause-wide c =
@@ -98,15 +86,10 @@ returns-clause-wide c =
     let s = c.args.self.now.class.now.setting in
     let i = c.in_ok-sum.ensures.sum in
     let is = c.in_ok-combination_of_earlier.ensures.terms in
-    λ h. past.normal_past is.by is.is_by
-    (subst (λ ts. IsPast (weight fraction_size ts))
-    (sum_is (over_form c.args.self.now) c.in_ok-moved.moved
-    c.in_ok-combination_of_earlier.combination_of_earlier c.in_ok-sum.sum
-    (moved_by c.args.self.now) (part is.by (terms_each c.args.done.now))
-    (moved_arity at) (c.in_ok-combination_of_earlier.ensures.arity ∙ width_is at) i.arity
-    (moved_is at) is.terms
-    i.same)
-    (c.normal.ensures.wide h))
+    λ h. past.normal_past is.by is.is_by (subst (λ ts. IsPast (weight fraction_size ts))
+    (sum_is c.in_ok-moved.moved c.in_ok-combination_of_earlier.combination_of_earlier
+    c.in_ok-sum.sum (moved_arity at) (c.in_ok-combination_of_earlier.ensures.arity ∙ width_is at)
+    i.arity (moved_is at) is.terms i.same) (c.normal.ensures.wide h))
 
 pub returns-in_err-moved-clause-wide : goal.returns-in_err-moved-clause-wide
 returns-in_err-moved-clause-wide c = handed_on c.in_err-moved.field-0.0 c.from_residual.result
@@ -123,10 +106,8 @@ returns-in_err-combination_of_earlier-clause-wide c =
 pub returns-in_err-sum-clause-wide : goal.returns-in_err-sum-clause-wide
 returns-in_err-sum-clause-wide c =
     let is = c.in_ok-combination_of_earlier.ensures.terms in
-    λ h. past.sum_past is.by is.is_by
-    (subst (λ ts. IsPastSum fractions ts (part is.by (terms_each c.args.done.now)))
-    (moved_is (goal.at.returns-in_err-sum-clause-wide c).In_ok-moved)
-    (subst (λ ts. IsPastSum fractions (terms_in c.in_ok-moved.moved) ts) is.terms
-    (c.in_err-sum.ensures.wide
-    (ap Err (wide_of c.from_residual-in_err-sum.result c.in_err-sum.field-0.0
-    c.from_residual-in_err-sum.ensures.1 h)))))
+    λ h. past.sum_past is.by is.is_by (subst (λ ts. IsPastSum fractions ts
+    (part is.by (terms_each c.args.done.now)))
+    (moved_is (goal.at.returns-in_err-sum-clause-wide c).In_ok-moved) (subst (λ ts. IsPastSum
+    fractions (terms_in c.in_ok-moved.moved) ts) is.terms (c.in_err-sum.ensures.wide (ap Err
+    (wide_of _ c.in_err-sum.field-0.0 c.from_residual-in_err-sum.ensures.1 h)))))

@@ -71,13 +71,10 @@ returns-then-setting-eq0-clause-wide c =
     let m = variables_for c.args.self.now in
     let f = numbers_for c.args.self.now in
     let x = number_of bs c.in_ok-own.own in
-    λ w. at_once_past bs m f c.args.self.now.class.now.group.now (value_for c.args.self.now) x
-    (ahead_in c.args.self.now.class.now.setting) (terms_in c.args.inhomogeneity.now.body)
-    c.requires.nonzero
-    c.in_ok-own.ensures.power.is c.if-setting-eq0.true
-    (subst (λ q. IsPastSolved bs m f c.args.self.now.class.now.group.now x (tell q)) (terms_are at)
-    (subst (λ k. IsPastSolved bs k f c.args.self.now.class.now.group.now x
-    (tell c.deref.result.now)) (count_is at)
+    λ w. at_once_past bs m f _ x (ahead_in c.args.self.now.class.now.setting) _ c.requires.nonzero
+    c.in_ok-own.ensures.power.is c.if-setting-eq0.true (subst (λ q. IsPastSolved bs m f
+    c.args.self.now.class.now.group.now x (tell q)) (terms_are at) (subst (λ k. IsPastSolved bs k f
+    c.args.self.now.class.now.group.now x (tell c.deref.result.now)) (count_is at)
     (c.solve.ensures.wide w)))
 
 pub returns-in_err-there-clause-wide : goal.returns-in_err-there-clause-wide

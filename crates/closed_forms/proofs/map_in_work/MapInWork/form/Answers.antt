@@ -37,8 +37,7 @@ fill-requires-clause-forms c =
 pub returns-in_err-fill-clause-refused : goal.returns-in_err-fill-clause-refused
 returns-in_err-fill-clause-refused c =
     let e = c.in_err-fill.field-0.0 in
-    refused_on (IfLater (images_in c.args.self)) e c.from_residual-in_err-fill.result
-    c.from_residual-in_err-fill.ensures.1
+    refused_on (IfLater (images_in c.args.self)) e _ c.from_residual-in_err-fill.ensures.1
     (class_later c.requires.work e c.in_err-fill.ensures.refused)
 
 pub least-requires-clause-inside : goal.least-requires-clause-inside
@@ -62,12 +61,10 @@ pub returns-in_err-since-clause-refused : goal.returns-in_err-since-clause-refus
 returns-in_err-since-clause-refused c =
     let w = c.args.self in
     let e = c.in_err-since.field-0.0 in
-    refused_on (IfLater (images_in w)) e c.from_residual-in_err-since.result
-    c.from_residual-in_err-since.ensures.1
-    (iteration_later c.requires.work e
-    (c.in_err-since.ensures.refused (images_in w) (sizes w.base.items)
-    (settling_at c.requires.work c.in_ok-fill.ensures.forms c.deref-2.ensures.value
-    c.deref-3.ensures.value c.deref-4.ensures.value)))
+    refused_on (IfLater (images_in w)) e _ c.from_residual-in_err-since.ensures.1
+    (iteration_later c.requires.work e (c.in_err-since.ensures.refused (images_in w)
+    (sizes w.base.items) (settling_at c.requires.work c.in_ok-fill.ensures.forms
+    c.deref-2.ensures.value c.deref-3.ensures.value c.deref-4.ensures.value)))
 
 settled : (c : In_ok-since) → IsSettled (images_in c.args.self) (sizes c.args.self.base.items)
     c.fill.new.polys.items c.args.self.iterations c.in_ok-since.since
@@ -93,23 +90,19 @@ passing-requires-clause-inside c =
 pub passing-requires-clause-alike : goal.passing-requires-clause-alike
 passing-requires-clause-alike c =
     rw (c.deref-6.ensures.value, c.deref-7.ensures.value)
-    (alike_at c.requires.work c.in_ok-fill.ensures.forms 0
-    c.index.result.now (omega arith) c.index.ensures)
+    (alike_at c.requires.work c.in_ok-fill.ensures.forms 0 (omega arith) c.index.ensures)
 
 pub returns-in_err-passing-clause-refused : goal.returns-in_err-passing-clause-refused
 returns-in_err-passing-clause-refused c =
     let at = (goal.at.returns-in_err-passing-clause-refused c).In_ok-since in
     let w = c.args.self in
     let e = c.in_err-passing.field-0.0 in
-    refused_on (IfLater (images_in w)) e c.from_residual-in_err-passing.result
-    c.from_residual-in_err-passing.ensures.1
-    (iteration_later c.requires.work e
-    (passing_wide c.requires.work c.in_ok-fill.ensures.forms (settled at) e
-    (subst (λ gs. IfOfClass (λ v. (c.in_ok-since.since ≢ 0) × IsPastOfClass (groups_in gs)
-    c.fill.new.polys.items 0 v) e) c.deref-5.ensures.value
-    (subst (λ l. IfOfClass (λ v. (c.in_ok-since.since ≢ 0) × IsPastOfClass
-    (groups_in c.deref-5.result.now) l 0 v) e) c.deref-6.ensures.value
-    c.in_err-passing.ensures.refused))))
+    refused_on (IfLater (images_in w)) e _ c.from_residual-in_err-passing.ensures.1
+    (iteration_later c.requires.work e (passing_wide c.requires.work c.in_ok-fill.ensures.forms
+    (settled at) e (subst (λ gs. IfOfClass (λ v. (c.in_ok-since.since ≢ 0) × IsPastOfClass
+    (groups_in gs) c.fill.new.polys.items 0 v) e) c.deref-5.ensures.value (subst (λ l. IfOfClass
+    (λ v. (c.in_ok-since.since ≢ 0) × IsPastOfClass (groups_in c.deref-5.result.now) l 0 v) e)
+    c.deref-6.ensures.value c.in_err-passing.ensures.refused))))
 
 pub returns-clause-form : goal.returns-clause-form
 returns-clause-form c =

@@ -22,7 +22,7 @@ pub returns-in_err-splits-clause-refused : goal.returns-in_err-splits-clause-ref
 returns-in_err-splits-clause-refused c =
     let M = terms_each c.args.images.now.items in
     let e = c.in_err-splits.field-0.0 in
-    refused_on (IfRefusedBy M) e c.from_residual.result c.from_residual.ensures.1
+    refused_on (IfRefusedBy M) e _ c.from_residual.ensures.1
     (refused_first M e c.in_err-splits.ensures.refused)
 
 pub long_class-requires : goal.long_class-requires
@@ -31,21 +31,20 @@ long_class-requires c = rw c.deref-2.ensures.value c.in-Ok.ensures.classes
 pub returns-in-Some-clause-refused : goal.returns-in-Some-clause-refused
 returns-in-Some-clause-refused c =
     let images = c.args.images.now.items in
-    is_too_long (terms_each images) (c.in-Ok.ensures.solvable (search rules))
-    (all_pass images c.requires.square c.in_ok-splits.splits.items c.in_ok-splits.ensures.splits)
-    (groups_in c.deref-2.result.now) (rw c.deref-2.ensures.value c.in-Ok.ensures.classes)
-    (length images) c.in-Some.variable
+    is_too_long (terms_each images) (c.in-Ok.ensures.solvable (search rules)) (all_pass images
+    c.requires.square c.in_ok-splits.ensures.splits) (groups_in c.deref-2.result.now)
+    (rw c.deref-2.ensures.value c.in-Ok.ensures.classes) (length images) c.in-Some.variable
     c.in_ok-variable.field-0 (sym (length_each images)) c.in-Some.is c.in_ok-variable.ensures
 
 pub base_of-requires : goal.base_of-requires
 base_of-requires c = record {
-  few = rw c.deref-3.ensures.value (twelve_values c.args.images.now.items c.requires.few
-      c.requires.square c.in_ok-splits.splits.items c.in_ok-splits.ensures.splits);
+  few = rw c.deref-3.ensures.value (twelve_values _ c.requires.few
+      c.requires.square c.in_ok-splits.ensures.splits);
 }
 
 pub zeros_of-iterations-requires : goal.zeros_of-iterations-requires
-zeros_of-iterations-requires c = rw c.deref-4.ensures.value (twelve_values c.args.images.now.items
-    c.requires.few c.requires.square c.in_ok-splits.splits.items c.in_ok-splits.ensures.splits)
+zeros_of-iterations-requires c = rw c.deref-4.ensures.value (twelve_values _
+    c.requires.few c.requires.square c.in_ok-splits.ensures.splits)
 
 -- the base of the values but zero, and how many are zero
 module _ (c : After-zeros_of-iterations) where
@@ -63,8 +62,7 @@ states-requires-clause-some c = λ some.
     let images = c.args.images.now.items in
     let splits = c.in_ok-splits.splits.items in
     let a = zeros_low (values_in splits) in
-    let b = values_few (terms_each images) (map_of images c.requires.square) splits
-    c.in_ok-splits.ensures.splits in
+    let b = values_few (map_of images c.requires.square) splits c.in_ok-splits.ensures.splits in
     let d = length_each images in
     let e = count_is (goal.at.states-requires-clause-some c).After-zeros_of-iterations in
     omega (arith, a, b, d, e, some)
@@ -79,10 +77,9 @@ returns-in-Err-Wide-clause-refused c =
     let bs = sizes c.in_ok-base.base.items in
     record {
       solvable = c.in-Ok.ensures.solvable (search rules);
-      pass = all_pass images c.requires.square splits are;
-      later = later_state M bs
+      pass = all_pass images c.requires.square are;
+      later = later_state
           (form_base_is M splits are (map_of images c.requires.square) bs (base_is at))
-          c.zeros_of-iterations.result
           (record { splits = splits; are = are; count = sym (count_is at) })
           (c.in-Err-Wide.ensures.wide (ap Err c.in-Err-Wide.field-0-is));
     }

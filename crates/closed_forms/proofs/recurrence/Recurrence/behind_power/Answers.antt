@@ -55,10 +55,8 @@ pub returns : goal.returns
 returns c = record {
   ok = let at = (goal.at.returns c).In_ok-push_sides-2 in
       let p = c.args.self.now.own in
-      IfOk-weaker c.concat.result _ _ (λ mono is. is
-      ∙ ap (λ l. l ++ c.args.variables.now) c.in_ok-front.ensures.ok
-      ∙ sides_front p.negative p.exponents.items c.in_ok-exponents.exponents.items
-      c.push_sides.new.out.items c.push_sides-2.new.out.items c.args.variables.now
-      (c.in_ok-exponents.ensures.items ∙ ap (λ n. 0 ∷ n ∷ []) (c.from.ensures
-      ∙ byte_is p.negative)) (above at) (below at)) c.concat.ensures.ok;
+      IfOk-weaker c.concat.result _ _ (λ mono is. is ∙ ap (λ l. l ++ c.args.variables.now)
+      c.in_ok-front.ensures.ok ∙ sides_front p.negative p.exponents.items c.args.variables.now
+      (c.in_ok-exponents.ensures.items ∙ ap (λ n. 0 ∷ n ∷ []) (c.from.ensures ∙ byte_is p.negative))
+      (above at) (below at)) c.concat.ensures.ok;
 }

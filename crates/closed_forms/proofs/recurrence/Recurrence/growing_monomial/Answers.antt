@@ -12,6 +12,5 @@ pub returns : goal.returns
 returns c = record {
   ok = IfOk-weaker c.behind_power.result _ _
       (λ mono e. e ∙ ap (with_key 0 (key_of_power c.args.self.now.own))
-      (unit_is c.args.self.now.vars c.args.variable c.in_ok-unit.unit c.requires
-      c.in_ok-unit.ensures.ok)) c.behind_power.ensures.ok;
+      (unit_is _ _ _ c.requires c.in_ok-unit.ensures.ok)) c.behind_power.ensures.ok;
 }

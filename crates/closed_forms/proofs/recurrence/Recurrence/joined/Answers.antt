@@ -23,11 +23,10 @@ use Rattle.closed_forms.proofs.recurrence.Recurrence.joined.Goals.{In_ok-push_co
 pub push_grown-requires : goal.push_grown-requires
 push_grown-requires c =
     let start = c.args.start.now in
-    subst (λ (ts : List (Term Frac)). All (λ (t : Term Frac). length t.mono
-    ≡ c.args.self.now.vars) ts)
-    (sym (c.deref.ensures.value ∙ ap (λ v. v.items) c.terms.ensures))
-    (subst (λ m. All (λ (t : Term Frac). length t.mono ≡ m) start.terms.items) c.requires.start
-    (all_arity start.arity start.terms.items start.polynomial.arity))
+    subst (λ (ts : List (Term Frac)). All (λ (t : Term Frac). length t.mono ≡ c.args.self.now.vars)
+    ts) (sym (c.deref.ensures.value ∙ ap (λ v. v.items) c.terms.ensures)) (subst (λ m. All
+    (λ (t : Term Frac). length t.mono ≡ m) start.terms.items) c.requires.start
+    (all_arity _ _ start.polynomial.arity))
 
 -- all terms, and how many exponents they have
 module _ (c : In_ok-push_copies) where
@@ -65,14 +64,14 @@ pub normal_sum-requires : goal.normal_sum-requires
 normal_sum-requires c =
     let at = (goal.at.normal_sum-requires c).In_ok-push_copies in
     let r = c.args.self.now in
-    all_arity (width (length (base_by r)) r.vars) c.push_copies.new.out.items
+    all_arity _ _
     (together-arity (base_by r) r.coprime.0 r.vars r.own.negative r.own.exponents.items
     (count_is at) (start at) (sum at) (all at) (all_is at) (narrow at) (wide at))
 
 pub returns-clause-over : goal.returns-clause-over
 returns-clause-over c =
     let r = c.args.self.now in
-    IfOk-weaker c.normal_sum.result _ _ (expo_over (base_by r) r.vars _) c.normal_sum.ensures.normal
+    IfOk-weaker c.normal_sum.result _ _ (expo_over r.vars _) c.normal_sum.ensures.normal
 
 pub returns-clause-joined : goal.returns-clause-joined
 returns-clause-joined c =

@@ -20,13 +20,12 @@ width_is : (c : After-width) → c.width.result ≡ width (length (base_by c.arg
     c.args.self.now.vars
 width_is c =
     let r = c.args.self.now in
-    c.width.ensures ∙ base_width r.base.now.items c.len.result r.vars
-    (c.len.ensures ∙ r.base.now.ok.0)
+    c.width.ensures ∙ base_width _ r.vars (c.len.ensures ∙ r.base.now.ok.0)
 
 pub width-requires : goal.width-requires
 width-requires c =
     let r = c.args.self.now in
-    let e = base_width r.base.now.items c.len.result r.vars (c.len.ensures ∙ r.base.now.ok.0) in
+    let e = base_width _ r.vars (c.len.ensures ∙ r.base.now.ok.0) in
     let few = r.few in
     omega (arith, e, few)
 
@@ -47,13 +46,12 @@ module _ (c : In_ok-sum) where
   arity_is =
       let r = c.args.self.now in
       c.in_ok-sum.ensures.sum.arity ∙ c.width.ensures
-      ∙ base_width r.base.now.items c.len.result r.vars (c.len.ensures ∙ r.base.now.ok.0)
+      ∙ base_width _ r.vars (c.len.ensures ∙ r.base.now.ok.0)
 
   made : terms_in c.in_ok-sum.sum ≡ collect_terms (tell c.args.terms.items)
   made =
       let w = width (length (base_by c.args.self.now)) c.args.self.now.vars in
-      poly_is w c.in_ok-sum.sum (tell c.args.terms.items)
-      (arity_all w c.args.terms.items c.requires) arity_is c.in_ok-sum.ensures.sum.same
+      poly_is c.in_ok-sum.sum _ (arity_all w _ c.requires) arity_is c.in_ok-sum.ensures.sum.same
 
 pub returns-in_err-sum-clause-wide : goal.returns-in_err-sum-clause-wide
 returns-in_err-sum-clause-wide c =
@@ -62,8 +60,7 @@ returns-in_err-sum-clause-wide c =
 
 pub normal-requires-clause-front : goal.normal-requires-clause-front
 normal-requires-clause-front c =
-    room_before (base_by c.args.self.now) c.in_ok-sum.sum.arity c.args.self.now.vars
-    (arity_is (goal.at.normal-requires-clause-front c).In_ok-sum)
+    room_before _ _ (arity_is (goal.at.normal-requires-clause-front c).In_ok-sum)
 
 pub returns-clause-normal : goal.returns-clause-normal
 returns-clause-normal c =
@@ -72,8 +69,7 @@ returns-clause-normal c =
     IfOk-weaker c.normal.result _ _
     (λ y h. record {
       over_base = h.over_base;
-      over_vars = (normal_over bs c.in_ok-sum.sum.arity c.args.self.now.vars
-          (terms_in c.in_ok-sum.sum) y (arity_is at) h).over_vars;
+      over_vars = (normal_over bs _ _ y (arity_is at) h).over_vars;
       terms = h.terms ∙ ap (λ q. collect_terms (with_normal_keys (length bs) q)) (made at);
     }) c.normal.ensures.normal
 

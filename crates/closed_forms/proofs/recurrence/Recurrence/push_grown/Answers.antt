@@ -8,12 +8,12 @@ use Rattle.closed_forms.proofs.recurrence.Recurrence.push_grown.Goals as goal
 pub loop-term-preserved : goal.loop-term-preserved
 loop-term-preserved c =
     grown_next (key_of_power c.args.self.now.own) _ _ c.term-item.result _ c.loop-term.out.items
-    c.push.new.self.items _ (left_at c.args.terms.now c.loop-term.term-index c.term-item.result
-    c.loop-term-test.true c.term-item.is) c.in_ok-push.ensures.items c.in_ok-mono.ensures.ok refl
-    c.loop-term.invariant
+    c.push.new.self.items _ (left_at _ _ c.loop-term-test.true c.term-item.is)
+    c.in_ok-push.ensures.items c.in_ok-mono.ensures.ok refl c.loop-term.invariant
 
 pub returns : goal.returns
 returns c = record {
-  terms = none_left (λ ts. with_powers (key_of_power c.args.self.now.own) (tell ts)) refl
-      c.args.terms.now c.loop-term.term-index _ _ c.loop-term-test.false c.loop-term.invariant;
+  terms =
+      none_left (λ ts. with_powers (key_of_power c.args.self.now.own) (tell ts)) refl _ _ _ _
+      c.loop-term-test.false c.loop-term.invariant;
 }

@@ -1,9 +1,7 @@
 use Rattle.std.proofs.Common.{◌++◌, List, length, ap, ◌∙◌}
 use Rattle.std.proofs.lemmas.List.{drop_all}
 use Rattle.frac128.specs.declared.fraction.Frac.{Frac}
-use Rattle.poly.specs.Seen.{terms_in}
 use Rattle.poly.specs.declared.Term.{Term}
-use Rattle.solvable_maps.specs.Iterations.{width}
 use Rattle.closed_forms.specs.Recurrences.{base_by, value_by}
 use Rattle.expo.proofs.Solved.{handed_on}
 use Rattle.closed_forms.proofs.Joining.{own_is_normal, solved_none, solved_next, past_term_at, normal_at}
@@ -17,36 +15,28 @@ pub term_solved-requires-clause-normal : goal.term_solved-requires-clause-normal
 term_solved-requires-clause-normal c =
     let r = c.args.self.now in
     normal_at (base_by r) r.vars (value_by r) r.inhomogeneity.now c.loop-term.term-index
-    c.term-item.result c.loop-term-test.true c.term-item.is
-    (own_is_normal (base_by r) r.vars (tell r.inhomogeneity.now)
-    (arity_all (width (length (base_by r)) r.vars) r.inhomogeneity.now r.arities) r.normal)
+    c.term-item.result c.loop-term-test.true c.term-item.is (own_is_normal (base_by r) r.vars
+    (arity_all _ _ r.arities) r.normal)
 
 pub loop-term-preserved : goal.loop-term-preserved
 loop-term-preserved c = λ new h.
     let bs = base_by c.args.self.now in
     c.loop-term.invariant new (solved_next bs c.args.self.now.vars (value_by c.args.self.now) _ _
-    c.term-item.result (terms_in c.in_ok-solution.solution) (tell c.loop-term.out.items)
-    (tell c.push_copies.new.out.items) new
-    (left_at c.args.self.now.inhomogeneity.now c.loop-term.term-index c.term-item.result
-    c.loop-term-test.true
-    c.term-item.is) c.in_ok-solution.ensures.solved
-    (c.in_ok-push_copies.ensures.terms ∙ ap (λ (ts : List (Term Frac)).
-    tell c.loop-term.out.items ++ tell ts) (c.deref.ensures.value
-    ∙ ap (λ v. v.items) c.terms.ensures)) h)
+    c.term-item.result (tell c.loop-term.out.items) new
+    (left_at _ _ c.loop-term-test.true c.term-item.is) c.in_ok-solution.ensures.solved
+    (c.in_ok-push_copies.ensures.terms ∙ ap (λ (ts : List (Term Frac)). tell c.loop-term.out.items
+    ++ tell ts) (c.deref.ensures.value ∙ ap (λ v. v.items) c.terms.ensures)) h)
 
 pub returns-clause-terms : goal.returns-clause-terms
 returns-clause-terms c =
     let bs = base_by c.args.self.now in
-    c.loop-term.invariant (tell c.loop-term.out.items)
-    (solved_none bs c.args.self.now.vars (value_by c.args.self.now) _ (tell c.loop-term.out.items)
-    (ap length (drop_all c.loop-term.term-index c.args.self.now.inhomogeneity.now
-    c.loop-term-test.false)))
+    c.loop-term.invariant (tell c.loop-term.out.items) (solved_none bs c.args.self.now.vars
+    (value_by c.args.self.now) _ (tell c.loop-term.out.items)
+    (ap length (drop_all _ _ c.loop-term-test.false)))
 
 pub returns-in_err-solution-clause-wide : goal.returns-in_err-solution-clause-wide
 returns-in_err-solution-clause-wide c =
     let bs = base_by c.args.self.now in
-    handed_on c.in_err-solution.field-0.0 c.from_residual.result c.from_residual.ensures.1
-    (λ x. past_term_at bs c.args.self.now.vars (value_by c.args.self.now)
-    c.args.self.now.inhomogeneity.now
-    c.loop-term.term-index c.term-item.result c.loop-term-test.true c.term-item.is
-    (c.in_err-solution.ensures.wide x))
+    handed_on c.in_err-solution.field-0.0 c.from_residual.result c.from_residual.ensures.1 (λ x.
+    past_term_at bs c.args.self.now.vars (value_by c.args.self.now) _ c.loop-term.term-index
+    c.term-item.result c.loop-term-test.true c.term-item.is (c.in_err-solution.ensures.wide x))

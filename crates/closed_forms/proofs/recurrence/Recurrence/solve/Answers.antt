@@ -33,8 +33,7 @@ module _ (c : In_ok-push_solved) where
   whole =
       let r = c.args.self.now in
       whole_is (base_by r) r.vars (fractions_of c.args.form.now) c.args.group.now r.own
-      (inhomogeneity_in r) (tell c.new-terms.result.items) (tell c.push_growing.new.out.items) all
-      (r.count ∙ sym (length-map r.base.now.items _))
+      (inhomogeneity_in r) all (r.count ∙ sym (length-map r.base.now.items _))
       (ap tell c.new-terms.ensures.items) c.in_ok-push_growing.ensures.terms
       c.in_ok-push_solved.ensures.terms
 
@@ -42,19 +41,18 @@ module _ (c : In_ok-push_solved) where
   long =
       let r = c.args.self.now in
       whole-arity (base_by r) r.coprime.0 r.vars (fractions_of c.args.form.now) c.args.group.now
-      (value_by r) (inhomogeneity_in r) all
-      (arity_all (width (length (base_by r)) r.vars) r.inhomogeneity.now r.arities) whole
+      (value_by r) (inhomogeneity_in r) all (arity_all _ _ r.arities) whole
 
 pub normal_sum-requires : goal.normal_sum-requires
 normal_sum-requires c =
     let at = (goal.at.normal_sum-requires c).In_ok-push_solved in
     let r = c.args.self.now in
-    all_arity (width (length (base_by r)) r.vars) c.push_solved.new.out.items (long at)
+    all_arity _ _ (long at)
 
 pub returns-clause-over : goal.returns-clause-over
 returns-clause-over c =
     let r = c.args.self.now in
-    IfOk-weaker c.normal_sum.result _ _ (expo_over (base_by r) r.vars _) c.normal_sum.ensures.normal
+    IfOk-weaker c.normal_sum.result _ _ (expo_over r.vars _) c.normal_sum.ensures.normal
 
 pub returns-clause-solved : goal.returns-clause-solved
 returns-clause-solved c =

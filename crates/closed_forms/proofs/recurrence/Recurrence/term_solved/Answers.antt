@@ -70,7 +70,6 @@ module _ (c : After-body) where
 
   over : IsExpoOver (base_by c.args.self.now) c.args.self.now.vars c.in_ok-solution.solution
   over = tabled_over (base_by c.args.self.now) c.args.self.now.vars _
-      c.in_ok-inhomogeneity.inhomogeneity
       c.args.self.now.own c.in_ok-solution.solution c.in_ok-solution.ensures.table
 
   solution_arity : c.body.result.now.arity ≡ width (length (base_by c.args.self.now))
@@ -103,16 +102,13 @@ mul-requires-clause-arity c = solution_arity (goal.at.mul-requires-clause-arity 
 pub returns-clause-solved : goal.returns-clause-solved
 returns-clause-solved c =
     let at = (goal.at.returns-clause-solved c).After-body in
-    IfOk-weaker c.mul.result _ _
-    (λ p i. product_is (base_by c.args.self.now) c.args.self.now.vars (t at)
-    (value_by c.args.self.now) c.body.result.now c.in_ok-rest.rest
-    p (solution_arity at) (c.in_ok-rest.ensures.arity ∙ c.requires.arity)
-    i.arity (solution_is at) (rest_is at) i.same) c.mul.ensures.product
+    IfOk-weaker c.mul.result _ _ (λ p i. product_is (base_by c.args.self.now) c.args.self.now.vars
+    (t at) c.body.result.now c.in_ok-rest.rest p (solution_arity at)
+    (c.in_ok-rest.ensures.arity ∙ c.requires.arity) i.arity (solution_is at) (rest_is at) i.same)
+    c.mul.ensures.product
 
 pub returns-clause-wide : goal.returns-clause-wide
 returns-clause-wide c =
     let at = (goal.at.returns-clause-wide c).After-body in
-    λ w. product_past (base_by c.args.self.now) c.args.self.now.vars
-    (value_by c.args.self.now) (t at)
-    (terms_in c.body.result.now) (terms_in c.in_ok-rest.rest) (solution_is at) (rest_is at)
-    (c.mul.ensures.wide w)
+    λ w. product_past c.args.self.now.vars (t at) (terms_in c.body.result.now) (solution_is at)
+    (rest_is at) (c.mul.ensures.wide w)
