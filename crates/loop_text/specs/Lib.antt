@@ -3,6 +3,7 @@ pub mod LoopReader
 pub mod Seen
 pub mod Limited
 pub mod States
+pub mod OpenBranch
 pub mod Chains
 pub mod ChainReader
 pub mod Raising

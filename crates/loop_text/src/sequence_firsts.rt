@@ -15,8 +15,9 @@ ghost use Rattle.loop_text.specs.Standing.{AreTokens};
 ghost use Rattle.loop_text.specs.Firsts.{values_in, opened, behind, behind_all, IsDeclared, AreMade, IsOpen};
 
 use crate::sequence_sums::in_values;
-use crate::sequence_tokens::{expect_sign, syntax_fault};
+use crate::sequence_tokens::expect_sign;
 use crate::sequence_words::{is_seqname, is_sequences};
+use crate::tokens::syntax_fault;
 use itoa::Buffer;
 use loop_model::{Expr, Init, Names};
 use poly_text::{Cursor, Lexeme, Refusal, SumReader, TextError};

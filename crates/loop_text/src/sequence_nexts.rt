@@ -1,12 +1,13 @@
 //! Reads recurrences.
 
-ghost use Rattle.std.specs.Prelude.{◌≡◌, ◌<◌, ◌≤◌, ◌+◌, ◌++◌, ◌∷◌, ℕ, suc, pred, List, [], length, map, IfOk, OnOk};
+ghost use Rattle.std.specs.Prelude.{◌≡◌, ◌<◌, ◌≤◌, ◌+◌, ◌++◌, ◌∷◌, ℕ, suc, pred, List, [], length, map, get_or, IfOk, OnOk};
 ghost use Rattle.loops.specs.Limits.{most_names};
 ghost use Rattle.loops.specs.Program as loops;
 ghost use Rattle.poly_text.specs.CursorView.{bytes_left, rest};
 ghost use Rattle.loop_model.specs.ExpressionView.{expr_of};
 ghost use Rattle.loops.specs.Turning.{variables_from};
 ghost use Rattle.loop_text.specs.Seqs as grammar;
+ghost use Rattle.loop_text.specs.Seqs.{SeqState};
 ghost use Rattle.loop_text.specs.LoopLayout.{UsesBelow};
 ghost use Rattle.loop_text.specs.SequenceStates.{Goes, Reads};
 ghost use Rattle.loop_text.specs.Standing.{AreTokens};
@@ -15,29 +16,24 @@ ghost use Rattle.loop_text.specs.SequenceSeen.{ReadsIteration};
 
 use crate::sequence_firsts::Firsts;
 use crate::sequence_sums::in_nexts;
-use crate::sequence_tokens::{expect_sign, syntax_fault};
+use crate::sequence_tokens::expect_sign;
 use crate::sequence_words::is_sequences;
+use crate::tokens::syntax_fault;
 use loop_model::Expr;
 use poly_text::{Cursor, Lexeme, Refusal, SumReader, TextError};
 use std::alloc::{AllocError, Global};
 
 /// Goes on behind the name of the sequence whose recurrence is next.
-fn expect_due<'t>(
-    cursor: Cursor<'t>,
-    firsts: &Firsts,
-    index: usize,
-) -> Result<Cursor<'t>, TextError>
-    requires due { index < length firsts.now.sequences }
-    ensures goes { (ns : List (loops.Expr ℕ)) → length ns ≡ index →
-        Goes grammar.due_name (behind_all firsts.now ns) (behind_all firsts.now ns)
-        cursor.entry result }
+fn expect_due<'t>(cursor: Cursor<'t>, due: &[u8]) -> Result<Cursor<'t>, TextError>
+    ensures goes { (s : SeqState) → get_or s.context.sequences s.context.nexts [] ≡ due.now →
+        Goes grammar.due_name s s cursor.entry result }
     ensures falls { IfOk result (λ end. bytes_left end < bytes_left cursor.entry) }
 {
     let at = cursor.token.at;
     let Lexeme::Name(word) = cursor.token.lexeme else {
         return Err(syntax_fault(cursor));
     };
-    if word == firsts.sequences.name(index).as_bytes() {
+    if word == due {
         return Ok(cursor.next());
     }
     if is_sequences(word) {
@@ -62,7 +58,8 @@ fn read_next<'t>(
     ensures over { IfOk result (λ r. UsesBelow (length firsts.now.variables) (expr_of r.0)) }
     ensures falls { IfOk result (λ r. bytes_left r.1 < bytes_left cursor.entry) }
 {
-    let named = expect_due(cursor, firsts, index)?;
+    let due = firsts.sequences.name(index);
+    let named = expect_due(cursor, due.as_bytes())?;
     let right = expect_sign(named, b'=')?;
     let sums = SumReader {
         alloc,

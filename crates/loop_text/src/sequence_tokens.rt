@@ -9,16 +9,8 @@ ghost use Rattle.poly_text.specs.Tokens.{is_sign};
 ghost use Rattle.loop_text.specs.Seqs.{SeqContext, SeqValue, SeqState, token_of, the_end};
 ghost use Rattle.loop_text.specs.SequenceStates.{Goes, reading};
 
+use crate::tokens::syntax_fault;
 use poly_text::{Cursor, Lexeme, TextError};
-
-/// The fault of a token that can't stand where it does.
-pub fn syntax_fault(cursor: Cursor<'_>) -> TextError
-    ensures { result ≡ TextError.Syntax cursor.entry.token.at }
-{
-    TextError::Syntax {
-        at: cursor.token.at,
-    }
-}
 
 /// Goes on behind the sign.
 pub fn expect_sign<'t>(cursor: Cursor<'t>, sign: u8) -> Result<Cursor<'t>, TextError>

@@ -1,6 +1,6 @@
 //! Reads statements.
 
-ghost use Rattle.std.specs.Prelude.{◌≡◌, ◌<◌, ◌++◌, ◌∷◌, ℕ, List, [], length, map, IfOk, IsTrue};
+ghost use Rattle.std.specs.Prelude.{◌≡◌, ◌<◌, ◌++◌, ◌∷◌, ℕ, List, [], length, map, IfOk, OnOk, IsTrue};
 ghost use Rattle.poly_text.specs.CursorView.{bytes_left};
 ghost use Rattle.poly_text.specs.Lexemes.{is_sign_of};
 ghost use Rattle.poly_text.specs.NextToken.{seen_lexeme};
@@ -9,6 +9,7 @@ ghost use Rattle.loop_model.specs.ExpressionView.{expr_of};
 ghost use Rattle.loop_model.specs.Parts.{statement_of};
 ghost use Rattle.loop_text.specs.declared.begun.Begun.{Begun};
 ghost use Rattle.loop_text.specs.Loops as grammar;
+ghost use Rattle.loop_text.specs.OpenBranch.{within, behind_statement};
 ghost use Rattle.loop_text.specs.States.{Goes, Reads, Before, behind, between, in_branches, in_statement};
 
 use crate::begun::Begun;
@@ -17,7 +18,7 @@ use crate::places::still_unset;
 use crate::tokens::{expect_sign, syntax_fault};
 use loop_model::{Expr, Names, Statement};
 use poly_text::{Cursor, Lexeme, Refusal, SumReader, TextError};
-use std::alloc::Global;
+use std::alloc::{AllocError, Global};
 
 /// Reads a right side and adds it to the values.
 fn read_value<'t>(
@@ -112,85 +113,92 @@ fn read_targets<'t>(
     }
 }
 
-/// Reads a statement with a list of targets and adds it to the statements, where so many of the loop came before.
-fn read_list<'t>(
-    alloc: Global,
-    cursor: Cursor<'t>,
-    names: &Names,
-    unset: &mut Vec<usize>,
-    begun: &mut Begun,
-    statements: &mut Vec<Statement>,
-) -> Result<Cursor<'t>, TextError>
-    requires { IsTrue (is_sign_of (seen_lexeme cursor.token.lexeme) left_parenthesis) }
-    ensures goes { (b : Before) → Goes grammar.several
-        (between names.now unset.old.items begun.old
-        (behind b (map statement_of statements.old.items)))
-        (between names.now unset.new.items begun.new
-        (behind b (map statement_of statements.new.items))) cursor.entry result }
-    ensures falls { IfOk result (λ end. bytes_left end < bytes_left cursor.entry) }
-{
-    begun.begin_statement(cursor.token.at)?;
-    let (targets, behind) = read_targets(alloc, cursor.next(), names)?;
-    let (values, behind) = read_values(alloc, behind, names, unset, targets.len())?;
-    let end = expect_sign(behind, b';')?;
-    let left = still_unset(alloc, &targets, unset)?;
-    *unset = left;
-    statements.push(Statement { targets, values })?;
-    Ok(end)
+/// A branch that is open: its statements so far, and which places of the names are unset behind them.
+#[derive(Drop)]
+struct OpenBranch<'n> {
+    names: &'n Names,
+    unset: Vec<usize>,
+    statements: Vec<Statement>,
 }
 
-/// Reads a statement with one target and adds it to the statements, where so many of the loop came before.
-fn read_single<'t>(
-    alloc: Global,
-    cursor: Cursor<'t>,
-    names: &Names,
-    unset: &mut Vec<usize>,
-    begun: &mut Begun,
-    statements: &mut Vec<Statement>,
-) -> Result<Cursor<'t>, TextError>
-    ensures goes { (b : Before) → Goes grammar.single
-        (between names.now unset.old.items begun.old
-        (behind b (map statement_of statements.old.items)))
-        (between names.now unset.new.items begun.new
-        (behind b (map statement_of statements.new.items))) cursor.entry result }
-    ensures falls { IfOk result (λ end. bytes_left end < bytes_left cursor.entry) }
-{
-    let Lexeme::Name(_) = cursor.token.lexeme else {
-        return Err(syntax_fault(cursor));
-    };
-    begun.begin_statement(cursor.token.at)?;
-    let (target, behind) = read_left(cursor, names, &[], &[])?;
-    let right = expect_sign(behind, b'=')?;
-    let mut values = Vec::new(alloc);
-    let behind = read_value(alloc, right, names, unset, &mut values)?;
-    let end = expect_sign(behind, b';')?;
-    let targets = vec![in alloc; target]?;
-    let left = still_unset(alloc, &targets, unset)?;
-    *unset = left;
-    statements.push(Statement { targets, values })?;
-    Ok(end)
-}
+impl OpenBranch<'_> {
+    /// Reads a statement and adds it to the others, where so many of the loop came before.
+    fn read_statement<'t>(
+        &mut self,
+        alloc: Global,
+        cursor: Cursor<'t>,
+        begun: &mut Begun,
+    ) -> Result<Cursor<'t>, TextError>
+        ensures goes { (b : Before) → Goes grammar.statement
+            (within self.old begun.old b) (within self.new begun.new b) cursor.entry result }
+        ensures falls { IfOk result (λ end. bytes_left end < bytes_left cursor.entry) }
+    {
+        if cursor.token.lexeme.is_sign(b'(') {
+            self.read_list(alloc, cursor, begun)
+        } else {
+            self.read_single(alloc, cursor, begun)
+        }
+    }
 
-/// Reads a statement and adds it to the statements, where so many of the loop came before.
-fn read_statement<'t>(
-    alloc: Global,
-    cursor: Cursor<'t>,
-    names: &Names,
-    unset: &mut Vec<usize>,
-    begun: &mut Begun,
-    statements: &mut Vec<Statement>,
-) -> Result<Cursor<'t>, TextError>
-    ensures goes { (b : Before) → Goes grammar.statement
-        (between names.now unset.old.items begun.old
-        (behind b (map statement_of statements.old.items)))
-        (between names.now unset.new.items begun.new
-        (behind b (map statement_of statements.new.items))) cursor.entry result }
-    ensures falls { IfOk result (λ end. bytes_left end < bytes_left cursor.entry) }
-{
-    if cursor.token.lexeme.is_sign(b'(') {
-        read_list(alloc, cursor, names, unset, begun, statements)
-    } else {
-        read_single(alloc, cursor, names, unset, begun, statements)
+    /// Reads a statement with a list of targets.
+    fn read_list<'t>(
+        &mut self,
+        alloc: Global,
+        cursor: Cursor<'t>,
+        begun: &mut Begun,
+    ) -> Result<Cursor<'t>, TextError>
+        requires { IsTrue (is_sign_of (seen_lexeme cursor.token.lexeme) left_parenthesis) }
+        ensures goes { (b : Before) → Goes grammar.several
+            (within self.old begun.old b) (within self.new begun.new b) cursor.entry result }
+        ensures falls { IfOk result (λ end. bytes_left end < bytes_left cursor.entry) }
+    {
+        begun.begin_statement(cursor.token.at)?;
+        let (targets, behind) = read_targets(alloc, cursor.next(), self.names)?;
+        let (values, behind) = read_values(alloc, behind, self.names, &self.unset, targets.len())?;
+        let end = expect_sign(behind, b';')?;
+        self.push_statement(alloc, targets, values)?;
+        Ok(end)
+    }
+
+    /// Reads a statement with one target.
+    fn read_single<'t>(
+        &mut self,
+        alloc: Global,
+        cursor: Cursor<'t>,
+        begun: &mut Begun,
+    ) -> Result<Cursor<'t>, TextError>
+        ensures goes { (b : Before) → Goes grammar.single
+            (within self.old begun.old b) (within self.new begun.new b) cursor.entry result }
+        ensures falls { IfOk result (λ end. bytes_left end < bytes_left cursor.entry) }
+    {
+        let Lexeme::Name(_) = cursor.token.lexeme else {
+            return Err(syntax_fault(cursor));
+        };
+        begun.begin_statement(cursor.token.at)?;
+        let (target, behind) = read_left(cursor, self.names, &[], &[])?;
+        let right = expect_sign(behind, b'=')?;
+        let mut values = Vec::new(alloc);
+        let behind = read_value(alloc, right, self.names, &self.unset, &mut values)?;
+        let end = expect_sign(behind, b';')?;
+        let targets = vec![in alloc; target]?;
+        self.push_statement(alloc, targets, values)?;
+        Ok(end)
+    }
+
+    /// Adds a statement to the others.
+    fn push_statement(
+        &mut self,
+        alloc: Global,
+        targets: Vec<usize>,
+        values: Vec<Expr>,
+    ) -> Result<(), AllocError>
+        ensures { OnOk result ((n : Begun) (b : Before) → within self.new n b
+            ≡ behind_statement self.old targets.items values.items n b) }
+    {
+        let unset = still_unset(alloc, &targets, &self.unset)?;
+        self.unset = unset;
+        self.statements.push(Statement { targets, values })?;
+        Ok(())
     }
 }
 
@@ -208,11 +216,14 @@ pub fn read_statements<'t>(
         (b.branches ++ map statement_of ss.items ∷ [])) cursor.entry result }
     ensures falls { IfOk result (λ r. bytes_left r.1 < bytes_left cursor.entry) }
 {
-    let mut statements = Vec::new(alloc);
-    let mut unset = unset;
+    let mut branch = OpenBranch {
+        names,
+        unset,
+        statements: Vec::new(alloc),
+    };
     let mut at = cursor;
     while !at.token.lexeme.is_sign(b'}') {
-        at = read_statement(alloc, at, names, &mut unset, begun, &mut statements)?;
+        at = branch.read_statement(alloc, at, begun)?;
     }
-    Ok((statements, at.next()))
+    Ok((branch.statements, at.next()))
 }

@@ -15,6 +15,7 @@ use Rattle.loop_text.specs.Standing.{AreTokens}
 use Rattle.loop_text.proofs.Standing.{left_tokens}
 use Rattle.loop_text.proofs.SequenceSumReads.{error_within, error_told}
 use Rattle.loop_text.proofs.SequenceValueReads.{right_over}
+use Rattle.loop_text.proofs.DueReads.{due_at}
 use Rattle.loop_text.proofs.NextReads.{fillers, length-fillers, next_sum}
 use Rattle.loop_text.proofs.sequence_nexts.read_next.Goals as goal
 use Rattle.loop_text.proofs.sequence_nexts.read_next.Goals.{In_ok-named, In_ok-right}
@@ -24,13 +25,17 @@ module _ (ns : List (Expr ℕ)) where
       → GoesOn seq_language next (behind_all c.args.firsts.now ns) (rest c.args.cursor)
       (sequence (sign 61) (sequence (rule (of_nexts a_sum)) next_end))
       (behind_all c.args.firsts.now ns) (rest c.in_ok-named.named)
-  named c e = on (start seq_language _ _ _) (c.in_ok-named.ensures.goes ns e)
+  named c e = on (start seq_language _ _ _)
+      (c.in_ok-named.ensures.goes (behind_all c.args.firsts.now ns)
+      (due_at c.args.firsts.now ns e c.name-due.ensures c.as_bytes.ensures.value))
 
   equalled : (c : In_ok-right) → length ns ≡ c.args.index
       → GoesOn seq_language next (behind_all c.args.firsts.now ns) (rest c.args.cursor)
       (sequence (rule (of_nexts a_sum)) next_end)
       (behind_all c.args.firsts.now ns) (rest c.in_ok-right.right)
-  equalled c e = on (on (start seq_language _ _ _) (c.in_ok-named.ensures.goes ns e))
+  equalled c e = on (on (start seq_language _ _ _)
+      (c.in_ok-named.ensures.goes (behind_all c.args.firsts.now ns)
+      (due_at c.args.firsts.now ns e c.name-due.ensures c.as_bytes.ensures.value)))
       (c.in_ok-right.ensures.goes (λ c. c) keep _)
 
 stand : (c : In_ok-right) → AreTokens c.args.text.now (rest c.in_ok-right.right)
@@ -40,14 +45,16 @@ stand c =
     left_tokens c.args.text.now (sign 61) refl (behind_all f ns) (rest c.in_ok-named.named)
     (left_tokens c.args.text.now due_name refl (behind_all f ns) (rest c.args.cursor)
     c.requires.tokens (behind_all f ns) (rest c.in_ok-named.named)
-    (c.in_ok-named.ensures.goes ns (length-fillers c.args.index)))
+    (c.in_ok-named.ensures.goes (behind_all f ns)
+    (due_at f ns (length-fillers c.args.index) c.name-due.ensures c.as_bytes.ensures.value)))
     (behind_all f ns) (rest c.in_ok-right.right) (c.in_ok-right.ensures.goes (λ c. c) keep _)
 
 pub returns-in_err-named-clause-reads : goal.returns-in_err-named-clause-reads
 returns-in_err-named-clause-reads c = λ ns e.
     stops (start seq_language _ _ _) _
     (err_from_is_err_and c.from_residual.result c.from_residual.ensures.1)
-    (c.in_err-named.ensures.goes ns e)
+    (c.in_err-named.ensures.goes (behind_all c.args.firsts.now ns)
+    (due_at c.args.firsts.now ns e c.name-due.ensures c.as_bytes.ensures.value))
 
 pub returns-in_err-right-clause-reads : goal.returns-in_err-right-clause-reads
 returns-in_err-right-clause-reads c = λ ns e.

@@ -1,12 +1,12 @@
-use Rattle.std.proofs.Common.{refl, sym, map, None, arith}
+use Rattle.std.proofs.Common.{refl, sym, None, arith}
+use Rattle.loop_text.specs.OpenBranch.{within}
 use Rattle.loop_text.proofs.StatementReads.{statement_due, statements_end}
-use Rattle.loop_text.proofs.Answering.{err_from_is_err_and, statement_of, on, over, ends, stops, sign_read, sign_no_end, with_branch, end_branch, between, behind}
+use Rattle.loop_text.proofs.Answering.{err_from_is_err_and, on, over, ends, stops, sign_read, sign_no_end, with_branch, end_branch}
 use Rattle.loop_text.proofs.statements.read_statements.Goals as goal
 
 pub returns-in_err-at-clause-reads : goal.returns-in_err-at-clause-reads
 returns-in_err-at-clause-reads c = λ b.
-    let s = between c.args.names.now c.loop-alloc.unset.items c.loop-alloc.begun
-    (behind b (map statement_of c.loop-alloc.statements.items)) in
+    let s = within c.loop-alloc.branch c.loop-alloc.begun b in
     stops (over (c.loop-alloc.invariant.goes b) _ _ _ (statement_due s c.loop-alloc.at
     (sym c.loop-alloc-test.ensures))) _ (err_from_is_err_and c.from_residual.result
     c.from_residual.ensures.1) (c.in_err-at.ensures.goes b)
@@ -15,16 +15,14 @@ pub loop-alloc-preserved : goal.loop-alloc-preserved
 loop-alloc-preserved c = record {
   falls = omega (arith, c.in_ok-at.ensures.falls, c.loop-alloc.invariant.falls);
   goes = λ b.
-      let s = between c.args.names.now c.loop-alloc.unset.items c.loop-alloc.begun
-      (behind b (map statement_of c.loop-alloc.statements.items)) in
+      let s = within c.loop-alloc.branch c.loop-alloc.begun b in
       on (over (c.loop-alloc.invariant.goes b) _ _ _ (statement_due s c.loop-alloc.at
       (sym c.loop-alloc-test.ensures))) (c.in_ok-at.ensures.goes b);
 }
 
 pub returns-clause-reads : goal.returns-clause-reads
 returns-clause-reads c = λ b.
-    let s = between c.args.names.now c.loop-alloc.unset.items c.loop-alloc.begun
-    (behind b (map statement_of c.loop-alloc.statements.items)) in
+    let s = within c.loop-alloc.branch c.loop-alloc.begun b in
     let at = c.loop-alloc.at in
     ends (over (c.loop-alloc.invariant.goes b) _ _ _
     (statements_end s at (sym c.loop-alloc-test.ensures)))
