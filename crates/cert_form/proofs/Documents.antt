@@ -1,18 +1,38 @@
 -- What a value and a document are, from their parts.
 use Rattle.std.proofs.Common.{◌≡◌, ℕ, List, Result, Ok, Err, length, refl, sym, ap, ◌∙◌}
-use Rattle.std.specs.Prelude.{Bool, true, false, Option, Some, None, IfOk, if◌then◌else◌}
+use Rattle.std.specs.Prelude.{Bool, true, false, Option, Some, None, IfOk, if◌then◌else◌, codes, is_some}
 use Rattle.std.specs.Option.{ok_or}
 use Rattle.std.specs.Str.{IsUtf8, is_utf8}
 use Rattle.std.proofs.lemmas.Str.{IsUtf8-from_is_utf8, is_utf8-from_IsUtf8}
 use Rattle.serde_json.specs.Data.{Data}
+use Rattle.serde_json.specs.Find.{as_object}
 use Rattle.serde_json.specs.Read.{read}
 use Rattle.algebra.specs.Fraction.{Fraction}
 use Rattle.polynomials.specs.Terms.{Terms}
 use Rattle.loops.specs.Certificate.{Certificate}
 use Rattle.cert_form.specs.declared.error.CertError.{CertError}
-use Rattle.cert_form.specs.Form.{Fault, not_json, Reading, on, basis_of, steps_of, parts_of, cert_of, cert_in, ReadsAs}
+use Rattle.cert_form.specs.Form.{Fault, not_json, Reading, on, expect, has_version, has_known_version, has_names, basis_of, steps_of, parts_of, cert_of, cert_in, ReadsAs}
 use Rattle.cert_form.specs.Faults.{IsRead}
 use Rattle.cert_form.specs.Cert.{OverVariables, IsCertOf}
+
+-- an object with a known version and the names
+pub opened : (names : List (List ℕ)) (branches : ℕ) (d : Data) (sparse : Bool)
+    → is_some (as_object d) ≡ true → has_known_version d ≡ true → has_names names d ≡ true
+    → sparse ≡ has_version 2 d → cert_of names branches d ≡ parts_of names sparse branches d
+opened names branches d sparse object version vars same =
+    let parts : Reading Certificate = parts_of names (has_version 2 d) branches d in
+    ap (λ b. expect b (codes "/") (expect (has_known_version d) (codes "/version")
+    (expect (has_names names d) (codes "/vars") parts))) object
+    ∙ ap (λ b. expect b (codes "/version") (expect (has_names names d) (codes "/vars") parts))
+    version
+    ∙ ap (λ b. expect b (codes "/vars") parts) vars
+    ∙ ap (λ s. parts_of names s branches d) (sym same)
+
+pub basis_fault : (names : List (List ℕ)) (sparse : Bool) (branches : ℕ) (d : Data) (f : Fault)
+    → basis_of names sparse d ≡ Err f → parts_of names sparse branches d ≡ Err f
+basis_fault names sparse branches d f wrong =
+    ap (on (λ basis. on (λ steps. Ok (record { basis = basis; steps = steps }))
+    (steps_of names sparse branches (length basis) d))) wrong
 
 module _ (names : List (List ℕ)) (sparse : Bool) (branches n : ℕ) (d : Data)
     (raws : List (Terms Fraction)) (is : basis_of names sparse d ≡ Ok raws) (count : length raws

@@ -3,7 +3,7 @@
 --   kept, cert_is      lists that were read may be kept, and are the certificate that was read
 --   seen_length        as many things are seen as stand in the list
 --   raws_length        as many polynomials were read as stand in the list
-use Rattle.std.proofs.Common.{◌≡◌, ℕ, zero, suc, List, [], ◌∷◌, length, get_or, map, refl, sym, ◌∙◌}
+use Rattle.std.proofs.Common.{◌≡◌, ℕ, zero, suc, List, [], ◌∷◌, length, get_or, map, refl, sym, subst, ◌∙◌}
 use Rattle.std.specs.Prelude.{All, vec_len, Vec}
 use Rattle.std.specs.declared.alloc.Global.{Global}
 use Rattle.std.proofs.lemmas.List.{length-map}
@@ -101,6 +101,12 @@ square m n block raws h = record {
 
 pub seen_length : {X Y : Type 0} (f : X → Y) (v : Vec X Global) → length (map f v.items) ≡ vec_len v
 seen_length f v = length-map v.items f ∙ sym v.ok.0
+
+pub resized : {m k n branches : ℕ} {steps : Vec (Vec Polys Global) Global}
+    {raws : List (List (List (Terms Fraction)))} → k ≡ n → AreStepsOf m k branches steps raws
+    → AreStepsOf m n branches steps raws
+resized {m = m} {branches = branches} {steps = steps} {raws = raws} same =
+    subst (λ n. AreStepsOf m n branches steps raws) same
 
 module _ (m branches : ℕ) (basis : Polys) (raws : List (Terms Fraction))
     (steps : Vec (Vec Polys Global) Global) (raw_steps : List (List (List (Terms Fraction))))

@@ -9,6 +9,9 @@ use monos::Grevlex;
 use poly::Poly;
 use std::marker::Model;
 
+/// Polynomials in the order of a certificate.
+pub(crate) type Polys = Vec<Poly<Frac, Grevlex>>;
+
 /// Polynomials, and for each branch of a loop and each of them its cofactors, one for each polynomial. All are in the
 /// same variables.
 #[derive(Drop)]

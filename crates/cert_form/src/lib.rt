@@ -8,6 +8,7 @@
 #![tactic(auto)]
 
 mod cert;
+mod cofactors;
 mod error;
 mod fault;
 pub mod laws;

@@ -12,10 +12,11 @@ ghost use Rattle.cert_form.specs.Cert.{ArePolysOf, IsPairOf, IsRowOf};
 ghost use Rattle.cert_form.specs.declared.error.CertError.TheVariants.{Memory};
 
 use crate::CertError;
+use crate::cert::Polys;
+use crate::cofactors::CofactorReader;
 use crate::fault::{Path, shape_at};
 use crate::parts::{list_with, read_poly};
 use frac128::Frac;
-use loop_model::Names;
 use monos::Grevlex;
 use poly::Poly;
 use serde_json::Value;
@@ -33,39 +34,8 @@ fn position_in(value: &Value, least: usize, count: usize) -> Option<usize>
     }
 }
 
-// A position that is at least `least` and below `count`, and the cofactor behind it.
-#[tactic(auto, using(crate::proofs::Each::entry_is))]
-fn read_pair<'a>(
-    alloc: Global,
-    path: &'a Path<'a>,
-    value: &Value,
-    names: &Names,
-    least: usize,
-    count: usize,
-) -> Result<(usize, Poly<Frac, Grevlex>), CertError>
-    ensures ok { IfOk result (λ pair. IsRead (IsPairOf (length names.now)) pair
-        (pair_at names.now least count (path_bytes path.now) (view value.now))) }
-    ensures within { IfOk result (λ pair. (least ≤ pair.0) × (pair.0 < count)) }
-    ensures fault { IfErr result (λ e. IfFault e (λ f.
-        pair_at names.now least count (path_bytes path.now) (view value.now) ≡ Err f)) }
-{
-    let Some(pair) = list_with(value, 2) else {
-        return Err(shape_at(alloc, path));
-    };
-    let Some(position) = position_in(&pair[0], least, count) else {
-        return Err(shape_at(alloc, path));
-    };
-    let cofactor = read_poly(alloc, path, &pair[1], names)?;
-    Ok((position, cofactor))
-}
-
 // Puts polynomials 0 behind the others, until there are `count`.
-fn push_zeros(
-    alloc: Global,
-    found: &mut Vec<Poly<Frac, Grevlex>>,
-    arity: usize,
-    count: usize,
-) -> Result<(), CertError>
+fn push_zeros(alloc: Global, found: &mut Polys, arity: usize, count: usize) -> Result<(), CertError>
     requires few { arity ≤ most_variables }
     requires count { vec_len found.old ≤ count }
     ensures count { OnOk result (vec_len found.new ≡ count) }
@@ -79,46 +49,71 @@ fn push_zeros(
     Ok(())
 }
 
-// The `count` cofactors of the pairs of a list.
-fn read_pairs<'a>(
-    alloc: Global,
-    path: &'a Path<'a>,
-    list: &[Value],
-    names: &Names,
-    count: usize,
-) -> Result<Vec<Poly<Frac, Grevlex>>, CertError>
-    ensures count { IfOk result (λ row. vec_len row ≡ count) }
-    ensures ok { IfOk result (λ row. IsRead (ArePolysOf (length names.now)) row
-        (filled_row names.now count (path_bytes path.now) 0 0 (items_view list.now))) }
-    ensures fault { IfErr result (λ e. IfFault e (λ f.
-        filled_row names.now count (path_bytes path.now) 0 0 (items_view list.now) ≡ Err f)) }
-{
-    let mut found = Vec::new(alloc);
-    for (i, value) in list.iter().enumerate() {
-        let place = Path::Place(path, i);
-        let (position, cofactor) = read_pair(alloc, &place, value, names, found.len(), count)?;
-        push_zeros(alloc, &mut found, names.len(), position)?;
-        found.push(cofactor)?;
+impl CofactorReader<'_> {
+    /// A list of pairs with ascending positions, as a row of cofactors: 0 at each other position.
+    pub(crate) fn read_sparse_row<'a>(
+        &self,
+        path: &'a Path<'a>,
+        value: &Value,
+    ) -> Result<Polys, CertError>
+        ensures ok { IfOk result (λ row. IsRead
+            (IsRowOf (length self.now.names.now) self.now.elements) row
+            (sparse_row self.now.names.now self.now.elements (path_bytes path.now)
+            (view value.now))) }
+        ensures fault { IfErr result (λ e. IfFault e (λ f.
+            sparse_row self.now.names.now self.now.elements (path_bytes path.now)
+            (view value.now) ≡ Err f)) }
+    {
+        let Some(list) = value.as_array() else {
+            return Err(shape_at(self.alloc, path));
+        };
+        self.read_pairs(path, list)
     }
-    push_zeros(alloc, &mut found, names.len(), count)?;
-    Ok(found)
-}
 
-// A list of pairs with ascending positions, as a row of `count` cofactors: 0 at each other position.
-pub(crate) fn read_sparse_row<'a>(
-    alloc: Global,
-    path: &'a Path<'a>,
-    value: &Value,
-    names: &Names,
-    count: usize,
-) -> Result<Vec<Poly<Frac, Grevlex>>, CertError>
-    ensures ok { IfOk result (λ row. IsRead (IsRowOf (length names.now) count) row
-        (sparse_row names.now count (path_bytes path.now) (view value.now))) }
-    ensures fault { IfErr result (λ e. IfFault e (λ f.
-        sparse_row names.now count (path_bytes path.now) (view value.now) ≡ Err f)) }
-{
-    let Some(list) = value.as_array() else {
-        return Err(shape_at(alloc, path));
-    };
-    read_pairs(alloc, path, list, names, count)
+    // The cofactors of the pairs of a list, and 0 at each other position.
+    fn read_pairs<'a>(&self, path: &'a Path<'a>, list: &[Value]) -> Result<Polys, CertError>
+        ensures count { IfOk result (λ row. vec_len row ≡ self.now.elements) }
+        ensures ok { IfOk result (λ row. IsRead (ArePolysOf (length self.now.names.now)) row
+            (filled_row self.now.names.now self.now.elements (path_bytes path.now) 0 0
+            (items_view list.now))) }
+        ensures fault { IfErr result (λ e. IfFault e (λ f.
+            filled_row self.now.names.now self.now.elements (path_bytes path.now) 0 0
+            (items_view list.now) ≡ Err f)) }
+    {
+        let mut found = Vec::new(self.alloc);
+        for (i, value) in list.iter().enumerate() {
+            let place = Path::Place(path, i);
+            let (position, cofactor) = self.read_pair(&place, value, found.len())?;
+            push_zeros(self.alloc, &mut found, self.names.len(), position)?;
+            found.push(cofactor)?;
+        }
+        push_zeros(self.alloc, &mut found, self.names.len(), self.elements)?;
+        Ok(found)
+    }
+
+    // A position that is at least `least`, and the cofactor behind it.
+    #[tactic(auto, using(crate::proofs::Each::entry_is))]
+    fn read_pair<'a>(
+        &self,
+        path: &'a Path<'a>,
+        value: &Value,
+        least: usize,
+    ) -> Result<(usize, Poly<Frac, Grevlex>), CertError>
+        ensures ok { IfOk result (λ pair. IsRead (IsPairOf (length self.now.names.now)) pair
+            (pair_at self.now.names.now least self.now.elements (path_bytes path.now)
+            (view value.now))) }
+        ensures within { IfOk result (λ pair. (least ≤ pair.0) × (pair.0 < self.now.elements)) }
+        ensures fault { IfErr result (λ e. IfFault e (λ f.
+            pair_at self.now.names.now least self.now.elements (path_bytes path.now)
+            (view value.now) ≡ Err f)) }
+    {
+        let Some(pair) = list_with(value, 2) else {
+            return Err(shape_at(self.alloc, path));
+        };
+        let Some(position) = position_in(&pair[0], least, self.elements) else {
+            return Err(shape_at(self.alloc, path));
+        };
+        let cofactor = read_poly(self.alloc, path, &pair[1], self.names)?;
+        Ok((position, cofactor))
+    }
 }

@@ -7,15 +7,14 @@ ghost use Rattle.loops.specs.Certificate.{AreOver};
 ghost use Rattle.cert_form.specs.Form as form;
 ghost use Rattle.cert_form.specs.Form.{ReadsAs};
 ghost use Rattle.cert_form.specs.Faults.{IfFault, IsRead};
-ghost use Rattle.cert_form.specs.Cert.{ArePolysOf, AreStepsOf, IsCertOf, IsComplete};
+ghost use Rattle.cert_form.specs.Cert.{ArePolysOf, IsCertOf, IsComplete};
 
+use crate::cert::Polys;
+use crate::cofactors::CofactorReader;
 use crate::fault::{Path, shape_at};
-use crate::parts::{list_with, list_within, read_blocks, read_polys};
+use crate::parts::{list_within, read_polys};
 use crate::{Cert, CertError};
-use frac128::Frac;
 use loop_model::Names;
-use monos::Grevlex;
-use poly::Poly;
 use serde_json::Value;
 use std::alloc::Global;
 
@@ -97,12 +96,7 @@ fn elements_in(value: &Value, sparse: bool) -> Option<&Vec<Value>>
     }
 }
 
-fn read_basis(
-    alloc: Global,
-    value: &Value,
-    names: &Names,
-    sparse: bool,
-) -> Result<Vec<Poly<Frac, Grevlex>>, CertError>
+fn read_basis(alloc: Global, value: &Value, names: &Names, sparse: bool) -> Result<Polys, CertError>
     ensures ok { IfOk result (λ basis. IsRead (ArePolysOf (length names.now)) basis
         (form.basis_of names.now sparse (view value.now))) }
     ensures fault { IfErr result (λ e. IfFault e (λ f.
@@ -116,48 +110,6 @@ fn read_basis(
         return Err(shape_at(alloc, &path));
     };
     read_polys(alloc, &path, list, names)
-}
-
-fn read_steps(
-    alloc: Global,
-    value: &Value,
-    names: &Names,
-    sparse: bool,
-    branches: usize,
-    elements: usize,
-) -> Result<Vec<Vec<Vec<Poly<Frac, Grevlex>>>>, CertError>
-    ensures ok { IfOk result (λ steps. IsRead
-        (AreStepsOf (length names.now) elements branches) steps
-        (form.steps_of names.now sparse branches elements (view value.now))) }
-    ensures fault { IfErr result (λ e. IfFault e (λ f.
-        form.steps_of names.now sparse branches elements (view value.now) ≡ Err f)) }
-{
-    let path = Path::Root("/steps");
-    let Some(steps) = value.get("steps") else {
-        return Err(shape_at(alloc, &path));
-    };
-    let Some(list) = list_with(steps, branches) else {
-        return Err(shape_at(alloc, &path));
-    };
-    read_blocks(alloc, &path, list, names, sparse, elements)
-}
-
-// The polynomials and cofactors of an object with the right version and names.
-fn read_parts(
-    alloc: Global,
-    value: &Value,
-    names: &Names,
-    sparse: bool,
-    branches: usize,
-) -> Result<Cert, CertError>
-    ensures ok { IfOk result (λ c. IsRead (IsCertOf (length names.now) branches) c
-        (form.parts_of names.now sparse branches (view value.now))) }
-    ensures fault { IfErr result (λ e. IfFault e (λ f.
-        form.parts_of names.now sparse branches (view value.now) ≡ Err f)) }
-{
-    let basis = read_basis(alloc, value, names, sparse)?;
-    let steps = read_steps(alloc, value, names, sparse, branches, basis.len())?;
-    Ok(Cert::new(names.len(), basis, steps))
 }
 
 fn read_value(
@@ -181,7 +133,15 @@ fn read_value(
         return Err(shape_at(alloc, &Path::Root("/vars")));
     }
     let sparse = has_version(value, SPARSE_VERSION);
-    read_parts(alloc, value, names, sparse, branches)
+    let basis = read_basis(alloc, value, names, sparse)?;
+    let cofactors = CofactorReader {
+        alloc,
+        names,
+        sparse,
+        elements: basis.len(),
+    };
+    let steps = cofactors.read_steps(value, branches)?;
+    Ok(Cert::new(names.len(), basis, steps))
 }
 
 /// The certificate in the bytes of a file, with version 1 or 2, for a loop with these variables and so many branches, or its first

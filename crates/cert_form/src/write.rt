@@ -1,12 +1,12 @@
 //! Writes certificates, with version 2.
 
-ghost use Rattle.std.specs.Prelude.{◌≡◌, ◌↔◌, ◌≤◌, ◌++◌, [], ℕ, List, length, map, IsTrue, string_bytes, All, IfOk, OnOk};
+ghost use Rattle.std.specs.Prelude.{◌≡◌, ◌↔◌, ◌≤◌, ◌++◌, [], ℕ, List, length, IsTrue, string_bytes, All, IfOk};
 ghost use Rattle.serde_json.specs.Data.{string};
 ghost use Rattle.serde_json.specs.View.{view};
 ghost use Rattle.poly.specs.Seen.{terms_in};
 ghost use Rattle.cert_form.specs.Form.{cert_in, most_elements, ReadsAs};
 ghost use Rattle.cert_form.specs.Cert.{HaveArity, polys_in, rows_in, blocks_in};
-ghost use Rattle.cert_form.specs.Written.{poly_data, list_data, pair_data, pair_of, row_data, block_data, document, document_of, text_of, AreBlanks, IsReadBack, IsReadable, IsWritten};
+ghost use Rattle.cert_form.specs.Written.{poly_data, list_data, pair_data, row_data, block_data, document, document_of, text_of, AreBlanks, IsReadBack, IsReadable, IsWritten};
 
 use crate::Cert;
 use crate::read::SPARSE_VERSION;
@@ -69,28 +69,6 @@ fn is_left_out(cofactor: &Poly<Frac, Grevlex>) -> bool
     cofactor.is_zero()
 }
 
-// Puts the pair of a cofactor behind the others, unless it is left out.
-fn push_pair(
-    alloc: Global,
-    pairs: &mut Vec<Value>,
-    names: &Names,
-    position: usize,
-    cofactor: &Poly<Frac, Grevlex>,
-) -> Result<(), AllocError>
-    requires { length names.now ≡ cofactor.now.arity }
-    ensures pair { OnOk result (map view pairs.new.items ≡ map view pairs.old.items
-        ++ pair_of names.now position (terms_in cofactor.now)) }
-    ensures read_back { OnOk result (IsReadBack names.now (terms_in cofactor.now)) }
-{
-    prove_eq!(names.len(), cofactor.arity());
-    if is_left_out(cofactor) {
-        return Ok(());
-    }
-    let pair = pair_value(alloc, names, position, cofactor)?;
-    pairs.push(pair)?;
-    Ok(())
-}
-
 // The cofactors of a polynomial that aren't 0.
 fn row_value(
     alloc: Global,
@@ -103,7 +81,11 @@ fn row_value(
 {
     let mut pairs = Vec::new(alloc);
     for (position, cofactor) in row.iter().enumerate() {
-        push_pair(alloc, &mut pairs, names, position, cofactor)?;
+        prove_eq!(names.len(), cofactor.arity());
+        if !is_left_out(cofactor) {
+            let pair = pair_value(alloc, names, position, cofactor)?;
+            pairs.push(pair)?;
+        }
     }
     Ok(Value::from(pairs))
 }

@@ -3,11 +3,12 @@ use Rattle.cert_form.specs.Form.{block_at}
 use Rattle.cert_form.specs.Cert.{IsBlockOf}
 use Rattle.cert_form.specs.Path.{path_bytes}
 use Rattle.cert_form.proofs.Each.{ReadSoFar}
-use Rattle.cert_form.proofs.parts.read_blocks.Given as goal
+use Rattle.cert_form.proofs.cofactors.CofactorReader.read_blocks.Given as goal
 
 abbrev pub invariant-loop-i : goal.invariant-loop-i
 invariant-loop-i l = record {
   count : vec_len l.found ≡ l.i;
-  so_far : ReadSoFar (IsBlockOf (length l.names) l.width) (block_at l.names l.sparse l.width)
-      (path_bytes l.path) l.list l.i l.found.items;
+  so_far : ReadSoFar (IsBlockOf (length l.self.names.now) l.self.elements)
+      (block_at l.self.names.now l.self.sparse l.self.elements) (path_bytes l.path) l.list
+      l.i l.found.items;
 }

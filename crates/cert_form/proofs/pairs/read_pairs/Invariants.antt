@@ -1,6 +1,0 @@
-use Rattle.cert_form.specs.Path.{path_bytes}
-use Rattle.cert_form.proofs.PairSteps.{PairsSoFar}
-use Rattle.cert_form.proofs.pairs.read_pairs.Given as goal
-
-abbrev pub invariant-loop-i : goal.invariant-loop-i
-invariant-loop-i l = PairsSoFar l.names l.count (path_bytes l.path) l.list l.i l.found
