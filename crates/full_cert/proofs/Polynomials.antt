@@ -1,12 +1,13 @@
 -- The polynomial of the terms that were read is the one in descending order.
 --   arity_of_read     terms that were read have as many exponents as variables
---   raw_is            a polynomial of these terms is what the list is
+--   raw_is            a polynomial of the terms of a list is what the value is
 use Rattle.std.proofs.Common.{◌≡◌, ℕ, Bool, true, List, [], ◌∷◌, Ok, length, sym, ap, ◌∙◌}
 use Rattle.std.specs.Prelude.{All, Option, Some}
 use Rattle.std.specs.Option.{ok_or}
 use Rattle.std.proofs.lemmas.List.Elements.{All-head, All-tail}
 use Rattle.algebra.specs.Each.{Each}
-use Rattle.serde_json.specs.Data.{Items}
+use Rattle.serde_json.specs.Data.{Data, Items}
+use Rattle.serde_json.specs.Find.{as_array}
 use Rattle.algebra.specs.Fraction.{Fraction, ℚ, rationals}
 use Rattle.algebra.proofs.Fractions.{ℚ_field}
 use Rattle.polynomials.specs.Order.{Rank, IsMonomialOrder}
@@ -17,8 +18,8 @@ use Rattle.machines.proofs.Collecting.{collect-is}
 use Rattle.frac128.specs.declared.fraction.Frac.{Frac}
 use Rattle.poly.specs.declared.Term.{Term}
 use Rattle.poly_text.specs.Seen.{read_terms}
-use Rattle.cert_form.specs.Form.{on, expect, polynomial}
-use Rattle.full_cert.specs.Raw.{every, has_term_form, terms_of, raw_in}
+use Rattle.cert_form.specs.Form.{on, expect, shape, polynomial}
+use Rattle.full_cert.specs.Raw.{every, has_term_form, terms_of, raw_in, raw_at}
 
 pub arity_of_read : (m : ℕ) (ts : List (Term Frac)) → All (λ (t : Term Frac). length t.mono ≡ m) ts
     → Arity m (read_terms ts)
@@ -40,8 +41,10 @@ module _ (O : Rank) (m : ℕ) (path : List ℕ) (ds : Items) where
   with_terms o form is = of_form true form
       ∙ ap (λ x. on (λ p. Ok (collect rationals O p)) (ok_or x (polynomial path))) (sym is)
 
-  pub raw_is : IsMonomialOrder O → every has_term_form ds ≡ true → (ts p : Terms Fraction)
+  pub raw_is : (d : Data) → as_array d ≡ Some ds → IsMonomialOrder O
+      → every has_term_form ds ≡ true → (ts p : Terms Fraction)
       → Some ts ≡ terms_of m ds → Arity m ts → IsPolynomial ℚ O m p → Same ℚ p ts
-      → raw_in O m path ds ≡ Ok p
-  raw_is o form ts p is a h s =
-      with_terms (Some ts) form is ∙ ap Ok (sym (collect-is ℚ_field O o m ts p a h s))
+      → raw_at O m path d ≡ Ok p
+  raw_is d list o form ts p is a h s =
+      ap (λ x. on (raw_in O m path) (ok_or x (shape path))) list
+      ∙ with_terms (Some ts) form is ∙ ap Ok (sym (collect-is ℚ_field O o m ts p a h s))

@@ -95,6 +95,6 @@ terms_back m found (t ∷ p) h a z d =
 pub raw_back : (O : Rank) (m : ℕ) (path : List ℕ) (p : Terms Fraction) → IsMonomialOrder O
     → IsPolynomial ℚ O m p → All IsNarrow p → raw_at O m path (raw_data p) ≡ Ok p
 raw_back O m path p o is narrow =
-    raw_is O m path (items_of (map term_data p)) o (forms_back p narrow) p p
+    raw_is O m path (items_of (map term_data p)) (raw_data p) refl o (forms_back p narrow) p p
     (sym (terms_back m [] p narrow is.arity is.nonzero (distinct_falls O o p is.falls)))
     is.arity is (Same-refl ℚ p)

@@ -1,9 +1,8 @@
 //! The forms of branches, read.
-ghost use Rattle.std.specs.Prelude.{◌≡◌, ◌≤◌, ◌+◌, Ok, Err, length, vec_len, unsigned_abs, option_and_then, IfOk, IfErr, IfSome};
+ghost use Rattle.std.specs.Prelude.{◌≡◌, ◌≤◌, Ok, Err, length, vec_len, unsigned_abs, option_and_then, IfOk, IfErr, IfSome};
 ghost use Rattle.std.specs.Option.{option_map};
 ghost use Rattle.serde_json.specs.Find.{as_array, as_str};
 ghost use Rattle.serde_json.specs.View.{view, items_view};
-ghost use Rattle.poly.specs.Seen.{terms_each};
 ghost use Rattle.coprime_base.specs.Sizes.{sizes};
 ghost use Rattle.solvable_maps.specs.Iterations.{width};
 ghost use Rattle.poly_text.specs.Number.{numeral_of};
@@ -22,7 +21,7 @@ use monos::Grevlex;
 use poly_text::read_numeral;
 use serde_json::Value;
 use std::alloc::Global;
-use task_lists::{FullForm, Polys};
+use task_lists::FullForm;
 
 // A base has at most so many numbers.
 const MOST_BASES: usize = 1024;
@@ -91,27 +90,6 @@ fn read_base<'a>(
     base_numbers(alloc, path, list)
 }
 
-// The polynomials of a form over so many numbers.
-fn read_polys<'a>(
-    alloc: Global,
-    path: &'a Path<'a>,
-    value: &Value,
-    variables: usize,
-    numbers: usize,
-) -> Result<Polys, CertError>
-    requires variables { variables ≤ most_loop_variables }
-    requires numbers { numbers ≤ most_bases }
-    ensures images { IfOk result (ArePolys (width numbers variables)) }
-    ensures ok { IfOk result (λ ps. spec.polys_at variables numbers (path_bytes path.now)
-        (view value.now) ≡ Ok (terms_each ps.items)) }
-    ensures fault { IfErr result (λ e. IfFault e (λ f. spec.polys_at variables numbers
-        (path_bytes path.now) (view value.now) ≡ Err f)) }
-{
-    let path = Path::Member(path, "polys");
-    let arity = 2 + (numbers + (numbers + variables));
-    read_row(alloc, &path, value.get("polys"), variables, Grevlex, arity)
-}
-
 // The form of a branch over so many variables.
 pub(crate) fn read_form<'a>(
     alloc: Global,
@@ -131,6 +109,9 @@ pub(crate) fn read_form<'a>(
         return Err(shape_at(alloc, path));
     }
     let base = read_base(alloc, &Path::Member(path, "base"), value.get("base"))?;
-    let polys = read_polys(alloc, path, value, variables, base.len())?;
+    let numbers = base.len();
+    let arity = 2 + (numbers + (numbers + variables));
+    let place = Path::Member(path, "polys");
+    let polys = read_row(alloc, &place, value.get("polys"), variables, Grevlex, arity)?;
     Ok(FullForm { base, polys })
 }

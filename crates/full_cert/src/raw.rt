@@ -1,6 +1,6 @@
 //! Reads raw polynomials: lists of terms in any order.
 ghost use Rattle.std.specs.Prelude.{◌≡◌, ◌≤◌, Ok, Err, IfOk, IfErr};
-ghost use Rattle.serde_json.specs.View.{view, items_view};
+ghost use Rattle.serde_json.specs.View.{view};
 ghost use Rattle.monos.specs.Variables.{most_variables};
 ghost use Rattle.poly.specs.Seen.{terms_in, IsImage};
 ghost use Rattle.cert_form.specs.Faults.{IfFault};
@@ -8,37 +8,13 @@ ghost use Rattle.cert_form.specs.Path.{path_bytes};
 ghost use Rattle.full_cert.specs.Raw as spec;
 
 use crate::raw_form::have_term_form;
-use crate::terms;
+use crate::terms::all_terms;
 use cert_form::{CertError, Path, polynomial_at, shape_at};
 use frac128::Frac;
 use monos::Order;
 use poly::Poly;
 use serde_json::Value;
 use std::alloc::Global;
-
-// The polynomial in `arity` variables that the list is, or its fault.
-fn read_list<'a, O: Order>(
-    alloc: Global,
-    path: &'a Path<'a>,
-    list: &[Value],
-    order: O,
-    arity: usize,
-) -> Result<Poly<Frac, O>, CertError>
-    requires few { arity ≤ most_variables }
-    ensures image { IfOk result (IsImage order arity) }
-    ensures ok { IfOk result (λ p. spec.raw_in (O.order order) arity (path_bytes path.now)
-        (items_view list.now) ≡ Ok (terms_in p)) }
-    ensures fault { IfErr result (λ e. IfFault e (λ f. spec.raw_in (O.order order) arity
-        (path_bytes path.now) (items_view list.now) ≡ Err f)) }
-{
-    if !have_term_form(list) {
-        return Err(shape_at(alloc, path));
-    }
-    let Some(terms) = terms::all_terms(alloc, list, arity)? else {
-        return Err(polynomial_at(alloc, path));
-    };
-    Ok(Poly::from_distinct(alloc, order, arity, terms)?)
-}
 
 /// The polynomial in `arity` variables that the value is: a list of terms, each a list of the text
 /// of a number and a list of exponents, in any order. `Shape` where the value has another form; `Poly`
@@ -61,5 +37,11 @@ pub fn read_raw<'a, O: Order>(
     let Some(list) = value.as_array() else {
         return Err(shape_at(alloc, path));
     };
-    read_list(alloc, path, list, order, arity)
+    if !have_term_form(list) {
+        return Err(shape_at(alloc, path));
+    }
+    let Some(terms) = all_terms(alloc, list, arity)? else {
+        return Err(polynomial_at(alloc, path));
+    };
+    Ok(Poly::from_distinct(alloc, order, arity, terms)?)
 }

@@ -8,7 +8,7 @@ ghost use Rattle.task_lists.specs.Images.{IsFullIn};
 ghost use Rattle.full_cert.specs.Form as spec;
 ghost use Rattle.task_lists.specs.View.{full_of};
 
-use crate::all_rounds::read_rounds;
+use crate::round::RoundReader;
 use crate::{read_forms, read_raws, read_start, read_steps};
 use cert_form::{CertError, Path, has_names, has_version, shape_at};
 use loop_model::Loop;
@@ -51,8 +51,13 @@ fn read_parts(alloc: Global, value: &Value, lp: &Loop) -> Result<FullCert, CertE
     };
     let start = read_start(alloc, &path, start, names, lp.start().len())?;
     let path = Path::Root("/rounds");
-    let rounds = value.get("rounds");
-    let rounds = read_rounds(alloc, &path, rounds, names, start.out.len(), &forms)?;
+    let reader = RoundReader {
+        alloc,
+        variables: names,
+        before: start.out.len(),
+        forms: &forms,
+    };
+    let rounds = reader.read_rounds(&path, value.get("rounds"))?;
     Ok(FullCert {
         basis,
         steps,

@@ -42,89 +42,86 @@ fn read_member<'a>(
     }
 }
 
-// The orbit of a branch with this form, where the list before the round has so many polynomials.
-fn read_orbit<'a>(
+/// Reads the stages of a branch over so many variables, where the list before the round has so many polynomials.
+#[derive(Clone, Copy)]
+struct BranchReader<'f> {
     alloc: Global,
-    path: &'a Path<'a>,
-    value: &Value,
     variables: usize,
     before: usize,
-    form: &FullForm,
-) -> Result<FullStage, CertError>
-    requires variables { variables ≤ most_loop_variables }
-    requires few { vec_len form.now.base ≤ most_bases }
-    requires short { before < given_bound }
-    ensures images { IfOk result (IsStageIn (front (vec_len form.now.base)) variables) }
-    ensures ok { IfOk result (λ s. spec.orbit_at variables before (form_in form.now)
-        (path_bytes path.now) (view value.now) ≡ Ok (stage_in s)) }
-    ensures fault { IfErr result (λ e. IfFault e (λ f. spec.orbit_at variables before
-        (form_in form.now) (path_bytes path.now) (view value.now) ≡ Err f)) }
-{
-    let numbers = form.base.len();
-    let front = 2 + (numbers + numbers);
-    read_member(
-        alloc,
-        path,
-        value,
-        "orbit",
-        front,
-        variables,
-        before + (1 + numbers),
-    )
+    /// How many polynomials the list so far has: none for the first branch.
+    so_far: Option<usize>,
+    form: &'f FullForm,
+    ghost few: { variables ≤ most_loop_variables },
+    ghost short: { before < given_bound },
+    ghost bases: { vec_len form.now.base ≤ most_bases },
 }
 
-// The intersection of a further branch, where the list so far has so many polynomials and its orbit gives so many.
-fn read_meet<'a>(
-    alloc: Global,
-    path: &'a Path<'a>,
-    value: &Value,
-    variables: usize,
-    so_far: Option<usize>,
-    given: usize,
-) -> Result<Option<FullStage>, CertError>
-    requires variables { variables ≤ most_loop_variables }
-    requires short { given < given_bound }
-    requires short_so_far { IfSome so_far (λ n. n < given_bound) }
-    ensures images { IfOk result (λ meet. IfSome meet (IsStageIn 1 variables)) }
-    ensures ok { IfOk result (λ meet. spec.meet_at variables so_far given (path_bytes path.now)
-        (view value.now) ≡ Ok (option_map stage_in meet)) }
-    ensures fault { IfErr result (λ e. IfFault e (λ f. spec.meet_at variables so_far given
-        (path_bytes path.now) (view value.now) ≡ Err f)) }
-{
-    let Some(count) = so_far else {
-        return Ok(None);
-    };
-    let gens = count + given;
-    let meet = read_member(alloc, path, value, "meet", 1, variables, gens)?;
-    Ok(Some(meet))
-}
-
-// The stages of a branch, with an intersection where there is a list so far.
-fn read_branch<'a>(
-    alloc: Global,
-    path: &'a Path<'a>,
-    value: &Value,
-    variables: usize,
-    before: usize,
-    so_far: Option<usize>,
-    form: &FullForm,
-) -> Result<FullBranch, CertError>
-    requires variables { variables ≤ most_loop_variables }
-    requires few { vec_len form.now.base ≤ most_bases }
-    requires short { before < given_bound }
-    requires short_so_far { IfSome so_far (λ n. n < given_bound) }
-    ensures images { IfOk result (IsBranchIn variables form.now) }
-    ensures ok { IfOk result (λ b. spec.branch_at variables before so_far (form_in form.now)
-        (path_bytes path.now) (view value.now) ≡ Ok (branch_in b)) }
-    ensures fault { IfErr result (λ e. IfFault e (λ f. spec.branch_at variables before so_far
-        (form_in form.now) (path_bytes path.now) (view value.now) ≡ Err f)) }
-{
-    if !value.is_object() {
-        return Err(shape_at(alloc, path));
+impl BranchReader<'_> {
+    // The stages, with an intersection where there is a list so far.
+    fn read_branch<'a>(&self, path: &'a Path<'a>, value: &Value) -> Result<FullBranch, CertError>
+        requires short { IfSome self.now.so_far (λ n. n < given_bound) }
+        ensures images { IfOk result (IsBranchIn self.now.variables self.now.form.now) }
+        ensures ok { IfOk result (λ b. spec.branch_at self.now.variables self.now.before
+            self.now.so_far (form_in self.now.form.now) (path_bytes path.now) (view value.now)
+            ≡ Ok (branch_in b)) }
+        ensures fault { IfErr result (λ e. IfFault e (λ f. spec.branch_at self.now.variables
+            self.now.before self.now.so_far (form_in self.now.form.now) (path_bytes path.now)
+            (view value.now) ≡ Err f)) }
+    {
+        if !value.is_object() {
+            return Err(shape_at(self.alloc, path));
+        }
+        let orbit = self.read_orbit(path, value)?;
+        let meet = self.read_meet(path, value, orbit.out.len())?;
+        Ok(FullBranch { orbit, meet })
     }
-    let orbit = read_orbit(alloc, path, value, variables, before, form)?;
-    let meet = read_meet(alloc, path, value, variables, so_far, orbit.out.len())?;
-    Ok(FullBranch { orbit, meet })
+
+    fn read_orbit<'a>(&self, path: &'a Path<'a>, value: &Value) -> Result<FullStage, CertError>
+        ensures images { IfOk result
+            (IsStageIn (front (vec_len self.now.form.now.base)) self.now.variables) }
+        ensures ok { IfOk result (λ s. spec.orbit_at self.now.variables self.now.before
+            (form_in self.now.form.now) (path_bytes path.now) (view value.now)
+            ≡ Ok (stage_in s)) }
+        ensures fault { IfErr result (λ e. IfFault e (λ f. spec.orbit_at self.now.variables
+            self.now.before (form_in self.now.form.now) (path_bytes path.now) (view value.now)
+            ≡ Err f)) }
+    {
+        let numbers = self.form.base.len();
+        let front = 2 + (numbers + numbers);
+        let gens = self.before + (1 + numbers);
+        read_member(
+            self.alloc,
+            path,
+            value,
+            "orbit",
+            front,
+            self.variables,
+            gens,
+        )
+    }
+
+    // The intersection of a further branch, whose orbit gives so many polynomials.
+    fn read_meet<'a>(
+        &self,
+        path: &'a Path<'a>,
+        value: &Value,
+        given: usize,
+    ) -> Result<Option<FullStage>, CertError>
+        requires given { given < given_bound }
+        requires short { IfSome self.now.so_far (λ n. n < given_bound) }
+        ensures images { IfOk result (λ meet. IfSome meet (IsStageIn 1 self.now.variables)) }
+        ensures ok { IfOk result (λ meet. spec.meet_at self.now.variables self.now.so_far given
+            (path_bytes path.now) (view value.now) ≡ Ok (option_map stage_in meet)) }
+        ensures fault { IfErr result (λ e. IfFault e (λ f. spec.meet_at self.now.variables
+            self.now.so_far given (path_bytes path.now) (view value.now) ≡ Err f)) }
+    {
+        let Some(count) = self.so_far else {
+            return Ok(None);
+        };
+        let gens = count + given;
+        let meet = read_member(self.alloc, path, value, "meet", 1, self.variables, gens)?;
+        Ok(Some(meet))
+    }
 }
 
 // How many polynomials the list so far has behind these stages.
@@ -138,56 +135,69 @@ pub(crate) fn given(branch: &FullBranch) -> usize
     }
 }
 
-// The stages of the branches, one for each form.
-fn read_branches<'a>(
-    alloc: Global,
-    path: &'a Path<'a>,
-    list: &[Value],
-    variables: usize,
-    before: usize,
-    forms: &[FullForm],
-) -> Result<Vec<FullBranch>, CertError>
-    requires variables { variables ≤ most_loop_variables }
-    requires short { before < given_bound }
-    requires count { length list.now ≡ length forms.now }
-    requires forms { All (IsFormOver variables) forms.now }
-    ensures images { IfOk result (AreBranchesIn variables forms.now) }
-    ensures ok { IfOk result (λ bs. spec.branches_at variables before None (map form_in forms.now)
-        (path_bytes path.now) 0 (items_view list.now) ≡ Ok (map branch_in bs.items)) }
-    ensures fault { IfErr result (λ e. IfFault e (λ f. spec.branches_at variables before None
-        (map form_in forms.now) (path_bytes path.now) 0 (items_view list.now) ≡ Err f)) }
-{
-    let mut found = Vec::new(alloc);
-    let mut so_far = None;
-    for (i, value) in list.iter().enumerate() {
-        let place = Path::Place(path, i);
-        let branch = read_branch(alloc, &place, value, variables, before, so_far, &forms[i])?;
-        so_far = Some(given(&branch));
-        found.push(branch)?;
-    }
-    Ok(found)
+/// Reads the stages of a round over so many variables, where the list before it has so many polynomials, and the branches
+/// have these forms.
+#[derive(Clone, Copy)]
+pub(crate) struct RoundReader<'f> {
+    pub(crate) alloc: Global,
+    pub(crate) variables: usize,
+    pub(crate) before: usize,
+    pub(crate) forms: &'f [FullForm],
+    ghost few: { variables ≤ most_loop_variables },
+    ghost short: { before < given_bound },
+    ghost over: { All (IsFormOver variables) forms.now },
 }
 
-// The stages of a round.
-pub(crate) fn read_round<'a>(
-    alloc: Global,
-    path: &'a Path<'a>,
-    value: &Value,
-    variables: usize,
-    before: usize,
-    forms: &[FullForm],
-) -> Result<Vec<FullBranch>, CertError>
-    requires variables { variables ≤ most_loop_variables }
-    requires short { before < given_bound }
-    requires forms { All (IsFormOver variables) forms.now }
-    ensures images { IfOk result (AreBranchesIn variables forms.now) }
-    ensures ok { IfOk result (λ bs. spec.round_at variables before (map form_in forms.now)
-        (path_bytes path.now) (view value.now) ≡ Ok (map branch_in bs.items)) }
-    ensures fault { IfErr result (λ e. IfFault e (λ f. spec.round_at variables before
-        (map form_in forms.now) (path_bytes path.now) (view value.now) ≡ Err f)) }
-{
-    let Some(list) = list_with(value, forms.len()) else {
-        return Err(shape_at(alloc, path));
-    };
-    read_branches(alloc, path, list, variables, before, forms)
+impl RoundReader<'_> {
+    /// The stages of the round.
+    pub(crate) fn read_round<'a>(
+        &self,
+        path: &'a Path<'a>,
+        value: &Value,
+    ) -> Result<Vec<FullBranch>, CertError>
+        ensures images { IfOk result (AreBranchesIn self.now.variables self.now.forms.now) }
+        ensures ok { IfOk result (λ bs. spec.round_at self.now.variables self.now.before
+            (map form_in self.now.forms.now) (path_bytes path.now) (view value.now)
+            ≡ Ok (map branch_in bs.items)) }
+        ensures fault { IfErr result (λ e. IfFault e (λ f. spec.round_at self.now.variables
+            self.now.before (map form_in self.now.forms.now) (path_bytes path.now)
+            (view value.now) ≡ Err f)) }
+    {
+        let Some(list) = list_with(value, self.forms.len()) else {
+            return Err(shape_at(self.alloc, path));
+        };
+        self.read_branches(path, list)
+    }
+
+    // The stages of the branches, one for each form.
+    fn read_branches<'a>(
+        &self,
+        path: &'a Path<'a>,
+        list: &[Value],
+    ) -> Result<Vec<FullBranch>, CertError>
+        requires count { length list.now ≡ length self.now.forms.now }
+        ensures images { IfOk result (AreBranchesIn self.now.variables self.now.forms.now) }
+        ensures ok { IfOk result (λ bs. spec.branches_at self.now.variables self.now.before None
+            (map form_in self.now.forms.now) (path_bytes path.now) 0 (items_view list.now)
+            ≡ Ok (map branch_in bs.items)) }
+        ensures fault { IfErr result (λ e. IfFault e (λ f. spec.branches_at self.now.variables
+            self.now.before None (map form_in self.now.forms.now) (path_bytes path.now) 0
+            (items_view list.now) ≡ Err f)) }
+    {
+        let mut found = Vec::new(self.alloc);
+        let mut so_far = None;
+        for (i, value) in list.iter().enumerate() {
+            let reader = BranchReader {
+                alloc: self.alloc,
+                variables: self.variables,
+                before: self.before,
+                so_far,
+                form: &self.forms[i],
+            };
+            let branch = reader.read_branch(&Path::Place(path, i), value)?;
+            so_far = Some(given(&branch));
+            found.push(branch)?;
+        }
+        Ok(found)
+    }
 }
