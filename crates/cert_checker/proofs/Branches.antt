@@ -2,11 +2,10 @@
 --   before_none                    the list before the first round
 --   round_at, branch_at, round_size     rounds and branches of the code at their places
 --   given_is, before_is            the lists that the code takes are those of the definition
---   orbit_starts                   and so is the list that an orbit begins with
 --   stage_all, stage_stops         what is told of the places of a stage, of the parts
 --   orbit_alone, both_hold         the stages of a branch hold
 --   orbit_stops, meet_stops        where they stop
-use Rattle.std.proofs.Common.{◌≡◌, ℕ, zero, suc, ◌-◌, ◌<◌, List, [], ◌++◌, get_or, length, true, true≢false, refl, sym, ap, ap₂, subst, ◌∙◌, inl, inr, arith}
+use Rattle.std.proofs.Common.{◌≡◌, ℕ, zero, suc, ◌-◌, ◌<◌, List, [], ◌++◌, get_or, length, true, true≢false, refl, sym, ap, subst, ◌∙◌, inl, inr, arith}
 use Rattle.std.specs.Prelude.{pred, Option, Some, None, is_some, Vec, vec_len}
 use Rattle.std.specs.declared.alloc.Global.{Global}
 use Rattle.std.proofs.lemmas.List.{append-nil, get_or-map, length-map}
@@ -15,9 +14,8 @@ use Rattle.algebra.proofs.Each.{each-append, each-map}
 use Rattle.algebra.specs.Fraction.{Fraction}
 use Rattle.polynomials.specs.Terms.{Terms}
 use Rattle.loops.specs.Program.{Expr, Program}
-use Rattle.rounds.specs.Form.{inverse_of_form, orbit_list, whole_orbit_list}
 use Rattle.corollaries.specs.Stage.{Stage, Place, in_list, in_gens, in_pairs, in_links, HoldsAt, places}
-use Rattle.corollaries.specs.Full.{FullCertificate, WrittenForm, as_form, orbit, meet, of_option, stage_of, so_far, before, front_of, starting}
+use Rattle.corollaries.specs.Full.{FullCertificate, orbit, meet, of_option, stage_of, so_far, before, front_of, starting}
 use Rattle.corollaries.specs.Parts.{Part, in_round, Holds, stage_parts, branch_parts}
 use Rattle.corollaries.specs.Counts.{IsCounted, no_branch}
 use Rattle.task_lists.specs.View.{branch_in, round_in, full_of}
@@ -84,12 +82,6 @@ module _ (cert : FullCert) (r : ℕ) (round : Vec FullBranch Global)
 pub last_branch : (n : ℕ) → pred n ≡ n - 1
 last_branch zero = refl
 last_branch (suc n) = omega arith
-
-pub orbit_starts : (m : ℕ) (f : WrittenForm) (base : List ℕ) (back gs hs : List (Terms Fraction))
-    → base ≡ f.base → back ≡ inverse_of_form (as_form f) → gs ≡ hs
-    → whole_orbit_list (length base) m back gs ≡ orbit_list (as_form f) m hs
-orbit_starts m f base back gs hs d e g = ap (λ b. whole_orbit_list (length b) m back gs) d
-    ∙ ap₂ (whole_orbit_list (length f.base) m) e g
 
 -- ---- the places of a stage
 place_weaker : (V W : ℕ → Type 0) → ((i : ℕ) → V i → W i) → (s : Stage) (p : Place)

@@ -1,12 +1,10 @@
 -- The maps and the forms that are counted, in the words of the definition.
 --   collected          polynomials that are the same as others are those, collected
 --   map_is             so is the map of a branch
---   polys_at           the polynomials of a branch's form
 --   meet_behind, meet_not     a later branch has an intersection, the first has none
 use Rattle.std.proofs.Common.{◌≡◌, ◌<◌, ℕ, zero, suc, List, [], ◌∷◌, map, get_or, length, All, refl, sym, ap, ap₂, ◌∙◌, arith, true, false, true≢false}
 use Rattle.std.specs.Prelude.{is_some, Vec}
 use Rattle.std.specs.declared.alloc.Global.{Global}
-use Rattle.std.proofs.lemmas.List.{get_or-map}
 use Rattle.std.proofs.lemmas.List.Elements.{All-head, All-tail}
 use Rattle.algebra.specs.Each.{Each}
 use Rattle.algebra.specs.Fraction.{Fraction, ℚ, rationals}
@@ -25,10 +23,7 @@ use Rattle.poly.specs.Seen.{terms_each}
 use Rattle.loop_model.specs.FracPoly.{FracPoly}
 use Rattle.loop_model.specs.Maps.{IsBranchMap}
 use Rattle.corollaries.specs.Counts.{IsCounted, no_branch}
-use Rattle.corollaries.specs.Full.{FullCertificate, WrittenForm, form_of}
-use Rattle.task_lists.specs.View.{form_in, full_of}
-use Rattle.task_lists.specs.declared.parts.FullForm.{FullForm}
-use Rattle.task_lists.specs.declared.parts.FullCert.{FullCert}
+use Rattle.corollaries.specs.Full.{FullCertificate}
 use Rattle.cert_checker.proofs.FormsAlong as along
 
 pub collected : (m : ℕ) (qs ps : List (Terms Fraction)) → All (IsPolynomial ℚ grevlex m) qs
@@ -52,12 +47,6 @@ map_is program b images stands =
     let is = along.map_of m images.items maps stands in
     collected m (terms_each images.items) maps is.polynomials
     (arity-branch_map program (get_or program.branches b [])) is.same
-
-pub polys_at : (cert : FullCert) (b : ℕ) (form : FullForm) → b < length cert.forms.items
-    → form ≡ get_or cert.forms.items b form
-    → terms_each form.polys.items ≡ (form_of (full_of cert) b).polys
-polys_at cert b form l is = ap (λ (f : WrittenForm). f.polys) (ap form_in is
-    ∙ sym (get_or-map form_in cert.forms.items b form _ l))
 
 module _ (program : Program (Expr ℕ)) (c : FullCertificate) (counted : IsCounted program c) where
   pub meet_behind : (r b : ℕ) → r < length c.rounds → b < length program.branches

@@ -1,8 +1,7 @@
 -- Forms of maps that are the same.
 --   passes_along       a form that passes for the one passes for the other
 --   map_of             the images of a branch are its map's polynomials
---   form_at, wide, many    the form of a branch in the code
---   fits, pass_on, pass_back, past_on, inverse_form_at     what is told of it
+--   fits, pass_on, pass_back, past_on, inverse_form_at     what is told of the form of a branch and of its map
 --   backs_more         what holds of each of a list, at its place, and of one more
 use Rattle.std.proofs.Common.{◌≡◌, ◌⊎◌, inl, inr, ◌<◌, ◌≤◌, ◌+◌, ℕ, List, [], ◌∷◌, ◌++◌, map, get_or, length, sym, ap, subst, subst₂, ◌∙◌, arith, Vec, Global}
 use Rattle.std.specs.Prelude.{All, vec_len}
@@ -19,26 +18,31 @@ use Rattle.polynomials.proofs.Same.{Same-trans, AllSame-refl, AllSame-sym}
 use Rattle.solvable_maps.specs.Expo.{with_normal_keys}
 use Rattle.solvable_maps.specs.Iterations.{width}
 use Rattle.solvable_maps.proofs.Retold.{same_normalized}
-use Rattle.loops.specs.Program.{Expr, Program}
+use Rattle.loops.specs.Map.{branch_map}
+use Rattle.loops.proofs.Maps.{arity-branch_map}
 use Rattle.rounds.specs.Form.{Form, front, inverse_of_form}
 use Rattle.monos.specs.Variables.{most_variables}
 use Rattle.poly.specs.Seen.{terms_in, terms_each}
 use Rattle.poly.specs.Standing.{IsInVariables, AllStandFor}
 use Rattle.poly.proofs.Standing.{polynomial_over, arities_over, stands_over, stands_same}
 use Rattle.loop_model.specs.FracPoly.{FracPoly}
+use Rattle.loop_model.specs.Maps.{IsBranchMap}
 use Rattle.coprime_base.specs.Sizes.{sizes}
 use Rattle.expo.specs.Bases.{IsCoprimeBase}
 use Rattle.corollaries.specs.FormIdentities.{IsRightForm}
 use Rattle.corollaries.specs.Full.{as_form, form_of}
+use Rattle.corollaries.specs.Parts.{Holds, in_forms}
 use Rattle.cert_checker.specs.Passing.{FitsForm, IsPastForm}
-use Rattle.task_lists.specs.Images.{IsFormOver, IsFullIn}
-use Rattle.task_lists.specs.View.{form_in, full_of}
+use Rattle.task_lists.specs.Images.{IsFormOver}
+use Rattle.task_lists.specs.View.{form_in}
 use Rattle.task_lists.specs.declared.parts.FullForm.{FullForm}
-use Rattle.corollaries.specs.Counts.{IsCounted}
-use Rattle.task_lists.specs.declared.parts.FullCert.{FullCert}
+use Rattle.cert_checker.specs.FullJudge.{program_by, cert_by, IsFullJudge}
 use Rattle.cert_checker.specs.Wide.{IsMapOf}
 use Rattle.cert_checker.specs.InverseForm.{IsInverseForm}
-use Rattle.cert_checker.specs.FullWide.{IsPastOfMap}
+use Rattle.cert_checker.specs.FullWide.{IsPastPart}
+use Rattle.cert_checker.specs.declared.full_judge.FullJudge.{FullJudge}
+use Rattle.cert_checker.proofs.Begun.{formed}
+use Rattle.cert_checker.proofs.VerdictLaws.{branch_count}
 
 all_trans : (ps qs rs : List (Terms Fraction)) → AllSame ℚ ps qs → AllSame ℚ qs rs
     → AllSame ℚ ps rs
@@ -87,102 +91,108 @@ map_of m images maps h = record {
 }
 
 -- ---- the form of a branch
-module _ (program : Program (Expr ℕ)) (cert : FullCert)
-    (over : IsFullIn (length program.names) cert) (counted : IsCounted program (full_of cert))
-    (b : ℕ) (form : FullForm) (l : b < length cert.forms.items)
-    (is : form ≡ get_or cert.forms.items b form) where
+module _ {j : FullJudge} (own : IsFullJudge j) {b : ℕ} {form : FullForm}
+    (images : Vec FracPoly Global) (k : b < length (program_by j).branches)
+    (is : form ≡ get_or j.cert.now.forms.items b form)
+    (stands : IsBranchMap (program_by j) images (get_or (program_by j).branches b [])) where
   abbrev m : ℕ
-  m = length program.names
+  m = length (program_by j).names
 
   abbrev r : ℕ
   r = length (sizes form.base.items)
 
-  pub form_at : as_form (form_in form) ≡ form_of (full_of cert) b
-  form_at = ap as_form (ap form_in is ∙ sym (get_or-map form_in cert.forms.items b form _ l))
+  abbrev maps : List (Terms Fraction)
+  maps = branch_map (program_by j) (get_or (program_by j).branches b [])
+
+  -- its form in the code is that of the definition
+  form_at : as_form (form_in form) ≡ form_of (cert_by j) b
+  form_at = ap as_form (ap form_in is
+      ∙ sym (get_or-map form_in j.cert.now.forms.items b form _ (formed own k)))
 
   numbers : vec_len form.base ≡ length (sizes form.base.items)
   numbers = form.base.ok.0 ∙ sym (length-map form.base.items _)
 
-  pub wide : All (IsInVariables (width (length (sizes form.base.items)) (length program.names)))
-      form.polys.items
-  wide = subst (λ n. All (IsInVariables (width n m)) form.polys.items) numbers
-      (subst (IsFormOver m) (sym is) (over.forms b form l)).polys
+  form_over : IsFormOver m form
+  form_over = subst (IsFormOver m) (sym is) (own.images.forms b form (formed own k))
 
-  pub many : length form.polys.items ≡ length program.names
+  wide : All (IsInVariables (width r m)) form.polys.items
+  wide = subst (λ n. All (IsInVariables (width n m)) form.polys.items) numbers form_over.polys
+
+  many : length form.polys.items ≡ length (program_by j).names
   many = sym (length-map form.polys.items terms_in)
       ∙ ap (λ (f : Form). length f.polys) form_at
-      ∙ counted.polys b _ (let n = length-map cert.forms.items form_in in omega (arith, l, n))
+      ∙ own.counted.polys b _ (let n = length-map j.cert.now.forms.items form_in in
+      let l = formed own k in
+      omega (arith, l, n))
 
   few : length (sizes form.base.items) ≤ 1024
-  few = subst (λ n. n ≤ 1024) numbers (subst (IsFormOver m) (sym is) (over.forms b form l)).few
+  few = subst (λ n. n ≤ 1024) numbers form_over.few
 
-  module _ (images : Vec FracPoly Global) (maps : List (Terms Fraction))
-      (stands : AllStandFor (length program.names) images.items maps)
-      (count : length images.items ≡ length program.names) (some : 0 < length program.names)
-      (names : length program.names ≤ 12) (arity : AllArity (length program.names) maps) where
-    pub fits : FitsForm (length images.items) form.base form.polys images
-    fits = subst (λ n. FitsForm n form.base form.polys images) (sym count) (record {
-      some = some;
-      few = omega (arith, few, names);
-      count = many;
-      over_width = wide;
-      over_variables = stands_over m images.items maps stands;
-    })
+  -- and so is its map
+  count : length images.items ≡ length (program_by j).names
+  count = branch_count j.lp.now images.items (get_or (program_by j).branches b []) stands
 
-    polys_over : AllArity (width (length (sizes form.base.items)) m) (as_form (form_in form)).polys
-    polys_over = arities_over (width r m) form.polys.items wide
+  arity : AllArity m maps
+  arity = arity-branch_map (program_by j) (get_or (program_by j).branches b [])
 
-    images_over : AllArity m (terms_each images.items)
-    images_over = arities_over m images.items (stands_over m images.items maps stands)
+  pub fits : FitsForm (length images.items) form.base form.polys images
+  fits = subst (λ n. FitsForm n form.base form.polys images) (sym count) (record {
+    some = j.lp.now.some_name;
+    few = omega (arith, few, j.lp.now.few_names);
+    count = many;
+    over_width = wide;
+    over_variables = stands_over m images.items maps stands;
+  })
 
-    pub pass_on : IsRightForm (terms_each images.items) (length images.items)
-        (as_form (form_in form))
-        → IsRightForm maps (length program.names) (form_of (full_of cert) b)
-    pass_on h = subst (IsRightForm maps m) form_at
-        (passes_along m (as_form (form_in form)) polys_over (terms_each images.items) maps
-        images_over arity
-        (stands_same m images.items maps stands)
-        (subst (λ n. IsRightForm (terms_each images.items) n (as_form (form_in form))) count h))
+  polys_over : AllArity (width (length (sizes form.base.items)) m) (as_form (form_in form)).polys
+  polys_over = arities_over (width r m) form.polys.items wide
 
-    pub pass_back : IsRightForm maps (length program.names) (form_of (full_of cert) b)
-        → IsRightForm (terms_each images.items) (length images.items) (as_form (form_in form))
-    pass_back h = subst (λ n. IsRightForm (terms_each images.items) n (as_form (form_in form)))
-        (sym count)
-        (passes_along m (as_form (form_in form)) polys_over maps (terms_each images.items) arity
-        images_over
-        (AllSame-sym ℚ _ _ (stands_same m images.items maps stands))
-        (subst (IsRightForm maps m) (sym form_at) h))
+  images_over : AllArity m (terms_each images.items)
+  images_over = arities_over m images.items (stands_over m images.items maps stands)
 
-    pub past_on : IsPastForm (terms_each images.items) (length images.items)
-        (as_form (form_in form))
-        → IsPastOfMap (length program.names) maps
-        (λ ims. IsPastForm ims (length program.names) (form_of (full_of cert) b))
-    past_on h = record {
-      images = terms_each images.items;
-      is = map_of m images.items maps stands;
-      past = subst₂ (IsPastForm (terms_each images.items)) count form_at h;
-    }
+  pub pass_on : IsRightForm (terms_each images.items) (length images.items)
+      (as_form (form_in form)) → Holds (program_by j) (cert_by j) (in_forms b)
+  pass_on h = subst (IsRightForm maps m) form_at
+      (passes_along m (as_form (form_in form)) polys_over (terms_each images.items) maps
+      images_over arity (stands_same m images.items maps stands)
+      (subst (λ n. IsRightForm (terms_each images.items) n (as_form (form_in form))) count h))
 
-    pub inverse_form_at : (back : Vec FracPoly Global) → terms_each back.items ≡ inverse_of_form
-        (as_form (form_in form))
-        → All (IsInVariables (width (length (sizes form.base.items)) (length images.items)))
-        back.items → IsCoprimeBase (sizes form.base.items) → IsInverseForm program cert b back
-    inverse_form_at back same arities base = record {
-      base = subst (λ (f : Form). IsCoprimeBase f.base) form_at base;
-      few = subst (λ (f : Form). front (length f.base) + m ≤ most_variables) form_at
-          (let e = few in omega (arith, e, names));
-      count = sym (length-map back.items terms_in) ∙ ap length same
-          ∙ length-map (as_form (form_in form)).polys _ ∙ length-map form.polys.items terms_in
-          ∙ many;
-      arity = subst (λ (f : Form). All (IsInVariables (front (length f.base) + m)) back.items)
-          form_at
-          (subst (λ n. All (IsInVariables n) back.items) front_is arities);
-      is = same ∙ ap inverse_of_form form_at;
-    }
-      where
-        front_is : width (length (sizes form.base.items)) (length images.items)
-            ≡ front (length (sizes form.base.items)) + length program.names
-        front_is = omega (arith, count)
+  pub pass_back : Holds (program_by j) (cert_by j) (in_forms b)
+      → IsRightForm (terms_each images.items) (length images.items) (as_form (form_in form))
+  pass_back h = subst (λ n. IsRightForm (terms_each images.items) n (as_form (form_in form)))
+      (sym count)
+      (passes_along m (as_form (form_in form)) polys_over maps (terms_each images.items) arity
+      images_over (AllSame-sym ℚ _ _ (stands_same m images.items maps stands))
+      (subst (IsRightForm maps m) (sym form_at) h))
+
+  pub past_on : IsPastForm (terms_each images.items) (length images.items)
+      (as_form (form_in form)) → IsPastPart (program_by j) (cert_by j) (in_forms b)
+  past_on h = record {
+    images = terms_each images.items;
+    is = map_of m images.items maps stands;
+    past = subst₂ (IsPastForm (terms_each images.items)) count form_at h;
+  }
+
+  pub inverse_form_at : {back : Vec FracPoly Global}
+      → terms_each back.items ≡ inverse_of_form (as_form (form_in form))
+      → All (IsInVariables (width (length (sizes form.base.items)) (length images.items)))
+      back.items → IsCoprimeBase (sizes form.base.items)
+      → IsInverseForm (program_by j) j.cert.now b back
+  inverse_form_at {back} same arities base = record {
+    base = subst (λ (f : Form). IsCoprimeBase f.base) form_at base;
+    few = subst (λ (f : Form). front (length f.base) + m ≤ most_variables) form_at
+        (let e = few in omega (arith, e, j.lp.now.few_names));
+    count = sym (length-map back.items terms_in) ∙ ap length same
+        ∙ length-map (as_form (form_in form)).polys _ ∙ length-map form.polys.items terms_in
+        ∙ many;
+    arity = subst (λ (f : Form). All (IsInVariables (front (length f.base) + m)) back.items)
+        form_at (subst (λ n. All (IsInVariables n) back.items) front_width arities);
+    is = same ∙ ap inverse_of_form form_at;
+  }
+    where
+      front_width : width (length (sizes form.base.items)) (length images.items)
+          ≡ front (length (sizes form.base.items)) + length (program_by j).names
+      front_width = omega (arith, count)
 
 -- one more
 pub backs_more : {X : Type 0} (P : ℕ → X → Type 0) (xs : List X) (x : X) (b : ℕ) → length xs ≡ b

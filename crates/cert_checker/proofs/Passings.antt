@@ -126,28 +126,33 @@ module _ (bs : List ℕ) (m : ℕ) where
       (subst₂ (λ (ds : List ℕ) p. IsTrue b ↔ Same ℚ (compose ℚ v p (zero_images (length ds) v))
       (get_or (variables ℚ v) i [])) f g tells)
 
-  pub next_tells : (k : ℕ) (ps : List (Terms Fraction)) (image x body q : Terms Fraction)
-      (b : Bool) → k ≡ m → image ≡ x → body ≡ q
-      → (IsTrue b ↔ Same ℚ (with_normal_keys (length bs) (compose ℚ (width (length bs) k) image ps))
-      (compose ℚ (width (length bs) k) body (next_images bs k)))
+  pub next_tells : (k : ℕ) (cs : List ℕ) (ps : List (Terms Fraction))
+      (image x body q : Terms Fraction) (b : Bool) → k ≡ m → cs ≡ bs → image ≡ x → body ≡ q
+      → (IsTrue b ↔ Same ℚ (with_normal_keys (length cs) (compose ℚ (width (length cs) k) image ps))
+      (compose ℚ (width (length cs) k) body (next_images cs k)))
       → (IsTrue b ↔ Same ℚ (with_normal_keys (length bs) (compose ℚ (width (length bs) m) x ps))
       (compose ℚ (width (length bs) m) q (next_images bs m)))
-  next_tells k ps image x body q b e f g tells =
+  next_tells k cs ps image x body q b e d f g tells =
       subst (λ n. IsTrue b
       ↔ Same ℚ (with_normal_keys (length bs) (compose ℚ (width (length bs) n) x ps))
       (compose ℚ (width (length bs) n) q (next_images bs n))) e
       (subst₂ (λ y p. IsTrue b ↔ Same ℚ
       (with_normal_keys (length bs) (compose ℚ (width (length bs) k) y ps))
-      (compose ℚ (width (length bs) k) p (next_images bs k))) f g tells)
+      (compose ℚ (width (length bs) k) p (next_images bs k))) f g
+      (subst (λ (ds : List ℕ). IsTrue b
+      ↔ Same ℚ (with_normal_keys (length ds) (compose ℚ (width (length ds) k) image ps))
+      (compose ℚ (width (length ds) k) body (next_images ds k))) d tells))
 
-  pub next_past : (k : ℕ) (images ps : List (Terms Fraction)) (i : ℕ) (image body : Terms Fraction)
-      → k ≡ m → m ≡ length images → image ≡ get_or images i [] → body ≡ get_or ps i []
-      → (IsPastComposition fractions image ps ⊎ IsPastComposition fractions body (next_images bs k))
+  pub next_past : (k : ℕ) (cs : List ℕ) (images ps : List (Terms Fraction)) (i : ℕ)
+      (image body : Terms Fraction) → k ≡ m → cs ≡ bs → m ≡ length images
+      → image ≡ get_or images i [] → body ≡ get_or ps i []
+      → (IsPastComposition fractions image ps ⊎ IsPastComposition fractions body (next_images cs k))
       → IsPastAt bs images ps i
-  next_past k images ps i image body e d f g (inl p) =
+  next_past k cs images ps i image body e h d f g (inl p) =
       inr (inr (inl (subst (λ x. IsPastComposition fractions x ps) f p)))
-  next_past k images ps i image body e d f g (inr p) =
-      inr (inr (inr (subst₂ (λ x n. IsPastComposition fractions x (next_images bs n)) g (e ∙ d) p)))
+  next_past k cs images ps i image body e h d f g (inr p) =
+      inr (inr (inr (subst₂ (λ x n. IsPastComposition fractions x (next_images bs n)) g (e ∙ d)
+      (subst (λ (ds : List ℕ). IsPastComposition fractions body (next_images ds k)) h p))))
 
 pub seen_at : {X Y : Type 0} (f : X → List Y) (xs : List X) (i : ℕ) (x : X) → i < length xs
     → x ≡ get_or xs i x → f x ≡ get_or (map f xs) i []

@@ -1,20 +1,20 @@
 -- What is found of a row of cofactors, in the words of the list that they are of.
---   made_holds      whether it makes the polynomial at its place
---   made_past       where that is too wide
+--   row_is          the row at its place
 --   like_images, over_images     polynomials like one of them
 --   monic_each      monic polynomials aren't 0
 --   past_at         where a combination is too wide, in other words
 --   pair_is, pair_tells, pair_past     what is told of a pair, in other words
 --   widths          rows of so many polynomials, as lists of terms
+--   row_fits, row_has     one of them has as many as the list, and each of it has what all have
 --   ok_holds, unless_err     what is known of a result that is well
 use Rattle.std.proofs.Common.{◌≡◌, ◌≢◌, ◌↔◌, ℕ, ◌<◌, Bool, List, [], length, get_or, map, refl, sym, ap, subst, subst₂, ◌∙◌, arith, IsTrue, Result, Ok, Err, true≢false}
-use Rattle.std.specs.Prelude.{◌⊎◌, All, IfOk, OnOk, IsOk, IsErrOf, Vec}
+use Rattle.std.specs.Prelude.{◌⊎◌, All, IfOk, OnOk, IsOk, IsErrOf, Vec, vec_len}
 use Rattle.std.specs.declared.alloc.Global.{Global}
 use Rattle.std.proofs.lemmas.List.{get_or-map, get_or_default, length-map}
 use Rattle.std.specs.declared.cmp.PartialEq as PartialEq
 use Rattle.algebra.specs.Fraction.{Fraction, ℚ, rationals, fractions}
 use Rattle.polynomials.specs.Order.{Rank}
-use Rattle.polynomials.specs.Terms.{Terms, Same, combination}
+use Rattle.polynomials.specs.Terms.{Terms}
 use Rattle.machines.specs.Cut.{lead_number}
 use Rattle.machines.specs.Past.{IsPastPair}
 use Rattle.ring_laws.specs.declared.Ring as Ring
@@ -29,24 +29,13 @@ use Rattle.corollaries.specs.Representation.{pairs_of, IsLcmRepresentation}
 use Rattle.task_lists.specs.Past.{IsPastCombination}
 use Rattle.task_lists.proofs.Combining.{place_in}
 use Rattle.task_lists.proofs.Monic.{monic_some}
-use Rattle.cert_checker.specs.StageParts.{IsMonicAt, IsMadeAt, IsPastMade}
+use Rattle.cert_checker.specs.StageParts.{IsMonicAt}
 
 -- a row at its place among the rows, as lists of terms
 module _ {X : Type 0} (see : X → List (Terms Fraction)) (rows : List X) (i : ℕ) (row : X)
     (within : i < length rows) (is : row ≡ get_or rows i row) where
   pub row_is : see row ≡ get_or (map see rows) i []
   row_is = (place_in see rows i within).1 row is
-
-  pub made_holds : (hs gs : List (Terms Fraction)) (found : Result Bool ArithmeticError)
-      → IfOk found (λ b. IsTrue b ↔ Same ℚ (get_or hs i []) (combination ℚ (see row) gs))
-      → IfOk found (λ b. IsTrue b ↔ IsMadeAt hs (map see rows) gs i)
-  made_holds hs gs found h = subst (λ qs. IfOk found (λ b.
-      IsTrue b ↔ Same ℚ (get_or hs i []) (combination ℚ qs gs))) row_is h
-
-  pub made_past : (gs : List (Terms Fraction)) (W : Type 0) (found : Result Bool ArithmeticError)
-      → (IsErrOf found arithmetic_error.Wide → W ⊎ IsPastCombination (see row) gs)
-      → IsErrOf found arithmetic_error.Wide → W ⊎ IsPastMade (map see rows) gs i
-  made_past gs W found h w = subst (λ qs. W ⊎ IsPastCombination qs gs) row_is (h w)
 
 -- ---- polynomials of the code
 module _ {K O : Type 0} {g : Ring.Ghosts K} {h : PartialEq.Ghosts K} {b : Order.Ghosts O}
@@ -116,6 +105,26 @@ module _ {K O : Type 0} {g : Ring.Ghosts K} {h : PartialEq.Ghosts K} {b : Order.
       (λ (r : Vec (Poly K O g h b e) Global). terms_each r.items) in omega (arith, l, m)) in
       let width = all i [] long in
       size ∙ sym seen ∙ sym at ∙ width ∙ is
+
+  module _ (rows : List (Vec (Poly K O g h b e) Global)) where
+    pub row_fits : (list : Vec (Poly K O g h b e) Global)
+        → All (λ row. length row ≡ length (terms_each list.items)) (rows_of rows) → (i : ℕ)
+        (row : Vec (Poly K O g h b e) Global) → i < length rows → row ≡ get_or rows i row
+        → {ps qs : List (Poly K O g h b e)} → ps ≡ row.items → qs ≡ list.items
+        → length ps ≡ length qs
+    row_fits list all i row l at is are =
+        ap length is ∙ sym row.ok.0
+        ∙ subst (λ (r : Vec (Poly K O g h b e) Global). vec_len r ≡ vec_len list) (sym at)
+        (widths rows (length (terms_each list.items)) (vec_len list) all
+        (length-map list.items terms_in ∙ sym list.ok.0) i row l)
+        ∙ list.ok.0 ∙ sym (ap length are)
+
+    pub row_has : (P : Poly K O g h b e → Type 0)
+        → All (λ (r : Vec (Poly K O g h b e) Global). All P r.items) rows → (i : ℕ)
+        (row : Vec (Poly K O g h b e) Global) → i < length rows → row ≡ get_or rows i row
+        → All P row.items
+    row_has P all i row l at =
+        subst (λ (r : Vec (Poly K O g h b e) Global). All P r.items) (sym at) (all i row l)
 
 -- ---- results
 pub ok_holds : {T E : Type 0} (P : Type 0) (r : Result T E) → IsOk r → OnOk r P → P

@@ -16,3 +16,5 @@ pub mod Verdicts
 pub mod InverseForm
 pub mod Further
 pub mod LongParts
+pub mod FullJudge
+pub mod StageJudge

@@ -63,29 +63,27 @@ fn starts(alloc: Global, e: &Expo, place: usize) -> Result<bool, ArithmeticError
 fn goes_on(
     alloc: Global,
     e: &Expo,
-    base: &Vec<Whole>,
     polys: &Vec<Poly<Frac, Grevlex>>,
     image: &Poly<Frac, Grevlex>,
 ) -> Result<bool, ArithmeticError>
-    requires base { sizes e.now.base.items ≡ sizes base.now.items }
     requires some { 0 < image.now.arity }
     requires vars { e.now.vars ≡ image.now.arity }
-    requires few { width (length (sizes base.now.items)) image.now.arity ≤ most_variables }
+    requires few { width (length (sizes e.now.base.items)) image.now.arity ≤ most_variables }
     requires count { length polys.now.items ≡ image.now.arity }
-    requires polys { let r = length (sizes base.now.items) in
+    requires polys { let r = length (sizes e.now.base.items) in
         All (IsInVariables (width r image.now.arity)) polys.now.items }
-    ensures holds { let r = length (sizes base.now.items) in let m = image.now.arity in
+    ensures holds { let r = length (sizes e.now.base.items) in let m = image.now.arity in
         IfOk result (λ holds. IsTrue holds ↔ Same ℚ
         (with_normal_keys r (compose ℚ (width r m) (terms_in image.now)
         (terms_each polys.now.items)))
-        (compose ℚ (width r m) (terms_in e.now.body) (next_images (sizes base.now.items) m))) }
+        (compose ℚ (width r m) (terms_in e.now.body) (next_images (sizes e.now.base.items) m))) }
     ensures wide { IsErrOf result ArithmeticError.Wide
         → IsPastComposition fractions (terms_in image.now) (terms_each polys.now.items)
         ⊎ IsPastComposition fractions (terms_in e.now.body)
-        (next_images (sizes base.now.items) image.now.arity) }
+        (next_images (sizes e.now.base.items) image.now.arity) }
 {
     let moved = image.compose(alloc, polys)?;
-    let normal = Expo::normal(alloc, base, &moved)?;
+    let normal = Expo::normal(alloc, e.base(), &moved)?;
     let next = e.shift_n(alloc)?;
     Ok(*normal.body() == *next.body())
 }
@@ -116,7 +114,7 @@ fn inverse_form_of(
     if !begins {
         return Ok(None);
     }
-    let follows = goes_on(alloc, &e, base, polys, &images[place])?;
+    let follows = goes_on(alloc, &e, polys, &images[place])?;
     if !follows {
         return Ok(None);
     }

@@ -1,26 +1,18 @@
 //! The stages of branches and rounds, judged.
 ghost use Rattle.std.specs.Prelude.{◌≡◌, ◌<◌, ◌≤◌, ℕ, length, OnOk, IfErr};
-ghost use Rattle.algebra.specs.Each.{Each};
-ghost use Rattle.std.specs.List.{flat_map};
-ghost use Rattle.loop_model.specs.View.{program_of};
 ghost use Rattle.poly.specs.Seen.{terms_each};
 ghost use Rattle.corollaries.specs.Full.{orbit, meet, before};
-ghost use Rattle.corollaries.specs.Parts.{Holds, stage_parts, branch_parts, round_parts};
-ghost use Rattle.corollaries.specs.Stage.{below};
-ghost use Rattle.task_lists.specs.Images.{ArePolys, IsFullIn};
-ghost use Rattle.task_lists.specs.View.{branch_in, full_of};
-ghost use Rattle.cert_checker.specs.InverseForm.{given_list, IsGivenOver, AreInverseForm};
-ghost use Rattle.corollaries.specs.Counts.{IsCounted};
-ghost use Rattle.cert_checker.specs.Parts.{part_of};
-ghost use Rattle.cert_checker.specs.FullStops.{IsStop};
-ghost use Rattle.cert_checker.specs.FullWide.{IsPastPart};
+ghost use Rattle.task_lists.specs.Images.{ArePolys};
+ghost use Rattle.task_lists.specs.View.{branch_in};
+ghost use Rattle.cert_checker.specs.InverseForm.{given_list, IsGivenOver, IsInverseForm, AreInverseForm};
+ghost use Rattle.cert_checker.specs.FullJudge.{program_by, cert_by, IsFullJudge, Hold, StopsAmong, stage_by, round_by, rounds_by};
 
+use crate::full_judge::FullJudge;
 use crate::full_part::{Kind, Part, in_stage};
-use crate::full_stage::judge_stage;
+use crate::full_stage::StageJudge;
 use crate::full_stop::Stop;
-use loop_model::Loop;
 use std::alloc::Global;
-use task_lists::{FullBranch, FullCert, Polys, Starting, front};
+use task_lists::{FullBranch, Polys, Starting, front};
 
 /// The list behind the branch with these stages.
 fn list_of(branch: &FullBranch) -> &Polys
@@ -33,146 +25,97 @@ fn list_of(branch: &FullBranch) -> &Polys
     }
 }
 
-/// The list before this round.
-pub(crate) fn list_before<'c>(lp: &Loop, cert: &'c FullCert, round: usize) -> &'c Polys
-    requires images { IsFullIn (length (program_of lp.now).names) cert.now }
-    requires counted { IsCounted (program_of lp.now) (full_of cert.now) }
-    requires round { round ≤ length (full_of cert.now).rounds }
-    ensures before { terms_each result.now.items
-        ≡ before (program_of lp.now) (full_of cert.now) round }
-    ensures over { ArePolys (length (program_of lp.now).names) result.now }
-{
-    if round == 0 {
-        return &cert.start.out;
+impl FullJudge<'_> {
+    /// The list before this round.
+    pub(crate) fn list_before(&self, round: usize) -> &Polys
+        requires judge { IsFullJudge self.now }
+        requires round { round ≤ length (cert_by self.now).rounds }
+        ensures before { terms_each result.now.items
+            ≡ before (program_by self.now) (cert_by self.now) round }
+        ensures over { ArePolys (length (program_by self.now).names) result.now }
+    {
+        if round == 0 {
+            return &self.cert.start.out;
+        }
+        list_of(&self.cert.rounds[round - 1][self.lp.branches().len() - 1])
     }
-    list_of(&cert.rounds[round - 1][lp.branches().len() - 1])
-}
 
-/// Whether the orbit of this branch holds. `back` has the forms of the branches, backward.
-fn judge_orbit(
-    alloc: Global,
-    lp: &Loop,
-    cert: &FullCert,
-    back: &Vec<Polys>,
-    round: usize,
-    branch: usize,
-) -> Result<(), Stop<Part>>
-    requires images { IsFullIn (length (program_of lp.now).names) cert.now }
-    requires counted { IsCounted (program_of lp.now) (full_of cert.now) }
-    requires back { AreInverseForm (program_of lp.now) cert.now back.now }
-    requires round { round < length (full_of cert.now).rounds }
-    requires branch { branch < length (program_of lp.now).branches }
-    ensures holds { let program = program_of lp.now in let c = full_of cert.now in
-        OnOk result (Each (Holds program c) (stage_parts program c round branch orbit)) }
-    ensures stops { let program = program_of lp.now in let c = full_of cert.now in IfErr result
-        (IsStop part_of (Holds program c) (IsPastPart program c)
-        (stage_parts program c round branch orbit)) }
-{
-    let (base, list) = (&cert.forms[branch].base, list_before(lp, cert, round));
-    let begin = Starting::Orbit(base, &back[branch], list);
-    let front = front(base.len());
-    let stage = &cert.rounds[round][branch].orbit;
-    let judged = judge_stage(alloc, &begin, front, lp.names().len(), stage);
-    in_stage(round, branch, Kind::Orbit, judged)
-}
-
-/// Whether the intersection of this branch, which isn't the first, holds.
-fn judge_meet(
-    alloc: Global,
-    lp: &Loop,
-    cert: &FullCert,
-    round: usize,
-    branch: usize,
-) -> Result<(), Stop<Part>>
-    requires images { IsFullIn (length (program_of lp.now).names) cert.now }
-    requires counted { IsCounted (program_of lp.now) (full_of cert.now) }
-    requires round { round < length (full_of cert.now).rounds }
-    requires branch { branch < length (program_of lp.now).branches }
-    requires behind { 0 < branch }
-    ensures holds { let program = program_of lp.now in let c = full_of cert.now in
-        OnOk result (Each (Holds program c) (stage_parts program c round branch meet)) }
-    ensures stops { let program = program_of lp.now in let c = full_of cert.now in IfErr result
-        (IsStop part_of (Holds program c) (IsPastPart program c)
-        (stage_parts program c round branch meet)) }
-{
-    let stages = &cert.rounds[round][branch];
-    let Some(stage) = &stages.meet else {
-        unreachable!()
-    };
-    let begin = Starting::Meet(list_of(&cert.rounds[round][branch - 1]), &stages.orbit.out);
-    let judged = judge_stage(alloc, &begin, 1, lp.names().len(), stage);
-    in_stage(round, branch, Kind::Meet, judged)
-}
-
-/// Whether the stages of this branch hold.
-fn judge_branch(
-    alloc: Global,
-    lp: &Loop,
-    cert: &FullCert,
-    back: &Vec<Polys>,
-    round: usize,
-    branch: usize,
-) -> Result<(), Stop<Part>>
-    requires images { IsFullIn (length (program_of lp.now).names) cert.now }
-    requires counted { IsCounted (program_of lp.now) (full_of cert.now) }
-    requires back { AreInverseForm (program_of lp.now) cert.now back.now }
-    requires round { round < length (full_of cert.now).rounds }
-    requires branch { branch < length (program_of lp.now).branches }
-    ensures holds { let program = program_of lp.now in let c = full_of cert.now in
-        OnOk result (Each (Holds program c) (branch_parts program c round branch)) }
-    ensures stops { let program = program_of lp.now in let c = full_of cert.now in IfErr result
-        (IsStop part_of (Holds program c) (IsPastPart program c)
-        (branch_parts program c round branch)) }
-{
-    judge_orbit(alloc, lp, cert, back, round, branch)?;
-    if branch == 0 {
-        return Ok(());
+    /// Whether the orbit of this branch holds. `back` has the branch's form, backward.
+    fn judge_orbit<'a>(
+        &'a self,
+        alloc: Global,
+        back: &'a Polys,
+        round: usize,
+        branch: usize,
+    ) -> Result<(), Stop<Part>>
+        requires judge { IsFullJudge self.now }
+        requires back { IsInverseForm (program_by self.now) self.now.cert.now branch back.now }
+        requires round { round < length (cert_by self.now).rounds }
+        requires branch { branch < length (program_by self.now).branches }
+        ensures holds { OnOk result (Hold self.now (stage_by self.now round branch orbit)) }
+        ensures stops { IfErr result
+            (StopsAmong self.now (stage_by self.now round branch orbit)) }
+    {
+        let (base, list) = (&self.cert.forms[branch].base, self.list_before(round));
+        let stage = StageJudge {
+            begin: Starting::Orbit(base, back, list),
+            front: front(base.len()),
+            variables: self.lp.names().len(),
+            stage: &self.cert.rounds[round][branch].orbit,
+        };
+        in_stage(round, branch, Kind::Orbit, stage.judge(alloc))
     }
-    judge_meet(alloc, lp, cert, round, branch)
-}
 
-/// Whether the stages of this round hold.
-fn judge_round(
-    alloc: Global,
-    lp: &Loop,
-    cert: &FullCert,
-    back: &Vec<Polys>,
-    round: usize,
-) -> Result<(), Stop<Part>>
-    requires images { IsFullIn (length (program_of lp.now).names) cert.now }
-    requires counted { IsCounted (program_of lp.now) (full_of cert.now) }
-    requires back { AreInverseForm (program_of lp.now) cert.now back.now }
-    requires round { round < length (full_of cert.now).rounds }
-    ensures holds { let program = program_of lp.now in let c = full_of cert.now in OnOk result
-        (Each (Holds program c)
-        (flat_map (branch_parts program c round) (below (length program.branches)))) }
-    ensures stops { let program = program_of lp.now in let c = full_of cert.now in IfErr result
-        (IsStop part_of (Holds program c) (IsPastPart program c)
-        (flat_map (branch_parts program c round) (below (length program.branches)))) }
-{
-    for branch in 0..lp.branches().len() {
-        judge_branch(alloc, lp, cert, back, round, branch)?;
+    /// Whether the intersection of this branch, which isn't the first, holds.
+    fn judge_meet(&self, alloc: Global, round: usize, branch: usize) -> Result<(), Stop<Part>>
+        requires judge { IsFullJudge self.now }
+        requires round { round < length (cert_by self.now).rounds }
+        requires branch { branch < length (program_by self.now).branches }
+        requires behind { 0 < branch }
+        ensures holds { OnOk result (Hold self.now (stage_by self.now round branch meet)) }
+        ensures stops { IfErr result (StopsAmong self.now (stage_by self.now round branch meet)) }
+    {
+        let round_stages = &self.cert.rounds[round];
+        let stages = &round_stages[branch];
+        let Some(stage) = &stages.meet else {
+            unreachable!()
+        };
+        let stage = StageJudge {
+            begin: Starting::Meet(list_of(&round_stages[branch - 1]), &stages.orbit.out),
+            front: 1,
+            variables: self.lp.names().len(),
+            stage,
+        };
+        in_stage(round, branch, Kind::Meet, stage.judge(alloc))
     }
-    Ok(())
-}
 
-/// Whether the stages of all rounds hold.
-pub(crate) fn judge_rounds(
-    alloc: Global,
-    lp: &Loop,
-    cert: &FullCert,
-    back: &Vec<Polys>,
-) -> Result<(), Stop<Part>>
-    requires images { IsFullIn (length (program_of lp.now).names) cert.now }
-    requires counted { IsCounted (program_of lp.now) (full_of cert.now) }
-    requires back { AreInverseForm (program_of lp.now) cert.now back.now }
-    ensures holds { let program = program_of lp.now in let c = full_of cert.now in
-        OnOk result (Each (Holds program c) (round_parts program c)) }
-    ensures stops { let program = program_of lp.now in let c = full_of cert.now in IfErr result
-        (IsStop part_of (Holds program c) (IsPastPart program c) (round_parts program c)) }
-{
-    for round in 0..cert.rounds.len() {
-        judge_round(alloc, lp, cert, back, round)?;
+    /// Whether the stages of this round hold. `back` has the forms of the branches, backward.
+    fn judge_round(&self, alloc: Global, back: &Vec<Polys>, round: usize) -> Result<(), Stop<Part>>
+        requires judge { IsFullJudge self.now }
+        requires back { AreInverseForm (program_by self.now) self.now.cert.now back.now }
+        requires round { round < length (cert_by self.now).rounds }
+        ensures holds { OnOk result (Hold self.now (round_by self.now round)) }
+        ensures stops { IfErr result (StopsAmong self.now (round_by self.now round)) }
+    {
+        for branch in 0..self.lp.branches().len() {
+            (&*self).judge_orbit(alloc, &back[branch], round, branch)?;
+            if branch > 0 {
+                self.judge_meet(alloc, round, branch)?;
+            }
+        }
+        Ok(())
     }
-    Ok(())
+
+    /// Whether the stages of all rounds hold.
+    pub(crate) fn judge_rounds(&self, alloc: Global, back: &Vec<Polys>) -> Result<(), Stop<Part>>
+        requires judge { IsFullJudge self.now }
+        requires back { AreInverseForm (program_by self.now) self.now.cert.now back.now }
+        ensures holds { OnOk result (Hold self.now (rounds_by self.now)) }
+        ensures stops { IfErr result (StopsAmong self.now (rounds_by self.now)) }
+    {
+        for round in 0..self.cert.rounds.len() {
+            self.judge_round(alloc, back, round)?;
+        }
+        Ok(())
+    }
 }

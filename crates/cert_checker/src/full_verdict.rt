@@ -18,10 +18,9 @@ ghost use Rattle.cert_checker.specs.Verdicts.{IsFailing, IsVerdictOf};
 ghost use Rattle.cert_checker.specs.FullWide.{IfFullCheckRefused, IsLimitAt, IsRefusalOf, IsWideAt};
 
 use crate::full_error::FullError;
-use crate::full_further::judge_behind;
+use crate::full_judge::FullJudge;
 use crate::full_part::{Part, identity_part, text_of};
 use crate::full_stop::Stop;
-use crate::long_parts::first_long_part;
 use crate::{CheckError, Verdict, judge};
 use loop_model::Loop;
 use std::alloc::Global;
@@ -64,12 +63,23 @@ pub fn check_full(alloc: Global, lp: &Loop, cert: &FullCert) -> Result<FullVerdi
         }
         Err(error) => return Err(refused(alloc, error)),
     }
-    match first_long_part(alloc, lp, cert) {
-        Ok(None) => {}
-        Ok(Some(part)) => return Err(limit(alloc, part)),
-        Err(_) => return Err(FullError::Memory),
+    // the maps have been formed before, so that nothing but memory can be wanting for them
+    let Ok(values) = lp.start_map(alloc) else {
+        return Err(FullError::Memory);
+    };
+    let Ok(maps) = lp.branch_maps(alloc) else {
+        return Err(FullError::Memory);
+    };
+    let full = FullJudge {
+        lp,
+        cert,
+        values,
+        maps,
+    };
+    if let Some(part) = full.first_long_part() {
+        return Err(limit(alloc, part));
     }
-    match judge_behind(alloc, lp, cert) {
+    match full.judge_behind(alloc) {
         Ok(()) => Ok(FullVerdict::Complete),
         Err(Stop::Fails(part)) => fails(alloc, part),
         Err(Stop::Wide(part)) => Err(wide(alloc, part)),

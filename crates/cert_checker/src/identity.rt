@@ -5,7 +5,7 @@ ghost use Rattle.polynomials.specs.Terms.{Same, combination, compose};
 ghost use Rattle.polynomials.specs.Weight.{IsPastComposition};
 ghost use Rattle.poly.specs.Seen.{terms_in};
 ghost use Rattle.poly.specs.Standing.{IsInVariables};
-ghost use Rattle.cert_form.specs.Cert.{HaveArity, polys_in};
+ghost use Rattle.cert_form.specs.Cert.{HaveArity, IsSquare, polys_in};
 ghost use Rattle.task_lists.specs.Past.{IsPastCombination};
 
 use frac128::Frac;
@@ -14,6 +14,20 @@ use poly::Poly;
 use ring_laws::ArithmeticError;
 use std::alloc::Global;
 use task_lists::is_combination;
+
+/// The identities of a branch, counted from 0: each element, with these images for the variables, is the combination of its row of cofactors
+/// with the elements.
+#[derive(Drop)]
+pub(crate) struct Step<'a> {
+    pub(crate) branch: usize,
+    pub(crate) basis: &'a Vec<Poly<Frac, Grevlex>>,
+    pub(crate) images: &'a Vec<Poly<Frac, Grevlex>>,
+    pub(crate) rows: &'a Vec<Vec<Poly<Frac, Grevlex>>>,
+    ghost some: { 0 < length images.now.items },
+    ghost over: { All (IsInVariables (length images.now.items)) images.now.items },
+    ghost arity: { HaveArity (length images.now.items) basis.now },
+    ghost square: { IsSquare (length images.now.items) (length basis.now.items) rows.now },
+}
 
 /// Whether the element composed with the start map is 0.
 pub(crate) fn start_holds(

@@ -22,7 +22,7 @@ mod error;
 mod form_check;
 mod full_error;
 mod full_forms;
-mod full_further;
+mod full_judge;
 mod full_part;
 mod full_round;
 mod full_stage;
@@ -41,11 +41,12 @@ pub use form_check::closed_form;
 use frac128::Frac;
 pub use full_error::FullError;
 pub use full_verdict::{FullVerdict, check_full};
-use limits::{test_start, test_step};
+use identity::Step;
+use limits::test_start;
 use loop_model::Loop;
 use monos::Grevlex;
 use poly::Poly;
-use search::{first_failing_start, first_failing_step};
+use search::first_failing_start;
 use std::alloc::Global;
 
 /// What a certificate is worth. Branches and elements count from 0.
@@ -106,8 +107,14 @@ pub fn judge(
     }
     for (branch, images) in maps.iter().enumerate() {
         let rows = &steps[branch];
-        test_step(branch, basis, images, rows)?;
-        if let Some(element) = first_failing_step(alloc, branch, basis, images, rows)? {
+        let step = Step {
+            branch,
+            basis,
+            images,
+            rows,
+        };
+        step.test()?;
+        if let Some(element) = step.first_failing(alloc)? {
             return Ok(Verdict::StepFails { branch, element });
         }
     }

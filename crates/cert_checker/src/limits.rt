@@ -1,12 +1,13 @@
 //! The limit of terms that the identities of the start, and those of each branch, multiply out to.
 ghost use Rattle.std.specs.Prelude.{◌≤◌, ◌+◌, length, OnOk, IfErr};
 ghost use Rattle.poly.specs.Seen.{terms_in, terms_each};
-ghost use Rattle.cert_form.specs.Cert.{IsSquare, polys_in, rows_in};
+ghost use Rattle.cert_form.specs.Cert.{polys_in, rows_in};
 ghost use Rattle.expansion.specs.Counts as counts;
 ghost use Rattle.expansion.specs.Counts.{IsCount, most_terms};
 ghost use Rattle.cert_checker.specs.Long.{start_terms, step_terms, total, IsFirstLong, IfLong};
 ghost use Rattle.cert_checker.specs.Places.{at_start, in_branch};
 
+use crate::identity::Step;
 use crate::{CheckError, Place};
 use expansion::{combination_terms, composition_terms, sum};
 use frac128::Frac;
@@ -75,31 +76,27 @@ pub(crate) fn test_start(
     Ok(())
 }
 
-/// Refuses the first element up to which the identities of the branch, counted from 0, multiply out to too many terms.
-pub(crate) fn test_step(
-    branch: usize,
-    basis: &Vec<Poly<Frac, Grevlex>>,
-    images: &Vec<Poly<Frac, Grevlex>>,
-    rows: &Vec<Vec<Poly<Frac, Grevlex>>>,
-) -> Result<(), CheckError>
-    requires square { IsSquare (length images.now.items) (length basis.now.items) rows.now }
-    ensures few { let f = step_terms (polys_in basis.now) (polys_in images.now)
-        (rows_in rows.now) in
-        OnOk result (total f (length basis.now.items) ≤ most_terms) }
-    ensures limit { let f = step_terms (polys_in basis.now) (polys_in images.now)
-        (rows_in rows.now) in
-        IfErr result (λ e. IfLong e (in_branch branch)
-        (IsFirstLong f (length basis.now.items))) }
-{
-    let mut before = 0;
-    for (i, element) in basis.iter().enumerate() {
-        match with_step(before, element, images, &rows[i], basis) {
-            Some(terms) => before = terms,
-            None => return Err(CheckError::Limit {
-                place: Place::Branch(branch),
-                element: i,
-            }),
+impl Step<'_> {
+    /// Refuses the first element up to which the identities multiply out to too many terms.
+    pub(crate) fn test(&self) -> Result<(), CheckError>
+        ensures few { let f = step_terms (polys_in self.now.basis.now)
+            (polys_in self.now.images.now) (rows_in self.now.rows.now) in
+            OnOk result (total f (length self.now.basis.now.items) ≤ most_terms) }
+        ensures limit { let f = step_terms (polys_in self.now.basis.now)
+            (polys_in self.now.images.now) (rows_in self.now.rows.now) in
+            IfErr result (λ e. IfLong e (in_branch self.now.branch)
+            (IsFirstLong f (length self.now.basis.now.items))) }
+    {
+        let mut before = 0;
+        for (i, element) in self.basis.iter().enumerate() {
+            match with_step(before, element, self.images, &self.rows[i], self.basis) {
+                Some(terms) => before = terms,
+                None => return Err(CheckError::Limit {
+                    place: Place::Branch(self.branch),
+                    element: i,
+                }),
+            }
         }
+        Ok(())
     }
-    Ok(())
 }

@@ -1,6 +1,5 @@
 //! The limit of terms that the parts behind the certificate itself multiply out to, together.
 ghost use Rattle.std.specs.Prelude.{◌≤◌, ◌<◌, ◌+◌, ℕ, List, [], length, get_or, IfOk, IfErr};
-ghost use Rattle.std.specs.List.{flat_map};
 ghost use Rattle.std.specs.Option.{MatchOption};
 ghost use Rattle.algebra.specs.Fraction.{Fraction};
 ghost use Rattle.polynomials.specs.Terms.{Terms};
@@ -8,27 +7,22 @@ ghost use Rattle.poly.specs.Seen.{terms_each};
 ghost use Rattle.expansion.specs.Counts as counts;
 ghost use Rattle.expansion.specs.Counts.{IsCount, most_terms};
 ghost use Rattle.expansion.specs.Lengths as lengths;
-ghost use Rattle.loop_model.specs.Maps.{AreBranchMaps, AreFree};
-ghost use Rattle.loop_model.specs.View.{program_of};
-ghost use Rattle.corollaries.specs.Counts.{IsCounted, IsStageCounted};
-ghost use Rattle.corollaries.specs.Parts.{in_forms, branch_parts, round_parts};
+ghost use Rattle.corollaries.specs.Counts.{IsStageCounted};
+ghost use Rattle.corollaries.specs.Parts.{in_forms};
 ghost use Rattle.corollaries.specs.Stage.{below, places};
-ghost use Rattle.task_lists.specs.Images.{IsFullIn};
 ghost use Rattle.task_lists.specs.Rows.{rows_of};
-ghost use Rattle.task_lists.specs.View.{full_of, stage_in};
-ghost use Rattle.cert_checker.specs.LongParts.{IsTotal, IsFirstBeyond, row_terms, place_terms, part_terms, AreFew};
-ghost use Rattle.cert_checker.specs.Further.{further_parts};
+ghost use Rattle.task_lists.specs.View.{stage_in};
+ghost use Rattle.cert_checker.specs.FullJudge.{program_by, cert_by, IsFullJudge, terms_by, branch_by, round_by, rounds_by, further_by};
+ghost use Rattle.cert_checker.specs.LongParts.{IsTotal, IsFirstBeyond, row_terms, place_terms, AreFew};
 ghost use Rattle.cert_checker.specs.Parts.{part_of, place_of};
 
+use crate::full_judge::FullJudge;
 use crate::full_part::{Kind, Part, Row, RowPlace};
-use crate::full_round::list_before;
 use expansion::{combination_terms, composition_length, list_length, next_lengths, sum};
 use frac128::Frac;
-use loop_model::Loop;
 use monos::{Grevlex, Order};
 use poly::Poly;
-use std::alloc::{AllocError, Global};
-use task_lists::{FullCert, FullStage, Polys};
+use task_lists::FullStage;
 
 /// The terms before, and those of a form that has these polynomials, of the map with these images, unless these are too many.
 fn with_form(
@@ -52,25 +46,8 @@ fn with_form(
     }
 }
 
-/// How many terms the polynomial at this place of a list multiplies out to with the images for its variables: none where the list ends
-/// before.
-fn composed_at(
-    list: &[Poly<Frac, Grevlex>],
-    place: usize,
-    images: &[Poly<Frac, Grevlex>],
-) -> Option<u64>
-    ensures { IsCount (lengths.composition_length (get_or (terms_each list.now) place [])
-        (terms_each images.now)) result }
-{
-    if place < list.len() {
-        composition_length(&list[place], images)
-    } else {
-        Some(0)
-    }
-}
-
-/// The terms before, those of the polynomial at this place of the list with the images for its variables, and those of the combination of the
-/// cofactors with the elements, unless these are too many.
+/// The terms before, those of the polynomial at this place of the list with the images for its variables, none where the list ends before, and
+/// those of the combination of the cofactors with the elements, unless these are too many.
 fn with_row<O: Order>(
     before: u64,
     list: &[Poly<Frac, Grevlex>],
@@ -83,7 +60,12 @@ fn with_row<O: Order>(
         (terms_each images.now) + counts.combination_terms (terms_each cofactors.now)
         (terms_each elements.now))) result }
 {
-    let Some(composed) = composed_at(list, place, images) else {
+    let composed = if place < list.len() {
+        composition_length(&list[place], images)
+    } else {
+        Some(0)
+    };
+    let Some(composed) = composed else {
         return None;
     };
     let Some(combined) = combination_terms(cofactors, elements) else {
@@ -116,27 +98,6 @@ fn count_rows<O: Order>(
         match with_row(terms, list, i, images, row, elements) {
             Some(more) => terms = more,
             None => return Err(i),
-        }
-    }
-    Ok(terms)
-}
-
-/// The terms of the forms of the branches that have these maps; or the first branch with which these are too many.
-fn count_forms(lp: &Loop, maps: &Vec<Polys>, cert: &FullCert) -> Result<u64, usize>
-    requires maps { AreBranchMaps (program_of lp.now) maps.now.items (program_of lp.now).branches }
-    requires counted { IsCounted (program_of lp.now) (full_of cert.now) }
-    ensures total { let program = program_of lp.now in IfOk result
-        (IsTotal (λ b. part_terms program (full_of cert.now) (in_forms b)) 0
-        (below (length program.branches))) }
-    ensures beyond { let program = program_of lp.now in IfErr result
-        (IsFirstBeyond (λ b. part_terms program (full_of cert.now) (in_forms b)) 0
-        (below (length program.branches))) }
-{
-    let mut terms = 0;
-    for (branch, images) in maps.iter().enumerate() {
-        match with_form(terms, images, &cert.forms[branch].polys) {
-            Some(more) => terms = more,
-            None => return Err(branch),
         }
     }
     Ok(terms)
@@ -187,124 +148,106 @@ fn count_stage(
     }
 }
 
-/// The terms before, and those of the stages of this branch; or the first part with which these are too many.
-fn count_branch(
-    before: u64,
-    lp: &Loop,
-    cert: &FullCert,
-    round: usize,
-    branch: usize,
-) -> Result<u64, Part>
-    requires few { before ≤ most_terms }
-    requires images { IsFullIn (length (program_of lp.now).names) cert.now }
-    requires counted { IsCounted (program_of lp.now) (full_of cert.now) }
-    requires round { round < length (full_of cert.now).rounds }
-    requires branch { branch < length (program_of lp.now).branches }
-    ensures total { let program = program_of lp.now in let c = full_of cert.now in IfOk result
-        (IsTotal (part_terms program c) before (branch_parts program c round branch)) }
-    ensures beyond { let program = program_of lp.now in let c = full_of cert.now in IfErr result
-        (λ part. IsFirstBeyond (part_terms program c) before (branch_parts program c round branch)
-        (part_of part)) }
-{
-    let (list, polys) = (list_before(lp, cert, round), &cert.forms[branch].polys);
-    let stages = &cert.rounds[round][branch];
-    let orbit = match count_stage(before, list, polys, &stages.orbit) {
-        Ok(terms) => terms,
-        Err(place) => return Err(Part::Stage(round, branch, Kind::Orbit, place)),
-    };
-    let Some(meet) = &stages.meet else {
-        return Ok(orbit);
-    };
-    match count_stage(orbit, &[], &[], meet) {
-        Ok(terms) => Ok(terms),
-        Err(place) => Err(Part::Stage(round, branch, Kind::Meet, place)),
-    }
-}
-
-/// The terms before, and those of the stages of this round; or the first part with which these are too many.
-fn count_round(before: u64, lp: &Loop, cert: &FullCert, round: usize) -> Result<u64, Part>
-    requires few { before ≤ most_terms }
-    requires images { IsFullIn (length (program_of lp.now).names) cert.now }
-    requires counted { IsCounted (program_of lp.now) (full_of cert.now) }
-    requires round { round < length (full_of cert.now).rounds }
-    ensures total { let program = program_of lp.now in let c = full_of cert.now in IfOk result
-        (IsTotal (part_terms program c) before
-        (flat_map (branch_parts program c round) (below (length program.branches)))) }
-    ensures beyond { let program = program_of lp.now in let c = full_of cert.now in IfErr result
-        (λ part. IsFirstBeyond (part_terms program c) before
-        (flat_map (branch_parts program c round) (below (length program.branches)))
-        (part_of part)) }
-{
-    let mut terms = before;
-    for branch in 0..lp.branches().len() {
-        match count_branch(terms, lp, cert, round, branch) {
-            Ok(more) => terms = more,
-            Err(part) => return Err(part),
+impl FullJudge<'_> {
+    /// The first part behind the certificate itself with which those behind it multiply out to too many terms.
+    pub(crate) fn first_long_part(&self) -> Option<Part>
+        requires judge { IsFullJudge self.now }
+        ensures { MatchOption result (AreFew (program_by self.now) (cert_by self.now))
+            (λ part. IsFirstBeyond (terms_by self.now) 0 (further_by self.now) (part_of part)) }
+    {
+        let forms = match self.count_forms() {
+            Ok(terms) => terms,
+            Err(branch) => return Some(Part::Form(branch)),
+        };
+        let start = &self.cert.start;
+        let starts = match count_rows(forms, &[], &[], &start.links, &start.out) {
+            Ok(terms) => terms,
+            Err(equation) => return Some(Part::Start(equation)),
+        };
+        match self.count_rounds(starts) {
+            Ok(_) => None,
+            Err(part) => Some(part),
         }
     }
-    Ok(terms)
-}
 
-/// The terms before, and those of the stages of all rounds; or the first part with which these are too many.
-fn count_rounds(before: u64, lp: &Loop, cert: &FullCert) -> Result<u64, Part>
-    requires few { before ≤ most_terms }
-    requires images { IsFullIn (length (program_of lp.now).names) cert.now }
-    requires counted { IsCounted (program_of lp.now) (full_of cert.now) }
-    ensures total { let program = program_of lp.now in let c = full_of cert.now in
-        IfOk result (IsTotal (part_terms program c) before (round_parts program c)) }
-    ensures beyond { let program = program_of lp.now in let c = full_of cert.now in IfErr result
-        (λ part. IsFirstBeyond (part_terms program c) before (round_parts program c)
-        (part_of part)) }
-{
-    let mut terms = before;
-    for round in 0..cert.rounds.len() {
-        match count_round(terms, lp, cert, round) {
-            Ok(more) => terms = more,
-            Err(part) => return Err(part),
+    /// The terms of the forms of the branches; or the first branch with which these are too many.
+    fn count_forms(&self) -> Result<u64, usize>
+        requires judge { IsFullJudge self.now }
+        ensures total { let j = self.now in IfOk result
+            (IsTotal (λ b. terms_by j (in_forms b)) 0 (below (length (program_by j).branches))) }
+        ensures beyond { let j = self.now in IfErr result (IsFirstBeyond
+            (λ b. terms_by j (in_forms b)) 0 (below (length (program_by j).branches))) }
+    {
+        let mut terms = 0;
+        for (branch, images) in self.maps.iter().enumerate() {
+            match with_form(terms, images, &self.cert.forms[branch].polys) {
+                Some(more) => terms = more,
+                None => return Err(branch),
+            }
+        }
+        Ok(terms)
+    }
+
+    /// The terms before, and those of the stages of this branch; or the first part with which these are too many.
+    fn count_branch(&self, before: u64, round: usize, branch: usize) -> Result<u64, Part>
+        requires judge { IsFullJudge self.now }
+        requires few { before ≤ most_terms }
+        requires round { round < length (cert_by self.now).rounds }
+        requires branch { branch < length (program_by self.now).branches }
+        ensures total { IfOk result
+            (IsTotal (terms_by self.now) before (branch_by self.now round branch)) }
+        ensures beyond { IfErr result (λ part. IsFirstBeyond (terms_by self.now) before
+            (branch_by self.now round branch) (part_of part)) }
+    {
+        let (list, polys) = (self.list_before(round), &self.cert.forms[branch].polys);
+        let stages = &self.cert.rounds[round][branch];
+        let orbit = match count_stage(before, list, polys, &stages.orbit) {
+            Ok(terms) => terms,
+            Err(place) => return Err(Part::Stage(round, branch, Kind::Orbit, place)),
+        };
+        let Some(meet) = &stages.meet else {
+            return Ok(orbit);
+        };
+        match count_stage(orbit, &[], &[], meet) {
+            Ok(terms) => Ok(terms),
+            Err(place) => Err(Part::Stage(round, branch, Kind::Meet, place)),
         }
     }
-    Ok(terms)
-}
 
-/// The first part with which the forms of the branches that have these maps, the start and the rounds multiply out to too many terms.
-fn first_among(lp: &Loop, maps: &Vec<Polys>, cert: &FullCert) -> Option<Part>
-    requires maps { AreBranchMaps (program_of lp.now) maps.now.items (program_of lp.now).branches }
-    requires images { IsFullIn (length (program_of lp.now).names) cert.now }
-    requires counted { IsCounted (program_of lp.now) (full_of cert.now) }
-    ensures { let program = program_of lp.now in let c = full_of cert.now in
-        MatchOption result (AreFew program c) (λ part. IsFirstBeyond (part_terms program c) 0
-        (further_parts program c) (part_of part)) }
-{
-    let forms = match count_forms(lp, maps, cert) {
-        Ok(terms) => terms,
-        Err(branch) => return Some(Part::Form(branch)),
-    };
-    let start = match count_rows(forms, &[], &[], &cert.start.links, &cert.start.out) {
-        Ok(terms) => terms,
-        Err(equation) => return Some(Part::Start(equation)),
-    };
-    match count_rounds(start, lp, cert) {
-        Ok(_) => None,
-        Err(part) => Some(part),
+    /// The terms before, and those of the stages of this round; or the first part with which these are too many.
+    fn count_round(&self, before: u64, round: usize) -> Result<u64, Part>
+        requires judge { IsFullJudge self.now }
+        requires few { before ≤ most_terms }
+        requires round { round < length (cert_by self.now).rounds }
+        ensures total { IfOk result (IsTotal (terms_by self.now) before (round_by self.now round)) }
+        ensures beyond { IfErr result (λ part.
+            IsFirstBeyond (terms_by self.now) before (round_by self.now round) (part_of part)) }
+    {
+        let mut terms = before;
+        for branch in 0..self.lp.branches().len() {
+            match self.count_branch(terms, round, branch) {
+                Ok(more) => terms = more,
+                Err(part) => return Err(part),
+            }
+        }
+        Ok(terms)
     }
-}
 
-/// The first part behind the certificate itself with which those behind it multiply out to too many terms. The maps have been formed before,
-/// so that nothing but memory can be wanting for them.
-pub(crate) fn first_long_part(
-    alloc: Global,
-    lp: &Loop,
-    cert: &FullCert,
-) -> Result<Option<Part>, AllocError>
-    requires images { IsFullIn (length (program_of lp.now).names) cert.now }
-    requires counted { IsCounted (program_of lp.now) (full_of cert.now) }
-    requires free { AreFree (program_of lp.now) }
-    ensures { let program = program_of lp.now in let c = full_of cert.now in IfOk result (λ found.
-        MatchOption found (AreFew program c) (λ part. IsFirstBeyond (part_terms program c) 0
-        (further_parts program c) (part_of part))) }
-{
-    let Ok(maps) = lp.branch_maps(alloc) else {
-        return Err(AllocError);
-    };
-    Ok(first_among(lp, &maps, cert))
+    /// The terms before, and those of the stages of all rounds; or the first part with which these are too many.
+    fn count_rounds(&self, before: u64) -> Result<u64, Part>
+        requires judge { IsFullJudge self.now }
+        requires few { before ≤ most_terms }
+        ensures total { IfOk result (IsTotal (terms_by self.now) before (rounds_by self.now)) }
+        ensures beyond { IfErr result (λ part.
+            IsFirstBeyond (terms_by self.now) before (rounds_by self.now) (part_of part)) }
+    {
+        let mut terms = before;
+        for round in 0..self.cert.rounds.len() {
+            match self.count_round(terms, round) {
+                Ok(more) => terms = more,
+                Err(part) => return Err(part),
+            }
+        }
+        Ok(terms)
+    }
 }

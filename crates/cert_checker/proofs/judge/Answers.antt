@@ -158,10 +158,13 @@ module _ (c : After-index-rows) where
   rows_are = rows_at c.args.steps.now (cert entry).steps refl c.loop-branch.branch
       c.index-rows.result.now c.index-rows.ensures listed
 
-pub test_step-requires : goal.test_step-requires
-test_step-requires c =
-    let at = (goal.at.test_step-requires c).After-index-rows in
+pub invariant_of-step : goal.invariant_of-step
+invariant_of-step c =
+    let at = (goal.at.invariant_of-step c).After-index-rows in
     record {
+      some = some_images _ _ (count at) (some_variable c.args.lp.now);
+      over = images_over _ c.images-item.result.items _ (stand at) (count at);
+      arity = basis_over _ _ _ c.args.basis.now refl (count at) c.requires.kept.arities;
       square = square_over _ _ _ _ _ c.index-rows.result.now refl (count at)
           (sym c.args.basis.now.ok.0)
           (square_at _ _ c.loop-branch.branch c.args.steps.now.items c.index-rows.result.now
@@ -169,43 +172,19 @@ test_step-requires c =
           c.loop-branch.branch (listed at)) c.requires.kept.squares);
     }
 
-pub returns-in_err-test_step-clause-refused : goal.returns-in_err-test_step-clause-refused
-returns-in_err-test_step-clause-refused c =
-    let at = (goal.at.returns-in_err-test_step-clause-refused c).After-index-rows in
+pub returns-in_err-test-clause-refused : goal.returns-in_err-test-clause-refused
+returns-in_err-test-clause-refused c =
+    let at = (goal.at.returns-in_err-test-clause-refused c).After-index-rows in
     let e = entry at in
-    let starts = starts_hold (goal.at.returns-in_err-test_step-clause-refused c).In_ok-element
+    let starts = starts_hold (goal.at.returns-in_err-test-clause-refused c).In_ok-element
     (search rules) in
-    let p = err_from_is_err_and c.from_residual-in_err-test_step.result
-    c.from_residual-in_err-test_step.ensures.1 in
+    let p = err_from_is_err_and c.from_residual-in_err-test.result
+    c.from_residual-in_err-test.ensures.1 in
     rw (p.1, p.2) (step_long (program e) (cert e) (over e) c.args.basis.now refl
     c.loop-branch.branch c.images-item.result.items (stand at) (rows_in c.index-rows.result.now)
     (rows_are at) (here at) starts c.loop-branch.invariant.passed _
     (free_all (program e) c.in_ok-start.ensures.free c.in_ok-maps.ensures.free)
-    c.in_err-test_step.ensures.limit)
-
-pub first_failing_step-requires-clause-some : goal.first_failing_step-requires-clause-some
-first_failing_step-requires-clause-some c =
-    some_images _ _
-    (count (goal.at.first_failing_step-requires-clause-some c).After-index-rows)
-    (some_variable c.args.lp.now)
-
-pub first_failing_step-requires-clause-images : goal.first_failing_step-requires-clause-images
-first_failing_step-requires-clause-images c =
-    let at = (goal.at.first_failing_step-requires-clause-images c).After-index-rows in
-    images_over _ c.images-item.result.items _ (stand at) (count at)
-
-pub first_failing_step-requires-clause-arity : goal.first_failing_step-requires-clause-arity
-first_failing_step-requires-clause-arity c = basis_over _ _ _ c.args.basis.now refl
-    (count (goal.at.first_failing_step-requires-clause-arity c).After-index-rows)
-    c.requires.kept.arities
-
-pub first_failing_step-requires-clause-square : goal.first_failing_step-requires-clause-square
-first_failing_step-requires-clause-square c =
-    let at = (goal.at.first_failing_step-requires-clause-square c).After-index-rows in
-    square_over _ _ _ _ _ c.index-rows.result.now refl (count at) (sym c.args.basis.now.ok.0)
-    (square_at _ _ c.loop-branch.branch c.args.steps.now.items c.index-rows.result.now
-    c.index-rows.ensures (inside c.args.steps.now (cert (entry at)).steps refl c.loop-branch.branch
-    (listed at)) c.requires.kept.squares)
+    c.in_err-test.ensures.limit)
 
 pub returns-in_err-element-2-clause-refused : goal.returns-in_err-element-2-clause-refused
 returns-in_err-element-2-clause-refused c =
@@ -263,7 +242,7 @@ steps_are_short c =
     c.loop-branch.invariant.short
     (step_short (program (entry at)) (cert (entry at)) (over (entry at)) c.args.basis.now refl
     c.loop-branch.branch c.images-item.result.items (stand at) (rows_in c.index-rows.result.now)
-    (rows_are at) c.in_ok-test_step.ensures.few)
+    (rows_are at) c.in_ok-test.ensures.few)
 
 pub returns-in-Some-2-clause-short : goal.returns-in-Some-2-clause-short
 returns-in-Some-2-clause-short c = (

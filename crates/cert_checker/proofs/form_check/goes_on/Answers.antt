@@ -1,4 +1,4 @@
-use Rattle.std.proofs.Common.{◌≡◌, ◌≤◌, length, inl, refl, sym, ap, subst, ◌∙◌, arith}
+use Rattle.std.proofs.Common.{◌≡◌, ◌≤◌, length, inl, refl, sym, ap, subst, ◌∙◌, arith, Vec, Global}
 use Rattle.std.proofs.lemmas.Result.{err_from_is_err_and}
 use Rattle.algebra.specs.Fraction.{ℚ}
 use Rattle.polynomials.specs.Terms.{Same, compose}
@@ -6,13 +6,16 @@ use Rattle.solvable_maps.specs.Expo.{with_normal_keys, next_images}
 use Rattle.solvable_maps.specs.Iterations.{width}
 use Rattle.poly.specs.Seen.{arity_of, terms_in, terms_each, Is}
 use Rattle.poly.proofs.Standing.{first_arity}
+use Rattle.frac128.specs.declared.Whole.{Whole}
 use Rattle.coprime_base.specs.Sizes.{sizes}
+use Rattle.expo.specs.Operations.{normal_of, vars_of}
+use Rattle.expo.specs.View.{IsExpo}
 use Rattle.cert_checker.proofs.Normal.{normal_same, next_same, same_tells, moved_past}
 use Rattle.cert_checker.proofs.form_check.goes_on.Goals as goal
 
 pub returns-in_err-normal-clause-wide : goal.returns-in_err-normal-clause-wide
 returns-in_err-normal-clause-wide c =
-    let w = width (length (sizes c.args.base.now.items)) c.args.image.now.arity in
+    let w = width (length (sizes c.args.e.now.base.items)) c.args.image.now.arity in
     let ps = c.args.polys.now.items in
     let moved = c.in_ok-moved.moved in
     let is = c.in_ok-moved.ensures.composition in
@@ -32,7 +35,7 @@ returns-in_err-normal-clause-wide c =
 
 pub returns-clause-holds : goal.returns-clause-holds
 returns-clause-holds c =
-    let bs = sizes c.args.base.now.items in
+    let bs = sizes c.args.e.now.base.items in
     let w = width (length bs) c.args.image.now.arity in
     let ps = c.args.polys.now.items in
     let moved = c.in_ok-moved.moved in
@@ -42,11 +45,14 @@ returns-clause-holds c =
     let wide : moved.arity ≡ w = is.arity ∙ first in
     let room : width (length bs) 0 ≤ moved.arity = omega (arith, wide) in
     let left = normal_same bs moved (compose ℚ w (terms_in c.args.image.now) (terms_each ps))
-    c.in_ok-normal.normal room c.in_ok-normal.ensures.normal
+    c.in_ok-normal.normal room
+    (subst (λ (v : Vec Whole Global). IsExpo (sizes v.items) (vars_of (sizes v.items) moved.arity)
+    (normal_of (sizes v.items) (terms_in moved)) c.in_ok-normal.normal) c.base.ensures
+    c.in_ok-normal.ensures.normal)
     (subst (λ n. Same ℚ (terms_in moved) (compose ℚ n (terms_in c.args.image.now) (terms_each ps)))
     first is.same) in
     let right = next_same bs c.args.image.now.arity c.args.e.now c.in_ok-next.next
-    c.requires.base c.requires.vars c.in_ok-next.ensures.shifted in
+    refl c.requires.vars c.in_ok-next.ensures.shifted in
     let one = c.body.ensures in
     let other = c.body-2.ensures in
     same_tells (terms_in c.body.result.now) (terms_in c.body-2.result.now) _ _

@@ -46,12 +46,12 @@ returns-in_err-follows-clause-wide c =
     let p = err_from_is_err_and c.from_residual-in_err-follows.result
     c.from_residual-in_err-follows.ensures.1 in
     λ w. next_past (sizes c.args.base.now.items) (length c.args.images.now.items)
-    c.index-2.result.now.arity (terms_each c.args.images.now.items)
+    c.index-2.result.now.arity (sizes c.in-Some.e.base.items) (terms_each c.args.images.now.items)
     (terms_each c.args.polys.now.items) c.args.place (terms_in c.index-2.result.now)
     (terms_in c.in-Some.e.body)
     (subst (IsInVariables (length c.args.images.now.items)) (sym c.index-2.ensures)
     (c.requires.fits.over_variables c.args.place c.index-2.result.now c.requires.place))
-    (sym (length-map c.args.images.now.items terms_in))
+    (kept at).base (sym (length-map c.args.images.now.items terms_in))
     (seen_at terms_in c.args.images.now.items c.args.place c.index-2.result.now c.requires.place
     c.index-2.ensures) (body at) (c.in_err-follows.ensures.wide (cc (p.1, p.2, w)))
 
@@ -60,11 +60,12 @@ returns-then-not-follows-clause-passes c =
     let at = (goal.at.returns-then-not-follows-clause-passes c).In-Some in
     let tells = next_tells (sizes c.args.base.now.items)
     (length (terms_each c.args.images.now.items)) c.index-2.result.now.arity
-    (terms_each c.args.polys.now.items) (terms_in c.index-2.result.now) _
+    (sizes c.in-Some.e.base.items) (terms_each c.args.polys.now.items)
+    (terms_in c.index-2.result.now) _
     (terms_in c.in-Some.e.body) _ c.in_ok-follows.follows
     (subst (IsInVariables (length c.args.images.now.items)) (sym c.index-2.ensures)
     (c.requires.fits.over_variables c.args.place c.index-2.result.now c.requires.place)
-    ∙ sym (length-map c.args.images.now.items terms_in))
+    ∙ sym (length-map c.args.images.now.items terms_in)) (kept at).base
     (seen_at terms_in c.args.images.now.items c.args.place c.index-2.result.now c.requires.place
     c.index-2.ensures) (body at) c.in_ok-follows.ensures.holds in
     λ h. true≢false (sym (tells.1 h.goes_on) ∙ c.if-not-follows.true)
@@ -77,11 +78,12 @@ returns-clause-passes c =
     let starts = start_tells bs m c.in-Some.e.vars (sizes c.in-Some.e.base.items)
     (terms_in c.in-Some.e.body) _ c.args.place c.in_ok-begins.begins (vars at) (kept at).base
     (body at) c.in_ok-begins.ensures.holds in
-    let follows = next_tells bs m c.index-2.result.now.arity (terms_each c.args.polys.now.items)
+    let follows = next_tells bs m c.index-2.result.now.arity (sizes c.in-Some.e.base.items)
+    (terms_each c.args.polys.now.items)
     (terms_in c.index-2.result.now) _ (terms_in c.in-Some.e.body) _ c.in_ok-follows.follows
     (subst (IsInVariables (length c.args.images.now.items)) (sym c.index-2.ensures)
     (c.requires.fits.over_variables c.args.place c.index-2.result.now c.requires.place)
-    ∙ sym (length-map c.args.images.now.items terms_in))
+    ∙ sym (length-map c.args.images.now.items terms_in)) (kept at).base
     (seen_at terms_in c.args.images.now.items c.args.place c.index-2.result.now c.requires.place
     c.index-2.ensures) (body at) c.in_ok-follows.ensures.holds in
     let is = c.in_ok-inverse_form.ensures.inverse_form in (

@@ -74,28 +74,53 @@ pub returns-in-Err-clause-refused : goal.returns-in-Err-clause-refused
 returns-in-Err-clause-refused c = refusal (program_of c.args.lp.now) (full_of c.args.cert.now)
     c.in-Err.error c.refused.result c.in-Err.ensures.refused c.refused.ensures
 
-pub returns-in-Ok-Some-clause-refused : goal.returns-in-Ok-Some-clause-refused
-returns-in-Ok-Some-clause-refused c =
+pub first_long_part-requires : goal.first_long_part-requires
+first_long_part-requires c =
+    record {
+      judge = record {
+        images = c.requires.images;
+        counted = c.requires.counted;
+        values = c.in-Ok.ensures.maps;
+        maps = c.in-Ok-branch_maps.ensures.maps;
+      };
+    }
+
+pub returns-in-Some-clause-refused : goal.returns-in-Some-clause-refused
+returns-in-Some-clause-refused c =
     let program = program_of c.args.lp.now in
     let cert = full_of c.args.cert.now in
-    let part = part_of c.in-Ok-Some.part in
+    let part = part_of c.in-Some.part in
     limit_refused program cert (path_of part) c.limit.result c.in-Ok-Valid.ensures.free
-    (long_part program cert part (valid (goal.at.returns-in-Ok-Some-clause-refused c).In-Ok-Valid)
-    (MatchOption-at_some _ _ c.in-Ok-Some.part c.in-Ok-Some.field-0-is c.in-Ok-Some.ensures))
+    (long_part program cert part (valid (goal.at.returns-in-Some-clause-refused c).In-Ok-Valid)
+    (MatchOption-at_some _ _ c.in-Some.part c.in-Some.is c.first_long_part.ensures))
     c.limit.ensures
 
-pub returns-in-Ok-clause-verdict : goal.returns-in-Ok-clause-verdict
-returns-in-Ok-clause-verdict c = all_hold (program_of c.args.lp.now) (full_of c.args.cert.now)
-    (valid (goal.at.returns-in-Ok-clause-verdict c).In-Ok-Valid) c.in-Ok.ensures.holds
+pub judge_behind-requires : goal.judge_behind-requires
+judge_behind-requires c =
+    record {
+      judge = record {
+        images = c.requires.images;
+        counted = c.requires.counted;
+        values = c.in-Ok.ensures.maps;
+        maps = c.in-Ok-branch_maps.ensures.maps;
+      };
+    }
 
-pub returns-in-Ok-clause-complete : goal.returns-in-Ok-clause-complete
-returns-in-Ok-clause-complete c = λ is.
+pub returns-in-Ok-judge_behind-clause-verdict : goal.returns-in-Ok-judge_behind-clause-verdict
+returns-in-Ok-judge_behind-clause-verdict c = all_hold (program_of c.args.lp.now)
+    (full_of c.args.cert.now)
+    (valid (goal.at.returns-in-Ok-judge_behind-clause-verdict c).In-Ok-Valid)
+    c.in-Ok-judge_behind.ensures.holds
+
+pub returns-in-Ok-judge_behind-clause-complete : goal.returns-in-Ok-judge_behind-clause-complete
+returns-in-Ok-judge_behind-clause-complete c = λ is.
     let program = program_of c.args.lp.now in
     let cert = full_of c.args.cert.now in
     full_generates program (formed c.args.lp.now) cert
     (full_over program c.args.cert.now c.requires.images)
-    (all_hold program cert (valid (goal.at.returns-in-Ok-clause-complete c).In-Ok-Valid)
-    c.in-Ok.ensures.holds)
+    (all_hold program cert
+    (valid (goal.at.returns-in-Ok-judge_behind-clause-complete c).In-Ok-Valid)
+    c.in-Ok-judge_behind.ensures.holds)
 
 pub returns-in-Err-Fails-clause-verdict : goal.returns-in-Err-Fails-clause-verdict
 returns-in-Err-Fails-clause-verdict c =

@@ -1,0 +1,94 @@
+use Rattle.std.proofs.Common.{◌<◌, ℕ, length}
+use Rattle.std.proofs.lemmas.Result.{err_from_is_err_and, on_ok_weaker, IfErr-weaker}
+use Rattle.machines.specs.Elimination.{free_part}
+use Rattle.corollaries.specs.Representation.{pairs_of}
+use Rattle.corollaries.specs.Stage.{in_list, in_gens, in_pairs, in_links}
+use Rattle.task_lists.specs.Starting.{IsPastAt}
+use Rattle.cert_checker.specs.Parts.{place_of, place_at}
+use Rattle.cert_checker.specs.FullStops.{IsStop, StopsAt, stop_map}
+use Rattle.cert_checker.specs.StageJudge.{starting_by, stage_seen, HoldsBy, IsPastBy, places_by}
+use Rattle.cert_checker.specs.declared.full_part.Row.TheVariants as row
+use Rattle.cert_checker.proofs.Stopping.{carried}
+use Rattle.cert_checker.proofs.Placed.{list_stops, gens_stop, pairs_stop, links_stop, stage_holds}
+use Rattle.cert_checker.proofs.StageSteps.{ok_holds}
+use Rattle.cert_checker.proofs.full_stage.StageJudge.judge.Goals as goal
+use Rattle.cert_checker.proofs.full_stage.StageJudge.judge.Goals.{In_ok-in_row, In_ok-in_row-2, In_ok-in_row-3}
+
+-- the lists that hold
+listed : (c : In_ok-in_row) (i : ℕ) → i < length (stage_seen c.args.self.now).list
+    → HoldsBy c.args.self.now (in_list i)
+listed c = ok_holds _ c.judge_list.result c.in_ok-in_row.ensures.holds c.judge_list.ensures.holds
+
+made : (c : In_ok-in_row-2) (i : ℕ) → i < length (starting_by c.args.self.now)
+    → HoldsBy c.args.self.now (in_gens i)
+made c = ok_holds _ c.judge_gens.result c.in_ok-in_row-2.ensures.holds c.judge_gens.ensures.holds
+
+paired : (c : In_ok-in_row-3) (i : ℕ)
+    → i < length (pairs_of (length (stage_seen c.args.self.now).list))
+    → HoldsBy c.args.self.now (in_pairs i)
+paired c = ok_holds _ c.judge_pairs.result c.in_ok-in_row-3.ensures.holds
+    c.judge_pairs.ensures.holds
+
+pub judge_pairs-requires-clause-monic : goal.judge_pairs-requires-clause-monic
+judge_pairs-requires-clause-monic c =
+    listed (goal.at.judge_pairs-requires-clause-monic c).In_ok-in_row
+
+pub returns-in_err-in_row-clause-stops : goal.returns-in_err-in_row-clause-stops
+returns-in_err-in_row-clause-stops c =
+    let s = c.args.self.now in
+    let r = err_from_is_err_and c.from_residual.result c.from_residual.ensures.1 in
+    rw (r.1, r.2) (carried c.judge_list.result (stop_map (place_at row.List)) _
+    (StopsAt (λ i. HoldsBy s (in_list i)) (λ i. IsPastBy s (in_list i))
+    (length (stage_seen s).list)) (IsStop place_of (HoldsBy s) (IsPastBy s) (places_by s))
+    c.in_err-in_row.ensures.stops c.judge_list.ensures.stops
+    (list_stops s.front (starting_by s) (stage_seen s) (IsPastAt s.begin)))
+
+pub returns-in_err-in_row-2-clause-stops : goal.returns-in_err-in_row-2-clause-stops
+returns-in_err-in_row-2-clause-stops c =
+    let s = c.args.self.now in
+    let at = (goal.at.returns-in_err-in_row-2-clause-stops c).In_ok-in_row in
+    let r = err_from_is_err_and c.from_residual-in_err-in_row-2.result
+    c.from_residual-in_err-in_row-2.ensures.1 in
+    rw (r.1, r.2) (carried c.judge_gens.result (stop_map (place_at row.Gens)) _
+    (StopsAt (λ i. HoldsBy s (in_gens i)) (λ i. IsPastBy s (in_gens i)) (length (starting_by s)))
+    (IsStop place_of (HoldsBy s) (IsPastBy s) (places_by s)) c.in_err-in_row-2.ensures.stops
+    c.judge_gens.ensures.stops
+    (gens_stop s.front (starting_by s) (stage_seen s) (IsPastAt s.begin) (listed at)))
+
+pub returns-in_err-in_row-3-clause-stops : goal.returns-in_err-in_row-3-clause-stops
+returns-in_err-in_row-3-clause-stops c =
+    let s = c.args.self.now in
+    let at = (goal.at.returns-in_err-in_row-3-clause-stops c).In_ok-in_row in
+    let also = (goal.at.returns-in_err-in_row-3-clause-stops c).In_ok-in_row-2 in
+    let r = err_from_is_err_and c.from_residual-in_err-in_row-3.result
+    c.from_residual-in_err-in_row-3.ensures.1 in
+    rw (r.1, r.2) (carried c.judge_pairs.result (stop_map (place_at row.Pairs)) _
+    (StopsAt (λ i. HoldsBy s (in_pairs i)) (λ i. IsPastBy s (in_pairs i))
+    (length (pairs_of (length (stage_seen s).list))))
+    (IsStop place_of (HoldsBy s) (IsPastBy s) (places_by s)) c.in_err-in_row-3.ensures.stops
+    c.judge_pairs.ensures.stops
+    (pairs_stop s.front (starting_by s) (stage_seen s) (IsPastAt s.begin) (listed at) (made also)))
+
+pub returns-clause-holds : goal.returns-clause-holds
+returns-clause-holds c =
+    let s = c.args.self.now in
+    let at = (goal.at.returns-clause-holds c).In_ok-in_row in
+    let also = (goal.at.returns-clause-holds c).In_ok-in_row-2 in
+    let last = (goal.at.returns-clause-holds c).In_ok-in_row-3 in
+    on_ok_weaker c.in_row-4.result (λ ok. stage_holds s.front (starting_by s) (stage_seen s)
+    (IsPastAt s.begin) (listed at) (made also) (paired last)
+    (ok_holds _ c.judge_links.result ok c.judge_links.ensures.holds)) c.in_row-4.ensures.holds
+
+pub returns-clause-stops : goal.returns-clause-stops
+returns-clause-stops c =
+    let s = c.args.self.now in
+    let at = (goal.at.returns-clause-stops c).In_ok-in_row in
+    let also = (goal.at.returns-clause-stops c).In_ok-in_row-2 in
+    let last = (goal.at.returns-clause-stops c).In_ok-in_row-3 in
+    IfErr-weaker c.in_row-4.result _ _ (λ x is. carried c.judge_links.result
+    (stop_map (place_at row.Links)) x
+    (StopsAt (λ i. HoldsBy s (in_links i)) (λ i. IsPastBy s (in_links i))
+    (length (free_part s.front (stage_seen s).list)))
+    (IsStop place_of (HoldsBy s) (IsPastBy s) (places_by s)) is c.judge_links.ensures.stops
+    (links_stop s.front (starting_by s) (stage_seen s) (IsPastAt s.begin) (listed at) (made also)
+    (paired last))) c.in_row-4.ensures.stops

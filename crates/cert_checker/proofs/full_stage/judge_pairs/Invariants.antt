@@ -1,9 +1,0 @@
-use Rattle.std.proofs.Common.{ℕ, ◌<◌}
-use Rattle.poly.specs.Seen.{terms_each}
-use Rattle.task_lists.specs.Rows.{rows_of}
-use Rattle.cert_checker.specs.StageParts.{IsRepresentedAt}
-use Rattle.cert_checker.proofs.full_stage.judge_pairs.Given as goal
-
-abbrev pub invariant-loop-i : goal.invariant-loop-i
-invariant-loop-i l = (j : ℕ) → j < l.i
-    → IsRepresentedAt l.front (terms_each l.list.items) (rows_of l.pairs) j

@@ -1,0 +1,50 @@
+use Rattle.std.proofs.Common.{length, refl, ap, Err, below_none}
+use Rattle.loop_model.proofs.Items.{in_list, past_list}
+use Rattle.cert_checker.proofs.SearchLaws.{step_at, step_past, kept_more, failed_here, all_kept}
+use Rattle.cert_checker.proofs.identity.Step.first_failing.Goals as goal
+
+pub loop-i-init : goal.loop-i-init
+loop-i-init c = below_none _
+
+pub returns-in-Ok-false-clause-first : goal.returns-in-Ok-false-clause-first
+returns-in-Ok-false-clause-first c =
+    failed_here _ (length c.args.self.now.basis.now.items) c.loop-i.i c.in-Ok-false.field-0
+    c.loop-i.invariant
+    (step_at _ c.args.self.now.basis.now.items c.args.self.now.images.now.items _
+    c.deref-element-items.ensures.value
+    c.loop-i.i c.element-item.result c.loop-i-test.true c.element-item.is c.args.self.now.rows.now
+    c.index.result.now c.args.self.now.square.height c.index.ensures c.in-Ok-false.field-0
+    c.in-Ok-false.ensures.holds)
+    (in_list _ _ c.deref-element-items.ensures.value _ c.loop-i-test.true)
+    c.in-Ok-false.field-0-test
+
+pub returns-in-Err-Wide-clause-stops : goal.returns-in-Err-Wide-clause-stops
+returns-in-Err-Wide-clause-stops c =
+    let cause = step_past (length c.args.self.now.images.now.items) c.args.self.now.basis.now.items
+    c.args.self.now.images.now.items _ c.deref-element-items.ensures.value c.loop-i.i
+    c.element-item.result c.loop-i-test.true c.element-item.is c.args.self.now.rows.now
+    c.index.result.now c.args.self.now.square.height c.index.ensures
+    (c.in-Err-Wide.ensures.wide (ap Err c.in-Err-Wide.field-0-is)) in (
+      refl,
+      record {
+        within = in_list _ _ c.deref-element-items.ensures.value _ c.loop-i-test.true;
+        before = c.loop-i.invariant;
+        cause = cause;
+      },
+    )
+
+pub loop-i-preserved : goal.loop-i-preserved
+loop-i-preserved c =
+    kept_more _ (length c.args.self.now.basis.now.items) c.loop-i.i c.in-Ok-true.field-0
+    c.loop-i.invariant
+    (step_at _ c.args.self.now.basis.now.items c.args.self.now.images.now.items _
+    c.deref-element-items.ensures.value
+    c.loop-i.i c.element-item.result c.loop-i-test.true c.element-item.is c.args.self.now.rows.now
+    c.index.result.now c.args.self.now.square.height c.index.ensures c.in-Ok-true.field-0
+    c.in-Ok-true.ensures.holds) c.in-Ok-true.field-0-test
+
+pub returns-clause-first : goal.returns-clause-first
+returns-clause-first c =
+    all_kept _ _ c.loop-i.i (past_list c.args.self.now.basis.now.items
+    c.deref-element-items.result.now
+    c.deref-element-items.ensures.value c.loop-i.i c.loop-i-test.false) c.loop-i.invariant

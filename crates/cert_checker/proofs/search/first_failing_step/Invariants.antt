@@ -1,8 +1,0 @@
-use Rattle.std.proofs.Common.{ℕ, ◌<◌, length}
-use Rattle.cert_form.specs.Cert.{polys_in, rows_in}
-use Rattle.cert_checker.specs.Identities.{StepHolds}
-use Rattle.cert_checker.proofs.search.first_failing_step.Given as goal
-
-abbrev pub invariant-loop-i : goal.invariant-loop-i
-invariant-loop-i l = (j : ℕ) → j < l.i → StepHolds (length l.images.items) (polys_in l.basis)
-    (polys_in l.images) (rows_in l.rows) j
