@@ -15,7 +15,6 @@ use Rattle.polynomials.specs.Terms.{constant, variables, evaluate, monomial_at, 
 use Rattle.polynomials.specs.Weight.{weight, degrees, composition_weight, composition_degrees}
 use Rattle.machines.specs.Collect.{collect, insert, place, scale_terms}
 use Rattle.machines.specs.Completion as completion
-use Rattle.machines.specs.Elimination as elimination
 use Rattle.machines.specs.Completion.{with_element, with_elements, s_polynomial, next_reduction, next_pair, next_completion}
 use Rattle.machines.specs.Cut.{lead_of, tail_of, lead_number, divides, cut_by, find_cut, after_cut, monic}
 use Rattle.machines.specs.Division as division

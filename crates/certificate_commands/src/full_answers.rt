@@ -1,25 +1,21 @@
 // The analysis of a loop, the trace behind it, and what is answered to them.
-ghost use Rattle.std.specs.Prelude.{◌≡◌, All, IfOk};
+ghost use Rattle.std.specs.Prelude.{◌≡◌, IfOk};
 ghost use Rattle.loop_model.specs.View.{program_of};
 ghost use Rattle.io_edge.specs.Views.{answer_view};
-ghost use Rattle.analysis_commands.specs.Analyses.{empty_journal};
-ghost use Rattle.invariant_fix.specs.Setting.{FitsSetting, IsSettingOf};
-ghost use Rattle.full_trace.specs.Late.{BeginsAtZero};
 ghost use Rattle.certificate_commands.specs.FullCertified.{Certifies, HasWorked};
-ghost use Rattle.certificate_commands.specs.FullMade.{IsFoundBy};
 ghost use Rattle.certificate_commands.specs.FullTexts as texts;
 
 use crate::full_certificates::{certificate_of, found_answer};
 use analysis_commands::answer_to_refusal;
 use command_parts::Budget;
 use full_trace::{TraceError, trace, traceable_setting};
-use invariant_fix::{Analysis, Setting, analyse};
+use invariant_fix::analyse;
 use io_edge::{Answer, Status};
 use journal::Meter;
 use loop_model::Loop;
 use std::alloc::{AllocError, Global};
 
-/// The answer to a loop, whose analysis and whose trace have this budget each.
+/// The answer to a loop, whose analysis and whose trace of as many rounds have this budget each.
 pub(crate) fn answer_to_loop(
     alloc: Global,
     lp: &Loop,
@@ -31,57 +27,18 @@ pub(crate) fn answer_to_loop(
     ensures worked { HasWorked (program_of lp.now) budget.units meter.new }
 {
     meter.open(budget.units);
-    match traceable_setting(alloc, lp) {
-        Ok(setting) => answer_to_analysis(alloc, lp, budget, setting, meter),
-        Err(TraceError::Late { branch }) => late_answer(alloc, branch),
+    let setting = match traceable_setting(alloc, lp) {
+        Ok(setting) => setting,
+        Err(TraceError::Late { branch }) => return late_answer(alloc, branch),
         Err(TraceError::Analysis(error)) => {
-            answer_to_refusal(alloc, lp.names(), budget.units, &error)
+            return answer_to_refusal(alloc, lp.names(), budget.units, &error);
         }
-    }
-}
-
-/// The answer to a loop that has traces, with this setting.
-fn answer_to_analysis(
-    alloc: Global,
-    lp: &Loop,
-    budget: Budget,
-    setting: Setting,
-    meter: &mut Meter,
-) -> Result<Answer, AllocError>
-    requires opened { meter.old ≡ empty_journal budget.units }
-    requires fits { FitsSetting setting }
-    requires setting { IsSettingOf (program_of lp.now) setting }
-    requires at_zero { All BeginsAtZero setting.branches.items }
-    ensures answer { IfOk result (λ a.
-        Certifies (program_of lp.now) budget.units meter.new (answer_view a)) }
-    ensures worked { HasWorked (program_of lp.now) budget.units meter.new }
-{
-    match analyse(alloc, lp, meter) {
-        Ok(found) => {
-            meter.within_limit();
-            answer_to_trace(alloc, lp, budget, setting, found, meter)
-        }
-        Err(error) => answer_to_refusal(alloc, lp.names(), budget.units, &error),
-    }
-}
-
-/// The answer to the trace of as many rounds as the analysis has found.
-fn answer_to_trace(
-    alloc: Global,
-    lp: &Loop,
-    budget: Budget,
-    setting: Setting,
-    found: Analysis,
-    meter: &mut Meter,
-) -> Result<Answer, AllocError>
-    requires fits { FitsSetting setting }
-    requires setting { IsSettingOf (program_of lp.now) setting }
-    requires at_zero { All BeginsAtZero setting.branches.items }
-    requires found { IsFoundBy (program_of lp.now) budget.units found }
-    ensures answer { IfOk result (λ a.
-        Certifies (program_of lp.now) budget.units meter.new (answer_view a)) }
-    ensures worked { HasWorked (program_of lp.now) budget.units meter.new }
-{
+    };
+    let found = match analyse(alloc, lp, meter) {
+        Ok(found) => found,
+        Err(error) => return answer_to_refusal(alloc, lp.names(), budget.units, &error),
+    };
+    meter.within_limit();
     meter.open(budget.units);
     match trace(alloc, setting, found.rounds, meter) {
         Ok(told) => found_answer(alloc, lp.names(), &certificate_of(found, told)),
