@@ -16,7 +16,10 @@ use Rattle.rounds.specs.Analysis.{Setting, form_of, iterations_of, goes, next, s
 use Rattle.loop_model.specs.FracPoly.{FracPoly}
 use Rattle.invariant_fix.specs.Coming.{Comes}
 use Rattle.invariant_fix.specs.Setting.{setting_of}
-use Rattle.invariant_fix.specs.Steps.{HasMeet, HasWhole, turning, branching, branched, iteration_begins, iteration_ends, iteration_meets, iteration_met, orbiting, orbited, meeting, met, started, closing}
+use Rattle.invariant_fix.specs.InWork.{Awaits, branching, branched, iteration_begins, iteration_ends, iteration_meets, iteration_met, orbiting, orbited, meeting, met}
+use Rattle.invariant_fix.specs.Steps as step
+use Rattle.invariant_fix.specs.Steps.{HasIterations, HasMeet, HasWhole, turning, started, closing}
+use Rattle.invariant_fix.specs.declared.branch_in_work.BranchInWork.{BranchInWork}
 use Rattle.invariant_fix.specs.declared.setting.Setting as setting
 use Rattle.invariant_fix.proofs.Lists.{units_begun}
 use Rattle.invariant_fix.proofs.TaskLengths.{turning_short}
@@ -97,21 +100,26 @@ meet_comes A k b gs hs ls h = go (form_of A b).since b h
     go zero (suc b) h = refl
     go (suc d) b h = refl
 
-whole_comes : (A : Setting) (k : ℕ) (gs hs ls : List (Terms Fraction)) → (form_of A 0).since ≡ 0
-    → after A (orbit k 0 gs hs) ls ≡ after_branch A k 0 gs ls
+whole_comes : (A : Setting) (k b : ℕ) (gs hs ls : List (Terms Fraction)) → b ≡ 0
+    → (form_of A b).since ≡ 0 → after A (orbit k b gs hs) ls ≡ after_branch A k b gs ls
 unfolding after
-whole_comes A k gs hs ls e = ap (λ d. after_orbit A d k 0 gs hs ls) e
+whole_comes A k b gs hs ls first e = go (form_of A b).since b first e
+  where
+    go : (d b : ℕ) → b ≡ 0 → d ≡ 0 → after_orbit A d k b gs hs ls ≡ after_branch A k b gs ls
+    go zero zero f e = refl
+    go zero (suc b) f e = absurd (omega (arith, f))
+    go (suc d) b f e = absurd (omega (arith, e))
 
 -- ---- of the program's own
 module _ (s : setting.Setting) (k : ℕ) (gs : List FracPoly) where
-  turning_next : next (setting_of s) (analysis.turning k (terms_each gs)) ≡ branching s k 0 gs
+  turning_next : next (setting_of s) (analysis.turning k (terms_each gs)) ≡ step.branching s k 0 gs
       (terms_each gs)
   unfolding next
   turning_next = refl
 
   pub round_begun : (old mid : Journal) → Comes (setting_of s) old.entries (turning k gs)
       → mid ≡ with_entry old (Begin (journal.Round k))
-      → Comes (setting_of s) mid.entries (branching s k 0 gs (terms_each gs))
+      → Comes (setting_of s) mid.entries (step.branching s k 0 gs (terms_each gs))
   round_begun old mid c e = record {
     state = analysis.turning k (terms_each gs);
     run = begun_task (setting_of s) old mid (journal.Round k) (analysis.turning k (terms_each gs)) c
@@ -124,77 +132,65 @@ module _ (s : setting.Setting) (k : ℕ) (gs : List FracPoly) where
       → units_of mid.entries ≡ units_of old.entries + 1
   round_unit old mid e = units_begun old mid (journal.Round k) e
 
-  module _ (es : List Entry) (b : ℕ) where
-    -- ---- the iterations of a branch
-    pub iteration_due : (hs : List FracPoly) → 2 ≤ (form_of (setting_of s) b).since
-        → Comes (setting_of s) es (branching s k b gs (terms_each hs))
-        → Comes (setting_of s) es (iteration_begins s k b 0 (terms_each gs) gs (terms_each hs))
-    iteration_due hs l c = subst (Comes (setting_of s) es) (iteration_comes (setting_of s) k b
-        (terms_each gs)
-        0
-        (terms_each gs) (terms_each hs) (some_iterations (form_of (setting_of s) b).since l)) c
+-- ---- of a branch in work
+module _ (w : BranchInWork) (j : Journal) where
+  abbrev A : Setting
+  A = setting_of w.setting.now
 
-    pub orbit_due : (hs : List FracPoly) → (form_of (setting_of s) b).since < 2
-        → Comes (setting_of s) es (branching s k b gs (terms_each hs))
-        → Comes (setting_of s) es (orbiting s k b gs (terms_each hs))
-    orbit_due hs l c = subst (Comes (setting_of s) es) (orbit_comes (setting_of s) k b
-        (terms_each gs) 0
-        (terms_each gs) (terms_each hs) (no_iterations (form_of (setting_of s) b).since l)) c
+  abbrev gs : List (Terms Fraction)
+  gs = terms_each w.basis.now
 
-    pub iteration_meet_due : (n : ℕ) (ks hs ls : List FracPoly)
-        → Comes (setting_of s) es (iteration_ends s k b n (terms_each gs) ks (terms_each hs) ls)
-        → Comes (setting_of s) es (iteration_meets s k b n (terms_each gs) hs ls)
-    iteration_meet_due n ks hs ls c = subst (Comes (setting_of s) es)
-        (iteration_meet_comes (setting_of s) k b
-        (terms_each gs) n (terms_each ks) (terms_each hs) (terms_each ls)) c
+  -- ---- its iterations
+  pub iteration_due : (hs : List FracPoly) → HasIterations w.setting.now w.place
+      → Awaits w j (branching w hs) → Awaits w j (iteration_begins w 0 w.basis.now (terms_each hs))
+  iteration_due hs l c = subst (Awaits w j) (iteration_comes A w.round w.place gs 0 gs
+      (terms_each hs) (some_iterations (form_of A w.place).since l)) c
 
-    abbrev pub IsTaken : ℕ → List FracPoly → List FracPoly → Type 0
-    IsTaken n ks hs = Comes (setting_of s) es (after_iterations (setting_of s) k b n (terms_each gs)
-        (terms_each ks)
-        (terms_each hs))
+  pub orbit_due : (hs : List FracPoly) → (form_of A w.place).since < 2
+      → Awaits w j (branching w hs) → Awaits w j (orbiting w (terms_each hs))
+  orbit_due hs l c = subst (Awaits w j) (orbit_comes A w.round w.place gs 0 gs (terms_each hs)
+      (no_iterations (form_of A w.place).since l)) c
 
-    pub iterations_go_on : (n : ℕ) (hs ks ls : List FracPoly)
-        → Comes (setting_of s) es (iteration_met s k b n (terms_each gs) hs ks ls)
-        → IsTaken (suc n) ks ls
-    iterations_go_on n hs ks ls c = subst (Comes (setting_of s) es) (iterations_come (setting_of s)
-        k b
-        (terms_each gs) n
-        (terms_each hs) (terms_each ks) (terms_each ls)) c
+  pub iteration_meet_due : (n : ℕ) (ks hs ls : List FracPoly)
+      → Awaits w j (iteration_ends w n ks (terms_each hs) ls)
+      → Awaits w j (iteration_meets w n hs ls)
+  iteration_meet_due n ks hs ls c = subst (Awaits w j) (iteration_meet_comes A w.round w.place gs n
+      (terms_each ks) (terms_each hs) (terms_each ls)) c
 
-    pub next_iteration : (n : ℕ) (ks hs : List FracPoly) → suc n < (form_of (setting_of s) b).since
-        → IsTaken n ks hs
-        → Comes (setting_of s) es (iteration_begins s k b n (terms_each gs) ks (terms_each hs))
-    next_iteration n ks hs l c = subst (Comes (setting_of s) es) (iteration_comes (setting_of s) k b
-        (terms_each gs) n
-        (terms_each ks) (terms_each hs) (more_iterations n (form_of (setting_of s) b).since l)) c
+  abbrev pub IsTaken : ℕ → List FracPoly → List FracPoly → Type 0
+  IsTaken n ks hs = Awaits w j (after_iterations A w.round w.place n gs (terms_each ks)
+      (terms_each hs))
 
-    pub iterations_end : (n : ℕ) (ks hs : List FracPoly) → (form_of (setting_of s) b).since ≤ suc n
-        → IsTaken n ks hs → Comes (setting_of s) es (orbiting s k b gs (terms_each hs))
-    iterations_end n ks hs l c = subst (Comes (setting_of s) es) (orbit_comes (setting_of s) k b
-        (terms_each gs) n
-        (terms_each ks) (terms_each hs) (all_iterations n (form_of (setting_of s) b).since l)) c
+  pub iterations_go_on : (n : ℕ) (hs ks ls : List FracPoly)
+      → Awaits w j (iteration_met w n hs ks ls) → IsTaken (suc n) ks ls
+  iterations_go_on n hs ks ls c = subst (Awaits w j) (iterations_come A w.round w.place gs n
+      (terms_each hs) (terms_each ks) (terms_each ls)) c
 
-    -- ---- the orbit
-    pub meet_due : (hs ls : List FracPoly) → HasMeet s b
-        → Comes (setting_of s) es (orbited s k b gs (terms_each hs) ls)
-        → Comes (setting_of s) es (meeting s k b (terms_each gs) hs ls)
-    meet_due hs ls h c = subst (Comes (setting_of s) es) (meet_comes (setting_of s) k b
-        (terms_each gs)
-        (terms_each hs) (terms_each ls) h) c
+  pub next_iteration : (n : ℕ) (ks hs : List FracPoly) → suc n < (form_of A w.place).since
+      → IsTaken n ks hs → Awaits w j (iteration_begins w n ks (terms_each hs))
+  next_iteration n ks hs l c = subst (Awaits w j) (iteration_comes A w.round w.place gs n
+      (terms_each ks) (terms_each hs) (more_iterations n (form_of A w.place).since l)) c
 
-    pub met_done : (hs ks ls : List FracPoly)
-        → Comes (setting_of s) es (met s k b (terms_each gs) hs ks ls)
-        → Comes (setting_of s) es (branched s k b gs (terms_each ls))
-    met_done hs ks ls c = subst (Comes (setting_of s) es) (met_comes (setting_of s) k b
-        (terms_each gs)
-        (terms_each hs) (terms_each ks) (terms_each ls)) c
+  pub iterations_end : (n : ℕ) (ks hs : List FracPoly) → (form_of A w.place).since ≤ suc n
+      → IsTaken n ks hs → Awaits w j (orbiting w (terms_each hs))
+  iterations_end n ks hs l c = subst (Awaits w j) (orbit_comes A w.round w.place gs n
+      (terms_each ks) (terms_each hs) (all_iterations n (form_of A w.place).since l)) c
 
-  pub whole_done : (es : List Entry) (hs : List (Terms Fraction)) (ls : List FracPoly)
-      → HasWhole s 0 → Comes (setting_of s) es (orbited s k 0 gs hs ls)
-      → Comes (setting_of s) es (branched s k 0 gs (terms_each ls))
-  whole_done es hs ls e c = subst (Comes (setting_of s) es) (whole_comes (setting_of s) k
-      (terms_each gs) hs
-      (terms_each ls) e) c
+  -- ---- its orbit
+  pub meet_due : (hs ls : List FracPoly) → HasMeet w.setting.now w.place
+      → Awaits w j (orbited w (terms_each hs) ls) → Awaits w j (meeting w hs ls)
+  meet_due hs ls h c = subst (Awaits w j) (meet_comes A w.round w.place gs (terms_each hs)
+      (terms_each ls) h) c
+
+  pub met_done : (hs ks ls : List FracPoly) → Awaits w j (met w hs ks ls)
+      → Awaits w j (branched w ls)
+  met_done hs ks ls c = subst (Awaits w j) (met_comes A w.round w.place gs (terms_each hs)
+      (terms_each ks) (terms_each ls)) c
+
+  pub whole_done : (hs : List (Terms Fraction)) (ls : List FracPoly) → w.place ≡ 0
+      → HasWhole w.setting.now w.place → Awaits w j (orbited w hs ls) → Awaits w j (branched w ls)
+  whole_done hs ls first e c = subst (Awaits w j) (whole_comes A w.round w.place gs hs
+      (terms_each ls) first e) c
 
 pub started_closing : (s : setting.Setting) (es : List Entry) (gs : List FracPoly)
     → Comes (setting_of s) es (started s gs) → Comes (setting_of s) es (closing s 0 0 0 gs)
@@ -209,17 +205,17 @@ module _ (s : setting.Setting) (k : ℕ) (gs : List FracPoly) where
   -- what comes behind the branches before this one
   abbrev pub ComesAt : List Entry → ℕ → List FracPoly → Type 0
   ComesAt es p hs = (b : ℕ) → suc b ≡ p
-      → Comes (setting_of s) es (branched s k b gs (terms_each hs))
+      → Comes (setting_of s) es (step.branched s k b gs (terms_each hs))
 
   pub come_at : (es : List Entry) (p n : ℕ) (hs : List FracPoly) → n ≡ suc p
-      → Comes (setting_of s) es (branched s k p gs (terms_each hs)) → ComesAt es n hs
+      → Comes (setting_of s) es (step.branched s k p gs (terms_each hs)) → ComesAt es n hs
   come_at es p n hs e c b is =
-      subst (λ x. Comes (setting_of s) es (branched s k x gs (terms_each hs)))
+      subst (λ x. Comes (setting_of s) es (step.branched s k x gs (terms_each hs)))
       (let z : p ≡ b = omega (arith, e, is) in z) c
 
   pub branch_at : (es : List Entry) (p : ℕ) (hs : List FracPoly) → 1 ≤ p
       → p < length s.branches.items → ComesAt es p hs
-      → Comes (setting_of s) es (branching s k p gs (terms_each hs))
+      → Comes (setting_of s) es (step.branching s k p gs (terms_each hs))
   branch_at es zero hs o l f = absurd (omega (arith, o))
   branch_at es (suc b) hs o l f = subst (Comes (setting_of s) es) (branch_comes (setting_of s) k b
       (terms_each gs) (terms_each hs) (let n = forms_count in omega (arith, n, l))) (f b refl)

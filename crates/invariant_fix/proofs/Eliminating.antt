@@ -3,7 +3,7 @@
 --   block_first, block_arity      of the list, that isn't empty
 --   way_is                        what is done
 --   over_of, reduced_of           what it gives
---   gens_count, late_length, orbit_length, iteration_length     how many there are
+--   gens_count, orbit_list_few, iteration_list_length     how many there are
 use Rattle.std.proofs.Common.{◌≡◌, ℕ, zero, suc, ◌+◌, ◌-◌, ◌<◌, ◌≤◌, List, [], ◌∷◌, ◌++◌, map, drop, length, refl, ap, ap₂, subst, arith}
 use Rattle.std.proofs.lemmas.List.{length-map, length-append, length-drop}
 use Rattle.std.proofs.lemmas.List.Elements.{All-head}
@@ -85,9 +85,9 @@ module _ (f : Form) (m : ℕ) (gs : List (Terms Fraction)) where
   r = length f.base
 
   module _ (count : length f.polys ≡ m) where
-    late_length : (d : ℕ) → length (list_since (suc d) f m gs)
+    late_list_length : (d : ℕ) → length (list_since (suc d) f m gs)
         ≡ length gs + m + suc (length f.base)
-    late_length d =
+    late_list_length d =
         let k = front r in
         let which = passes f m in
         let t = passing m which in
@@ -113,18 +113,18 @@ module _ (f : Form) (m : ℕ) (gs : List (Terms Fraction)) where
     abbrev IsShort : ℕ → Type 0
     IsShort n = (0 < n) × (n ≤ length gs + m + suc (length f.base))
 
-    pub orbit_length : IsShort (length (orbit_list f m gs))
-    orbit_length = go f.since
+    pub orbit_list_few : IsShort (length (orbit_list f m gs))
+    orbit_list_few = go f.since
       where
         go : (d : ℕ) → IsShort (length (list_since d f m gs))
         go zero =
             let a = orbit_count (pulled_back_by r m (inverse_of_form f)) gs r m in
             (omega (arith, a), omega (arith, a))
-        go (suc d) = let a = late_length d in (omega (arith, a), omega (arith, a))
+        go (suc d) = let a = late_list_length d in (omega (arith, a), omega (arith, a))
 
-  pub iteration_length : (images : List (Terms Fraction)) → length images ≡ m
+  pub iteration_list_length : (images : List (Terms Fraction)) → length images ≡ m
       → length (iteration_list f m images gs) ≡ length gs + m
-  iteration_length images count =
+  iteration_list_length images count =
       let t = iteration_front f m in
       let before = iteration_before f m (passes f m) in
       let ks = map (λ g. compose ℚ (0 + t + m) g before) gs in

@@ -1,11 +1,9 @@
 -- The maps of a loop, and where they stop.
 --   loop_unformed, branch_unformed     a refusal of the branches, as that of the loop
---   map_formed, maps_none, maps_more          the maps of the first branches
-use Rattle.std.proofs.Common.{◌≡◌, ◌⊎◌, inl, inr, ℕ, suc, ◌<◌, ◌+◌, List, [], ◌∷◌, ◌++◌, map, length, get_or, refl, sym, ap, ap₂, subst, ◌∙◌, arith, Vec, Global}
-use Rattle.std.proofs.lemmas.List.{length-append}
+--   maps_formed, maps_square           the maps of all branches, each of which has as many polynomials as variables
+use Rattle.std.proofs.Common.{◌≡◌, ℕ, suc, ◌<◌, ◌≤◌, List, [], ◌∷◌, All, map, length, get_or, refl, sym, ap₂, subst, ◌∙◌, arith, Vec, Global}
 use Rattle.algebra.specs.Each.{Each}
-use Rattle.std.proofs.lemmas.List.{get_or_append_left, get_or_push}
-use Rattle.algebra.proofs.Basics.{below_or_last}
+use Rattle.std.proofs.lemmas.List.{get_or_default}
 use Rattle.algebra.specs.Fraction.{Fraction, ℚ, rationals}
 use Rattle.algebra.proofs.Fractions.{ℚ_field}
 use Rattle.polynomials.specs.Order.{grevlex}
@@ -21,17 +19,19 @@ use Rattle.poly.specs.Seen.{terms_in, terms_each}
 use Rattle.poly.specs.Standing.{AllStandFor}
 use Rattle.poly.proofs.Standing.{stands_length, stands_over}
 use Rattle.loop_model.specs.FracPoly.{FracPoly as Polynomial}
+use Rattle.loop_model.specs.Limits.{names_limit}
 use Rattle.loop_model.specs.Operations.{IsFree}
+use Rattle.ideal_ops.specs.Calls.{AreOver}
 use Rattle.loop_model.proofs.OperationLaws.{stops_behind}
-use Rattle.loop_model.specs.Maps.{start_operations, branches_operations}
+use Rattle.loop_model.specs.Maps.{start_operations, branches_operations, AreBranchMaps}
+use Rattle.loop_model.proofs.BranchMaps.{maps_count, map_at}
 use Rattle.loop_model.proofs.MapsFormed.{free_all}
 use Rattle.rounds.specs.BranchMap.{map_of}
 use Rattle.invariant_fix.specs.declared.errors.AnalyseError.{AnalyseError}
 use Rattle.invariant_fix.specs.declared.errors.AnalyseError.TheVariants.{Map, Branch, Limit, Wide, Budget, Memory}
 use Rattle.invariant_fix.specs.Refusals.{IfUnformed, IfUnformedLoop, IfRefusedBranch}
-use Rattle.invariant_fix.specs.Setting.{IsMapIn, AreMapsTo}
+use Rattle.invariant_fix.specs.Setting.{IsMapIn, AreMaps, IsSquare}
 
--- ---- one more at the end
 module _ (program : Program (Expr ℕ)) where
   abbrev m : ℕ
   m = length program.names
@@ -55,7 +55,7 @@ module _ (program : Program (Expr ℕ)) where
   branch_unformed Budget free h = absurd h
   branch_unformed Memory free h = tt
 
-  -- ---- the maps of the first branches
+  -- ---- the maps of the branches
   polynomial_of : (p : Polynomial) → p.arity ≡ m → IsPolynomial ℚ grevlex m (terms_in p)
   polynomial_of p e = subst (λ n. IsPolynomial ℚ grevlex n (terms_in p)) e p.polynomial
 
@@ -69,7 +69,7 @@ module _ (program : Program (Expr ℕ)) where
       ap₂ ◌∷◌ (collect-is ℚ_field grevlex grevlex_order m q (terms_in p) a.0
       (polynomial_of p h.0.arity) h.0.same) (collected ps qs a.1 h.1)
 
-  pub map_formed : (images : Vec Polynomial Global) (b : ℕ)
+  map_formed : (images : Vec Polynomial Global) (b : ℕ)
       → AllStandFor (length program.names) images.items
       (branch_map program (get_or program.branches b [])) → IsMapIn program (suc b) images
   unfolding map_of
@@ -82,23 +82,25 @@ module _ (program : Program (Expr ℕ)) where
         is = collected images.items qs (arity-branch_map program (get_or program.branches b [])) h;
       }
 
-  pub maps_none : (maps : List (Vec Polynomial Global)) → maps ≡ [] → AreMapsTo program 0 maps
-  maps_none maps e = record { count = ap length e; each = λ b d l. absurd (omega (arith, l)) }
-
-  pub maps_more : (n : ℕ) (maps news : List (Vec Polynomial Global))
-      (images : Vec Polynomial Global) → AreMapsTo program n maps → news ≡ maps ++ images ∷ []
-      → IsMapIn program (suc n) images → AreMapsTo program (n + 1) news
-  maps_more n maps news images h e is = record {
-    count = (let a = ap length e in let b = length-append maps (images ∷ []) in let c = h.count in
-        omega (arith, a, b, c));
-    each = λ b d l. at b d l (let c : (b < n) ⊎ (b ≡ n) = below_or_last b n l in c);
+  -- the maps as the loop gives them
+  pub maps_formed : (maps : List (Vec Polynomial Global))
+      → AreBranchMaps program maps program.branches → AreMaps program maps
+  maps_formed maps h = record {
+    count = maps_count program maps h;
+    each = λ b d l. let inside : b < length maps =
+        (let c = maps_count program maps h in omega (arith, c, l)) in
+        map_formed (get_or maps b d) b
+        (map_at program maps (get_or maps b d) b h l
+        (get_or_default maps b d (get_or maps b d) inside));
   }
-    where
-      at : (b : ℕ) (d : Vec Polynomial Global) → b < n + 1 → (b < n) ⊎ (b ≡ n)
-          → IsMapIn program (suc b) (get_or news b d)
-      at b d l (inl k) = subst (IsMapIn program (suc b)) (sym (ap (λ ms. get_or ms b d) e
-          ∙ get_or_append_left maps (images ∷ []) d b (let c = h.count in omega (arith, c, k))))
-          (h.each b d k)
-      at b d l (inr k) = subst (IsMapIn program (suc b)) (sym (ap (λ ms. get_or ms b d) e
-          ∙ get_or_push maps images d b (let c = h.count in omega (arith, c, k))))
-          (subst (λ j. IsMapIn program (suc j) images) (sym k) is)
+
+  pub maps_square : (maps : List (Vec Polynomial Global)) → 1 ≤ m → m ≤ names_limit
+      → AreMaps program maps → All (λ (images : Vec Polynomial Global). IsSquare images.items) maps
+  maps_square maps some few h = λ b d l.
+      let is = h.each b d (let c = h.count in omega (arith, c, l)) in
+      let n = is.count in
+      record {
+        some = omega (arith, n, some);
+        few = omega (arith, n, few);
+        arity = subst (λ k. AreOver k (get_or maps b d).items) (sym n) is.arity;
+      }

@@ -6,6 +6,7 @@
 --   start_known, orbit_known, meet_known      what is known of the lists
 --   divisors_of            what division asks of them
 --   reduced_at_own         as many variables as the first has
+--   in_work_later          a branch in work at a later journal
 --   known_more, iterations_few, turned_more     where there may be more elements; as many as iterations may give, and as one more may
 use Rattle.std.proofs.Common.{◌≡◌, ◌⊎◌, inl, inr, ℕ, suc, ◌+◌, ◌*◌, ◌≤◌, cond, List, [], ◌∷◌, ◌++◌, length, get_or, refl, sym, ap, subst, ◌∙◌, arith}
 use native.Mathlib.Nat as N
@@ -41,7 +42,10 @@ use Rattle.invariant_fix.specs.Started.{with_past_start}
 use Rattle.std.proofs.lemmas.List.{length-map}
 use Rattle.std.specs.Global.{Vec}
 use Rattle.loop_model.specs.FracPoly.{FracPoly}
+use Rattle.invariant_fix.specs.InWork.{IsInWork}
 use Rattle.invariant_fix.specs.Lists.{IsList}
+use Rattle.invariant_fix.specs.Steps.{Follow}
+use Rattle.invariant_fix.specs.declared.branch_in_work.BranchInWork.{BranchInWork}
 use Rattle.machines.proofs.Lengths.{made, list_few}
 use Rattle.invariant_fix.proofs.Tasks.{way_of}
 
@@ -210,6 +214,14 @@ known_later m most k n gs h l = record {
   arity = h.arity;
   reduced = h.reduced;
   few = (let f = h.few in omega (arith, f, l));
+}
+
+pub in_work_later : {w : BranchInWork} {old new : Journal} → IsInWork w old → Follow old new
+    → IsInWork w new
+in_work_later {w} {old} {new} h l = record {
+  fits = h.fits;
+  place = h.place;
+  basis = known_later w.setting.now.arity _ _ _ w.basis.now h.basis l;
 }
 
 -- ---- in the words of division

@@ -1,6 +1,6 @@
 -- The list of code, as code makes it.
 --   no_places, more_places, all_places     what the variables were, one after another
---   before_count, before_arity, before_over      how many these are, and over how many variables
+--   before_count, before_some, before_arity, before_over      how many these are, and over how many variables
 --   put_at, block_at, over_at, past_at     an element, as it is put;  difference_at, past_value_at: a difference
 --   value_at, value_arity     the value of a variable
 --   in_blocks                 an element or a difference, in the order with the copies first;  differs: a difference
@@ -28,7 +28,8 @@ use Rattle.loop_model.specs.declared.statement.Statement as code
 use Rattle.loop_runs.specs.Parts.{statements_in}
 use Rattle.corollaries.specs.CodeBetween.{variable_of, list_from, copy_of, copies, was_at, was, assigned_variables}
 use Rattle.corollaries.proofs.CodeBetween.{listed_next, copy_is, copy_within}
-use Rattle.invariant_fix.specs.Code.{assigned_by, all, place_before, AreBefore, in_code_order, put_value, IsPastValueOf, IsPastValue}
+use Rattle.invariant_fix.specs.Code.{assigned_by, all, place_before, AreBefore, in_code_order, put_value, IsPastValueOf, IsPastValue, IsCodeInWork, AreThereBefore}
+use Rattle.invariant_fix.specs.declared.chain_code.CodeInWork.{CodeInWork}
 use Rattle.invariant_fix.proofs.Assigned.{more_assigned, same_assigned}
 
 -- ---- what the variables were
@@ -75,6 +76,13 @@ module _ (m : ℕ) (b : List code.Statement) where
     pub before_count : length ps ≡ m
     before_count = sym (length-map ps terms_in) ∙ ap length are.0
         ∙ length-listed 0 m (was_at m (statements_in b))
+
+pub before_some : {w : CodeInWork} → IsCodeInWork w → (ps : List FracPoly) → AreThereBefore w ps
+    → 0 < length ps
+before_some {w} h ps are =
+    let a = before_count (length w.values.now) w.code.now ps are in
+    let b = h.some in
+    omega (arith, a, b)
 
 -- ---- over how many variables
 module _ (n : ℕ) (ps : List FracPoly) (over : AreOver n ps) (some : 0 < length ps) where

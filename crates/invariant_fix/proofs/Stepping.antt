@@ -1,23 +1,24 @@
 -- The closing division of an element with a branch, and what comes behind it.
 --   composed_is          a composition of the code, collected
---   element_at           the dividend of the test
+--   IsTest w i branch element old mid n j     the test of this element has begun with the branch w, which comes next, by their numbers n and j, counted from 1
+--   element_over         the element's variables
 --   step_long            where the dividend is too long
 --   step_open, step_next, step_done, step_refused      what an answer of the division tells
 --   ran_test             what divide has done, in the words of the test
-use Rattle.std.proofs.Common.{◌≡◌, ◌≢◌, ℕ, suc, ◌<◌, ◌≤◌, List, [], ◌∷◌, length, get_or, None, sym, ap, ap₂, subst, ◌∙◌, arith, Vec, Global}
+use Rattle.std.proofs.Common.{◌≡◌, ◌≢◌, ℕ, suc, ◌<◌, List, [], ◌∷◌, length, get_or, None, sym, ap, ap₂, subst, ◌∙◌, arith, Vec, Global}
 use Rattle.std.proofs.lemmas.List.{get_or-map}
 use Rattle.std.proofs.lemmas.List.Elements.{All-head}
 use Rattle.algebra.specs.Fraction.{Fraction, ℚ, rationals, fractions}
 use Rattle.algebra.proofs.Fractions.{ℚ_field}
 use Rattle.polynomials.specs.Order.{grevlex}
-use Rattle.polynomials.specs.Terms.{Same, compose}
+use Rattle.polynomials.specs.Terms.{Terms, Same, compose}
 use Rattle.polynomials.specs.Weight.{IsPastComposition}
 use Rattle.polynomials.proofs.Arity.{arity-compose}
 use Rattle.polynomials.proofs.Orders.{grevlex_order}
 use Rattle.machines.specs.Collect.{collect}
 use Rattle.machines.specs.Division as division
 use Rattle.machines.specs.Journal as journal
-use Rattle.machines.specs.Journal.{Begin, Journal, units_of}
+use Rattle.machines.specs.Journal.{Begin, Journal}
 use Rattle.machines.specs.Machine.{Outcome, done, stopped, RanToEnd, Ran}
 use Rattle.machines.specs.Machines as machines
 use Rattle.machines.specs.Run.{IsRun}
@@ -36,14 +37,14 @@ use Rattle.rounds.specs.Analysis as analysis
 use Rattle.ideal_ops.specs.Calls.{AreOver}
 use Rattle.loop_model.specs.FracPoly.{FracPoly}
 use Rattle.invariant_fix.specs.Blocked.{Divided}
-use Rattle.invariant_fix.specs.Closing.{pullback_by, test_of, IsClosing}
-use Rattle.invariant_fix.specs.Coming.{Comes, Refuses}
+use Rattle.invariant_fix.specs.Closing.{pullback_by, test_of, HasStep}
 use Rattle.invariant_fix.specs.Errors.{in_task}
 use Rattle.invariant_fix.specs.Setting.{setting_of}
-use Rattle.invariant_fix.specs.Steps.{closing, testing, turning}
+use Rattle.invariant_fix.specs.InWork.{IsInWork, Awaits, Stops, testing, tested, opened}
+use Rattle.invariant_fix.specs.Steps.{Follow}
+use Rattle.invariant_fix.specs.declared.branch_in_work.BranchInWork.{BranchInWork}
 use Rattle.invariant_fix.specs.declared.branches.Branch.{Branch}
 use Rattle.invariant_fix.specs.declared.errors.AnalyseError.TheVariants.{Limit}
-use Rattle.invariant_fix.specs.declared.setting.Setting.{Setting}
 use Rattle.invariant_fix.proofs.Blocks.{graded_polynomial}
 use Rattle.invariant_fix.proofs.Lists.{units_begun}
 use Rattle.invariant_fix.proofs.Started.{ran_started}
@@ -91,107 +92,114 @@ module _ (b : Branch) (g : FracPoly) (some : 0 < g.arity) (over : AreOver g.arit
       (HasCofactors g.order t.arity) mid new o) composed_is r))
 
 -- ---- the test of an element with a branch
-module _ (s : Setting) (k place i : ℕ) (gs : List FracPoly) (branch : Branch) (element : FracPoly)
-    (within : place < length s.branches.items) (inside : i < length gs) (branch_is : branch
-    ≡ get_or s.branches.items place branch) (element_is : element ≡ get_or gs i element)
-    (over : element.arity ≡ s.arity) where
-  map_at : get_or (setting_of s).maps place [] ≡ terms_each branch.images.items
-  map_at = get_or-map (λ (c : Branch). terms_each c.images.items) s.branches.items place branch []
-      within ∙ ap (λ (c : Branch). terms_each c.images.items) (sym branch_is)
+pub record IsTest (w : BranchInWork) (i : ℕ) (branch : Branch) (element : FracPoly)
+    (old mid : Journal) (n j : ℕ) : Type 0 where
+  pub at : IsInWork w old
+  pub inside : i < length w.basis.now
+  pub branch_is : branch ≡ get_or w.setting.now.branches.items w.place branch
+  pub element_is : element ≡ get_or w.basis.now i element
+  pub named : n ≡ suc w.place
+  pub numbered : j ≡ suc i
+  pub begun : mid ≡ with_entry old (Begin (journal.Closed w.round n j))
+  pub due : Awaits w old (testing w i)
 
-  terms_at : get_or (terms_each gs) i [] ≡ terms_in element
-  terms_at = get_or-map terms_in gs i element [] inside ∙ ap terms_in (sym element_is)
+module _ {w : BranchInWork} {i : ℕ} {branch : Branch} {element : FracPoly} {old mid : Journal}
+    {n j : ℕ} (h : IsTest w i branch element old mid n j) where
+  abbrev A : analysis.Setting
+  A = setting_of w.setting.now
 
-  pub element_at : pullback_by branch element ≡ analysis.pullback (setting_of s) place
-      (get_or (terms_each gs) i [])
+  abbrev gs : List (Terms Fraction)
+  gs = terms_each w.basis.now
+
+  map_at : get_or A.maps w.place [] ≡ terms_each branch.images.items
+  map_at = get_or-map (λ (c : Branch). terms_each c.images.items) w.setting.now.branches.items
+      w.place branch [] h.at.place ∙ ap (λ (c : Branch). terms_each c.images.items)
+      (sym h.branch_is)
+
+  terms_at : get_or gs i [] ≡ terms_in element
+  terms_at = get_or-map terms_in w.basis.now i element [] h.inside ∙ ap terms_in (sym h.element_is)
+
+  pub element_over : element.arity ≡ w.setting.now.arity
+  element_over = ap (λ p. p.arity) h.element_is ∙ h.at.basis.arity i element h.inside
+
+  element_at : pullback_by branch element ≡ analysis.pullback A w.place (get_or gs i [])
   element_at =
       ap (λ n. collect rationals grevlex (compose ℚ n (terms_in element)
-      (terms_each branch.images.items))) over
-      ∙ ap₂ (λ p ms. collect rationals grevlex (compose ℚ s.arity p ms)) (sym terms_at) (sym map_at)
+      (terms_each branch.images.items))) element_over
+      ∙ ap₂ (λ p ms. collect rationals grevlex (compose ℚ w.setting.now.arity p ms)) (sym terms_at)
+      (sym map_at)
 
-  module _ (old mid new : Journal) (n j : ℕ) (named : n ≡ suc place) (numbered : j ≡ suc i)
-      (begun : mid ≡ with_entry old (Begin (journal.Closed k n j))) where
-    begun_test : mid ≡ with_entry old (Begin (journal.Closed k (suc place) (suc i)))
-    begun_test = begun ∙ ap₂ (λ a b. with_entry old (Begin (journal.Closed k a b))) named numbered
+  begun_test : mid ≡ with_entry old (Begin (journal.Closed w.round (suc w.place) (suc i)))
+  begun_test =
+      h.begun ∙ ap₂ (λ a b. with_entry old (Begin (journal.Closed w.round a b))) h.named h.numbered
 
-    module _ (c : Comes (setting_of s) old.entries (testing s k place i gs)) where
-      pub step_long : most_terms
-          < composition_length (terms_in element) (terms_each branch.images.items)
-          → Refuses (setting_of s) mid (Limit (task.Closed k n j))
-      step_long l =
-          test_long (setting_of s) k place i (terms_each gs) (pullback_by branch element)
-          element_at old mid mid c begun_test
-          (subst (λ n. most_terms < n) (ap₂ composition_length (sym terms_at) (sym map_at)) l)
-          (task.Closed k n j)
-          (ap₂ (journal.Closed k) named numbered)
+  task_is : journal.Closed w.round n j ≡ journal.Closed w.round (suc w.place) (suc i)
+  task_is = ap₂ (journal.Closed w.round) h.named h.numbered
 
-      abbrev pub IsShortTest : Type 0
-      IsShortTest =
-          most_terms < composition_length (terms_in element) (terms_each branch.images.items) → ⊥
+  pub step_long : most_terms
+      < composition_length (terms_in element) (terms_each branch.images.items)
+      → Stops w mid (Limit (task.Closed w.round n j))
+  step_long l =
+      test_long A w.round w.place i gs (pullback_by branch element) element_at old mid mid h.due
+      begun_test (subst (λ n. most_terms < n) (ap₂ composition_length (sym terms_at) (sym map_at))
+      l) (task.Closed w.round n j) task_is
 
-      few_test : IsShortTest → most_terms < composition_length (get_or (terms_each gs) i [])
-          (get_or (setting_of s).maps place []) → ⊥
-      few_test few l = few (subst (λ n. most_terms < n) (ap₂ composition_length terms_at map_at) l)
+  module _ (few : most_terms
+      < composition_length (terms_in element) (terms_each branch.images.items) → ⊥)
+      (new : Journal) where
+    few_test : most_terms < composition_length (get_or gs i []) (get_or A.maps w.place []) → ⊥
+    few_test l = few (subst (λ n. most_terms < n) (ap₂ composition_length terms_at map_at) l)
 
-      pub step_refused : IsShortTest → {R : Type 0} {G : R → division.State Fraction → Type 0}
-          (e : engine.EngineError) → Ran (test_of branch element gs) G mid new
-          (stopped (refusal_of e)) → Refuses (setting_of s) new (in_task (task.Closed k n j) e)
-      step_refused few e r =
-          test_refused (setting_of s) k place i (terms_each gs) (pullback_by branch element)
-          element_at old
-          mid new c begun_test (few_test few) _ past (task.Closed k n j)
-          (ap₂ (journal.Closed k) named
-          numbered) e r
-        where
-          past : IsPastComposition fractions (terms_in element) (terms_each branch.images.items)
-              → IsPastComposition fractions (get_or (terms_each gs) i [])
-              (get_or (setting_of s).maps place [])
-          past p = subst (λ x. IsPastComposition fractions x (get_or (setting_of s).maps place []))
-              (sym terms_at) (subst (IsPastComposition fractions (terms_in element)) (sym map_at) p)
+    pub step_refused : {R : Type 0} {G : R → division.State Fraction → Type 0}
+        (e : engine.EngineError) → Ran (test_of branch element w.basis.now) G mid new
+        (stopped (refusal_of e)) → Stops w new (in_task (task.Closed w.round n j) e)
+    step_refused e r =
+        test_refused A w.round w.place i gs (pullback_by branch element) element_at old mid new
+        h.due begun_test few_test _ past (task.Closed w.round n j) task_is e r
+      where
+        past : IsPastComposition fractions (terms_in element) (terms_each branch.images.items)
+            → IsPastComposition fractions (get_or gs i []) (get_or A.maps w.place [])
+        past p = subst (λ x. IsPastComposition fractions x (get_or A.maps w.place []))
+            (sym terms_at) (subst (IsPastComposition fractions (terms_in element)) (sym map_at) p)
 
-      module _ (d : Divided) (r : Ran (test_of branch element gs)
-          (HasCofactors element.order element.arity) mid new (done d)) where
-        abbrev t : RanToEnd (test_of branch element gs) (HasCofactors element.order element.arity)
-            mid
-            new d
-        t = r.to
+    module _ (d : Divided) (r : Ran (test_of branch element w.basis.now)
+        (HasCofactors element.order element.arity) mid new (done d)) where
+      abbrev t : RanToEnd (test_of branch element w.basis.now)
+          (HasCofactors element.order element.arity) mid new d
+      t = r.to
 
-        pub step_units : units_of old.entries ≤ units_of new.entries
-        step_units =
-            let a = units_added mid.entries new.entries t.finished.work.events
-            t.finished.work.entries in
-            let b = units_begun old mid (journal.Closed k n j) begun in
-            omega (arith, a, b)
+      pub step_units : Follow old new
+      step_units =
+          let a = units_added mid.entries new.entries t.finished.work.events
+          t.finished.work.entries in
+          let b = units_begun old mid (journal.Closed w.round n j) h.begun in
+          omega (arith, a, b)
 
-        pub step_open : IsShortTest → terms_in d.remainder ≢ []
-            → Comes (setting_of s) new.entries (turning (suc k) gs)
-        step_open few e =
-            let (q, f) = something_left t.last (λ z. e (t.gives.remainder ∙ z)) in
-            test_failed (setting_of s) k place i (terms_each gs) (pullback_by branch element)
-            element_at old
-            mid new c begun_test (few_test few) t.last t.finished q f
+      pub step_open : terms_in d.remainder ≢ [] → Awaits w new (opened w)
+      step_open e =
+          let (q, f) = something_left t.last (λ z. e (t.gives.remainder ∙ z)) in
+          test_failed A w.round w.place i gs (pullback_by branch element) element_at old
+          mid new h.due begun_test few_test t.last t.finished q f
 
-        gone : terms_in d.remainder ≡ [] → t.last.current ≡ None
-        gone e = nothing_left (terms_each gs) t.last t.finished.ended (sym t.gives.remainder ∙ e)
+      gone : terms_in d.remainder ≡ [] → t.last.current ≡ None
+      gone e = nothing_left gs t.last t.finished.ended (sym t.gives.remainder ∙ e)
 
-        pub step_next : IsShortTest → terms_in d.remainder ≡ []
-            → Comes (setting_of s) new.entries (closing s k place (suc i) gs)
-        step_next few e = test_passed (setting_of s) k place i (terms_each gs)
-            (pullback_by branch element)
-            element_at old mid new c begun_test (few_test few) t.last t.finished (gone e)
+      pub step_next : terms_in d.remainder ≡ [] → Awaits w new (tested w (suc i))
+      step_next e = test_passed A w.round w.place i gs (pullback_by branch element)
+          element_at old mid new h.due begun_test few_test t.last t.finished (gone e)
 
-        pub step_done : terms_in d.remainder ≡ [] → (qs : Vec FracPoly Global) → qs ≡ d.cofactors
-            → IsClosing (setting_of s) place i (terms_each gs) (terms_each qs.items)
-        step_done e qs is = record {
-          last = t.last;
-          leads = record {
-            events = t.finished.work.events;
-            run =
-                subst (λ p. IsRun (division.next rationals grevlex (terms_each gs))
-                (division.initial_state (terms_each gs) p) t.finished.work.events t.last) element_at
-                t.finished.work.run;
-          };
-          ended = t.finished.ended;
-          gone = gone e;
-          cofactors = ap (λ (v : Vec FracPoly Global). terms_each v.items) is ∙ t.gives.cofactors;
-        }
+      pub step_done : terms_in d.remainder ≡ [] → (qs : Vec FracPoly Global) → qs ≡ d.cofactors
+          → HasStep w.setting.now w.place i w.basis.now qs.items
+      step_done e qs is = record {
+        last = t.last;
+        leads = record {
+          events = t.finished.work.events;
+          run =
+              subst (λ p. IsRun (division.next rationals grevlex gs)
+              (division.initial_state gs p) t.finished.work.events t.last) element_at
+              t.finished.work.run;
+        };
+        ended = t.finished.ended;
+        gone = gone e;
+        cofactors = ap (λ (v : Vec FracPoly Global). terms_each v.items) is ∙ t.gives.cofactors;
+      }

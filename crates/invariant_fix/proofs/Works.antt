@@ -1,6 +1,7 @@
 -- The tasks of an analysis as the code begins and ends them: the start, a meet, an orbit along a branch, an iteration.
 --   start_way, orbit_way, iteration_way, meet_way     what the layer below does, in the words of the analysis
 --   start_next, start_list_known, start_refused    the first task
+--   IsBegun w t old mid n          for the branch w the task t has begun, which names it by its number n, counted from 1
 --   met_next, met_known, met_units, met_refused    a meet
 --   iteration_met_next, iteration_met_known, iteration_met_units, iteration_met_refused     that with an iteration
 --   form_at, map_at                    the form and the map of a branch
@@ -29,7 +30,7 @@ use Rattle.divide.specs.Outcomes.{refusal_of}
 use Rattle.journal.specs.View.{with_entry}
 use Rattle.journal.specs.declared.Task.TheVariants as task
 use Rattle.rounds.specs.Analysis as analysis
-use Rattle.rounds.specs.Analysis.{starts, iteration, iteration_meet, orbit, meet, starting, block}
+use Rattle.rounds.specs.Analysis.{Work, starts, iteration, iteration_meet, orbit, meet, starting, block}
 use Rattle.rounds.specs.Form as form
 use Rattle.rounds.specs.Past.{IsPastStarting, IsPastOrbit, IsPastIteration}
 use Rattle.rounds.specs.Results.{IsReducedList}
@@ -46,11 +47,13 @@ use Rattle.expansion.specs.Counts.{most_terms}
 use Rattle.invariant_fix.specs.Long.{orbit_length, iteration_length, work_length}
 use Rattle.invariant_fix.specs.Orbits.{orbit_front_of, orbit_list_of, pulling_back, orbit_of, turning, iteration_of}
 use Rattle.invariant_fix.specs.Setting.{setting_of, most_first, form_of, FitsSetting, FitsBranch}
-use Rattle.invariant_fix.specs.Steps.{HasWhole, starting as start_step, started, orbiting, orbited, meeting, met, iteration_begins, iteration_ends, iteration_meets, iteration_met}
+use Rattle.invariant_fix.specs.InWork.{IsInWork, Awaits, Knows, KnowsIterations, Stops, orbiting, orbited, meeting, met, iteration_begins, iteration_ends, iteration_meets, iteration_met}
+use Rattle.invariant_fix.specs.Steps.{Follow, HasWhole, starting as start_step, started}
+use Rattle.invariant_fix.specs.declared.branch_in_work.BranchInWork.{BranchInWork}
 use Rattle.invariant_fix.specs.declared.branches.Branch.{Branch}
 use Rattle.invariant_fix.specs.declared.errors.AnalyseError.TheVariants.{Limit}
 use Rattle.invariant_fix.specs.declared.setting.Setting.{Setting}
-use Rattle.invariant_fix.proofs.Lists.{units_begun, list_bound, units_follow, start_reduced, meet_reduced, known}
+use Rattle.invariant_fix.proofs.Lists.{units_begun, list_bound, units_follow, start_reduced, meet_reduced, known, turned_more}
 use Rattle.machines.proofs.Lengths.{made, NothingKept, kept_made}
 use Rattle.rounds.proofs.RelationTerms.{blend_not_kept}
 use Rattle.rounds.proofs.Few.{whole_few, orbit_few, iteration_few}
@@ -125,172 +128,190 @@ module _ (s : Setting) (fits : FitsSetting s) where
           (λ p. past_start (setting_of s) starts (subst (λ (V : Way fractions).
           IsPastStart fractions rationals V.gens) start_way p)) task.Start refl e r
 
+-- ---- what a task begins with
+pub record IsBegun (w : BranchInWork) (t : ℕ → journal.Task) (old mid : Journal) (n : ℕ)
+    : Type 0 where
+  pub at : IsInWork w old
+  pub named : n ≡ suc w.place
+  pub begun : mid ≡ with_entry old (Begin (t n))
+
+begun_here : {w : BranchInWork} {t : ℕ → journal.Task} {old mid : Journal} {n : ℕ}
+    → IsBegun w t old mid n → mid ≡ with_entry old (Begin (t (suc w.place)))
+begun_here {w} {t} {old} {mid} {n} h = h.begun ∙ ap (λ j. with_entry old (Begin (t j))) h.named
+
 -- ---- a meet
-module _ (s : Setting) (k b : ℕ) (hs ks : List FracPoly) (old mid new : Journal) (n : ℕ)
-    (named : n ≡ suc b) (begun : mid ≡ with_entry old (Begin (journal.Meet k n))) where
+module _ {w : BranchInWork} {old mid : Journal} {n : ℕ}
+    (h : IsBegun w (journal.Meet w.round) old mid n) (hs ks : List FracPoly) (new : Journal) where
+  abbrev A : analysis.Setting
+  A = setting_of w.setting.now
+
+  abbrev meet_here : Work
+  meet_here = meet w.round w.place (terms_each w.basis.now) (terms_each hs) (terms_each ks)
+
   abbrev Q : Type 0
   Q = (elimination_of (ideal.intersection_way hs ks)).IsPastStart
 
-  meet_way : (gs : List (Terms Fraction)) → ideal.intersection_way hs ks ≡ way_of (setting_of s)
-      (meet k b gs (terms_each hs) (terms_each ks))
+  meet_way : ideal.intersection_way hs ks ≡ way_of A meet_here
   unfolding starting block
-  meet_way gs = refl
+  meet_way = refl
 
-  begun_meet : mid ≡ with_entry old (Begin (journal.Meet k (suc b)))
-  begun_meet = begun ∙ ap (λ j. with_entry old (Begin (journal.Meet k j))) named
+  meet_short : most_terms < work_length A meet_here → ⊥
+  meet_short = meet_few A w.round w.place (terms_each w.basis.now) (terms_each hs) (terms_each ks)
 
-  pub met_next : (gs : List (Terms Fraction))
-      → Comes (setting_of s) old.entries (meeting s k b gs hs ks)
-      → (ls : Vec FracPoly) → Ran (elimination_of (ideal.intersection_way hs ks))
+  pub met_next : Awaits w old (meeting w hs ks) → (ls : Vec FracPoly)
+      → Ran (elimination_of (ideal.intersection_way hs ks))
       (IsListOf (ideal.intersection_way hs ks)) mid new (done ls)
-      → Comes (setting_of s) new.entries (met s k b gs hs ks ls.items)
-  met_next gs c ls h = task_ended (setting_of s) (meet k b gs (terms_each hs) (terms_each ks)) old
-      mid new
-      c begun_meet (meet_few (setting_of s) k b gs (terms_each hs) (terms_each ks))
-      (ideal.intersection_way hs ks) (meet_way gs) Q ls h
+      → Awaits w new (met w hs ks ls.items)
+  met_next c ls r = task_ended A meet_here old mid new c (begun_here h) meet_short
+      (ideal.intersection_way hs ks) meet_way Q ls r
 
-  module _ (units more : ℕ) (kh : IsList s.arity (most_first s.arity s.given) units hs)
-      (kk : IsList s.arity more units ks) (ls : Vec FracPoly)
-      (h : Ran (elimination_of (ideal.intersection_way hs ks))
-      (IsListOf (ideal.intersection_way hs ks)) mid new
-      (done ls)) where
-    pub met_known : IsIntersection hs ks ls.items → IsList s.arity (most_first s.arity s.given)
-        (units_of new.entries) ls.items
+  module _ {units more : ℕ}
+      (kh : IsList w.setting.now.arity (most_first w.setting.now.arity w.setting.now.given) units
+      hs) (kk : IsList w.setting.now.arity more units ks) (ls : Vec FracPoly)
+      (r : Ran (elimination_of (ideal.intersection_way hs ks))
+      (IsListOf (ideal.intersection_way hs ks)) mid new (done ls)) where
+    pub met_known : IsIntersection hs ks ls.items → Knows w new ls.items
     unfolding starting block
     met_known i =
-        let bound = list_bound (setting_of s) (meet k b [] (terms_each hs) (terms_each ks)) mid new
-        (ideal.intersection_way hs ks) (meet_way []) Q ls h in
+        let s = w.setting.now in
+        let bound = list_bound A meet_here mid new (ideal.intersection_way hs ks) meet_way Q ls r in
         let few = kept_made rationals 1 [] (blend rationals (blocks 1 grevlex grevlex)
         (terms_each hs) (terms_each ks)) (blend_not_kept s.arity (terms_each hs)
         (terms_each ks) (each_from (terms_each ks) kk.reduced.polynomials)) in
         known s.arity (most_first s.arity s.given) (units_of new.entries) ls.items
         (meet_reduced s.arity hs ks ls.items kh.arity kk.arity i) (omega (arith, bound, few))
 
-    pub met_units : units_of old.entries ≤ units_of new.entries
+    pub met_units : Follow old new
     met_units =
-        let a = units_follow (setting_of s) (meet k b [] (terms_each hs) (terms_each ks)) mid new
-        (ideal.intersection_way hs ks) (meet_way []) Q ls h in
-        let c = units_begun old mid (journal.Meet k n) begun in
+        let a = units_follow A meet_here mid new (ideal.intersection_way hs ks) meet_way Q ls r in
+        let c = units_begun old mid (journal.Meet w.round n) h.begun in
         omega (arith, a, c)
 
-  pub met_refused : (gs : List (Terms Fraction))
-      → Comes (setting_of s) old.entries (meeting s k b gs hs ks)
+  pub met_refused : Awaits w old (meeting w hs ks)
       → {R : Type 0} {G : R → elimination.State Fraction → Type 0} (e : engine.EngineError)
       → Ran (elimination_of (ideal.intersection_way hs ks)) G mid new (stopped (refusal_of e))
-      → Refuses (setting_of s) new (in_task (task.Meet k n) e)
-  met_refused gs c e r =
-      let w = meet k b gs (terms_each hs) (terms_each ks) in
-      task_refused (setting_of s) w old mid new c begun_meet
-      (meet_few (setting_of s) k b gs (terms_each hs) (terms_each ks))
-      (ideal.intersection_way hs ks)
-      (meet_way gs) Q
-      (λ p. past_start (setting_of s) w (subst (λ (V : Way fractions).
-      IsPastStart fractions rationals
-      V.gens) (meet_way gs) p)) (task.Meet k n) (ap (journal.Meet k) named) e r
+      → Stops w new (in_task (task.Meet w.round n) e)
+  met_refused c e r =
+      task_refused A meet_here old mid new c (begun_here h) meet_short
+      (ideal.intersection_way hs ks) meet_way Q
+      (λ p. past_start A meet_here (subst (λ (V : Way fractions).
+      IsPastStart fractions rationals V.gens) meet_way p)) (task.Meet w.round n)
+      (ap (journal.Meet w.round) h.named) e r
 
 -- ---- a meet with an iteration
-module _ (s : Setting) (k b i : ℕ) (hs ks : List FracPoly) (old mid new : Journal) (n j : ℕ)
-    (named : n ≡ suc b) (counted : j ≡ suc i)
-    (begun : mid ≡ with_entry old (Begin (journal.IterationMeet k n j))) where
+abbrev pub iteration_at : ℕ → ℕ → ℕ → journal.Task
+iteration_at k i n = journal.Iteration k n (i + 1)
+
+abbrev pub iteration_meet_at : ℕ → ℕ → ℕ → journal.Task
+iteration_meet_at k i n = journal.IterationMeet k n (i + 1)
+
+after_one : (i : ℕ) → i + 1 ≡ suc i
+after_one i = omega arith
+
+module _ {w : BranchInWork} {old mid : Journal} {n : ℕ} (i : ℕ)
+    (h : IsBegun w (iteration_meet_at w.round i) old mid n) (hs ks : List FracPoly)
+    (new : Journal) where
+  abbrev B : analysis.Setting
+  B = setting_of w.setting.now
+
+  abbrev iteration_meet_here : Work
+  iteration_meet_here =
+      iteration_meet w.round w.place i (terms_each w.basis.now) (terms_each hs) (terms_each ks)
+
   abbrev QT : Type 0
   QT = (elimination_of (ideal.intersection_way hs ks)).IsPastStart
 
-  iteration_meet_way : (gs : List (Terms Fraction)) → ideal.intersection_way hs ks
-      ≡ way_of (setting_of s)
-      (iteration_meet k b i gs (terms_each hs) (terms_each ks))
+  iteration_meet_way : ideal.intersection_way hs ks ≡ way_of B iteration_meet_here
   unfolding starting block
-  iteration_meet_way gs = refl
+  iteration_meet_way = refl
 
-  begun_iteration_meet : mid ≡ with_entry old (Begin (journal.IterationMeet k (suc b) (suc i)))
-  begun_iteration_meet = begun ∙ ap₂ (λ x y. with_entry old (Begin (journal.IterationMeet k x y)))
-      named
-      counted
+  iteration_meet_short : most_terms < work_length B iteration_meet_here → ⊥
+  iteration_meet_short = iteration_meet_few B w.round w.place i (terms_each w.basis.now)
+      (terms_each hs) (terms_each ks)
 
-  pub iteration_met_next : (gs : List (Terms Fraction))
-      → Comes (setting_of s) old.entries (iteration_meets s k b i gs hs ks)
-      → (ls : Vec FracPoly) → Ran (elimination_of (ideal.intersection_way hs ks))
+  begun_iteration_meet :
+      mid ≡ with_entry old (Begin (journal.IterationMeet w.round (suc w.place) (suc i)))
+  begun_iteration_meet = begun_here h ∙ ap (λ j. with_entry old
+      (Begin (journal.IterationMeet w.round (suc w.place) j))) (after_one i)
+
+  pub iteration_met_next : Awaits w old (iteration_meets w i hs ks) → (ls : Vec FracPoly)
+      → Ran (elimination_of (ideal.intersection_way hs ks))
       (IsListOf (ideal.intersection_way hs ks)) mid new (done ls)
-      → Comes (setting_of s) new.entries (iteration_met s k b i gs hs ks ls.items)
-  iteration_met_next gs c ls h = task_ended (setting_of s) (iteration_meet k b i gs (terms_each hs)
-      (terms_each ks))
-      old mid new
-      c begun_iteration_meet
-      (iteration_meet_few (setting_of s) k b i gs (terms_each hs) (terms_each ks))
-      (ideal.intersection_way hs ks) (iteration_meet_way gs) QT ls h
+      → Awaits w new (iteration_met w i hs ks ls.items)
+  iteration_met_next c ls r = task_ended B iteration_meet_here old mid new c begun_iteration_meet
+      iteration_meet_short (ideal.intersection_way hs ks) iteration_meet_way QT ls r
 
-  module _ (units more : ℕ) (kh : IsList s.arity (most_first s.arity s.given) units hs)
-      (kk : IsList s.arity more units ks) (ls : Vec FracPoly)
-      (h : Ran (elimination_of (ideal.intersection_way hs ks))
-      (IsListOf (ideal.intersection_way hs ks)) mid new
-      (done ls)) where
-    pub iteration_met_known : IsIntersection hs ks ls.items
-        → IsList s.arity (most_first s.arity s.given)
-        (units_of new.entries) ls.items
+  module _ {units more : ℕ}
+      (kh : IsList w.setting.now.arity (most_first w.setting.now.arity w.setting.now.given) units
+      hs) (kk : IsList w.setting.now.arity more units ks) (ls : Vec FracPoly)
+      (r : Ran (elimination_of (ideal.intersection_way hs ks))
+      (IsListOf (ideal.intersection_way hs ks)) mid new (done ls)) where
+    pub iteration_met_known : IsIntersection hs ks ls.items → Knows w new ls.items
     unfolding starting block
     iteration_met_known met =
-        let bound = list_bound (setting_of s) (iteration_meet k b i [] (terms_each hs)
-        (terms_each ks))
-        mid new
-        (ideal.intersection_way hs ks) (iteration_meet_way []) QT ls h in
+        let s = w.setting.now in
+        let bound = list_bound B iteration_meet_here mid new (ideal.intersection_way hs ks)
+        iteration_meet_way QT ls r in
         let few = kept_made rationals 1 [] (blend rationals (blocks 1 grevlex grevlex)
         (terms_each hs) (terms_each ks)) (blend_not_kept s.arity (terms_each hs)
         (terms_each ks) (each_from (terms_each ks) kk.reduced.polynomials)) in
         known s.arity (most_first s.arity s.given) (units_of new.entries) ls.items
         (meet_reduced s.arity hs ks ls.items kh.arity kk.arity met) (omega (arith, bound, few))
 
-    pub iteration_met_units : units_of old.entries ≤ units_of new.entries
+    pub iteration_met_units : Follow old new
     iteration_met_units =
-        let a = units_follow (setting_of s) (iteration_meet k b i [] (terms_each hs)
-        (terms_each ks)) mid
-        new
-        (ideal.intersection_way hs ks) (iteration_meet_way []) QT ls h in
-        let c = units_begun old mid (journal.IterationMeet k n j) begun in
+        let a = units_follow B iteration_meet_here mid new (ideal.intersection_way hs ks)
+        iteration_meet_way QT ls r in
+        let c = units_begun old mid (iteration_meet_at w.round i n) h.begun in
         omega (arith, a, c)
 
-  pub iteration_met_refused : (gs : List (Terms Fraction))
-      → Comes (setting_of s) old.entries (iteration_meets s k b i gs hs ks)
+  pub iteration_met_refused : Awaits w old (iteration_meets w i hs ks)
       → {R : Type 0} {G : R → elimination.State Fraction → Type 0} (e : engine.EngineError)
       → Ran (elimination_of (ideal.intersection_way hs ks)) G mid new (stopped (refusal_of e))
-      → Refuses (setting_of s) new (in_task (task.IterationMeet k n j) e)
-  iteration_met_refused gs c e r =
-      let w = iteration_meet k b i gs (terms_each hs) (terms_each ks) in
-      task_refused (setting_of s) w old mid new c begun_iteration_meet
-      (iteration_meet_few (setting_of s) k b i gs (terms_each hs) (terms_each ks))
-      (ideal.intersection_way hs ks)
-      (iteration_meet_way gs)
-      QT
-      (λ p. past_start (setting_of s) w (subst (λ (V : Way fractions).
-      IsPastStart fractions rationals
-      V.gens) (iteration_meet_way gs) p)) (task.IterationMeet k n j) (ap₂ (journal.IterationMeet k)
-      named
-      counted) e r
+      → Stops w new (in_task (task.IterationMeet w.round n (i + 1)) e)
+  iteration_met_refused c e r =
+      task_refused B iteration_meet_here old mid new c begun_iteration_meet iteration_meet_short
+      (ideal.intersection_way hs ks) iteration_meet_way QT
+      (λ p. past_start B iteration_meet_here (subst (λ (V : Way fractions).
+      IsPastStart fractions rationals V.gens) iteration_meet_way p))
+      (task.IterationMeet w.round n (i + 1))
+      (ap₂ (journal.IterationMeet w.round) h.named (after_one i)) e r
 
 -- ---- an orbit, and an iteration
-module _ (s : Setting) (fits : FitsSetting s) (place : ℕ) (within : place < length s.branches.items)
-    (branch : Branch) (is : branch ≡ get_or s.branches.items place branch) where
-  none : form.Form
-  none = record { base = []; polys = []; since = 0 }
+module _ {w : BranchInWork} {old : Journal} (at : IsInWork w old) (branch : Branch)
+    (is : branch ≡ get_or w.setting.now.branches.items w.place branch) where
+  abbrev s : Setting
+  s = w.setting.now
+
+  abbrev place : ℕ
+  place = w.place
+
+  abbrev k : ℕ
+  k = w.round
 
   pub form_at : analysis.form_of (setting_of s) place ≡ form_of branch.form
-  form_at = get_or-map (λ (c : Branch). form_of c.form) s.branches.items place branch _ within
+  form_at = get_or-map (λ (c : Branch). form_of c.form) s.branches.items place branch _ at.place
       ∙ ap (λ (c : Branch). form_of c.form) (sym is)
 
   fits_at : FitsBranch s.arity branch
-  fits_at = subst (FitsBranch s.arity) (sym is) (fits.branches place branch within)
+  fits_at = subst (FitsBranch s.arity) (sym is) (at.fits.branches place branch at.place)
 
   vars_at : length branch.images.items ≡ s.arity
   vars_at = fits_at.count
 
   map_at : get_or (setting_of s).maps place [] ≡ terms_each branch.images.items
   map_at = get_or-map (λ (c : Branch). terms_each c.images.items) s.branches.items place branch []
-      within ∙ ap (λ (c : Branch). terms_each c.images.items) (sym is)
+      at.place ∙ ap (λ (c : Branch). terms_each c.images.items) (sym is)
 
   polys_count : length (form_of branch.form).polys ≡ length branch.images.items
   polys_count = length-map branch.form.polys.items _ ∙ fits_at.form_count ∙ sym vars_at
 
   -- ---- an orbit
-  module _ (k : ℕ) (gs : List FracPoly) (old mid new : Journal) (n : ℕ) (named : n ≡ suc place)
-      (begun : mid ≡ with_entry old (Begin (journal.Orbit k n))) where
+  module _ {mid : Journal} {n : ℕ} (h : IsBegun w (journal.Orbit w.round) old mid n)
+      (new : Journal) where
+    abbrev gs : List FracPoly
+    gs = w.basis.now
+
     orbit_way : (hs : List (Terms Fraction)) → pulling_back branch gs ≡ way_of (setting_of s)
         (orbit k place (terms_each gs) hs)
     unfolding starting block
@@ -301,9 +322,6 @@ module _ (s : Setting) (fits : FitsSetting s) (place : ℕ) (within : place < le
           part = free_part (form.orbit_front f m);
           gens = form.orbit_list f m (terms_each gs);
         } in w) (sym form_at) vars_at
-
-    begun_orbit : mid ≡ with_entry old (Begin (journal.Orbit k (suc place)))
-    begun_orbit = begun ∙ ap (λ j. with_entry old (Begin (journal.Orbit k j))) named
 
     abbrev U : Type 0
     U = (orbit_of branch gs).IsPastStart
@@ -324,23 +342,19 @@ module _ (s : Setting) (fits : FitsSetting s) (place : ℕ) (within : place < le
     few_orbit few hs l = few (subst (λ x. most_terms < x) (sym (orbit_size hs)) l)
 
     pub orbit_next : IsShortOrbit → (hs : List (Terms Fraction))
-        → Comes (setting_of s) old.entries (orbiting s k place gs hs) → (ls : Vec FracPoly)
+        → Awaits w old (orbiting w hs) → (ls : Vec FracPoly)
         → Ran (orbit_of branch gs) (IsListOf (pulling_back branch gs)) mid new (done ls)
-        → Comes (setting_of s) new.entries (orbited s k place gs hs ls.items)
-    orbit_next few hs c ls h = task_ended (setting_of s) (orbit k place (terms_each gs) hs) old mid
-        new
-        c
-        begun_orbit (few_orbit few hs) (pulling_back branch gs) (orbit_way hs) U ls h
+        → Awaits w new (orbited w hs ls.items)
+    orbit_next few hs c ls r = task_ended (setting_of s) (orbit k place (terms_each gs) hs) old mid
+        new c (begun_here h) (few_orbit few hs) (pulling_back branch gs) (orbit_way hs) U ls r
 
-    module _ (kg : IsList s.arity (most_first s.arity s.given) (units_of old.entries) gs)
-        (ls : Vec FracPoly) (h : Ran (orbit_of branch gs) (IsListOf (pulling_back branch gs)) mid
-        new
-        (done ls)) where
-      pub orbit_units : units_of old.entries ≤ units_of new.entries
+    module _ (ls : Vec FracPoly) (r : Ran (orbit_of branch gs) (IsListOf (pulling_back branch gs))
+        mid new (done ls)) where
+      pub orbit_units : Follow old new
       orbit_units =
           let a = units_follow (setting_of s) (orbit k place (terms_each gs) []) mid new
-          (pulling_back branch gs) (orbit_way []) U ls h in
-          let c = units_begun old mid (journal.Orbit k n) begun in
+          (pulling_back branch gs) (orbit_way []) U ls r in
+          let c = units_begun old mid (journal.Orbit k n) h.begun in
           omega (arith, a, c)
 
       orbit_bound : length ls.items + units_of mid.entries
@@ -349,7 +363,7 @@ module _ (s : Setting) (fits : FitsSetting s) (place : ℕ) (within : place < le
       unfolding starting block
       orbit_bound =
           let bound = list_bound (setting_of s) (orbit k place (terms_each gs) []) mid new
-          (pulling_back branch gs) (orbit_way []) U ls h in
+          (pulling_back branch gs) (orbit_way []) U ls r in
           subst (λ m. length ls.items + units_of mid.entries
           ≤ length (free_part (form.orbit_front (form_of branch.form) m)
           (made rationals (form.orbit_front (form_of branch.form) m)
@@ -369,41 +383,37 @@ module _ (s : Setting) (fits : FitsSetting s) (place : ℕ) (within : place < le
           subst (λ m. IsReducedList m (terms_each ls.items)) vars_at reduced,
         )
 
-        pub orbit_known : IsList s.arity (most_first s.arity s.given + s.arity * 1)
-            (units_of new.entries) ls.items
+        pub orbit_known : KnowsIterations w 1 new ls.items
         orbit_known =
             let few = orbit_few (form_of branch.form) (length branch.images.items) (terms_each gs)
             polys_count in
             let bound = orbit_bound in
             let b = length-map gs terms_in in
-            let d = units_begun old mid (journal.Orbit k n) begun in
-            let e = kg.few in
+            let d = units_begun old mid (journal.Orbit k n) h.begun in
+            let e = at.basis.few in
             let v = vars_at in
             let one : s.arity * 1 ≡ s.arity = omega arith in
             known s.arity (most_first s.arity s.given + s.arity * 1) (units_of new.entries) ls.items
             parts (omega (arith, bound, few, b, d, e, v, one))
 
-        pub whole_known : HasWhole s place → IsList s.arity (most_first s.arity s.given)
-            (units_of new.entries) ls.items
+        pub whole_known : HasWhole s place → Knows w new ls.items
         whole_known at_once =
             let few = whole_few (form_of branch.form) (length branch.images.items) (terms_each gs)
             (sym (ap (λ (f : form.Form). f.since) form_at) ∙ at_once) in
             let bound = orbit_bound in
             let b = length-map gs terms_in in
-            let d = units_begun old mid (journal.Orbit k n) begun in
-            let e = kg.few in
+            let d = units_begun old mid (journal.Orbit k n) h.begun in
+            let e = at.basis.few in
             known s.arity (most_first s.arity s.given) (units_of new.entries) ls.items parts
             (omega (arith, bound, few, b, d, e))
 
-    pub orbit_long : (hs : List (Terms Fraction))
-        → Comes (setting_of s) old.entries (orbiting s k place gs hs)
+    pub orbit_long : (hs : List (Terms Fraction)) → Awaits w old (orbiting w hs)
         → most_terms < orbit_length (form_of branch.form) (length branch.images.items)
-        (terms_each gs)
-        → Refuses (setting_of s) mid (Limit (task.Orbit k n))
+        (terms_each gs) → Stops w mid (Limit (task.Orbit k n))
     orbit_long hs c l =
-        task_long (setting_of s) (orbit k place (terms_each gs) hs) old mid mid c begun_orbit
-        (subst (λ x. most_terms < x) (orbit_size hs) l)
-        (task.Orbit k n) (ap (journal.Orbit k) named)
+        task_long (setting_of s) (orbit k place (terms_each gs) hs) old mid mid c (begun_here h)
+        (subst (λ x. most_terms < x) (orbit_size hs) l) (task.Orbit k n) (ap (journal.Orbit k)
+        h.named)
 
     past_here : U → (hs : List (Terms Fraction))
         → IsPastStarting (setting_of s) (orbit k place (terms_each gs) hs)
@@ -415,25 +425,25 @@ module _ (s : Setting) (fits : FitsSetting s) (place : ℕ) (within : place < le
     past_here (inr p) hs =
         inr (subst (λ (V : Way fractions). IsPastStart fractions rationals V.gens) (orbit_way hs) p)
 
-    pub orbit_refused : IsShortOrbit → (hs : List (Terms Fraction))
-        → Comes (setting_of s) old.entries (orbiting s k place gs hs)
+    pub orbit_refused : IsShortOrbit → (hs : List (Terms Fraction)) → Awaits w old (orbiting w hs)
         → {R : Type 0} {G : R → elimination.State Fraction → Type 0} (e : engine.EngineError)
         → Ran (orbit_of branch gs) G mid new (stopped (refusal_of e))
-        → Refuses (setting_of s) new (in_task (task.Orbit k n) e)
+        → Stops w new (in_task (task.Orbit k n) e)
     orbit_refused few hs c e r =
-        task_refused (setting_of s) (orbit k place (terms_each gs) hs) old mid new c begun_orbit
+        task_refused (setting_of s) (orbit k place (terms_each gs) hs) old mid new c (begun_here h)
         (few_orbit few hs) (pulling_back branch gs) (orbit_way hs) U (λ p. past_here p hs)
-        (task.Orbit k n)
-        (ap (journal.Orbit k) named) e r
+        (task.Orbit k n) (ap (journal.Orbit k) h.named) e r
 
   -- ---- an iteration
-  module _ (k i : ℕ) (ks : List FracPoly) (old mid new : Journal) (n j : ℕ)
-      (named : n ≡ suc place) (counted : j ≡ suc i)
-      (begun : mid ≡ with_entry old (Begin (journal.Iteration k n j))) where
-    iteration_way : (gs hs : List (Terms Fraction)) → turning branch ks ≡ way_of (setting_of s)
-        (iteration k place i gs (terms_each ks) hs)
+  module _ {mid : Journal} {n : ℕ} (i : ℕ) (h : IsBegun w (iteration_at w.round i) old mid n)
+      (ks : List FracPoly) (new : Journal) where
+    abbrev iteration_here : List (Terms Fraction) → Work
+    iteration_here hs = iteration k place i (terms_each w.basis.now) (terms_each ks) hs
+
+    iteration_way : (hs : List (Terms Fraction))
+        → turning branch ks ≡ way_of (setting_of s) (iteration_here hs)
     unfolding starting block
-    iteration_way gs hs =
+    iteration_way hs =
         let here : (f : form.Form) → (m : ℕ) → List (Terms Fraction) → ideal.Way fractions =
         λ f m images. record {
           order = blocks (form.iteration_front f m) grevlex grevlex;
@@ -444,8 +454,8 @@ module _ (s : Setting) (fits : FitsSetting s) (place : ℕ) (within : place < le
         ∙ ap (here (analysis.form_of (setting_of s) place) s.arity) (sym map_at)
 
     begun_iteration : mid ≡ with_entry old (Begin (journal.Iteration k (suc place) (suc i)))
-    begun_iteration = begun ∙ ap₂ (λ x y. with_entry old (Begin (journal.Iteration k x y))) named
-        counted
+    begun_iteration = begun_here h ∙ ap (λ j. with_entry old
+        (Begin (journal.Iteration k (suc place) j))) (after_one i)
 
     abbrev V : Type 0
     V = (iteration_of branch ks).IsPastStart
@@ -454,76 +464,73 @@ module _ (s : Setting) (fits : FitsSetting s) (place : ℕ) (within : place < le
     IsShortIteration = most_terms < iteration_length (form_of branch.form)
         (length branch.images.items) (terms_each branch.images.items) (terms_each ks) → ⊥
 
-    iteration_size : (gs hs : List (Terms Fraction))
+    iteration_size : (hs : List (Terms Fraction))
         → iteration_length (form_of branch.form) (length branch.images.items)
         (terms_each branch.images.items) (terms_each ks)
-        ≡ work_length (setting_of s) (iteration k place i gs (terms_each ks) hs)
-    iteration_size gs hs =
+        ≡ work_length (setting_of s) (iteration_here hs)
+    iteration_size hs =
         ap₂ (λ (f : form.Form) m. iteration_length f m (terms_each branch.images.items)
         (terms_each ks)) (sym form_at) vars_at
         ∙ ap (λ fs. iteration_length (analysis.form_of (setting_of s) place) s.arity fs
         (terms_each ks)) (sym map_at)
-        ∙ iteration_is (setting_of s) k place i gs (terms_each ks) hs
+        ∙ iteration_is (setting_of s) k place i (terms_each w.basis.now) (terms_each ks) hs
 
-    few_iteration : IsShortIteration → (gs hs : List (Terms Fraction)) → most_terms
-        < work_length (setting_of s) (iteration k place i gs (terms_each ks) hs) → ⊥
-    few_iteration few gs hs l = few (subst (λ x. most_terms < x) (sym (iteration_size gs hs)) l)
+    few_iteration : IsShortIteration → (hs : List (Terms Fraction))
+        → most_terms < work_length (setting_of s) (iteration_here hs) → ⊥
+    few_iteration few hs l = few (subst (λ x. most_terms < x) (sym (iteration_size hs)) l)
 
-    pub iteration_next : IsShortIteration → (gs hs : List (Terms Fraction))
-        → Comes (setting_of s) old.entries (iteration_begins s k place i gs ks hs)
-        → (ls : Vec FracPoly)
+    pub iteration_next : IsShortIteration → (hs : List (Terms Fraction))
+        → Awaits w old (iteration_begins w i ks hs) → (ls : Vec FracPoly)
         → Ran (iteration_of branch ks) (IsListOf (turning branch ks)) mid new (done ls)
-        → Comes (setting_of s) new.entries (iteration_ends s k place i gs ks hs ls.items)
-    iteration_next few gs hs c ls h =
-        task_ended (setting_of s) (iteration k place i gs (terms_each ks)
-        hs) old
-        mid new
-        c begun_iteration (few_iteration few gs hs) (turning branch ks) (iteration_way gs hs) V ls
-        h
+        → Awaits w new (iteration_ends w i ks hs ls.items)
+    iteration_next few hs c ls r =
+        task_ended (setting_of s) (iteration_here hs) old mid new c begun_iteration
+        (few_iteration few hs) (turning branch ks) (iteration_way hs) V ls r
 
-    module _ (most : ℕ) (kk : IsList s.arity most (units_of old.entries) ks) (ls : Vec FracPoly)
-        (h : Ran (iteration_of branch ks) (IsListOf (turning branch ks)) mid new (done ls)) where
-      pub iteration_units : units_of old.entries ≤ units_of new.entries
+    module _ (ls : Vec FracPoly)
+        (r : Ran (iteration_of branch ks) (IsListOf (turning branch ks)) mid new (done ls)) where
+      pub iteration_units : Follow old new
       iteration_units =
-          let a = units_follow (setting_of s) (iteration k place i [] (terms_each ks) []) mid new
-          (turning branch ks) (iteration_way [] []) V ls h in
-          let c = units_begun old mid (journal.Iteration k n j) begun in
+          let a = units_follow (setting_of s) (iteration_here []) mid new
+          (turning branch ks) (iteration_way []) V ls r in
+          let c = units_begun old mid (iteration_at k i n) h.begun in
           omega (arith, a, c)
 
-      pub iteration_known : AreOver (length branch.images.items) ls.items
+      pub iteration_known : KnowsIterations w i old ks
+          → AreOver (length branch.images.items) ls.items
           → IsReducedList (length branch.images.items) (terms_each ls.items)
-          → IsList s.arity (most + s.arity) (units_of new.entries) ls.items
+          → KnowsIterations w (suc i) new ls.items
       unfolding starting block
-      iteration_known over reduced =
-          let bound = list_bound (setting_of s) (iteration k place i [] (terms_each ks) []) mid new
-          (turning branch ks) (iteration_way [] []) V ls h in
+      iteration_known kk over reduced =
+          let bound = list_bound (setting_of s) (iteration_here []) mid new
+          (turning branch ks) (iteration_way []) V ls r in
           let f = analysis.form_of (setting_of s) place in
           let few = iteration_few f s.arity (terms_each ks) (get_or (setting_of s).maps place [])
           (ap length map_at ∙ length-map branch.images.items terms_in ∙ vars_at) in
           let b = length-map ks terms_in in
-          let d = units_begun old mid (journal.Iteration k n j) begun in
+          let d = units_begun old mid (iteration_at k i n) h.begun in
           let e = kk.few in
-          known s.arity (most + s.arity) (units_of new.entries) ls.items
+          let more = turned_more s.arity i in
+          known s.arity (most_first s.arity s.given + s.arity * suc i) (units_of new.entries)
+          ls.items
           (inr (
             subst (λ m. AreOver m ls.items) vars_at over,
             subst (λ m. IsReducedList m (terms_each ls.items)) vars_at reduced,
           ))
-          (omega (arith, bound, few, b, d, e))
+          (omega (arith, bound, few, b, d, e, more))
 
-    pub iteration_long : (gs hs : List (Terms Fraction))
-        → Comes (setting_of s) old.entries (iteration_begins s k place i gs ks hs)
+    pub iteration_long : (hs : List (Terms Fraction)) → Awaits w old (iteration_begins w i ks hs)
         → most_terms < iteration_length (form_of branch.form) (length branch.images.items)
         (terms_each branch.images.items) (terms_each ks)
-        → Refuses (setting_of s) mid (Limit (task.Iteration k n j))
-    iteration_long gs hs c l =
-        task_long (setting_of s) (iteration k place i gs (terms_each ks) hs) old mid mid c
-        begun_iteration
-        (subst (λ x. most_terms < x) (iteration_size gs hs) l)
-        (task.Iteration k n j) (ap₂ (journal.Iteration k) named counted)
+        → Stops w mid (Limit (task.Iteration k n (i + 1)))
+    iteration_long hs c l =
+        task_long (setting_of s) (iteration_here hs) old mid mid c begun_iteration
+        (subst (λ x. most_terms < x) (iteration_size hs) l)
+        (task.Iteration k n (i + 1)) (ap₂ (journal.Iteration k) h.named (after_one i))
 
-    past_iteration : V → (gs hs : List (Terms Fraction))
-        → IsPastStarting (setting_of s) (iteration k place i gs (terms_each ks) hs)
-    past_iteration (inl p) gs hs =
+    past_iteration : V → (hs : List (Terms Fraction))
+        → IsPastStarting (setting_of s) (iteration_here hs)
+    past_iteration (inl p) hs =
         inl (subst (λ fs. IsPastIteration (analysis.form_of (setting_of s) place) s.arity fs
         (terms_each ks))
         (sym map_at)
@@ -531,19 +538,17 @@ module _ (s : Setting) (fits : FitsSetting s) (place : ℕ) (within : place < le
         (terms_each branch.images.items) (terms_each ks)) vars_at
         (subst (λ (f : form.Form). IsPastIteration f (length branch.images.items)
         (terms_each branch.images.items) (terms_each ks)) (sym form_at) p)))
-    past_iteration (inr p) gs hs =
+    past_iteration (inr p) hs =
         inr (subst (λ (W : Way fractions). IsPastStart fractions rationals W.gens)
-        (iteration_way gs hs)
-        p)
+        (iteration_way hs) p)
 
-    pub iteration_refused : IsShortIteration → (gs hs : List (Terms Fraction))
-        → Comes (setting_of s) old.entries (iteration_begins s k place i gs ks hs)
+    pub iteration_refused : IsShortIteration → (hs : List (Terms Fraction))
+        → Awaits w old (iteration_begins w i ks hs)
         → {R : Type 0} {G : R → elimination.State Fraction → Type 0} (e : engine.EngineError)
         → Ran (iteration_of branch ks) G mid new (stopped (refusal_of e))
-        → Refuses (setting_of s) new (in_task (task.Iteration k n j) e)
-    iteration_refused few gs hs c e r =
-        task_refused (setting_of s) (iteration k place i gs (terms_each ks) hs) old mid new c
-        begun_iteration (few_iteration few gs hs)
-        (turning branch ks) (iteration_way gs hs) V (λ p. past_iteration p gs hs)
-        (task.Iteration k n j)
-        (ap₂ (journal.Iteration k) named counted) e r
+        → Stops w new (in_task (task.Iteration k n (i + 1)) e)
+    iteration_refused few hs c e r =
+        task_refused (setting_of s) (iteration_here hs) old mid new c begun_iteration
+        (few_iteration few hs) (turning branch ks) (iteration_way hs) V
+        (λ p. past_iteration p hs) (task.Iteration k n (i + 1))
+        (ap₂ (journal.Iteration k) h.named (after_one i)) e r

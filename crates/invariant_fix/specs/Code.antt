@@ -8,7 +8,11 @@
 --   IsPastValueOf m b f v        the weight of composing f, or of the difference, is past;  IsPastValue b fs v: where f is that of v among the fs
 --   IsCodeList b fs gs hs        the hs are the list of the statements b, which leave the values fs, from the gs;  IsPastCode b fs gs: the weight of making one of them is past
 --   IsListOf m code hs s         the hs are the list of the elimination in the state s
-use Rattle.std.specs.Prelude.{◌≡◌, ◌⊎◌, ◌+◌, ℕ, Bool, cond, List, [], ◌++◌, map, get_or, length}
+-- Of the code w, as it is in work:
+--   IsCodeInWork w           its values are over its variables, of which there is one at least, and its copies are counted
+--   AreThereBefore w ps      the ps are what the variables were before it;  HasItsCopies w p: p is in the order with its copies first, over these and the variables
+--   variables_assigned w     the variables that it assigns;  value_put w v: the variable v less its value, of what was, in that order
+use Rattle.std.specs.Prelude.{◌≡◌, ◌⊎◌, ◌+◌, ◌<◌, ◌≤◌, ℕ, Bool, cond, List, [], ◌++◌, map, get_or, length}
 use Rattle.std.specs.List.{Any}
 use Rattle.std.specs.Global.{Vec}
 use Rattle.algebra.specs.Fraction.{Fraction, ℚ, fractions, rationals}
@@ -18,10 +22,12 @@ use Rattle.polynomials.specs.Terms.{Terms, compose, negate}
 use Rattle.machines.specs.Collect.{collect}
 use Rattle.machines.specs.Elimination as elimination
 use Rattle.poly.specs.Seen.{terms_each}
+use Rattle.monos.specs.Variables.{most_variables}
 use Rattle.loop_model.specs.FracPoly.{FracPoly}
 use Rattle.ideal_ops.specs.Calls.{AreOver}
 use Rattle.ideal_ops.specs.Eliminating.{HaveBlock}
 use Rattle.invariant_fix.specs.Blocked.{Blocked}
+use Rattle.invariant_fix.specs.declared.chain_code.CodeInWork.{CodeInWork}
 use Rattle.loop_model.specs.declared.statement.Statement as code
 use Rattle.loop_runs.specs.Parts.{statements_in}
 use Rattle.corollaries.specs.Between.{code_order, list_of}
@@ -81,3 +87,25 @@ module _ (b : List code.Statement) (fs : List FracPoly) where
 module _ {E : Type 0} (m : ℕ) (code : List (Statement E)) where
   abbrev pub IsListOf : Vec FracPoly → elimination.State Fraction → Type 0
   IsListOf hs s = terms_each hs.items ≡ list_of m code s
+
+module _ (w : CodeInWork) where
+  pub record IsCodeInWork : Type 0 where
+    pub some : 0 < length w.values.now
+    pub few : length w.values.now + length w.values.now ≤ most_variables
+    pub values : AreOver (length w.values.now) w.values.now
+    pub count : w.copies ≡ copies (length w.values.now) (statements_in w.code.now)
+    pub few_copies : w.copies ≤ length w.values.now
+
+  abbrev pub AreThereBefore : List FracPoly → Type 0
+  AreThereBefore ps = AreBefore (length w.values.now) w.code.now ps
+
+  abbrev pub HasItsCopies : Blocked → Type 0
+  HasItsCopies p =
+      (p.order.first ≡ copies (length w.values.now) (statements_in w.code.now))
+      × (p.arity ≡ all (length w.values.now) w.code.now)
+
+  abbrev pub value_put : ℕ → Terms Fraction
+  value_put v = put_value (length w.values.now) w.code.now v (get_or (terms_each w.values.now) v [])
+
+  abbrev pub variables_assigned : List ℕ
+  variables_assigned = assigned_variables (length w.values.now) (statements_in w.code.now)

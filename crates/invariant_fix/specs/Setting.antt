@@ -7,8 +7,8 @@
 --   FitsSetting s               the parts of s are over its variables, of which there are 1 to 12, and it has 1 to 6 branches
 --   IsMapIn program b images    they are the polynomials of the branch b, which counts from 1, as the analysis has them
 --   IsBranchOf program b c      c has the map and a closed form of the branch b, fits, and no class of its map is refused or too long
---   AreMapsTo program n maps, AreBranchesTo program n cs    that is so of the first n branches
---   AreMaps program maps, AreBranches program cs            of all
+--   AreMaps program maps        the maps are those of all branches
+--   AreBranchesTo program n cs  that is so of the first n branches;  AreBranches program cs: of all
 --   IsSettingOf program s       s has what the definitions make of the program
 --   HoldsOf s P                 P holds of each well-formed program of which s is the setting
 use Rattle.std.specs.Prelude.{◌≡◌, ◌≤◌, ◌<◌, ℕ, suc, ◌+◌, ◌^◌, false, List, All, length, map, get_or, Option, Some, None, option_map}
@@ -40,11 +40,7 @@ use Rattle.task_lists.specs.Starts.{AreStarts}
 use Rattle.loop_model.specs.Limits.{names_limit}
 
 abbrev pub form_of : Form → form.Form
-form_of f = record {
-  base = sizes f.base.items;
-  polys = bodies_of f.polys.items;
-  since = f.since;
-}
+form_of f = record { base = sizes f.base.items; polys = bodies_of f.polys.items; since = f.since }
 
 -- how many elements a list that is given may have
 abbrev pub most_given : ℕ
@@ -119,16 +115,14 @@ module _ (program : Program (Expr ℕ)) where
     pub pass : AllPass (map_of program b)
     pub short : IsShort (map_of program b)
 
-  pub record AreMapsTo (n : ℕ) (maps : List (Vec FracPoly)) : Type 0 where
-    pub count : length maps ≡ n
-    pub each : (b : ℕ) (d : Vec FracPoly) → b < n → IsMapIn (suc b) (get_or maps b d)
+  pub record AreMaps (maps : List (Vec FracPoly)) : Type 0 where
+    pub count : length maps ≡ length program.branches
+    pub each : (b : ℕ) (d : Vec FracPoly) → b < length program.branches
+        → IsMapIn (suc b) (get_or maps b d)
 
   pub record AreBranchesTo (n : ℕ) (cs : List Branch) : Type 0 where
     pub count : length cs ≡ n
     pub each : (b : ℕ) (d : Branch) → b < n → IsBranchOf (suc b) (get_or cs b d)
-
-  abbrev pub AreMaps : List (Vec FracPoly) → Type 0
-  AreMaps maps = AreMapsTo (length program.branches) maps
 
   abbrev pub AreBranches : List Branch → Type 0
   AreBranches cs = AreBranchesTo (length program.branches) cs

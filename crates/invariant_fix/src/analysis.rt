@@ -19,7 +19,7 @@ ghost use Rattle.invariant_fix.specs.Closing.{IsSquare};
 ghost use Rattle.invariant_fix.specs.Refusals.{AllHaveForms, analysis_error_of, HasFollowed, HasFollowedFrom, IfUnformed, IfUnformedLoop, IsRefused, IsRefusedFrom, IsStoppedFrom};
 ghost use Rattle.invariant_fix.specs.Setting.{FitsSetting, AreBranches, IsSettingOf, HoldsOf, most_given};
 
-use crate::branches::{Branch, branch_maps, branches};
+use crate::branches::{Branch, branches};
 use crate::round::rounds;
 use crate::setting::Setting;
 use crate::starts::start_basis;
@@ -235,7 +235,7 @@ fn all_branches(alloc: Global, lp: &Loop) -> Result<Vec<Branch>, AnalyseError>
         IfOk result (λ _. IsFree (length program.names) (branches_operations program)) }
     ensures refused { IfErr result (IfUnformed (program_of lp.now)) }
 {
-    match branch_maps(alloc, lp) {
+    match lp.branch_maps(alloc) {
         Ok(maps) => branches(alloc, maps),
         Err(error) => Err(not_formed(error)),
     }

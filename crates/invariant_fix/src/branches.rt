@@ -4,15 +4,11 @@ ghost use Rattle.poly.specs.Seen.{terms_each};
 ghost use Rattle.loops.specs.Program.{Expr, Program};
 ghost use Rattle.rounds.specs.Form.{inverse_form};
 ghost use Rattle.polynomials.specs.Order.{grevlex};
-ghost use Rattle.loop_model.specs.Operations.{IsFree};
-ghost use Rattle.loop_model.specs.Stops.{Stops};
 ghost use Rattle.closed_forms.specs.Lengths.{IsShort};
 ghost use Rattle.closed_forms.specs.Refusal.{AllPass, IfRefusedBy};
 ghost use Rattle.closed_forms.specs.View.{IsFormOf};
 ghost use Rattle.expo.specs.declared.exponential.Expo.{Expo};
 ghost use Rattle.expo.specs.View.{base_of};
-ghost use Rattle.loop_model.specs.Maps.{branches_operations};
-ghost use Rattle.loop_model.specs.View.{program_of};
 ghost use Rattle.solvable.specs.Refusal.{IsSolvable};
 ghost use Rattle.poly.specs.Seen.{terms_in};
 ghost use Rattle.invariant_fix.specs.Refusals.{refused_branch, IfRefusedBranch};
@@ -22,7 +18,6 @@ use crate::AnalyseError;
 use closed_forms::{Form, FormsError, forms};
 use expo::Expo;
 use frac128::Frac;
-use loop_model::{Loop, MapError};
 use monos::Grevlex;
 use poly::Poly;
 use std::alloc::{AllocError, Global};
@@ -36,24 +31,6 @@ pub struct Branch {
     pub form: Form,
     /// The values before any number of its iterations, as polynomials in those after them.
     pub back: Vec<Poly<Frac, Grevlex>>,
-}
-
-/// The maps of all branches, in order.
-pub(crate) fn branch_maps(
-    alloc: Global,
-    lp: &Loop,
-) -> Result<Vec<Vec<Poly<Frac, Grevlex>>>, MapError>
-    ensures maps { IfOk result (λ maps. AreMaps (program_of lp.now) maps.items) }
-    ensures free { let program = program_of lp.now in
-        IfOk result (λ _. IsFree (length program.names) (branches_operations program)) }
-    ensures stops { let program = program_of lp.now in
-        IfErr result (Stops (length program.names) (branches_operations program)) }
-{
-    let mut maps = Vec::new(alloc);
-    for index in 0..lp.branches().len() {
-        maps.push(lp.branch_map(alloc, index)?)?;
-    }
-    Ok(maps)
 }
 
 /// The branches with these maps, or the first one that is refused.

@@ -1,16 +1,12 @@
 //! The task of the code between two loops: from what is known before it comes what is known behind it.
 
-ghost use Rattle.std.specs.Prelude.{◌≡◌, ◌≤◌, ◌<◌, ◌+◌, ◌++◌, ◌⊎◌, [], map, length, get_or, IfOk, OnOk, IsErrOf};
+ghost use Rattle.std.specs.Prelude.{◌≡◌, ◌≤◌, ◌<◌, ◌+◌, ◌++◌, All, map, length, IfOk, OnOk, IsErrOf};
 ghost use Rattle.std.specs.List.{Any};
-ghost use Rattle.algebra.specs.Fraction.{ℚ, rationals, fractions};
-ghost use Rattle.polynomials.specs.Order.{grevlex, blocks};
-ghost use Rattle.polynomials.specs.Terms.{compose, negate};
-ghost use Rattle.polynomials.specs.Weight.{IsPastComposition, IsPastSum};
-ghost use Rattle.machines.specs.Collect.{collect};
+ghost use Rattle.algebra.specs.Fraction.{fractions};
+ghost use Rattle.polynomials.specs.Weight.{IsPastComposition};
 ghost use Rattle.machines.specs.Journal.{units_of};
 ghost use Rattle.machines.specs.Machine.{Ran};
 ghost use Rattle.divide.specs.Outcomes.{outcome_of};
-ghost use Rattle.monos.specs.Variables.{most_variables};
 ghost use Rattle.poly.specs.Seen.{terms_in, terms_each};
 ghost use Rattle.poly.specs.Standing.{AllStandFor};
 ghost use Rattle.ideal_ops.specs.Calls.{AreOver};
@@ -18,9 +14,9 @@ ghost use Rattle.loops.specs.Map.{branch_map};
 ghost use Rattle.loop_model.specs.View.{program_of};
 ghost use Rattle.loop_runs.specs.Parts.{code_in, statements_in};
 ghost use Rattle.corollaries.specs.Between.{between};
-ghost use Rattle.corollaries.specs.CodeBetween.{variable_of, assigned_variables, copies};
+ghost use Rattle.corollaries.specs.CodeBetween.{copies, was};
 ghost use Rattle.invariant_fix.specs.Limits.{elements_limit};
-ghost use Rattle.invariant_fix.specs.Code.{assigned_by, all, place_before, AreBefore, put_value, HaveCopies, IsPastValue, IsCodeList, IsPastCode, IsListOf};
+ghost use Rattle.invariant_fix.specs.Code.{assigned_by, all, place_before, in_code_order, put_value, IsPastValueOf, IsPastValue, IsCodeList, IsPastCode, IsListOf, IsCodeInWork, AreThereBefore, HasItsCopies, value_put, variables_assigned};
 
 use divide::EngineError;
 use frac128::Frac;
@@ -58,152 +54,139 @@ fn count_assigned(code: &[Statement], vars: usize) -> usize
     count
 }
 
-/// Where among the copies and the variables stands what the variable was before the code: at its copy, or at itself.
-fn place_before(code: &[Statement], vars: usize, first: usize, var: usize) -> usize
-    requires copies { first ≡ copies vars (statements_in code.now) }
-    requires few { first ≤ vars }
-    requires vars { vars + vars ≤ most_variables }
-    requires var { var < vars }
-    ensures place { result ≡ place_before vars code.now var }
-    ensures within { result < all vars code.now }
-{
-    if is_assigned(code, var) {
-        count_assigned(code, var)
-    } else {
-        first + var
-    }
+/// The code between two loops in work.
+#[derive(Clone, Copy)]
+struct CodeInWork<'a> {
+    code: &'a [Statement],
+    /// What it leaves in each variable.
+    values: &'a [Poly<Frac, Grevlex>],
+    /// How many variables it assigns: each of these has a copy.
+    copies: usize,
 }
 
-/// What the variables were before the code, as polynomials over the copies and the variables.
-fn before(
-    alloc: Global,
-    code: &[Statement],
-    vars: usize,
-    first: usize,
-) -> Result<Vec<Poly<Frac, Grevlex>>, AllocError>
-    requires copies { first ≡ copies vars (statements_in code.now) }
-    requires few { first ≤ vars }
-    requires vars { vars + vars ≤ most_variables }
-    ensures before { IfOk result (λ ps. AreBefore vars code.now ps.items) }
-{
-    let mut images = Vec::new(alloc);
-    for var in 0..vars {
-        let place = place_before(code, vars, first, var);
-        images.push(Poly::variable(alloc, Grevlex, first + vars, place)?)?;
-    }
-    Ok(images)
-}
-
-/// An element, of what the variables were before the code, in the order with the copies first.
-fn put(
-    alloc: Global,
-    first: usize,
-    before: &Vec<Poly<Frac, Grevlex>>,
-    element: &Poly<Frac, Grevlex>,
-) -> Result<Poly<Frac, Blocks>, ArithmeticError>
-    requires some { 0 < element.now.arity }
-    requires count { length before.now.items ≡ element.now.arity }
-    requires over { AreOver (first + element.now.arity) before.now.items }
-    ensures put { IfOk result (λ p. terms_in p ≡ collect rationals (blocks first grevlex grevlex)
-        (compose ℚ (first + element.now.arity) (terms_in element.now)
-        (terms_each before.now.items))) }
-    ensures block { IfOk result (λ p. (p.order.first ≡ first)
-        × (p.arity ≡ first + element.now.arity)) }
-    ensures wide { IsErrOf result ArithmeticError.Wide
-        → IsPastComposition fractions (terms_in element.now) (terms_each before.now.items) }
-{
-    let composed = element.compose(alloc, before)?;
-    Ok(composed.reorder(alloc, Blocks { first })?)
-}
-
-/// A variable less the code's value for it, of what the variables were before the code, in the order with the copies first.
-fn difference(
-    alloc: Global,
-    first: usize,
-    before: &Vec<Poly<Frac, Grevlex>>,
-    value: &Poly<Frac, Grevlex>,
-    var: usize,
-) -> Result<Poly<Frac, Blocks>, ArithmeticError>
-    requires some { 0 < value.now.arity }
-    requires few { first + value.now.arity ≤ most_variables }
-    requires var { var < value.now.arity }
-    requires count { length before.now.items ≡ value.now.arity }
-    requires over { AreOver (first + value.now.arity) before.now.items }
-    ensures difference { let n = first + value.now.arity in
-        IfOk result (λ p. terms_in p ≡ collect rationals (blocks first grevlex grevlex)
-        (variable_of n (first + var)
-        ++ negate ℚ (compose ℚ n (terms_in value.now) (terms_each before.now.items)))) }
-    ensures block { IfOk result (λ p. (p.order.first ≡ first)
-        × (p.arity ≡ first + value.now.arity)) }
-    ensures wide { let n = first + value.now.arity in
-        IsErrOf result ArithmeticError.Wide
-        → IsPastComposition fractions (terms_in value.now) (terms_each before.now.items)
-        ⊎ IsPastSum fractions (variable_of n (first + var))
-        (collect rationals grevlex (compose ℚ n (terms_in value.now)
-        (terms_each before.now.items))) }
-{
-    let composed = value.compose(alloc, before)?;
-    let now = Poly::variable(alloc, Grevlex, first + value.arity(), first + var)?;
-    let less = now.sub(alloc, &composed)?;
-    Ok(less.reorder(alloc, Blocks { first })?)
-}
-
-/// Puts the differences for the variables that the code assigns behind the others.
-fn push_differences(
-    alloc: Global,
-    gens: &mut Vec<Poly<Frac, Blocks>>,
-    code: &[Statement],
-    first: usize,
-    before: &Vec<Poly<Frac, Grevlex>>,
-    values: &[Poly<Frac, Grevlex>],
-) -> Result<(), ArithmeticError>
-    requires copies { first ≡ copies (length values.now) (statements_in code.now) }
-    requires few { first + length values.now ≤ most_variables }
-    requires before { AreBefore (length values.now) code.now before.now.items }
-    requires values { AreOver (length values.now) values.now }
-    requires block { HaveCopies (length values.now) code.now gens.old.items }
-    ensures list { let m = length values.now in
-        OnOk result (terms_each gens.new.items ≡ terms_each gens.old.items
-        ++ map (λ v. put_value m code.now v (get_or (terms_each values.now) v []))
-        (assigned_variables m (statements_in code.now))) }
-    ensures block { OnOk result (HaveCopies (length values.now) code.now gens.new.items) }
-    ensures wide { IsErrOf result ArithmeticError.Wide
-        → Any (IsPastValue code.now values.now)
-        (assigned_variables (length values.now) (statements_in code.now)) }
-{
-    for var in 0..values.len() {
-        if is_assigned(code, var) {
-            gens.push(difference(alloc, first, before, &values[var], var)?)?;
+impl CodeInWork<'_> {
+    /// Where among the copies and the variables stands what the variable was before the code: at its copy, or at itself.
+    fn place_before(&self, var: usize) -> usize
+        requires work { IsCodeInWork self.now }
+        requires var { var < length self.now.values.now }
+        ensures place { result ≡ place_before (length self.now.values.now) self.now.code.now var }
+        ensures within { result < all (length self.now.values.now) self.now.code.now }
+    {
+        if is_assigned(self.code, var) {
+            count_assigned(self.code, var)
+        } else {
+            self.copies + var
         }
     }
-    Ok(())
-}
 
-/// The list of the code, of a basis: its elements, and the differences.
-fn code_list(
-    alloc: Global,
-    code: &[Statement],
-    values: &[Poly<Frac, Grevlex>],
-    basis: &[Poly<Frac, Grevlex>],
-) -> Result<Vec<Poly<Frac, Blocks>>, ArithmeticError>
-    requires some { 0 < length values.now }
-    requires few { length values.now + length values.now ≤ most_variables }
-    requires values { AreOver (length values.now) values.now }
-    requires basis { AreOver (length values.now) basis.now }
-    ensures list { IfOk result (λ gens. IsCodeList code.now values.now basis.now gens.items) }
-    ensures block { IfOk result (λ gens.
-        HaveCopies (length values.now) code.now gens.items) }
-    ensures wide { IsErrOf result ArithmeticError.Wide → IsPastCode code.now values.now basis.now }
-{
-    let vars = values.len();
-    let first = count_assigned(code, vars);
-    let before = before(alloc, code, vars, first)?;
-    let mut gens = Vec::new(alloc);
-    for element in basis {
-        gens.push(put(alloc, first, &before, element)?)?;
+    /// What the variables were before the code, as polynomials over the copies and the variables.
+    fn before(&self, alloc: Global) -> Result<Vec<Poly<Frac, Grevlex>>, AllocError>
+        requires work { IsCodeInWork self.now }
+        ensures before { IfOk result (λ ps. AreThereBefore self.now ps.items) }
+    {
+        let mut images = Vec::new(alloc);
+        for var in 0..self.values.len() {
+            let place = self.place_before(var);
+            let all = self.copies + self.values.len();
+            images.push(Poly::variable(alloc, Grevlex, all, place)?)?;
+        }
+        Ok(images)
     }
-    push_differences(alloc, &mut gens, code, first, &before, values)?;
-    Ok(gens)
+
+    /// An element, of what the variables were before the code, in the order with the copies first.
+    fn put(
+        &self,
+        alloc: Global,
+        before: &Vec<Poly<Frac, Grevlex>>,
+        element: &Poly<Frac, Grevlex>,
+    ) -> Result<Poly<Frac, Blocks>, ArithmeticError>
+        requires work { IsCodeInWork self.now }
+        requires before { AreThereBefore self.now before.now.items }
+        requires element { element.now.arity ≡ length self.now.values.now }
+        ensures put { IfOk result (λ p. terms_in p
+            ≡ in_code_order (length self.now.values.now) self.now.code.now (terms_in element.now)) }
+        ensures block { IfOk result (HasItsCopies self.now) }
+        ensures wide { IsErrOf result ArithmeticError.Wide → IsPastComposition fractions
+            (terms_in element.now) (was (length self.now.values.now)
+            (statements_in self.now.code.now)) }
+    {
+        let composed = element.compose(alloc, before)?;
+        Ok(composed.reorder(alloc, Blocks { first: self.copies })?)
+    }
+
+    /// A variable less the code's value for it, of what the variables were before the code, in the order with the copies first.
+    fn difference(
+        &self,
+        alloc: Global,
+        before: &Vec<Poly<Frac, Grevlex>>,
+        value: &Poly<Frac, Grevlex>,
+        var: usize,
+    ) -> Result<Poly<Frac, Blocks>, ArithmeticError>
+        requires work { IsCodeInWork self.now }
+        requires before { AreThereBefore self.now before.now.items }
+        requires value { value.now.arity ≡ length self.now.values.now }
+        requires var { var < length self.now.values.now }
+        ensures difference { IfOk result (λ p. terms_in p
+            ≡ put_value (length self.now.values.now) self.now.code.now var (terms_in value.now)) }
+        ensures block { IfOk result (HasItsCopies self.now) }
+        ensures wide { IsErrOf result ArithmeticError.Wide → IsPastValueOf
+            (length self.now.values.now) self.now.code.now (terms_in value.now) var }
+    {
+        let composed = value.compose(alloc, before)?;
+        let all = self.copies + value.arity();
+        let now = Poly::variable(alloc, Grevlex, all, self.copies + var)?;
+        let less = now.sub(alloc, &composed)?;
+        Ok(less.reorder(alloc, Blocks { first: self.copies })?)
+    }
+
+    /// Puts the differences for the variables that the code assigns behind the others.
+    fn push_differences(
+        &self,
+        alloc: Global,
+        gens: &mut Vec<Poly<Frac, Blocks>>,
+        before: &Vec<Poly<Frac, Grevlex>>,
+    ) -> Result<(), ArithmeticError>
+        requires work { IsCodeInWork self.now }
+        requires before { AreThereBefore self.now before.now.items }
+        requires block { All (HasItsCopies self.now) gens.old.items }
+        ensures list { OnOk result (terms_each gens.new.items ≡ terms_each gens.old.items
+            ++ map (value_put self.now) (variables_assigned self.now)) }
+        ensures block { OnOk result (All (HasItsCopies self.now) gens.new.items) }
+        ensures wide { IsErrOf result ArithmeticError.Wide
+            → Any (IsPastValue self.now.code.now self.now.values.now)
+            (variables_assigned self.now) }
+    {
+        let values = self.values;
+        for var in 0..values.len() {
+            if is_assigned(self.code, var) {
+                gens.push(self.difference(alloc, before, &values[var], var)?)?;
+            }
+        }
+        Ok(())
+    }
+
+    /// The list of the code, of a basis: its elements, and the differences.
+    fn list(
+        &self,
+        alloc: Global,
+        basis: &[Poly<Frac, Grevlex>],
+    ) -> Result<Vec<Poly<Frac, Blocks>>, ArithmeticError>
+        requires work { IsCodeInWork self.now }
+        requires basis { AreOver (length self.now.values.now) basis.now }
+        ensures list { IfOk result (λ gens.
+            IsCodeList self.now.code.now self.now.values.now basis.now gens.items) }
+        ensures block { IfOk result (λ gens. All (HasItsCopies self.now) gens.items) }
+        ensures wide { IsErrOf result ArithmeticError.Wide
+            → IsPastCode self.now.code.now self.now.values.now basis.now }
+    {
+        let before = self.before(alloc)?;
+        let mut gens = Vec::new(alloc);
+        for element in basis {
+            gens.push(self.put(alloc, &before, element)?)?;
+        }
+        self.push_differences(alloc, &mut gens, &before)?;
+        Ok(gens)
+    }
 }
 
 /// What code makes of a basis: the reduced basis of the polynomials that, composed with the code, are in its ideal. The code is the branch of a loop that has one, and these are its values.
@@ -231,7 +214,13 @@ pub(crate) fn mapped(
         + units_of meter.new.entries) }
 {
     meter.within_limit();
-    let gens = code_list(alloc, &lp.branches()[0], values, basis)?;
+    let code = lp.branches()[0].as_slice();
+    let work = CodeInWork {
+        code,
+        values,
+        copies: count_assigned(code, values.len()),
+    };
+    let gens = work.list(alloc, basis)?;
     if gens.is_empty() {
         return Ok(Vec::new(alloc));
     }

@@ -8,10 +8,13 @@ ghost use Rattle.divide.specs.Division.{HasCofactors};
 ghost use Rattle.divide.specs.Outcomes.{outcome_of};
 ghost use Rattle.ideal_ops.specs.Calls.{AreOver};
 ghost use Rattle.invariant_fix.specs.Closing.{HasStep, HasBranchSteps, HasSteps, test_of};
+ghost use Rattle.invariant_fix.specs.InWork as here;
+ghost use Rattle.invariant_fix.specs.InWork.{IsInWork, testing, tested, opened};
 ghost use Rattle.invariant_fix.specs.Setting.{FitsSetting};
-ghost use Rattle.invariant_fix.specs.Steps.{Awaits, Knows, Stops, Follow, closing, testing, closed, turning};
+ghost use Rattle.invariant_fix.specs.Steps.{Awaits, Knows, Stops, Follow, closing, closed, turning};
 
 use crate::AnalyseError;
+use crate::branch_in_work::BranchInWork;
 use crate::branches::Branch;
 use crate::errors::{in_task, number_of_place};
 use crate::setting::Setting;
@@ -49,7 +52,13 @@ pub(crate) fn closing_steps(
 {
     let mut steps = Vec::new(alloc);
     for place in 0..setting.branches.len() {
-        let Some(cofactors) = branch_steps(alloc, setting, round, place, basis, meter)? else {
+        let branch = BranchInWork {
+            setting,
+            round,
+            place,
+            basis,
+        };
+        let Some(cofactors) = branch.branch_steps(alloc, meter)? else {
             return Ok(None);
         };
         steps.push(cofactors)?;
@@ -57,86 +66,78 @@ pub(crate) fn closing_steps(
     Ok(Some(steps))
 }
 
-/// The same for the branch at this place.
-fn branch_steps(
-    alloc: Global,
-    setting: &Setting,
-    round: u32,
-    place: usize,
-    basis: &[Poly<Frac, Grevlex>],
-    meter: &mut Meter,
-) -> Result<Option<Vec<Vec<Poly<Frac, Grevlex>>>>, AnalyseError>
-    requires fits { FitsSetting setting.now }
-    requires place { place < length setting.now.branches.items }
-    requires basis { Knows setting.now meter.old basis.now }
-    requires next { Awaits setting.now meter.old (closing setting.now round place 0 basis.now) }
-    ensures limit { meter.new.limit ≡ meter.old.limit }
-    ensures open_ { IfOk result (λ o. IsNone o
-        → Awaits setting.now meter.new (turning (suc round) basis.now)) }
-    ensures next { IfOk result (λ o. IsSome o → Awaits setting.now meter.new
-        (closing setting.now round place (length basis.now) basis.now)) }
-    ensures steps { IfOk result (λ o.
-        IfSome o (λ steps. HasBranchSteps setting.now place basis.now steps.items)) }
-    ensures over { IfOk result (λ o. IfSome o (λ rows.
-        All (λ row. AreOver setting.now.arity row.items) rows.items)) }
-    ensures list { IfOk result (λ _. Knows setting.now meter.new basis.now) }
-    ensures units { IfOk result (λ _. Follow meter.old meter.new) }
-    ensures err { IfErr result (Stops setting.now meter.new) }
-{
-    let mut steps = Vec::new(alloc);
-    for element in 0..basis.len() {
-        let Some(cofactors) = closing_step(alloc, setting, round, place, element, basis, meter)?
-        else {
-            return Ok(None);
-        };
-        steps.push(cofactors)?;
+impl BranchInWork<'_> {
+    /// The same for the branch.
+    fn branch_steps(
+        &self,
+        alloc: Global,
+        meter: &mut Meter,
+    ) -> Result<Option<Vec<Vec<Poly<Frac, Grevlex>>>>, AnalyseError>
+        requires at { IsInWork self.now meter.old }
+        requires next { here.Awaits self.now meter.old (tested self.now 0) }
+        ensures limit { meter.new.limit ≡ meter.old.limit }
+        ensures open_ { IfOk result (λ o.
+            IsNone o → here.Awaits self.now meter.new (opened self.now)) }
+        ensures next { IfOk result (λ o. IsSome o
+            → here.Awaits self.now meter.new (tested self.now (length self.now.basis.now))) }
+        ensures steps { IfOk result (λ o. IfSome o (λ steps.
+            HasBranchSteps self.now.setting.now self.now.place self.now.basis.now steps.items)) }
+        ensures over { IfOk result (λ o. IfSome o (λ rows.
+            All (λ row. AreOver self.now.setting.now.arity row.items) rows.items)) }
+        ensures list { IfOk result (λ _. here.Knows self.now meter.new self.now.basis.now) }
+        ensures units { IfOk result (λ _. Follow meter.old meter.new) }
+        ensures err { IfErr result (here.Stops self.now meter.new) }
+    {
+        let mut steps = Vec::new(alloc);
+        for element in 0..self.basis.len() {
+            let Some(cofactors) = self.closing_step(alloc, element, meter)? else {
+                return Ok(None);
+            };
+            steps.push(cofactors)?;
+        }
+        Ok(Some(steps))
     }
-    Ok(Some(steps))
-}
 
-/// The cofactors of the closing division of one element with one branch. None where its rest isn't 0.
-fn closing_step(
-    alloc: Global,
-    setting: &Setting,
-    round: u32,
-    place: usize,
-    element: usize,
-    basis: &[Poly<Frac, Grevlex>],
-    meter: &mut Meter,
-) -> Result<Option<Vec<Poly<Frac, Grevlex>>>, AnalyseError>
-    requires fits { FitsSetting setting.now }
-    requires place { place < length setting.now.branches.items }
-    requires element { element < length basis.now }
-    requires basis { Knows setting.now meter.old basis.now }
-    requires next { Awaits setting.now meter.old
-        (testing setting.now round place element basis.now) }
-    ensures limit { meter.new.limit ≡ meter.old.limit }
-    ensures open_ { IfOk result (λ o. IsNone o
-        → Awaits setting.now meter.new (turning (suc round) basis.now)) }
-    ensures next { IfOk result (λ o. IsSome o → Awaits setting.now meter.new
-        (closing setting.now round place (suc element) basis.now)) }
-    ensures step { IfOk result (λ o.
-        IfSome o (λ qs. HasStep setting.now place element basis.now qs.items)) }
-    ensures over { IfOk result (λ o. IfSome o (λ qs. AreOver setting.now.arity qs.items)) }
-    ensures list { IfOk result (λ _. Knows setting.now meter.new basis.now) }
-    ensures units { IfOk result (λ _. Follow meter.old meter.new) }
-    ensures err { IfErr result (Stops setting.now meter.new) }
-{
-    meter.within_limit();
-    let task = Task::Closed {
-        round,
-        branch: number_of_place(place),
-        element: number_of_place(element),
-    };
-    meter.begin(task)?;
-    let branch = &setting.branches[place];
-    let tested = &basis[element];
-    if composition_length(tested, branch.images.as_slice()).is_none() {
-        return Err(AnalyseError::Limit { task });
-    }
-    match closing_division(alloc, branch, tested, basis, meter) {
-        Ok(division) => Ok(cofactors_of(division)),
-        Err(error) => Err(in_task(task, error)),
+    /// The cofactors of the closing division of one element with the branch. None where its rest isn't 0.
+    fn closing_step(
+        &self,
+        alloc: Global,
+        element: usize,
+        meter: &mut Meter,
+    ) -> Result<Option<Vec<Poly<Frac, Grevlex>>>, AnalyseError>
+        requires at { IsInWork self.now meter.old }
+        requires element { element < length self.now.basis.now }
+        requires next { here.Awaits self.now meter.old (testing self.now element) }
+        ensures limit { meter.new.limit ≡ meter.old.limit }
+        ensures open_ { IfOk result (λ o.
+            IsNone o → here.Awaits self.now meter.new (opened self.now)) }
+        ensures next { IfOk result (λ o.
+            IsSome o → here.Awaits self.now meter.new (tested self.now (suc element))) }
+        ensures step { IfOk result (λ o. IfSome o (λ qs.
+            HasStep self.now.setting.now self.now.place element self.now.basis.now qs.items)) }
+        ensures over { IfOk result (λ o.
+            IfSome o (λ qs. AreOver self.now.setting.now.arity qs.items)) }
+        ensures list { IfOk result (λ _. here.Knows self.now meter.new self.now.basis.now) }
+        ensures units { IfOk result (λ _. Follow meter.old meter.new) }
+        ensures err { IfErr result (here.Stops self.now meter.new) }
+    {
+        meter.within_limit();
+        let task = Task::Closed {
+            round: self.round,
+            branch: number_of_place(self.place),
+            element: number_of_place(element),
+        };
+        meter.begin(task)?;
+        let basis = self.basis;
+        let branch = &self.setting.branches[self.place];
+        let tested = &basis[element];
+        if composition_length(tested, branch.images.as_slice()).is_none() {
+            return Err(AnalyseError::Limit { task });
+        }
+        match closing_division(alloc, branch, tested, basis, meter) {
+            Ok(division) => Ok(cofactors_of(division)),
+            Err(error) => Err(in_task(task, error)),
+        }
     }
 }
 

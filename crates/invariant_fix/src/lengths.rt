@@ -1,5 +1,5 @@
 //! How long what a task begins with is: how many terms it multiplies out to, where products that are equal but for their order count once.
-ghost use Rattle.std.specs.Prelude.{◌≡◌, cond, drop};
+ghost use Rattle.std.specs.Prelude.{◌≡◌, ◌<◌, cond, drop};
 ghost use Rattle.frac128.specs.FracMeaning.{fraction_of};
 ghost use Rattle.poly.specs.Seen.{terms_in, terms_each};
 ghost use Rattle.poly.specs.View.{terms_of};
@@ -28,15 +28,15 @@ fn terms_before(passes: bool, back: &Poly<Frac, Grevlex>) -> u64
     if count == 0 { 1 } else { count as u64 }
 }
 
-/// How many terms a power of what a variable was multiplies out to. Nothing where these are more than 2^20.
-fn power_before(passes: bool, back: &Poly<Frac, Grevlex>, exponent: u16) -> Option<u64>
-    ensures { IsCount (power_length (cond passes 1 (factor_terms (terms_in back.now))) exponent)
-        result }
+/// How many terms a power of a sum of so many multiplies out to. Nothing where these are more than 2^20.
+fn power_of(terms: u64, exponent: u16) -> Option<u64>
+    requires { 0 < terms }
+    ensures { IsCount (power_length terms exponent) result }
 {
     if exponent == 0 {
         return Some(1);
     }
-    let Some(terms) = sum(0, terms_before(passes, back)) else {
+    let Some(terms) = sum(0, terms) else {
         return None;
     };
     products(terms, exponent)
@@ -57,7 +57,7 @@ fn product_before(exponents: &[u16], passing: &[bool], back: &[Poly<Frac, Grevle
     let Some(rest) = product_before(exponents, passing, back) else {
         return None;
     };
-    let Some(power) = power_before(*passes, first, *exponent) else {
+    let Some(power) = power_of(terms_before(*passes, first), *exponent) else {
         return None;
     };
     product(power, rest)

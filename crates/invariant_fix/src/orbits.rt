@@ -9,14 +9,15 @@ ghost use Rattle.divide.specs.Outcomes.{outcome_of};
 ghost use Rattle.ideal_ops.specs.Calls.{IsListOf, AreOver};
 ghost use Rattle.ideal_ops.specs.Eliminating.{HaveBlock};
 ghost use Rattle.invariant_fix.specs.Orbits.{vars_of, pulling_back, orbit_of, orbit_front_of, orbit_list_of, IsPastPullingBack};
-ghost use Rattle.invariant_fix.specs.Setting.{FitsSetting, FitsBranch, most_starting_elements};
-ghost use Rattle.invariant_fix.specs.Steps.{Awaits, Knows, KnowsIterations, Stops, Follow, HasWhole, orbiting, orbited};
+ghost use Rattle.invariant_fix.specs.InWork.{IsInWork, Awaits, Knows, KnowsIterations, Stops, orbiting, orbited};
+ghost use Rattle.invariant_fix.specs.Setting.{FitsBranch, most_starting_elements};
+ghost use Rattle.invariant_fix.specs.Steps.{Follow, HasWhole};
 
 use crate::AnalyseError;
+use crate::branch_in_work::BranchInWork;
 use crate::branches::Branch;
 use crate::errors::{in_task, number_of_place};
 use crate::lengths::orbit_length;
-use crate::setting::Setting;
 use divide::EngineError;
 use frac128::Frac;
 use ideal_ops::eliminate;
@@ -27,43 +28,39 @@ use ring_laws::ArithmeticError;
 use std::alloc::Global;
 use task_lists::{LateForm, orbit_list};
 
-/// The orbit of a list along the branch at this place, in this round.
-pub(crate) fn orbit(
-    alloc: Global,
-    setting: &Setting,
-    round: u32,
-    place: usize,
-    basis: &[Poly<Frac, Grevlex>],
-    meter: &mut Meter,
-) -> Result<Vec<Poly<Frac, Grevlex>>, AnalyseError>
-    requires fits { FitsSetting setting.now }
-    requires place { place < length setting.now.branches.items }
-    requires basis { Knows setting.now meter.old basis.now }
-    ensures limit { meter.new.limit ≡ meter.old.limit }
-    ensures next { (hs : List (Terms Fraction))
-        → Awaits setting.now meter.old (orbiting setting.now round place basis.now hs)
-        → IfOk result (λ ls.
-        Awaits setting.now meter.new (orbited setting.now round place basis.now hs ls.items)) }
-    ensures list { IfOk result (λ ls. KnowsIterations setting.now 1 meter.new ls.items) }
-    ensures whole { HasWhole setting.now place
-        → IfOk result (λ ls. Knows setting.now meter.new ls.items) }
-    ensures units { IfOk result (λ _. Follow meter.old meter.new) }
-    ensures err { (hs : List (Terms Fraction))
-        → Awaits setting.now meter.old (orbiting setting.now round place basis.now hs)
-        → IfErr result (Stops setting.now meter.new) }
-{
-    let task = Task::Orbit {
-        round,
-        branch: number_of_place(place),
-    };
-    meter.begin(task)?;
-    let branch = &setting.branches[place];
-    if orbit_length(branch, basis).is_none() {
-        return Err(AnalyseError::Limit { task });
-    }
-    match eliminated_orbit(alloc, branch, basis, meter) {
-        Ok(orbit) => Ok(orbit),
-        Err(error) => Err(in_task(task, error)),
+impl BranchInWork<'_> {
+    /// The orbit of the round's list along the branch.
+    pub(crate) fn orbit(
+        &self,
+        alloc: Global,
+        meter: &mut Meter,
+    ) -> Result<Vec<Poly<Frac, Grevlex>>, AnalyseError>
+        requires at { IsInWork self.now meter.old }
+        ensures limit { meter.new.limit ≡ meter.old.limit }
+        ensures next { (hs : List (Terms Fraction))
+            → Awaits self.now meter.old (orbiting self.now hs)
+            → IfOk result (λ ls. Awaits self.now meter.new (orbited self.now hs ls.items)) }
+        ensures list { IfOk result (λ ls. KnowsIterations self.now 1 meter.new ls.items) }
+        ensures whole { HasWhole self.now.setting.now self.now.place
+            → IfOk result (λ ls. Knows self.now meter.new ls.items) }
+        ensures units { IfOk result (λ _. Follow meter.old meter.new) }
+        ensures err { (hs : List (Terms Fraction))
+            → Awaits self.now meter.old (orbiting self.now hs)
+            → IfErr result (Stops self.now meter.new) }
+    {
+        let task = Task::Orbit {
+            round: self.round,
+            branch: number_of_place(self.place),
+        };
+        meter.begin(task)?;
+        let branch = &self.setting.branches[self.place];
+        if orbit_length(branch, self.basis).is_none() {
+            return Err(AnalyseError::Limit { task });
+        }
+        match eliminated_orbit(alloc, branch, self.basis, meter) {
+            Ok(orbit) => Ok(orbit),
+            Err(error) => Err(in_task(task, error)),
+        }
     }
 }
 
@@ -84,43 +81,46 @@ fn eliminated_orbit(
     ensures reduced { IfOk result (λ hs.
         IsReducedList (vars_of branch.now) (terms_each hs.items)) }
 {
-    let gens = starting_list(alloc, branch, basis)?;
+    let gens = branch.starting_list(alloc, basis)?;
     eliminate(alloc, &gens, meter)
 }
 
-/// The list that an orbit begins with.
-fn starting_list(
-    alloc: Global,
-    branch: &Branch,
-    basis: &[Poly<Frac, Grevlex>],
-) -> Result<Vec<Poly<Frac, Blocks>>, ArithmeticError>
-    requires branch { FitsBranch (vars_of branch.now) branch.now }
-    requires some { 0 < vars_of branch.now }
-    requires basis { AreOver (vars_of branch.now) basis.now }
-    ensures list { IfOk result (λ gens.
-        terms_each gens.items ≡ orbit_list_of branch.now basis.now) }
-    ensures block { let n = orbit_front_of branch.now in
-        IfOk result (λ gens. HaveBlock n (n + vars_of branch.now) gens.items) }
-    ensures wide { IsErrOf result ArithmeticError.Wide → IsPastPullingBack branch.now basis.now }
-{
-    if branch.form.since == 0 {
-        let vars = branch.images.len();
-        return orbit_list(alloc, &branch.form.base, &branch.back, vars, basis);
+impl Branch {
+    /// The list that an orbit begins with.
+    fn starting_list(
+        &self,
+        alloc: Global,
+        basis: &[Poly<Frac, Grevlex>],
+    ) -> Result<Vec<Poly<Frac, Blocks>>, ArithmeticError>
+        requires branch { FitsBranch (vars_of self.now) self.now }
+        requires some { 0 < vars_of self.now }
+        requires basis { AreOver (vars_of self.now) basis.now }
+        ensures list { IfOk result (λ gens.
+            terms_each gens.items ≡ orbit_list_of self.now basis.now) }
+        ensures block { let n = orbit_front_of self.now in
+            IfOk result (λ gens. HaveBlock n (n + vars_of self.now) gens.items) }
+        ensures wide { IsErrOf result ArithmeticError.Wide
+            → IsPastPullingBack self.now basis.now }
+    {
+        if self.form.since == 0 {
+            let vars = self.images.len();
+            return orbit_list(alloc, &self.form.base, &self.back, vars, basis);
+        }
+        self.late_form().orbit_list(alloc, basis)
     }
-    late_form(branch).orbit_list(alloc, basis)
-}
 
-/// What the lists of a branch are made of whose form isn't the state from the start on.
-pub(crate) fn late_form(branch: &Branch) -> LateForm<'_>
-    ensures base { result.base.now ≡ branch.now.form.base }
-    ensures polys { result.polys.now ≡ branch.now.form.polys }
-    ensures back { result.back.now ≡ branch.now.back }
-    ensures passing { result.passing.now ≡ branch.now.form.passing }
-{
-    LateForm {
-        base: &branch.form.base,
-        polys: &branch.form.polys,
-        back: &branch.back,
-        passing: &branch.form.passing,
+    /// What the lists of the branch are made of where its form isn't the state from the start on.
+    pub(crate) fn late_form(&self) -> LateForm<'_>
+        ensures base { result.base.now ≡ self.now.form.base }
+        ensures polys { result.polys.now ≡ self.now.form.polys }
+        ensures back { result.back.now ≡ self.now.back }
+        ensures passing { result.passing.now ≡ self.now.form.passing }
+    {
+        LateForm {
+            base: &self.form.base,
+            polys: &self.form.polys,
+            back: &self.back,
+            passing: &self.form.passing,
+        }
     }
 }

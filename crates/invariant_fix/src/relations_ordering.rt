@@ -20,40 +20,92 @@ use poly::Poly;
 use ring_laws::ArithmeticError;
 use std::alloc::{AllocError, Global};
 
-/// Adds the positions below a number that aren't shown.
-fn push_hidden(places: &mut Vec<usize>, vars: usize, shown: &[usize]) -> Result<(), AllocError>
-    ensures { OnOk result (places.new.items ≡ places.old.items ++ hidden vars shown.now) }
-{
-    for place in 0..vars {
-        if !shown.contains(&place) {
-            places.push(place)?;
-        }
-    }
-    Ok(())
+/// Which variables are shown, of a loop with so many: those at these positions.
+#[derive(Clone, Copy)]
+pub(crate) struct ShownVariables<'a> {
+    pub(crate) vars: usize,
+    pub(crate) shown: &'a [usize],
 }
 
-/// Adds the positions below a number that are shown.
-fn push_visible(places: &mut Vec<usize>, vars: usize, shown: &[usize]) -> Result<(), AllocError>
-    ensures { OnOk result (places.new.items ≡ places.old.items ++ visible vars shown.now) }
-{
-    for place in 0..vars {
-        if shown.contains(&place) {
-            places.push(place)?;
+impl ShownVariables<'_> {
+    /// Adds the positions that aren't shown.
+    fn push_hidden(&self, places: &mut Vec<usize>) -> Result<(), AllocError>
+        ensures { OnOk result (places.new.items
+            ≡ places.old.items ++ hidden self.now.vars self.now.shown.now) }
+    {
+        for place in 0..self.vars {
+            if !self.shown.contains(&place) {
+                places.push(place)?;
+            }
         }
+        Ok(())
     }
-    Ok(())
-}
 
-/// The positions below a number that aren't shown, and then those that are; and how many aren't.
-fn order(alloc: Global, vars: usize, shown: &[usize]) -> Result<(Vec<usize>, usize), AllocError>
-    ensures order { IfOk result (λ r. r.0.items ≡ order vars shown.now) }
-    ensures hidden { IfOk result (λ r. r.1 ≡ length (hidden vars shown.now)) }
-{
-    let mut places = Vec::new(alloc);
-    push_hidden(&mut places, vars, shown)?;
-    let hidden = places.len();
-    push_visible(&mut places, vars, shown)?;
-    Ok((places, hidden))
+    /// Adds those that are.
+    fn push_visible(&self, places: &mut Vec<usize>) -> Result<(), AllocError>
+        ensures { OnOk result (places.new.items
+            ≡ places.old.items ++ visible self.now.vars self.now.shown.now) }
+    {
+        for place in 0..self.vars {
+            if self.shown.contains(&place) {
+                places.push(place)?;
+            }
+        }
+        Ok(())
+    }
+
+    /// The positions that aren't shown, and then those that are; and how many aren't.
+    fn order(&self, alloc: Global) -> Result<(Vec<usize>, usize), AllocError>
+        ensures order { IfOk result (λ r. r.0.items ≡ order self.now.vars self.now.shown.now) }
+        ensures hidden { IfOk result (λ r. r.1 ≡ length (hidden self.now.vars self.now.shown.now)) }
+    {
+        let mut places = Vec::new(alloc);
+        self.push_hidden(&mut places)?;
+        let hidden = places.len();
+        self.push_visible(&mut places)?;
+        Ok((places, hidden))
+    }
+
+    /// For each variable the variable at its place in the order.
+    fn images(
+        &self,
+        alloc: Global,
+        places: &[usize],
+    ) -> Result<Vec<Poly<Frac, Grevlex>>, AllocError>
+        requires few { self.now.vars ≤ most_variables }
+        requires order { places.now ≡ order self.now.vars self.now.shown.now }
+        ensures images { IfOk result (λ ps. AreImages self.now.vars self.now.shown.now ps.items) }
+    {
+        let mut images = Vec::new(alloc);
+        for var in 0..self.vars {
+            images.push(image(alloc, places, var)?)?;
+        }
+        Ok(images)
+    }
+
+    /// The elements with their variables in the order.
+    pub(crate) fn ordered(
+        &self,
+        alloc: Global,
+        basis: &[Poly<Frac, Grevlex>],
+    ) -> Result<Vec<Poly<Frac, Blocks>>, ArithmeticError>
+        requires some { 0 < self.now.vars }
+        requires few { self.now.vars ≤ most_variables }
+        requires basis { AreOver self.now.vars basis.now }
+        ensures starting { IfOk result (λ hs.
+            IsStarting self.now.vars self.now.shown.now basis.now hs.items) }
+        ensures block { IfOk result (λ hs. HaveHidden self.now.vars self.now.shown.now hs.items) }
+        ensures wide { IsErrOf result ArithmeticError.Wide
+            → IsPastOrdering self.now.vars self.now.shown.now (terms_each basis.now) }
+    {
+        let (places, hidden) = self.order(alloc)?;
+        let images = self.images(alloc, &places)?;
+        let mut gens = Vec::new(alloc);
+        for element in basis {
+            gens.push(moved(alloc, hidden, &images, element)?)?;
+        }
+        Ok(gens)
+    }
 }
 
 /// Where the position stands first; behind all where it doesn't.
@@ -81,24 +133,6 @@ fn image(alloc: Global, places: &[usize], var: usize) -> Result<Poly<Frac, Grevl
     Poly::variable(alloc, Grevlex, places.len(), place_in(places, var))
 }
 
-/// For each of so many variables the variable at its place in the order.
-fn images(
-    alloc: Global,
-    vars: usize,
-    places: &[usize],
-    shown: &[usize],
-) -> Result<Vec<Poly<Frac, Grevlex>>, AllocError>
-    requires few { vars ≤ most_variables }
-    requires order { places.now ≡ order vars shown.now }
-    ensures images { IfOk result (λ ps. AreImages vars shown.now ps.items) }
-{
-    let mut images = Vec::new(alloc);
-    for var in 0..vars {
-        images.push(image(alloc, places, var)?)?;
-    }
-    Ok(images)
-}
-
 /// A polynomial with images in place of its variables, in the order with so many of these in its first block.
 fn moved(
     alloc: Global,
@@ -119,28 +153,4 @@ fn moved(
 {
     let composed = element.compose(alloc, images)?;
     Ok(composed.reorder(alloc, Blocks { first })?)
-}
-
-/// The elements with their variables in the order.
-pub(crate) fn ordered(
-    alloc: Global,
-    vars: usize,
-    shown: &[usize],
-    basis: &[Poly<Frac, Grevlex>],
-) -> Result<Vec<Poly<Frac, Blocks>>, ArithmeticError>
-    requires some { 0 < vars }
-    requires few { vars ≤ most_variables }
-    requires basis { AreOver vars basis.now }
-    ensures starting { IfOk result (λ hs. IsStarting vars shown.now basis.now hs.items) }
-    ensures block { IfOk result (λ hs. HaveHidden vars shown.now hs.items) }
-    ensures wide { IsErrOf result ArithmeticError.Wide
-        → IsPastOrdering vars shown.now (terms_each basis.now) }
-{
-    let (places, hidden) = order(alloc, vars, shown)?;
-    let images = images(alloc, vars, &places, shown)?;
-    let mut gens = Vec::new(alloc);
-    for element in basis {
-        gens.push(moved(alloc, hidden, &images, element)?)?;
-    }
-    Ok(gens)
 }

@@ -1,18 +1,17 @@
 //! The rounds of an analysis.
-ghost use Rattle.std.specs.Prelude.{All, ◌<◌, ◌≡◌, List, length, IfOk, IfErr};
-ghost use Rattle.algebra.specs.Fraction.{Fraction};
-ghost use Rattle.polynomials.specs.Terms.{Terms};
+ghost use Rattle.std.specs.Prelude.{All, ◌<◌, ◌≡◌, IfOk, IfErr};
 ghost use Rattle.machines.specs.Journal.{units_of};
+ghost use Rattle.poly.specs.Seen.{terms_each};
 ghost use Rattle.ideal_ops.specs.Calls.{AreOver};
 ghost use Rattle.invariant_fix.specs.Closing.{HasSteps};
-ghost use Rattle.poly.specs.Seen.{terms_each};
+ghost use Rattle.invariant_fix.specs.InWork as here;
+ghost use Rattle.invariant_fix.specs.InWork.{IsInWork, branching, branched, orbiting, meeting, met};
 ghost use Rattle.invariant_fix.specs.Setting.{FitsSetting, most_iterations};
-ghost use Rattle.invariant_fix.specs.Steps.{Awaits, Knows, KnowsIterations, Stops, Follow, HasMeet, started, closing, closed, turning, branching, branched, orbiting, meeting, met};
+ghost use Rattle.invariant_fix.specs.Steps.{Awaits, Knows, Stops, Follow, HasMeet, started, closing, closed, turning};
 
+use crate::branch_in_work::BranchInWork;
 use crate::closing::closing_steps;
 use crate::errors::{in_task, number_of_place};
-use crate::iteration_tasks::iterations;
-use crate::orbits::orbit;
 use crate::setting::Setting;
 use crate::{AnalyseError, Analysis};
 use frac128::Frac;
@@ -76,131 +75,122 @@ fn next_basis(
     ensures err { IfErr result (Stops setting.now meter.new) }
 {
     meter.begin(Task::Round { round })?;
-    let mut so_far = first_list(alloc, setting, round, basis, meter)?;
+    let first = BranchInWork {
+        setting,
+        round,
+        place: 0,
+        basis,
+    };
+    let mut so_far = first.first_list(alloc, meter)?;
     for place in 1..setting.branches.len() {
-        so_far = list_behind(alloc, setting, round, place, basis, &so_far, meter)?;
+        let branch = BranchInWork {
+            setting,
+            round,
+            place,
+            basis,
+        };
+        so_far = branch.list_behind(alloc, &so_far, meter)?;
     }
     Ok(so_far)
 }
 
-/// The list so far behind the first branch: its orbit, where its form is the state from the start on.
-fn first_list(
-    alloc: Global,
-    setting: &Setting,
-    round: u32,
-    basis: &[Poly<Frac, Grevlex>],
-    meter: &mut Meter,
-) -> Result<Vec<Poly<Frac, Grevlex>>, AnalyseError>
-    requires fits { FitsSetting setting.now }
-    requires basis { Knows setting.now meter.old basis.now }
-    requires next { Awaits setting.now meter.old
-        (branching setting.now round 0 basis.now (terms_each basis.now)) }
-    ensures limit { meter.new.limit ≡ meter.old.limit }
-    ensures next { IfOk result (λ hs. Awaits setting.now meter.new
-        (branched setting.now round 0 basis.now (terms_each hs.items))) }
-    ensures list { IfOk result (λ hs. Knows setting.now meter.new hs.items) }
-    ensures units { IfOk result (λ _. Follow meter.old meter.new) }
-    ensures err { IfErr result (Stops setting.now meter.new) }
-{
-    if setting.branches[0].form.since == 0 {
-        return orbit(alloc, setting, round, 0, basis, meter);
+impl BranchInWork<'_> {
+    /// The list so far behind the first branch: its orbit, where its form is the state from the start on.
+    fn first_list(
+        &self,
+        alloc: Global,
+        meter: &mut Meter,
+    ) -> Result<Vec<Poly<Frac, Grevlex>>, AnalyseError>
+        requires at { IsInWork self.now meter.old }
+        requires first { self.now.place ≡ 0 }
+        requires next { here.Awaits self.now meter.old (branching self.now self.now.basis.now) }
+        ensures limit { meter.new.limit ≡ meter.old.limit }
+        ensures next { IfOk result (λ ls.
+            here.Awaits self.now meter.new (branched self.now ls.items)) }
+        ensures list { IfOk result (λ ls. here.Knows self.now meter.new ls.items) }
+        ensures units { IfOk result (λ _. Follow meter.old meter.new) }
+        ensures err { IfErr result (here.Stops self.now meter.new) }
+    {
+        if self.setting.branches[self.place].form.since == 0 {
+            return self.orbit(alloc, meter);
+        }
+        self.list_behind(alloc, self.basis, meter)
     }
-    list_behind(alloc, setting, round, 0, basis, basis, meter)
-}
 
-/// The list so far behind the branch at this place: its meet with what is a member of the round's after each number of iterations.
-fn list_behind(
-    alloc: Global,
-    setting: &Setting,
-    round: u32,
-    place: usize,
-    basis: &[Poly<Frac, Grevlex>],
-    so_far: &[Poly<Frac, Grevlex>],
-    meter: &mut Meter,
-) -> Result<Vec<Poly<Frac, Grevlex>>, AnalyseError>
-    requires fits { FitsSetting setting.now }
-    requires place { place < length setting.now.branches.items }
-    requires meets { HasMeet setting.now place }
-    requires basis { Knows setting.now meter.old basis.now }
-    requires so_far { Knows setting.now meter.old so_far.now }
-    requires next { Awaits setting.now meter.old
-        (branching setting.now round place basis.now (terms_each so_far.now)) }
-    ensures limit { meter.new.limit ≡ meter.old.limit }
-    ensures next { IfOk result (λ ls. Awaits setting.now meter.new
-        (branched setting.now round place basis.now (terms_each ls.items))) }
-    ensures list { IfOk result (λ ls. Knows setting.now meter.new ls.items) }
-    ensures units { IfOk result (λ _. Follow meter.old meter.new) }
-    ensures err { IfErr result (Stops setting.now meter.new) }
-{
-    if setting.branches[place].form.since < 2 {
-        return meet_orbit(alloc, setting, round, place, basis, so_far, meter);
+    /// The list so far behind the branch: its meet with what is a member of the round's after each number of iterations.
+    fn list_behind(
+        &self,
+        alloc: Global,
+        so_far: &[Poly<Frac, Grevlex>],
+        meter: &mut Meter,
+    ) -> Result<Vec<Poly<Frac, Grevlex>>, AnalyseError>
+        requires at { IsInWork self.now meter.old }
+        requires meets { HasMeet self.now.setting.now self.now.place }
+        requires so_far { here.Knows self.now meter.old so_far.now }
+        requires next { here.Awaits self.now meter.old (branching self.now so_far.now) }
+        ensures limit { meter.new.limit ≡ meter.old.limit }
+        ensures next { IfOk result (λ ls.
+            here.Awaits self.now meter.new (branched self.now ls.items)) }
+        ensures list { IfOk result (λ ls. here.Knows self.now meter.new ls.items) }
+        ensures units { IfOk result (λ _. Follow meter.old meter.new) }
+        ensures err { IfErr result (here.Stops self.now meter.new) }
+    {
+        if self.setting.branches[self.place].form.since < 2 {
+            return self.meet_orbit(alloc, so_far, meter);
+        }
+        let turned = self.iterations(alloc, so_far, meter)?;
+        self.meet_orbit(alloc, &turned, meter)
     }
-    let turned = iterations(alloc, setting, round, place, basis, so_far, meter)?;
-    meet_orbit(alloc, setting, round, place, basis, &turned, meter)
-}
 
-/// The meet of the list so far with the orbit along the branch at this place.
-fn meet_orbit(
-    alloc: Global,
-    setting: &Setting,
-    round: u32,
-    place: usize,
-    basis: &[Poly<Frac, Grevlex>],
-    so_far: &[Poly<Frac, Grevlex>],
-    meter: &mut Meter,
-) -> Result<Vec<Poly<Frac, Grevlex>>, AnalyseError>
-    requires fits { FitsSetting setting.now }
-    requires place { place < length setting.now.branches.items }
-    requires meets { HasMeet setting.now place }
-    requires basis { Knows setting.now meter.old basis.now }
-    requires so_far { Knows setting.now meter.old so_far.now }
-    requires next { Awaits setting.now meter.old
-        (orbiting setting.now round place basis.now (terms_each so_far.now)) }
-    ensures limit { meter.new.limit ≡ meter.old.limit }
-    ensures next { IfOk result (λ ls. Awaits setting.now meter.new
-        (branched setting.now round place basis.now (terms_each ls.items))) }
-    ensures list { IfOk result (λ ls. Knows setting.now meter.new ls.items) }
-    ensures units { IfOk result (λ _. Follow meter.old meter.new) }
-    ensures err { IfErr result (Stops setting.now meter.new) }
-{
-    let next = orbit(alloc, setting, round, place, basis, meter)?;
-    meet_with_orbit(alloc, setting, round, place, so_far, &next, meter)
-}
+    /// The meet of the list so far with the orbit along the branch.
+    fn meet_orbit(
+        &self,
+        alloc: Global,
+        so_far: &[Poly<Frac, Grevlex>],
+        meter: &mut Meter,
+    ) -> Result<Vec<Poly<Frac, Grevlex>>, AnalyseError>
+        requires at { IsInWork self.now meter.old }
+        requires meets { HasMeet self.now.setting.now self.now.place }
+        requires so_far { here.Knows self.now meter.old so_far.now }
+        requires next { here.Awaits self.now meter.old (orbiting self.now (terms_each so_far.now)) }
+        ensures limit { meter.new.limit ≡ meter.old.limit }
+        ensures next { IfOk result (λ ls.
+            here.Awaits self.now meter.new (branched self.now ls.items)) }
+        ensures list { IfOk result (λ ls. here.Knows self.now meter.new ls.items) }
+        ensures units { IfOk result (λ _. Follow meter.old meter.new) }
+        ensures err { IfErr result (here.Stops self.now meter.new) }
+    {
+        let next = self.orbit(alloc, meter)?;
+        self.meet_with_orbit(alloc, so_far, &next, meter)
+    }
 
-/// The meet of the list so far with the orbit along the branch at this place.
-fn meet_with_orbit(
-    alloc: Global,
-    setting: &Setting,
-    round: u32,
-    place: usize,
-    so_far: &[Poly<Frac, Grevlex>],
-    next: &[Poly<Frac, Grevlex>],
-    meter: &mut Meter,
-) -> Result<Vec<Poly<Frac, Grevlex>>, AnalyseError>
-    requires fits { FitsSetting setting.now }
-    requires place { place < length setting.now.branches.items }
-    requires so_far { Knows setting.now meter.old so_far.now }
-    requires next { KnowsIterations setting.now most_iterations meter.old next.now }
-    ensures limit { meter.new.limit ≡ meter.old.limit }
-    ensures met { (gs : List (Terms Fraction))
-        → Awaits setting.now meter.old
-        (meeting setting.now round place gs so_far.now next.now)
-        → IfOk result (λ ls. Awaits setting.now meter.new
-        (met setting.now round place gs so_far.now next.now ls.items)) }
-    ensures list { IfOk result (λ ls. Knows setting.now meter.new ls.items) }
-    ensures units { IfOk result (λ _. Follow meter.old meter.new) }
-    ensures err { (gs : List (Terms Fraction))
-        → Awaits setting.now meter.old
-        (meeting setting.now round place gs so_far.now next.now)
-        → IfErr result (Stops setting.now meter.new) }
-{
-    let task = Task::Meet {
-        round,
-        branch: number_of_place(place),
-    };
-    meter.begin(task)?;
-    match meet(alloc, so_far, next, meter) {
-        Ok(met) => Ok(met),
-        Err(error) => Err(in_task(task, error)),
+    /// The meet of the list so far with the orbit along the branch.
+    fn meet_with_orbit(
+        &self,
+        alloc: Global,
+        so_far: &[Poly<Frac, Grevlex>],
+        next: &[Poly<Frac, Grevlex>],
+        meter: &mut Meter,
+    ) -> Result<Vec<Poly<Frac, Grevlex>>, AnalyseError>
+        requires at { IsInWork self.now meter.old }
+        requires so_far { here.Knows self.now meter.old so_far.now }
+        requires next { here.KnowsIterations self.now most_iterations meter.old next.now }
+        requires due { here.Awaits self.now meter.old (meeting self.now so_far.now next.now) }
+        ensures limit { meter.new.limit ≡ meter.old.limit }
+        ensures met { IfOk result (λ ls.
+            here.Awaits self.now meter.new (met self.now so_far.now next.now ls.items)) }
+        ensures list { IfOk result (λ ls. here.Knows self.now meter.new ls.items) }
+        ensures units { IfOk result (λ _. Follow meter.old meter.new) }
+        ensures err { IfErr result (here.Stops self.now meter.new) }
+    {
+        let task = Task::Meet {
+            round: self.round,
+            branch: number_of_place(self.place),
+        };
+        meter.begin(task)?;
+        match meet(alloc, so_far, next, meter) {
+            Ok(met) => Ok(met),
+            Err(error) => Err(in_task(task, error)),
+        }
     }
 }

@@ -19,7 +19,7 @@ ghost use Rattle.corollaries.specs.Journal.{elimination_from, IsEnded, HasFollow
 ghost use Rattle.invariant_fix.specs.Ordering.{IsListOf};
 ghost use Rattle.invariant_fix.specs.RelationsRefusals.{IsRefused};
 
-use crate::relations_ordering::ordered;
+use crate::relations_ordering::ShownVariables;
 use crate::{AnalyseError, RelationsError, analyse};
 use divide::EngineError;
 use frac128::Frac;
@@ -71,7 +71,13 @@ pub fn relations(
     if analysis.basis.is_empty() {
         return Ok(Vec::new(alloc));
     }
-    match eliminated(alloc, lp.names().len(), shown, &analysis.basis, meter) {
+    let vars = lp.names().len();
+    match eliminated(
+        alloc,
+        ShownVariables { vars, shown },
+        &analysis.basis,
+        meter,
+    ) {
         Ok(basis) => Ok(basis),
         Err(EngineError::Wide) => Err(RelationsError::Wide),
         Err(EngineError::Budget) => Err(RelationsError::Budget),
@@ -82,21 +88,22 @@ pub fn relations(
 /// Eliminates the variables that aren't shown from a basis.
 fn eliminated(
     alloc: Global,
-    vars: usize,
-    shown: &[usize],
+    shown: ShownVariables<'_>,
     basis: &[Poly<Frac, Grevlex>],
     meter: &mut Meter,
 ) -> Result<Vec<Poly<Frac, Grevlex>>, EngineError>
-    requires some { 0 < vars }
-    requires few { vars ≤ most_variables }
-    requires basis { AreOver vars basis.now }
+    requires some { 0 < shown.vars }
+    requires few { shown.vars ≤ most_variables }
+    requires basis { AreOver shown.vars basis.now }
     requires elements { basis.now ≢ [] }
     requires limit { length basis.now ≤ generators_limit }
-    ensures ran { Ran (elimination_from vars shown.now (terms_each basis.now))
-        (IsListOf vars shown.now) meter.old meter.new (outcome_of result) }
-    ensures arity { IfOk result (λ gs. AreOver (length (visible vars shown.now)) gs.items) }
+    ensures ran { let m = shown.entry.vars in let is = shown.entry.shown.now in
+        Ran (elimination_from m is (terms_each basis.now)) (IsListOf m is)
+        meter.old meter.new (outcome_of result) }
+    ensures arity { IfOk result (λ gs.
+        AreOver (length (visible shown.entry.vars shown.entry.shown.now)) gs.items) }
 {
     meter.within_limit();
-    let gens = ordered(alloc, vars, shown, basis)?;
+    let gens = shown.ordered(alloc, basis)?;
     eliminate(alloc, &gens, meter)
 }

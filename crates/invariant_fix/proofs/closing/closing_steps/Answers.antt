@@ -12,6 +12,14 @@ use Rattle.algebra.proofs.Lists.{have_more}
 use Rattle.invariant_fix.proofs.Passing.{rounds_more, next_more}
 use Rattle.invariant_fix.proofs.closing.closing_steps.Goals as goal
 
+pub branch_steps-requires-clause-at : goal.branch_steps-requires-clause-at
+branch_steps-requires-clause-at c = record {
+  fits = c.requires.fits;
+  place = (let x = c.loop-place-test.true in let y = c.len-place-end.ensures in
+      let z = c.args.setting.now.branches.ok.0 in omega (arith, x, y, z));
+  basis = c.loop-place.invariant.known;
+}
+
 pub loop-place-preserved : goal.loop-place-preserved
 loop-place-preserved c =
     let s = setting_of c.args.setting.now in

@@ -14,7 +14,7 @@ use Rattle.invariant_fix.specs.Orbits.{vars_of, turning, iteration_of, iteration
 use Rattle.invariant_fix.specs.Setting.{form_of}
 use Rattle.invariant_fix.proofs.LateForms.{vars_are, iteration_front_is, iteration_list_is, iteration_past_is}
 use Rattle.invariant_fix.proofs.Started.{ran_started}
-use Rattle.invariant_fix.proofs.Eliminating.{AreStarting, gens_count, some_gens, block_first, block_arity, way_is, over_of, reduced_of, iteration_length}
+use Rattle.invariant_fix.proofs.Eliminating.{AreStarting, gens_count, some_gens, block_first, block_arity, way_is, over_of, reduced_of, iteration_list_length}
 use Rattle.invariant_fix.proofs.iteration_tasks.eliminated_iteration.Goals.{After-deref-2}
 use Rattle.invariant_fix.proofs.iteration_tasks.eliminated_iteration.Goals as goal
 
@@ -53,7 +53,7 @@ long : (c : After-deref-2) → length (iteration_list_of c.args.branch.now c.arg
     ≡ length (terms_each c.args.before.now) + vars_of c.args.branch.now
 long c =
     let b = c.args.branch.now in
-    iteration_length (form_of b.form) (vars_of b) (terms_each c.args.before.now)
+    iteration_list_length (form_of b.form) (vars_of b) (terms_each c.args.before.now)
     (terms_each b.images.items) (length-map b.images.items _)
 
 some : (c : After-deref-2) → 0 < length (iteration_list_of c.args.branch.now c.args.before.now)

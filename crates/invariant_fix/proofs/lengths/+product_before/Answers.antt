@@ -1,10 +1,12 @@
-use Rattle.std.proofs.Common.{inl, inr, ap, ◌∙◌}
+use Rattle.std.proofs.Common.{◌<◌, inl, inr, sym, ap, subst, ◌∙◌}
 use Rattle.std.proofs.lemmas.List.{length-map}
 use Rattle.poly.specs.Seen.{terms_in, terms_each}
+use Rattle.expansion.specs.Counts.{most_terms}
+use Rattle.expansion.specs.Lengths.{power_length}
 use Rattle.expansion.proofs.Counting.{of_first, none_above, some_is}
 use Rattle.expansion.proofs.LengthLaws.{lengths_none}
 use Rattle.invariant_fix.specs.Long.{lengths_told}
-use Rattle.invariant_fix.proofs.LongLaws.{told_none, told_more, told_past}
+use Rattle.invariant_fix.proofs.LongLaws.{some_terms, told_none, told_more, told_past}
 use Rattle.invariant_fix.proofs.lengths.+product_before.Goals as goal
 
 pub returns-in_default : goal.returns-in_default
@@ -33,28 +35,34 @@ returns-in_default-product_before t c =
     (inl (none_above _ c.product_before.result c.product_before.ensures
     c.in_default-product_before.not-Some))
 
-pub returns-in_default-power_before : goal.returns-in_default-power_before
-returns-in_default-power_before t c =
+pub power_of-requires : goal.power_of-requires
+power_of-requires t c = subst (λ n. 0 < n) (sym c.terms_before.ensures)
+    (some_terms c.in-Some-Some-Some.passes.now (terms_in c.in-Some-Some-Some.first.now))
+
+pub returns-in_default-power_of : goal.returns-in_default-power_of
+returns-in_default-power_of t c =
     told_past c.in-Some-Some-Some.passes.now c.in-Some-Some-Some.passing.now c.args.passing.now
     (terms_in c.in-Some-Some-Some.first.now) (terms_each c.in-Some-Some-Some.back.now)
     (terms_each c.args.back.now) c.in-Some-Some-Some.exponent.now
     c.in-Some-Some-Some.exponents.now c.args.exponents.now
     c.in-Some-Some-Some.ensures'.cases.0 (ap terms_each c.in-Some-Some-Some.ensures''.cases.0)
     c.in-Some-Some-Some.ensures.cases.0
-    (inr (none_above _ c.power_before.result c.power_before.ensures
-    c.in_default-power_before.not-Some))
+    (inr (subst (λ n. most_terms < power_length n c.in-Some-Some-Some.exponent.now)
+    c.terms_before.ensures (none_above _ c.power_of.result c.power_of.ensures
+    c.in_default-power_of.not-Some)))
 
 pub returns : goal.returns
 returns t c =
     let rest = some_is _ c.in-Some.rest c.product_before.result c.product_before.ensures
     c.in-Some.is in
-    let power = some_is _ c.in-Some-power_before.power c.power_before.result
-    c.power_before.ensures c.in-Some-power_before.is in
+    let power = some_is _ c.in-Some-power_of.power c.power_of.result c.power_of.ensures
+    c.in-Some-power_of.is in
+    let powers = ap (λ n. power_length n c.in-Some-Some-Some.exponent.now) c.terms_before.ensures in
     told_more c.in-Some-Some-Some.passes.now c.in-Some-Some-Some.passing.now c.args.passing.now
     (terms_in c.in-Some-Some-Some.first.now) (terms_each c.in-Some-Some-Some.back.now)
     (terms_each c.args.back.now) c.in-Some-Some-Some.exponent.now
     c.in-Some-Some-Some.exponents.now c.args.exponents.now
     c.in-Some-Some-Some.ensures'.cases.0 (ap terms_each c.in-Some-Some-Some.ensures''.cases.0)
     c.in-Some-Some-Some.ensures.cases.0
-    c.in-Some.rest c.in-Some-power_before.power c.product.result rest.0 power.0
+    c.in-Some.rest c.in-Some-power_of.power c.product.result rest.0 (power.0 ∙ powers)
     c.product.ensures

@@ -10,7 +10,7 @@ use Rattle.ideal_ops.specs.Eliminating.{HaveBlock}
 use Rattle.invariant_fix.specs.Orbits.{vars_of, pulling_back, orbit_of, orbit_front_of, orbit_list_of}
 use Rattle.invariant_fix.specs.Setting.{form_of}
 use Rattle.invariant_fix.proofs.Started.{ran_started}
-use Rattle.invariant_fix.proofs.Eliminating.{AreStarting, gens_count, block_first, block_arity, way_is, over_of, reduced_of, orbit_length}
+use Rattle.invariant_fix.proofs.Eliminating.{AreStarting, gens_count, block_first, block_arity, way_is, over_of, reduced_of, orbit_list_few}
 use Rattle.invariant_fix.proofs.orbits.eliminated_orbit.Goals.{After-deref}
 use Rattle.invariant_fix.proofs.orbits.eliminated_orbit.Goals as goal
 
@@ -39,7 +39,7 @@ Length c =
 long : (c : After-deref) → Length c
 long c =
     let b = c.args.branch.now in
-    orbit_length (form_of b.form) (vars_of b) (terms_each c.args.basis.now)
+    orbit_list_few (form_of b.form) (vars_of b) (terms_each c.args.basis.now)
     (length-map b.form.polys.items _ ∙ c.requires.branch.form_count)
 
 pub eliminate-requires-clause-block : goal.eliminate-requires-clause-block

@@ -6,11 +6,16 @@ use Rattle.invariant_fix.proofs.Lists.{known_later}
 use Rattle.invariant_fix.proofs.Branching.{round_begun, round_unit, come_at, branch_at, closing_at}
 use Rattle.invariant_fix.proofs.round.next_basis.Goals as goal
 
-pub first_list-requires-clause-basis : goal.first_list-requires-clause-basis
-first_list-requires-clause-basis c =
+pub first_list-requires-clause-at : goal.first_list-requires-clause-at
+first_list-requires-clause-at c =
     let u = round_unit c.args.setting.now c.args.round c.args.basis.now c.args.meter.now
     c.begin.new.self c.in_ok-begin.ensures.ok in
-    known_later c.args.setting.now.arity _ _ _ c.args.basis.now c.requires.basis (omega (arith, u))
+    record {
+      fits = c.requires.fits;
+      place = c.requires.fits.some_branch;
+      basis = known_later c.args.setting.now.arity _ _ _ c.args.basis.now c.requires.basis
+          (omega (arith, u));
+    }
 
 pub first_list-requires-clause-next : goal.first_list-requires-clause-next
 first_list-requires-clause-next c = round_begun c.args.setting.now c.args.round c.args.basis.now
@@ -33,6 +38,14 @@ loop-place-init c =
           (omega arith) c.in_ok-so_far.ensures.next;
       units = omega (arith, u, v);
     }
+
+pub list_behind-requires-clause-at : goal.list_behind-requires-clause-at
+list_behind-requires-clause-at c = record {
+  fits = c.requires.fits;
+  place = (let x = c.loop-place-test.true in let y = c.len-place-end.ensures in
+      let z = c.args.setting.now.branches.ok.0 in omega (arith, x, y, z));
+  basis = c.loop-place.invariant.known;
+}
 
 pub list_behind-requires-clause-meets : goal.list_behind-requires-clause-meets
 list_behind-requires-clause-meets c = let i = c.loop-place.invariant.from in inl (omega (arith, i))

@@ -11,14 +11,14 @@ use Rattle.invariant_fix.proofs.shown_relations.eliminated.Goals as goal
 
 pub returns-in_err-gens-clause-ran : goal.returns-in_err-gens-clause-ran
 returns-in_err-gens-clause-ran c =
-    unmade (elimination_from c.args.vars c.args.shown.now (terms_each c.args.basis.now))
+    unmade (elimination_from c.args.shown.vars c.args.shown.shown.now (terms_each c.args.basis.now))
     c.from_residual.result _ c.from_residual.ensures.1 (λ w. inl (c.in_err-gens.ensures.wide w))
 
 put : (c : After-deref)
-    → AreOrdered c.args.vars c.args.shown.now c.args.basis.now c.deref.result.now
+    → AreOrdered c.args.shown.vars c.args.shown.shown.now c.args.basis.now c.deref.result.now
 put c = record {
   list = ap terms_each c.deref.ensures.value ∙ c.in_ok-gens.ensures.starting;
-  block = subst (HaveHidden c.args.vars c.args.shown.now)
+  block = subst (HaveHidden c.args.shown.vars c.args.shown.shown.now)
       (sym c.deref.ensures.value) c.in_ok-gens.ensures.block;
   some = c.requires.elements;
 }

@@ -69,11 +69,11 @@ ended_so c =
     let program = program_of c.args.lp.now in
     let gs = c.in-Ok.analysis.basis.items in
     let hs = c.in-Ok-eliminated.basis in
-    let vars : c.len.result ≡ length program.names = c.len.ensures.len
+    let vars : c.len-vars.result ≡ length program.names = c.len-vars.ensures.len
     ∙ ap length c.names.ensures.names in
     ended_by program c.args.shown.now c.analyse.new.meter c.eliminated.new.meter
     c.in-Ok.analysis.rounds gs c.in-Ok.ensures.closed.finished hs
-    (moved_so c.args.shown.now c.analyse.new.meter c.eliminated.new.meter c.len.result
+    (moved_so c.args.shown.now c.analyse.new.meter c.eliminated.new.meter c.len-vars.result
     (length program.names) c.deref.result.now gs (done hs) vars c.deref.ensures.value
     c.in-Ok-eliminated.ensures.ran)
 
@@ -90,11 +90,11 @@ returns-in-Ok-eliminated-clause-follows c =
     let program = program_of c.args.lp.now in
     let gs = c.in-Ok.analysis.basis.items in
     let hs = c.in-Ok-eliminated.basis in
-    let vars : c.len.result ≡ length program.names = c.len.ensures.len
+    let vars : c.len-vars.result ≡ length program.names = c.len-vars.ensures.len
     ∙ ap length c.names.ensures.names in
     worked_by program c.args.shown.now c.analyse.new.meter c.eliminated.new.meter
     c.in-Ok.analysis.rounds gs c.in-Ok.ensures.closed.finished (done hs)
-    (moved_so c.args.shown.now c.analyse.new.meter c.eliminated.new.meter c.len.result
+    (moved_so c.args.shown.now c.analyse.new.meter c.eliminated.new.meter c.len-vars.result
     (length program.names) c.deref.result.now gs (done hs) vars c.deref.ensures.value
     c.in-Ok-eliminated.ensures.ran)
 
@@ -102,11 +102,11 @@ pub returns-in-Err-Wide-clause-follows : goal.returns-in-Err-Wide-clause-follows
 returns-in-Err-Wide-clause-follows c =
     let program = program_of c.args.lp.now in
     let gs = c.in-Ok.analysis.basis.items in
-    let vars : c.len.result ≡ length program.names = c.len.ensures.len
+    let vars : c.len-vars.result ≡ length program.names = c.len-vars.ensures.len
     ∙ ap length c.names.ensures.names in
     worked_by program c.args.shown.now c.analyse.new.meter c.eliminated.new.meter
     c.in-Ok.analysis.rounds gs c.in-Ok.ensures.closed.finished (stopped too_wide)
-    (stopped_so c.args.shown.now c.analyse.new.meter c.eliminated.new.meter c.len.result
+    (stopped_so c.args.shown.now c.analyse.new.meter c.eliminated.new.meter c.len-vars.result
     (length program.names) c.deref.result.now gs c.in-Err-Wide.field-0 Wide vars
     c.deref.ensures.value c.in-Err-Wide.field-0-is c.in-Err-Wide.ensures.ran)
 
@@ -114,13 +114,13 @@ pub returns-in-Err-Wide-clause-refused : goal.returns-in-Err-Wide-clause-refused
 returns-in-Err-Wide-clause-refused c =
     let program = program_of c.args.lp.now in
     let gs = c.in-Ok.analysis.basis.items in
-    let vars : c.len.result ≡ length program.names = c.len.ensures.len
+    let vars : c.len-vars.result ≡ length program.names = c.len-vars.ensures.len
     ∙ ap length c.names.ensures.names in (
       c.in-Ok.ensures.free,
       c.in-Ok.ensures.forms,
       wide_by program c.args.shown.now c.analyse.new.meter c.eliminated.new.meter
           c.in-Ok.analysis.rounds gs c.in-Ok.ensures.closed.finished
-          (stopped_so c.args.shown.now c.analyse.new.meter c.eliminated.new.meter c.len.result
+          (stopped_so c.args.shown.now c.analyse.new.meter c.eliminated.new.meter c.len-vars.result
           (length program.names) c.deref.result.now gs c.in-Err-Wide.field-0 Wide vars
           c.deref.ensures.value c.in-Err-Wide.field-0-is c.in-Err-Wide.ensures.ran),
     )
@@ -130,11 +130,11 @@ pub returns-in-Err-Budget-eliminated-clause-follows :
 returns-in-Err-Budget-eliminated-clause-follows c =
     let program = program_of c.args.lp.now in
     let gs = c.in-Ok.analysis.basis.items in
-    let vars : c.len.result ≡ length program.names = c.len.ensures.len
+    let vars : c.len-vars.result ≡ length program.names = c.len-vars.ensures.len
     ∙ ap length c.names.ensures.names in
     worked_by program c.args.shown.now c.analyse.new.meter c.eliminated.new.meter
     c.in-Ok.analysis.rounds gs c.in-Ok.ensures.closed.finished (stopped out_of_units)
-    (stopped_so c.args.shown.now c.analyse.new.meter c.eliminated.new.meter c.len.result
+    (stopped_so c.args.shown.now c.analyse.new.meter c.eliminated.new.meter c.len-vars.result
     (length program.names) c.deref.result.now gs c.in-Err-Budget-eliminated.field-0 Budget vars
     c.deref.ensures.value c.in-Err-Budget-eliminated.field-0-is
     c.in-Err-Budget-eliminated.ensures.ran)
@@ -144,13 +144,13 @@ pub returns-in-Err-Budget-eliminated-clause-refused :
 returns-in-Err-Budget-eliminated-clause-refused c =
     let program = program_of c.args.lp.now in
     let gs = c.in-Ok.analysis.basis.items in
-    let vars : c.len.result ≡ length program.names = c.len.ensures.len
+    let vars : c.len-vars.result ≡ length program.names = c.len-vars.ensures.len
     ∙ ap length c.names.ensures.names in (
       c.in-Ok.ensures.free,
       c.in-Ok.ensures.forms,
       exhausted_by program c.args.shown.now c.analyse.new.meter c.eliminated.new.meter
           c.in-Ok.analysis.rounds gs c.in-Ok.ensures.closed.finished
-          (stopped_so c.args.shown.now c.analyse.new.meter c.eliminated.new.meter c.len.result
+          (stopped_so c.args.shown.now c.analyse.new.meter c.eliminated.new.meter c.len-vars.result
           (length program.names) c.deref.result.now gs c.in-Err-Budget-eliminated.field-0 Budget
           vars
           c.deref.ensures.value c.in-Err-Budget-eliminated.field-0-is
