@@ -5,11 +5,11 @@
 --   branch_pushed                 the variables and orders of branches, and one more
 --   zip_forms                     so of all, where the forms of the branches are given
 --   fronts_count, place_inside, none_left       a setting has a form for each branch
---   knows_later                   what is known of a list stays
+--   knows_later, in_work_later    what is known of a list, or of a round, stays
 --   passed_error, lost            a refusal that is passed on; what is so where memory is wanting
 --   round_due, round_over, known_over     the next round, and behind it
 --   first_done, branch_done, known_row    behind the first branch, and behind another
---   branch_due, borrowed          where lists are borrowed
+--   branch_due                    where a list is borrowed
 --   rounds_begun, known_begun     before the first round
 --   fronts_are                    how many variables are eliminated, by the forms
 use Rattle.std.proofs.Common.{◌≡◌, ℕ, zero, suc, ◌+◌, ◌<◌, ◌≤◌, List, [], ◌∷◌, ◌++◌, map, take, length, get_or, Result, Ok, Err, IfErr, refl, sym, ap, ap₂, subst, ◌∙◌, arith}
@@ -23,7 +23,7 @@ use Rattle.polynomials.specs.Terms.{Terms}
 use Rattle.machines.specs.Journal.{Entry, Journal, units_of}
 use Rattle.rounds.specs.Analysis as analysis
 use Rattle.rounds.specs.Form.{front}
-use Rattle.corollaries.specs.Full.{WrittenForm, as_form, BranchStages}
+use Rattle.corollaries.specs.Full.{WrittenForm, as_form}
 use Rattle.coprime_base.specs.Sizes.{sizes}
 use Rattle.poly.specs.Seen.{terms_each}
 use Rattle.loop_model.specs.FracPoly.{FracPoly}
@@ -38,8 +38,10 @@ use Rattle.task_lists.specs.declared.parts.FullForm.{FullForm}
 use Rattle.std.specs.Prelude.{vec_len}
 use Rattle.invariant_fix.specs.declared.branches.Branch.{Branch}
 use Rattle.invariant_fix.specs.declared.errors.AnalyseError.{AnalyseError}
+use Rattle.invariant_fix.specs.Steps.{Follow}
 use Rattle.invariant_fix.specs.declared.setting.Setting.{Setting}
-use Rattle.full_trace.specs.Tasks.{written_of, IsSettingIn, Knows, given_in, after_row, after_rows, fronts_of, IsBranchOver, AreBranchesOver}
+use Rattle.full_trace.specs.declared.round_in_work.RoundInWork.{RoundInWork}
+use Rattle.full_trace.specs.Tasks.{written_of, IsSettingIn, Knows, IsInWork, given_in, after_row, after_rows, fronts_of, IsBranchOver, AreBranchesOver}
 use Rattle.full_trace.proofs.FormsMade.{base_size}
 
 -- ---- the list behind branches
@@ -142,6 +144,13 @@ knows_later s before after gs l k = record {
   few = (let f = k.few in omega (arith, f, l));
 }
 
+pub in_work_later : {w : RoundInWork} {before after : Journal} → IsInWork w before
+    → Follow before after → IsInWork w after
+in_work_later {w} {before} {after} h l = record {
+  fits = h.fits;
+  basis = knows_later w.setting.now before after w.basis.now.items l h.basis;
+}
+
 -- ---- refusals
 pub passed_error : {X : Type 0} (P : AnalyseError → Type 0) (r : Result X AnalyseError)
     (e : AnalyseError) → IsErrAnd r (λ y. y ≡ e) → P e → IfErr r P
@@ -233,21 +242,14 @@ pub known_row : (s : Setting) (j : Journal) (basis : Vec FracPoly) (bs : List Fu
 known_row s j basis bs b news e h = subst (λ (v : Vec FracPoly). Knows s j v.items)
     (sym (ap (after_row basis) e ∙ row_pushed basis bs b)) h
 
--- ---- where lists are borrowed
-module _ (A : analysis.Setting) (R : ℕ) (d : Results) (k p : ℕ) (basis : Vec FracPoly)
-    (es : List Entry) (ps : List FracPoly) (ps_is : ps ≡ basis.items) where
-  pub branch_due : (bs : List FullBranch) (qs : List FracPoly) → qs ≡ (after_row basis bs).items
-      → Branches A R d k basis es bs p → ComesBehind A R d es k p (terms_each ps)
-      (map branch_in bs) (terms_each qs)
-  branch_due bs qs qs_is c =
-      subst (λ us. ComesBehind A R d es k p (terms_each us) (map branch_in bs) (terms_each qs))
-      (sym ps_is) (subst (λ us. ComesBehind A R d es k p (terms_each basis.items)
-      (map branch_in bs) (terms_each us)) (sym qs_is) c)
-
-  pub borrowed : (xs : List BranchStages) (hs : List (Terms Fraction))
-      → ComesBehind A R d es k p (terms_each ps) xs hs
-      → ComesBehind A R d es k p (terms_each basis.items) xs hs
-  borrowed xs hs c = subst (λ us. ComesBehind A R d es k p (terms_each us) xs hs) ps_is c
+-- ---- where a list is borrowed
+pub branch_due : (A : analysis.Setting) (R : ℕ) (d : Results) (k p : ℕ) (basis : Vec FracPoly)
+    (es : List Entry) (bs : List FullBranch) (qs : List FracPoly) → qs ≡ (after_row basis bs).items
+    → Branches A R d k basis es bs p → ComesBehind A R d es k p (terms_each basis.items)
+    (map branch_in bs) (terms_each qs)
+branch_due A R d k p basis es bs qs qs_is c =
+    subst (λ us. ComesBehind A R d es k p (terms_each basis.items) (map branch_in bs)
+    (terms_each us)) (sym qs_is) c
 
 pub rounds_begun : (A : analysis.Setting) (R : ℕ) (start : Vec FracPoly)
     (links : List (List (Terms Fraction))) (es : List Entry) (rows : List (Vec FullBranch))

@@ -7,6 +7,7 @@
 --   IsBegunRefused P k hs before after r     the making of what a stage begins with was refused so, or the stage from hs was
 --   most_begun               a list that a task takes has at most so many elements
 --   Knows s j gs             the gs, of the variables of s, are no more than these and the units of the journal j
+--   IsInWork w j             the setting of the round w fits, and its list is known to the journal j
 --   given_in b               the list behind a branch with these stages;  after_row gs bs, after_rows gs rows: behind branches, and behind rounds, where gs is that before
 --   fronts_of s              how many variables are eliminated in the orbit along each branch
 --   IsBranchOver m k b, AreBranchesOver m ks bs     the stages of a branch, and of branches, have the variables and orders that they should have
@@ -32,10 +33,12 @@ use Rattle.corollaries.specs.Making.{IsStageRefused}
 use Rattle.task_lists.specs.Images.{IsStageIn}
 use Rattle.task_lists.specs.declared.parts.FullStage.{FullStage}
 use Rattle.task_lists.specs.declared.parts.FullBranch.{FullBranch}
+use Rattle.invariant_fix.specs.Setting.{FitsSetting}
 use Rattle.invariant_fix.specs.declared.branches.Branch.{Branch}
 use Rattle.invariant_fix.specs.declared.setting.Setting.{Setting}
 use Rattle.invariant_fix.specs.declared.errors.AnalyseError.{AnalyseError}
 use Rattle.invariant_fix.specs.declared.errors.AnalyseError.TheVariants as error
+use Rattle.full_trace.specs.declared.round_in_work.RoundInWork.{RoundInWork}
 
 abbrev pub written_of : Form → WrittenForm
 written_of f = record { base = sizes f.base.items; polys = bodies_of f.polys.items }
@@ -74,6 +77,10 @@ most_begun = 2 ^ 29
 pub record Knows (s : Setting) (j : Journal) (gs : List FracPoly) : Type 0 where
   pub over : AreOver s.arity gs
   pub few : length gs ≤ s.arity + units_of j.entries
+
+pub record IsInWork (w : RoundInWork) (j : Journal) : Type 0 where
+  pub fits : FitsSetting w.setting.now
+  pub basis : Knows w.setting.now j w.basis.now.items
 
 abbrev pub given_of : FullStage → Option FullStage → Vec FracPoly Global
 given_of orbit None = orbit.out

@@ -12,11 +12,13 @@ ghost use Rattle.invariant_fix.specs.Setting.{FitsSetting, HoldsOf};
 ghost use Rattle.full_trace.specs.Late.{BeginsAtZero};
 ghost use Rattle.full_trace.specs.Traced.{HasFollowed, IsTraceOf, IsTraceIn, IsStopped};
 
+mod divisors;
 mod each_round;
 mod errors;
 mod forms;
 mod found;
 mod pairs;
+mod round_in_work;
 mod rows;
 mod setting;
 mod stage;

@@ -9,8 +9,7 @@ ghost use Rattle.task_lists.specs.Images.{IsStageIn};
 ghost use Rattle.task_lists.specs.View.{stage_in};
 ghost use Rattle.corollaries.specs.Making.{IsStageMade, IsStageRefused};
 
-use crate::pairs::divide_pairs;
-use crate::rows::divide_each;
+use crate::divisors::Divisors;
 use complete::complete_in;
 use divide::EngineError;
 use frac128::Frac;
@@ -51,11 +50,21 @@ pub(crate) fn stage(
     let Ok(free) = free_elements(alloc, &list, front, variables) else {
         return Err(EngineError::Memory);
     };
-    let gens = divide_each(alloc, order, arity, begin, &list, meter)?;
-    let pairs = divide_pairs(alloc, order, arity, &list, &places, meter)?;
+    let divisors = Divisors {
+        order,
+        arity,
+        list: &list,
+    };
+    let gens = divisors.divide_each(alloc, begin, meter)?;
+    let pairs = divisors.divide_pairs(alloc, &places, meter)?;
     let out = tidy_in(alloc, Grevlex, variables, &free, meter)?;
     meter.within_limit();
-    let links = divide_each(alloc, Grevlex, variables, &free, &out, meter)?;
+    let reduced = Divisors {
+        order: Grevlex,
+        arity: variables,
+        list: &out,
+    };
+    let links = reduced.divide_each(alloc, &free, meter)?;
     Ok(FullStage {
         list,
         gens,

@@ -15,7 +15,7 @@ ghost use Rattle.task_lists.specs.View.{start_in};
 ghost use Rattle.invariant_fix.specs.Setting.{FitsSetting};
 ghost use Rattle.full_trace.specs.Tasks.{Along, Stops, Knows};
 
-use crate::rows::divide_each;
+use crate::divisors::Divisors;
 use complete::complete_in;
 use divide::EngineError;
 use frac128::Frac;
@@ -49,7 +49,12 @@ fn trace_start(
     let list = complete_in(alloc, Grevlex, arity, starts, meter)?;
     let out = tidy_in(alloc, Grevlex, arity, &list, meter)?;
     meter.within_limit();
-    let links = divide_each(alloc, Grevlex, arity, starts, &out, meter)?;
+    let reduced = Divisors {
+        order: Grevlex,
+        arity,
+        list: &out,
+    };
+    let links = reduced.divide_each(alloc, starts, meter)?;
     Ok(FullStart { out, links })
 }
 

@@ -27,7 +27,7 @@ loop-round-init c =
 
 pub returns-in_err-row-clause-refused : goal.returns-in_err-row-clause-refused
 returns-in_err-row-clause-refused c = λ links A i a.
-    passed_error (Stops A c.args.rounds c.round_stages.new.meter) c.from_residual.result _
+    passed_error (Stops A c.args.rounds c.stages.new.meter) c.from_residual.result _
     c.from_residual.ensures.1 (c.in_err-row.ensures.refused c.args.rounds
     (behind (terms_each c.args.start.now.items) links (map round_in c.loop-round.found.items)) A i
     (round_due A c.args.rounds c.args.start.now links c.loop-round.found.items
@@ -38,9 +38,9 @@ returns-in_err-row-clause-refused c = λ links A i a.
 
 pub returns-in_err-push-clause-refused : goal.returns-in_err-push-clause-refused
 returns-in_err-push-clause-refused c = λ links A i a.
-    passed_error (Stops A c.args.rounds c.round_stages.new.meter) c.from_residual-in_err-push.result
+    passed_error (Stops A c.args.rounds c.stages.new.meter) c.from_residual-in_err-push.result
     _ c.from_residual-in_err-push.ensures.1
-    (lost A c.args.rounds c.round_stages.new.meter.entries _
+    (lost A c.args.rounds c.stages.new.meter.entries _
     (c.in_ok-row.ensures.next c.args.rounds
     (behind (terms_each c.args.start.now.items) links (map round_in c.loop-round.found.items)) A i
     (round_due A c.args.rounds c.args.start.now links c.loop-round.found.items
@@ -61,15 +61,15 @@ loop-round-preserved c =
     let is = c.list_behind-basis.ensures ∙ ap (after_rows c.args.start.now) c.deref.ensures.value in
     let k = c.loop-round.round in
     record {
-      limit = c.round_stages.ensures.limit ∙ v.limit;
-      known = known_over s c.round_stages.new.meter c.args.start.now rows basis is row news push
+      limit = c.stages.ensures.limit ∙ v.limit;
+      known = known_over s c.stages.new.meter c.args.start.now rows basis is row news push
           c.in_ok-row.ensures.list;
       some = have_more (λ r. 0 < length r.items) rows news row push v.some
           c.in_ok-row.ensures.some;
       over = have_more (λ r. AreBranchesOver s.arity (fronts_of s) r.items) rows news row push
           v.over c.in_ok-row.ensures.over;
       next = λ links A i a. round_over A c.args.rounds c.args.start.now links rows basis is k row
-          news push c.round_stages.new.meter.entries
+          news push c.stages.new.meter.entries
           (c.in_ok-row.ensures.next c.args.rounds
           (behind (terms_each c.args.start.now.items) links (map round_in rows)) A i
           (round_due A c.args.rounds c.args.start.now links rows basis is k

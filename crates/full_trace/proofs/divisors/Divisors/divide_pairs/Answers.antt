@@ -8,17 +8,20 @@ use Rattle.task_lists.specs.Rows.{rows_of}
 use Rattle.complete.specs.Completing.{AreLike}
 use Rattle.full_trace.proofs.RowsMade.{passed}
 use Rattle.full_trace.proofs.PairsMade.{pair_made, pair_refused, pair_lost}
-use Rattle.full_trace.proofs.pairs.divide_pairs.Goals as goal
+use Rattle.full_trace.proofs.divisors.Divisors.divide_pairs.Goals as goal
 
 pub loop-pair-init : goal.loop-pair-init
 unfolding ArePairsDivided
 loop-pair-init g c = (
   refl,
-  subst (λ rows. ArePairsDivided (g.O.Order.order c.args.order) (terms_each c.args.list.now) []
+  subst (λ rows. ArePairsDivided (g.O.Order.order c.args.self.now.order)
+      (terms_each c.args.self.now.list.now) []
       (rows_of rows) c.args.meter.now.entries c.args.meter.now.entries)
       (sym c.new-rows.ensures.items) refl,
-  All-same (λ row. AreLike c.args.order c.args.arity row.items) c.new-rows.result.items []
-      c.new-rows.ensures.items (All-nil (λ row. AreLike c.args.order c.args.arity row.items)),
+  All-same (λ row. AreLike c.args.self.now.order c.args.self.now.arity row.items)
+      c.new-rows.result.items []
+      c.new-rows.ensures.items (All-nil (λ row. AreLike c.args.self.now.order c.args.self.now.arity
+      row.items)),
 )
 
 pub loop-pair-preserved : goal.loop-pair-preserved
@@ -26,13 +29,15 @@ loop-pair-preserved g c =
     let i = c.loop-pair.invariant in
     let row = c.in_ok-row.row in (
       c.in_ok-row.ensures.limit ∙ i.0,
-      pair_made (g.O.Order.order c.args.order) (terms_each c.args.list.now) c.args.pairs.now
+      pair_made (g.O.Order.order c.args.self.now.order) (terms_each c.args.self.now.list.now)
+          c.args.pairs.now
           c.loop-pair.pair-index _ c.loop-pair-test.true
           (get_or_default c.args.pairs.now c.loop-pair.pair-index _ _ c.loop-pair-test.true)
           c.loop-pair.rows.items c.args.meter.now.entries c.loop-pair.meter i.1 row
           c.divide_pair.new.meter.entries c.in_ok-row.ensures.divided c.push.new.self.items
           c.in_ok-push.ensures.items,
-      have_more (λ row. AreLike c.args.order c.args.arity row.items) c.loop-pair.rows.items
+      have_more (λ row. AreLike c.args.self.now.order c.args.self.now.arity row.items)
+          c.loop-pair.rows.items
           c.push.new.self.items row c.in_ok-push.ensures.items i.2 c.in_ok-row.ensures.like,
     )
 
@@ -41,10 +46,12 @@ returns-in_err-row-clause-limit g c = c.in_err-row.ensures.limit ∙ c.loop-pair
 
 pub returns-in_err-row-clause-refused : goal.returns-in_err-row-clause-refused
 returns-in_err-row-clause-refused g c =
-    passed (IsRefusedInPairs (g.O.Order.order c.args.order) (terms_each c.args.list.now)
+    passed (IsRefusedInPairs (g.O.Order.order c.args.self.now.order)
+    (terms_each c.args.self.now.list.now)
     c.args.pairs.now c.args.meter.now.entries c.divide_pair.new.meter)
     c.from_residual.result _ c.from_residual.ensures.1
-    (pair_refused (g.O.Order.order c.args.order) (terms_each c.args.list.now) c.args.pairs.now
+    (pair_refused (g.O.Order.order c.args.self.now.order) (terms_each c.args.self.now.list.now)
+    c.args.pairs.now
     c.loop-pair.pair-index _ c.loop-pair-test.true
     (get_or_default c.args.pairs.now c.loop-pair.pair-index _ _ c.loop-pair-test.true)
     c.loop-pair.rows.items c.args.meter.now.entries c.loop-pair.meter c.loop-pair.invariant.1
@@ -55,10 +62,12 @@ returns-in_err-push-clause-limit g c = c.in_ok-row.ensures.limit ∙ c.loop-pair
 
 pub returns-in_err-push-clause-refused : goal.returns-in_err-push-clause-refused
 returns-in_err-push-clause-refused g c =
-    passed (IsRefusedInPairs (g.O.Order.order c.args.order) (terms_each c.args.list.now)
+    passed (IsRefusedInPairs (g.O.Order.order c.args.self.now.order)
+    (terms_each c.args.self.now.list.now)
     c.args.pairs.now c.args.meter.now.entries c.divide_pair.new.meter)
     c.from_residual-in_err-push.result _ c.from_residual-in_err-push.ensures.1
-    (pair_lost (g.O.Order.order c.args.order) (terms_each c.args.list.now) c.args.pairs.now
+    (pair_lost (g.O.Order.order c.args.self.now.order) (terms_each c.args.self.now.list.now)
+    c.args.pairs.now
     c.loop-pair.pair-index _ c.loop-pair-test.true
     (get_or_default c.args.pairs.now c.loop-pair.pair-index _ _ c.loop-pair-test.true)
     c.loop-pair.rows.items c.args.meter.now.entries c.loop-pair.meter c.loop-pair.invariant.1
@@ -69,7 +78,8 @@ returns-clause-limit g c = c.loop-pair.invariant.0
 
 pub returns-clause-divided : goal.returns-clause-divided
 returns-clause-divided g c =
-    subst (λ ps. ArePairsDivided (g.O.Order.order c.args.order) (terms_each c.args.list.now) ps
+    subst (λ ps. ArePairsDivided (g.O.Order.order c.args.self.now.order)
+    (terms_each c.args.self.now.list.now) ps
     (rows_of c.loop-pair.rows.items) c.args.meter.now.entries c.loop-pair.meter.entries)
     (take_all _ c.args.pairs.now c.loop-pair-test.false) c.loop-pair.invariant.1
 

@@ -7,17 +7,20 @@ use Rattle.corollaries.specs.Rows.{AreDivided, IsRefusedIn}
 use Rattle.task_lists.specs.Rows.{rows_of}
 use Rattle.complete.specs.Completing.{AreLike}
 use Rattle.full_trace.proofs.RowsMade.{passed, row_made, row_like, row_refused, row_lost}
-use Rattle.full_trace.proofs.rows.divide_each.Goals as goal
+use Rattle.full_trace.proofs.divisors.Divisors.divide_each.Goals as goal
 
 pub loop-dividend-init : goal.loop-dividend-init
 unfolding AreDivided
 loop-dividend-init g c = (
   refl,
-  subst (λ rows. AreDivided (g.O.Order.order c.args.order) (terms_each c.args.list.now) []
+  subst (λ rows. AreDivided (g.O.Order.order c.args.self.now.order)
+      (terms_each c.args.self.now.list.now) []
       (rows_of rows) c.args.meter.now.entries c.args.meter.now.entries)
       (sym c.new-rows.ensures.items) refl,
-  All-same (λ row. AreLike c.args.order c.args.arity row.items) c.new-rows.result.items []
-      c.new-rows.ensures.items (All-nil (λ row. AreLike c.args.order c.args.arity row.items)),
+  All-same (λ row. AreLike c.args.self.now.order c.args.self.now.arity row.items)
+      c.new-rows.result.items []
+      c.new-rows.ensures.items (All-nil (λ row. AreLike c.args.self.now.order c.args.self.now.arity
+      row.items)),
 )
 
 pub loop-dividend-preserved : goal.loop-dividend-preserved
@@ -25,14 +28,17 @@ loop-dividend-preserved g c =
     let i = c.loop-dividend.invariant in
     let d = c.in_ok-division.division in (
       c.in_ok-division.ensures.ran.limit ∙ i.0,
-      row_made c.args.order c.args.arity c.args.list.now c.args.dividends.now
+      row_made c.args.self.now.order c.args.self.now.arity c.args.self.now.list.now
+          c.args.dividends.now
           c.requires.dividends c.loop-dividend.dividend-index c.dividend-item.result
           c.loop-dividend-test.true c.dividend-item.is c.loop-dividend.rows.items
           c.args.meter.now.entries c.loop-dividend.meter c.divide.new.meter i.1 d
           c.in_ok-division.ensures.ran c.push.new.self.items c.in_ok-push.ensures.items,
-      have_more (λ row. AreLike c.args.order c.args.arity row.items) c.loop-dividend.rows.items
+      have_more (λ row. AreLike c.args.self.now.order c.args.self.now.arity row.items)
+          c.loop-dividend.rows.items
           c.push.new.self.items d.cofactors c.in_ok-push.ensures.items i.2
-          (row_like c.args.order c.args.arity c.args.list.now c.args.dividends.now
+          (row_like c.args.self.now.order c.args.self.now.arity c.args.self.now.list.now
+          c.args.dividends.now
           c.requires.dividends c.loop-dividend.dividend-index c.dividend-item.result
           c.loop-dividend-test.true c.dividend-item.is c.loop-dividend.rows.items
           c.args.meter.now.entries c.loop-dividend.meter c.divide.new.meter i.1 d
@@ -45,10 +51,12 @@ returns-in_err-division-clause-limit g c =
 
 pub returns-in_err-division-clause-refused : goal.returns-in_err-division-clause-refused
 returns-in_err-division-clause-refused g c =
-    passed (IsRefusedIn (g.O.Order.order c.args.order) (terms_each c.args.list.now)
+    passed (IsRefusedIn (g.O.Order.order c.args.self.now.order)
+    (terms_each c.args.self.now.list.now)
     (terms_each c.args.dividends.now) c.args.meter.now.entries c.divide.new.meter)
     c.from_residual.result _ c.from_residual.ensures.1
-    (row_refused c.args.order c.args.arity c.args.list.now c.args.dividends.now
+    (row_refused c.args.self.now.order c.args.self.now.arity c.args.self.now.list.now
+    c.args.dividends.now
     c.requires.dividends c.loop-dividend.dividend-index c.dividend-item.result
     c.loop-dividend-test.true c.dividend-item.is c.loop-dividend.rows.items
     c.args.meter.now.entries c.loop-dividend.meter c.divide.new.meter
@@ -60,10 +68,12 @@ returns-in_err-push-clause-limit g c =
 
 pub returns-in_err-push-clause-refused : goal.returns-in_err-push-clause-refused
 returns-in_err-push-clause-refused g c =
-    passed (IsRefusedIn (g.O.Order.order c.args.order) (terms_each c.args.list.now)
+    passed (IsRefusedIn (g.O.Order.order c.args.self.now.order)
+    (terms_each c.args.self.now.list.now)
     (terms_each c.args.dividends.now) c.args.meter.now.entries c.divide.new.meter)
     c.from_residual-in_err-push.result _ c.from_residual-in_err-push.ensures.1
-    (row_lost c.args.order c.args.arity c.args.list.now c.args.dividends.now
+    (row_lost c.args.self.now.order c.args.self.now.arity c.args.self.now.list.now
+    c.args.dividends.now
     c.requires.dividends c.loop-dividend.dividend-index c.dividend-item.result
     c.loop-dividend-test.true c.dividend-item.is c.loop-dividend.rows.items
     c.args.meter.now.entries c.loop-dividend.meter c.divide.new.meter
@@ -74,7 +84,8 @@ returns-clause-limit g c = c.loop-dividend.invariant.0
 
 pub returns-clause-divided : goal.returns-clause-divided
 returns-clause-divided g c =
-    subst (λ ps. AreDivided (g.O.Order.order c.args.order) (terms_each c.args.list.now)
+    subst (λ ps. AreDivided (g.O.Order.order c.args.self.now.order)
+    (terms_each c.args.self.now.list.now)
     (terms_each ps) (rows_of c.loop-dividend.rows.items) c.args.meter.now.entries
     c.loop-dividend.meter.entries)
     (take_all _ c.args.dividends.now c.loop-dividend-test.false) c.loop-dividend.invariant.1

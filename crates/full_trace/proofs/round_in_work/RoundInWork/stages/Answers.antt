@@ -3,103 +3,92 @@ use Rattle.std.proofs.lemmas.List.{length-append}
 use Rattle.poly.specs.Seen.{terms_each}
 use Rattle.task_lists.specs.View.{stage_in, branch_in}
 use Rattle.task_lists.specs.declared.parts.FullBranch.{FullBranch}
-use Rattle.corollaries.specs.Rounds.{OrbitBegins}
 use Rattle.corollaries.proofs.Rounds.{first_at, round_at}
-use Rattle.full_trace.specs.Tasks.{Stops, Knows, given_in, after_row, fronts_of, AreBranchesOver}
-use Rattle.full_trace.proofs.RoundsMade.{row_last, branch_pushed, fronts_count, none_left, knows_later, passed_error, lost, first_done, branch_done, known_row, branch_due, borrowed}
-use Rattle.full_trace.proofs.each_round.round_stages.Goals as goal
+use Rattle.full_trace.specs.Tasks.{Stops, Knows, after_row, fronts_of, AreBranchesOver}
+use Rattle.full_trace.proofs.RoundsMade.{row_last, branch_pushed, fronts_count, none_left, in_work_later, passed_error, lost, first_done, branch_done, known_row, branch_due}
+use Rattle.full_trace.proofs.round_in_work.RoundInWork.stages.Goals as goal
 
 pub returns-in_err-first-clause-refused : goal.returns-in_err-first-clause-refused
 returns-in_err-first-clause-refused c = λ R d A i a.
     passed_error (Stops A R c.orbit.new.meter) c.from_residual.result _ c.from_residual.ensures.1
-    (c.in_err-first.ensures.refused R d [] A i
-    (subst (λ ps. OrbitBegins A R d c.args.meter.now.entries c.args.round 0 (terms_each ps) [])
-    (sym c.deref.ensures.value) a))
+    (c.in_err-first.ensures.refused R d [] A i a)
 
 pub returns-in_err-push-clause-refused : goal.returns-in_err-push-clause-refused
 returns-in_err-push-clause-refused c = λ R d A i a.
     passed_error (Stops A R c.orbit.new.meter) c.from_residual-in_err-push.result _
     c.from_residual-in_err-push.ensures.1 (lost A R c.orbit.new.meter.entries _
-    (c.in_ok-first.ensures.next R d [] A i
-    (subst (λ ps. OrbitBegins A R d c.args.meter.now.entries c.args.round 0 (terms_each ps) [])
-    (sym c.deref.ensures.value) a)))
+    (c.in_ok-first.ensures.next R d [] A i a))
 
 pub loop-place-init : goal.loop-place-init
 loop-place-init c =
-    let s = c.args.setting.now in
+    let w = c.args.self.now in
+    let s = w.setting.now in
     let b : FullBranch = record { orbit = c.in_ok-first.first; meet = None } in
     let news = c.push.new.self.items in
     let e : news ≡ b ∷ [] = c.in_ok-push.ensures.items
     ∙ ap (λ xs. xs ++ b ∷ []) c.new-done.ensures.items in
     let some : 0 < length (fronts_of s) =
-    (let x = fronts_count s in let y = c.requires.fits.some_branch in
+    (let x = fronts_count s in let y = c.requires.round.fits.some_branch in
     omega (arith, x, y)) in
     record {
       limit = c.orbit.ensures.limit;
       from = omega arith;
       count = ap length e;
-      known = knows_later s c.args.meter.now c.orbit.new.meter c.args.basis.now.items
-          c.in_ok-first.ensures.units c.requires.basis;
-      so_far = known_row s c.orbit.new.meter c.args.basis.now [] b news e
-          c.in_ok-first.ensures.list;
+      round = in_work_later c.requires.round c.in_ok-first.ensures.units;
+      so_far = known_row s c.orbit.new.meter w.basis.now [] b news e c.in_ok-first.ensures.list;
       over = subst (AreBranchesOver s.arity (take 1 (fronts_of s))) (sym e)
           (branch_pushed s.arity (fronts_of s) [] b 0 refl some tt
           (record { orbit = c.in_ok-first.ensures.over; meet = tt }));
-      next = λ R d A i a. first_done A R d c.args.round c.args.basis.now
-          c.orbit.new.meter.entries b news e
-          (borrowed A R d c.args.round 1 c.args.basis.now c.orbit.new.meter.entries
-          c.deref.result.now c.deref.ensures.value (branch_in b ∷ [])
-          (terms_each (given_in b).items)
-          (first_at A R d c.orbit.new.meter.entries c.args.round (terms_each c.deref.result.now)
-          (stage_in c.in_ok-first.first) (c.in_ok-first.ensures.next R d [] A i
-          (subst (λ ps. OrbitBegins A R d c.args.meter.now.entries c.args.round 0 (terms_each ps)
-          [])
-          (sym c.deref.ensures.value) a))));
+      next = λ R d A i a. first_done A R d w.round w.basis.now c.orbit.new.meter.entries b news e
+          (first_at A R d c.orbit.new.meter.entries w.round (terms_each w.basis.now.items)
+          (stage_in c.in_ok-first.first) (c.in_ok-first.ensures.next R d [] A i a));
     }
 
 pub branch_stages-requires-clause-so_far : goal.branch_stages-requires-clause-so_far
 branch_stages-requires-clause-so_far c =
+    let w = c.args.self.now in
     let i = c.loop-place.invariant in
     let n = i.count in
     let f = i.from in
-    subst (Knows c.args.setting.now c.loop-place.meter)
-    (sym (c.deref-in-loop-place-2.ensures.value ∙ ap (λ v. v.items) (c.given-so_far.ensures
-    ∙ sym (row_last c.args.basis.now c.loop-place.done.items c.index.result.now _
+    subst (Knows w.setting.now c.loop-place.meter)
+    (sym (c.deref.ensures.value ∙ ap (λ v. v.items) (c.given-so_far.ensures
+    ∙ sym (row_last w.basis.now c.loop-place.done.items c.index.result.now _
     (omega (arith, n, f)) c.index.ensures)))) i.so_far
 
 pub returns-in_err-branch-clause-refused : goal.returns-in_err-branch-clause-refused
 returns-in_err-branch-clause-refused c = λ R d A i a.
+    let w = c.args.self.now in
     let v = c.loop-place.invariant in
     let n = v.count in
     let f = v.from in
     passed_error (Stops A R c.branch_stages.new.meter) c.from_residual-in_err-branch.result _
     c.from_residual-in_err-branch.ensures.1 (c.in_err-branch.ensures.refused R d
     (map branch_in c.loop-place.done.items) A i
-    (branch_due A R d c.args.round c.loop-place.place c.args.basis.now c.loop-place.meter.entries
-    c.deref-in-loop-place.result.now c.deref-in-loop-place.ensures.value
-    c.loop-place.done.items c.deref-in-loop-place-2.result.now
-    (c.deref-in-loop-place-2.ensures.value ∙ ap (λ v. v.items) (c.given-so_far.ensures
-    ∙ sym (row_last c.args.basis.now c.loop-place.done.items c.index.result.now _
+    (branch_due A R d w.round c.loop-place.place w.basis.now c.loop-place.meter.entries
+    c.loop-place.done.items c.deref.result.now
+    (c.deref.ensures.value ∙ ap (λ v. v.items) (c.given-so_far.ensures
+    ∙ sym (row_last w.basis.now c.loop-place.done.items c.index.result.now _
     (omega (arith, n, f)) c.index.ensures))) (v.next R d A i a)))
 
 pub returns-in_err-push-2-clause-refused : goal.returns-in_err-push-2-clause-refused
 returns-in_err-push-2-clause-refused c = λ R d A i a.
+    let w = c.args.self.now in
     let v = c.loop-place.invariant in
     let n = v.count in
     let f = v.from in
     passed_error (Stops A R c.branch_stages.new.meter) c.from_residual-in_err-push-2.result _
     c.from_residual-in_err-push-2.ensures.1 (lost A R c.branch_stages.new.meter.entries _
     (c.in_ok-branch.ensures.next R d (map branch_in c.loop-place.done.items) A i
-    (branch_due A R d c.args.round c.loop-place.place c.args.basis.now c.loop-place.meter.entries
-    c.deref-in-loop-place.result.now c.deref-in-loop-place.ensures.value
-    c.loop-place.done.items c.deref-in-loop-place-2.result.now
-    (c.deref-in-loop-place-2.ensures.value ∙ ap (λ v. v.items) (c.given-so_far.ensures
-    ∙ sym (row_last c.args.basis.now c.loop-place.done.items c.index.result.now _
+    (branch_due A R d w.round c.loop-place.place w.basis.now c.loop-place.meter.entries
+    c.loop-place.done.items c.deref.result.now
+    (c.deref.ensures.value ∙ ap (λ v. v.items) (c.given-so_far.ensures
+    ∙ sym (row_last w.basis.now c.loop-place.done.items c.index.result.now _
     (omega (arith, n, f)) c.index.ensures))) (v.next R d A i a))).comes)
 
 pub loop-place-preserved : goal.loop-place-preserved
 loop-place-preserved c =
-    let s = c.args.setting.now in
+    let w = c.args.self.now in
+    let s = w.setting.now in
     let v = c.loop-place.invariant in
     let n = v.count in
     let f = v.from in
@@ -116,34 +105,28 @@ loop-place-preserved c =
       from = omega (arith, f);
       count = (let x = ap length push in let y = length-append bs (b ∷ []) in
           omega (arith, x, y, n));
-      known = knows_later s c.loop-place.meter c.branch_stages.new.meter c.args.basis.now.items
-          c.in_ok-branch.ensures.units v.known;
-      so_far = known_row s c.branch_stages.new.meter c.args.basis.now bs b news push
+      round = in_work_later v.round c.in_ok-branch.ensures.units;
+      so_far = known_row s c.branch_stages.new.meter w.basis.now bs b news push
           c.in_ok-branch.ensures.list;
       over = subst (AreBranchesOver s.arity (take (p + 1) (fronts_of s))) (sym push)
           (branch_pushed s.arity (fronts_of s) bs b p n inside v.over
           c.in_ok-branch.ensures.over);
-      next = λ R d A i a. branch_done A R d c.args.round c.args.basis.now
+      next = λ R d A i a. branch_done A R d w.round w.basis.now
           c.branch_stages.new.meter.entries bs (p + 1) b news push
-          (borrowed A R d c.args.round (p + 1) c.args.basis.now
-          c.branch_stages.new.meter.entries c.deref-in-loop-place.result.now
-          c.deref-in-loop-place.ensures.value (map branch_in bs ++ branch_in b ∷ [])
-          (terms_each (given_in b).items)
           (c.in_ok-branch.ensures.next R d (map branch_in bs) A i
-          (branch_due A R d c.args.round p c.args.basis.now c.loop-place.meter.entries
-          c.deref-in-loop-place.result.now c.deref-in-loop-place.ensures.value bs
-          c.deref-in-loop-place-2.result.now
-          (c.deref-in-loop-place-2.ensures.value ∙ ap (λ v. v.items) (c.given-so_far.ensures
-          ∙ sym (row_last c.args.basis.now bs c.index.result.now _ (omega (arith, n, f))
-          c.index.ensures))) (v.next R d A i a))));
+          (branch_due A R d w.round p w.basis.now c.loop-place.meter.entries bs c.deref.result.now
+          (c.deref.ensures.value ∙ ap (λ v. v.items) (c.given-so_far.ensures
+          ∙ sym (row_last w.basis.now bs c.index.result.now _ (omega (arith, n, f))
+          c.index.ensures))) (v.next R d A i a)));
     }
 
 pub returns-clause-next : goal.returns-clause-next
 returns-clause-next c = λ R d A i a.
+    let w = c.args.self.now in
     let v = c.loop-place.invariant in
-    round_at A R d c.loop-place.meter.entries c.args.round (terms_each c.args.basis.now.items)
+    round_at A R d c.loop-place.meter.entries w.round (terms_each w.basis.now.items)
     c.loop-place.place (map branch_in c.loop-place.done.items)
-    (terms_each (after_row c.args.basis.now c.loop-place.done.items).items) (v.next R d A i a)
-    (none_left c.args.setting.now A i c.loop-place.place
+    (terms_each (after_row w.basis.now c.loop-place.done.items).items) (v.next R d A i a)
+    (none_left w.setting.now A i c.loop-place.place
     (let x = c.loop-place-test.false in let y = c.len-place-end.ensures in
-    let z = c.args.setting.now.branches.ok.0 in omega (arith, x, y, z)))
+    let z = w.setting.now.branches.ok.0 in omega (arith, x, y, z)))

@@ -4,15 +4,17 @@ use Rattle.poly.specs.Seen.{terms_in}
 use Rattle.divide.proofs.OneCut.{lead_long}
 use Rattle.complete.proofs.Made.{if_ok}
 use Rattle.full_trace.proofs.PairsMade.{element, is_pair, past_pair}
-use Rattle.full_trace.proofs.pairs.pair_polynomial.Goals as goal
+use Rattle.full_trace.proofs.divisors.Divisors.pair_polynomial.Goals as goal
 
 pub lcm-requires : goal.lcm-requires
 lcm-requires g c =
     let f = c.index-list-left.result in
     let h = c.index-list-right.result in
-    let one = element c.args.order c.args.arity c.args.list.now c.requires.divisors c.args.left f
+    let one = element c.args.self.now.order c.args.self.now.arity c.args.self.now.list.now
+    c.requires.divisors c.args.left f
     c.requires.inside.0 c.index-list-left.is in
-    let other = element c.args.order c.args.arity c.args.list.now c.requires.divisors c.args.right
+    let other = element c.args.self.now.order c.args.self.now.arity c.args.self.now.list.now
+    c.requires.divisors c.args.right
     h c.requires.inside.1 c.index-list-right.is in
     ap length c.in_ok-first.ensures.lead
     ∙ lead_long _ (terms_in f) one.2 f.polynomial.arity ∙ one.1
@@ -22,7 +24,8 @@ lcm-requires g c =
 pub returns-clause-terms : goal.returns-clause-terms
 returns-clause-terms g c =
     if_ok _ _ c.s_polynomial.result
-    (λ p h. is_pair c.args.order c.args.arity c.args.list.now c.requires.divisors
+    (λ p h. is_pair c.args.self.now.order c.args.self.now.arity c.args.self.now.list.now
+    c.requires.divisors
     (c.args.left, c.args.right) c.requires.inside c.index-list-left.result
     c.index-list-right.result c.index-list-left.is c.index-list-right.is c.in_ok-multiple.multiple
     (c.in_ok-multiple.ensures.ok ∙ ap₂ lcm c.in_ok-first.ensures.lead c.in_ok-second.ensures.lead)
@@ -30,7 +33,8 @@ returns-clause-terms g c =
 
 pub returns-clause-wide : goal.returns-clause-wide
 returns-clause-wide g c =
-    λ w. past_pair c.args.order c.args.arity c.args.list.now c.requires.divisors
+    λ w. past_pair c.args.self.now.order c.args.self.now.arity c.args.self.now.list.now
+    c.requires.divisors
     (c.args.left, c.args.right) c.requires.inside c.index-list-left.result
     c.index-list-right.result c.index-list-left.is c.index-list-right.is c.in_ok-multiple.multiple
     (c.in_ok-multiple.ensures.ok ∙ ap₂ lcm c.in_ok-first.ensures.lead c.in_ok-second.ensures.lead)

@@ -4,33 +4,38 @@ use Rattle.poly.specs.Seen.{terms_each}
 use Rattle.full_trace.specs.Rows.{IsPairRefused}
 use Rattle.full_trace.proofs.RowsMade.{passed}
 use Rattle.full_trace.proofs.PairsMade.{unmade, unnoted, pair_stops, pair_ends}
-use Rattle.full_trace.proofs.pairs.divide_pair.Goals as goal
+use Rattle.full_trace.proofs.divisors.Divisors.divide_pair.Goals as goal
 
 pub returns-in_err-p-clause-refused : goal.returns-in_err-p-clause-refused
 returns-in_err-p-clause-refused g c =
-    unmade (g.O.Order.order c.args.order) (terms_each c.args.list.now) c.args.pair.now
+    unmade (g.O.Order.order c.args.self.now.order) (terms_each c.args.self.now.list.now)
+    c.args.pair.now
     c.args.meter.now c.args.meter.now refl c.from_residual.result c.in_err-p.field-0.0
     c.from_residual.ensures.1 (λ q. c.in_err-p.ensures.wide (cc q))
 
 pub returns-in_err-note-clause-refused : goal.returns-in_err-note-clause-refused
 returns-in_err-note-clause-refused g c =
-    unnoted (g.O.Order.order c.args.order) (terms_each c.args.list.now) c.args.pair.now
+    unnoted (g.O.Order.order c.args.self.now.order) (terms_each c.args.self.now.list.now)
+    c.args.pair.now
     c.args.meter.now c.note.new.self c.in_err-note.ensures.err
     c.from_residual-in_err-note.result c.in_err-note.field-0.0
     c.from_residual-in_err-note.ensures.1 (λ q. (c.in_err-note.ensures.budget.0 (cc q)).1)
 
 pub returns-in_err-division-clause-refused : goal.returns-in_err-division-clause-refused
 returns-in_err-division-clause-refused g c =
-    passed (IsPairRefused (g.O.Order.order c.args.order) (terms_each c.args.list.now)
+    passed (IsPairRefused (g.O.Order.order c.args.self.now.order)
+    (terms_each c.args.self.now.list.now)
     c.args.pair.now c.args.meter.now c.divide.new.meter)
     c.from_residual-in_err-division.result _ c.from_residual-in_err-division.ensures.1
-    (pair_stops c.args.order c.args.list.now c.args.pair.now c.in_ok-p.p c.in_ok-p.ensures.like.0
+    (pair_stops c.args.self.now.order c.args.self.now.list.now c.args.pair.now c.in_ok-p.p
+    c.in_ok-p.ensures.like.0
     c.in_ok-p.ensures.terms c.args.meter.now c.note.new.self c.divide.new.meter
     (ap (λ (j : Journal). j.entries) c.in_ok-note.ensures.ok) _ c.in_err-division.ensures.ran)
 
 pub returns-clause-divided : goal.returns-clause-divided
 returns-clause-divided g c =
-    pair_ends c.args.order c.args.list.now c.args.pair.now c.in_ok-p.p c.in_ok-p.ensures.like.0
+    pair_ends c.args.self.now.order c.args.self.now.list.now c.args.pair.now c.in_ok-p.p
+    c.in_ok-p.ensures.like.0
     c.in_ok-p.ensures.terms c.args.meter.now c.note.new.self c.divide.new.meter
     (ap (λ (j : Journal). j.entries) c.in_ok-note.ensures.ok) c.in_ok-division.division
     c.in_ok-division.ensures.ran
