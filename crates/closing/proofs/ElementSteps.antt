@@ -3,7 +3,9 @@
 --   divisor_found, divisor_not, divisor_none     the search for a lead that divides
 --   first_pushed, share_pushed, share_past       the terms of an element
 --   leads_below, found_all                       the elements
-use Rattle.std.proofs.Common.{◌≡◌, ◌≢◌, inl, inr, ℕ, suc, ◌+◌, ◌-◌, ◌<◌, ◌≤◌, ℤ, pos, neg_ℤ, Bool, true, false, ◌||◌, List, [], ◌∷◌, ◌++◌, map, length, get_or, drop, refl, sym, ap, ap₂, subst, ◌∙◌, arith, Some, None}
+--   row_leads       a row leads in its column
+use Rattle.std.proofs.Common.{◌≡◌, ◌≢◌, inl, inr, ℕ, suc, ◌+◌, ◌-◌, ◌<◌, ◌≤◌, ℤ, pos, neg_ℤ, Bool, true, false, ◌||◌, List, [], ◌∷◌, ◌++◌, map, length, get_or, drop, refl, sym, ap, ap₂, subst, ◌∙◌, arith, Option, Some, None, is_some}
+use Rattle.std.specs.Prelude.{IfSome}
 use Rattle.std.specs.List.{slice_get}
 use Rattle.std.proofs.lemmas.List.{map-append, drop_more, get_or_default}
 use Rattle.algebra.specs.Each.{Each}
@@ -26,7 +28,7 @@ use Rattle.poly.specs.declared.Term.{Term}
 use Rattle.closing.specs.Modulus.{modulus}
 use Rattle.closing.specs.Numbers.{number_of, numbers_of}
 use Rattle.closing.specs.Limited.{IsFractionOf}
-use Rattle.closing.specs.EchelonForm.{entry, Led, IsLed, IsReducedEchelon}
+use Rattle.closing.specs.EchelonForm.{entry, Led, leads_in, IsLed, IsReducedEchelon}
 use Rattle.closing.specs.LedRows.{led_of}
 use Rattle.closing.specs.declared.echelon.LedRow.{LedRow}
 use Rattle.closing.specs.declared.residue.Residue.{Residue}
@@ -180,6 +182,13 @@ row_wide es ls kept r j c l =
 pub mono_read : (es : List (List ℕ)) (c : ℕ) (x : List ℕ) → c < length es → x ≡ get_or es c x
     → x ≡ get_or es c []
 mono_read es c x l e = e ∙ get_or_default es c x [] l
+
+pub row_leads : {X : Type 0} (o : Option X) (row : X → LedRow) (k : ℕ) (ls : List Led)
+    → is_some o ≡ true → IfSome o (λ r. (row r).lead ≡ k)
+    → IfSome o (λ r. In (led_of (row r)) ls) → In k (leads_in ls)
+row_leads None row k ls e same within = cc
+row_leads (Some r) row k ls e same within =
+    subst (λ j. In j (leads_in ls)) same (map-in (λ (l : Led). l.lead) ls (led_of (row r)) within)
 
 -- ---- the elements
 module _ (m : ℕ) (es : List (List ℕ)) (arities : Each (λ e. length e ≡ m) es) (ls : List Led)

@@ -1,4 +1,5 @@
 pub mod Tied
+mod KeptMaps
 mod Composing
 mod Steps
 mod Lists

@@ -2,12 +2,12 @@
 --   listed_more, listed_same, listed_all     one monomial after another times the power that gives it the degree
 --   no_degrees, next_degree, all_degrees     one degree after another
 --   too_many                                 of which there may be too many
---   arities                                  each has its number of exponents
+--   arities_below                            each has its number of exponents, which may be below a bound
 --   first_monomials                          those in no variables
 use Rattle.std.proofs.Common.{◌≡◌, ℕ, suc, ◌+◌, ◌-◌, ◌<◌, ◌≤◌, Bool, true, false, cond, nat_le, le-leb, List, [], ◌∷◌, ◌++◌, take, get_or, length, sum, sym, ap, subst, ◌∙◌, arith, All}
 use Rattle.std.proofs.lemmas.Bool.{lt-leb}
 use Rattle.std.proofs.lemmas.List.{append-nil, append_assoc, map_push, take_all}
-use Rattle.std.proofs.lemmas.List.Elements.{filter_more}
+use Rattle.std.proofs.lemmas.List.Elements.{filter_more, All-weaker}
 use Rattle.std.specs.List.{filter}
 use Rattle.exponentials.proofs.Orders.{each-all}
 use Rattle.closures.specs.Monomials.{join_below, of_degree, monomials_up_to}
@@ -55,15 +55,20 @@ module _ (t : ℕ) (start list : List (List ℕ)) where
   pub listed_all : (items : List (List ℕ)) (i : ℕ) → length list ≤ i
       → items ≡ start ++ of_degree t (filter (λ e. nat_le (sum e) t) (take i list))
       → items ≡ start ++ of_degree t (filter (λ e. nat_le (sum e) t) list)
-  listed_all items i l h =
-      h ∙ ap (λ xs. start ++ of_degree t (lower t xs)) (take_all i list l)
+  listed_all items i l h = h ∙ ap (λ xs. start ++ of_degree t (lower t xs)) (take_all i list l)
 
-pub arities : (list : List (List ℕ)) (m d : ℕ) → list ≡ monomials_up_to m d
+arities : (list : List (List ℕ)) (m d : ℕ) → list ≡ monomials_up_to m d
     → All (λ e. length e ≡ m) list
 arities list m d is =
     subst (All (λ e. length e ≡ m)) (sym is)
     (each-all (λ e. length e ≡ m) (monomials_up_to m d)
     (let all = are_monomials_up_to m d in all.arities))
+
+pub arities_below : (list : List (List ℕ)) (m d : ℕ) → list ≡ monomials_up_to m d → (most : ℕ)
+    → m < most → All (λ e. length e < most) list
+arities_below list m d is most few =
+    All-weaker (λ e. length e ≡ m) (λ e. length e < most) (λ e same. omega (arith, same, few)) list
+    (arities list m d is)
 
 pub first_monomials : (d : ℕ) (items : List (List ℕ)) (one : List ℕ) → items ≡ [] ++ one ∷ []
     → one ≡ [] → items ≡ monomials_up_to 0 d

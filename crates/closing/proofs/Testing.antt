@@ -1,5 +1,6 @@
 -- The divisions that prove a closed list, as the code makes them.
 --   images_are, turned_is        the images of a branch, and what an element becomes there
+--   begun_runs                   a task that has begun, and then what runs
 --   composed_is, ran_turned      a composition of the code, and what divide has done, in the words of the test
 --   test_ends, test_passed       a division that has ended; behind it the next test comes
 --   test_past, test_out, test_going     one that stops
@@ -24,7 +25,7 @@ use Rattle.polynomials.proofs.Orders.{grevlex_order}
 use Rattle.polynomials.proofs.Same.{Same-refl, Same-trans}
 use Rattle.machines.specs.Collect.{collect}
 use Rattle.machines.specs.Division as division
-use Rattle.machines.specs.Journal.{Begin, Closed, Journal}
+use Rattle.machines.specs.Journal.{Task, Begin, Closed, Journal}
 use Rattle.machines.specs.Machine.{Machine, Outcome, done, stopped, too_wide, out_of_units, out_of_memory, Ran}
 use Rattle.machines.specs.Machines as machines
 use Rattle.machines.specs.Run.{Ends}
@@ -34,6 +35,7 @@ use Rattle.loops.specs.Map.{branch_map}
 use Rattle.loops.specs.Program.{Expr, Program}
 use Rattle.loops.proofs.Maps.{arity-branch_map}
 use Rattle.rounds.specs.Word.{branch_of, after_iteration}
+use Rattle.journal.specs.View.{with_entry}
 use Rattle.poly.specs.Seen.{arity_of, terms_in, terms_each, Is}
 use Rattle.poly.specs.Standing.{AllStandFor}
 use Rattle.poly.proofs.Standing.{arity_over, arities_over, first_arity, polynomial_over, stands_over, stands_same}
@@ -55,12 +57,19 @@ use Rattle.closures.specs.Certified.{placed}
 use Rattle.closures.proofs.Proving as proving
 use Rattle.closures.proofs.Tests.{cofactors_count}
 use Rattle.counter_run.proofs.WordImages.{terms_are}
-use Rattle.closing.specs.Proving.{IsBranchAt, FitsElements, FollowsTests, IsRow, PastTest, proving_division, test_at, iteration_test}
+use Rattle.closing.specs.LoopMaps.{IsBranchAt}
+use Rattle.closing.specs.Proving.{FitsElements, FollowsTests, IsRow, PastTest, proving_division, test_at, iteration_test}
 use Rattle.closing.specs.declared.listing.Elements.{Elements}
 use Rattle.closing.specs.Tasks.{RanTask}
 
 abbrev pub Divided : Type 0
 Divided = Division Frac Grevlex ring.ghosts equal.ghosts graded.ghosts equal_graded.ghosts
+
+-- ---- a task that has begun
+pub begun_runs : {S A : Type 0} (task : Task) (M : Machine S) (G : A → S → Type 0)
+    (before begun after : Journal) (o : Outcome A) → begun ≡ with_entry before (Begin task)
+    → Ran M G begun after o → RanTask task M G before after o
+begun_runs task M G before begun after o is r = inr (subst (λ j. Ran M G j after o) is r)
 
 -- ---- the map of a branch
 images_collected : (m : ℕ) (ps : List FracPoly) (qs : List (Terms Fraction)) → AllArity m qs

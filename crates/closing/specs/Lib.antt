@@ -2,6 +2,7 @@ pub mod Tasks
 pub mod Compositions
 pub mod Causes
 pub mod Progress
+pub mod LoopMaps
 pub mod Proving
 pub mod Modulus
 pub mod Numbers

@@ -1,8 +1,9 @@
 -- The divisions that prove a closed list, as the code makes them, and the certificate that they give.
 --   certificate_of d                  the certificate of the elements and the cofactors of d
 --   IsSquare m n rows, FitsProof m d  n lists of n polynomials in m variables; those of d are so
---   IsBranchAt program letter images     the images are those of the map of the branch with this number
+--   program_by p, list_by p, closure_by p     the program of a proof in work, its list, and the closed list
 --   FitsElements m closure e          the list of e and the closure are of polynomials in m variables, and the closure stands in the list, at the places of e
+--   IsInWork p                        those of the proof in work p are so
 --   test_at letter place bs           the test of the element of bs at this place, counted from 0
 --   proving_division gs p Past        the division of p by the gs, as a machine whose start is made by a composition, which is past where Past
 --   iteration_test g images gs             that of g with the images for its variables
@@ -27,11 +28,8 @@ use Rattle.machines.specs.Machine.{Machine}
 use Rattle.machines.specs.Past as past
 use Rattle.machines.specs.Reduced.{Ascends}
 use Rattle.loops.specs.Certificate.{Certificate}
-use Rattle.loops.specs.Map.{branch_map}
 use Rattle.loops.specs.Program.{Expr, Program}
-use Rattle.rounds.specs.Word.{branch_of}
 use Rattle.poly.specs.Seen.{terms_in, terms_each}
-use Rattle.poly.specs.Standing.{AllStandFor}
 use Rattle.divide.specs.Limits.{list_limit}
 use Rattle.loop_model.specs.FracPoly.{FracPoly}
 use Rattle.ideal_ops.specs.Calls.{AreOver}
@@ -40,7 +38,9 @@ use Rattle.closures.specs.Closing.{closed}
 use Rattle.closures.specs.Ends.{ComesNext}
 use Rattle.closures.specs.Proving.{Test, State, AwaitsTests, FollowsProof, IsOutProof, IsPastProof}
 use Rattle.closing.specs.declared.listing.Elements.{Elements}
+use Rattle.closing.specs.LoopMaps.{program_in, arity_in}
 use Rattle.closing.specs.declared.proving.ClosureProof.{ClosureProof}
+use Rattle.closing.specs.declared.proving.ProofInWork.{ProofInWork}
 use Rattle.closing.specs.declared.proving.ProvingError.{ProvingError}
 use Rattle.closing.specs.declared.proving.ProvingError.TheVariants.{Wide, Budget, Memory}
 
@@ -63,10 +63,6 @@ pub record FitsProof (m : ℕ) (d : ClosureProof) : Type 0 where
   pub squares : All (λ (rows : Vec (Vec FracPoly)). IsSquare m (length d.list.items) rows.items)
       d.steps.items
 
-abbrev pub IsBranchAt : Program (Expr ℕ) → ℕ → Vec FracPoly → Type 0
-IsBranchAt program letter images =
-    AllStandFor (length program.names) images.items (branch_map program (branch_of program letter))
-
 pub record FitsElements (m : ℕ) (closure : List FracPoly) (e : Elements) : Type 0 where
   pub over : AreOver m e.list.items
   pub many : length e.list.items < list_limit
@@ -76,6 +72,18 @@ pub record FitsElements (m : ℕ) (closure : List FracPoly) (e : Elements) : Typ
   pub ascends : Ascends grevlex (terms_each closure)
   pub count : length e.places.items ≡ length closure
   pub stand : StandAt (terms_each e.list.items) (terms_each closure) e.places.items
+
+abbrev pub program_by : ProofInWork → Program (Expr ℕ)
+program_by p = program_in p.loop_maps.now
+
+abbrev pub list_by : ProofInWork → List (Terms Fraction)
+list_by p = terms_each p.elements.list.items
+
+abbrev pub closure_by : ProofInWork → List (Terms Fraction)
+closure_by p = terms_each p.closure.now
+
+abbrev pub IsInWork : ProofInWork → Type 0
+IsInWork p = FitsElements (arity_in p.loop_maps.now) p.closure.now p.elements
 
 abbrev pub test_at : ℕ → ℕ → List FracPoly → Test
 test_at letter place bs = record {

@@ -1,21 +1,19 @@
 //! The polynomials of a closing, and what becomes of them under a branch and at the start.
-ghost use Rattle.std.specs.Prelude.{◌≡◌, ℕ, List, [], All, length, IfOk, IfErr};
+ghost use Rattle.std.specs.Prelude.{◌≡◌, ℕ, List, [], All, IfOk, IfErr};
 ghost use Rattle.algebra.specs.Fraction.{Fraction};
 ghost use Rattle.polynomials.specs.Terms.{Terms};
 ghost use Rattle.polynomials.specs.Polynomial.{AllArity};
-ghost use Rattle.loops.specs.Map.{branch_map};
-ghost use Rattle.rounds.specs.Word.{branch_of};
+ghost use Rattle.rounds.specs.Word.{IsLetter};
 ghost use Rattle.poly.specs.Seen.{terms_in};
 ghost use Rattle.poly.specs.Standing.{IsInVariables, AllStandFor};
-ghost use Rattle.loop_model.specs.View.{program_of};
 ghost use Rattle.counter_run.specs.Composition.{composition_operations};
-ghost use Rattle.counter_run.specs.Maps.{AreMaps};
+ghost use Rattle.closing.specs.LoopMaps.{program_in, arity_in};
 ghost use Rattle.closing.specs.Compositions.{IsComposed, IfComposing, IsTurned, IfIterationStops, IsFromStart, IfStartStops};
 
-use crate::ClosingError;
-use counter_run::{Maps, compose_anew, prepend};
+use crate::{ClosingError, LoopMaps};
+use counter_run::{compose_anew, prepend};
 use frac128::Frac;
-use loop_model::{Loop, MapError};
+use loop_model::MapError;
 use monos::Grevlex;
 use poly::Poly;
 use std::alloc::Global;
@@ -30,42 +28,42 @@ pub struct Candidate {
     pub polynomial: Poly<Frac, Grevlex>,
 }
 
-/// The candidate composed with the map of the branch with this number.
-pub(crate) fn after_iteration(
-    alloc: Global,
-    lp: &Loop,
-    letter: u32,
-    images: &Vec<Poly<Frac, Grevlex>>,
-    from: &Candidate,
-) -> Result<Candidate, ClosingError>
-    requires arity { from.now.polynomial.arity ≡ length (program_of lp.now).names }
-    requires images { let program = program_of lp.now in AllStandFor (length program.names)
-        images.now.items (branch_map program (branch_of program letter)) }
-    ensures turned { IfOk result (IsTurned (program_of lp.now) letter from.now) }
-    ensures stopped { IfErr result (IfIterationStops (program_of lp.now) letter from.now) }
-{
-    let word = prepend(alloc, letter, &from.word)?;
-    let polynomial = composition_of(alloc, &from.polynomial, images, &word)?;
-    Ok(Candidate {
-        of: from.of,
-        word,
-        polynomial,
-    })
-}
+impl LoopMaps<'_> {
+    /// The candidate composed with the map of the branch with this number.
+    pub(crate) fn after_iteration(
+        &self,
+        alloc: Global,
+        letter: u32,
+        from: &Candidate,
+    ) -> Result<Candidate, ClosingError>
+        requires letter { IsLetter (program_in self.now) letter }
+        requires arity { from.now.polynomial.arity ≡ arity_in self.now }
+        ensures turned { IfOk result (IsTurned (program_in self.now) letter from.now) }
+        ensures stopped { IfErr result (IfIterationStops (program_in self.now) letter from.now) }
+    {
+        let word = prepend(alloc, letter, &from.word)?;
+        let images = self.branch(letter);
+        let polynomial = composition_of(alloc, &from.polynomial, images, &word)?;
+        Ok(Candidate {
+            of: from.of,
+            word,
+            polynomial,
+        })
+    }
 
-/// The candidate's polynomial composed with the map of the start.
-pub(crate) fn from_start(
-    alloc: Global,
-    lp: &Loop,
-    maps: &Maps,
-    candidate: &Candidate,
-) -> Result<Poly<Frac, Grevlex>, ClosingError>
-    requires arity { candidate.now.polynomial.arity ≡ length (program_of lp.now).names }
-    requires maps { AreMaps (program_of lp.now) maps.now }
-    ensures image { IfOk result (IsFromStart (program_of lp.now) candidate.now) }
-    ensures stopped { IfErr result (IfStartStops (program_of lp.now) candidate.now) }
-{
-    composition_of(alloc, &candidate.polynomial, &maps.start, &candidate.word)
+    /// The candidate's polynomial composed with the map of the start.
+    pub(crate) fn from_start(
+        &self,
+        alloc: Global,
+        candidate: &Candidate,
+    ) -> Result<Poly<Frac, Grevlex>, ClosingError>
+        requires { candidate.now.polynomial.arity ≡ arity_in self.now }
+        ensures image { IfOk result (IsFromStart (program_in self.now) candidate.now) }
+        ensures stopped { IfErr result (IfStartStops (program_in self.now) candidate.now) }
+    {
+        let images = &self.maps.start;
+        composition_of(alloc, &candidate.polynomial, images, &candidate.word)
+    }
 }
 
 /// The polynomial with the images in place of its variables; a refusal tells the word.

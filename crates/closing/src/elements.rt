@@ -1,7 +1,6 @@
 //! The elements that an echelon form of rows of values tells: for each monomial that isn't standard, it less the combination of standard monomials that has its column.
-ghost use Rattle.std.specs.Prelude.{◌≡◌, ◌≢◌, ◌≤◌, ◌<◌, ◌⊎◌, true, false, ℕ, ℤ, List, [], pos, length, map, All, IfOk, OnOk, IsErrOf};
+ghost use Rattle.std.specs.Prelude.{◌≡◌, ◌≢◌, ◌≤◌, ◌<◌, ℕ, ℤ, List, [], pos, length, map, All, IfOk, OnOk, IsErrOf};
 ghost use Rattle.algebra.specs.Each.{Each};
-ghost use Rattle.algebra.specs.In.{In};
 ghost use Rattle.algebra.specs.Fraction.{Fraction, ℚ};
 ghost use Rattle.polynomials.specs.Terms.{Terms};
 ghost use Rattle.polynomials.specs.Order.{grevlex};
@@ -14,7 +13,7 @@ ghost use Rattle.frac128.specs.FracMeaning.{fraction_of as meaning_of};
 ghost use Rattle.poly.specs.Seen.{terms_in, terms_each};
 ghost use Rattle.poly.specs.View.{terms_of};
 ghost use Rattle.closing.specs.Modulus.{modulus};
-ghost use Rattle.closing.specs.EchelonForm.{entry, leads_in, IsEchelonOf, IsReducedEchelon};
+ghost use Rattle.closing.specs.EchelonForm.{entry, IsEchelonOf, IsReducedEchelon};
 ghost use Rattle.closing.specs.Numbers.{numbers_of};
 ghost use Rattle.closing.specs.ElementParts.{IsElementOf, IsElementTo, LeadsElement, IsUntold, IsPushed, HasNoFraction, has_divisor};
 ghost use Rattle.closing.specs.Elements.{IsValueRow, IsZeroRow, IsCandidate, standard_in};
@@ -96,33 +95,13 @@ pub fn elements_of(
     let mut elements = Vec::new(alloc);
     for column in 0..monomials.len() {
         let mono = &monomials[column];
-        if leads_element(&elements, mono, echelon, column) {
-            elements.push(element_at(alloc, arity, monomials, echelon, column)?)?;
+        if echelon.row_at(column).is_none() {
+            if !is_led(&elements, mono) {
+                elements.push(element_at(alloc, arity, monomials, echelon, column)?)?;
+            }
         }
     }
     Ok(elements)
-}
-
-/// Whether the monomial of the column leads an element behind those: no row leads there, and no lead of the elements divides the monomial.
-fn leads_element(
-    elements: &[Poly<Frac, Grevlex>],
-    mono: &Mono,
-    echelon: &Echelon,
-    column: usize,
-) -> bool
-    requires arities { Each (λ g. length (lead_of g) ≡ length mono.now) (terms_each elements.now) }
-    requires nonzero { Each (λ g. g ≢ []) (terms_each elements.now) }
-    ensures kept { IsReducedEchelon (pos modulus) echelon.now.width echelon.now.rows }
-    ensures free { result ≡ true → Each (λ l. l.lead ≢ column) echelon.now.rows }
-    ensures undivided { result ≡ true
-        → has_divisor (map lead_of (terms_each elements.now)) mono.now ≡ false }
-    ensures no { result ≡ false → In column (leads_in echelon.now.rows)
-        ⊎ (has_divisor (map lead_of (terms_each elements.now)) mono.now ≡ true) }
-{
-    match echelon.row_at(column) {
-        Some(_) => false,
-        None => !is_led(elements, mono),
-    }
 }
 
 /// Whether some lead of the elements divides the monomial.

@@ -1,5 +1,5 @@
 //! The monomials up to a degree.
-ghost use Rattle.std.specs.Prelude.{◌≡◌, ◌<◌, ◌≤◌, [], ◌∷◌, ◌++◌, suc, length, sum, nat_le, All, IfOk, IfSome, IsNone};
+ghost use Rattle.std.specs.Prelude.{◌≡◌, ◌<◌, ◌≤◌, ℕ, [], ◌∷◌, ◌++◌, suc, length, sum, nat_le, All, IfOk, IfSome, IsNone};
 ghost use Rattle.std.specs.List.{filter};
 ghost use Rattle.closures.specs.Monomials.{of_degree, monomials_up_to as monomials};
 ghost use Rattle.monos.specs.Variables.{most_variables};
@@ -26,8 +26,8 @@ pub fn monomials_up_to(
 {
     let mut monomials = Vec::new(alloc);
     monomials.push(Mono::one(alloc, 0)?)?;
-    for variables in 0..arity {
-        match with_variable(alloc, &monomials, variables, degree)? {
+    for _variables in 0..arity {
+        match with_variable(alloc, &monomials, degree)? {
             Some(longer) => monomials = longer,
             None => return Ok(None),
         }
@@ -35,24 +35,19 @@ pub fn monomials_up_to(
     Ok(Some(monomials))
 }
 
-/// Those in one variable more, of those in so many variables.
-fn with_variable(
-    alloc: Global,
-    list: &[Mono],
-    variables: usize,
-    degree: u16,
-) -> Result<Option<Vec<Mono>>, AllocError>
-    requires list { list.now ≡ monomials variables degree }
-    requires within { variables < most_variables }
-    ensures all { IfOk result (λ found.
-        IfSome found (λ es. es.items ≡ monomials (suc variables) degree)) }
+/// Those in one variable more, of those in some variables.
+fn with_variable(alloc: Global, list: &[Mono], degree: u16) -> Result<Option<Vec<Mono>>, AllocError>
+    requires { (m : ℕ) × (m < most_variables) × (list.now ≡ monomials m degree) }
+    ensures all { (m : ℕ) → list.now ≡ monomials m degree
+        → IfOk result (λ found. IfSome found (λ es. es.items ≡ monomials (suc m) degree)) }
     ensures few { IfOk result (λ found. IfSome found (λ es. length es.items ≤ most_monomials)) }
-    ensures many { IfOk result (λ found. IsNone found
-        → most_monomials < length (monomials (suc variables) degree)) }
+    ensures many { (m : ℕ) → list.now ≡ monomials m degree
+        → IfOk result (λ found. IsNone found
+        → most_monomials < length (monomials (suc m) degree)) }
 {
     let mut longer = Vec::new(alloc);
     for total in 0..u32::from(degree) + 1 {
-        longer = with_degree(alloc, list, variables, total as u16, longer)?;
+        longer = with_degree(alloc, list, total as u16, longer)?;
         if longer.len() > MOST_MONOMIALS {
             return Ok(None);
         }
@@ -65,12 +60,10 @@ fn with_variable(
 fn with_degree(
     alloc: Global,
     list: &[Mono],
-    variables: usize,
     total: u16,
     longer: Vec<Mono>,
 ) -> Result<Vec<Mono>, AllocError>
-    requires arity { All (λ e. length e ≡ variables) list.now }
-    requires within { variables < most_variables }
+    requires { All (λ e. length e < most_variables) list.now }
     ensures { IfOk result (λ es. es.items
         ≡ longer.items ++ of_degree total (filter (λ e. nat_le (sum e) total) list.now)) }
 {

@@ -2,7 +2,6 @@
 ghost use Rattle.std.specs.Prelude.{◌≡◌, ◌<◌, ◌≤◌, ℕ, List, pos, IsTrue, ◌↔◌, All, length, IfOk};
 ghost use Rattle.machines.specs.Journal.{units_of};
 ghost use Rattle.journal.specs.View.{most_units};
-ghost use Rattle.loops.specs.WellFormed.{IsWellFormed};
 ghost use Rattle.rounds.specs.Word.{IsLetter};
 ghost use Rattle.loop_model.specs.View.{program_of};
 ghost use Rattle.closing.specs.Modulus.{modulus};
@@ -37,29 +36,28 @@ pub(crate) struct Sampling {
     pub(crate) idle: u32,
 }
 
-/// Takes samples until there are enough.
-pub(crate) fn fill(
-    alloc: Global,
-    lp: &Loop,
-    sampling: Sampling,
-    meter: &mut Meter,
-) -> Result<Sampling, SearchError>
-    requires formed { IsWellFormed (program_of lp.now) }
-    requires sampled { (d : ℕ) × IsSampled (program_of lp.now) d meter.old.entries sampling }
-    ensures limit { meter.new.limit ≡ meter.old.limit }
-    ensures units { IfOk result (λ _. units_of meter.old.entries ≤ units_of meter.new.entries) }
-    ensures fills { (d : ℕ) → IsSampled (program_of lp.now) d meter.old.entries sampling
-        → IfEnough (program_of lp.now) d meter.new.limit meter.new.entries result }
-{
-    let mut sampling = sampling;
-    while sampling.goes_on() {
-        meter.within_limit();
-        sampling = take(alloc, lp, sampling, meter)?;
-    }
-    Ok(sampling)
-}
-
 impl Sampling {
+    /// Takes samples until there are enough.
+    pub(crate) fn fill(
+        self,
+        alloc: Global,
+        lp: &Loop,
+        meter: &mut Meter,
+    ) -> Result<Sampling, SearchError>
+        requires sampled { (d : ℕ) × IsSampled (program_of lp.now) d meter.old.entries self }
+        ensures limit { meter.new.limit ≡ meter.old.limit }
+        ensures units { IfOk result (λ _. units_of meter.old.entries ≤ units_of meter.new.entries) }
+        ensures fills { (d : ℕ) → IsSampled (program_of lp.now) d meter.old.entries self
+            → IfEnough (program_of lp.now) d meter.new.limit meter.new.entries result }
+    {
+        let mut sampling = self;
+        while sampling.goes_on() {
+            meter.within_limit();
+            sampling = sampling.take(alloc, lp, meter)?;
+        }
+        Ok(sampling)
+    }
+
     /// Whether another sample is taken.
     fn goes_on(&self) -> bool
         ensures { IsTrue result ↔ ((self.now.idle < most_idle)
@@ -67,93 +65,85 @@ impl Sampling {
     {
         self.idle < MOST_IDLE && self.counted < self.monomials.len()
     }
-}
 
-/// Takes the next sample: a random run with as many iterations as samples were taken.
-fn take(
-    alloc: Global,
-    lp: &Loop,
-    sampling: Sampling,
-    meter: &mut Meter,
-) -> Result<Sampling, SearchError>
-    requires formed { IsWellFormed (program_of lp.now) }
-    requires sampled { (d : ℕ) × IsUnfinished (program_of lp.now) d meter.old.entries sampling }
-    ensures limit { meter.new.limit ≡ meter.old.limit }
-    ensures units { IfOk result (λ _. units_of meter.old.entries < units_of meter.new.entries) }
-    ensures takes { (d : ℕ) → IsUnfinished (program_of lp.now) d meter.old.entries sampling
-        → IfSampled (program_of lp.now) d meter.new.limit meter.new.entries result }
-{
-    match meter.begin(Task::Sample {
-        number: sampling.taken,
-    }) {
-        Ok(()) => (),
-        Err(MeterError::Budget) => return Err(SearchError::Budget),
-        Err(MeterError::Memory) => return Err(SearchError::Memory),
-    }
-    let mut sampling = sampling;
-    let numbers = sampling.draws.take(alloc, lp.names().len())?;
-    let letters = sampling.draws.take(alloc, sampling.taken as usize)?;
-    let word = word_of(alloc, lp, &letters)?;
-    let row = row_of(alloc, lp, &sampling, &numbers, &word)?;
-    match sampling.echelon.add_row(row)? {
-        Addition::Counts => {
-            sampling.counted += 1;
-            sampling.taken += 1;
-            sampling.idle = 0;
-            Ok(sampling)
+    /// Takes the next sample: a random run with as many iterations as samples were taken.
+    fn take(self, alloc: Global, lp: &Loop, meter: &mut Meter) -> Result<Sampling, SearchError>
+        requires sampled { (d : ℕ) × IsUnfinished (program_of lp.now) d meter.old.entries self }
+        ensures limit { meter.new.limit ≡ meter.old.limit }
+        ensures units { IfOk result (λ _. units_of meter.old.entries < units_of meter.new.entries) }
+        ensures takes { (d : ℕ) → IsUnfinished (program_of lp.now) d meter.old.entries self
+            → IfSampled (program_of lp.now) d meter.new.limit meter.new.entries result }
+    {
+        match meter.begin(Task::Sample { number: self.taken }) {
+            Ok(()) => (),
+            Err(MeterError::Budget) => return Err(SearchError::Budget),
+            Err(MeterError::Memory) => return Err(SearchError::Memory),
         }
-        Addition::Combination => {
-            sampling.taken += 1;
-            sampling.idle += 1;
-            Ok(sampling)
+        let mut sampling = self;
+        let numbers = sampling.draws.take(alloc, lp.names().len())?;
+        let letters = sampling.draws.take(alloc, sampling.taken as usize)?;
+        let word = word_of(alloc, lp, &letters)?;
+        let row = sampling.row_of(alloc, lp, &numbers, &word)?;
+        match sampling.echelon.add_row(row)? {
+            Addition::Counts => {
+                sampling.counted += 1;
+                sampling.taken += 1;
+                sampling.idle = 0;
+                Ok(sampling)
+            }
+            Addition::Combination => {
+                sampling.taken += 1;
+                sampling.idle += 1;
+                Ok(sampling)
+            }
+            Addition::NoInverse => Err(SearchError::Sample),
         }
-        Addition::NoInverse => Err(SearchError::Sample),
     }
-}
 
-/// Adds the row of a run with random start values and a word that counters the elements. None where the row doesn't count.
-pub(crate) fn refute(
-    alloc: Global,
-    lp: &Loop,
-    sampling: Sampling,
-    word: &[u32],
-) -> Result<Option<Sampling>, AllocError>
-    requires maps { AreMapsModulo (program_of lp.now) sampling.maps }
-    requires width { sampling.echelon.width ≡ length sampling.monomials.items }
-    requires few { sampling.counted ≤ most_units }
-    requires letters { All (IsLetter (program_of lp.now)) word.now }
-    ensures { (d : ℕ) (ps : List Part) → IsAt (program_of lp.now) d ps sampling
-        → IfOk result (IfRefuted (program_of lp.now) d ps word.now) }
-{
-    let mut sampling = sampling;
-    let numbers = sampling.draws.take(alloc, lp.names().len())?;
-    let row = row_of(alloc, lp, &sampling, &numbers, word)?;
-    match sampling.echelon.add_row(row)? {
-        Addition::Counts => {
-            sampling.counted += 1;
-            sampling.idle = 0;
-            Ok(Some(sampling))
+    /// Adds the row of a run with random start values and a word that counters the elements. None where the row doesn't count.
+    pub(crate) fn refute(
+        self,
+        alloc: Global,
+        lp: &Loop,
+        word: &[u32],
+    ) -> Result<Option<Sampling>, AllocError>
+        requires maps { AreMapsModulo (program_of lp.now) self.maps }
+        requires width { self.echelon.width ≡ length self.monomials.items }
+        requires few { self.counted ≤ most_units }
+        requires letters { All (IsLetter (program_of lp.now)) word.now }
+        ensures { (d : ℕ) (ps : List Part) → IsAt (program_of lp.now) d ps self
+            → IfOk result (IfRefuted (program_of lp.now) d ps word.now) }
+    {
+        let mut sampling = self;
+        let numbers = sampling.draws.take(alloc, lp.names().len())?;
+        let row = sampling.row_of(alloc, lp, &numbers, word)?;
+        match sampling.echelon.add_row(row)? {
+            Addition::Counts => {
+                sampling.counted += 1;
+                sampling.idle = 0;
+                Ok(Some(sampling))
+            }
+            Addition::Combination | Addition::NoInverse => Ok(None),
         }
-        Addition::Combination | Addition::NoInverse => Ok(None),
     }
-}
 
-/// The row of the run with these numbers at the variables of its start that are free, and this word.
-fn row_of(
-    alloc: Global,
-    lp: &Loop,
-    sampling: &Sampling,
-    numbers: &[u64],
-    word: &[u32],
-) -> Result<Vec<Residue>, AllocError>
-    requires maps { AreMapsModulo (program_of lp.now) sampling.now.maps }
-    requires count { length numbers.now ≡ length (program_of lp.now).names }
-    requires letters { All (IsLetter (program_of lp.now)) word.now }
-    ensures row { IfOk result (λ row. IsRowOf (program_of lp.now) (pos modulus)
-        sampling.now.monomials.items numbers.now word.now (numbers_of row.items)) }
-    ensures width { IfOk result (λ row.
-        length row.items ≡ length sampling.now.monomials.items) }
-{
-    let start = start_state(alloc, lp, &sampling.maps, numbers)?;
-    sample_row(alloc, lp, &sampling.maps, &sampling.monomials, start, word)
+    /// The row of the run with these numbers at the variables of its start that are free, and this word.
+    fn row_of(
+        &self,
+        alloc: Global,
+        lp: &Loop,
+        numbers: &[u64],
+        word: &[u32],
+    ) -> Result<Vec<Residue>, AllocError>
+        requires maps { AreMapsModulo (program_of lp.now) self.now.maps }
+        requires count { length numbers.now ≡ length (program_of lp.now).names }
+        requires letters { All (IsLetter (program_of lp.now)) word.now }
+        ensures row { IfOk result (λ row. IsRowOf (program_of lp.now) (pos modulus)
+            self.now.monomials.items numbers.now word.now (numbers_of row.items)) }
+        ensures width { IfOk result (λ row.
+            length row.items ≡ length self.now.monomials.items) }
+    {
+        let start = start_state(alloc, lp, &self.maps, numbers)?;
+        sample_row(alloc, lp, &self.maps, &self.monomials, start, word)
+    }
 }

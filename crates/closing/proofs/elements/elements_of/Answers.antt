@@ -1,21 +1,20 @@
-use Rattle.std.proofs.Common.{◌≡◌, ◌≢◌, ◌+◌, ◌≤◌, ◌⊎◌, true, false, All, pos, [], ◌∷◌, length, map, refl, sym, subst, arith}
+use Rattle.std.proofs.Common.{◌≡◌, ◌≢◌, ◌+◌, ◌≤◌, inl, inr, true, false, All, pos, [], ◌∷◌, length, map, not, sym, ap, subst, ◌∙◌, arith}
 use Rattle.std.proofs.lemmas.List.{map-append, length_push}
 use Rattle.std.proofs.lemmas.List.Elements.{All-nil, All-push}
 use Rattle.std.proofs.lemmas.Result.{err_from_is_err_and}
 use Rattle.algebra.specs.Each.{Each}
-use Rattle.algebra.specs.In.{In}
 use Rattle.machines.specs.Cut.{lead_of}
 use Rattle.poly.specs.Seen.{terms_in, terms_each}
 use Rattle.closing.specs.Modulus.{modulus}
-use Rattle.closing.specs.EchelonForm.{leads_in, IsEchelonOf, IsReducedEchelon}
+use Rattle.closing.specs.EchelonForm.{IsEchelonOf, IsReducedEchelon}
 use Rattle.closing.specs.ElementParts.{LeadsElement, has_divisor}
 use Rattle.closing.specs.Elements.{IsCandidate}
 use Rattle.closing.proofs.Leading.{leads_at}
 use Rattle.closing.proofs.Leads.{IsFoundTo, found_first, found_no, found_push, found_tidy, found_standard}
-use Rattle.closing.proofs.ElementSteps.{no_one, leads_wide, leads_some, found_all, mono_read}
+use Rattle.closing.proofs.ElementSteps.{no_one, leads_wide, leads_some, found_all, mono_read, row_leads}
 use Rattle.closing.proofs.Untold.{no_candidate}
 use Rattle.closing.proofs.elements.elements_of.Goals as goal
-use Rattle.closing.proofs.elements.elements_of.Goals.{then-leads_element+in_ok-element_at+in_ok-push, else-leads_element}
+use Rattle.closing.proofs.elements.elements_of.Goals.{then-is_none+then-not-is_led+in_ok-element_at+in_ok-push, then-is_none+else-not-is_led, else-is_none}
 
 pub loop-column-init : goal.loop-column-init
 loop-column-init c = record {
@@ -27,16 +26,16 @@ loop-column-init c = record {
       (found_first (pos modulus) c.args.monomials.now c.args.echelon.now.rows);
 }
 
-pub leads_element-requires-clause-arities : goal.leads_element-requires-clause-arities
-leads_element-requires-clause-arities c =
+pub is_led-requires-clause-arities : goal.is_led-requires-clause-arities
+is_led-requires-clause-arities c =
     subst (λ l. Each (λ g. length (lead_of g) ≡ length c.index-monomials-column.result)
     (terms_each l)) (sym c.deref.ensures.value)
     (leads_wide c.args.arity c.args.monomials.now c.requires.arities c.args.echelon.now.rows
     c.loop-column.column (terms_each c.loop-column.elements.items) c.loop-column.invariant.found
     c.loop-column-test.true c.index-monomials-column.result c.index-monomials-column.is)
 
-pub leads_element-requires-clause-nonzero : goal.leads_element-requires-clause-nonzero
-leads_element-requires-clause-nonzero c =
+pub is_led-requires-clause-nonzero : goal.is_led-requires-clause-nonzero
+is_led-requires-clause-nonzero c =
     subst (λ l. Each (λ g. g ≢ []) (terms_each l)) (sym c.deref.ensures.value)
     (leads_some c.args.arity c.args.monomials.now c.requires.arities c.args.echelon.now.rows
     c.loop-column.column (terms_each c.loop-column.elements.items) c.loop-column.invariant.found)
@@ -65,13 +64,13 @@ returns-in_err-element_at-clause-leads c =
     let w = c.in_err-element_at.ensures.wide lead (cc (p.1, p.2, h)) in
     subst (LeadsElement (pos modulus) es ls) (sym w.0)
     (leads_at (pos modulus) no_one (length es) es ls
-    (subst (λ n. IsReducedEchelon (pos modulus) n ls) c.requires.width c.leads_element.ensures.kept)
+    (subst (λ n. IsReducedEchelon (pos modulus) n ls) c.requires.width c.row_at.ensures.kept)
     c.args.arity c.loop-column.column c.loop-column-test.true c.requires.arities (terms_each olds)
     c.loop-column.invariant.found
     (subst (λ e. has_divisor (map lead_of (terms_each olds)) e ≡ false) mono
     (subst (λ l. has_divisor (map lead_of (terms_each l)) c.index-monomials-column.result ≡ false)
-    c.deref.ensures.value (c.leads_element.ensures.undivided c.if-leads_element.true)))
-    (c.leads_element.ensures.free c.if-leads_element.true))
+    c.deref.ensures.value (sym c.is_led.ensures ∙ c.if-not-is_led.true)))
+    (c.row_at.ensures.none (c.is_none.ensures ∙ ap not c.if-is_none.true)))
 
 pub loop-column-preserved : goal.loop-column-preserved
 loop-column-preserved c =
@@ -81,8 +80,8 @@ loop-column-preserved c =
     let olds = c.loop-column.elements.items in
     let mono = mono_read es k c.index-monomials-column.result c.loop-column-test.true
     c.index-monomials-column.is in
-    elim c.if-leads_element.branch [
-      | then-leads_element+in_ok-element_at+in_ok-push w ↦ record {
+    elim c.if-is_none.branch [
+      | then-is_none+then-not-is_led+in_ok-element_at+in_ok-push w ↦ record {
         arities = subst (λ v. All (λ p. p.arity ≡ c.args.arity) v.items) (sym w.elements-is)
             (subst (All (λ p. p.arity ≡ c.args.arity)) (sym w.in_ok-push.ensures.items)
             (All-push (λ p. p.arity ≡ c.args.arity) olds w.in_ok-element_at.field-0
@@ -102,10 +101,10 @@ loop-column-preserved c =
             (terms_in w.in_ok-element_at.field-0)
             (subst (λ e. has_divisor (map lead_of (terms_each olds)) e ≡ false) mono
             (subst (λ l. has_divisor (map lead_of (terms_each l)) c.index-monomials-column.result
-            ≡ false) c.deref.ensures.value (w.if-leads_element.ensures.undivided refl)))
+            ≡ false) w.deref.ensures.value (sym w.is_led.ensures ∙ w.if-not-is_led.true)))
             w.in_ok-element_at.ensures.element)));
       }
-      | else-leads_element w ↦ record {
+      | then-is_none+else-not-is_led w ↦ record {
         arities = subst (λ v. All (λ p. p.arity ≡ c.args.arity) v.items) (sym w.elements-is)
             c.loop-column.invariant.arities;
         few = subst (λ v. length v.items ≤ k + 1) (sym w.elements-is)
@@ -113,11 +112,21 @@ loop-column-preserved c =
         found = subst (λ v. IsFoundTo (pos modulus) es ls (k + 1) (terms_each v.items))
             (sym w.elements-is)
             (found_no (pos modulus) es ls k (terms_each olds) c.loop-column.invariant.found
-            (subst (λ e. In k (leads_in ls)
-            ⊎ (has_divisor (map lead_of (terms_each olds)) e ≡ true)) mono
-            (subst (λ l. In k (leads_in ls)
-            ⊎ (has_divisor (map lead_of (terms_each l)) c.index-monomials-column.result ≡ true))
-            c.deref.ensures.value (w.if-leads_element.ensures.no refl))));
+            (inr (subst (λ e. has_divisor (map lead_of (terms_each olds)) e ≡ true) mono
+            (subst (λ l. has_divisor (map lead_of (terms_each l)) c.index-monomials-column.result
+            ≡ true) w.deref.ensures.value (sym w.is_led.ensures ∙ w.if-not-is_led.false)))));
+      }
+      | else-is_none w ↦ record {
+        arities = subst (λ v. All (λ p. p.arity ≡ c.args.arity) v.items) (sym w.elements-is)
+            c.loop-column.invariant.arities;
+        few = subst (λ v. length v.items ≤ k + 1) (sym w.elements-is)
+            (omega (arith, c.loop-column.invariant.few));
+        found = subst (λ v. IsFoundTo (pos modulus) es ls (k + 1) (terms_each v.items))
+            (sym w.elements-is)
+            (found_no (pos modulus) es ls k (terms_each olds) c.loop-column.invariant.found
+            (inl (row_leads c.row_at.result (λ r. r.now) k ls
+            (c.is_none.ensures ∙ ap not w.if-is_none.false) c.row_at.ensures.some
+            c.row_at.ensures.within)));
       }
     ]
 

@@ -5,7 +5,7 @@ use Rattle.closing.proofs.monomials.monomials_up_to.Given as goal
 
 abbrev pub invariant-loop-variables : goal.invariant-loop-variables
 invariant-loop-variables l = record {
-  within : l.variables ≤ l.arity;
-  all : l.monomials.items ≡ monomials l.variables l.degree;
+  within : l._variables ≤ l.arity;
+  all : l.monomials.items ≡ monomials l._variables l.degree;
   few : length l.monomials.items ≤ most_monomials;
 }

@@ -1,47 +1,45 @@
 use Rattle.std.proofs.Common.{◌+◌, length, ap, arith}
 use Rattle.closing.specs.Limits.{most_monomials}
-use Rattle.closing.proofs.MonomialsListed.{arities, no_degrees, next_degree, all_degrees, too_many}
+use Rattle.closing.proofs.MonomialsListed.{arities_below, no_degrees, next_degree, all_degrees, too_many}
 use Rattle.closing.proofs.monomials.with_variable.Goals as goal
 
 pub loop-total-init : goal.loop-total-init
 loop-total-init c = record {
   within = omega arith;
-  all =
-      no_degrees c.args.variables c.args.degree c.new-longer.result.items
-      c.new-longer.ensures.items;
+  all = λ m is. no_degrees m c.args.degree c.new-longer.result.items c.new-longer.ensures.items;
   few = omega (arith, ap length c.new-longer.ensures.items);
 }
 
-pub with_degree-requires-clause-arity : goal.with_degree-requires-clause-arity
-with_degree-requires-clause-arity c =
-    arities c.args.list.now c.args.variables c.args.degree c.requires.list
+pub with_degree-requires : goal.with_degree-requires
+with_degree-requires c =
+    let (m, few, is) = c.requires in arities_below c.args.list.now m c.args.degree is _ few
 
 pub returns-then-len-gt-MOST_MONOMIALS-clause-many :
     goal.returns-then-len-gt-MOST_MONOMIALS-clause-many
-returns-then-len-gt-MOST_MONOMIALS-clause-many c = λ none.
-    too_many c.args.variables c.args.degree (c.loop-total.total + 1) most_monomials
+returns-then-len-gt-MOST_MONOMIALS-clause-many c = λ m is none.
+    too_many m c.args.degree (c.loop-total.total + 1) most_monomials
     c.in_ok-longer.longer.items
     (omega (arith, c.loop-total-test.true, c.from-total-end.ensures))
-    (next_degree c.args.variables c.args.degree c.args.list.now c.loop-total.longer.items
-    c.in_ok-longer.longer.items c.loop-total.total c.requires.list
+    (next_degree m c.args.degree c.args.list.now c.loop-total.longer.items
+    c.in_ok-longer.longer.items c.loop-total.total is
     (omega (arith, c.loop-total-test.true, c.from-total-end.ensures))
-    c.loop-total.invariant.all c.in_ok-longer.ensures)
+    (c.loop-total.invariant.all m is) c.in_ok-longer.ensures)
     (omega (arith, c.if-len-gt-MOST_MONOMIALS.true, c.len.ensures))
 
 pub loop-total-preserved : goal.loop-total-preserved
 loop-total-preserved c = record {
   within = omega (arith, c.loop-total-test.true, c.from-total-end.ensures);
-  all =
-      next_degree c.args.variables c.args.degree c.args.list.now c.loop-total.longer.items
-      c.in_ok-longer.longer.items c.loop-total.total c.requires.list
+  all = λ m is.
+      next_degree m c.args.degree c.args.list.now c.loop-total.longer.items
+      c.in_ok-longer.longer.items c.loop-total.total is
       (omega (arith, c.loop-total-test.true, c.from-total-end.ensures))
-      c.loop-total.invariant.all c.in_ok-longer.ensures;
+      (c.loop-total.invariant.all m is) c.in_ok-longer.ensures;
   few = omega (arith, c.if-len-gt-MOST_MONOMIALS.false, c.len.ensures);
 }
 
 pub returns-clause-all : goal.returns-clause-all
-returns-clause-all c =
-    all_degrees c.args.variables c.args.degree c.loop-total.total c.loop-total.longer.items
+returns-clause-all c = λ m is.
+    all_degrees m c.args.degree c.loop-total.total c.loop-total.longer.items
     (omega (arith, c.loop-total.invariant.within))
     (omega (arith, c.loop-total-test.false, c.from-total-end.ensures))
-    c.loop-total.invariant.all
+    (c.loop-total.invariant.all m is)

@@ -1,4 +1,5 @@
-use Rattle.std.proofs.Common.{◌≡◌, ◌≤◌, ◌+◌, length}
+use Rattle.std.proofs.Common.{◌≡◌, ◌≤◌, ◌+◌, ℕ, length}
+use Rattle.closures.specs.Monomials.{monomials_up_to}
 use Rattle.closing.specs.Limits.{most_monomials}
 use Rattle.closing.proofs.MonomialsListed.{degrees_below}
 use Rattle.closing.proofs.monomials.with_variable.Given as goal
@@ -6,6 +7,7 @@ use Rattle.closing.proofs.monomials.with_variable.Given as goal
 abbrev pub invariant-loop-total : goal.invariant-loop-total
 invariant-loop-total l = record {
   within : l.total ≤ l.degree + 1;
-  all : l.longer.items ≡ degrees_below l.variables l.degree l.total;
+  all : (m : ℕ) → l.list ≡ monomials_up_to m l.degree
+      → l.longer.items ≡ degrees_below m l.degree l.total;
   few : length l.longer.items ≤ most_monomials;
 }
