@@ -3,7 +3,7 @@
 --   map_told, stop_told        a map that can't be formed, and why the search stopped
 --   basis_told, proving_told   what was found, and how the divisions end that prove it closed
 --   found_begun, proving_begun     the entries of what was found are a beginning
---   few_found, many_stops, lead_over     the result of a search, as it is matched
+--   is_found, many_stops, lead_over     the result of a search, as it is matched
 --   stopped_answer             the answer to a search that stopped
 --   list_begun, list_told, proof_begun, proof_told     the answer to one that has ended
 use Rattle.std.proofs.Common.{◌≡◌, ◌⊎◌, inl, inr, ℕ, ◌+◌, List, [], ◌++◌, length, refl, sym, ap, subst, ◌∙◌, append_assoc, Result, Ok, Err}
@@ -29,7 +29,7 @@ use Rattle.closures.specs.UpTo.{IsReducedUpTo}
 use Rattle.closures.proofs.Ended.{closed_is}
 use Rattle.closing.specs.SearchCauses as search
 use Rattle.closing.specs.SearchCauses.{IsClosing, Finds}
-use Rattle.closing.specs.Found.{IsPartOf, IfSearchStops}
+use Rattle.closing.specs.Found.{FindsFirst, FitsFinding, IsPartOf, IfSearchStops}
 use Rattle.closing.specs.Search.{Part, entries_of, IsSearch}
 use Rattle.closing.specs.declared.search_error.SearchError.{SearchError}
 use Rattle.closing.specs.declared.whole_search.Finding.{Finding}
@@ -89,11 +89,7 @@ module _ (l : Program (Expr ℕ)) (d : ℕ) (m : Journal) (n : ℕ) (limit : m.l
     module _ (maps : AreFree l) (a : Answer) where
       stopped : TellsStop l d m evidence a → (HasMany l d → a ≡ degree_answer d)
           → Searches l d m evidence n a
-      stopped t many = record {
-        limit = limit;
-        tells = inr (inl t);
-        many = λ h. inl (many h);
-      }
+      stopped t many = record { limit = limit; tells = inr (inl t); many = λ h. inl (many h) }
 
       pub stop_told : (e : SearchError) → IfSearchStops l d m.limit m.entries e
           → (HasMany l d → (e ≡ error.Degree) ⊎ (e ≡ error.Memory))
@@ -145,8 +141,7 @@ module _ (l : Program (Expr ℕ)) (d : ℕ) (m : Journal) (n : ℕ) (limit : m.l
                   (subst (λ k. search.IsOut l d m.entries k) limit s);
               says = some_answer (exhausted_answer n) a says;
             }));
-        many =
-            λ h. absurd (elim (many h) [ inl e ↦ cc | inr e ↦ cc ]);
+        many = λ h. absurd (elim (many h) [ inl e ↦ cc | inr e ↦ cc ]);
       }
       stop_told error.Memory s many says = absurd (no_answer a says)
 
@@ -295,8 +290,17 @@ module _ (l : Program (Expr ℕ)) (d : ℕ) where
   abbrev IsMany : Result Finding SearchError → Type 0
   IsMany r = HasMany l d → IsErrOf r error.Degree ⊎ IsErrOf r error.Memory
 
-  pub few_found : (f : Finding) → IsMany (Ok f) → HasMany l d → ⊥
-  few_found f many h = elim (many h) [ inl e ↦ cc | inr e ↦ cc ]
+  pub is_found : (n : ℕ) (m : Journal) → m.limit ≡ n → (f : Finding) → FindsFirst l d m.entries f
+      → FitsFinding (length l.names) m f
+      → IsReducedUpTo (length l.names) d (terms_each f.elements.items) (Inv l) → IsMany (Ok f)
+      → IsFound l d n m f
+  is_found n m limit f finds fits reduced many = record {
+    limit = limit;
+    finds = finds;
+    fits = fits;
+    reduced = reduced;
+    few = λ h. elim (many h) [ inl e ↦ cc | inr e ↦ cc ];
+  }
 
   pub many_stops : (e : SearchError) → IsMany (Err e) → HasMany l d
       → (e ≡ error.Degree) ⊎ (e ≡ error.Memory)

@@ -1,14 +1,12 @@
 //! The certificate of a list that was closed.
 ghost use Rattle.std.specs.Prelude.{◌≡◌, ◌⊎◌, ◌+◌, ◌<◌, ◌≤◌, Some, length, IfOk};
-ghost use Rattle.loops.specs.WellFormed.{IsWellFormed};
 ghost use Rattle.poly.specs.Seen.{terms_each};
 ghost use Rattle.divide.specs.Limits.{list_limit};
 ghost use Rattle.ideal_ops.specs.Calls.{AreOver};
-ghost use Rattle.loop_model.specs.View.{program_of};
 ghost use Rattle.cert_form.specs.Form.{cert_in, most_elements, ReadsAs};
-ghost use Rattle.counter_run.specs.Maps.{AreMaps};
 ghost use Rattle.closures.specs.Closing.{closed};
 ghost use Rattle.closures.specs.Ends.{ComesNext};
+ghost use Rattle.closing.specs.LoopMaps.{program_in, arity_in};
 ghost use Rattle.closing.specs.Proving.{certificate_of, FitsProof};
 ghost use Rattle.io_edge.specs.Views.{answer_view};
 ghost use Rattle.closing_commands.specs.ProvedLists.{AreBegun, TellsProving};
@@ -16,13 +14,12 @@ ghost use Rattle.closing_commands.specs.ProvedTexts as texts;
 ghost use Rattle.closing_commands.specs.ProvedViews.{proving_answer};
 
 use cert_form::{Cert, write_cert};
-use closing::{ClosureProof, ProvingError, proof_of};
+use closing::{ClosureProof, LoopMaps, ProvingError};
 use command_parts::{Budget, exhausted_answer};
-use counter_run::Maps;
 use frac128::Frac;
 use io_edge::{Answer, Status};
 use journal::Meter;
-use loop_model::{Loop, Names};
+use loop_model::Names;
 use monos::Grevlex;
 use poly::Poly;
 use std::alloc::{AllocError, Global};
@@ -31,30 +28,27 @@ use std::alloc::{AllocError, Global};
 /// which their closing has ended; `budget` is told where what the meter allows is exhausted.
 pub(crate) fn certificate_answer(
     alloc: Global,
-    lp: &Loop,
-    maps: &Maps,
+    loop_maps: &LoopMaps<'_>,
     budget: Budget,
     polynomials: &[Poly<Frac, Grevlex>],
     list: &[Poly<Frac, Grevlex>],
     meter: &mut Meter,
 ) -> Result<Answer, AllocError>
-    requires formed { IsWellFormed (program_of lp.now) }
-    requires maps { AreMaps (program_of lp.now) maps.now }
-    requires over { AreOver (length (program_of lp.now).names) polynomials.now }
-    requires list_over { AreOver (length (program_of lp.now).names) list.now }
+    requires over { AreOver (arity_in loop_maps.now) polynomials.now }
+    requires list_over { AreOver (arity_in loop_maps.now) list.now }
     requires few { length polynomials.now + length list.now < list_limit }
-    requires closed { ComesNext (program_of lp.now) (terms_each polynomials.now)
+    requires closed { ComesNext (program_in loop_maps.now) (terms_each polynomials.now)
         meter.old.entries (closed (terms_each list.now)) }
     ensures limit { meter.new.limit ≡ meter.old.limit }
-    ensures answer { IfOk result (λ a. TellsProving (program_of lp.now)
+    ensures answer { IfOk result (λ a. TellsProving (program_in loop_maps.now)
         (terms_each polynomials.now) (terms_each list.now) meter.new budget.units (answer_view a)) }
-    ensures begun { ComesNext (program_of lp.now) (terms_each polynomials.now)
+    ensures begun { ComesNext (program_in loop_maps.now) (terms_each polynomials.now)
         meter.new.entries (closed (terms_each list.now))
-        ⊎ AreBegun (program_of lp.now) (terms_each polynomials.now) meter.new.entries
+        ⊎ AreBegun (program_in loop_maps.now) (terms_each polynomials.now) meter.new.entries
         (terms_each list.now) }
 {
-    match proof_of(alloc, lp, maps, polynomials, list, meter) {
-        Ok(proof) => proof_answer(alloc, lp.names(), proof),
+    match loop_maps.proof_of(alloc, polynomials, list, meter) {
+        Ok(proof) => proof_answer(alloc, loop_maps.lp.names(), proof),
         Err(error) => proving_refusal(alloc, budget.units, &error),
     }
 }

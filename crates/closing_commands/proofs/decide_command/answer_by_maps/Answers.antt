@@ -10,7 +10,7 @@ use Rattle.closing_commands.proofs.decide_command.answer_by_maps.Goals as goal
 pub returns-in-Err-clause-answer : goal.returns-in-Err-clause-answer
 returns-in-Err-clause-answer c =
     IfOk-weaker c.map_refusal.result _ _
-    (λ a says. map_told (program_of c.args.lp.now) (terms_in c.args.polynomial.now)
+    (λ a says. map_told (program_of c.args.lp.now) (terms_in c.args.polynomial)
     c.open.new.self c.args.evidence c.args.budget.units
     (ap (λ (j : Journal). j.limit) c.open.ensures)
     (ap (λ (j : Journal). j.entries) c.open.ensures) c.in-Err.error c.in-Err.ensures.stops
@@ -18,6 +18,6 @@ returns-in-Err-clause-answer c =
 
 pub returns-in-Err-clause-asked : goal.returns-in-Err-clause-asked
 returns-in-Err-clause-asked c =
-    asked_none (program_of c.args.lp.now) (terms_in c.args.polynomial.now) c.open.new.self
+    asked_none (program_of c.args.lp.now) (terms_in c.args.polynomial) c.open.new.self
     c.args.evidence c.args.budget.units (ap (λ (j : Journal). j.limit) c.open.ensures)
     (ap (λ (j : Journal). j.entries) c.open.ensures)

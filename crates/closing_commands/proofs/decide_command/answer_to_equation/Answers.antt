@@ -6,8 +6,8 @@ use Rattle.command_parts.specs.EquationReading.{IsUnread}
 use Rattle.closing_commands.proofs.DecideTold.{answers_equation, leaves_equation, answers_unread}
 use Rattle.closing_commands.proofs.decide_command.answer_to_equation.Goals as goal
 
-pub answer_by_maps-requires-clause-arity : goal.answer_by_maps-requires-clause-arity
-answer_by_maps-requires-clause-arity c = c.in-Ok.ensures.polynomial.arity
+pub answer_by_maps-requires : goal.answer_by_maps-requires
+answer_by_maps-requires c = c.in-Ok.ensures.polynomial.arity
 
 pub returns-in-Ok-clause-answers : goal.returns-in-Ok-clause-answers
 returns-in-Ok-clause-answers c =

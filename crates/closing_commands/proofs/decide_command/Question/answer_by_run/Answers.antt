@@ -2,16 +2,16 @@ use Rattle.std.proofs.Common.{ap, ◌∙◌, rules}
 use Rattle.std.proofs.lemmas.Result.{IfOk-weaker}
 use Rattle.frac128.specs.FracMeaning.{fraction_of}
 use Rattle.poly.specs.Seen.{terms_in}
-use Rattle.loop_model.specs.View.{program_of}
 use Rattle.counter_run.specs.Answers.{states_of}
 use Rattle.io_edge.specs.Views.{answer_view}
+use Rattle.closing.specs.LoopMaps.{program_in}
 use Rattle.closing_commands.proofs.DecideTold.{run_found, run_told}
-use Rattle.closing_commands.proofs.decide_command.answer_by_run.Goals as goal
+use Rattle.closing_commands.proofs.decide_command.Question.answer_by_run.Goals as goal
 
 pub returns-in-Ok-Run : goal.returns-in-Ok-Run
 returns-in-Ok-Run c =
-    let l = program_of c.args.lp.now in
-    let p = terms_in c.args.polynomial.now in
+    let l = program_in c.args.self.now.loop_maps in
+    let p = terms_in c.args.self.now.polynomial in
     let w = c.args.counter.candidate.word.items in
     let run = run_found l p w c.in-Ok-Run.field-0 c.in-Ok-Run.word c.in-Ok-Run.states
     c.in-Ok-Run.value (search rules) c.in-Ok-Run.ensures.run in
