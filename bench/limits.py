@@ -27,18 +27,18 @@ sys.exit(os.waitstatus_to_exitcode(status))
 """
 
 
-def run(words, status):
-    """The processor time in seconds and the peak memory in megabytes of one run, which ends with this status."""
+def run(words, status, text=""):
+    """The processor time in seconds and the peak memory in megabytes of one run, which ends with this status and whose text begins so."""
     done = subprocess.run([sys.executable, "-I", "-S", "-c", START, PROGRAM, *words], capture_output=True)
-    if done.returncode != status:
+    if done.returncode != status or not done.stdout.startswith(text.encode()):
         sys.exit(f"{' '.join(map(str, words))[:80]}: status {done.returncode}: {done.stdout[:80]}")
     taken, kilobytes = done.stderr.split()
     return float(taken), float(kilobytes) / 1024
 
 
-def row(what, words, status, seconds, megabytes=None, runs=5):
+def row(what, words, status, seconds, megabytes=None, runs=5, text=""):
     global failed
-    taken, memory = min(run(words, status) for _ in range(runs))
+    taken, memory = min(run(words, status, text) for _ in range(runs))
     goal = f"below {seconds * 1000:.0f} ms" + (f" and {megabytes} MB" if megabytes else "")
     good = taken < seconds and (megabytes is None or memory < megabytes)
     failed |= not good
@@ -182,6 +182,18 @@ SUMS_OF_CUBES = ("vars a, b, c, d, e, f, g, h, i, j, k, l; branch { "
 EXCHANGES = "vars a, b, c, d, e, f, x; init x=0; " + " ".join(f"branch {{ ({one}, {other}) = ({other}, {one}); }}" for one, other in ("ab", "bc", "cd", "de", "ef", "af"))
 LONG_PRODUCT = "x*(a+b+c+d+e+f)^9 = 0"
 
+# Each word of fewer than six letters has 2,002 terms, each of which a letter makes one term, and the start none; each that is kept costs 8.
+# So the empty word costs 2,002 * 8, each further one 2,002 * 9, and the 3,724th of them passes 2^26.
+STOPS_EXCHANGES = "limit: words up to 2 5 1 2 4\n"
+
+# Six linear maps of six variables, in each of which every variable becomes the sum or difference of all, and a product of 1,716 terms that is 0
+# at each start.
+DENSE_MAPS = "vars a, b, c, d, e, f, x; init x=0; " + " ".join(
+    "branch { (a, b, c, d, e, f) = ("
+    + ", ".join("".join(("-" if (place * branch) >> bit & 1 else "+") + name for bit, name in enumerate("abcdef")).lstrip("+") for place in range(6)) + "); }"
+    for branch in (1, 3, 5, 7, 9, 11))
+DENSE_PRODUCT = "x*(a+b+c+d+e+f+1)^7 = 0"
+
 
 def main():
     with tempfile.TemporaryDirectory() as folder:
@@ -214,6 +226,9 @@ def main():
         row("run of 4096 letters over 12 variables", ["run", "turns.loop", ",".join(["1"] * 4096), twelve], 0, 0.5)
         pathlib.Path("exchanges.loop").write_text(EXCHANGES)
         row("counter of six exchanges up to four letters, 2,002 terms a word", ["counter", "--length", "4", "exchanges.loop", LONG_PRODUCT], 0, 10, 100, 1)
+        row("the same up to six letters, which costs too much", ["counter", "--length", "6", "exchanges.loop", LONG_PRODUCT], 3, 60, 1000, 1, STOPS_EXCHANGES)
+        pathlib.Path("dense.loop").write_text(DENSE_MAPS)
+        row("counter of six dense linear maps up to six letters, 1,716 terms a word", ["counter", "--length", "6", "dense.loop", DENSE_PRODUCT], 3, 60, 1000, 1, "limit: words up to 4 2 1\n")
         for name, text in LONG_ANALYSES.items():
             pathlib.Path("long.loop").write_text(text)
             row(f"basis of {name}, up to the usual budget", ["basis", "long.loop"], 5, 60, 100, 1)
@@ -226,7 +241,7 @@ def main():
             pathlib.Path("long.loop").write_text(text)
             row(f"basis of {what}", ["basis", "long.loop"], status, seconds, megabytes, 1)
         pathlib.Path("long.loop").write_text(SIXTH_POWERS)
-        row("basis of three sums of sixth powers of seven variables", ["basis", "long.loop"], 0, 24, 200, 1)
+        row("basis of three sums of sixth powers of seven variables, whose closing test is too long", ["basis", "long.loop"], 3, 60, 200, 1)
     sys.exit(1 if failed else 0)
 
 

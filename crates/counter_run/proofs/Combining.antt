@@ -7,7 +7,7 @@
 --   adds_term, adds_known     the multiple of the image of a term's monomial is the term's image
 --   known_at           the images in as many variables
 --   each_item          what holds of each holds of the item at a place
-use Rattle.std.proofs.Common.{◌≡◌, ◌≢◌, ℕ, zero, suc, ◌<◌, List, [], ◌∷◌, ◌++◌, map, length, get_or, take, drop, refl, sym, subst, arith, All, Any, IfOk, Option, Some, Result, Ok, Err, Bor}
+use Rattle.std.proofs.Common.{◌≡◌, ◌≢◌, ℕ, zero, suc, ◌<◌, List, [], ◌∷◌, ◌++◌, map, length, get_or, take, drop, refl, sym, subst, ◌∙◌, arith, All, Any, IfOk, Option, Some, Result, Ok, Err, Bor}
 use Rattle.std.specs.Slice.{IsItemAt}
 use Rattle.std.proofs.lemmas.List.Elements.{All-cons, All-append, All-take, All-drop}
 use Rattle.algebra.specs.Each.{Each}
@@ -21,10 +21,13 @@ use Rattle.loop_model.specs.declared.map_error.MapError.{MapError}
 use Rattle.counter_run.specs.Composition.{factors}
 use Rattle.counter_run.specs.Combination.{IsPowerProduct, AreMonomialImages, IsComposed, AddsMultiple, Adds}
 use Rattle.counter_run.specs.OpenSums.{terms_so_far, IsCollected, IsSumWith}
+use Rattle.counter_run.specs.Costs.{image_length}
 use Rattle.counter_run.specs.declared.combination.MonomialImage.{MonomialImage}
+use Rattle.counter_run.specs.declared.composition.Composition.{Composition}
 use Rattle.counter_run.specs.declared.open_sum.OpenSum.{OpenSum}
 use Rattle.counter_run.proofs.Composed.{arity-factors}
 use Rattle.counter_run.proofs.Compositions.{SummingFrom, summing_from_all}
+use Rattle.counter_run.proofs.Costs.{Counts, counts_all}
 use Rattle.counter_run.proofs.Scaling.{scaled_formed}
 
 pub adds_multiple : (c : Fraction) (q multiple : FracPoly) (s : OpenSum)
@@ -39,13 +42,14 @@ adds_multiple c q multiple s (Ok next) h d = record {
 adds_multiple c q multiple s (Err e) h d = tt
 
 pub composed : (m : ℕ) (images : List (Terms Fraction)) (p left : Terms Fraction) (s : OpenSum)
-    (r : Result FracPoly MapError) → left ≡ [] → s.total.arity ≡ m
-    → SummingFrom m images p left (terms_so_far s) → IfOk r (IsCollected s)
-    → IfOk r (IsComposed m images p)
-composed m images p left s (Ok total) e a goes is =
-    summing_from_all m images p left (terms_so_far s) e goes total
-    (subst (λ k. StandsFor k total (terms_so_far s)) a is)
-composed m images p left s (Err e) none a goes is = tt
+    (c : Composition) → left ≡ [] → s.total.arity ≡ m
+    → SummingFrom m images p left (terms_so_far s) → IsCollected s c.polynomial
+    → Counts (image_length m images) left p s.came → c.cost ≡ s.came → IsComposed m images p c
+composed m images p left s c e a goes is counts same = (
+  summing_from_all m images p left (terms_so_far s) e goes c.polynomial
+      (subst (λ k. StandsFor k c.polynomial (terms_so_far s)) a is),
+  same ∙ counts_all (image_length m images) p left s.came e counts,
+)
 
 pub put_in : (m : ℕ) (images : List (Terms Fraction)) (ts : List MonomialImage) (i : ℕ)
     (t : MonomialImage) → AreMonomialImages m images ts

@@ -3,7 +3,7 @@
 --   put_arities        their exponents
 --   added              the polynomial added to what is collected
 --   collected_with     the terms that came since, collected and added
-use Rattle.std.proofs.Common.{◌≡◌, inl, inr, ℕ, suc, ◌+◌, ◌≤◌, ◌<◌, Bool, true, false, cond, List, [], ◌∷◌, ◌++◌, length, refl, sym, ap, subst, ◌∙◌, arith, append_assoc, All, IfOk, Result, Ok, Err, Ordering, Less, Equal, Greater}
+use Rattle.std.proofs.Common.{◌≡◌, inl, inr, ℕ, suc, ◌+◌, ◌≤◌, ◌<◌, Bool, true, false, cond, List, [], ◌∷◌, ◌++◌, length, min, refl, sym, ap, subst, ◌∙◌, arith, append_assoc, All, IfOk, Result, Ok, Err, Ordering, Less, Equal, Greater}
 use Rattle.std.proofs.lemmas.List.{append-nil, length-append, length-map, map-append}
 use Rattle.std.proofs.lemmas.List.Elements.{All-nil, All-cons, All-head, All-tail, All-append}
 use Rattle.algebra.specs.Each.{Each}
@@ -29,6 +29,7 @@ use Rattle.loop_model.specs.Operations.{Operation, sum_at, most_terms, IsFree, P
 use Rattle.loop_model.specs.Stops.{Does}
 use Rattle.loop_model.specs.declared.map_error.MapError.{MapError}
 use Rattle.loop_model.proofs.OperationLaws.{same_forms}
+use Rattle.counter_run.specs.Costs.{most_count}
 use Rattle.counter_run.specs.OpenSums.{terms_so_far, IsSumWith}
 use Rattle.counter_run.specs.declared.open_sum.OpenSum.{OpenSum}
 
@@ -98,8 +99,7 @@ module _ (m : ℕ) where
       → All (λ t. length t.mono ≡ m) ts
   unfolding Each
   of_arity [] a = All-nil _
-  of_arity (t ∷ ts) a =
-      All-cons (λ (u : Term Frac). length u.mono ≡ m) t ts a.0 (of_arity ts a.1)
+  of_arity (t ∷ ts) a = All-cons (λ (u : Term Frac). length u.mono ≡ m) t ts a.0 (of_arity ts a.1)
 
 pub put_arities : (s : OpenSum) (q : FracPoly) → q.arity ≡ s.total.arity
     → All (λ t. length t.mono ≡ s.total.arity) (s.terms.items ++ q.terms.items)
@@ -111,8 +111,9 @@ put_arities s q e =
 module _ (s : OpenSum) (q : FracPoly) (r : OpenSum) where
   pub put_behind : q.arity ≡ s.total.arity
       → length s.total.terms.items + length s.terms.items + length q.terms.items ≤ most_terms
-      → r.total ≡ s.total → r.terms.items ≡ s.terms.items ++ q.terms.items → IsSumWith q s r
-  put_behind e few total terms =
+      → r.total ≡ s.total → r.terms.items ≡ s.terms.items ++ q.terms.items
+      → r.came ≡ min (s.came + length q.terms.items) most_count → IsSumWith q s r
+  put_behind e few total terms came =
       let all : terms_so_far r ≡ terms_so_far s ++ terms_in q =
       ap (λ (p : FracPoly). terms_in p ++ terms_of fraction_of r.terms.items) total
       ∙ ap (λ ts. terms_in s.total ++ terms_of fraction_of ts) terms
@@ -134,12 +135,14 @@ module _ (s : OpenSum) (q : FracPoly) (r : OpenSum) where
             length-map _ _ in
             let four : length (terms_in q) ≡ length q.terms.items = length-map _ _ in
             omega arith);
+        came = came;
       }
 
   pub added : (total sum : FracPoly) → StandsFor s.total.arity total (terms_so_far s)
       → Does total.arity (sum_at 0 (terms_in total) (terms_in q)) (Ok sum) → r.total ≡ sum
-      → r.terms.items ≡ [] → IsSumWith q s r
-  added total sum is d here none =
+      → r.terms.items ≡ [] → r.came ≡ min (s.came + length q.terms.items) most_count
+      → IsSumWith q s r
+  added total sum is d here none came =
       let all : terms_so_far r ≡ terms_in sum =
       ap (λ (p : FracPoly). terms_in p ++ terms_of fraction_of r.terms.items) here
       ∙ ap (λ ts. terms_in sum ++ terms_of fraction_of ts) none ∙ append-nil (terms_in sum) in
@@ -163,6 +166,7 @@ module _ (s : OpenSum) (q : FracPoly) (r : OpenSum) where
               },
               tt,
             ) along d).1;
+        came = came;
       }
 
 -- ---- like terms collected

@@ -5,12 +5,12 @@
 --   composition_of_word       what is composed with a letter's map, within the limits
 --   image_stands, image_stops the image, and where its operations stop
 --   limit_word, wide_word     the stops as those of the word
---   empty_composed, letter_composed, letter_stop      the empty word, and one letter more
---   image_zero, image_found, image_stop               its image
-use Rattle.std.proofs.Common.{◌≡◌, ℕ, List, [], ◌∷◌, ◌++◌, length, refl, sym, ap, subst, ◌∙◌, All, Bool, true, false, IsTrue, ◌↔◌, Result, Ok, Err}
+--   letter_stands, letter_free, letter_stops      with one letter more
+--   image_free, image_stops   its image
+use Rattle.std.proofs.Common.{◌≡◌, ℕ, List, [], ◌∷◌, ◌++◌, length, refl, sym, subst, ◌∙◌, All, Result}
 use Rattle.std.proofs.lemmas.List.Elements.{All-nil, All-cons, All-head, All-tail, All-append}
 use Rattle.algebra.specs.Fraction.{Fraction, ℚ, rationals}
-use Rattle.algebra.proofs.Fractions.{ℚ_ring, ℚ_field, fractions_ring}
+use Rattle.algebra.proofs.Fractions.{ℚ_ring, ℚ_field}
 use Rattle.polynomials.specs.Terms.{Terms, Same, AllSame, constant, times, compose}
 use Rattle.polynomials.specs.Polynomial.{Arity, AllArity}
 use Rattle.polynomials.specs.Order.{grevlex}
@@ -21,23 +21,19 @@ use Rattle.machines.specs.Collect.{collect}
 use Rattle.machines.proofs.Collecting.{collect-is}
 use Rattle.loops.specs.Program.{Expr, Program}
 use Rattle.loops.specs.Map.{start_map, branch_map}
-use Rattle.loops.proofs.Maps.{arity-start_map, arity-branch_map}
-use Rattle.rounds.specs.Word.{IsLetter, branch_of, after_word}
+use Rattle.rounds.specs.Word.{branch_of, after_word}
 use Rattle.rounds.proofs.Word.{arity-after_word}
 use Rattle.poly.specs.Seen.{terms_in, terms_each}
-use Rattle.poly.specs.Standing.{IsInVariables, StandsFor, AllStandFor}
-use Rattle.poly.proofs.Standing.{polynomial_over, arity_over, zero_tells, stands_same, stands_over, arities_over}
+use Rattle.poly.specs.Standing.{StandsFor, AllStandFor}
+use Rattle.poly.proofs.Standing.{polynomial_over, arity_over, stands_same, stands_over, arities_over}
 use Rattle.loop_model.specs.FracPoly.{FracPoly}
 use Rattle.loop_model.specs.Operations.{Operation, IsFree, PassesLimit, IsFirst}
 use Rattle.loop_model.specs.Stops.{Stops, Forms}
 use Rattle.loop_model.specs.declared.map_error.MapError.{MapError}
 use Rattle.loop_model.specs.declared.map_error.MapError.TheVariants as map_error
 use Rattle.loop_model.proofs.OperationLaws.{same_forms, stops_behind, stops_front}
-use Rattle.corollaries.specs.Image.{image}
 use Rattle.counter_run.specs.Composition.{factors, product_operations, term_product, composition_onto, composition_operations}
 use Rattle.counter_run.specs.Causes.{IsLimitWord, IsWideWord}
-use Rattle.counter_run.specs.Search.{IsComposedWord, HasZeroImage, HasNonzeroImage}
-use Rattle.counter_run.specs.declared.search.ComposedWord.{ComposedWord}
 use Rattle.counter_run.specs.Images.{collected_after, word_operations, image_operations}
 use Rattle.counter_run.proofs.Compositions.{same_composing}
 use Rattle.counter_run.proofs.Composed.{composition_onto_is}
@@ -133,19 +129,6 @@ module _ (program : Program (Expr ℕ)) (p : Terms Fraction) where
       subst (λ k. Stops (length program.names) (image_operations program p w) (map_error.Wide k))
       (first_none (length program.names) _ (image_operations program p w) at (image_none w) h) h
 
-  pub empty_composed : (t : ComposedWord) → t.word.items ≡ []
-      → StandsFor (length program.names) t.polynomial p → IsComposedWord program p t
-  unfolding after_word word_operations
-  empty_composed t e s = record {
-    letters = subst (All (IsLetter program)) (sym e) (All-nil _);
-    stands =
-        subst (λ w. StandsFor (length program.names) t.polynomial (after_word program w p))
-        (sym e) s;
-    free =
-        subst (λ w. IsFree (length program.names) (word_operations program p w)) (sym e)
-        (All-nil (λ o. ¬ (PassesLimit (length program.names) o)));
-  }
-
 module _ (program : Program (Expr ℕ)) (p : Terms Fraction)
     (arity : Arity (length program.names) p) where
   abbrev m : ℕ
@@ -221,123 +204,3 @@ module _ (program : Program (Expr ℕ)) (p : Terms Fraction)
   image_stops w e f s =
       stops_behind m (word_operations program p w)
       (composition_operations m (start_map program) [] (collected_after program p w)) e f s
-
-  -- ---- what was composed
-  module _ (t : ComposedWord) (composed : IsComposedWord program p t) where
-    abbrev word : List ℕ
-    word = t.word.items
-
-    abbrev made : List (Terms Fraction) → Result FracPoly MapError → Type 0
-    made qs r =
-        Forms t.polynomial.arity
-        (composition_operations t.polynomial.arity qs [] (terms_in t.polynomial))
-        (composition_onto t.polynomial.arity qs [] (terms_in t.polynomial)) r
-
-    pub images_over : (images : List FracPoly) (maps : List (Terms Fraction))
-        → AllStandFor m images maps → All (IsInVariables t.polynomial.arity) images
-    images_over images maps all =
-        subst (λ n. All (IsInVariables n) images) (sym composed.stands.arity)
-        (stands_over m images maps all)
-
-    module _ (b : ℕ) (letter : IsLetter program b) (images : List FracPoly)
-        (all : AllStandFor m images (branch_map program (branch_of program b))) where
-      in_word : (r : Result FracPoly MapError) → made (terms_each images) r
-          → Forms m
-          (composition_operations m (branch_map program (branch_of program b)) []
-          (collected_after program p word))
-          (compose ℚ m (after_word program word p) (branch_map program (branch_of program b))) r
-      in_word r h =
-          composition_of_word t.polynomial word composed.stands images
-          (branch_map program (branch_of program b)) all
-          (arity-branch_map program (branch_of program b)) r h
-
-      pub letter_composed : (next : ComposedWord) → next.word.items ≡ b ∷ t.word.items
-          → made (terms_each images) (Ok next.polynomial) → IsComposedWord program p next
-      letter_composed next e h =
-          let d = in_word (Ok next.polynomial) h in
-          record {
-            letters =
-                subst (All (IsLetter program)) (sym e)
-                (All-cons (IsLetter program) b word letter composed.letters);
-            stands =
-                subst (λ w. StandsFor m next.polynomial (after_word program w p)) (sym e)
-                (letter_stands next.polynomial b word d.0);
-            free =
-                subst (λ w. IsFree m (word_operations program p w)) (sym e)
-                (letter_free b word composed.free d.1);
-          }
-
-      pub letter_stop : (x : MapError) → made (terms_each images) (Err x)
-          → Stops m (image_operations program p (b ∷ t.word.items)) x
-      letter_stop x h = letter_stops b word x composed.free (in_word (Err x) h)
-
-      pub letter_limit : (r : Result FracPoly MapError) (x : MapError) (at : ℕ) → r ≡ Err x
-          → x ≡ map_error.Limit at → made (terms_each images) r
-          → IsLimitWord program p (b ∷ t.word.items)
-      letter_limit r x at e is h =
-          limit_word program p (b ∷ word) at
-          (letter_stop (map_error.Limit at)
-          (subst (made (terms_each images)) (e ∙ ap Err is) h))
-
-      pub letter_wide : (r : Result FracPoly MapError) (x : MapError) (at : ℕ) → r ≡ Err x
-          → x ≡ map_error.Wide at → made (terms_each images) r
-          → IsWideWord program p (b ∷ t.word.items)
-      letter_wide r x at e is h =
-          wide_word program p (b ∷ word) at
-          (letter_stop (map_error.Wide at)
-          (subst (made (terms_each images)) (e ∙ ap Err is) h))
-
-    module _ (images : List FracPoly) (all : AllStandFor m images (start_map program)) where
-      in_image : (r : Result FracPoly MapError) → made (terms_each images) r
-          → Forms m
-          (composition_operations m (start_map program) [] (collected_after program p word))
-          (image program p word) r
-      in_image r h =
-          composition_of_word t.polynomial word composed.stands images (start_map program) all
-          (arity-start_map program) r h
-
-      pub image_stop : (x : MapError) → made (terms_each images) (Err x)
-          → Stops m (image_operations program p t.word.items) x
-      image_stop x h = image_stops word x composed.free (in_image (Err x) h)
-
-      pub image_limit : (r : Result FracPoly MapError) (x : MapError) (at : ℕ) → r ≡ Err x
-          → x ≡ map_error.Limit at → made (terms_each images) r → IsLimitWord program p t.word.items
-      image_limit r x at e is h =
-          limit_word program p word at
-          (image_stop (map_error.Limit at) (subst (made (terms_each images)) (e ∙ ap Err is) h))
-
-      pub image_wide : (r : Result FracPoly MapError) (x : MapError) (at : ℕ) → r ≡ Err x
-          → x ≡ map_error.Wide at → made (terms_each images) r → IsWideWord program p t.word.items
-      image_wide r x at e is h =
-          wide_word program p word at
-          (image_stop (map_error.Wide at) (subst (made (terms_each images)) (e ∙ ap Err is) h))
-
-      module _ (q : FracPoly) (r : Result FracPoly MapError) (e : r ≡ Ok q)
-          (g : made (terms_each images) r) (z : Bool) (is : IsTrue z ↔ (terms_in q ≡ [])) where
-        h : made (terms_each images) (Ok q)
-        h = subst (made (terms_each images)) e g
-
-        tells : IsTrue z ↔ Same ℚ (image program p word) []
-        tells =
-            zero_tells fractions_ring m q grevlex_order (image program p word) z
-            (in_image (Ok q) h).0 is
-
-        pub image_zero : z ≡ true → HasZeroImage program p t.word.items
-        image_zero y =
-            record {
-              letters = composed.letters;
-              free = image_free word composed.free (in_image (Ok q) h).1;
-              zero = tells.0 y;
-            }
-
-        pub image_found : z ≡ false → HasNonzeroImage program p t.word.items q
-        image_found y =
-            record {
-              free = image_free word composed.free (in_image (Ok q) h).1;
-              nonzero =
-                  record {
-                    stands = (in_image (Ok q) h).0;
-                    not_zero = λ s. let k : z ≡ true = tells.1 s in
-                        let f : true ≡ false = sym k ∙ y in cc;
-                  };
-            }

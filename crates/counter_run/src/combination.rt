@@ -1,16 +1,14 @@
 //! Compositions of many polynomials with the same images: the image of a monomial is formed once.
-ghost use Rattle.std.specs.Prelude.{◌≡◌, ◌≢◌, ◌≤◌, [], length, All, Any, IfOk, IfSome};
+ghost use Rattle.std.specs.Prelude.{◌≡◌, ◌≢◌, ◌≤◌, length, All, Any, IfOk, IfSome};
 ghost use Rattle.algebra.specs.Fraction.{ℚ};
 ghost use Rattle.frac128.specs.FracMeaning.{fraction_of};
 ghost use Rattle.monos.specs.Variables.{most_variables};
 ghost use Rattle.poly.specs.Seen.{terms_in, terms_each};
 ghost use Rattle.poly.specs.Standing.{IsInVariables};
 ghost use Rattle.poly.specs.View.{term_of};
-ghost use Rattle.loop_model.specs.Stops.{Forms};
-ghost use Rattle.counter_run.specs.Composition.{composition_onto, composition_operations};
-ghost use Rattle.counter_run.specs.Combination.{IsPowerProduct, AreMonomialImages, IsComposed, Adds, AddsMultiple};
+ghost use Rattle.counter_run.specs.Combination.{IsPowerProduct, AreMonomialImages, IsComposed, IsComposition, Adds, AddsMultiple};
 
-use crate::composition::{compose_anew, multiple_of};
+use crate::composition::{Composition, count_anew, multiple_of};
 use crate::open_sum::OpenSum;
 use crate::summation::refusal;
 use frac128::Frac;
@@ -37,7 +35,7 @@ pub(crate) struct MonomialImage {
     pub(crate) image: Poly<Frac, Grevlex>,
 }
 
-/// The polynomial with the images in place of its variables, as `compose_anew` gives it, or stops.
+/// The polynomial with the images in place of its variables, as `count_anew` gives it, or stops.
 /// The images of its monomials are taken from those that were formed before with the same images of
 /// variables, or put among them.
 pub(crate) fn compose(
@@ -45,20 +43,19 @@ pub(crate) fn compose(
     polynomial: &Poly<Frac, Grevlex>,
     images: &Vec<Poly<Frac, Grevlex>>,
     known: &mut Vec<MonomialImage>,
-) -> Result<Poly<Frac, Grevlex>, MapError>
+) -> Result<Composition, MapError>
     requires images { All (IsInVariables polynomial.now.arity) images.now.items }
     requires known { AreMonomialImages polynomial.now.arity (terms_each images.now.items)
         known.old.items }
-    ensures forms { let m = polynomial.now.arity in let qs = terms_each images.now.items in
-        let p = terms_in polynomial.now in
-        Forms m (composition_operations m qs [] p) (composition_onto m qs [] p) result }
+    ensures composition { IsComposition polynomial.now.arity (terms_each images.now.items)
+        (terms_in polynomial.now) result }
     ensures known { AreMonomialImages polynomial.now.arity (terms_each images.now.items)
         known.new.items }
 {
     match combine(alloc, polynomial, images, known) {
-        Ok(total) => Ok(total),
+        Ok(composition) => Ok(composition),
         Err(MapError::Memory) => Err(MapError::Memory),
-        Err(_) => compose_anew(alloc, polynomial, images),
+        Err(_) => count_anew(alloc, polynomial, images),
     }
 }
 
@@ -69,7 +66,7 @@ fn combine(
     polynomial: &Poly<Frac, Grevlex>,
     images: &Vec<Poly<Frac, Grevlex>>,
     known: &mut Vec<MonomialImage>,
-) -> Result<Poly<Frac, Grevlex>, MapError>
+) -> Result<Composition, MapError>
     requires images { All (IsInVariables polynomial.now.arity) images.now.items }
     requires known { AreMonomialImages polynomial.now.arity (terms_each images.now.items)
         known.old.items }
@@ -82,7 +79,11 @@ fn combine(
     for term in polynomial.terms() {
         so_far = with_term(alloc, polynomial.arity(), so_far, term, images, known)?;
     }
-    so_far.collected(alloc)
+    let cost = so_far.came;
+    Ok(Composition {
+        polynomial: so_far.collected(alloc)?,
+        cost,
+    })
 }
 
 /// The sum and the image of the term.

@@ -6,7 +6,7 @@ ghost use Rattle.poly.specs.Standing.{IsInVariables};
 ghost use Rattle.loop_model.specs.Operations.{most_terms};
 ghost use Rattle.counter_run.specs.OpenSums.{IsNothing, IsCollected, IsSumWith};
 
-use crate::composition::NO_OFFSET;
+use crate::composition::{NO_OFFSET, with_terms_of};
 use crate::open_sum::OpenSum;
 use frac128::Frac;
 use loop_model::{MapError, sum};
@@ -32,6 +32,7 @@ impl OpenSum {
             total: Poly::zero(alloc, Grevlex, arity),
             terms: Vec::new(alloc),
             weight: None,
+            came: 0,
         }
     }
 
@@ -50,11 +51,13 @@ impl OpenSum {
                 return Ok(self.with_terms(polynomial, weight)?);
             }
         }
+        let came = with_terms_of(self.came, &polynomial);
         let total = self.collected(alloc)?;
         Ok(OpenSum {
             total: sum(alloc, NO_OFFSET, &total, &polynomial)?,
             terms: Vec::new(alloc),
             weight: None,
+            came,
         })
     }
 
@@ -95,6 +98,7 @@ impl OpenSum {
             + length polynomial.terms.items ≤ most_terms }
         ensures { IfOk result (IsSumWith polynomial self) }
     {
+        let came = with_terms_of(self.came, &polynomial);
         let OpenSum {
             total,
             mut terms,
@@ -105,6 +109,7 @@ impl OpenSum {
             total,
             terms,
             weight: Some(weight),
+            came,
         })
     }
 

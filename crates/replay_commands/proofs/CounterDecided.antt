@@ -4,7 +4,8 @@
 --   complete           one of the answers, by its cause
 --   first_found, none_found, limit_told      where a word counters, where none does, where an image
 --                      of a word that is reached passes a limit
-use Rattle.std.proofs.Common.{◌≡◌, ℕ, List, length, ap, ◌∙◌, inl, inr, Ok, Some}
+--   cost_told          where the words up to one that is reached cost too much
+use Rattle.std.proofs.Common.{◌≡◌, ℕ, List, length, ap, sym, subst, ◌∙◌, inl, inr, Ok, Some}
 use Rattle.std.specs.Prelude.{◌⊎◌}
 use Rattle.algebra.specs.Fraction.{Fraction}
 use Rattle.polynomials.specs.Terms.{Terms}
@@ -19,7 +20,8 @@ use Rattle.corollaries.specs.Word.{IsEarlier}
 use Rattle.corollaries.specs.Counter.{IsFirstWord, NoneCounters}
 use Rattle.corollaries.proofs.Order.{earlier_total}
 use Rattle.counter_run.specs.Images.{image_operations, IsFreeWord}
-use Rattle.counter_run.specs.Causes.{IsReached, IsLimitWord}
+use Rattle.counter_run.specs.Costs.{IsTooCostly}
+use Rattle.counter_run.specs.Causes.{IsReached, IsLimitWord, IsCostlyWord}
 use Rattle.counter_run.specs.Answers.{IfUnformed}
 use Rattle.io_edge.specs.declared.answer.Status.TheVariants as status
 use Rattle.io_edge.specs.Texts.{Answer}
@@ -29,9 +31,9 @@ use Rattle.command_parts.proofs.MapLimits.{limit_same, not_free}
 use Rattle.command_parts.specs.Equations.{operations_of, polynomial_of, FormsFreely}
 use Rattle.command_parts.specs.EquationReading.{stop_answer, IsUnformed}
 use Rattle.command_parts.proofs.Refusals.{stopped_wide}
-use Rattle.replay_commands.specs.CounterSeeking.{Answers, TellsRun, TellsNone, TellsLimit}
+use Rattle.replay_commands.specs.CounterSeeking.{Answers, TellsRun, TellsNone, TellsLimit, TellsCost}
 use Rattle.replay_commands.specs.CounterClauses.{IsWithin, AreWithin, IsWideSeeking, EndsSeeking}
-use Rattle.replay_commands.specs.CounterTexts.{none_answer, limit_answer, map_answer}
+use Rattle.replay_commands.specs.CounterTexts.{none_answer, limit_answer, cost_answer, map_answer}
 
 module _ (l : Program (Expr ℕ)) (e : Expr ℕ) (n : ℕ) (a : Answer) (h : Answers l (Ok e) n a)
     (formed : FormsFreely l e) where
@@ -76,7 +78,8 @@ module _ (l : Program (Expr ℕ)) (e : Expr ℕ) (n : ℕ) (a : Answer) (h : Ans
       go (inr (f, inr (inl t))) = absurd (free t.maps)
       go (inr (f, inr (inr (inl t)))) = told t.stop t.is t.says
       go (inr (f, inr (inr (inr (inl t))))) = absurd (free t.is.maps)
-      go (inr (f, inr (inr (inr (inr t))))) = absurd (free t.is.maps)
+      go (inr (f, inr (inr (inr (inr (inl t)))))) = absurd (free t.is.maps)
+      go (inr (f, inr (inr (inr (inr (inr t)))))) = absurd (free t.is.maps)
 
   -- none does
   module _ (maps : AreFree l) where
@@ -90,8 +93,8 @@ module _ (l : Program (Expr ℕ)) (e : Expr ℕ) (n : ℕ) (a : Answer) (h : Ans
     wide_map map_error.Memory is says = absurd is
 
     by_search : (Q : Type 0) → (WideSaid → Q) → (TellsRun l p n a → Q) → (TellsNone l p n a → Q)
-        → (TellsLimit l p n a → Q) → Q
-    by_search Q of_wide run none limited = go h
+        → (TellsLimit l p n a → Q) → (TellsCost l p n a → Q) → Q
+    by_search Q of_wide run none limited costly = go h
       where
         go : Answers l (Ok e) n a → Q
         go (inl u) = of_wide (wide_unformed u)
@@ -99,14 +102,17 @@ module _ (l : Program (Expr ℕ)) (e : Expr ℕ) (n : ℕ) (a : Answer) (h : Ans
         go (inr (f, inr (inl t))) = none t
         go (inr (f, inr (inr (inl t)))) = of_wide (wide_map t.stop t.is t.says)
         go (inr (f, inr (inr (inr (inl t))))) = limited t
-        go (inr (f, inr (inr (inr (inr t))))) = of_wide (status_of t.says, inr (inr (t.word, t.is)))
+        go (inr (f, inr (inr (inr (inr (inl t)))))) = costly t
+        go (inr (f, inr (inr (inr (inr (inr t)))))) =
+            of_wide (status_of t.says, inr (inr (t.word, t.is)))
 
     pub complete : EndsSeeking a.status l e n
     complete =
         by_search (EndsSeeking a.status l e n) (λ w. inr (inr (inr (inl w))))
         (λ t. inl (status_of t.says, (t.word, t.is.first, t.is.short)))
         (λ t. inr (inl (status_of t.says, t.is.none)))
-        (λ t. inr (inr (inl (status_of t.says, (t.word, t.is)))))
+        (λ t. inr (inr (inl (status_of t.says, inl (t.word, t.is)))))
+        (λ t. inr (inr (inl (status_of t.says, inr (t.word, t.is)))))
 
     limit_not_free : (w : List ℕ) → IsLimitWord l p w → IsFreeWord l p w → ⊥
     limit_not_free w is free = not_free (length l.names) (image_operations l p w) 0 is free
@@ -117,7 +123,14 @@ module _ (l : Program (Expr ℕ)) (e : Expr ℕ) (n : ℕ) (a : Answer) (h : Ans
         by_search ((a.status ≡ status.No) ⊎ (a.status ≡ status.Wide)) (λ x. inr x.0)
         (λ t. inl (status_of t.says)) (λ t. absurd (t.is.none w within.short first.counters))
         (λ t. absurd (limited t.word t.is.reached t.is.cause (earlier_total t.word w)))
+        (λ t. absurd (costly t.word t.is.reached t.is.cause.1 (earlier_total t.word w)))
       where
+        costly : (v : List ℕ) → IsReached l p n v → IsTooCostly l p n v
+            → IsEarlier v w ⊎ ((v ≡ w) ⊎ IsEarlier w v) → ⊥
+        costly v r is (inl earlier) = within.little v (inr earlier) is
+        costly v r is (inr (inl same)) = within.little v (inl same) is
+        costly v r is (inr (inr later)) = r.none w later first.counters
+
         limited : (v : List ℕ) → IsReached l p n v → IsLimitWord l p v
             → IsEarlier v w ⊎ ((v ≡ w) ⊎ IsEarlier w v) → ⊥
         limited v r is (inl earlier) = limit_not_free v is (within.free v r.letters (inr earlier))
@@ -126,11 +139,12 @@ module _ (l : Program (Expr ℕ)) (e : Expr ℕ) (n : ℕ) (a : Answer) (h : Ans
 
     pub none_found : NoneCounters l p n → AreWithin l p n
         → (a ≡ none_answer n) ⊎ (a.status ≡ status.Wide)
-    none_found none free =
+    none_found none within =
         by_search ((a ≡ none_answer n) ⊎ (a.status ≡ status.Wide)) (λ x. inr x.0)
         (λ t. absurd (none t.word t.is.short t.is.first.counters)) (λ t. inl t.says)
         (λ t. absurd (limit_not_free t.word t.is.cause
-        (free t.word t.is.reached.letters t.is.reached.short)))
+        (within.free t.word t.is.reached.letters t.is.reached.short)))
+        (λ t. absurd (within.little t.word t.is.reached.short t.is.cause.1))
 
     pub limit_told : (w : List ℕ) → IsReached l p n w → IsLimitWord l p w
         → (a ≡ limit_answer w) ⊎ (a.status ≡ status.Wide)
@@ -140,7 +154,14 @@ module _ (l : Program (Expr ℕ)) (e : Expr ℕ) (n : ℕ) (a : Answer) (h : Ans
         (λ t. absurd (limit_not_free w is (t.is.free w r.letters r.short)))
         (λ t. inl (t.says
         ∙ ap limit_answer (same t.word t.is.reached t.is.cause (earlier_total t.word w))))
+        (λ t. absurd (costly t.word t.is.reached t.is.cause (earlier_total t.word w)))
       where
+        costly : (v : List ℕ) → IsReached l p n v → IsCostlyWord l p n v
+            → IsEarlier v w ⊎ ((v ≡ w) ⊎ IsEarlier w v) → ⊥
+        costly v s k (inl earlier) = r.little v earlier k.1
+        costly v s k (inr (inl equal)) = limit_not_free w is (subst (IsFreeWord l p) equal k.0)
+        costly v s k (inr (inr later)) = limit_not_free w is (s.free w r.letters later)
+
         run : (t : TellsRun l p n a) → IsEarlier w t.word ⊎ ((w ≡ t.word) ⊎ IsEarlier t.word w)
             → ⊥
         run t (inl earlier) = limit_not_free w is (t.is.free w r.letters (inr earlier))
@@ -152,3 +173,31 @@ module _ (l : Program (Expr ℕ)) (e : Expr ℕ) (n : ℕ) (a : Answer) (h : Ans
         same v s k (inl earlier) = absurd (limit_not_free v k (r.free v s.letters earlier))
         same v s k (inr (inl equal)) = equal
         same v s k (inr (inr later)) = absurd (limit_not_free w is (s.free w r.letters later))
+
+    pub cost_told : (w : List ℕ) → IsReached l p n w → IsCostlyWord l p n w
+        → (a ≡ cost_answer w) ⊎ (a.status ≡ status.Wide)
+    cost_told w r is =
+        by_search ((a ≡ cost_answer w) ⊎ (a.status ≡ status.Wide)) (λ x. inr x.0)
+        (λ t. absurd (run t (earlier_total w t.word))) (λ t. absurd (t.is.little w is.1))
+        (λ t. absurd (limited t.word t.is.reached t.is.cause (earlier_total t.word w)))
+        (λ t. inl (t.says
+        ∙ ap cost_answer (same t.word t.is.reached t.is.cause (earlier_total t.word w))))
+      where
+        run : (t : TellsRun l p n a) → IsEarlier w t.word ⊎ ((w ≡ t.word) ⊎ IsEarlier t.word w)
+            → ⊥
+        run t (inl earlier) = t.is.little w (inr earlier) is.1
+        run t (inr (inl same)) = t.is.little w (inl same) is.1
+        run t (inr (inr later)) = r.none t.word later t.is.first.counters
+
+        limited : (v : List ℕ) → IsReached l p n v → IsLimitWord l p v
+            → IsEarlier v w ⊎ ((v ≡ w) ⊎ IsEarlier w v) → ⊥
+        limited v s k (inl earlier) = limit_not_free v k (r.free v s.letters earlier)
+        limited v s k (inr (inl equal)) =
+            limit_not_free v k (subst (IsFreeWord l p) (sym equal) is.0)
+        limited v s k (inr (inr later)) = s.little w later is.1
+
+        same : (v : List ℕ) → IsReached l p n v → IsCostlyWord l p n v
+            → IsEarlier v w ⊎ ((v ≡ w) ⊎ IsEarlier w v) → v ≡ w
+        same v s k (inl earlier) = absurd (r.little v earlier k.1)
+        same v s k (inr (inl equal)) = equal
+        same v s k (inr (inr later)) = absurd (s.little w later is.1)

@@ -26,13 +26,13 @@ use Rattle.command_parts.specs.Equations.{equation_in, operations_of, polynomial
 use Rattle.command_parts.specs.EquationReading.{equation_refusal}
 use Rattle.command_parts.proofs.Refusals.{equation_refuses, unformed_refuses, stopped_limit}
 use Rattle.replay_commands.specs.CounterSeeking.{Answers}
-use Rattle.replay_commands.specs.CounterTexts.{none_answer, limit_answer}
+use Rattle.replay_commands.specs.CounterTexts.{none_answer, limit_answer, cost_answer}
 use Rattle.replay_commands.specs.CounterArguments.{Request}
 use Rattle.replay_commands.specs.CounterCourse.{course}
 use Rattle.replay_commands.specs.CounterClauses.{IsEquationFault, StopsSearch, ReadsEquation, IsWithin, EndsSeeking, Counters}
 use Rattle.replay_commands.specs.CounterHeadline.{IsQuestion, ShowsCounterRun, ShowsNoneUpTo}
 use Rattle.replay_commands.proofs.CounterShown.{answers_plain, run_when_no, none_when_yes, stop_when_refusing}
-use Rattle.replay_commands.proofs.CounterDecided.{map_limit_told, complete, first_found, none_found, limit_told}
+use Rattle.replay_commands.proofs.CounterDecided.{map_limit_told, complete, first_found, none_found, limit_told, cost_told}
 
 -- ---- by what the equation is
 module _ (text equation : List ℕ) (n : ℕ) (l : Program (Expr ℕ)) (a : Answer)
@@ -167,6 +167,10 @@ module _ (request : Request) where
       word_limit = λ l e w r formed maps reached is.
           or_wide (course request) call f (limit_answer w)
           (λ s. limit_told l e request.most s.answer (answers_told l (Ok e) r s) formed maps w
+          reached is);
+      cost_limit = λ l e w r formed maps reached is.
+          or_wide (course request) call f (cost_answer w)
+          (λ s. cost_told l e request.most s.answer (answers_told l (Ok e) r s) formed maps w
           reached is);
       completes = completes;
       long = long path call f;

@@ -23,7 +23,6 @@ use Rattle.corollaries.specs.Point.{wholes}
 use Rattle.corollaries.proofs.Points.{length-wholes}
 use Rattle.counter_run.specs.Answers.{IsRunFrom}
 use Rattle.counter_run.proofs.Running.{start_is}
-use Rattle.io_edge.specs.declared.answer.Status.{Status}
 use Rattle.io_edge.specs.declared.answer.Status.TheVariants as status
 use Rattle.io_edge.specs.Texts.{Answer}
 use Rattle.io_edge.specs.Settled.{IsPlain, IsRefusing}
@@ -81,7 +80,8 @@ module _ (l : Program (Expr ℕ)) (p : Terms Fraction) (n : ℕ) (a : Answer) wh
   pub stop_refuses : TellsStop l p n a → IsRefusing a.status
   stop_refuses (inl t) = map_refuses t.stop a t.says
   stop_refuses (inr (inl t)) = refusing_fault a.status (status_of t.says)
-  stop_refuses (inr (inr t)) = refusing_wide a.status (status_of t.says)
+  stop_refuses (inr (inr (inl t))) = refusing_fault a.status (status_of t.says)
+  stop_refuses (inr (inr (inr t))) = refusing_wide a.status (status_of t.says)
 
   seeks_plain : Seeks l p n a → IsPlain a.status
   seeks_plain (inl t) = plain_no a.status (status_of t.says)

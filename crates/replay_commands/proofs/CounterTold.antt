@@ -26,7 +26,7 @@ use Rattle.io_edge.proofs.OfStatuses.{no_answer, some_answer}
 use Rattle.command_parts.specs.Equations.{equation_in}
 use Rattle.command_parts.specs.EquationReading.{IsPolynomialOf, IsUnread}
 use Rattle.replay_commands.specs.CounterSeeking.{Seeks, Answers}
-use Rattle.replay_commands.specs.CounterTexts.{limit_answer, wide_answer}
+use Rattle.replay_commands.specs.CounterTexts.{limit_answer, cost_answer, wide_answer}
 use Rattle.replay_commands.specs.CounterViews.{tells_found, tells_error}
 
 module _ (l : Program (Expr ℕ)) (p : Terms Fraction) (n : ℕ) where
@@ -62,11 +62,16 @@ module _ (l : Program (Expr ℕ)) (p : Terms Fraction) (n : ℕ) where
     is = is;
     says = some_answer (limit_answer word.items) a says;
   }))))
-  error_seeks (error.Wide word) is a says = inr (inr (inr (inr (record {
+  error_seeks (error.Cost word) is a says = inr (inr (inr (inr (inl (record {
+    word = word.items;
+    is = is;
+    says = some_answer (cost_answer word.items) a says;
+  })))))
+  error_seeks (error.Wide word) is a says = inr (inr (inr (inr (inr (record {
     word = word.items;
     is = is;
     says = some_answer (wide_answer word.items) a says;
-  }))))
+  })))))
   error_seeks error.Memory is a says = absurd (no_answer a says)
 
   pub told_error : (e : CounterError) → IfCounterRefused l p n e

@@ -6,15 +6,16 @@
 --   Refuses call request a      a tells the first fault of LOOP or of EQUATION, or what stopped
 --   ReadsEquation call request l r    the bytes are told and the loop l, and r is what EQUATION
 --     says
---   IsWithin l p w n      no image of a word up to w passes a limit, and w has at most n letters
---   AreWithin l p n       no image of a word of at most n letters passes a limit
+--   IsWithin l p w n      no image of a word up to w passes a limit, they don't cost too much, and w
+--                         has at most n letters
+--   AreWithin l p n       no image of a word of at most n letters passes a limit, and they don't cost
+--                         too much
 --   IsWideSeeking l e n   an operation of the equation's polynomial, of the maps, or on the way to
 --     a
 --                         word that is reached may not fit
 --   EndsSeeking s l e n   no, and a word of at most n letters counters; yes, and none does; a
---     fault,
---                         and a word that is reached passes a limit; wide by such a cause; or
---                           excused
+--                         fault, and a word that is reached passes a limit, or up to it words cost
+--                         too much; wide by such a cause; or excused
 --   Counters request call       the clauses
 use Rattle.std.specs.Prelude.{◌≡◌, ◌≢◌, ◌⊎◌, ℕ, ◌≤◌, List, length, Ok, Err, Result}
 use Rattle.std.specs.List.{All}
@@ -29,7 +30,8 @@ use Rattle.loop_text.specs.LoopReader.{loop_of}
 use Rattle.corollaries.specs.Word.{IsEarlier}
 use Rattle.corollaries.specs.Counter.{IsFirstWord, NoneCounters}
 use Rattle.counter_run.specs.Images.{IsFreeWord}
-use Rattle.counter_run.specs.Causes.{IsReached, IsLimitWord}
+use Rattle.counter_run.specs.Costs.{IsTooCostly}
+use Rattle.counter_run.specs.Causes.{IsReached, IsLimitWord, IsCostlyWord}
 use Rattle.counter_run.specs.Answers.{IsWideCause, StopsAtWord}
 use Rattle.io_edge.specs.declared.answer.Status.{Status}
 use Rattle.io_edge.specs.declared.answer.Status.TheVariants as status
@@ -41,7 +43,7 @@ use Rattle.command_parts.specs.LoopReading.{loop_at, IsLoopFault, ReadsLoop}
 use Rattle.command_parts.specs.Equations.{equation_in, operations_of, polynomial_of, FormsFreely}
 use Rattle.command_parts.specs.EquationReading.{equation_refusal, IsUnformed}
 use Rattle.replay_commands.specs.CounterSeeking.{TellsStop}
-use Rattle.replay_commands.specs.CounterTexts.{none_answer, limit_answer}
+use Rattle.replay_commands.specs.CounterTexts.{none_answer, limit_answer, cost_answer}
 use Rattle.replay_commands.specs.CounterArguments.{Request}
 use Rattle.replay_commands.specs.CounterHeadline.{IsQuestion, ShowsCounterRun, ShowsNoneUpTo}
 
@@ -74,15 +76,20 @@ module _ (l : Program (Expr ℕ)) (p : Terms Fraction) where
   pub record IsWithin (w : List ℕ) (n : ℕ) : Type 0 where
     pub short : length w ≤ n
     pub free : (v : List ℕ) → All (IsLetter l) v → (v ≡ w) ⊎ IsEarlier v w → IsFreeWord l p v
+    pub little : (v : List ℕ) → (v ≡ w) ⊎ IsEarlier v w → ¬ (IsTooCostly l p n v)
 
-  abbrev pub AreWithin : ℕ → Type 0
-  AreWithin n = (v : List ℕ) → All (IsLetter l) v → length v ≤ n → IsFreeWord l p v
+  pub record AreWithin (n : ℕ) : Type 0 where
+    pub free : (v : List ℕ) → All (IsLetter l) v → length v ≤ n → IsFreeWord l p v
+    pub little : (v : List ℕ) → length v ≤ n → ¬ (IsTooCostly l p n v)
 
   abbrev pub HasWord : ℕ → Type 0
   HasWord n = (w : List ℕ) × IsFirstWord l p w × (length w ≤ n)
 
   abbrev pub HasLimitWord : ℕ → Type 0
   HasLimitWord n = (w : List ℕ) × StopsAtWord l p n w (IsLimitWord l p w)
+
+  abbrev pub HasCostlyWord : ℕ → Type 0
+  HasCostlyWord n = (w : List ℕ) × StopsAtWord l p n w (IsCostlyWord l p n w)
 
   abbrev pub HasWideWord : ℕ → Type 0
   HasWideWord n = (w : List ℕ) × StopsAtWord l p n w (IsWideCause l p n w)
@@ -97,7 +104,8 @@ abbrev pub EndsSeeking : Status → Program (Expr ℕ) → Expr ℕ → ℕ → 
 EndsSeeking s l e n =
     ((s ≡ status.No) × HasWord l (polynomial_of l e) n)
     ⊎ (((s ≡ status.Yes) × NoneCounters l (polynomial_of l e) n)
-    ⊎ (((s ≡ status.Fault) × HasLimitWord l (polynomial_of l e) n)
+    ⊎ (((s ≡ status.Fault) × (HasLimitWord l (polynomial_of l e) n
+    ⊎ HasCostlyWord l (polynomial_of l e) n))
     ⊎ (((s ≡ status.Wide) × IsWideSeeking l e n) ⊎ IsExcused s)))
 
 pub record Counters (request : Request) (call : Call) : Type 0 where
@@ -132,11 +140,11 @@ pub record Counters (request : Request) (call : Call) : Type 0 where
       → ReadsEquation call request l (Ok e) → FormsFreely l e
       → IsLimit (length l.names) (maps_operations l) at
       → EndsOrWide call (loop_refusal (record { reason = limit; at = at }))
-  -- where none passes one: no, where a word counters and no image up to it passes a limit; that
-  -- there
-  -- is none, where none counters and none passes one; and the first word whose image passes one,
-  -- where
-  -- it is reached; or a number that doesn't fit
+  -- where none passes one: no, where a word counters, no image up to it passes a limit, and the
+  -- words
+  -- up to it don't cost too much; that there is none, where none counters, none passes one, and all
+  -- don't cost too much; and the first word whose image passes one, or up to which words cost too
+  -- much, where it is reached; or a number that doesn't fit
   pub first : (l : Program (Expr ℕ)) (e : Expr ℕ) (w : List ℕ)
       → ReadsEquation call request l (Ok e) → FormsFreely l e → AreFree l
       → IsFirstWord l (polynomial_of l e) w → IsWithin l (polynomial_of l e) w request.most
@@ -150,6 +158,10 @@ pub record Counters (request : Request) (call : Call) : Type 0 where
       → ReadsEquation call request l (Ok e) → FormsFreely l e → AreFree l
       → IsReached l (polynomial_of l e) request.most w → IsLimitWord l (polynomial_of l e) w
       → EndsOrWide call (limit_answer w)
+  pub cost_limit : (l : Program (Expr ℕ)) (e : Expr ℕ) (w : List ℕ)
+      → ReadsEquation call request l (Ok e) → FormsFreely l e → AreFree l
+      → IsReached l (polynomial_of l e) request.most w
+      → IsCostlyWord l (polynomial_of l e) request.most w → EndsOrWide call (cost_answer w)
   -- so one of these, each by its cause, where the equation and the maps pass no limit
   pub completes : (l : Program (Expr ℕ)) (e : Expr ℕ)
       → ReadsEquation call request l (Ok e) → FormsFreely l e → AreFree l

@@ -4,8 +4,9 @@
 --   TellsNone l p n a       a tells that no word counters p
 --   TellsMap l p n a        a tells the first operation of the loop's maps that can't be done
 --   TellsLimit l p n a      a tells the word whose image passes a limit, and which is reached
+--   TellsCost l p n a       a tells the word up to which words cost too much, and which is reached
 --   TellsWide l p n a       a tells the word of which a number may not fit, and which is reached
---   TellsStop l p n a       one of these three, by which the search stops
+--   TellsStop l p n a       one of these four, by which the search stops
 --   Seeks l p n a           one of all
 --   Answers l reading n a   a answers by what the equation is: its first fault, the first operation
 --     of
@@ -17,12 +18,12 @@ use Rattle.loops.specs.Program.{Expr, Program}
 use Rattle.loop_model.specs.Maps.{AreFree}
 use Rattle.poly_text.specs.Reasons.{Fault}
 use Rattle.loop_model.specs.declared.map_error.MapError.{MapError}
-use Rattle.counter_run.specs.Causes.{IsLimitWord}
+use Rattle.counter_run.specs.Causes.{IsLimitWord, IsCostlyWord}
 use Rattle.counter_run.specs.Answers.{IsRun, IsNone, IsWideCause, IfUnformed, StopsAtWord}
 use Rattle.io_edge.specs.Texts.{Answer}
 use Rattle.command_parts.specs.Equations.{polynomial_of, FormsFreely}
 use Rattle.command_parts.specs.EquationReading.{equation_refusal, IsUnformed}
-use Rattle.replay_commands.specs.CounterTexts.{run_answer, none_answer, limit_answer, wide_answer, map_answer}
+use Rattle.replay_commands.specs.CounterTexts.{run_answer, none_answer, limit_answer, cost_answer, wide_answer, map_answer}
 
 module _ (l : Program (Expr ℕ)) (p : Terms Fraction) (n : ℕ) where
   pub record TellsRun (a : Answer) : Type 0 where
@@ -48,13 +49,18 @@ module _ (l : Program (Expr ℕ)) (p : Terms Fraction) (n : ℕ) where
     pub is : StopsAtWord l p n word (IsLimitWord l p word)
     pub says : a ≡ limit_answer word
 
+  pub record TellsCost (a : Answer) : Type 0 where
+    pub word : List ℕ
+    pub is : StopsAtWord l p n word (IsCostlyWord l p n word)
+    pub says : a ≡ cost_answer word
+
   pub record TellsWide (a : Answer) : Type 0 where
     pub word : List ℕ
     pub is : StopsAtWord l p n word (IsWideCause l p n word)
     pub says : a ≡ wide_answer word
 
   abbrev pub TellsStop : Answer → Type 0
-  TellsStop a = TellsMap a ⊎ (TellsLimit a ⊎ TellsWide a)
+  TellsStop a = TellsMap a ⊎ (TellsLimit a ⊎ (TellsCost a ⊎ TellsWide a))
 
   abbrev pub Seeks : Answer → Type 0
   Seeks a = TellsRun a ⊎ (TellsNone a ⊎ TellsStop a)

@@ -4,8 +4,8 @@
 --   run_answer names w states x  to a run that was found: no
 --   none_answer n                where no word of at most n letters has one: yes
 --   limit_answer w, wide_answer w     to a word whose image passes a limit, or of which a number
---     may
---                                not fit
+--                                may not fit
+--   cost_answer w                to a word up to which words cost too much together
 --   map_answer e                 to a map of the loop that can't be formed; want of memory has none
 use Rattle.std.specs.Prelude.{ℕ, List, ◌++◌, Option, codes, decimal}
 use Rattle.std.specs.List.{flat_map}
@@ -35,6 +35,9 @@ none_answer n = answer status.Yes (codes "none up to " ++ decimal n)
 
 abbrev pub limit_answer : List ℕ → Answer
 limit_answer w = answer status.Fault (codes "limit: " ++ word_text w)
+
+abbrev pub cost_answer : List ℕ → Answer
+cost_answer w = answer status.Fault (codes "limit: words up to" ++ letters_text w)
 
 abbrev pub wide_answer : List ℕ → Answer
 wide_answer w = answer status.Wide (codes "wide: " ++ word_text w)

@@ -11,7 +11,7 @@ use Rattle.counter_run.specs.declared.error.CounterError.{CounterError}
 use Rattle.counter_run.specs.declared.error.CounterError.TheVariants as error
 use Rattle.io_edge.specs.Texts.{Answer}
 use Rattle.replay_commands.specs.declared.counter_arguments.Request as made
-use Rattle.replay_commands.specs.CounterTexts.{run_answer, none_answer, limit_answer, wide_answer, map_answer}
+use Rattle.replay_commands.specs.CounterTexts.{run_answer, none_answer, limit_answer, cost_answer, wide_answer, map_answer}
 use Rattle.replay_commands.specs.CounterArguments.{Request}
 
 abbrev pub view : made.Request → Request
@@ -29,5 +29,6 @@ tells_found names most found.NoneUpTo = none_answer most
 abbrev pub tells_error : CounterError → Option Answer
 tells_error (error.Map stop) = map_answer stop
 tells_error (error.Limit word) = Some (limit_answer word.items)
+tells_error (error.Cost word) = Some (cost_answer word.items)
 tells_error (error.Wide word) = Some (wide_answer word.items)
 tells_error error.Memory = None

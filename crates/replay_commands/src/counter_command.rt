@@ -47,24 +47,19 @@ fn answer_to<F: Files>(
         (F.seen files.old ⟶ F.seen files.new) (m ⟶ m) (seen_answer result) }
 {
     match read_program(alloc, files, request.file) {
-        Ok(lp) => answer_by_equation(alloc, &lp, request.equation, request.most),
+        Ok(lp) => answer_by_equation(alloc, &lp, request),
         Err(refusal) => refusal.into_answer(),
     }
 }
 
 /// The answer by what the equation is.
-fn answer_by_equation(
-    alloc: Global,
-    lp: &Loop,
-    equation: &String,
-    most: u32,
-) -> Result<Answer, AllocError>
+fn answer_by_equation(alloc: Global, lp: &Loop, request: Request<'_>) -> Result<Answer, AllocError>
     ensures { let l = program_of lp.now in
-        let reading = equation_in l.names (string_bytes equation.now) in
-        IfOk result (λ a. Answers l reading most (answer_view a)) }
+        let reading = equation_in l.names (string_bytes request.entry.equation.now) in
+        IfOk result (λ a. Answers l reading request.entry.most (answer_view a)) }
 {
-    match read_polynomial(alloc, lp, equation) {
-        Ok(polynomial) => answer_by_search(alloc, lp, &polynomial, most),
+    match read_polynomial(alloc, lp, request.equation) {
+        Ok(polynomial) => answer_by_search(alloc, lp, &polynomial, request.most),
         Err(refusal) => refusal.into_answer(),
     }
 }

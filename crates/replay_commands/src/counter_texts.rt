@@ -85,6 +85,9 @@ pub(crate) fn search_refusal(alloc: Global, why: &CounterError) -> Result<Answer
     match why {
         CounterError::Map(stop) => map_refusal(alloc, "loop: ", stop),
         CounterError::Limit { word } => word_answer(alloc, Status::Fault, "limit: word", word),
+        CounterError::Cost { word } => {
+            word_answer(alloc, Status::Fault, "limit: words up to", word)
+        }
         CounterError::Wide { word } => word_answer(alloc, Status::Wide, "wide: word", word),
         CounterError::Memory => Err(AllocError),
     }

@@ -1,4 +1,4 @@
-use Rattle.std.proofs.Common.{◌≢◌, [], ◌∷◌, Ok, ap, subst, ◌∙◌}
+use Rattle.std.proofs.Common.{◌≢◌, [], ◌∷◌, Ok, refl, ap, subst, ◌∙◌}
 use Rattle.std.proofs.lemmas.List.{drop_all}
 use Rattle.algebra.specs.Fraction.{ℚ}
 use Rattle.polynomials.specs.Terms.{constant}
@@ -7,12 +7,30 @@ use Rattle.poly.specs.Seen.{terms_in, terms_each}
 use Rattle.poly.specs.View.{term_of, terms_of}
 use Rattle.loop_model.specs.Operations.{sum_at, IsFree}
 use Rattle.loop_model.specs.Stops.{Forms}
-use Rattle.counter_run.specs.Composition.{factors, product_operations, term_product}
+use Rattle.counter_run.specs.Composition.{factors, product_operations, term_product, composition_onto, composition_operations}
 use Rattle.counter_run.specs.OpenSums.{terms_so_far}
+use Rattle.poly.proofs.Standing.{arities_over}
+use Rattle.counter_run.specs.Costs.{image_length}
+use Rattle.counter_run.proofs.Costs.{counts_none, counts_more, formed_length}
 use Rattle.counter_run.proofs.Combining.{composed, each_item, known_at}
 use Rattle.loop_model.proofs.Items.{in_list, item_of, past_list}
 use Rattle.counter_run.proofs.Compositions.{summing_from_more, read_at}
 use Rattle.counter_run.proofs.combination.combine.Goals as goal
+
+pub loop-term-init : goal.loop-term-init
+loop-term-init c =
+    let p = c.args.polynomial.now in
+    let images = terms_each c.args.images.now.items in
+    record {
+      arity = c.zero-so_far.ensures.arity ∙ c.arity.ensures.arity;
+      goes = λ r h.
+          subst (λ s. Forms p.arity (composition_operations p.arity images s (terms_in p))
+          (composition_onto p.arity images s (terms_in p)) r) c.zero-so_far.ensures.none h;
+      known = c.requires.known;
+      counts =
+          counts_none (image_length p.arity images) (terms_in p) _ _ refl
+          c.zero-so_far.ensures.came;
+    }
 
 pub with_term-requires-clause-nonzero : goal.with_term-requires-clause-nonzero
 with_term-requires-clause-nonzero c =
@@ -55,6 +73,13 @@ loop-term-preserved c =
       known =
           known_at c.arity-in-loop-term.result p.arity images _
           c.arity-in-loop-term.ensures.arity c.with_term.ensures.known;
+      counts =
+          counts_more (image_length p.arity images) (terms_in p)
+          (term_of fraction_of c.term-item.result) _ _ c.loop-term.so_far.came _
+          c.in_ok-so_far.so_far.came order c.loop-term.invariant.counts
+          (formed_length p.arity images (term_of fraction_of c.term-item.result) adds.term
+          (arities_over p.arity c.args.images.now.items c.requires.images) formed)
+          adds.sum.came;
     }
 
 pub returns-clause-combined : goal.returns-clause-combined
@@ -63,7 +88,7 @@ returns-clause-combined c =
     let past = past_list p.terms.items c.deref-term-items.result.now
     (c.deref-term-items.ensures.value ∙ ap (λ v. v.items) c.terms.ensures)
     c.loop-term.term-index c.loop-term-test.false in
-    composed p.arity (terms_each c.args.images.now.items) (terms_in p) _ c.loop-term.so_far
-    c.collected.result
+    composed p.arity (terms_each c.args.images.now.items) (terms_in p) _ c.loop-term.so_far _
     (ap (terms_of fraction_of) (drop_all c.loop-term.term-index p.terms.items past))
-    c.loop-term.invariant.arity c.loop-term.invariant.goes c.collected.ensures
+    c.loop-term.invariant.arity c.loop-term.invariant.goes c.in_ok-collected.ensures
+    c.loop-term.invariant.counts refl

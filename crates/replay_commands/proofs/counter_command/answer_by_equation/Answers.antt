@@ -11,15 +11,17 @@ answer_by_search-requires c = c.in-Ok.ensures.polynomial.arity
 
 pub returns-in-Ok : goal.returns-in-Ok
 returns-in-Ok c =
-    answers_equation (program_of c.args.lp.now) (string_bytes c.args.equation.now) c.args.most
+    answers_equation (program_of c.args.lp.now) (string_bytes c.args.request.equation.now)
+    c.args.request.most
     c.answer_by_search.result c.in-Ok.polynomial c.in-Ok.ensures.polynomial
     c.answer_by_search.ensures
 
 pub returns-in-Err : goal.returns-in-Err
 returns-in-Err c =
-    answers_unread (program_of c.args.lp.now) (string_bytes c.args.equation.now) c.args.most
+    answers_unread (program_of c.args.lp.now) (string_bytes c.args.request.equation.now)
+    c.args.request.most
     c.into_answer.result
     (refused_made c.in-Err.refusal c.into_answer.result
     (IsUnread (program_of c.args.lp.now)
-    (equation_in (program_of c.args.lp.now).names (string_bytes c.args.equation.now)))
+    (equation_in (program_of c.args.lp.now).names (string_bytes c.args.request.equation.now)))
     c.in-Err.ensures.unread c.into_answer.ensures)

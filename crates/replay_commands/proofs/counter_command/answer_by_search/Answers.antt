@@ -1,4 +1,4 @@
-use Rattle.std.proofs.Common.{rules, length, ap, sym, subst}
+use Rattle.std.proofs.Common.{length, ap, sym, subst}
 use Rattle.loop_model.specs.View.{program_of}
 use Rattle.poly.specs.Seen.{terms_in}
 use Rattle.counter_run.specs.Answers.{HasSizes}

@@ -20,3 +20,4 @@ returns c =
     put_behind c.args.self c.args.polynomial _ c.requires.arity c.requires.few refl
     (c.in_ok-append.ensures.items
     ∙ ap (λ v. c.args.self.terms.items ++ v.items) c.into_terms.ensures)
+    c.with_terms_of-came.ensures
