@@ -105,7 +105,7 @@ row 0 'x*v*h - x^2 - v^2 + e = 0' basis --degree 3 leapfrog.loop
 row 0 '{"basis":["x*z - y*z - x + 1"],"steps":[[[[0,"z"]]]],"vars":["x","y","z"],"version":2}' cert --degree 2 geometric-sum.loop
 row 5 'budget: 10' basis --budget 10 --degree 2 squaring.loop
 row 3 'limit: degree 16' basis --degree 16 leapfrog.loop
-row 0 'invar 1.4.0' --version
+row 0 'invar 1.5.0' --version
 row 0 "$("$program" help)" --help
 row 0 'invar gen NUMBER
 Analyses the first so many loops of a family, 1 to 1000, and prints how many

@@ -79,7 +79,7 @@ other_commands =
 
 abbrev pub version : List ℕ
 version =
-    line (codes "invar 1.4.0")
+    line (codes "invar 1.5.0")
 
 abbrev pub head_of : Page → List ℕ
 head_of page.Overview = loop_commands

@@ -188,7 +188,7 @@ Examples:
   invar member examples/squares.loop 's = (a+1)^2'
 ";
 
-const VERSION: &str = "invar 1.4.0\n";
+const VERSION: &str = "invar 1.5.0\n";
 
 const BASIS: &str = "Prints the reduced basis of all polynomial invariants of the loop in the file
 LOOP, an equation a line, or `none`. Each invariant is a combination of these.
