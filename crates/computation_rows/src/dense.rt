@@ -2,6 +2,7 @@
 ghost use Rattle.std.specs.Prelude.{◌≡◌, ◌<◌, IfOk};
 
 use crate::row_error::RowError;
+use crate::rows::Row;
 use frac128::Frac;
 use gf65521::Gf;
 use monos::Grevlex;
@@ -31,7 +32,7 @@ impl Sample for Gf {
 }
 
 // What is done, how often, and to polynomials with how many powers of each variable.
-#[derive(Clone, Copy)]
+#[derive(Drop)]
 struct Work {
     adds: bool,
     denominators: u16,
@@ -39,81 +40,87 @@ struct Work {
     times: u32,
 }
 
-/// How many terms the product or the sum (`mul` or `add`) of two dense polynomials has, over `gf` or over fractions up to a greatest
-/// denominator, with as many powers of each variable as `sides` says; the work is done some times over.
-pub(crate) fn dense_answer(alloc: Global, values: &[&str]) -> Result<String, RowError> {
-    let [what, numbers, sides, times] = values else {
-        return Err(RowError::Unreadable);
-    };
-    let work = Work {
-        adds: *what == "add",
-        denominators: numbers.parse().unwrap_or(1),
-        sides: sides_of(sides),
-        times: times.parse().unwrap_or(1),
-    };
-    let count = if *numbers == "gf" {
-        terms::<Gf>(alloc, &work)?
-    } else {
-        terms::<Frac>(alloc, &work)?
-    };
-    Ok(format!(in alloc; "{count} terms")?)
+impl Row<'_> {
+    /// How many terms the product or the sum (`mul` or `add`) of two dense polynomials has, over `gf` or over fractions up to a greatest
+    /// denominator, with as many powers of each variable as `sides` says; the work is done some times over.
+    pub(crate) fn push_dense(&self, text: &mut String) -> Result<(), RowError> {
+        let [what, numbers, sides, times] = self.values else {
+            return Err(RowError::Unreadable);
+        };
+        let mut sides = sides.split(',');
+        let work = Work {
+            adds: *what == "add",
+            denominators: numbers.parse().unwrap_or(1),
+            sides: [
+                side_of(sides.next()),
+                side_of(sides.next()),
+                side_of(sides.next()),
+            ],
+            times: times.parse().unwrap_or(1),
+        };
+        let count = match *numbers {
+            "gf" => terms::<Gf>(self.alloc, &work),
+            _ => terms::<Frac>(self.alloc, &work),
+        };
+        let count = count?;
+        Ok(write!(text, "{count} terms")?)
+    }
 }
 
-fn sides_of(text: &str) -> [u16; 3] {
-    let mut sides = [1; 3];
-    for (side, word) in sides.iter_mut().zip(text.split(',')) {
-        *side = word.parse().unwrap_or(1);
+fn side_of(word: Option<&str>) -> u16 {
+    match word {
+        Some(word) => word.parse().unwrap_or(1),
+        None => 1,
     }
-    sides
 }
 
 // The number of terms of the last result.
 fn terms<K: Sample>(alloc: Global, work: &Work) -> Result<usize, ArithmeticError> {
-    let left = dense::<K>(alloc, &work.sides, work.denominators, 1)?;
-    let right = dense::<K>(alloc, &work.sides, work.denominators, 5)?;
+    let left = dense::<K>(alloc, work, 1)?;
+    let right = dense::<K>(alloc, work, 5)?;
     let mut count = 0;
     for _ in 0..work.times {
         let result = if work.adds {
-            left.add(alloc, &right)?
+            left.add(alloc, &right)
         } else {
-            left.mul(alloc, &right)?
+            left.mul(alloc, &right)
         };
-        count = result.terms().len();
+        count = result?.terms().len();
     }
     Ok(count)
 }
 
-// The product of a polynomial in each of three variables, with as many powers as `sides` says.
+// The product of a polynomial in each of three variables.
 fn dense<K: Sample>(
     alloc: Global,
-    sides: &[u16; 3],
-    denominators: u16,
+    work: &Work,
     seed: u16,
 ) -> Result<Poly<K, Grevlex>, ArithmeticError>
     ensures { IfOk result (λ p. p.arity ≡ 3) }
 {
-    let x = line(alloc, 0, sides[0], denominators, seed)?;
-    let y = line(alloc, 1, sides[1], denominators, seed)?;
-    let z = line(alloc, 2, sides[2], denominators, seed)?;
-    x.mul(alloc, &y)?.mul(alloc, &z)
+    let mut product = Poly::one(alloc, Grevlex, 3)?;
+    for variable in 0..3 {
+        product = product.mul(alloc, &line(alloc, work, variable, seed)?)?;
+    }
+    Ok(product)
 }
 
 // The sum of the first powers of one variable, each with a number.
 fn line<K: Sample>(
     alloc: Global,
+    work: &Work,
     variable: usize,
-    side: u16,
-    denominators: u16,
     seed: u16,
 ) -> Result<Poly<K, Grevlex>, ArithmeticError>
     requires { variable < 3 }
     ensures { IfOk result (λ p. p.arity ≡ 3) }
 {
-    if side == 0 {
-        return Ok(Poly::zero(alloc, Grevlex, 3));
-    }
     let x = Poly::variable(alloc, Grevlex, 3, variable)?;
-    let rest = line(alloc, variable, side - 1, denominators, seed)?.mul(alloc, &x)?;
-    let last = K::sample(side.wrapping_mul(seed), denominators);
-    rest.add(alloc, &Poly::constant(alloc, Grevlex, 3, &last)?)
+    let mut sum = Poly::zero(alloc, Grevlex, 3);
+    for place in 0..work.sides[variable] {
+        let number = K::sample((place + 1).wrapping_mul(seed), work.denominators);
+        let last = Poly::constant(alloc, Grevlex, 3, &number)?;
+        sum = sum.mul(alloc, &x)?.add(alloc, &last)?;
+    }
+    Ok(sum)
 }

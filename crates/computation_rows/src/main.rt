@@ -12,10 +12,9 @@
 mod bases;
 mod calls;
 mod columns;
-mod combinations;
 mod dense;
 mod exponential;
-mod forms;
+mod lists;
 mod maps;
 mod matrices;
 mod meters;
@@ -23,7 +22,7 @@ mod number;
 mod row_error;
 mod rows;
 
-use rows::answer;
+use rows::Row;
 use std::alloc::{AllocError, Global};
 use std::process::ExitCode;
 use worked_rows::{Answers, run};
@@ -34,7 +33,15 @@ struct Computations;
 impl Answers for Computations {
     fn answer(&mut self, alloc: Global, columns: &[&str]) -> Result<Option<String>, AllocError> {
         match columns {
-            [call, values @ .., _] => Ok(Some(answer(alloc, call, values)?)),
+            [call, values @ .., _] => {
+                let call = *call;
+                let row = Row {
+                    alloc,
+                    call,
+                    values,
+                };
+                Ok(Some(row.answer()?))
+            }
             _ => Ok(None),
         }
     }

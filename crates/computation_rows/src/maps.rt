@@ -1,74 +1,106 @@
 // Maps: polynomials between semicolons, one for each name.
 ghost use Rattle.std.specs.Prelude.{◌≡◌, All, length, IfOk};
 
-use crate::columns::{fractional_of, names_of};
+use crate::columns::{list_of, names_of, names_with, push_poly};
+use crate::lists::{push_list, push_lists};
 use crate::row_error::RowError;
+use crate::rows::Row;
+use closed_forms::{Form, FormsError, forms};
 use frac128::Frac;
 use loop_model::Names;
 use monos::Grevlex;
 use poly::Poly;
-use solvable::{Classes, SolvableError, classes};
+use solvable::{SolvableError, classes};
 use std::alloc::Global;
-use worked_rows::push_item;
 
-/// What `classes` answers: each class, or the least chain.
-pub(crate) fn classes_answer(alloc: Global, names: &str, map: &str) -> Result<String, RowError> {
-    let names = names_of(alloc, names)?;
-    let map = map_of(alloc, &names, map)?;
-    match classes(alloc, &map) {
-        Ok(found) => told(alloc, &found),
-        Err(SolvableError::NotSolvable { cycle }) => {
-            let chain = places_text(alloc, cycle.as_slice())?;
-            Ok(format!(in alloc; "not solvable: {chain}")?)
+impl Row<'_> {
+    /// What `classes` answers: each class, or the least chain.
+    pub(crate) fn push_classes(&self, text: &mut String) -> Result<(), RowError> {
+        let [names, map] = self.values else {
+            return Err(RowError::Unreadable);
+        };
+        let map = map_of(self.alloc, names, map)?;
+        match classes(self.alloc, &map) {
+            Ok(found) => Ok(push_lists(text, "", &found.groups, "; ")?),
+            Err(SolvableError::NotSolvable { cycle }) => {
+                Ok(push_list(text, "not solvable: ", &cycle)?)
+            }
+            Err(SolvableError::Memory) => Err(RowError::Memory),
         }
-        Err(SolvableError::Memory) => Err(RowError::Memory),
+    }
+
+    /// What `forms` answers: the base, where the closed form begins if it does so late, and that of each variable; or its refusal.
+    pub(crate) fn push_forms(&self, text: &mut String) -> Result<(), RowError> {
+        let [front, variables, map] = self.values else {
+            return Err(RowError::Unreadable);
+        };
+        let map = map_of(self.alloc, variables, map)?;
+        if map.is_empty() || map.len() > 12 {
+            return Err(RowError::Unreadable);
+        }
+        match forms(self.alloc, &map) {
+            Ok(form) => push_form(self.alloc, &form, front, variables, text),
+            Err(error) => push_refusal(text, &error),
+        }
     }
 }
 
-fn told(alloc: Global, found: &Classes) -> Result<String, RowError> {
-    let mut text = String::new(alloc);
-    for group in &found.groups {
-        let places = places_text(alloc, group.as_slice())?;
-        push_item(&mut text, "; ", &places)?;
-    }
-    Ok(text)
-}
-
-/// The places, between commas.
-pub(crate) fn places_text(alloc: Global, places: &[usize]) -> Result<String, RowError> {
-    let mut text = String::new(alloc);
-    for place in places {
-        let place = format!(in alloc; "{place}")?;
-        push_item(&mut text, ",", &place)?;
-    }
-    Ok(text)
-}
-
-/// As many polynomials as names, in these.
-pub(crate) fn map_of(
+fn push_form(
     alloc: Global,
-    names: &Names,
-    text: &str,
-) -> Result<Vec<Poly<Frac, Grevlex>>, RowError>
+    form: &Form,
+    front: &str,
+    variables: &str,
+    text: &mut String,
+) -> Result<(), RowError> {
+    let names = names_with(alloc, front, variables)?;
+    push_list(text, "base ", &form.base)?;
+    if form.since > 0 {
+        write!(text, "; since {}", form.since)?;
+    }
+    for poly in &form.polys {
+        push_poly(alloc, "; ", poly.body(), &names, text)?;
+    }
+    Ok(())
+}
+
+fn push_refusal(text: &mut String, error: &FormsError) -> Result<(), RowError> {
+    let class = match error {
+        FormsError::NotSolvable { cycle } => {
+            text.push_str("not solvable")?;
+            cycle
+        }
+        FormsError::Eigen { class } => {
+            text.push_str("eigen")?;
+            class
+        }
+        FormsError::Range { class, sum } => {
+            write!(text, "range {sum}")?;
+            class
+        }
+        FormsError::WideSplit {
+            class,
+            candidate,
+            power,
+            row,
+        } => {
+            write!(text, "wide split {candidate} {power} {row}")?;
+            class
+        }
+        FormsError::LimitForm { variable } => return Ok(write!(text, "limit form: {variable}")?),
+        FormsError::WideForm { variable } => return Ok(write!(text, "wide form: {variable}")?),
+        FormsError::Memory => return Err(RowError::Memory),
+    };
+    Ok(push_list(text, ": ", class)?)
+}
+
+// As many polynomials as names, in these.
+fn map_of(alloc: Global, names: &str, text: &str) -> Result<Vec<Poly<Frac, Grevlex>>, RowError>
     ensures { IfOk result (λ map. All (λ p. p.arity ≡ length map.items) map.items) }
 {
-    let map = polynomials_of(alloc, names, text)?;
+    let names = names_of(alloc, names, 0)?;
+    let map = list_of(alloc, Grevlex, &names, text)?;
     if map.len() != names.len() {
         return Err(RowError::Unreadable);
     }
     Ok(map)
-}
-
-fn polynomials_of(
-    alloc: Global,
-    names: &Names,
-    text: &str,
-) -> Result<Vec<Poly<Frac, Grevlex>>, RowError>
-    ensures { IfOk result (λ list. All (λ p. p.arity ≡ length names.now) list.items) }
-{
-    let mut list = Vec::new(alloc);
-    for item in text.split("; ") {
-        list.push(fractional_of(alloc, names, item)?)?;
-    }
-    Ok(list)
 }

@@ -1,40 +1,40 @@
 // A meter by itself.
 use crate::row_error::RowError;
-use journal::{Event, Meter, Task};
+use journal::{Event, Meter, MeterError, Task};
 use std::alloc::Global;
-use worked_rows::push_item;
 
 /// What entries answer, one after another: `Start` and `Round 1` begin tasks, and `Pair 0 1`, `Cut 0`, `Keep` and `Zero` are events.
-pub(crate) fn answers(
+pub(crate) fn outcomes_text(
     alloc: Global,
-    values: &[&str],
+    entries: &[&str],
     meter: &mut Meter,
 ) -> Result<String, RowError> {
     let mut text = String::new(alloc);
-    for value in values {
-        let words: Vec<&str> = value.split(' ').collect(alloc)?;
-        let answer = match words.as_slice() {
-            ["Start"] => meter.begin(Task::Start),
-            ["Round", round] => meter.begin(Task::Round {
-                round: number(round),
-            }),
-            ["Pair", left, right] => meter.note(Event::Pair {
-                left: number(left),
-                right: number(right),
-            }),
-            ["Cut", element] => meter.note(Event::Cut {
-                element: number(element),
-            }),
-            ["Keep"] => meter.note(Event::Keep),
-            ["Zero"] => meter.note(Event::Zero),
-            _ => return Err(RowError::Unreadable),
+    for entry in entries {
+        let Some(outcome) = outcome_of(entry, meter) else {
+            return Err(RowError::Unreadable);
         };
-        let answer = format!(in alloc; "{answer:?}")?;
-        push_item(&mut text, "; ", &answer)?;
+        if !text.is_empty() {
+            text.push_str("; ")?;
+        }
+        write!(text, "{outcome:?}")?;
     }
     Ok(text)
 }
 
-fn number(word: &str) -> u32 {
-    word.parse().unwrap_or(0)
+fn outcome_of(entry: &str, meter: &mut Meter) -> Option<Result<(), MeterError>> {
+    let (name, numbers) = entry.split_once(' ').unwrap_or((entry, ""));
+    let (left, right) = numbers.split_once(' ').unwrap_or((numbers, ""));
+    let left = left.parse().unwrap_or(0);
+    let right = right.parse().unwrap_or(0);
+    let event = match name {
+        "Start" => return Some(meter.begin(Task::Start)),
+        "Round" => return Some(meter.begin(Task::Round { round: left })),
+        "Pair" => Event::Pair { left, right },
+        "Cut" => Event::Cut { element: left },
+        "Keep" => Event::Keep,
+        "Zero" => Event::Zero,
+        _ => return None,
+    };
+    Some(meter.note(event))
 }

@@ -2,30 +2,37 @@
 use divide::EngineError;
 use ring_laws::ArithmeticError;
 use std::alloc::{AllocError, AllocFailed};
-use thiserror::Error;
 
-#[derive(Clone, Copy, Debug, PartialEq, Eq, Error)]
+#[derive(Clone, Copy)]
 pub(crate) enum RowError {
-    #[error("no such row")]
     Unreadable,
-    #[error("too many names")]
     TooManyNames,
-    #[error("too many polynomials")]
     TooManyPolynomials,
-    #[error("no polynomial")]
     NoPolynomial,
-    #[error("a block of more names than there are")]
     Block,
-    #[error("the matrix is not square, or not of 1 to 12 rows")]
-    NotSquare,
-    #[error("not in the base")]
+    Shape,
     NotInBase,
-    #[error("wide")]
     Wide,
-    #[error("budget")]
     Budget,
-    #[error("out of memory")]
     Memory,
+}
+
+impl RowError {
+    /// What is told in place of an answer.
+    pub(crate) fn text(self) -> &'static str {
+        match self {
+            RowError::Unreadable => "no such row",
+            RowError::TooManyNames => "too many names",
+            RowError::TooManyPolynomials => "too many polynomials",
+            RowError::NoPolynomial => "no polynomial",
+            RowError::Block => "a block of more names than there are",
+            RowError::Shape => "the matrix is not square, or not of 1 to 12 rows",
+            RowError::NotInBase => "not in the base",
+            RowError::Wide => "wide",
+            RowError::Budget => "budget",
+            RowError::Memory => "out of memory",
+        }
+    }
 }
 
 impl From<EngineError> for RowError {

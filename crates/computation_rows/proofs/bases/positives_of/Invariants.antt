@@ -1,5 +1,0 @@
-use Rattle.coprime_base.specs.Sizes.{ArePositive}
-use Rattle.computation_rows.proofs.bases.positives_of.Given as goal
-
-abbrev pub invariant-loop-number : goal.invariant-loop-number
-invariant-loop-number l = ArePositive l.list.items
