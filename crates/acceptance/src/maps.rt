@@ -1,11 +1,11 @@
 // Loops as texts, and their maps.
 use crate::rows::no_such_row;
-use crate::texts::text_of;
 use frac128::Frac;
 use loop_model::{Loop, MapError, Names};
 use loop_text::read_loop;
 use monos::Grevlex;
 use poly::Poly;
+use poly_text::print_poly;
 use std::alloc::{AllocError, Global};
 use worked_rows::push_item;
 
@@ -53,7 +53,7 @@ fn polynomials(
     let mut text = String::new(alloc);
     for poly in &map {
         if poly.arity() == names.len() {
-            push_item(&mut text, ", ", text_of(alloc, poly, names)?.as_str())?;
+            push_item(&mut text, ", ", print_poly(alloc, poly, names)?.as_str())?;
         }
     }
     Ok(text)

@@ -3,28 +3,37 @@ use crate::rows::no_such_row;
 use io_edge::{Files, FilesError, MemFiles, MemSink, OsFiles, Sink};
 use std::alloc::{AllocError, Global};
 use std::{fs, io};
-use worked_rows::push_item;
 
-// A read that a value asks for: a name and a limit.
-#[derive(Drop)]
-struct Request {
-    name: String,
-    limit: usize,
+// What reads give, one after another, each of a name and with a limit: the bytes, or how many they are and the last of them, or how it ended.
+fn reads<F: Files>(
+    alloc: Global,
+    files: &mut F,
+    values: &[&str],
+    sizes: bool,
+) -> Result<String, AllocError> {
+    let mut text = String::new(alloc);
+    for value in values {
+        let (name, limit) = value.split_once(' ').unwrap_or((value, ""));
+        if !text.is_empty() {
+            text.push_str(", ")?;
+        }
+        let name = String::from_str(alloc, name)?;
+        let read = files.read(alloc, &name, limit.parse().unwrap_or(0));
+        push_read(alloc, &mut text, sizes, read)?;
+    }
+    Ok(text)
 }
 
-fn asked_by(alloc: Global, value: &str) -> Result<Request, AllocError> {
-    let (name, limit) = value.split_once(' ').unwrap_or((value, ""));
-    Ok(Request {
-        name: String::from_str(alloc, name)?,
-        limit: limit.parse().unwrap_or(0),
-    })
-}
-
-// The bytes that a read gave, or how it ended.
-fn show(alloc: Global, read: Result<Vec<u8>, FilesError>) -> Result<String, AllocError> {
+fn push_read(
+    alloc: Global,
+    text: &mut String,
+    sizes: bool,
+    read: Result<Vec<u8>, FilesError>,
+) -> Result<(), AllocError> {
     match read {
-        Ok(bytes) => String::from_utf8_lossy(alloc, &bytes),
-        Err(error) => format!(in alloc; "{error:?}"),
+        Ok(bytes) if sizes => write!(text, "{} to {:?}", bytes.len(), bytes.last()),
+        Ok(bytes) => text.push_str(&String::from_utf8_lossy(alloc, &bytes)?),
+        Err(error) => write!(text, "{error:?}"),
     }
 }
 
@@ -40,22 +49,7 @@ fn files_in_memory(alloc: Global) -> Result<MemFiles, AllocError> {
 
 /// What reads of files in memory give, one after another.
 pub(crate) fn memory_reads(alloc: Global, values: &[&str]) -> Result<String, AllocError> {
-    let mut files = files_in_memory(alloc)?;
-    let mut text = String::new(alloc);
-    for value in values {
-        let asked = asked_by(alloc, value)?;
-        let answer = show(alloc, files.read(alloc, &asked.name, asked.limit))?;
-        push_item(&mut text, ", ", answer.as_str())?;
-    }
-    Ok(text)
-}
-
-// How many bytes a read gave and the last of them, or how it ended.
-fn show_size(alloc: Global, read: Result<Vec<u8>, FilesError>) -> Result<String, AllocError> {
-    match read {
-        Ok(bytes) => format!(in alloc; "{} to {:?}", bytes.len(), bytes.last()),
-        Err(error) => format!(in alloc; "{error:?}"),
-    }
+    reads(alloc, &mut files_in_memory(alloc)?, values, false)
 }
 
 // Writes the file that a value describes: its name, how many letters `a` it begins with, and what stands behind them.
@@ -74,24 +68,18 @@ pub(crate) fn system_reads(
     call: &str,
     values: &[&str],
 ) -> Result<String, AllocError> {
-    let [file, reads @ ..] = values else {
+    let [file, values @ ..] = values else {
         return no_such_row(alloc);
     };
     if write_file(alloc, system, file).is_err() {
         return String::from_str(alloc, "not written");
     }
-    let mut files = OsFiles::new(alloc, system);
-    let mut text = String::new(alloc);
-    for value in reads {
-        let asked = asked_by(alloc, value)?;
-        let read = files.read(alloc, &asked.name, asked.limit);
-        let answer = match call {
-            "sizes" => show_size(alloc, read)?,
-            _ => show(alloc, read)?,
-        };
-        push_item(&mut text, ", ", answer.as_str())?;
-    }
-    Ok(text)
+    reads(
+        alloc,
+        &mut OsFiles::new(alloc, system),
+        values,
+        call == "sizes",
+    )
 }
 
 /// What three writes to a sink give that has room for four bytes and takes three at once, and the bytes taken.

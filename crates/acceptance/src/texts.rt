@@ -1,12 +1,7 @@
 // Names, expressions, polynomials and certificates as texts.
-ghost use Rattle.std.specs.Prelude.{◌≡◌, length};
-
 use crate::rows::no_such_row;
 use cert_form::{read_cert, write_cert};
-use frac128::Frac;
 use loop_model::{BinaryOperator, Expr, Names, NamesError, expr_poly};
-use monos::Grevlex;
-use poly::Poly;
 use poly_text::{
     Cursor, Refusal, SumReader, print_poly, read_equation, read_flat, read_poly, read_sum,
 };
@@ -18,39 +13,31 @@ pub(crate) fn answer(alloc: Global, question: &str, values: &[&str]) -> Result<S
     let [list, text] = values else {
         return no_such_row(alloc);
     };
-    match names_of(alloc, list) {
-        Ok(names) => answer_over(alloc, question, text, &names),
-        Err(error) => error.to_string(alloc),
-    }
-}
-
-fn answer_over(
-    alloc: Global,
-    question: &str,
-    text: &str,
-    names: &Names,
-) -> Result<String, AllocError> {
+    let names = match names_of(alloc, list) {
+        Ok(names) => names,
+        Err(error) => return error.to_string(alloc),
+    };
     match question {
-        "position" => position(alloc, text, names),
-        "expression" => expression(alloc, text, names),
-        "flat" => flat(alloc, text, names),
-        "sum" => sum(alloc, text, names),
-        "equation" => equation(alloc, text, names),
-        "certificate" => certificate(alloc, text, names),
-        "written" => written(alloc, text, names),
+        "position" => position(alloc, text, &names),
+        "expression" => expression(alloc, text, &names),
+        "flat" => flat(alloc, text, &names),
+        "sum" => sum(alloc, text, &names),
+        "equation" => equation(alloc, text, &names),
+        "certificate" => certificate(alloc, text, &names),
+        "written" => written(alloc, text, &names),
         _ => no_such_row(alloc),
     }
 }
 
 fn names_of(alloc: Global, list: &str) -> Result<Names, NamesError> {
-    let mut words = Vec::new(alloc);
-    for word in list.split(',').take(9) {
-        words.push(String::from_str(alloc, word)?)?;
+    let mut names = Names::empty(alloc);
+    for name in list.split(',') {
+        if names.len() >= 8 {
+            return Err(NamesError::Memory);
+        }
+        names.push(name.as_bytes())?;
     }
-    if words.len() > 8 {
-        return Err(NamesError::Memory);
-    }
-    Names::new(alloc, &words)
+    Ok(names)
 }
 
 fn position(alloc: Global, name: &str, names: &Names) -> Result<String, AllocError> {
@@ -83,48 +70,32 @@ fn head(alloc: Global, expr: &Expr, end: usize, names: &Names) -> Result<String,
     else {
         return String::from_str(alloc, "no sum");
     };
-    let used = used_names(alloc, expr, names)?;
-    format!(in alloc; "sum at {at} with {used}, end at {end}")
-}
-
-fn used_names(alloc: Global, expr: &Expr, names: &Names) -> Result<String, AllocError> {
     let mut used = String::new(alloc);
     for index in 0..names.len() {
         if expr.uses(index) {
             push_item(&mut used, ", ", names.name(index).as_str())?;
         }
     }
-    Ok(used)
-}
-
-/// The text of a polynomial.
-pub(crate) fn text_of(
-    alloc: Global,
-    poly: &Poly<Frac, Grevlex>,
-    names: &Names,
-) -> Result<String, AllocError>
-    requires { length names.now ≡ poly.now.arity }
-{
-    print_poly(alloc, poly, names)
+    format!(in alloc; "sum at {at} with {used}, end at {end}")
 }
 
 fn flat(alloc: Global, text: &str, names: &Names) -> Result<String, AllocError> {
     match read_flat(alloc, text.as_bytes(), names) {
-        Ok(poly) => text_of(alloc, &poly, names),
+        Ok(poly) => print_poly(alloc, &poly, names),
         Err(error) => error.to_string(alloc),
     }
 }
 
 fn sum(alloc: Global, text: &str, names: &Names) -> Result<String, AllocError> {
     match read_poly(alloc, text.as_bytes(), names) {
-        Ok(poly) => text_of(alloc, &poly, names),
+        Ok(poly) => print_poly(alloc, &poly, names),
         Err(error) => error.to_string(alloc),
     }
 }
 
 fn equation(alloc: Global, text: &str, names: &Names) -> Result<String, AllocError> {
     match read_equation(alloc, text.as_bytes(), names) {
-        Ok(poly) => text_of(alloc, &poly, names),
+        Ok(poly) => print_poly(alloc, &poly, names),
         Err(error) => error.to_string(alloc),
     }
 }
@@ -164,7 +135,7 @@ fn form_over(alloc: Global, sum: &str, state: &str, names: &Names) -> Result<Str
         return no_such_row(alloc);
     };
     match expr_poly(alloc, &sum, &state) {
-        Ok(poly) => text_of(alloc, &poly, names),
+        Ok(poly) => print_poly(alloc, &poly, names),
         Err(error) => error.to_string(alloc),
     }
 }
