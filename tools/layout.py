@@ -45,8 +45,8 @@ from crates import Crate
 TOP = Path(__file__).resolve().parent.parent
 CRATES = TOP / "crates.txt"
 COLUMNS, LINES, EDITS, FEW_IMPORTS = 100, 600, 60, 3
-# how many links the crates may have: as many as they had when a change last took some away
-MOST_LINKS = 217
+# how many links the crates may have
+MOST_LINKS = 40
 # an import in a file of definitions or proofs, and in one of code
 THEORY_IMPORT = re.compile(r"^\s*use (Rattle\.[^;\n{]*)\.\{([^}]*)\}", re.M)
 CODE_IMPORT = re.compile(r"^\s*ghost use (Rattle\.[^;\n{]*)\.\{([^}]*)\};", re.M)
