@@ -198,10 +198,11 @@ def beside_singular(chosen):
             assert found == wanted, f"{name} over {numbers} by {order}: another basis than Singular's"
             ratios.append(ours / theirs)
             print(f"| {name} | {units:,} | {ours * 1000:,.2f} ms | {theirs * 1000:,.2f} ms | {ratios[-1]:.2f} |", flush=True)
-        mean, goal = geometric_mean(ratios), GOALS.get((numbers, order))
-        miss = goal is not None and mean > goal
-        missed |= miss
-        print(f"\ngeometric mean of {len(ratios)}: {mean:.2f}" + (f" (goal: at most {goal})" if goal else "") + (" MISSED" if miss else ""))
+        if ratios:
+            mean, goal = geometric_mean(ratios), GOALS.get((numbers, order))
+            miss = goal is not None and mean > goal
+            missed |= miss
+            print(f"\ngeometric mean of {len(ratios)}: {mean:.2f}" + (f" (goal: at most {goal})" if goal else "") + (" MISSED" if miss else ""))
         print(f"left out: {'; '.join(left_out) or 'none'}", flush=True)
     return missed
 
