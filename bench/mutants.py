@@ -439,20 +439,13 @@ def basis(loop):
     return Command(["basis", "--budget", "8", "text.loop"], **{"text.loop": loop})
 
 
-def member(loop, equation):
-    return Command(["member", "--budget", "40", "text.loop", equation], **{"text.loop": loop})
+def asked(loop, equation, words):
+    """A command that asks about an equation of a loop: its name and its option."""
+    return Command([*words, "text.loop", equation], **{"text.loop": loop})
 
 
-def counter(loop, equation):
-    return Command(["counter", "--length", "2", "text.loop", equation], **{"text.loop": loop})
-
-
-def decide(loop, equation):
-    return Command(["decide", "--budget", "40", "text.loop", equation], **{"text.loop": loop})
-
-
-def prove(loop, equation):
-    return Command(["prove", "--budget", "40", "text.loop", equation], **{"text.loop": loop})
+member = functools.partial(asked, words=("member", "--budget", "40"))
+QUESTIONS = [functools.partial(asked, words=words) for words in (("counter", "--length", "2"), ("decide", "--budget", "40"), ("prove", "--budget", "40"))]
 
 
 def chain(loops):
@@ -568,7 +561,7 @@ class Commands:
             loop = self.changer.changed(loop, Changer.OF_SUMS + Changer.OF_LOOPS)
         else:
             equation = self.changer.changed(equation, Changer.OF_SUMS)
-        return self.changer.pick([counter, decide, prove])(loop, equation)
+        return self.changer.pick(QUESTIONS)(loop, equation)
 
     def changed_chain(self):
         return self.changer.pick([chain, chainrun])(self.changer.changed(self.changer.pick(self.chains), Changer.OF_SUMS + Changer.OF_LOOPS))
