@@ -1,11 +1,11 @@
 -- The number of a variable alone in a polynomial, and lists made place by place.
-use Rattle.std.proofs.Common.{◌≡◌, ◌≢◌, ◌⊎◌, inl, inr, ◌<◌, ℕ, zero, suc, ◌+◌, true, false, List, [], ◌∷◌, ◌++◌, map, take, sum, replicate, get_or, length, All, Vec, Global, IsTrue, refl, sym, ap, ap₂, subst, ◌∙◌, arith}
-use Rattle.std.proofs.lemmas.List.{take_more, map-append, length-map}
+use Rattle.std.proofs.Common.{◌≡◌, ◌≢◌, ◌⊎◌, inl, inr, ◌<◌, ℕ, zero, suc, ◌+◌, true, false, List, [], ◌∷◌, ◌++◌, map, take, sum, replicate, get_or, length, All, IsTrue, refl, sym, ap, ap₂, subst, ◌∙◌, arith}
+use Rattle.std.proofs.lemmas.List.{length-map, map_push, map_more}
 use Rattle.algebra.specs.Fraction.{Fraction, ℚ}
 use Rattle.algebra.proofs.Fractions.{ℚ_ring}
 use Rattle.polynomials.specs.Exponent.{same, exponents}
 use Rattle.polynomials.specs.Polynomial.{IsDistinct}
-use Rattle.polynomials.specs.Terms.{Terms, coefficient}
+use Rattle.polynomials.specs.Terms.{coefficient}
 use Rattle.polynomials.proofs.Algebra.{coefficient-nil}
 use Rattle.polynomials.proofs.Distinct.{coefficient_first, coefficient_rest}
 use Rattle.polynomials.proofs.Exponent.{same_cases}
@@ -14,12 +14,10 @@ use Rattle.solvable_maps.proofs.Linear.{degree_one}
 use Rattle.solvable_maps.specs.Uses.{exponent, degree, poly_at, unit}
 use Rattle.frac128.specs.FracMeaning.{fraction_of}
 use Rattle.frac128.specs.declared.fraction.Frac.{Frac}
-use Rattle.linear.specs.Rows.{fractions_of, rows_of}
 use Rattle.poly.specs.Seen.{terms_in, terms_each}
 use Rattle.poly.specs.declared.Term.{Term}
 use Rattle.solvable.proofs.Using.{FracPoly, poly_at-is, arity_at}
 use Rattle.closed_forms.proofs.Mixing.{tell}
-use Rattle.closed_forms.proofs.Rows.{fractions-push, rows-push}
 
 degree-zeros : (m : ℕ) → degree (replicate m 0) ≡ 0
 degree-zeros zero = refl
@@ -101,29 +99,11 @@ unfolding IsDistinct
 distinct_rest ts rest t is d = (let apart = subst (λ l. IsDistinct (tell l)) is d in apart.1)
 
 -- ---- lists made place by place
-mapped : {X : Type 0} (f : ℕ → X) (g : List ℕ) (i : ℕ) → i < length g
-    → map f (take i g) ++ f (get_or g i 0) ∷ [] ≡ map f (take (i + 1) g)
-mapped f g i l = sym (ap (map f) (take_more g i 0 l) ∙ map-append f (take i g) (get_or g i 0 ∷ []))
-
-pub fractions_next : (f : ℕ → Fraction) (g : List ℕ) (i : ℕ) (row more : List Frac) (x : Frac)
-    → i < length g → fractions_of row ≡ map f (take i g) → more ≡ row ++ x ∷ []
-    → fraction_of x ≡ f (get_or g i 0) → fractions_of more ≡ map f (take (i + 1) g)
-fractions_next f g i row more x l h e y =
-    fractions-push row x e ∙ ap₂ (λ a b. a ++ b ∷ []) h y ∙ mapped f g i l
-
-pub rows_next : (f : ℕ → List Fraction) (g : List ℕ) (i : ℕ) (rows more : List (Vec Frac Global))
-    (x : Vec Frac Global) → i < length g → rows_of rows ≡ map f (take i g) → more ≡ rows ++ x ∷ []
-    → fractions_of x.items ≡ f (get_or g i 0) → rows_of more ≡ map f (take (i + 1) g)
-rows_next f g i rows more x l h e y =
-    rows-push rows more x e ∙ ap₂ (λ a b. a ++ b ∷ []) h y ∙ mapped f g i l
-
-pub terms_next : (f : ℕ → Terms Fraction) (g : List ℕ) (i : ℕ) (ps : List FracPoly)
-    {more : List FracPoly} (x : FracPoly)
-    → i < length g → terms_each ps ≡ map f (take i g) → more ≡ ps ++ x ∷ []
-    → terms_in x ≡ f (get_or g i 0) → terms_each more ≡ map f (take (i + 1) g)
-terms_next f g i ps x l h e y =
-    ap terms_each e ∙ map-append (λ (p : FracPoly). terms_in p) ps (x ∷ [])
-    ∙ ap₂ (λ a b. a ++ b ∷ []) h y ∙ mapped f g i l
+pub made_next : {X Y : Type 0} (k : X → Y) (f : ℕ → Y) (g : List ℕ) (i : ℕ) (xs : List X)
+    {more : List X} (x : X) → i < length g → map k xs ≡ map f (take i g) → more ≡ xs ++ x ∷ []
+    → k x ≡ f (get_or g i 0) → map k more ≡ map f (take (i + 1) g)
+made_next k f g i xs x l h e y = ap (map k) e ∙ map_push k xs x
+    ∙ ap₂ (λ a b. a ++ b ∷ []) h y ∙ sym (map_more f g i 0 l)
 
 -- the linear part of a polynomial of the map, by its place
 pub part_is : (images : List FracPoly) (g : List ℕ) (i : ℕ) (p : FracPoly) {row : List Fraction}
@@ -135,6 +115,3 @@ pub part_is : (images : List FracPoly) (g : List ℕ) (i : ℕ) (p : FracPoly) {
 part_is images g i p l e all h =
     h ∙ ap₂ (λ q m. map (λ j. coefficient ℚ q (unit m j)) g) (sym (poly_at-is images i p l e))
     (arity_at images (length images) i p l e all ∙ sym (length-map images _))
-
-pub place_low : (g : List ℕ) (n i : ℕ) → All (λ j. j < n) g → i < length g → get_or g i 0 < n
-place_low g n i all l = all i 0 l

@@ -4,7 +4,7 @@
 --   next_begun, next_code, past_code      the same by the places of the code's lists
 --   variables_next, row_past, map-at      polynomials of variables
 use Rattle.std.proofs.Common.{◌≡◌, ◌<◌, ℕ, zero, suc, ◌+◌, List, [], ◌∷◌, ◌++◌, map, take, length, get_or, Vec, Global, refl, sym, ap, ap₂, subst, ◌∙◌, arith, below_more}
-use Rattle.std.proofs.lemmas.List.{length-map, length_push, map_push, take_at, take-append-le}
+use Rattle.std.proofs.lemmas.List.{length-map, length_push, map_push, take_at, take-append-le, get_or_append_left, get_or_push}
 use Rattle.algebra.specs.Each.{Each}
 use Rattle.algebra.proofs.Each.{each-append}
 use Rattle.algebra.proofs.Lists.{take_next}
@@ -21,24 +21,22 @@ use Rattle.vectors.specs.Lists.{entries}
 use Rattle.poly.specs.Seen.{terms_in, terms_each}
 use Rattle.solvable.proofs.Using.{FracPoly, length_each}
 use Rattle.solvable_maps.specs.Iterations.{IsNormalForm}
-use Rattle.eigen_split.specs.declared.splitting.Split.{Split}
 use Rattle.expo.specs.declared.exponential.Expo.{Expo}
-use Rattle.closed_forms.specs.declared.class.ClassSetting.{ClassSetting}
-use Rattle.closed_forms.specs.ClassForms.{parts_of, IsNormalOver, IsNextOf, IsPastFormOf, AreNextOf, IsPastNextOf}
+use Rattle.closed_forms.specs.declared.class_in_work.ClassInWork.{ClassInWork}
+use Rattle.closed_forms.specs.ClassInWork.{base_in, AreClosedIn, IsPastIn}
+use Rattle.closed_forms.specs.ClassForms.{parts_of, IsNormalOver, IsNextOf, IsPastFormOf}
 use Rattle.closed_forms.specs.Known.{ClassParts, IsNextAt, AreNextForms, IsPastVariable, IsPastRowOf, variable_in}
 use Rattle.closed_forms.specs.Values.{bodies_of}
 use Rattle.eigen_split.proofs.Reading.{list_row}
 use Rattle.closed_forms.proofs.Rows.{entry_at}
+use Rattle.closed_forms.proofs.Mixing.{poly_get}
 
 at_before : (ys : List (Terms Fraction)) (y : Terms Fraction) (i : ℕ) → i < length ys
     → poly_at (ys ++ y ∷ []) i ≡ poly_at ys i
-at_before [] y i l = absurd (omega (arith, l))
-at_before (z ∷ ys) y zero l = refl
-at_before (z ∷ ys) y (suc i) l = at_before ys y i (omega (arith, l))
+at_before ys y i l = poly_get _ i ∙ get_or_append_left ys (y ∷ []) [] i l ∙ sym (poly_get ys i)
 
 at_last : (ys : List (Terms Fraction)) (y : Terms Fraction) → poly_at (ys ++ y ∷ []) (length ys) ≡ y
-at_last [] y = refl
-at_last (z ∷ ys) y = at_last ys y
+at_last ys y = poly_get _ (length ys) ∙ get_or_push ys y [] (length ys) refl
 
 module _ (c : ClassParts) where
   next_none : AreNextForms c []
@@ -80,25 +78,26 @@ each_at P [] i l is h = absurd (omega (arith, l))
 each_at P (y ∷ xs) zero l is h = subst (λ z. P (fraction_of z)) (sym is) h.0
 each_at P (y ∷ xs) (suc i) {x = x} l is h = each_at P xs i (omega (arith, l)) is h.1
 
-module _ (base g : List ℕ) (s : ClassSetting) (split : Split) where
-  pub next_begun : (done : List FracPoly) → done ≡ [] → AreNextOf base g s split (terms_each done)
-  next_begun done e = subst (λ (l : List FracPoly). AreNextOf base g s split (terms_each l)) (sym e)
-      (next_none (parts_of base g s split))
+module _ (w : ClassInWork) where
+  pub next_begun : {done : List FracPoly} → done ≡ [] → AreClosedIn w (terms_each done)
+  next_begun e = subst (λ (l : List FracPoly). AreClosedIn w (terms_each l)) (sym e)
+      (next_none (parts_of (base_in w) w.group.now w.setting w.split.now))
 
-  module _ (dones given : List FracPoly) (place : ℕ) (form : Vec Frac Global) (row : List Frac)
-      (value : Frac) (same : given ≡ dones) (count : length dones ≡ place)
-      (low : place < length split.forms.items) (counts : length split.values.items
-      ≡ length split.forms.items)
-      (is_form : form ≡ get_or split.forms.items place form) (is_row : row ≡ form.items)
-      (is_value : value ≡ get_or split.values.items place value) where
-    row_is : fractions_of row ≡ row_at (rows_of split.forms.items) (length (terms_each dones))
-    row_is = ap fractions_of is_row ∙ sym (list_row split.forms.items place form low is_form)
-        ∙ ap (row_at (rows_of split.forms.items)) (sym (length_each dones ∙ count))
+  module _ {dones given : List FracPoly} {place : ℕ} {form : Vec Frac Global} {row : List Frac}
+      {value : Frac} (same : given ≡ dones) (count : length dones ≡ place)
+      (low : place < length w.split.now.forms.items)
+      (is_form : form ≡ get_or w.split.now.forms.items place form) (is_row : row ≡ form.items)
+      (is_value : value ≡ get_or w.split.now.values.items place value) where
+    row_is : fractions_of row ≡ row_at (rows_of w.split.now.forms.items) (length (terms_each dones))
+    row_is = ap fractions_of is_row ∙ sym (list_row w.split.now.forms.items place form low is_form)
+        ∙ ap (row_at (rows_of w.split.now.forms.items)) (sym (length_each dones ∙ count))
 
-    value_is : fraction_of value ≡ entries ℚ_field (fractions_of split.values.items)
+    value_is : fraction_of value ≡ entries ℚ_field (fractions_of w.split.now.values.items)
         (length (terms_each dones))
-    value_is = sym (entry_at split.values.items place value (omega (arith, low, counts)) is_value)
-        ∙ ap (entries ℚ_field (fractions_of split.values.items)) (sym (length_each dones ∙ count))
+    value_is =
+        sym (entry_at w.split.now.values.items place value (omega (arith, low, w.values)) is_value)
+        ∙ ap (entries ℚ_field (fractions_of w.split.now.values.items))
+        (sym (length_each dones ∙ count))
 
     given_is : terms_each given ≡ terms_each dones
     given_is = ap terms_each same
@@ -106,25 +105,28 @@ module _ (base g : List ℕ) (s : ClassSetting) (split : Split) where
     abbrev Told : Type 0
     Told = List Fraction × Fraction × List (Terms Fraction)
 
-    pub next_code : (more : List FracPoly) (y : FracPoly) → more ≡ dones ++ y ∷ []
-        → AreNextOf base g s split (terms_each dones) → IsNormalOver base s (terms_in y)
-        → IsNextOf base g s (fractions_of row) (fraction_of value) (terms_each given) (terms_in y)
-        → AreNextOf base g s split (terms_each more)
-    next_code more y e h normal next =
-        subst (AreNextOf base g s split) (sym (ap terms_each e ∙ map_push terms_in dones y))
-        (next_push (parts_of base g s split) (terms_each dones) (terms_in y) h normal
-        (subst (λ (t : Told). IsNextOf base g s t.0 t.1 t.2 (terms_in y))
+    pub next_code : {more : List FracPoly} (y : FracPoly) → more ≡ dones ++ y ∷ []
+        → AreClosedIn w (terms_each dones) → IsNormalOver (base_in w) w.setting (terms_in y)
+        → IsNextOf (base_in w) w.group.now w.setting (fractions_of row) (fraction_of value)
+        (terms_each given) (terms_in y)
+        → AreClosedIn w (terms_each more)
+    next_code y e h normal next =
+        subst (AreClosedIn w) (sym (ap terms_each e ∙ map_push terms_in dones y))
+        (next_push (parts_of (base_in w) w.group.now w.setting w.split.now) (terms_each dones)
+        (terms_in y) h normal (subst (λ (t : Told).
+        IsNextOf (base_in w) w.group.now w.setting t.0 t.1 t.2 (terms_in y))
         (λ i. (row_is i, value_is i, given_is i)) next))
 
-    pub past_code : AreNextOf base g s split (terms_each dones)
-        → IsPastFormOf base g s (fractions_of row) (fraction_of value) (terms_each given)
-        → IsPastNextOf base g s split
+    pub past_code : AreClosedIn w (terms_each dones)
+        → IsPastFormOf (base_in w) w.group.now w.setting (fractions_of row) (fraction_of value)
+        (terms_each given)
+        → IsPastIn w
     past_code h past = record {
       done = terms_each dones;
-      few = (let a = length_each dones in let b = length-map split.forms.items (λ row.
+      few = (let a = length_each dones in let b = length-map w.split.now.forms.items (λ row.
           fractions_of row.items) in omega (arith, a, b, count, low));
       are = h;
-      past = subst (λ (t : Told). IsPastFormOf base g s t.0 t.1 t.2)
+      past = subst (λ (t : Told). IsPastFormOf (base_in w) w.group.now w.setting t.0 t.1 t.2)
           (λ i. (row_is i, value_is i, given_is i)) past;
     }
 

@@ -2,27 +2,25 @@
 --   form_base_is                     the base of the values of the classes' forms, but zero, is the map's
 --   all_pass                         no class is refused
 --   of_class, later_class, later_iteration, later_state, refused_on, refused_first, refused_later     what a refusal tells;  is_too_long: that a class is too long
---   closed_is, closed_count          the polynomials are a closed form, as many as variables;  normal_in, told_in, passes_in, over_in, count_in, few_in: what is told of it, with the map's polynomials as the code has them
-use Rattle.std.proofs.Common.{◌≡◌, inl, inr, ◌<◌, ◌≤◌, ℕ, zero, suc, List, [], ◌∷◌, length, replicate, get_or, All, Option, Some, None, Result, Ok, Err, refl, sym, ap, ap₂, subst, ◌∙◌, arith}
+--   closed_is, closed_count          the polynomials are a closed form, as many as variables
+use Rattle.std.proofs.Common.{◌≡◌, inl, inr, ◌<◌, ℕ, suc, List, [], ◌∷◌, length, replicate, get_or, All, Option, Some, None, Result, Ok, Err, refl, sym, ap, subst, ◌∙◌, arith}
 use Rattle.std.specs.Prelude.{MatchOption}
 use Rattle.std.specs.Result.{IfErr, IsErrAnd}
-use Rattle.std.proofs.lemmas.List.{length-map}
-use Rattle.algebra.specs.Each.{Each}
+use Rattle.std.proofs.lemmas.List.{length-map, length-replicate, get_or_default}
 use Rattle.algebra.specs.In.{In}
-use Rattle.algebra.proofs.In.{in_either, in_left, in_right}
+use Rattle.algebra.proofs.In.{in_either, each_in, each_from}
 use Rattle.algebra.specs.Fraction.{Fraction, ℚ}
-use Rattle.polynomials.specs.Polynomial.{Arity, AllArity}
 use Rattle.polynomials.specs.Terms.{Terms}
 use Rattle.solvable_maps.specs.Class.{AreClasses}
 use Rattle.solvable_maps.specs.Uses.{uses, IsMap}
 use Rattle.exponentials.specs.Base.{IsTheBase}
 use Rattle.linear.specs.Rows.{fractions_of, rows_of}
 use Rattle.eigen_split.specs.declared.splitting.Split.{Split}
-use Rattle.poly.specs.Seen.{terms_in, terms_each}
-use Rattle.solvable.proofs.Using.{FracPoly, length_each}
+use Rattle.poly.specs.Seen.{terms_each}
+use Rattle.solvable.proofs.Using.{FracPoly}
 use Rattle.solvable.specs.Refusal.{IsSolvable}
 use Rattle.solvable_maps.specs.Classes.{IsFormBase, IsReachedClass, first_of, sizes_of}
-use Rattle.solvable_maps.specs.Iterations.{width, IsClosedFormFrom}
+use Rattle.solvable_maps.specs.Iterations.{IsClosedFormFrom}
 use Rattle.solvable_maps.proofs.Values.{iterations-length}
 use Rattle.solvable_maps.proofs.Classwise.{form_base}
 use Rattle.expo.specs.declared.exponential.Expo.{Expo}
@@ -34,10 +32,9 @@ use Rattle.closed_forms.specs.Refusal.{AllPass, IsTooLong, IfOfClass, IfWide, If
 use Rattle.closed_forms.specs.Splits.{AreSplits, IfRefusedAt}
 use Rattle.closed_forms.specs.States.{some_of, AreZeros, IsPastState}
 use Rattle.closed_forms.specs.Values.{values_in, bodies_of, AreOver}
-use Rattle.closed_forms.specs.View.{base_in, polys_in, AreNormal, ArePassing, IsFormOf}
-use Rattle.closed_forms.specs.declared.Form.{Form}
-use Rattle.closed_forms.proofs.Placing.{known_last, bodies-count}
-use Rattle.closed_forms.proofs.Filling.{some_values, in_some}
+use Rattle.closed_forms.proofs.Placing.{known_last, bodies-count, over_normals}
+use Rattle.closed_forms.proofs.Filling.{some_values, in_some, values_at}
+use Rattle.closed_forms.proofs.Turning.{normal-arities}
 use Rattle.closed_forms.proofs.Splitting.{first_in, map_of, splits_pass}
 
 -- ---- the values of splittings
@@ -74,16 +71,10 @@ of_split (Some split ∷ splits) c i =
 values_from : (splits : List (Option Split)) (k : ℕ) (split : Split) → k < length splits
     → get_or splits k None ≡ Some split → (c : Fraction) → In c (fractions_of split.values.items)
     → In c (values_in splits)
-values_from [] k split l e c i = absurd (omega (arith, l))
-values_from (None ∷ splits) zero split l e c i = absurd (let z : ⊥ = cc in z)
-values_from (Some other ∷ splits) zero split l e c i = (let own : split ≡ other = cc in
-    in_left c _ (values_in splits)
-    (subst (λ (s : Split). In c (fractions_of s.values.items)) own i))
-values_from (None ∷ splits) (suc k) split l e c i = values_from splits k split (omega (arith, l)) e
-    c i
-values_from (Some other ∷ splits) (suc k) split l e c i =
-    in_right c (fractions_of other.values.items) (values_in splits)
-    (values_from splits k split (omega (arith, l)) e c i)
+values_from splits k split l e c i = each_in _ (fractions_of split.values.items) c
+    (values_at (λ x. In x (values_in splits)) splits k (Some split) split l
+    (sym e ∙ get_or_default splits k None (Some split) l) refl
+    (each_from (values_in splits) (λ x i. i))) i
 
 module _ (images : List (Terms Fraction)) (splits : List (Option Split))
     (are : AreSplits images splits) where
@@ -108,7 +99,6 @@ module _ (images : List (Terms Fraction)) (splits : List (Option Split))
       (s.0, rows_of r.split.forms.items, fractions_of r.split.values.items, s.1, s.3.are, r.among))
       b
 
--- ---- bases
 -- ---- refusals
 pub all_pass : (images : List FracPoly) → All (λ (p : FracPoly). p.arity ≡ length images) images
     → {splits : List (Option Split)} → AreSplits (terms_each images) splits
@@ -188,54 +178,19 @@ is_too_long images none pass groups are n v o size e h = record {
 }
 
 -- ---- the closed form
-all_arities : (base : List ℕ) (m : ℕ) (es : List Expo) → AreOver base m es
-    → AllArity (width (length base) m) (bodies_of es)
-unfolding Each
-all_arities base m [] h = tt
-all_arities base m (e ∷ es) h =
-    let over = h 0 e (omega arith) in (
-      subst (λ n. Arity n (terms_in e.body)) (e.arity
-          ∙ ap₂ (λ b n. width (length b) n) over.over_base over.over_vars)
-          e.body.polynomial.arity,
-      all_arities base m es (λ k d l. h (suc k) d (omega (arith, l))),
-    )
-
 pub closed_is : (base : List ℕ) (images : List (Terms Fraction)) (splits : List (Option Split))
     (z : ℕ) (es : List Expo) → AreOver base (length images) es
     → AreKnown base images splits z [] (bodies_of es)
     → IsClosedFormFrom base images z (bodies_of es)
 closed_is base images splits z es over known = known_last base images splits z (bodies_of es) known
-    (all_arities base (length images) es over)
+    (normal-arities base (length images) (bodies_of es) (over_normals base es over))
 
 -- as many polynomials as variables
-some_state : (m : ℕ) → length (replicate m ℚ.zero) ≡ m
-some_state zero = refl
-some_state (suc m) = ap suc (some_state m)
-
 pub closed_count : (base : List ℕ) (images : List (Terms Fraction)) (since : ℕ) (es : List Expo)
     → IsClosedFormFrom base images since (bodies_of es) → length es ≡ length images
 closed_count base images since es c =
     let s = replicate (length images) ℚ.zero in
     sym (bodies-count es) ∙ sym (length-map (bodies_of es) _)
-    ∙ ap length (c.values since s (some_state (length images)) (omega arith))
-    ∙ iterations-length ℚ images (length images) refl since s (some_state (length images))
-
-module _ (images : List FracPoly) (form : Form) (is : IsFormOf (terms_each images) form) where
-  pub told_in : length form.passing.items ≡ length images
-  told_in = is.told ∙ length_each images
-
-  pub passes_in : ArePassing (base_in form) (length images) (polys_in form) form.passing.items
-  passes_in = subst (λ m. ArePassing (base_in form) m (polys_in form) form.passing.items)
-      (length_each images) is.passes
-
-  pub normal_in : AreNormal (base_in form) (length images) (polys_in form)
-  normal_in = subst (λ m. AreNormal (base_in form) m (polys_in form)) (length_each images) is.normal
-
-  pub over_in : AreOver (base_in form) (length images) form.polys.items
-  over_in = subst (λ m. AreOver (base_in form) m form.polys.items) (length_each images) is.over
-
-  pub count_in : length form.polys.items ≡ length images
-  count_in = is.count ∙ length_each images
-
-  pub few_in : width (length (base_in form)) (length images) ≤ 4096
-  few_in = subst (λ m. width (length (base_in form)) m ≤ 4096) (length_each images) is.few
+    ∙ ap length (c.values since s (length-replicate (length images) ℚ.zero) (omega arith))
+    ∙ iterations-length ℚ images (length images) refl since s (length-replicate (length images)
+    ℚ.zero)

@@ -1,8 +1,10 @@
 -- The values of splittings.
 --   some_values, in_some                 the values that aren't zero
 --   values_made, values_at               values whose sizes, but of zero, have a base are made of it;  those of one of the splittings
+--   made_within                          such values are within
 --   first_here                           the splitting at a variable, as indexing reads it
 use Rattle.std.proofs.Common.{◌≡◌, ◌≢◌, inl, inr, ◌<◌, ℕ, zero, suc, Bool, true, false, cond, List, [], ◌∷◌, map, length, unsigned_abs, get_or, Option, Some, None, refl, sym, ap, subst, ◌∙◌, arith}
+use Rattle.std.proofs.lemmas.List.{get_or_default}
 use Rattle.algebra.specs.Each.{Each}
 use Rattle.algebra.proofs.Each.{each-left, each-right}
 use Rattle.algebra.specs.In.{In}
@@ -14,7 +16,7 @@ use Rattle.exponentials.specs.Base.{IsTheBase, IsProductOf}
 use Rattle.linear.specs.Rows.{fractions_of}
 use Rattle.eigen_split.specs.declared.splitting.Split.{Split}
 use Rattle.solvable_maps.specs.Classes.{sizes_of}
-use Rattle.closed_forms.specs.Solved.{IsMade}
+use Rattle.closed_forms.specs.Solved.{IsMade, AreWithin}
 use Rattle.closed_forms.specs.States.{some_of}
 use Rattle.closed_forms.specs.Values.{values_in}
 
@@ -78,17 +80,16 @@ values_made values base h =
     (each-right (IsProductOf base) nums dens all) in
     each_from values (λ c i n. each_in (IsMade base) some c made (some_values values c i n))
 
+pub made_within : (base values : _)
+    → Each (λ c. c ≢ ℚ.zero → IsMade base c) values → AreWithin base values
+made_within base values h = each_from values (λ c i n outside. outside
+    (each_in (λ c. c ≢ ℚ.zero → IsMade base c) values c h i n))
+
 pub first_here : (splits : List (Option Split)) (k i : ℕ) (found : Option Split) (split : Split)
     → k ≡ i → found ≡ get_or splits k found → found ≡ Some split → k < length splits
     → get_or splits i None ≡ Some split
 first_here splits k i found split e read is l =
-    ap (λ j. get_or splits j None) (sym e) ∙ either splits k l None found ∙ sym read ∙ is
-  where
-    either : (xs : List (Option Split)) (k : ℕ) → k < length xs → (a b : Option Split)
-        → get_or xs k a ≡ get_or xs k b
-    either [] k l a b = absurd (omega (arith, l))
-    either (x ∷ xs) zero l a b = refl
-    either (x ∷ xs) (suc k) l a b = either xs k (omega (arith, l)) a b
+    ap (λ j. get_or splits j None) (sym e) ∙ get_or_default splits k None found l ∙ sym read ∙ is
 
 pub values_at : (P : Fraction → Type 0) (splits : List (Option Split)) (i : ℕ)
     (found : Option Split) (split : Split) → i < length splits → found ≡ get_or splits i found

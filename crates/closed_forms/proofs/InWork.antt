@@ -4,14 +4,13 @@
 --   none_yet            before the first class
 --   comes_next          a class that comes next;  next_class, next_inside, first_low: its variables
 --   at_first, split_here, values_here, ready_here, forms_next, wide_first     with its splitting
---   inside_in, alike_at, alike_in, settling_in     behind the last class
+--   inside_in, some_states, vars_known, counts_known, arities_known, settling_in     behind the last class
 --   passing_in, passing_wide, form_in     from which number of iterations on its polynomials are the state, and which variables pass
-use Rattle.std.proofs.Common.{◌≡◌, ◌≢◌, inl, inr, ℕ, zero, suc, ◌+◌, ◌<◌, ◌≤◌, Bool, false, List, [], ◌∷◌, length, get_or, All, Vec, Global, Option, Some, None, refl, sym, ap, subst, ◌∙◌, arith}
+use Rattle.std.proofs.Common.{◌≡◌, ◌≢◌, inl, inr, ℕ, ◌+◌, ◌<◌, ◌≤◌, Bool, false, List, [], ◌∷◌, length, get_or, All, Vec, Global, Option, Some, None, refl, sym, ap, subst, ◌∙◌, arith}
 use Rattle.std.proofs.lemmas.Bool.{cases_eq}
-use Rattle.std.proofs.lemmas.List.{length-map}
+use Rattle.std.proofs.lemmas.List.{length-map, get_or_default}
 use Rattle.algebra.specs.Each.{Each}
-use Rattle.algebra.specs.Fraction.{Fraction, ℚ}
-use Rattle.polynomials.specs.Terms.{Terms}
+use Rattle.algebra.specs.Fraction.{ℚ}
 use Rattle.solvable_maps.specs.Class.{AreClasses}
 use Rattle.solvable_maps.specs.Uses.{uses}
 use Rattle.solvable_maps.specs.Classes.{IsClass, IsFormBase, first_of}
@@ -30,11 +29,11 @@ use Rattle.closed_forms.specs.Known.{IsReady, IsWideClass, IsWideIteration}
 use Rattle.closed_forms.specs.MapInWork.{images_in, IsInWork, AreFormsBut}
 use Rattle.closed_forms.specs.Put.{IsPutTo}
 use Rattle.closed_forms.specs.Refusal.{IfOfClass, IfWide, IfWideIteration, IfLater}
-use Rattle.closed_forms.specs.Settling.{AreAlike, AreAllMarked, IsPastOfClass, IsSettling, IsSettled}
+use Rattle.closed_forms.specs.Settling.{AreAllMarked, IsPastOfClass, IsSettling, IsSettled}
 use Rattle.closed_forms.specs.Solved.{IsMade}
 use Rattle.closed_forms.specs.Splits.{groups_in, IsSplitOf}
-use Rattle.closed_forms.specs.States.{after, AreZeros}
-use Rattle.closed_forms.specs.Values.{values_in, bodies_of, IsExpoOver, AreOver}
+use Rattle.closed_forms.specs.States.{AreZeros}
+use Rattle.closed_forms.specs.Values.{values_in, bodies_of, AreOver}
 use Rattle.closed_forms.specs.View.{ArePassing, IsFormOf}
 use Rattle.closed_forms.proofs.Ahead.{zeros_low}
 use Rattle.closed_forms.proofs.Counting.{twelve_values}
@@ -45,17 +44,18 @@ use Rattle.closed_forms.proofs.Least.{wide_here, passing_none, passing_marked}
 use Rattle.closed_forms.proofs.Placing.{bodies-count, known_begun, known_ready, ready_variables, known_next, over_normals, put_all, put_over}
 use Rattle.closed_forms.proofs.Settling.{room}
 use Rattle.closed_forms.proofs.Splitting.{first_in, first_is, map_of}
-use Rattle.closed_forms.proofs.StateLists.{told, states_get, states_count, state_length, state_over}
+use Rattle.closed_forms.proofs.StateLists.{told, states_get, states_count, state_length}
 
 abbrev numbers : MapInWork → List ℕ
 numbers w = sizes w.base.items
 
 abbrev listed : MapInWork → List FracPoly
-listed w = w.images.now.items
+listed w = w.map.images.now.items
 
 module _ {w : MapInWork} (is : IsInWork w) where
   pub form_base_in : IsFormBase (images_in w) (numbers w)
-  form_base_in = form_base_is (images_in w) w.splits.items is.splits (map_of (listed w) is.square)
+  form_base_in = form_base_is (images_in w) w.splits.items is.splits
+      (map_of (listed w) w.map.square)
       (numbers w) is.base
 
   zeros : AreZeros (images_in w) w.iterations
@@ -64,7 +64,7 @@ module _ {w : MapInWork} (is : IsInWork w) where
   pub early_in : w.iterations ≤ 12
   early_in =
       let a = zeros_low (values_in w.splits.items) in
-      let b = twelve_values (listed w) is.few is.square is.splits in
+      let b = twelve_values (listed w) w.map.few w.map.square is.splits in
       let d = is.iterations in
       omega (arith, a, b, d)
 
@@ -77,7 +77,7 @@ module _ {w : MapInWork} (is : IsInWork w) where
   iteration_later = later_iteration form_base_in zeros
 
   pub room_in : width (length (numbers w)) (length (listed w)) ≤ 4096
-  room_in = room w.base.items (length (listed w)) is.short is.few
+  room_in = room w.base.items (length (listed w)) is.short w.map.few
 
   -- before the first class
   pub none_yet : (es : List Expo) → length es ≡ length (listed w)
@@ -155,7 +155,7 @@ module _ {w : MapInWork} {g : List ℕ} {rest : List (List ℕ)} {es : List Expo
           g refl forms.known split here
 
       pub forms_next : {news new : List Expo} → length news ≡ length g
-          → AreOver (numbers w) (length w.images.now.items) news
+          → AreOver (numbers w) (length w.map.images.now.items) news
           → IsPutTo (length news) g news es new
           → ((r : IsReady (numbers w) (images_in w) w.iterations (zeros_of split) g (bodies_of es))
           → AreVariablesOf (numbers w) (images_in w) (r.since + zeros_of split) g (bodies_of news))
@@ -163,7 +163,8 @@ module _ {w : MapInWork} {g : List ℕ} {rest : List (List ℕ)} {es : List Expo
       forms_next {news} {new} count over put variables =
           let whole = put_all g news es new count put in
           record {
-            over = put_over (numbers w) (length w.images.now.items) g news es new whole count over
+            over = put_over (numbers w) (length w.map.images.now.items) g news es new whole count
+                over
                 forms.over;
             known = known_next (numbers w) (images_in w) w.splits.items w.iterations (g ∷ rest) rest
                 g news es new refl
@@ -183,19 +184,13 @@ module _ {w : MapInWork} {g : List ℕ} {rest : List (List ℕ)} {es : List Expo
         ready = ready_here;
         normal = over_normals (numbers w) es
             (subst (λ n. AreOver (numbers w) n es)
-            (sym (length_each w.images.now.items)) forms.over);
+            (sym (length_each w.map.images.now.items)) forms.over);
         first = sym first_at;
         are = split_here.found;
         past = past;
       }
 
 -- ---- behind the last class
-own_item : (xs : List (Vec FracPoly Global)) (k : ℕ) (d : Vec FracPoly Global) → k < length xs
-    → get_or xs k d ≡ get_or xs k (get_or xs k d)
-own_item [] k d l = absurd (omega (arith, l))
-own_item (x ∷ xs) zero d l = refl
-own_item (x ∷ xs) (suc k) d l = own_item xs k d (omega (arith, l))
-
 module _ {w : MapInWork} {es : List Expo} (is : IsInWork w) (forms : AreFormsBut w [] es) where
   own : AreOver (numbers w) (length (images_in w)) es
   own = subst (λ m. AreOver (numbers w) m es) (sym (length_each (listed w))) forms.over
@@ -212,29 +207,35 @@ module _ {w : MapInWork} {es : List Expo} (is : IsInWork w) (forms : AreFormsBut
   states_many : length w.states.items ≡ w.iterations + 1
   states_many = states_count (images_in w) w.iterations w.states.items is.states
 
-  pub alike_at : (i : ℕ) {v : Vec FracPoly Global} → i ≤ w.iterations
-      → v ≡ get_or w.states.items i v → AreAlike es v.items
-  alike_at i {v = v} low at =
-      let size = state_length (listed w) w.iterations w.states.items is.states i v low at in
-      let all = state_over (listed w) w.iterations w.states.items is.states i v low at
-      is.arities in
-      let n = many in (
-        size ∙ sym n,
-        λ j e p l e_at p_at. subst (λ (q : FracPoly). q.arity ≡ length (listed w)) (sym p_at)
-            (all j p (omega (arith, size, n, l)))
-            ∙ sym (subst (IsExpoOver (numbers w) (length (listed w))) (sym e_at)
-            (forms.over j e l)).over_vars,
-      )
+  pub some_states : 0 < length w.states.items
+  some_states = (let n = states_many in omega (arith, n))
 
-  pub alike_in : All (λ (v : Vec FracPoly Global). AreAlike es v.items) w.states.items
-  alike_in k d l =
+  pub vars_known : All (λ (e : Expo). e.vars ≡ length es) es
+  vars_known k d l = (forms.over k d l).over_vars ∙ sym many
+
+  pub counts_known : All (λ (v : Vec FracPoly Global). length v.items ≡ length es) w.states.items
+  counts_known k d l =
       let n = states_many in
-      alike_at k (omega (arith, l, n)) (own_item w.states.items k d l)
+      state_length (listed w) w.iterations w.states.items is.states k (get_or w.states.items k d)
+      (omega (arith, l, n)) (get_or_default w.states.items k d (get_or w.states.items k d) l)
+      ∙ sym many
+
+  pub arities_known : All (λ (v : Vec FracPoly Global). All (λ (p : FracPoly). p.arity ≡ length es)
+      v.items) w.states.items
+  arities_known = subst (λ n. All (λ (v : Vec FracPoly Global).
+      All (λ (p : FracPoly). p.arity ≡ n) v.items) w.states.items) (sym many) is.arities
+
+  some_lists : 0 < length (told w.states.items)
+  some_lists =
+      let n = states_many in
+      let d : length (told w.states.items) ≡ length w.states.items =
+      length-map w.states.items _ in
+      omega (arith, n, d)
 
   pub settling_in : IsSettling (images_in w) (numbers w) (groups_in w.classes.items)
       (told w.states.items) es w.iterations
   settling_in = record {
-    map = map_of (listed w) is.square;
+    map = map_of (listed w) w.map.square;
     coprime = is.base.coarsest.base.coprime;
     over = own;
     count = many ∙ sym (length_each (listed w));
@@ -248,22 +249,16 @@ module _ {w : MapInWork} {es : List Expo} (is : IsInWork w) (forms : AreFormsBut
     closed = closed;
   }
 
-  pub settling_at : {gs : List (Vec ℕ Global)} {l : List Expo} {vs : List (Vec FracPoly Global)}
-      → gs ≡ w.classes.items → l ≡ es → vs ≡ w.states.items
-      → IsSettling (images_in w) (numbers w) (groups_in gs) (told vs) l w.iterations
-  settling_at a b d = rw (a, b, d) settling_in
-
   module _ {since : ℕ} (settled : IsSettled (images_in w) (numbers w) es w.iterations since) where
-    pub passing_in : (marks : List Bool) {start : List (Terms Fraction)}
-        → start ≡ after (images_in w) 0
-        → (since ≡ 0 → (i : ℕ) → get_or marks i false ≡ false)
-        → (since ≢ 0 → AreAllMarked es 0 start (groups_in w.classes.items) marks)
+    pub passing_in : (marks : List Bool) → (since ≡ 0 → (i : ℕ) → get_or marks i false ≡ false)
+        → (since ≢ 0 → AreAllMarked es 0 (get_or (told w.states.items) 0 [])
+        (groups_in w.classes.items) marks)
         → ArePassing (numbers w) (length (images_in w)) (bodies_of es) marks
-    passing_in marks {start} state none marked = elim (cases_eq since 0) [
+    passing_in marks none marked = elim (cases_eq since 0) [
       | inl e ↦ passing_none settling_in marks
           (subst (λ n. IsClosedFormFrom (numbers w) (images_in w) n (bodies_of es)) e
           settled.closed) (none e)
-      | inr n ↦ passing_marked settling_in marks state (marked n)
+      | inr n ↦ passing_marked settling_in marks (settling_in.states 0 some_lists) (marked n)
     ]
 
     pub passing_wide : (e : FormsError)

@@ -11,7 +11,8 @@
 --   key_solution, term_past, product_past      the solution for the powers in a term
 --   all_one                one of a list
 --   whole_is, form_is     the growing form and the solutions of all terms, made normal
-use Rattle.std.proofs.Common.{◌≡◌, ◌⊎◌, inl, inr, ◌<◌, ℕ, zero, suc, ◌+◌, ℤ, pos, ◌-ℤ◌, Bool, true, false, cond, eqb, List, [], ◌∷◌, ◌++◌, map, take, drop, get_or, replicate, length, All, refl, sym, ap, ap₂, subst, ◌∙◌, arith, append_assoc}
+use Rattle.std.proofs.Common.{◌≡◌, ◌⊎◌, inl, inr, ◌<◌, ℕ, ◌+◌, ℤ, pos, ◌-ℤ◌, Bool, true, false, cond, eqb, List, [], ◌∷◌, ◌++◌, map, take, drop, get_or, replicate, length, All, refl, sym, ap, ap₂, subst, ◌∙◌, arith, append_assoc}
+use Rattle.std.proofs.lemmas.List.Elements.{All-nil, All-push, All-same}
 use Rattle.std.proofs.lemmas.List.{append-nil, length-append, length-map}
 use Rattle.algebra.proofs.In.{each_in}
 use Rattle.algebra.specs.Fraction.{Fraction, ℚ, fractions}
@@ -80,11 +81,7 @@ tabled_over base m a own e (Solutions.equal ts n t i) = expo_over m ts e i
 
 -- ---- one of a list
 pub all_one : {A : Type 0} (P : A → Type 0) (xs : List A) (x : A) → xs ≡ x ∷ [] → P x → All P xs
-all_one {A = A} P xs x e h = subst (All P) (sym e) (λ k d l. go k d l)
-  where
-    go : (k : ℕ) (d : A) → k < 1 → P (get_or (x ∷ []) k d)
-    go zero d l = h
-    go (suc k) d l = absurd (omega (arith, l))
+all_one P xs x e h = All-same P _ _ e (All-push P [] x (All-nil P) h)
 
 -- ---- exponents of powers
 pub sides_none : (below : Bool) (e : List ℤ) (old : List ℕ) → length e ≡ 0
@@ -184,12 +181,12 @@ module _ (m : ℕ) (x : Key) where
   growing_none cs g old all h e = sym (append-nil old)
       ∙ ap (λ p. old ++ p) (sym (nothing_grows cs g h)) ∙ e
 
-  pub growing_next : (cs cs' : List Frac) (c : Frac) (g g' : List ℕ) (j : ℕ)
-      (old mid : List (Term Frac)) (u : Term Frac) (all : Terms Fraction) → cs ≡ c ∷ cs'
+  pub growing_next : {cs cs' : List Frac} {c : Frac} {g g' : List ℕ} {j : ℕ}
+      (old mid : List (Term Frac)) {u : Term Frac} {all : Terms Fraction} → cs ≡ c ∷ cs'
       → g ≡ j ∷ g' → mid ≡ old ++ u ∷ [] → u.mono ≡ with_key 0 x (unit m j) → u.coef ≡ c
       → tell old ++ homogeneous_part m x (fractions_of cs) g ≡ all
       → tell mid ++ homogeneous_part m x (fractions_of cs') g' ≡ all
-  growing_next cs cs' c g g' j old mid u all e f k n o h =
+  growing_next {cs' = cs'} {g' = g'} old mid {u} e f k n o h =
       more_behind (tell old) _ (u.mono, fraction_of u.coef) _ (terms-push old mid u k) refl
       ∙ ap₂ (λ a b. tell old ++ (a, fraction_of b) ∷ homogeneous_part m x (fractions_of cs') g') n o
       ∙ ap₂ (λ a b. tell old ++ homogeneous_part m x (fractions_of a) b) (sym e) (sym f) ∙ h

@@ -1,10 +1,9 @@
 -- The least number of iterations from which on polynomials are the state, and which variables pass.
---   entry_get               an entry of a list
 --   settled_here            at one iteration less some polynomial isn't the state
 --   settling_before, settled_before     at one iteration less all are
 --   wide_here, wide_before  what one of them is there is past
 --   itself_first, itself_of, passing_none, passing_marked     at n = 0
-use Rattle.std.proofs.Common.{◌≡◌, ◌⊎◌, inl, inr, ℕ, zero, suc, ◌<◌, ◌≤◌, Bool, true, false, List, [], ◌∷◌, length, get_or, refl, sym, ap, subst, ◌∙◌, arith}
+use Rattle.std.proofs.Common.{◌≡◌, ◌⊎◌, inl, inr, ℕ, suc, ◌<◌, ◌≤◌, Bool, true, false, List, [], length, get_or, refl, sym, ap, subst, ◌∙◌, arith}
 use Rattle.std.proofs.lemmas.Bool.{cases_lt}
 use Rattle.std.proofs.lemmas.List.{length-map}
 use Rattle.algebra.specs.In.{In}
@@ -31,24 +30,9 @@ use Rattle.closed_forms.specs.States.{after}
 use Rattle.closed_forms.specs.Values.{bodies_of, AreOver, IsExpoOver}
 use Rattle.closed_forms.specs.View.{ArePassing}
 use Rattle.closed_forms.proofs.Ahead.{after_entry}
-use Rattle.closed_forms.proofs.Placing.{bodies-count, over_normals}
+use Rattle.closed_forms.proofs.Placing.{bodies-count, body_at, item_at, over_normals}
+use Rattle.closed_forms.proofs.Rows.{entry_get}
 use Rattle.closed_forms.proofs.Splitting.{covered, classes_are}
-
-entry_get : (xs : List Fraction) (i : ℕ) → entries ℚ_field xs i ≡ get_or xs i ℚ.zero
-entry_get [] i = refl
-entry_get (x ∷ xs) zero = refl
-entry_get (x ∷ xs) (suc i) = entry_get xs i
-
-body_at : (es : List Expo) (i : ℕ) (e : Expo) → i < length es → e ≡ get_or es i e
-    → poly_at (bodies_of es) i ≡ terms_in e.body
-body_at [] i e l is = absurd (omega (arith, l))
-body_at (x ∷ es) zero e l is = ap (λ (y : Expo). terms_in y.body) (sym is)
-body_at (x ∷ es) (suc i) e l is = body_at es i e (omega (arith, l)) is
-
-item_at : (es : List Expo) (i : ℕ) → i < length es → (e : Expo) × (e ≡ get_or es i e)
-item_at [] i l = absurd (omega (arith, l))
-item_at (x ∷ es) zero l = (x, refl)
-item_at (x ∷ es) (suc i) l = item_at es i (omega (arith, l))
 
 -- ---- where polynomials are the state at a number of iterations
 module _ (base : List ℕ) (images : List (Terms Fraction)) (es : List Expo)

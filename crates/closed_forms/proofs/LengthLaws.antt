@@ -1,16 +1,18 @@
 -- How long classes are, as the code counts it.
---   some_first, few_first, rest_lengths     the first of some lengths, and the others;  lengths_some: none is 0
+--   lengths_some            none of some lengths is 0
 --   none_of_class, class_more, class_past_rest, class_past_own     a class
 --   set-count, set_lengths, some_lengths     lengths with those of a class
 --   long_one                    its first class that is too long is one;  long_not, long_or_short     a map isn't both too long and short;  single_short: one of one variable
 --   ones                    each variable is one term to begin with
-use Rattle.std.proofs.Common.{◌≡◌, inl, inr, ℕ, zero, suc, ◌+◌, ◌<◌, ◌≤◌, List, [], ◌∷◌, T, length, set, replicate, Vec, Global, All, refl, sym, ap, ap₂, subst, ◌∙◌, arith, Option}
+use Rattle.std.proofs.Common.{◌≡◌, inl, inr, ℕ, zero, suc, ◌+◌, ◌<◌, ◌≤◌, List, [], ◌∷◌, T, length, get_or, set, replicate, Vec, Global, All, refl, sym, ap, ap₂, subst, ◌∙◌, arith, Option}
 use Rattle.std.proofs.lemmas.List.{length-set}
+use Rattle.std.proofs.lemmas.List.Elements.{All-set, All-replicate}
 use Rattle.algebra.specs.Fraction.{Fraction}
 use Rattle.polynomials.specs.Terms.{Terms}
 use Rattle.expansion.specs.Counts.{most_terms, IsCount}
 use Rattle.expansion.proofs.Counting.{one_fits, count_of, of_zero}
 use Rattle.algebra.specs.Each.{Each}
+use Rattle.algebra.proofs.In.{each_in, each_from, in_get, in_place, map-in}
 use Rattle.solvable_maps.specs.Classes.{IsClass}
 use Rattle.solvable_maps.proofs.Classwise.{class_some}
 use Rattle.solvable.specs.Refusal.{AreClassesOf}
@@ -19,22 +21,12 @@ use Rattle.closed_forms.proofs.Splitting.{classes_are}
 use Rattle.solvable_maps.specs.Class.{IsClassOf, IsNext, AreClasses}
 use Rattle.solvable_maps.specs.Uses.{uses, poly_at}
 use Rattle.solvable_maps.proofs.Classes.{classes_one, reached_within}
-use Rattle.closed_forms.specs.Lengths.{AreLengths, sum_length, class_length, with_length, at_least_one, with_class, IsLongAmong, AreShort, IsLong, IsShort}
+use Rattle.closed_forms.specs.Lengths.{IsLength, AreLengths, sum_length, class_length, with_length, at_least_one, with_class, IsLongAmong, AreShort, IsLong, IsShort}
 
 -- ---- lengths of sums
-pub some_first : (n : ℕ) (ns all : List ℕ) → all ≡ n ∷ ns → AreLengths all → 0 < n
-some_first n ns all e are = (subst AreLengths e are).0
-
-pub few_first : (n : ℕ) (ns all : List ℕ) → all ≡ n ∷ ns → AreLengths all → n ≤ most_terms
-few_first n ns all e are = (subst AreLengths e are).1
-
 pub lengths_some : (ns : List ℕ) → AreLengths ns → Each (λ n. 0 < n) ns
-unfolding Each
-lengths_some [] are = tt
-lengths_some (n ∷ ns) are = (are.0, lengths_some ns are.2)
-
-pub rest_lengths : (n : ℕ) (ns all : List ℕ) → all ≡ n ∷ ns → AreLengths all → AreLengths ns
-rest_lengths n ns all e are = (subst AreLengths e are).2
+lengths_some ns are = each_from ns (λ n i.
+    let r = in_place ns 0 n i in subst (λ n. 0 < n) r.2 (are r.0 0 r.1).0)
 
 -- ---- classes
 module _ (images : List (Terms Fraction)) where
@@ -77,18 +69,12 @@ pub set-count : (g : List ℕ) (n : ℕ) (ns : List ℕ) → length (with_length
 set-count [] n ns = refl
 set-count (i ∷ g) n ns = set-count g n (set ns i n) ∙ length-set ns i n
 
-set_all : (ns : List ℕ) (i n : ℕ) → (0 < n) × (n ≤ most_terms) → AreLengths ns
-    → AreLengths (set ns i n)
-set_all [] i n h are = are
-set_all (m ∷ ns) zero n h are = (h.0, h.1, are.2)
-set_all (m ∷ ns) (suc i) n h are = (are.0, are.1, set_all ns i n h are.2)
-
-pub set_lengths : (g : List ℕ) (n : ℕ) (ns : List ℕ) → (0 < n) × (n ≤ most_terms) → AreLengths ns
+pub set_lengths : (g : List ℕ) (n : ℕ) (ns : List ℕ) → IsLength n → AreLengths ns
     → AreLengths (with_length g n ns)
 set_lengths [] n ns h are = are
-set_lengths (i ∷ g) n ns h are = set_lengths g n (set ns i n) h (set_all ns i n h are)
+set_lengths (i ∷ g) n ns h are = set_lengths g n (set ns i n) h (All-set IsLength ns i n h are)
 
-pub some_lengths : (n : ℕ) → n ≤ most_terms → (0 < at_least_one n) × (at_least_one n ≤ most_terms)
+pub some_lengths : (n : ℕ) → n ≤ most_terms → IsLength (at_least_one n)
 some_lengths zero h = (omega arith, one_fits)
 some_lengths (suc n) h = (omega arith, h)
 
@@ -113,21 +99,15 @@ module _ (images : List (Terms Fraction)) where
       ap length is ∙ set-count g (at_least_one (class_length images g ns)) ns
 
   -- each has a variable
-  pub each_some : (groups : List (Vec ℕ Global)) → Each (IsClass images) (groups_in groups)
-      → All (λ (g : Vec ℕ Global). 0 < length g.items) groups
-  unfolding Each
-  each_some [] h k d l = absurd (omega (arith, l))
-  each_some (g ∷ groups) h zero d l = class_some images g.items h.0
-  each_some (g ∷ groups) h (suc k) d l = each_some groups h.1 k d (omega (arith, l))
-
   pub classes_some : (groups : List (Vec ℕ Global)) → AreClassesOf images groups
       → All (λ (g : Vec ℕ Global). 0 < length g.items) groups
-  classes_some groups h = each_some groups (classes_are images [] (groups_in groups) h)
+  classes_some groups h k d l = class_some images (get_or groups k d).items
+      (each_in (IsClass images) (groups_in groups) _ (classes_are images [] (groups_in groups) h)
+      (map-in (λ (g : Vec ℕ Global). g.items) groups _ (in_get groups k d l)))
 
 -- ---- to begin with
 pub ones : (n : ℕ) → AreLengths (replicate n 1)
-ones zero = tt
-ones (suc n) = (omega arith, one_fits, ones n)
+ones n = All-replicate IsLength n 1 (omega arith, one_fits)
 
 -- ---- a map isn't both
 pub long_not : (images : List (Terms Fraction)) (groups : List (List ℕ)) (ns : List ℕ) (v : ℕ)

@@ -5,14 +5,16 @@
 --   mark_later           a mark behind the first one
 --   place_to, place_from     the polynomial at a place
 --   marked_here, marked_kept     one mark set
---   class_first, kept_both, groups_first     variable by variable, and class by class
---   past_first, past_later, past_class_first, past_class_later     what is past
-use Rattle.std.proofs.Common.{◌≡◌, ◌≢◌, inl, inr, ℕ, zero, suc, ◌<◌, Bool, true, false, List, [], ◌∷◌, length, get_or, set, Result, Ok, Err, refl, sym, ap, subst, ◌∙◌, arith}
+--   class_first, kept_both, classes_next     variable by variable, and class by class
+--   past_first, past_later, past_class     what is past
+use Rattle.std.proofs.Common.{◌≡◌, ◌≢◌, inl, inr, ℕ, suc, ◌<◌, Bool, true, false, List, ◌∷◌, length, take, get_or, set, ◌+◌, Vec, Global, Result, Ok, Err, refl, sym, ap, subst, ◌∙◌, arith}
 use mathlib.Core.Bool.{not}
 use Rattle.std.proofs.lemmas.Bool.{cases_eq}
-use Rattle.std.proofs.lemmas.List.{get_or-set_same, get_or-set_other}
+use Rattle.std.proofs.lemmas.List.{get_or_default, get_or-set_same, get_or-set_other}
 use Rattle.std.specs.Result.{OnOk}
 use Rattle.algebra.specs.In.{In}
+use Rattle.algebra.proofs.In.{in_push, in_get, map-in}
+use Rattle.algebra.proofs.Lists.{take_next}
 use Rattle.algebra.specs.Fraction.{Fraction, ℚ}
 use Rattle.algebra.proofs.Fractions.{ℚ_ring}
 use Rattle.polynomials.specs.Order.{grevlex}
@@ -29,6 +31,7 @@ use Rattle.expo.specs.View.{value_of}
 use Rattle.expo.specs.declared.exponential.Expo.{Expo}
 use Rattle.solvable_maps.specs.Classes.{first_of}
 use Rattle.closed_forms.specs.Settling.{IsAt, IsAtPlace, IsMarked, AreMarked, AreAllMarked, KeptMarks, IsPastPlace, IsPastOfClass}
+use Rattle.closed_forms.specs.Splits.{groups_in}
 
 pub off : {P : Type 0} {b : Bool} → b ≡ false → (P → b ≡ true) → P → ⊥
 off e test p = (let t = test p in let bad : ⊥ = cc in bad)
@@ -74,9 +77,7 @@ mark_later marks rest x e (i, l, h) = (
 -- ---- the polynomial at a place
 same_item : (es : List Expo) (i : ℕ) → i < length es → (a b : Expo) → a ≡ get_or es i a
     → b ≡ get_or es i b → a ≡ b
-same_item [] i l a b h k = absurd (omega (arith, l))
-same_item (e ∷ es) zero l a b h k = h ∙ sym k
-same_item (e ∷ es) (suc i) l a b h k = same_item es i (omega (arith, l)) a b h k
+same_item es i l a b h k = h ∙ get_or_default es i a b l ∙ sym k
 
 module _ (es : List Expo) (n : ℕ) (state : List FracPoly) (i : ℕ) {e : Expo} {q : FracPoly}
     (l : i < length es) (k : i < length state) (own : e ≡ get_or es i e)
@@ -131,16 +132,18 @@ module _ (es : List Expo) (n : ℕ) (state : List (Terms Fraction)) where
       → KeptMarks es n state mid new → KeptMarks es n state old new
   kept_both old mid new h k = λ i m. k i (h i m)
 
-  pub groups_first : {groups : List (List ℕ)} (rest : List (List ℕ)) (g : List ℕ)
+  pub classes_next : (groups : List (Vec ℕ Global)) (k : ℕ) (group : Vec ℕ Global) {g : List ℕ}
       (mid new : List Bool)
-      → groups ≡ g ∷ rest → AreMarked es n state g mid → KeptMarks es n state mid new
-      → AreAllMarked es n state rest new → AreAllMarked es n state groups new
-  groups_first rest g mid new e here kept later h inside i within =
-      go (subst (In h) e inside)
-    where
-      go : In h (g ∷ rest) → IsMarked es n state new i
-      go (inl s) = kept i (here i (subst (In i) s within))
-      go (inr k) = later h k i within
+      → k < length groups → group ≡ get_or groups k group → g ≡ group.items
+      → KeptMarks es n state mid new → AreMarked es n state g new
+      → AreAllMarked es n state (groups_in (take k groups)) mid
+      → AreAllMarked es n state (groups_in (take (k + 1) groups)) new
+  classes_next groups k group mid new l is at kept here earlier h inside i within =
+      elim (in_push (groups_in (take k groups)) group.items h
+      (subst (In h) (take_next (λ (g : Vec ℕ Global). g.items) groups k group l is) inside)) [
+        | inl e ↦ kept i (earlier h e i within)
+        | inr e ↦ here i (subst (In i) (e ∙ sym at) within)
+      ]
 
   -- ---- what is past
   pub past_first : (g rest : List ℕ) (i : ℕ) (e : Expo) → g ≡ i ∷ rest → i < length es
@@ -159,20 +162,13 @@ module _ (es : List Expo) (n : ℕ) (state : List (Terms Fraction)) where
     past = h.past;
   }
 
-  pub past_class_first : (groups rest : List (List ℕ)) (g : List ℕ) (v : ℕ) → groups ≡ g ∷ rest
-      → v ≡ first_of g → IsPastPlace es n g → IsPastOfClass groups es n v
-  past_class_first groups rest g v e f h = record {
+  pub past_class : (groups : List (Vec ℕ Global)) (k : ℕ) (group : Vec ℕ Global) (g : List ℕ)
+      {v : ℕ} → k < length groups → group ≡ get_or groups k group → g ≡ group.items
+      → v ≡ first_of g → IsPastPlace es n g → IsPastOfClass (groups_in groups) es n v
+  past_class groups k group g l is at f h = record {
     class = g;
-    is = subst (In g) (sym e) (inl refl);
+    is = subst (λ x. In x (groups_in groups)) (sym (at ∙ ap (λ x. x.items) is))
+        (map-in (λ (x : Vec ℕ Global). x.items) groups _ (in_get groups k group l));
     first = sym f;
     past = h;
-  }
-
-  pub past_class_later : (groups rest : List (List ℕ)) (g : List ℕ) (v : ℕ)
-      → groups ≡ g ∷ rest → IsPastOfClass rest es n v → IsPastOfClass groups es n v
-  past_class_later groups rest g v e h = record {
-    class = h.class;
-    is = subst (In h.class) (sym e) (inr h.is);
-    first = h.first;
-    past = h.past;
   }

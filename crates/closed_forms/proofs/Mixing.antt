@@ -1,6 +1,7 @@
 -- Sums of polynomials, each times a number, term by term.
-use Rattle.std.proofs.Common.{◌≡◌, ◌≢◌, ◌<◌, ◌≤◌, ℕ, suc, ◌+◌, Bool, true, false, cond, ◌||◌, T, List, [], ◌∷◌, ◌++◌, drop, get_or, length, All, append_assoc, Result, Ok, Err, OnOk, IfOk, lt→ltb, ltb→lt, refl, sym, ap, ap₂, subst, ◌∙◌, arith}
-use Rattle.std.proofs.lemmas.List.{append-nil, drop_all, drop_more}
+use Rattle.std.proofs.Common.{◌≡◌, ◌≢◌, ◌<◌, ◌≤◌, ℕ, zero, suc, ◌+◌, Bool, true, false, cond, ◌||◌, T, List, [], ◌∷◌, ◌++◌, drop, get_or, length, All, append_assoc, Result, Err, lt→ltb, ltb→lt, refl, sym, ap, ap₂, subst, ◌∙◌, arith}
+use Rattle.std.specs.Result.{IsErrOf, IsErrAnd}
+use Rattle.std.proofs.lemmas.List.{append-nil, drop_all, drop_more, map_push}
 use Rattle.algebra.specs.Each.{Each}
 use Rattle.algebra.specs.In.{In}
 use Rattle.algebra.proofs.In.{in_get, map-in}
@@ -8,7 +9,7 @@ use Rattle.algebra.proofs.Each.{each-append}
 use Rattle.algebra.specs.Fraction.{Fraction, ℚ, rationals, fraction_size}
 use Rattle.algebra.specs.Size.{IsPast}
 use Rattle.algebra.specs.Arithmetic.{Arithmetic}
-use Rattle.solvable_maps.specs.Uses.{exponent, has}
+use Rattle.solvable_maps.specs.Uses.{exponent, has, poly_at}
 use Rattle.solvable_maps.proofs.Exponents.{exponent-get}
 use Rattle.solvable_maps.proofs.Reach.{or_left}
 use Rattle.polynomials.specs.Order.{Rank}
@@ -22,6 +23,9 @@ use Rattle.poly.specs.Seen.{terms_in, terms_each}
 use Rattle.solvable.proofs.Using.{FracPoly, to_false}
 use Rattle.poly.specs.View.{term_of, terms_of}
 use Rattle.poly.specs.declared.Term.{Term}
+use Rattle.expo.proofs.Solved.{handed_on}
+use Rattle.ring_laws.specs.declared.ArithmeticError.{ArithmeticError}
+use Rattle.ring_laws.specs.declared.ArithmeticError.TheVariants.{Wide}
 use Rattle.solvable_maps.specs.AfterIterations.{mine, rest_of}
 use Rattle.closed_forms.specs.Sums.{mix, IsPastScaled}
 
@@ -30,12 +34,17 @@ tell ts = terms_of fraction_of ts
 
 pub terms-push : (ts more : List (Term Frac)) (t : Term Frac) → more ≡ ts ++ t ∷ []
     → tell more ≡ tell ts ++ (t.mono, fraction_of t.coef) ∷ []
-terms-push ts more t e = ap tell e ∙ of ts
-  where
-    of : (ts : List (Term Frac)) → tell (ts ++ t ∷ []) ≡ tell ts ++ (t.mono, fraction_of t.coef)
-        ∷ []
-    of [] = refl
-    of (u ∷ ts) = ap (λ r. (u.mono, fraction_of u.coef) ∷ r) (of ts)
+terms-push ts more t e = ap tell e ∙ map_push (term_of fraction_of) ts t
+
+pub poly_get : (ps : List (Terms Fraction)) (i : ℕ) → poly_at ps i ≡ get_or ps i []
+poly_get [] i = refl
+poly_get (p ∷ ps) zero = refl
+poly_get (p ∷ ps) (suc i) = poly_get ps i
+
+-- what a loop over a list that a call gave reads
+pub read_of : {X : Type 0} {xs given : List X} → given ≡ xs → {i : ℕ} {x : X}
+    → i < length given → x ≡ get_or given i x → (i < length xs) × (x ≡ get_or xs i x)
+read_of e {i} {x} l is = subst (λ ys. (i < length ys) × (x ≡ get_or ys i x)) e (l, is)
 
 -- what is left of a list at an index, and a term there
 pub left_at : {X : Type 0} (xs : List X) (i : ℕ) {x : X} → i < length xs → x ≡ get_or xs i x
@@ -117,14 +126,9 @@ arity_all m (t ∷ ts) h =
     (h 0 t (omega arith), arity_all m ts (λ k d l. h (suc k) d (omega (arith, l))))
 
 -- ---- outcomes
-pub on_ok_where : {A E : Type 0} (r : Result A E) (P Q : Type 0) → (P → Q) → OnOk r P → OnOk r Q
-on_ok_where (Ok a) P Q h k = h k
-on_ok_where (Err e) P Q h k = tt
-
-pub if_ok_where : {A E : Type 0} (r : Result A E) (P Q : A → Type 0) → ((a : A) → P a → Q a)
-    → IfOk r P → IfOk r Q
-if_ok_where (Ok a) P Q h k = h a k
-if_ok_where (Err e) P Q h k = tt
+pub wide_on : {T S P : Type 0} {e : ArithmeticError} {r : Result T ArithmeticError}
+    → IsErrAnd r (λ x. x ≡ e) → (IsErrOf {T = S} (Err e) Wide → P) → IsErrOf r Wide → P
+wide_on {e = e} {r = r} = handed_on e r
 
 pub scaled_none : (c : Fraction) → scale_terms rationals c [] ≡ []
 unfolding scale_terms

@@ -2,16 +2,16 @@
 --   put_last, put_all                one polynomial of a class more
 --   zeros_left                       the zeros of the splittings that are left, without one
 --   known_begun, known_ready, known_next, known_last     before the first class, before and after a class, after the last
---   bodies-count                     how many polynomials there are
+--   bodies-count                     how many polynomials there are;  body_at, item_at: one of them
 --   over_normals, put_over           they stay over their base
 use Rattle.std.proofs.Common.{◌≡◌, ◌≢◌, ◌⊎◌, inl, inr, ◌<◌, ◌≤◌, ℕ, zero, suc, ◌+◌, List, [], ◌∷◌, ◌++◌, length, get_or, set, Option, Some, None, refl, sym, ap, subst, ◌∙◌, arith, append_assoc, below_more}
 use Rattle.std.specs.List.{concat}
 use Rattle.std.proofs.lemmas.List.Folds.{concat-append}
-use Rattle.std.proofs.lemmas.List.{append-nil, length-map, length-set, length_push, get_or-set_same, get_or-set_other, get_or_append_left, get_or_push}
+use Rattle.std.proofs.lemmas.List.{append-nil, length-map, length-set, length_push, get_or-set_same, get_or-set_other, get_or_append_left, get_or_push, get_or-map, get_or_past}
 use Rattle.std.proofs.lemmas.Bool.{cases_eq, cases_lt}
 use Rattle.algebra.specs.Each.{Each}
 use Rattle.algebra.specs.In.{In}
-use Rattle.algebra.proofs.In.{in_get, in_place, in_left, in_right}
+use Rattle.algebra.proofs.In.{in_place, in_left, in_right}
 use Rattle.algebra.specs.Fraction.{Fraction}
 use Rattle.polynomials.specs.Order.{grevlex}
 use Rattle.polynomials.specs.Polynomial.{AllArity}
@@ -24,6 +24,7 @@ use Rattle.poly.specs.Seen.{terms_in}
 use Rattle.solvable_maps.specs.Classes.{first_of}
 use Rattle.solvable_maps.specs.AfterIterations.{place, IsAfterIterations}
 use Rattle.solvable_maps.specs.Iterations.{width, IsNormalForm, IsClosedFormFrom}
+use Rattle.solvable_maps.proofs.ClassSteps.{place_in}
 use Rattle.solvable_maps.proofs.Classwise.{whole_more, next_apart, next_is_class, later_turned, turned_none, turned_more, turned_all}
 use Rattle.expo.specs.declared.exponential.Expo.{Expo}
 use Rattle.closed_forms.specs.ClassForms.{AreVariablesOf}
@@ -33,6 +34,7 @@ use Rattle.closed_forms.specs.Put.{IsPutTo, IsPut}
 use Rattle.closed_forms.specs.Values.{values_in, bodies_of, IsExpoOver, AreOver}
 use Rattle.closed_forms.proofs.Ahead.{zeros-append}
 use Rattle.closed_forms.proofs.Joining.{over_normal}
+use Rattle.closed_forms.proofs.Mixing.{poly_get}
 use Rattle.closed_forms.proofs.Splitting.{first_in}
 
 -- ---- places
@@ -56,9 +58,6 @@ place-get (i ∷ g) (suc a) d l = place-get g a d (omega (arith, l))
 
 at_place : (g : List ℕ) (i : ℕ) → In i g → (a : ℕ) × (a < length g) × (i ≡ place g a)
 at_place g i h = (let r = in_place g 0 i h in (r.0, r.1, sym r.2 ∙ place-get g r.0 0 r.1))
-
-place_in : (g : List ℕ) (a : ℕ) → a < length g → In (place g a) g
-place_in g a l = subst (λ i. In i g) (place-get g a 0 l) (in_get g a 0 l)
 
 -- ---- one set at a place
 -- the last of news goes to its place first
@@ -105,33 +104,30 @@ pub put_all : (g : List ℕ) (news old new : List Expo) → length news ≡ leng
 put_all g news old new e h = subst (λ n. IsPutTo n g news old new) e h
 
 -- ---- the polynomial at a place
-record IsAt (xs : List Expo) (i : ℕ) : Type 0 where
-  item : Expo
-  is : (d : Expo) → get_or xs i d ≡ item
-  body : poly_at (bodies_of xs) i ≡ terms_in item.body
+pub bodies-count : (xs : List Expo) → length (bodies_of xs) ≡ length xs
+bodies-count xs = length-map xs (λ (e : Expo). terms_in e.body)
 
-at_some : (xs : List Expo) (i : ℕ) → i < length xs → IsAt xs i
-at_some [] i l = absurd (omega (arith, l))
-at_some (x ∷ xs) zero l = record { item = x; is = λ d. refl; body = refl }
-at_some (x ∷ xs) (suc i) l = (let r = at_some xs i (omega (arith, l)) in
-    record { item = r.item; is = r.is; body = r.body })
+pub body_at : (es : List Expo) (i : ℕ) (e : Expo) → i < length es → e ≡ get_or es i e
+    → poly_at (bodies_of es) i ≡ terms_in e.body
+body_at es i e l is =
+    let f : Expo → Terms Fraction = λ (y : Expo). terms_in y.body in
+    poly_get (bodies_of es) i ∙ get_or-map f es i e [] l ∙ ap f (sym is)
+
+pub item_at : (es : List Expo) (i : ℕ) → i < length es → (e : Expo) × (e ≡ get_or es i e)
+item_at [] i l = absurd (omega (arith, l))
+item_at (x ∷ es) zero l = (x, refl)
+item_at (x ∷ es) (suc i) l = item_at es i (omega (arith, l))
 
 at_none : (xs : List Expo) (i : ℕ) → length xs ≤ i → poly_at (bodies_of xs) i ≡ []
-at_none [] i l = refl
-at_none (x ∷ xs) zero l = absurd (omega (arith, l))
-at_none (x ∷ xs) (suc i) l = at_none xs i (omega (arith, l))
+at_none xs i l = poly_get (bodies_of xs) i
+    ∙ get_or_past (bodies_of xs) i [] (let n = bodies-count xs in omega (arith, l, n))
 
 same_body : (xs ys : List Expo) (i j : ℕ) → i < length xs → j < length ys
     → ((d : Expo) → get_or xs i d ≡ get_or ys j d) → poly_at (bodies_of xs) i
     ≡ poly_at (bodies_of ys) j
 same_body xs ys i j l k h =
-    let a = at_some xs i l in
-    let b = at_some ys j k in
-    a.body ∙ ap (λ (e : Expo). terms_in e.body) (sym (a.is a.item) ∙ h a.item ∙ b.is a.item)
-    ∙ sym b.body
-
-pub bodies-count : (xs : List Expo) → length (bodies_of xs) ≡ length xs
-bodies-count xs = length-map xs (λ (e : Expo). terms_in e.body)
+    let a = item_at xs i l in
+    body_at xs i a.0 l a.1 ∙ sym (body_at ys j a.0 k (a.1 ∙ h a.0))
 
 -- ---- the zeros of the splittings that are left
 zeros_left : (splits : List (Option Split)) (i : ℕ) (split : Split)

@@ -18,6 +18,7 @@ use Rattle.algebra.proofs.Fractions.{ℚ_ring, ℚ_field}
 use Rattle.polynomials.specs.Order.{grevlex}
 use Rattle.polynomials.specs.Polynomial.{Arity}
 use Rattle.polynomials.specs.Terms.{Terms, times, value_at, monomial_at, sum_of_products}
+use Rattle.polynomials.proofs.Value.{monomial-zeros}
 use Rattle.polynomials.proofs.Arity.{arity-times}
 use Rattle.polynomials.proofs.Orders.{grevlex_order}
 use Rattle.polynomials.proofs.ValueAt.{value_at-append, value_at-times, value_at_same}
@@ -94,20 +95,16 @@ zeros-drop zero t k d e = ap (λ n. replicate n 0 ++ d) (let q : t ≡ k = omega
 zeros-drop (suc r) zero k d e = absurd (omega (arith, e))
 zeros-drop (suc r) (suc t) k d e = zeros-drop r t k d (omega (arith, e))
 
-no_ups : (r : ℕ) → map up_part (replicate r (pos 0)) ≡ replicate r 0
-no_ups zero = refl
-no_ups (suc r) = ap (λ l. 0 ∷ l) (no_ups r)
-
-no_downs : (r : ℕ) → map down_part (replicate r (pos 0)) ≡ replicate r 0
-no_downs zero = refl
-no_downs (suc r) = ap (λ l. 0 ∷ l) (no_downs r)
+no_sides : (f : ℤ → ℕ) → f (pos 0) ≡ 0 → (r : ℕ) → map f (replicate r (pos 0)) ≡ replicate r 0
+no_sides f e zero = refl
+no_sides f e (suc r) = ap₂ ◌∷◌ e (no_sides f e r)
 
 still-key : (r : ℕ) (e : List ℕ) → key_of r (still r e) ≡ power_key false (replicate r (pos 0))
 still-key r e =
     let d = drop (width r 0) e in
-    let us = zeros-take r (r + (r + 0)) d (omega arith) ∙ sym (no_ups r) in
+    let us = zeros-take r (r + (r + 0)) d (omega arith) ∙ sym (no_sides up_part refl r) in
     let vs = ap (take r) (zeros-drop r (r + (r + 0)) (r + 0) d refl)
-    ∙ zeros-take r (r + 0) d (omega arith) ∙ sym (no_downs r) in
+    ∙ zeros-take r (r + 0) d (omega arith) ∙ sym (no_sides down_part refl r) in
     λ i. (0, us i, vs i)
 
 still-tail : (r m : ℕ) (e : List ℕ) → length e ≡ width r m → tail r (still r e) ≡ tail r e
@@ -153,19 +150,12 @@ normalized-arity bs m (t ∷ p) a =
       normalized-arity bs m p a.1,
     )
 
-zeros_value : (m : ℕ) (s : List Fraction) → monomial_at ℚ s (replicate m 0) ≡ ℚ.one
-unfolding monomial_at power
-zeros_value zero [] = refl
-zeros_value zero (a ∷ s) = refl
-zeros_value (suc m) [] = refl
-zeros_value (suc m) (a ∷ s) = ap (ℚ.mul ℚ.one) (zeros_value m s) ∙ R.mul-one ℚ.one
-
 unit_value : (m : ℕ) (s : List Fraction) (j : ℕ) → length s ≡ m → j < m → monomial_at ℚ s (unit m j)
     ≡ entries ℚ_field s j
 unfolding monomial_at power
 unit_value zero s j l b = absurd (omega (arith, b))
 unit_value (suc m) [] j l b = absurd (omega (arith, l))
-unit_value (suc m) (a ∷ s) zero l b = ap₂ ℚ.mul (R.mul-one a) (zeros_value m s) ∙ R.mul-one a
+unit_value (suc m) (a ∷ s) zero l b = ap₂ ℚ.mul (R.mul-one a) (monomial-zeros R m s) ∙ R.mul-one a
 unit_value (suc m) (a ∷ s) (suc j) l b =
     ap (ℚ.mul ℚ.one) (unit_value m s j (omega (arith, l)) (omega (arith, b)))
     ∙ L.one-mul R (entries ℚ_field s j)

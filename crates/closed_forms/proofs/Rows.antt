@@ -1,13 +1,15 @@
 -- Rows of fractions, and the rows of the identity behind forms.
---   entries-before, entries-last     what is pushed behind a list
---   fractions-push, rows-push
+--   entry_get, entry_at, entries-before, entries-last     an entry of a list, and what is pushed behind one
+--   fractions-push                   the same of fractions
 --   identity_next                    one entry more of a row of the identity
 --   beside-push                      one form more beside its row of the identity
 --   product_next                     one number more of a product of a row and a matrix
 --   product_at, past_row_at     of the same row and matrix, as calls give them
-use Rattle.std.proofs.Common.{◌≡◌, ◌⊎◌, inl, inr, ℕ, zero, suc, ◌+◌, ◌<◌, ◌≤◌, Bool, true, false, cond, eqb, List, [], ◌∷◌, ◌++◌, take, get_or, length, All, Vec, Global, refl, sym, ap, ap₂, subst, ◌∙◌, arith, append_assoc, add-one, T, eqb→eq}
+use Rattle.std.proofs.Common.{◌≡◌, ◌⊎◌, inl, inr, ℕ, zero, suc, ◌+◌, ◌<◌, ◌≤◌, Bool, true, false, cond, eqb, List, [], ◌∷◌, ◌++◌, take, get_or, length, All, Vec, Global, refl, sym, ap, ap₂, subst, ◌∙◌, arith, append_assoc, T, eqb→eq}
 use lib.Dec.{eqb_refl}
-use Rattle.std.proofs.lemmas.List.{length-append, length-take-le, take_all}
+use Rattle.std.proofs.lemmas.List.{length-append, length-take-le, take_all, take_more, take-map, map_push, get_or_append_left, get_or_push, get_or-map}
+use Rattle.algebra.proofs.Basics.{below_or_last}
+use Rattle.algebra.proofs.Lists.{take_next}
 use Rattle.algebra.specs.Fraction.{Fraction, ℚ}
 use Rattle.algebra.proofs.Fractions.{ℚ_field}
 use Rattle.polynomials.specs.Terms.{sum_of_products}
@@ -18,6 +20,8 @@ use Rattle.linear.proofs.Clearing.{rows-length}
 use Rattle.linear.proofs.Lists.{fractions-length}
 use Rattle.eigen_split.proofs.Reading.{list_row}
 use Rattle.algebra.specs.Each.{Each}
+use Rattle.algebra.specs.In.{In}
+use Rattle.algebra.proofs.In.{each_in, map-in, in_get}
 use Rattle.vectors.specs.Adding.{IsEchelonOf, IsPastTarget}
 use Rattle.closed_forms.specs.Inverses.{IsPastInverse}
 use Rattle.closed_forms.specs.Products.{IsPastRow}
@@ -25,54 +29,30 @@ use Rattle.vectors.specs.Lists.{entries}
 use Rattle.solvable_maps.specs.Inverse.{unit_list, beside, numbers_at, IsProduct}
 use Rattle.solvable_maps.proofs.Inverses.{unit-own, unit-other, unit-length}
 
-pub entries-before : (xs : List Fraction) (x : Fraction) (i : ℕ) → i < length xs
-    → entries ℚ_field (xs ++ x ∷ []) i ≡ entries ℚ_field xs i
-entries-before [] x i l = absurd (omega (arith, l))
-entries-before (y ∷ xs) x zero l = refl
-entries-before (y ∷ xs) x (suc i) l = entries-before xs x i (omega (arith, l))
+pub entry_get : (xs : List Fraction) (i : ℕ) → entries ℚ_field xs i ≡ get_or xs i ℚ.zero
+entry_get [] i = refl
+entry_get (x ∷ xs) zero = refl
+entry_get (x ∷ xs) (suc i) = entry_get xs i
 
-pub entries-last : (xs : List Fraction) (x : Fraction) (i : ℕ) → i ≡ length xs
+pub entry_at : (row : List Frac) (i : ℕ) (x : Frac) → i < length row → x ≡ get_or row i x
+    → entries ℚ_field (fractions_of row) i ≡ fraction_of x
+entry_at row i x l e = entry_get _ i ∙ get_or-map fraction_of row i x ℚ.zero l
+    ∙ ap fraction_of (sym e)
+
+entries-before : (xs : List Fraction) (x : Fraction) (i : ℕ) → i < length xs
+    → entries ℚ_field (xs ++ x ∷ []) i ≡ entries ℚ_field xs i
+entries-before xs x i l = entry_get _ i ∙ get_or_append_left xs (x ∷ []) ℚ.zero i l
+    ∙ sym (entry_get xs i)
+
+entries-last : (xs : List Fraction) (x : Fraction) (i : ℕ) → i ≡ length xs
     → entries ℚ_field (xs ++ x ∷ []) i ≡ x
-entries-last [] x zero e = refl
-entries-last [] x (suc i) e = absurd (omega (arith, e))
-entries-last (y ∷ xs) x zero e = absurd (omega (arith, e))
-entries-last (y ∷ xs) x (suc i) e = entries-last xs x i (omega (arith, e))
+entries-last xs x i e = entry_get _ i ∙ get_or_push xs x ℚ.zero i (sym e)
 
 pub fractions-push : (xs : List Frac) {more : List Frac} (x : Frac) → more ≡ xs ++ x ∷ []
     → fractions_of more ≡ fractions_of xs ++ fraction_of x ∷ []
-fractions-push xs x e = ap fractions_of e ∙ of xs
-  where
-    of : (xs : List Frac) → fractions_of (xs ++ x ∷ []) ≡ fractions_of xs ++ fraction_of x ∷ []
-    of [] = refl
-    of (y ∷ xs) = ap (λ l. fraction_of y ∷ l) (of xs)
-
-pub rows-push : (xs more : List (Vec Frac Global)) (x : Vec Frac Global) → more ≡ xs ++ x ∷ []
-    → rows_of more ≡ rows_of xs ++ fractions_of x.items ∷ []
-rows-push xs more x e = ap rows_of e ∙ of xs
-  where
-    of : (xs : List (Vec Frac Global)) → rows_of (xs ++ x ∷ []) ≡ rows_of xs ++ fractions_of x.items
-        ∷ []
-    of [] = refl
-    of (y ∷ xs) = ap (λ l. fractions_of y.items ∷ l) (of xs)
-
-pub rows-take : (xs : List (Vec Frac Global)) (i : ℕ) (x : Vec Frac Global) → i < length xs
-    → x ≡ get_or xs i x → rows_of (take (i + 1) xs) ≡ rows_of (take i xs) ++ fractions_of x.items
-    ∷ []
-rows-take xs i x l e = ap (λ j. rows_of (take j xs)) (add-one i) ∙ of xs i l e
-  where
-    of : (xs : List (Vec Frac Global)) (i : ℕ) → i < length xs → x ≡ get_or xs i x
-        → rows_of (take (suc i) xs) ≡ rows_of (take i xs) ++ fractions_of x.items ∷ []
-    of [] i l e = absurd (omega (arith, l))
-    of (y ∷ xs) zero l e = ap (λ (v : Vec Frac Global). fractions_of v.items ∷ []) (sym e)
-    of (y ∷ xs) (suc i) l e = ap (λ r. fractions_of y.items ∷ r) (of xs i (omega (arith, l)) e)
+fractions-push xs x e = ap fractions_of e ∙ map_push fraction_of xs x
 
 -- ---- rows of the identity
-take-entry : (xs : List Fraction) (i : ℕ) → i < length xs → take (suc i) xs ≡ take i xs
-    ++ entries ℚ_field xs i ∷ []
-take-entry [] i l = absurd (omega (arith, l))
-take-entry (x ∷ xs) zero l = refl
-take-entry (x ∷ xs) (suc i) l = ap (λ r. x ∷ r) (take-entry xs i (omega (arith, l)))
-
 identity-entry : (n p i : ℕ) → i < n → entries ℚ_field (unit_list n p) i ≡ cond (eqb i p) ℚ.one
     ℚ.zero
 identity-entry n p i l = go (eqb i p) refl
@@ -87,11 +67,11 @@ pub identity_next : (n p i : ℕ) (form row more : List Frac) (x : Frac) → i <
     → fraction_of x ≡ cond (eqb i p) ℚ.one ℚ.zero → fractions_of more ≡ fractions_of form
     ++ take (i + 1) (unit_list n p)
 identity_next n p i form row more x l h e y =
+    let u = unit_list n p in
     fractions-push row x e ∙ ap₂ (λ a b. a ++ b ∷ []) h (y ∙ sym (identity-entry n p i l))
-    ∙ append_assoc (fractions_of form) (take i (unit_list n p))
-    (entries ℚ_field (unit_list n p) i ∷ []) ∙ ap (λ r. fractions_of form ++ r)
-    (sym (take-entry (unit_list n p) i (let e = unit-length n p in omega (arith, l, e)))
-    ∙ ap (λ j. take j (unit_list n p)) (sym (add-one i)))
+    ∙ append_assoc (fractions_of form) (take i u) (entries ℚ_field u i ∷ [])
+    ∙ ap (λ r. fractions_of form ++ r) (ap (λ x. take i u ++ x ∷ []) (entry_get u i)
+    ∙ sym (take_more u i ℚ.zero (let e = unit-length n p in omega (arith, l, e))))
 
 pub identity_done : (n p i : ℕ) (form row : List Frac) → n ≤ i
     → fractions_of row ≡ fractions_of form ++ take i (unit_list n p)
@@ -121,12 +101,8 @@ beside_next n forms place form row l e h =
     ∷ []) (let c = rows-length (take place forms) in let d =
     length-take-le place forms (omega (arith, l)) in omega (arith, c, d))
     ∙ sym (beside-push n 0 (rows_of (take place forms)) (fractions_of form.items))
-    ∙ ap (beside n 0) (sym (rows-take forms place form l e))
-
-pub rows-taken : (xs : List (Vec Frac Global)) (i : ℕ) → rows_of (take i xs) ≡ take i (rows_of xs)
-rows-taken xs zero = refl
-rows-taken [] (suc i) = refl
-rows-taken (x ∷ xs) (suc i) = ap (λ r. fractions_of x.items ∷ r) (rows-taken xs i)
+    ∙ ap (beside n 0) (sym (take_next (λ (v : Vec Frac Global). fractions_of v.items) forms place
+    form l e))
 
 -- ---- products
 pub product_next : (n : ℕ) (row : List Fraction) (rows : List (List Fraction))
@@ -136,12 +112,9 @@ pub product_next : (n : ℕ) (row : List Fraction) (rows : List (List Fraction))
 product_next n row rows out more x h e y = record {
   size = ap length (fractions-push out x e)
       ∙ length-append (fractions_of out) (fraction_of x ∷ []) ∙ ap (λ k. k + 1) h.size;
-  each = λ j l. ap (λ r. entries ℚ_field r j) (fractions-push out x e) ∙ at j (last j l);
+  each = λ j l. ap (λ r. entries ℚ_field r j) (fractions-push out x e) ∙ at j (below_or_last j n l);
 }
   where
-    last : (j : ℕ) → j < n + 1 → (j < n) ⊎ (j ≡ n)
-    last j l = grind arith
-
     at : (j : ℕ) → (j < n) ⊎ (j ≡ n) → entries ℚ_field (fractions_of out ++ fraction_of x ∷ []) j
         ≡ sum_of_products ℚ row (numbers_at j rows)
     at j (inl b) = entries-before (fractions_of out) (fraction_of x) j (let s = h.size in
@@ -167,13 +140,6 @@ past_row_at {m = m} {row = row} {rows = rows} {given = given} e f g h =
     (subst (λ l. IsPastRow m (fractions_of row) (rows_of l)) f
     (subst (λ l. IsPastRow m (fractions_of l) (rows_of given)) e h))
 
--- ---- sums of products, from the front
-pub entry_at : (row : List Frac) (i : ℕ) (x : Frac) → i < length row → x ≡ get_or row i x
-    → entries ℚ_field (fractions_of row) i ≡ fraction_of x
-entry_at [] i x h e = absurd (omega (arith, h))
-entry_at (y ∷ row) zero x h e = ap fraction_of (sym e)
-entry_at (y ∷ row) (suc i) x h e = entry_at row i x (omega (arith, h)) e
-
 -- ---- the inverse
 pub beside-width : (n place : ℕ) (form row : List Frac) → length form ≡ n
     → fractions_of row ≡ fractions_of form ++ unit_list n place → length row ≡ n + n
@@ -195,7 +161,7 @@ past_inverse forms place form row rows target l f h is past =
       echelon = rows;
       is = subst (λ k. IsEchelonOf (k + k) (beside k 0 (take place (rows_of forms))) rows) (sym e)
           (subst (λ z. IsEchelonOf (length forms + length forms) (beside (length forms) 0 z) rows)
-          (rows-taken forms place) is);
+          (sym (take-map (λ (v : Vec Frac Global). fractions_of v.items) place forms)) is);
       target = target;
       past = subst (λ r. IsPastTarget rows r target) (h
           ∙ ap₂ (λ a k. a ++ unit_list k place) (sym (list_row forms place form l f)) (sym e))
@@ -211,16 +177,13 @@ pub echelon_next : (n : ℕ) (forms : List (Vec Frac Global)) (place : ℕ) (for
 echelon_next n forms place form row rows l f h is = subst (λ given. IsEchelonOf (n + n) given rows)
     (beside_next n forms place form row l f h) is
 
-low_at : (n : ℕ) (items : List (Vec Frac Global))
-    → Each (λ (row : List Fraction). length row ≡ n + n) (rows_of items)
-    → (k : ℕ) (d : Vec Frac Global) → k < length items → n ≤ length (get_or items k d).items
-unfolding Each
-low_at n [] h k d l = absurd (omega (arith, l))
-low_at n (v ∷ items) h zero d l = (let e = fractions-length v.items in
-    let w : length (fractions_of v.items) ≡ n + n = h.0 in omega (arith, e, w))
-low_at n (v ∷ items) h (suc k) d l = low_at n items h.1 k d (omega (arith, l))
-
 pub widths_low : (n : ℕ) (items : List (Vec Frac Global)) {rows : List (List Fraction)}
     → rows_of items ≡ rows → Each (λ row. length row ≡ n + n) rows
     → All (λ (v : Vec Frac Global). n ≤ length v.items) items
-widths_low n items e h = low_at n items (subst (Each (λ row. length row ≡ n + n)) (sym e) h)
+widths_low n items {rows} e h k d l =
+    let v = get_or items k d in
+    let w = each_in (λ (row : List Fraction). length row ≡ n + n) rows (fractions_of v.items) h
+    (subst (In (fractions_of v.items)) e
+    (map-in (λ (v : Vec Frac Global). fractions_of v.items) items v (in_get items k d l))) in
+    let f = fractions-length v.items in
+    omega (arith, w, f)

@@ -1,6 +1,5 @@
 -- What a class's forms are made from, as the code has it.
 --   bodies_next, body_arity          the polynomials of all variables
---   IsAtHand                         what is known where the forms of a class are made
 --   room                             how many exponents a base makes
 --   vars_is, group_low               how many variables there are; the class's are among them
 --   forms_wide, values_count, forms_few     as many forms and values, and as wide, as the class has variables
@@ -25,7 +24,6 @@ use Rattle.poly.specs.Seen.{terms_in, terms_each}
 use Rattle.poly.specs.declared.Term.{Term}
 use Rattle.eigen_split.specs.declared.splitting.Split.{Split}
 use Rattle.solvable.proofs.Using.{FracPoly, length_each}
-use Rattle.solvable.specs.Refusal.{IsSolvable}
 use Rattle.solvable_maps.specs.Classes.{class_matrix, IsClass}
 use Rattle.solvable_maps.specs.Inverse.{beside, IsInverse}
 use Rattle.solvable_maps.specs.Iterations.{width}
@@ -34,22 +32,19 @@ use Rattle.solvable_maps.proofs.FormSplits.{forms_inverse}
 use Rattle.expo.specs.declared.exponential.Expo.{Expo}
 use Rattle.closed_forms.specs.declared.class.ClassSetting.{ClassSetting}
 use Rattle.closed_forms.specs.Later.{ahead_of}
-use Rattle.closed_forms.specs.ClassForms.{IsSettingOf, ahead_in, zeros_of, parts_of, AreNextOf, IsPastNextOf, AreVariablesOf, IsPastClassOf}
+use Rattle.closed_forms.specs.SplitClass.{base_at, IsSplitClass, IsReadyFor, IsSettingIn}
+use Rattle.closed_forms.specs.declared.class.SplitClass.{SplitClass}
+use Rattle.closed_forms.specs.ClassForms.{ahead_in, zeros_of, parts_of, AreNextOf, IsPastNextOf, AreVariablesOf, IsPastClassOf}
 use Rattle.closed_forms.specs.Known.{IsReady, parts_in, AreNextForms, IsPastNext, IsPastRowOf, form_past, variable_past, variable_in}
 use Rattle.closed_forms.specs.ClassSetting.{IsClassSetting}
 use Rattle.closed_forms.specs.Splits.{IsSplitOf}
-use Rattle.closed_forms.specs.Values.{bodies_of, IsExpoOver, AreOver}
+use Rattle.closed_forms.specs.Values.{bodies_of, IsExpoOver}
 use Rattle.closed_forms.proofs.Chaining.{map-at}
-use Rattle.closed_forms.proofs.Joining.{own_normal, over_normal}
+use Rattle.closed_forms.proofs.Joining.{own_normal, over_normal, over_arity}
 use Rattle.expo.specs.Bases.{IsCoprimeBase, IsOwnNormal}
 use Rattle.closed_forms.proofs.Mixing.{tell, all_arity, polys_arity}
 use Rattle.closed_forms.proofs.Splitting.{map_of, class_inside, matrix_wide, widths_all}
 use Rattle.closed_forms.proofs.Turning.{variable_turned, past_next, past_row}
-
-over_arities : (base : List ℕ) (m : ℕ) (es : List Expo) → AreOver base m es
-    → All (λ (e : Expo). e.body.arity ≡ width (length base) m) es
-over_arities base m es h = λ k d l. (let e = get_or es k d in let o = h k d l in e.arity
-    ∙ ap₂ (λ b n. width (length b) n) o.over_base o.over_vars)
 
 pub bodies_next : (es : List Expo) (i : ℕ) (e : Expo) (out more : List FracPoly) (p : FracPoly)
     → i < length es → e ≡ get_or es i e → more ≡ out ++ p ∷ [] → terms_in p ≡ terms_in e.body
@@ -88,22 +83,27 @@ module _ {images : List (Terms Fraction)} {g : List ℕ} {split : Split}
   forms_few class e l = (let a = class_few images g class in let b = forms_count in
       omega (arith, a, b, e, l))
 
--- ---- what is known where the forms of a class are made
-pub record IsAtHand (bs : List ℕ) (images : List FracPoly) (g : List ℕ) (es : List Expo)
-    (split : Split) (z : ℕ) (s : ClassSetting) : Type 0 where
-  pub coprime : IsCoprimeBase bs
-  pub few : width (length bs) (length images) ≤ 4096
-  pub square : All (λ (p : FracPoly). p.arity ≡ length images) images
-  pub solvable : IsSolvable (terms_each images)
-  pub class : IsClass (terms_each images) g
-  pub over : AreOver bs (length images) es
-  pub ready : IsReady bs (terms_each images) z (zeros_of split) g (bodies_of es)
-  pub splits : IsSplitOf (terms_each images) g split
-  pub setting : IsSettingOf (terms_each images) z g split es s
-  pub ahead : All (λ (p : FracPoly). p.arity ≡ length images) s.ahead.items
+-- ---- where the forms of a class are made
+module _ {k : SplitClass} {es : List Expo} {s : ClassSetting} (h : IsSplitClass k)
+    (known : IsReadyFor k es) (setting : IsSettingIn k es s) where
+  abbrev bs : List ℕ
+  bs = base_at k
 
-module _ {bs : List ℕ} {images : List FracPoly} {g : List ℕ} {es : List Expo} {split : Split}
-    {z : ℕ} {s : ClassSetting} (h : IsAtHand bs images g es split z s) where
+  abbrev images : List FracPoly
+  images = k.work.now.map.images.now.items
+
+  abbrev g : List ℕ
+  g = k.group.now
+
+  abbrev split : Split
+  split = k.split.now
+
+  abbrev z : ℕ
+  z = k.work.now.iterations
+
+  coprime : IsCoprimeBase bs
+  coprime = (h.work.base.coarsest.base.coprime, h.work.base.ascending)
+
   abbrev M : List (Terms Fraction)
   M = terms_each images
 
@@ -117,31 +117,31 @@ module _ {bs : List ℕ} {images : List FracPoly} {g : List ℕ} {es : List Expo
   back = rows_of s.back.items
 
   is : IsMap (length M) M
-  is = map_of images h.square
+  is = map_of images k.work.now.map.square
 
   arities : All (λ (p : FracPoly). p.arity ≡ width (length bs) (length images)) s.earlier.items
-  arities = h.setting.arities (width (length bs) (length images)) (over_arities bs (length images)
-      es h.over)
+  arities = setting.arities (width (length bs) (length images))
+      (λ i d l. over_arity (known.over i d l))
 
   pub vars_is : length s.earlier.items ≡ length images
-  vars_is = sym (length_each s.earlier.items) ∙ ap length h.setting.earlier ∙ h.ready.turned.size
+  vars_is = sym (length_each s.earlier.items) ∙ ap length setting.earlier ∙ known.ready.turned.size
       ∙ length_each images
 
   vars_own : length s.earlier.items ≡ length M
   vars_own = vars_is ∙ sym (length_each images)
 
   ahead_is : ahead_in s ≡ ahead_of M g z
-  ahead_is = ap₂ (λ n state. record { iterations = n; state = state }) h.setting.iterations
-      h.setting.ahead
+  ahead_is = ap₂ (λ n state. record { iterations = n; state = state }) setting.iterations
+      setting.ahead
 
   parts_are : parts_of bs g s split ≡ parts_in bs M z g forms values (bodies_of es) back
   parts_are = λ i. record {
     base = bs;
     vars = vars_own i;
     class = g;
-    rests = h.setting.rests i;
-    polys = h.setting.earlier i;
-    matrix = h.setting.matrix i;
+    rests = setting.rests i;
+    polys = setting.earlier i;
+    matrix = setting.matrix i;
     back = back;
     ahead = ahead_is i;
     forms = forms;
@@ -153,42 +153,43 @@ module _ {bs : List ℕ} {images : List FracPoly} {g : List ℕ} {es : List Expo
 
   inverse_is : IsInverse (length g) forms back
   inverse_is =
-      let n : length forms ≡ length g = h.splits.are.count in
-      subst (IsInverse (length g) forms) (sym (h.setting.back.behind
-      ∙ ap (λ k. map (drop k) h.setting.back.echelon) n))
-      (forms_inverse (length g) (class_matrix M g) forms h.setting.back.echelon values h.splits.are
-      (subst (λ k. IsEchelonOf (k + k) (beside k 0 forms) h.setting.back.echelon) n
-      h.setting.back.is))
+      let n : length forms ≡ length g = h.split.are.count in
+      subst (IsInverse (length g) forms) (sym (setting.back.behind
+      ∙ ap (λ k. map (drop k) setting.back.echelon) n))
+      (forms_inverse (length g) (class_matrix M g) forms setting.back.echelon values h.split.are
+      (subst (λ k. IsEchelonOf (k + k) (beside k 0 forms) setting.back.echelon) n
+      setting.back.is))
 
   pub back_count : length s.back.items ≡ length g
   back_count = sym (length-map s.back.items (λ row. fractions_of row.items)) ∙ inverse_is.size
 
   pub setting_is : IsClassSetting bs (length split.forms.items) s
   setting_is =
-      let n : length split.forms.items ≡ length g = forms_count h.splits in
+      let n : length split.forms.items ≡ length g = forms_count h.split in
       let e = vars_is in
       let low =
       (h.class.is.inside h.class.of (h.class.is.whole h.class.of h.class.within (inl refl))).0
       in
       let size = vars_own in
       record {
-        coprime = h.coprime;
+        coprime = coprime;
         some = omega (arith, low, size);
-        few = subst (λ n. width (length bs) n ≤ 4096) (sym e) h.few;
+        few = subst (λ n. width (length bs) n ≤ 4096) (sym e)
+            (room k.work.now.base.items (length images) h.work.short k.work.now.map.few);
         earlier = subst (λ n. All (λ (p : FracPoly). p.arity ≡ width (length bs) n) s.earlier.items)
             (sym vars_is) arities;
         rests = subst (λ n. All (λ (p : FracPoly). p.arity ≡ n) s.rests.items) (sym vars_own)
-            h.setting.variables;
+            setting.variables;
         matrix = subst (λ n. All (λ (row : Vec Frac Global). length row.items ≡ n) s.matrix.items)
-            (sym n) (matrix_wide M g s.matrix.items h.setting.matrix);
+            (sym n) (matrix_wide M g s.matrix.items setting.matrix);
         back = subst (λ n. All (λ (row : Vec Frac Global). length row.items ≡ n) s.back.items)
             (sym n) (widths_all s.back.items back (length g) refl inverse_is.widths);
-        ahead = subst (λ n. All (λ (p : FracPoly). p.arity ≡ n) s.ahead.items) (sym vars_is)
-            h.ahead;
+        ahead = subst (λ n. All (λ (p : FracPoly). p.arity ≡ n) s.ahead.items) (sym vars_own)
+            setting.over;
       }
 
   all : AllArity (width (length bs) (length M)) (bodies_of es)
-  all = subst (AllArity (width (length bs) (length M))) h.setting.earlier
+  all = subst (AllArity (width (length bs) (length M))) setting.earlier
       (polys_arity (width (length bs) (length M)) s.earlier.items
       (subst (λ n. All (λ (p : FracPoly). p.arity ≡ width (length bs) n) s.earlier.items)
       (sym (length_each images)) arities))
@@ -199,27 +200,27 @@ module _ {bs : List ℕ} {images : List FracPoly} {g : List ℕ} {es : List Expo
     own = subst (λ p. AreNextForms p (terms_each done)) parts_are next
 
     own_count : length (terms_each done) ≡ length g
-    own_count = length_each done ∙ count ∙ forms_count h.splits
+    own_count = length_each done ∙ count ∙ forms_count h.split
 
     pub variables_turned : (news : List Expo)
         → bodies_of news ≡ map (λ row. variable_in bs row (terms_each done)) back
         → (r : IsReady bs M z (zeros_of split) g (bodies_of es))
         → AreVariablesOf bs M (r.since + zeros_of split) g (bodies_of news)
     variables_turned news e r = λ a l.
-        variable_turned bs h.coprime.0 M is h.solvable g h.class z values r all forms back
-        h.splits.are inverse_is (terms_each done) own_count own a l (poly_at (bodies_of news) a)
+        variable_turned bs coprime.0 M is h.work.solvable g h.class z values r all forms back
+        h.split.are inverse_is (terms_each done) own_count own a l (poly_at (bodies_of news) a)
         (ap (λ ps. poly_at ps a) e ∙ map-at (λ row. variable_in bs row (terms_each done)) back a
         (let q = inverse_is.size in omega (arith, l, q)))
 
     pub past_rows : IsPastRowOf back (terms_each done) → IsPastClassOf bs M z g split (bodies_of es)
-    past_rows past = variable_past back h.setting.back
-        (past_row bs h.coprime.0 M is h.solvable g h.class z values h.ready all forms
-        back h.splits.are inverse_is (terms_each done) own_count own past)
+    past_rows past = variable_past back setting.back
+        (past_row bs coprime.0 M is h.work.solvable g h.class z values known.ready all forms
+        back h.split.are inverse_is (terms_each done) own_count own past)
 
   pub past_forms : IsPastNextOf bs g s split → IsPastClassOf bs M z g split (bodies_of es)
-  past_forms past = form_past back h.setting.back
-      (past_next bs h.coprime.0 M is h.solvable g h.class z values h.ready all forms
-      back h.splits.are inverse_is (subst IsPastNext parts_are past))
+  past_forms past = form_past back setting.back
+      (past_next bs coprime.0 M is h.work.solvable g h.class z values known.ready all forms
+      back h.split.are inverse_is (subst IsPastNext parts_are past))
 
 -- ---- one form
 module _ {base : List ℕ} {m : ℕ} {q : Expo} (over : IsExpoOver base m q) {ts : List (Term Frac)}

@@ -6,7 +6,7 @@
 --   num_fits, den_fits, num_passed, den_passed, num_some, den_some      numerators and denominators fit, and are not zero
 --   sizes_positive, sizes_fit, few_sizes        of all, and their base has few numbers
 use Rattle.std.proofs.Common.{◌≡◌, ◌≢◌, ◌<ℤ◌, ◌<◌, ◌≤◌, ◌+◌, ℕ, ℤ, suc, pos, List, [], ◌∷◌, ◌++◌, map, length, unsigned_abs, ◌^◌, Option, Some, Bool, true, false, cond, Result, Ok, Err, refl, sym, ap, ap₂, subst, ◌∙◌, arith, append_assoc}
-use Rattle.std.proofs.lemmas.List.{append-nil, length-append, length-map}
+use Rattle.std.proofs.lemmas.List.{append-nil, length-append, length-map, map_push}
 use borrow.Author.Differences.{ints}
 use mir.Syntax.{w128}
 use mir.Val.{to_z, of_z}
@@ -108,11 +108,7 @@ some_few (x ∷ values) = go (is_zero x) (some_few values)
 
 pub sizes-push : (ws more : List Whole) (w : Whole) → more ≡ ws ++ w ∷ []
     → sizes more ≡ sizes ws ++ unsigned_abs w.value ∷ []
-sizes-push ws more w e = ap sizes e ∙ of ws
-  where
-    of : (ws : List Whole) → sizes (ws ++ w ∷ []) ≡ sizes ws ++ unsigned_abs w.value ∷ []
-    of [] = refl
-    of (v ∷ ws) = ap (λ l. unsigned_abs v.value ∷ l) (of ws)
+sizes-push ws more w e = ap sizes e ∙ map_push (λ (w : Whole). unsigned_abs w.value) ws w
 
 pub behind_none : (f : Fraction → ℕ) (old : List ℕ) (values : List Frac) → length values ≡ 0
     → old ≡ old ++ map f (fractions_of values)

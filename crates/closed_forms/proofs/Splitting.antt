@@ -9,11 +9,13 @@
 --   among_none, among_skip, among_here      the class that begins with a variable
 --   first_refused        the first class that is refused
 --   splits_pass          no class is refused where each has split
-use Rattle.std.proofs.Common.{◌≡◌, ◌≢◌, ◌⊎◌, inl, inr, ◌<◌, ◌≤◌, ℕ, zero, suc, ◌+◌, List, [], ◌∷◌, ◌++◌, map, length, get_or, All, Vec, Global, Option, Some, None, refl, sym, ap, subst, ◌∙◌, arith}
-use Rattle.std.proofs.lemmas.List.{length-map, length-append}
+use Rattle.std.proofs.Common.{◌≡◌, ◌≢◌, ◌⊎◌, inl, inr, ◌<◌, ◌≤◌, ℕ, List, [], ◌∷◌, ◌++◌, map, length, get_or, All, Vec, Global, Option, Some, None, refl, sym, ap, subst, ◌∙◌, arith, below_more}
+use Rattle.std.proofs.lemmas.Option.{same_Some, none-some}
+use Rattle.std.proofs.lemmas.List.{length-map, length_push, get_or_append_left, get_or_push}
 use Rattle.algebra.specs.Each.{Each}
 use Rattle.algebra.specs.In.{In}
-use Rattle.algebra.proofs.In.{in_either, each_in}
+use Rattle.algebra.proofs.Each.{each-map, each_of}
+use Rattle.algebra.proofs.In.{in_either, each_in, in_get, map-in}
 use Rattle.algebra.specs.Fraction.{Fraction, ℚ}
 use Rattle.polynomials.specs.Terms.{Terms, coefficient}
 use Rattle.solvable_maps.specs.Class.{AreClasses}
@@ -115,7 +117,7 @@ module _ (images : List (Terms Fraction)) where
                 (same_first g f here (each_in (IsClass images) (g ∷ rest) f own inside) (first
                 ∙ sym first_is)) h,
           );
-          only = λ other is. (g, inl refl, first, subst (IsSplitOf images g) (some_same is) h);
+          only = λ other is. (g, inl refl, first, subst (IsSplitOf images g) (same_Some _ _ is) h);
         })
       where
         own : Each (IsClass images) (g ∷ rest)
@@ -124,19 +126,13 @@ module _ (images : List (Terms Fraction)) where
         here : IsClass images g
         here = each_in (IsClass images) (g ∷ rest) g own (inl refl)
 
-        some_same : {X : Type 0} {y x : X} → Some y ≡ Some x → y ≡ x
-        some_same e = grind (arith, e)
-
   pub among_none : (groups : List (List ℕ)) (k : ℕ) → length groups ≡ 0
       → IsSplitAmong images groups k None
   among_none [] k l = record {
     every = λ g inside first. absurd inside;
     only = λ split e.
-        absurd (no_some split e);
+        absurd (none-some split e);
   }
-    where
-      no_some : {X : Type 0} (x : X) → None ≡ Some x → ⊥
-      no_some x e = grind (arith, e)
   among_none (g ∷ groups) k l = absurd (omega (arith, l))
 
   pub split_at : (groups : List (List ℕ)) → Each (IsClass images) groups
@@ -170,30 +166,20 @@ module _ (images : List (Terms Fraction)) where
         absurd (omega (arith, e, l));
   }
 
-  push_at : (xs : List (Option Split)) (x : Option Split) (k : ℕ) (d : Option Split)
-      → k < length xs + 1 → ((k < length xs) × (get_or (xs ++ x ∷ []) k d ≡ get_or xs k d))
-      ⊎ ((k ≡ length xs) × (get_or (xs ++ x ∷ []) k d ≡ x))
-  push_at [] x zero d l = inr (refl, refl)
-  push_at [] x (suc k) d l = absurd (omega (arith, l))
-  push_at (y ∷ xs) x zero d l = inl (omega arith, refl)
-  push_at (y ∷ xs) x (suc k) d l = elim (push_at xs x k d (omega (arith, l))) [
-    | inl r ↦ (let b = r.0 in inl (omega (arith, b), r.1))
-    | inr r ↦ inr (ap suc r.0, r.1)
-  ]
-
   pub splits_push : (splits more : List (Option Split)) (x : Option Split) → more ≡ splits ++ x ∷ []
       → length splits < m → IsSplitAt images (length splits) x → AreSplitsTo images splits
       → AreSplitsTo images more
-  splits_push splits more x e l own h = subst (AreSplitsTo images) (sym e) (record {
-    few = (let s = length-append splits (x ∷ []) in omega (arith, s, l));
-    each = λ k d b. elim (push_at splits x k d (let s = length-append splits (x ∷ []) in
-        omega (arith, s, b))) [
-          | inl r ↦ subst (IsSplitAt images k) (sym r.1) (h.each k d r.0)
-          | inr r ↦ subst (IsSplitAt images k) (sym r.1) (subst (λ j. IsSplitAt images j x)
-              (sym r.0)
-              own)
-        ];
-  })
+  splits_push splits more x e l own h =
+      let s = length_push splits x in
+      subst (AreSplitsTo images) (sym e) (record {
+        few = omega (arith, s, l);
+        each = λ k d b. below_more (λ k. IsSplitAt images k (get_or (splits ++ x ∷ []) k d))
+            (length splits)
+            (λ k a. subst (IsSplitAt images k) (sym (get_or_append_left splits (x ∷ []) d k a))
+            (h.each k d a))
+            (subst (IsSplitAt images (length splits))
+            (sym (get_or_push splits x d (length splits) refl)) own) k (omega (arith, b, s));
+      })
 
   pub splits_pass : (is : IsMap m images) (splits : List (Option Split)) → AreSplits images splits
       → AllPass images
@@ -233,35 +219,21 @@ first_read (i ∷ g) l e = e
 
 pub class_inside : (images : List FracPoly) {g : List ℕ} → IsClass (terms_each images) g
     → All (λ i. i < length images) g
-class_inside images {g = g} class =
-    go g (λ j i. subst (λ n. j < n) (length_each images) (class.is.inside j i).0)
-  where
-    go : (g : List ℕ) → ((j : ℕ) → In j g → j < length images) → (k : ℕ) (d : ℕ) → k < length g
-        → get_or g k d < length images
-    go [] h k d l = absurd (omega (arith, l))
-    go (j ∷ g) h zero d l = h j (inl refl)
-    go (j ∷ g) h (suc k) d l = go g (λ i e. h i (inr e)) k d (omega (arith, l))
-
-rows_widths : (xs : List (Vec Frac Global)) {rows : List (List Fraction)} (n : ℕ)
-    → rows_of xs ≡ rows → Each (λ (row : List Fraction). length row ≡ n) rows
-    → (k : ℕ) (d : Vec Frac Global) → k < length xs → length (get_or xs k d).items ≡ n
-unfolding Each
-rows_widths [] n e h k d l = absurd (omega (arith, l))
-rows_widths (x ∷ xs) n e h zero d l = sym (length-map x.items _)
-    ∙ (subst (Each (λ (row : List Fraction). length row ≡ n)) (sym e) h).0
-rows_widths (x ∷ xs) n e h (suc k) d l = rows_widths xs n refl
-    (subst (Each (λ (row : List Fraction). length row ≡ n)) (sym e) h).1 k d (omega (arith, l))
+class_inside images {g = g} class k d l = subst (λ n. get_or g k d < n) (length_each images)
+    (class.is.inside (get_or g k d) (in_get g k d l)).0
 
 mapped_widths : (f : ℕ → List Fraction) (n : ℕ) → ((i : ℕ) → length (f i) ≡ n) → (g : List ℕ)
     → Each (λ (row : List Fraction). length row ≡ n) (map f g)
-unfolding Each
-mapped_widths f n h [] = tt
-mapped_widths f n h (i ∷ g) = (h i, mapped_widths f n h g)
+mapped_widths f n h g = each-map _ f g (each_of (λ i. length (f i) ≡ n) h g)
 
 pub widths_all : (xs : List (Vec Frac Global)) (rows : List (List Fraction)) (n : ℕ)
     → rows_of xs ≡ rows → Each (λ (row : List Fraction). length row ≡ n) rows
     → All (λ (row : Vec Frac Global). length row.items ≡ n) xs
-widths_all xs rows n e h = rows_widths xs n e h
+widths_all xs rows n e h k d l =
+    let v = get_or xs k d in
+    sym (length-map v.items _) ∙ each_in (λ (row : List Fraction). length row ≡ n) rows
+    (fractions_of v.items) h (subst (In (fractions_of v.items)) e
+    (map-in (λ (v : Vec Frac Global). fractions_of v.items) xs v (in_get xs k d l)))
 
 module _ (images : List (Terms Fraction)) (g : List ℕ) (xs : List (Vec Frac Global))
     (is : rows_of xs ≡ class_matrix images g) where
@@ -276,7 +248,7 @@ module _ (images : List (Terms Fraction)) (g : List ℕ) (xs : List (Vec Frac Gl
       (λ i. length-map g (λ j. coefficient ℚ (poly_at images i) (unit (length images) j))) g
 
   pub matrix_wide : All (λ (row : Vec Frac Global). length row.items ≡ length g) xs
-  matrix_wide = rows_widths xs (length g) is matrix-widths
+  matrix_wide = widths_all xs (class_matrix images g) (length g) is matrix-widths
 
   pub matrix_square : All (λ (row : Vec Frac Global). length row.items ≡ length xs) xs
   matrix_square = λ k d l. matrix_wide k d l ∙ sym matrix_count

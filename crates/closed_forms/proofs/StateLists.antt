@@ -4,9 +4,8 @@
 --   states_count, state_at, states_next     the states
 --   past_image, state_length, state_over, next_is, past_state, listed     what the code asks of them, and what is past
 use Rattle.std.proofs.Common.{◌≡◌, ◌⊎◌, inl, inr, ℕ, zero, suc, ◌+◌, ◌<◌, ◌≤◌, List, [], ◌∷◌, ◌++◌, map, length, take, drop, get_or, slice_get, Option, Some, All, Vec, Global, refl, sym, ap, ap₂, subst, ◌∙◌, arith, append_assoc, append-nil}
-use Rattle.std.proofs.lemmas.Bool.{cases_lt}
 use Rattle.std.specs.Option.{IsSomeAnd, option_map}
-use Rattle.std.proofs.lemmas.List.{length-map, length_push, map_push, get_or-map, get_or_append_left, get_or_push}
+use Rattle.std.proofs.lemmas.List.{drop_all, length-map, length_push, map_push, get_or-map, get_or_append_left, get_or_push}
 use Rattle.std.proofs.lemmas.Option.{slice_get-map}
 use Rattle.algebra.specs.Each.{Each}
 use Rattle.algebra.proofs.Lists.{take_next}
@@ -78,34 +77,27 @@ module _ (o : Grevlex) (m i : ℕ) (l : i < m) (p : FracPoly)
       ∙ ap (λ l. terms_each out ++ l) (sym (drop_some (variables ℚ m) i ((unit m i, ℚ.one) ∷ [])
       (variables_get m i l))) ∙ h
 
-none_left : (xs : List (Terms Fraction)) (i : ℕ) → length xs ≤ i → drop i xs ≡ []
-none_left [] zero l = refl
-none_left [] (suc i) l = refl
-none_left (x ∷ xs) zero l = absurd (omega (arith, l))
-none_left (x ∷ xs) (suc i) l = none_left xs i (omega (arith, l))
-
 pub variables_all : (m i : ℕ) (out : List FracPoly) → m ≤ i
     → terms_each out ++ drop i (variables ℚ m) ≡ variables ℚ m → terms_each out ≡ variables ℚ m
 unfolding variables
 variables_all m i out l h =
     let count : length (variables ℚ m) ≡ m = length-map (unit_exponents m) _ ∙ length-units m in
     sym (append-nil (terms_each out))
-    ∙ ap (λ x. terms_each out ++ x) (sym (none_left (variables ℚ m) i (omega (arith, l, count))))
+    ∙ ap (λ x. terms_each out ++ x) (sym (drop_all i (variables ℚ m) (omega (arith, l, count))))
     ∙ h
 
 -- ---- a state after another one
 abbrev pub turned : ℕ → List (Terms Fraction) → FracPoly → Terms Fraction
 turned m state p = collect_terms (compose ℚ m (terms_in p) state)
 
-pub image_next : (state images out more : List FracPoly) (i : ℕ) (image p : FracPoly)
-    → 0 < length state → All (λ (q : FracPoly). q.arity ≡ length state) state
+pub image_next : (m : ℕ) (state images out more : List FracPoly) (i : ℕ) (image p : FracPoly)
+    → 0 < length state → All (λ (q : FracPoly). q.arity ≡ m) state
     → i < length images → image ≡ get_or images i image → more ≡ out ++ p ∷ []
     → p.arity ≡ arity_of state
     → Same ℚ (terms_in p) (compose ℚ (arity_of state) (terms_in image) (terms_each state))
-    → terms_each out ≡ map (turned (length state) (terms_each state)) (take i images)
-    → terms_each more ≡ map (turned (length state) (terms_each state)) (take (i + 1) images)
-image_next state images out more i image p some over l is e a s h =
-    let m = length state in
+    → terms_each out ≡ map (turned m (terms_each state)) (take i images)
+    → terms_each more ≡ map (turned m (terms_each state)) (take (i + 1) images)
+image_next m state images out more i image p some over l is e a s h =
     let S = terms_each state in
     let at = arity_of_is m state some over in
     ap terms_each e ∙ map_push terms_in out p ∙ ap₂ (λ ps q. ps ++ q ∷ []) h (poly_is p _
@@ -132,11 +124,8 @@ states_length M zero = refl
 states_length M (suc n) = (let a = length_push (states_to M n) (after M (suc n)) in
     let b = states_length M n in omega (arith, a, b))
 
-pub below_last : (i n : ℕ) → i ≤ suc n → (i ≤ n) ⊎ (i ≡ suc n)
-below_last i n l = elim (cases_lt i (suc n)) [
-  | inl a ↦ inl (omega (arith, a))
-  | inr b ↦ inr (omega (arith, b, l))
-]
+below_last : (i n : ℕ) → i ≤ suc n → (i ≤ n) ⊎ (i ≡ suc n)
+below_last i n l = grind (arith, l)
 
 pub states_get : (M : List (Terms Fraction)) (n i : ℕ) (d : List (Terms Fraction)) → i ≤ n
     → get_or (states_to M n) i d ≡ after M i
@@ -199,30 +188,23 @@ module _ (images : List FracPoly) (n : ℕ) (found : List (Vec FracPoly Global))
       ≡ length images) x.items) (sym is)
       (h i v (let c = states_count M n found are in omega (arith, low, c)))
 
-  pub next_is : (given : List FracPoly) (next : List (Terms Fraction)) → given ≡ images
-      → next ≡ next_of (length v.items) (terms_each given) (terms_each v.items)
-      → next ≡ after M (suc i)
-  next_is given next e h = h
-      ∙ ap₂ (λ k (gs : List FracPoly). next_of k (terms_each gs) (terms_each v.items))
-      (state_length ∙ sym (length_each images)) e
-      ∙ ap (next_of (length M) M) (state_at M n found are i v low is)
+  pub next_is : {next : List (Terms Fraction)}
+      → next ≡ next_of (length images) M (terms_each v.items) → next ≡ after M (suc i)
+  next_is h = h ∙ ap₂ (λ k. next_of k M) (sym (length_each images))
+      (state_at M n found are i v low is)
 
-  pub past_state : (given : List FracPoly) (iterations : ℕ) → given ≡ images → i < iterations
-      → IsPastNextState (terms_each given) (terms_each v.items) → IsPastState M iterations
-  past_state given iterations e l h = record {
+  pub past_state : {iterations : ℕ} → i < iterations → IsPastNextState M (terms_each v.items)
+      → IsPastState M iterations
+  past_state l h = record {
     iteration = i;
     before = l;
-    past = subst (λ (gs : List FracPoly). IsPastNextState (terms_each gs) (after M i)) e
-        (subst (IsPastNextState (terms_each given)) (state_at M n found are i v low is) h);
+    past = subst (IsPastNextState M) (state_at M n found are i v low is) h;
   }
 
 -- ---- where each is what the definition says
-pub listed : (M : List (Terms Fraction)) (found : List (Vec FracPoly Global)) (i : ℕ)
-    (v : Vec FracPoly Global) → i < length found → v ≡ get_or found i v
-    → ((n : ℕ) → n < length (told found) → get_or (told found) n [] ≡ after M n)
-    → terms_each v.items ≡ after M i
-listed M found i v l is h =
+pub listed : (found : List (Vec FracPoly Global)) (i : ℕ) (v : Vec FracPoly Global)
+    → i < length found → v ≡ get_or found i v → terms_each v.items ≡ get_or (told found) i []
+listed found i v l is =
     let f : Vec FracPoly Global → List (Terms Fraction) =
     λ (x : Vec FracPoly Global). terms_each x.items in
-    let n : length (told found) ≡ length found = length-map found f in
-    ap f is ∙ sym (get_or-map f found i v [] l) ∙ h i (omega (arith, l, n))
+    ap f is ∙ sym (get_or-map f found i v [] l)

@@ -5,10 +5,10 @@
 --   variable_turned      a variable, where all forms are known: from as many iterations more on as there are zeros
 --   past_next, past_row  what is past in making a form or a variable
 use Rattle.std.proofs.Common.{◌≡◌, ◌≢◌, ℕ, zero, suc, ◌+◌, ◌-◌, ◌<◌, ◌≤◌, List, [], ◌∷◌, ◌++◌, map, length, take, refl, sym, ap, ap₂, subst, ◌∙◌, arith, below_more}
-use Rattle.std.proofs.lemmas.List.{length-take-le, take_all}
+use Rattle.std.proofs.lemmas.List.{length-take-le, take_all, get_or-take}
 use Rattle.std.proofs.lemmas.Simd.{map-map}
 use Rattle.algebra.specs.Each.{Each}
-use Rattle.algebra.proofs.Each.{each-append}
+use Rattle.algebra.proofs.Each.{each-append, each_weaker}
 use Rattle.algebra.proofs.In.{each_from}
 use Rattle.algebra.specs.Fraction.{Fraction, ℚ}
 use Rattle.algebra.proofs.Fractions.{ℚ_ring, ℚ_field}
@@ -39,7 +39,7 @@ use Rattle.closed_forms.specs.Inhomogeneities.{part, part_by_forms, both, inhomo
 use Rattle.closed_forms.specs.Sums.{mix}
 use Rattle.closed_forms.specs.Known.{rests_in, parts_in, IsReady, AreDone, IsNextForm, AreNextForms, IsPastNext, IsPastFormAt, IsPastRowOf, IsPastVariableAt, variable_in}
 use Rattle.closed_forms.proofs.Ahead.{ahead_value, later_recurs, later_there, one_later_recurs, zeros_none, zeros_one, zeros_next, zeros_part}
-use Rattle.closed_forms.proofs.Mixing.{mix-arity}
+use Rattle.closed_forms.proofs.Mixing.{mix-arity, poly_get}
 use Rattle.closed_forms.proofs.Recurring.{collected_value, collected-arity, normalized-arity, part_value, form_recurs}
 
 -- ---- lists
@@ -52,11 +52,7 @@ row_width n (form ∷ forms) h zero l = h.0
 row_width n (form ∷ forms) h (suc k) l = row_width n forms h.1 k (omega (arith, l))
 
 poly_taken : (ys : List (Terms Fraction)) (k i : ℕ) → i < k → poly_at (take k ys) i ≡ poly_at ys i
-poly_taken [] zero i l = refl
-poly_taken [] (suc k) i l = refl
-poly_taken (y ∷ ys) zero i l = absurd (omega (arith, l))
-poly_taken (y ∷ ys) (suc k) zero l = refl
-poly_taken (y ∷ ys) (suc k) (suc i) l = poly_taken ys k i (omega (arith, l))
+poly_taken ys k i l = poly_get (take k ys) i ∙ get_or-take k ys i [] l ∙ sym (poly_get ys i)
 
 each_taken : {X : Type 0} (P : X → Type 0) (k : ℕ) (xs : List X) → Each P xs → Each P (take k xs)
 unfolding Each
@@ -64,11 +60,10 @@ each_taken P zero xs h = tt
 each_taken P (suc k) [] h = tt
 each_taken P (suc k) (x ∷ xs) h = (h.0, each_taken P k xs h.1)
 
-normal-arities : (base : List ℕ) (m : ℕ) (ps : List (Terms Fraction))
+pub normal-arities : (base : List ℕ) (m : ℕ) (ps : List (Terms Fraction))
     → Each (IsNormalForm base grevlex m) ps → Each (Arity (width (length base) m)) ps
-unfolding Each
-normal-arities base m [] h = tt
-normal-arities base m (p ∷ ps) h = (h.0.polynomial.arity, normal-arities base m ps h.1)
+normal-arities base m = each_weaker (IsNormalForm base grevlex m)
+    (Arity (width (length base) m)) (λ p h. h.polynomial.arity)
 
 module _ (base : List ℕ) (c : Coprime base) (images : List (Terms Fraction))
     (is : IsMap (length images) images) (solvable : (vs : List ℕ)

@@ -38,6 +38,7 @@ pub record IsSettingOf (images : List (Terms Fraction)) (z : ℕ) (g : List ℕ)
   pub back : IsBehind (rows_of split.forms.items) (rows_of s.back.items)
   pub iterations : s.iterations ≡ z
   pub ahead : terms_each s.ahead.items ≡ map (poly_at (after images z)) g
+  pub over : All (λ p. p.arity ≡ length images) s.ahead.items
 
 abbrev pub ahead_in : ClassSetting → Ahead
 ahead_in s = record { iterations = s.iterations; state = terms_each s.ahead.items }

@@ -1,12 +1,12 @@
 -- How long the classes of a map are: how many terms their polynomials multiply out to with a sum of as many terms as its class's length for each variable of an earlier class, where products that are equal but for their order count once.
---   AreLengths ns              the numbers of terms of some sums: none is 0, or above the limit
+--   IsLength n                 the number of terms of a sum: neither 0 nor above the limit;  AreLengths ns: of some sums
 --   sum_length p ns            how many terms p multiplies out to with sums of so many terms for its variables
 --   class_length images g ns     the sum of these over the polynomials of the class g
 --   with_length g n ns         the numbers ns with n for each variable of g
 --   at_least_one n             a sum that is 0 counts as one term
 --   IsLongAmong images groups ns v     of these classes, one after another, v is the first variable of the first that is too long;  AreShort: none is
 --   IsLong images v, IsShort images    the same of all classes of the map, in their order, where each variable is one term to begin with
-use Rattle.std.specs.Prelude.{◌≡◌, ◌⊎◌, ℕ, zero, suc, ◌+◌, ◌<◌, ◌≤◌, List, [], ◌∷◌, length, replicate, set}
+use Rattle.std.specs.Prelude.{◌≡◌, ◌⊎◌, ℕ, zero, suc, ◌+◌, ◌<◌, ◌≤◌, List, [], ◌∷◌, length, replicate, set, All}
 use Rattle.std.specs.List.{sum_by}
 use Rattle.algebra.specs.Fraction.{Fraction}
 use Rattle.polynomials.specs.Terms.{Terms}
@@ -16,9 +16,11 @@ use Rattle.solvable_maps.specs.Class.{AreClasses}
 use Rattle.solvable_maps.specs.Classes.{first_of}
 use Rattle.solvable_maps.specs.Uses.{uses, poly_at}
 
+abbrev pub IsLength : ℕ → Type 0
+IsLength n = (0 < n) × (n ≤ most_terms)
+
 abbrev pub AreLengths : List ℕ → Type 0
-AreLengths [] = Unit {0}
-AreLengths (n ∷ ns) = (0 < n) × (n ≤ most_terms) × AreLengths ns
+AreLengths ns = All IsLength ns
 
 abbrev pub sum_length : Terms Fraction → List ℕ → ℕ
 sum_length p ns = sum_by (λ t. product_length ns t.0) p

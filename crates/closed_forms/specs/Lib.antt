@@ -12,10 +12,14 @@ pub mod Known
 pub mod ClassSetting
 pub mod ClassForms
 pub mod ClassInWork
+pub mod FormInWork
 pub mod Put
 pub mod View
+pub mod SquareMap
 pub mod MapInWork
+pub mod SplitClass
 pub mod Settling
+pub mod Comparison
 pub mod Lengths
 pub mod Refusal
 pub mod Limits

@@ -1,5 +1,6 @@
 -- A recurrence y(n+1) = l y(n) + q(n), as the code has it.
---   base_by r, value_by r, inhomogeneity_in r     the base of its polynomials, l and q
+--   base_by r, value_by r, inhomogeneity_in r     the base of its polynomials, l, as a product of powers of the base, and q
+--   number_by r     l itself
 use Rattle.std.specs.Prelude.{ℕ, List}
 use Rattle.algebra.specs.Fraction.{Fraction}
 use Rattle.polynomials.specs.Terms.{Terms}
@@ -14,6 +15,9 @@ base_by r = sizes r.base.now.items
 
 abbrev pub value_by : Recurrence → Fraction
 value_by r = number_of (sizes r.base.now.items) r.own
+
+abbrev pub number_by : Recurrence → Fraction
+number_by r = fraction_of r.value.now
 
 abbrev pub inhomogeneity_in : Recurrence → Terms Fraction
 inhomogeneity_in r = terms_of fraction_of r.inhomogeneity.now

@@ -1,6 +1,5 @@
 -- From which number of iterations on polynomials are the state.
 --   IsAt e n q                e at n iterations is q
---   AreAlike es state         as many polynomials as es, over as many variables
 --   IsAtPlace es n state i    the one at the place i of es is at n iterations that of the state
 --   IsMarked es n state marks i     the mark at i tells whether it isn't;  AreMarked es n state g marks: those at the places of g do
 --   AreAllMarked es n state groups marks     so of all classes;  KeptMarks es n state old new: what is marked by old is by new
@@ -15,10 +14,6 @@ use Rattle.polynomials.specs.Terms.{Terms, value_at}
 use Rattle.solvable_maps.specs.Class.{AreClasses}
 use Rattle.solvable_maps.specs.Uses.{uses, poly_at, IsMap}
 use Rattle.exponentials.specs.Base.{Coprime}
-use Rattle.std.specs.declared.cmp.PartialEq as PartialEq
-use Rattle.ring_laws.specs.declared.Ring as Ring
-use Rattle.monos.specs.declared.order.Order as Order
-use Rattle.poly.specs.declared.Poly.{Poly}
 use Rattle.solvable_maps.specs.Classes.{first_of}
 use Rattle.solvable_maps.specs.Iterations.{IsClosedFormFrom}
 use Rattle.expo.specs.Operations.{IsPastIteration}
@@ -30,13 +25,6 @@ use Rattle.closed_forms.specs.View.{IsLeastFrom}
 
 abbrev pub IsAt : Expo → ℕ → Terms Fraction → Type 0
 IsAt e n q = (s : List Fraction) → length s ≡ e.vars → value_of e n s ≡ value_at ℚ q s
-
-abbrev pub AreAlike : {K O : Type 0} {g : Ring.Ghosts K} {h : PartialEq.Ghosts K}
-    {k : Order.Ghosts O} {l : PartialEq.Ghosts O} → List Expo → List (Poly K O g h k l) → Type 0
-AreAlike {K} {O} {g} {h} {k} {l} es ps =
-    (length ps ≡ length es)
-    × ((i : ℕ) (e : Expo) (p : Poly K O g h k l) → i < length es → e ≡ get_or es i e
-    → p ≡ get_or ps i p → p.arity ≡ e.vars)
 
 abbrev pub IsAtPlace : List Expo → ℕ → List (Terms Fraction) → ℕ → Type 0
 IsAtPlace es n state i = (e : Expo) → e ≡ get_or es i e → IsAt e n (poly_at state i)

@@ -5,12 +5,17 @@
 --   AreSolvedBehind base m l q old new     they are what new has behind old
 --   homogeneous_part m x w g           the form w of the variables g, times the n-th power with the exponents x of s, u and v
 --   IsMade base x             numerator and denominator of x are products of powers of the base
---   IsPower base negative e l     l is the power of the base with these sign and exponents
+--   IsWithin base x           unless x is zero, it isn't so that x isn't made of the base;  AreWithin base xs: of each;  within_prop, are_within_prop: these are propositions
+--   IsPower base negative e l     l is the power of the base with these sign and exponents;  power_prop: that is a proposition
 --   IsSolvedForm base m w g l q y     y has the growing form and what solves the terms of q, made normal
 --   IsPastTerm, IsPastSolved  a number or a weight on the way is past
 use Rattle.std.specs.Prelude.{◌≡◌, ◌≢◌, ◌<◌, ℕ, ℤ, Bool, List, [], ◌∷◌, ◌++◌, length, drop, replicate, unsigned_abs}
+use native.Mathlib.Nat.{ℕ_set}
+use Rattle.algebra.specs.Each.{Each}
+use Rattle.algebra.proofs.Each.{each_prop}
 use Rattle.algebra.specs.In.{In}
 use Rattle.algebra.specs.Fraction.{Fraction, ℚ, fractions, fraction_size}
+use Rattle.algebra.proofs.Fractions.{ℚ_ring}
 use Rattle.algebra.specs.Size.{IsPast}
 use Rattle.expo.specs.Solutions.{most_degree}
 use Rattle.polynomials.specs.Order.{grevlex}
@@ -35,9 +40,25 @@ pub record IsMade (base : List ℕ) (x : Fraction) : Type 0 where
   pub numerator : IsProductOf base (unsigned_abs x.num)
   pub denominator : IsProductOf base x.den
 
+abbrev pub IsWithin : List ℕ → Fraction → Type 0
+IsWithin base x = x ≢ ℚ.zero → (IsMade base x → ⊥) → ⊥
+
+pub within_prop : (base : List ℕ) (x : Fraction) → IsProp (IsWithin base x)
+within_prop base x = hlevel
+
+abbrev pub AreWithin : List ℕ → List Fraction → Type 0
+AreWithin base xs = Each (IsWithin base) xs
+
+pub are_within_prop : (base : List ℕ) (xs : List Fraction) → IsProp (AreWithin base xs)
+are_within_prop base xs = each_prop (IsWithin base) (within_prop base) xs
+
 pub record IsPower (base : List ℕ) (negative : Bool) (e : List ℤ) (l : Fraction) : Type 0 where
   pub count : length e ≡ length base
   pub is : negate_if negative (number base e) ≡ l
+
+pub power_prop : (base : List ℕ) (negative : Bool) (e : List ℤ) (l : Fraction)
+    → IsProp (IsPower base negative e l)
+power_prop base negative e l = hlevel (ℕ_set, ℚ_ring.is_set)
 
 -- y is the solution for the powers of n and of a number in the term t
 pub record IsKeySolution (base : List ℕ) (m : ℕ) (l : Fraction) (t : List ℕ × Fraction)

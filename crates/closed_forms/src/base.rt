@@ -1,15 +1,16 @@
 //! The base of all eigenvalues.
 ghost use Rattle.std.specs.Prelude.{◌≡◌, ◌≢◌, ◌<◌, ◌≤◌, ◌<ℤ◌, ◌++◌, pos, length, map, unsigned_abs, IfOk, OnOk};
 ghost use Rattle.algebra.specs.Each.{Each};
-ghost use Rattle.algebra.specs.Fraction.{Fraction, ℚ};
+ghost use Rattle.algebra.specs.Fraction.{ℚ};
 ghost use Rattle.algebra.specs.Limits.{number_limit};
 ghost use Rattle.exponentials.specs.Base.{IsTheBase};
+ghost use Rattle.frac128.specs.FracMeaning.{fraction_of};
 ghost use Rattle.linear.specs.Rows.{fractions_of};
 ghost use Rattle.coprime_base.specs.Sizes.{sizes, ArePositive};
 ghost use Rattle.solvable_maps.specs.Classes.{sizes_of};
 ghost use Rattle.closed_forms.specs.Limits.{most_images, most_in_base};
 ghost use Rattle.closed_forms.specs.States.{some_of};
-ghost use Rattle.closed_forms.specs.Values.{values_in};
+ghost use Rattle.closed_forms.specs.Values.{values_in, size_at};
 
 use coprime_base::base;
 use eigen_split::Split;
@@ -27,8 +28,8 @@ pub(crate) fn base_of(alloc: Global, splits: &[Option<Split>]) -> Result<Vec<Who
     let mut values = Vec::new(alloc);
     push_values(&mut values, splits)?;
     let mut sizes = Vec::new(alloc);
-    push_numerators(&mut sizes, values.as_slice())?;
-    push_denominators(&mut sizes, values.as_slice())?;
+    push_sizes(&mut sizes, values.as_slice(), false)?;
+    push_sizes(&mut sizes, values.as_slice(), true)?;
     base(alloc, &sizes)
 }
 
@@ -64,35 +65,34 @@ fn push_some(out: &mut Vec<Frac>, values: &[Frac]) -> Result<(), AllocFailed<Fra
     push_some(out, values)
 }
 
-/// Puts the sizes of the numerators behind the others.
-fn push_numerators(out: &mut Vec<Whole>, values: &[Frac]) -> Result<(), AllocFailed<Whole>>
-    ensures sizes { OnOk result (sizes out.new.items ≡ sizes out.old.items
-        ++ map (λ (c : Fraction). unsigned_abs c.num) (fractions_of values.now)) }
+/// Puts the sizes of the numerators, or the denominators, behind the others.
+fn push_sizes(out: &mut Vec<Whole>, values: &[Frac], below: bool) -> Result<(), AllocFailed<Whole>>
+    ensures sizes { OnOk result (sizes out.new.items
+        ≡ sizes out.old.items ++ map (size_at below) (fractions_of values.now)) }
     ensures positive { OnOk result (ArePositive out.old.items
         → Each (λ c. c ≢ ℚ.zero) (fractions_of values.now) → ArePositive out.new.items) }
 {
     let Some((value, values)) = values.split_first() else {
         return Ok(());
     };
-    out.push(size_of(value.num()))?;
-    push_numerators(out, values)
+    out.push(size_of(value, below))?;
+    push_sizes(out, values, below)
 }
 
-/// Puts the denominators behind the others.
-fn push_denominators(out: &mut Vec<Whole>, values: &[Frac]) -> Result<(), AllocFailed<Whole>>
-    ensures sizes { OnOk result (sizes out.new.items ≡ sizes out.old.items
-        ++ map (λ (c : Fraction). c.den) (fractions_of values.now)) }
-    ensures positive { OnOk result (ArePositive out.old.items → ArePositive out.new.items) }
+/// The size of the numerator, or the denominator.
+fn size_of(value: &Frac, below: bool) -> Whole
+    ensures size { unsigned_abs result.value ≡ size_at below (fraction_of value.now) }
+    ensures positive { fraction_of value.now ≢ ℚ.zero → pos 0 <ℤ result.value }
 {
-    let Some((value, values)) = values.split_first() else {
-        return Ok(());
-    };
-    out.push(size_of(value.den()))?;
-    push_denominators(out, values)
+    if below {
+        absolute(value.den())
+    } else {
+        absolute(value.num())
+    }
 }
 
 /// The absolute value of a number that fits.
-fn size_of(number: i128) -> Whole
+fn absolute(number: i128) -> Whole
     requires { unsigned_abs number < number_limit }
     ensures size { unsigned_abs result.value ≡ unsigned_abs number }
     ensures positive { number ≢ pos 0 → pos 0 <ℤ result.value }

@@ -1,32 +1,19 @@
 //! The closed forms of a class, from those of earlier classes.
-ghost use Rattle.std.specs.Prelude.{◌≡◌, ◌≢◌, ◌≤◌, ◌<◌, ◌+◌, ℕ, All, length, map, IfOk, IsErrOf};
-ghost use Rattle.algebra.specs.Each.{Each};
-ghost use Rattle.algebra.specs.Fraction.{ℚ};
-ghost use Rattle.linear.specs.Rows.{fractions_of, rows_of};
+ghost use Rattle.std.specs.Prelude.{◌≡◌, ◌<◌, ℕ, All, length, map, IfOk, IsErrOf};
+ghost use Rattle.linear.specs.Rows.{rows_of};
 ghost use Rattle.poly.specs.Seen.{terms_each};
-ghost use Rattle.coprime_base.specs.Sizes.{sizes};
 ghost use Rattle.solvable_maps.specs.Uses.{poly_at};
-ghost use Rattle.solvable_maps.specs.Classes.{IsClass};
-ghost use Rattle.solvable_maps.specs.Iterations.{width};
-ghost use Rattle.monos.specs.Variables.{most_variables};
-ghost use Rattle.expo.specs.Bases.{IsCoprimeBase};
-ghost use Rattle.closed_forms.specs.ClassForms.{IsSettingOf, zeros_of, AreVariablesOf, IsPastClassOf};
-ghost use Rattle.closed_forms.specs.ClassInWork.{over_class, IsClassInWork, AreClosedIn, IsPastIn};
 ghost use Rattle.closed_forms.specs.Inverses.{IsPastInverse};
-ghost use Rattle.closed_forms.specs.Known.{variable_in, IsReady, IsPastRowOf};
-ghost use Rattle.closed_forms.specs.MapInWork.{images_in, IsInWork};
-ghost use Rattle.closed_forms.specs.Solved.{IsMade};
-ghost use Rattle.closed_forms.specs.Splits.{IsSplitOf};
+ghost use Rattle.closed_forms.specs.SplitClass.{base_at, IsSplitClass, IsReadyFor, IsSettingIn, AreFormsOf, IsPastOf};
+ghost use Rattle.closed_forms.specs.SquareMap.{size_by};
 ghost use Rattle.closed_forms.specs.Values.{bodies_of, AreOver};
 
-use crate::form_in_work::FormInWork;
-use crate::linear_parts::{class_matrix, rests};
+use crate::class_in_work::ClassInWork;
 use crate::map_in_work::MapInWork;
-use crate::matrices::inverse;
-use crate::sums::weighted_sum;
+use crate::matrices::FormMatrix;
 use eigen_split::Split;
-use expo::{Expo, width};
-use frac128::{Frac, Whole};
+use expo::Expo;
+use frac128::Frac;
 use monos::Grevlex;
 use poly::Poly;
 use ring_laws::ArithmeticError;
@@ -48,29 +35,56 @@ pub(crate) struct ClassSetting {
     pub(crate) ahead: Vec<Poly<Frac, Grevlex>>,
 }
 
-impl ClassSetting {
-    /// What the forms of a class of a map in work are made from.
-    fn new(
+/// A class of a map in work, with its splitting.
+#[derive(Clone, Copy)]
+pub(crate) struct SplitClass<'c, 'a> {
+    pub(crate) work: &'c MapInWork<'a>,
+    pub(crate) group: &'c [usize],
+    pub(crate) split: &'c Split,
+}
+
+impl SplitClass<'_, '_> {
+    /// The polynomial of each of its variables, from those of all variables, as far as they are known.
+    pub(crate) fn closed_class(
+        &self,
         alloc: Global,
-        work: &MapInWork<'_>,
-        group: &[usize],
-        split: &Split,
-        polys: &[Expo],
-    ) -> Result<ClassSetting, ArithmeticError>
-        requires work { IsInWork work.now }
-        requires class { IsClass (images_in work.now) group.now }
-        requires split { IsSplitOf (images_in work.now) group.now split.now }
-        ensures setting { IfOk result
-            (IsSettingOf (images_in work.now) work.now.iterations group.now split.now polys.now) }
-        ensures arities { IfOk result
-            (λ s. All (λ p. p.arity ≡ length work.now.images.now.items) s.ahead.items) }
-        ensures wide { IsErrOf result ArithmeticError.Wide
-            → IsPastInverse (rows_of split.now.forms.items) }
+        polys: &Vec<Expo>,
+    ) -> Result<Vec<Expo>, ArithmeticError>
+        requires class { IsSplitClass self.now }
+        requires ready { IsReadyFor self.now polys.now.items }
+        ensures count { IfOk result (λ news. length news.items ≡ length self.now.group.now) }
+        ensures over { IfOk result
+            (λ news. AreOver (base_at self.now) (size_by self.now.work.now.map) news.items) }
+        ensures variables { IfOk result (λ news. AreFormsOf self.now polys.now.items news.items) }
+        ensures wide { IsErrOf result ArithmeticError.Wide → IsPastOf self.now polys.now.items }
     {
+        let setting = self.setting(alloc, polys)?;
+        let class = ClassInWork {
+            base: &self.work.base,
+            group: self.group,
+            split: self.split,
+            setting,
+        };
+        let forms = class.closed_forms(alloc)?;
+        class.variables(alloc, &forms)
+    }
+
+    /// What its forms are made from.
+    fn setting(&self, alloc: Global, polys: &Vec<Expo>) -> Result<ClassSetting, ArithmeticError>
+        requires { IsSplitClass self.now }
+        ensures setting { IfOk result (IsSettingIn self.now polys.now.items) }
+        ensures wide { IsErrOf result ArithmeticError.Wide
+            → IsPastInverse (rows_of self.now.split.now.forms.items) }
+    {
+        let work = self.work;
+        let group = self.group;
         let earlier = bodies(alloc, polys)?;
-        let rests = rests(alloc, work.images, group)?;
-        let matrix = class_matrix(alloc, work.images, group)?;
-        let back = inverse(alloc, &split.forms)?;
+        let rests = work.map.rests(alloc, group)?;
+        let matrix = work.map.class_matrix(alloc, group)?;
+        let forms = FormMatrix {
+            forms: self.split.forms.as_slice(),
+        };
+        let back = forms.inverse(alloc)?;
         let ahead = picked(alloc, work.last_state(), group)?;
         Ok(ClassSetting {
             earlier,
@@ -81,86 +95,6 @@ impl ClassSetting {
             ahead,
         })
     }
-}
-
-/// A class of which the closed forms are made, one after another.
-#[derive(Drop)]
-pub(crate) struct ClassInWork<'a> {
-    pub(crate) base: &'a Vec<Whole>,
-    /// Its variables.
-    pub(crate) group: &'a [usize],
-    pub(crate) split: &'a Split,
-    pub(crate) setting: ClassSetting,
-}
-
-impl ClassInWork<'_> {
-    /// The polynomials of its forms, one after another.
-    fn closed_forms(&self, alloc: Global) -> Result<Vec<Poly<Frac, Grevlex>>, ArithmeticError>
-        requires { IsClassInWork self.now }
-        ensures count { IfOk result
-            (λ out. length out.items ≡ length self.now.split.now.forms.items) }
-        ensures arities { IfOk result
-            (λ out. All (λ p. p.arity ≡ over_class self.now) out.items) }
-        ensures forms { IfOk result (λ out. AreClosedIn self.now (terms_each out.items)) }
-        ensures wide { IsErrOf result ArithmeticError.Wide → IsPastIn self.now }
-    {
-        let mut done = Vec::new(alloc);
-        for place in 0..self.split.forms.len() {
-            let form = FormInWork {
-                class: self,
-                form: self.split.forms[place].as_slice(),
-                value: &self.split.values[place],
-            };
-            let next = form.closed_form(alloc, &done)?;
-            done.push(next)?;
-        }
-        Ok(done)
-    }
-}
-
-/// The polynomial of each variable of a class.
-pub(crate) fn closed_class(
-    alloc: Global,
-    work: &MapInWork<'_>,
-    group: &[usize],
-    split: &Split,
-    polys: &[Expo],
-) -> Result<Vec<Expo>, ArithmeticError>
-    requires work { IsInWork work.now }
-    requires class { IsClass (images_in work.now) group.now }
-    requires split { IsSplitOf (images_in work.now) group.now split.now }
-    requires made { Each (λ c. c ≢ ℚ.zero → IsMade (sizes work.now.base.items) c)
-        (fractions_of split.now.values.items) }
-    requires over { AreOver (sizes work.now.base.items) (length work.now.images.now.items)
-        polys.now }
-    requires ready { IsReady (sizes work.now.base.items) (images_in work.now) work.now.iterations
-        (zeros_of split.now) group.now (bodies_of polys.now) }
-    ensures count { IfOk result (λ news. length news.items ≡ length group.now) }
-    ensures over { IfOk result (λ news.
-        AreOver (sizes work.now.base.items) (length work.now.images.now.items) news.items) }
-    ensures variables { let b = sizes work.now.base.items in let k = zeros_of split.now in
-        let images = images_in work.now in let z = work.now.iterations in
-        IfOk result (λ news. (r : IsReady b images z k group.now (bodies_of polys.now))
-        → AreVariablesOf b images (r.since + k) group.now (bodies_of news.items)) }
-    ensures wide { IsErrOf result ArithmeticError.Wide
-        → IsPastClassOf (sizes work.now.base.items) (images_in work.now) work.now.iterations
-        group.now split.now (bodies_of polys.now) }
-{
-    let setting = ClassSetting::new(alloc, work, group, split, polys)?;
-    let class = ClassInWork {
-        base: &work.base,
-        group,
-        split,
-        setting,
-    };
-    let forms = class.closed_forms(alloc)?;
-    variables(
-        alloc,
-        &work.base,
-        work.images.len(),
-        &class.setting.back,
-        &forms,
-    )
 }
 
 /// The polynomials of some variables.
@@ -191,33 +125,6 @@ fn bodies(alloc: Global, polys: &[Expo]) -> Result<Vec<Poly<Frac, Grevlex>>, All
     let mut out = Vec::new(alloc);
     for poly in polys {
         out.push(poly.body().copy(alloc)?)?;
-    }
-    Ok(out)
-}
-
-/// The polynomials of the variables: by the rows of the inverse from those of the forms.
-fn variables(
-    alloc: Global,
-    base: &Vec<Whole>,
-    vars: usize,
-    back: &[Vec<Frac>],
-    forms: &[Poly<Frac, Grevlex>],
-) -> Result<Vec<Expo>, ArithmeticError>
-    requires base { IsCoprimeBase (sizes base.now.items) }
-    requires few { width (length (sizes base.now.items)) vars ≤ most_variables }
-    requires forms { All (λ p. p.arity ≡ width (length (sizes base.now.items)) vars) forms.now }
-    ensures count { IfOk result (λ out. length out.items ≡ length back.now) }
-    ensures over { IfOk result (λ out. AreOver (sizes base.now.items) vars out.items) }
-    ensures variables { IfOk result (λ out. bodies_of out.items
-        ≡ map (λ row. variable_in (sizes base.now.items) row (terms_each forms.now))
-        (rows_of back.now)) }
-    ensures wide { IsErrOf result ArithmeticError.Wide
-        → IsPastRowOf (rows_of back.now) (terms_each forms.now) }
-{
-    let mut out = Vec::new(alloc);
-    for row in back {
-        let sum = weighted_sum(alloc, row, forms, width(base.len(), vars))?;
-        out.push(Expo::normal(alloc, base, &sum)?)?;
     }
     Ok(out)
 }

@@ -1,14 +1,11 @@
 //! The closed form of one linear form of a class's variables, by its value after some iterations.
-ghost use Rattle.std.specs.Prelude.{◌≡◌, ◌≢◌, ◌≤◌, ◌++◌, All, length, IfOk, OnOk, IsErrOf};
-ghost use Rattle.algebra.specs.Fraction.{ℚ};
+ghost use Rattle.std.specs.Prelude.{◌≡◌, ◌++◌, All, length, IfOk, OnOk, IsErrOf};
 ghost use Rattle.frac128.specs.FracMeaning.{fraction_of};
 ghost use Rattle.poly.specs.Seen.{terms_in};
 ghost use Rattle.poly.specs.View.{terms_of};
-ghost use Rattle.coprime_base.specs.Sizes.{sizes};
-ghost use Rattle.monos.specs.Variables.{most_variables};
 ghost use Rattle.expo.specs.Powers.{key_of_power};
 ghost use Rattle.closed_forms.specs.Later.{with_powers, IsSumOf, IsStart, IsJoined, IsLaterForm, IsPastSum, IsPastStart, IsPastJoined, IsPastLater};
-ghost use Rattle.closed_forms.specs.Recurrences.{base_by, value_by, inhomogeneity_in};
+ghost use Rattle.closed_forms.specs.Recurrences.{base_by, value_by, number_by, inhomogeneity_in};
 ghost use Rattle.closed_forms.specs.Values.{IsExpoOver};
 
 use crate::recurrence::Recurrence;
@@ -21,29 +18,51 @@ use ring_laws::{ArithmeticError, Ring};
 use std::alloc::{AllocError, Global};
 
 impl Recurrence<'_, '_> {
-    /// The polynomial y that solves it and is `there` after this number of iterations, where λ is the value, which isn't zero.
+    /// The polynomial y that solves it and is `there` after this number of iterations.
     /// It is λ^n c plus the sum of what solves the recurrences of the inhomogeneity's terms from zero on, where c is λ^(-iterations) times the difference of `there` and that sum after these iterations.
     pub(crate) fn solve_later(
         &self,
         alloc: Global,
-        value: &Frac,
         iterations: u32,
         there: Poly<Frac, Grevlex>,
     ) -> Result<Expo, ArithmeticError>
-        requires nonzero { fraction_of value.now ≢ ℚ.zero }
-        requires own { value_by self.now ≡ fraction_of value.now }
-        requires arity { there.arity ≡ self.now.vars }
+        requires { there.arity ≡ self.now.vars }
         ensures over { IfOk result (IsExpoOver (base_by self.now) self.now.vars) }
         ensures later { IfOk result (λ y. IsLaterForm (base_by self.now) self.now.vars
-            (fraction_of value.now) iterations (terms_in there) (inhomogeneity_in self.now)
+            (number_by self.now) iterations (terms_in there) (inhomogeneity_in self.now)
             (terms_in y.body)) }
         ensures wide { IsErrOf result ArithmeticError.Wide → IsPastLater (base_by self.now)
-            self.now.vars (fraction_of value.now) iterations (terms_in there)
+            self.now.vars (number_by self.now) iterations (terms_in there)
             (inhomogeneity_in self.now) }
     {
         let sum = self.solutions(alloc)?;
-        let start = start_of(alloc, value, iterations, there, &sum)?;
+        let start = self.start(alloc, iterations, there, &sum)?;
         self.joined(alloc, &start, &sum)
+    }
+
+    /// The difference of `there` and what the sum is after this number of iterations, times λ to the power of minus that number.
+    fn start(
+        &self,
+        alloc: Global,
+        iterations: u32,
+        there: Poly<Frac, Grevlex>,
+        sum: &Expo,
+    ) -> Result<Poly<Frac, Grevlex>, ArithmeticError>
+        requires arity { there.arity ≡ self.now.vars }
+        requires sum { IsExpoOver (base_by self.now) self.now.vars sum.now }
+        ensures arity { IfOk result (λ p. p.arity ≡ self.now.vars) }
+        ensures start { IfOk result (λ p. IsStart (base_by self.now) self.now.vars
+            (number_by self.now) iterations (terms_in there) (terms_in sum.now.body) (terms_in p)) }
+        ensures wide { IsErrOf result ArithmeticError.Wide → IsPastStart (base_by self.now)
+            self.now.vars (number_by self.now) iterations (terms_in there)
+            (terms_in sum.now.body) }
+    {
+        let factor = power(&self.value.reciprocal(), iterations)?;
+        let opposite = factor.neg();
+        let at = sum.at_iteration(alloc, iterations)?;
+        let numbers = vec![in alloc; factor, opposite]?;
+        let polys = vec![in alloc; there, at]?;
+        weighted_sum(alloc, &numbers, &polys, self.vars)
     }
 
     /// The sum of what solves the recurrences of the inhomogeneity's terms, each from zero on.
@@ -102,30 +121,4 @@ impl Recurrence<'_, '_> {
         }
         Ok(())
     }
-}
-
-/// The difference of `there` and what the sum is after this number of iterations, times the value to the power of minus that number.
-fn start_of(
-    alloc: Global,
-    value: &Frac,
-    iterations: u32,
-    there: Poly<Frac, Grevlex>,
-    sum: &Expo,
-) -> Result<Poly<Frac, Grevlex>, ArithmeticError>
-    requires nonzero { fraction_of value.now ≢ ℚ.zero }
-    requires arity { there.arity ≡ sum.now.vars }
-    requires few { there.arity ≤ most_variables }
-    ensures arity { IfOk result (λ p. p.arity ≡ there.arity) }
-    ensures start { IfOk result (λ p. IsStart (sizes sum.now.base.items) there.arity
-        (fraction_of value.now) iterations (terms_in there) (terms_in sum.now.body) (terms_in p)) }
-    ensures wide { IsErrOf result ArithmeticError.Wide → IsPastStart (sizes sum.now.base.items)
-        there.arity (fraction_of value.now) iterations (terms_in there) (terms_in sum.now.body) }
-{
-    let arity = there.arity();
-    let factor = power(&value.reciprocal(), iterations)?;
-    let opposite = factor.neg();
-    let at = sum.at_iteration(alloc, iterations)?;
-    let numbers = vec![in alloc; factor, opposite]?;
-    let polys = vec![in alloc; there, at]?;
-    weighted_sum(alloc, &numbers, &polys, arity)
 }

@@ -10,7 +10,9 @@ ghost use Rattle.poly.specs.Seen.{terms_in, terms_each};
 ghost use Rattle.poly.specs.View.{terms_of};
 ghost use Rattle.solvable_maps.specs.Classes.{class_matrix as matrix_of};
 ghost use Rattle.solvable_maps.specs.AfterIterations.{rest_of as without};
+ghost use Rattle.closed_forms.specs.SquareMap.{polys_by, size_by};
 
+use crate::square_map::SquareMap;
 use crate::sums::rest_of;
 use frac128::Frac;
 use monos::{Grevlex, Mono};
@@ -18,22 +20,40 @@ use poly::{Poly, Term};
 use ring_laws::Ring;
 use std::alloc::{AllocError, Global};
 
-/// The linear part of the polynomials of a class in its own variables, row by row.
-pub(crate) fn class_matrix(
-    alloc: Global,
-    images: &Vec<Poly<Frac, Grevlex>>,
-    group: &[usize],
-) -> Result<Vec<Vec<Frac>>, AllocError>
-    requires square { All (λ p. p.arity ≡ length images.now.items) images.now.items }
-    requires inside { All (λ i. i < length images.now.items) group.now }
-    ensures { IfOk result (λ m. rows_of m.items
-        ≡ matrix_of (terms_each images.now.items) group.now) }
-{
-    let mut matrix = Vec::new(alloc);
-    for variable in group {
-        matrix.push(linear_part(alloc, &images[*variable], group)?)?;
+impl SquareMap<'_> {
+    /// The linear part of the polynomials of a class in its own variables, row by row.
+    pub(crate) fn class_matrix(
+        &self,
+        alloc: Global,
+        group: &[usize],
+    ) -> Result<Vec<Vec<Frac>>, AllocError>
+        requires { All (λ i. i < size_by self.now) group.now }
+        ensures { IfOk result (λ m. rows_of m.items ≡ matrix_of (polys_by self.now) group.now) }
+    {
+        let mut matrix = Vec::new(alloc);
+        for variable in group {
+            matrix.push(linear_part(alloc, &self.images[*variable], group)?)?;
+        }
+        Ok(matrix)
     }
-    Ok(matrix)
+
+    /// What the polynomials of a class have without variables of the class.
+    pub(crate) fn rests(
+        &self,
+        alloc: Global,
+        group: &[usize],
+    ) -> Result<Vec<Poly<Frac, Grevlex>>, AllocError>
+        requires { All (λ i. i < size_by self.now) group.now }
+        ensures arities { IfOk result (λ out. All (λ p. p.arity ≡ size_by self.now) out.items) }
+        ensures terms { IfOk result (λ out. terms_each out.items
+            ≡ map (λ i. without group.now (poly_at (polys_by self.now) i)) group.now) }
+    {
+        let mut out = Vec::new(alloc);
+        for variable in group {
+            out.push(rest_of(alloc, &self.images[*variable], group)?)?;
+        }
+        Ok(out)
+    }
 }
 
 /// The numbers of some variables, each alone, in a polynomial.
@@ -80,24 +100,4 @@ fn is_alone(mono: &Mono, variable: usize) -> bool
         return false;
     }
     true
-}
-
-/// What the polynomials of a class have without variables of the class.
-pub(crate) fn rests(
-    alloc: Global,
-    images: &Vec<Poly<Frac, Grevlex>>,
-    group: &[usize],
-) -> Result<Vec<Poly<Frac, Grevlex>>, AllocError>
-    requires square { All (λ p. p.arity ≡ length images.now.items) images.now.items }
-    requires inside { All (λ i. i < length images.now.items) group.now }
-    ensures arities { IfOk result
-        (λ out. All (λ p. p.arity ≡ length images.now.items) out.items) }
-    ensures terms { IfOk result (λ out. terms_each out.items
-        ≡ map (λ i. without group.now (poly_at (terms_each images.now.items) i)) group.now) }
-{
-    let mut out = Vec::new(alloc);
-    for variable in group {
-        out.push(rest_of(alloc, &images[*variable], group)?)?;
-    }
-    Ok(out)
 }

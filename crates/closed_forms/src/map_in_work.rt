@@ -7,21 +7,21 @@ ghost use Rattle.solvable_maps.specs.Iterations.{width};
 ghost use Rattle.monos.specs.Variables.{most_variables};
 ghost use Rattle.expo.specs.Bases.{IsCoprimeBase};
 ghost use Rattle.closed_forms.specs.Lengths.{IsShort};
-ghost use Rattle.closed_forms.specs.Limits.{most_images};
 ghost use Rattle.closed_forms.specs.MapInWork.{images_in, IsInWork, AreFormsBut};
 ghost use Rattle.closed_forms.specs.Put.{IsPutTo};
 ghost use Rattle.closed_forms.specs.Refusal.{IfWide, IfRefusedBy, IfLater};
 ghost use Rattle.closed_forms.specs.Splits.{groups_in};
+ghost use Rattle.closed_forms.specs.SquareMap.{polys_by, size_by};
 ghost use Rattle.closed_forms.specs.States.{after};
 ghost use Rattle.closed_forms.specs.Values.{AreOver};
 ghost use Rattle.closed_forms.specs.View.{IsFormOf};
 
 use crate::base::base_of;
-use crate::begins::{least, passing};
-use crate::class::closed_class;
+use crate::begins::Comparison;
+use crate::class::SplitClass;
 use crate::lengths::long_class;
-use crate::splits::splits_of;
-use crate::states::{states, zeros_of};
+use crate::square_map::SquareMap;
+use crate::states::zeros_of;
 use crate::{Form, FormsError};
 use eigen_split::Split;
 use expo::Expo;
@@ -35,7 +35,7 @@ use std::alloc::{AllocError, Global};
 /// A map of which the closed form is made: its polynomials, one for each variable, and what was made of them so far.
 #[derive(Drop)]
 pub(crate) struct MapInWork<'a> {
-    pub(crate) images: &'a Vec<Poly<Frac, Grevlex>>,
+    pub(crate) map: SquareMap<'a>,
     /// The classes, in their order.
     pub(crate) classes: Vec<Vec<usize>>,
     /// For each variable, the splitting of the class that begins with it, where one does.
@@ -51,37 +51,32 @@ pub(crate) struct MapInWork<'a> {
 impl<'a> MapInWork<'a> {
     /// What is made of a map before the closed forms of its classes. `NotSolvable` comes first; then the refusal of the first class that is refused; then `LimitForm` of the first one that is too long;
     /// then `WideForm` with the first variable, only where the branch is past after some of as many iterations as values are zero.
-    pub(crate) fn new(
-        alloc: Global,
-        images: &'a Vec<Poly<Frac, Grevlex>>,
-    ) -> Result<MapInWork<'a>, FormsError>
-        requires few { length images.now.items ≤ most_images }
-        requires square { All (λ p. p.arity ≡ length images.now.items) images.now.items }
-        ensures images { IfOk result (λ work. work.images.now ≡ images.now) }
+    pub(crate) fn new(alloc: Global, map: SquareMap<'a>) -> Result<MapInWork<'a>, FormsError>
+        ensures images { IfOk result (λ work. work.map.images.now ≡ map.entry.images.now) }
         ensures work { IfOk result IsInWork }
-        ensures lengths { IsOk result → IsShort (terms_each images.now.items) }
-        ensures refused { IfErr result (IfRefusedBy (terms_each images.now.items)) }
+        ensures lengths { IsOk result → IsShort (polys_by map.entry) }
+        ensures refused { IfErr result (IfRefusedBy (polys_by map.entry)) }
     {
-        let classes = match classes(alloc, images) {
+        let classes = match classes(alloc, map.images) {
             Ok(found) => found.groups,
             Err(SolvableError::NotSolvable { cycle }) => {
                 return Err(FormsError::NotSolvable { cycle });
             }
             Err(SolvableError::Memory) => return Err(FormsError::Memory),
         };
-        let splits = splits_of(alloc, images, &classes)?;
-        if let Some(variable) = long_class(alloc, images, &classes)? {
+        let splits = map.splits_of(alloc, &classes)?;
+        if let Some(variable) = long_class(alloc, map.images, &classes)? {
             return Err(FormsError::LimitForm { variable });
         }
         let base = base_of(alloc, &splits)?;
         let iterations = zeros_of(&splits);
-        let states = match states(alloc, images, iterations) {
+        let states = match map.states(alloc, iterations) {
             Ok(states) => states,
             Err(ArithmeticError::Wide) => return Err(FormsError::WideForm { variable: 0 }),
             Err(ArithmeticError::Memory) => return Err(FormsError::Memory),
         };
         Ok(MapInWork {
-            images,
+            map,
             classes,
             splits,
             base,
@@ -96,10 +91,15 @@ impl<'a> MapInWork<'a> {
         ensures form { IfOk result (IsFormOf (images_in self.entry)) }
         ensures refused { IfErr result (IfLater (images_in self.entry)) }
     {
-        let mut polys = zeros(alloc, &self.base, self.images.len())?;
+        let mut polys = zeros(alloc, &self.base, self.map.images.len())?;
         self.fill(alloc, &self.classes, &mut polys)?;
-        let since = least(alloc, &self.classes, &polys, &self.states, self.iterations)?;
-        let passing = passing(alloc, &self.classes, &polys, &self.states[0], since)?;
+        let comparison = Comparison {
+            groups: &self.classes,
+            polys: &polys,
+            states: &self.states,
+        };
+        let since = comparison.least(alloc, self.iterations)?;
+        let passing = comparison.passing(alloc, since)?;
         Ok(Form {
             base: self.base,
             polys,
@@ -129,7 +129,12 @@ impl<'a> MapInWork<'a> {
         let Some(split) = &self.splits[first] else {
             unreachable!()
         };
-        match closed_class(alloc, self, class, split, polys.as_slice()) {
+        let known = SplitClass {
+            work: self,
+            group: class,
+            split,
+        };
+        match known.closed_class(alloc, polys) {
             Ok(news) => {
                 put(polys, class, news);
                 self.fill(alloc, classes, polys)
@@ -143,7 +148,7 @@ impl<'a> MapInWork<'a> {
     pub(crate) fn last_state(&self) -> &[Poly<Frac, Grevlex>]
         requires work { IsInWork self.now }
         ensures terms { terms_each result.now ≡ after (images_in self.now) self.now.iterations }
-        ensures arities { All (λ p. p.arity ≡ length self.now.images.now.items) result.now }
+        ensures arities { All (λ p. p.arity ≡ size_by self.now.map) result.now }
     {
         self.states[self.iterations as usize].as_slice()
     }

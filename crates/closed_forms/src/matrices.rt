@@ -13,17 +13,48 @@ use linear::{LinearError, Rref};
 use ring_laws::{ArithmeticError, Ring};
 use std::alloc::{AllocError, Global};
 
-/// What stands behind the identity in the echelon list of the forms, which are at most 12 and as wide as many: the inverse of their matrix, where they are independent.
-/// `Wide` only where adding a form, with its row of the identity, is past.
-pub(crate) fn inverse(alloc: Global, forms: &[Vec<Frac>]) -> Result<Vec<Vec<Frac>>, ArithmeticError>
-    requires few { length forms.now ≤ most_rows }
-    requires square { All (λ form. length form.items ≡ length forms.now) forms.now }
-    ensures inverse { IfOk result (λ back. IsBehind (rows_of forms.now) (rows_of back.items)) }
-    ensures wide { IsErrOf result ArithmeticError.Wide → IsPastInverse (rows_of forms.now) }
-{
-    let echelon = echelon_beside(alloc, forms)?;
-    let halves = halves(alloc, echelon.rows().as_slice(), forms.len())?;
-    Ok(halves)
+/// A matrix of forms, which are at most 12 and as wide as many.
+#[derive(Clone, Copy)]
+pub(crate) struct FormMatrix<'a> {
+    pub(crate) forms: &'a [Vec<Frac>],
+    ghost few: { length forms.now ≤ most_rows },
+    ghost square: { All (λ form. length form.items ≡ length forms.now) forms.now },
+}
+
+impl FormMatrix<'_> {
+    /// What stands behind the identity in the echelon list of the forms: the inverse of the matrix, where they are independent.
+    /// `Wide` only where adding a form, with its row of the identity, is past.
+    pub(crate) fn inverse(&self, alloc: Global) -> Result<Vec<Vec<Frac>>, ArithmeticError>
+        ensures inverse { IfOk result
+            (λ back. IsBehind (rows_of self.now.forms.now) (rows_of back.items)) }
+        ensures wide { IsErrOf result ArithmeticError.Wide
+            → IsPastInverse (rows_of self.now.forms.now) }
+    {
+        let echelon = self.echelon_beside(alloc)?;
+        let halves = halves(alloc, echelon.rows().as_slice(), self.forms.len())?;
+        Ok(halves)
+    }
+
+    /// The echelon list of the forms, each with a row of the identity behind it.
+    fn echelon_beside(&self, alloc: Global) -> Result<Rref, ArithmeticError>
+        ensures echelon { let n = length self.now.forms.now in IfOk result (λ e. IsEchelonOf (n + n)
+            (all_beside n 0 (rows_of self.now.forms.now)) e.rows) }
+        ensures wide { IsErrOf result ArithmeticError.Wide
+            → IsPastInverse (rows_of self.now.forms.now) }
+    {
+        let forms = self.forms;
+        let size = forms.len();
+        let mut echelon = Rref::new(alloc, 2 * size);
+        for place in 0..size {
+            let row = beside(alloc, forms[place].as_slice(), size, place)?;
+            match echelon.add_row(&row) {
+                Ok(_) => {}
+                Err(LinearError::Wide { .. }) => return Err(ArithmeticError::Wide),
+                Err(LinearError::Memory) => return Err(ArithmeticError::Memory),
+            }
+        }
+        Ok(echelon)
+    }
 }
 
 /// The second halves of rows.
@@ -37,27 +68,6 @@ fn halves(alloc: Global, rows: &[Vec<Frac>], size: usize) -> Result<Vec<Vec<Frac
         back.push(half.to_vec(alloc)?)?;
     }
     Ok(back)
-}
-
-/// The echelon list of the forms, each with a row of the identity behind it.
-fn echelon_beside(alloc: Global, forms: &[Vec<Frac>]) -> Result<Rref, ArithmeticError>
-    requires few { length forms.now ≤ most_rows }
-    requires square { All (λ form. length form.items ≡ length forms.now) forms.now }
-    ensures echelon { IfOk result (λ e. IsEchelonOf (length forms.now + length forms.now)
-        (all_beside (length forms.now) 0 (rows_of forms.now)) e.rows) }
-    ensures wide { IsErrOf result ArithmeticError.Wide → IsPastInverse (rows_of forms.now) }
-{
-    let size = forms.len();
-    let mut echelon = Rref::new(alloc, 2 * size);
-    for place in 0..size {
-        let row = beside(alloc, forms[place].as_slice(), size, place)?;
-        match echelon.add_row(&row) {
-            Ok(_) => {}
-            Err(LinearError::Wide { .. }) => return Err(ArithmeticError::Wide),
-            Err(LinearError::Memory) => return Err(ArithmeticError::Memory),
-        }
-    }
-    Ok(echelon)
 }
 
 /// A form with a row of the identity behind it.

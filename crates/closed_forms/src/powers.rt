@@ -8,11 +8,12 @@ ghost use Rattle.frac128.specs.FracMeaning.{fraction_of};
 ghost use Rattle.coprime_base.specs.Sizes.{sizes};
 ghost use Rattle.solvable_maps.specs.Expo.{with_key, differences};
 ghost use Rattle.solvable_maps.specs.Iterations.{width};
-ghost use Rattle.expo.specs.Bases.{IsCoprimeBase};
 ghost use Rattle.expo.specs.Powers.{key_of_power, side_of};
+ghost use Rattle.closed_forms.specs.FormInWork.{base_for, value_for};
 ghost use Rattle.closed_forms.specs.Limits.{IsLow, AreLow};
-ghost use Rattle.closed_forms.specs.Solved.{IsMade, IsPower};
+ghost use Rattle.closed_forms.specs.Solved.{IsPower};
 
+use crate::form_in_work::FormInWork;
 use crate::recurrence::Recurrence;
 use coprime_base::{BaseError, exponents};
 use expo::Power;
@@ -21,27 +22,23 @@ use monos::Mono;
 use ring_laws::Ring;
 use std::alloc::{AllocError, AllocFailed, Global};
 
-/// A value as a signed product of powers of the base.
-pub(crate) fn power_over(
-    alloc: Global,
-    base: &Vec<Whole>,
-    value: &Frac,
-) -> Result<Power, AllocError>
-    requires base { IsCoprimeBase (sizes base.now.items) }
-    requires nonzero { fraction_of value.now ≢ ℚ.zero }
-    requires made { IsMade (sizes base.now.items) (fraction_of value.now) }
-    ensures power { let b = sizes base.now.items in let l = fraction_of value.now in
-        IfOk result (λ p. IsPower b p.negative p.exponents.items l) }
-    ensures small { IfOk result (λ p. AreLow p.exponents.items) }
-{
-    let (negative, size) = sign_and_size(value);
-    match exponents(alloc, base, &size) {
-        Ok(exponents) => Ok(Power {
-            negative,
-            exponents,
-        }),
-        Err(BaseError::NotInBase) => unreachable!(),
-        Err(BaseError::Memory) => Err(AllocError),
+impl FormInWork<'_, '_> {
+    /// Its value, which isn't zero, as a signed product of powers of the base.
+    pub(crate) fn value_as_power(&self, alloc: Global) -> Result<Power, AllocError>
+        requires { value_for self.now ≢ ℚ.zero }
+        ensures power { IfOk result
+            (λ p. IsPower (base_for self.now) p.negative p.exponents.items (value_for self.now)) }
+        ensures small { IfOk result (λ p. AreLow p.exponents.items) }
+    {
+        let (negative, size) = sign_and_size(self.value);
+        match exponents(alloc, self.class.base, &size) {
+            Ok(exponents) => Ok(Power {
+                negative,
+                exponents,
+            }),
+            Err(BaseError::NotInBase) => unreachable!(),
+            Err(BaseError::Memory) => Err(AllocError),
+        }
     }
 }
 

@@ -1,5 +1,6 @@
 //! Recurrences of polynomials that are exponential in n.
-ghost use Rattle.std.specs.Prelude.{◌≡◌, ◌≤◌, All, length, IfOk};
+ghost use Rattle.std.specs.Prelude.{◌≡◌, ◌≢◌, ◌≤◌, All, length, IfOk};
+ghost use Rattle.algebra.specs.Fraction.{ℚ};
 ghost use Rattle.frac128.specs.FracMeaning.{fraction_of};
 ghost use Rattle.poly.specs.Seen.{terms_in};
 ghost use Rattle.poly.specs.View.{term_of, terms_of};
@@ -8,7 +9,7 @@ ghost use Rattle.solvable_maps.specs.Iterations.{width};
 ghost use Rattle.monos.specs.Variables.{most_variables};
 ghost use Rattle.expo.specs.Bases.{IsCoprimeBase, IsOwnNormal, coprime_base_prop, own_normal_prop};
 ghost use Rattle.closed_forms.specs.Limits.{AreLow};
-ghost use Rattle.closed_forms.specs.Solved.{steady as steady_of};
+ghost use Rattle.closed_forms.specs.Solved.{steady as steady_of, IsPower, power_prop};
 
 use crate::powers::power_of;
 use crate::sums::push_copies;
@@ -24,13 +25,17 @@ use std::alloc::{AllocError, Global};
 pub(crate) struct Recurrence<'b, 'q> {
     pub(crate) base: &'b Vec<Whole>,
     pub(crate) vars: usize,
-    /// The number λ, as a product of powers of the base.
+    /// The number λ, which isn't zero.
+    pub(crate) value: &'q Frac,
+    /// The same, as a product of powers of the base.
     pub(crate) own: Power,
     /// The terms of q, which are normal.
     pub(crate) inhomogeneity: &'q [Term<Frac>],
     ghost coprime: { IsCoprimeBase (sizes base.now.items) } by { coprime_base_prop _ },
     ghost few: { width (length (sizes base.now.items)) vars ≤ most_variables },
-    ghost count: { length own.exponents.items ≡ length base.now.items },
+    ghost nonzero: { fraction_of value.now ≢ ℚ.zero },
+    ghost power: { IsPower (sizes base.now.items) own.negative own.exponents.items
+        (fraction_of value.now) } by { power_prop _ _ _ _ },
     ghost small: { AreLow own.exponents.items },
     ghost arities: { All (λ t. length t.mono ≡ width (length (sizes base.now.items)) vars)
         inhomogeneity.now },

@@ -1,13 +1,15 @@
 //! The branch after a number of iterations, as polynomials of the variables before.
-ghost use Rattle.std.specs.Prelude.{◌≡◌, ◌≤◌, ◌<◌, All, length, map, IfOk, IsErrOf};
+ghost use Rattle.std.specs.Prelude.{◌≡◌, ◌≤◌, All, length, map, IfOk, IsErrOf};
 ghost use Rattle.algebra.specs.Fraction.{ℚ};
 ghost use Rattle.polynomials.specs.Terms.{variables as variables_of};
 ghost use Rattle.poly.specs.Seen.{terms_each};
 ghost use Rattle.linear.specs.Rows.{fractions_of};
 ghost use Rattle.closed_forms.specs.Limits.{most_images};
+ghost use Rattle.closed_forms.specs.SquareMap.{polys_by, size_by};
 ghost use Rattle.closed_forms.specs.States.{zeros_in, next_of, states_to, IsPastNextState, IsPastState};
 ghost use Rattle.closed_forms.specs.Values.{values_in};
 
+use crate::square_map::SquareMap;
 use eigen_split::Split;
 use frac128::Frac;
 use monos::Grevlex;
@@ -44,29 +46,49 @@ fn zeros_among(values: &[Frac]) -> u32
     }
 }
 
-/// The variables, and the branch after each number of iterations from one to this one. `Wide` only where the weight of a composition is past.
-pub(crate) fn states(
-    alloc: Global,
-    images: &Vec<Poly<Frac, Grevlex>>,
-    iterations: u32,
-) -> Result<Vec<Vec<Poly<Frac, Grevlex>>>, ArithmeticError>
-    requires few { length images.now.items ≤ most_images }
-    requires square { All (λ p. p.arity ≡ length images.now.items) images.now.items }
-    requires some { 0 < iterations → 0 < length images.now.items }
-    ensures states { IfOk result (λ found. map (λ v. terms_each v.items) found.items
-        ≡ states_to (terms_each images.now.items) iterations) }
-    ensures arities { IfOk result
-        (λ found. All (λ v. All (λ p. p.arity ≡ length images.now.items) v.items) found.items) }
-    ensures wide { IsErrOf result ArithmeticError.Wide
-        → IsPastState (terms_each images.now.items) iterations }
-{
-    let mut found = Vec::new(alloc);
-    found.push(variables(alloc, images.len())?)?;
-    for iteration in 0..iterations {
-        let next = next_state(alloc, images, &found[iteration as usize])?;
-        found.push(next)?;
+impl SquareMap<'_> {
+    /// The variables, and the branch after each number of iterations from one to this one. `Wide` only where the weight of a composition is past.
+    pub(crate) fn states(
+        &self,
+        alloc: Global,
+        iterations: u32,
+    ) -> Result<Vec<Vec<Poly<Frac, Grevlex>>>, ArithmeticError>
+        ensures states { IfOk result (λ found. map (λ v. terms_each v.items) found.items
+            ≡ states_to (polys_by self.now) iterations) }
+        ensures arities { IfOk result
+            (λ found. All (λ v. All (λ p. p.arity ≡ size_by self.now) v.items) found.items) }
+        ensures wide { IsErrOf result ArithmeticError.Wide
+            → IsPastState (polys_by self.now) iterations }
+    {
+        let mut found = Vec::new(alloc);
+        found.push(variables(alloc, self.images.len())?)?;
+        for iteration in 0..iterations {
+            let next = self.next_state(alloc, &found[iteration as usize])?;
+            found.push(next)?;
+        }
+        Ok(found)
     }
-    Ok(found)
+
+    /// The branch one iteration after a state.
+    fn next_state(
+        &self,
+        alloc: Global,
+        state: &Vec<Poly<Frac, Grevlex>>,
+    ) -> Result<Vec<Poly<Frac, Grevlex>>, ArithmeticError>
+        requires count { length state.now.items ≡ size_by self.now }
+        requires arities { All (λ p. p.arity ≡ size_by self.now) state.now.items }
+        ensures terms { IfOk result (λ out. terms_each out.items
+            ≡ next_of (size_by self.now) (polys_by self.now) (terms_each state.now.items)) }
+        ensures arities { IfOk result (λ out. All (λ p. p.arity ≡ size_by self.now) out.items) }
+        ensures wide { IsErrOf result ArithmeticError.Wide
+            → IsPastNextState (polys_by self.now) (terms_each state.now.items) }
+    {
+        let mut out = Vec::new(alloc);
+        for image in self.images {
+            out.push(image.compose(alloc, state)?)?;
+        }
+        Ok(out)
+    }
 }
 
 /// The variables.
@@ -78,29 +100,6 @@ fn variables(alloc: Global, count: usize) -> Result<Vec<Poly<Frac, Grevlex>>, Al
     let mut out = Vec::new(alloc);
     for variable in 0..count {
         out.push(Poly::variable(alloc, Grevlex, count, variable)?)?;
-    }
-    Ok(out)
-}
-
-/// The branch one iteration after a state.
-fn next_state(
-    alloc: Global,
-    images: &[Poly<Frac, Grevlex>],
-    state: &Vec<Poly<Frac, Grevlex>>,
-) -> Result<Vec<Poly<Frac, Grevlex>>, ArithmeticError>
-    requires square { All (λ p. p.arity ≡ length state.now.items) images.now }
-    requires arities { All (λ p. p.arity ≡ length state.now.items) state.now.items }
-    requires some { 0 < length state.now.items }
-    ensures terms { IfOk result (λ out. terms_each out.items
-        ≡ next_of (length state.now.items) (terms_each images.now) (terms_each state.now.items)) }
-    ensures arities { IfOk result
-        (λ out. All (λ p. p.arity ≡ length state.now.items) out.items) }
-    ensures wide { IsErrOf result ArithmeticError.Wide
-        → IsPastNextState (terms_each images.now) (terms_each state.now.items) }
-{
-    let mut out = Vec::new(alloc);
-    for image in images {
-        out.push(image.compose(alloc, state)?)?;
     }
     Ok(out)
 }

@@ -1,63 +1,69 @@
-use Rattle.std.proofs.Common.{Vec, Global, subst}
+use Rattle.std.proofs.Common.{◌≤◌, length, Vec, Global, subst, ◌∙◌}
 use Rattle.std.proofs.lemmas.Result.{IfOk-weaker, IfErr-weaker}
 use Rattle.std.specs.Result.{IfOk, IfErr}
 use Rattle.poly.specs.Seen.{terms_each}
-use Rattle.solvable.proofs.Using.{FracPoly}
+use Rattle.solvable.proofs.Using.{FracPoly, length_each}
+use Rattle.solvable_maps.specs.Iterations.{width}
 use Rattle.closed_forms.specs.MapInWork.{images_in}
 use Rattle.solvable.specs.Refusal.{IsSolvable}
 use Rattle.closed_forms.specs.Refusal.{AllPass, IfRefusedBy}
-use Rattle.closed_forms.specs.View.{IsFormOf}
-use Rattle.closed_forms.proofs.Ending.{all_pass, refused_later, normal_in, over_in, count_in, told_in, passes_in, few_in}
+use Rattle.closed_forms.specs.Values.{AreOver}
+use Rattle.closed_forms.specs.View.{base_in, polys_in, AreNormal, ArePassing, IsFormOf}
+use Rattle.closed_forms.specs.declared.Form.{Form}
+use Rattle.closed_forms.proofs.Ending.{all_pass, refused_later}
 use Rattle.closed_forms.proofs.forms.Goals as goal
 use Rattle.closed_forms.proofs.forms.Goals.{After-form}
 
-told : (c : After-form) → IfOk c.form.result (IsFormOf (terms_each c.args.images.now.items))
-told c = subst (λ (v : Vec FracPoly Global). IfOk c.form.result (IsFormOf (terms_each v.items)))
-    c.in-Ok.ensures.images c.form.ensures.form
+of_form : (c : After-form) {P : Form → Type 0}
+    → ((form : Form) → IsFormOf (terms_each c.args.images.now.items) form → P form)
+    → IfOk c.form.result P
+of_form c f = IfOk-weaker c.form.result _ _ f (subst (λ (v : Vec FracPoly Global).
+    IfOk c.form.result (IsFormOf (terms_each v.items))) c.in-Ok.ensures.images c.form.ensures.form)
 
 pub returns-in-Ok-clause-base : goal.returns-in-Ok-clause-base
-returns-in-Ok-clause-base c = IfOk-weaker c.form.result _ _ (λ form h. h.base)
-    (told (goal.at.returns-in-Ok-clause-base c).After-form)
+returns-in-Ok-clause-base c = of_form (goal.at.returns-in-Ok-clause-base c).After-form
+    (λ form h. h.base)
 
 pub returns-in-Ok-clause-closed : goal.returns-in-Ok-clause-closed
-returns-in-Ok-clause-closed c = IfOk-weaker c.form.result _ _ (λ form h. h.closed)
-    (told (goal.at.returns-in-Ok-clause-closed c).After-form)
+returns-in-Ok-clause-closed c = of_form (goal.at.returns-in-Ok-clause-closed c).After-form
+    (λ form h. h.closed)
 
 pub returns-in-Ok-clause-least : goal.returns-in-Ok-clause-least
-returns-in-Ok-clause-least c = IfOk-weaker c.form.result _ _ (λ form h. h.least)
-    (told (goal.at.returns-in-Ok-clause-least c).After-form)
+returns-in-Ok-clause-least c = of_form (goal.at.returns-in-Ok-clause-least c).After-form
+    (λ form h. h.least)
 
 pub returns-in-Ok-clause-normal : goal.returns-in-Ok-clause-normal
-returns-in-Ok-clause-normal c = IfOk-weaker c.form.result _ _
-    (normal_in _) (told (goal.at.returns-in-Ok-clause-normal c).After-form)
+returns-in-Ok-clause-normal c = of_form (goal.at.returns-in-Ok-clause-normal c).After-form
+    (λ form h. subst (λ m. AreNormal (base_in form) m (polys_in form)) (length_each _) h.normal)
 
 pub returns-in-Ok-clause-over : goal.returns-in-Ok-clause-over
-returns-in-Ok-clause-over c = IfOk-weaker c.form.result _ _
-    (over_in _) (told (goal.at.returns-in-Ok-clause-over c).After-form)
+returns-in-Ok-clause-over c = of_form (goal.at.returns-in-Ok-clause-over c).After-form
+    (λ form h. subst (λ m. AreOver (base_in form) m form.polys.items) (length_each _) h.over)
 
 pub returns-in-Ok-clause-count : goal.returns-in-Ok-clause-count
-returns-in-Ok-clause-count c = IfOk-weaker c.form.result _ _
-    (count_in _) (told (goal.at.returns-in-Ok-clause-count c).After-form)
+returns-in-Ok-clause-count c = of_form (goal.at.returns-in-Ok-clause-count c).After-form
+    (λ form h. h.count ∙ length_each _)
 
 pub returns-in-Ok-clause-told : goal.returns-in-Ok-clause-told
-returns-in-Ok-clause-told c = IfOk-weaker c.form.result _ _
-    (told_in _) (told (goal.at.returns-in-Ok-clause-told c).After-form)
+returns-in-Ok-clause-told c = of_form (goal.at.returns-in-Ok-clause-told c).After-form
+    (λ form h. h.told ∙ length_each _)
 
 pub returns-in-Ok-clause-passes : goal.returns-in-Ok-clause-passes
-returns-in-Ok-clause-passes c = IfOk-weaker c.form.result _ _
-    (passes_in _) (told (goal.at.returns-in-Ok-clause-passes c).After-form)
+returns-in-Ok-clause-passes c = of_form (goal.at.returns-in-Ok-clause-passes c).After-form
+    (λ form h. subst (λ m. ArePassing (base_in form) m (polys_in form) form.passing.items)
+    (length_each _) h.passes)
 
 pub returns-in-Ok-clause-short : goal.returns-in-Ok-clause-short
-returns-in-Ok-clause-short c = IfOk-weaker c.form.result _ _ (λ form h. h.short)
-    (told (goal.at.returns-in-Ok-clause-short c).After-form)
+returns-in-Ok-clause-short c = of_form (goal.at.returns-in-Ok-clause-short c).After-form
+    (λ form h. h.short)
 
 pub returns-in-Ok-clause-early : goal.returns-in-Ok-clause-early
-returns-in-Ok-clause-early c = IfOk-weaker c.form.result _ _ (λ form h. h.early)
-    (told (goal.at.returns-in-Ok-clause-early c).After-form)
+returns-in-Ok-clause-early c = of_form (goal.at.returns-in-Ok-clause-early c).After-form
+    (λ form h. h.early)
 
 pub returns-in-Ok-clause-few : goal.returns-in-Ok-clause-few
-returns-in-Ok-clause-few c = IfOk-weaker c.form.result _ _
-    (few_in _) (told (goal.at.returns-in-Ok-clause-few c).After-form)
+returns-in-Ok-clause-few c = of_form (goal.at.returns-in-Ok-clause-few c).After-form
+    (λ form h. subst (λ m. width (length (base_in form)) m ≤ 4096) (length_each _) h.few)
 
 pub returns-in-Ok-clause-solvable : goal.returns-in-Ok-clause-solvable
 returns-in-Ok-clause-solvable c = λ ok. subst (λ (v : Vec FracPoly Global).
@@ -68,7 +74,7 @@ returns-in-Ok-clause-pass c = λ ok.
     let w = c.in-Ok.work in
     let is = c.in-Ok.ensures.work in
     subst (λ (v : Vec FracPoly Global). AllPass (terms_each v.items)) c.in-Ok.ensures.images
-    (all_pass _ is.square is.splits)
+    (all_pass _ w.map.square is.splits)
 
 pub returns-in-Ok-clause-refused : goal.returns-in-Ok-clause-refused
 returns-in-Ok-clause-refused c =
@@ -76,4 +82,4 @@ returns-in-Ok-clause-refused c =
     let is = c.in-Ok.ensures.work in
     subst (λ (v : Vec FracPoly Global). IfErr c.form.result (IfRefusedBy (terms_each v.items)))
     c.in-Ok.ensures.images (IfErr-weaker _ _ _ (refused_later (images_in w) is.solvable
-    (all_pass _ is.square is.splits)) c.form.ensures.refused)
+    (all_pass _ w.map.square is.splits)) c.form.ensures.refused)

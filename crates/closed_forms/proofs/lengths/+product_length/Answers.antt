@@ -1,7 +1,9 @@
 use Rattle.std.proofs.Common.{inl, inr, rules}
 use Rattle.expansion.proofs.Counting.{of_first, none_above, some_is}
 use Rattle.expansion.proofs.LengthLaws.{lengths_none, lengths_more, product_past}
-use Rattle.closed_forms.proofs.LengthLaws.{some_first, few_first, rest_lengths, lengths_some}
+use Rattle.closed_forms.specs.Lengths.{IsLength}
+use Rattle.closed_forms.proofs.LengthLaws.{lengths_some}
+use Rattle.closed_forms.proofs.Mixing.{head_all, tail_all}
 use Rattle.closed_forms.proofs.lengths.+product_length.Goals as goal
 
 pub returns-in_default : goal.returns-in_default
@@ -14,7 +16,7 @@ returns-in_default-2 t c =
 
 pub product_length-requires : goal.product_length-requires
 product_length-requires t c =
-    (search rules, rest_lengths _ _ _ c.in-Some-Some.ensures.cases.0 c.requires)
+    (search rules, tail_all IsLength c.in-Some-Some.ensures.cases.0 c.requires)
 
 pub returns-in_default-product_length : goal.returns-in_default-product_length
 returns-in_default-product_length t c =
@@ -23,10 +25,10 @@ returns-in_default-product_length t c =
     c.in_default-product_length.not-Some))
 
 pub products-requires-clause-some : goal.products-requires-clause-some
-products-requires-clause-some t c = some_first _ _ _ c.in-Some-Some.ensures.cases.0 c.requires
+products-requires-clause-some t c = (head_all IsLength c.in-Some-Some.ensures.cases.0 c.requires).0
 
 pub products-requires-clause-few : goal.products-requires-clause-few
-products-requires-clause-few t c = few_first _ _ _ c.in-Some-Some.ensures.cases.0 c.requires
+products-requires-clause-few t c = (head_all IsLength c.in-Some-Some.ensures.cases.0 c.requires).1
 
 pub returns-in_default-products : goal.returns-in_default-products
 returns-in_default-products t c =

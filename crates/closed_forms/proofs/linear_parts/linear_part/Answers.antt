@@ -6,10 +6,11 @@ use Rattle.polynomials.proofs.Orders.{grevlex_order}
 use Rattle.polynomials.specs.Order.{grevlex}
 use Rattle.polynomials.specs.Polynomial.{Arity, IsDistinct}
 use Rattle.polynomials.specs.Terms.{coefficient}
+use Rattle.frac128.specs.FracMeaning.{fraction_of}
 use Rattle.frac128.specs.declared.fraction.Frac.{Frac}
 use Rattle.poly.specs.Seen.{terms_in}
 use Rattle.poly.specs.declared.Term.{Term}
-use Rattle.closed_forms.proofs.Alone.{fractions_next}
+use Rattle.closed_forms.proofs.Alone.{made_next}
 use Rattle.closed_forms.proofs.Mixing.{tell, all_arity}
 use Rattle.closed_forms.proofs.linear_parts.linear_part.Goals as goal
 
@@ -30,8 +31,9 @@ number_of-requires-clause-inside c = λ k d l.
 pub loop-variable-preserved : goal.loop-variable-preserved
 loop-variable-preserved c =
     let i = c.loop-variable.variable-index in
-    fractions_next (λ j. coefficient ℚ (terms_in c.args.poly.now) (unit c.args.poly.now.arity j))
-    c.args.group.now i c.loop-variable.row.items c.push.new.self.items c.number_of.result
+    made_next fraction_of
+    (λ j. coefficient ℚ (terms_in c.args.poly.now) (unit c.args.poly.now.arity j))
+    c.args.group.now i c.loop-variable.row.items c.number_of.result
     c.loop-variable-test.true c.loop-variable.invariant c.in_ok-push.ensures.items
     (c.number_of.ensures c.args.poly.now.arity (all_arity _ _ (subst (λ (ts : List (Term Frac)).
     Arity c.args.poly.now.arity (tell ts)) (sym (c.deref.ensures.value ∙ ap (λ v. v.items)

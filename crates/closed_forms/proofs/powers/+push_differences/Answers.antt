@@ -1,8 +1,8 @@
 use Rattle.std.proofs.Common.{inl, inr, rules, SFits}
+use Rattle.std.proofs.lemmas.Result.{on_ok_weaker}
 use Rattle.std.proofs.lemmas.Int.{to_z-of_z}
 use mir.Syntax.{w32}
 use Rattle.closed_forms.proofs.Joining.{differences_none, differences_next}
-use Rattle.closed_forms.proofs.Mixing.{on_ok_where}
 use Rattle.closed_forms.proofs.powers.+push_differences.Goals as goal
 
 pub returns-in_default : goal.returns-in_default
@@ -17,10 +17,8 @@ pub returns : goal.returns
 returns t c =
     let fits : SFits w32 c.difference.result = search rules in
     let pushed = simp to_z-of_z at c.in_ok-push.ensures.items in
-    on_ok_where c.push_differences.result _ _
-    (λ h. differences_next c.args.up.now c.in-Some-Some.up.now c.args.down.now
-    c.in-Some-Some.down.now c.in-Some-Some.more.now c.in-Some-Some.less.now
-    c.difference.result
-    c.args.out.now.items c.push.new.self.items c.push_differences.new.out.items
-    c.in-Some-Some.ensures.cases.0 c.in-Some-Some.ensures'.cases.0 c.difference.ensures pushed h)
-    c.push_differences.ensures
+    on_ok_weaker c.push_differences.result (λ h. differences_next c.args.up.now
+    c.in-Some-Some.up.now c.args.down.now c.in-Some-Some.down.now c.in-Some-Some.more.now
+    c.in-Some-Some.less.now c.difference.result c.args.out.now.items c.push.new.self.items
+    c.push_differences.new.out.items c.in-Some-Some.ensures.cases.0 c.in-Some-Some.ensures'.cases.0
+    c.difference.ensures pushed h) c.push_differences.ensures

@@ -1,8 +1,9 @@
 use Rattle.std.proofs.Common.{◌<◌, unsigned_abs, rules, SFits}
+use Rattle.std.proofs.lemmas.Result.{on_ok_weaker}
 use Rattle.std.proofs.lemmas.Int.{to_z-of_z}
 use mir.Syntax.{w32}
 use Rattle.closed_forms.proofs.Joining.{sides_none, sides_next}
-use Rattle.closed_forms.proofs.Mixing.{head_all, tail_all, on_ok_where}
+use Rattle.closed_forms.proofs.Mixing.{head_all, tail_all}
 use Rattle.closed_forms.proofs.powers.+push_sides.Goals as goal
 
 pub returns-in_default : goal.returns-in_default
@@ -24,8 +25,7 @@ pub returns : goal.returns
 returns t c =
     let fits : SFits w32 c.in-Some.exponent.now = search rules in
     let side = simp to_z-of_z at c.side.ensures in
-    on_ok_where c.push_sides.result _ _
-    (λ h. sides_next c.args.below c.args.exponents.now c.in-Some.exponents.now
-    c.in-Some.exponent.now c.side.result c.args.out.now.items c.push.new.self.items
-    c.push_sides.new.out.items
-    c.in-Some.ensures.cases.0 side c.in_ok-push.ensures.items h) c.push_sides.ensures
+    on_ok_weaker c.push_sides.result (λ h. sides_next c.args.below c.args.exponents.now
+    c.in-Some.exponents.now c.in-Some.exponent.now c.side.result c.args.out.now.items
+    c.push.new.self.items c.push_sides.new.out.items c.in-Some.ensures.cases.0 side
+    c.in_ok-push.ensures.items h) c.push_sides.ensures

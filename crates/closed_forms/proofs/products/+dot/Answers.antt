@@ -1,6 +1,6 @@
 use Rattle.std.proofs.Common.{inl, inr, rules, refl}
+use Rattle.std.proofs.lemmas.Result.{IfOk-weaker}
 use Rattle.closed_forms.proofs.Dots.{dot_none, dot_next, past_product, past_sum, rest_low, head_low}
-use Rattle.closed_forms.proofs.Mixing.{if_ok_where}
 use Rattle.closed_forms.proofs.products.+dot.Goals as goal
 use Rattle.closed_forms.proofs.products.+dot.Goals.{in_default-via-in-Some+in_default, in_default-via-in_default}
 
@@ -27,7 +27,7 @@ dot-requires t c = (
 
 pub returns-clause-sum : goal.returns-clause-sum
 returns-clause-sum t c =
-    if_ok_where c.add.result _ _ (λ s e. dot_next _ c.in-Some-Some.ensures.cases.0
+    IfOk-weaker c.add.result _ _ (λ s e. dot_next _ c.in-Some-Some.ensures.cases.0
     c.in-Some-Some.ensures'.cases.0 (head_low _ c.in-Some-Some.ensures'.cases.0 c.requires)
     c.index.ensures c.in_ok-product.product c.in_ok-dot.field-0 s c.in_ok-product.ensures.ok
     c.in_ok-dot.ensures.sum e) c.add.ensures.ok

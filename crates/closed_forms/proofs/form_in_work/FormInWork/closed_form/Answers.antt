@@ -4,24 +4,21 @@ use Rattle.polynomials.specs.Order.{grevlex}
 use Rattle.solvable.proofs.Using.{FracPoly}
 use Rattle.solvable_maps.specs.Iterations.{IsNormalForm}
 use Rattle.poly.specs.Seen.{terms_in, terms_each}
-use Rattle.expo.proofs.Solved.{handed_on}
-use Rattle.closed_forms.specs.ClassInWork.{base_for, variables_for, numbers_for, value_for}
+use Rattle.closed_forms.specs.FormInWork.{base_for, variables_for, numbers_for, value_for}
 use Rattle.closed_forms.specs.ClassForms.{ahead_in}
 use Rattle.closed_forms.specs.Known.{IsNextForm, inhomogeneity_past, making_past}
 use Rattle.closed_forms.proofs.Joining.{over_normal}
+use Rattle.closed_forms.proofs.Mixing.{wide_on}
 use Rattle.closed_forms.proofs.form_in_work.FormInWork.closed_form.Goals as goal
 
 pub returns-in_err-inhomogeneity-clause-wide : goal.returns-in_err-inhomogeneity-clause-wide
-returns-in_err-inhomogeneity-clause-wide c = handed_on c.in_err-inhomogeneity.field-0.0
-    c.from_residual.result
+returns-in_err-inhomogeneity-clause-wide c = wide_on
     c.from_residual.ensures.1 (λ w. inhomogeneity_past (c.in_err-inhomogeneity.ensures.wide w))
 
 pub returns-in_err-closed-clause-wide : goal.returns-in_err-closed-clause-wide
 returns-in_err-closed-clause-wide c =
-    handed_on c.in_err-closed.field-0.0 c.from_residual-in_err-closed.result
-    c.from_residual-in_err-closed.ensures.1
-    (λ w. making_past (terms_in c.in_ok-inhomogeneity.inhomogeneity.body)
-    c.in_ok-inhomogeneity.ensures.inhomogeneity
+    wide_on c.from_residual-in_err-closed.ensures.1 (λ w. making_past
+    (terms_in c.in_ok-inhomogeneity.inhomogeneity.body) c.in_ok-inhomogeneity.ensures.inhomogeneity
     (c.in_err-closed.ensures.wide w))
 
 pub returns-clause-normal : goal.returns-clause-normal

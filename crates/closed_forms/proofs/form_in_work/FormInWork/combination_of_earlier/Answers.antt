@@ -1,12 +1,13 @@
-use Rattle.std.proofs.Common.{refl, sym, ap, subst, ◌∙◌}
+use Rattle.std.proofs.Common.{◌≡◌, All, refl, sym, ap, subst, ◌∙◌, arith}
+use Rattle.std.proofs.lemmas.Result.{IfOk-weaker}
 use Rattle.linear.specs.Rows.{fractions_of, rows_of}
 use Rattle.poly.specs.Seen.{terms_each}
-use Rattle.closed_forms.specs.ClassInWork.{numbers_for}
+use Rattle.solvable.proofs.Using.{FracPoly}
+use Rattle.closed_forms.specs.FormInWork.{numbers_for}
 use Rattle.closed_forms.specs.Inhomogeneities.{part, IsBy}
 use Rattle.closed_forms.specs.Inhomogeneities as past
 use Rattle.closed_forms.specs.Sums.{IsPastMix}
-use Rattle.expo.proofs.Solved.{handed_on}
-use Rattle.closed_forms.proofs.Mixing.{if_ok_where}
+use Rattle.closed_forms.proofs.Mixing.{wide_on}
 use Rattle.linear.proofs.Lists.{fractions-length}
 use Rattle.closed_forms.proofs.Rows.{product_at, past_row_at}
 use Rattle.closed_forms.proofs.form_in_work.FormInWork.combination_of_earlier.Goals as goal
@@ -26,10 +27,18 @@ is_by c =
           c.in_ok-by.ensures.product;
     }
 
+pub weighted_sum-requires-clause-few : goal.weighted_sum-requires-clause-few
+weighted_sum-requires-clause-few c = omega (arith, c.arity.ensures, c.args.self.now.ready.few)
+
+pub weighted_sum-requires-clause-arities : goal.weighted_sum-requires-clause-arities
+weighted_sum-requires-clause-arities c =
+    subst (λ k. All (λ (p : FracPoly). p.arity ≡ k) c.args.done.now)
+    (sym c.arity.ensures) c.requires
+
 pub returns-clause-terms : goal.returns-clause-terms
 returns-clause-terms c =
     let by = is_by (goal.at.returns-clause-terms c).In_ok-by in
-    if_ok_where c.weighted_sum.result _ _
+    IfOk-weaker c.weighted_sum.result _ _
     (λ p h. record {
       by = fractions_of c.in_ok-by.by.items;
       is_by = by;
@@ -49,16 +58,14 @@ returns-clause-wide c =
 pub returns-in_err-turned-clause-wide : goal.returns-in_err-turned-clause-wide
 returns-in_err-turned-clause-wide c =
     let n = fractions-length c.args.self.now.form.now in
-    handed_on c.in_err-turned.field-0.0 c.from_residual.result c.from_residual.ensures.1 (λ wide.
-    past.turned (past_row_at refl c.deref.ensures.value (sym n)
-    (c.in_err-turned.ensures.wide wide)))
+    wide_on c.from_residual.ensures.1 (λ wide. past.turned (past_row_at refl c.deref.ensures.value
+    (sym n) (c.in_err-turned.ensures.wide wide)))
 
 pub returns-in_err-by-clause-wide : goal.returns-in_err-by-clause-wide
 returns-in_err-by-clause-wide c =
     let w = numbers_for c.args.self.now in
     let n = fractions-length c.args.self.now.form.now in
-    handed_on c.in_err-by.field-0.0 c.from_residual-in_err-by.result
-    c.from_residual-in_err-by.ensures.1 (λ wide. past.back
+    wide_on c.from_residual-in_err-by.ensures.1 (λ wide. past.back
     (fractions_of c.in_ok-turned.turned.items) (product_at refl c.deref.ensures.value (sym n)
     c.in_ok-turned.ensures.product) (past_row_at c.deref-2.ensures.value c.deref-3.ensures.value
     (sym n) (c.in_err-by.ensures.wide wide)))

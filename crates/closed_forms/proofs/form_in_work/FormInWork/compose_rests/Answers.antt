@@ -1,7 +1,7 @@
 use Rattle.std.proofs.Common.{◌≡◌, All, sym, ap, subst, ◌∙◌, arith}
 use Rattle.poly.specs.Seen.{terms_each}
 use Rattle.solvable.proofs.Using.{FracPoly}
-use Rattle.closed_forms.specs.ClassInWork.{base_for, variables_for, numbers_for}
+use Rattle.closed_forms.specs.FormInWork.{base_for, variables_for, numbers_for}
 use Rattle.closed_forms.specs.Inhomogeneities.{part}
 use Rattle.closed_forms.proofs.Making.{arity_of_is, over_images, moved_is}
 use Rattle.closed_forms.proofs.form_in_work.FormInWork.compose_rests.Goals as goal
@@ -10,7 +10,7 @@ pub weighted_sum-requires-clause-few : goal.weighted_sum-requires-clause-few
 weighted_sum-requires-clause-few c =
     let n : c.len.result ≡ variables_for c.args.self.now = c.len.ensures
     ∙ c.args.self.now.class.now.setting.earlier.ok.0 in
-    let few = c.requires.setting.few in
+    let few = c.args.self.now.ready.few in
     omega (arith, few, n)
 
 pub weighted_sum-requires-clause-arities : goal.weighted_sum-requires-clause-arities
@@ -20,20 +20,21 @@ weighted_sum-requires-clause-arities c =
     subst (λ ps. All (λ (p : FracPoly). p.arity ≡ c.len.result) ps) (sym c.deref.ensures.value)
     (subst (λ n. All (λ (p : FracPoly). p.arity ≡ n) c.args.self.now.class.now.setting.rests.items)
     (sym n)
-    c.requires.setting.rests)
+    c.args.self.now.ready.rests)
 
 pub compose-requires-clause-arities : goal.compose-requires-clause-arities
 compose-requires-clause-arities c =
-    over_images _ _ c.requires.setting.some c.requires.setting.earlier
+    over_images _ _ c.args.self.now.ready.some c.args.self.now.ready.earlier
 
 pub returns-clause-arity : goal.returns-clause-arity
 returns-clause-arity c =
-    c.in_ok-compose.ensures.composition.arity ∙ arity_of_is _ _ c.requires.setting.some
-    c.requires.setting.earlier
+    c.in_ok-compose.ensures.composition.arity ∙ arity_of_is _ _ c.args.self.now.ready.some
+    c.args.self.now.ready.earlier
 
 pub returns-clause-terms : goal.returns-clause-terms
 returns-clause-terms c =
     let i = c.in_ok-compose.ensures.composition in
     moved_is (base_for c.args.self.now) _ _ _ _ c.in_ok-part.part c.in_ok-compose.field-0
-    c.requires.setting.some c.requires.setting.earlier (c.in_ok-part.ensures.terms ∙ ap (λ (ps : _).
+    c.args.self.now.ready.some c.args.self.now.ready.earlier (c.in_ok-part.ensures.terms
+    ∙ ap (λ (ps : _).
     part (numbers_for c.args.self.now) (terms_each ps)) c.deref.ensures.value) i.arity i.same

@@ -1,10 +1,8 @@
 use Rattle.std.proofs.Common.{◌≡◌, ◌≤◌, length, ap, sym, subst, ◌∙◌}
-use Rattle.std.proofs.lemmas.List.{length-map}
 use Rattle.solvable_maps.specs.Iterations.{width}
 use Rattle.poly.specs.Seen.{terms_in, terms_each}
 use Rattle.expo.specs.Powers.{number_of}
-use Rattle.expo.proofs.Solved.{handed_on}
-use Rattle.closed_forms.specs.ClassInWork.{base_for, variables_for, numbers_for, value_for}
+use Rattle.closed_forms.specs.FormInWork.{base_for, variables_for, numbers_for, value_for}
 use Rattle.closed_forms.specs.ClassForms.{ahead_in}
 use Rattle.closed_forms.specs.Later.{IsPastLater, there_past, later_past}
 use Rattle.closed_forms.specs.Solved.{IsPastSolved}
@@ -12,7 +10,7 @@ use Rattle.closed_forms.specs.Inhomogeneities.{part}
 use Rattle.closed_forms.specs.Sums.{IsPastMix}
 use Rattle.closed_forms.specs.Values.{IsExpoOver}
 use Rattle.closed_forms.proofs.FormsFrom.{at_once_past}
-use Rattle.closed_forms.proofs.Mixing.{tell}
+use Rattle.closed_forms.proofs.Mixing.{tell, wide_on}
 use Rattle.closed_forms.proofs.Settling.{inhomogeneity_arities, inhomogeneity_normal}
 use Rattle.closed_forms.proofs.form_in_work.FormInWork.some_form.Goals as goal
 use Rattle.closed_forms.proofs.form_in_work.FormInWork.some_form.Goals.{After-deref}
@@ -32,18 +30,16 @@ module _ (c : After-deref) where
 
   few : width (length (base_for c.args.self.now)) c.len.result ≤ 4096
   few = subst (λ m. width (length (base_for c.args.self.now)) m ≤ 4096) (sym count_is)
-      c.requires.form.setting.few
-
-  count : length c.in_ok-own.own.exponents.items ≡ length c.args.self.now.class.now.base.now.items
-  count = c.in_ok-own.ensures.power.count ∙ length-map c.args.self.now.class.now.base.now.items _
+      c.args.self.now.ready.few
 
 pub invariant_of-recurrence : goal.invariant_of-recurrence
 invariant_of-recurrence c =
     let at = (goal.at.invariant_of-recurrence c).After-deref in
     record {
-      coprime = c.requires.form.setting.coprime;
+      coprime = c.args.self.now.ready.coprime;
       few = few at;
-      count = count at;
+      nonzero = c.requires.nonzero;
+      power = c.in_ok-own.ensures.power;
       small = c.in_ok-own.ensures.small;
       arities = inhomogeneity_arities (over at) (terms_are at);
       normal = inhomogeneity_normal (over at) (terms_are at);
@@ -53,16 +49,14 @@ pub invariant_of-recurrence-2 : goal.invariant_of-recurrence-2
 invariant_of-recurrence-2 c =
     let at = (goal.at.invariant_of-recurrence-2 c).After-deref in
     record {
-      coprime = c.requires.form.setting.coprime;
+      coprime = c.args.self.now.ready.coprime;
       few = few at;
-      count = count at;
+      nonzero = c.requires.nonzero;
+      power = c.in_ok-own.ensures.power;
       small = c.in_ok-own.ensures.small;
       arities = inhomogeneity_arities (over at) (terms_are at);
       normal = inhomogeneity_normal (over at) (terms_are at);
     }
-
-pub power_over-requires-clause-base : goal.power_over-requires-clause-base
-power_over-requires-clause-base c = c.requires.form.setting.coprime
 
 pub returns-then-setting-eq0-clause-wide : goal.returns-then-setting-eq0-clause-wide
 returns-then-setting-eq0-clause-wide c =
@@ -79,10 +73,8 @@ returns-then-setting-eq0-clause-wide c =
 
 pub returns-in_err-there-clause-wide : goal.returns-in_err-there-clause-wide
 returns-in_err-there-clause-wide c =
-    handed_on c.in_err-there.field-0.0 c.from_residual-in_err-there.result
-    c.from_residual-in_err-there.ensures.1
-    (λ w. there_past c.requires.nonzero c.if-setting-eq0.false
-    (subst (λ ps. IsPastMix (numbers_for c.args.self.now) (terms_each ps))
+    wide_on c.from_residual-in_err-there.ensures.1 (λ w. there_past c.requires.nonzero
+    c.if-setting-eq0.false (subst (λ ps. IsPastMix (numbers_for c.args.self.now) (terms_each ps))
     c.deref-2.ensures.value (c.in_err-there.ensures.wide w)))
 
 pub returns-clause-wide : goal.returns-clause-wide

@@ -1,10 +1,6 @@
-use Rattle.std.proofs.Common.{ℕ, ◌∷◌, ◌+◌, Err, sym, ap, subst, arith, rules}
-use Rattle.coprime_base.specs.Sizes.{sizes}
-use Rattle.closed_forms.specs.ClassForms.{zeros_of, AreVariablesOf, IsPastClassOf}
-use Rattle.closed_forms.specs.Known.{IsReady}
-use Rattle.closed_forms.specs.MapInWork.{images_in, AreFormsBut}
+use Rattle.std.proofs.Common.{ℕ, ◌∷◌, Err, ap, arith, rules}
+use Rattle.closed_forms.specs.MapInWork.{AreFormsBut}
 use Rattle.closed_forms.specs.Splits.{groups_in}
-use Rattle.closed_forms.specs.Values.{bodies_of}
 use Rattle.closed_forms.proofs.InWork.{comes_next, next_class, next_some, next_inside, first_low, at_first, split_here, values_here, ready_here, forms_next, wide_first}
 use Rattle.closed_forms.proofs.map_in_work.MapInWork.+fill.Goals as goal
 use Rattle.closed_forms.proofs.map_in_work.MapInWork.+fill.Goals.{After-as_slice-class}
@@ -30,60 +26,40 @@ unreachable-requires t c =
     c.in_default-index.not-Some s.0 s.1
 
 pub closed_class-requires-clause-class : goal.closed_class-requires-clause-class
-closed_class-requires-clause-class t c = next_class c.requires.work
-    (here t (goal.at.closed_class-requires-clause-class t c).After-as_slice-class)
-
-pub closed_class-requires-clause-split : goal.closed_class-requires-clause-split
-closed_class-requires-clause-split t c = split_here c.requires.work
-    (here t (goal.at.closed_class-requires-clause-split t c).After-as_slice-class) c.index.ensures
-    c.in-Some-index.is
-
-pub closed_class-requires-clause-made : goal.closed_class-requires-clause-made
-closed_class-requires-clause-made t c = values_here c.requires.work
-    (here t (goal.at.closed_class-requires-clause-made t c).After-as_slice-class) c.index.ensures
-    c.in-Some-index.is
-
-pub closed_class-requires-clause-over : goal.closed_class-requires-clause-over
-closed_class-requires-clause-over t c = rw c.as_slice.ensures.value c.requires.forms.over
+closed_class-requires-clause-class t c =
+    let h = here t (goal.at.closed_class-requires-clause-class t c).After-as_slice-class in
+    record {
+      work = c.requires.work;
+      class = next_class c.requires.work h;
+      split = split_here c.requires.work h c.index.ensures c.in-Some-index.is;
+      made = values_here c.requires.work h c.index.ensures c.in-Some-index.is;
+    }
 
 pub closed_class-requires-clause-ready : goal.closed_class-requires-clause-ready
-closed_class-requires-clause-ready t c =
-    let w = c.args.self.now in
-    subst (λ es. IsReady (sizes w.base.items) (images_in w) w.iterations
-    (zeros_of c.in-Some-index.split) c.as_slice-class.result.now (bodies_of es))
-    (sym c.as_slice.ensures.value)
-    (ready_here c.requires.work
-    (here t (goal.at.closed_class-requires-clause-ready t c).After-as_slice-class) c.index.ensures
-    c.in-Some-index.is)
+closed_class-requires-clause-ready t c = record {
+  over = c.requires.forms.over;
+  ready = ready_here c.requires.work
+      (here t (goal.at.closed_class-requires-clause-ready t c).After-as_slice-class)
+      c.index.ensures c.in-Some-index.is;
+}
 
 pub put-requires-clause-inside : goal.put-requires-clause-inside
 put-requires-clause-inside t c = next_inside c.requires.work
     (here t (goal.at.put-requires-clause-inside t c).After-as_slice-class)
 
 pub fill-requires : goal.fill-requires
-fill-requires t c =
-    let w = c.args.self.now in
-    let g = c.as_slice-class.result.now in
-    let split = c.in-Some-index.split in (
-      search rules,
-      (
-        c.requires.work,
-        forms_next c.requires.work (here t (goal.at.fill-requires t c).After-as_slice-class)
-            c.index.ensures c.in-Some-index.is c.in-Ok.ensures.count c.in-Ok.ensures.over
-            c.put.ensures
-            (subst (λ es. (r : IsReady (sizes w.base.items) (images_in w) w.iterations
-            (zeros_of split) g (bodies_of es))
-            → AreVariablesOf (sizes w.base.items) (images_in w) (r.since + zeros_of split) g
-            (bodies_of c.in-Ok.news.items)) c.as_slice.ensures.value c.in-Ok.ensures.variables),
-      ),
-    )
+fill-requires t c = (
+  search rules,
+  (
+    c.requires.work,
+    forms_next c.requires.work (here t (goal.at.fill-requires t c).After-as_slice-class)
+        c.index.ensures c.in-Some-index.is c.in-Ok.ensures.count c.in-Ok.ensures.over
+        c.put.ensures c.in-Ok.ensures.variables,
+  ),
+)
 
 pub returns-in-Err-Wide-clause-refused : goal.returns-in-Err-Wide-clause-refused
 returns-in-Err-Wide-clause-refused t c =
-    let w = c.args.self.now in
     wide_first c.requires.work
     (here t (goal.at.returns-in-Err-Wide-clause-refused t c).After-as_slice-class) c.index.ensures
-    c.in-Some-index.is
-    (subst (λ es. IsPastClassOf (sizes w.base.items) (images_in w) w.iterations
-    c.as_slice-class.result.now c.in-Some-index.split (bodies_of es)) c.as_slice.ensures.value
-    (c.in-Err-Wide.ensures.wide (ap Err c.in-Err-Wide.field-0-is)))
+    c.in-Some-index.is (c.in-Err-Wide.ensures.wide (ap Err c.in-Err-Wide.field-0-is))

@@ -21,8 +21,9 @@ returns-clause-terms c =
 pub returns-clause-arities : goal.returns-clause-arities
 returns-clause-arities c =
     let w = c.args.self.now in
-    subst (λ ps. All (λ (p : FracPoly). p.arity ≡ length w.images.now.items) ps)
+    subst (λ ps. All (λ (p : FracPoly). p.arity ≡ length w.map.images.now.items) ps)
     (sym c.as_slice.ensures.value)
-    (state_over w.images.now.items w.iterations w.states.items c.requires.work.states w.iterations
+    (state_over w.map.images.now.items w.iterations w.states.items c.requires.work.states
+    w.iterations
     c.index.result.now (omega arith) c.index.ensures
     c.requires.work.arities)

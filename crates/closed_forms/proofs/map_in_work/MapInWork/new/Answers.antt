@@ -1,4 +1,4 @@
-use Rattle.std.proofs.Common.{◌≡◌, Err, length, sym, ap, subst, ◌∙◌, arith, rules}
+use Rattle.std.proofs.Common.{◌≡◌, Err, length, sym, ap, subst, ◌∙◌, rules}
 use Rattle.exponentials.specs.Base.{IsTheBase}
 use Rattle.poly.specs.Seen.{terms_each}
 use Rattle.coprime_base.specs.Sizes.{sizes}
@@ -8,8 +8,7 @@ use Rattle.closed_forms.specs.Refusal.{IfRefusedBy}
 use Rattle.closed_forms.specs.Splits.{groups_in}
 use Rattle.closed_forms.specs.States.{zeros_in, some_of}
 use Rattle.closed_forms.specs.Values.{values_in}
-use Rattle.closed_forms.proofs.Ahead.{zeros_low}
-use Rattle.closed_forms.proofs.Counting.{twelve_values, values_few}
+use Rattle.closed_forms.proofs.Counting.{twelve_values}
 use Rattle.closed_forms.proofs.Ending.{form_base_is, all_pass, is_too_long, later_state, refused_first, refused_on}
 use Rattle.closed_forms.proofs.Splitting.{map_of}
 use Rattle.closed_forms.proofs.map_in_work.MapInWork.new.Goals as goal
@@ -20,7 +19,7 @@ splits_of-requires-clause-classes c = rw c.deref.ensures.value c.in-Ok.ensures.c
 
 pub returns-in_err-splits-clause-refused : goal.returns-in_err-splits-clause-refused
 returns-in_err-splits-clause-refused c =
-    let M = terms_each c.args.images.now.items in
+    let M = terms_each c.args.map.images.now.items in
     let e = c.in_err-splits.field-0.0 in
     refused_on (IfRefusedBy M) e _ c.from_residual.ensures.1
     (refused_first M e c.in_err-splits.ensures.refused)
@@ -30,21 +29,21 @@ long_class-requires c = rw c.deref-2.ensures.value c.in-Ok.ensures.classes
 
 pub returns-in-Some-clause-refused : goal.returns-in-Some-clause-refused
 returns-in-Some-clause-refused c =
-    let images = c.args.images.now.items in
+    let images = c.args.map.images.now.items in
     is_too_long (terms_each images) (c.in-Ok.ensures.solvable (search rules)) (all_pass images
-    c.requires.square c.in_ok-splits.ensures.splits) (groups_in c.deref-2.result.now)
+    c.args.map.square c.in_ok-splits.ensures.splits) (groups_in c.deref-2.result.now)
     (rw c.deref-2.ensures.value c.in-Ok.ensures.classes) (length images) c.in-Some.variable
     c.in_ok-variable.field-0 (sym (length_each images)) c.in-Some.is c.in_ok-variable.ensures
 
 pub base_of-requires : goal.base_of-requires
 base_of-requires c = record {
-  few = rw c.deref-3.ensures.value (twelve_values _ c.requires.few
-      c.requires.square c.in_ok-splits.ensures.splits);
+  few = rw c.deref-3.ensures.value (twelve_values _ c.args.map.few
+      c.args.map.square c.in_ok-splits.ensures.splits);
 }
 
 pub zeros_of-iterations-requires : goal.zeros_of-iterations-requires
 zeros_of-iterations-requires c = rw c.deref-4.ensures.value (twelve_values _
-    c.requires.few c.requires.square c.in_ok-splits.ensures.splits)
+    c.args.map.few c.args.map.square c.in_ok-splits.ensures.splits)
 
 -- the base of the values but zero, and how many are zero
 module _ (c : After-zeros_of-iterations) where
@@ -57,29 +56,19 @@ module _ (c : After-zeros_of-iterations) where
   count_is = c.zeros_of-iterations.ensures
       ∙ ap (λ splits. zeros_in (values_in splits)) c.deref-4.ensures.value
 
-pub states-requires-clause-some : goal.states-requires-clause-some
-states-requires-clause-some c = λ some.
-    let images = c.args.images.now.items in
-    let splits = c.in_ok-splits.splits.items in
-    let a = zeros_low (values_in splits) in
-    let b = values_few (map_of images c.requires.square) splits c.in_ok-splits.ensures.splits in
-    let d = length_each images in
-    let e = count_is (goal.at.states-requires-clause-some c).After-zeros_of-iterations in
-    omega (arith, a, b, d, e, some)
-
 pub returns-in-Err-Wide-clause-refused : goal.returns-in-Err-Wide-clause-refused
 returns-in-Err-Wide-clause-refused c =
     let at = (goal.at.returns-in-Err-Wide-clause-refused c).After-zeros_of-iterations in
-    let images = c.args.images.now.items in
+    let images = c.args.map.images.now.items in
     let M = terms_each images in
     let splits = c.in_ok-splits.splits.items in
     let are = c.in_ok-splits.ensures.splits in
     let bs = sizes c.in_ok-base.base.items in
     record {
       solvable = c.in-Ok.ensures.solvable (search rules);
-      pass = all_pass images c.requires.square are;
+      pass = all_pass images c.args.map.square are;
       later = later_state
-          (form_base_is M splits are (map_of images c.requires.square) bs (base_is at))
+          (form_base_is M splits are (map_of images c.args.map.square) bs (base_is at))
           (record { splits = splits; are = are; count = sym (count_is at) })
           (c.in-Err-Wide.ensures.wide (ap Err c.in-Err-Wide.field-0-is));
     }
@@ -88,8 +77,6 @@ pub returns-clause-work : goal.returns-clause-work
 returns-clause-work c =
     let at = (goal.at.returns-clause-work c).After-zeros_of-iterations in
     record {
-      few = c.requires.few;
-      square = c.requires.square;
       solvable = c.in-Ok.ensures.solvable (search rules);
       classes = c.in-Ok.ensures.classes;
       splits = c.in_ok-splits.ensures.splits;

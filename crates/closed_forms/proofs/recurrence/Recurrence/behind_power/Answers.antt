@@ -1,8 +1,6 @@
 use Rattle.std.proofs.Common.{◌≡◌, ◌<◌, ◌≤◌, ◌+◌, [], ◌∷◌, ◌++◌, All, length, map, Bool, true, false, cond, unsigned_abs, refl, ap, sym, subst, ◌∙◌, arith}
 use mir.Val.{bool_byte}
-use Rattle.std.proofs.lemmas.List.{length-map}
 use Rattle.std.proofs.lemmas.Result.{IfOk-weaker}
-use Rattle.frac128.specs.declared.Whole.{Whole}
 use Rattle.expo.specs.Powers.{side_of}
 use Rattle.closed_forms.proofs.Joining.{sides_front, sides_length}
 use Rattle.closed_forms.proofs.recurrence.Recurrence.behind_power.Goals as goal
@@ -36,11 +34,10 @@ module _ (c : In_ok-push_sides-2) where
   long : length c.push_sides-2.new.out.items + length c.args.variables.now ≤ 4096
   long =
       let r = c.args.self.now in
-      let n = length-map r.base.now.items (λ (w : Whole). unsigned_abs w.value) in
       let m = sides_length r.own.exponents.items c.in_ok-exponents.exponents.items
       c.push_sides.new.out.items c.push_sides-2.new.out.items
       (ap length c.in_ok-exponents.ensures.items) above below in
-      omega (arith, m, n, r.count, r.few, c.requires)
+      omega (arith, m, r.power.count, r.few, c.requires)
 
 pub new-requires : goal.new-requires
 new-requires c = let l = long (goal.at.new-requires c).In_ok-push_sides-2 in omega (arith, l)

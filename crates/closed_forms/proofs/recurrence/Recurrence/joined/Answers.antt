@@ -1,5 +1,4 @@
 use Rattle.std.proofs.Common.{◌≡◌, ◌⊎◌, ◌++◌, All, List, length, refl, ap, ap₂, sym, subst, ◌∙◌}
-use Rattle.std.proofs.lemmas.List.{length-map}
 use Rattle.std.proofs.lemmas.Result.{IfOk-weaker}
 use Rattle.algebra.specs.Fraction.{Fraction, fraction_size}
 use Rattle.polynomials.specs.Polynomial.{Arity}
@@ -39,9 +38,6 @@ module _ (c : In_ok-push_copies) where
   abbrev all : Terms Fraction
   all = tell c.push_copies.new.out.items
 
-  count_is : length c.args.self.now.own.exponents.items ≡ length (base_by c.args.self.now)
-  count_is = c.args.self.now.count ∙ sym (length-map c.args.self.now.base.now.items _)
-
   all_is : all ≡ with_powers (key_of_power c.args.self.now.own) start ++ sum
   all_is =
       let x = key_of_power c.args.self.now.own in
@@ -66,7 +62,7 @@ normal_sum-requires c =
     let r = c.args.self.now in
     all_arity _ _
     (together-arity (base_by r) r.coprime.0 r.vars r.own.negative r.own.exponents.items
-    (count_is at) (start at) (sum at) (all at) (all_is at) (narrow at) (wide at))
+    r.power.count (start at) (sum at) (all at) (all_is at) (narrow at) (wide at))
 
 pub returns-clause-over : goal.returns-clause-over
 returns-clause-over c =
@@ -79,7 +75,7 @@ returns-clause-joined c =
     let r = c.args.self.now in
     IfOk-weaker c.normal_sum.result _ _
     (λ y h. joined_is (base_by r) r.coprime.0 r.vars r.own.negative r.own.exponents.items
-    (count_is at) (start at) (sum at) (all at) (all_is at) (narrow at) (wide at) r.vars
+    r.power.count (start at) (sum at) (all at) (all_is at) (narrow at) (wide at) r.vars
     (collect_terms (all at)) y refl h) c.normal_sum.ensures.normal
 
 pub returns-clause-wide : goal.returns-clause-wide

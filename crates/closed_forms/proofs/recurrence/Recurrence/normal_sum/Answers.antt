@@ -8,11 +8,10 @@ use Rattle.poly.specs.Seen.{terms_in}
 use Rattle.poly.specs.declared.Term.{Term}
 use Rattle.solvable_maps.specs.Expo.{with_normal_keys}
 use Rattle.solvable_maps.specs.Iterations.{width}
-use Rattle.expo.proofs.Solved.{handed_on}
 use Rattle.closed_forms.specs.Inhomogeneities.{collect_terms}
 use Rattle.closed_forms.specs.Recurrences.{base_by}
 use Rattle.closed_forms.proofs.Making.{poly_is, normal_over, room_before, base_width}
-use Rattle.closed_forms.proofs.Mixing.{tell, arity_all}
+use Rattle.closed_forms.proofs.Mixing.{tell, arity_all, wide_on}
 use Rattle.closed_forms.proofs.recurrence.Recurrence.normal_sum.Goals as goal
 use Rattle.closed_forms.proofs.recurrence.Recurrence.normal_sum.Goals.{After-width, In_ok-sum}
 
@@ -55,8 +54,7 @@ module _ (c : In_ok-sum) where
 
 pub returns-in_err-sum-clause-wide : goal.returns-in_err-sum-clause-wide
 returns-in_err-sum-clause-wide c =
-    handed_on c.in_err-sum.field-0.0 c.from_residual.result c.from_residual.ensures.1
-    (λ w. inl (c.in_err-sum.ensures.wide w))
+    wide_on c.from_residual.ensures.1 (λ w. inl (c.in_err-sum.ensures.wide w))
 
 pub normal-requires-clause-front : goal.normal-requires-clause-front
 normal-requires-clause-front c =

@@ -3,9 +3,8 @@ use Rattle.std.proofs.lemmas.List.{drop_all}
 use Rattle.frac128.specs.declared.fraction.Frac.{Frac}
 use Rattle.poly.specs.declared.Term.{Term}
 use Rattle.closed_forms.specs.Recurrences.{base_by, value_by}
-use Rattle.expo.proofs.Solved.{handed_on}
 use Rattle.closed_forms.proofs.Joining.{own_is_normal, solved_none, solved_next, past_term_at, normal_at}
-use Rattle.closed_forms.proofs.Mixing.{tell, arity_all, left_at}
+use Rattle.closed_forms.proofs.Mixing.{tell, arity_all, left_at, wide_on}
 use Rattle.closed_forms.proofs.recurrence.Recurrence.push_solved.Goals as goal
 
 pub loop-term-init : goal.loop-term-init
@@ -37,6 +36,6 @@ returns-clause-terms c =
 pub returns-in_err-solution-clause-wide : goal.returns-in_err-solution-clause-wide
 returns-in_err-solution-clause-wide c =
     let bs = base_by c.args.self.now in
-    handed_on c.in_err-solution.field-0.0 c.from_residual.result c.from_residual.ensures.1 (λ x.
+    wide_on c.from_residual.ensures.1 (λ x.
     past_term_at bs c.args.self.now.vars (value_by c.args.self.now) _ c.loop-term.term-index
     c.term-item.result c.loop-term-test.true c.term-item.is (c.in_err-solution.ensures.wide x))

@@ -4,22 +4,20 @@ use Rattle.algebra.specs.Fraction.{Fraction}
 use Rattle.polynomials.specs.Polynomial.{Arity}
 use Rattle.polynomials.specs.Terms.{Terms}
 use Rattle.solvable_maps.specs.Iterations.{width}
-use Rattle.expo.proofs.Solved.{handed_on}
 use Rattle.closed_forms.specs.Inhomogeneities.{collect_terms}
 use Rattle.closed_forms.specs.Later.{term_past, terms_past, normal_past}
 use Rattle.closed_forms.specs.Recurrences.{base_by, value_by, inhomogeneity_in}
 use Rattle.closed_forms.specs.Solved.{AreSolved}
 use Rattle.closed_forms.proofs.Joining.{expo_over}
 use Rattle.closed_forms.proofs.LaterForms.{solved_all, sum_is}
-use Rattle.closed_forms.proofs.Mixing.{tell, all_arity, arity_all}
+use Rattle.closed_forms.proofs.Mixing.{tell, all_arity, arity_all, wide_on}
 use Rattle.closed_forms.proofs.Recurring.{solved-arity}
 use Rattle.closed_forms.proofs.recurrence.Recurrence.solutions.Goals as goal
 use Rattle.closed_forms.proofs.recurrence.Recurrence.solutions.Goals.{In_ok-push_solved}
 
 pub returns-in_err-push_solved-clause-wide : goal.returns-in_err-push_solved-clause-wide
 returns-in_err-push_solved-clause-wide c =
-    handed_on c.in_err-push_solved.field-0.0 c.from_residual.result c.from_residual.ensures.1
-    (λ x. term_past (c.in_err-push_solved.ensures.wide x))
+    wide_on c.from_residual.ensures.1 (λ x. term_past (c.in_err-push_solved.ensures.wide x))
 
 -- all terms, and how many exponents they have
 module _ (c : In_ok-push_solved) where

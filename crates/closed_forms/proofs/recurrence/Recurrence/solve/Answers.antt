@@ -1,5 +1,4 @@
-use Rattle.std.proofs.Common.{inl, inr, length, refl, ap, sym, ◌∙◌}
-use Rattle.std.proofs.lemmas.List.{length-map}
+use Rattle.std.proofs.Common.{inl, inr, length, refl, ap}
 use Rattle.std.proofs.lemmas.Result.{IfOk-weaker}
 use Rattle.polynomials.specs.Polynomial.{Arity}
 use Rattle.polynomials.specs.Terms.{Terms}
@@ -10,17 +9,15 @@ use Rattle.closed_forms.specs.Inhomogeneities.{collect_terms}
 use Rattle.closed_forms.specs.Recurrences.{base_by, value_by, inhomogeneity_in}
 use Rattle.closed_forms.specs.Solved as Solved
 use Rattle.closed_forms.specs.Solved.{IsWhole}
-use Rattle.expo.proofs.Solved.{handed_on}
 use Rattle.closed_forms.proofs.Joining.{expo_over, whole_is, form_is}
-use Rattle.closed_forms.proofs.Mixing.{tell, all_arity, arity_all}
+use Rattle.closed_forms.proofs.Mixing.{tell, all_arity, arity_all, wide_on}
 use Rattle.closed_forms.proofs.Recurring.{whole-arity}
 use Rattle.closed_forms.proofs.recurrence.Recurrence.solve.Goals as goal
 use Rattle.closed_forms.proofs.recurrence.Recurrence.solve.Goals.{In_ok-push_solved}
 
 pub returns-in_err-push_solved-clause-wide : goal.returns-in_err-push_solved-clause-wide
 returns-in_err-push_solved-clause-wide c =
-    handed_on c.in_err-push_solved.field-0.0 c.from_residual-in_err-push_solved.result
-    c.from_residual-in_err-push_solved.ensures.1
+    wide_on c.from_residual-in_err-push_solved.ensures.1
     (λ x. Solved.term (c.in_err-push_solved.ensures.wide x))
 
 -- all terms, and how many exponents they have
@@ -33,7 +30,7 @@ module _ (c : In_ok-push_solved) where
   whole =
       let r = c.args.self.now in
       whole_is (base_by r) r.vars (fractions_of c.args.form.now) c.args.group.now r.own
-      (inhomogeneity_in r) all (r.count ∙ sym (length-map r.base.now.items _))
+      (inhomogeneity_in r) all r.power.count
       (ap tell c.new-terms.ensures.items) c.in_ok-push_growing.ensures.terms
       c.in_ok-push_solved.ensures.terms
 

@@ -15,10 +15,10 @@ use Rattle.closed_forms.specs.Recurrences.{base_by, value_by}
 use Rattle.closed_forms.specs.Solved as Solved
 use Rattle.closed_forms.specs.Solved.{steady, IsKeySolution}
 use Rattle.closed_forms.specs.Values.{IsExpoOver}
-use Rattle.expo.proofs.Solved.{handed_on}
 use Rattle.expo.proofs.Stepping.{top_at}
 use Rattle.closed_forms.proofs.Joining.{over_arity, tabled_over, key_solution, term_past, product_past}
 use Rattle.closed_forms.proofs.Making.{product_is}
+use Rattle.closed_forms.proofs.Mixing.{wide_on}
 use Rattle.closed_forms.proofs.recurrence.Recurrence.term_solved.Goals as goal
 use Rattle.closed_forms.proofs.recurrence.Recurrence.term_solved.Goals.{After-body}
 
@@ -45,6 +45,10 @@ pub solve_term-requires-clause-inhomogeneity : goal.solve_term-requires-clause-i
 solve_term-requires-clause-inhomogeneity c = c.in_ok-inhomogeneity.ensures.count
     ∙ ap (length {A = Whole}) c.deref.ensures.value
 
+pub solve_term-requires-clause-own : goal.solve_term-requires-clause-own
+solve_term-requires-clause-own c = c.args.self.now.power.count
+    ∙ length-map c.args.self.now.base.now.items _
+
 pub solve_term-requires-clause-arity : goal.solve_term-requires-clause-arity
 solve_term-requires-clause-arity c = let n : length (base_by c.args.self.now)
     ≡ length c.args.self.now.base.now.items = length-map c.args.self.now.base.now.items _ in
@@ -57,10 +61,8 @@ returns-in_err-solution-clause-wide c =
     let top_is = c.from.ensures ∙ c.exponent-iterations.ensures ∙ top_at t.0 in
     let key = subst (λ (ws : List Whole). key_of (length (sizes ws)) t.0 ≡ key_of_power
     c.in_ok-inhomogeneity.inhomogeneity) c.deref.ensures.value c.in_ok-inhomogeneity.ensures.key in
-    handed_on c.in_err-solution.field-0.0 c.from_residual-in_err-solution.result
-    c.from_residual-in_err-solution.ensures.1
-    (λ x. term_past bs c.args.self.now.vars t c.in_ok-inhomogeneity.inhomogeneity
-    c.args.self.now.own _ top_is key
+    wide_on c.from_residual-in_err-solution.ensures.1 (λ x. term_past bs c.args.self.now.vars t
+    c.in_ok-inhomogeneity.inhomogeneity c.args.self.now.own _ top_is key
     (c.in_err-solution.ensures.wide x))
 
 -- where the solution and what does not change are to be multiplied

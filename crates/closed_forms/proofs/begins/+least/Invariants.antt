@@ -1,4 +1,0 @@
-use Rattle.closed_forms.proofs.begins.+least.Given as goal
-
-abbrev pub decreases-least : goal.decreases-least
-decreases-least l = l.since

@@ -1,9 +1,0 @@
-use Rattle.std.proofs.Common.{length, ap, ◌∙◌}
-use Rattle.linear.specs.Rows.{rows_of}
-use Rattle.closed_forms.proofs.Rows.{widths_low}
-use Rattle.closed_forms.proofs.matrices.inverse.Goals as goal
-
-pub halves-requires : goal.halves-requires
-halves-requires c =
-    widths_low (length c.args.forms.now) c.as_slice.result.now
-    (ap rows_of c.as_slice.ensures.value ∙ c.rows.ensures) c.in_ok-echelon.ensures.echelon.widths
