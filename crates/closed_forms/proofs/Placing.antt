@@ -11,7 +11,7 @@ use Rattle.std.proofs.lemmas.List.{append-nil, length-map, length-set, length_pu
 use Rattle.std.proofs.lemmas.Bool.{cases_eq, cases_lt}
 use Rattle.algebra.specs.Each.{Each}
 use Rattle.algebra.specs.In.{In}
-use Rattle.algebra.proofs.In.{in_place, in_left, in_right}
+use Rattle.algebra.proofs.In.{in_get, in_place, in_left, in_right}
 use Rattle.algebra.specs.Fraction.{Fraction}
 use Rattle.polynomials.specs.Order.{grevlex}
 use Rattle.polynomials.specs.Polynomial.{AllArity}
@@ -24,7 +24,6 @@ use Rattle.poly.specs.Seen.{terms_in}
 use Rattle.solvable_maps.specs.Classes.{first_of}
 use Rattle.solvable_maps.specs.AfterIterations.{place, IsAfterIterations}
 use Rattle.solvable_maps.specs.Iterations.{width, IsNormalForm, IsClosedFormFrom}
-use Rattle.solvable_maps.proofs.ClassSteps.{place_in}
 use Rattle.solvable_maps.proofs.Classwise.{whole_more, next_apart, next_is_class, later_turned, turned_none, turned_more, turned_all}
 use Rattle.expo.specs.declared.exponential.Expo.{Expo}
 use Rattle.closed_forms.specs.ClassForms.{AreVariablesOf}
@@ -58,6 +57,9 @@ place-get (i ∷ g) (suc a) d l = place-get g a d (omega (arith, l))
 
 at_place : (g : List ℕ) (i : ℕ) → In i g → (a : ℕ) × (a < length g) × (i ≡ place g a)
 at_place g i h = (let r = in_place g 0 i h in (r.0, r.1, sym r.2 ∙ place-get g r.0 0 r.1))
+
+place_in : (g : List ℕ) (a : ℕ) → a < length g → In (place g a) g
+place_in g a l = subst (λ i. In i g) (place-get g a 0 l) (in_get g a 0 l)
 
 -- ---- one set at a place
 -- the last of news goes to its place first

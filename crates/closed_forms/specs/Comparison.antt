@@ -18,7 +18,8 @@ abbrev pub list_at : Comparison → ℕ → List (Terms Fraction)
 list_at c n = get_or (lists_by c) n []
 
 abbrev pub AreMarkedBy : Comparison → ℕ → List Bool → Type 0
-AreMarkedBy c n marks = AreAllMarked c.polys.now.items n (list_at c n) (groups_in c.groups.now.items) marks
+AreMarkedBy c n marks =
+    AreAllMarked c.polys.now.items n (list_at c n) (groups_in c.groups.now.items) marks
 
 abbrev pub IsPastBy : Comparison → ℕ → ℕ → Type 0
 IsPastBy c n v = IsPastOfClass (groups_in c.groups.now.items) c.polys.now.items n v

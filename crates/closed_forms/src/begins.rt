@@ -23,7 +23,8 @@ pub(crate) struct Comparison<'a> {
     ghost vars: { All (λ e. e.vars ≡ length polys.now.items) polys.now.items },
     ghost some: { 0 < length states.now.items },
     ghost counts: { All (λ v. length v.items ≡ length polys.now.items) states.now.items },
-    ghost arities: { All (λ v. All (λ p. p.arity ≡ length polys.now.items) v.items) states.now.items },
+    ghost arities: { All (λ v. All (λ p. p.arity ≡ length polys.now.items) v.items)
+        states.now.items },
 }
 
 impl Comparison<'_> {
@@ -61,7 +62,8 @@ impl Comparison<'_> {
 
     /// For each variable whether it passes, where the polynomials are the state from `since` on: its polynomial at n = 0 isn't the variable. None does where `since` is zero.
     pub(crate) fn passing(&self, alloc: Global, since: u32) -> Result<Vec<bool>, FormsError>
-        ensures count { IfOk result (λ marks. length marks.items ≡ length self.now.polys.now.items) }
+        ensures count { IfOk result
+            (λ marks. length marks.items ≡ length self.now.polys.now.items) }
         ensures marked { IfOk result (λ marks. since ≢ 0 → AreMarkedBy self.now 0 marks.items) }
         ensures none { IfOk result
             (λ marks. since ≡ 0 → (i : ℕ) → get_or marks.items i false ≡ false) }
@@ -77,7 +79,8 @@ impl Comparison<'_> {
     /// For each variable whether its polynomial isn't that of the state at this number of iterations.
     fn apart(&self, alloc: Global, iterations: u32) -> Result<Vec<bool>, FormsError>
         requires { iterations < length self.now.states.now.items }
-        ensures count { IfOk result (λ marks. length marks.items ≡ length self.now.polys.now.items) }
+        ensures count { IfOk result
+            (λ marks. length marks.items ≡ length self.now.polys.now.items) }
         ensures marked { IfOk result (λ marks. AreMarkedBy self.now iterations marks.items) }
         ensures refused { IfErr result (IfOfClass (IsPastBy self.now iterations)) }
     {

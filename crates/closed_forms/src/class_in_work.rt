@@ -28,8 +28,10 @@ pub(crate) struct ClassInWork<'a> {
     ghost forms: { All (λ form. length form.items ≡ length split.now.forms.items)
         split.now.forms.items },
     ghost values: { length split.now.values.items ≡ length split.now.forms.items },
-    ghost within: { AreWithin (sizes base.now.items) (fractions_of split.now.values.items) } by { are_within_prop _ _ },
-    ghost ready: { IsClassSetting (sizes base.now.items) (length split.now.forms.items) setting } by { class_setting_prop _ _ _ },
+    ghost within: { AreWithin (sizes base.now.items)
+        (fractions_of split.now.values.items) } by { are_within_prop _ _ },
+    ghost ready: { IsClassSetting (sizes base.now.items) (length split.now.forms.items)
+        setting } by { class_setting_prop _ _ _ },
 }
 
 impl ClassInWork<'_> {

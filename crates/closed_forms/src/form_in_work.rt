@@ -1,7 +1,6 @@
 //! A form of a class in work, and its closed form.
 ghost use Rattle.std.specs.Prelude.{length};
 ghost use Rattle.frac128.specs.FracMeaning.{fraction_of};
-ghost use Rattle.linear.specs.Rows.{fractions_of};
 ghost use Rattle.coprime_base.specs.Sizes.{sizes};
 ghost use Rattle.closed_forms.specs.ClassSetting.{IsClassSetting, class_setting_prop};
 ghost use Rattle.closed_forms.specs.Solved.{IsWithin, within_prop};
@@ -22,7 +21,8 @@ pub(crate) struct FormInWork<'c, 'a> {
     pub(crate) class: &'c ClassInWork<'a>,
     pub(crate) form: &'a [Frac],
     pub(crate) value: &'a Frac,
-    ghost within: { IsWithin (sizes class.now.base.now.items) (fraction_of value.now) } by { within_prop _ _ },
+    ghost within: { IsWithin (sizes class.now.base.now.items)
+        (fraction_of value.now) } by { within_prop _ _ },
     ghost ready: { IsClassSetting (sizes class.now.base.now.items) (length form.now)
         class.now.setting } by { class_setting_prop _ _ _ },
 }

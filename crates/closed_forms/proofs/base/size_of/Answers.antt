@@ -8,7 +8,8 @@ pub absolute-requires : goal.absolute-requires
 absolute-requires c = den_fits c.args.value.now _ (den_passed c.args.value.now c.den.ensures)
 
 pub absolute-requires-else-below : goal.absolute-requires-else-below
-absolute-requires-else-below c = num_fits c.args.value.now _ (num_passed c.args.value.now c.num.ensures)
+absolute-requires-else-below c = num_fits c.args.value.now _
+    (num_passed c.args.value.now c.num.ensures)
 
 pub returns-then-below-clause-size : goal.returns-then-below-clause-size
 returns-then-below-clause-size c = c.absolute.ensures.size
