@@ -89,7 +89,7 @@ powers_meet l n (suc z) = swap l (inverse l) (power ℚ l z) (power ℚ (inverse
     swap : (a b p q : Fraction) → R.mul (R.mul a p) (R.mul b q) ≡ R.mul (R.mul a b) (R.mul p q)
     swap a b p q = ring R (a ∷ b ∷ p ∷ q ∷ []) (search ring_rules depth 40) refl
 
-module _ (base : List ℕ) (m : ℕ) (l : Fraction) (z : ℕ) {there q : Terms Fraction}
+module _ {base : List ℕ} (m : ℕ) (l : Fraction) (z : ℕ) {there q : Terms Fraction}
     (y : Terms Fraction) (is : IsLaterForm base m l z there q y) where
   pub later_recurs : HasRecurrence base m l q (λ s. value_at ℚ y (point base 0 s)) y
   unfolding power
@@ -130,9 +130,11 @@ module _ (base : List ℕ) (m : ℕ) (l : Fraction) (z : ℕ) {there q : Terms F
       back : (t u : Fraction) → R.add (R.mul R.one (R.add t (R.neg u))) u ≡ t
       back t u = ring R (t ∷ u ∷ []) (search ring_rules depth 40) refl
 
-pub one_later_recurs : (base : List ℕ) (m : ℕ) (l : Fraction) (q y : Terms Fraction) → l ≡ ℚ.zero
-    → IsOneLater base m q y → HasRecurrence base m l q (λ s. value_at ℚ y (point base 0 s)) y
-one_later_recurs base m l q y nothing is = record {
+pub one_later_recurs : (base : List ℕ) (m : ℕ) (l : Fraction) {q : Terms Fraction}
+    (y : Terms Fraction)
+    → l ≡ ℚ.zero → IsOneLater base m q y
+    → HasRecurrence base m l q (λ s. value_at ℚ y (point base 0 s)) y
+one_later_recurs base m l {q = q} y nothing is = record {
   first = λ s e. refl;
   next = λ n s e.
       is.values n s e
@@ -145,8 +147,8 @@ one_later_recurs base m l q y nothing is = record {
     drop y q = ring R (y ∷ q ∷ []) (search ring_rules depth 40) refl
 
 -- ---- how many values are zero
-pub zeros_one : (c : Fraction) → c ≡ ℚ.zero → zeros_in (c ∷ []) ≡ 1
-zeros_one c e = ap (λ b. cond b 1 0) ((zero_is c).1 e)
+pub zeros_one : {c : Fraction} → c ≡ ℚ.zero → zeros_in (c ∷ []) ≡ 1
+zeros_one {c = c} e = ap (λ b. cond b 1 0) ((zero_is c).1 e)
 
 pub zeros_none : (c : Fraction) → c ≢ ℚ.zero → zeros_in (c ∷ []) ≡ 0
 zeros_none c n = go (is_zero c) refl
@@ -219,11 +221,11 @@ module _ {values rest : List Frac} {v : Frac} (e : values ≡ v ∷ rest) {n : �
       ∙ ap (λ k. zeros_in (fraction_of v ∷ []) + k) (sym count)
 
   pub zero_here : fraction_of v ≡ ℚ.zero → n + 1 ≡ zeros_in (fractions_of values)
-  zero_here z = (let a = whole in let b = zeros_one (fraction_of v) z in omega (arith, a, b))
+  zero_here z = (let a = whole in let b = zeros_one z in omega (arith, a, b))
 
-  pub zero_later : (b : Bool) → b ≡ false → (fraction_of v ≡ ℚ.zero → b ≡ true)
+  pub zero_later : {b : Bool} → b ≡ false → (fraction_of v ≡ ℚ.zero → b ≡ true)
       → n ≡ zeros_in (fractions_of values)
-  zero_later b off test =
+  zero_later off test =
       let a = whole in
       let d = zeros_none (fraction_of v) (λ z. (let t = test z in let bad : ⊥ = cc in bad)) in
       omega (arith, a, d)

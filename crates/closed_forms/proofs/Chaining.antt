@@ -43,11 +43,11 @@ module _ (c : ClassParts) where
   unfolding Each
   next_none = record { each = λ i l. absurd (omega (arith, l)); normal = tt }
 
-  next_push : (done : List (Terms Fraction)) (y : Terms Fraction) → AreNextForms c done
+  next_push : {done : List (Terms Fraction)} (y : Terms Fraction) → AreNextForms c done
       → IsNormalForm c.base grevlex c.vars y → IsNextAt c (length done) done y
       → AreNextForms c (done ++ y ∷ [])
   unfolding Each
-  next_push done y h normal next = record {
+  next_push {done = done} y h normal next = record {
     each = λ i l. below_more
         (λ k. IsNextAt c k (take k (done ++ y ∷ [])) (poly_at (done ++ y ∷ []) k)) (length done)
         before last i (let e = length_push done y in omega (arith, l, e));
@@ -81,7 +81,7 @@ each_at P (y ∷ xs) (suc i) {x = x} l is h = each_at P xs i (omega (arith, l)) 
 module _ (w : ClassInWork) where
   pub next_begun : {done : List FracPoly} → done ≡ [] → AreClosedIn w (terms_each done)
   next_begun e = subst (λ (l : List FracPoly). AreClosedIn w (terms_each l)) (sym e)
-      (next_none (parts_of (base_in w) w.group.now w.setting w.split.now))
+      (next_none _)
 
   module _ {dones given : List FracPoly} {place : ℕ} {form : Vec Frac Global} {row : List Frac}
       {value : Frac} (same : given ≡ dones) (count : length dones ≡ place)
@@ -111,11 +111,9 @@ module _ (w : ClassInWork) where
         (terms_each given) (terms_in y)
         → AreClosedIn w (terms_each more)
     next_code y e h normal next =
-        subst (AreClosedIn w) (sym (ap terms_each e ∙ map_push terms_in dones y))
-        (next_push (parts_of (base_in w) w.group.now w.setting w.split.now) (terms_each dones)
-        (terms_in y) h normal (subst (λ (t : Told).
-        IsNextOf (base_in w) w.group.now w.setting t.0 t.1 t.2 (terms_in y))
-        (λ i. (row_is i, value_is i, given_is i)) next))
+        subst (AreClosedIn w) (sym (ap terms_each e ∙ map_push terms_in dones y)) (next_push _
+        (terms_in y) h normal (subst (λ (t : Told). IsNextOf (base_in w) w.group.now w.setting t.0
+        t.1 t.2 (terms_in y)) (λ i. (row_is i, value_is i, given_is i)) next))
 
     pub past_code : AreClosedIn w (terms_each dones)
         → IsPastFormOf (base_in w) w.group.now w.setting (fractions_of row) (fraction_of value)
@@ -132,12 +130,12 @@ module _ (w : ClassInWork) where
 
 -- ---- rows of the inverse
 pub variables_next : (base : List ℕ) (done : List (Terms Fraction)) (back : List (Vec Frac Global))
-    (i : ℕ) (row : Vec Frac Global) (es more : List Expo) (e : Expo) → i < length back
-    → row ≡ get_or back i row → more ≡ es ++ e ∷ []
+    (i : ℕ) {row : Vec Frac Global} (es : List Expo) {more : List Expo} (e : Expo)
+    → i < length back → row ≡ get_or back i row → more ≡ es ++ e ∷ []
     → terms_in e.body ≡ variable_in base (fractions_of row.items) done
     → bodies_of es ≡ map (λ row. variable_in base row done) (rows_of (take i back))
     → bodies_of more ≡ map (λ row. variable_in base row done) (rows_of (take (i + 1) back))
-variables_next base done back i row es more e l is k own h =
+variables_next base done back i {row = row} es e l is k own h =
     let f : List Fraction → Terms Fraction = λ row. variable_in base row done in
     ap bodies_of k
     ∙ map_push (λ (e : Expo). terms_in e.body) es e

@@ -59,11 +59,11 @@ module _ {row xs : List Frac} {matrix rs : List (Vec Frac Global)} {x : Frac} {r
       (subst (λ a. SumIsPast a (fraction_of d)) (h
       ∙ ap (ℚ.mul (fraction_of x)) (sym (entry_at r.items column y low is))) past))))
 
-pub rest_low : (matrix : List (Vec Frac Global)) {rs : List (Vec Frac Global)} (r : Vec Frac Global)
+pub rest_low : {matrix : List (Vec Frac Global)} {rs : List (Vec Frac Global)} {r : Vec Frac Global}
     (column : ℕ)
     → matrix ≡ r ∷ rs → All (λ (v : Vec Frac Global). column < length v.items) matrix
     → All (λ (v : Vec Frac Global). column < length v.items) rs
-rest_low matrix r column e all = λ k d l.
+rest_low column e all = λ k d l.
     subst (λ m. All (λ (v : Vec Frac Global). column < length v.items) m) e all (suc k) d
     (omega (arith, l))
 

@@ -71,12 +71,12 @@ of_split (Some split ∷ splits) c i =
 values_from : (splits : List (Option Split)) (k : ℕ) (split : Split) → k < length splits
     → get_or splits k None ≡ Some split → (c : Fraction) → In c (fractions_of split.values.items)
     → In c (values_in splits)
-values_from splits k split l e c i = each_in _ (fractions_of split.values.items) c
+values_from splits k split l e c i = each_in _ _ c
     (values_at (λ x. In x (values_in splits)) splits k (Some split) split l
     (sym e ∙ get_or_default splits k None (Some split) l) refl
     (each_from (values_in splits) (λ x i. i))) i
 
-module _ (images : List (Terms Fraction)) (splits : List (Option Split))
+module _ {images : List (Terms Fraction)} {splits : List (Option Split)}
     (are : AreSplits images splits) where
   pub form_base_is : IsMap (length images) images → (base : List ℕ)
       → IsTheBase (sizes_of (some_of (values_in splits))) base → IsFormBase images base
@@ -145,27 +145,28 @@ refused_first images (LimitForm variable) h = absurd h
 refused_first images (WideForm variable) h = absurd h
 refused_first images Memory h = tt
 
-pub refused_later : (images : List (Terms Fraction)) → IsSolvable images → AllPass images
+pub refused_later : {images : List (Terms Fraction)} → IsSolvable images → AllPass images
     → (e : FormsError) → IfLater images e → IfRefusedBy images e
-refused_later images none pass (NotSolvable cycle) h = absurd h
-refused_later images none pass (Eigen class) h = absurd h
-refused_later images none pass (Range class sum) h = absurd h
-refused_later images none pass (WideSplit class candidate power row) h = absurd h
-refused_later images none pass (LimitForm variable) h = absurd h
-refused_later images none pass (WideForm variable) h = record {
+refused_later none pass (NotSolvable cycle) h = absurd h
+refused_later none pass (Eigen class) h = absurd h
+refused_later none pass (Range class sum) h = absurd h
+refused_later none pass (WideSplit class candidate power row) h = absurd h
+refused_later none pass (LimitForm variable) h = absurd h
+refused_later none pass (WideForm variable) h = record {
   solvable = none;
   pass = pass;
   later = h;
 }
-refused_later images none pass Memory h = tt
+refused_later none pass Memory h = tt
 
 -- ---- lengths
 pub is_too_long : (images : List (Terms Fraction)) → IsSolvable images → AllPass images
     → (groups : List (List ℕ)) → AreClasses (uses images) (length images) [] groups
-    → (n v : ℕ) (o : Option ℕ) → n ≡ length images → o ≡ Some v
+    → {n v : ℕ} {o : Option ℕ} → n ≡ length images → o ≡ Some v
     → MatchOption o (AreShort images groups (replicate n 1))
-    (IsLongAmong images groups (replicate n 1)) → IsTooLong images v
-is_too_long images none pass groups are n v o size e h = record {
+    (IsLongAmong images groups (replicate n 1))
+    → IsTooLong images v
+is_too_long images none pass groups are {n = n} {v = v} size e h = record {
   solvable = none;
   pass = pass;
   long = record {
@@ -183,12 +184,12 @@ pub closed_is : (base : List ℕ) (images : List (Terms Fraction)) (splits : Lis
     → AreKnown base images splits z [] (bodies_of es)
     → IsClosedFormFrom base images z (bodies_of es)
 closed_is base images splits z es over known = known_last base images splits z (bodies_of es) known
-    (normal-arities base (length images) (bodies_of es) (over_normals base es over))
+    (normal-arities base (length images) (bodies_of es) (over_normals es over))
 
 -- as many polynomials as variables
-pub closed_count : (base : List ℕ) (images : List (Terms Fraction)) (since : ℕ) (es : List Expo)
+pub closed_count : {base : List ℕ} {images : List (Terms Fraction)} (since : ℕ) (es : List Expo)
     → IsClosedFormFrom base images since (bodies_of es) → length es ≡ length images
-closed_count base images since es c =
+closed_count {images = images} since es c =
     let s = replicate (length images) ℚ.zero in
     sym (bodies-count es) ∙ sym (length-map (bodies_of es) _)
     ∙ ap length (c.values since s (length-replicate (length images) ℚ.zero) (omega arith))

@@ -85,10 +85,11 @@ pub made_within : (base values : _)
 made_within base values h = each_from values (λ c i n outside. outside
     (each_in (λ c. c ≢ ℚ.zero → IsMade base c) values c h i n))
 
-pub first_here : (splits : List (Option Split)) (k i : ℕ) (found : Option Split) (split : Split)
+pub first_here : (splits : List (Option Split)) (k : ℕ) {i : ℕ} (found : Option Split)
+    (split : Split)
     → k ≡ i → found ≡ get_or splits k found → found ≡ Some split → k < length splits
     → get_or splits i None ≡ Some split
-first_here splits k i found split e read is l =
+first_here splits k found split e read is l =
     ap (λ j. get_or splits j None) (sym e) ∙ get_or_default splits k None found l ∙ sym read ∙ is
 
 pub values_at : (P : Fraction → Type 0) (splits : List (Option Split)) (i : ℕ)

@@ -54,7 +54,7 @@ listed w = w.map.images.now.items
 
 module _ {w : MapInWork} (is : IsInWork w) where
   pub form_base_in : IsFormBase (images_in w) (numbers w)
-  form_base_in = form_base_is (images_in w) w.splits.items is.splits
+  form_base_in = form_base_is is.splits
       (map_of (listed w) w.map.square)
       (numbers w) is.base
 
@@ -80,10 +80,9 @@ module _ {w : MapInWork} (is : IsInWork w) where
   room_in = room w.base.items (length (listed w)) is.short w.map.few
 
   -- before the first class
-  pub none_yet : (es : List Expo) → length es ≡ length (listed w)
-      → AreOver (numbers w) (length (listed w)) es
-      → AreFormsBut w (groups_in w.classes.items) es
-  none_yet es count over = record {
+  pub none_yet : {es : List Expo} → length es ≡ length (listed w)
+      → AreOver (numbers w) (length (listed w)) es → AreFormsBut w (groups_in w.classes.items) es
+  none_yet {es = es} count over = record {
     over = over;
     known = known_begun (numbers w) (images_in w) w.splits.items w.iterations is.classes
         (bodies_of es) (bodies-count es ∙ count ∙ sym (length_each (listed w))) (sym is.iterations);
@@ -140,7 +139,7 @@ module _ {w : MapInWork} {g : List ℕ} {rest : List (List ℕ)} {es : List Expo
           subst (IsSplitOf (images_in w) g) own s.2
 
       here : get_or w.splits.items (first_of g) None ≡ Some split
-      here = first_here w.splits.items (get_or g 0 0) (first_of g) found split first_at read some
+      here = first_here w.splits.items (get_or g 0 0) found split first_at read some
           first_low
 
       pub values_here : Each (λ c. c ≢ ℚ.zero → IsMade (numbers w) c)
@@ -151,8 +150,8 @@ module _ {w : MapInWork} {g : List ℕ} {rest : List (List ℕ)} {es : List Expo
 
       pub ready_here : IsReady (numbers w) (images_in w) w.iterations (zeros_of split) g
           (bodies_of es)
-      ready_here = known_ready (numbers w) (images_in w) w.splits.items w.iterations rest
-          g refl forms.known split here
+      ready_here = known_ready (numbers w) (images_in w) w.splits.items w.iterations
+          g refl forms.known here
 
       pub forms_next : {news new : List Expo} → length news ≡ length g
           → AreOver (numbers w) (length w.map.images.now.items) news
@@ -163,7 +162,7 @@ module _ {w : MapInWork} {g : List ℕ} {rest : List (List ℕ)} {es : List Expo
       forms_next {news} {new} count over put variables =
           let whole = put_all g news es new count put in
           record {
-            over = put_over (numbers w) (length w.map.images.now.items) g news es new whole count
+            over = put_over (numbers w) g news es new whole count
                 over
                 forms.over;
             known = known_next (numbers w) (images_in w) w.splits.items w.iterations (g ∷ rest) rest
@@ -182,7 +181,7 @@ module _ {w : MapInWork} {g : List ℕ} {rest : List (List ℕ)} {es : List Expo
         forms = rows_of split.forms.items;
         values = fractions_of split.values.items;
         ready = ready_here;
-        normal = over_normals (numbers w) es
+        normal = over_normals es
             (subst (λ n. AreOver (numbers w) n es)
             (sym (length_each w.map.images.now.items)) forms.over);
         first = sym first_at;
@@ -199,7 +198,7 @@ module _ {w : MapInWork} {es : List Expo} (is : IsInWork w) (forms : AreFormsBut
   closed = closed_is (numbers w) (images_in w) w.splits.items w.iterations es own forms.known
 
   many : length es ≡ length (listed w)
-  many = closed_count (numbers w) (images_in w) w.iterations es closed ∙ length_each (listed w)
+  many = closed_count w.iterations es closed ∙ length_each (listed w)
 
   pub inside_in : All (λ (g : Vec ℕ Global). All (λ i. i < length es) g.items) w.classes.items
   inside_in = groups_inside (listed w) w.classes.items (sym many) is.classes
@@ -265,15 +264,15 @@ module _ {w : MapInWork} {es : List Expo} (is : IsInWork w) (forms : AreFormsBut
         → IfOfClass (λ v. (since ≢ 0) × IsPastOfClass (groups_in w.classes.items) es 0 v) e
         → IfWideIteration (numbers w) (images_in w) w.iterations e
     passing_wide = of_class (λ v. (since ≢ 0) × IsPastOfClass (groups_in w.classes.items) es 0 v)
-        (IsWideIteration (numbers w) (images_in w) w.iterations)
-        (λ v h. wide_here settling_in 0 v
+        (IsWideIteration (numbers w) (images_in w) w.iterations) (λ v h. wide_here settling_in v
         (some since w.iterations h.0 settled.low) (inr refl) h.1)
       where
         some : (a b : ℕ) → a ≢ 0 → a ≤ b → 0 < b
         some a b n l = grind (arith, n, l)
 
-pub form_in : {w : MapInWork} (is : IsInWork w) (polys : Vec Expo Global) (since : ℕ)
-    (passing : Vec Bool Global) → AreFormsBut w [] polys.items
+pub form_in : {w : MapInWork} (is : IsInWork w) (polys : Vec Expo Global) {since : ℕ}
+    (passing : Vec Bool Global)
+    → AreFormsBut w [] polys.items
     → IsSettled (images_in w) (sizes w.base.items) polys.items w.iterations since
     → length passing.items ≡ length polys.items
     → ArePassing (sizes w.base.items) (length (images_in w)) (bodies_of polys.items) passing.items
@@ -283,16 +282,16 @@ pub form_in : {w : MapInWork} (is : IsInWork w) (polys : Vec Expo Global) (since
       since = since;
       passing = passing;
     })
-form_in {w} is polys since passing forms settled told passes =
+form_in {w} is polys {since = since} passing forms settled told passes =
     let size = length_each (listed w) in
     let own = subst (λ m. AreOver (numbers w) m polys.items) (sym size) forms.over in
-    let count = closed_count (numbers w) (images_in w) since polys.items settled.closed in
+    let count = closed_count since polys.items settled.closed in
     let n : length (numbers w) ≡ length w.base.items = length-map w.base.items _ in
     record {
       base = form_base_in is;
       closed = settled.closed;
       least = settled.least;
-      normal = over_normals (numbers w) polys.items own;
+      normal = over_normals polys.items own;
       over = own;
       count = count;
       told = told ∙ count;

@@ -70,18 +70,18 @@ module _ {base : List ℕ} {m : ℕ} {e : Expo} (over : IsExpoOver base m e) whe
     normal = own_is_normal base m over_polynomial.arity own_normal;
   }
 
-pub expo_over : {base : List ℕ} (m : ℕ) (ts : Terms Fraction) (e : Expo) → IsExpo base m ts e
+pub expo_over : {base : List ℕ} {m : ℕ} (ts : Terms Fraction) (e : Expo) → IsExpo base m ts e
     → IsExpoOver base m e
-expo_over m ts e h = record { over_base = h.over_base; over_vars = h.over_vars }
+expo_over ts e h = record { over_base = h.over_base; over_vars = h.over_vars }
 
-pub tabled_over : (base : List ℕ) (m a : ℕ) {inhomogeneity : Power} (own : Power) (e : Expo)
+pub tabled_over : {base : List ℕ} (m a : ℕ) {inhomogeneity : Power} {own : Power} {e : Expo}
     → IsTabled base m a inhomogeneity own e → IsExpoOver base m e
-tabled_over base m a own e (Solutions.other ts n t i) = expo_over m ts e i
-tabled_over base m a own e (Solutions.equal ts n t i) = expo_over m ts e i
+tabled_over m a {e = e} (Solutions.other ts n t i) = expo_over ts e i
+tabled_over m a {e = e} (Solutions.equal ts n t i) = expo_over ts e i
 
 -- ---- one of a list
-pub all_one : {A : Type 0} (P : A → Type 0) (xs : List A) (x : A) → xs ≡ x ∷ [] → P x → All P xs
-all_one P xs x e h = All-same P _ _ e (All-push P [] x (All-nil P) h)
+pub all_one : {A : Type 0} (P : A → Type 0) {xs : List A} (x : A) → xs ≡ x ∷ [] → P x → All P xs
+all_one P x e h = All-same P _ _ e (All-push P [] x (All-nil P) h)
 
 -- ---- exponents of powers
 pub sides_none : (below : Bool) (e : List ℤ) (old : List ℕ) → length e ≡ 0
@@ -89,10 +89,11 @@ pub sides_none : (below : Bool) (e : List ℤ) (old : List ℕ) → length e ≡
 sides_none below [] old h = sym (append-nil old)
 sides_none below (z ∷ e) old h = absurd (omega (arith, h))
 
-pub sides_next : (below : Bool) (e f : List ℤ) (z : ℤ) (n : ℕ) (old mid new : List ℕ) → e ≡ z ∷ f
-    → n ≡ side_of below z → mid ≡ old ++ n ∷ [] → new ≡ mid ++ map (side_of below) f
+pub sides_next : (below : Bool) {e f : List ℤ} {z : ℤ} (n : ℕ) (old : List ℕ) {mid : List ℕ}
+    (new : List ℕ)
+    → e ≡ z ∷ f → n ≡ side_of below z → mid ≡ old ++ n ∷ [] → new ≡ mid ++ map (side_of below) f
     → new ≡ old ++ map (side_of below) e
-sides_next below e f z n old mid new h k a b =
+sides_next below {f = f} n old new h k a b =
     b ∙ ap (λ l. l ++ map (side_of below) f) a ∙ append_assoc old (n ∷ []) (map (side_of below) f)
     ∙ ap (λ x. old ++ x ∷ map (side_of below) f) k ∙ ap (λ l. old ++ map (side_of below) l) (sym h)
 
@@ -105,10 +106,10 @@ sides_front negative e u a b d =
     ∙ append_assoc (0 ∷ cond negative 1 0 ∷ map (side_of false) e) (map (side_of true) e) u
     ∙ refl
 
-pub sides_length : (e : List ℤ) (start mid front : List ℕ) → length start ≡ 2
+pub sides_length : (e : List ℤ) (start : List ℕ) {mid front : List ℕ} → length start ≡ 2
     → mid ≡ start ++ map (side_of false) e → front ≡ mid ++ map (side_of true) e
     → length front ≡ 2 + length e + length e
-sides_length e start mid front s a b =
+sides_length e start {mid = mid} {front = front} s a b =
     let u : length mid ≡ length start + length (map (side_of false) e) = ap length a
     ∙ length-append start (map (side_of false) e) in
     let v : length front ≡ length mid + length (map (side_of true) e) = ap length b
@@ -124,10 +125,11 @@ differences_none (m ∷ u) [] old h = sym (append-nil old)
 differences_none (m ∷ u) (n ∷ v) old (inl h) = absurd (omega (arith, h))
 differences_none (m ∷ u) (n ∷ v) old (inr h) = absurd (omega (arith, h))
 
-pub differences_next : (u u' v v' : List ℕ) (m n : ℕ) (z : ℤ) (old mid new : List ℤ) → u ≡ m ∷ u'
-    → v ≡ n ∷ v' → z ≡ pos m -ℤ pos n → mid ≡ old ++ z ∷ [] → new ≡ mid ++ differences u' v'
-    → new ≡ old ++ differences u v
-differences_next u u' v v' m n z old mid new e f h a b =
+pub differences_next : {u u' v v' : List ℕ} {m n : ℕ} {z : ℤ} (old : List ℤ) {mid : List ℤ}
+    (new : List ℤ)
+    → u ≡ m ∷ u' → v ≡ n ∷ v' → z ≡ pos m -ℤ pos n → mid ≡ old ++ z ∷ []
+    → new ≡ mid ++ differences u' v' → new ≡ old ++ differences u v
+differences_next {u' = u'} {v' = v'} {z = z} old new e f h a b =
     b ∙ ap (λ l. l ++ differences u' v') a ∙ append_assoc old (z ∷ []) (differences u' v')
     ∙ ap (λ x. old ++ x ∷ differences u' v') h ∙ ap₂ (λ x y. old ++ differences x y) (sym e) (sym f)
 
@@ -150,21 +152,21 @@ module _ (bs : List ℕ) (e others up more down : List ℕ) (r : ℕ) (k : r ≡
   downs_are = d ∙ ap₂ (λ i (l : List ℕ). take i l) k (m ∙ ap₂ (λ i (l : List ℕ). drop i l) k (o
       ∙ rest_is e))
 
-  items_are : (old items : List ℤ) → old ≡ [] → items ≡ old ++ differences up down
+  items_are : (old : List ℤ) {items : List ℤ} → old ≡ [] → items ≡ old ++ differences up down
       → items ≡ differences x.1 x.2
-  items_are old items z is = is ∙ ap (λ l. l ++ differences up down) z
+  items_are old z is = is ∙ ap (λ l. l ++ differences up down) z
       ∙ ap₂ differences ups_are downs_are
 
-  pub cut_key : (old items : List ℤ) (n : ℕ) (negative : Bool) → IsNormalKey bs x → old ≡ []
+  pub cut_key : (old items : List ℤ) {n : ℕ} (negative : Bool) → IsNormalKey bs x → old ≡ []
       → items ≡ old ++ differences up down → n ≡ get_or e 1 0 → negative ≡ eqb n 1
       → x ≡ power_key negative items
-  cut_key old items n negative h z is p q =
+  cut_key old items {n = n} negative h z is p q =
       key_is_power bs x h negative (q ∙ ap (λ n. eqb n 1) (p ∙ one_place e))
-      ∙ ap (power_key negative) (sym (items_are old items z is))
+      ∙ ap (power_key negative) (sym (items_are old z is))
 
   pub cut_count : (old items : List ℤ) → IsNormalKey bs x → old ≡ []
       → items ≡ old ++ differences up down → length items ≡ length bs
-  cut_count old items h z is = ap length (items_are old items z is)
+  cut_count old items h z is = ap length (items_are old z is)
       ∙ differences-length bs x.1 x.2 h.1 h.2
 
 -- ---- growing terms
@@ -182,12 +184,12 @@ module _ (m : ℕ) (x : Key) where
       ∙ ap (λ p. old ++ p) (sym (nothing_grows cs g h)) ∙ e
 
   pub growing_next : {cs cs' : List Frac} {c : Frac} {g g' : List ℕ} {j : ℕ}
-      (old mid : List (Term Frac)) {u : Term Frac} {all : Terms Fraction} → cs ≡ c ∷ cs'
-      → g ≡ j ∷ g' → mid ≡ old ++ u ∷ [] → u.mono ≡ with_key 0 x (unit m j) → u.coef ≡ c
-      → tell old ++ homogeneous_part m x (fractions_of cs) g ≡ all
+      (old : List (Term Frac)) {mid : List (Term Frac)} {u : Term Frac} {all : Terms Fraction}
+      → cs ≡ c ∷ cs' → g ≡ j ∷ g' → mid ≡ old ++ u ∷ [] → u.mono ≡ with_key 0 x (unit m j)
+      → u.coef ≡ c → tell old ++ homogeneous_part m x (fractions_of cs) g ≡ all
       → tell mid ++ homogeneous_part m x (fractions_of cs') g' ≡ all
-  growing_next {cs' = cs'} {g' = g'} old mid {u} e f k n o h =
-      more_behind (tell old) _ (u.mono, fraction_of u.coef) _ (terms-push old mid u k) refl
+  growing_next {cs' = cs'} {g' = g'} old {mid = mid} {u} e f k n o h =
+      more_behind (tell old) _ (u.mono, fraction_of u.coef) _ (terms-push old u k) refl
       ∙ ap₂ (λ a b. tell old ++ (a, fraction_of b) ∷ homogeneous_part m x (fractions_of cs') g') n o
       ∙ ap₂ (λ a b. tell old ++ homogeneous_part m x (fractions_of a) b) (sym e) (sym f) ∙ h
 
@@ -198,11 +200,11 @@ module _ (base : List ℕ) (m : ℕ) (l : Fraction) where
   solved_none [] old h = record { solved = []; are = refl; terms = sym (append-nil old) }
   solved_none (t ∷ ts) old h = absurd (omega (arith, h))
 
-  pub solved_next : (ts rest : List (Term Frac)) (t : Term Frac) {p : Terms Fraction}
+  pub solved_next : (ts rest : List (Term Frac)) {t : Term Frac} {p : Terms Fraction}
       (old : Terms Fraction) {mid : Terms Fraction} (new : Terms Fraction)
       → ts ≡ t ∷ rest → IsSolvedTerm base m l (term_of fraction_of t) p → mid ≡ old ++ p
       → AreSolvedBehind base m l (tell rest) mid new → AreSolvedBehind base m l (tell ts) old new
-  solved_next ts rest t {p = p} old new e h k more_solved =
+  solved_next ts rest {p = p} old new e h k more_solved =
       subst (λ q. AreSolvedBehind base m l (tell q) old new) (sym e) (record {
         solved = p ++ more_solved.solved;
         are = (p, more_solved.solved, h, more_solved.are, refl);
@@ -210,19 +212,19 @@ module _ (base : List ℕ) (m : ℕ) (l : Fraction) where
             ∙ append_assoc old p more_solved.solved;
       })
 
-  pub past_term_at : (ts : List (Term Frac)) (i : ℕ) (t : Term Frac) → i < length ts
+  pub past_term_at : (ts : List (Term Frac)) (i : ℕ) {t : Term Frac} → i < length ts
       → t ≡ get_or ts i t → IsPastTerm base m l (term_of fraction_of t)
       → IsPastAmong base m l (tell ts)
-  past_term_at ts i t b is h = record {
+  past_term_at ts i {t = t} b is h = record {
     term = term_of fraction_of t;
     within = term_within ts i t b is;
     past = h;
   }
 
-  pub normal_at : (ts : List (Term Frac)) (i : ℕ) (t : Term Frac) → i < length ts
-      → t ≡ get_or ts i t → IsNormal base (tell ts)
-      → IsNormalKey base (key_of (length base) t.mono)
-  normal_at ts i t b is h = each_in (λ u. IsNormalKey base (key_of (length base) u.0)) (tell ts)
+  pub normal_at : (ts : List (Term Frac)) (i : ℕ) {t : Term Frac} → i < length ts
+      → t ≡ get_or ts i t → IsNormal base (tell ts) → IsNormalKey base (key_of (length base) t.mono)
+  normal_at ts i {t = t} b is h =
+      each_in (λ u. IsNormalKey base (key_of (length base) u.0)) (tell ts)
       (term_of fraction_of t) h (term_within ts i t b is)
 
 -- ---- the solution of a term
@@ -231,13 +233,12 @@ pub still_made : (r : ℕ) {first : ℕ} (e one others : List ℕ) {mono : List 
 still_made r e one others f a b c = c ∙ ap₂ ◌++◌ (a ∙ ap (λ n. replicate n 0) f) (b
     ∙ ap (λ n. drop n e) f)
 
-pub key_solution : (base : List ℕ) (m : ℕ) (t : List ℕ × Fraction) (inhomogeneity own : Power)
-    (a : ℕ)
-    (e : Expo) → a ≡ top t.0 → key_of (length base) t.0 ≡ key_of_power inhomogeneity
-    → IsExpoOver base m e
+pub key_solution : {base : List ℕ} {m : ℕ} (t : List ℕ × Fraction) (inhomogeneity own : Power)
+    (a : ℕ) {e : Expo}
+    → a ≡ top t.0 → key_of (length base) t.0 ≡ key_of_power inhomogeneity → IsExpoOver base m e
     → IsSolution base m a (number_of base inhomogeneity) (number_of base own) (terms_in e.body)
     → IsKeySolution base m (number_of base own) t (terms_in e.body)
-key_solution base m t inhomogeneity own a e q k over h = record {
+key_solution {base = base} {m = m} t inhomogeneity own a {e = e} q k over h = record {
   negative = inhomogeneity.negative;
   exponents = inhomogeneity.exponents.items;
   key = k;
@@ -246,28 +247,28 @@ key_solution base m t inhomogeneity own a e q k over h = record {
       (terms_in e.body)) q h;
 }
 
-solving_past : (base : List ℕ) (a : ℕ) (inhomogeneity own : Power)
+solving_past : (base : List ℕ) (a : ℕ) {inhomogeneity : Power} (own : Power)
     → IsPastSolution base a inhomogeneity own
     → IsPastSolving (number_of base inhomogeneity) (number_of base own) a
-solving_past base a inhomogeneity own (Solutions.inhomogeneity_number h) =
+solving_past base a own (Solutions.inhomogeneity_number h) =
     Solved.inhomogeneity_past h
-solving_past base a inhomogeneity own (Solutions.own_number h) = Solved.own_past h
-solving_past base a inhomogeneity own (Solutions.other n h) = Solved.other n h
-solving_past base a inhomogeneity own (Solutions.equal n h) = Solved.equal n h
+solving_past base a own (Solutions.own_number h) = Solved.own_past h
+solving_past base a own (Solutions.other n h) = Solved.other n h
+solving_past base a own (Solutions.equal n h) = Solved.equal n h
 
-pub term_past : (base : List ℕ) (m : ℕ) (t : List ℕ × Fraction) (inhomogeneity own : Power) (a : ℕ)
+pub term_past : (base : List ℕ) (m : ℕ) (t : List ℕ × Fraction) {inhomogeneity own : Power} (a : ℕ)
     → a ≡ top t.0 → key_of (length base) t.0 ≡ key_of_power inhomogeneity
     → IsPastSolution base a inhomogeneity own → IsPastTerm base m (number_of base own) t
-term_past base m t inhomogeneity own a q k h =
+term_past base m t {inhomogeneity = inhomogeneity} {own = own} a q k h =
     Solved.solving inhomogeneity.negative inhomogeneity.exponents.items k
     (subst (IsPastSolving (number_of base inhomogeneity) (number_of base own)) q
-    (solving_past base a inhomogeneity own h))
+    (solving_past base a own h))
 
-pub product_past : {base : List ℕ} (m : ℕ) {l : Fraction} (t : List ℕ × Fraction)
-    (y : Terms Fraction) {q : Terms Fraction}
+pub product_past : {base : List ℕ} {m : ℕ} {l : Fraction} (t : List ℕ × Fraction)
+    {y : Terms Fraction} {q : Terms Fraction}
     → IsKeySolution base m l t y → q ≡ steady (length base) t → IsPastProduct fractions y q
     → IsPastTerm base m l t
-product_past m t y h e x = Solved.product y h (subst (IsPastProduct fractions y) e x)
+product_past t {y = y} h e x = Solved.product y h (subst (IsPastProduct fractions y) e x)
 
 -- ---- all of them
 module _ (base : List ℕ) (m : ℕ) (w : List Fraction) (g : List ℕ) (own : Power)
@@ -290,10 +291,11 @@ module _ (base : List ℕ) (m : ℕ) (w : List Fraction) (g : List ℕ) (own : P
         z);
   }
 
-  pub form_is : (all sum : Terms Fraction) (k : ℕ) (e : Expo) → IsWhole base m w g l q all
-      → sum ≡ collect_terms all → IsExpo base k (with_normal_keys (length base) sum) e
+  pub form_is : (all : Terms Fraction) {sum : Terms Fraction} (k : ℕ) (e : Expo)
+      → IsWhole base m w g l q all → sum ≡ collect_terms all
+      → IsExpo base k (with_normal_keys (length base) sum) e
       → IsSolvedForm base m w g l q (terms_in e.body)
-  form_is all sum k e h s x = record {
+  form_is all k e h s x = record {
     whole = all;
     is = h;
     terms = x.terms

@@ -72,21 +72,22 @@ normal_of_value base c m k all sum e a is x n s =
     ∙ normal-value base c m sum b n s ∙ ap (λ q. value_at ℚ q z) is ∙ collected_value all z
 
 -- ---- the sum
-pub solved_all : (base : List ℕ) (m : ℕ) (l : Fraction) (q : Terms Fraction) {none : Terms Fraction}
+pub solved_all : (base : List ℕ) (m : ℕ) (l : Fraction) {q : Terms Fraction} {none : Terms Fraction}
     (all : Terms Fraction)
     → none ≡ [] → AreSolvedBehind base m l q none all → AreSolved base m l q all
-solved_all base m l q all e h = subst (AreSolved base m l q)
+solved_all base m l {q = q} all e h = subst (AreSolved base m l q)
     (sym (h.terms ∙ ap (λ x. x ++ h.solved) e)) h.are
 
-pub sum_is : (base : List ℕ) → Coprime base → (m k : ℕ) (l : Fraction) (q all sum : Terms Fraction)
-    (e : Expo) → Arity (width (length base) m) q → AreSolved base m l q all
-    → sum ≡ collect_terms all
+pub sum_is : (base : List ℕ) → Coprime base
+    → (m k : ℕ) (l : Fraction) {q : Terms Fraction} (all : Terms Fraction) {sum : Terms Fraction}
+    (e : Expo)
+    → Arity (width (length base) m) q → AreSolved base m l q all → sum ≡ collect_terms all
     → IsExpo base k (with_normal_keys (length base) sum) e → IsExpoOver base m e
     → IsSumOf base m l q (terms_in e.body)
-sum_is base c m k l q all sum e a solved is x over = record {
+sum_is base c m k l {q = q} all {sum = sum} e a solved is x over = record {
   normal = over_normal over;
   recurs = recurrence_same base m l (λ s. ℚ.zero) q all (terms_in e.body)
-      (all_solved base c m l q all a solved)
+      (all_solved base c m l q a solved)
       (normal_of_value base c m k all sum e (solved-arity base c m l q all a solved) is x);
 }
 
@@ -95,7 +96,7 @@ two_products : (k t u : Fraction) → R.add (R.mul k t) (R.add (R.mul (R.neg k) 
     ≡ R.mul k (R.add t (R.neg u))
 two_products k t u = ring R (k ∷ t ∷ u ∷ []) (search ring_rules depth 40) refl
 
-module _ (base : List ℕ) (m : ℕ) (l : Fraction) (z : ℕ) (there at p : FracPoly)
+module _ (base : List ℕ) (m : ℕ) (l : Fraction) (z : ℕ) {there at : FracPoly} (p : FracPoly)
     (sum : Terms Fraction) {numbers : List Fraction} {polys : List FracPoly} {k o : Fraction}
     (factor : k ≡ power ℚ (inverse l) z) (opposite : o ≡ ℚ.neg k) (are : numbers ≡ k ∷ o ∷ [])
     (both : polys ≡ there ∷ at ∷ []) where
@@ -127,13 +128,13 @@ module _ (base : List ℕ) (m : ℕ) (l : Fraction) (z : ℕ) (there at p : Frac
       (subst (λ (ps : List FracPoly). P numbers (terms_each ps)) both h)
 
 -- ---- a polynomial of the variables times a power
-pub grown_next : (x : Key) (ts rest : List (Term Frac)) (t u : Term Frac)
-    (old mid : List (Term Frac)) (all : Terms Fraction) → ts ≡ t ∷ rest → mid ≡ old ++ u ∷ []
-    → u.mono ≡ with_key 0 x t.mono → u.coef ≡ t.coef → tell old ++ with_powers x (tell ts) ≡ all
-    → tell mid ++ with_powers x (tell rest) ≡ all
-grown_next x ts rest t u old mid all e k n o h =
+pub grown_next : (x : Key) (ts rest : List (Term Frac)) {t : Term Frac} (u : Term Frac)
+    (old : List (Term Frac)) {mid : List (Term Frac)} (all : Terms Fraction)
+    → ts ≡ t ∷ rest → mid ≡ old ++ u ∷ [] → u.mono ≡ with_key 0 x t.mono → u.coef ≡ t.coef
+    → tell old ++ with_powers x (tell ts) ≡ all → tell mid ++ with_powers x (tell rest) ≡ all
+grown_next x ts rest u old {mid = mid} all e k n o h =
     more_behind (tell old) _ (u.mono, fraction_of u.coef) (with_powers x (tell rest))
-    (terms-push old mid u k) refl ∙ ap₂ (λ a b. tell old ++ (a, fraction_of b) ∷ with_powers x
+    (terms-push old u k) refl ∙ ap₂ (λ a b. tell old ++ (a, fraction_of b) ∷ with_powers x
     (tell rest)) n o ∙ ap (λ l. tell old ++ with_powers x (tell l)) (sym e) ∙ h
 
 module _ (base : List ℕ) (c : Coprime base) (m : ℕ) (negative : Bool) (e : List ℤ)
@@ -184,17 +185,17 @@ module _ (base : List ℕ) (c : Coprime base) (m : ℕ) (negative : Bool) (e : L
       out x y z f = ring R (x ∷ y ∷ z ∷ f ∷ []) (search ring_rules depth 40) refl
 
   -- ---- the two together
-  module _ (start sum all : Terms Fraction) (is : all ≡ with_powers x start ++ sum)
-      (a : Arity m start) (b : Arity w sum) where
+  module _ (start sum : Terms Fraction) {all : Terms Fraction}
+      (is : all ≡ with_powers x start ++ sum) (a : Arity m start) (b : Arity w sum) where
     pub together-arity : Arity w all
     together-arity = subst (Arity w) (sym is)
         (each-append (λ (t : List ℕ × Fraction). length t.0 ≡ w) (with_powers x start) sum
         (grown-arity start a) b)
 
-    pub joined_is : (j : ℕ) (body : Terms Fraction) (y : Expo) → body ≡ collect_terms all
+    pub joined_is : (j : ℕ) {body : Terms Fraction} (y : Expo) → body ≡ collect_terms all
         → IsExpo base j (with_normal_keys (length base) body) y
         → IsJoined base m (negate_if negative (number base e)) start sum (terms_in y.body)
-    joined_is j body y k h = record {
+    joined_is j {body = body} y k h = record {
       values = λ n s l.
           normal_of_value base c m j all body y together-arity k h n s
           ∙ ap (λ q. value_at ℚ q (point base n s)) is

@@ -164,16 +164,16 @@ module _ {images : List (Terms Fraction)} {base : List ℕ} {groups : List (List
       low = (let a = s.low in omega (arith, a, one));
     }
 
-  pub wide_here : (n v : ℕ) → n < since → (since ≤ suc n) ⊎ (n ≡ 0)
+  pub wide_here : {n : ℕ} (v : ℕ) → n < since → (since ≤ suc n) ⊎ (n ≡ 0)
       → IsPastOfClass groups es n v → IsWideIteration base images since v
-  wide_here n v less near w = record {
+  wide_here {n = n} v less near w = record {
     iteration = n;
     before = less;
     since = since;
     near = near;
     polys = bodies_of es;
     closed = h.closed;
-    normal = over_normals base es h.over;
+    normal = over_normals es h.over;
     class = w.class;
     is = class;
     first = w.first;

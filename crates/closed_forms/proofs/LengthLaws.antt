@@ -44,22 +44,23 @@ module _ (images : List (Terms Fraction)) where
   unfolding class_length
   class-cons i g ns = refl
 
-  pub class_past_rest : (i : ℕ) (g all ns : List ℕ) → all ≡ i ∷ g
+  pub class_past_rest : {i : ℕ} {g all : List ℕ} (ns : List ℕ) → all ≡ i ∷ g
       → most_terms < class_length images g ns → most_terms < class_length images all ns
-  class_past_rest i g all ns e past =
+  class_past_rest {i = i} {g = g} ns e past =
       let is = ap (λ x. class_length images x ns) e ∙ class-cons i g ns in omega (arith, is, past)
 
-  pub class_past_own : (i : ℕ) (g all ns : List ℕ) {p : Terms Fraction} → all ≡ i ∷ g
+  pub class_past_own : {i : ℕ} {g all : List ℕ} (ns : List ℕ) {p : Terms Fraction} → all ≡ i ∷ g
       → p ≡ poly_at images i → most_terms < sum_length p ns
       → most_terms < class_length images all ns
-  class_past_own i g all ns e f past =
+  class_past_own {i = i} {g = g} ns e f past =
       let is = ap (λ x. class_length images x ns) e ∙ class-cons i g ns in
       let own = ap (λ x. sum_length x ns) f in omega (arith, is, own, past)
 
-  pub class_more : (i : ℕ) (g all ns : List ℕ) {p : Terms Fraction} (own rest : ℕ) (o : Option ℕ)
+  pub class_more : {i : ℕ} {g : List ℕ} (all ns : List ℕ) {p : Terms Fraction} {own rest : ℕ}
+      (o : Option ℕ)
       → all ≡ i ∷ g → p ≡ poly_at images i → own ≡ sum_length p ns → rest ≡ class_length images g ns
       → IsCount (own + rest) o → IsCount (class_length images all ns) o
-  class_more i g all ns own rest o e f l r h =
+  class_more {i = i} {g = g} all ns {own = own} {rest = rest} o e f l r h =
       count_of (own + rest) (class_length images all ns) o
       (ap₂ ◌+◌ (l ∙ ap (λ x. sum_length x ns) f) r ∙ sym (class-cons i g ns)
       ∙ sym (ap (λ x. class_length images x ns) e)) h
@@ -81,10 +82,10 @@ some_lengths (suc n) h = (omega arith, h)
 -- ---- one class after another
 module _ (images : List (Terms Fraction)) where
   -- the lengths with one class more
-  pub class_counted : (g : List ℕ) (ns new : List ℕ) {terms : ℕ} (clamped : ℕ)
+  pub class_counted : (g : List ℕ) (ns new : List ℕ) {terms : ℕ} {clamped : ℕ}
       → terms ≡ class_length images g ns → clamped ≡ at_least_one terms
       → new ≡ with_length g clamped ns → new ≡ with_class images g ns
-  class_counted g ns new clamped e f h =
+  class_counted g ns new e f h =
       h ∙ ap (λ n. with_length g n ns) (f ∙ ap at_least_one e)
 
   pub lengths_counted : (g : List ℕ) (ns new : List ℕ) → class_length images g ns ≤ most_terms

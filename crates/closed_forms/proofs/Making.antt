@@ -73,9 +73,9 @@ moved_is base m cs rests images p r l h e a s =
 
 -- ---- the combination of earlier forms
 -- ---- what is made normal
-pub normal_over : (bs : List ℕ) {w : ℕ} (m : ℕ) (ts : Terms Fraction) (e : Expo)
+pub normal_over : {bs : List ℕ} {w : ℕ} (m : ℕ) (ts : Terms Fraction) (e : Expo)
     → w ≡ width (length bs) m → IsExpo bs (vars_of bs w) (normal_of bs ts) e → IsExpoOver bs m e
-normal_over bs {w = w} m ts e k h = record {
+normal_over {bs = bs} {w = w} m ts e k h = record {
   over_base = h.over_base;
   over_vars = h.over_vars ∙ (let q : w - width (length bs) 0 ≡ m = omega (arith, k) in q);
 }
@@ -110,20 +110,20 @@ module _ (base : List ℕ) (m : ℕ) (cs : List Fraction) (rests ps : List (Term
   }
 
 -- ---- the solution of a term
-pub steady_is : (bs : List ℕ) (t : List ℕ × Fraction) (n : ℕ) (q : FracPoly) (e : List ℕ)
+pub steady_is : (bs : List ℕ) (t : List ℕ × Fraction) {n : ℕ} (q : FracPoly) {e : List ℕ}
     {x : Fraction} {ts : Terms Fraction}
     → ts ≡ (e, x) ∷ [] → e ≡ still (length bs) t.0 → x ≡ t.1 → length e ≡ n → q.arity ≡ n
     → Same ℚ (terms_in q) ts → terms_in q ≡ steady (length bs) t
 unfolding Each
-steady_is bs t n q e {x = x} k a b l g s =
+steady_is bs t q {e = e} {x = x} k a b l g s =
     poly_is q ((e, x) ∷ []) (l, tt) g (subst (Same ℚ (terms_in q)) k s)
     ∙ ap₂ (λ d y. collect_terms ((d, y) ∷ [])) a b
 
-pub product_is : (base : List ℕ) (m : ℕ) (t : List ℕ × Fraction) {l : Fraction} (y q r : FracPoly)
+pub product_is : {base : List ℕ} {m : ℕ} (t : List ℕ × Fraction) {l : Fraction} (y q r : FracPoly)
     → y.arity ≡ width (length base) m → q.arity ≡ width (length base) m → r.arity ≡ y.arity
     → IsKeySolution base m l t (terms_in y) → terms_in q ≡ steady (length base) t
     → Same ℚ (terms_in r) (times ℚ (terms_in y) (terms_in q)) → IsSolvedTerm base m l t (terms_in r)
-product_is base m t y q r a b c h e s = record {
+product_is {base = base} {m = m} t y q r a b c h e s = record {
   y = terms_in y;
   is = h;
   terms = poly_is r _

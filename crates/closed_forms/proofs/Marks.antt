@@ -46,10 +46,10 @@ both (Ok x) P Q S f p q = f p q
 both (Err e) P Q S f p q = tt
 
 -- ---- one polynomial
-pub at_same : (e : Expo) (n : ℕ) (p : FracPoly) (q : Terms Fraction)
+pub at_same : (e : Expo) (n : ℕ) (p : FracPoly) {q : Terms Fraction}
     → ((s : List Fraction) → length s ≡ e.vars → value_at ℚ (terms_in p) s ≡ value_of e n s)
     → terms_in p ≡ q → IsAt e n q
-at_same e n p q h k = λ s l. sym (h s l) ∙ ap (λ x. value_at ℚ x s) k
+at_same e n p h k = λ s l. sym (h s l) ∙ ap (λ x. value_at ℚ x s) k
 
 pub at_told : (e : Expo) (n : ℕ) (p q : FracPoly) → p.arity ≡ e.vars → q.arity ≡ e.vars
     → ((s : List Fraction) → length s ≡ e.vars → value_at ℚ (terms_in p) s ≡ value_of e n s)
@@ -65,10 +65,10 @@ at_told e n p q a b h k =
           (same_by_values m (terms_in p) (terms_in q) x.arity y.arity (λ s l. h s l ∙ k s l)),
     )
 
-pub mark_later : (marks rest : List Bool) (x : Bool) → marks ≡ x ∷ rest
+pub mark_later : {marks rest : List Bool} {x : Bool} → marks ≡ x ∷ rest
     → (i : ℕ) × (i < length rest) × (get_or rest i false ≡ true)
     → (i : ℕ) × (i < length marks) × (get_or marks i false ≡ true)
-mark_later marks rest x e (i, l, h) = (
+mark_later e (i, l, h) = (
   suc i,
   (let n = ap length e in omega (arith, n, l)),
   ap (λ m. get_or m (suc i) false) e ∙ h,
@@ -119,10 +119,10 @@ module _ (es : List Expo) (n : ℕ) (state : List FracPoly) (i : ℕ) {e : Expo}
 
 -- ---- variable by variable, and class by class
 module _ (es : List Expo) (n : ℕ) (state : List (Terms Fraction)) where
-  pub class_first : (g rest : List ℕ) (i : ℕ) (mid new : List Bool) → g ≡ i ∷ rest
-      → IsMarked es n state mid i → KeptMarks es n state mid new
-      → AreMarked es n state rest new → AreMarked es n state g new
-  class_first g rest i mid new e here kept later j inside = go (subst (In j) e inside)
+  pub class_first : {g rest : List ℕ} {i : ℕ} (mid new : List Bool) → g ≡ i ∷ rest
+      → IsMarked es n state mid i → KeptMarks es n state mid new → AreMarked es n state rest new
+      → AreMarked es n state g new
+  class_first {rest = rest} {i = i} mid new e here kept later j inside = go (subst (In j) e inside)
     where
       go : In j (i ∷ rest) → IsMarked es n state new j
       go (inl s) = subst (IsMarked es n state new) (sym s) (kept i here)
@@ -132,13 +132,13 @@ module _ (es : List Expo) (n : ℕ) (state : List (Terms Fraction)) where
       → KeptMarks es n state mid new → KeptMarks es n state old new
   kept_both old mid new h k = λ i m. k i (h i m)
 
-  pub classes_next : (groups : List (Vec ℕ Global)) (k : ℕ) (group : Vec ℕ Global) {g : List ℕ}
+  pub classes_next : (groups : List (Vec ℕ Global)) (k : ℕ) {group : Vec ℕ Global} {g : List ℕ}
       (mid new : List Bool)
       → k < length groups → group ≡ get_or groups k group → g ≡ group.items
       → KeptMarks es n state mid new → AreMarked es n state g new
       → AreAllMarked es n state (groups_in (take k groups)) mid
       → AreAllMarked es n state (groups_in (take (k + 1) groups)) new
-  classes_next groups k group mid new l is at kept here earlier h inside i within =
+  classes_next groups k {group = group} mid new l is at kept here earlier h inside i within =
       elim (in_push (groups_in (take k groups)) group.items h
       (subst (In h) (take_next (λ (g : Vec ℕ Global). g.items) groups k group l is) inside)) [
         | inl e ↦ kept i (earlier h e i within)
@@ -162,10 +162,11 @@ module _ (es : List Expo) (n : ℕ) (state : List (Terms Fraction)) where
     past = h.past;
   }
 
-  pub past_class : (groups : List (Vec ℕ Global)) (k : ℕ) (group : Vec ℕ Global) (g : List ℕ)
-      {v : ℕ} → k < length groups → group ≡ get_or groups k group → g ≡ group.items
-      → v ≡ first_of g → IsPastPlace es n g → IsPastOfClass (groups_in groups) es n v
-  past_class groups k group g l is at f h = record {
+  pub past_class : (groups : List (Vec ℕ Global)) (k : ℕ) {group : Vec ℕ Global} {g : List ℕ}
+      {v : ℕ}
+      → k < length groups → group ≡ get_or groups k group → g ≡ group.items → v ≡ first_of g
+      → IsPastPlace es n g → IsPastOfClass (groups_in groups) es n v
+  past_class groups k {group = group} {g = g} l is at f h = record {
     class = g;
     is = subst (λ x. In x (groups_in groups)) (sym (at ∙ ap (λ x. x.items) is))
         (map-in (λ (x : Vec ℕ Global). x.items) groups _ (in_get groups k group l));

@@ -32,9 +32,9 @@ use Rattle.closed_forms.specs.Sums.{mix, IsPastScaled}
 abbrev pub tell : List (Term Frac) → Terms Fraction
 tell ts = terms_of fraction_of ts
 
-pub terms-push : (ts more : List (Term Frac)) (t : Term Frac) → more ≡ ts ++ t ∷ []
-    → tell more ≡ tell ts ++ (t.mono, fraction_of t.coef) ∷ []
-terms-push ts more t e = ap tell e ∙ map_push (term_of fraction_of) ts t
+pub terms-push : (ts : List (Term Frac)) {more : List (Term Frac)} (t : Term Frac)
+    → more ≡ ts ++ t ∷ [] → tell more ≡ tell ts ++ (t.mono, fraction_of t.coef) ∷ []
+terms-push ts t e = ap tell e ∙ map_push (term_of fraction_of) ts t
 
 pub poly_get : (ps : List (Terms Fraction)) (i : ℕ) → poly_at ps i ≡ get_or ps i []
 poly_get [] i = refl
@@ -63,13 +63,14 @@ pub more_behind : (old : Terms Fraction) {mid : Terms Fraction} (new : Terms Fra
 more_behind old new t rest e h = h ∙ ap (λ r. r ++ rest) e ∙ append_assoc old (t ∷ []) rest
 
 module _ (ts rest : List (Term Frac)) {t : Term Frac} (is : ts ≡ t ∷ rest) where
-  pub scaled_next : (c : Fraction) (old mid : List (Term Frac)) (u : Term Frac)
-      (all : Terms Fraction) → u.mono ≡ t.mono → fraction_of u.coef ≡ ℚ.mul c (fraction_of t.coef)
-      → mid ≡ old ++ u ∷ [] → tell old ++ scale_terms rationals c (tell ts) ≡ all
+  pub scaled_next : (c : Fraction) (old : List (Term Frac)) {mid : List (Term Frac)} (u : Term Frac)
+      (all : Terms Fraction)
+      → u.mono ≡ t.mono → fraction_of u.coef ≡ ℚ.mul c (fraction_of t.coef) → mid ≡ old ++ u ∷ []
+      → tell old ++ scale_terms rationals c (tell ts) ≡ all
       → tell mid ++ scale_terms rationals c (tell rest) ≡ all
   unfolding scale_terms
-  scaled_next c old mid u all m k e h =
-      more_behind (tell old) _ (u.mono, fraction_of u.coef) _ (terms-push old mid u e) refl
+  scaled_next c old {mid = mid} u all m k e h =
+      more_behind (tell old) _ (u.mono, fraction_of u.coef) _ (terms-push old u e) refl
       ∙ ap₂ (λ x y. tell old ++ (x, y) ∷ scale_terms rationals c (tell rest)) m k
       ∙ ap (λ l. tell old ++ scale_terms rationals c (tell l)) (sym is) ∙ h
 
@@ -79,20 +80,21 @@ module _ (ts rest : List (Term Frac)) {t : Term Frac} (is : ts ≡ t ∷ rest) w
       ap (λ b. old ++ cond b (rest_of g (tell rest)) ((t.mono, fraction_of t.coef)
       ∷ rest_of g (tell rest))) has ∙ ap (λ l. old ++ rest_of g (tell l)) (sym is) ∙ h
 
-  pub rest_next : (g : List ℕ) (old mid : List (Term Frac)) (u : Term Frac) (all : Terms Fraction)
+  pub rest_next : (g : List ℕ) (old : List (Term Frac)) {mid : List (Term Frac)} (u : Term Frac)
+      (all : Terms Fraction)
       → false ≡ mine g t.mono → u.mono ≡ t.mono → u.coef ≡ t.coef → mid ≡ old ++ u ∷ []
       → tell old ++ rest_of g (tell ts) ≡ all → tell mid ++ rest_of g (tell rest) ≡ all
-  rest_next g old mid u all none m k e h =
+  rest_next g old {mid = mid} u all none m k e h =
       more_behind (tell old) _ (u.mono, fraction_of u.coef) (rest_of g (tell rest))
-      (terms-push old mid u e) refl
+      (terms-push old u e) refl
       ∙ ap₂ (λ x y. tell old ++ (x, fraction_of y) ∷ rest_of g (tell rest)) m k
       ∙ ap (λ b. tell old ++ cond b (rest_of g (tell rest)) ((t.mono, fraction_of t.coef)
       ∷ rest_of g (tell rest))) none ∙ ap (λ l. tell old ++ rest_of g (tell l)) (sym is) ∙ h
 
-pub past_scaled_at : (ts : List (Term Frac)) (i : ℕ) (t : Term Frac) (c : Fraction)
-    → i < length ts → t ≡ get_or ts i t → IsPast (fraction_size (ℚ.mul c (fraction_of t.coef)))
+pub past_scaled_at : (ts : List (Term Frac)) (i : ℕ) {t : Term Frac} (c : Fraction) → i < length ts
+    → t ≡ get_or ts i t → IsPast (fraction_size (ℚ.mul c (fraction_of t.coef)))
     → IsPastScaled c (tell ts)
-past_scaled_at ts i t c l is past = record {
+past_scaled_at ts i {t = t} c l is past = record {
   exponents = t.mono;
   number = fraction_of t.coef;
   within = term_within ts i t l is;
@@ -153,15 +155,15 @@ is_true : (b : Bool) → T b → true ≡ b
 is_true true t = refl
 is_true false t = absurd t
 
-pub mine_here : (g rest : List ℕ) (j : ℕ) (e : List ℕ) (x : ℕ) → g ≡ j ∷ rest → x ≡ get_or e j 0
+pub mine_here : {g rest : List ℕ} {j : ℕ} (e : List ℕ) {x : ℕ} → g ≡ j ∷ rest → x ≡ get_or e j 0
     → 0 < x → true ≡ mine g e
-mine_here g rest j e x is y l =
+mine_here {g = g} {rest = rest} {j = j} e is y l =
     is_true (mine g e) (subst (λ h. T (mine h e)) (sym is) (or_left (has j e) (mine rest e)
     (lt→ltb 0 (exponent e j) (let z = exponent-get e j in omega (arith, z, y, l)))))
 
-pub mine_later : (g rest : List ℕ) (j : ℕ) (e : List ℕ) (x : ℕ) (b : Bool) → g ≡ j ∷ rest
+pub mine_later : {g rest : List ℕ} {j : ℕ} (e : List ℕ) {x : ℕ} {b : Bool} → g ≡ j ∷ rest
     → x ≡ get_or e j 0 → x ≤ 0 → b ≡ mine rest e → b ≡ mine g e
-mine_later g rest j e x b is y l h =
+mine_later {rest = rest} {j = j} e is y l h =
     h ∙ ap (λ c. c || mine rest e)
     (sym (to_false (has j e) (λ t. (let z = exponent-get e j in let w =
     ltb→lt 0 (exponent e j) t in omega (arith, z, y, l, w)))))
@@ -197,9 +199,9 @@ rest-falls g O (t ∷ p) h = go (mine g t.0) (rest-falls g O p h.1)
     go true k = k
     go false k = (rest-below g O t.0 p h.0, k)
 
-pub rest_polynomial : (N : Arithmetic Fraction) (O : Rank) (m : ℕ) (g : List ℕ) (p : Terms Fraction)
+pub rest_polynomial : (N : Arithmetic Fraction) (O : Rank) {m : ℕ} (g : List ℕ) {p : Terms Fraction}
     → IsPolynomial N O m p → IsPolynomial N O m (rest_of g p)
-rest_polynomial N O m g p h = record {
+rest_polynomial N O {m = m} g {p = p} h = record {
   nonzero = rest-each g (λ t. t.1 ≢ N.zero) p h.nonzero;
   arity = rest-each g (λ t. length t.0 ≡ m) p h.arity;
   falls = rest-falls g O p h.falls;

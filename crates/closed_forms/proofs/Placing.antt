@@ -63,11 +63,11 @@ place_in g a l = subst (λ i. In i g) (place-get g a 0 l) (in_get g a 0 l)
 
 -- ---- one set at a place
 -- the last of news goes to its place first
-pub put_last : (g : List ℕ) (news left old mid new : List Expo) (i : ℕ) (x : Expo) → Ascends g
-    → news ≡ left ++ x ∷ [] → length news ≤ length g → i ≡ get_or g (length left) 0 → i < length old
-    → mid ≡ set old i x → IsPutTo (length left) g left mid new
+pub put_last : (g : List ℕ) (news left old mid : List Expo) {new : List Expo} {i : ℕ} (x : Expo)
+    → Ascends g → news ≡ left ++ x ∷ [] → length news ≤ length g → i ≡ get_or g (length left) 0
+    → i < length old → mid ≡ set old i x → IsPutTo (length left) g left mid new
     → IsPutTo (length news) g news old new
-put_last g news left old mid new i x up is few read low e h = record {
+put_last g news left old mid {new = new} {i = i} x up is few read low e h = record {
   count = h.count ∙ ap length e ∙ length-set old i x;
   each = λ a d b. below_more (λ a. get_or new (place g a) d ≡ get_or news a d) (length left)
       (before d) (last d) a (let n = size in omega (arith, b, n));
@@ -174,10 +174,10 @@ module _ (base : List ℕ) (images : List (Terms Fraction)) (splits : List (Opti
   }
 
   -- the classes in their order
-  order_of : (groups rest : List (List ℕ)) (g : List ℕ) (ps : List (Terms Fraction))
+  order_of : {groups rest : List (List ℕ)} (g : List ℕ) {ps : List (Terms Fraction)}
       (e : groups ≡ g ∷ rest) (h : AreKnown base images splits z groups ps)
       → AreClasses (uses images) m [] (h.before ++ g ∷ rest)
-  order_of groups rest g ps e h =
+  order_of g e h =
       subst (λ l. AreClasses (uses images) m [] (h.before ++ l)) e h.order
 
   joined : (before : List (List ℕ)) (g : List ℕ) → concat (before ++ g ∷ []) ≡ concat before ++ g
@@ -185,8 +185,8 @@ module _ (base : List ℕ) (images : List (Terms Fraction)) (splits : List (Opti
       ∙ ap (λ l. concat before ++ l) (append-nil g)
 
   -- the splitting of the class that comes next, which is left, and how many zeros it has
-  module _ {groups : List (List ℕ)} (rest : List (List ℕ)) (g : List ℕ) {ps : List (Terms Fraction)}
-      (e : groups ≡ g ∷ rest) (h : AreKnown base images splits z groups ps) (split : Split)
+  module _ {groups : List (List ℕ)} {rest : List (List ℕ)} (g : List ℕ) {ps : List (Terms Fraction)}
+      (e : groups ≡ g ∷ rest) (h : AreKnown base images splits z groups ps) {split : Split}
       (here : get_or splits (first_of g) None ≡ Some split) where
     next_all : AreClasses (uses images) m h.earlier (g ∷ rest)
     next_all = subst (AreClasses (uses images) m h.earlier) e h.classes
@@ -220,7 +220,7 @@ module _ (base : List ℕ) (images : List (Terms Fraction)) (splits : List (Opti
         go (k, next, class, later) = record {
           before = h.before;
           behind = rest;
-          order = order_of groups rest g ps e h;
+          order = order_of g e h;
           earlier = h.earlier;
           are = h.are;
           first = k;
@@ -246,7 +246,7 @@ module _ (base : List ℕ) (images : List (Terms Fraction)) (splits : List (Opti
       go (k, next, class, later) = f (record {
         before = h.before;
         behind = rest;
-        order = order_of groups rest g ps e h;
+        order = order_of g e h;
         earlier = h.earlier;
         are = h.are;
         first = k;
@@ -254,7 +254,7 @@ module _ (base : List ℕ) (images : List (Terms Fraction)) (splits : List (Opti
         class = class;
         since = h.since;
         turned = h.turned;
-        within = (let a = h.sum in let b = sum_left rest g e h split here in
+        within = (let a = h.sum in let b = sum_left g e h here in
             omega (arith, a, b));
       })
 
@@ -274,7 +274,7 @@ module _ (base : List ℕ) (images : List (Terms Fraction)) (splits : List (Opti
       d = h.since + zeros_in (fractions_of split.values.items)
 
       inside_first : In (first_of g) g
-      inside_first = first_within rest g e h split here
+      inside_first = first_within g e h here
 
       size : length (bodies_of old) ≡ m
       size = h.turned.size
@@ -310,7 +310,7 @@ module _ (base : List ℕ) (images : List (Terms Fraction)) (splits : List (Opti
       go (k, next, class, later) = record {
         before = h.before ++ g ∷ [];
         order = subst (AreClasses (uses images) m []) (sym (append_assoc h.before (g ∷ []) rest))
-            (order_of groups rest g (bodies_of old) e h);
+            (order_of g e h);
         earlier = h.earlier ++ g;
         are = ap (λ l. l ++ g) h.are ∙ sym (joined h.before g);
         whole = whole_more (uses images) m h.earlier g k h.whole class;
@@ -326,7 +326,7 @@ module _ (base : List ℕ) (images : List (Terms Fraction)) (splits : List (Opti
             (λ same. out (in_right j h.earlier g (subst (λ i. In i g) (sym same) inside_first)))
             ∙ h.others j x (λ before. out (in_left j h.earlier g before));
         sum = (let a = h.sum in
-            let b = sum_left rest g e h split here in omega (arith, a, b));
+            let b = sum_left g e h here in omega (arith, a, b));
       }
 
   pub known_last : (ps : List (Terms Fraction)) → AreKnown base images splits z [] ps
@@ -336,13 +336,13 @@ module _ (base : List ℕ) (images : List (Terms Fraction)) (splits : List (Opti
       a
 
 -- ---- over a base
-pub over_normals : (base : List ℕ) {m : ℕ} (es : List Expo) → AreOver base m es
+pub over_normals : {base : List ℕ} {m : ℕ} (es : List Expo) → AreOver base m es
     → Each (IsNormalForm base grevlex m) (bodies_of es)
 unfolding Each
-over_normals base [] h = tt
-over_normals base {m = m} (e ∷ es) h = (
+over_normals [] h = tt
+over_normals {base = base} {m = m} (e ∷ es) h = (
   over_normal (h 0 e (omega arith)),
-  over_normals base es
+  over_normals es
       (λ k d l. h (suc k) d (omega (arith, l))),
 )
 
@@ -365,10 +365,10 @@ found i (j ∷ g) = elim (cases_eq i j) [
         go zero l = n
         go (suc a) l = f a (omega (arith, l))
 
-pub put_over : (base : List ℕ) (m : ℕ) (g : List ℕ) (news old new : List Expo)
+pub put_over : (base : List ℕ) {m : ℕ} (g : List ℕ) (news old new : List Expo)
     → IsPut g news old new → length news ≡ length g → AreOver base m news → AreOver base m old
     → AreOver base m new
-put_over base m g news old new put count h k = λ i d l. elim (found i g) [
+put_over base {m = m} g news old new put count h k = λ i d l. elim (found i g) [
   | inl r ↦ (let b = r.1 in subst (IsExpoOver base m) (sym (ap (λ j. get_or new j d) r.2
       ∙ put.each r.0 d b)) (h r.0 d (omega (arith, count, b))))
   | inr n ↦ subst (IsExpoOver base m) (sym (put.others i d n))

@@ -196,9 +196,9 @@ module _ (base : List ℕ) (c : Coprime base) (m : ℕ) where
       subst (Arity w) (sym f) (each-append (λ (t : List ℕ × Fraction). length t.0 ≡ w) p zs
       (term-arity l t p a.0 h) (solved-arity l u zs a.1 k))
 
-  pub whole-arity : (cs : List Fraction) (g : List ℕ) (l : Fraction) (q p : Terms Fraction)
+  pub whole-arity : {cs : List Fraction} {g : List ℕ} (l : Fraction) {q p : Terms Fraction}
       → Arity w q → IsWhole base m cs g l q p → Arity w p
-  whole-arity cs g l q p a h =
+  whole-arity {cs = cs} {g = g} l {q = q} a h =
       subst (Arity w) (sym h.terms) (each-append (λ (t : List ℕ × Fraction). length t.0 ≡ w) _
       h.solved (growing-arity h.negative h.exponents h.power.count cs g)
       (solved-arity l q h.solved a h.are))
@@ -229,14 +229,13 @@ module _ (base : List ℕ) (c : Coprime base) (m : ℕ) where
         (no_value (point base n s)) ∙ R.add-zero _ ∙ L.mul-zero R l);
   }
 
-  pub all_solved : (l : Fraction) (q ys : Terms Fraction) → Arity w q → AreSolved base m l q ys
-      → HasRecurrence base m l q nothing ys
+  pub all_solved : (l : Fraction) (q : Terms Fraction) {ys : Terms Fraction} → Arity w q
+      → AreSolved base m l q ys → HasRecurrence base m l q nothing ys
   unfolding Each
-  all_solved l [] ys a f = subst (HasRecurrence base m l [] nothing) (sym f) (nothing_recurs l)
-  all_solved l (t ∷ u) ys a (p, zs, h, k, f) =
-      subst (HasRecurrence base m l (t ∷ u) nothing) (sym f)
-      (recurrence_more base m l nothing (t ∷ []) p u zs (solved_term l t p a.0 h)
-      (all_solved l u zs a.1 k))
+  all_solved l [] a f = subst (HasRecurrence base m l [] nothing) (sym f) (nothing_recurs l)
+  all_solved l (t ∷ u) a (p, zs, h, k, f) =
+      subst (HasRecurrence base m l (t ∷ u) nothing) (sym f) (recurrence_more base m l nothing
+      (t ∷ []) p u zs (solved_term l t p a.0 h) (all_solved l u a.1 k))
 
   growing_value : (negative : Bool) (e : List ℤ) → length e ≡ r → (cs : List Fraction) (g : List ℕ)
       → Each (λ j. j < m) g → (n : ℕ) (s : List Fraction) → length s ≡ m
@@ -273,18 +272,18 @@ module _ (base : List ℕ) (c : Coprime base) (m : ℕ) where
       → HasRecurrence base m l q (form_at cs g) p
   whole_recurs cs g l q p low a h =
       let y = homogeneous_part m (power_key h.negative h.exponents) cs g in
-      subst (HasRecurrence base m l q (form_at cs g)) (sym h.terms)
-      (recurrence_more base m l (form_at cs g) [] y q h.solved
-      (growing_solved base c m l h.negative h.exponents h.power.is y (form_at cs g) (λ n s k.
-      growing_value h.negative h.exponents h.power.count cs g low n s k))
-      (all_solved l q h.solved a h.are))
+      subst (HasRecurrence base m l q (form_at cs g)) (sym h.terms) (recurrence_more base m l
+      (form_at cs g) [] y q h.solved (growing_solved base c m l h.negative h.exponents h.power.is y
+      (form_at cs g) (λ n s k. growing_value h.negative h.exponents h.power.count cs g low n s k))
+      (all_solved l q a h.are))
 
-  pub form_recurs : (cs : List Fraction) (g : List ℕ) (l : Fraction) (q y : Terms Fraction)
+  pub form_recurs : (cs : List Fraction) (g : List ℕ) (l : Fraction) {q : Terms Fraction}
+      (y : Terms Fraction)
       → Each (λ j. j < m) g → Arity w q → IsSolvedForm base m cs g l q y
       → HasRecurrence base m l q (form_at cs g) y
-  form_recurs cs g l q y low a h =
+  form_recurs cs g l {q = q} y low a h =
       let b : Arity w (collect_terms h.whole) =
-      collected-arity w h.whole (whole-arity cs g l q h.whole a h.is) in
+      collected-arity w h.whole (whole-arity l a h.is) in
       recurrence_same base m l (form_at cs g) q h.whole y (whole_recurs cs g l q h.whole low a h.is)
       (λ n s.
       ap (λ x. value_at ℚ x (point base n s)) h.terms

@@ -62,11 +62,11 @@ identity-entry n p i l = go (eqb i p) refl
         ∙ unit-own n i l
     go false h = unit-other n p i (λ e. subst T h (subst (λ k. T (eqb i k)) (sym e) (eqb_refl i)))
 
-pub identity_next : (n p i : ℕ) (form row more : List Frac) (x : Frac) → i < n
+pub identity_next : (n p i : ℕ) (form row : List Frac) {more : List Frac} (x : Frac) → i < n
     → fractions_of row ≡ fractions_of form ++ take i (unit_list n p) → more ≡ row ++ x ∷ []
-    → fraction_of x ≡ cond (eqb i p) ℚ.one ℚ.zero → fractions_of more ≡ fractions_of form
-    ++ take (i + 1) (unit_list n p)
-identity_next n p i form row more x l h e y =
+    → fraction_of x ≡ cond (eqb i p) ℚ.one ℚ.zero
+    → fractions_of more ≡ fractions_of form ++ take (i + 1) (unit_list n p)
+identity_next n p i form row x l h e y =
     let u = unit_list n p in
     fractions-push row x e ∙ ap₂ (λ a b. a ++ b ∷ []) h (y ∙ sym (identity-entry n p i l))
     ∙ append_assoc (fractions_of form) (take i u) (entries ℚ_field u i ∷ [])
@@ -105,11 +105,12 @@ beside_next n forms place form row l e h =
     form l e))
 
 -- ---- products
-pub product_next : (n : ℕ) (row : List Fraction) (rows : List (List Fraction))
-    (out more : List Frac) (x : Frac) → IsProduct n row rows (fractions_of out)
-    → more ≡ out ++ x ∷ [] → fraction_of x ≡ sum_of_products ℚ row (numbers_at n rows)
+pub product_next : {n : ℕ} (row : List Fraction) (rows : List (List Fraction)) (out : List Frac)
+    {more : List Frac} (x : Frac)
+    → IsProduct n row rows (fractions_of out) → more ≡ out ++ x ∷ []
+    → fraction_of x ≡ sum_of_products ℚ row (numbers_at n rows)
     → IsProduct (n + 1) row rows (fractions_of more)
-product_next n row rows out more x h e y = record {
+product_next {n = n} row rows out x h e y = record {
   size = ap length (fractions-push out x e)
       ∙ length-append (fractions_of out) (fraction_of x ∷ []) ∙ ap (λ k. k + 1) h.size;
   each = λ j l. ap (λ r. entries ℚ_field r j) (fractions-push out x e) ∙ at j (below_or_last j n l);
@@ -141,20 +142,20 @@ past_row_at {m = m} {row = row} {rows = rows} {given = given} e f g h =
     (subst (λ l. IsPastRow m (fractions_of l) (rows_of given)) e h))
 
 -- ---- the inverse
-pub beside-width : (n place : ℕ) (form row : List Frac) → length form ≡ n
+pub beside-width : {n : ℕ} (place : ℕ) (form row : List Frac) → length form ≡ n
     → fractions_of row ≡ fractions_of form ++ unit_list n place → length row ≡ n + n
-beside-width n place form row e h =
+beside-width {n = n} place form row e h =
     sym (fractions-length row) ∙ ap length h ∙ length-append (fractions_of form) (unit_list n place)
     ∙ ap₂ (λ a b. a + b) (fractions-length form ∙ e) (unit-length n place)
 
-pub past_inverse : (forms : List (Vec Frac Global)) (place : ℕ) (form : Vec Frac Global)
-    (row : List Frac) (rows : List (List Fraction)) (target : ℕ) → place < length forms
-    → form ≡ get_or forms place form
+pub past_inverse : (forms : List (Vec Frac Global)) (place : ℕ) {form : Vec Frac Global}
+    (row : List Frac) {rows : List (List Fraction)} {target : ℕ}
+    → place < length forms → form ≡ get_or forms place form
     → fractions_of row ≡ fractions_of form.items ++ unit_list (length forms) place
     → IsEchelonOf (length forms + length forms)
     (beside (length forms) 0 (rows_of (take place forms))) rows
     → IsPastTarget rows (fractions_of row) target → IsPastInverse (rows_of forms)
-past_inverse forms place form row rows target l f h is past =
+past_inverse forms place {form = form} row {rows = rows} {target = target} l f h is past =
     let e = rows-length forms in record {
       place = place;
       within = omega (arith, l, e);
@@ -168,14 +169,14 @@ past_inverse forms place form row rows target l f h is past =
           past;
     }
 
-pub echelon_next : (n : ℕ) (forms : List (Vec Frac Global)) (place : ℕ) (form : Vec Frac Global)
-    (row : List Frac) (rows : List (List Fraction)) → place < length forms
-    → form ≡ get_or forms place form → fractions_of row ≡ fractions_of form.items ++ unit_list n
-    place
+pub echelon_next : (n : ℕ) (forms : List (Vec Frac Global)) (place : ℕ) {form : Vec Frac Global}
+    (row : List Frac) {rows : List (List Fraction)}
+    → place < length forms → form ≡ get_or forms place form
+    → fractions_of row ≡ fractions_of form.items ++ unit_list n place
     → IsEchelonOf (n + n) (beside n 0 (rows_of (take place forms)) ++ fractions_of row ∷ []) rows
     → IsEchelonOf (n + n) (beside n 0 (rows_of (take (place + 1) forms))) rows
-echelon_next n forms place form row rows l f h is = subst (λ given. IsEchelonOf (n + n) given rows)
-    (beside_next n forms place form row l f h) is
+echelon_next n forms place {form = form} row {rows = rows} l f h is =
+    subst (λ given. IsEchelonOf (n + n) given rows) (beside_next n forms place form row l f h) is
 
 pub widths_low : (n : ℕ) (items : List (Vec Frac Global)) {rows : List (List Fraction)}
     → rows_of items ≡ rows → Each (λ row. length row ≡ n + n) rows

@@ -46,17 +46,18 @@ use Rattle.closed_forms.proofs.Mixing.{tell, all_arity, polys_arity}
 use Rattle.closed_forms.proofs.Splitting.{map_of, class_inside, matrix_wide, widths_all}
 use Rattle.closed_forms.proofs.Turning.{variable_turned, past_next, past_row}
 
-pub bodies_next : (es : List Expo) (i : ℕ) (e : Expo) (out more : List FracPoly) (p : FracPoly)
+pub bodies_next : (es : List Expo) (i : ℕ) {e : Expo} (out : List FracPoly) {more : List FracPoly}
+    (p : FracPoly)
     → i < length es → e ≡ get_or es i e → more ≡ out ++ p ∷ [] → terms_in p ≡ terms_in e.body
     → terms_each out ≡ bodies_of (take i es) → terms_each more ≡ bodies_of (take (i + 1) es)
-bodies_next es i e out more p l is k own h =
+bodies_next es i {e = e} out p l is k own h =
     ap terms_each k ∙ map_push terms_in out p ∙ ap₂ (λ ps q. ps ++ q ∷ []) h own
     ∙ sym (take_next (λ (e : Expo). terms_in e.body) es i e l is)
 
-pub body_arity : (es : List Expo) (i w : ℕ) (e : Expo) (p : FracPoly) → i < length es
+pub body_arity : (es : List Expo) (i w : ℕ) {e : Expo} (p : FracPoly) → i < length es
     → e ≡ get_or es i e → p.arity ≡ e.body.arity → All (λ (e : Expo). e.body.arity ≡ w) es
     → p.arity ≡ w
-body_arity es i w e p l is k h = k ∙ ap (λ (x : Expo). x.body.arity) is ∙ h i e l
+body_arity es i w {e = e} p l is k h = k ∙ ap (λ (x : Expo). x.body.arity) is ∙ h i e l
 
 pub room : (ws : List Whole) (m : ℕ) → length ws ≤ 500 → m ≤ 12 → width (length (sizes ws)) m
     ≤ 4096
@@ -71,8 +72,8 @@ module _ {images : List (Terms Fraction)} {g : List ℕ} {split : Split}
   pub forms_wide : All (λ (form : Vec Frac Global). length form.items ≡ length split.forms.items)
       split.forms.items
   forms_wide = subst (λ n. All (λ (form : Vec Frac Global). length form.items ≡ n)
-      split.forms.items) (sym forms_count) (widths_all split.forms.items
-      (rows_of split.forms.items) (length g) refl is.are.widths)
+      split.forms.items) (sym forms_count)
+      (widths_all split.forms.items (length g) refl is.are.widths)
 
   pub values_count : length split.values.items ≡ length split.forms.items
   values_count = sym (length-map split.values.items fraction_of) ∙ is.are.value_count
@@ -183,7 +184,7 @@ module _ {k : SplitClass} {es : List Expo} {s : ClassSetting} (h : IsSplitClass 
         matrix = subst (λ n. All (λ (row : Vec Frac Global). length row.items ≡ n) s.matrix.items)
             (sym n) (matrix_wide M g s.matrix.items setting.matrix);
         back = subst (λ n. All (λ (row : Vec Frac Global). length row.items ≡ n) s.back.items)
-            (sym n) (widths_all s.back.items back (length g) refl inverse_is.widths);
+            (sym n) (widths_all s.back.items (length g) refl inverse_is.widths);
         ahead = subst (λ n. All (λ (p : FracPoly). p.arity ≡ n) s.ahead.items) (sym vars_own)
             setting.over;
       }
@@ -207,20 +208,20 @@ module _ {k : SplitClass} {es : List Expo} {s : ClassSetting} (h : IsSplitClass 
         → (r : IsReady bs M z (zeros_of split) g (bodies_of es))
         → AreVariablesOf bs M (r.since + zeros_of split) g (bodies_of news)
     variables_turned news e r = λ a l.
-        variable_turned bs coprime.0 M is h.work.solvable g h.class z values r all forms back
-        h.split.are inverse_is (terms_each done) own_count own a l (poly_at (bodies_of news) a)
+        variable_turned bs coprime.0 M is h.work.solvable g h.class z values r all
+        h.split.are inverse_is (terms_each done) own_count own a l
         (ap (λ ps. poly_at ps a) e ∙ map-at (λ row. variable_in bs row (terms_each done)) back a
         (let q = inverse_is.size in omega (arith, l, q)))
 
     pub past_rows : IsPastRowOf back (terms_each done) → IsPastClassOf bs M z g split (bodies_of es)
     past_rows past = variable_past back setting.back
-        (past_row bs coprime.0 M is h.work.solvable g h.class z values known.ready all forms
-        back h.split.are inverse_is (terms_each done) own_count own past)
+        (past_row bs coprime.0 M is h.work.solvable g h.class z values known.ready all h.split.are
+        inverse_is (terms_each done) own_count own past)
 
   pub past_forms : IsPastNextOf bs g s split → IsPastClassOf bs M z g split (bodies_of es)
   past_forms past = form_past back setting.back
-      (past_next bs coprime.0 M is h.work.solvable g h.class z values known.ready all forms
-      back h.split.are inverse_is (subst IsPastNext parts_are past))
+      (past_next bs coprime.0 M is h.work.solvable g h.class z values known.ready all h.split.are
+      inverse_is (subst IsPastNext parts_are past))
 
 -- ---- one form
 module _ {base : List ℕ} {m : ℕ} {q : Expo} (over : IsExpoOver base m q) {ts : List (Term Frac)}

@@ -44,15 +44,15 @@ some-append (x ∷ xs) ys = go (is_zero x) (some-append xs ys)
     go true h = h
     go false h = ap (λ l. x ∷ l) h
 
-pub some_skip : {E : Type 0} (r : Result Unit E) (old new : List Fraction)
-    (values rest : List Frac) (v : Frac) → values ≡ v ∷ rest → fraction_of v ≡ ℚ.zero
-    → OnOk r (new ≡ old ++ some_of (fractions_of rest))
+pub some_skip : {E : Type 0} (r : Result Unit E) (old new : List Fraction) {values rest : List Frac}
+    {v : Frac}
+    → values ≡ v ∷ rest → fraction_of v ≡ ℚ.zero → OnOk r (new ≡ old ++ some_of (fractions_of rest))
     → OnOk r (new ≡ old ++ some_of (fractions_of values))
-some_skip (Ok u) old new values rest v e z h = h
+some_skip (Ok u) old new {rest = rest} {v = v} e z h = h
     ∙ ap (λ l. old ++ l) (sym (ap (λ b. cond b (some_of (fractions_of rest))
     (fraction_of v ∷ some_of (fractions_of rest))) ((zero_is (fraction_of v)).1 z)))
     ∙ ap (λ l. old ++ some_of (fractions_of l)) (sym e)
-some_skip (Err u) old new values rest v e z h = tt
+some_skip (Err u) old new e z h = tt
 
 not_zero : (x : Fraction) → x ≢ ℚ.zero → is_zero x ≡ false
 not_zero x n = go (is_zero x) refl
@@ -62,30 +62,30 @@ not_zero x n = go (is_zero x) refl
     go false e = e
 
 pub some_next : {E : Type 0} (r : Result Unit E) (old : List Fraction) {mid : List Fraction}
-    (new : List Fraction) (values rest : List Frac) (v : Frac)
+    (new : List Fraction) {values rest : List Frac} {v : Frac}
     → values ≡ v ∷ rest → fraction_of v ≢ ℚ.zero → mid ≡ old ++ fraction_of v ∷ []
     → OnOk r (new ≡ mid ++ some_of (fractions_of rest))
     → OnOk r (new ≡ old ++ some_of (fractions_of values))
-some_next (Ok u) old new values rest v e n k h = h
+some_next (Ok u) old new {rest = rest} {v = v} e n k h = h
     ∙ ap (λ l. l ++ some_of (fractions_of rest)) k
     ∙ append_assoc old (fraction_of v ∷ []) (some_of (fractions_of rest))
     ∙ ap (λ l. old ++ l) (sym (ap (λ b. cond b (some_of (fractions_of rest))
     (fraction_of v ∷ some_of (fractions_of rest))) (not_zero (fraction_of v) n)))
     ∙ ap (λ l. old ++ some_of (fractions_of l)) (sym e)
-some_next (Err u) old new values rest v e n k h = tt
+some_next (Err u) old new e n k h = tt
 
 pub some_more : {E : Type 0} (r : Result Unit E) (old : List Fraction) {mid : List Fraction}
-    (new : List Fraction) (splits rest : List (Option Split)) (split : Split)
+    (new : List Fraction) {splits rest : List (Option Split)} {split : Split}
     → splits ≡ Some split ∷ rest → mid ≡ old ++ some_of (fractions_of split.values.items)
     → OnOk r (new ≡ mid ++ some_of (values_in rest))
     → OnOk r (new ≡ old ++ some_of (values_in splits))
-some_more (Ok u) old new splits rest split e k h =
+some_more (Ok u) old new {rest = rest} {split = split} e k h =
     let xs = fractions_of split.values.items in
     h ∙ ap (λ l. l ++ some_of (values_in rest)) k
     ∙ append_assoc old (some_of xs) (some_of (values_in rest))
     ∙ ap (λ l. old ++ l) (sym (some-append xs (values_in rest)))
     ∙ ap (λ l. old ++ some_of (values_in l)) (sym e)
-some_more (Err u) old new splits rest split e k h = tt
+some_more (Err u) old new e k h = tt
 
 pub some_nonzero : (values : List Fraction) → Each (λ c. c ≢ ℚ.zero) (some_of values)
 unfolding Each
@@ -126,11 +126,11 @@ behind_next f old {mid = mid} new {rest = rest} w e k n h =
     ∙ ap (λ x. sizes old ++ x ∷ map f (fractions_of rest)) n
     ∙ ap (λ l. sizes old ++ map f (fractions_of l)) (sym e)
 
-pub head_nonzero : (values rest : List Frac) (v : Frac) → values ≡ v ∷ rest
-    → Each (λ c. c ≢ ℚ.zero) (fractions_of values) → (fraction_of v ≢ ℚ.zero)
-    × Each (λ c. c ≢ ℚ.zero) (fractions_of rest)
+pub head_nonzero : {values rest : List Frac} {v : Frac} → values ≡ v ∷ rest
+    → Each (λ c. c ≢ ℚ.zero) (fractions_of values)
+    → (fraction_of v ≢ ℚ.zero) × Each (λ c. c ≢ ℚ.zero) (fractions_of rest)
 unfolding Each
-head_nonzero values rest v e h = subst (λ l. Each (λ c. c ≢ ℚ.zero) (fractions_of l)) e h
+head_nonzero e h = subst (λ l. Each (λ c. c ≢ ℚ.zero) (fractions_of l)) e h
 
 -- ---- all values
 pub values_are : (new : List Frac) {old : List Frac} (vs : List Fraction)

@@ -103,12 +103,12 @@ module _ (images : List (Terms Fraction)) where
           only = λ split is_found. (let r = h.only split is_found in (r.0, inr r.1, r.2, r.3));
         })
 
-    pub among_here : {groups : List (List ℕ)} (rest : List (List ℕ)) (g : List ℕ) (k : ℕ)
+    pub among_here : {groups : List (List ℕ)} {rest : List (List ℕ)} (g : List ℕ) (k : ℕ)
         (split : Split)
         → groups ≡ g ∷ rest → Each (IsClass images) groups → first_of g ≡ k
         → IsSplitOf images g split → IsSplitAmong images groups k (Some split)
     unfolding Each
-    among_here rest g k split e all first h =
+    among_here {rest = rest} g k split e all first h =
         subst (λ x. IsSplitAmong images x k (Some split)) (sym e) (record {
           every = λ f inside first_is. (
             split,
@@ -136,9 +136,9 @@ module _ (images : List (Terms Fraction)) where
   among_none (g ∷ groups) k l = absurd (omega (arith, l))
 
   pub split_at : (groups : List (List ℕ)) → Each (IsClass images) groups
-      → ((g : List ℕ) → IsClass images g → In g groups) → (k : ℕ) (found : Option Split)
+      → ((g : List ℕ) → IsClass images g → In g groups) → {k : ℕ} (found : Option Split)
       → IsSplitAmong images groups k found → IsSplitAt images k found
-  split_at groups all among k found h = record {
+  split_at groups all among found h = record {
     every = λ g class first. h.every g (among g class) first;
     only = λ split e. (let r = h.only split e in (
       r.0,
@@ -166,10 +166,10 @@ module _ (images : List (Terms Fraction)) where
         absurd (omega (arith, e, l));
   }
 
-  pub splits_push : (splits more : List (Option Split)) (x : Option Split) → more ≡ splits ++ x ∷ []
-      → length splits < m → IsSplitAt images (length splits) x → AreSplitsTo images splits
-      → AreSplitsTo images more
-  splits_push splits more x e l own h =
+  pub splits_push : (splits : List (Option Split)) {more : List (Option Split)} (x : Option Split)
+      → more ≡ splits ++ x ∷ [] → length splits < m → IsSplitAt images (length splits) x
+      → AreSplitsTo images splits → AreSplitsTo images more
+  splits_push splits x e l own h =
       let s = length_push splits x in
       subst (AreSplitsTo images) (sym e) (record {
         few = omega (arith, s, l);
@@ -202,11 +202,12 @@ pub this_class : (images : List (Terms Fraction)) {groups rest : List (Vec ℕ G
 unfolding Each
 this_class images e h = (subst (λ l. Each (IsClass images) (groups_in l)) e h).0
 
-pub later_classes : (images : List (Terms Fraction)) (groups rest : List (Vec ℕ Global))
-    (g : Vec ℕ Global) → groups ≡ g ∷ rest → Each (IsClass images) (groups_in groups)
+pub later_classes : (images : List (Terms Fraction)) {groups rest : List (Vec ℕ Global)}
+    {g : Vec ℕ Global}
+    → groups ≡ g ∷ rest → Each (IsClass images) (groups_in groups)
     → Each (IsClass images) (groups_in rest)
 unfolding Each
-later_classes images groups rest g e h = (subst (λ l. Each (IsClass images) (groups_in l)) e h).1
+later_classes images e h = (subst (λ l. Each (IsClass images) (groups_in l)) e h).1
 
 pub first_is : (g : List ℕ) (x : ℕ) → 0 < length g → x ≡ get_or g 0 0 → x ≡ first_of g
 first_is [] x l e = absurd (omega (arith, l))
@@ -226,10 +227,10 @@ mapped_widths : (f : ℕ → List Fraction) (n : ℕ) → ((i : ℕ) → length 
     → Each (λ (row : List Fraction). length row ≡ n) (map f g)
 mapped_widths f n h g = each-map _ f g (each_of (λ i. length (f i) ≡ n) h g)
 
-pub widths_all : (xs : List (Vec Frac Global)) (rows : List (List Fraction)) (n : ℕ)
+pub widths_all : (xs : List (Vec Frac Global)) {rows : List (List Fraction)} (n : ℕ)
     → rows_of xs ≡ rows → Each (λ (row : List Fraction). length row ≡ n) rows
     → All (λ (row : Vec Frac Global). length row.items ≡ n) xs
-widths_all xs rows n e h k d l =
+widths_all xs {rows = rows} n e h k d l =
     let v = get_or xs k d in
     sym (length-map v.items _) ∙ each_in (λ (row : List Fraction). length row ≡ n) rows
     (fractions_of v.items) h (subst (In (fractions_of v.items)) e
@@ -248,7 +249,7 @@ module _ (images : List (Terms Fraction)) (g : List ℕ) (xs : List (Vec Frac Gl
       (λ i. length-map g (λ j. coefficient ℚ (poly_at images i) (unit (length images) j))) g
 
   pub matrix_wide : All (λ (row : Vec Frac Global). length row.items ≡ length g) xs
-  matrix_wide = widths_all xs (class_matrix images g) (length g) is matrix-widths
+  matrix_wide = widths_all xs (length g) is matrix-widths
 
   pub matrix_square : All (λ (row : Vec Frac Global). length row.items ≡ length xs) xs
   matrix_square = λ k d l. matrix_wide k d l ∙ sym matrix_count

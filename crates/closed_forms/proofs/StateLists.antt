@@ -36,11 +36,11 @@ unfolding variables
 variables_get m i l = slice_get-map (λ e. (e, ℚ.one) ∷ []) (unit_exponents m) i
     ∙ ap (option_map (λ e. (e, ℚ.one) ∷ [])) (unit_get m i l)
 
-drop_some : (xs : List (Terms Fraction)) (i : ℕ) (x : Terms Fraction) → slice_get xs i ≡ Some x
+drop_some : (xs : List (Terms Fraction)) (i : ℕ) {x : Terms Fraction} → slice_get xs i ≡ Some x
     → drop i xs ≡ x ∷ drop (i + 1) xs
-drop_some [] i x e = absurd (let z : ⊥ = cc in z)
-drop_some (y ∷ xs) zero x e = (let own : y ≡ x = cc in ap (λ z. z ∷ xs) own)
-drop_some (y ∷ xs) (suc i) x e = drop_some xs i x e
+drop_some [] i e = absurd (let z : ⊥ = cc in z)
+drop_some (y ∷ xs) zero {x = x} e = (let own : y ≡ x = cc in ap (λ z. z ∷ xs) own)
+drop_some (y ∷ xs) (suc i) {x = x} e = drop_some xs i e
     ∙ ap (λ k. x ∷ drop k (y ∷ xs)) (let h : suc (i + 1) ≡ suc i + 1 = omega arith in h)
 
 module _ (o : Grevlex) (m i : ℕ) (l : i < m) (p : FracPoly)
@@ -66,16 +66,14 @@ module _ (o : Grevlex) (m i : ℕ) (l : i < m) (p : FracPoly)
   pub variable_arity : p.arity ≡ m
   variable_arity = made.arity
 
-  pub variable_next : (out more : List FracPoly) → more ≡ out ++ p ∷ []
+  pub variable_next : (out : List FracPoly) {more : List FracPoly} → more ≡ out ++ p ∷ []
       → terms_each out ++ drop i (variables ℚ m) ≡ variables ℚ m
       → terms_each more ++ drop (i + 1) (variables ℚ m) ≡ variables ℚ m
-  variable_next out more e h =
+  variable_next out e h =
       let rest = drop (i + 1) (variables ℚ m) in
-      ap (λ l. l ++ rest) (ap terms_each e ∙ map_push terms_in out p)
-      ∙ append_assoc (terms_each out) (terms_in p ∷ []) rest
-      ∙ ap (λ q. terms_each out ++ q ∷ rest) variable_terms
-      ∙ ap (λ l. terms_each out ++ l) (sym (drop_some (variables ℚ m) i ((unit m i, ℚ.one) ∷ [])
-      (variables_get m i l))) ∙ h
+      ap (λ l. l ++ rest) (ap terms_each e ∙ map_push terms_in out p) ∙ append_assoc
+      (terms_each out) (terms_in p ∷ []) rest ∙ ap (λ q. terms_each out ++ q ∷ rest) variable_terms
+      ∙ ap (λ l. terms_each out ++ l) (sym (drop_some (variables ℚ m) i (variables_get m i l))) ∙ h
 
 pub variables_all : (m i : ℕ) (out : List FracPoly) → m ≤ i
     → terms_each out ++ drop i (variables ℚ m) ≡ variables ℚ m → terms_each out ≡ variables ℚ m
@@ -90,14 +88,14 @@ variables_all m i out l h =
 abbrev pub turned : ℕ → List (Terms Fraction) → FracPoly → Terms Fraction
 turned m state p = collect_terms (compose ℚ m (terms_in p) state)
 
-pub image_next : (m : ℕ) (state images out more : List FracPoly) (i : ℕ) (image p : FracPoly)
-    → 0 < length state → All (λ (q : FracPoly). q.arity ≡ m) state
-    → i < length images → image ≡ get_or images i image → more ≡ out ++ p ∷ []
-    → p.arity ≡ arity_of state
+pub image_next : (m : ℕ) (state images out : List FracPoly) {more : List FracPoly} (i : ℕ)
+    {image : FracPoly} (p : FracPoly)
+    → 0 < length state → All (λ (q : FracPoly). q.arity ≡ m) state → i < length images
+    → image ≡ get_or images i image → more ≡ out ++ p ∷ [] → p.arity ≡ arity_of state
     → Same ℚ (terms_in p) (compose ℚ (arity_of state) (terms_in image) (terms_each state))
     → terms_each out ≡ map (turned m (terms_each state)) (take i images)
     → terms_each more ≡ map (turned m (terms_each state)) (take (i + 1) images)
-image_next m state images out more i image p some over l is e a s h =
+image_next m state images out i {image = image} p some over l is e a s h =
     let S = terms_each state in
     let at = arity_of_is m state some over in
     ap terms_each e ∙ map_push terms_in out p ∙ ap₂ (λ ps q. ps ++ q ∷ []) h (poly_is p _
@@ -110,10 +108,12 @@ turned_each : (m : ℕ) (state : List (Terms Fraction)) (images : List FracPoly)
 turned_each m state [] = refl
 turned_each m state (p ∷ images) = ap (λ l. turned m state p ∷ l) (turned_each m state images)
 
-pub images_all : (m i : ℕ) (state : List (Terms Fraction)) (images out : List FracPoly)
+pub images_all : (m i : ℕ) (state : List (Terms Fraction)) {images : List FracPoly}
+    (out : List FracPoly)
     → terms_each out ≡ map (turned m state) (take i images) → take i images ≡ images
     → terms_each out ≡ next_of m (terms_each images) state
-images_all m i state images out h e = h ∙ ap (map (turned m state)) e ∙ turned_each m state images
+images_all m i state {images = images} out h e =
+    h ∙ ap (map (turned m state)) e ∙ turned_each m state images
 
 -- ---- all states
 abbrev pub told : List (Vec FracPoly Global) → List (List (Terms Fraction))
@@ -163,10 +163,10 @@ module _ (M : List (Terms Fraction)) (n : ℕ) (found : List (Vec FracPoly Globa
       ∙ ap (states_to M) (let k : suc n ≡ n + 1 = omega arith in k)
 
 -- ---- what the code asks of them
-pub past_image : (images : List FracPoly) (S : List (Terms Fraction)) (i : ℕ) (image : FracPoly)
+pub past_image : (images : List FracPoly) (S : List (Terms Fraction)) (i : ℕ) {image : FracPoly}
     → i < length images → image ≡ get_or images i image
     → IsPastComposition fractions (terms_in image) S → IsPastNextState (terms_each images) S
-past_image images S i image l is h = record {
+past_image images S i {image = image} l is h = record {
   place = i;
   within = (let n = length_each images in omega (arith, l, n));
   past = subst (λ p. IsPastComposition fractions p S) (sym (poly_at-is images i image l is)) h;
@@ -202,9 +202,9 @@ module _ (images : List FracPoly) (n : ℕ) (found : List (Vec FracPoly Global))
   }
 
 -- ---- where each is what the definition says
-pub listed : (found : List (Vec FracPoly Global)) (i : ℕ) (v : Vec FracPoly Global)
+pub listed : (found : List (Vec FracPoly Global)) (i : ℕ) {v : Vec FracPoly Global}
     → i < length found → v ≡ get_or found i v → terms_each v.items ≡ get_or (told found) i []
-listed found i v l is =
+listed found i {v = v} l is =
     let f : Vec FracPoly Global → List (Terms Fraction) =
     λ (x : Vec FracPoly Global). terms_each x.items in
     ap f is ∙ sym (get_or-map f found i v [] l)

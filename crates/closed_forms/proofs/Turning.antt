@@ -99,21 +99,20 @@ module _ (base : List ℕ) (c : Coprime base) (images : List (Terms Fraction))
         (collected-arity w (mix by done) (mix-arity w by done d)))
 
     inhomogeneity-arity : (cs by : List Fraction) (done : List (Terms Fraction))
-        → Each (Arity w) done
-        → (q : Terms Fraction) → q ≡ inhomogeneity_in base m cs (rests_in images g) ps by done
-        → Arity w q
-    inhomogeneity-arity cs by done d q e =
+        → Each (Arity w) done → {q : Terms Fraction}
+        → q ≡ inhomogeneity_in base m cs (rests_in images g) ps by done → Arity w q
+    inhomogeneity-arity cs by done d e =
         subst (Arity w) (sym e) (collected-arity w _
         (normalized-arity base m _ (both-arity cs by done d)))
 
     inhomogeneity_value : (cs by : List Fraction) (done : List (Terms Fraction))
-        → Each (Arity w) done
-        → (q : Terms Fraction) → q ≡ inhomogeneity_in base m cs (rests_in images g) ps by done
+        → Each (Arity w) done → {q : Terms Fraction}
+        → q ≡ inhomogeneity_in base m cs (rests_in images g) ps by done
         → (n : ℕ) (s : List Fraction) → length s ≡ m → ready.since ≤ n
-        → value_at ℚ q (point base n s)
-        ≡ ℚ.add (sum_of_products ℚ cs (rests_at images g (iterations images n s)))
-        (sum_of_products ℚ by (map (λ y. value_at ℚ y (point base n s)) done))
-    inhomogeneity_value cs by done d q e n s l late =
+        → value_at ℚ q (point base n s) ≡ ℚ.add (sum_of_products ℚ cs
+        (rests_at images g (iterations images n s))) (sum_of_products ℚ by
+        (map (λ y. value_at ℚ y (point base n s)) done))
+    inhomogeneity_value cs by done d e n s l late =
         let x = point base n s in
         let rests = rests_in images g in
         ap (λ p. value_at ℚ p x) e ∙ collected_value
@@ -125,9 +124,8 @@ module _ (base : List ℕ) (c : Coprime base) (images : List (Terms Fraction))
         g ready.next ready.class ps ready.turned n s l late cs (part cs rests) w (λ y. part_value cs
         rests y ∙ ap (sum_of_products ℚ cs) (rest-values y))) (part_value by done x)
 
-    module _ (forms back : List (List Fraction))
-        (are : AreForms (length g) (class_matrix images g) forms values)
-        (inverse : IsInverse (length g) forms back) where
+    module _ {forms back : List (List Fraction)} (are : AreForms (length g) (class_matrix images g)
+        forms values) (inverse : IsInverse (length g) forms back) where
       abbrev AreTurnedTo : ℕ → List (Terms Fraction) → Type 0
       AreTurnedTo d done = (i : ℕ) → i < length done
           → IsFormAfterIterations base images d g (row_at forms i)
@@ -158,7 +156,7 @@ module _ (base : List ℕ) (c : Coprime base) (images : List (Terms Fraction))
             → value_at ℚ h.inhomogeneity (point base n s)
             ≡ ℚ.add (sum_of_products ℚ own (rests_at images g (iterations images n s)))
             (sum_of_products ℚ h.is.by (map (λ y. value_at ℚ y (point base n s)) done))
-        inhomogeneity_is n s e b = inhomogeneity_value own h.is.by done wide h.inhomogeneity
+        inhomogeneity_is n s e b = inhomogeneity_value own h.is.by done wide
             h.is.terms n s e
             (omega (arith, late, b))
 
@@ -168,8 +166,8 @@ module _ (base : List ℕ) (c : Coprime base) (images : List (Terms Fraction))
         at_first : (n : ℕ) → d ≡ n → n ≡ 0 → IsSolvedForm base m own g v h.inhomogeneity y
             → Turned d
         at_first n e o solved =
-            let rec = form_recurs base c m own g v h.inhomogeneity y low
-            (inhomogeneity-arity own h.is.by done wide h.inhomogeneity h.is.terms) solved in
+            let rec = form_recurs base c m own g v y low
+            (inhomogeneity-arity own h.is.by done wide h.is.terms) solved in
             next_form base images d is solvable g class forms back values are inverse k l done count
             known h.is.is_by.turned h.is.by first second h.inhomogeneity inhomogeneity_is
             (form_at own g) y rec
@@ -182,9 +180,9 @@ module _ (base : List ℕ) (c : Coprime base) (images : List (Terms Fraction))
             let meets : d + (z - d) ≡ z = omega (arith, early) in
             later_form base images d is solvable g class forms back values are inverse k l done
             count known h.is.is_by.turned h.is.by first second h.inhomogeneity inhomogeneity_is some
-            _ y (later_recurs base m v z y form) (z - d) (subst (λ n. HasValueAfter base images g
+            _ y (later_recurs m v z y form) (z - d) (subst (λ n. HasValueAfter base images g
             own n y) (sym meets) (record {
-              is = λ s b. later_there base m v z y form some s b
+              is = λ s b. later_there m v z y form some s b
                   ∙ ahead_value images own g low z s b;
             }))
 
@@ -192,7 +190,7 @@ module _ (base : List ℕ) (c : Coprime base) (images : List (Terms Fraction))
         at_zero nothing form =
             zero_form base images d is solvable g class forms back values are inverse k l done count
             known h.is.is_by.turned h.is.by first second h.inhomogeneity inhomogeneity_is nothing _
-            y (one_later_recurs base m v h.inhomogeneity y nothing form)
+            y (one_later_recurs base m v y nothing form)
 
         next_turned : Turned (d + zeros_in (v ∷ []))
         next_turned = go h.made
@@ -205,7 +203,7 @@ module _ (base : List ℕ) (c : Coprime base) (images : List (Terms Fraction))
             go (at_once some none solved) =
                 same some (at_first d refl (omega (arith, early, none)) solved)
             go (later some form) = same some (at_later some form)
-            go (one_later nothing form) = subst Turned (let e = zeros_one v nothing in
+            go (one_later nothing form) = subst Turned (let e = zeros_one nothing in
                 let q : suc d ≡ d + zeros_in (v ∷ []) = omega (arith, e) in q)
                 (at_zero nothing form)
 
@@ -253,10 +251,9 @@ module _ (base : List ℕ) (c : Coprime base) (images : List (Terms Fraction))
 
       pub variable_turned : (done : List (Terms Fraction)) → length done ≡ length g
           → AreNextForms (parts_in base images z g forms values ps back) done → (i : ℕ)
-          → i < length g → (p : Terms Fraction)
-          → p ≡ variable_in base (row_at back i) done
+          → i < length g → {p : Terms Fraction} → p ≡ variable_in base (row_at back i) done
           → IsAfterIterations base images (ready.since + zeros_in values) (place g i) p
-      variable_turned done count h i l p e =
+      variable_turned done count h i l {p = p} e =
           let d = ready.since + zeros_in values in
           let size = are.value_count in
           let whole : from (length done) ≡ d = ap (λ xs. ready.since + zeros_in xs)

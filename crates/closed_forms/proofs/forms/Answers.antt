@@ -81,5 +81,5 @@ returns-in-Ok-clause-refused c =
     let w = c.in-Ok.work in
     let is = c.in-Ok.ensures.work in
     subst (λ (v : Vec FracPoly Global). IfErr c.form.result (IfRefusedBy (terms_each v.items)))
-    c.in-Ok.ensures.images (IfErr-weaker _ _ _ (refused_later (images_in w) is.solvable
+    c.in-Ok.ensures.images (IfErr-weaker _ _ _ (refused_later is.solvable
     (all_pass _ w.map.square is.splits)) c.form.ensures.refused)

@@ -20,7 +20,6 @@ returns-clause-sizes t c =
 pub returns-clause-positive : goal.returns-clause-positive
 returns-clause-positive t c =
     on_ok_weaker c.push_sizes.result (λ h old some.
-    let own = head_nonzero c.args.values.now c.in-Some.values.now c.in-Some.value.now
-    c.in-Some.ensures.cases.0 some in
+    let own = head_nonzero c.in-Some.ensures.cases.0 some in
     h (have_more (λ (w : Whole). pos 0 <ℤ w.value) _ _ _ c.in_ok-push.ensures.items old
     (c.size_of.ensures.positive own.0)) own.1) c.push_sizes.ensures.positive

@@ -4,12 +4,11 @@ use Rattle.closed_forms.proofs.Sizing.{some_skip, some_next}
 use Rattle.closed_forms.proofs.base.+push_some.Goals as goal
 
 pub returns-then-is_zero : goal.returns-then-is_zero
-returns-then-is_zero t c = some_skip c.push_some.result _ _ c.args.values.now c.in-Some.values.now
-    c.in-Some.value.now c.in-Some.ensures.cases.0 (c.is_zero.ensures.0 c.if-is_zero.true)
+returns-then-is_zero t c =
+    some_skip _ _ _ c.in-Some.ensures.cases.0 (c.is_zero.ensures.0 c.if-is_zero.true)
     c.push_some.ensures
 
 pub returns : goal.returns
-returns t c = some_next c.push_some-2.result _ _
-    c.args.values.now c.in-Some.values.now c.in-Some.value.now c.in-Some.ensures.cases.0
-    (off c.if-is_zero.false c.is_zero.ensures.1) (fractions-push c.args.out.now.items
+returns t c = some_next _ _ _ c.in-Some.ensures.cases.0
+    (off c.if-is_zero.false c.is_zero.ensures.1) (fractions-push _
     c.in-Some.value.now c.in_ok-push.ensures.items) c.push_some-2.ensures

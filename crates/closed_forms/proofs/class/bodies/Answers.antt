@@ -14,11 +14,10 @@ loop-poly-preserved c =
     let out = c.loop-poly.out.items in
     let p = c.in_ok-copy.field-0 in (
       λ w h. All-same (λ (p : FracPoly). p.arity ≡ w) _ _
-          c.in_ok-push.ensures.items
-          (All-push (λ (p : FracPoly). p.arity ≡ w) out p (c.loop-poly.invariant.0 w h)
-          (body_arity es i w c.poly-item.result p c.loop-poly-test.true c.poly-item.is
+          c.in_ok-push.ensures.items (All-push (λ (p : FracPoly). p.arity ≡ w) out p
+          (c.loop-poly.invariant.0 w h) (body_arity es i w p c.loop-poly-test.true c.poly-item.is
           (c.in_ok-copy.ensures.arity ∙ ap (λ (p : FracPoly). p.arity) c.body.ensures) h)),
-      bodies_next es i c.poly-item.result out c.push.new.self.items p c.loop-poly-test.true
+      bodies_next es i out p c.loop-poly-test.true
           c.poly-item.is c.in_ok-push.ensures.items (c.in_ok-copy.ensures.terms
           ∙ ap terms_in c.body.ensures) c.loop-poly.invariant.1,
     )

@@ -10,7 +10,7 @@ use Rattle.closed_forms.proofs.Mixing.{head_all, tail_all}
 use Rattle.closed_forms.proofs.lengths.+class_length.Goals as goal
 
 pub returns-in_default : goal.returns-in_default
-returns-in_default t c = none_of_class _ c.args.group.now
+returns-in_default t c = none_of_class _ _
     c.args.sums.now c.in_default.ensures.cases
 
 pub class_length-requires : goal.class_length-requires
@@ -24,15 +24,14 @@ class_length-requires t c = (
 
 pub returns-in_default-class_length : goal.returns-in_default-class_length
 returns-in_default-class_length t c =
-    class_past_rest _ c.in-Some.variable.now c.in-Some.group.now c.args.group.now c.args.sums.now
-    c.in-Some.ensures.cases.0 (none_above _ _ c.class_length.ensures
-    c.in_default-class_length.not-Some)
+    class_past_rest _ c.args.sums.now c.in-Some.ensures.cases.0 (none_above _ _
+    c.class_length.ensures c.in_default-class_length.not-Some)
 
 pub returns-in_default-sum_length : goal.returns-in_default-sum_length
 returns-in_default-sum_length t c =
     let low = head_all (λ i. i < length c.args.images.now) c.in-Some.ensures.cases.0
     c.requires.inside in
-    class_past_own _ c.in-Some.variable.now c.in-Some.group.now c.args.group.now c.args.sums.now
+    class_past_own _ c.args.sums.now
     c.in-Some.ensures.cases.0 (sym (poly_at-is _ _ _ low c.index-images-variable.is)) (subst (λ ts.
     most_terms < sum_length (terms_of fraction_of ts) c.args.sums.now)
     (c.deref.ensures.value ∙ ap (λ v. v.items) c.terms.ensures) (none_above _ _ c.sum_length.ensures
@@ -44,8 +43,7 @@ returns t c =
     c.requires.inside in
     let rest = some_is _ _ _ c.class_length.ensures c.in-Some-class_length.is in
     let own = some_is _ _ _ c.sum_length.ensures c.in-Some-sum_length.is in
-    class_more _ c.in-Some.variable.now c.in-Some.group.now c.args.group.now c.args.sums.now
-    c.in-Some-sum_length.own c.in-Some-class_length.rest c.sum.result c.in-Some.ensures.cases.0
+    class_more _ c.args.group.now c.args.sums.now c.sum.result c.in-Some.ensures.cases.0
     (sym (poly_at-is _ _ _ low c.index-images-variable.is)) (own.0 ∙ ap (λ ts. sum_length
     (terms_of fraction_of ts) c.args.sums.now)
     (c.deref.ensures.value ∙ ap (λ v. v.items) c.terms.ensures)) rest.0 c.sum.ensures

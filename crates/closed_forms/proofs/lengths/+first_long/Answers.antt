@@ -15,9 +15,8 @@ first_long-requires t c =
     let new = c.set_lengths.new.sums.items in
     let told = some_is _ _ _ c.class_length.ensures c.in-Some-class_length.is in
     let few = subst (λ x. class_length M g x ≤ most_terms) c.as_slice.ensures.value told.1 in
-    let is = class_counted M g ns new c.at_least_one.result
-    (told.0 ∙ ap (class_length M g) c.as_slice.ensures.value) c.at_least_one.ensures
-    c.set_lengths.ensures in (
+    let is = class_counted M g ns new (told.0 ∙ ap (class_length M g) c.as_slice.ensures.value)
+    c.at_least_one.ensures c.set_lengths.ensures in (
       search rules,
       (
         lengths_counted M g ns new few is c.requires.sums,

@@ -21,7 +21,7 @@ product_length-requires t c =
 pub returns-in_default-product_length : goal.returns-in_default-product_length
 returns-in_default-product_length t c =
     product_past _ _ _ _ _ _ c.in-Some-Some.ensures.cases.0 c.in-Some-Some.ensures'.cases.0
-    (lengths_some c.args.sums.now c.requires) (inl (none_above _ _ c.product_length.ensures
+    (lengths_some _ c.requires) (inl (none_above _ _ c.product_length.ensures
     c.in_default-product_length.not-Some))
 
 pub products-requires-clause-some : goal.products-requires-clause-some
@@ -33,7 +33,7 @@ products-requires-clause-few t c = (head_all IsLength c.in-Some-Some.ensures.cas
 pub returns-in_default-products : goal.returns-in_default-products
 returns-in_default-products t c =
     product_past _ _ _ _ _ _ c.in-Some-Some.ensures.cases.0 c.in-Some-Some.ensures'.cases.0
-    (lengths_some c.args.sums.now c.requires) (inr (none_above _ _ c.products.ensures
+    (lengths_some _ c.requires) (inr (none_above _ _ c.products.ensures
     c.in_default-products.not-Some))
 
 pub returns : goal.returns

@@ -15,5 +15,4 @@ first_long-requires-clause-some c =
 
 pub first_long-requires-clause-inside : goal.first_long-requires-clause-inside
 first_long-requires-clause-inside c =
-    groups_inside c.args.images.now.items c.args.groups.now
-    (sym (ap length c.as_slice.ensures.value)) c.requires
+    groups_inside _ _ (sym (ap length c.as_slice.ensures.value)) c.requires

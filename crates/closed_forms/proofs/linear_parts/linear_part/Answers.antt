@@ -31,12 +31,11 @@ number_of-requires-clause-inside c = λ k d l.
 pub loop-variable-preserved : goal.loop-variable-preserved
 loop-variable-preserved c =
     let i = c.loop-variable.variable-index in
-    made_next fraction_of
-    (λ j. coefficient ℚ (terms_in c.args.poly.now) (unit c.args.poly.now.arity j))
-    c.args.group.now i c.loop-variable.row.items c.number_of.result
-    c.loop-variable-test.true c.loop-variable.invariant c.in_ok-push.ensures.items
-    (c.number_of.ensures c.args.poly.now.arity (all_arity _ _ (subst (λ (ts : List (Term Frac)).
-    Arity c.args.poly.now.arity (tell ts)) (sym (c.deref.ensures.value ∙ ap (λ v. v.items)
-    c.terms.ensures)) c.args.poly.now.polynomial.arity)) ∙ ap (λ (ts : List (Term Frac)).
-    coefficient ℚ (tell ts) (unit c.args.poly.now.arity (get_or c.args.group.now i 0)))
+    made_next fraction_of (λ j. coefficient ℚ (terms_in c.args.poly.now)
+    (unit c.args.poly.now.arity j)) _ i _ c.number_of.result c.loop-variable-test.true
+    c.loop-variable.invariant c.in_ok-push.ensures.items (c.number_of.ensures c.args.poly.now.arity
+    (all_arity _ _ (subst (λ (ts : List (Term Frac)). Arity c.args.poly.now.arity (tell ts))
+    (sym (c.deref.ensures.value ∙ ap (λ v. v.items) c.terms.ensures))
+    c.args.poly.now.polynomial.arity)) ∙ ap (λ (ts : List (Term Frac)). coefficient ℚ (tell ts)
+    (unit c.args.poly.now.arity (get_or c.args.group.now i 0)))
     (c.deref.ensures.value ∙ ap (λ v. v.items) c.terms.ensures))

@@ -20,9 +20,10 @@ loop-term-preserved c =
     let i = c.loop-term.term-index in
     let is = left_at ts i c.loop-term-test.true c.term-item.is in
     record {
-      distinct = distinct_rest _ _ c.term-item.result is c.loop-term.invariant.distinct;
-      number = λ m all x h. c.loop-term.invariant.number m all x (alone_later _ _ c.term-item.result
-          c.args.variable m x is (λ e. apart (c.if-is_alone.ensures.1 e))
+      distinct = distinct_rest _ _ is c.loop-term.invariant.distinct;
+      number =
+          λ m all x h. c.loop-term.invariant.number m all x (alone_later _ _ _ m x is
+          (λ e. apart (c.if-is_alone.ensures.1 e))
           (All-drop (λ (u : Term Frac). length u.mono ≡ m) i ts all) h);
     }
 
@@ -30,7 +31,7 @@ pub returns-then-is_alone : goal.returns-then-is_alone
 returns-then-is_alone c = λ m all.
     let ts = c.args.terms.now in
     let i = c.loop-term.term-index in
-    c.loop-term.invariant.number m all _ (alone_here _ _ c.term-item.result c.args.variable m
+    c.loop-term.invariant.number m all _ (alone_here _ _ _ m
     (left_at ts i c.loop-term-test.true c.term-item.is) (c.if-is_alone.ensures.0 refl)
     (All-drop (λ (u : Term Frac). length u.mono ≡ m) i ts all) c.loop-term.invariant.distinct)
 

@@ -11,7 +11,6 @@ returns t c =
     let size : length c.args.news.items ≡ length left + 1 = ap length c.in-Some.ensures.items
     ∙ length_push left c.in-Some.new in
     let low : c.len.result < length g = omega (arith, n, size, c.requires.count) in
-    put_last g c.args.news.items left c.args.polys.now.items _ c.put.new.polys.items
-    (get_or g c.len.result 0) c.in-Some.new c.requires.ascending c.in-Some.ensures.items
+    put_last g c.args.news.items left _ _ c.in-Some.new c.requires.ascending c.in-Some.ensures.items
     c.requires.count
     (ap (λ k. get_or g k 0) n) (c.requires.inside c.len.result 0 low) refl c.put.ensures

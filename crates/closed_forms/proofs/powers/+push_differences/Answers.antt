@@ -17,8 +17,6 @@ pub returns : goal.returns
 returns t c =
     let fits : SFits w32 c.difference.result = search rules in
     let pushed = simp to_z-of_z at c.in_ok-push.ensures.items in
-    on_ok_weaker c.push_differences.result (λ h. differences_next c.args.up.now
-    c.in-Some-Some.up.now c.args.down.now c.in-Some-Some.down.now c.in-Some-Some.more.now
-    c.in-Some-Some.less.now c.difference.result c.args.out.now.items c.push.new.self.items
+    on_ok_weaker c.push_differences.result (λ h. differences_next _
     c.push_differences.new.out.items c.in-Some-Some.ensures.cases.0 c.in-Some-Some.ensures'.cases.0
     c.difference.ensures pushed h) c.push_differences.ensures

@@ -7,7 +7,7 @@ use Rattle.closed_forms.proofs.Mixing.{head_all, tail_all}
 use Rattle.closed_forms.proofs.powers.+push_sides.Goals as goal
 
 pub returns-in_default : goal.returns-in_default
-returns-in_default t c = sides_none c.args.below c.args.exponents.now c.args.out.now.items
+returns-in_default t c = sides_none c.args.below _ c.args.out.now.items
     c.in_default.ensures.cases
 
 pub side-requires : goal.side-requires
@@ -25,7 +25,6 @@ pub returns : goal.returns
 returns t c =
     let fits : SFits w32 c.in-Some.exponent.now = search rules in
     let side = simp to_z-of_z at c.side.ensures in
-    on_ok_weaker c.push_sides.result (λ h. sides_next c.args.below c.args.exponents.now
-    c.in-Some.exponents.now c.in-Some.exponent.now c.side.result c.args.out.now.items
-    c.push.new.self.items c.push_sides.new.out.items c.in-Some.ensures.cases.0 side
-    c.in_ok-push.ensures.items h) c.push_sides.ensures
+    on_ok_weaker c.push_sides.result (λ h. sides_next c.args.below c.side.result _
+    c.push_sides.new.out.items c.in-Some.ensures.cases.0 side c.in_ok-push.ensures.items h)
+    c.push_sides.ensures

@@ -5,7 +5,7 @@ use Rattle.closed_forms.proofs.products.+dot.Goals as goal
 use Rattle.closed_forms.proofs.products.+dot.Goals.{in_default-via-in-Some+in_default, in_default-via-in_default}
 
 pub returns-in_default-clause-sum : goal.returns-in_default-clause-sum
-returns-in_default-clause-sum t c = dot_none c.args.row.now c.args.matrix.now c.args.column
+returns-in_default-clause-sum t c = dot_none _ _ c.args.column
     c.zero.result c.zero.ensures
     (elim c.in_default.branch [
       | in_default-via-in-Some+in_default w ↦ inr w.in_default.ensures'.cases
@@ -21,8 +21,7 @@ returns-in_err-product-clause-wide t c = λ h.
 pub dot-requires : goal.dot-requires
 dot-requires t c = (
   search rules,
-  rest_low c.args.matrix.now
-      c.in-Some-Some.other.now c.args.column c.in-Some-Some.ensures'.cases.0 c.requires,
+  rest_low c.args.column c.in-Some-Some.ensures'.cases.0 c.requires,
 )
 
 pub returns-clause-sum : goal.returns-clause-sum

@@ -59,9 +59,8 @@ from_distinct-requires-clause-arities c =
     let is = still_made r e _ _
     (first_is (goal.at.from_distinct-requires-clause-arities c).After-width-first)
     c.in_ok-one.ensures.ok c.in_ok-variables.ensures.ok c.in_ok-mono.ensures.ok in
-    all_one (λ (t : Term Frac). length t.mono ≡ c.arity-arity.result) c.in_ok-terms.terms.items _
-    c.in_ok-terms.ensures.items (ap length is ∙ still_long r e c.requires.width
-    ∙ sym c.arity-arity.ensures.arity)
+    all_one (λ (t : Term Frac). length t.mono ≡ c.arity-arity.result) _ c.in_ok-terms.ensures.items
+    (ap length is ∙ still_long r e c.requires.width ∙ sym c.arity-arity.ensures.arity)
 
 pub from_distinct-requires-clause-distinct : goal.from_distinct-requires-clause-distinct
 from_distinct-requires-clause-distinct c =
@@ -76,10 +75,9 @@ pub returns-clause-terms : goal.returns-clause-terms
 returns-clause-terms c =
     let bs = sizes c.args.base.now.items in
     let t = term_of fraction_of c.args.term.now in
-    let is = still_made (length bs) t.0 _ _
-    (first_is (goal.at.returns-clause-terms c).After-width-first)
+    let is = still_made _ t.0 _ _ (first_is (goal.at.returns-clause-terms c).After-width-first)
     c.in_ok-one.ensures.ok c.in_ok-variables.ensures.ok c.in_ok-mono.ensures.ok in
-    IfOk-weaker c.from_distinct.result _ _ (λ p i. steady_is bs t (length t.0) p c.in_ok-mono.mono
+    IfOk-weaker c.from_distinct.result _ _ (λ p i. steady_is bs t p
     (ap tell c.in_ok-terms.ensures.items) is refl
     (ap length is ∙ still_long (length bs) t.0 c.requires.width)
     (i.arity ∙ c.arity-arity.ensures.arity) i.same) c.from_distinct.ensures

@@ -14,4 +14,4 @@ returns-then-is_zero t c = zero_here
 pub returns-else-is_zero : goal.returns-else-is_zero
 returns-else-is_zero t c = zero_later
     c.in-Some.ensures.cases.0
-    c.zeros_among-else-is_zero.ensures c.is_zero.result c.if-is_zero.false c.is_zero.ensures.1
+    c.zeros_among-else-is_zero.ensures c.if-is_zero.false c.is_zero.ensures.1

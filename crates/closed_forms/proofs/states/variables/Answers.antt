@@ -10,8 +10,8 @@ loop-variable-preserved c =
     let i = c.loop-variable.variable in
     let p = c.in_ok-variable.field-0 in
     let is = c.in_ok-variable.ensures.variable in (
-      variable_next _ m i c.loop-variable-test.true p is c.loop-variable.out.items
-          c.push.new.self.items c.in_ok-push.ensures.items c.loop-variable.invariant.0,
+      variable_next _ m i c.loop-variable-test.true p is _ c.in_ok-push.ensures.items
+          c.loop-variable.invariant.0,
       have_more (λ (p : FracPoly). p.arity ≡ m) _ _ p
           c.in_ok-push.ensures.items c.loop-variable.invariant.1
           (variable_arity _ m i c.loop-variable-test.true p is),
@@ -22,4 +22,4 @@ returns-clause-terms c =
     let m = c.args.count in
     let i = c.loop-variable.variable in
     let done : m ≤ i = omega (arith, c.loop-variable-test.false) in
-    variables_all m i c.loop-variable.out.items done c.loop-variable.invariant.0
+    variables_all m i _ done c.loop-variable.invariant.0

@@ -2,11 +2,9 @@ use Rattle.closed_forms.proofs.Mixing.{mine_here, mine_later}
 use Rattle.closed_forms.proofs.sums.+has_any.Goals as goal
 
 pub returns-then-exponent-gt0 : goal.returns-then-exponent-gt0
-returns-then-exponent-gt0 t c = mine_here c.args.group.now c.in-Some.group.now
-    c.in-Some.variable.now c.args.term.now.mono c.exponent.result c.in-Some.ensures.cases.0
+returns-then-exponent-gt0 t c = mine_here _ c.in-Some.ensures.cases.0
     c.exponent.ensures c.if-exponent-gt0.true
 
 pub returns : goal.returns
-returns t c = mine_later c.args.group.now c.in-Some.group.now c.in-Some.variable.now
-    c.args.term.now.mono c.exponent.result c.has_any.result c.in-Some.ensures.cases.0
+returns t c = mine_later _ c.in-Some.ensures.cases.0
     c.exponent.ensures c.if-exponent-gt0.false c.has_any.ensures

@@ -5,14 +5,14 @@ use Rattle.closed_forms.proofs.sums.push_rest.Goals as goal
 
 pub loop-term-preserved-then-has_any : goal.loop-term-preserved-then-has_any
 loop-term-preserved-then-has_any c = rest_skipped _ _
-    (left_at _ _ c.loop-term-test.true c.term-item.is) c.args.group.now _ _
+    (left_at _ _ c.loop-term-test.true c.term-item.is) _ _ _
     (sym c.if-has_any.true ∙ c.has_any.ensures) c.loop-term.invariant
 
 pub loop-term-preserved : goal.loop-term-preserved
 loop-term-preserved c = rest_next _ _
-    (left_at _ _ c.loop-term-test.true c.term-item.is) c.args.group.now c.loop-term.out.items
-    c.push.new.self.items _ _ (sym c.if-has_any.false ∙ c.has_any.ensures) c.in_ok-mono.ensures.ok
-    refl c.in_ok-push.ensures.items c.loop-term.invariant
+    (left_at _ _ c.loop-term-test.true c.term-item.is) _ _ _ _
+    (sym c.if-has_any.false ∙ c.has_any.ensures) c.in_ok-mono.ensures.ok refl
+    c.in_ok-push.ensures.items c.loop-term.invariant
 
 pub returns : goal.returns
 returns c = record {

@@ -9,7 +9,7 @@ pub loop-term-preserved : goal.loop-term-preserved
 loop-term-preserved c =
     let i = c.loop-term.term-index in
     scaled_next _ _ (left_at _ i c.loop-term-test.true c.term-item.is)
-    (fraction_of c.args.number.now) c.loop-term.out.items c.push.new.self.items _ _
+    (fraction_of c.args.number.now) _ _ _
     c.in_ok-mono.ensures.ok c.in_ok-coef.ensures.ok c.in_ok-push.ensures.items c.loop-term.invariant
 
 pub returns-clause-terms : goal.returns-clause-terms
@@ -19,6 +19,6 @@ returns-clause-terms c =
     c.loop-term-test.false c.loop-term.invariant
 
 pub returns-in_err-coef-clause-wide : goal.returns-in_err-coef-clause-wide
-returns-in_err-coef-clause-wide c = λ h. past_scaled_at c.args.terms.now c.loop-term.term-index
-    c.term-item.result (fraction_of c.args.number.now) c.loop-term-test.true c.term-item.is
+returns-in_err-coef-clause-wide c =
+    λ h. past_scaled_at _ _ (fraction_of c.args.number.now) c.loop-term-test.true c.term-item.is
     (c.in_err-coef.ensures.wide.0 refl)

@@ -19,12 +19,8 @@ push_rest-requires c = λ k d l k' d' l'.
 pub from_descending-requires-clause-descending : goal.from_descending-requires-clause-descending
 from_descending-requires-clause-descending c =
     subst (λ m. IsPolynomial ℚ grevlex m (tell c.push_rest.new.out.items))
-    (sym c.arity.ensures.arity)
-    (subst (IsPolynomial ℚ grevlex c.args.poly.now.arity)
-    (sym (c.in_ok-push_rest.ensures.terms
-    ∙ ap (λ l. tell l ++ rest_of c.args.group.now (tell c.deref.result.now))
-    c.new-terms.ensures.items
-    ∙ ap (λ (ts : List (Term Frac)). rest_of c.args.group.now (tell ts))
-    (c.deref.ensures.value ∙ ap (λ v. v.items) c.terms.ensures)))
-    (rest_polynomial ℚ grevlex c.args.poly.now.arity c.args.group.now (terms_in c.args.poly.now)
-    c.args.poly.now.polynomial))
+    (sym c.arity.ensures.arity) (subst (IsPolynomial ℚ grevlex c.args.poly.now.arity)
+    (sym (c.in_ok-push_rest.ensures.terms ∙ ap (λ l. tell l ++ rest_of c.args.group.now
+    (tell c.deref.result.now)) c.new-terms.ensures.items ∙ ap (λ (ts : List (Term Frac)). rest_of
+    c.args.group.now (tell ts)) (c.deref.ensures.value ∙ ap (λ v. v.items) c.terms.ensures)))
+    (rest_polynomial ℚ grevlex c.args.group.now c.args.poly.now.polynomial))

@@ -17,7 +17,7 @@ from_terms-requires-clause-arities c =
 
 pub returns-clause-terms : goal.returns-clause-terms
 returns-clause-terms c =
-    IfOk-weaker c.from_terms.result _ _ (λ p i. part_is c.args.arity _ c.args.polys.now p
+    IfOk-weaker c.from_terms.result _ _ (λ p i. part_is c.args.arity _ _ p
     c.requires.arities (c.in_ok-push_mixed.ensures.terms ∙ ap (λ l. tell l ++ mix
     (fractions_of c.args.numbers.now) (terms_each c.args.polys.now)) c.new-terms.ensures.items)
     i.arity i.same) c.from_terms.ensures.sum

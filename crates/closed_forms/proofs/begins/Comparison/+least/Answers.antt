@@ -77,8 +77,7 @@ returns-else-has_any-clause-refused t c = λ images base h.
 pub returns-in-Err-clause-refused : goal.returns-in-Err-clause-refused
 returns-in-Err-clause-refused t c = λ images base h.
     of_class (IsPastBy c.args.self.now (c.args.since - 1))
-    (IsWideIteration base images c.args.since)
-    (λ v w. wide_here h (c.args.since - 1) v
+    (IsWideIteration base images c.args.since) (λ v w. wide_here h v
     (let o = one_more c.args.since c.if-since-eq0.false in omega (arith, o))
-    (inl (let o = one_more c.args.since c.if-since-eq0.false in omega (arith, o))) w)
-    c.in-Err.error c.in-Err.ensures.refused
+    (inl (let o = one_more c.args.since c.if-since-eq0.false in omega (arith, o))) w) _
+    c.in-Err.ensures.refused

@@ -53,8 +53,7 @@ module _ (t : ℕ) (c : After-mark_class t) where
 
   state_is : terms_each c.as_slice-state.result.now ≡ state
   state_is = ap terms_each c.as_slice-state.ensures.value
-      ∙ listed c.args.self.now.states.now.items c.args.iterations c.index.result.now
-      c.requires.within c.index.ensures
+      ∙ listed _ _ c.requires.within c.index.ensures
 
   long : c.in-Some.variable.now < length c.as_slice-state.result.now
   long =
@@ -89,8 +88,7 @@ returns-clause-kept t c = on_ok_weaker c.mark_class.result
 
 pub returns-clause-marked : goal.returns-clause-marked
 returns-clause-marked t c = both _ _ _ _
-    (λ k h. class_first (es t c) c.args.iterations (state t c)
-    c.args.group.now c.in-Some.group.now c.in-Some.variable.now (mid t c)
+    (λ k h. class_first (es t c) c.args.iterations (state t c) (mid t c)
     c.mark_class.new.marks.items c.in-Some.ensures.cases.0 (here t c) k h)
     c.mark_class.ensures.kept c.mark_class.ensures.marked
 

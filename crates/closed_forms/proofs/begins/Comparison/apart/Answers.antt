@@ -13,8 +13,7 @@ loop-group-preserved c =
     let at = read_of c.deref-group-items.ensures.value c.loop-group-test.true c.group-item.is in (
       c.in-Ok.ensures.count,
       classes_next r.polys.now.items c.args.iterations (list_at r c.args.iterations)
-          r.groups.now.items c.loop-group.group-index c.group-item.result c.loop-group.marks.items
-          c.mark_class.new.marks.items at.0 at.1 c.as_slice-group.ensures.value
+          r.groups.now.items _ _ _ at.0 at.1 c.as_slice-group.ensures.value
           c.in-Ok.ensures.kept c.in-Ok.ensures.marked c.loop-group.invariant.1,
     )
 
@@ -30,7 +29,6 @@ pub returns-in-Err-Wide-clause-refused : goal.returns-in-Err-Wide-clause-refused
 returns-in-Err-Wide-clause-refused c =
     let r = c.args.self.now in
     let at = read_of c.deref-group-items.ensures.value c.loop-group-test.true c.group-item.is in
-    past_class r.polys.now.items c.args.iterations (list_at r c.args.iterations)
-    r.groups.now.items c.loop-group.group-index c.group-item.result c.as_slice-group.result.now
-    at.0 at.1 c.as_slice-group.ensures.value c.first_of.ensures
+    past_class r.polys.now.items c.args.iterations (list_at r c.args.iterations) r.groups.now.items
+    c.loop-group.group-index at.0 at.1 c.as_slice-group.ensures.value c.first_of.ensures
     (c.in-Err-Wide.ensures.wide (ap Err c.in-Err-Wide.field-0-is))

@@ -28,8 +28,9 @@ invariant_of-form c =
     ∙ ap (λ (v : Vec Frac Global). length v.items) c.index.ensures
     ∙ w.forms c.loop-place.place c.index.result.now low in
     record {
-      within = each_at (IsWithin (base_in w)) w.split.now.values.items
-          c.loop-place.place (omega (arith, low, w.values)) c.index-in-loop-place.ensures w.within;
+      within =
+          each_at (IsWithin (base_in w)) _ _ (omega (arith, low, w.values))
+          c.index-in-loop-place.ensures w.within;
       ready = subst (λ n. IsClassSetting (base_in w) n w.setting) (sym wide) w.ready;
     }
 

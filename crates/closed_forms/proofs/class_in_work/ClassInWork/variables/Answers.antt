@@ -29,9 +29,8 @@ pub returns-in_err-sum-clause-wide : goal.returns-in_err-sum-clause-wide
 returns-in_err-sum-clause-wide c =
     let forms = terms_each c.args.forms.now in
     let at = read_of c.deref-row-items.ensures.value c.loop-row-test.true c.row-item.is in
-    wide_on c.from_residual.ensures.1 (λ w. row_past c.args.self.now.setting.back.items _ forms
-    at.0 at.1 (inl (subst (λ r. IsPastMix (fractions_of r) forms) c.deref.ensures.value
-    (c.in_err-sum.ensures.wide w))))
+    wide_on c.from_residual.ensures.1 (λ w. row_past _ _ forms at.0 at.1 (inl (subst (λ r. IsPastMix
+    (fractions_of r) forms) c.deref.ensures.value (c.in_err-sum.ensures.wide w))))
 
 pub returns-in_err-normal-clause-wide : goal.returns-in_err-normal-clause-wide
 returns-in_err-normal-clause-wide c =
@@ -39,9 +38,8 @@ returns-in_err-normal-clause-wide c =
     let at = read_of c.deref-row-items.ensures.value c.loop-row-test.true c.row-item.is in
     let sum_is : terms_in c.in_ok-sum.sum ≡ part (fractions_of c.row-item.result.items) forms =
     c.in_ok-sum.ensures.terms ∙ ap (λ r. part (fractions_of r) forms) c.deref.ensures.value in
-    wide_on c.from_residual-in_err-normal.ensures.1 (λ w. row_past
-    c.args.self.now.setting.back.items _ forms at.0 at.1 (inr (subst (λ q.
-    IsPast (weight fraction_size q)) sum_is (c.in_err-normal.ensures.wide w))))
+    wide_on c.from_residual-in_err-normal.ensures.1 (λ w. row_past _ _ forms at.0 at.1
+    (inr (subst (λ q. IsPast (weight fraction_size q)) sum_is (c.in_err-normal.ensures.wide w))))
 
 pub loop-row-preserved : goal.loop-row-preserved
 loop-row-preserved c =
@@ -57,9 +55,8 @@ loop-row-preserved c =
     let arity = c.in_ok-sum.ensures.arity ∙ c.arity-arity.ensures in (
       ap length more ∙ length_push out e ∙ ap (λ k. k + 1) c.loop-row.invariant.0,
       All-same (IsExpoOver bs m) _ _ more (All-push (IsExpoOver bs m) out e
-          c.loop-row.invariant.1 (normal_over bs m _ e arity c.in_ok-normal.ensures.normal)),
-      variables_next bs forms c.args.self.now.setting.back.items c.loop-row.row-index
-          c.row-item.result out c.push.new.self.items e at.0 at.1 more
+          c.loop-row.invariant.1 (normal_over m _ e arity c.in_ok-normal.ensures.normal)),
+      variables_next bs forms _ _ out e at.0 at.1 more
           (c.in_ok-normal.ensures.normal.terms
           ∙ ap (λ q. collect_terms (with_normal_keys (length bs) q))
           sum_is) c.loop-row.invariant.2,

@@ -34,7 +34,6 @@ returns-clause-arity c =
 pub returns-clause-terms : goal.returns-clause-terms
 returns-clause-terms c =
     let i = c.in_ok-compose.ensures.composition in
-    moved_is (base_for c.args.self.now) _ _ _ _ c.in_ok-part.part c.in_ok-compose.field-0
-    c.args.self.now.ready.some c.args.self.now.ready.earlier (c.in_ok-part.ensures.terms
-    ∙ ap (λ (ps : _).
-    part (numbers_for c.args.self.now) (terms_each ps)) c.deref.ensures.value) i.arity i.same
+    moved_is _ _ _ _ _ c.in_ok-part.part c.in_ok-compose.field-0 c.args.self.now.ready.some
+    c.args.self.now.ready.earlier (c.in_ok-part.ensures.terms ∙ ap (λ (ps : _). part
+    (numbers_for c.args.self.now) (terms_each ps)) c.deref.ensures.value) i.arity i.same

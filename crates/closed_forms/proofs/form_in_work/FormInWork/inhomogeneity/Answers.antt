@@ -24,8 +24,7 @@ normal-requires-clause-front c =
 pub returns-clause-over : goal.returns-clause-over
 returns-clause-over c =
     let a = c.in_ok-sum.ensures.sum.arity ∙ c.in_ok-moved.ensures.arity in
-    IfOk-weaker c.normal.result _ _ (λ e h. normal_over (base_for c.args.self.now) _ _ e a h)
-    c.normal.ensures.normal
+    IfOk-weaker c.normal.result _ _ (λ e h. normal_over _ _ e a h) c.normal.ensures.normal
 
 pub returns-clause-inhomogeneity : goal.returns-clause-inhomogeneity
 returns-clause-inhomogeneity c =
@@ -34,7 +33,7 @@ returns-clause-inhomogeneity c =
     let sum = sum_is c.in_ok-moved.moved c.in_ok-combination_of_earlier.combination_of_earlier
     c.in_ok-sum.sum c.in_ok-moved.ensures.arity c.in_ok-combination_of_earlier.ensures.arity
     i.arity c.in_ok-moved.ensures.terms refl i.same in
-    IfOk-weaker c.normal.result _ _ (λ e h. inhomogeneity_is _ _ _ _ _ _ (rows_of s.back.items) _ e
+    IfOk-weaker c.normal.result _ _ (λ e h. inhomogeneity_is _ _ _ _ _ _ _ _ e
     _ c.in_ok-combination_of_earlier.ensures.terms sum h) c.normal.ensures.normal
 
 pub returns-clause-wide : goal.returns-clause-wide

@@ -16,8 +16,7 @@ returns-in-Ok-clause-power c = record {
 pub returns-in-Ok-clause-small : goal.returns-in-Ok-clause-small
 returns-in-Ok-clause-small c =
     let f = c.args.self.now in
-    small_exponents (base_for f) f.ready.coprime.0 c.in-Ok.exponents.items
-    c.sign_and_size-negative.result.1
+    small_exponents (base_for f) f.ready.coprime.0 _ c.sign_and_size-negative.result.1
     (c.in-Ok.ensures.count ∙ sym (length-map f.class.now.base.now.items _))
     c.in-Ok.ensures.exponents
 

@@ -25,8 +25,7 @@ pub fill-requires-clause-forms : goal.fill-requires-clause-forms
 fill-requires-clause-forms c =
     let w = c.args.self in
     let many = c.len.ensures ∙ w.map.images.now.ok.0 in
-    rw c.deref.ensures.value
-    (none_yet c.requires.work c.in_ok-polys.polys.items (c.in_ok-polys.ensures.count ∙ many)
+    rw c.deref.ensures.value (none_yet c.requires.work (c.in_ok-polys.ensures.count ∙ many)
     (subst (λ n. AreOver (sizes w.base.items) n c.in_ok-polys.polys.items) many
     c.in_ok-polys.ensures.over))
 
@@ -80,7 +79,7 @@ returns-in_err-passing-clause-refused c =
 pub returns-clause-form : goal.returns-clause-form
 returns-clause-form c =
     let at = (goal.at.returns-clause-form c).In_ok-since in
-    form_in c.requires.work c.fill.new.polys c.in_ok-since.since c.in_ok-passing.passing
-    c.in_ok-fill.ensures.forms (settled at) c.in_ok-passing.ensures.count
-    (passing_in c.requires.work c.in_ok-fill.ensures.forms (settled at)
-    c.in_ok-passing.passing.items c.in_ok-passing.ensures.none c.in_ok-passing.ensures.marked)
+    form_in c.requires.work c.fill.new.polys c.in_ok-passing.passing c.in_ok-fill.ensures.forms
+    (settled at) c.in_ok-passing.ensures.count (passing_in c.requires.work
+    c.in_ok-fill.ensures.forms (settled at) _ c.in_ok-passing.ensures.none
+    c.in_ok-passing.ensures.marked)

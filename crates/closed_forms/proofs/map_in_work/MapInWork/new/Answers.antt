@@ -31,9 +31,9 @@ pub returns-in-Some-clause-refused : goal.returns-in-Some-clause-refused
 returns-in-Some-clause-refused c =
     let images = c.args.map.images.now.items in
     is_too_long (terms_each images) (c.in-Ok.ensures.solvable (search rules)) (all_pass images
-    c.args.map.square c.in_ok-splits.ensures.splits) (groups_in c.deref-2.result.now)
-    (rw c.deref-2.ensures.value c.in-Ok.ensures.classes) (length images) c.in-Some.variable
-    c.in_ok-variable.field-0 (sym (length_each images)) c.in-Some.is c.in_ok-variable.ensures
+    c.args.map.square c.in_ok-splits.ensures.splits) _
+    (rw c.deref-2.ensures.value c.in-Ok.ensures.classes) (sym (length_each images)) c.in-Some.is
+    c.in_ok-variable.ensures
 
 pub base_of-requires : goal.base_of-requires
 base_of-requires c = record {
@@ -68,7 +68,7 @@ returns-in-Err-Wide-clause-refused c =
       solvable = c.in-Ok.ensures.solvable (search rules);
       pass = all_pass images c.args.map.square are;
       later = later_state
-          (form_base_is M splits are (map_of images c.args.map.square) bs (base_is at))
+          (form_base_is are (map_of images c.args.map.square) bs (base_is at))
           (record { splits = splits; are = are; count = sym (count_is at) })
           (c.in-Err-Wide.ensures.wide (ap Err c.in-Err-Wide.field-0-is));
     }

@@ -5,5 +5,5 @@ use Rattle.closed_forms.proofs.matrices.FormMatrix.inverse.Goals as goal
 
 pub halves-requires : goal.halves-requires
 halves-requires c =
-    widths_low (length c.args.self.now.forms.now) c.as_slice.result.now
+    widths_low _ _
     (ap rows_of c.as_slice.ensures.value ∙ c.rows.ensures) c.in_ok-echelon.ensures.echelon.widths

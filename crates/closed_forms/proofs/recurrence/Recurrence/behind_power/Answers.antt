@@ -34,9 +34,7 @@ module _ (c : In_ok-push_sides-2) where
   long : length c.push_sides-2.new.out.items + length c.args.variables.now ≤ 4096
   long =
       let r = c.args.self.now in
-      let m = sides_length r.own.exponents.items c.in_ok-exponents.exponents.items
-      c.push_sides.new.out.items c.push_sides-2.new.out.items
-      (ap length c.in_ok-exponents.ensures.items) above below in
+      let m = sides_length _ _ (ap length c.in_ok-exponents.ensures.items) above below in
       omega (arith, m, r.power.count, r.few, c.requires)
 
 pub new-requires : goal.new-requires
@@ -53,7 +51,7 @@ returns c = record {
   ok = let at = (goal.at.returns c).In_ok-push_sides-2 in
       let p = c.args.self.now.own in
       IfOk-weaker c.concat.result _ _ (λ mono is. is ∙ ap (λ l. l ++ c.args.variables.now)
-      c.in_ok-front.ensures.ok ∙ sides_front p.negative p.exponents.items c.args.variables.now
+      c.in_ok-front.ensures.ok ∙ sides_front p.negative _ c.args.variables.now
       (c.in_ok-exponents.ensures.items ∙ ap (λ n. 0 ∷ n ∷ []) (c.from.ensures ∙ byte_is p.negative))
       (above at) (below at)) c.concat.ensures.ok;
 }

@@ -60,23 +60,21 @@ pub normal_sum-requires : goal.normal_sum-requires
 normal_sum-requires c =
     let at = (goal.at.normal_sum-requires c).In_ok-push_copies in
     let r = c.args.self.now in
-    all_arity _ _
-    (together-arity (base_by r) r.coprime.0 r.vars r.own.negative r.own.exponents.items
-    r.power.count (start at) (sum at) (all at) (all_is at) (narrow at) (wide at))
+    all_arity _ _ (together-arity (base_by r) r.coprime.0 r.vars r.own.negative
+    r.own.exponents.items r.power.count (start at) (sum at) (all_is at) (narrow at) (wide at))
 
 pub returns-clause-over : goal.returns-clause-over
 returns-clause-over c =
     let r = c.args.self.now in
-    IfOk-weaker c.normal_sum.result _ _ (expo_over r.vars _) c.normal_sum.ensures.normal
+    IfOk-weaker c.normal_sum.result _ _ (expo_over _) c.normal_sum.ensures.normal
 
 pub returns-clause-joined : goal.returns-clause-joined
 returns-clause-joined c =
     let at = (goal.at.returns-clause-joined c).In_ok-push_copies in
     let r = c.args.self.now in
-    IfOk-weaker c.normal_sum.result _ _
-    (λ y h. joined_is (base_by r) r.coprime.0 r.vars r.own.negative r.own.exponents.items
-    r.power.count (start at) (sum at) (all at) (all_is at) (narrow at) (wide at) r.vars
-    (collect_terms (all at)) y refl h) c.normal_sum.ensures.normal
+    IfOk-weaker c.normal_sum.result _ _ (λ y h. joined_is (base_by r) r.coprime.0 r.vars
+    r.own.negative r.own.exponents.items r.power.count (start at) (sum at) (all_is at) (narrow at)
+    (wide at) r.vars y refl h) c.normal_sum.ensures.normal
 
 pub returns-clause-wide : goal.returns-clause-wide
 returns-clause-wide c =

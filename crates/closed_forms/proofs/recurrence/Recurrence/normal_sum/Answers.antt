@@ -67,7 +67,7 @@ returns-clause-normal c =
     IfOk-weaker c.normal.result _ _
     (λ y h. record {
       over_base = h.over_base;
-      over_vars = (normal_over bs _ _ y (arity_is at) h).over_vars;
+      over_vars = (normal_over _ _ y (arity_is at) h).over_vars;
       terms = h.terms ∙ ap (λ q. collect_terms (with_normal_keys (length bs) q)) (made at);
     }) c.normal.ensures.normal
 

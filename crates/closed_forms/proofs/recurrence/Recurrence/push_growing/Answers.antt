@@ -8,9 +8,8 @@ pub loop-number-preserved : goal.loop-number-preserved
 loop-number-preserved c =
     let m = Zip-more c.loop-number.number-iterator c.next.new.self _
     (c.in-Some.number, c.in-Some.variable) c.in-Some.is c.next.ensures.steps in
-    growing_next _ (key_of_power c.args.self.now.own) c.loop-number.out.items
-    c.push.new.self.items m.0 m.1 c.in_ok-push.ensures.items c.in_ok-mono.ensures.ok refl
-    c.loop-number.invariant
+    growing_next _ (key_of_power c.args.self.now.own) _ m.0 m.1 c.in_ok-push.ensures.items
+    c.in_ok-mono.ensures.ok refl c.loop-number.invariant
 
 pub returns : goal.returns
 returns c =

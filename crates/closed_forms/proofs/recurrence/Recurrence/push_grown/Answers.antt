@@ -7,9 +7,9 @@ use Rattle.closed_forms.proofs.recurrence.Recurrence.push_grown.Goals as goal
 
 pub loop-term-preserved : goal.loop-term-preserved
 loop-term-preserved c =
-    grown_next (key_of_power c.args.self.now.own) _ _ c.term-item.result _ c.loop-term.out.items
-    c.push.new.self.items _ (left_at _ _ c.loop-term-test.true c.term-item.is)
-    c.in_ok-push.ensures.items c.in_ok-mono.ensures.ok refl c.loop-term.invariant
+    grown_next (key_of_power c.args.self.now.own) _ _ _ _ _
+    (left_at _ _ c.loop-term-test.true c.term-item.is) c.in_ok-push.ensures.items
+    c.in_ok-mono.ensures.ok refl c.loop-term.invariant
 
 pub returns : goal.returns
 returns c = record {

@@ -14,15 +14,14 @@ pub term_solved-requires-clause-normal : goal.term_solved-requires-clause-normal
 term_solved-requires-clause-normal c =
     let r = c.args.self.now in
     normal_at (base_by r) r.vars (value_by r) r.inhomogeneity.now c.loop-term.term-index
-    c.term-item.result c.loop-term-test.true c.term-item.is (own_is_normal (base_by r) r.vars
-    (arity_all _ _ r.arities) r.normal)
+    c.loop-term-test.true c.term-item.is (own_is_normal (base_by r) r.vars (arity_all _ _ r.arities)
+    r.normal)
 
 pub loop-term-preserved : goal.loop-term-preserved
 loop-term-preserved c = λ new h.
     let bs = base_by c.args.self.now in
-    c.loop-term.invariant new (solved_next bs c.args.self.now.vars (value_by c.args.self.now) _ _
-    c.term-item.result (tell c.loop-term.out.items) new
-    (left_at _ _ c.loop-term-test.true c.term-item.is) c.in_ok-solution.ensures.solved
+    c.loop-term.invariant new (solved_next bs c.args.self.now.vars (value_by c.args.self.now) _ _ _
+    new (left_at _ _ c.loop-term-test.true c.term-item.is) c.in_ok-solution.ensures.solved
     (c.in_ok-push_copies.ensures.terms ∙ ap (λ (ts : List (Term Frac)). tell c.loop-term.out.items
     ++ tell ts) (c.deref.ensures.value ∙ ap (λ v. v.items) c.terms.ensures)) h)
 
@@ -36,6 +35,6 @@ returns-clause-terms c =
 pub returns-in_err-solution-clause-wide : goal.returns-in_err-solution-clause-wide
 returns-in_err-solution-clause-wide c =
     let bs = base_by c.args.self.now in
-    wide_on c.from_residual.ensures.1 (λ x.
-    past_term_at bs c.args.self.now.vars (value_by c.args.self.now) _ c.loop-term.term-index
-    c.term-item.result c.loop-term-test.true c.term-item.is (c.in_err-solution.ensures.wide x))
+    wide_on c.from_residual.ensures.1 (λ x. past_term_at bs c.args.self.now.vars
+    (value_by c.args.self.now) _ _ c.loop-term-test.true c.term-item.is
+    (c.in_err-solution.ensures.wide x))

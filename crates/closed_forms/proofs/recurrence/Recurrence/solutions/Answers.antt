@@ -28,7 +28,7 @@ module _ (c : In_ok-push_solved) where
       (inhomogeneity_in c.args.self.now) all
   are =
       let r = c.args.self.now in
-      solved_all (base_by r) r.vars (value_by r) (inhomogeneity_in r) all
+      solved_all (base_by r) r.vars (value_by r) all
       (ap tell c.new-terms.ensures.items) c.in_ok-push_solved.ensures.terms
 
   given : Arity (width (length (base_by c.args.self.now)) c.args.self.now.vars)
@@ -41,21 +41,21 @@ pub normal_sum-requires : goal.normal_sum-requires
 normal_sum-requires c =
     let at = (goal.at.normal_sum-requires c).In_ok-push_solved in
     let r = c.args.self.now in
-    all_arity _ _ (solved-arity (base_by r) r.coprime.0 r.vars (value_by r) (inhomogeneity_in r)
+    all_arity _ _ (solved-arity (base_by r) r.coprime.0 r.vars (value_by r) _
     (all at) (given at) (are at))
 
 pub returns-clause-over : goal.returns-clause-over
 returns-clause-over c =
     let r = c.args.self.now in
-    IfOk-weaker c.normal_sum.result _ _ (expo_over r.vars _) c.normal_sum.ensures.normal
+    IfOk-weaker c.normal_sum.result _ _ (expo_over _) c.normal_sum.ensures.normal
 
 pub returns-clause-sum : goal.returns-clause-sum
 returns-clause-sum c =
     let at = (goal.at.returns-clause-sum c).In_ok-push_solved in
     let r = c.args.self.now in
     IfOk-weaker c.normal_sum.result _ _ (λ y h. sum_is (base_by r) r.coprime.0 r.vars r.vars
-    (value_by r) (inhomogeneity_in r) (all at) (collect_terms (all at)) y (given at) (are at) refl h
-    (expo_over r.vars _ y h)) c.normal_sum.ensures.normal
+    (value_by r) (all at) y (given at) (are at) refl h
+    (expo_over _ y h)) c.normal_sum.ensures.normal
 
 pub returns-clause-wide : goal.returns-clause-wide
 returns-clause-wide c =

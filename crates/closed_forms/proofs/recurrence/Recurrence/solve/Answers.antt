@@ -37,8 +37,7 @@ module _ (c : In_ok-push_solved) where
   long : Arity (width (length (base_by c.args.self.now)) c.args.self.now.vars) all
   long =
       let r = c.args.self.now in
-      whole-arity (base_by r) r.coprime.0 r.vars (fractions_of c.args.form.now) c.args.group.now
-      (value_by r) (inhomogeneity_in r) all (arity_all _ _ r.arities) whole
+      whole-arity (base_by r) r.coprime.0 r.vars (value_by r) (arity_all _ _ r.arities) whole
 
 pub normal_sum-requires : goal.normal_sum-requires
 normal_sum-requires c =
@@ -49,16 +48,15 @@ normal_sum-requires c =
 pub returns-clause-over : goal.returns-clause-over
 returns-clause-over c =
     let r = c.args.self.now in
-    IfOk-weaker c.normal_sum.result _ _ (expo_over r.vars _) c.normal_sum.ensures.normal
+    IfOk-weaker c.normal_sum.result _ _ (expo_over _) c.normal_sum.ensures.normal
 
 pub returns-clause-solved : goal.returns-clause-solved
 returns-clause-solved c =
     let at = (goal.at.returns-clause-solved c).In_ok-push_solved in
     let r = c.args.self.now in
-    IfOk-weaker c.normal_sum.result _ _
-    (λ y h. form_is (base_by r) r.vars (fractions_of c.args.form.now) c.args.group.now r.own
-    (inhomogeneity_in r) (all at) (collect_terms (all at)) r.vars y (whole at) refl h)
-    c.normal_sum.ensures.normal
+    IfOk-weaker c.normal_sum.result _ _ (λ y h. form_is (base_by r) r.vars
+    (fractions_of c.args.form.now) c.args.group.now r.own (inhomogeneity_in r) (all at) r.vars y
+    (whole at) refl h) c.normal_sum.ensures.normal
 
 pub returns-clause-wide : goal.returns-clause-wide
 returns-clause-wide c =

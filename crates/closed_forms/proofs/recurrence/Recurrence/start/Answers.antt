@@ -28,14 +28,12 @@ pub returns-clause-start : goal.returns-clause-start
 returns-clause-start c =
     let r = c.args.self.now in
     let q = terms_in c.args.sum.now.body in
-    ok_both _ _ _ _ (λ p a e. start_is (base_by r) r.vars (number_by r) c.args.iterations
-    c.args.there c.in_ok-at.at p q
+    ok_both _ _ _ _ (λ p a e. start_is (base_by r) r.vars (number_by r) c.args.iterations p q
     (c.in_ok-factor.ensures.ok ∙ ap (λ x. power ℚ x c.args.iterations) c.reciprocal.ensures)
     c.neg-opposite.ensures (ap fractions_of (c.deref.ensures.value ∙ c.in_ok-numbers.ensures.items))
-    (c.deref-2.ensures.value ∙ c.in_ok-polys.ensures.items) a
-    (λ s l. c.in_ok-at.ensures.values s (l ∙ sym c.requires.sum.over_vars)
-    ∙ ap (λ b. value_at ℚ q (point b c.args.iterations s)) c.requires.sum.over_base) e)
-    c.weighted_sum.ensures.arity c.weighted_sum.ensures.terms
+    (c.deref-2.ensures.value ∙ c.in_ok-polys.ensures.items) a (λ s l. c.in_ok-at.ensures.values s
+    (l ∙ sym c.requires.sum.over_vars) ∙ ap (λ b. value_at ℚ q (point b c.args.iterations s))
+    c.requires.sum.over_base) e) c.weighted_sum.ensures.arity c.weighted_sum.ensures.terms
 
 pub returns-clause-wide : goal.returns-clause-wide
 returns-clause-wide c =
@@ -50,9 +48,8 @@ returns-clause-wide c =
     c.requires.sum.over_base
     (subst (λ k. Same ℚ (terms_in at) (at_iteration (base_of c.args.sum.now) k c.args.iterations q))
     c.requires.sum.over_vars iteration.same)) in
-    λ w. difference_past (subst (λ p. IsPastMix (k ∷ ℚ.neg k ∷ [])
-    (terms_in c.args.there ∷ p ∷ [])) at_is (start_lists (base_by r) r.vars (number_by r)
-    c.args.iterations c.args.there at c.args.there q
+    λ w. difference_past (subst (λ p. IsPastMix (k ∷ ℚ.neg k ∷ []) (terms_in c.args.there ∷ p ∷ []))
+    at_is (start_lists (base_by r) r.vars (number_by r) c.args.iterations c.args.there q
     (c.in_ok-factor.ensures.ok ∙ ap (λ x. power ℚ x c.args.iterations) c.reciprocal.ensures)
     c.neg-opposite.ensures (ap fractions_of (c.deref.ensures.value ∙ c.in_ok-numbers.ensures.items))
     (c.deref-2.ensures.value ∙ c.in_ok-polys.ensures.items) IsPastMix

@@ -61,9 +61,8 @@ returns-in_err-solution-clause-wide c =
     let top_is = c.from.ensures ∙ c.exponent-iterations.ensures ∙ top_at t.0 in
     let key = subst (λ (ws : List Whole). key_of (length (sizes ws)) t.0 ≡ key_of_power
     c.in_ok-inhomogeneity.inhomogeneity) c.deref.ensures.value c.in_ok-inhomogeneity.ensures.key in
-    wide_on c.from_residual-in_err-solution.ensures.1 (λ x. term_past bs c.args.self.now.vars t
-    c.in_ok-inhomogeneity.inhomogeneity c.args.self.now.own _ top_is key
-    (c.in_err-solution.ensures.wide x))
+    wide_on c.from_residual-in_err-solution.ensures.1 (λ x. term_past bs c.args.self.now.vars t _
+    top_is key (c.in_err-solution.ensures.wide x))
 
 -- where the solution and what does not change are to be multiplied
 module _ (c : After-body) where
@@ -71,8 +70,7 @@ module _ (c : After-body) where
   t = term_of fraction_of c.args.term.now
 
   over : IsExpoOver (base_by c.args.self.now) c.args.self.now.vars c.in_ok-solution.solution
-  over = tabled_over (base_by c.args.self.now) c.args.self.now.vars _
-      c.args.self.now.own c.in_ok-solution.solution c.in_ok-solution.ensures.table
+  over = tabled_over c.args.self.now.vars _ c.in_ok-solution.ensures.table
 
   solution_arity : c.body.result.now.arity ≡ width (length (base_by c.args.self.now))
       c.args.self.now.vars
@@ -86,13 +84,10 @@ module _ (c : After-body) where
       c.in_ok-inhomogeneity.inhomogeneity) c.deref.ensures.value
       c.in_ok-inhomogeneity.ensures.key in
       subst (λ (p : FracPoly). IsKeySolution (base_by c.args.self.now) c.args.self.now.vars
-      (value_by c.args.self.now) t (terms_in p))
-      (sym c.body.ensures)
-      (key_solution (base_by c.args.self.now) c.args.self.now.vars t
-      c.in_ok-inhomogeneity.inhomogeneity
-      c.args.self.now.own
-      _ c.in_ok-solution.solution (c.from.ensures ∙ c.exponent-iterations.ensures ∙ top_at t.0) key
-      over c.in_ok-solution.ensures.solves)
+      (value_by c.args.self.now) t (terms_in p)) (sym c.body.ensures) (key_solution t
+      c.in_ok-inhomogeneity.inhomogeneity c.args.self.now.own _
+      (c.from.ensures ∙ c.exponent-iterations.ensures ∙ top_at t.0) key over
+      c.in_ok-solution.ensures.solves)
 
   rest_is : terms_in c.in_ok-rest.rest ≡ steady (length (base_by c.args.self.now)) t
   rest_is = c.in_ok-rest.ensures.terms
@@ -104,13 +99,11 @@ mul-requires-clause-arity c = solution_arity (goal.at.mul-requires-clause-arity 
 pub returns-clause-solved : goal.returns-clause-solved
 returns-clause-solved c =
     let at = (goal.at.returns-clause-solved c).After-body in
-    IfOk-weaker c.mul.result _ _ (λ p i. product_is (base_by c.args.self.now) c.args.self.now.vars
-    (t at) c.body.result.now c.in_ok-rest.rest p (solution_arity at)
-    (c.in_ok-rest.ensures.arity ∙ c.requires.arity) i.arity (solution_is at) (rest_is at) i.same)
-    c.mul.ensures.product
+    IfOk-weaker c.mul.result _ _ (λ p i. product_is (t at) c.body.result.now c.in_ok-rest.rest p
+    (solution_arity at) (c.in_ok-rest.ensures.arity ∙ c.requires.arity) i.arity (solution_is at)
+    (rest_is at) i.same) c.mul.ensures.product
 
 pub returns-clause-wide : goal.returns-clause-wide
 returns-clause-wide c =
     let at = (goal.at.returns-clause-wide c).After-body in
-    λ w. product_past c.args.self.now.vars (t at) (terms_in c.body.result.now) (solution_is at)
-    (rest_is at) (c.mul.ensures.wide w)
+    λ w. product_past (t at) (solution_is at) (rest_is at) (c.mul.ensures.wide w)

@@ -22,7 +22,7 @@ index-requires t c =
 pub split_from-requires : goal.split_from-requires
 split_from-requires t c = (
   search rules,
-  later_classes _ c.args.groups.now c.in-Some.groups.now c.in-Some.group.now
+  later_classes _
       c.in-Some.ensures.cases.0 c.requires,
 )
 
@@ -58,7 +58,7 @@ returns-in-Ok-clause-split t c =
     let some = class_some images g.items (this_class images
     c.in-Some.ensures.cases.0 c.requires) in
     let first = first_read g.items some c.index.ensures in
-    among_here images (map_of _ c.args.self.now.square) (groups_in c.in-Some.groups.now) g.items
+    among_here images (map_of _ c.args.self.now.square) g.items
     c.args.first c.in-Ok.found (ap groups_in c.in-Some.ensures.cases.0) c.requires
     (sym first ∙ c.if-index-first.false) c.in-Ok.ensures.split
 

@@ -13,9 +13,9 @@ loop-variable-preserved c =
     let images = c.args.self.now.images.now.items in
     let g = c.args.group.now in
     let i = c.loop-variable.variable-index in
-    made_next (λ (row : Vec Frac Global). fractions_of row.items) (λ i. map (λ j.
-    coefficient ℚ (poly_at (terms_each images) i) (unit (length (terms_each images)) j)) g) g i
-    c.loop-variable.matrix.items c.in_ok-linear_part.field-0 c.loop-variable-test.true
-    c.loop-variable.invariant c.in_ok-push.ensures.items (part_is images g (get_or g i 0)
-    c.index.result.now (c.requires i 0 c.loop-variable-test.true) c.index.ensures
-    c.args.self.now.square c.in_ok-linear_part.ensures)
+    made_next (λ (row : Vec Frac Global). fractions_of row.items) (λ i. map (λ j. coefficient ℚ
+    (poly_at (terms_each images) i) (unit (length (terms_each images)) j)) g) g i _
+    c.in_ok-linear_part.field-0 c.loop-variable-test.true c.loop-variable.invariant
+    c.in_ok-push.ensures.items (part_is images g (get_or g i 0)
+    (c.requires i 0 c.loop-variable-test.true) c.index.ensures c.args.self.now.square
+    c.in_ok-linear_part.ensures)

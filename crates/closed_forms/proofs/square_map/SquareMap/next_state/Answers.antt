@@ -30,8 +30,7 @@ loop-image-preserved c =
     let i = c.in_ok-compose.ensures.composition in
     let at = read_of c.deref-image-items.ensures.value c.loop-image-test.true c.image-item.is in
     let some = some (goal.at.loop-image-preserved c).After-image-item in (
-      image_next m S c.args.self.now.images.now.items c.loop-image.out.items
-          c.push.new.self.items c.loop-image.image-index c.image-item.result p some
+      image_next m S _ _ _ p some
           c.requires.arities at.0 at.1 c.in_ok-push.ensures.items
           i.arity i.same c.loop-image.invariant.0,
       have_more (λ (p : FracPoly). p.arity ≡ m) _ _ p c.in_ok-push.ensures.items
@@ -40,14 +39,11 @@ loop-image-preserved c =
 
 pub returns-clause-terms : goal.returns-clause-terms
 returns-clause-terms c =
-    images_all (size_by c.args.self.now) c.loop-image.image-index
-    (terms_each c.args.state.now.items)
-    c.args.self.now.images.now.items c.loop-image.out.items c.loop-image.invariant.0
-    (take_all _ _ (subst (λ (ps : List FracPoly). length ps ≤ c.loop-image.image-index)
-    c.deref-image-items.ensures.value c.loop-image-test.false))
+    images_all _ _ _ _ c.loop-image.invariant.0 (take_all _ _ (subst (λ (ps : List FracPoly). length
+    ps ≤ c.loop-image.image-index) c.deref-image-items.ensures.value c.loop-image-test.false))
 
 pub returns-in_err-compose-clause-wide : goal.returns-in_err-compose-clause-wide
 returns-in_err-compose-clause-wide c =
     let at = read_of c.deref-image-items.ensures.value c.loop-image-test.true c.image-item.is in
-    wide_on c.from_residual.ensures.1 (λ w. past_image c.args.self.now.images.now.items _
-    c.loop-image.image-index c.image-item.result at.0 at.1 (c.in_err-compose.ensures.wide w))
+    wide_on c.from_residual.ensures.1 (λ w. past_image _ _ _ at.0 at.1
+    (c.in_err-compose.ensures.wide w))

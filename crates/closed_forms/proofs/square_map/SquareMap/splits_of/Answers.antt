@@ -38,10 +38,10 @@ loop-first-preserved c =
       c.loop-first-test.true,
     ) in
     let more = c.in_ok-push.ensures.items in (
-      splits_push images old c.push.new.self.items found more low
+      splits_push images old found more low
           (subst (λ k. IsSplitAt images k found) (sym place)
           (split_at images groups (classes_are images [] groups c.requires.classes)
-          (class_among images is groups c.requires.classes) c.loop-first.first found
+          (class_among images is groups c.requires.classes) found
           c.in_ok-split_from.ensures.split)) c.loop-first.invariant.0,
       ap length more ∙ length_push old found ∙ ap (λ k. k + 1) place,
     )
