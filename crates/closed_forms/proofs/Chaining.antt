@@ -24,7 +24,7 @@ use Rattle.solvable_maps.specs.Iterations.{IsNormalForm}
 use Rattle.expo.specs.declared.exponential.Expo.{Expo}
 use Rattle.closed_forms.specs.declared.class_in_work.ClassInWork.{ClassInWork}
 use Rattle.closed_forms.specs.ClassInWork.{base_in, AreClosedIn, IsPastIn}
-use Rattle.closed_forms.specs.ClassForms.{parts_of, IsNormalOver, IsNextOf, IsPastFormOf}
+use Rattle.closed_forms.specs.ClassForms.{IsNormalOver, IsNextOf, IsPastFormOf}
 use Rattle.closed_forms.specs.Known.{ClassParts, IsNextAt, AreNextForms, IsPastVariable, IsPastRowOf, variable_in}
 use Rattle.closed_forms.specs.Values.{bodies_of}
 use Rattle.eigen_split.proofs.Reading.{list_row}

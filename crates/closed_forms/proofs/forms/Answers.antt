@@ -4,7 +4,6 @@ use Rattle.std.specs.Result.{IfOk, IfErr}
 use Rattle.poly.specs.Seen.{terms_each}
 use Rattle.solvable.proofs.Using.{FracPoly, length_each}
 use Rattle.solvable_maps.specs.Iterations.{width}
-use Rattle.closed_forms.specs.MapInWork.{images_in}
 use Rattle.solvable.specs.Refusal.{IsSolvable}
 use Rattle.closed_forms.specs.Refusal.{AllPass, IfRefusedBy}
 use Rattle.closed_forms.specs.Values.{AreOver}

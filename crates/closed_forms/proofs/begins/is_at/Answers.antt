@@ -1,4 +1,3 @@
-use Rattle.poly.specs.Seen.{terms_in}
 use Rattle.closed_forms.proofs.Marks.{at_same, at_told}
 use Rattle.closed_forms.proofs.begins.is_at.Goals as goal
 

@@ -3,7 +3,6 @@ use Rattle.algebra.specs.Fraction.{ℚ}
 use Rattle.polynomials.specs.Order.{grevlex}
 use Rattle.polynomials.specs.Polynomial.{Arity, IsPolynomial}
 use Rattle.frac128.specs.declared.fraction.Frac.{Frac}
-use Rattle.poly.specs.Seen.{terms_in}
 use Rattle.poly.specs.declared.Term.{Term}
 use Rattle.solvable_maps.specs.AfterIterations.{rest_of}
 use Rattle.closed_forms.proofs.Mixing.{tell, all_arity, rest_polynomial}

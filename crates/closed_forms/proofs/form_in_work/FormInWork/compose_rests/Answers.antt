@@ -1,7 +1,7 @@
 use Rattle.std.proofs.Common.{◌≡◌, All, sym, ap, subst, ◌∙◌, arith}
 use Rattle.poly.specs.Seen.{terms_each}
 use Rattle.solvable.proofs.Using.{FracPoly}
-use Rattle.closed_forms.specs.FormInWork.{base_for, variables_for, numbers_for}
+use Rattle.closed_forms.specs.FormInWork.{variables_for, numbers_for}
 use Rattle.closed_forms.specs.Inhomogeneities.{part}
 use Rattle.closed_forms.proofs.Making.{arity_of_is, over_images, moved_is}
 use Rattle.closed_forms.proofs.form_in_work.FormInWork.compose_rests.Goals as goal

@@ -3,9 +3,7 @@ use Rattle.std.proofs.lemmas.Result.{IfOk-weaker}
 use Rattle.algebra.specs.Fraction.{fractions, fraction_size}
 use Rattle.algebra.specs.Size.{IsPast}
 use Rattle.polynomials.specs.Weight.{weight, IsPastSum}
-use Rattle.linear.specs.Rows.{rows_of}
 use Rattle.poly.specs.Seen.{terms_in, terms_each}
-use Rattle.closed_forms.specs.FormInWork.{base_for}
 use Rattle.closed_forms.specs.Inhomogeneities.{part}
 use Rattle.closed_forms.specs.Inhomogeneities as past
 use Rattle.expo.proofs.Outcomes.{wide_of}

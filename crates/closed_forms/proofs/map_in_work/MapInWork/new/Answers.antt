@@ -1,11 +1,10 @@
-use Rattle.std.proofs.Common.{◌≡◌, Err, length, sym, ap, subst, ◌∙◌, rules}
+use Rattle.std.proofs.Common.{◌≡◌, Err, sym, ap, subst, ◌∙◌, rules}
 use Rattle.exponentials.specs.Base.{IsTheBase}
 use Rattle.poly.specs.Seen.{terms_each}
 use Rattle.coprime_base.specs.Sizes.{sizes}
 use Rattle.solvable.proofs.Using.{length_each}
 use Rattle.solvable_maps.specs.Classes.{sizes_of}
 use Rattle.closed_forms.specs.Refusal.{IfRefusedBy}
-use Rattle.closed_forms.specs.Splits.{groups_in}
 use Rattle.closed_forms.specs.States.{zeros_in, some_of}
 use Rattle.closed_forms.specs.Values.{values_in}
 use Rattle.closed_forms.proofs.Counting.{twelve_values}

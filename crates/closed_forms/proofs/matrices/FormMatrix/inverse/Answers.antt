@@ -1,4 +1,4 @@
-use Rattle.std.proofs.Common.{length, ap, ◌∙◌}
+use Rattle.std.proofs.Common.{ap, ◌∙◌}
 use Rattle.linear.specs.Rows.{rows_of}
 use Rattle.closed_forms.proofs.Rows.{widths_low}
 use Rattle.closed_forms.proofs.matrices.FormMatrix.inverse.Goals as goal

@@ -4,7 +4,6 @@ use Rattle.algebra.specs.Fraction.{Fraction}
 use Rattle.polynomials.specs.Polynomial.{Arity}
 use Rattle.polynomials.specs.Terms.{Terms}
 use Rattle.solvable_maps.specs.Iterations.{width}
-use Rattle.closed_forms.specs.Inhomogeneities.{collect_terms}
 use Rattle.closed_forms.specs.Later.{term_past, terms_past, normal_past}
 use Rattle.closed_forms.specs.Recurrences.{base_by, value_by, inhomogeneity_in}
 use Rattle.closed_forms.specs.Solved.{AreSolved}

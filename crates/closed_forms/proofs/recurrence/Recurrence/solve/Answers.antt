@@ -5,7 +5,6 @@ use Rattle.polynomials.specs.Terms.{Terms}
 use Rattle.algebra.specs.Fraction.{Fraction}
 use Rattle.linear.specs.Rows.{fractions_of}
 use Rattle.solvable_maps.specs.Iterations.{width}
-use Rattle.closed_forms.specs.Inhomogeneities.{collect_terms}
 use Rattle.closed_forms.specs.Recurrences.{base_by, value_by, inhomogeneity_in}
 use Rattle.closed_forms.specs.Solved as Solved
 use Rattle.closed_forms.specs.Solved.{IsWhole}

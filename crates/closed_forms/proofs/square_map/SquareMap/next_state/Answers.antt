@@ -1,6 +1,5 @@
 use Rattle.std.proofs.Common.{◌≡◌, ◌<◌, ◌≤◌, ◌∙◌, List, length, ap, subst, arith}
 use Rattle.std.proofs.lemmas.List.{take_all}
-use Rattle.poly.specs.Seen.{terms_each}
 use Rattle.algebra.proofs.Lists.{have_more}
 use Rattle.solvable.proofs.Using.{FracPoly}
 use Rattle.closed_forms.specs.SquareMap.{size_by}
