@@ -107,8 +107,8 @@ module _ (images : List (Terms Fraction)) where
       (map-in (λ (g : Vec ℕ Global). g.items) groups _ (in_get groups k d l)))
 
 -- ---- to begin with
-pub ones : (n : ℕ) → AreLengths (replicate n 1)
-ones n = All-replicate IsLength n 1 (omega arith, one_fits)
+pub ones : (n : ℕ) → (0 < 1) × (1 ≤ most_terms) × AreLengths (replicate n 1)
+ones n = (omega arith, one_fits, All-replicate IsLength n 1 (omega arith, one_fits))
 
 -- ---- a map isn't both
 pub long_not : (images : List (Terms Fraction)) (groups : List (List ℕ)) (ns : List ℕ) (v : ℕ)

@@ -7,7 +7,7 @@ use Rattle.closed_forms.proofs.lengths.long_class.Goals as goal
 pub first_long-requires-clause-sums : goal.first_long-requires-clause-sums
 first_long-requires-clause-sums c =
     subst AreLengths (sym (c.in_ok-sums.ensures.items_if_clones_equal (λ y h. h)))
-    (ones c.len.result)
+    (ones c.len.result).2
 
 pub first_long-requires-clause-some : goal.first_long-requires-clause-some
 first_long-requires-clause-some c =
