@@ -1,6 +1,7 @@
 -- What a value and a document are, from their parts.
-use Rattle.std.proofs.Common.{◌≡◌, ℕ, List, Result, Ok, Err, length, refl, sym, ap, ◌∙◌}
-use Rattle.std.specs.Prelude.{Bool, true, false, Option, Some, None, IfOk, if◌then◌else◌, codes, is_some}
+--   document_none, document_some     the value that bytes are
+use Rattle.std.proofs.Common.{◌≡◌, ℕ, List, Ok, Err, length, refl, sym, ap, ◌∙◌}
+use Rattle.std.specs.Prelude.{Bool, true, false, Option, Some, None, if◌then◌else◌, codes, is_some}
 use Rattle.std.specs.Option.{ok_or}
 use Rattle.std.specs.Str.{IsUtf8, is_utf8}
 use Rattle.std.proofs.lemmas.Str.{IsUtf8-from_is_utf8, is_utf8-from_IsUtf8}
@@ -10,10 +11,7 @@ use Rattle.serde_json.specs.Read.{read}
 use Rattle.algebra.specs.Fraction.{Fraction}
 use Rattle.polynomials.specs.Terms.{Terms}
 use Rattle.loops.specs.Certificate.{Certificate}
-use Rattle.cert_form.specs.declared.error.CertError.{CertError}
-use Rattle.cert_form.specs.Form.{Fault, not_json, Reading, on, expect, has_version, has_known_version, has_names, basis_of, steps_of, parts_of, cert_of, cert_in, ReadsAs}
-use Rattle.cert_form.specs.Faults.{IsRead}
-use Rattle.cert_form.specs.Cert.{OverVariables, IsCertOf}
+use Rattle.cert_form.specs.Form.{Fault, not_json, Reading, on, expect, has_version, has_known_version, has_names, basis_of, steps_of, parts_of, cert_of, cert_in, document}
 
 -- an object with a known version and the names
 pub opened : (names : List (List ℕ)) (branches : ℕ) (d : Data) (sparse : Bool)
@@ -57,26 +55,24 @@ read_none : (b : Bool) (r : Option Data) → (b ≡ true → r ≡ None) → (if
 read_none true r none = none refl
 read_none false r none = refl
 
+module _ (bytes : List ℕ) where
+  pub document_none : (IsUtf8 bytes → read bytes ≡ None) → document bytes ≡ None
+  document_none none =
+      read_none (is_utf8 bytes) (read bytes) (λ yes. none (IsUtf8-from_is_utf8 bytes yes))
+
+  pub document_some : {d : Data} → IsUtf8 bytes → read bytes ≡ Some d → document bytes ≡ Some d
+  document_some utf8 some = ap (λ b. if b then read bytes else None)
+      (is_utf8-from_IsUtf8 bytes utf8) ∙ some
+
 module _ (names : List (List ℕ)) (branches : ℕ) (bytes : List ℕ) where
   pub cert_in-none : (IsUtf8 bytes → read bytes ≡ None) → cert_in names branches bytes
       ≡ Err not_json
   unfolding cert_in
   cert_in-none none = ap (λ o. on (cert_of names branches) (ok_or o not_json))
-      (read_none (is_utf8 bytes) (read bytes) (λ yes. none (IsUtf8-from_is_utf8 bytes yes)))
+      (document_none bytes none)
 
   pub cert_in-some : (d : Data) → IsUtf8 bytes → read bytes ≡ Some d → cert_of names branches d
       ≡ cert_in names branches bytes
   unfolding cert_in
-  cert_in-some d utf8 some = sym (
-      ap (λ b. on (cert_of names branches) (ok_or (if b then read bytes else None) not_json))
-      (is_utf8-from_IsUtf8 bytes utf8)
-      ∙ ap (λ o. on (cert_of names branches) (ok_or o not_json)) some)
-
-pub reads_as : (m branches : ℕ) (r : Result OverVariables CertError) (x y : Reading Certificate)
-    → x ≡ y → IfOk r (λ c. IsRead (IsCertOf m branches) c x) → IfOk r (λ c. ReadsAs y c.certificate)
-reads_as m branches (Ok c) x y same h = record {
-  raw = h.raw;
-  is = sym same ∙ h.is;
-  same = h.alike.same;
-}
-reads_as m branches (Err e) x y same h = tt
+  cert_in-some d utf8 some = sym (ap (λ o. on (cert_of names branches) (ok_or o not_json))
+      (document_some bytes utf8 some))

@@ -5,9 +5,12 @@
 --   entry_is                             the entry at a place is the value there
 --   after-after, after-nil               lists before what is read: two are one behind the other, and none changes nothing
 --   fault_like                           the fault of a reading is that of an equal one
+--   passed                               the fault of an error is that of the error that is passed on
 use Rattle.std.proofs.Common.{◌≡◌, ℕ, zero, suc, ◌+◌, ◌<◌, List, [], ◌∷◌, ◌++◌, Result, Ok, Err, length, get_or, drop, refl, sym, ap, subst, ◌∙◌, append_assoc, add-one, arith}
 use Rattle.std.proofs.Math.Seq.{drop-cons}
+use Rattle.std.proofs.lemmas.Result.{err_from_is_err_and}
 use Rattle.std.specs.List.{AllZip}
+use Rattle.std.specs.Result.{MatchResult, IsErrAnd}
 use Rattle.std.specs.Prelude.{string_bytes, IfErr}
 use Rattle.serde_json.specs.Data.{Data}
 use Rattle.serde_json.specs.View.{view, items_view}
@@ -25,6 +28,11 @@ IfFault-map (error.Shape path) h p = h (shape (string_bytes path)) p
 IfFault-map (error.Poly path) h p = h (polynomial (string_bytes path)) p
 IfFault-map error.Memory h p = tt
 
+-- what `?` passes on
+pub passed : {X : Type 0} (r : Result X CertError) (P : X → Type 0) (Q : Fault → Type 0)
+    (e : CertError) → IsErrAnd r (λ x. x ≡ e) → IfFault e Q → MatchResult r P (λ x. IfFault x Q)
+passed r P Q e is h = let p = err_from_is_err_and r is in rw (p.1, p.2) h
+
 pub after-after : {A : Type 0} (xs ys : List A) (r : Reading (List A))
     → after xs (after ys r) ≡ after (xs ++ ys) r
 after-after xs ys (Ok rest) = ap (λ zs. Ok zs) (sym (append_assoc xs ys rest))
@@ -40,25 +48,23 @@ pub record ReadSoFar {A B : Type 0} (like : A → B → Type 0) (f : List ℕ �
   pub alike : AllZip like found raws
   pub rest : each f path 0 (items_view vs) ≡ after raws (each f path i (items_view (drop i vs)))
 
-module _ {A B : Type 0} (like : A → B → Type 0) (f : List ℕ → Data → Reading B) (path : List ℕ)
-    (vs : List Value) where
-  pub so_far_start : (found : List A) → found ≡ [] → ReadSoFar like f path vs 0 found
-  so_far_start found none = record {
+module _ {A B : Type 0} {like : A → B → Type 0} {f : List ℕ → Data → Reading B} {path : List ℕ}
+    {vs : List Value} where
+  pub so_far_start : {found : List A} → found ≡ [] → ReadSoFar like f path vs 0 found
+  so_far_start none = record {
     raws = [];
-    alike = subst (λ xs. AllZip like xs []) (sym none)
-        tt;
+    alike = subst (λ xs. AllZip like xs []) (sym none) tt;
     rest = after-nil (each f path 0 (items_view vs));
   }
 
-  module _ (i : ℕ) (here : List ℕ) (v : Value) (found : List A) (lt : i < length vs)
-      (is : v ≡ get_or vs i v) (at : here ≡ part path i) (before : ReadSoFar like f path vs i
-      found) where
+  module _ {i : ℕ} {found : List A} (before : ReadSoFar like f path vs i found) {here : List ℕ}
+      {v : Value} (lt : i < length vs) (is : v ≡ get_or vs i v) (at : here ≡ part path i) where
     one : drop i vs ≡ v ∷ drop (suc i) vs
     one = drop-cons vs i v lt ∙ ap (λ x. x ∷ drop (suc i) vs) (sym is)
 
-    pub so_far_more : (a : A) (next : List A) → IsRead like a (f here (view v))
+    pub so_far_more : {a : A} {next : List A} → IsRead like a (f here (view v))
         → next ≡ found ++ a ∷ [] → ReadSoFar like f path vs (i + 1) next
-    so_far_more a next right more =
+    so_far_more {a = a} right more =
         let rest : Reading (List B) = each f path (suc i) (items_view (drop (suc i) vs)) in
         let there : f (part path i) (view v) ≡ Ok right.raw = ap (λ p. f p (view v)) (sym at)
         ∙ right.is in

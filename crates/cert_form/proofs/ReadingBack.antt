@@ -5,8 +5,8 @@
 --   same_again         two certificates that one text is read as are the same
 --   memory_alone       the refusal of a text that is read
 use Rattle.std.proofs.Common.{◌≡◌, ℕ, zero, suc, ◌+◌, ◌-◌, ◌≤◌, ◌<◌, List, [], ◌∷◌, ◌++◌, map, length, get_or, codes, refl, sym, ap, ap₂, subst, ◌∙◌, append_assoc, arith}
-use Rattle.std.specs.Prelude.{All, true, false, ◌||◌, ◌&&◌, if◌then◌else◌, Option, Some, None, Ok, Err, IsSomeAnd, option_and_then}
-use Rattle.std.specs.Option.{ok_or, option_map_or}
+use Rattle.std.specs.Prelude.{All, true, ◌&&◌, if◌then◌else◌, Option, Some, None, Ok, Err, IsSomeAnd}
+use Rattle.std.specs.Option.{ok_or}
 use Rattle.std.specs.List.{AllZip}
 use Rattle.std.specs.Str.{IsUtf8}
 use Rattle.std.proofs.lemmas.Bool.{eq-eqb, le-leb, lt-ltb}
@@ -17,7 +17,6 @@ use Rattle.std.proofs.lemmas.Slice.Eq.{bytes_eq-Decides}
 use Rattle.serde_json.specs.Data.{Data, Items, array, number, unsigned, string}
 use Rattle.serde_json.specs.View.{items_of}
 use Rattle.serde_json.specs.Read.{read}
-use Rattle.serde_json.specs.Find.{get}
 use Rattle.serde_json.proofs.OnLiterals.{serde_json_on_literals}
 use Rattle.json.specs.Lex.{tokens}
 use Rattle.json.specs.Print.{print}
@@ -35,9 +34,9 @@ use Rattle.poly_text.specs.Flat.{flat_of}
 use Rattle.poly_text.specs.Printed.{polynomial_text}
 use Rattle.cert_form.specs.declared.error.CertError.{CertError}
 use Rattle.cert_form.specs.declared.error.CertError.TheVariants as error
-use Rattle.cert_form.specs.Form.{Fault, shape, polynomial, Reading, on, after, part, each, expect, count, list_with, most_elements, list_within, parts, poly_at, position_in, pair_at, zeros, filled_row, row_at, block_at, is_number, are_texts, is_list_of, has_version, has_names, elements_in, basis_of, steps_of, parts_of, cert_of, cert_in, ReadsAs}
+use Rattle.cert_form.specs.Form.{Fault, shape, polynomial, Reading, on, after, part, each, expect, count, list_with, most_elements, list_within, parts, poly_at, position_in, pair_at, zeros, filled_row, row_at, block_at, are_texts, basis_of, steps_of, parts_of, cert_of, cert_in, ReadsAs}
 use Rattle.cert_form.specs.Faults.{IfFault, IsRead}
-use Rattle.cert_form.specs.Written.{poly_data, list_data, pair_data, pairs, row_data, block_data, document, document_of, AreBlanks, IsReadBack, IsReadable}
+use Rattle.cert_form.specs.Written.{poly_data, pair_data, pairs, row_data, block_data, document_of, AreBlanks, IsReadBack, IsReadable}
 use Rattle.cert_form.proofs.Zip.{zip_get}
 use Rattle.cert_form.proofs.Documents.{parts_is, cert_in-some}
 use Rattle.cert_form.proofs.Trailing.{gap_of, blanks_read, blanks_utf8}
@@ -229,43 +228,6 @@ the_texts : (texts : List (List ℕ)) → are_texts texts (items_of (map string 
 the_texts [] = refl
 the_texts (t ∷ texts) = ap₂ (λ x y. x && y) ((bytes_eq-Decides t t).1 refl) (the_texts texts)
 
-module _ (basis steps vars : Data) where
-  at_basis : get (codes "basis") (document basis steps vars) ≡ Some basis
-  unfolding serde_json_on_literals
-  at_basis = refl
-
-  at_steps : get (codes "steps") (document basis steps vars) ≡ Some steps
-  unfolding serde_json_on_literals
-  at_steps = refl
-
-  at_vars : get (codes "vars") (document basis steps vars) ≡ Some vars
-  unfolding serde_json_on_literals
-  at_vars = refl
-
-  at_version : get (codes "version") (document basis steps vars) ≡ Some (number (unsigned 2))
-  unfolding serde_json_on_literals
-  at_version = refl
-
-  second_version : has_version 2 (document basis steps vars) ≡ true
-  second_version = ap (λ o. option_map_or (is_number 2) o false) at_version
-
-  known_version : (has_version 1 (document basis steps vars) || has_version 2
-      (document basis steps vars)) ≡ true
-  known_version = ap (λ o. option_map_or (is_number 1) o false || option_map_or (is_number 2) o
-      false) at_version
-
-  the_parts : (names : List (List ℕ)) (branches : ℕ) → is_list_of names vars ≡ true
-      → cert_of names branches (document basis steps vars) ≡ parts_of names true branches
-      (document basis steps vars)
-  the_parts names branches listed =
-      let d : Data = document basis steps vars in
-      let named : has_names names d ≡ true = ap (λ o. option_map_or (is_list_of names) o false)
-      at_vars ∙ listed in
-      ap (λ b. expect b (codes "/version") (expect (has_names names d) (codes "/vars")
-      (parts_of names (has_version 2 d) branches d))) known_version
-      ∙ ap (λ b. expect b (codes "/vars") (parts_of names (has_version 2 d) branches d)) named
-      ∙ ap (λ b. parts_of names b branches d) second_version
-
 -- ---- certificates
 
 zip_same : (ps qs : List (Terms Fraction)) → AllZip Alike ps qs → AllSame ℚ ps qs
@@ -283,24 +245,20 @@ module _ (names : List (List ℕ)) (c : Certificate) (readable : IsReadable name
   abbrev branches : ℕ
   branches = length c.steps
 
-  abbrev basis_data : Data
-  basis_data = list_data (poly_data names) c.basis
-
-  abbrev steps_data : Data
-  steps_data = list_data (block_data names) c.steps
-
   abbrev d : Data
   d = document_of names c
 
+  opened_by : cert_of names branches d ≡ parts_of names true branches d
+  unfolding serde_json_on_literals
+  opened_by = ap (λ b. expect b (codes "/vars") (parts_of names true branches d)) (the_texts names)
+
   basis_reads : IsRead (AllZip Alike) c.basis (basis_of names true d)
+  unfolding serde_json_on_literals
   basis_reads =
       parts_read (poly_at names) (poly_data names) Alike (IsReadBack names) (poly_reads names)
-      (codes "/basis") (option_and_then (elements_in true) (get (codes "basis") d)) c.basis
-      (ap (option_and_then (elements_in true)) (at_basis basis_data steps_data
-      (list_data string names))
-      ∙ few_enough (map (poly_data names) c.basis) (subst (λ k. k ≤ most_elements)
-      (sym (length-map c.basis (poly_data names))) few))
-      readable.elements
+      (codes "/basis") _ c.basis
+      (few_enough (map (poly_data names) c.basis) (subst (λ k. k ≤ most_elements)
+      (sym (length-map c.basis (poly_data names))) few)) readable.elements
 
   blocks : All (IsBlock names n) c.steps
   blocks = λ k e within. record {
@@ -312,13 +270,11 @@ module _ (names : List (List ℕ)) (c : Certificate) (readable : IsReadable name
   }
 
   steps_reads : IsRead (AllZip (AllZip (AllZip Alike))) c.steps (steps_of names true branches n d)
+  unfolding serde_json_on_literals
   steps_reads =
       parts_read (block_at names true n) (block_data names) (AllZip (AllZip Alike))
-      (IsBlock names n) (block_reads names n) (codes "/steps")
-      (option_and_then (list_with branches) (get (codes "steps") d)) c.steps
-      (ap (option_and_then (list_with branches)) (at_steps basis_data steps_data
-      (list_data string names))
-      ∙ has_count branches (map (block_data names) c.steps) (length-map c.steps (block_data names)))
+      (IsBlock names n) (block_reads names n) (codes "/steps") _ c.steps
+      (has_count branches (map (block_data names) c.steps) (length-map c.steps (block_data names)))
       blocks
 
   document_reads : ReadsAs (cert_of names branches d) c
@@ -327,9 +283,7 @@ module _ (names : List (List ℕ)) (c : Certificate) (readable : IsReadable name
       let steps = steps_reads in
       record {
         raw = record { basis = basis.raw; steps = steps.raw };
-        is = the_parts basis_data steps_data (list_data string names) names branches
-            (the_texts names)
-            ∙ parts_is names true branches n d basis.raw basis.is
+        is = opened_by ∙ parts_is names true branches n d basis.raw basis.is
             (AllZip-long Alike c.basis basis.raw basis.alike) steps.raw steps.is;
         same = record {
           basis = zip_same c.basis basis.raw basis.alike;
@@ -395,21 +349,18 @@ same_again reading c d first again =
     same_ok : (x y : Certificate) → ◌≡◌ {A = Reading Certificate} (Ok x) (Ok y) → x ≡ y
     same_ok x y h = cc
 
-apart : (reading : Reading Certificate) (c : Certificate) (f : Fault) → reading ≡ Ok c
-    → reading ≡ Err f → ⊥
-apart reading c f read wrong = cc
-
 -- the same bytes, and as many branches
 pub told_so : (names : List (List ℕ)) (m n : ℕ) (text bytes : List ℕ) (c : Certificate) → m ≡ n
     → bytes ≡ text → ReadsAs (cert_in names m text) c → ReadsAs (cert_in names n bytes) c
 told_so names m n text bytes c count same h = subst (λ k. ReadsAs (cert_in names k bytes) c) count
     (subst (λ t. ReadsAs (cert_in names m t) c) (sym same) h)
 
-pub memory_alone : (e : CertError) (reading : Reading Certificate) (c : Certificate)
-    → ReadsAs reading c → IfFault e (λ f. reading ≡ Err f) → e ≡ error.Memory
-memory_alone error.NotJson reading c read wrong = absurd (apart reading read.raw _ read.is wrong)
-memory_alone (error.Shape path) reading c read wrong =
-    absurd (apart reading read.raw _ read.is wrong)
-memory_alone (error.Poly path) reading c read wrong =
-    absurd (apart reading read.raw _ read.is wrong)
-memory_alone error.Memory reading c read wrong = refl
+apart : {A : Type 0} {r : Reading A} {a : A} {f : Fault} → r ≡ Ok a → r ≡ Err f → ⊥
+apart read wrong = cc
+
+pub memory_alone : {A : Type 0} (e : CertError) {r : Reading A} {a : A} → r ≡ Ok a
+    → IfFault e (λ f. r ≡ Err f) → e ≡ error.Memory
+memory_alone error.NotJson read wrong = absurd (apart read wrong)
+memory_alone (error.Shape path) read wrong = absurd (apart read wrong)
+memory_alone (error.Poly path) read wrong = absurd (apart read wrong)
+memory_alone error.Memory read wrong = refl

@@ -1,7 +1,9 @@
 -- The faults that the errors of this crate are.
 --   IfFault e P            P of the fault that the error is; want of memory is none
 --   IsRead like a r        the reading r is a part that `like` ties to a
-use Rattle.std.specs.Prelude.{◌≡◌, Ok, string_bytes}
+--   ReadsLike like r result     the result is such a part, or the fault of the reading r
+use Rattle.std.specs.Prelude.{◌≡◌, Result, Ok, Err, string_bytes}
+use Rattle.std.specs.Result.{MatchResult}
 use Rattle.cert_form.specs.declared.error.CertError.{CertError}
 use Rattle.cert_form.specs.declared.error.CertError.TheVariants as error
 use Rattle.cert_form.specs.Form.{Reading, Fault, not_json, shape, polynomial}
@@ -17,3 +19,7 @@ pub record IsRead {A B : Type 0} (like : A → B → Type 0) (a : A) (reading : 
   pub raw : B
   pub is : reading ≡ Ok raw
   pub alike : like a raw
+
+abbrev pub ReadsLike : {A B : Type 0} → (A → B → Type 0) → Reading B → Result A CertError → Type 0
+ReadsLike like reading result =
+    MatchResult result (λ a. IsRead like a reading) (λ e. IfFault e (λ f. reading ≡ Err f))

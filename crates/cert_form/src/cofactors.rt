@@ -1,8 +1,8 @@
 //! The cofactors of branches, read.
-ghost use Rattle.std.specs.Prelude.{◌≡◌, Err, length, vec_len, IfOk, IfErr};
+ghost use Rattle.std.specs.Prelude.{◌≡◌, length, vec_len, IfOk};
 ghost use Rattle.serde_json.specs.View.{view, items_view};
 ghost use Rattle.cert_form.specs.Form.{each, row_at, block_at, steps_of};
-ghost use Rattle.cert_form.specs.Faults.{IfFault, IsRead};
+ghost use Rattle.cert_form.specs.Faults.{ReadsLike};
 ghost use Rattle.cert_form.specs.Path.{path_bytes};
 ghost use Rattle.cert_form.specs.Cert.{IsRowOf, AreRowsOf, IsBlockOf, AreBlocksOf, AreStepsOf};
 
@@ -30,13 +30,9 @@ impl CofactorReader<'_> {
         value: &Value,
         branches: usize,
     ) -> Result<Vec<Vec<Polys>>, CertError>
-        ensures ok { IfOk result (λ steps. IsRead
-            (AreStepsOf (length self.now.names.now) self.now.elements branches) steps
+        ensures { ReadsLike (AreStepsOf (length self.now.names.now) self.now.elements branches)
             (steps_of self.now.names.now self.now.sparse branches self.now.elements
-            (view value.now))) }
-        ensures fault { IfErr result (λ e. IfFault e (λ f.
-            steps_of self.now.names.now self.now.sparse branches self.now.elements
-            (view value.now) ≡ Err f)) }
+            (view value.now)) result }
     {
         let path = Path::Root("/steps");
         let Some(steps) = value.get("steps") else {
@@ -55,13 +51,9 @@ impl CofactorReader<'_> {
         list: &[Value],
     ) -> Result<Vec<Vec<Polys>>, CertError>
         ensures count { IfOk result (λ blocks. vec_len blocks ≡ length list.now) }
-        ensures ok { IfOk result (λ blocks. IsRead
-            (AreBlocksOf (length self.now.names.now) self.now.elements) blocks
+        ensures reads { ReadsLike (AreBlocksOf (length self.now.names.now) self.now.elements)
             (each (block_at self.now.names.now self.now.sparse self.now.elements)
-            (path_bytes path.now) 0 (items_view list.now))) }
-        ensures fault { IfErr result (λ e. IfFault e (λ f.
-            each (block_at self.now.names.now self.now.sparse self.now.elements)
-            (path_bytes path.now) 0 (items_view list.now) ≡ Err f)) }
+            (path_bytes path.now) 0 (items_view list.now)) result }
     {
         let mut found = Vec::new(self.alloc);
         for (i, value) in list.iter().enumerate() {
@@ -73,13 +65,9 @@ impl CofactorReader<'_> {
 
     // A row for each element.
     fn read_block<'a>(&self, path: &'a Path<'a>, value: &Value) -> Result<Vec<Polys>, CertError>
-        ensures ok { IfOk result (λ block. IsRead
-            (IsBlockOf (length self.now.names.now) self.now.elements) block
+        ensures { ReadsLike (IsBlockOf (length self.now.names.now) self.now.elements)
             (block_at self.now.names.now self.now.sparse self.now.elements (path_bytes path.now)
-            (view value.now))) }
-        ensures fault { IfErr result (λ e. IfFault e (λ f.
-            block_at self.now.names.now self.now.sparse self.now.elements (path_bytes path.now)
-            (view value.now) ≡ Err f)) }
+            (view value.now)) result }
     {
         let Some(list) = list_with(value, self.elements) else {
             return Err(shape_at(self.alloc, path));
@@ -90,13 +78,9 @@ impl CofactorReader<'_> {
     // The rows of a list, in order.
     fn read_rows<'a>(&self, path: &'a Path<'a>, list: &[Value]) -> Result<Vec<Polys>, CertError>
         ensures count { IfOk result (λ rows. vec_len rows ≡ length list.now) }
-        ensures ok { IfOk result (λ rows. IsRead
-            (AreRowsOf (length self.now.names.now) self.now.elements) rows
+        ensures reads { ReadsLike (AreRowsOf (length self.now.names.now) self.now.elements)
             (each (row_at self.now.names.now self.now.sparse self.now.elements)
-            (path_bytes path.now) 0 (items_view list.now))) }
-        ensures fault { IfErr result (λ e. IfFault e (λ f.
-            each (row_at self.now.names.now self.now.sparse self.now.elements)
-            (path_bytes path.now) 0 (items_view list.now) ≡ Err f)) }
+            (path_bytes path.now) 0 (items_view list.now)) result }
     {
         let mut found = Vec::new(self.alloc);
         for (i, value) in list.iter().enumerate() {
@@ -107,13 +91,9 @@ impl CofactorReader<'_> {
     }
 
     fn read_row<'a>(&self, path: &'a Path<'a>, value: &Value) -> Result<Polys, CertError>
-        ensures ok { IfOk result (λ row. IsRead
-            (IsRowOf (length self.now.names.now) self.now.elements) row
+        ensures { ReadsLike (IsRowOf (length self.now.names.now) self.now.elements)
             (row_at self.now.names.now self.now.sparse self.now.elements (path_bytes path.now)
-            (view value.now))) }
-        ensures fault { IfErr result (λ e. IfFault e (λ f.
-            row_at self.now.names.now self.now.sparse self.now.elements (path_bytes path.now)
-            (view value.now) ≡ Err f)) }
+            (view value.now)) result }
     {
         if self.sparse {
             return self.read_sparse_row(path, value);

@@ -1,12 +1,12 @@
 //! Lists of cofactors with version 2: pairs of a position and a polynomial.
-ghost use Rattle.std.specs.Prelude.{◌≡◌, ◌<◌, ◌≤◌, ◌-◌, ◌++◌, Err, List, length, vec_len, IfOk, IfErr, OnOk};
+ghost use Rattle.std.specs.Prelude.{◌≡◌, ◌<◌, ◌≤◌, ◌-◌, ◌++◌, List, length, vec_len, IfOk, IfErr, OnOk};
 ghost use Rattle.serde_json.specs.View.{view, items_view};
 ghost use Rattle.algebra.specs.Fraction.{Fraction};
 ghost use Rattle.polynomials.specs.Terms.{Terms};
 ghost use Rattle.monos.specs.Variables.{most_variables};
 ghost use Rattle.cert_form.specs.Form as form;
 ghost use Rattle.cert_form.specs.Form.{pair_at, filled_row, sparse_row, zeros};
-ghost use Rattle.cert_form.specs.Faults.{IfFault, IsRead};
+ghost use Rattle.cert_form.specs.Faults.{ReadsLike};
 ghost use Rattle.cert_form.specs.Path.{path_bytes};
 ghost use Rattle.cert_form.specs.Cert.{ArePolysOf, IsPairOf, IsRowOf};
 ghost use Rattle.cert_form.specs.declared.error.CertError.TheVariants.{Memory};
@@ -56,13 +56,9 @@ impl CofactorReader<'_> {
         path: &'a Path<'a>,
         value: &Value,
     ) -> Result<Polys, CertError>
-        ensures ok { IfOk result (λ row. IsRead
-            (IsRowOf (length self.now.names.now) self.now.elements) row
+        ensures { ReadsLike (IsRowOf (length self.now.names.now) self.now.elements)
             (sparse_row self.now.names.now self.now.elements (path_bytes path.now)
-            (view value.now))) }
-        ensures fault { IfErr result (λ e. IfFault e (λ f.
-            sparse_row self.now.names.now self.now.elements (path_bytes path.now)
-            (view value.now) ≡ Err f)) }
+            (view value.now)) result }
     {
         let Some(list) = value.as_array() else {
             return Err(shape_at(self.alloc, path));
@@ -73,12 +69,9 @@ impl CofactorReader<'_> {
     // The cofactors of the pairs of a list, and 0 at each other position.
     fn read_pairs<'a>(&self, path: &'a Path<'a>, list: &[Value]) -> Result<Polys, CertError>
         ensures count { IfOk result (λ row. vec_len row ≡ self.now.elements) }
-        ensures ok { IfOk result (λ row. IsRead (ArePolysOf (length self.now.names.now)) row
+        ensures reads { ReadsLike (ArePolysOf (length self.now.names.now))
             (filled_row self.now.names.now self.now.elements (path_bytes path.now) 0 0
-            (items_view list.now))) }
-        ensures fault { IfErr result (λ e. IfFault e (λ f.
-            filled_row self.now.names.now self.now.elements (path_bytes path.now) 0 0
-            (items_view list.now) ≡ Err f)) }
+            (items_view list.now)) result }
     {
         let mut found = Vec::new(self.alloc);
         for (i, value) in list.iter().enumerate() {
@@ -99,13 +92,10 @@ impl CofactorReader<'_> {
         value: &Value,
         least: usize,
     ) -> Result<(usize, Poly<Frac, Grevlex>), CertError>
-        ensures ok { IfOk result (λ pair. IsRead (IsPairOf (length self.now.names.now)) pair
+        ensures reads { ReadsLike (IsPairOf (length self.now.names.now))
             (pair_at self.now.names.now least self.now.elements (path_bytes path.now)
-            (view value.now))) }
+            (view value.now)) result }
         ensures within { IfOk result (λ pair. (least ≤ pair.0) × (pair.0 < self.now.elements)) }
-        ensures fault { IfErr result (λ e. IfFault e (λ f.
-            pair_at self.now.names.now least self.now.elements (path_bytes path.now)
-            (view value.now) ≡ Err f)) }
     {
         let Some(pair) = list_with(value, 2) else {
             return Err(shape_at(self.alloc, path));

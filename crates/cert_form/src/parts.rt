@@ -1,10 +1,10 @@
 //! Polynomials and lists of them, at their paths.
-ghost use Rattle.std.specs.Prelude.{◌≡◌, Err, length, vec_len, IfOk, IfErr, IfSome};
+ghost use Rattle.std.specs.Prelude.{◌≡◌, length, vec_len, IfOk, IfSome};
 ghost use Rattle.std.specs.Option.{option_map};
 ghost use Rattle.serde_json.specs.View.{view, items_view};
 ghost use Rattle.poly.specs.Standing.{StandsFor};
 ghost use Rattle.cert_form.specs.Form.{each, list_with, list_within, poly_at};
-ghost use Rattle.cert_form.specs.Faults.{IfFault, IsRead};
+ghost use Rattle.cert_form.specs.Faults.{ReadsLike};
 ghost use Rattle.cert_form.specs.Path.{path_bytes};
 ghost use Rattle.cert_form.specs.Cert.{ArePolysOf};
 
@@ -56,10 +56,8 @@ pub(crate) fn read_poly<'a>(
     value: &Value,
     names: &Names,
 ) -> Result<Poly<Frac, Grevlex>, CertError>
-    ensures ok { IfOk result (λ p. IsRead (StandsFor (length names.now)) p
-        (poly_at names.now (path_bytes path.now) (view value.now))) }
-    ensures fault { IfErr result (λ e. IfFault e (λ f.
-        poly_at names.now (path_bytes path.now) (view value.now) ≡ Err f)) }
+    ensures { ReadsLike (StandsFor (length names.now))
+        (poly_at names.now (path_bytes path.now) (view value.now)) result }
 {
     let Some(text) = value.as_str() else {
         return Err(shape_at(alloc, path));
@@ -79,10 +77,8 @@ pub(crate) fn read_polys<'a>(
     names: &Names,
 ) -> Result<Polys, CertError>
     ensures count { IfOk result (λ ps. vec_len ps ≡ length list.now) }
-    ensures ok { IfOk result (λ ps. IsRead (ArePolysOf (length names.now)) ps
-        (each (poly_at names.now) (path_bytes path.now) 0 (items_view list.now))) }
-    ensures fault { IfErr result (λ e. IfFault e (λ f.
-        each (poly_at names.now) (path_bytes path.now) 0 (items_view list.now) ≡ Err f)) }
+    ensures reads { ReadsLike (ArePolysOf (length names.now))
+        (each (poly_at names.now) (path_bytes path.now) 0 (items_view list.now)) result }
 {
     let mut found = Vec::new(alloc);
     for (i, value) in list.iter().enumerate() {

@@ -6,7 +6,7 @@ ghost use Rattle.serde_json.specs.View.{view, items_view};
 ghost use Rattle.loops.specs.Certificate.{AreOver};
 ghost use Rattle.cert_form.specs.Form as form;
 ghost use Rattle.cert_form.specs.Form.{ReadsAs};
-ghost use Rattle.cert_form.specs.Faults.{IfFault, IsRead};
+ghost use Rattle.cert_form.specs.Faults.{IfFault, ReadsLike};
 ghost use Rattle.cert_form.specs.Cert.{ArePolysOf, IsCertOf, IsComplete};
 
 use crate::cert::Polys;
@@ -97,10 +97,8 @@ fn elements_in(value: &Value, sparse: bool) -> Option<&Vec<Value>>
 }
 
 fn read_basis(alloc: Global, value: &Value, names: &Names, sparse: bool) -> Result<Polys, CertError>
-    ensures ok { IfOk result (λ basis. IsRead (ArePolysOf (length names.now)) basis
-        (form.basis_of names.now sparse (view value.now))) }
-    ensures fault { IfErr result (λ e. IfFault e (λ f.
-        form.basis_of names.now sparse (view value.now) ≡ Err f)) }
+    ensures { ReadsLike (ArePolysOf (length names.now))
+        (form.basis_of names.now sparse (view value.now)) result }
 {
     let path = Path::Root("/basis");
     let Some(basis) = value.get("basis") else {
@@ -118,10 +116,8 @@ fn read_value(
     names: &Names,
     branches: usize,
 ) -> Result<Cert, CertError>
-    ensures ok { IfOk result (λ c. IsRead (IsCertOf (length names.now) branches) c
-        (form.cert_of names.now branches (view value.now))) }
-    ensures fault { IfErr result (λ e. IfFault e (λ f.
-        form.cert_of names.now branches (view value.now) ≡ Err f)) }
+    ensures { ReadsLike (IsCertOf (length names.now) branches)
+        (form.cert_of names.now branches (view value.now)) result }
 {
     if !value.is_object() {
         return Err(shape_at(alloc, &Path::Root("/")));

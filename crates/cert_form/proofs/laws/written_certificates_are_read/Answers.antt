@@ -30,6 +30,5 @@ returns-clause-memory c =
     (c.in_ok-text.ensures.read_back c.requires.few) in
     let told = told_so names (length cert.steps) c.len.result (string_bytes c.in_ok-text.text)
     c.as_bytes.result.now cert count c.as_bytes.ensures.value written in
-    IfErr-weaker c.read_cert.result _ _ (λ e wrong.
-    memory_alone e (cert_in names c.len.result c.as_bytes.result.now) cert told wrong)
+    IfErr-weaker c.read_cert.result _ _ (λ e wrong. memory_alone e told.is wrong)
     c.read_cert.ensures.fault

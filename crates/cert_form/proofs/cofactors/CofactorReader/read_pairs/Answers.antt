@@ -17,6 +17,6 @@ loop-i-preserved c =
     c.len.result _ c.index-list-i.result c.loop-i.found c.len.ensures c.loop-i-test.true
     c.index-list-i.is (place_is _ _) c.loop-i.invariant
     c.len-in-loop-i.result pair c.push_zeros.new.found c.push.new.self c.len-in-loop-i.ensures.len
-    c.in_ok-position.ensures.ok c.in_ok-position.ensures.within.1
+    c.in_ok-position.ensures.reads c.in_ok-position.ensures.within.1
     c.in_ok-push_zeros.ensures.count c.in_ok-push_zeros.ensures.zeros
     c.in_ok-push.ensures.items c.in_ok-push.ensures.len
