@@ -6,10 +6,12 @@
 --   zero_here, zero_later, zero_room, zeros_all     the same as the code counts them
 --   zeros_none, zeros_one, zeros_next, zeros_part, zeros-append     how many values are zero, one after another, and in two lists
 use Rattle.std.proofs.Common.{◌≡◌, ◌≢◌, ℕ, zero, suc, ◌+◌, ◌^◌, ◌<◌, ◌≤◌, Option, Some, Bool, true, false, cond, List, [], ◌∷◌, ◌++◌, map, length, take, refl, sym, ap, ap₂, ◌∙◌, arith}
+use Rattle.std.proofs.lemmas.Bool.{false_from_ne_true}
 use Rattle.std.proofs.lemmas.List.{length-map}
 use Rattle.algebra.specs.Arithmetic.{power}
 use Rattle.algebra.specs.Each.{Each}
 use Rattle.algebra.specs.Ring.{CommRing}
+use Rattle.algebra.proofs.RingLaws.{mul_swap}
 use Rattle.algebra.proofs.RingSolver.{ring_rules, ring}
 use Rattle.algebra.specs.Fraction.{Fraction, ℚ, inverse, is_zero}
 use Rattle.algebra.proofs.Fractions.{ℚ_ring, ℚ_field, zero_is}
@@ -83,11 +85,8 @@ powers_meet : (l : Fraction) → l ≢ ℚ.zero → (z : ℕ)
     → R.mul (power ℚ l z) (power ℚ (inverse l) z) ≡ R.one
 unfolding power
 powers_meet l n zero = R.mul-one R.one
-powers_meet l n (suc z) = swap l (inverse l) (power ℚ l z) (power ℚ (inverse l) z)
+powers_meet l n (suc z) = mul_swap R l (power ℚ l z) (inverse l) (power ℚ (inverse l) z)
     ∙ ap₂ R.mul (ℚ_field.mul-inverse l n) (powers_meet l n z) ∙ R.mul-one R.one
-  where
-    swap : (a b p q : Fraction) → R.mul (R.mul a p) (R.mul b q) ≡ R.mul (R.mul a b) (R.mul p q)
-    swap a b p q = ring R (a ∷ b ∷ p ∷ q ∷ []) (search ring_rules depth 40) refl
 
 module _ {base : List ℕ} (m : ℕ) (l : Fraction) (z : ℕ) {there q : Terms Fraction}
     (y : Terms Fraction) (is : IsLaterForm base m l z there q y) where
@@ -151,11 +150,8 @@ pub zeros_one : {c : Fraction} → c ≡ ℚ.zero → zeros_in (c ∷ []) ≡ 1
 zeros_one {c = c} e = ap (λ b. cond b 1 0) ((zero_is c).1 e)
 
 pub zeros_none : (c : Fraction) → c ≢ ℚ.zero → zeros_in (c ∷ []) ≡ 0
-zeros_none c n = go (is_zero c) refl
-  where
-    go : (b : Bool) → is_zero c ≡ b → zeros_in (c ∷ []) ≡ 0
-    go false e = ap (λ b. cond b 1 0) e
-    go true e = absurd (n ((zero_is c).0 e))
+zeros_none c n = ap (λ b. cond b 1 0)
+    (false_from_ne_true (is_zero c) (λ z. n ((zero_is c).0 z)))
 
 zeros_more : (c : Fraction) (values : List Fraction)
     → zeros_in (c ∷ values) ≡ zeros_in (c ∷ []) + zeros_in values

@@ -183,7 +183,7 @@ pub closed_is : (base : List ℕ) (images : List (Terms Fraction)) (splits : Lis
     (z : ℕ) (es : List Expo) → AreOver base (length images) es
     → AreKnown base images splits z [] (bodies_of es)
     → IsClosedFormFrom base images z (bodies_of es)
-closed_is base images splits z es over known = known_last base images splits z (bodies_of es) known
+closed_is base images splits z es over known = known_last (bodies_of es) known
     (normal-arities base (length images) (bodies_of es) (over_normals es over))
 
 -- as many polynomials as variables

@@ -11,11 +11,9 @@ use Rattle.std.proofs.lemmas.Bool.{cases_eq}
 use Rattle.std.proofs.lemmas.List.{length-map, get_or_default}
 use Rattle.algebra.specs.Each.{Each}
 use Rattle.algebra.specs.Fraction.{ℚ}
-use Rattle.solvable_maps.specs.Class.{AreClasses}
-use Rattle.solvable_maps.specs.Uses.{uses}
 use Rattle.solvable_maps.specs.Classes.{IsClass, IsFormBase, first_of}
 use Rattle.solvable_maps.specs.Iterations.{width, IsClosedFormFrom}
-use Rattle.solvable_maps.proofs.Classwise.{next_is_class, class_some}
+use Rattle.solvable_maps.proofs.Classwise.{class_some}
 use Rattle.linear.specs.Rows.{fractions_of, rows_of}
 use Rattle.coprime_base.specs.Sizes.{sizes}
 use Rattle.eigen_split.specs.declared.splitting.Split.{Split}
@@ -41,7 +39,7 @@ use Rattle.closed_forms.proofs.Ending.{form_base_is, closed_is, closed_count, of
 use Rattle.closed_forms.proofs.Filling.{values_made, values_at, first_here}
 use Rattle.closed_forms.proofs.Forming.{groups_inside}
 use Rattle.closed_forms.proofs.Least.{wide_here, passing_none, passing_marked}
-use Rattle.closed_forms.proofs.Placing.{bodies-count, known_begun, known_ready, ready_variables, known_next, over_normals, put_all, put_over}
+use Rattle.closed_forms.proofs.Placing.{bodies-count, known_begun, known_ready, known_next, next_whole, over_normals, put_all, put_over}
 use Rattle.closed_forms.proofs.Settling.{room}
 use Rattle.closed_forms.proofs.Splitting.{first_in, first_is, map_of}
 use Rattle.closed_forms.proofs.StateLists.{told, states_get, states_count, state_length}
@@ -84,8 +82,8 @@ module _ {w : MapInWork} (is : IsInWork w) where
       → AreOver (numbers w) (length (listed w)) es → AreFormsBut w (groups_in w.classes.items) es
   none_yet {es = es} count over = record {
     over = over;
-    known = known_begun (numbers w) (images_in w) w.splits.items w.iterations is.classes
-        (bodies_of es) (bodies-count es ∙ count ∙ sym (length_each (listed w))) (sym is.iterations);
+    known = known_begun is.classes (bodies_of es)
+        (bodies-count es ∙ count ∙ sym (length_each (listed w))) (sym is.iterations);
   }
 
 -- ---- a class that comes next
@@ -98,11 +96,7 @@ comes_next {w} {groups} {rest} {group} {g} {es} cut at h = subst (λ gs. AreForm
 module _ {w : MapInWork} {g : List ℕ} {rest : List (List ℕ)} {es : List Expo} (is : IsInWork w)
     (forms : AreFormsBut w (g ∷ rest) es) where
   pub next_class : IsClass (images_in w) g
-  next_class = go forms.known.classes
-    where
-      go : AreClasses (uses (images_in w)) (length (images_in w)) forms.known.earlier (g ∷ rest)
-          → IsClass (images_in w) g
-      go (k, next, class, later) = next_is_class (images_in w) forms.known.earlier g k next class
+  next_class = next_whole forms.known
 
   pub next_some : 0 < length g
   next_some = class_some (images_in w) g next_class
@@ -150,8 +144,7 @@ module _ {w : MapInWork} {g : List ℕ} {rest : List (List ℕ)} {es : List Expo
 
       pub ready_here : IsReady (numbers w) (images_in w) w.iterations (zeros_of split) g
           (bodies_of es)
-      ready_here = known_ready (numbers w) (images_in w) w.splits.items w.iterations
-          g refl forms.known here
+      ready_here = known_ready forms.known here
 
       pub forms_next : {news new : List Expo} → length news ≡ length g
           → AreOver (numbers w) (length w.map.images.now.items) news
@@ -165,12 +158,8 @@ module _ {w : MapInWork} {g : List ℕ} {rest : List (List ℕ)} {es : List Expo
             over = put_over (numbers w) g news es new whole count
                 over
                 forms.over;
-            known = known_next (numbers w) (images_in w) w.splits.items w.iterations (g ∷ rest) rest
-                g news es new refl
-                forms.known whole count (λ i inside. (next_class.is.inside i inside).0) split here
-                (ready_variables (numbers w) (images_in w) w.splits.items w.iterations (g ∷ rest)
-                rest g (bodies_of es)
-                refl forms.known split here (bodies_of news) variables);
+            known = known_next news es new forms.known here whole count
+                (variables (known_ready forms.known here));
           }
 
       pub wide_first : IsPastClassOf (numbers w) (images_in w) w.iterations g split (bodies_of es)
@@ -224,12 +213,11 @@ module _ {w : MapInWork} {es : List Expo} (is : IsInWork w) (forms : AreFormsBut
   arities_known = subst (λ n. All (λ (v : Vec FracPoly Global).
       All (λ (p : FracPoly). p.arity ≡ n) v.items) w.states.items) (sym many) is.arities
 
+  told_count : length (told w.states.items) ≡ w.iterations + 1
+  told_count = length-map w.states.items _ ∙ states_many
+
   some_lists : 0 < length (told w.states.items)
-  some_lists =
-      let n = states_many in
-      let d : length (told w.states.items) ≡ length w.states.items =
-      length-map w.states.items _ in
-      omega (arith, n, d)
+  some_lists = (let n = told_count in omega (arith, n))
 
   pub settling_in : IsSettling (images_in w) (numbers w) (groups_in w.classes.items)
       (told w.states.items) es w.iterations
@@ -241,10 +229,7 @@ module _ {w : MapInWork} {es : List Expo} (is : IsInWork w) (forms : AreFormsBut
     classes = is.classes;
     states = λ i l. ap (λ l. get_or l i []) is.states
         ∙ states_get (images_in w) w.iterations i []
-        (let n = states_many in
-        let d : length (told w.states.items) ≡ length w.states.items =
-        length-map w.states.items _ in
-        omega (arith, l, n, d));
+        (let n = told_count in omega (arith, l, n));
     closed = closed;
   }
 
@@ -284,15 +269,14 @@ pub form_in : {w : MapInWork} (is : IsInWork w) (polys : Vec Expo Global) {since
     })
 form_in {w} is polys {since = since} passing forms settled told passes =
     let size = length_each (listed w) in
-    let own = subst (λ m. AreOver (numbers w) m polys.items) (sym size) forms.over in
     let count = closed_count since polys.items settled.closed in
     let n : length (numbers w) ≡ length w.base.items = length-map w.base.items _ in
     record {
       base = form_base_in is;
       closed = settled.closed;
       least = settled.least;
-      normal = over_normals polys.items own;
-      over = own;
+      normal = over_normals polys.items (own is forms);
+      over = own is forms;
       count = count;
       told = told ∙ count;
       passes = passes;

@@ -5,8 +5,7 @@
 --   start_is, start_lists     its difference from what is there, times a power of the value
 --   grown_next             a polynomial of the variables times a power, term by term;  grown_value: its values
 --   together-arity, joined_is     the two together
-use Rattle.std.proofs.Common.{◌≡◌, ℕ, suc, ℤ, pos, Bool, ◌+◌, List, [], ◌∷◌, ◌++◌, length, Result, Ok, Err, refl, sym, ap, ap₂, subst, ◌∙◌}
-use Rattle.std.proofs.lemmas.List.{length-append}
+use Rattle.std.proofs.Common.{◌≡◌, ℕ, ℤ, pos, Bool, List, [], ◌∷◌, ◌++◌, length, Result, Ok, Err, refl, sym, ap, ap₂, subst, ◌∙◌}
 use Rattle.std.specs.Result.{IfOk}
 use Rattle.algebra.specs.Arithmetic.{power}
 use Rattle.algebra.specs.Each.{Each}
@@ -36,14 +35,13 @@ use Rattle.solvable_maps.proofs.Recurrences.{one_value, no_value, term_value, re
 use Rattle.expo.specs.View.{IsExpo}
 use Rattle.expo.specs.declared.exponential.Expo.{Expo}
 use Rattle.solvable_maps.proofs.Normal.{fits_map}
-use Rattle.solvable_maps.proofs.Realized.{lengths_agree}
 use Rattle.closed_forms.specs.Later.{with_powers, IsSumOf, IsStart, IsJoined}
 use Rattle.closed_forms.specs.Solved.{AreSolved, AreSolvedBehind}
 use Rattle.closed_forms.specs.Inhomogeneities.{collect_terms, part}
 use Rattle.closed_forms.specs.Values.{IsExpoOver}
 use Rattle.closed_forms.proofs.Joining.{over_normal}
 use Rattle.closed_forms.proofs.Mixing.{tell, terms-push, more_behind}
-use Rattle.closed_forms.proofs.Recurring.{collected_value, collected-arity, part_value, more_value, solved-arity, all_solved}
+use Rattle.closed_forms.proofs.Recurring.{collected_value, collected-arity, part_value, more_value, with-length, factor_out, solved-arity, all_solved}
 
 abbrev R : CommRing Fraction
 R = ℚ_ring
@@ -155,9 +153,7 @@ module _ (base : List ℕ) (c : Coprime base) (m : ℕ) (negative : Bool) (e : L
   unfolding Each
   grown-arity [] a = tt
   grown-arity (t ∷ p) a = (
-    ap (λ n. suc (suc n)) (length-append x.1 (x.2 ++ t.0)
-        ∙ ap₂ ◌+◌ (lengths_agree base x.1 fits) (length-append x.2 t.0
-        ∙ ap₂ ◌+◌ (lengths_agree base x.2 fits') a.0)),
+    with-length base m 0 x t.0 fits fits' a.0,
     grown-arity p a.1,
   )
 
@@ -176,13 +172,9 @@ module _ (base : List ℕ) (c : Coprime base) (m : ℕ) (negative : Bool) (e : L
       ∙ ap₂ (λ l z. ℚ.mul (ℚ.mul t.1 (monomial_at ℚ s l)) (ℚ.mul z d))
       (tail_with base 0 x t.0 fits fits') (L.power-zero R (whole (pos n))))
       (grown_value p n s)
-      ∙ out t.1 (monomial_at ℚ s t.0) d (value_at ℚ p s)
+      ∙ factor_out t.1 (monomial_at ℚ s t.0) d (value_at ℚ p s)
       ∙ ap (ℚ.mul d) (ap (λ y. ℚ.add y (value_at ℚ p s)) (sym (one_value t s))
       ∙ sym (more_value t p s))
-    where
-      out : (x y z f : Fraction) → R.add (R.mul (R.mul x y) (R.mul R.one z)) (R.mul z f)
-          ≡ R.mul z (R.add (R.mul x y) f)
-      out x y z f = ring R (x ∷ y ∷ z ∷ f ∷ []) (search ring_rules depth 40) refl
 
   -- ---- the two together
   module _ (start sum : Terms Fraction) {all : Terms Fraction}

@@ -2,6 +2,7 @@
 --   put_last, put_all                one polynomial of a class more
 --   zeros_left                       the zeros of the splittings that are left, without one
 --   known_begun, known_ready, known_next, known_last     before the first class, before and after a class, after the last
+--   next_whole, sum_left             the class that comes next is one;  its zeros, and those that are left without them
 --   bodies-count                     how many polynomials there are;  body_at, item_at: one of them
 --   over_normals, put_over           they stay over their base
 use Rattle.std.proofs.Common.{◌≡◌, ◌≢◌, ◌⊎◌, inl, inr, ◌<◌, ◌≤◌, ℕ, zero, suc, ◌+◌, List, [], ◌∷◌, ◌++◌, length, get_or, set, Option, Some, None, refl, sym, ap, subst, ◌∙◌, arith, append_assoc, below_more}
@@ -21,12 +22,11 @@ use Rattle.solvable_maps.specs.Uses.{uses, poly_at}
 use Rattle.linear.specs.Rows.{fractions_of}
 use Rattle.eigen_split.specs.declared.splitting.Split.{Split}
 use Rattle.poly.specs.Seen.{terms_in}
-use Rattle.solvable_maps.specs.Classes.{first_of}
+use Rattle.solvable_maps.specs.Classes.{IsClass, first_of}
 use Rattle.solvable_maps.specs.AfterIterations.{place, IsAfterIterations}
 use Rattle.solvable_maps.specs.Iterations.{width, IsNormalForm, IsClosedFormFrom}
 use Rattle.solvable_maps.proofs.Classwise.{whole_more, next_apart, next_is_class, later_turned, turned_none, turned_more, turned_all}
 use Rattle.expo.specs.declared.exponential.Expo.{Expo}
-use Rattle.closed_forms.specs.ClassForms.{AreVariablesOf}
 use Rattle.closed_forms.specs.Known.{AreKnown, IsReady}
 use Rattle.closed_forms.specs.States.{zeros_in}
 use Rattle.closed_forms.specs.Put.{IsPutTo, IsPut}
@@ -151,13 +151,10 @@ zeros_left (Some other ∷ splits) (suc i) split e =
     omega (arith, a, b, d)
 
 -- ---- what is known
-module _ (base : List ℕ) (images : List (Terms Fraction)) (splits : List (Option Split))
-    (z : ℕ) where
-  abbrev m : ℕ
-  m = length images
-
-  pub known_begun : {groups : List (List ℕ)} → AreClasses (uses images) m [] groups
-      → (ps : List (Terms Fraction)) → length ps ≡ m → zeros_in (values_in splits) ≡ z
+module _ {base : List ℕ} {images : List (Terms Fraction)} {splits : List (Option Split)}
+    {z : ℕ} where
+  pub known_begun : {groups : List (List ℕ)} → AreClasses (uses images) (length images) [] groups
+      → (ps : List (Terms Fraction)) → length ps ≡ length images → zeros_in (values_in splits) ≡ z
       → AreKnown base images splits z groups ps
   known_begun classes ps size count = record {
     before = [];
@@ -173,114 +170,75 @@ module _ (base : List ℕ) (images : List (Terms Fraction)) (splits : List (Opti
     sum = omega (arith, count);
   }
 
-  -- the classes in their order
-  order_of : {groups rest : List (List ℕ)} (g : List ℕ) {ps : List (Terms Fraction)}
-      (e : groups ≡ g ∷ rest) (h : AreKnown base images splits z groups ps)
-      → AreClasses (uses images) m [] (h.before ++ g ∷ rest)
-  order_of g e h =
-      subst (λ l. AreClasses (uses images) m [] (h.before ++ l)) e h.order
-
-  joined : (before : List (List ℕ)) (g : List ℕ) → concat (before ++ g ∷ []) ≡ concat before ++ g
-  joined before g = concat-append before (g ∷ [])
-      ∙ ap (λ l. concat before ++ l) (append-nil g)
-
-  -- the splitting of the class that comes next, which is left, and how many zeros it has
-  module _ {groups : List (List ℕ)} {rest : List (List ℕ)} (g : List ℕ) {ps : List (Terms Fraction)}
-      (e : groups ≡ g ∷ rest) (h : AreKnown base images splits z groups ps) {split : Split}
-      (here : get_or splits (first_of g) None ≡ Some split) where
-    next_all : AreClasses (uses images) m h.earlier (g ∷ rest)
-    next_all = subst (AreClasses (uses images) m h.earlier) e h.classes
+  -- the class that comes next, and its splitting, which is left
+  module _ {rest : List (List ℕ)} {g : List ℕ} {ps : List (Terms Fraction)}
+      (h : AreKnown base images splits z (g ∷ rest) ps) where
+    pub next_whole : IsClass images g
+    next_whole = next_is_class images h.earlier g h.classes.0 h.classes.1 h.classes.2
 
     first_within : In (first_of g) g
-    first_within = go next_all
-      where
-        go : AreClasses (uses images) m h.earlier (g ∷ rest) → In (first_of g) g
-        go (k, next, class, later) =
-            first_in images g (next_is_class images h.earlier g k next class)
+    first_within = first_in images g next_whole
 
     apart : (i : ℕ) → In i h.earlier → In i g → ⊥
-    apart = go next_all
-      where
-        go : AreClasses (uses images) m h.earlier (g ∷ rest) → (i : ℕ) → In i h.earlier → In i g → ⊥
-        go (k, next, class, later) i before inside = next_apart (uses images) m h.earlier g k
-            h.whole next class i before inside
+    apart = next_apart (uses images) (length images) h.earlier g h.classes.0 h.whole h.classes.1
+        h.classes.2
 
-    left_here : get_or h.left (first_of g) None ≡ Some split
-    left_here = h.others (first_of g) None (λ before. apart (first_of g) before first_within) ∙ here
-
-    sum_left : zeros_in (fractions_of split.values.items)
+    pub sum_left : {split : Split} → get_or splits (first_of g) None ≡ Some split
+        → zeros_in (fractions_of split.values.items)
         + zeros_in (values_in (set h.left (first_of g) None)) ≡ zeros_in (values_in h.left)
-    sum_left = zeros_left h.left (first_of g) split left_here
+    sum_left {split = split} here = zeros_left h.left (first_of g) split
+        (h.others (first_of g) None (λ before. apart (first_of g) before first_within) ∙ here)
 
-    pub known_ready : IsReady base images z (zeros_in (fractions_of split.values.items)) g ps
-    known_ready = go next_all
-      where
-        go : AreClasses (uses images) m h.earlier (g ∷ rest)
-            → IsReady base images z (zeros_in (fractions_of split.values.items)) g ps
-        go (k, next, class, later) = record {
-          before = h.before;
-          behind = rest;
-          order = order_of g e h;
-          earlier = h.earlier;
-          are = h.are;
-          first = k;
-          next = next;
-          class = class;
-          since = h.since;
-          turned = h.turned;
-          within = (let a = h.sum in let b = sum_left in omega (arith, a, b));
-        }
+    abbrev pub known_ready : {split : Split} → get_or splits (first_of g) None ≡ Some split
+        → IsReady base images z (zeros_in (fractions_of split.values.items)) g ps
+    known_ready here = record {
+      before = h.before;
+      behind = rest;
+      order = h.order;
+      earlier = h.earlier;
+      are = h.are;
+      first = h.classes.0;
+      next = h.classes.1;
+      class = h.classes.2;
+      since = h.since;
+      turned = h.turned;
+      within = (let a = h.sum in let b = sum_left here in omega (arith, a, b));
+    }
 
-  -- what is made of a class that is ready, where what is known is at hand
-  pub ready_variables : (groups rest : List (List ℕ)) (g : List ℕ) (ps : List (Terms Fraction))
-      (e : groups ≡ g ∷ rest) (h : AreKnown base images splits z groups ps) (split : Split)
-      (here : get_or splits (first_of g) None ≡ Some split) (qs : List (Terms Fraction))
-      → ((r : IsReady base images z (zeros_in (fractions_of split.values.items)) g ps)
-      → AreVariablesOf base images (r.since + zeros_in (fractions_of split.values.items)) g qs)
-      → AreVariablesOf base images (h.since + zeros_in (fractions_of split.values.items)) g qs
-  ready_variables groups rest g ps e h split here qs f =
-      go (subst (AreClasses (uses images) m h.earlier) e h.classes)
-    where
-      go : AreClasses (uses images) m h.earlier (g ∷ rest)
-          → AreVariablesOf base images (h.since + zeros_in (fractions_of split.values.items)) g qs
-      go (k, next, class, later) = f (record {
-        before = h.before;
-        behind = rest;
-        order = order_of g e h;
-        earlier = h.earlier;
-        are = h.are;
-        first = k;
-        next = next;
-        class = class;
-        since = h.since;
-        turned = h.turned;
-        within = (let a = h.sum in let b = sum_left g e h here in
-            omega (arith, a, b));
-      })
-
-  pub known_next : (groups rest : List (List ℕ)) (g : List ℕ) (news old new : List Expo)
-      → (e : groups ≡ g ∷ rest) → (h : AreKnown base images splits z groups (bodies_of old))
-      → IsPut g news old new → length news ≡ length g → ((i : ℕ) → In i g → i < m)
-      → (split : Split) → get_or splits (first_of g) None ≡ Some split
+  pub known_next : {rest : List (List ℕ)} {g : List ℕ} (news old new : List Expo)
+      (h : AreKnown base images splits z (g ∷ rest) (bodies_of old)) {split : Split}
+      → get_or splits (first_of g) None ≡ Some split → IsPut g news old new
+      → length news ≡ length g
       → ((a : ℕ) → a < length g
       → IsAfterIterations base images (h.since + zeros_in (fractions_of split.values.items))
-      (place g a)
-      (poly_at (bodies_of news) a))
+      (place g a) (poly_at (bodies_of news) a))
       → AreKnown base images splits z rest (bodies_of new)
-  known_next groups rest g news old new e h put count low split here turned =
-      go (subst (AreClasses (uses images) m h.earlier) e h.classes)
+  known_next {rest = rest} {g = g} news old new h {split = split} here put count turned = record {
+    before = h.before ++ g ∷ [];
+    order = subst (AreClasses (uses images) (length images) [])
+        (sym (append_assoc h.before (g ∷ []) rest)) h.order;
+    earlier = h.earlier ++ g;
+    are = ap (λ l. l ++ g) h.are ∙ sym (concat-append h.before (g ∷ [])
+        ∙ ap (λ l. concat h.before ++ l) (append-nil g));
+    whole = whole_more (uses images) (length images) h.earlier g h.classes.0 h.whole h.classes.2;
+    classes = h.classes.3;
+    since = d;
+    turned = turned_more base images d h.earlier g (bodies_of old) (bodies_of new)
+        (later_turned base images h.since d (omega arith) h.earlier (bodies_of old) h.turned)
+        new-size at_new at_old (apart h);
+    left = set h.left (first_of g) None;
+    others = λ j x out.
+        get_or-set_other h.left (first_of g) j None x
+        (λ same. out (in_right j h.earlier g (subst (λ i. In i g) (sym same) (first_within h))))
+        ∙ h.others j x (λ before. out (in_left j h.earlier g before));
+    sum = (let a = h.sum in let b = sum_left h here in omega (arith, a, b));
+  }
     where
       d : ℕ
       d = h.since + zeros_in (fractions_of split.values.items)
 
-      inside_first : In (first_of g) g
-      inside_first = first_within g e h here
-
-      size : length (bodies_of old) ≡ m
-      size = h.turned.size
-
-      new-size : length (bodies_of new) ≡ m
-      new-size = bodies-count new ∙ put.count ∙ sym (bodies-count old) ∙ size
+      new-size : length (bodies_of new) ≡ length images
+      new-size = bodies-count new ∙ put.count ∙ sym (bodies-count old) ∙ h.turned.size
 
       at_new : (i : ℕ) → In i g → IsAfterIterations base images d i (poly_at (bodies_of new) i)
       at_new i inside =
@@ -289,7 +247,7 @@ module _ (base : List ℕ) (images : List (Terms Fraction)) (splits : List (Opti
           let l = r.1 in
           let is = r.2 in
           let s = bodies-count new in
-          let b : i < m = low i inside in
+          let b = ((next_whole h).is.inside i inside).0 in
           subst (λ j. IsAfterIterations base images d j (poly_at (bodies_of new) j)) (sym is)
           (subst (IsAfterIterations base images d (place g a))
           (sym (same_body new news (place g a) a (omega (arith, s, new-size, b, is))
@@ -305,32 +263,8 @@ module _ (base : List ℕ) (images : List (Terms Fraction)) (splits : List (Opti
             | inr l ↦ at_none new i l ∙ sym (at_none old i (omega (arith, n, l)))
           ]
 
-      go : AreClasses (uses images) m h.earlier (g ∷ rest)
-          → AreKnown base images splits z rest (bodies_of new)
-      go (k, next, class, later) = record {
-        before = h.before ++ g ∷ [];
-        order = subst (AreClasses (uses images) m []) (sym (append_assoc h.before (g ∷ []) rest))
-            (order_of g e h);
-        earlier = h.earlier ++ g;
-        are = ap (λ l. l ++ g) h.are ∙ sym (joined h.before g);
-        whole = whole_more (uses images) m h.earlier g k h.whole class;
-        classes = later;
-        since = d;
-        turned = turned_more base images d h.earlier g (bodies_of old) (bodies_of new)
-            (later_turned base images h.since d (omega arith) h.earlier (bodies_of old) h.turned)
-            new-size at_new at_old (λ i before inside. next_apart (uses images) m h.earlier g k
-            h.whole next class i before inside);
-        left = set h.left (first_of g) None;
-        others = λ j x out.
-            get_or-set_other h.left (first_of g) j None x
-            (λ same. out (in_right j h.earlier g (subst (λ i. In i g) (sym same) inside_first)))
-            ∙ h.others j x (λ before. out (in_left j h.earlier g before));
-        sum = (let a = h.sum in
-            let b = sum_left g e h here in omega (arith, a, b));
-      }
-
   pub known_last : (ps : List (Terms Fraction)) → AreKnown base images splits z [] ps
-      → AllArity (width (length base) m) ps → IsClosedFormFrom base images z ps
+      → AllArity (width (length base) (length images)) ps → IsClosedFormFrom base images z ps
   known_last ps h a = turned_all base images z h.earlier ps h.classes
       (later_turned base images h.since z (let b = h.sum in omega (arith, b)) h.earlier ps h.turned)
       a

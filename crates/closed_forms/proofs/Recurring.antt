@@ -4,7 +4,8 @@
 --   solved_term, all_solved          the solution of one term, and of all, one after another
 --   growing_value                    a form of variables times a power
 --   form_recurs                      the polynomial of a form has the form's recurrence
---   still_long, growing-arity, solved-arity, whole-arity      as many exponents
+--   factor_out                       a common factor of two terms
+--   still_long, with-length, growing-arity, solved-arity, whole-arity      as many exponents
 use Rattle.std.proofs.Common.{◌≡◌, ℕ, zero, suc, ◌+◌, ◌-◌, ◌<◌, ◌≤◌, ℤ, pos, Bool, false, List, [], ◌∷◌, ◌++◌, map, length, take, drop, replicate, refl, sym, ap, ap₂, subst, ◌∙◌, arith}
 use Rattle.std.proofs.lemmas.List.{length-append, length-replicate, length-drop, drop-drop}
 use Rattle.algebra.specs.Arithmetic.{power}
@@ -132,8 +133,8 @@ tail-length r m (a ∷ []) l = absurd (omega (arith, l))
 tail-length r m (a ∷ b ∷ e) l = length-drop r (drop r e) ∙ ap (λ k. k - r) (length-drop r e)
     ∙ (let h : length e - r - r ≡ m = omega (arith, l) in h)
 
-with-length : (bs : List ℕ) (m n : ℕ) (x : Key) (e : List ℕ) → SameLength bs x.1 → SameLength bs x.2
-    → length e ≡ m → length (with_key n x e) ≡ width (length bs) m
+pub with-length : (bs : List ℕ) (m n : ℕ) (x : Key) (e : List ℕ) → SameLength bs x.1
+    → SameLength bs x.2 → length e ≡ m → length (with_key n x e) ≡ width (length bs) m
 with-length bs m n x e f g l =
     ap (λ k. suc (suc k)) (length-append x.1 (x.2 ++ e)
     ∙ ap₂ ◌+◌ (lengths_agree bs x.1 f) (length-append x.2 e ∙ ap₂ ◌+◌ (lengths_agree bs x.2 g) l))
@@ -159,6 +160,11 @@ unit_value (suc m) (a ∷ s) zero l b = ap₂ ℚ.mul (R.mul-one a) (monomial-ze
 unit_value (suc m) (a ∷ s) (suc j) l b =
     ap (ℚ.mul ℚ.one) (unit_value m s j (omega (arith, l)) (omega (arith, b)))
     ∙ L.one-mul R (entries ℚ_field s j)
+
+-- a term that grows, and the others, by their common power
+pub factor_out : (x y z f : Fraction) → R.add (R.mul (R.mul x y) (R.mul R.one z)) (R.mul z f)
+    ≡ R.mul z (R.add (R.mul x y) f)
+factor_out x y z f = ring R (x ∷ y ∷ z ∷ f ∷ []) (search ring_rules depth 40) refl
 
 -- ---- over a base
 module _ (base : List ℕ) (c : Coprime base) (m : ℕ) where
@@ -260,12 +266,8 @@ module _ (base : List ℕ) (c : Coprime base) (m : ℕ) where
       ∙ ap (λ d. ℚ.mul (ℚ.mul x d) (ℚ.mul ℚ.one (power ℚ (negate_if negative (number base e)) n)))
       (unit_value m s j l a.0))
       (growing_value negative e k cs g a.1 n s l)
-      ∙ out x (entries ℚ_field s j) (power ℚ (negate_if negative (number base e)) n)
+      ∙ factor_out x (entries ℚ_field s j) (power ℚ (negate_if negative (number base e)) n)
       (form_at cs g s)
-    where
-      out : (x y z f : Fraction) → R.add (R.mul (R.mul x y) (R.mul R.one z)) (R.mul z f)
-          ≡ R.mul z (R.add (R.mul x y) f)
-      out x y z f = ring R (x ∷ y ∷ z ∷ f ∷ []) (search ring_rules depth 40) refl
 
   whole_recurs : (cs : List Fraction) (g : List ℕ) (l : Fraction) (q p : Terms Fraction)
       → Each (λ j. j < m) g → Arity w q → IsWhole base m cs g l q p

@@ -7,6 +7,7 @@
 --   sizes_positive, sizes_fit, few_sizes        of all, and their base has few numbers
 use Rattle.std.proofs.Common.{◌≡◌, ◌≢◌, ◌<ℤ◌, ◌<◌, ◌≤◌, ◌+◌, ℕ, ℤ, suc, pos, List, [], ◌∷◌, ◌++◌, map, length, unsigned_abs, ◌^◌, Option, Some, Bool, true, false, cond, Result, Ok, Err, refl, sym, ap, ap₂, subst, ◌∙◌, arith, append_assoc}
 use Rattle.std.proofs.lemmas.List.{append-nil, length-append, length-map, map_push}
+use Rattle.std.proofs.lemmas.Bool.{false_from_ne_true}
 use borrow.Author.Differences.{ints}
 use mir.Syntax.{w128}
 use mir.Val.{to_z, of_z}
@@ -54,13 +55,6 @@ some_skip (Ok u) old new {rest = rest} {v = v} e z h = h
     ∙ ap (λ l. old ++ some_of (fractions_of l)) (sym e)
 some_skip (Err u) old new e z h = tt
 
-not_zero : (x : Fraction) → x ≢ ℚ.zero → is_zero x ≡ false
-not_zero x n = go (is_zero x) refl
-  where
-    go : (b : Bool) → is_zero x ≡ b → is_zero x ≡ false
-    go true e = absurd (n ((zero_is x).0 e))
-    go false e = e
-
 pub some_next : {E : Type 0} (r : Result Unit E) (old : List Fraction) {mid : List Fraction}
     (new : List Fraction) {values rest : List Frac} {v : Frac}
     → values ≡ v ∷ rest → fraction_of v ≢ ℚ.zero → mid ≡ old ++ fraction_of v ∷ []
@@ -70,7 +64,8 @@ some_next (Ok u) old new {rest = rest} {v = v} e n k h = h
     ∙ ap (λ l. l ++ some_of (fractions_of rest)) k
     ∙ append_assoc old (fraction_of v ∷ []) (some_of (fractions_of rest))
     ∙ ap (λ l. old ++ l) (sym (ap (λ b. cond b (some_of (fractions_of rest))
-    (fraction_of v ∷ some_of (fractions_of rest))) (not_zero (fraction_of v) n)))
+    (fraction_of v ∷ some_of (fractions_of rest)))
+    (false_from_ne_true _ (λ z. n ((zero_is (fraction_of v)).0 z)))))
     ∙ ap (λ l. old ++ some_of (fractions_of l)) (sym e)
 some_next (Err u) old new e n k h = tt
 

@@ -124,16 +124,13 @@ states_length M zero = refl
 states_length M (suc n) = (let a = length_push (states_to M n) (after M (suc n)) in
     let b = states_length M n in omega (arith, a, b))
 
-below_last : (i n : ℕ) → i ≤ suc n → (i ≤ n) ⊎ (i ≡ suc n)
-below_last i n l = grind (arith, l)
-
 pub states_get : (M : List (Terms Fraction)) (n i : ℕ) (d : List (Terms Fraction)) → i ≤ n
     → get_or (states_to M n) i d ≡ after M i
 states_get M zero zero d l = refl
 states_get M zero (suc i) d l = absurd (omega (arith, l))
 states_get M (suc n) i d l =
     let size = states_length M n in
-    elim (below_last i n l) [
+    elim (let last : (i ≤ n) ⊎ (i ≡ suc n) = grind (arith, l) in last) [
       | inl h ↦ get_or_append_left (states_to M n) (after M (suc n) ∷ []) d i
           (omega (arith, h, size)) ∙ states_get M n i d h
       | inr e ↦ get_or_push (states_to M n) (after M (suc n)) d i (omega (arith, e, size))
