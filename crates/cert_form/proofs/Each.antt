@@ -4,14 +4,13 @@
 --   IfFault-map                          a fact for a fault, from another
 --   entry_is                             the entry at a place is the value there
 --   after-after, after-nil               lists before what is read: two are one behind the other, and none changes nothing
---   fault_like                           the fault of a reading is that of an equal one
 --   passed                               the fault of an error is that of the error that is passed on
 use Rattle.std.proofs.Common.{◌≡◌, ℕ, zero, suc, ◌+◌, ◌<◌, List, [], ◌∷◌, ◌++◌, Result, Ok, Err, length, get_or, drop, refl, sym, ap, subst, ◌∙◌, append_assoc, add-one, arith}
 use Rattle.std.proofs.Math.Seq.{drop-cons}
 use Rattle.std.proofs.lemmas.Result.{err_from_is_err_and}
 use Rattle.std.specs.List.{AllZip}
 use Rattle.std.specs.Result.{MatchResult, IsErrAnd}
-use Rattle.std.specs.Prelude.{string_bytes, IfErr}
+use Rattle.std.specs.Prelude.{string_bytes}
 use Rattle.serde_json.specs.Data.{Data}
 use Rattle.serde_json.specs.View.{view, items_view}
 use Rattle.serde_json.specs.declared.value.Value.{Value}
@@ -87,12 +86,6 @@ module _ {A B : Type 0} {like : A → B → Type 0} {f : List ℕ → Data → R
         let there : f (part path i) (view v) ≡ Err g = ap (λ p. f p (view v)) (sym at) ∙ wrong in
         before.rest ∙ ap (λ xs. after before.raws (each f path i (items_view xs))) one
         ∙ ap (λ r. after before.raws (on (λ b. after (b ∷ []) rest) r)) there)
-
--- a list that is read as another reading
-pub fault_like : {A B : Type 0} (r : Result A CertError) (x y : Reading B) → x ≡ y
-    → IfErr r (λ e. IfFault e (λ f. x ≡ Err f)) → IfErr r (λ e. IfFault e (λ f. y ≡ Err f))
-fault_like (Ok a) x y same h = tt
-fault_like (Err e) x y same h = IfFault-map e (λ f is. sym same ∙ is) h
 
 pub count_is : (vs : List Value) → count (items_view vs) ≡ length vs
 count_is [] = refl

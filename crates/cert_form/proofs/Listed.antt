@@ -45,19 +45,19 @@ pub record Listed {A : Type 0} (f : ℕ → A → List Data) (P : A → Type 0) 
   pub values : map view found ≡ listed f 0 us
   pub holds : All P us
 
-module _ {A : Type 0} (f : ℕ → A → List Data) (P : A → Type 0) (us : List A) where
-  pub listed_start : (found : List Value) → found ≡ [] → ListedSoFar f P us 0 found
-  listed_start found none = record {
+module _ {A : Type 0} {f : ℕ → A → List Data} {P : A → Type 0} {us : List A} where
+  pub listed_start : {found : List Value} → found ≡ [] → ListedSoFar f P us 0 found
+  listed_start none = record {
     left = ap (λ vs. map view vs ++ listed f 0 us) none;
     holds = All-nil P;
   }
 
   -- the items of a loop are those of the list
-  module _ (items : List A) (same : items ≡ us) (i : ℕ) (found : List Value)
+  module _ {items : List A} (same : items ≡ us) {i : ℕ} {found : List Value}
       (before : ListedSoFar f P us i found) where
-    pub listed_more : (a : A) (next : List Value) → i < length items → a ≡ get_or items i a
+    pub listed_more : {a : A} {next : List Value} → i < length items → a ≡ get_or items i a
         → map view next ≡ map view found ++ f i a → P a → ListedSoFar f P us (i + 1) next
-    listed_more a next within is more holds =
+    listed_more {a = a} within is more holds =
         let inside : i < length us = subst (λ (xs : List A). i < length xs) same within in
         let here : a ≡ get_or us i a = is ∙ ap (λ (xs : List A). get_or xs i a) same in
         let one : drop i us ≡ a ∷ drop (suc i) us = drop-cons us i a inside
@@ -99,20 +99,20 @@ ones data_of k [] = listed-nil (each_one data_of) k
 ones data_of k (a ∷ us) = listed-cons (each_one data_of) k a us
     ∙ ap (λ ds. data_of a ∷ ds) (ones data_of (suc k) us)
 
-pub list_is : {A B : Type 0} (see : A → B) (data_of : B → Data) (P : B → Type 0) (us : List A)
-    (found : List Value) (v : Value) → Listed (each_one (λ a. data_of (see a))) (λ a. P (see a)) us
-    found
+pub list_is : {A B : Type 0} (see : A → B) (data_of : B → Data) (P : B → Type 0) {us : List A}
+    {found : List Value} {v : Value}
+    → Listed (each_one (λ a. data_of (see a))) (λ a. P (see a)) us found
     → view v ≡ array (items_view found) → IsWritten (list_data data_of) (All P) (map see us) v
-list_is see data_of P us found v all is = record {
+list_is see data_of P {us = us} all is = record {
   value = is ∙ ap (λ ds. array (items_of ds)) (all.values ∙ ones (λ a. data_of (see a)) 0 us
       ∙ sym (map-map data_of see us));
   holds = All-map P see us all.holds;
 }
 
-pub texts_are : (texts : List (List ℕ)) (found : List Value) (v : Value)
+pub texts_are : {texts : List (List ℕ)} {found : List Value} (v : Value)
     → Listed (each_one string) (λ (t : List ℕ). Unit {0}) texts found
     → view v ≡ array (items_view found) → view v ≡ list_data string texts
-texts_are texts found v all is = is ∙ ap (λ ds. array (items_of ds)) (all.values
+texts_are {texts = texts} v all is = is ∙ ap (λ ds. array (items_of ds)) (all.values
     ∙ ones string 0 texts)
 
 -- the pairs of a row
@@ -122,11 +122,11 @@ pairs_are names k [] = listed-nil (λ j p. pair_of names j (terms_in p)) k
 pairs_are names k (p ∷ ps) = listed-cons (λ j q. pair_of names j (terms_in q)) k p ps
     ∙ ap (λ ds. pair_of names k (terms_in p) ++ ds) (pairs_are names (suc k) ps)
 
-pub row_is : (names : List (List ℕ)) (ps : List FracPoly) (found : List Value) (v : Value)
+pub row_is : (names : List (List ℕ)) {ps : List FracPoly} {found : List Value} {v : Value}
     → Listed (λ k p. pair_of names k (terms_in p)) (λ p. IsReadBack names (terms_in p)) ps found
     → view v ≡ array (items_view found) → IsWritten (row_data names) (All (IsReadBack names))
     (terms_each ps) v
-row_is names ps found v all is = record {
+row_is names {ps = ps} all is = record {
   value = is ∙ ap (λ ds. array (items_of ds)) (all.values ∙ pairs_are names 0 ps);
   holds = All-map (IsReadBack names) terms_in ps all.holds;
 }

@@ -1,5 +1,6 @@
 -- What is written is read as the certificate that was written.
 --   document_reads     of the value of a certificate;  text_reads: of a text that is read as this value
+--   count_items        how many items a list has;  the_texts: texts are listed as themselves
 --   told_so            the same bytes for as many branches are read as the same certificate
 --   without_blanks     what is read whatever blanks stand behind it is read without
 --   same_again         two certificates that one text is read as are the same
@@ -49,7 +50,7 @@ Rows = List (List (Terms Fraction))
 
 -- ---- lists
 
-count_items : (ds : List Data) → count (items_of ds) ≡ length ds
+pub count_items : (ds : List Data) → count (items_of ds) ≡ length ds
 count_items [] = refl
 count_items (d ∷ ds) = ap suc (count_items ds)
 
@@ -224,7 +225,7 @@ module _ (names : List (List ℕ)) where
 
 -- ---- the members of the object
 
-the_texts : (texts : List (List ℕ)) → are_texts texts (items_of (map string texts)) ≡ true
+pub the_texts : (texts : List (List ℕ)) → are_texts texts (items_of (map string texts)) ≡ true
 the_texts [] = refl
 the_texts (t ∷ texts) = ap₂ (λ x y. x && y) ((bytes_eq-Decides t t).1 refl) (the_texts texts)
 

@@ -1,12 +1,13 @@
 -- What readings that succeed were made of.
 --   on_ok, after_ok, expect_ok, ok_or_ok     the parts of such a reading
---   each_ok, parts_ok            a fact on lists that each element adds to
+--   each_ok, parts_ok            a fact on lists that each element adds to;  parts_all: a fact of each element
 --   each_count, parts_count      how many parts there are
 --   list_count                   how many entries a list has that is asked for so many
 use Rattle.std.proofs.Common.{◌≡◌, ℕ, suc, List, [], ◌∷◌, ◌++◌, Ok, Err, length, refl, sym, ap, subst, ◌∙◌, arith}
-use Rattle.std.specs.Prelude.{Bool, true, false, Option, Some, None, if◌then◌else◌, ◌==◌, option_and_then}
+use Rattle.std.specs.Prelude.{All, Bool, true, false, Option, Some, None, if◌then◌else◌, ◌==◌, option_and_then}
 use Rattle.std.specs.Option.{ok_or}
 use Rattle.std.proofs.lemmas.Bool.Decides.{nat_tests}
+use Rattle.std.proofs.lemmas.List.Elements.{All-nil, All-cons}
 use Rattle.serde_json.specs.Data.{Data, Items, no_items, item}
 use Rattle.serde_json.specs.Find.{as_array}
 use Rattle.cert_form.specs.Form.{Fault, shape, Reading, on, after, part, each, expect, count, parts, list_with}
@@ -55,6 +56,11 @@ module _ {A : Type 0} (f : List ℕ → Data → Reading A) (P : A → Type 0) (
   pub parts_ok : (path : List ℕ) (ds : Option Items) (xs : List A) → parts f path ds ≡ Ok xs → Q xs
   parts_ok path ds xs h = let list = on_ok (each f path 0) (ok_or ds (shape path)) xs h in
       each_ok path 0 list.part xs list.gives
+
+pub parts_all : {A : Type 0} (f : List ℕ → Data → Reading A) (P : A → Type 0)
+    → ((path : List ℕ) (d : Data) (a : A) → f path d ≡ Ok a → P a)
+    → (path : List ℕ) (ds : Option Items) (xs : List A) → parts f path ds ≡ Ok xs → All P xs
+parts_all f P sound = parts_ok f P (All P) sound (All-nil P) (All-cons P)
 
 pub each_count : {A : Type 0} (f : List ℕ → Data → Reading A) (path : List ℕ) (n : ℕ) (ds : Items)
     (xs : List A) → each f path n ds ≡ Ok xs → length xs ≡ count ds

@@ -2,6 +2,7 @@
 --   IfFault e P            P of the fault that the error is; want of memory is none
 --   IsRead like a r        the reading r is a part that `like` ties to a
 --   ReadsLike like r result     the result is such a part, or the fault of the reading r
+--   Reads see r result     so, where the part is what is seen of the result
 use Rattle.std.specs.Prelude.{◌≡◌, Result, Ok, Err, string_bytes}
 use Rattle.std.specs.Result.{MatchResult}
 use Rattle.cert_form.specs.declared.error.CertError.{CertError}
@@ -23,3 +24,7 @@ pub record IsRead {A B : Type 0} (like : A → B → Type 0) (a : A) (reading : 
 abbrev pub ReadsLike : {A B : Type 0} → (A → B → Type 0) → Reading B → Result A CertError → Type 0
 ReadsLike like reading result =
     MatchResult result (λ a. IsRead like a reading) (λ e. IfFault e (λ f. reading ≡ Err f))
+
+abbrev pub Reads : {A B : Type 0} → (A → B) → Reading B → Result A CertError → Type 0
+Reads see reading result =
+    MatchResult result (λ a. reading ≡ Ok (see a)) (λ e. IfFault e (λ f. reading ≡ Err f))

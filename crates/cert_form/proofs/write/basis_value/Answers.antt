@@ -4,18 +4,15 @@ use Rattle.cert_form.proofs.Listed.{listed_start, listed_more, listed_all, pushe
 use Rattle.cert_form.proofs.write.basis_value.Goals as goal
 
 pub loop-p-init : goal.loop-p-init
-loop-p-init c = listed_start _ _ _ _ c.new-texts.ensures.items
+loop-p-init c = listed_start c.new-texts.ensures.items
 
 pub loop-p-preserved : goal.loop-p-preserved
 loop-p-preserved c =
-    listed_more _ _ _ c.deref-p-items.result.now c.deref-p-items.ensures.value c.loop-p.p-index
-    c.loop-p.texts.items c.loop-p.invariant c.p-item.result _ c.loop-p-test.true c.p-item.is
+    listed_more c.deref-p-items.ensures.value c.loop-p.invariant c.loop-p-test.true c.p-item.is
     (pushed _ _ _ _ c.in_ok-push.ensures.items c.in_ok-poly_value.ensures.value)
     c.in_ok-poly_value.ensures.holds
 
 pub returns : goal.returns
 returns c =
     list_is terms_in (poly_data c.args.names.now) (IsReadBack c.args.names.now)
-    c.args.basis.now.items c.loop-p.texts.items _
-    (listed_all _ _ _ c.deref-p-items.result.now c.deref-p-items.ensures.value c.loop-p.p-index
-    c.loop-p.texts.items c.loop-p.invariant c.loop-p-test.false) c.from.ensures
+    (listed_all c.deref-p-items.ensures.value c.loop-p.invariant c.loop-p-test.false) c.from.ensures

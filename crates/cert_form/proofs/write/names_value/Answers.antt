@@ -5,13 +5,12 @@ use Rattle.cert_form.proofs.Listed.{listed_start, listed_more, listed_all, pushe
 use Rattle.cert_form.proofs.write.names_value.Goals as goal
 
 pub loop-index-init : goal.loop-index-init
-loop-index-init c = listed_start _ _ _ _ c.new-texts.ensures.items
+loop-index-init c = listed_start c.new-texts.ensures.items
 
 pub loop-index-preserved : goal.loop-index-preserved
 loop-index-preserved c =
     let name = string_bytes c.name.result.now in
-    listed_more _ _ _ c.args.names.now refl c.loop-index.index c.loop-index.texts.items
-    c.loop-index.invariant name _ (omega (
+    listed_more refl c.loop-index.invariant (omega (
       arith,
       c.loop-index-test.true,
       c.len-index-end.ensures.len,
@@ -22,9 +21,7 @@ loop-index-preserved c =
 
 pub returns : goal.returns
 returns c =
-    texts_are c.args.names.now c.loop-index.texts.items _
-    (listed_all _ _ _ c.args.names.now refl c.loop-index.index c.loop-index.texts.items
-    c.loop-index.invariant (omega (
+    texts_are _ (listed_all refl c.loop-index.invariant (omega (
       arith,
       c.loop-index-test.false,
       c.len-index-end.ensures.len,

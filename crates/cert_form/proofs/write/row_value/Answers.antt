@@ -1,26 +1,22 @@
 use Rattle.std.proofs.Common.{sym, ap, subst, ◌∙◌, map, true≢false}
 use Rattle.serde_json.specs.View.{view}
 use Rattle.poly.specs.Seen.{terms_in}
-use Rattle.cert_form.specs.Written.{pair_of, IsReadBack}
+use Rattle.cert_form.specs.Written.{IsReadBack}
 use Rattle.cert_form.proofs.Listed.{listed_start, listed_more, listed_all, pair_pushed, no_pair, row_is}
 use Rattle.cert_form.proofs.ReadingBack.{zero_read_back}
 use Rattle.cert_form.proofs.write.row_value.Goals as goal
 use Rattle.cert_form.proofs.write.row_value.Goals.{then-not-is_left_out+in_ok-pair+in_ok-push, else-not-is_left_out}
 
 pub loop-position-init : goal.loop-position-init
-loop-position-init c = listed_start _ _ _ _ c.new-pairs.ensures.items
+loop-position-init c = listed_start c.new-pairs.ensures.items
 
 pub loop-position-preserved : goal.loop-position-preserved
 loop-position-preserved c =
     let names = c.args.names.now in
     let position = c.loop-position.position in
     let p = terms_in c.cofactor-item.result in
-    let more = listed_more (λ k q. pair_of names k (terms_in q))
-    (λ q. IsReadBack names (terms_in q))
-    c.args.row.now.items c.deref-cofactor-items.result.now c.deref-cofactor-items.ensures.value
-    position c.loop-position.pairs.items c.loop-position.invariant c.cofactor-item.result
-    c.if-not-is_left_out.pairs.items
-    c.loop-position-test.true c.cofactor-item.is in
+    let more = listed_more c.deref-cofactor-items.ensures.value c.loop-position.invariant
+    {next = c.if-not-is_left_out.pairs.items} c.loop-position-test.true c.cofactor-item.is in
     elim c.if-not-is_left_out.branch [
       | then-not-is_left_out+in_ok-pair+in_ok-push w ↦ more
           (ap (λ v. map view v.items) w.pairs-is
@@ -37,7 +33,5 @@ loop-position-preserved c =
 
 pub returns : goal.returns
 returns c =
-    row_is c.args.names.now c.args.row.now.items c.loop-position.pairs.items _
-    (listed_all _ _ _ c.deref-cofactor-items.result.now c.deref-cofactor-items.ensures.value
-    c.loop-position.position c.loop-position.pairs.items c.loop-position.invariant
-    c.loop-position-test.false) c.from.ensures
+    row_is c.args.names.now (listed_all c.deref-cofactor-items.ensures.value
+    c.loop-position.invariant c.loop-position-test.false) c.from.ensures

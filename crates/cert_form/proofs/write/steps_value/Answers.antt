@@ -5,20 +5,17 @@ use Rattle.cert_form.proofs.Listed.{listed_start, listed_more, listed_all, pushe
 use Rattle.cert_form.proofs.write.steps_value.Goals as goal
 
 pub loop-block-init : goal.loop-block-init
-loop-block-init c = listed_start _ _ _ _ c.new-blocks.ensures.items
+loop-block-init c = listed_start c.new-blocks.ensures.items
 
 pub loop-block-preserved : goal.loop-block-preserved
 loop-block-preserved c =
-    listed_more _ _ _ c.deref-block-items.result.now c.deref-block-items.ensures.value
-    c.loop-block.block-index c.loop-block.blocks.items c.loop-block.invariant
-    c.block-item.result _ c.loop-block-test.true c.block-item.is
+    listed_more c.deref-block-items.ensures.value c.loop-block.invariant c.loop-block-test.true
+    c.block-item.is
     (pushed _ _ _ _ c.in_ok-push.ensures.items c.in_ok-block_value.ensures.value)
     c.in_ok-block_value.ensures.holds
 
 pub returns : goal.returns
 returns c =
     list_is rows_in (block_data c.args.names.now) (All (All (IsReadBack c.args.names.now)))
-    c.args.steps.now.items c.loop-block.blocks.items _
-    (listed_all _ _ _ c.deref-block-items.result.now c.deref-block-items.ensures.value
-    c.loop-block.block-index c.loop-block.blocks.items c.loop-block.invariant
-    c.loop-block-test.false) c.from.ensures
+    (listed_all c.deref-block-items.ensures.value c.loop-block.invariant c.loop-block-test.false)
+    c.from.ensures

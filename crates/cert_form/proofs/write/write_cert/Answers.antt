@@ -5,7 +5,7 @@ use Rattle.serde_json.specs.View.{view}
 use Rattle.serde_json.specs.Read.{max_depth}
 use Rattle.serde_json.specs.Written.{has_float, compact_text}
 use Rattle.cert_form.specs.Written.{text_of}
-use Rattle.cert_form.proofs.Plain.{no_float, shallow}
+use Rattle.cert_form.proofs.Plain.{plain}
 use Rattle.cert_form.proofs.ReadingBack.{text_reads}
 use Rattle.cert_form.proofs.write.write_cert.Goals as goal
 
@@ -14,7 +14,7 @@ unfolding text_of
 returns-clause-text c =
     let value = c.in_ok-value.ensures.value in
     c.in_ok-text.ensures.text (ap has_float value
-    ∙ no_float c.args.names.now c.args.cert.now.certificate) ∙ ap compact_text value
+    ∙ (plain c.args.names.now c.args.cert.now.certificate).no_float) ∙ ap compact_text value
 
 pub returns-clause-read_back : goal.returns-clause-read_back
 returns-clause-read_back c = λ few blanks are.
@@ -25,4 +25,4 @@ returns-clause-read_back c = λ few blanks are.
     (view c.in_ok-value.value) value (IsUtf8-string_bytes c.in_ok-text.text)
     c.in_ok-text.ensures.compact
     (c.in_ok-text.ensures.reads_back (subst (λ d. depth d ≤ max_depth) (sym value)
-    (shallow names cert))) blanks are
+    (plain names cert).within)) blanks are
