@@ -1,12 +1,16 @@
 -- A full certificate that was read has as many of all as it must.
 --   counted_in         the full certificate in the bytes
+--   AreBranches P n fs ss   P of each branch, by how many polynomials the list so far has, its form and its stages;  AreRounds P n rows: of each round
+--   as_many            stages that have a form each are as many
+--   same_ok            a reading reads one value
+--   last_of            how many polynomials the last list of a round has;  orbit_begins, meet_begins: how many stages begin with
 use Rattle.std.proofs.Common.{◌≡◌, ℕ, zero, suc, ◌+◌, ◌<◌, ◌≤◌, true, List, [], ◌∷◌, map, length, get_or, pred, Ok, refl, sym, ap, ap₂, subst, ◌∙◌, arith}
-use Rattle.std.specs.Prelude.{All, Option, Some, None, is_some, codes, option_and_then}
+use Rattle.std.specs.Prelude.{All, Option, Some, None, option_and_then, is_some, codes}
 use Rattle.std.specs.Option.{ok_or, option_map_or}
 use Rattle.std.proofs.lemmas.List.{length-append, length-map}
 use Rattle.std.proofs.lemmas.List.Elements.{All-nil, All-cons}
 use Rattle.serde_json.specs.Data.{Data, Items, no_items, item}
-use Rattle.serde_json.specs.Find.{get, as_object, as_array}
+use Rattle.serde_json.specs.Find.{get, as_object}
 use Rattle.algebra.specs.Fraction.{Fraction, rationals}
 use Rattle.polynomials.specs.Order.{grevlex}
 use Rattle.polynomials.specs.Terms.{Terms}
@@ -14,11 +18,11 @@ use Rattle.solvable_maps.specs.Iterations.{width}
 use Rattle.loops.specs.Program.{Expr, Program}
 use Rattle.machines.specs.Collect.{collect}
 use Rattle.rounds.specs.Form.{front, orbit_order, relations, relations_to}
-use Rattle.cert_form.specs.Form.{Reading, on, after, part, list_with, shape, not_json, document, has_version, has_names}
+use Rattle.cert_form.specs.Form.{Reading, after, part, list_with, shape, not_json, document, has_version, has_names}
 use Rattle.cert_form.specs.Path.{member_path}
-use Rattle.cert_form.proofs.Readings.{on_ok, after_ok, expect_ok, parts_ok, parts_count}
+use Rattle.cert_form.proofs.Readings.{on_ok, after_ok, expect_ok, parts_all, parts_count}
 use Rattle.full_cert.specs.Raw.{raw_at}
-use Rattle.full_cert.specs.Tables.{raws_at, table_at}
+use Rattle.full_cert.specs.Tables.{table_at, raws_at}
 use Rattle.corollaries.specs.Stage.{Stage}
 use Rattle.corollaries.specs.Full.{FullCertificate, WrittenForm, BranchStages, orbit, meet, form_of, stage_of, of_option, so_far, before, starting}
 use Rattle.corollaries.specs.Counts.{IsStageCounted, IsSquare, no_branch, IsBranchCounted, IsCounted}
@@ -26,7 +30,7 @@ use Rattle.full_cert.specs.PartsForm.{stage_at, Start, start_at, start_there, bl
 use Rattle.full_cert.proofs.PartsCounted.{member_count, table_counted, stage_counted}
 use Rattle.full_cert.specs.Form.{member_stage, orbit_at, meet_at, branch_at, given_by, branches_at, last_given, round_at, rounds_at, rounds_in, has_kind, parts_of, full_value, full_in}
 
-abbrev no_form : WrittenForm
+abbrev pub no_form : WrittenForm
 no_form = record { base = []; polys = [] }
 
 -- ---- each list goes on from the one before
@@ -43,17 +47,29 @@ record BranchFollows (before : ℕ) (so_far : Option ℕ) (f : WrittenForm) (s :
   orbit : IsStageCounted (front (length f.base)) (before + suc (length f.base)) s.orbit_stage
   meet : MeetAs so_far (length s.orbit_stage.out) s.meet_stage
 
+module _ (P : Option ℕ → WrittenForm → BranchStages → Type 0) where
+  abbrev pub AreBranches : Option ℕ → List WrittenForm → List BranchStages → Type 0
+  AreBranches so_far [] [] = Unit {0}
+  AreBranches so_far [] (s ∷ ss) = ⊥
+  AreBranches so_far (f ∷ fs) [] = ⊥
+  AreBranches so_far (f ∷ fs) (s ∷ ss) = P so_far f s × AreBranches (Some (given_by s)) fs ss
+
+  pub as_many : (so_far : Option ℕ) (fs : List WrittenForm) (ss : List BranchStages)
+      → AreBranches so_far fs ss → length ss ≡ length fs
+  as_many so_far [] [] h = refl
+  as_many so_far [] (s ∷ ss) h = absurd h
+  as_many so_far (f ∷ fs) [] h = absurd h
+  as_many so_far (f ∷ fs) (s ∷ ss) h = ap suc (as_many (Some (given_by s)) fs ss h.1)
+
+abbrev pub AreRounds : (ℕ → List BranchStages → Type 0) → ℕ → List (List BranchStages) → Type 0
+AreRounds P before [] = Unit {0}
+AreRounds P before (row ∷ rows) = P before row × AreRounds P (last_given before row) rows
+
 abbrev BranchesFollow : ℕ → Option ℕ → List WrittenForm → List BranchStages → Type 0
-BranchesFollow before so_far [] [] = Unit {0}
-BranchesFollow before so_far [] (s ∷ ss) = ⊥
-BranchesFollow before so_far (f ∷ fs) [] = ⊥
-BranchesFollow before so_far (f ∷ fs) (s ∷ ss) =
-    BranchFollows before so_far f s × BranchesFollow before (Some (given_by s)) fs ss
+BranchesFollow before = AreBranches (BranchFollows before)
 
 abbrev RoundsFollow : ℕ → List WrittenForm → List (List BranchStages) → Type 0
-RoundsFollow before fs [] = Unit {0}
-RoundsFollow before fs (row ∷ rows) =
-    BranchesFollow before None fs row × RoundsFollow (last_given before row) fs rows
+RoundsFollow before fs = AreRounds (λ n. BranchesFollow n None fs) before
 
 -- ---- what was read follows
 member_counted : (k m gens : ℕ) (path name : List ℕ) (d : Data) (s : Stage)
@@ -148,8 +164,7 @@ so_far_at n ss zero = n
 so_far_at n ss (suc b) = Some (given_by (get_or ss b no_branch))
 
 branch_at_place : (before : ℕ) (n : Option ℕ) (fs : List WrittenForm) (ss : List BranchStages)
-    (b : ℕ)
-    → BranchesFollow before n fs ss → b < length fs
+    (b : ℕ) → BranchesFollow before n fs ss → b < length fs
     → BranchFollows before (so_far_at n ss b) (get_or fs b no_form) (get_or ss b no_branch)
 branch_at_place before n [] ss b h l = absurd (omega arith)
 branch_at_place before n (f ∷ fs) [] b h l = absurd h
@@ -158,13 +173,6 @@ branch_at_place before n (f ∷ fs) (s ∷ ss) (suc zero) h l =
     branch_at_place before (Some (given_by s)) fs ss zero h.1 (omega arith)
 branch_at_place before n (f ∷ fs) (s ∷ ss) (suc (suc b)) h l =
     branch_at_place before (Some (given_by s)) fs ss (suc b) h.1 (omega arith)
-
-as_many : (before : ℕ) (n : Option ℕ) (fs : List WrittenForm) (ss : List BranchStages)
-    → BranchesFollow before n fs ss → length ss ≡ length fs
-as_many before n [] [] h = refl
-as_many before n [] (s ∷ ss) h = absurd h
-as_many before n (f ∷ fs) [] h = absurd h
-as_many before n (f ∷ fs) (s ∷ ss) h = ap suc (as_many before (Some (given_by s)) fs ss h.1)
 
 last_is : (before : ℕ) (s : BranchStages) (ss : List BranchStages)
     → last_given before (s ∷ ss) ≡ given_by (get_or (s ∷ ss) (length ss) no_branch)
@@ -180,7 +188,7 @@ rows_are : (before : ℕ) (fs : List WrittenForm) (rows : List (List BranchStage
     → RoundsFollow before fs rows → All (λ row. length row ≡ length fs) rows
 rows_are before fs [] h = All-nil (λ row. length row ≡ length fs)
 rows_are before fs (row ∷ rows) h = All-cons (λ row. length row ≡ length fs) row rows
-    (as_many before None fs row h.0) (rows_are (last_given before row) fs rows h.1)
+    (as_many (BranchFollows before) None fs row h.0) (rows_are (last_given before row) fs rows h.1)
 
 -- ---- an intersection
 meet_counted : (n : ℕ) (o : Option Stage) → MeetFollows n o → IsStageCounted 1 n (of_option o)
@@ -201,15 +209,29 @@ none_gives : (k : ℕ) (o : Option Stage) → o ≡ None
 none_gives k o e = sym (ap (λ x. option_map_or (λ (s : Stage). length s.out) x k) e)
 
 -- ---- how many polynomials stages begin with
-pub length-relations_to : (r w n : ℕ) → length (relations_to r w n) ≡ n
+length-relations_to : (r w n : ℕ) → length (relations_to r w n) ≡ n
 unfolding relations_to
 length-relations_to r w zero = refl
 length-relations_to r w (suc n) =
     length-append (relations_to r w n) (_ ∷ [])
     ∙ (let h = length-relations_to r w n in omega (arith, h))
 
-length-relations : (r m : ℕ) → length (relations r m) ≡ suc r
-length-relations r m = ap suc (length-relations_to r (front r + m) r)
+module _ {At : Type 0} (program : Program (Expr At)) (c : FullCertificate) (r b : ℕ) where
+  pub orbit_begins : length (starting program c r b orbit)
+      ≡ length (before program c r) + suc (length (form_of c b).base)
+  orbit_begins =
+      let n : ℕ = length (form_of c b).base in
+      let m : ℕ = length program.names in
+      let told : Terms Fraction → Terms Fraction = collect rationals (orbit_order n) in
+      length-append (map _ (before program c r)) (map told (relations n m))
+      ∙ ap₂ ◌+◌ (length-map (before program c r) _)
+      (length-map (relations n m) told ∙ ap suc (length-relations_to n (front n + m) n))
+
+  pub meet_begins : length (starting program c r (suc b) meet)
+      ≡ length (so_far c r b) + length (stage_of c r (suc b) orbit).out
+  meet_begins =
+      length-append (map _ (so_far c r b)) (map _ (stage_of c r (suc b) orbit).out)
+      ∙ ap₂ ◌+◌ (length-map (so_far c r b) _) (length-map (stage_of c r (suc b) orbit).out _)
 
 -- ---- the certificate
 module _ {At : Type 0} (program : Program (Expr At)) (c : FullCertificate)
@@ -241,7 +263,8 @@ module _ {At : Type 0} (program : Program (Expr At)) (c : FullCertificate)
   before_is (suc r) l =
       let within : r < length c.rounds = omega (arith, l) in
       let many : length (row r within) ≡ length program.branches =
-      as_many _ None c.forms (row r within) (in_row r within) ∙ forms in
+      as_many (BranchFollows (at_round (length c.start_out) c.rounds r)) None c.forms (row r within)
+      (in_row r within) ∙ forms in
       given_here r within (pred (length program.branches)) (omega (arith, some))
       ∙ ap (λ n. given_by (get_or (row r within) (pred n) no_branch)) (sym many)
       ∙ sym (last_of (at_round (length c.start_out) c.rounds r) (row r within)
@@ -251,22 +274,15 @@ module _ {At : Type 0} (program : Program (Expr At)) (c : FullCertificate)
   orbit_many : (r b : ℕ) → r ≤ length c.rounds
       → length (starting program c r b orbit)
       ≡ at_round (length c.start_out) c.rounds r + suc (length (form_of c b).base)
-  orbit_many r b l =
-      let told : Terms Fraction → Terms Fraction =
-      collect rationals (orbit_order (length (form_of c b).base)) in
-      length-append (map _ (before program c r)) (map told (relations (length (form_of c b).base)
-      (length program.names)))
-      ∙ ap₂ ◌+◌ (length-map (before program c r) _ ∙ before_is r l)
-      (length-map (relations (length (form_of c b).base) (length program.names)) told
-      ∙ length-relations (length (form_of c b).base) (length program.names))
+  orbit_many r b l = orbit_begins program c r b
+      ∙ ap (λ k. k + suc (length (form_of c b).base)) (before_is r l)
 
   meet_many : (r b : ℕ) (within : r < length c.rounds) → suc b < length program.branches
       → length (starting program c r (suc b) meet)
       ≡ given_by (get_or (row r within) b no_branch) + length (stage_of c r (suc b) orbit).out
-  meet_many r b within l =
-      length-append (map _ (so_far c r b)) (map _ (stage_of c r (suc b) orbit).out)
-      ∙ ap₂ ◌+◌ (length-map (so_far c r b) _ ∙ given_here r within b (omega (arith, l)))
-      (length-map (stage_of c r (suc b) orbit).out _)
+  meet_many r b within l = meet_begins program c r b
+      ∙ ap (λ k. k + length (stage_of c r (suc b) orbit).out)
+      (given_here r within b (omega (arith, l)))
 
   branch_counted : (r b : ℕ) → r < length c.rounds → b < length program.branches
       → IsBranchCounted program c r b
@@ -282,11 +298,6 @@ module _ {At : Type 0} (program : Program (Expr At)) (c : FullCertificate)
     meet = λ k. subst (λ n. IsStageCounted 1 n (stage_of c r (suc b) meet))
         (sym (meet_many r b w l)) (meet_counted _ _ (here r w (suc b) l).meet);
   }
-
-  -- where the first branch has none, and each other one an intersection
-  first_none : (r : ℕ) (w : r < length c.rounds)
-      → (get_or (get_or c.rounds r []) 0 no_branch).meet_stage ≡ None
-  first_none r w = (here r w 0 some).meet
 
   others_there : (r b : ℕ) (w : r < length c.rounds) → 0 < b → b < length program.branches
       → is_some (get_or (get_or c.rounds r []) b no_branch).meet_stage ≡ true
@@ -309,8 +320,7 @@ form_counted m path d f h =
     let e = p.gives in
     let same : record { base = b.part; polys = p.part } ≡ f = cc in
     subst (λ (x : WrittenForm). length x.polys ≡ m) same
-    (parts_count (raw_at grevlex (width (length b.part) m)) (member_path path (codes "polys")) m
-    (option_and_then (list_with m) (get (codes "polys") d)) p.part
+    (parts_count (raw_at grevlex (width (length b.part) m)) _ m _ p.part
     (member_count m (get (codes "polys") d)) p.is)
 
 record IsStart (equations : ℕ) (s : Start) : Type 0 where
@@ -324,19 +334,17 @@ start_counted m equations path d s h =
     (expect_ok (is_some (as_object d)) path _ s h) in
     let l = on_ok _ (table_at equations (length o.part) grevlex m (member_path path (codes "links"))
     (get (codes "links") d)) s o.gives in
-    let t = table_counted equations (length o.part) grevlex m (member_path path (codes "links"))
-    (get (codes "links") d) l.part l.is in
+    let t = table_counted equations (length o.part) grevlex m _ _ l.part l.is in
     let e = l.gives in
     let same : (o.part, l.part) ≡ s = cc in
     subst (IsStart equations) same (record { links = t.height; widths = t.widths })
 
 -- ---- the whole
-same_ok : {A : Type 0} {a b : A} {r : Reading A} → r ≡ Ok a → r ≡ Ok b → a ≡ b
+pub same_ok : {A : Type 0} {a b : A} {r : Reading A} → r ≡ Ok a → r ≡ Ok b → a ≡ b
 same_ok h k = cc
 
 abbrev whole : List (Terms Fraction) → List (List (List (Terms Fraction))) → List WrittenForm
-    → Start
-    → List (List BranchStages) → FullCertificate
+    → Start → List (List BranchStages) → FullCertificate
 whole basis steps forms start rounds = record {
   basis = basis;
   steps = steps;
@@ -367,45 +375,29 @@ module _ {At : Type 0} (program : Program (Expr At)) where
       object.gives in
       let r = on_ok _ (rounds_in m (length s.part.0) f.part (codes "/rounds")
       (get (codes "rounds") d)) c s.gives in
-      let list = on_ok (rounds_at m (length s.part.0) f.part (codes "/rounds") 0)
-      (ok_or (option_and_then as_array (get (codes "rounds") d)) (shape (codes "/rounds")))
-      r.part r.is in
+      let list = on_ok (rounds_at m (length s.part.0) f.part (codes "/rounds") 0) _ r.part r.is in
       let follows = rounds_follow m (length s.part.0) f.part (codes "/rounds") 0 list.part r.part
       list.gives in
       let forms : length f.part ≡ n = parts_count (form_at m) (codes "/forms") n
       (option_and_then (list_with n) (get (codes "forms") d)) f.part
       (member_count n (get (codes "forms") d)) f.is in
-      let same : whole b.part t.part f.part s.part r.part ≡ c =
-      same_ok {r = Ok (whole b.part t.part f.part s.part r.part)} refl r.gives in
+      let made : FullCertificate = whole b.part t.part f.part s.part r.part in
+      let same : made ≡ c = same_ok {r = Ok made} refl r.gives in
       subst (IsCounted program) same (record {
-        steps = parts_count (block_at m (length b.part)) (codes "/steps") n
-            (option_and_then (list_with n) (get (codes "steps") d)) t.part
+        steps = parts_count (block_at m (length b.part)) _ n _ t.part
             (member_count n (get (codes "steps") d)) t.is;
-        squares = parts_ok (block_at m (length b.part)) (IsSquare (length b.part))
-            (λ blocks. All (IsSquare (length b.part)) blocks)
-            (λ path d rows is. square m (length b.part) path d rows is)
-            (All-nil (IsSquare (length b.part)))
-            (λ rows blocks h k. All-cons (IsSquare (length b.part)) rows blocks h k)
-            (codes "/steps")
-            (option_and_then (list_with n) (get (codes "steps") d)) t.part t.is;
+        squares = parts_all (block_at m (length b.part)) (IsSquare (length b.part))
+            (square m (length b.part)) _ _ t.part t.is;
         forms = forms;
-        polys = parts_ok (form_at m) (λ (x : WrittenForm). length x.polys ≡ m)
-            (λ xs. All (λ (x : WrittenForm). length x.polys ≡ m) xs)
-            (λ path d x is. form_counted m path d x is)
-            (All-nil (λ (x : WrittenForm). length x.polys ≡ m))
-            (λ x xs h k. All-cons (λ (x : WrittenForm). length x.polys ≡ m) x xs h k)
-            (codes "/forms")
-            (option_and_then (list_with n) (get (codes "forms") d)) f.part f.is;
+        polys = parts_all (form_at m) (λ (x : WrittenForm). length x.polys ≡ m) (form_counted m)
+            (codes "/forms") (option_and_then (list_with n) (get (codes "forms") d)) f.part f.is;
         links = start.links;
         links_widths = start.widths;
         rounds = subst (λ k. All (λ row. length row ≡ k) r.part) forms
             (rows_are (length s.part.0) f.part r.part follows);
-        first = λ i w some. first_none program (whole b.part t.part f.part s.part r.part) some forms
-            follows i w;
-        others = λ i j w k l. others_there program (whole b.part t.part f.part s.part r.part)
-            (omega (arith, l)) forms follows i j w k l;
-        stages = λ i j w l. branch_counted program (whole b.part t.part f.part s.part r.part)
-            (omega (arith, l)) forms follows i j w l;
+        first = λ i w some. (here program made some forms follows i w 0 some).meet;
+        others = λ i j w k l. others_there program made (omega (arith, l)) forms follows i j w k l;
+        stages = λ i j w l. branch_counted program made (omega (arith, l)) forms follows i j w l;
       })
 
   pub counted_in : (bytes : List ℕ) (c : FullCertificate) → full_in program bytes ≡ Ok c

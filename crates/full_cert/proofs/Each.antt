@@ -19,7 +19,7 @@ module _ {A B : Type 0} (see : A → B) (f : List ℕ → Data → Reading B) (p
       each f path 0 (items_view vs) ≡ after (map see found) (each f path i (items_view (drop i vs)))
 
   module _ (i : ℕ) (found : List A) (before : EachSoFar i found) where
-    module _ (here : List ℕ) (v : Value) (within : i < length vs) (is : v ≡ get_or vs i v)
+    module _ {here : List ℕ} {v : Value} (within : i < length vs) (is : v ≡ get_or vs i v)
         (at : here ≡ part path i) where
       abbrev rest : Reading (List B)
       rest = each f path (suc i) (items_view (drop (suc i) vs))
@@ -34,10 +34,9 @@ module _ {A B : Type 0} (see : A → B) (f : List ℕ → Data → Reading B) (p
           ∙ ap (λ q. after (map see found) (on (λ b. after (b ∷ []) rest) q))
           (ap (λ p. f p (view v)) (sym at) ∙ same)
 
-      pub each_more : (a : A) (next : List A) → f here (view v) ≡ Ok (see a)
-          → next ≡ found ++ a ∷ []
-          → EachSoFar (i + 1) next
-      each_more a next same more =
+      pub each_more : {a : A} {next : List A} → f here (view v) ≡ Ok (see a)
+          → next ≡ found ++ a ∷ [] → EachSoFar (i + 1) next
+      each_more {a = a} {next = next} same more =
           read_as (Ok (see a)) same ∙ after-after (map see found) (see a ∷ []) rest
           ∙ ap (λ xs. after xs rest) (sym (ap (map see) more ∙ map-append see found (a ∷ [])))
           ∙ ap (λ n. after (map see next) (each f path n (items_view (drop n vs))))

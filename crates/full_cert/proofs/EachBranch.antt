@@ -22,8 +22,7 @@ use Rattle.task_lists.specs.declared.parts.FullBranch.{FullBranch}
 use Rattle.full_cert.specs.Form.{branch_at, branches_at, given_by}
 
 module _ {A P : Type 0} (see : A → BranchStages) (form : P → WrittenForm) (m before : ℕ)
-    (fs : List P)
-    (path : List ℕ) (vs : List Value) where
+    (fs : List P) (path : List ℕ) (vs : List Value) where
   abbrev pub left : Option ℕ → ℕ → Reading (List BranchStages)
   left so_far i = branches_at m before so_far (map form (drop i fs)) path i (items_view (drop i vs))
 
@@ -32,15 +31,14 @@ module _ {A P : Type 0} (see : A → BranchStages) (form : P → WrittenForm) (m
       branches_at m before None (map form fs) path 0 (items_view vs)
       ≡ after (map see found) (left so_far i)
 
-  pub branches_start : (found : List A) → found ≡ [] → BranchesSoFar None 0 found
-  branches_start found none =
+  pub branches_start : {found : List A} → found ≡ [] → BranchesSoFar None 0 found
+  branches_start none =
       after-nil (branches_at m before None (map form fs) path 0 (items_view vs))
       ∙ ap (λ xs. after (map see xs) (branches_at m before None (map form fs) path 0
-      (items_view vs)))
-      (sym none)
+      (items_view vs))) (sym none)
 
   module _ (so_far : Option ℕ) (i : ℕ) (found : List A) (prior : BranchesSoFar so_far i found) where
-    module _ (here : List ℕ) (v : Value) (p : P) (within : i < length vs) (inside : i < length fs)
+    module _ {here : List ℕ} {v : Value} {p : P} (within : i < length vs) (inside : i < length fs)
         (is : v ≡ get_or vs i v) (its : p ≡ get_or fs i p) (at : here ≡ part path i) where
       abbrev behind : BranchStages → Reading (List BranchStages)
       behind s = branches_at m before (Some (given_by s)) (map form (drop (suc i) fs)) path (suc i)
@@ -64,16 +62,15 @@ module _ {A P : Type 0} (see : A → BranchStages) (form : P → WrittenForm) (m
           ∙ ap (λ q. after (map see found) (on (λ s. after (s ∷ []) (behind s)) q))
           (ap (λ q. branch_at m before so_far (form p) q (view v)) (sym at) ∙ same)
 
-      pub branches_more : (a : A) (next : List A) (count : ℕ)
+      pub branches_more : {a : A} {next : List A} {count : ℕ}
           → branch_at m before so_far (form p) here (view v) ≡ Ok (see a) → next ≡ found ++ a ∷ []
           → count ≡ given_by (see a) → BranchesSoFar (Some count) (i + 1) next
-      branches_more a next count same more given =
+      branches_more {a = a} {next = next} {count = count} same more given =
           read_as (Ok (see a)) same ∙ after-after (map see found) (see a ∷ []) (behind (see a))
           ∙ ap (λ xs. after xs (behind (see a)))
           (sym (ap (map see) more ∙ map-append see found (a ∷ [])))
-          ∙ ap (λ c.
-          after (map see next) (branches_at m before (Some c) (map form (drop (suc i) fs))
-          path (suc i) (items_view (drop (suc i) vs)))) (sym given)
+          ∙ ap (λ c. after (map see next) (branches_at m before (Some c)
+          (map form (drop (suc i) fs)) path (suc i) (items_view (drop (suc i) vs)))) (sym given)
           ∙ ap (λ n. after (map see next) (branches_at m before (Some count) (map form (drop n fs))
           path n (items_view (drop n vs)))) (sym (add-one i))
 
@@ -82,15 +79,15 @@ module _ {A P : Type 0} (see : A → BranchStages) (form : P → WrittenForm) (m
           → IfFault e (λ g. branches_at m before None (map form fs) path 0 (items_view vs) ≡ Err g)
       branches_fault e = IfFault-map e (λ g wrong. read_as (Err g) wrong)
 
-pub branches_none : (m : ℕ) (fs : List FullForm) (found : List FullBranch) → found ≡ []
+pub branches_none : (m : ℕ) (fs : List FullForm) {found : List FullBranch} → found ≡ []
     → AllZip (IsBranchIn m) (take 0 fs) found
-branches_none m fs found none = subst (AllZip (IsBranchIn m) (take 0 fs)) (sym none) tt
+branches_none m fs none = subst (AllZip (IsBranchIn m) (take 0 fs)) (sym none) tt
 
-pub branches_in : (m : ℕ) (fs : List FullForm) (i : ℕ) (f : FullForm) (found : List FullBranch)
-    (b : FullBranch) (next : List FullBranch) → i < length fs → f ≡ get_or fs i f
+pub branches_in : (m : ℕ) (fs : List FullForm) (i : ℕ) (found : List FullBranch) {f : FullForm}
+    {b : FullBranch} {next : List FullBranch} → i < length fs → f ≡ get_or fs i f
     → AllZip (IsBranchIn m) (take i fs) found → IsBranchIn m f b → next ≡ found ++ b ∷ []
     → AllZip (IsBranchIn m) (take (i + 1) fs) next
-branches_in m fs i f found b next within is before one more =
+branches_in m fs i found {f = f} {b = b} within is before one more =
     subst (AllZip (IsBranchIn m) (take (i + 1) fs)) (sym more)
     (subst (λ xs. AllZip (IsBranchIn m) xs (found ++ b ∷ [])) (sym (take_one fs i f within is))
     (zip_push (IsBranchIn m) (take i fs) found f b before one))

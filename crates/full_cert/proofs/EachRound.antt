@@ -14,15 +14,14 @@ use Rattle.corollaries.specs.Full.{WrittenForm, BranchStages}
 use Rattle.full_cert.specs.Form.{last_given, round_at, rounds_at}
 
 module _ {A : Type 0} (see : A → List BranchStages) (m before : ℕ) (fs : List WrittenForm)
-    (path : List ℕ)
-    (vs : List Value) where
+    (path : List ℕ) (vs : List Value) where
   abbrev pub RoundsSoFar : ℕ → ℕ → List A → Type 0
   RoundsSoFar count i found =
       rounds_at m before fs path 0 (items_view vs)
       ≡ after (map see found) (rounds_at m count fs path i (items_view (drop i vs)))
 
   module _ (count i : ℕ) (found : List A) (prior : RoundsSoFar count i found) where
-    module _ (here : List ℕ) (v : Value) (within : i < length vs) (is : v ≡ get_or vs i v)
+    module _ {here : List ℕ} {v : Value} (within : i < length vs) (is : v ≡ get_or vs i v)
         (at : here ≡ part path i) where
       abbrev behind : List BranchStages → Reading (List (List BranchStages))
       behind row = rounds_at m (last_given count row) fs path (suc i) (items_view (drop (suc i) vs))
@@ -38,10 +37,10 @@ module _ {A : Type 0} (see : A → List BranchStages) (m before : ℕ) (fs : Lis
           ∙ ap (λ q. after (map see found) (on (λ row. after (row ∷ []) (behind row)) q))
           (ap (λ q. round_at m count fs q (view v)) (sym at) ∙ same)
 
-      pub rounds_more : (a : A) (next : List A) (n : ℕ) → round_at m count fs here (view v)
-          ≡ Ok (see a)
-          → next ≡ found ++ a ∷ [] → n ≡ last_given count (see a) → RoundsSoFar n (i + 1) next
-      rounds_more a next n same more given =
+      pub rounds_more : {a : A} {next : List A} {n : ℕ} → round_at m count fs here (view v)
+          ≡ Ok (see a) → next ≡ found ++ a ∷ [] → n ≡ last_given count (see a)
+          → RoundsSoFar n (i + 1) next
+      rounds_more {a = a} {next = next} {n = n} same more given =
           read_as (Ok (see a)) same ∙ after-after (map see found) (see a ∷ []) (behind (see a))
           ∙ ap (λ xs. after xs (behind (see a)))
           (sym (ap (map see) more ∙ map-append see found (a ∷ [])))

@@ -149,29 +149,17 @@ module _ (n d : ℕ) (small : n < numeral_bound) (den : d < numeral_bound) where
       by_den (suc k) p = refl
 
 -- ---- no sign in front of digits
-module _ (ds es : List ℕ) (h : all_ascii_digits ds ≡ true) (some : 0 < length ds) where
-  same_unsigned : unsigned (ds ++ es) ≡ ds ++ es
-  unfolding unsigned
-  same_unsigned = go ds h some
-    where
-      go : (cs : List ℕ) → all_ascii_digits cs ≡ true → 0 < length cs
-          → unsigned (cs ++ es) ≡ cs ++ es
-      go [] k l = absurd (omega (arith, l))
-      go (c ∷ cs) k l = ap (λ b. if b then cs ++ es else c ∷ (cs ++ es))
-          (other_sign c minus_sign (c == minus_sign) refl (omega arith)
-          (tells_all_ascii_digits.parts c cs k).0)
-
-  number_unsigned : number_of (ds ++ es) ≡ amount_of (ds ++ es)
-  unfolding number_of
-  number_unsigned = go ds h some
-    where
-      go : (cs : List ℕ) → all_ascii_digits cs ≡ true → 0 < length cs
-          → number_of (cs ++ es) ≡ amount_of (cs ++ es)
-      go [] k l = absurd (omega (arith, l))
-      go (c ∷ cs) k l = ap (λ b. if b then option_map opposite (amount_of (cs ++ es))
-          else amount_of (c ∷ (cs ++ es)))
-          (other_sign c minus_sign (c == minus_sign) refl (omega arith)
-          (tells_all_ascii_digits.parts c cs k).0)
+no_sign : (ds es : List ℕ) → all_ascii_digits ds ≡ true → 0 < length ds
+    → (unsigned (ds ++ es) ≡ ds ++ es) × (number_of (ds ++ es) ≡ amount_of (ds ++ es))
+unfolding unsigned number_of
+no_sign [] es h some = absurd (omega (arith, some))
+no_sign (c ∷ cs) es h some =
+    let other = other_sign c minus_sign (c == minus_sign) refl (omega arith)
+    (tells_all_ascii_digits.parts c cs h).0 in (
+      ap (λ b. if b then cs ++ es else c ∷ (cs ++ es)) other,
+      ap (λ b. if b then option_map opposite (amount_of (cs ++ es))
+          else amount_of (c ∷ (cs ++ es))) other,
+    )
 
 signed_number : (text : List ℕ) → number_of (minus_sign ∷ text)
     ≡ option_map opposite (amount_of text)
@@ -242,7 +230,7 @@ module _ (q : Fraction) (small : unsigned_abs q.num < numeral_bound)
       let few : n < numeral_bound = subst (λ z. unsigned_abs z < numeral_bound) e small in
       let h = decimal_digits n few in
       ap number_of (above_zero n q.den b ∙ split_tail n q.den b)
-      ∙ number_unsigned (decimal n) (tail_of q.den b) h.digits h.some
+      ∙ (no_sign (decimal n) (tail_of q.den b) h.digits h.some).1
       ∙ ap amount_of (sym (split_tail n q.den b))
       ∙ amount_back q n e few den b is
   number_by (negsuc n) e b is =
@@ -262,7 +250,7 @@ module _ (q : Fraction) (small : unsigned_abs q.num < numeral_bound)
       let few : n < numeral_bound = subst (λ z. unsigned_abs z < numeral_bound) e small in
       let h = decimal_digits n few in
       ap is_number (above_zero n q.den b ∙ split_tail n q.den b)
-      ∙ ap is_amount (same_unsigned (decimal n) (tail_of q.den b) h.digits h.some
+      ∙ ap is_amount ((no_sign (decimal n) (tail_of q.den b) h.digits h.some).0
       ∙ sym (split_tail n q.den b))
       ∙ is_amount_back q n e few den b
   is_number_by (negsuc n) e b =

@@ -4,7 +4,6 @@
 --   stage_counted      a stage
 use Rattle.std.proofs.Common.{◌≡◌, ℕ, ◌+◌, List, Ok, length, subst}
 use Rattle.std.specs.Prelude.{All, Option, Some, None, option_and_then, codes, is_some}
-use Rattle.std.proofs.lemmas.List.Elements.{All-nil, All-cons}
 use Rattle.serde_json.specs.Data.{Data, Items}
 use Rattle.serde_json.specs.Find.{get, as_object}
 use Rattle.algebra.specs.Fraction.{Fraction}
@@ -13,7 +12,7 @@ use Rattle.polynomials.specs.Terms.{Terms}
 use Rattle.machines.specs.Elimination.{free_part}
 use Rattle.cert_form.specs.Form.{count, list_with}
 use Rattle.cert_form.specs.Path.{member_path}
-use Rattle.cert_form.proofs.Readings.{on_ok, expect_ok, list_count, parts_ok, parts_count}
+use Rattle.cert_form.proofs.Readings.{on_ok, expect_ok, list_count, parts_all, parts_count}
 use Rattle.full_cert.specs.Raw.{raw_at}
 use Rattle.full_cert.specs.Tables.{raws_at, raws_with, table_at}
 use Rattle.corollaries.specs.Representation.{pairs_of}
@@ -36,14 +35,9 @@ pub table_counted : (rows n : ℕ) (O : Rank) (m : ℕ) (path : List ℕ) (d : O
     (table : List (List (Terms Fraction))) → table_at rows n O m path d ≡ Ok table
     → IsTable rows n table
 table_counted rows n O m path d table h = record {
-  height = parts_count (raws_with n O m) path rows (option_and_then (list_with rows) d) table
-      (member_count rows d) h;
-  widths = parts_ok (raws_with n O m) (λ row. length row ≡ n)
-      (λ rows. All (λ row. length row ≡ n) rows)
-      (λ path d row is. parts_count (raw_at O m) path n (list_with n d) row (list_count n d) is)
-      (All-nil (λ row. length row ≡ n))
-      (λ row rows h k. All-cons (λ row. length row ≡ n) row rows h k) path
-      (option_and_then (list_with rows) d) table h;
+  height = parts_count (raws_with n O m) path rows _ table (member_count rows d) h;
+  widths = parts_all (raws_with n O m) (λ row. length row ≡ n) (λ path d row is.
+      parts_count (raw_at O m) path n _ row (list_count n d) is) path _ table h;
 }
 
 pub stage_counted : (k m gens : ℕ) (path : List ℕ) (d : Data) (s : Stage)
@@ -59,13 +53,11 @@ stage_counted k m gens path d s h =
     p.gives in
     let n = on_ok _ (table_at (length (free_part k l.part)) (length o.part) grevlex m
     (member_path path (codes "links")) (get (codes "links") d)) s o.gives in
-    let gs = table_counted gens (length l.part) (block_order k) (k + m)
-    (member_path path (codes "gens")) (get (codes "gens") d) g.part g.is in
+    let gs = table_counted gens (length l.part) (block_order k) (k + m) _ _ g.part g.is in
     let ps = table_counted (length (pairs_of (length l.part))) (length l.part) (block_order k)
-    (k + m)
-    (member_path path (codes "pairs")) (get (codes "pairs") d) p.part p.is in
-    let ns = table_counted (length (free_part k l.part)) (length o.part) grevlex m
-    (member_path path (codes "links")) (get (codes "links") d) n.part n.is in
+    (k + m) _ _ p.part p.is in
+    let ns = table_counted (length (free_part k l.part)) (length o.part) grevlex m _ _ n.part
+    n.is in
     let e = n.gives in
     let same : record {
       list = l.part;

@@ -20,7 +20,7 @@ use Rattle.poly_text.specs.Narrow.{IsNarrow}
 use Rattle.cert_form.proofs.Kept.{seen_length}
 use Rattle.task_lists.specs.Rows.{rows_of}
 use Rattle.corollaries.specs.Stage.{block_order}
-use Rattle.corollaries.specs.Full.{WrittenForm, BranchStages, orbit, meet, of_option}
+use Rattle.corollaries.specs.Full.{WrittenForm, BranchStages, of_option}
 use Rattle.task_lists.specs.Images.{most_bases, in_blocks, ArePolys, AreRows, IsFormOver, IsStageIn, IsBranchIn, AreBranchesIn, IsFullIn}
 use Rattle.task_lists.specs.View.{form_in, stage_in, branch_in, round_in, full_of}
 use Rattle.task_lists.specs.declared.parts.FullForm.{FullForm}
@@ -31,8 +31,18 @@ use Rattle.task_lists.specs.declared.parts.FullBranch.{FullBranch}
 use Rattle.task_lists.specs.declared.parts.FullCert.{FullCert}
 use Rattle.cert_form.specs.Cert.{Polys}
 use Rattle.full_cert.specs.Narrow.{ArePolysNarrow, AreRowsNarrow, IsNarrowNumber, IsFormNarrow, IsStageNarrow, IsBranchNarrow, IsFullNarrow}
+use Rattle.full_cert.proofs.Counted.{no_form}
 use Rattle.full_cert.proofs.PartsBack.{IsReadable, AreReadable, AreRowsReadable, IsStageReadable}
 use Rattle.full_cert.proofs.WholeBack.{IsFullReadable}
+
+-- what the elements have, and what they are seen as
+module _ {X Y : Type 0} (f : X → Y) (P : Y → Type 0) (Q : X → Type 0) (R : Y → Type 0)
+    (one : (x : X) → Q x → R (f x) → P (f x)) where
+  each_held : (xs : List X) → All Q xs → All R (map f xs) → All P (map f xs)
+  each_held [] q r = All-nil P
+  each_held (x ∷ xs) q r = All-cons P (f x) (map f xs)
+      (one x (All-head Q x xs q) (All-head R (f x) (map f xs) r))
+      (each_held xs (All-tail Q x xs q) (All-tail R (f x) (map f xs) r))
 
 module _ (O : Rank) (m : ℕ) where
   polys_readable : (ps : List (Terms Fraction)) → Each (IsPolynomial ℚ O m) ps → ArePolysNarrow ps
@@ -71,17 +81,6 @@ module _ (m : ℕ) where
   table_readable rows a h = rows_readable grevlex m (rows_of rows.items) (fallen_rows rows.items a)
       h
 
-  steps_readable : (steps : List (Vec Polys Global)) → All (AreRows m) steps
-      → All AreRowsNarrow (map (λ s. rows_of s.items) steps)
-      → All (AreRowsReadable grevlex m) (map (λ s. rows_of s.items) steps)
-  steps_readable [] a h = All-nil (AreRowsReadable grevlex m)
-  steps_readable (s ∷ steps) a h =
-      All-cons (AreRowsReadable grevlex m) (rows_of s.items) (map (λ x. rows_of x.items) steps)
-      (table_readable s (All-head (AreRows m) s steps a)
-      (All-head AreRowsNarrow (rows_of s.items) (map (λ x. rows_of x.items) steps) h))
-      (steps_readable steps (All-tail (AreRows m) s steps a)
-      (All-tail AreRowsNarrow (rows_of s.items) (map (λ x. rows_of x.items) steps) h))
-
   stage_readable : (k : ℕ) (s : FullStage) → IsStageIn k m s → IsStageNarrow (stage_in s)
       → IsStageReadable k m (stage_in s)
   stage_readable k s i h = record {
@@ -113,19 +112,7 @@ module _ (m : ℕ) where
             h.polys);
       }
 
-  forms_held : (fs : List FullForm) → All (IsFormOver m) fs → All IsFormNarrow (map form_in fs)
-      → All IsFormHeld (map form_in fs)
-  forms_held [] a h = All-nil IsFormHeld
-  forms_held (f ∷ fs) a h = All-cons IsFormHeld (form_in f) (map form_in fs)
-      (form_held f (All-head (IsFormOver m) f fs a)
-      (All-head IsFormNarrow (form_in f) (map form_in fs) h))
-      (forms_held fs (All-tail (IsFormOver m) f fs a)
-      (All-tail IsFormNarrow (form_in f) (map form_in fs) h))
-
   -- ---- rounds
-  abbrev no_form : WrittenForm
-  no_form = record { base = []; polys = [] }
-
   record IsBranchHeld (f : WrittenForm) (s : BranchStages) : Type 0 where
     orbit : IsStageReadable (front (length f.base)) m s.orbit_stage
     meet : is_some s.meet_stage ≡ true → IsStageReadable 1 m (of_option s.meet_stage)
@@ -174,7 +161,8 @@ pub full_readable : {At : Type 0} (program : Program (Expr At)) (c : FullCert)
     → IsCounted program (full_of c) → IsFullReadable program (full_of c)
 full_readable program c i h counted =
     let m = length program.names in
-    let forms = forms_held m c.forms.items i.forms h.forms in
+    let forms = each_held form_in (IsFormHeld m) (IsFormOver m) IsFormNarrow (form_held m)
+    c.forms.items i.forms h.forms in
     let many : length c.forms.items ≡ length program.branches =
     sym (length-map c.forms.items form_in) ∙ counted.forms in
     let held = λ (r : ℕ) (l : r < length (full_of c).rounds) (b : ℕ)
@@ -182,7 +170,8 @@ full_readable program c i h counted =
     rounds_held m c.forms.items c.rounds.items i.rounds h.rounds r l b (omega (arith, k, many)) in
     record {
       basis = over_readable m c.basis i.basis h.basis;
-      steps = steps_readable m c.steps.items i.steps h.steps;
+      steps = each_held (λ s. rows_of s.items) (AreRowsReadable grevlex m) (AreRows m)
+          AreRowsNarrow (table_readable m) c.steps.items i.steps h.steps;
       few = λ j d l. (forms j d l).few;
       bases = λ j d l. (forms j d l).base;
       polys = λ j d l. (forms j d l).polys;

@@ -1,39 +1,32 @@
 -- The rounds of a full certificate that are written are read as themselves.
 --   AreStagesReadable program c     the polynomials of its stages are readable
 --   rounds_read      the rounds, where they have as many of all as they must
-use Rattle.std.proofs.Common.{◌≡◌, ℕ, zero, suc, ◌+◌, ◌<◌, List, [], ◌∷◌, length, map, get_or, pred, refl, sym, ap, ap₂, subst, ◌∙◌, arith, Ok}
+use Rattle.std.proofs.Common.{◌≡◌, ℕ, zero, suc, ◌+◌, ◌<◌, List, [], ◌∷◌, length, map, get_or, pred, refl, sym, ap, subst, ◌∙◌, arith, Ok}
 use Rattle.std.specs.Prelude.{true, Option, Some, None, codes, is_some}
 use Rattle.std.specs.Option.{ok_or, option_map_or}
-use Rattle.std.proofs.lemmas.List.{length-append, length-map}
 use Rattle.serde_json.specs.Data.{Data}
 use Rattle.serde_json.specs.View.{items_of}
 use Rattle.serde_json.specs.Find.{get}
 use Rattle.serde_json.proofs.OnLiterals.{serde_json_on_literals}
-use Rattle.algebra.specs.Fraction.{Fraction, rationals}
 use Rattle.polynomials.specs.Order.{IsMonomialOrder, grevlex}
-use Rattle.polynomials.specs.Terms.{Terms}
 use Rattle.polynomials.proofs.Orders.{grevlex_order, blocks_order}
-use Rattle.machines.specs.Collect.{collect}
 use Rattle.loops.specs.Program.{Expr, Program}
-use Rattle.rounds.specs.Form.{front, orbit_order, relations}
+use Rattle.rounds.specs.Form.{front}
 use Rattle.cert_form.specs.Form.{Reading, on, after, part, shape}
 use Rattle.cert_form.specs.Path.{member_path}
 use Rattle.cert_form.specs.Written.{list_data}
 use Rattle.corollaries.specs.Stage.{Stage, block_order}
-use Rattle.corollaries.specs.Full.{FullCertificate, WrittenForm, BranchStages, orbit, meet, form_of, stage_of, front_of, of_option, so_far, before, starting}
+use Rattle.corollaries.specs.Full.{FullCertificate, WrittenForm, BranchStages, orbit, meet, form_of, stage_of, front_of, of_option, so_far, before}
 use Rattle.corollaries.specs.Counts.{IsStageCounted, no_branch, IsCounted}
 use Rattle.full_cert.specs.PartsForm.{object_at, stage_at}
 use Rattle.full_cert.specs.Form.{member_stage, meet_at, branch_at, given_by, branches_at, last_given, rounds_at, rounds_in}
-use Rattle.full_cert.proofs.Counted.{last_of, length-relations_to}
+use Rattle.full_cert.proofs.Counted.{no_form, AreBranches, as_many, AreRounds, last_of, orbit_begins, meet_begins}
 use Rattle.full_cert.specs.Written.{stage_data, with_meet, branch_data, round_data}
 use Rattle.full_cert.proofs.Rest.{on_read}
 use Rattle.full_cert.proofs.PartsBack.{IsStageReadable, stage_reads, with_count}
 
 block_is_order : (k : ℕ) → IsMonomialOrder (block_order k)
 block_is_order k = blocks_order k grevlex grevlex grevlex_order grevlex_order
-
-abbrev no_form : WrittenForm
-no_form = record { base = []; polys = [] }
 
 -- ---- a branch
 abbrev HasMeet : ℕ → Option ℕ → ℕ → Option Stage → Type 0
@@ -93,16 +86,10 @@ branch_reads m before so_far f path s h =
 
 -- ---- branches and rounds, one after another
 abbrev AreBranchesReadable : ℕ → ℕ → Option ℕ → List WrittenForm → List BranchStages → Type 0
-AreBranchesReadable m before so_far [] [] = Unit {0}
-AreBranchesReadable m before so_far [] (s ∷ ss) = ⊥
-AreBranchesReadable m before so_far (f ∷ fs) [] = ⊥
-AreBranchesReadable m before so_far (f ∷ fs) (s ∷ ss) =
-    IsBranchReadable m before so_far f s × AreBranchesReadable m before (Some (given_by s)) fs ss
+AreBranchesReadable m before = AreBranches (IsBranchReadable m before)
 
 abbrev AreRoundsReadable : ℕ → ℕ → List WrittenForm → List (List BranchStages) → Type 0
-AreRoundsReadable m before fs [] = Unit {0}
-AreRoundsReadable m before fs (row ∷ rows) =
-    AreBranchesReadable m before None fs row × AreRoundsReadable m (last_given before row) fs rows
+AreRoundsReadable m before fs = AreRounds (λ n. AreBranchesReadable m n None fs) before
 
 branches_read : (m before : ℕ) (so_far : Option ℕ) (fs : List WrittenForm) (path : List ℕ) (b : ℕ)
     (ss : List BranchStages) → AreBranchesReadable m before so_far fs ss
@@ -116,14 +103,6 @@ branches_read m before so_far (f ∷ fs) path b (s ∷ ss) h =
     ∙ ap (after (s ∷ []))
     (branches_read m before (Some (given_by s)) fs path (suc b) ss h.1)
 
-as_many : (m before : ℕ) (so_far : Option ℕ) (fs : List WrittenForm) (ss : List BranchStages)
-    → AreBranchesReadable m before so_far fs ss → length ss ≡ length fs
-as_many m before so_far [] [] h = refl
-as_many m before so_far [] (s ∷ ss) h = absurd h
-as_many m before so_far (f ∷ fs) [] h = absurd h
-as_many m before so_far (f ∷ fs) (s ∷ ss) h =
-    ap suc (as_many m before (Some (given_by s)) fs ss h.1)
-
 each_round_reads : (m before : ℕ) (fs : List WrittenForm) (path : List ℕ) (r : ℕ)
     (rows : List (List BranchStages)) → AreRoundsReadable m before fs rows
     → rounds_at m before fs path r (items_of (map round_data rows)) ≡ Ok rows
@@ -132,7 +111,7 @@ each_round_reads m before fs path r (row ∷ rows) h =
     ap (on (λ x. after (x ∷ []) (rounds_at m (last_given before x) fs path (suc r)
     (items_of (map round_data rows)))))
     (ap (λ o. on (branches_at m before None fs (part path r) 0) (ok_or o (shape (part path r))))
-    (with_count branch_data (length fs) row (as_many m before None fs row h.0))
+    (with_count branch_data (length fs) row (as_many (IsBranchReadable m before) None fs row h.0))
     ∙ branches_read m before None fs (part path r) 0 row h.0)
     ∙ ap (after (row ∷ []))
     (each_round_reads m (last_given before row) fs path (suc r) rows h.1)
@@ -181,25 +160,6 @@ module _ {At : Type 0} (program : Program (Expr At)) (c : FullCertificate) where
     pub meet : (r b : ℕ) → r < length c.rounds → b < n → 0 < b
         → IsStageReadable 1 m (stage_of c r b meet)
 
-  orbit_begins : (r b : ℕ) → length (starting program c r b orbit)
-      ≡ length (before program c r) + suc (length (form_of c b).base)
-  orbit_begins r b =
-      let told : Terms Fraction → Terms Fraction =
-      collect rationals (orbit_order (length (form_of c b).base)) in
-      length-append (map _ (before program c r))
-      (map told (relations (length (form_of c b).base) m))
-      ∙ ap₂ ◌+◌ (length-map (before program c r) _)
-      (length-map (relations (length (form_of c b).base) m) told
-      ∙ ap suc (length-relations_to (length (form_of c b).base) (front (length (form_of c b).base)
-      + m)
-      (length (form_of c b).base)))
-
-  meet_begins : (r b : ℕ) → length (starting program c r (suc b) meet)
-      ≡ length (so_far c r b) + length (stage_of c r (suc b) orbit).out
-  meet_begins r b =
-      length-append (map _ (so_far c r b)) (map _ (stage_of c r (suc b) orbit).out)
-      ∙ ap₂ ◌+◌ (length-map (so_far c r b) _) (length-map (stage_of c r (suc b) orbit).out _)
-
   module _ (counted : IsCounted program c) (readable : AreStagesReadable) (r : ℕ)
       (within : r < length c.rounds) where
     abbrev row : List BranchStages
@@ -231,20 +191,20 @@ module _ {At : Type 0} (program : Program (Expr At)) (c : FullCertificate) where
     branch_at_place zero l = record {
       orbit = readable.orbit r 0 within l;
       counted = subst (λ k. IsStageCounted (front (length (form_of c 0).base)) k
-          (stage_of c r 0 orbit)) (orbit_begins r 0) (counted.stages r 0 within l).orbit;
+          (stage_of c r 0 orbit)) (orbit_begins program c r 0) (counted.stages r 0 within l).orbit;
       meet = counted.first r within l;
     }
     branch_at_place (suc b) l = record {
       orbit = readable.orbit r (suc b) within l;
       counted = subst (λ k. IsStageCounted (front (length (form_of c (suc b)).base)) k
-          (stage_of c r (suc b) orbit)) (orbit_begins r (suc b))
+          (stage_of c r (suc b) orbit)) (orbit_begins program c r (suc b))
           (counted.stages r (suc b) within l).orbit;
       meet = (
         stage_of c r (suc b) meet,
         some_meet (get_or row (suc b) no_branch).meet_stage
             (counted.others r (suc b) within (omega arith) l),
         readable.meet r (suc b) within l (omega arith),
-        subst (λ k. IsStageCounted 1 k (stage_of c r (suc b) meet)) (meet_begins r b)
+        subst (λ k. IsStageCounted 1 k (stage_of c r (suc b) meet)) (meet_begins program c r b)
             ((counted.stages r (suc b) within l).meet (omega arith)),
       );
     }

@@ -17,12 +17,12 @@ map-itself [] = refl
 map-itself (a ∷ us) = ap (λ xs. a ∷ xs) (map-itself us)
 
 -- what is made of a list as it stands
-pub numbers_are : {A : Type 0} (data_of : A → Data) (P : A → Type 0) (us : List A)
-    (found : List Value) (v : Value) → Listed (each_one data_of) P us found
+pub numbers_are : {A : Type 0} (data_of : A → Data) (P : A → Type 0) {us : List A}
+    {found : List Value} {v : Value} → Listed (each_one data_of) P us found
     → view v ≡ array (items_view found) → IsWritten (list_data data_of) (All P) us v
-numbers_are data_of P us found v all is =
+numbers_are data_of P {us = us} {v = v} all is =
     subst (λ xs. IsWritten (list_data data_of) (All P) xs v) (map-itself us)
-    (list_is (λ a. a) data_of P us found v all is)
+    (list_is (λ a. a) data_of P all is)
 
 module _ (names : List (List ℕ)) (c : FullCertificate) (b f r s t w v : Value)
     (basis : IsWritten raws_data ArePolysNarrow c.basis b)

@@ -1,8 +1,8 @@
 //! All rounds, read.
-ghost use Rattle.std.specs.Prelude.{◌≡◌, ◌<◌, Ok, Err, All, map, IfOk, IfErr};
+ghost use Rattle.std.specs.Prelude.{◌≡◌, ◌<◌, All, map, IfOk};
 ghost use Rattle.std.specs.Option.{option_map};
 ghost use Rattle.serde_json.specs.View.{view, items_view};
-ghost use Rattle.cert_form.specs.Faults.{IfFault};
+ghost use Rattle.cert_form.specs.Faults.{Reads};
 ghost use Rattle.cert_form.specs.Path.{path_bytes};
 ghost use Rattle.full_cert.specs.Form as spec;
 ghost use Rattle.task_lists.specs.Images.{AreBranchesIn};
@@ -37,12 +37,9 @@ impl RoundReader<'_> {
     ) -> Result<Vec<Vec<FullBranch>>, CertError>
         ensures images { IfOk result (λ rounds.
             All (AreBranchesIn self.now.variables self.now.forms.now) rounds.items) }
-        ensures ok { IfOk result (λ rounds. spec.rounds_in self.now.variables self.now.before
-            (map form_in self.now.forms.now) (path_bytes path.now)
-            (option_map (λ v. view v.now) value.entry) ≡ Ok (map round_in rounds.items)) }
-        ensures fault { IfErr result (λ e. IfFault e (λ f. spec.rounds_in self.now.variables
-            self.now.before (map form_in self.now.forms.now) (path_bytes path.now)
-            (option_map (λ v. view v.now) value.entry) ≡ Err f)) }
+        ensures reads { Reads (λ rounds. map round_in rounds.items)
+            (spec.rounds_in self.now.variables self.now.before (map form_in self.now.forms.now)
+            (path_bytes path.now) (option_map (λ v. view v.now) value.entry)) result }
     {
         let Some(list) = list_in(value) else {
             return Err(shape_at(self.alloc, path));
@@ -57,12 +54,9 @@ impl RoundReader<'_> {
     ) -> Result<Vec<Vec<FullBranch>>, CertError>
         ensures images { IfOk result (λ rounds.
             All (AreBranchesIn self.now.variables self.now.forms.now) rounds.items) }
-        ensures ok { IfOk result (λ rounds. spec.rounds_at self.now.variables self.now.before
-            (map form_in self.now.forms.now) (path_bytes path.now) 0 (items_view list.now)
-            ≡ Ok (map round_in rounds.items)) }
-        ensures fault { IfErr result (λ e. IfFault e (λ f. spec.rounds_at self.now.variables
-            self.now.before (map form_in self.now.forms.now) (path_bytes path.now) 0
-            (items_view list.now) ≡ Err f)) }
+        ensures reads { Reads (λ rounds. map round_in rounds.items)
+            (spec.rounds_at self.now.variables self.now.before (map form_in self.now.forms.now)
+            (path_bytes path.now) 0 (items_view list.now)) result }
     {
         let mut found = Vec::new(self.alloc);
         let mut before = self.before;

@@ -1,5 +1,5 @@
 //! The forms of branches, read.
-ghost use Rattle.std.specs.Prelude.{◌≡◌, ◌≤◌, Ok, Err, length, vec_len, unsigned_abs, option_and_then, IfOk, IfErr, IfSome};
+ghost use Rattle.std.specs.Prelude.{◌≡◌, ◌≤◌, length, vec_len, unsigned_abs, option_and_then, IfOk, IfSome};
 ghost use Rattle.std.specs.Option.{option_map};
 ghost use Rattle.serde_json.specs.Find.{as_array, as_str};
 ghost use Rattle.serde_json.specs.View.{view, items_view};
@@ -7,7 +7,7 @@ ghost use Rattle.coprime_base.specs.Sizes.{sizes};
 ghost use Rattle.solvable_maps.specs.Iterations.{width};
 ghost use Rattle.poly_text.specs.Number.{numeral_of};
 ghost use Rattle.cert_form.specs.Form.{each};
-ghost use Rattle.cert_form.specs.Faults.{IfFault};
+ghost use Rattle.cert_form.specs.Faults.{Reads};
 ghost use Rattle.cert_form.specs.Path.{path_bytes};
 ghost use Rattle.full_cert.specs.PartsForm as spec;
 ghost use Rattle.full_cert.specs.PartsForm.{most_loop_variables};
@@ -42,10 +42,8 @@ fn base_numbers<'a>(
     list: &[Value],
 ) -> Result<Vec<Whole>, CertError>
     ensures count { IfOk result (λ base. vec_len base ≡ length list.now) }
-    ensures ok { IfOk result (λ base. each spec.base_number_at (path_bytes path.now) 0
-        (items_view list.now) ≡ Ok (sizes base.items)) }
-    ensures fault { IfErr result (λ e. IfFault e (λ f. each spec.base_number_at
-        (path_bytes path.now) 0 (items_view list.now) ≡ Err f)) }
+    ensures reads { Reads (λ base. sizes base.items)
+        (each spec.base_number_at (path_bytes path.now) 0 (items_view list.now)) result }
 {
     let mut found = Vec::new(alloc);
     for (i, value) in list.iter().enumerate() {
@@ -79,10 +77,8 @@ fn read_base<'a>(
     value: Option<&Value>,
 ) -> Result<Vec<Whole>, CertError>
     ensures few { IfOk result (λ base. vec_len base ≤ most_bases) }
-    ensures ok { IfOk result (λ base. spec.base_at (path_bytes path.now)
-        (option_map (λ v. view v.now) value.entry) ≡ Ok (sizes base.items)) }
-    ensures fault { IfErr result (λ e. IfFault e (λ f. spec.base_at (path_bytes path.now)
-        (option_map (λ v. view v.now) value.entry) ≡ Err f)) }
+    ensures reads { Reads (λ base. sizes base.items)
+        (spec.base_at (path_bytes path.now) (option_map (λ v. view v.now) value.entry)) result }
 {
     let Some(list) = few_in(value) else {
         return Err(shape_at(alloc, path));
@@ -100,10 +96,8 @@ pub(crate) fn read_form<'a>(
     requires variables { variables ≤ most_loop_variables }
     ensures few { IfOk result (λ f. vec_len f.base ≤ most_bases) }
     ensures images { IfOk result (λ f. ArePolys (width (vec_len f.base) variables) f.polys) }
-    ensures ok { IfOk result (λ f. spec.form_at variables (path_bytes path.now) (view value.now)
-        ≡ Ok (form_in f)) }
-    ensures fault { IfErr result (λ e. IfFault e (λ f. spec.form_at variables
-        (path_bytes path.now) (view value.now) ≡ Err f)) }
+    ensures reads { Reads form_in
+        (spec.form_at variables (path_bytes path.now) (view value.now)) result }
 {
     if !value.is_object() {
         return Err(shape_at(alloc, path));

@@ -1,5 +1,5 @@
 //! Lists of raw polynomials, and lists of these, read.
-ghost use Rattle.std.specs.Prelude.{◌≡◌, ◌≤◌, Ok, Err, All, length, vec_len, option_and_then, IfOk, IfErr, IfSome};
+ghost use Rattle.std.specs.Prelude.{◌≡◌, ◌≤◌, All, length, vec_len, option_and_then, IfOk, IfSome};
 ghost use Rattle.std.specs.Option.{option_map};
 ghost use Rattle.serde_json.specs.Find.{as_array};
 ghost use Rattle.serde_json.specs.View.{view, items_view};
@@ -7,7 +7,7 @@ ghost use Rattle.monos.specs.Variables.{most_variables};
 ghost use Rattle.poly.specs.Seen.{terms_each, IsImage};
 ghost use Rattle.cert_form.specs.Form as form;
 ghost use Rattle.cert_form.specs.Form.{each};
-ghost use Rattle.cert_form.specs.Faults.{IfFault};
+ghost use Rattle.cert_form.specs.Faults.{Reads};
 ghost use Rattle.cert_form.specs.Path.{path_bytes};
 ghost use Rattle.full_cert.specs.Raw.{raw_at};
 ghost use Rattle.full_cert.specs.Tables.{raws_at, raws_with, row_at, table_at};
@@ -49,10 +49,8 @@ fn read_each<'a, O: Order>(
     requires few { arity ≤ most_variables }
     ensures count { IfOk result (λ ps. vec_len ps ≡ length list.now) }
     ensures images { IfOk result (λ ps. All (IsImage order arity) ps.items) }
-    ensures ok { IfOk result (λ ps. each (raw_at (O.order order) arity) (path_bytes path.now) 0
-        (items_view list.now) ≡ Ok (terms_each ps.items)) }
-    ensures fault { IfErr result (λ e. IfFault e (λ f. each (raw_at (O.order order) arity)
-        (path_bytes path.now) 0 (items_view list.now) ≡ Err f)) }
+    ensures reads { Reads (λ ps. terms_each ps.items)
+        (each (raw_at (O.order order) arity) (path_bytes path.now) 0 (items_view list.now)) result }
 {
     let mut found = Vec::new(alloc);
     for (i, value) in list.iter().enumerate() {
@@ -72,10 +70,9 @@ pub fn read_raws<'a, O: Order>(
 ) -> Result<Vec<Poly<Frac, O>>, CertError>
     requires few { arity ≤ most_variables }
     ensures images { IfOk result (λ ps. All (IsImage order arity) ps.items) }
-    ensures ok { IfOk result (λ ps. raws_at (O.order order) arity (path_bytes path.now)
-        (option_map (λ v. view v.now) value.entry) ≡ Ok (terms_each ps.items)) }
-    ensures fault { IfErr result (λ e. IfFault e (λ f. raws_at (O.order order) arity
-        (path_bytes path.now) (option_map (λ v. view v.now) value.entry) ≡ Err f)) }
+    ensures reads { Reads (λ ps. terms_each ps.items)
+        (raws_at (O.order order) arity (path_bytes path.now)
+        (option_map (λ v. view v.now) value.entry)) result }
 {
     let Some(list) = list_in(value) else {
         return Err(shape_at(alloc, path));
@@ -95,10 +92,9 @@ pub fn read_row<'a, O: Order>(
     requires few { arity ≤ most_variables }
     ensures count { IfOk result (λ ps. vec_len ps ≡ count) }
     ensures images { IfOk result (λ ps. All (IsImage order arity) ps.items) }
-    ensures ok { IfOk result (λ ps. row_at count (O.order order) arity (path_bytes path.now)
-        (option_map (λ v. view v.now) value.entry) ≡ Ok (terms_each ps.items)) }
-    ensures fault { IfErr result (λ e. IfFault e (λ f. row_at count (O.order order) arity
-        (path_bytes path.now) (option_map (λ v. view v.now) value.entry) ≡ Err f)) }
+    ensures reads { Reads (λ ps. terms_each ps.items)
+        (row_at count (O.order order) arity (path_bytes path.now)
+        (option_map (λ v. view v.now) value.entry)) result }
 {
     let Some(list) = list_of(value, count) else {
         return Err(shape_at(alloc, path));
@@ -118,10 +114,8 @@ fn read_raws_with<'a, O: Order>(
     requires few { arity ≤ most_variables }
     ensures count { IfOk result (λ ps. vec_len ps ≡ count) }
     ensures images { IfOk result (λ ps. All (IsImage order arity) ps.items) }
-    ensures ok { IfOk result (λ ps. raws_with count (O.order order) arity (path_bytes path.now)
-        (view value.now) ≡ Ok (terms_each ps.items)) }
-    ensures fault { IfErr result (λ e. IfFault e (λ f. raws_with count (O.order order) arity
-        (path_bytes path.now) (view value.now) ≡ Err f)) }
+    ensures reads { Reads (λ ps. terms_each ps.items)
+        (raws_with count (O.order order) arity (path_bytes path.now) (view value.now)) result }
 {
     let Some(list) = list_with(value, count) else {
         return Err(shape_at(alloc, path));
@@ -141,10 +135,9 @@ pub fn read_rows<'a, O: Order>(
     requires few { arity ≤ most_variables }
     ensures count { IfOk result (λ rows. vec_len rows ≡ length list.now) }
     ensures images { IfOk result (λ rows. HaveImages order arity rows.items) }
-    ensures ok { IfOk result (λ rows. each (raws_with count (O.order order) arity)
-        (path_bytes path.now) 0 (items_view list.now) ≡ Ok (rows_of rows.items)) }
-    ensures fault { IfErr result (λ e. IfFault e (λ f. each (raws_with count (O.order order) arity)
-        (path_bytes path.now) 0 (items_view list.now) ≡ Err f)) }
+    ensures reads { Reads (λ rows. rows_of rows.items)
+        (each (raws_with count (O.order order) arity) (path_bytes path.now) 0 (items_view list.now))
+        result }
 {
     let mut found = Vec::new(alloc);
     for (i, value) in list.iter().enumerate() {
@@ -167,11 +160,9 @@ pub fn read_table<'a, O: Order>(
     requires few { arity ≤ most_variables }
     ensures count { IfOk result (λ table. vec_len table ≡ rows) }
     ensures images { IfOk result (λ table. HaveImages order arity table.items) }
-    ensures ok { IfOk result (λ table. table_at rows count (O.order order) arity
-        (path_bytes path.now) (option_map (λ v. view v.now) value.entry)
-        ≡ Ok (rows_of table.items)) }
-    ensures fault { IfErr result (λ e. IfFault e (λ f. table_at rows count (O.order order) arity
-        (path_bytes path.now) (option_map (λ v. view v.now) value.entry) ≡ Err f)) }
+    ensures reads { Reads (λ table. rows_of table.items)
+        (table_at rows count (O.order order) arity (path_bytes path.now)
+        (option_map (λ v. view v.now) value.entry)) result }
 {
     let Some(list) = list_of(value, rows) else {
         return Err(shape_at(alloc, path));

@@ -1,9 +1,9 @@
 //! Reads raw polynomials: lists of terms in any order.
-ghost use Rattle.std.specs.Prelude.{◌≡◌, ◌≤◌, Ok, Err, IfOk, IfErr};
+ghost use Rattle.std.specs.Prelude.{◌≤◌, IfOk};
 ghost use Rattle.serde_json.specs.View.{view};
 ghost use Rattle.monos.specs.Variables.{most_variables};
 ghost use Rattle.poly.specs.Seen.{terms_in, IsImage};
-ghost use Rattle.cert_form.specs.Faults.{IfFault};
+ghost use Rattle.cert_form.specs.Faults.{Reads};
 ghost use Rattle.cert_form.specs.Path.{path_bytes};
 ghost use Rattle.full_cert.specs.Raw as spec;
 
@@ -29,10 +29,8 @@ pub fn read_raw<'a, O: Order>(
 ) -> Result<Poly<Frac, O>, CertError>
     requires few { arity ≤ most_variables }
     ensures image { IfOk result (IsImage order arity) }
-    ensures ok { IfOk result (λ p. spec.raw_at (O.order order) arity (path_bytes path.now)
-        (view value.now) ≡ Ok (terms_in p)) }
-    ensures fault { IfErr result (λ e. IfFault e (λ f. spec.raw_at (O.order order) arity
-        (path_bytes path.now) (view value.now) ≡ Err f)) }
+    ensures reads { Reads terms_in
+        (spec.raw_at (O.order order) arity (path_bytes path.now) (view value.now)) result }
 {
     let Some(list) = value.as_array() else {
         return Err(shape_at(alloc, path));

@@ -2,7 +2,7 @@
 ghost use Rattle.std.specs.Prelude.{◌≡◌, ◌<◌, Ok, Err, length, IfOk, IfErr};
 ghost use Rattle.serde_json.specs.View.{view};
 ghost use Rattle.loop_model.specs.View.{program_of};
-ghost use Rattle.cert_form.specs.Faults.{IfFault};
+ghost use Rattle.cert_form.specs.Faults.{IfFault, Reads};
 ghost use Rattle.corollaries.specs.Counts.{IsCounted};
 ghost use Rattle.task_lists.specs.Images.{IsFullIn};
 ghost use Rattle.full_cert.specs.Form as spec;
@@ -32,10 +32,7 @@ fn has_kind(value: &Value) -> bool
 // The parts of an object with the right version, kind and names.
 fn read_parts(alloc: Global, value: &Value, lp: &Loop) -> Result<FullCert, CertError>
     ensures images { IfOk result (IsFullIn (length (program_of lp.now).names)) }
-    ensures ok { IfOk result (λ c.
-        spec.parts_of (program_of lp.now) (view value.now) ≡ Ok (full_of c)) }
-    ensures fault { IfErr result (λ e. IfFault e (λ f.
-        spec.parts_of (program_of lp.now) (view value.now) ≡ Err f)) }
+    ensures reads { Reads full_of (spec.parts_of (program_of lp.now) (view value.now)) result }
 {
     let (names, branches) = (lp.names().len(), lp.branches().len());
     let path = Path::Root("/basis");
@@ -69,10 +66,7 @@ fn read_parts(alloc: Global, value: &Value, lp: &Loop) -> Result<FullCert, CertE
 
 fn read_value(alloc: Global, value: &Value, lp: &Loop) -> Result<FullCert, CertError>
     ensures images { IfOk result (IsFullIn (length (program_of lp.now).names)) }
-    ensures ok { IfOk result (λ c.
-        spec.full_value (program_of lp.now) (view value.now) ≡ Ok (full_of c)) }
-    ensures fault { IfErr result (λ e. IfFault e (λ f.
-        spec.full_value (program_of lp.now) (view value.now) ≡ Err f)) }
+    ensures reads { Reads full_of (spec.full_value (program_of lp.now) (view value.now)) result }
 {
     if !value.is_object() {
         return Err(shape_at(alloc, &Path::Root("/")));

@@ -1,9 +1,9 @@
 //! The stages of branches and rounds, read.
-ghost use Rattle.std.specs.Prelude.{◌≡◌, ◌≤◌, ◌<◌, ◌+◌, Ok, Err, Some, None, All, length, vec_len, map, IfOk, IfErr, IfSome};
+ghost use Rattle.std.specs.Prelude.{◌≡◌, ◌≤◌, ◌<◌, ◌+◌, None, All, length, vec_len, map, IfOk, IfSome};
 ghost use Rattle.std.specs.Option.{option_map};
 ghost use Rattle.serde_json.specs.View.{view, items_view};
 ghost use Rattle.rounds.specs.Form.{front};
-ghost use Rattle.cert_form.specs.Faults.{IfFault};
+ghost use Rattle.cert_form.specs.Faults.{Reads};
 ghost use Rattle.cert_form.specs.Path.{path_bytes};
 ghost use Rattle.full_cert.specs.PartsForm.{most_loop_variables};
 ghost use Rattle.task_lists.specs.Images.{most_bases, IsFormOver, IsStageIn, IsBranchIn, AreBranchesIn};
@@ -30,10 +30,9 @@ fn read_member<'a>(
 ) -> Result<FullStage, CertError>
     requires few { front + variables ≤ most_variables }
     ensures images { IfOk result (IsStageIn front variables) }
-    ensures ok { IfOk result (λ s. spec.member_stage front variables gens (path_bytes path.now)
-        name.now (view value.now) ≡ Ok (stage_in s)) }
-    ensures fault { IfErr result (λ e. IfFault e (λ f. spec.member_stage front variables gens
-        (path_bytes path.now) name.now (view value.now) ≡ Err f)) }
+    ensures reads { Reads stage_in
+        (spec.member_stage front variables gens (path_bytes path.now) name.now (view value.now))
+        result }
 {
     let path = Path::Member(path, name);
     match value.get(name) {
@@ -61,12 +60,9 @@ impl BranchReader<'_> {
     fn read_branch<'a>(&self, path: &'a Path<'a>, value: &Value) -> Result<FullBranch, CertError>
         requires short { IfSome self.now.so_far (λ n. n < given_bound) }
         ensures images { IfOk result (IsBranchIn self.now.variables self.now.form.now) }
-        ensures ok { IfOk result (λ b. spec.branch_at self.now.variables self.now.before
-            self.now.so_far (form_in self.now.form.now) (path_bytes path.now) (view value.now)
-            ≡ Ok (branch_in b)) }
-        ensures fault { IfErr result (λ e. IfFault e (λ f. spec.branch_at self.now.variables
-            self.now.before self.now.so_far (form_in self.now.form.now) (path_bytes path.now)
-            (view value.now) ≡ Err f)) }
+        ensures reads { Reads branch_in
+            (spec.branch_at self.now.variables self.now.before self.now.so_far
+            (form_in self.now.form.now) (path_bytes path.now) (view value.now)) result }
     {
         if !value.is_object() {
             return Err(shape_at(self.alloc, path));
@@ -79,12 +75,9 @@ impl BranchReader<'_> {
     fn read_orbit<'a>(&self, path: &'a Path<'a>, value: &Value) -> Result<FullStage, CertError>
         ensures images { IfOk result
             (IsStageIn (front (vec_len self.now.form.now.base)) self.now.variables) }
-        ensures ok { IfOk result (λ s. spec.orbit_at self.now.variables self.now.before
-            (form_in self.now.form.now) (path_bytes path.now) (view value.now)
-            ≡ Ok (stage_in s)) }
-        ensures fault { IfErr result (λ e. IfFault e (λ f. spec.orbit_at self.now.variables
-            self.now.before (form_in self.now.form.now) (path_bytes path.now) (view value.now)
-            ≡ Err f)) }
+        ensures reads { Reads stage_in
+            (spec.orbit_at self.now.variables self.now.before (form_in self.now.form.now)
+            (path_bytes path.now) (view value.now)) result }
     {
         let numbers = self.form.base.len();
         let front = 2 + (numbers + numbers);
@@ -110,10 +103,9 @@ impl BranchReader<'_> {
         requires given { given < given_bound }
         requires short { IfSome self.now.so_far (λ n. n < given_bound) }
         ensures images { IfOk result (λ meet. IfSome meet (IsStageIn 1 self.now.variables)) }
-        ensures ok { IfOk result (λ meet. spec.meet_at self.now.variables self.now.so_far given
-            (path_bytes path.now) (view value.now) ≡ Ok (option_map stage_in meet)) }
-        ensures fault { IfErr result (λ e. IfFault e (λ f. spec.meet_at self.now.variables
-            self.now.so_far given (path_bytes path.now) (view value.now) ≡ Err f)) }
+        ensures reads { Reads (option_map stage_in)
+            (spec.meet_at self.now.variables self.now.so_far given (path_bytes path.now)
+            (view value.now)) result }
     {
         let Some(count) = self.so_far else {
             return Ok(None);
@@ -156,12 +148,9 @@ impl RoundReader<'_> {
         value: &Value,
     ) -> Result<Vec<FullBranch>, CertError>
         ensures images { IfOk result (AreBranchesIn self.now.variables self.now.forms.now) }
-        ensures ok { IfOk result (λ bs. spec.round_at self.now.variables self.now.before
-            (map form_in self.now.forms.now) (path_bytes path.now) (view value.now)
-            ≡ Ok (map branch_in bs.items)) }
-        ensures fault { IfErr result (λ e. IfFault e (λ f. spec.round_at self.now.variables
-            self.now.before (map form_in self.now.forms.now) (path_bytes path.now)
-            (view value.now) ≡ Err f)) }
+        ensures reads { Reads (λ bs. map branch_in bs.items)
+            (spec.round_at self.now.variables self.now.before (map form_in self.now.forms.now)
+            (path_bytes path.now) (view value.now)) result }
     {
         let Some(list) = list_with(value, self.forms.len()) else {
             return Err(shape_at(self.alloc, path));
@@ -177,12 +166,9 @@ impl RoundReader<'_> {
     ) -> Result<Vec<FullBranch>, CertError>
         requires count { length list.now ≡ length self.now.forms.now }
         ensures images { IfOk result (AreBranchesIn self.now.variables self.now.forms.now) }
-        ensures ok { IfOk result (λ bs. spec.branches_at self.now.variables self.now.before None
-            (map form_in self.now.forms.now) (path_bytes path.now) 0 (items_view list.now)
-            ≡ Ok (map branch_in bs.items)) }
-        ensures fault { IfErr result (λ e. IfFault e (λ f. spec.branches_at self.now.variables
-            self.now.before None (map form_in self.now.forms.now) (path_bytes path.now) 0
-            (items_view list.now) ≡ Err f)) }
+        ensures reads { Reads (λ bs. map branch_in bs.items)
+            (spec.branches_at self.now.variables self.now.before None
+            (map form_in self.now.forms.now) (path_bytes path.now) 0 (items_view list.now)) result }
     {
         let mut found = Vec::new(self.alloc);
         let mut so_far = None;

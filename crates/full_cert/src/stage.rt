@@ -1,12 +1,12 @@
 //! Stages, read.
-ghost use Rattle.std.specs.Prelude.{◌≡◌, ◌≤◌, ◌+◌, ◌==◌, Ok, Err, All, length, vec_len, option_and_then, IfOk, IfErr, IfSome};
+ghost use Rattle.std.specs.Prelude.{◌≡◌, ◌≤◌, ◌+◌, ◌==◌, All, length, vec_len, option_and_then, IfOk, IfSome};
 ghost use Rattle.std.specs.Option.{option_map};
 ghost use Rattle.serde_json.specs.View.{view, items_view};
 ghost use Rattle.machines.specs.Elimination.{all_free, free_part};
 ghost use Rattle.monos.specs.Variables.{most_variables};
 ghost use Rattle.poly.specs.Seen.{terms_in, terms_each};
 ghost use Rattle.cert_form.specs.Form as form;
-ghost use Rattle.cert_form.specs.Faults.{IfFault};
+ghost use Rattle.cert_form.specs.Faults.{Reads};
 ghost use Rattle.corollaries.specs.Representation.{pairs_of};
 ghost use Rattle.corollaries.specs.Stage.{block_order};
 ghost use Rattle.cert_form.specs.Path.{path_bytes};
@@ -81,12 +81,9 @@ fn read_pairs<'a>(
 ) -> Result<Vec<BlockPolys>, CertError>
     requires few { arity ≤ most_variables }
     ensures images { IfOk result (AreBlockRows front arity) }
-    ensures ok { IfOk result (λ pairs. table_at (length (pairs_of count)) count (block_order front)
-        arity (path_bytes path.now) (option_map (λ v. view v.now) value.entry)
-        ≡ Ok (rows_of pairs.items)) }
-    ensures fault { IfErr result (λ e. IfFault e (λ f. table_at (length (pairs_of count)) count
-        (block_order front) arity (path_bytes path.now)
-        (option_map (λ v. view v.now) value.entry) ≡ Err f)) }
+    ensures reads { Reads (λ pairs. rows_of pairs.items)
+        (table_at (length (pairs_of count)) count (block_order front) arity (path_bytes path.now)
+        (option_map (λ v. view v.now) value.entry)) result }
 {
     let Some(list) = list_of_pairs(value, count) else {
         return Err(shape_at(alloc, path));
@@ -105,10 +102,8 @@ pub fn read_stage<'a>(
 ) -> Result<FullStage, CertError>
     requires few { front + variables ≤ most_variables }
     ensures images { IfOk result (IsStageIn front variables) }
-    ensures ok { IfOk result (λ s. spec.stage_at front variables gens (path_bytes path.now)
-        (view value.now) ≡ Ok (stage_in s)) }
-    ensures fault { IfErr result (λ e. IfFault e (λ f. spec.stage_at front variables gens
-        (path_bytes path.now) (view value.now) ≡ Err f)) }
+    ensures reads { Reads stage_in
+        (spec.stage_at front variables gens (path_bytes path.now) (view value.now)) result }
 {
     if !value.is_object() {
         return Err(shape_at(alloc, path));

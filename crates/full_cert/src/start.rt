@@ -1,9 +1,9 @@
 //! The start, the steps and the forms, read.
-ghost use Rattle.std.specs.Prelude.{◌≡◌, ◌≤◌, Ok, Err, All, length, vec_len, map, IfOk, IfErr};
+ghost use Rattle.std.specs.Prelude.{◌≡◌, ◌≤◌, All, length, vec_len, map, IfOk};
 ghost use Rattle.std.specs.Option.{option_map};
 ghost use Rattle.serde_json.specs.View.{view, items_view};
 ghost use Rattle.cert_form.specs.Form.{each};
-ghost use Rattle.cert_form.specs.Faults.{IfFault};
+ghost use Rattle.cert_form.specs.Faults.{Reads};
 ghost use Rattle.cert_form.specs.Path.{path_bytes};
 ghost use Rattle.task_lists.specs.Rows.{rows_of};
 ghost use Rattle.full_cert.specs.PartsForm as spec;
@@ -29,10 +29,8 @@ pub fn read_start<'a>(
 ) -> Result<FullStart, CertError>
     requires variables { variables ≤ most_loop_variables }
     ensures images { IfOk result (λ s. ArePolys variables s.out × AreRows variables s.links) }
-    ensures ok { IfOk result (λ s. spec.start_at variables equations (path_bytes path.now)
-        (view value.now) ≡ Ok (start_in s)) }
-    ensures fault { IfErr result (λ e. IfFault e (λ f. spec.start_at variables equations
-        (path_bytes path.now) (view value.now) ≡ Err f)) }
+    ensures reads { Reads start_in
+        (spec.start_at variables equations (path_bytes path.now) (view value.now)) result }
 {
     if !value.is_object() {
         return Err(shape_at(alloc, path));
@@ -64,11 +62,9 @@ fn read_blocks<'a>(
     requires variables { variables ≤ most_loop_variables }
     ensures count { IfOk result (λ blocks. vec_len blocks ≡ length list.now) }
     ensures images { IfOk result (λ blocks. All (AreRows variables) blocks.items) }
-    ensures ok { IfOk result (λ blocks. each (spec.block_at variables elements)
-        (path_bytes path.now) 0 (items_view list.now)
-        ≡ Ok (map (λ b. rows_of b.items) blocks.items)) }
-    ensures fault { IfErr result (λ e. IfFault e (λ f. each (spec.block_at variables elements)
-        (path_bytes path.now) 0 (items_view list.now) ≡ Err f)) }
+    ensures reads { Reads (λ blocks. map (λ b. rows_of b.items) blocks.items)
+        (each (spec.block_at variables elements) (path_bytes path.now) 0 (items_view list.now))
+        result }
 {
     let mut found = Vec::new(alloc);
     for (i, value) in list.iter().enumerate() {
@@ -98,11 +94,9 @@ pub fn read_steps<'a>(
 ) -> Result<Vec<Vec<Polys>>, CertError>
     requires variables { variables ≤ most_loop_variables }
     ensures images { IfOk result (λ blocks. All (AreRows variables) blocks.items) }
-    ensures ok { IfOk result (λ blocks. spec.steps_at variables elements branches
-        (path_bytes path.now) (option_map (λ v. view v.now) value.entry)
-        ≡ Ok (map (λ b. rows_of b.items) blocks.items)) }
-    ensures fault { IfErr result (λ e. IfFault e (λ f. spec.steps_at variables elements branches
-        (path_bytes path.now) (option_map (λ v. view v.now) value.entry) ≡ Err f)) }
+    ensures reads { Reads (λ blocks. map (λ b. rows_of b.items) blocks.items)
+        (spec.steps_at variables elements branches (path_bytes path.now)
+        (option_map (λ v. view v.now) value.entry)) result }
 {
     let Some(list) = list_of(value, branches) else {
         return Err(shape_at(alloc, path));
@@ -120,10 +114,8 @@ fn forms_in<'a>(
     requires variables { variables ≤ most_loop_variables }
     ensures count { IfOk result (λ forms. vec_len forms ≡ length list.now) }
     ensures images { IfOk result (λ forms. All (IsFormOver variables) forms.items) }
-    ensures ok { IfOk result (λ forms. each (spec.form_at variables) (path_bytes path.now) 0
-        (items_view list.now) ≡ Ok (map form_in forms.items)) }
-    ensures fault { IfErr result (λ e. IfFault e (λ f. each (spec.form_at variables)
-        (path_bytes path.now) 0 (items_view list.now) ≡ Err f)) }
+    ensures reads { Reads (λ forms. map form_in forms.items)
+        (each (spec.form_at variables) (path_bytes path.now) 0 (items_view list.now)) result }
 {
     let mut found = Vec::new(alloc);
     for (i, value) in list.iter().enumerate() {
@@ -144,10 +136,9 @@ pub fn read_forms<'a>(
     requires variables { variables ≤ most_loop_variables }
     ensures count { IfOk result (λ forms. vec_len forms ≡ branches) }
     ensures images { IfOk result (λ forms. All (IsFormOver variables) forms.items) }
-    ensures ok { IfOk result (λ forms. spec.forms_at variables branches (path_bytes path.now)
-        (option_map (λ v. view v.now) value.entry) ≡ Ok (map form_in forms.items)) }
-    ensures fault { IfErr result (λ e. IfFault e (λ f. spec.forms_at variables branches
-        (path_bytes path.now) (option_map (λ v. view v.now) value.entry) ≡ Err f)) }
+    ensures reads { Reads (λ forms. map form_in forms.items)
+        (spec.forms_at variables branches (path_bytes path.now)
+        (option_map (λ v. view v.now) value.entry)) result }
 {
     let Some(list) = list_of(value, branches) else {
         return Err(shape_at(alloc, path));

@@ -1,28 +1,20 @@
-use Rattle.std.proofs.Common.{All}
-use Rattle.task_lists.specs.View.{branch_in, round_in}
+use Rattle.std.proofs.Common.{All, refl}
+use Rattle.task_lists.specs.View.{round_in}
 use Rattle.full_cert.specs.Narrow.{IsBranchNarrow}
-use Rattle.full_cert.specs.Written.{branch_data, round_data}
-use Rattle.std.proofs.Common.{refl, subst, map}
-use Rattle.cert_form.specs.Written.{list_data, IsWritten}
+use Rattle.full_cert.specs.Written.{round_data}
 use Rattle.cert_form.proofs.Listed.{listed_start, listed_more, listed_all, pushed, list_is}
 use Rattle.full_cert.proofs.branches.rounds_value.Goals as goal
 
 pub loop-element-init : goal.loop-element-init
-loop-element-init c = listed_start _ _ _ _ c.new-values.ensures.items
+loop-element-init c = listed_start c.new-values.ensures.items
 
 pub loop-element-preserved : goal.loop-element-preserved
 loop-element-preserved c =
-    let there = subst (λ xs. IsWritten (list_data branch_data) (All IsBranchNarrow)
-    (map branch_in xs)
-    c.in_ok-round_value.field-0) c.deref.ensures.value c.in_ok-round_value.ensures in
-    listed_more _ _ _ c.args.rounds.now refl c.loop-element.element-index
-    c.loop-element.values.items
-    c.loop-element.invariant c.element-item.result _ c.loop-element-test.true c.element-item.is
+    let there = rw (c.deref.ensures.value) at c.in_ok-round_value.ensures in
+    listed_more refl c.loop-element.invariant c.loop-element-test.true c.element-item.is
     (pushed _ _ _ _ c.in_ok-push.ensures.items there.value) there.holds
 
 pub returns : goal.returns
 returns c =
-    list_is round_in round_data (All IsBranchNarrow) c.args.rounds.now c.loop-element.values.items _
-    (listed_all _ _ _ c.args.rounds.now refl c.loop-element.element-index
-    c.loop-element.values.items
-    c.loop-element.invariant c.loop-element-test.false) c.from.ensures
+    list_is round_in round_data (All IsBranchNarrow)
+    (listed_all refl c.loop-element.invariant c.loop-element-test.false) c.from.ensures

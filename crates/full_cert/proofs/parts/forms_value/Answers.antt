@@ -6,17 +6,15 @@ use Rattle.cert_form.proofs.Listed.{listed_start, listed_more, listed_all, pushe
 use Rattle.full_cert.proofs.parts.forms_value.Goals as goal
 
 pub loop-element-init : goal.loop-element-init
-loop-element-init c = listed_start _ _ _ _ c.new-values.ensures.items
+loop-element-init c = listed_start c.new-values.ensures.items
 
 pub loop-element-preserved : goal.loop-element-preserved
 loop-element-preserved c =
-    listed_more _ _ _ c.args.forms.now refl c.loop-element.element-index c.loop-element.values.items
-    c.loop-element.invariant c.element-item.result _ c.loop-element-test.true c.element-item.is
+    listed_more refl c.loop-element.invariant c.loop-element-test.true c.element-item.is
     (pushed _ _ _ _ c.in_ok-push.ensures.items c.in_ok-form_value.ensures.value)
     c.in_ok-form_value.ensures.holds
 
 pub returns : goal.returns
 returns c =
-    list_is form_in form_data IsFormNarrow c.args.forms.now c.loop-element.values.items _
-    (listed_all _ _ _ c.args.forms.now refl c.loop-element.element-index c.loop-element.values.items
-    c.loop-element.invariant c.loop-element-test.false) c.from.ensures
+    list_is form_in form_data IsFormNarrow
+    (listed_all refl c.loop-element.invariant c.loop-element-test.false) c.from.ensures

@@ -7,19 +7,16 @@ use Rattle.full_cert.proofs.Wholes.{numbers_are}
 use Rattle.full_cert.proofs.poly_values.exponents_value.Goals as goal
 
 pub loop-exponent-init : goal.loop-exponent-init
-loop-exponent-init c = listed_start _ _ _ _ c.new-values.ensures.items
+loop-exponent-init c = listed_start c.new-values.ensures.items
 
 pub loop-exponent-preserved : goal.loop-exponent-preserved
 loop-exponent-preserved c =
-    listed_more _ _ _ c.args.exponents.now refl c.loop-exponent.exponent-index
-    c.loop-exponent.values.items c.loop-exponent.invariant _ _ c.loop-exponent-test.true
+    listed_more refl c.loop-exponent.invariant c.loop-exponent-test.true
     (search rules) (pushed _ _ _ _ c.in_ok-push.ensures.items c.exponent_value.ensures.value)
     c.exponent_value.ensures.narrow
 
 pub returns : goal.returns
 returns c =
-    numbers_are exponent_data (λ n. n ≤ most_power) c.args.exponents.now
-    c.loop-exponent.values.items _
-    (listed_all _ _ _ c.args.exponents.now refl c.loop-exponent.exponent-index
-    c.loop-exponent.values.items c.loop-exponent.invariant c.loop-exponent-test.false)
+    numbers_are exponent_data (λ n. n ≤ most_power)
+    (listed_all refl c.loop-exponent.invariant c.loop-exponent-test.false)
     c.from.ensures

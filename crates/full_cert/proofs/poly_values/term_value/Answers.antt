@@ -1,6 +1,5 @@
 use Rattle.std.proofs.Common.{◌∙◌, rules, subst}
-use Rattle.std.specs.Prelude.{All}
-use Rattle.std.specs.Prelude.{◌≤◌}
+use Rattle.std.specs.Prelude.{All, ◌≤◌}
 use Rattle.frac128.specs.FracMeaning.{fraction_of}
 use Rattle.poly_text.specs.Flat.{most_power}
 use Rattle.full_cert.proofs.poly_values.term_value.Goals as goal

@@ -7,17 +7,15 @@ use Rattle.cert_form.proofs.Listed.{listed_start, listed_more, listed_all, pushe
 use Rattle.full_cert.proofs.poly_values.terms_value.Goals as goal
 
 pub loop-term-init : goal.loop-term-init
-loop-term-init c = listed_start _ _ _ _ c.new-values.ensures.items
+loop-term-init c = listed_start c.new-values.ensures.items
 
 pub loop-term-preserved : goal.loop-term-preserved
 loop-term-preserved c =
-    listed_more _ _ _ c.args.terms.now refl c.loop-term.term-index c.loop-term.values.items
-    c.loop-term.invariant c.term-item.result _ c.loop-term-test.true c.term-item.is
+    listed_more refl c.loop-term.invariant c.loop-term-test.true c.term-item.is
     (pushed _ _ _ _ c.in_ok-push.ensures.items c.in_ok-term_value.ensures.value)
     c.in_ok-term_value.ensures.narrow
 
 pub returns : goal.returns
 returns c =
-    list_is (term_of fraction_of) term_data IsNarrow c.args.terms.now c.loop-term.values.items _
-    (listed_all _ _ _ c.args.terms.now refl c.loop-term.term-index c.loop-term.values.items
-    c.loop-term.invariant c.loop-term-test.false) c.from.ensures
+    list_is (term_of fraction_of) term_data IsNarrow
+    (listed_all refl c.loop-term.invariant c.loop-term-test.false) c.from.ensures

@@ -14,8 +14,8 @@ use Rattle.full_cert.specs.Raw.{every, has_term_form}
 use Rattle.full_cert.proofs.Polynomials.{arity_of_read, raw_is}
 use Rattle.full_cert.proofs.raw.read_raw.Goals as goal
 
-pub returns-clause-ok : goal.returns-clause-ok
-returns-clause-ok g c =
+pub returns-clause-reads : goal.returns-clause-reads
+returns-clause-reads g c =
     let O = g.O.Order.order c.args.order in
     let p = c.in_ok-from_distinct.field-0 in
     let items = items_view c.in-Some.list.now.items in
