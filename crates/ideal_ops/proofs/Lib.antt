@@ -1,5 +1,4 @@
 pub mod Outcomes
 mod Lists
 mod Members
-mod Blends
 mod Ending

@@ -1,25 +1,18 @@
 -- The blend of two lists as the program makes it (machines/specs/Elimination).
---   times_rest F q        1 less the first variable, times q
 --   blend_of ks bs        the blend, in the order that has the first variable in its first block
 --   HaveT m gs            each of the gs has that order, and one more variable than m
-use Rattle.std.specs.Prelude.{ℕ, ◌+◌, List, ◌++◌}
+use Rattle.std.specs.Prelude.{ℕ, ◌+◌, List}
 use Rattle.std.specs.declared.cmp.PartialEq as PartialEq
-use Rattle.algebra.specs.FieldArithmetic.{FieldArithmetic}
 use Rattle.algebra.specs.Scalars.{field}
 use Rattle.polynomials.specs.Order.{grevlex, blocks}
-use Rattle.polynomials.specs.Terms.{Terms, negate}
-use Rattle.machines.specs.Collect.{collect}
-use Rattle.machines.specs.Elimination.{in_front, with_first, blend}
+use Rattle.polynomials.specs.Terms.{Terms}
+use Rattle.machines.specs.Elimination.{blend}
 use Rattle.ring_laws.specs.declared.Ring as Ring
 use Rattle.monos.specs.declared.order.Blocks.{Blocks}
 use Rattle.monos.specs.declared.order.Order as Order
 use Rattle.poly.specs.declared.Poly.{Poly}
 use Rattle.poly.specs.Seen.{terms_each}
 use Rattle.ideal_ops.specs.Eliminating.{HaveBlock}
-
-abbrev pub times_rest : {A : Type 0} → FieldArithmetic A → Terms A → Terms A
-times_rest F q =
-    collect F (blocks 1 grevlex grevlex) (in_front 1 q ++ negate F.arithmetic (with_first q))
 
 module _ {K O : Type 0} {g : Ring.Ghosts K} {h : PartialEq.Ghosts K} {k : Order.Ghosts O}
     {l : PartialEq.Ghosts O} where

@@ -23,3 +23,4 @@ mod Composing
 mod Cleared
 pub mod Multiples
 mod Retelling
+mod Blends

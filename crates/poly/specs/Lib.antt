@@ -6,6 +6,7 @@ pub mod Pushed
 pub mod Raised
 pub mod Shared
 pub mod Places
+pub mod Blending
 pub mod Grid
 pub mod Multiple
 pub mod Undone

@@ -12,6 +12,7 @@ ghost use Rattle.polynomials.proofs.Canonical.{polynomial_prop};
 ghost use Rattle.monos.specs.Variables.{most_variables};
 ghost use Rattle.poly.specs.View.{terms_of};
 
+mod blending;
 mod build;
 mod clearing;
 mod composition;
@@ -26,6 +27,7 @@ mod product;
 mod source;
 mod sums;
 
+pub use blending::{times_one_less_t, times_t};
 use monos::{Mono, Order};
 use ring_laws::Ring;
 use std::alloc::Global;

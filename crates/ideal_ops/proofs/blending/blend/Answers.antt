@@ -6,7 +6,7 @@ use Rattle.machines.specs.Elimination.{with_first}
 use Rattle.poly.specs.Seen.{terms_in, terms_each}
 use Rattle.algebra.proofs.Growing.{grown_through}
 use Rattle.algebra.proofs.Lists.{have_more}
-use Rattle.ideal_ops.specs.Blending.{times_rest}
+use Rattle.poly.specs.Blending.{times_rest}
 use Rattle.ideal_ops.proofs.Lists.{arity_here}
 use Rattle.ideal_ops.proofs.blending.blend.Goals as goal
 
@@ -42,16 +42,16 @@ loop-q-init g c = (
 
 pub loop-q-preserved : goal.loop-q-preserved
 loop-q-preserved g c =
-    let p = c.in_ok-times_rest.field-0 in (
+    let p = c.in_ok-times_one_less_t.field-0 in (
       grown_through terms_in (times_rest (field g.K.Ring.scalars)) terms_in
           (map with_first (terms_each c.args.left.now)) c.args.right.now c.loop-q.q-index
           c.q-item.result c.loop-q.gens.items c.push-in-loop-q.new.self.items p c.loop-q-test.true
-          c.q-item.is c.in_ok-push-2.ensures.items c.in_ok-times_rest.ensures.product
+          c.q-item.is c.in_ok-push-2.ensures.items c.in_ok-times_one_less_t.ensures.product
           c.loop-q.invariant.0,
       have_more (λ q. (q.order.first ≡ 1) × (q.arity ≡ 1 + c.args.arity)) c.loop-q.gens.items
           c.push-in-loop-q.new.self.items p c.in_ok-push-2.ensures.items c.loop-q.invariant.1 (
-            c.in_ok-times_rest.ensures.order,
-            c.in_ok-times_rest.ensures.arity
+            c.in_ok-times_one_less_t.ensures.order,
+            c.in_ok-times_one_less_t.ensures.arity
                 ∙ ap (λ n. 1 + n) (arity_here c.args.arity c.args.right.now c.loop-q.q-index
                 c.q-item.result c.requires.right c.loop-q-test.true c.q-item.is),
           ),

@@ -2,7 +2,8 @@ use Rattle.std.proofs.Common.{◌≡◌, ◌++◌, map, take}
 use Rattle.algebra.specs.Scalars.{field}
 use Rattle.machines.specs.Elimination.{with_first}
 use Rattle.poly.specs.Seen.{terms_each}
-use Rattle.ideal_ops.specs.Blending.{times_rest, HaveT}
+use Rattle.poly.specs.Blending.{times_rest}
+use Rattle.ideal_ops.specs.Blending.{HaveT}
 use Rattle.ideal_ops.proofs.blending.blend.Given as goal
 
 abbrev pub invariant-loop-p : goal.invariant-loop-p

@@ -14,7 +14,7 @@ use Rattle.poly.specs.Seen.{arity_of, terms_in, terms_each}
 use Rattle.divide.specs.Outcomes.{outcome_of}
 use Rattle.divide.proofs.Refused.{out_of_memory}
 use Rattle.complete.proofs.Made.{if_ok}
-use Rattle.ideal_ops.specs.Blending.{times_rest}
+use Rattle.poly.specs.Blending.{times_rest}
 use Rattle.ideal_ops.specs.Calls.{intersection_way, elimination_of, IsListOf, AreOver, IsReducedList}
 use Rattle.ideal_ops.proofs.Ending.{met_of}
 use Rattle.ideal_ops.proofs.Lists.{over_left, over_right, over_each}

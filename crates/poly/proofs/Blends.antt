@@ -24,7 +24,7 @@ use Rattle.machines.proofs.Front.{front_polynomial}
 use Rattle.machines.proofs.Meeting.{first_polynomial}
 use Rattle.poly.specs.Shared.{monomials, Share}
 use Rattle.poly.proofs.Steps.{polynomial_negate}
-use Rattle.ideal_ops.specs.Blending.{times_rest}
+use Rattle.poly.specs.Blending.{times_rest}
 
 pub just_t_of : (t : List ℕ) → slice_get (unit_exponents 1) 0 ≡ Some t → t ≡ 1 ∷ []
 unfolding unit_exponents

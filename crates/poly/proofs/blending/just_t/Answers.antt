@@ -1,6 +1,6 @@
 use Rattle.std.proofs.lemmas.Result.{IfOk-weaker}
-use Rattle.ideal_ops.proofs.Blends.{just_t_of}
-use Rattle.ideal_ops.proofs.blending.just_t.Goals as goal
+use Rattle.poly.proofs.Blends.{just_t_of}
+use Rattle.poly.proofs.blending.just_t.Goals as goal
 
 pub returns : goal.returns
 returns c = record {
