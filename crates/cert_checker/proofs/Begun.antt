@@ -5,14 +5,12 @@
 --   branch_over, meet_over, given_over     they have the variables and orders that they should have
 --   polys_are, front_is            so are the polynomials of the form, and how many variables stand in front of an orbit
 --   orbit_fits, orbit_starts, orbit_past     what an orbit begins with
---   meet_past                      what an intersection begins with
 use Rattle.std.proofs.Common.{◌≡◌, ◌<◌, ◌≤◌, ◌+◌, ℕ, zero, suc, List, [], ◌∷◌, get_or, length, refl, sym, ap, ap₂, subst, subst₂, ◌∙◌, arith}
-use Rattle.std.specs.Prelude.{All, Option, Some, None, Vec, vec_len, IfSome, is_some, pred}
+use Rattle.std.specs.Prelude.{All, Option, Some, None, Vec, vec_len, IfSome, is_some}
 use Rattle.std.specs.declared.alloc.Global.{Global}
 use Rattle.std.specs.List.{AllZip}
 use Rattle.std.specs.Option.{option_map}
 use Rattle.std.proofs.lemmas.List.{get_or-map, length-map}
-use Rattle.loops.specs.Program.{Expr, Program}
 use Rattle.rounds.specs.Form.{front, whole_orbit_list}
 use Rattle.monos.specs.Variables.{most_variables}
 use Rattle.poly.specs.Seen.{terms_each}
@@ -22,13 +20,12 @@ use Rattle.coprime_base.specs.Sizes.{sizes}
 use Rattle.expo.specs.Bases.{IsCoprimeBase}
 use Rattle.corollaries.specs.Counts.{no_branch}
 use Rattle.corollaries.specs.Full.{WrittenForm, orbit, meet, form_of, of_kind, of_option, stage_of, so_far, before, front_of, starting}
-use Rattle.task_lists.specs.Starting.{orbit_starting, FitsOrbit, IsPastOrbit, IsPastMeet}
+use Rattle.task_lists.specs.Starting.{orbit_starting, FitsOrbit, IsPastOrbit}
 use Rattle.task_lists.specs.Images.{ArePolys, IsStageIn, IsBranchIn}
-use Rattle.task_lists.specs.View.{form_in, stage_in, branch_in, round_in, full_of}
+use Rattle.task_lists.specs.View.{form_in, stage_in, branch_in, round_in}
 use Rattle.task_lists.specs.declared.parts.FullForm.{FullForm}
 use Rattle.task_lists.specs.declared.parts.FullStage.{FullStage}
 use Rattle.task_lists.specs.declared.parts.FullBranch.{FullBranch}
-use Rattle.task_lists.specs.declared.parts.FullCert.{FullCert}
 use Rattle.cert_checker.specs.FullJudge.{program_by, cert_by, IsFullJudge}
 use Rattle.cert_checker.specs.InverseForm.{IsInverseForm, given_list, IsGivenOver}
 use Rattle.cert_checker.specs.FullWide.{IsPastBegun}
@@ -166,13 +163,3 @@ module _ {j : FullJudge} (is : IsFullJudge j) where
         pub orbit_past : (i : ℕ) → IsPastOrbit (terms_each back.items) (terms_each list.items) i
             → IsPastBegun (program_by j) (cert_by j) r b orbit i
         orbit_past i past = subst₂ (λ ks gs. IsPastOrbit ks gs i) h.is same past
-
--- ---- what an intersection begins with
-pub meet_past : (program : Program (Expr ℕ)) (cert : FullCert) (r b : ℕ)
-    (left right : Vec FracPoly Global)
-    → terms_each left.items ≡ so_far (full_of cert) r (pred b)
-    → terms_each right.items ≡ (stage_of (full_of cert) r b orbit).out → (i : ℕ)
-    → IsPastMeet (terms_each left.items) (terms_each right.items) i
-    → IsPastBegun program (full_of cert) r b meet i
-meet_past program cert r b left right same also i past =
-    subst₂ (λ gs hs. IsPastMeet gs hs i) same also past

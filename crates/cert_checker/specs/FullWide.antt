@@ -11,7 +11,7 @@
 --   IsLimitAt path e               e tells so of the part with this path; want of memory is free
 --   IsUnformed m os e              e is one of the operations os that can't be done
 --   IfFullCheckRefused program c e          the cause of the refusal e: a map of the loop can't be formed, or a part is too long or too wide; want of memory is free
-use Rattle.std.specs.Prelude.{◌≡◌, ◌⊎◌, ℕ, pred, List, [], get_or, length, string_bytes}
+use Rattle.std.specs.Prelude.{◌≡◌, ◌⊎◌, ℕ, List, [], get_or, length, string_bytes}
 use Rattle.algebra.specs.Fraction.{Fraction}
 use Rattle.polynomials.specs.Terms.{Terms}
 use Rattle.loops.specs.Program.{Expr, Program}
@@ -23,18 +23,18 @@ use Rattle.loop_model.specs.declared.map_error.MapError.TheVariants as map_error
 use Rattle.loop_model.specs.Maps.{maps_operations, AreFree}
 use Rattle.cert_checker.specs.Passing.{IsPastForm}
 use Rattle.task_lists.specs.Past.{IsPastCombination}
-use Rattle.task_lists.specs.Starting.{IsPastOrbit, IsPastMeet}
+use Rattle.task_lists.specs.Starting.{IsPastOrbit}
 use Rattle.cert_checker.specs.Identities.{StartIsPast, StepIsPast}
 use Rattle.cert_checker.specs.Places.{Place, at_start, in_branch}
 use Rattle.cert_checker.specs.Views.{place_view}
 use Rattle.cert_checker.specs.Wide.{IsMapOf, LongIdentity}
 use Rattle.cert_checker.specs.declared.error.CheckError.{CheckError}
 use Rattle.cert_checker.specs.declared.error.CheckError.TheVariants as check_error
-use Rattle.corollaries.specs.Full.{FullCertificate, certificate, Kind, orbit, meet, form_of, stage_of, so_far, before}
+use Rattle.corollaries.specs.Full.{FullCertificate, certificate, Kind, orbit, meet, form_of, stage_of, before}
 use Rattle.corollaries.specs.Parts.{Part, in_basis, in_steps, in_forms, in_start, in_round, at_end, Holds, parts}
 use Rattle.cert_checker.specs.LongParts.{IsLongPart}
 use Rattle.cert_checker.specs.Paths.{path_of}
-use Rattle.cert_checker.specs.StageParts.{IsPastPlace}
+use Rattle.cert_checker.specs.StageParts.{NeverPast, IsPastPlace}
 use Rattle.cert_checker.specs.FullStops.{Behind}
 use Rattle.cert_checker.specs.declared.full_error.FullError.{FullError}
 use Rattle.cert_checker.specs.declared.full_error.FullError.TheVariants.{Map, Limit, Wide, Memory}
@@ -48,7 +48,7 @@ pub record IsPastOfMap (m : ℕ) (maps : List (Terms Fraction)) (W : List (Terms
 module _ (program : Program (Expr ℕ)) (c : FullCertificate) where
   abbrev pub IsPastBegun : ℕ → ℕ → Kind → ℕ → Type 0
   IsPastBegun r b orbit i = IsPastOrbit (inverse_of_form (form_of c b)) (before program c r) i
-  IsPastBegun r b meet i = IsPastMeet (so_far c r (pred b)) (stage_of c r b orbit).out i
+  IsPastBegun r b meet i = NeverPast i
 
   abbrev pub IsPastPart : Part → Type 0
   IsPastPart (in_basis e) = IsPastOfMap (length program.names) (start_map program)

@@ -14,7 +14,6 @@ pub mod LessValue
 pub mod LoopsStarts
 pub mod StartSteps
 pub mod TwoTerms
-pub mod Blended
 pub mod Elements
 mod Variables
 mod Copies

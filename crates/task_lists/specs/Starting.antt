@@ -3,13 +3,13 @@
 --   starting m s           the list that it begins with: orbit_starting, meet_starting
 --   front_of s             how many variables stand in front of the m
 --   FitsStart m s               the parts of s are over the variables that they should be over: FitsOrbit, FitsMeet
---   IsPastAt s i           the weight of an operation that makes the polynomial at place i of the list is past: IsPastOrbit back gs, IsPastMeet gs hs
-use Rattle.std.specs.Prelude.{◌≡◌, ℕ, ◌+◌, ◌-◌, ◌<◌, ◌≤◌, List, [], length, get_or, All, Vec}
+--   IsPastAt s i           the weight of an operation that makes the polynomial at place i of the list is past: IsPastOrbit back gs, and of an intersection's none
+use Rattle.std.specs.Prelude.{◌≡◌, ℕ, ◌+◌, ◌<◌, ◌≤◌, List, [], length, get_or, All, Vec}
 use Rattle.std.specs.declared.alloc.Global.{Global}
 use Rattle.algebra.specs.Fraction.{Fraction, fractions, rationals}
 use Rattle.polynomials.specs.Order.{grevlex, blocks}
 use Rattle.polynomials.specs.Terms.{Terms}
-use Rattle.polynomials.specs.Weight.{IsPastComposition, IsPastSum}
+use Rattle.polynomials.specs.Weight.{IsPastComposition}
 use Rattle.machines.specs.Elimination.{blend}
 use Rattle.rounds.specs.Form.{front, whole_orbit_list}
 use Rattle.frac128.specs.declared.Whole.{Whole}
@@ -67,11 +67,8 @@ FitsStart m (Meet left right) = FitsMeet m left.now right.now
 abbrev pub IsPastOrbit : (back gs : List (Terms Fraction)) → ℕ → Type 0
 IsPastOrbit back gs i = (i < length gs) × IsPastComposition fractions (get_or gs i []) back
 
-abbrev pub IsPastMeet : (gs hs : List (Terms Fraction)) → ℕ → Type 0
-IsPastMeet gs hs i = (length gs ≤ i)
-    × IsPastSum fractions (get_or hs (i - length gs) []) (get_or hs (i - length gs) [])
-
+-- the products of an intersection are never past
 abbrev pub IsPastAt : Starting → ℕ → Type 0
-IsPastAt (Orbit base back list) =
-    IsPastOrbit (terms_each back.now.items) (terms_each list.now.items)
-IsPastAt (Meet left right) = IsPastMeet (terms_each left.now.items) (terms_each right.now.items)
+IsPastAt (Orbit base back list) i =
+    IsPastOrbit (terms_each back.now.items) (terms_each list.now.items) i
+IsPastAt (Meet left right) i = ⊥

@@ -12,7 +12,6 @@ mod combination;
 mod graph;
 mod late_form;
 mod lists;
-mod meet;
 mod orbit;
 mod pairs;
 mod parts;

@@ -5,16 +5,15 @@ ghost use Rattle.polynomials.specs.Terms.{Same};
 ghost use Rattle.rounds.specs.Form.{front};
 ghost use Rattle.poly.specs.Seen.{terms_in, terms_each, IsImage};
 ghost use Rattle.task_lists.specs.Blocks.{in_blocks};
-ghost use Rattle.task_lists.specs.Starting.{numbers_of, orbit_starting, meet_starting, starting, front_of, FitsOrbit, FitsMeet, FitsStart, IsPastOrbit, IsPastMeet, IsPastAt};
+ghost use Rattle.task_lists.specs.Starting.{numbers_of, orbit_starting, meet_starting, starting, front_of, FitsOrbit, FitsMeet, FitsStart, IsPastOrbit, IsPastAt};
 
-use crate::meet::{times_rest, times_t};
 use crate::orbit::pulled_back;
 use crate::relations::relation_at;
 use frac128::{Frac, Whole};
 use monos::{Blocks, Grevlex};
-use poly::Poly;
+use poly::{times_one_less_t, times_t, Poly};
 use ring_laws::ArithmeticError;
-use std::alloc::Global;
+use std::alloc::{AllocError, Global};
 
 /// What a stage begins with.
 #[derive(Clone, Copy)]
@@ -45,7 +44,7 @@ pub fn element_of<'a>(
         Starting::Orbit(base, back, list) => {
             orbit_element(alloc, base, back, list, variables, place)
         }
-        Starting::Meet(left, right) => meet_element(alloc, variables, left, right, place),
+        Starting::Meet(left, right) => Ok(meet_element(alloc, variables, left, right, place)?),
     }
 }
 
@@ -80,17 +79,15 @@ fn meet_element(
     left: &Vec<Poly<Frac, Grevlex>>,
     right: &Vec<Poly<Frac, Grevlex>>,
     place: usize,
-) -> Result<Poly<Frac, Blocks>, ArithmeticError>
+) -> Result<Poly<Frac, Blocks>, AllocError>
     requires fits { FitsMeet variables left.now right.now }
     requires place { place < length (meet_starting left.now right.now) }
     ensures image { IfOk result (IsImage (in_blocks 1) (1 + variables)) }
     ensures same { IfOk result (λ p.
         Same ℚ (terms_in p) (get_or (meet_starting left.now right.now) place [])) }
-    ensures wide { IsErrOf result ArithmeticError.Wide
-        → IsPastMeet (terms_each left.now.items) (terms_each right.now.items) place }
 {
     if place < left.len() {
-        return Ok(times_t(alloc, &left[place])?);
+        return times_t(alloc, &left[place]);
     }
-    times_rest(alloc, &right[place - left.len()])
+    times_one_less_t(alloc, &right[place - left.len()])
 }
