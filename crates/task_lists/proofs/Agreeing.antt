@@ -16,7 +16,7 @@ module _ {A : Type 0} (N : Arithmetic A) (ps qs : List (Terms A)) where
   unfolding AllSame
   agrees_end i k l h = h.1 (subst₂ (AllSame N) (sym (drop_all i ps k)) (sym (drop_all i qs l)) tt)
 
-  module _ (i : ℕ) (p q : Terms A) (k : i < length ps) (l : i < length qs) (is : p ≡ get_or ps i [])
+  module _ (i : ℕ) {p q : Terms A} (k : i < length ps) (l : i < length qs) (is : p ≡ get_or ps i [])
       (at : q ≡ get_or qs i []) (so_far : AgreesFrom i) where
     taken : AllSame N ps qs → AllSame N (p ∷ drop (suc i) ps) (q ∷ drop (suc i) qs)
     taken h = subst₂ (AllSame N)

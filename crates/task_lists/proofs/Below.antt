@@ -21,7 +21,7 @@ module _ {A : Type 0} (F : FieldArithmetic A) (O : Rank) (e : List ℕ) (qs gs :
   unfolding AreBelow
   below_end i l h = h.1 (subst (λ xs. AreBelow F O e xs (drop i gs)) (sym (drop_all i qs l)) tt)
 
-  module _ (i : ℕ) (q g : Terms A) (k : i < length qs) (l : i < length gs) (is : q ≡ get_or qs i [])
+  module _ {i : ℕ} {q g : Terms A} (k : i < length qs) (l : i < length gs) (is : q ≡ get_or qs i [])
       (at : g ≡ get_or gs i []) (so_far : BelowFrom i) where
     left : drop i qs ≡ q ∷ drop (suc i) qs
     left = drop-cons qs i [] k ∙ ap (λ x. x ∷ drop (suc i) qs) (sym is)
@@ -37,13 +37,13 @@ module _ {A : Type 0} (F : FieldArithmetic A) (O : Rank) (e : List ℕ) (qs gs :
     given h = so_far.1 (subst (λ x. AreBelow F O e x (drop i gs)) (sym left)
         (subst (λ y. AreBelow F O e (q ∷ drop (suc i) qs) y) (sym right) h))
 
-    pub below_more : (b : Bool) → (IsTrue b ↔ IsLeadBelow F O e (times F.arithmetic q g)) → b ≡ true
+    pub below_more : {b : Bool} → (IsTrue b ↔ IsLeadBelow F O e (times F.arithmetic q g)) → b ≡ true
         → BelowFrom (i + 1)
     unfolding AreBelow
-    below_more b tells t = subst BelowFrom (sym (add-one i))
+    below_more tells t = subst BelowFrom (sym (add-one i))
         (λ h. (taken h).1, λ h. given (tells.0 t, h))
 
-    pub below_fails : (b : Bool) → (IsTrue b ↔ IsLeadBelow F O e (times F.arithmetic q g))
+    pub below_fails : {b : Bool} → (IsTrue b ↔ IsLeadBelow F O e (times F.arithmetic q g))
         → b ≡ false → AreBelow F O e qs gs → ⊥
     unfolding AreBelow
-    below_fails b tells f h = true≢false (sym (tells.1 (taken h).0) ∙ f)
+    below_fails tells f h = true≢false (sym (tells.1 (taken h).0) ∙ f)

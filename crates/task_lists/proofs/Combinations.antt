@@ -51,12 +51,12 @@ module _ {A : Type 0} (R : CommRing A) {X : Type 0} (terms : X → Terms A)
   combined_none p e = subst (λ (x : Terms A). Same (operations R) x []) (sym e)
       (Same-refl (operations R) [])
 
-  pub combined_step : (i : ℕ) (c g : X) (sum product new : Terms A) → i < length cofactors
+  pub combined_step : (i : ℕ) {c : X} (g : X) (sum product new : Terms A) → i < length cofactors
       → i < length basis → c ≡ get_or cofactors i c → g ≡ get_or basis i g
       → Same (operations R) sum (combined_to i)
       → Same (operations R) product (times (operations R) (terms c) (terms g))
       → Same (operations R) new (sum ++ product) → Same (operations R) new (combined_to (i + 1))
-  combined_step i c g sum product new k l is at h s t =
+  combined_step i {c = c} g sum product new k l is at h s t =
       subst (Same (operations R) new) (sym more) (Same-trans (operations R) t (same_append R h s))
     where
       more : combined_to (i + 1) ≡ combined_to i ++ times (operations R) (terms c) (terms g)

@@ -22,16 +22,17 @@ use Rattle.task_lists.specs.Past.{IsPastCombination}
 use Rattle.task_lists.proofs.WeightCombination.{past_combination}
 
 -- the cofactor and the element at a place
-module _ (qs gs : List (Terms Fraction)) (i : ℕ) (c g : Terms Fraction) (l : i < length gs)
+module _ (qs gs : List (Terms Fraction)) (i : ℕ) {c g : Terms Fraction} (l : i < length gs)
     (is : c ≡ get_or qs i []) (at : g ≡ get_or gs i []) where
   pub product_past : IsPastProduct fractions c g → IsPastCombination qs gs
   product_past h = inl (i, l, subst₂ (IsPastProduct fractions) is at h)
 
-  pub sum_past : (O : Rank) → IsMonomialOrder O → (m : ℕ) (sum product : Terms Fraction)
-      → i < length qs → IsPolynomial ℚ O m sum → IsPolynomial ℚ O m product
+  pub sum_past : (O : Rank) → IsMonomialOrder O
+      → (m : ℕ) (sum : Terms Fraction) {product : Terms Fraction} → i < length qs
+      → IsPolynomial ℚ O m sum → IsPolynomial ℚ O m product
       → Same ℚ sum (combination ℚ (take i qs) (take i gs)) → Same ℚ product (times ℚ c g)
       → IsPastSum fractions sum product → IsPastCombination qs gs
-  sum_past O o m sum product k hs hp s t past =
+  sum_past O o m sum {product = product} k hs hp s t past =
       inr (past_combination fractions fractions_ring fractions_bounded O o m qs gs i sum product k l
       hs hp s (subst₂ (λ x y. Same ℚ product (times ℚ x y)) is at t) past)
 

@@ -39,10 +39,11 @@ any_here P x xs p = (0, x, omega arith, refl, p)
 pub any_later : {X : Type 0} (P : X → Type 0) (x : X) (xs : List X) → Any P xs → Any P (x ∷ xs)
 any_later P x xs (i, y, l, e, p) = (suc i, y, omega (arith, l), e, p)
 
-pub pushed : (w : ℕ) (olds news : List FracPoly) (p : FracPoly) (qs : List (Terms Fraction))
-    (q : Terms Fraction) → news ≡ olds ++ p ∷ [] → AllStandFor w olds qs → StandsFor w p q
+pub pushed : (w : ℕ) (olds : List FracPoly) {news : List FracPoly} {p : FracPoly}
+    (qs : List (Terms Fraction)) (q : Terms Fraction)
+    → news ≡ olds ++ p ∷ [] → AllStandFor w olds qs → StandsFor w p q
     → AllStandFor w news (qs ++ q ∷ [])
-pushed w olds news p qs q e a s = subst (λ ps. AllStandFor w ps (qs ++ q ∷ [])) (sym e)
+pushed w olds {p = p} qs q e a s = subst (λ ps. AllStandFor w ps (qs ++ q ∷ [])) (sym e)
     (stands_push w olds qs p q a s)
 
 pub along : (w : ℕ) (news : List FracPoly) (qs rest : List (Terms Fraction)) (q : Terms Fraction)
@@ -61,9 +62,8 @@ drop_variable w n l = drop-cons (variables ℚ w) n [] (let e = length-variables
 
 -- ---- a composition, and a variable less one
 module _ (w : ℕ) (images : List FracPoly) (over : All (IsInVariables w) images)
-    (some : 0 < length images)
-    (g p : FracPoly) (is : Is g.order (arity_of images) (compose ℚ (arity_of images) (terms_in g)
-    (terms_each images)) p) where
+    (some : 0 < length images) (g : FracPoly) {p : FracPoly} (is : Is g.order (arity_of images)
+    (compose ℚ (arity_of images) (terms_in g) (terms_each images)) p) where
   first : arity_of images ≡ w
   first = first_arity w images over some
 
@@ -77,12 +77,11 @@ module _ (w : ℕ) (images : List FracPoly) (over : All (IsInVariables w) images
 
   pub composed_collected : terms_in p ≡ collect rationals grevlex (compose ℚ w (terms_in g)
       (terms_each images))
-  composed_collected = collect-is ℚ_field grevlex grevlex_order w
-      (compose ℚ w (terms_in g) (terms_each images)) (terms_in p)
+  composed_collected = collect-is ℚ_field grevlex grevlex_order w _ (terms_in p)
       (arity-compose w ℚ (terms_in g) (terms_each images) (arities_over w images over))
       (polynomial_over w p composed_stands.arity) composed_stands.same
 
-module _ (w : ℕ) (variable image p : FracPoly) (x y : Terms Fraction)
+module _ {w : ℕ} (variable : FracPoly) {image : FracPoly} (p : FracPoly) (x y : Terms Fraction)
     (terms : terms_in variable ≡ x) (size : variable.arity ≡ w) (stands : StandsFor w image y) where
   pub difference_stands : Is variable.order variable.arity (terms_in variable
       ++ negate ℚ (terms_in image)) p → StandsFor w p (x ++ negate ℚ y)
@@ -156,7 +155,7 @@ module _ (w n m : ℕ) (l : n < w) (next : m ≡ suc n) (fs rest : List FracPoly
         ++ less (drop m (variables ℚ w)) (map F (terms_each rest)))
         → AllStandFor w news (qs ++ less (drop n (variables ℚ w)) (map F (terms_each fs)))
     differences_next news qs a = subst (λ l. AllStandFor w news (qs ++ l)) (sym less_is)
-        (along w news qs (less (drop m (variables ℚ w)) (map F (terms_each rest))) _ a)
+        (along w news qs _ _ a)
 
     past_is : IsPastLess (drop n (variables ℚ w)) (map F (terms_each fs))
         ≡ (IsPastSum fractions (variable_at w n) (F (terms_in f))
@@ -201,7 +200,7 @@ images_count k m w images before l c e =
     (omega (arith, h, l)) in
     omega (arith, a, b, c, d, f, i)
 
-module _ (k t m : ℕ) (images before : List (Terms Fraction))
+module _ (k t m : ℕ) {images : List (Terms Fraction)} (before : List (Terms Fraction))
     (are : images ≡ images_behind k (k + t + m) before) where
   last_is : k + t + 0 ≡ k + t
   last_is = omega arith
@@ -230,8 +229,8 @@ module _ (k t m : ℕ) (images before : List (Terms Fraction))
 
 -- ---- what the variables were
 module _ (w k : ℕ) (wide : Terms Fraction → Terms Fraction) where
-  module _ (bs others : List Bool) (b : Bool) (is : bs ≡ b ∷ others) (ps rest : List FracPoly)
-      (p : FracPoly) (are : ps ≡ p ∷ rest) (j i : ℕ) (news : List FracPoly)
+  module _ {bs others : List Bool} {b : Bool} (is : bs ≡ b ∷ others) {ps rest : List FracPoly}
+      {p : FracPoly} (are : ps ≡ p ∷ rest) (j i : ℕ) (news : List FracPoly)
       (qs : List (Terms Fraction)) where
     pub copy_next : b ≡ true → i ≡ suc j → AllStandFor w news ((qs ++ variable_at w (k + j) ∷ [])
         ++ before_in w k others i (map wide (terms_each rest)))
@@ -254,17 +253,17 @@ module _ (w k : ℕ) (wide : Terms Fraction → Terms Fraction) where
         are in
         subst (λ l. AllStandFor w news (qs ++ l)) (sym here) (along w news qs _ _ a)
 
-pub passers_next : (bs others : List Bool) (b : Bool) → bs ≡ b ∷ others → b ≡ true
+pub passers_next : {bs : List Bool} (others : List Bool) {b : Bool} → bs ≡ b ∷ others → b ≡ true
     → passers bs ≡ suc (passers others)
-passers_next bs others b is t = ap passers (is ∙ ap (λ c. c ∷ others) t)
+passers_next others is t = ap passers (is ∙ ap (λ c. c ∷ others) t)
 
-pub passers_same : (bs others : List Bool) (b : Bool) → bs ≡ b ∷ others → b ≡ false
+pub passers_same : {bs : List Bool} (others : List Bool) {b : Bool} → bs ≡ b ∷ others → b ≡ false
     → passers bs ≡ passers others
-passers_same bs others b is f = ap passers (is ∙ ap (λ c. c ∷ others) f)
+passers_same others is f = ap passers (is ∙ ap (λ c. c ∷ others) f)
 
-pub tail_over : (m : ℕ) (ps rest : List FracPoly) (p : FracPoly) → ps ≡ p ∷ rest
+pub tail_over : (m : ℕ) {ps rest : List FracPoly} {p : FracPoly} → ps ≡ p ∷ rest
     → All (IsInVariables m) ps → All (IsInVariables m) rest
-tail_over m ps rest p e all = λ k d l. subst (λ r. All (IsInVariables m) r) e all (suc k) d
+tail_over m e all = λ k d l. subst (λ r. All (IsInVariables m) r) e all (suc k) d
     (omega (arith, l))
 
 pub all_at : (P : FracPoly → Type 0) (ps : List FracPoly) (i : ℕ) (p : FracPoly) → i < length ps

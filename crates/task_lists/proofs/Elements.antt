@@ -75,16 +75,16 @@ positive zero h = absurd (h refl)
 positive (suc n) h = omega arith
 
 -- at the front and behind, of two lists one behind the other
-pub seen_at : {X Y : Type 0} (f : X → List Y) (xs : List X) (i : ℕ) (x : X) → i < length xs
+pub seen_at : {X Y : Type 0} (f : X → List Y) (xs : List X) (i : ℕ) {x : X} → i < length xs
     → x ≡ get_or xs i x → f x ≡ get_or (map f xs) i []
-seen_at f xs i x l is = ap f is ∙ sym (get_or-map f xs i x [] l)
+seen_at f xs i {x = x} l is = ap f is ∙ sym (get_or-map f xs i x [] l)
 
 module _ (f : Terms Fraction → Terms Fraction) (xs ys : List (Terms Fraction)) where
-  pub at_front : (i : ℕ) (x : Terms Fraction) → i < length xs → x ≡ get_or xs i []
+  pub at_front : (i : ℕ) {x : Terms Fraction} → i < length xs → x ≡ get_or xs i []
       → f x ≡ get_or (map f xs ++ ys) i []
-  at_front i x l is = ap f is ∙ sym (get_or-map f xs i [] [] l)
+  at_front i l is = ap f is ∙ sym (get_or-map f xs i [] [] l)
       ∙ sym (get_or_append_left (map f xs) ys [] i (let n = length-map xs f in omega (arith, l, n)))
 
-  pub at_back : (i n : ℕ) → n ≡ length xs → n ≤ i
+  pub at_back : (i : ℕ) {n : ℕ} → n ≡ length xs → n ≤ i
       → get_or ys (i - n) [] ≡ get_or (map f xs ++ ys) i []
-  at_back i n e l = sym (get_or-append_right (map f xs) ys n i [] (length-map xs f ∙ sym e) l)
+  at_back i {n = n} e l = sym (get_or-append_right (map f xs) ys n i [] (length-map xs f ∙ sym e) l)

@@ -13,7 +13,7 @@ use Rattle.frac128.specs.declared.Whole.{Whole}
 use Rattle.poly.specs.Seen.{terms_each}
 use Rattle.coprime_base.specs.Sizes.{sizes}
 use Rattle.solvable_maps.specs.Expo.{inverse_form_terms}
-use Rattle.rounds.specs.Form.{front, normal, relations, form_before, iteration_before, at_minus_one}
+use Rattle.rounds.specs.Form.{front, normal, relations, form_before, at_minus_one}
 use Rattle.rounds.specs.Graph.{less, at_before}
 use Rattle.rounds.proofs.WayBack.{before_arity}
 use Rattle.loop_model.specs.FracPoly.{FracPoly}
@@ -38,8 +38,7 @@ module _ (f : LateForm) (s : Shape) where
     orbit_arities =
         let k = front (numbers_in f) in
         subst (λ (x : Shape). AllArity (width_of x) (orbit_graph_of f gs)) (sym (shaped k is))
-        (graph_arities k (copies_in f) (vars_in f) (form_before (form_in f) (vars_in f) (which f))
-        (form_in f).polys (terms_each gs)
+        (graph_arities k (copies_in f) (vars_in f) _ (form_in f).polys (terms_each gs)
         (before_arity k (copies_in f) (vars_in f) (which f)
         (map (inverse_form_terms (numbers_in f)) (form_in f).polys) 0 0))
 
@@ -92,16 +91,14 @@ module _ (f : LateForm) (s : Shape) where
     pub iteration_arities : AllArity (width_of s) (iteration_graph_of f fs gs)
     iteration_arities =
         subst (λ (x : Shape). AllArity (width_of x) (iteration_graph_of f fs gs))
-        (sym (shaped 0 is))
-        (graph_arities 0 (copies_in f) (vars_in f) (iteration_before (form_in f) (vars_in f)
-        (which f))
-        (terms_each fs) (terms_each gs)
-        (before_arity 0 (copies_in f) (vars_in f) (which f)
+        (sym (shaped 0 is)) (graph_arities 0 (copies_in f) (vars_in f) _ (terms_each fs)
+        (terms_each gs) (before_arity 0 (copies_in f) (vars_in f) (which f)
         (map (at_minus_one (form_in f) (vars_in f)) (form_in f).polys) 0 0))
 
-    pub iteration_list_is : (none new : List Blocked) → none ≡ []
-        → terms_each new ≡ terms_each none ++ map (collect rationals (blocks s.copies grevlex
-        grevlex)) (iteration_graph_of f fs gs) → terms_each new ≡ iteration_of f fs gs
-    iteration_list_is none new e h =
+    pub iteration_list_is : {none : List Blocked} (new : List Blocked) → none ≡ []
+        → terms_each new ≡ terms_each none ++ map
+        (collect rationals (blocks s.copies grevlex grevlex)) (iteration_graph_of f fs gs)
+        → terms_each new ≡ iteration_of f fs gs
+    iteration_list_is new e h =
         h ∙ ap₂ (λ (l : List Blocked) t. terms_each l ++ map (collect rationals (blocks t grevlex
         grevlex)) (iteration_graph_of f fs gs)) e is.copies

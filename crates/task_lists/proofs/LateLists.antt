@@ -90,13 +90,10 @@ module _ (w k : ℕ) (wide : Terms Fraction → Terms Fraction)
 
 widened_alike : (k t m : ℕ) (p q : Terms Fraction) → Same ℚ p q
     → Same ℚ (with_room_for k t m p) (with_room_for k t m q)
-widened_alike k t m p q h = alike_compose (k + t + m) p q
-    (images_behind k (k + t + m) (drop (k + t) (variables ℚ (k + t + m))))
-    (each-append (Arity (k + t + m)) (take k (variables ℚ (k + t + m)))
-    (drop (k + t) (variables ℚ (k + t + m)))
-    (each-take (Arity (k + t + m)) k (variables ℚ (k + t + m)) (arity-variables (k + t + m) ℚ))
-    (each-drop (Arity (k + t + m)) (k + t) (variables ℚ (k + t + m))
-    (arity-variables (k + t + m) ℚ))) h
+widened_alike k t m p q h = alike_compose (k + t + m) p q _
+    (each-append (Arity (k + t + m)) _ _ (each-take (Arity (k + t + m)) k (variables ℚ (k + t + m))
+    (arity-variables (k + t + m) ℚ)) (each-drop (Arity (k + t + m)) (k + t)
+    (variables ℚ (k + t + m)) (arity-variables (k + t + m) ℚ))) h
 
 pub stands_before : (k t m : ℕ) (passing : List Bool) (ps : List FracPoly)
     (told meant : List (Terms Fraction)) → AllSame ℚ told meant → length meant ≡ length passing
@@ -106,10 +103,9 @@ pub stands_before : (k t m : ℕ) (passing : List Bool) (ps : List FracPoly)
     (before_by (k + t + m) k (λ i. get_or passing i false) 0 0 (map (with_room_for k t m) meant))
 stands_before k t m passing ps told meant same count h =
     let w = k + t + m in
-    subst (AllStandFor w ps) (before_are w k passing (map (with_room_for k t m) meant)
-    (length-map meant (with_room_for k t m) ∙ count))
-    (stands_all_along w ps _ _
-    (before_alike w k (with_room_for k t m) (widened_alike k t m) passing 0 told meant same) h)
+    subst (AllStandFor w ps) (before_are w k passing _
+    (length-map meant (with_room_for k t m) ∙ count)) (stands_all_along w ps _ _ (before_alike w k
+    (with_room_for k t m) (widened_alike k t m) passing 0 told meant same) h)
 
 before-length : (w k : ℕ) (p : ℕ → Bool) (i j : ℕ) (ps : List (Terms Fraction))
     → length (before_by w k p i j ps) ≡ length ps
@@ -195,38 +191,28 @@ module _ (k t m : ℕ) where
 
   put_arities : (before : List (Terms Fraction)) → AllArity (k + t + m) before
       → AllArity (k + t + m) (images_behind k (k + t + m) before)
-  put_arities before a = each-append (Arity (k + t + m)) (take k (variables ℚ (k + t + m))) before
+  put_arities before a = each-append (Arity (k + t + m)) _ before
       (each-take (Arity (k + t + m)) k (variables ℚ (k + t + m)) variables_arity) a
 
   pub graph_arities : (before fs gs : List (Terms Fraction)) → AllArity (k + t + m) before
       → AllArity (k + t + m) (graph_list k t m before fs [] gs)
   unfolding Each
   graph_arities before fs gs a =
-      each-append (Arity (k + t + m)) (map (λ g. compose ℚ (k + t + m) g before) gs) _
-      (composed-arities (k + t + m) gs before a)
-      (each-append (Arity (k + t + m)) (less (drop (k + t) (variables ℚ (k + t + m)))
-      (map (at_before k t m before) fs)) []
-      (less-arities (k + t + m) (drop (k + t) (variables ℚ (k + t + m)))
-      (map (at_before k t m before) fs)
-      (each-drop (Arity (k + t + m)) (k + t) (variables ℚ (k + t + m)) variables_arity)
-      (composed-arities (k + t + m) fs (images_behind k (k + t + m) before) (put_arities before a)))
-      tt)
+      each-append (Arity (k + t + m)) _ _ (composed-arities (k + t + m) gs before a)
+      (each-append (Arity (k + t + m)) _ [] (less-arities (k + t + m) _ _ (each-drop (Arity (k + t
+      + m)) (k + t) (variables ℚ (k + t + m)) variables_arity) (composed-arities (k + t + m) fs
+      (images_behind k (k + t + m) before) (put_arities before a))) tt)
 
   pub graph_alike : (before other fs gs : List (Terms Fraction)) → AllArity (k + t + m) before
       → AllArity (k + t + m) other → AllSame ℚ before other
       → AllSame ℚ (graph_list k t m before fs [] gs) (graph_list k t m other fs [] gs)
   graph_alike before other fs gs a b h =
-      alike_append (map (λ g. compose ℚ (k + t + m) g before) gs)
-      (map (λ g. compose ℚ (k + t + m) g other) gs) _ _
-      (alike_each _ _ (λ g. alike_images (k + t + m) g before other a b h) gs)
-      (alike_append (less (drop (k + t) (variables ℚ (k + t + m))) (map (at_before k t m before)
-      fs))
-      (less (drop (k + t) (variables ℚ (k + t + m))) (map (at_before k t m other) fs)) [] []
-      (less_alike (drop (k + t) (variables ℚ (k + t + m))) _ _
-      (alike_each _ _ (λ f. alike_images (k + t + m) f (images_behind k (k + t + m) before)
+      alike_append _ _ _ _ (alike_each _ _ (λ g. alike_images (k + t + m) g before other a b h) gs)
+      (alike_append _ _ [] [] (less_alike (drop (k + t) (variables ℚ (k + t + m))) _ _ (alike_each _
+      _ (λ f. alike_images (k + t + m) f (images_behind k (k + t + m) before)
       (images_behind k (k + t + m) other) (put_arities before a) (put_arities other b)
-      (alike_append (take k (variables ℚ (k + t + m))) (take k (variables ℚ (k + t + m))) before
-      other (alike_itself (take k (variables ℚ (k + t + m)))) h)) fs)) (alike_itself []))
+      (alike_append _ _ before other (alike_itself (take k (variables ℚ (k + t + m)))) h)) fs))
+      (alike_itself []))
 
 -- ---- what is too heavy
 heavy_less : (w : ℕ) (p x y : Terms Fraction) → IsPolynomial ℚ grevlex w p
@@ -237,9 +223,8 @@ heavy_less w p x y h s past =
     let same : Same ℚ p (x ++ negate ℚ z) = Same-trans ℚ s (same_append ℚ_ring (Same-refl ℚ x)
     (same_negate ℚ_ring (Same-sym ℚ (collect-same ℚ_field grevlex grevlex_order y)))) in
     subst IsPast (weight-append ℚ_ring fraction_size fractions_bounded x (negate ℚ z)
-    ∙ ap (sum_size (weight fraction_size x)) (weight-negate ℚ_ring fraction_size fractions_bounded
-    z))
-    (past_under (weight fraction_size p) (weight fraction_size (x ++ negate ℚ z))
+    ∙ ap (sum_size (weight fraction_size x))
+    (weight-negate ℚ_ring fraction_size fractions_bounded z)) (past_under (weight fraction_size p) _
     (weight-pos ℚ_ring fraction_size fractions_bounded (x ++ negate ℚ z))
     (weight_of_polynomial ℚ_ring fraction_size fractions_bounded grevlex grevlex_order w p
     (x ++ negate ℚ z) h same) past)
@@ -263,8 +248,8 @@ module _ (w : ℕ) (F : Terms Fraction → Terms Fraction) where
 pub heavy_graph : (k t m : ℕ) (before fs gs : List (Terms Fraction)) (ps : List FracPoly)
     → AllStandFor (k + t + m) ps (graph_list k t m before fs [] gs)
     → Any (λ p. IsPast (weight fraction_size p)) (terms_each ps) → IsPastGraph k t m before fs gs
-heavy_graph k t m before fs [] ps a h = inr (inr (heavy_last (k + t + m) (at_before k t m before)
-    (drop (k + t) (variables ℚ (k + t + m))) fs ps a h))
+heavy_graph k t m before fs [] ps a h =
+    inr (inr (heavy_last (k + t + m) (at_before k t m before) _ fs ps a h))
 heavy_graph k t m before fs (g ∷ gs) [] a h = absurd a
 heavy_graph k t m before fs (g ∷ gs) (p ∷ ps) a (zero, q, l, e, h) =
     inl (
@@ -272,7 +257,7 @@ heavy_graph k t m before fs (g ∷ gs) (p ∷ ps) a (zero, q, l, e, h) =
       g,
       omega arith,
       refl,
-      heavy_composed (k + t + m) (terms_in p) g before
+      heavy_composed (k + t + m) g before
           (polynomial_over (k + t + m) p a.0.arity) a.0.same
           (subst (λ z. IsPast (weight fraction_size z)) (sym e) h),
     )

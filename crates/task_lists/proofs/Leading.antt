@@ -33,27 +33,27 @@ less_tells Less = (λ t. refl, λ e. refl)
 less_tells Equal = (λ t. absurd (cc), λ e. absurd (cc))
 less_tells Greater = (λ t. absurd (cc), λ e. absurd (cc))
 
-module _ (O : Rank) (o : IsMonomialOrder O) (e : List ℕ) (p x : Terms Fraction)
-    (same : Same ℚ p x) where
-  pub nothing_below : p ≡ [] → IsLeadBelow rationals O e x
-  nothing_below is = λ d k. absurd ((lead_along O o ℚ_ring d x p (Same-sym ℚ same) k).occurs
-      (subst (λ q. coefficient ℚ q d ≡ ℚ.zero) (sym is) (nothing d)))
+module _ {O : Rank} (o : IsMonomialOrder O) (e : List ℕ) (p x : Terms Fraction) (same : Same ℚ p x)
+  where
+    pub nothing_below : p ≡ [] → IsLeadBelow rationals O e x
+    nothing_below is = λ d k. absurd ((lead_along O o ℚ_ring d x p (Same-sym ℚ same) k).occurs
+        (subst (λ q. coefficient ℚ q d ≡ ℚ.zero) (sym is) (nothing d)))
 
-  first_tells : (m : ℕ) → IsPolynomial ℚ O m p → (t : List ℕ × Fraction)
-      → slice_get p 0 ≡ Some t
-      → (compare O t.0 e ≡ Less) ↔ IsLeadBelow rationals O e x
-  first_tells m h t is =
-      let lead : IsLead ℚ O t.0 x = lead_along O o ℚ_ring t.0 p x same
-      (lead_of_first O o ℚ_ring m p t h is) in (
-        λ less d k. subst (λ y. compare O y e ≡ Less) (lead_unique O o ℚ_ring t.0 d x lead k) less,
-        λ all. all t.0 lead,
-      )
+    first_tells : (m : ℕ) → IsPolynomial ℚ O m p → (t : List ℕ × Fraction)
+        → slice_get p 0 ≡ Some t
+        → (compare O t.0 e ≡ Less) ↔ IsLeadBelow rationals O e x
+    first_tells m h t is =
+        let lead : IsLead ℚ O t.0 x = lead_along O o ℚ_ring t.0 p x same
+        (lead_of_first O o ℚ_ring m p t h is) in (
+          λ less d k. subst (λ y. compare O y e ≡ Less) (lead_unique O o ℚ_ring t.0 d x lead k) less,
+          λ all. all t.0 lead,
+        )
 
-  pub below_tells : (m : ℕ) → IsPolynomial ℚ O m p → (t : List ℕ × Fraction)
-      → slice_get p 0 ≡ Some t → (w : Ordering) → w ≡ compare O t.0 e → (b : Bool) → b ≡ is_lt w
-      → IsTrue b ↔ IsLeadBelow rationals O e x
-  below_tells m h t is w compared b tested =
-      let tells = first_tells m h t is in (
-        λ yes. tells.0 (sym compared ∙ (less_tells w).0 (sym tested ∙ yes)),
-        λ all. tested ∙ (less_tells w).1 (compared ∙ tells.1 all),
-      )
+    pub below_tells : (m : ℕ) → IsPolynomial ℚ O m p → (t : List ℕ × Fraction)
+        → slice_get p 0 ≡ Some t → (w : Ordering) → w ≡ compare O t.0 e → (b : Bool) → b ≡ is_lt w
+        → IsTrue b ↔ IsLeadBelow rationals O e x
+    below_tells m h t is w compared b tested =
+        let tells = first_tells m h t is in (
+          λ yes. tells.0 (sym compared ∙ (less_tells w).0 (sym tested ∙ yes)),
+          λ all. tested ∙ (less_tells w).1 (compared ∙ tells.1 all),
+        )

@@ -87,8 +87,8 @@ module _ (i : ℕ) where
       → Without (Algebra.times exponents ℚ p q)
   unfolding Algebra.times Each
   times_without [] q h k = tt
-  times_without (t ∷ p) q h k = each-append (λ t. get_or t.0 i 0 ≡ 0) (Algebra.shift exponents ℚ t.0
-      t.1 q) (Algebra.times exponents ℚ p q) (shift_without t.0 t.1 q h.0 k)
+  times_without (t ∷ p) q h k =
+      each-append (λ t. get_or t.0 i 0 ≡ 0) _ _ (shift_without t.0 t.1 q h.0 k)
       (times_without p q h.1 k)
 
   negate_without : (p : Terms Fraction) → Without p → Without (negate ℚ p)
@@ -285,7 +285,7 @@ module _ {At : Type 0} (program : Program (Expr At)) (w : IsWellFormed program) 
       (map (start_polynomial program) es)) (none_set n program.init h)
       ∙ append-nil (starts_to program n)
 
-  module _ (n : ℕ) (h : list_any (sets n) program.init ≡ true) (value : Terms Fraction)
+  module _ (n : ℕ) (h : list_any (sets n) program.init ≡ true) {value : Terms Fraction}
       (p : IsPolynomial ℚ grevlex (length program.names) value)
       (is : Same ℚ value (get_or (start_map program) n [])) where
     one : Only n program.init
@@ -317,19 +317,15 @@ module _ {At : Type 0} (program : Program (Expr At)) (w : IsWellFormed program) 
     unfolding start_polynomial
     made =
         let o = one in
-        collected_same m (variable_at m n ++ negate ℚ value) (variable_at m o.equation.name
-        ++ negate ℚ (start_value o.equation))
-        (arity-append m (variable_at m n) (negate ℚ value) (variable_arity n)
-        (arity-negate m ℚ value p.arity))
-        (arity-append m (variable_at m o.equation.name) (negate ℚ (start_value o.equation))
-        (variable_arity o.equation.name) (arity-negate m ℚ (start_value o.equation)
-        (value_arity o.equation)))
-        (same_append ℚ_ring (subst (λ k. Same ℚ (variable_at m n) (variable_at m k)) (sym o.name)
+        collected_same m _ _ (arity-append m (variable_at m n) (negate ℚ value) (variable_arity n)
+        (arity-negate m ℚ value p.arity)) (arity-append m _ _ (variable_arity o.equation.name)
+        (arity-negate m ℚ (start_value o.equation) (value_arity o.equation))) (same_append ℚ_ring
+        (subst (λ k. Same ℚ (variable_at m n) (variable_at m k)) (sym o.name)
         (Same-refl ℚ (variable_at m n))) (same_negate ℚ_ring value_is))
 
-    pub start_set : (list : List (Terms Fraction)) (q : Terms Fraction) → list ≡ starts_to program n
+    pub start_set : {list : List (Terms Fraction)} (q : Terms Fraction) → list ≡ starts_to program n
         → q ≡ value_less m n value → list ++ q ∷ [] ≡ starts_to program (suc n)
-    start_set list q a b =
+    start_set q a b =
         ap₂ (λ l x. l ++ x ∷ []) a (b ∙ made)
         ∙ ap (λ es. starts_to program n ++ map (collect rationals grevlex)
         (map (start_polynomial program) es)) (sym one.filtered)

@@ -1,7 +1,7 @@
 -- Whether the number of a lead is one.
 --   one_tells      by the first term;  none_tells: 0 has no lead
 --   monic_some     a polynomial with the number one isn't 0
-use Rattle.std.proofs.Common.{◌≡◌, ◌≢◌, ◌↔◌, ℕ, Bool, true, false, ◌&&◌, List, [], ◌∷◌, slice_get, Some, IsTrue, sym, ap, ◌∙◌, true≢false}
+use Rattle.std.proofs.Common.{◌≡◌, ◌≢◌, ◌↔◌, ℕ, Bool, false, ◌&&◌, List, [], ◌∷◌, slice_get, Some, IsTrue, sym, ap, ◌∙◌, true≢false}
 use Rattle.std.specs.Ordering.{int_eq}
 use Rattle.algebra.specs.Fraction.{Fraction, ℚ, rationals}
 use Rattle.algebra.proofs.Fractions.{ℚ_field}
@@ -30,8 +30,8 @@ nothing_first : (p : Terms Fraction) → p ≡ [] → lead_number rationals p �
 unfolding lead_number
 nothing_first p e = ap (lead_number rationals) e
 
-pub none_tells : (p : Terms Fraction) → p ≡ [] → IsTrue false ↔ (lead_number rationals p ≡ ℚ.one)
-none_tells p e = (
+pub none_tells : {p : Terms Fraction} → p ≡ [] → IsTrue false ↔ (lead_number rationals p ≡ ℚ.one)
+none_tells {p = p} e = (
   λ t. absurd (true≢false (sym t)),
   λ k. absurd (ℚ_field.one-ne-zero (sym k ∙ nothing_first p e)),
 )

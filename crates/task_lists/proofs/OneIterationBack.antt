@@ -59,10 +59,10 @@ module _ (bs : List ℕ) (coprime : Coprime bs) (m : ℕ) (body : Terms Fraction
 
   minus_one_arity : Arity m (at_minus_one (form_over bs) m body)
   minus_one_arity = arity-compose m ℚ body images
-      (each-append (Arity m) (map (constant m) (back_point bs 1 [])) (variables ℚ m)
+      (each-append (Arity m) _ (variables ℚ m)
       (arity-constants m (back_point bs 1 [])) (arity-variables m ℚ))
 
-module _ (e back : Expo) (over : IsOverBaseOf e (inverse_form_of e) back)
+module _ (e : Expo) {back : Expo} (over : IsOverBaseOf e (inverse_form_of e) back)
     (values : HasValues (λ n s. at (terms_in e.body) (back_point (base_of e) n s)) back) where
   stands : (p : FracPoly) → StandsFor back.vars p (iteration_of back 1)
       → ((s : List Fraction) → length s ≡ back.vars → at (terms_in p) s ≡ value_of back 1 s)
@@ -100,8 +100,8 @@ at_most x n zero l h = one_fits (subst IsPast (size_of 1) h)
 at_most x n (suc zero) l h = n (subst (λ y. IsPast (fraction_size y)) (ℚ_ring.mul-one x) h)
 at_most x n (suc (suc k)) l h = absurd (omega (arith, l))
 
-no_power : (x : Fraction) → ¬ (IsPast (fraction_size x)) → IsPastPower x 1 → ⊥
-no_power x n p = at_most x n p.exponent p.within p.past
+no_power : {x : Fraction} → ¬ (IsPast (fraction_size x)) → IsPastPower x 1 → ⊥
+no_power {x = x} n p = at_most x n p.exponent p.within p.past
 
 no_point : (ws : List Whole) → Coprime (sizes ws) → IsPastPoint (sizes ws) 1 → ⊥
 no_point ws c p =
@@ -116,12 +116,12 @@ no_point ws c p =
 
     go : (n : ℕ) → n < 2 ^ 127 → 0 < n
         → IsPastPower (whole (pos n)) 1 ⊎ IsPastPower (inverse (whole (pos n))) 1 → ⊥
-    go n l some (inl h) = no_power (whole (pos n)) (λ q. small (subst IsPast (size_of n) q)) h
+    go n l some (inl h) = no_power (λ q. small (subst IsPast (size_of n) q)) h
       where
         small : IsPast (size n 1) → ⊥
         small (inl k) = absurd (omega (arith, k, l))
         small (inr k) = absurd (omega (arith, k))
-    go n l some (inr h) = no_power (inverse (whole (pos n)))
+    go n l some (inr h) = no_power
         (λ q. quotient_fits 1 n (omega arith) some (omega arith) l
         (subst (λ y. IsPast (fraction_size y)) (sym (L.one-mul ℚ_ring (inverse (whole (pos n)))))
         q))
@@ -149,7 +149,7 @@ past_back e back over (inr p) =
     p)
 
 -- ---- polynomial by polynomial
-module _ (bs : List ℕ) (m : ℕ) (es rest : List Expo) (e : Expo) (is : es ≡ e ∷ rest) where
+module _ (bs : List ℕ) (m : ℕ) {es rest : List Expo} {e : Expo} (is : es ≡ e ∷ rest) where
   pub over_here : All (IsExpoOver bs m) es → IsExpoOver bs m e
   over_here all = subst (λ l. All (IsExpoOver bs m) l) is all 0 e (omega arith)
 
@@ -168,8 +168,7 @@ module _ (bs : List ℕ) (m : ℕ) (es rest : List Expo) (e : Expo) (is : es ≡
       ++ map (at_minus_one (form_over bs) m) (bodies_in rest))
       → AllStandFor m news (qs ++ map (at_minus_one (form_over bs) m) (bodies_in es))
   told_next news qs a = subst (λ l. AllStandFor m news (qs
-      ++ map (at_minus_one (form_over bs) m) (bodies_in l))) (sym is)
-      (along m news qs (map (at_minus_one (form_over bs) m) (bodies_in rest)) _ a)
+      ++ map (at_minus_one (form_over bs) m) (bodies_in l))) (sym is) (along m news qs _ _ a)
 
   abbrev IsPastAt : Terms Fraction → Type 0
   IsPastAt p = IsPastComposition fractions p (iteration_images (form_over bs) m)
@@ -188,5 +187,4 @@ module _ (bs : List ℕ) (m : ℕ) (es rest : List Expo) (e : Expo) (is : es ≡
   pub past_rest : Any IsPastAt (map (inverse_form grevlex (length bs)) (bodies_in rest))
       → Any IsPastAt (map (inverse_form grevlex (length bs)) (bodies_in es))
   past_rest p = subst (λ l. Any IsPastAt (map (inverse_form grevlex (length bs)) (bodies_in l)))
-      (sym is)
-      (any_later IsPastAt _ (map (inverse_form grevlex (length bs)) (bodies_in rest)) p)
+      (sym is) (any_later IsPastAt _ _ p)

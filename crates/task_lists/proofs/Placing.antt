@@ -15,7 +15,7 @@ use Rattle.algebra.proofs.SizeLaws.{fractions_bounded, past_under}
 use Rattle.polynomials.specs.Order.{grevlex, blocks}
 use Rattle.polynomials.specs.Polynomial.{Arity, AllArity, IsPolynomial}
 use Rattle.polynomials.specs.Terms.{Terms, Same, compose}
-use Rattle.polynomials.specs.Weight.{weight, composition_weight, IsPastComposition}
+use Rattle.polynomials.specs.Weight.{weight, IsPastComposition}
 use Rattle.polynomials.proofs.Arity.{arity_at}
 use Rattle.polynomials.proofs.Orders.{grevlex_order, blocks_order}
 use Rattle.polynomials.proofs.Past.{composition_under}
@@ -45,9 +45,9 @@ module _ (w : ℕ) (f : Terms Fraction → Terms Fraction) where
     pub long : AllArity w left
     pub are : terms_each put ++ map f left ≡ all
 
-  module _ (olds news : List Blocked) (b : Blocked) (are : news ≡ olds ++ b ∷ []) (p : FracPoly)
-      (element : (q : Terms Fraction) → StandsFor w p q → Arity w q → terms_in b ≡ f q)
-      (rest : List FracPoly) (all : List (Terms Fraction)) where
+  module _ (olds : List Blocked) {news : List Blocked} (b : Blocked) (are : news ≡ olds ++ b ∷ [])
+      (p : FracPoly) (element : (q : Terms Fraction) → StandsFor w p q → Arity w q → terms_in b ≡ f
+      q) (rest : List FracPoly) (all : List (Terms Fraction)) where
     along : (q : Terms Fraction) (qs : List (Terms Fraction)) → terms_in b ≡ f q
         → terms_each news ++ map f qs ≡ terms_each olds ++ f q ∷ map f qs
     along q qs e =
@@ -67,9 +67,9 @@ module _ (w : ℕ) (f : Terms Fraction → Terms Fraction) where
       are = along q qs (element q a.0 h.0) ∙ e;
     }
 
-    pub left_next : (list : List FracPoly) → list ≡ p ∷ rest → IsLeft list olds all
+    pub left_next : {list : List FracPoly} → list ≡ p ∷ rest → IsLeft list olds all
         → IsLeft rest news all
-    left_next list is h =
+    left_next is h =
         behind h.left (subst (λ l. AllStandFor w l h.left) is h.stand) h.long h.are
 
   pub left_end : (list : List FracPoly) (put : List Blocked) (all : List (Terms Fraction))
@@ -110,14 +110,14 @@ module _ (n w r : ℕ) (p made : FracPoly) (b : Blocked) (normals : terms_in mad
       (same_normalized ℚ_ring r (terms_in p) q s.same)))
 
 -- what is composed, where it is too heavy
-pub heavy_composed : (w : ℕ) (p g : Terms Fraction) (images : List (Terms Fraction))
+pub heavy_composed : (w : ℕ) {p : Terms Fraction} (g : Terms Fraction)
+    (images : List (Terms Fraction))
     → IsPolynomial ℚ grevlex w p → Same ℚ p (compose ℚ w g images) → IsPast (weight fraction_size p)
     → IsPastComposition fractions g images
-heavy_composed w p g images h s past =
-    inl (past_under (weight fraction_size p) (composition_weight fraction_size g images)
-    (composition-pos ℚ_ring fraction_size fractions_bounded w g images)
-    (composition_under fractions fractions_ring fractions_bounded grevlex grevlex_order w p g images
-    h s) past)
+heavy_composed w {p = p} g images h s past =
+    inl (past_under (weight fraction_size p) _ (composition-pos ℚ_ring fraction_size
+    fractions_bounded w g images) (composition_under fractions fractions_ring fractions_bounded
+    grevlex grevlex_order w p g images h s) past)
 
 -- ---- the relations
 pub relation_placed : (n r m i : ℕ) (p b : Blocked)

@@ -33,9 +33,9 @@ module _ {A : Type 0} where
   lead_length m [] n a = absurd (n refl)
   lead_length m (t ∷ p) n a = a.0
 
-  pub multiple_length : (m : ℕ) (e : List ℕ) (p q : Terms A) → p ≢ [] → q ≢ [] → Arity m p
+  pub multiple_length : (m : ℕ) {e : List ℕ} (p q : Terms A) → p ≢ [] → q ≢ [] → Arity m p
       → Arity m q → e ≡ lcm (lead_of p) (lead_of q) → length e ≡ m
-  multiple_length m e p q n k a b is =
+  multiple_length m p q n k a b is =
       let left = lead_length m p n a in
       ap length is
       ∙ length-lcm (lead_of p) (lead_of q) (left ∙ sym (lead_length m q k b)) ∙ left
@@ -47,10 +47,11 @@ over-plus [] (x ∷ d) l = absurd (omega arith)
 over-plus (y ∷ by) [] l = absurd (omega arith)
 over-plus (y ∷ by) (x ∷ d) l = ap₂ ◌∷◌ (omega arith) (over-plus by d (omega arith))
 
-pub factor_over : (by d e : List ℕ) → plus d by ≡ e → length by ≡ length d → by ≡ over e d
-factor_over by d e is l = over-plus by d l ∙ ap (λ x. over x d) is
+pub factor_over : (by d : List ℕ) {e : List ℕ} → plus d by ≡ e → length by ≡ length d
+    → by ≡ over e d
+factor_over by d is l = over-plus by d l ∙ ap (λ x. over x d) is
 
-module _ (S : Scalars) (r : IsRing S.arithmetic) (b : IsBounded S.arithmetic S.size) (O : Rank)
+module _ (S : Scalars) (r : IsRing S.arithmetic) (b : IsBounded S.arithmetic S.size) {O : Rank}
     (o : IsMonomialOrder O) (m : ℕ) where
   abbrev W : Terms S.Elem → Size
   W = weight S.size
@@ -73,19 +74,17 @@ module _ (S : Scalars) (r : IsRing S.arithmetic) (b : IsBounded S.arithmetic S.s
       let R = ring_of S.arithmetic r in
       let y = shift S.arithmetic d S.one g in
       under_trans (W x) (W y) (W g) (pos x) (pos g)
-      (weight_of_polynomial R S.size b O o m x y hx same)
-      (under_trans (W y) (times_size (S.size S.one) (W g)) (W g) (pos y) (pos g)
-      (weight-shift R S.size b d S.one g)
-      (under_trans (times_size (S.size S.one) (W g)) (times_size (size 1 1) (W g)) (W g)
+      (weight_of_polynomial R S.size b O o m x y hx same) (under_trans (W y) _ (W g) (pos y) (pos g)
+      (weight-shift R S.size b d S.one g) (under_trans _ (times_size (size 1 1) (W g)) (W g)
       (mul-pos (S.size S.one).den (W g).den (b.den_pos S.one) (pos g)) (pos g)
       (under_times (S.size S.one) (W g) (size 1 1) (W g) (b.den_pos S.one) (pos g) b.one_size
       (under_refl (W g) (pos g))) (under_one (W g) (pos g))))
 
-  pub past_multiples : (x y f g : Terms S.Elem) (d e : List ℕ) → IsPolynomial S.arithmetic O m x
-      → IsPolynomial S.arithmetic O m y → Same S.arithmetic x (shift S.arithmetic d S.one f)
-      → Same S.arithmetic y (shift S.arithmetic e S.one g)
-      → IsPastSum S x y → IsPastSum S f g
-  past_multiples x y f g d e hx hy sx sy past =
+  pub past_multiples : {x y : Terms S.Elem} (f g : Terms S.Elem) (d e : List ℕ)
+      → IsPolynomial S.arithmetic O m x → IsPolynomial S.arithmetic O m y
+      → Same S.arithmetic x (shift S.arithmetic d S.one f)
+      → Same S.arithmetic y (shift S.arithmetic e S.one g) → IsPastSum S x y → IsPastSum S f g
+  past_multiples {x = x} {y = y} f g d e hx hy sx sy past =
       past_under (sum_size (W x) (W y)) (sum_size (W f) (W g))
       (lcm-pos (W f).den (W g).den (pos f) (pos g))
       (under-sum (W x) (W y) (W f) (W g) (pos x) (pos y) (pos f) (pos g)

@@ -21,7 +21,7 @@ use Rattle.machines.proofs.Collecting.{collect-same}
 use Rattle.corollaries.specs.Representation.{AreBelow, IsLcmRepresentation}
 use Rattle.task_lists.specs.Raising.{raised_to}
 
-module _ (gs : List (Terms Fraction)) (a : ℕ × ℕ) (e : List ℕ) (f g : Terms Fraction)
+module _ (gs : List (Terms Fraction)) (a : ℕ × ℕ) {e : List ℕ} {f g : Terms Fraction}
     (left : f ≡ get_or gs a.0 []) (right : g ≡ get_or gs a.1 [])
     (is : e ≡ lcm (lead_of f) (lead_of g)) (k : a.0 < length gs) (l : a.1 < length gs) where
   pub multiple_is : e ≡ multiple (leads gs) a
@@ -34,8 +34,7 @@ module _ (gs : List (Terms Fraction)) (a : ℕ × ℕ) (e : List ℕ) (f g : Ter
   pair_past (inr (inl past)) = inr (inl (subst₂ (λ d p. IsPastRaised d p) multiple_is left past))
   pair_past (inr (inr past)) = inr (inr (subst₂ (λ d p. IsPastRaised d p) multiple_is right past))
 
-  module _ (O : Rank) (o : IsMonomialOrder O) (qs : List (Terms Fraction))
-      (p sum : Terms Fraction)
+  module _ {O : Rank} (o : IsMonomialOrder O) (qs : List (Terms Fraction)) (p sum : Terms Fraction)
       (pair : Same ℚ p (raised_to e f ++ negate ℚ (raised_to e g)))
       (made : Same ℚ sum (combination ℚ qs gs)) where
     pair_is : Same ℚ p (s_polynomial rationals O gs a)

@@ -36,14 +36,14 @@ block_polynomial n m p e f = subst (λ j. IsPolynomial ℚ (blocks j grevlex gre
     (subst (λ k. IsPolynomial ℚ (blocks p.order.first grevlex grevlex) k (terms_in p)) f
     p.polynomial)
 
-pub two_items : {X : Type 0} (none one two : List X) (a b : X) → none ≡ [] → one ≡ none ++ a ∷ []
+pub two_items : {X : Type 0} {none one two : List X} (a b : X) → none ≡ [] → one ≡ none ++ a ∷ []
     → two ≡ one ++ b ∷ [] → two ≡ a ∷ b ∷ []
-two_items none one two a b e f g = g ∙ ap (λ l. l ++ b ∷ []) (f ∙ ap (λ l. l ++ a ∷ []) e)
+two_items a b e f g = g ∙ ap (λ l. l ++ b ∷ []) (f ∙ ap (λ l. l ++ a ∷ []) e)
 
-module _ (w i j : ℕ) (l : i < w) (k : j < w) (items : List (Term Frac)) (s t : Term Frac)
-    (are : items ≡ s ∷ t ∷ [])
-    (product : s.mono ≡ plus (unit w i) (unit w j)) (one : fraction_of s.coef ≡ ℚ.one)
-    (none : t.mono ≡ replicate w 0) (less : fraction_of t.coef ≡ ℚ.neg ℚ.one) where
+module _ (w i j : ℕ) (l : i < w) (k : j < w) {items : List (Term Frac)} {s t : Term Frac}
+    (are : items ≡ s ∷ t ∷ []) (product : s.mono ≡ plus (unit w i) (unit w j))
+    (one : fraction_of s.coef ≡ ℚ.one) (none : t.mono ≡ replicate w 0)
+    (less : fraction_of t.coef ≡ ℚ.neg ℚ.one) where
   pub terms_relation : terms_of fraction_of items ≡ relation w i j
   terms_relation =
       ap (terms_of fraction_of) are

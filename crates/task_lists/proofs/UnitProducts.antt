@@ -12,8 +12,9 @@ unit_small (suc w) zero (suc k) = let z = get_or-zeros w k in omega (arith, z)
 unit_small (suc w) (suc i) zero = omega arith
 unit_small (suc w) (suc i) (suc k) = unit_small w i k
 
-pub product_fits : (w i j : ℕ) (d e : List ℕ) → d ≡ unit w i → e ≡ unit w j → ProductFits d e
-product_fits w i j d e p q k l =
+pub product_fits : (w i j : ℕ) (d : List ℕ) {e : List ℕ} → d ≡ unit w i → e ≡ unit w j
+    → ProductFits d e
+product_fits w i j d p q k l =
     let a = unit_small w i k in
     let b = unit_small w j k in
     let c = ap (λ xs. get_or xs k 0) p in

@@ -46,8 +46,8 @@ module _ (o : Grevlex) (n i : ℕ) (l : i < n) (p : FracPoly)
     made.arity,
   )
 
-pub variable_of : (o : Grevlex) (n w i : ℕ) → n ≡ w → i < w → (p : FracPoly)
+pub variable_of : (o : Grevlex) (n : ℕ) {w : ℕ} (i : ℕ) → n ≡ w → i < w → (p : FracPoly)
     → IsSomeAnd (slice_get (variables ℚ n) i) (λ x. Is o n x p)
     → (terms_in p ≡ variable_at w i) × (p.arity ≡ w)
-variable_of o n w i e l p is = here o w i l p
+variable_of o n {w = w} i e l p is = here o w i l p
     (subst (λ k. IsSomeAnd (slice_get (variables ℚ k) i) (λ x. Is o k x p)) e is)

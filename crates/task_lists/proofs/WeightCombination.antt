@@ -61,8 +61,7 @@ module _ (S : Scalars) (r : IsRing S.arithmetic) (b : IsBounded S.arithmetic S.s
       → IsPastSum S left right → IsPast (weights qs gs)
   past_combination O o m qs gs i left right k l hl hr sl sr past =
       past_under (W (combined qs gs)) (weights qs gs) (weights-pos qs gs) (weight-combination qs gs)
-      (subst (λ p. IsPast (W p)) (sym (combination-split S.arithmetic qs gs (suc i)))
-      (past_under (W (combined (take (suc i) qs) (take (suc i) gs))) _ (pos _)
-      (weight-front R S.size b _ _)
-      (subst (λ p. IsPast (W p)) (sym (combination-suc S.arithmetic qs gs i k l))
+      (subst (λ p. IsPast (W p)) (sym (combination-split S.arithmetic qs gs (suc i))) (past_under _
+      _ (pos _) (weight-front R S.size b _ _) (subst (λ p. IsPast (W p))
+      (sym (combination-suc S.arithmetic qs gs i k l))
       (past_parts S r b O o m left right _ _ hl hr sl sr past))))

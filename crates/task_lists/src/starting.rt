@@ -11,7 +11,7 @@ use crate::orbit::pulled_back;
 use crate::relations::relation_at;
 use frac128::{Frac, Whole};
 use monos::{Blocks, Grevlex};
-use poly::{times_one_less_t, times_t, Poly};
+use poly::{Poly, times_one_less_t, times_t};
 use ring_laws::ArithmeticError;
 use std::alloc::{AllocError, Global};
 

@@ -10,15 +10,14 @@ pub push_before-requires : goal.push_before-requires
 push_before-requires t c =
     let s = c.args.shape in
     let q = c.requires.copies in
-    let n = passers_next c.args.passing.now c.in-Some-Some.passing.now c.in-Some-Some.passes.now
+    let n = passers_next c.in-Some-Some.passing.now
     c.in-Some-Some.ensures.cases.0 c.if-passes.true in (
       search rules,
       (
         omega (arith, q, n),
         (
           c.requires.few,
-          tail_over (s.front + s.variables)
-              c.args.told.now c.in-Some-Some.told.now c.in-Some-Some.poly.now
+          tail_over _
               c.in-Some-Some.ensures'.cases.0
               c.requires.over,
         ),
@@ -30,31 +29,26 @@ returns-then-passes t c = record {
   before = λ qs a.
       let s = c.args.shape in
       let w = width_of s in
-      on_ok_weaker c.push_before.result
-      (copy_next w s.front (with_room_for s.front s.copies s.variables) c.args.passing.now
-      c.in-Some-Some.passing.now c.in-Some-Some.passes.now c.in-Some-Some.ensures.cases.0
-      c.args.told.now c.in-Some-Some.told.now c.in-Some-Some.poly.now
-      c.in-Some-Some.ensures'.cases.0
-      c.args.copy (c.args.copy + 1) c.push_before.new.out.items qs c.if-passes.true (omega arith))
-      (c.push_before.ensures.before (qs ++ variable_at w (s.front + c.args.copy) ∷ [])
-      (pushed w c.args.out.now.items c.push.new.self.items c.in_ok-variable.field-0 qs _
-      c.in_ok-push.ensures.items a (variable_stands w (s.front + c.args.copy)
-      c.in_ok-variable.field-0 c.in_ok-variable.ensures.terms c.in_ok-variable.ensures.arity)));
+      on_ok_weaker _ (copy_next w s.front (with_room_for s.front s.copies s.variables)
+      c.in-Some-Some.ensures.cases.0 c.in-Some-Some.ensures'.cases.0 c.args.copy (c.args.copy + 1)
+      c.push_before.new.out.items qs c.if-passes.true (omega arith))
+      (c.push_before.ensures.before (qs ++ variable_at w (s.front + c.args.copy) ∷ []) (pushed w _
+      qs _ c.in_ok-push.ensures.items a (variable_stands w _ c.in_ok-variable.field-0
+      c.in_ok-variable.ensures.terms c.in_ok-variable.ensures.arity)));
 }
 
 pub push_before-requires-2 : goal.push_before-requires-2
 push_before-requires-2 t c =
     let s = c.args.shape in
     let q = c.requires.copies in
-    let n = passers_same c.args.passing.now c.in-Some-Some.passing.now c.in-Some-Some.passes.now
+    let n = passers_same c.in-Some-Some.passing.now
     c.in-Some-Some.ensures.cases.0 c.if-passes.false in (
       search rules,
       (
         omega (arith, q, n),
         (
           c.requires.few,
-          tail_over (s.front + s.variables)
-              c.args.told.now c.in-Some-Some.told.now c.in-Some-Some.poly.now
+          tail_over _
               c.in-Some-Some.ensures'.cases.0
               c.requires.over,
         ),
@@ -66,14 +60,10 @@ returns t c = record {
   before = λ qs a.
       let s = c.args.shape in
       let w = width_of s in
-      on_ok_weaker c.push_before-2.result
-      (told_next w s.front (with_room_for s.front s.copies s.variables) c.args.passing.now
-      c.in-Some-Some.passing.now c.in-Some-Some.passes.now c.in-Some-Some.ensures.cases.0
-      c.args.told.now c.in-Some-Some.told.now c.in-Some-Some.poly.now
-      c.in-Some-Some.ensures'.cases.0
-      c.args.copy (c.args.copy + 1) c.push_before-2.new.out.items qs c.if-passes.false)
+      on_ok_weaker _ (told_next w s.front (with_room_for s.front s.copies s.variables)
+      c.in-Some-Some.ensures.cases.0 c.in-Some-Some.ensures'.cases.0 c.args.copy (c.args.copy + 1)
+      c.push_before-2.new.out.items qs c.if-passes.false)
       (c.push_before-2.ensures.before (qs ++ with_room_for s.front s.copies s.variables
-      (terms_in c.in-Some-Some.poly.now) ∷ [])
-      (pushed w c.args.out.now.items c.push-2.new.self.items c.in_ok-widened.field-0 qs _
-      c.in_ok-push-2.ensures.items a c.in_ok-widened.ensures.widened));
+      (terms_in c.in-Some-Some.poly.now) ∷ []) (pushed w _ qs _ c.in_ok-push-2.ensures.items a
+      c.in_ok-widened.ensures.widened));
 }

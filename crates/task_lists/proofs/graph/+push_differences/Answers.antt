@@ -42,8 +42,7 @@ push_differences-requires t c =
               c.requires.count,
               (
                 c.requires.images,
-                tail_over (c.args.shape.front + c.args.shape.variables) c.args.forms.now
-                    c.in-Some.forms.now c.in-Some.form.now c.in-Some.ensures.cases.0
+                tail_over _ c.in-Some.ensures.cases.0
                     c.requires.forms,
               ),
             ),
@@ -60,14 +59,12 @@ returns-clause-differences t c = λ qs a.
     let f = c.in-Some.form.now in
     let some = ap length c.in-Some.ensures.cases.0 in
     let few = c.requires.places in
-    on_ok_weaker c.push_differences.result
-    (differences_next w n (c.args.shape.front + c.args.shape.copies + (c.args.place + 1))
-    (omega (arith, some, few)) (omega arith) c.args.forms.now c.in-Some.forms.now f
-    c.in-Some.ensures.cases.0 (λ x. compose ℚ w x images) c.push_differences.new.out.items qs)
-    (c.push_differences.ensures.differences (qs ++ (variable_at w n
-    ++ negate ℚ (compose ℚ w (terms_in f) images)) ∷ [])
-    (pushed w c.args.out.now.items c.push.new.self.items c.in_ok-difference.field-0 qs _
-    c.in_ok-push.ensures.items a c.in_ok-difference.ensures.difference))
+    on_ok_weaker _ (differences_next w n (c.args.shape.front + c.args.shape.copies
+    + (c.args.place + 1)) (omega (arith, some, few)) (omega arith) c.args.forms.now
+    c.in-Some.forms.now f c.in-Some.ensures.cases.0 (λ x. compose ℚ w x images) _ qs)
+    (c.push_differences.ensures.differences (qs ++ (variable_at w n ++ negate ℚ
+    (compose ℚ w (terms_in f) images)) ∷ []) (pushed w _ qs _ c.in_ok-push.ensures.items a
+    c.in_ok-difference.ensures.difference))
 
 pub returns-clause-wide : goal.returns-clause-wide
 returns-clause-wide t c = λ x.

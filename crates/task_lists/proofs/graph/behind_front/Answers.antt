@@ -22,7 +22,7 @@ loop-place-preserved c =
       images = ap terms_each c.in_ok-push.ensures.items
           ∙ map-append (λ (q : FracPoly). terms_in q) c.loop-place.images.items (p ∷ [])
           ∙ ap₂ (λ l t. l ++ t ∷ []) c.loop-place.invariant.images c.in_ok-variable.ensures.terms
-          ∙ sym (take_more (variables ℚ w) c.loop-place.place [] l);
-      over = have_more (IsInVariables w) c.loop-place.images.items c.push.new.self.items p
+          ∙ sym (take_more _ _ [] l);
+      over = have_more (IsInVariables w) _ _ p
           c.in_ok-push.ensures.items c.loop-place.invariant.over c.in_ok-variable.ensures.arity;
     }

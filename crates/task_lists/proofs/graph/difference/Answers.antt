@@ -1,6 +1,5 @@
 use Rattle.std.proofs.Common.{◌<◌, length, inr, arith}
 use Rattle.std.proofs.lemmas.Result.{IfOk-weaker}
-use Rattle.task_lists.specs.Shapes.{width_of}
 use Rattle.task_lists.proofs.Differences.{composed_stands, composed_collected, difference_stands, past_sum}
 use Rattle.task_lists.proofs.graph.difference.Goals as goal
 
@@ -8,11 +7,9 @@ pub returns-clause-difference : goal.returns-clause-difference
 returns-clause-difference c =
     let some : 0 < length c.args.images.now.items =
     (let a = c.requires.count in let b = c.requires.some in omega (arith, a, b)) in
-    IfOk-weaker c.sub.result _ _
-    (λ p is. difference_stands (width_of c.args.shape) c.in_ok-variable.variable
-    c.in_ok-image.image p _ _ c.in_ok-variable.ensures.terms c.in_ok-variable.ensures.arity
-    (composed_stands (width_of c.args.shape) c.args.images.now.items c.requires.images some
-    c.args.form.now c.in_ok-image.image c.in_ok-image.ensures.composition) is)
+    IfOk-weaker c.sub.result _ _ (λ p is. difference_stands c.in_ok-variable.variable p _ _
+    c.in_ok-variable.ensures.terms c.in_ok-variable.ensures.arity (composed_stands _ _
+    c.requires.images some c.args.form.now c.in_ok-image.ensures.composition) is)
     c.sub.ensures.difference
 
 pub returns-clause-wide : goal.returns-clause-wide
@@ -20,6 +17,5 @@ returns-clause-wide c = λ w.
     let some : 0 < length c.args.images.now.items =
     (let a = c.requires.count in let b = c.requires.some in omega (arith, a, b)) in
     inr (past_sum c.in_ok-variable.variable c.in_ok-image.image _ _ c.in_ok-variable.ensures.terms
-    (composed_collected (width_of c.args.shape) c.args.images.now.items c.requires.images some
-    c.args.form.now c.in_ok-image.image c.in_ok-image.ensures.composition)
-    (c.sub.ensures.wide w))
+    (composed_collected _ _ c.requires.images some c.args.form.now
+    c.in_ok-image.ensures.composition) (c.sub.ensures.wide w))

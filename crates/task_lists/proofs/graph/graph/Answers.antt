@@ -20,8 +20,7 @@ returns-in_err-push_differences-clause-wide c =
     let s = c.args.shape in
     let p = err_from_is_err_and c.from_residual-in_err-push_differences.result
     c.from_residual-in_err-push_differences.ensures.1 in
-    λ w. past_graph s.front s.copies s.variables (terms_each c.in_ok-images.images.items)
-    (terms_each c.args.before.items) c.in_ok-images.ensures.images (terms_each c.args.forms.now)
+    λ w. past_graph s.front s.copies _ _ c.in_ok-images.ensures.images (terms_each c.args.forms.now)
     (terms_each c.args.list.now) (c.in_err-push_differences.ensures.wide (cc (p.1, p.2, w)))
 
 pub returns-clause-graph : goal.returns-clause-graph
@@ -32,8 +31,6 @@ returns-clause-graph c =
     tt in
     let first = c.in_ok-push_composed.ensures.composed [] none in
     let both = c.in_ok-push_differences.ensures.differences _ first in
-    subst (λ l. AllStandFor w c.push_differences.new.out.items
-    (map (λ g. compose ℚ w g (terms_each c.args.before.items)) (terms_each c.args.list.now) ++ l))
-    (graph_rest s.front s.copies s.variables (terms_each c.in_ok-images.images.items)
-    (terms_each c.args.before.items) c.in_ok-images.ensures.images (terms_each c.args.forms.now))
-    both
+    subst (λ l. AllStandFor w c.push_differences.new.out.items (map (λ g. compose ℚ w g
+    (terms_each c.args.before.items)) (terms_each c.args.list.now) ++ l)) (graph_rest s.front
+    s.copies _ _ c.in_ok-images.ensures.images (terms_each c.args.forms.now)) both

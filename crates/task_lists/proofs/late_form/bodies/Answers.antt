@@ -15,21 +15,21 @@ pub loop-poly-preserved : goal.loop-poly-preserved
 loop-poly-preserved c =
     let p = c.in_ok-copy.field-0 in
     record {
-      terms = grown (λ (q : FracPoly). terms_in q) (λ (e : Expo). terms_in e.body) c.args.polys.now
-          c.loop-poly.poly-index c.poly-item.result c.loop-poly.out.items c.push.new.self.items p
+      terms = grown (λ (q : FracPoly). terms_in q) (λ (e : Expo). terms_in e.body) _ _ _ _ _ p
           c.loop-poly-test.true c.poly-item.is c.in_ok-push.ensures.items
           (c.in_ok-copy.ensures.terms ∙ ap terms_in c.body.ensures) c.loop-poly.invariant.terms;
-      arity = grown (λ (q : FracPoly). q.arity) (λ (e : Expo). e.body.arity) c.args.polys.now
-          c.loop-poly.poly-index c.poly-item.result c.loop-poly.out.items c.push.new.self.items p
+      arity = grown (λ (q : FracPoly). q.arity) (λ (e : Expo). e.body.arity) _ _ _ _ _ p
           c.loop-poly-test.true c.poly-item.is c.in_ok-push.ensures.items
           (c.in_ok-copy.ensures.arity ∙ ap (λ (q : FracPoly). q.arity) c.body.ensures)
           c.loop-poly.invariant.arity;
     }
 
 pub returns-clause-terms : goal.returns-clause-terms
-returns-clause-terms c = all_grown (λ (q : FracPoly). terms_in q) (λ (e : Expo). terms_in e.body)
-    c.args.polys.now c.loop-poly.poly-index _ c.loop-poly-test.false c.loop-poly.invariant.terms
+returns-clause-terms c =
+    all_grown (λ (q : FracPoly). terms_in q) (λ (e : Expo). terms_in e.body) _ _ _
+    c.loop-poly-test.false c.loop-poly.invariant.terms
 
 pub returns-clause-arities : goal.returns-clause-arities
-returns-clause-arities c = all_grown (λ (q : FracPoly). q.arity) (λ (e : Expo). e.body.arity)
-    c.args.polys.now c.loop-poly.poly-index _ c.loop-poly-test.false c.loop-poly.invariant.arity
+returns-clause-arities c =
+    all_grown (λ (q : FracPoly). q.arity) (λ (e : Expo). e.body.arity) _ _ _ c.loop-poly-test.false
+    c.loop-poly.invariant.arity

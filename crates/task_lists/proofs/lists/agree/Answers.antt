@@ -2,7 +2,7 @@ use Rattle.std.proofs.Common.{◌≡◌, ◌<◌, length, sym, refl, arith, true
 use Rattle.std.proofs.lemmas.List.{length-map}
 use Rattle.std.specs.Prelude.{All}
 use Rattle.algebra.specs.Fraction.{ℚ}
-use Rattle.poly.specs.Seen.{terms_in, terms_each}
+use Rattle.poly.specs.Seen.{terms_in}
 use Rattle.task_lists.proofs.Agreeing.{agrees_more, agrees_not, agrees_end}
 use Rattle.task_lists.proofs.Combining.{place_in, at_place}
 use Rattle.task_lists.proofs.lists.agree.Goals as goal
@@ -24,7 +24,7 @@ returns-then-not-is_same g c =
     (at_place (λ x. All (λ y. x.arity ≡ y.arity) qs) ps c.requires.arities i p k
     c.index-left-i.is) i q l c.index-right-i.is) in (
       λ t. absurd (true≢false (sym t)),
-      λ h. absurd (agrees_not ℚ (terms_each ps) (terms_each qs) i (terms_in p) (terms_in q)
+      λ h. absurd (agrees_not ℚ _ _ i
           (place_in terms_in ps i k).0 (place_in terms_in qs i l).0
           ((place_in terms_in ps i k).1 p c.index-left-i.is)
           ((place_in terms_in qs i l).1 q c.index-right-i.is) c.loop-i.invariant
@@ -47,8 +47,7 @@ loop-i-preserved g c =
     (at_place (λ x. p.arity ≡ x.arity) qs
     (at_place (λ x. All (λ y. x.arity ≡ y.arity) qs) ps c.requires.arities i p k
     c.index-left-i.is) i q l c.index-right-i.is) in
-    agrees_more ℚ (terms_each ps) (terms_each qs) i (terms_in p) (terms_in q)
-    (place_in terms_in ps i k).0 (place_in terms_in qs i l).0
+    agrees_more ℚ _ _ i (place_in terms_in ps i k).0 (place_in terms_in qs i l).0
     ((place_in terms_in ps i k).1 p c.index-left-i.is)
     ((place_in terms_in qs i l).1 q c.index-right-i.is) c.loop-i.invariant
     (tells.0 c.if-not-is_same.false)
@@ -57,8 +56,11 @@ pub returns : goal.returns
 returns g c =
     let ps = c.args.left.now in
     let qs = c.args.right.now in
-    let all = agrees_end ℚ (terms_each ps) (terms_each qs) c.loop-i.i
-    (omega (arith, c.loop-i-test.false, length-map ps terms_in))
-    (omega (arith, c.loop-i-test.false, c.requires.count, length-map qs terms_in))
-    c.loop-i.invariant in
+    let all = agrees_end ℚ _ _ c.loop-i.i
+    (omega (arith, c.loop-i-test.false, length-map ps terms_in)) (omega (
+      arith,
+      c.loop-i-test.false,
+      c.requires.count,
+      length-map qs terms_in,
+    )) c.loop-i.invariant in
     (λ t. all, λ h. refl)

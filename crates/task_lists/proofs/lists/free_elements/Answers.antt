@@ -20,7 +20,7 @@ use Rattle.task_lists.proofs.lists.free_elements.Goals.{then-is_free_of_first+in
 pub loop-p-init : goal.loop-p-init
 loop-p-init c = (
   kept_none c.args.front _ (ap terms_each c.new-free.ensures.items),
-  All-same (IsInVariables c.args.variables) c.new-free.result.items [] c.new-free.ensures.items
+  All-same (IsInVariables c.args.variables) _ [] c.new-free.ensures.items
       (All-nil (IsInVariables c.args.variables)),
 )
 
@@ -30,38 +30,34 @@ loop-p-preserved c =
     let m = c.args.variables in
     let e = c.p-item.result in
     let i = c.loop-p.p-index in
-    let first = at_place (λ p. p.order.first ≡ k) c.args.list.now c.requires.blocks i e
+    let first = at_place (λ p. p.order.first ≡ k) _ c.requires.blocks i e
     c.loop-p-test.true c.p-item.is in
-    let arity = at_place (IsInVariables (k + m)) c.args.list.now c.requires.arity i e
+    let arity = at_place (IsInVariables (k + m)) _ c.requires.arity i e
     c.loop-p-test.true c.p-item.is in
-    let more = take_next terms_in c.args.list.now i e c.loop-p-test.true c.p-item.is in
+    let more = take_next terms_in _ i e c.loop-p-test.true c.p-item.is in
     elim c.if-is_free_of_first.branch [
       | then-is_free_of_first+in_ok-without_first+in_ok-push w ↦ (
           let q = w.in_ok-without_first.field-0 in
           let free : IsFreeOfFirst k (terms_in e) =
           c.is_free_of_first.ensures.0 w.if-is_free_of_first.true in
-          let made = rest_made fractions fractions_ring fractions_field zero_is k m q.arity
-          (terms_in e) (terms_in q) free
+          let made = rest_made fractions fractions_ring fractions_field zero_is k m q.arity _ _ free
           (subst (λ j. IsPolynomial ℚ (blocks j grevlex grevlex) (k + m) (terms_in e)) first
-          (polynomial_over (k + m) e arity)) q.polynomial
-          w.in_ok-without_first.ensures.rest.same in
+          (polynomial_over (k + m) e arity)) q.polynomial w.in_ok-without_first.ensures.rest.same in
           let rest : q.arity ≡ m = w.in_ok-without_first.ensures.rest.arity
           ∙ (omega (arith, arity)) in
           let items = ap (λ v. v.items) w.free-is ∙ w.in_ok-push.ensures.items in (
-            kept_step_in k _ _ (terms_each c.loop-p.free.items)
-                (terms_each c.if-is_free_of_first.free.items) (terms_in e) (terms_in q) more
-                (free_all k (terms_in e) free) (ap terms_each items
+            kept_step_in k _ _ _ _ _ _ more
+                (free_all k _ free) (ap terms_each items
                 ∙ map-append terms_in c.loop-p.free.items (q ∷ [])) made c.loop-p.invariant.0,
-            have_more (IsInVariables m) c.loop-p.free.items c.if-is_free_of_first.free.items q items
+            have_more (IsInVariables m) _ _ q items
                 c.loop-p.invariant.1 rest,
           ))
       | else-is_free_of_first w ↦ (
-          let out : all_free k (terms_in e) ≡ false = not_free k (terms_in e)
+          let out : all_free k (terms_in e) ≡ false = not_free k _
           (λ f. (let yes = c.is_free_of_first.ensures.1 f in let no =
           w.if-is_free_of_first.false in let z : ⊥ = cc in z)) in (
             ap (λ v. terms_each v.items) w.free-is
-                ∙ kept_step_out k _ _ (terms_each c.loop-p.free.items) (terms_in e) more out
-                c.loop-p.invariant.0,
+                ∙ kept_step_out k _ _ _ _ more out c.loop-p.invariant.0,
             subst (λ v. All (IsInVariables m) v.items) (sym w.free-is) c.loop-p.invariant.1,
           ))
     ]

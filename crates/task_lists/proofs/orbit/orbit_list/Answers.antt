@@ -1,4 +1,4 @@
-use Rattle.std.proofs.Common.{◌≡◌, ◌+◌, [], ◌++◌, map, length, sym, ap, ap₂, subst, ◌∙◌, arith}
+use Rattle.std.proofs.Common.{◌≡◌, ◌+◌, [], ◌++◌, map, sym, ap, ap₂, subst, ◌∙◌, arith}
 use Rattle.std.proofs.lemmas.List.{length-map, take_all}
 use Rattle.std.proofs.lemmas.Result.{err_from_is_err_and}
 use Rattle.algebra.specs.Fraction.{rationals}
@@ -17,7 +17,7 @@ use Rattle.task_lists.proofs.orbit.orbit_list.Goals.{After-element-item}
 use Rattle.task_lists.proofs.orbit.orbit_list.Goals as goal
 
 over : (c : After-element-item) → c.element-item.result.arity ≡ c.args.variables
-over c = all_at (IsInVariables c.args.variables) c.args.list.now c.loop-element.element-index
+over c = all_at (IsInVariables c.args.variables) _ _
     c.element-item.result c.loop-element-test.true c.element-item.is c.requires.fits.elements
 
 pub loop-element-preserved : goal.loop-element-preserved
@@ -29,22 +29,19 @@ loop-element-preserved c =
     let p = c.in_ok-pulled_back.field-0 in
     record {
       list = grown_through terms_in (pulled_back_by r c.args.variables back)
-          (λ (q : Blocked). terms_in q) [] c.args.list.now c.loop-element.element-index g
-          c.loop-element.gens.items c.push.new.self.items p c.loop-element-test.true
-          c.element-item.is c.in_ok-push.ensures.items
-          (c.in_ok-pulled_back.ensures.pulled_back
-          ∙ ap (λ k. pulled_back_by r k back (terms_in g)) (over at))
-          c.loop-element.invariant.list;
-      block = have_more (HasFront r c.args.variables) c.loop-element.gens.items
-          c.push.new.self.items p c.in_ok-push.ensures.items c.loop-element.invariant.block
-          (subst (λ k. HasFront r k p) (over at) c.in_ok-pulled_back.ensures.block);
+          (λ (q : Blocked). terms_in q) [] _ _ g _ _ p c.loop-element-test.true c.element-item.is
+          c.in_ok-push.ensures.items (c.in_ok-pulled_back.ensures.pulled_back ∙ ap (λ k.
+          pulled_back_by r k back (terms_in g)) (over at)) c.loop-element.invariant.list;
+      block =
+          have_more (HasFront r c.args.variables) _ _ p c.in_ok-push.ensures.items
+          c.loop-element.invariant.block (subst (λ k. HasFront r k p) (over at)
+          c.in_ok-pulled_back.ensures.block);
     }
 
 pub returns-in_err-pulled_back-clause-wide : goal.returns-in_err-pulled_back-clause-wide
 returns-in_err-pulled_back-clause-wide c =
     let p = err_from_is_err_and c.from_residual.result c.from_residual.ensures.1 in
-    λ w. any_mapped terms_in _ c.args.list.now c.loop-element.element-index
-    c.element-item.result c.loop-element-test.true c.element-item.is
+    λ w. any_mapped terms_in _ _ _ _ c.loop-element-test.true c.element-item.is
     (c.in_err-pulled_back.ensures.wide (cc (p.1, p.2, w)))
 
 pub returns-clause-list : goal.returns-clause-list
@@ -56,12 +53,11 @@ returns-clause-list c =
     ∙ sym (length-map c.args.base.now.items _) in
     let first : front c.len.result + 0 ≡ front r = omega (arith, counted) in
     let last : 0 + m ≡ m = omega arith in
-    c.in_ok-push_relations.ensures.list
-    ∙ ap₂ ◌++◌ (c.loop-element.invariant.list ∙ ap (λ gs. map pulled (terms_each gs))
-    (take_all c.loop-element.element-index c.args.list.now c.loop-element-test.false))
-    (ap (λ k. map (collect rationals (blocks k grevlex grevlex)) (relations c.len.result (0 + m)))
-    first ∙ ap₂ (λ n k. map (collect rationals (blocks (front r) grevlex grevlex)) (relations n k))
-    counted last)
+    c.in_ok-push_relations.ensures.list ∙ ap₂ ◌++◌ (c.loop-element.invariant.list ∙ ap (λ gs. map
+    pulled (terms_each gs)) (take_all _ _ c.loop-element-test.false)) (ap (λ k. map
+    (collect rationals (blocks k grevlex grevlex)) (relations c.len.result (0 + m))) first ∙ ap₂
+    (λ n k. map (collect rationals (blocks (front r) grevlex grevlex)) (relations n k)) counted
+    last)
 
 pub returns-clause-block : goal.returns-clause-block
 returns-clause-block c =

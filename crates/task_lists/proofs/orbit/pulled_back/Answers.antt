@@ -23,8 +23,8 @@ width c = front (numbers c) + c.args.p.now.arity
 
 stands : (c : In_ok-moved) → StandsFor (width c) c.in_ok-moved.moved (compose ℚ (width c)
     (terms_in c.args.p.now) (terms_each c.args.back.now.items))
-stands c = composed_stands (width c) c.args.back.now.items c.requires.back
-    (omega (arith, c.requires.some, c.requires.count)) c.args.p.now c.in_ok-moved.moved
+stands c = composed_stands (width c) _ c.requires.back
+    (omega (arith, c.requires.some, c.requires.count)) c.args.p.now
     c.in_ok-moved.ensures.composition
 
 pub returns-in_err-normal-clause-wide : goal.returns-in_err-normal-clause-wide
@@ -33,8 +33,7 @@ returns-in_err-normal-clause-wide c =
     let moved = c.in_ok-moved.moved in
     let p = err_from_is_err_and c.from_residual-in_err-normal.result
     c.from_residual-in_err-normal.ensures.1 in
-    λ w. heavy_composed (width at) (terms_in moved) (terms_in c.args.p.now)
-    (terms_each c.args.back.now.items) (polynomial_over (width at) moved (stands at).arity)
+    λ w. heavy_composed (width at) _ _ (polynomial_over (width at) moved (stands at).arity)
     (stands at).same (c.in_err-normal.ensures.wide (cc (p.1, p.2, w)))
 
 pub returns-clause-pulled_back : goal.returns-clause-pulled_back
@@ -50,9 +49,8 @@ returns-clause-pulled_back c =
           ∙ c.args.base.now.ok.0 ∙ sym (length-map c.args.base.now.items _)));
       arity = i.arity;
       same = i.same;
-    }) (compose ℚ (width at) (terms_in c.args.p.now) back) (stands at)
-    (arity-compose (width at) ℚ (terms_in c.args.p.now) back
-    (arities_over (width at) c.args.back.now.items c.requires.back))
+    }) (compose ℚ (width at) (terms_in c.args.p.now) back) (stands at) (arity-compose (width at) ℚ
+    (terms_in c.args.p.now) back (arities_over (width at) _ c.requires.back))
 
 pub returns-clause-block : goal.returns-clause-block
 returns-clause-block c =

@@ -13,9 +13,7 @@ returns-clause-relation c =
     let p = c.in_ok-relation.relation in
     let r = c.args.numbers in
     let m = c.args.copies + c.args.variables in
-    IfOk-weaker c.reorder.result _ _
-    (λ b is. subst (λ n. terms_in b ≡ collect rationals (blocks n grevlex grevlex)
-    (get_or (relations r m) c.args.place [])) (ap (λ n. n + c.args.copies) c.front.ensures)
-    (relation_placed (c.front.result + c.args.copies) r m c.args.place p b
-    c.in_ok-relation.ensures.relation c.in_ok-relation.ensures.block.1 is))
-    c.reorder.ensures.same
+    IfOk-weaker c.reorder.result _ _ (λ b is. subst (λ n. terms_in b ≡ collect rationals
+    (blocks n grevlex grevlex) (get_or (relations r m) c.args.place []))
+    (ap (λ n. n + c.args.copies) c.front.ensures) (relation_placed _ r m c.args.place p b
+    c.in_ok-relation.ensures.relation c.in_ok-relation.ensures.block.1 is)) c.reorder.ensures.same

@@ -31,15 +31,14 @@ loop-p-preserved c =
     let some = all_at (λ (q : FracPoly). front r ≤ q.arity) list i p c.loop-p-test.true c.p-item.is
     c.requires.front in
     record {
-      normal = λ w qs a h. left_next w (normal (blocks c.args.first grevlex grevlex) r)
-          c.loop-p.gens.items c.push.new.self.items b c.in_ok-push.ensures.items p
-          (λ q s e. normal_is c.args.first w r p c.in_ok-normal.normal b
-          c.in_ok-normal.ensures.normal c.in_ok-normal.ensures.arity some is q s e)
-          (drop (i + 1) list) _ (drop i list) (drop_more list i p c.loop-p-test.true
-          ∙ ap (λ q. q ∷ drop (i + 1) list) (sym c.p-item.is)) (c.loop-p.invariant.normal w qs a h);
+      normal =
+          λ w qs a h. left_next w (normal (blocks c.args.first grevlex grevlex) r) _ b
+          c.in_ok-push.ensures.items p (λ q s e. normal_is c.args.first w r p c.in_ok-normal.normal
+          b c.in_ok-normal.ensures.normal c.in_ok-normal.ensures.arity some is q s e) _ _
+          (drop_more list i p c.loop-p-test.true ∙ ap (λ q. q ∷ drop (i + 1) list)
+          (sym c.p-item.is)) (c.loop-p.invariant.normal w qs a h);
       block = λ w all old. have_more (λ (q : Blocked). (q.order.first ≡ c.args.first)
-          × (q.arity ≡ w)) c.loop-p.gens.items c.push.new.self.items b c.in_ok-push.ensures.items
-          (c.loop-p.invariant.block w all old) (
+          × (q.arity ≡ w)) _ _ b c.in_ok-push.ensures.items (c.loop-p.invariant.block w all old) (
             ap (λ o. o.first) is.order,
             is.arity ∙ c.in_ok-normal.ensures.arity
                 ∙ all_at (IsInVariables w) list i p c.loop-p-test.true c.p-item.is all,
@@ -48,8 +47,7 @@ loop-p-preserved c =
 
 pub returns-clause-normal : goal.returns-clause-normal
 returns-clause-normal c = λ w qs a h.
-    left_end w _ _ _ _ (drop_all c.loop-p.p-index c.args.list.now c.loop-p-test.false)
-    (c.loop-p.invariant.normal w qs a h)
+    left_end w _ _ _ _ (drop_all _ _ c.loop-p-test.false) (c.loop-p.invariant.normal w qs a h)
 
 pub returns-clause-block : goal.returns-clause-block
 returns-clause-block c = c.loop-p.invariant.block
@@ -57,5 +55,5 @@ returns-clause-block c = c.loop-p.invariant.block
 pub returns-in_err-normal-clause-wide : goal.returns-in_err-normal-clause-wide
 returns-in_err-normal-clause-wide c =
     let p = err_from_is_err_and c.from_residual.result c.from_residual.ensures.1 in
-    λ w. any_mapped terms_in _ c.args.list.now c.loop-p.p-index c.p-item.result
+    λ w. any_mapped terms_in _ _ _ _
     c.loop-p-test.true c.p-item.is (c.in_err-normal.ensures.wide (cc (p.1, p.2, w)))

@@ -24,14 +24,13 @@ loop-p-preserved c =
     let b = c.in_ok-reorder.field-0 in
     let is = c.in_ok-reorder.ensures.same in
     record {
-      placed = λ w qs a h. left_next w (collect rationals (blocks c.args.first grevlex grevlex))
-          c.loop-p.gens.items c.push.new.self.items b c.in_ok-push.ensures.items p
-          (λ q s e. placed_is c.args.first w p b is q s e) (drop (i + 1) list) _ (drop i list)
-          (drop_more list i p c.loop-p-test.true
-          ∙ ap (λ q. q ∷ drop (i + 1) list) (sym c.p-item.is)) (c.loop-p.invariant.placed w qs a h);
+      placed =
+          λ w qs a h. left_next w (collect rationals (blocks c.args.first grevlex grevlex)) _ b
+          c.in_ok-push.ensures.items p (λ q s e. placed_is c.args.first w p b is q s e) _ _
+          (drop_more list i p c.loop-p-test.true ∙ ap (λ q. q ∷ drop (i + 1) list)
+          (sym c.p-item.is)) (c.loop-p.invariant.placed w qs a h);
       block = λ w all old. have_more (λ (q : Blocked). (q.order.first ≡ c.args.first)
-          × (q.arity ≡ w)) c.loop-p.gens.items c.push.new.self.items b c.in_ok-push.ensures.items
-          (c.loop-p.invariant.block w all old) (
+          × (q.arity ≡ w)) _ _ b c.in_ok-push.ensures.items (c.loop-p.invariant.block w all old) (
             ap (λ o. o.first) is.order,
             is.arity ∙ all_at (IsInVariables w) list i p c.loop-p-test.true c.p-item.is all,
           );
@@ -39,8 +38,7 @@ loop-p-preserved c =
 
 pub returns-clause-placed : goal.returns-clause-placed
 returns-clause-placed c = λ w qs a h.
-    left_end w _ _ _ _ (drop_all c.loop-p.p-index c.args.list.now c.loop-p-test.false)
-    (c.loop-p.invariant.placed w qs a h)
+    left_end w _ _ _ _ (drop_all _ _ c.loop-p-test.false) (c.loop-p.invariant.placed w qs a h)
 
 pub returns-clause-block : goal.returns-clause-block
 returns-clause-block c = c.loop-p.invariant.block

@@ -24,23 +24,20 @@ loop-place-preserved c =
     let within : i < length all = omega (arith, count, c.loop-place-test.true) in
     record {
       list = grown_behind (λ (q : Blocked). terms_in q)
-          (collect rationals (blocks n grevlex grevlex)) (terms_each c.args.gens.now.items) all i
-          (get_or all i []) c.loop-place.gens.items c.push.new.self.items p within
+          (collect rationals (blocks n grevlex grevlex)) _ all i _ _ _ p within
           (get_or_default all i [] (get_or all i []) within) c.in_ok-push.ensures.items
           c.in_ok-placed_relation.ensures.relation c.loop-place.invariant.list;
       block = λ b. have_more (λ (q : Blocked). (q.order.first ≡ n)
-          × (q.arity ≡ n + c.args.variables)) c.loop-place.gens.items c.push.new.self.items p
-          c.in_ok-push.ensures.items (c.loop-place.invariant.block b)
-          c.in_ok-placed_relation.ensures.block;
+          × (q.arity ≡ n + c.args.variables)) _ _ p c.in_ok-push.ensures.items
+          (c.loop-place.invariant.block b) c.in_ok-placed_relation.ensures.block;
     }
 
 pub returns-clause-list : goal.returns-clause-list
 returns-clause-list c =
     let count = relations_count c.args.numbers (c.args.copies + c.args.variables) in
-    c.loop-place.invariant.list
-    ∙ ap (λ l. terms_each c.args.gens.now.items ++ map (collect rationals
-    (blocks (front c.args.numbers + c.args.copies) grevlex grevlex)) l)
-    (take_all c.loop-place.place _ (omega (arith, count, c.loop-place-test.false)))
+    c.loop-place.invariant.list ∙ ap (λ l. terms_each c.args.gens.now.items ++ map
+    (collect rationals (blocks (front c.args.numbers + c.args.copies) grevlex grevlex)) l)
+    (take_all _ _ (omega (arith, count, c.loop-place-test.false)))
 
 pub returns-clause-block : goal.returns-clause-block
 returns-clause-block c = c.loop-place.invariant.block

@@ -21,7 +21,7 @@ abbrev other_term : (c : In_ok-push-2) → Term Frac
 other_term c = record { mono = c.in_ok-one.field-0; coef = c.neg.result }
 
 items_are : (c : In_ok-push-2) → c.push-2.new.self.items ≡ one_term c ∷ other_term c ∷ []
-items_are c = two_items c.new-terms.result.items c.push.new.self.items c.push-2.new.self.items
+items_are c = two_items
     (one_term c) (other_term c) c.new-terms.ensures.items c.in_ok-push.ensures.items
     c.in_ok-push-2.ensures.items
 
@@ -37,23 +37,20 @@ less_one c = c.neg.ensures ∙ ap ℚ.neg c.one-3.ensures
 pub from_distinct-requires-clause-arities : goal.from_distinct-requires-clause-arities
 from_distinct-requires-clause-arities c =
     let at = (goal.at.from_distinct-requires-clause-arities c).In_ok-push-2 in
-    terms_long (width at) c.args.left c.args.right (left_in at) (right_in at)
-    c.push-2.new.self.items (one_term at) (other_term at) (items_are at)
+    terms_long (width at) _ _ (left_in at) (right_in at) (items_are at)
     c.in_ok-product_of.ensures.product c.one.ensures c.in_ok-one.ensures.ok (less_one at)
 
 pub from_distinct-requires-clause-distinct : goal.from_distinct-requires-clause-distinct
 from_distinct-requires-clause-distinct c =
     let at = (goal.at.from_distinct-requires-clause-distinct c).In_ok-push-2 in
-    terms_apart (width at) c.args.left c.args.right (left_in at) (right_in at)
-    c.push-2.new.self.items (one_term at) (other_term at) (items_are at)
+    terms_apart (width at) _ _ (left_in at) (right_in at) (items_are at)
     c.in_ok-product_of.ensures.product c.one.ensures c.in_ok-one.ensures.ok (less_one at)
 
 pub returns-clause-relation : goal.returns-clause-relation
 returns-clause-relation c =
     let at = (goal.at.returns-clause-relation c).In_ok-push-2 in
     let f = c.front-first.ensures in
-    let is = terms_relation (width at) c.args.left c.args.right (left_in at) (right_in at)
-    c.push-2.new.self.items (one_term at) (other_term at) (items_are at)
+    let is = terms_relation (width at) _ _ (left_in at) (right_in at) (items_are at)
     c.in_ok-product_of.ensures.product c.one.ensures c.in_ok-one.ensures.ok (less_one at) in
     IfOk-weaker c.from_distinct.result _ _
     (λ p i. relation_is c.args.numbers c.args.vars c.args.left c.args.right c.requires.left

@@ -11,8 +11,7 @@ use Rattle.task_lists.proofs.s_polynomial.multiple_with_lead.Goals as goal
 
 pub quotient-requires-clause-arity : goal.quotient-requires-clause-arity
 quotient-requires-clause-arity g c =
-    c.requires.long
-    ∙ sym (lead_length _ (terms_in c.args.f.now) c.requires.nonzero c.args.f.now.polynomial.arity)
+    c.requires.long ∙ sym (lead_length _ _ c.requires.nonzero c.args.f.now.polynomial.arity)
     ∙ ap length (sym c.lead_monomial.ensures)
 
 pub quotient-requires-clause-divides : goal.quotient-requires-clause-divides
@@ -25,11 +24,10 @@ returns-clause-product g c =
     let lead = c.lead_monomial.ensures in
     let long = c.in_ok-factor.ensures.arity ∙ c.requires.long
     ∙ sym (lead_length _ p c.requires.nonzero c.args.f.now.polynomial.arity) in
-    let is = factor_over c.in_ok-factor.factor (lead_of p) c.args.multiple.now
+    let is = factor_over _ (lead_of p)
     (ap (λ d. plus d c.in_ok-factor.factor) (sym lead) ∙ c.in_ok-factor.ensures.ok) long in
-    is_as c.shift.result _ _ _ _ _ _ refl refl
-    (λ q same. subst (λ d. Same ℚ (terms_in q) (shift ℚ d ℚ.one p)) is same)
-    c.shift.ensures.product
+    is_as _ _ _ _ _ _ _ refl refl (λ q same. subst (λ d. Same ℚ (terms_in q) (shift ℚ d ℚ.one p)) is
+    same) c.shift.ensures.product
 
 pub returns-clause-wide : goal.returns-clause-wide
 returns-clause-wide g c =
@@ -37,6 +35,6 @@ returns-clause-wide g c =
     let lead = c.lead_monomial.ensures in
     let long = c.in_ok-factor.ensures.arity ∙ c.requires.long
     ∙ sym (lead_length _ p c.requires.nonzero c.args.f.now.polynomial.arity) in
-    let is = factor_over c.in_ok-factor.factor (lead_of p) c.args.multiple.now
+    let is = factor_over _ (lead_of p)
     (ap (λ d. plus d c.in_ok-factor.factor) (sym lead) ∙ c.in_ok-factor.ensures.ok) long in
     λ w fits. c.shift.ensures.wide w (subst (λ d. FitsMonomial (plus d (degrees p))) (sym is) fits)

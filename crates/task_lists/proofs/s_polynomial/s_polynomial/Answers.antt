@@ -15,11 +15,9 @@ use Rattle.task_lists.proofs.s_polynomial.s_polynomial.Goals as goal
 
 pub multiple_with_lead-requires-clause-long : goal.multiple_with_lead-requires-clause-long
 multiple_with_lead-requires-clause-long g c =
-    multiple_length _ c.args.multiple.now (terms_in c.args.f.now) (terms_in c.args.g.now)
-    c.requires.nonzero.0 c.requires.nonzero.1 c.args.f.now.polynomial.arity
+    multiple_length _ _ _ c.requires.nonzero.0 c.requires.nonzero.1 c.args.f.now.polynomial.arity
     (subst (λ n. Arity n (terms_in c.args.g.now)) (sym c.requires.arity)
-    c.args.g.now.polynomial.arity)
-    c.requires.multiple
+    c.args.g.now.polynomial.arity) c.requires.multiple
 
 pub multiple_with_lead-requires-clause-divided : goal.multiple_with_lead-requires-clause-divided
 multiple_with_lead-requires-clause-divided g c =
@@ -28,10 +26,9 @@ multiple_with_lead-requires-clause-divided g c =
 
 pub multiple_with_lead-requires-2-clause-long : goal.multiple_with_lead-requires-2-clause-long
 multiple_with_lead-requires-2-clause-long g c =
-    multiple_length _ c.args.multiple.now (terms_in c.args.f.now) (terms_in c.args.g.now)
-    c.requires.nonzero.0 c.requires.nonzero.1
-    (subst (λ n. Arity n (terms_in c.args.f.now)) c.requires.arity
-    c.args.f.now.polynomial.arity) c.args.g.now.polynomial.arity c.requires.multiple
+    multiple_length _ _ _ c.requires.nonzero.0 c.requires.nonzero.1 (subst (λ n. Arity n
+    (terms_in c.args.f.now)) c.requires.arity c.args.f.now.polynomial.arity)
+    c.args.g.now.polynomial.arity c.requires.multiple
 
 pub multiple_with_lead-requires-2-clause-divided : goal.multiple_with_lead-requires-2-clause-divided
 multiple_with_lead-requires-2-clause-divided g c =
@@ -42,18 +39,16 @@ pub returns-clause-difference : goal.returns-clause-difference
 returns-clause-difference g c =
     let left = c.in_ok-left.ensures.product in
     let right = c.in_ok-right.ensures.product in
-    is_as c.sub.result _ _ _ _ _ _ left.order left.arity
-    (λ p same. Same-trans ℚ same (same_append ℚ_ring left.same (same_negate ℚ_ring right.same)))
-    c.sub.ensures.difference
+    is_as _ _ _ _ _ _ _ left.order left.arity (λ p same. Same-trans ℚ same (same_append ℚ_ring
+    left.same (same_negate ℚ_ring right.same))) c.sub.ensures.difference
 
 pub returns-clause-wide : goal.returns-clause-wide
 returns-clause-wide g c =
     let f = c.args.f.now in
     let left = c.in_ok-left.ensures.product in
     let right = c.in_ok-right.ensures.product in
-    λ w. inl (past_multiples fractions fractions_ring fractions_bounded (g.O.Order.order f.order)
-    (g.met.O.Order.is_order f.order) f.arity (terms_in c.in_ok-left.left)
-    (terms_in c.in_ok-right.right) _ _ _ _
+    λ w. inl (past_multiples fractions fractions_ring fractions_bounded
+    (g.met.O.Order.is_order f.order) f.arity _ _ _ _
     (polynomial_as f.order f.arity c.in_ok-left.left left.order left.arity)
     (polynomial_as f.order f.arity c.in_ok-right.right (right.order ∙ sym c.requires.order)
     (right.arity ∙ sym c.requires.arity)) left.same right.same (c.sub.ensures.wide w))

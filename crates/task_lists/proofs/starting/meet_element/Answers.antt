@@ -2,7 +2,6 @@ use Rattle.std.proofs.Common.{◌≡◌, ◌<◌, ◌≤◌, ◌-◌, [], length
 use Rattle.std.proofs.lemmas.List.{get_or-map, length-map}
 use Rattle.std.proofs.lemmas.Result.{IfOk-weaker}
 use Rattle.algebra.specs.Fraction.{ℚ, rationals}
-use Rattle.polynomials.specs.Terms.{Terms}
 use Rattle.machines.specs.Elimination.{with_first}
 use Rattle.poly.specs.Blending.{times_rest}
 use Rattle.poly.specs.Seen.{terms_in, terms_each}
@@ -15,12 +14,10 @@ returns-then-place-len-clause-same c =
     let left = c.args.left.now.items in
     let size : c.len.result ≡ length left = c.len.ensures ∙ c.args.left.now.ok.0 in
     let inside : c.args.place < length left = omega (arith, c.if-place-len.true, size) in
-    IfOk-weaker c.times_t.result _ _ (λ p is. same_equal ℚ (terms_in p) _
-    (is ∙ at_front with_first (terms_each left)
-    (map (times_rest rationals) (terms_each c.args.right.now.items))
-    c.args.place (terms_in c.index.result.now) (omega (arith, inside, length-map left terms_in))
-    (seen_at terms_in left c.args.place c.index.result.now inside c.index.ensures)))
-    c.times_t.ensures.product
+    IfOk-weaker c.times_t.result _ _ (λ p is. same_equal ℚ _ _ (is ∙ at_front with_first
+    (terms_each left) (map (times_rest rationals) (terms_each c.args.right.now.items)) c.args.place
+    (omega (arith, inside, length-map left terms_in))
+    (seen_at terms_in left _ inside c.index.ensures))) c.times_t.ensures.product
 
 pub returns-clause-same : goal.returns-clause-same
 returns-clause-same c =
@@ -34,10 +31,8 @@ returns-clause-same c =
     let all = meet_count with_first (times_rest rationals) (terms_each left) (terms_each right) in
     let seen : j < length (terms_each right) = omega (arith, c.requires.place, all, size, behind) in
     let inside : j < length right = omega (arith, seen, length-map right terms_in) in
-    IfOk-weaker c.times_one_less_t.result _ _ (λ p is. same_equal ℚ (terms_in p) _
-    (is ∙ ap (times_rest rationals)
-    (seen_at terms_in right j c.index-2.result.now inside c.index-2.ensures)
-    ∙ sym (get_or-map (times_rest rationals) (terms_each right) j [] [] seen)
-    ∙ at_back with_first (terms_each left) (map (times_rest rationals) (terms_each right))
-    c.args.place c.len-2.result size behind))
+    IfOk-weaker c.times_one_less_t.result _ _ (λ p is. same_equal ℚ _ _
+    (is ∙ ap (times_rest rationals) (seen_at terms_in right j inside c.index-2.ensures)
+    ∙ sym (get_or-map (times_rest rationals) (terms_each right) j [] [] seen) ∙ at_back with_first
+    (terms_each left) (map (times_rest rationals) (terms_each right)) _ size behind))
     c.times_one_less_t.ensures.product

@@ -33,13 +33,11 @@ returns-then-place-len-clause-same c =
     let element = c.index.result.now in
     let arity : element.arity ≡ c.args.variables = subst (IsInVariables c.args.variables)
     (sym c.index.ensures) (c.requires.fits.elements c.args.place element inside) in
-    IfOk-weaker c.pulled_back.result _ _ (λ p is. same_equal ℚ (terms_in p) _ (is
-    ∙ ap (λ k. pulled_back_by r k back (terms_in element)) arity
-    ∙ at_front (pulled_back_by r c.args.variables back) (terms_each list)
-    (orbit_relations r c.args.variables) c.args.place (terms_in element)
+    IfOk-weaker c.pulled_back.result _ _ (λ p is. same_equal ℚ _ _ (is ∙ ap (λ k. pulled_back_by r k
+    back (terms_in element)) arity ∙ at_front (pulled_back_by r c.args.variables back)
+    (terms_each list) (orbit_relations r c.args.variables) c.args.place
     (omega (arith, inside, length-map list terms_in))
-    (seen_at terms_in list c.args.place element inside c.index.ensures)))
-    c.pulled_back.ensures.pulled_back
+    (seen_at terms_in list _ inside c.index.ensures))) c.pulled_back.ensures.pulled_back
 
 pub returns-clause-same : goal.returns-clause-same
 returns-clause-same c =
@@ -57,8 +55,8 @@ returns-clause-same c =
     r m in
     let within : j < length (relations r m) = (let n = relations_count r m in
     omega (arith, c.requires.place, all, n, size, behind)) in
-    same_equal ℚ (terms_in c.in_ok-relation_at.field-0) _ (c.in_ok-relation_at.ensures.relation
+    same_equal ℚ _ _ (c.in_ok-relation_at.ensures.relation
     ∙ ap (λ k. collect rationals (orbit_order k) (get_or (relations k m) j [])) numbers
     ∙ sym (get_or-map (collect rationals (orbit_order r)) (relations r m) j [] [] within)
     ∙ at_back (pulled_back_by r m (terms_each c.args.back.now.items)) (terms_each list)
-    (orbit_relations r m) c.args.place c.len-3.result size behind)
+    (orbit_relations r m) _ size behind)

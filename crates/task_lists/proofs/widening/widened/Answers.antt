@@ -27,8 +27,8 @@ wider_terms-requires-clause-long c =
     subst (λ ts. All (λ (t : Term Frac). c.args.shape.front ≤ length t.mono) ts)
     (sym (c.deref.ensures.value ∙ ap (λ v. v.items) c.terms.ensures))
     (All-weaker (λ (t : Term Frac). length t.mono ≡ p.arity)
-    (λ t. c.args.shape.front ≤ length t.mono) (λ t e. omega (arith, e, r)) p.terms.items
-    (all_arity fraction_of _ p.terms.items p.polynomial.arity))
+    (λ t. c.args.shape.front ≤ length t.mono) (λ t e. omega (arith, e, r)) _
+    (all_arity fraction_of _ _ p.polynomial.arity))
 
 pub wider_terms-requires-clause-few : goal.wider_terms-requires-clause-few
 wider_terms-requires-clause-few c =
@@ -38,8 +38,8 @@ wider_terms-requires-clause-few c =
     subst (λ ts. All (λ (t : Term Frac). c.args.shape.copies + length t.mono ≤ 4096) ts)
     (sym (c.deref.ensures.value ∙ ap (λ v. v.items) c.terms.ensures))
     (All-weaker (λ (t : Term Frac). length t.mono ≡ p.arity)
-    (λ t. c.args.shape.copies + length t.mono ≤ 4096) (λ t e. omega (arith, e, r, few))
-    p.terms.items (all_arity fraction_of _ p.terms.items p.polynomial.arity))
+    (λ t. c.args.shape.copies + length t.mono ≤ 4096) (λ t e. omega (arith, e, r, few)) _
+    (all_arity fraction_of _ _ p.polynomial.arity))
 
 made_is : (c : In_ok-terms) → terms_of fraction_of c.in_ok-terms.terms.items
     ≡ retold (wider c.args.shape.front c.args.shape.copies) (terms_in c.args.p.now)
@@ -56,19 +56,15 @@ from_distinct-requires-clause-arities c =
     let at = (goal.at.from_distinct-requires-clause-arities c).In_ok-terms in
     let s = c.args.shape in
     subst (λ n. All (λ (t : Term Frac). length t.mono ≡ n) c.in_ok-terms.terms.items)
-    (sym c.width.ensures)
-    (all_arity fraction_of (width_of s) c.in_ok-terms.terms.items
-    (subst (Arity (width_of s)) (sym (made_is at))
-    (wider_arity s.front s.copies s.variables (terms_in c.args.p.now) (over at))))
+    (sym c.width.ensures) (all_arity fraction_of _ _ (subst (Arity (width_of s)) (sym (made_is at))
+    (wider_arity s.front s.copies _ _ (over at))))
 
 pub from_distinct-requires-clause-distinct : goal.from_distinct-requires-clause-distinct
 from_distinct-requires-clause-distinct c =
     let at = (goal.at.from_distinct-requires-clause-distinct c).In_ok-terms in
     let s = c.args.shape in
-    pairs_of c.in_ok-terms.terms.items _ (made_is at)
-    (differ_wider s.front s.copies s.variables (terms_in c.args.p.now) (over at)
-    (differ_falls grevlex grevlex_order (terms_in c.args.p.now)
-    c.args.p.now.polynomial.falls))
+    pairs_of _ _ (made_is at) (differ_wider s.front s.copies _ _ (over at) (differ_falls grevlex
+    grevlex_order _ c.args.p.now.polynomial.falls))
 
 pub returns : goal.returns
 returns c = record {
@@ -79,7 +75,7 @@ returns c = record {
         order = refl;
         arity = i.arity ∙ c.width.ensures;
         same = Same-trans ℚ (subst (Same ℚ (terms_in q)) (made_is at) i.same)
-            (widened_same s.front s.copies s.variables (terms_in c.args.p.now) (over at));
+            (widened_same s.front s.copies s.variables _ (over at));
       })
       c.from_distinct.ensures;
 }

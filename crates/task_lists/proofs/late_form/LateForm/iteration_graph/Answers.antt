@@ -57,8 +57,7 @@ before-requires-clause-over c =
     let b = c.requires.shape.variables in
     subst (λ ps. All (IsInVariables (s.front + s.variables)) ps) (sym c.deref.ensures.value)
     (subst (λ n. All (IsInVariables n) c.push_told.new.out.items) (omega (arith, a, b))
-    (stands_over m c.push_told.new.out.items _
-    (all_told (goal.at.before-requires-clause-over c).In_ok-push_told)))
+    (stands_over m _ _ (all_told (goal.at.before-requires-clause-over c).In_ok-push_told)))
 
 stands : (c : In_ok-before) → AllStandFor (width_of c.args.shape) c.in_ok-before.before.items
     (before_in (width_of c.args.shape) c.args.shape.front c.args.self.now.passing.now.items 0
@@ -84,7 +83,7 @@ graph-requires-clause-count c =
     let f = c.args.self.now in
     let at = goal.at.graph-requires-clause-count c in
     before_length f c.requires.fits _ c.args.shape c.requires.shape _ _
-    (iteration_told f c.requires.fits c.push_told.new.out.items (all_told at.In_ok-push_told))
+    (iteration_told f c.requires.fits _ (all_told at.In_ok-push_told))
     (iteration_count f c.requires.fits) c.in_ok-before.before.items (stands at.In_ok-before)
 
 pub graph-requires-clause-before : goal.graph-requires-clause-before
@@ -92,26 +91,22 @@ graph-requires-clause-before c =
     let f = c.args.self.now in
     let at = goal.at.graph-requires-clause-before c in
     before_over f c.requires.fits _ c.args.shape c.requires.shape _ _
-    (iteration_told f c.requires.fits c.push_told.new.out.items (all_told at.In_ok-push_told))
+    (iteration_told f c.requires.fits _ (all_told at.In_ok-push_told))
     (iteration_count f c.requires.fits) c.in_ok-before.before.items (stands at.In_ok-before)
 
 pub returns-clause-graph : goal.returns-clause-graph
 returns-clause-graph c =
     let f = c.args.self.now in
     let at = goal.at.returns-clause-graph c in
-    IfOk-weaker c.graph.result _ _
-    (λ out a. graph_stands f c.requires.fits _ c.args.shape c.requires.shape _ _
-    (iteration_told f c.requires.fits c.push_told.new.out.items (all_told at.In_ok-push_told))
+    IfOk-weaker c.graph.result _ _ (λ out a. graph_stands f c.requires.fits _ c.args.shape
+    c.requires.shape _ _ (iteration_told f c.requires.fits _ (all_told at.In_ok-push_told))
     (iteration_count f c.requires.fits) c.in_ok-before.before.items (stands at.In_ok-before) _ _
-    out.items
-    a)
-    c.graph.ensures.graph
+    out.items a) c.graph.ensures.graph
 
 pub returns-clause-wide : goal.returns-clause-wide
 returns-clause-wide c = λ w.
     let f = c.args.self.now in
     let at = goal.at.returns-clause-wide c in
-    inr (graph_past f c.requires.fits _ c.args.shape c.requires.shape _ _
-    (iteration_told f c.requires.fits c.push_told.new.out.items (all_told at.In_ok-push_told))
-    (iteration_count f c.requires.fits) c.in_ok-before.before.items (stands at.In_ok-before) _ _
-    (c.graph.ensures.wide w))
+    inr (graph_past f c.requires.fits _ c.args.shape c.requires.shape _ _ (iteration_told f
+    c.requires.fits _ (all_told at.In_ok-push_told)) (iteration_count f c.requires.fits)
+    c.in_ok-before.before.items (stands at.In_ok-before) _ _ (c.graph.ensures.wide w))

@@ -16,11 +16,10 @@ returns-clause-list c =
     let is = c.shape-shape.ensures.shape in
     let fs = c.args.images.now in
     let gs = c.args.list.now in
-    iteration_list_is f s is fs gs c.new-gens.result.items _ c.new-gens.ensures.items
+    iteration_list_is f s is fs gs _ c.new-gens.ensures.items
     (c.in_ok-push_placed.ensures.placed (width_of s) (iteration_graph_of f fs gs)
     (subst (λ (ps : List FracPoly). AllStandFor (width_of s) ps (iteration_graph_of f fs gs))
-    (sym c.deref.ensures.value) c.in_ok-graph.ensures.graph)
-    (iteration_arities f s is fs gs))
+    (sym c.deref.ensures.value) c.in_ok-graph.ensures.graph) (iteration_arities f s is fs gs))
 
 pub returns-clause-block : goal.returns-clause-block
 returns-clause-block c =
@@ -33,11 +32,9 @@ returns-clause-block c =
     let a = is.front in let b = is.copies in let d = is.variables in omega (arith, a, b, d) in
     let none = subst (λ (ps : List Blocked). HaveBlock s.copies (width_of s) ps)
     (sym c.new-gens.ensures.items) (λ k d l. absurd (omega (arith, l))) in
-    let here = c.in_ok-push_placed.ensures.block (width_of s)
-    (subst (λ (ps : List FracPoly). All (IsInVariables (width_of s)) ps) (sym c.deref.ensures.value)
-    (stands_over (width_of s) c.in_ok-graph.graph.items (iteration_graph_of f fs gs)
-    c.in_ok-graph.ensures.graph))
-    none in
+    let here = c.in_ok-push_placed.ensures.block (width_of s) (subst (λ (ps : List FracPoly). All
+    (IsInVariables (width_of s)) ps) (sym c.deref.ensures.value)
+    (stands_over _ _ _ c.in_ok-graph.ensures.graph)) none in
     subst (λ n. HaveBlock n (n + vars_in f) c.push_placed.new.gens.items) is.copies
     (subst (λ v. HaveBlock s.copies v c.push_placed.new.gens.items)
     (w ∙ ap (λ n. n + vars_in f) (sym is.copies)) here)

@@ -79,7 +79,7 @@ graph-requires-clause-forms c =
     let b = c.requires.shape.variables in
     subst (λ ps. All (IsInVariables (s.front + s.variables)) ps) (sym c.deref.ensures.value)
     (subst (λ n. All (IsInVariables n) c.in_ok-forms.forms.items) (omega (arith, a, b))
-    (bodies_over _ _ f.polys.now.items c.in_ok-forms.forms.items c.requires.fits.over
+    (bodies_over _ _ f.polys.now.items _ c.requires.fits.over
     (c.in_ok-forms.ensures.arities ∙ ap (λ es. map (λ e. e.body.arity) es)
     c.as_slice-3.ensures.value)))
 

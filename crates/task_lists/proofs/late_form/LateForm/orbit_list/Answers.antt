@@ -26,7 +26,7 @@ few c = shape_few c.args.self.now c.requires.fits _ c.shape-shape.result (shaped
 
 over : (c : In_ok-graph) → All (IsInVariables (width_of c.shape-shape.result))
     c.in_ok-graph.graph.items
-over c = stands_over (width_of c.shape-shape.result) c.in_ok-graph.graph.items _
+over c = stands_over _ _ _
     (c.in_ok-graph.ensures.graph)
 
 pub overflow_add-first : goal.overflow_add-first
@@ -57,12 +57,11 @@ returns-clause-list c =
     let s = c.shape-shape.result in
     let gs = c.args.list.now in
     orbit_list_is f s (shaped at.After-shape-shape) gs _ (counted at.After-shape-shape)
-    c.new-gens.result.items c.push_normal.new.gens.items _ c.new-gens.ensures.items
+    c.new-gens.result.items _ _ c.new-gens.ensures.items
     (c.in_ok-push_normal.ensures.normal (width_of s) (orbit_graph_of f gs)
     (subst (λ (ps : List FracPoly). AllStandFor (width_of s) ps (orbit_graph_of f gs))
     (sym c.deref.ensures.value) c.in_ok-graph.ensures.graph)
-    (orbit_arities f s (shaped at.After-shape-shape) gs))
-    c.in_ok-push_relations.ensures.list
+    (orbit_arities f s (shaped at.After-shape-shape) gs)) c.in_ok-push_relations.ensures.list
 
 pub returns-clause-block : goal.returns-clause-block
 returns-clause-block c =
