@@ -45,7 +45,8 @@ module _ {O : Rank} (o : IsMonomialOrder O) (e : List ℕ) (p x : Terms Fraction
     first_tells m h t is =
         let lead : IsLead ℚ O t.0 x = lead_along O o ℚ_ring t.0 p x same
         (lead_of_first O o ℚ_ring m p t h is) in (
-          λ less d k. subst (λ y. compare O y e ≡ Less) (lead_unique O o ℚ_ring t.0 d x lead k) less,
+          λ less d k. subst (λ y. compare O y e ≡ Less) (lead_unique O o ℚ_ring t.0 d x lead k)
+              less,
           λ all. all t.0 lead,
         )
 

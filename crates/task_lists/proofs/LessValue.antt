@@ -98,8 +98,8 @@ module _ (i : ℕ) (value variable : FracPoly) {opposite : FracPoly} (l : i < va
     only_unit e (zero, below, is) = sym is
     only_unit e (suc k, below, is) = absurd (omega (arith, below))
 
-    pub nothing_shared : IsWithout i (terms_in value) → Share (terms_in variable) (terms_in opposite)
-        → ⊥
+    pub nothing_shared : IsWithout i (terms_in value)
+        → Share (terms_in variable) (terms_in opposite) → ⊥
     nothing_shared a s =
         let e = only_unit s.monomial (subst (λ q. Contains (monomials q) s.monomial)
         (variable_terms o n i inside variable v) s.in_left) in
