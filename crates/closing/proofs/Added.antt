@@ -91,10 +91,10 @@ module _ (e : Form) (row : List ℤ) (rest : List Residue)
       scaled = scaled;
     }
 
-pub fresh_wide : (e : Form) (row : List ℤ) (f : LedRow) (n : ℕ)
+pub fresh_wide : {e : Form} {row : List ℤ} (f : LedRow) {n : ℕ}
     → IsFresh (pos modulus) e row (led_of f) → length f.entries.items ≡ n
     → IsLed (pos modulus) n (led_of f)
-fresh_wide e row f n h w =
+fresh_wide {e = e} {row = row} f h w =
     subst (λ k. IsLed (pos modulus) k (led_of f))
     (sym h.width ∙ length-map f.entries.items number_of ∙ w)
     (fresh_led (pos modulus) e row (led_of f) h)
@@ -103,20 +103,20 @@ entries_wide : (n : ℕ) (rows : List LedRow) → Each (IsLed (pos modulus) n) (
     → Each (λ r. length r.entries.items ≡ n) rows
 unfolding Each
 entries_wide n [] h = tt
-entries_wide n (r ∷ rows) h = (row_width (pos modulus) n r h.0, entries_wide n rows h.1)
+entries_wide n (r ∷ rows) h = (row_width r h.0, entries_wide n rows h.1)
 
-pub rows_wide : (n m : ℕ) (rows news : List LedRow)
-    → Each (IsLed (pos modulus) n) (leds_of rows) → news ≡ rows → m ≡ n
-    → Each (λ r. length r.entries.items ≡ m) news
-rows_wide n m rows news h s e =
+pub rows_wide : {n m : ℕ} (rows news : List LedRow) → Each (IsLed (pos modulus) n) (leds_of rows)
+    → news ≡ rows → m ≡ n → Each (λ r. length r.entries.items ≡ m) news
+rows_wide {n = n} rows news h s e =
     subst (λ k. Each (λ r. length r.entries.items ≡ k) news) (sym e)
     (subst (λ l. Each (λ r. length r.entries.items ≡ n) l) (sym s) (entries_wide n rows h))
 
-pub added_as : (e : Form) (row : List ℤ) (f : LedRow) (rows olds cleared final : List LedRow)
+pub added_as : {e : Form} {row : List ℤ} (f : LedRow) (rows : List LedRow) {olds : List LedRow}
+    (cleared : List LedRow) {final : List LedRow}
     → e.rows ≡ leds_of olds → rows ≡ olds → IsFresh (pos modulus) e row (led_of f)
     → AllZip (IsClearedBy (pos modulus) (led_of f)) (leds_of rows) (leds_of cleared)
     → final ≡ cleared ++ f ∷ [] → IsAddedAs (pos modulus) e row (leds_of final)
-added_as e row f rows olds cleared final same s fresh are p = record {
+added_as f rows cleared same s fresh are p = record {
   fresh = led_of f;
   is = fresh;
   cleared = leds_of cleared;
@@ -126,14 +126,12 @@ added_as e row f rows olds cleared final same s fresh are p = record {
 }
 
 -- ---- the form after it
-pub kept_added : (n : ℕ) (ls : List Led) (row : List ℤ) (fs : List Led) → length row ≡ n
+pub kept_added : (n : ℕ) {ls : List Led} {row : List ℤ} {fs : List Led} → length row ≡ n
     → IsReducedEchelon (pos modulus) n ls
     → IsAddedAs (pos modulus) (record { width = n; rows = ls }) row fs
     → IsReducedEchelon (pos modulus) n fs
-kept_added n ls row fs w kept a =
-    form_own (pos modulus) n (map (λ l. l.row) ls ++ row ∷ []) fs
-    (added_more (pos modulus) (record { width = n; rows = ls }) row fs a w (map (λ l. l.row) ls)
-    kept)
+kept_added n {ls = ls} {row = row} {fs = fs} w kept a =
+    form_own (pos modulus) n fs (added_more (pos modulus) a w (map (λ l. l.row) ls) kept)
 
 -- whether a row counts
 abbrev Added : Type 0

@@ -20,14 +20,14 @@ module _ (before : List machines.Entry) (ds : List Entry) where
   appended_none = sym (append-nil before)
 
   pub appended_next : (i : ℕ) (d : Entry) → i < length ds → d ≡ get_or ds i d
-      → (es fs : List machines.Entry) → es ≡ before ++ first i → fs ≡ es ++ entry_of d ∷ []
-      → fs ≡ before ++ first (i + 1)
-  appended_next i d inside is es fs h more =
+      → {es : List machines.Entry} (fs : List machines.Entry) → es ≡ before ++ first i
+      → fs ≡ es ++ entry_of d ∷ [] → fs ≡ before ++ first (i + 1)
+  appended_next i d inside is fs h more =
       more ∙ ap (λ xs. xs ++ entry_of d ∷ []) h
       ∙ append_assoc before (first i) (entry_of d ∷ [])
       ∙ ap (λ xs. before ++ xs) (sym (take_next entry_of ds i d inside is))
 
-  module _ (part : List machines.Entry) (all : map entry_of ds ≡ part) where
+  module _ {part : List machines.Entry} (all : map entry_of ds ≡ part) where
     pub appended_part : (i : ℕ) (es : List machines.Entry) → es ≡ before ++ first i
         → IsPartOf before part es
     appended_part i es h = record {

@@ -175,17 +175,13 @@ module _ (m d : ℕ) (es : List (List ℕ)) (are : AreMonomialsUpTo m d es) wher
       sums_multiplied (s ∷ ss) [] h = absurd h
       sums_multiplied (s ∷ ss) (r ∷ rs) h =
           let i = h.0 in
-          congruent_same ℤ_ring (q ∷ [])
-          (sum_first r rs row ∙ ap (λ y. y *ℤ entry row r.column +ℤ share_sum rs row) i.number)
-          (ap (λ y. entry row ct *ℤ y) (sum_first s ss row)
-          ∙ sym (shared ℤ_ring s.number (entry row ct) (entry row s.column) (share_sum ss row)))
-          (congruent_add ℤ_ring (q ∷ []) (s.number *ℤ entry row r.column)
-          (s.number *ℤ (entry row ct *ℤ entry row s.column)) (share_sum rs row)
-          (entry row ct *ℤ share_sum ss row)
-          (congruent_mul ℤ_ring (q ∷ []) s.number s.number (entry row r.column)
-          (entry row ct *ℤ entry row s.column) (congruent_refl ℤ_ring (q ∷ []) s.number)
-          (multiplied r.column s.column (inside r.column i.below) i.within i.monomial))
-          (sums_multiplied ss rs h.1))
+          congruent_same ℤ_ring (q ∷ []) (sum_first r rs row
+          ∙ ap (λ y. y *ℤ entry row r.column +ℤ share_sum rs row) i.number) (ap (λ y. entry row ct
+          *ℤ y) (sum_first s ss row) ∙ sym (shared ℤ_ring s.number (entry row ct)
+          (entry row s.column) (share_sum ss row))) (congruent_add ℤ_ring (q ∷ []) _ _
+          (share_sum rs row) _ (congruent_mul ℤ_ring (q ∷ []) s.number s.number (entry row r.column)
+          _ (congruent_refl ℤ_ring (q ∷ []) s.number) (multiplied r.column s.column
+          (inside r.column i.below) i.within i.monomial)) (sums_multiplied ss rs h.1))
         where
           inside : (k : ℕ) → k < top → k < length es
           inside k b = omega (arith, b, low)
@@ -195,14 +191,10 @@ module _ (m d : ℕ) (es : List (List ℕ)) (are : AreMonomialsUpTo m d es) wher
           → IsMultiple q (entry row c +ℤ share_sum ss row)
           → IsMultiple q (entry row top +ℤ share_sum rs row)
       kills_moved c l e ss rs h k =
-          multiple_to q (entry row top +ℤ share_sum rs row)
-          (entry row ct *ℤ (entry row c +ℤ share_sum ss row))
-          (congruent_same ℤ_ring (q ∷ []) refl
-          (sym (factored ℤ_ring (entry row ct) (entry row c) (share_sum ss row)))
-          (congruent_add ℤ_ring (q ∷ []) (entry row top) (entry row ct *ℤ entry row c)
-          (share_sum rs row) (entry row ct *ℤ share_sum ss row)
-          (multiplied top c low l e) (sums_multiplied ss rs h)))
-          (in_ideal_mul ℤ_ring (entry row ct) k)
+          multiple_to q (congruent_same ℤ_ring (q ∷ []) refl (sym (factored ℤ_ring (entry row ct)
+          (entry row c) (share_sum ss row))) (congruent_add ℤ_ring (q ∷ []) (entry row top)
+          (entry row ct *ℤ entry row c) (share_sum rs row) _ (multiplied top c low l e)
+          (sums_multiplied ss rs h))) (in_ideal_mul ℤ_ring (entry row ct) k)
 
   -- ---- the lemma
   module _ (q : ℤ) (none : IsMultiple q (pos 1) → ⊥) (given : List (List ℤ)) (ls : List Led)
@@ -235,21 +227,16 @@ module _ (m d : ℕ) (es : List (List ℕ)) (are : AreMonomialsUpTo m d es) wher
         let (ct, inside, told) = place_of t wt small in
         let (rs, moves) = all_moved t wt l.lead i.within c low is ss below in
         let lows = below_top t wt l.lead i.within ss rs moves in
-        let shifted = each_weaker (λ r. IsValueRow q es r
-        × IsMultiple q (entry r c +ℤ share_sum ss r))
-        (λ r. IsMultiple q (entry r l.lead +ℤ share_sum rs r))
+        let shifted = each_weaker (λ r. IsValueRow q es r × IsMultiple q
+        (entry r c +ℤ share_sum ss r)) (λ r. IsMultiple q (entry r l.lead +ℤ share_sum rs r))
         (λ r h. kills_moved t wt l.lead i.within q ct inside told r h.0 c low (sym is) ss rs moves
-        h.1) given
-        (each_both (IsValueRow q es) (λ r. IsMultiple q (entry r c +ℤ share_sum ss r)) given values
-        (given_killed q (length es) c ss low (wider c low ss below) given ls e
-        kills)) in
+        h.1) given (each_both (IsValueRow q es) (λ r. IsMultiple q (entry r c +ℤ share_sum ss r))
+        given values (given_killed q c ss low (wider c low ss below) ls e kills)) in
         let final = each_in (λ r. IsMultiple q (entry r l.lead +ℤ share_sum rs r)) (rows_in ls)
-        l.row
-        (rows_killed q (length es) l.lead rs i.within (wider l.lead i.within rs lows) given ls e
-        shifted) (map-in (λ (x : Led). x.row) ls l within) in
-        none (multiple_to q (pos 1) (entry l.row l.lead)
-        (congruent_sym ℤ_ring (q ∷ []) i.one)
-        (first_part q (entry l.row l.lead) (share_sum rs l.row) final (before_sum l i rs lows)))
+        l.row (rows_killed q l.lead rs i.within (wider l.lead i.within rs lows) ls e shifted)
+        (map-in (λ (x : Led). x.row) ls l within) in
+        none (multiple_to q (congruent_sym ℤ_ring (q ∷ []) i.one) (first_part q (entry l.row l.lead)
+        final (before_sum l i rs lows)))
       where
         wider : (k : ℕ) → k < length es → (ss : List Share) → Each (λ s. s.column < k) ss
             → Each (λ s. s.column < length es) ss

@@ -20,7 +20,7 @@ use Rattle.counter_run.specs.Composition.{composition_onto, composition_operatio
 use Rattle.closing.specs.Compositions.{IsComposed}
 use Rattle.counter_run.proofs.WordImages.{terms_are, composed_forms, composing_none, first_none}
 
-module _ (m : ℕ) (q : FracPoly) (over : q.arity ≡ m) (images : List FracPoly)
+module _ {m : ℕ} (q : FracPoly) (over : q.arity ≡ m) (images : List FracPoly)
     (maps : List (Terms Fraction)) (all : AllStandFor m images maps) (am : AllArity m maps) where
   pub all_over : All (IsInVariables q.arity) images
   all_over = subst (λ n. All (IsInVariables n) images) (sym over) (stands_over m images maps all)
@@ -36,31 +36,27 @@ module _ (m : ℕ) (q : FracPoly) (over : q.arity ≡ m) (images : List FracPoly
       composed_forms m q over (terms_in q) (arity_over m q over) (Same-refl ℚ (terms_in q)) images
       maps all am r h
 
-  pub composes : (r : Result FracPoly MapError) (c : FracPoly) → r ≡ Ok c → Made r
+  pub composes : {r : Result FracPoly MapError} (c : FracPoly) → r ≡ Ok c → Made r
       → IsComposed m maps (terms_in q) c
-  composes r c e h =
+  composes c e h =
       let k = forms (Ok c) (subst Made e h) in
       record {
         arity = k.0.arity;
         terms =
-            terms_are m c (compose ℚ m (terms_in q) maps)
-            (arity-compose m ℚ (terms_in q) maps am) k.0;
+            terms_are m c _ (arity-compose m ℚ (terms_in q) maps am) k.0;
       }
 
-  pub limit_here : (r : Result FracPoly MapError) (x : MapError) (at : ℕ) → r ≡ Err x
+  pub limit_here : {r : Result FracPoly MapError} {x : MapError} {at : ℕ} → r ≡ Err x
       → x ≡ map_error.Limit at → Made r
       → IsLimit m (composition_operations m maps [] (terms_in q)) 0
-  limit_here r x at e is h =
+  limit_here {at = at} e is h =
       let s = forms (Err (map_error.Limit at)) (subst Made (e ∙ ap Err is) h) in
-      subst (IsLimit m (composition_operations m maps [] (terms_in q)))
-      (first_none m _ (composition_operations m maps [] (terms_in q)) at
+      subst (IsLimit m (composition_operations m maps [] (terms_in q))) (first_none m _ _ at
       (composing_none m maps [] (terms_in q)) s) s
 
-  pub wide_here : (r : Result FracPoly MapError) (x : MapError) (at : ℕ) → r ≡ Err x
-      → x ≡ map_error.Wide at → Made r
-      → IsWide m (composition_operations m maps [] (terms_in q)) 0
-  wide_here r x at e is h =
+  pub wide_here : {r : Result FracPoly MapError} {x : MapError} (at : ℕ) → r ≡ Err x
+      → x ≡ map_error.Wide at → Made r → IsWide m (composition_operations m maps [] (terms_in q)) 0
+  wide_here at e is h =
       let s = forms (Err (map_error.Wide at)) (subst Made (e ∙ ap Err is) h) in
-      subst (IsWide m (composition_operations m maps [] (terms_in q)))
-      (first_none m _ (composition_operations m maps [] (terms_in q)) at
+      subst (IsWide m (composition_operations m maps [] (terms_in q))) (first_none m _ _ at
       (composing_none m maps [] (terms_in q)) s) s

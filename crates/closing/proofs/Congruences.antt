@@ -19,8 +19,8 @@ module _ (q : ℤ) where
   pub product_ends : (t w : ℤ) → AreCongruent q (t *ℤ pos 1) w → AreCongruent q t w
   product_ends t w h = congruent_same ℤ_ring (q ∷ []) (sym (ℤ_ring.mul-one t)) refl h
 
-  pub sum_begins : (t w : ℤ) → t ≡ pos 0 → AreCongruent q (t +ℤ w) w
-  sum_begins t w e =
+  pub sum_begins : {t : ℤ} (w : ℤ) → t ≡ pos 0 → AreCongruent q (t +ℤ w) w
+  sum_begins w e =
       congruent_same ℤ_ring (q ∷ []) (ap (λ s. s +ℤ w) e ∙ zero-add ℤ_ring w) refl
       (congruent_refl ℤ_ring (q ∷ []) w)
 

@@ -52,18 +52,18 @@ module _ {A : Type 0} (R : CommRing A) where
 
 -- ---- congruence
 module _ (q : ℤ) where
-  pub multiple_to : (x y : ℤ) → AreCongruent q x y → IsMultiple q y → IsMultiple q x
-  multiple_to x y h i = congruent_member ℤ_ring (q ∷ []) x y h i
+  pub multiple_to : {x y : ℤ} → AreCongruent q x y → IsMultiple q y → IsMultiple q x
+  multiple_to {x = x} {y = y} h i = congruent_member ℤ_ring (q ∷ []) x y h i
 
-  pub none_of : (x : ℤ) → IsMultiple q x → AreCongruent q x (pos 0)
-  none_of x i = record { difference = in_ideal_same ℤ_ring (less_none ℤ_ring x) i }
+  pub none_of : {x : ℤ} → IsMultiple q x → AreCongruent q x (pos 0)
+  none_of {x = x} i = record { difference = in_ideal_same ℤ_ring (less_none ℤ_ring x) i }
 
-  pub multiple_of : (x : ℤ) → AreCongruent q x (pos 0) → IsMultiple q x
-  multiple_of x h = multiple_to x (pos 0) h (in_ideal_zero ℤ_ring)
+  pub multiple_of : {x : ℤ} → AreCongruent q x (pos 0) → IsMultiple q x
+  multiple_of {x = x} h = multiple_to h (in_ideal_zero ℤ_ring)
 
   -- a sum with a multiple
-  pub first_part : (x y : ℤ) → IsMultiple q (x +ℤ y) → IsMultiple q y → IsMultiple q x
-  first_part x y h i =
+  pub first_part : (x : ℤ) {y : ℤ} → IsMultiple q (x +ℤ y) → IsMultiple q y → IsMultiple q x
+  first_part x {y = y} h i =
       in_ideal_same ℤ_ring (only ℤ_ring x y) (in_ideal_add ℤ_ring h (in_ideal_neg ℤ_ring i))
 
 -- ---- rows

@@ -68,10 +68,10 @@ module _ (q : ℤ) where
   M = IsMultiple q
 
   -- of a combination, and of two parts
-  blend_multiple : (a x b y out : ℤ) → AreCongruent q out (a *ℤ x +ℤ b *ℤ y) → M x → M y → M out
-  blend_multiple a x b y out h i j =
-      multiple_to q out (a *ℤ x +ℤ b *ℤ y) h
-      (in_ideal_add ℤ_ring (in_ideal_mul ℤ_ring a i) (in_ideal_mul ℤ_ring b j))
+  blend_multiple : (a : ℤ) {x : ℤ} (b : ℤ) {y out : ℤ} → AreCongruent q out (a *ℤ x +ℤ b *ℤ y) → M x
+      → M y → M out
+  blend_multiple a {x = x} b {y = y} {out = out} h i j =
+      multiple_to q h (in_ideal_add ℤ_ring (in_ideal_mul ℤ_ring a i) (in_ideal_mul ℤ_ring b j))
 
   -- ---- rows in leading columns
   none_picked : (ls : List Led) (row : List ℤ) → Each (λ k. M (entry row k.lead)) ls
@@ -95,24 +95,20 @@ module _ (q : ℤ) where
 
       first : AreCongruent q (dot (map f (l ∷ ls)) (pick (pos 0) (leads_in (l ∷ ls)) l.row)) (f l)
       first =
-          congruent_same ℤ_ring (q ∷ [])
-          (dot_first (f l) (entry l.row l.lead) (map f ls) (pick (pos 0) (leads_in ls) l.row))
-          (by_one ℤ_ring (f l))
-          (congruent_add ℤ_ring (q ∷ []) (f l *ℤ entry l.row l.lead) (f l *ℤ pos 1) (rest l) (pos 0)
-          (congruent_mul ℤ_ring (q ∷ []) (f l) (f l) (entry l.row l.lead) (pos 1)
-          (congruent_refl ℤ_ring (q ∷ []) (f l)) one.0)
-          (none_of q (rest l)
-          (none_picked ls l.row
-          (each_weaker (AreClear q l) (λ k. M (entry l.row k.lead)) (λ k c. c.0) ls apart.0) f)))
+          congruent_same ℤ_ring (q ∷ []) (dot_first (f l) (entry l.row l.lead) (map f ls)
+          (pick (pos 0) (leads_in ls) l.row)) (by_one ℤ_ring (f l)) (congruent_add ℤ_ring (q ∷ [])
+          (f l *ℤ entry l.row l.lead) (f l *ℤ pos 1) (rest l) (pos 0) (congruent_mul ℤ_ring (q ∷ [])
+          (f l) (f l) (entry l.row l.lead) (pos 1) (congruent_refl ℤ_ring (q ∷ []) (f l)) one.0)
+          (none_of q (none_picked ls l.row (each_weaker (AreClear q l) (λ k. M (entry l.row k.lead))
+          (λ k c. c.0) ls apart.0) f)))
 
       one_later : (k : Led) → AreCongruent q (rest k) (f k) → AreClear q l k
           → AreCongruent q (dot (map f (l ∷ ls)) (pick (pos 0) (leads_in (l ∷ ls)) k.row)) (f k)
       one_later k h c =
-          congruent_same ℤ_ring (q ∷ [])
-          (dot_first (f l) (entry k.row l.lead) (map f ls) (pick (pos 0) (leads_in ls) k.row))
-          (nothing_first ℤ_ring (f k))
-          (congruent_add ℤ_ring (q ∷ []) (f l *ℤ entry k.row l.lead) (pos 0) (rest k) (f k)
-          (none_of q (f l *ℤ entry k.row l.lead) (in_ideal_mul ℤ_ring (f l) c.1)) h)
+          congruent_same ℤ_ring (q ∷ []) (dot_first (f l) (entry k.row l.lead) (map f ls)
+          (pick (pos 0) (leads_in ls) k.row)) (nothing_first ℤ_ring (f k)) (congruent_add ℤ_ring
+          (q ∷ []) (f l *ℤ entry k.row l.lead) (pos 0) (rest k) (f k)
+          (none_of q (in_ideal_mul ℤ_ring (f l) c.1)) h)
 
       later : (ks : List Led) → Each (λ k. AreCongruent q (rest k) (f k)) ks
           → Each (AreClear q l) ks
@@ -160,9 +156,9 @@ module _ (q : ℤ) where
   unfolding Each AreApart
   form_none n = record { widths = tt; led = tt; apart = tt; within = tt; spans = tt }
 
-  pub form_own : (n : ℕ) (given : List (List ℤ)) (ls : List Led) → IsEchelonOf q n given ls
+  pub form_own : (n : ℕ) {given : List (List ℤ)} (ls : List Led) → IsEchelonOf q n given ls
       → IsReducedEchelon q n ls
-  form_own n given ls e = record {
+  form_own n ls e = record {
     widths = each-map (λ r. length r ≡ n) (λ (l : Led). l.row) ls
         (each_weaker (IsLed q n) (λ l. length l.row ≡ n) (λ l i. i.width) ls e.led);
     led = e.led;
@@ -174,16 +170,14 @@ module _ (q : ℤ) where
   -- ---- nothing is left
   dot_nothing : (z rest : List ℤ) → ((k : ℕ) → M (entry rest k)) → M (dot z rest)
   dot_nothing z rest h =
-      multiple_to q (dot z rest) (pos 0 *ℤ dot z [] +ℤ pos 0 *ℤ dot z [])
-      (dot_blend q (pos 0) (pos 0) [] [] rest z (λ k. none_of q (entry rest k) (h k)))
+      multiple_to q (dot_blend q (pos 0) (pos 0) [] [] rest z (λ k. none_of q (h k)))
       (in_ideal_same ℤ_ring (no_sum ℤ_ring (dot z [])) (in_ideal_zero ℤ_ring))
 
   pub rest_old : (e : Form) (row rest : List ℤ) → IsRestOf q e row rest
       → ((k : ℕ) → IsMultiple q (entry rest k)) → IsDependent q e row
   rest_old e row rest r h given g = record {
     gives = λ z k.
-        multiple_to q (dot z row) (dot z rest)
-        (congruent_sym ℤ_ring (q ∷ [])
+        multiple_to q (congruent_sym ℤ_ring (q ∷ [])
         (r.left z (combined given (rows_in e.rows) g.within z k))) (dot_nothing z rest h);
   }
 
@@ -207,12 +201,9 @@ module _ (q : ℤ) where
           (dot (map minus e.rows) (pick (pos 0) (leads_in e.rows) k.row)) (minus k)
           → M (dot witness k.row)
       cancels k h =
-          in_ideal_same ℤ_ring (with_row k.row)
-          (multiple_of q
-          (entry k.row l.lead +ℤ dot (map minus e.rows) (pick (pos 0) (leads_in e.rows) k.row))
-          (congruent_same ℤ_ring (q ∷ []) refl (sym (opposite ℤ_ring (entry k.row l.lead)))
-          (congruent_add ℤ_ring (q ∷ []) (entry k.row l.lead) (entry k.row l.lead)
-          (dot (map minus e.rows) (pick (pos 0) (leads_in e.rows) k.row)) (minus k)
+          in_ideal_same ℤ_ring (with_row k.row) (multiple_of q (congruent_same ℤ_ring (q ∷ []) refl
+          (sym (opposite ℤ_ring (entry k.row l.lead))) (congruent_add ℤ_ring (q ∷ [])
+          (entry k.row l.lead) (entry k.row l.lead) _ (minus k)
           (congruent_refl ℤ_ring (q ∷ []) (entry k.row l.lead)) h)))
 
       all_cancel : Kills witness (rows_in e.rows)
@@ -227,10 +218,8 @@ module _ (q : ℤ) where
       not_row : M (dot witness row) → ⊥
       not_row h =
           let left = in_ideal_same ℤ_ring (sym (with_row fresh.rest))
-          (multiple_to q (dot witness fresh.rest) (dot witness row)
-          (fresh.is.left witness all_cancel) h) in
-          fresh.some (first_part q (entry fresh.rest l.lead)
-          (dot (map minus e.rows) (pick (pos 0) (leads_in e.rows) fresh.rest)) left
+          (multiple_to q (fresh.is.left witness all_cancel) h) in
+          fresh.some (first_part q (entry fresh.rest l.lead) left
           (none_picked e.rows fresh.rest fresh.is.cleared minus))
 
     pub fresh_new : IsIndependent q e row
@@ -246,16 +235,13 @@ module _ (q : ℤ) where
 
     first_one : AreCongruent q (entry f.row f.lead) (pos 1)
     first_one =
-        congruent_trans q (entry f.row f.lead)
-        (fresh.inverse *ℤ entry rest f.lead +ℤ pos 0 *ℤ pos 0) (pos 1)
-        (fresh.scaled f.lead)
+        congruent_trans q (entry f.row f.lead) _ (pos 1) (fresh.scaled f.lead)
         (congruent_same ℤ_ring (q ∷ []) (turned ℤ_ring fresh.inverse (entry rest f.lead) (pos 0))
         refl fresh.invertible)
 
     fresh_none : (k : ℕ) → M (entry rest k) → M (entry f.row k)
     fresh_none k h =
-        blend_multiple fresh.inverse (entry rest k) (pos 0) (pos 0) (entry f.row k)
-        (fresh.scaled k) h (in_ideal_zero ℤ_ring)
+        blend_multiple fresh.inverse (pos 0) (fresh.scaled k) h (in_ideal_zero ℤ_ring)
 
     pub fresh_led : IsLed q e.width f
     fresh_led = record {
@@ -277,34 +263,27 @@ module _ (q : ℤ) where
 
       cleared_none : (k : ℕ) → M (entry l.row k) → M (entry f.row k) → M (entry c.row k)
       cleared_none k i j =
-          blend_multiple (pos 1) (entry l.row k) (neg_ℤ at_lead) (entry f.row k) (entry c.row k)
-          (h.row k) i j
+          blend_multiple (pos 1) (neg_ℤ at_lead) (h.row k) i j
 
       cleared_here : M (entry c.row f.lead)
       cleared_here =
-          multiple_of q (entry c.row f.lead)
-          (congruent_trans q (entry c.row f.lead)
-          (pos 1 *ℤ at_lead +ℤ neg_ℤ at_lead *ℤ entry f.row f.lead) (pos 0) (h.row f.lead)
-          (congruent_same ℤ_ring (q ∷ []) refl (sym (less_one ℤ_ring at_lead))
-          (congruent_add ℤ_ring (q ∷ []) (pos 1 *ℤ at_lead) (pos 1 *ℤ at_lead)
-          (neg_ℤ at_lead *ℤ entry f.row f.lead) (neg_ℤ at_lead *ℤ pos 1)
-          (congruent_refl ℤ_ring (q ∷ []) (pos 1 *ℤ at_lead))
-          (congruent_mul ℤ_ring (q ∷ []) (neg_ℤ at_lead) (neg_ℤ at_lead) (entry f.row f.lead)
-          (pos 1) (congruent_refl ℤ_ring (q ∷ []) (neg_ℤ at_lead)) first_one))))
+          multiple_of q (congruent_trans q (entry c.row f.lead) _ (pos 0) (h.row f.lead)
+          (congruent_same ℤ_ring (q ∷ []) refl (sym (less_one ℤ_ring at_lead)) (congruent_add ℤ_ring
+          (q ∷ []) (pos 1 *ℤ at_lead) (pos 1 *ℤ at_lead) _ (neg_ℤ at_lead *ℤ pos 1)
+          (congruent_refl ℤ_ring (q ∷ []) (pos 1 *ℤ at_lead)) (congruent_mul ℤ_ring (q ∷ [])
+          (neg_ℤ at_lead) (neg_ℤ at_lead) (entry f.row f.lead) (pos 1)
+          (congruent_refl ℤ_ring (q ∷ []) (neg_ℤ at_lead)) first_one))))
 
       cleared_one : IsLed q e.width l → M (entry f.row l.lead)
           → AreCongruent q (entry c.row l.lead) (pos 1)
       cleared_one i j =
-          congruent_trans q (entry c.row l.lead)
-          (pos 1 *ℤ entry l.row l.lead +ℤ neg_ℤ at_lead *ℤ entry f.row l.lead) (pos 1)
-          (h.row l.lead)
-          (congruent_same ℤ_ring (q ∷ []) refl (one_and_none ℤ_ring (pos 1) at_lead)
-          (congruent_add ℤ_ring (q ∷ []) (pos 1 *ℤ entry l.row l.lead) (pos 1 *ℤ pos 1)
-          (neg_ℤ at_lead *ℤ entry f.row l.lead) (neg_ℤ at_lead *ℤ pos 0)
+          congruent_trans q (entry c.row l.lead) _ (pos 1) (h.row l.lead) (congruent_same ℤ_ring
+          (q ∷ []) refl (one_and_none ℤ_ring (pos 1) at_lead) (congruent_add ℤ_ring (q ∷ [])
+          (pos 1 *ℤ entry l.row l.lead) (pos 1 *ℤ pos 1) _ (neg_ℤ at_lead *ℤ pos 0)
           (congruent_mul ℤ_ring (q ∷ []) (pos 1) (pos 1) (entry l.row l.lead) (pos 1)
-          (congruent_refl ℤ_ring (q ∷ []) (pos 1)) i.one)
-          (congruent_mul ℤ_ring (q ∷ []) (neg_ℤ at_lead) (neg_ℤ at_lead) (entry f.row l.lead)
-          (pos 0) (congruent_refl ℤ_ring (q ∷ []) (neg_ℤ at_lead)) (none_of q _ j))))
+          (congruent_refl ℤ_ring (q ∷ []) (pos 1)) i.one) (congruent_mul ℤ_ring (q ∷ [])
+          (neg_ℤ at_lead) (neg_ℤ at_lead) (entry f.row l.lead) (pos 0)
+          (congruent_refl ℤ_ring (q ∷ []) (neg_ℤ at_lead)) (none_of q j))))
 
       cleared_before : IsLed q e.width l → (k : ℕ) → k < l.lead → M (entry c.row k)
       cleared_before i k b = go (cases_lt k f.lead)
@@ -312,12 +291,10 @@ module _ (q : ℤ) where
           go : (k < f.lead) ⊎ (f.lead ≤ k) → M (entry c.row k)
           go (inl a) = cleared_none k (i.before k b) (fresh_led.before k a)
           go (inr a) =
-              multiple_to q (entry c.row k)
-              (pos 1 *ℤ entry l.row k +ℤ neg_ℤ at_lead *ℤ entry f.row k) (h.row k)
-              (in_ideal_add ℤ_ring (in_ideal_mul ℤ_ring (pos 1) (i.before k b))
-              (in_ideal_same ℤ_ring (other_way ℤ_ring at_lead (entry f.row k))
-              (in_ideal_mul ℤ_ring (neg_ℤ (entry f.row k))
-              (i.before f.lead (omega (arith, a, b))))))
+              multiple_to q (h.row k) (in_ideal_add ℤ_ring
+              (in_ideal_mul ℤ_ring (pos 1) (i.before k b)) (in_ideal_same ℤ_ring
+              (other_way ℤ_ring at_lead (entry f.row k)) (in_ideal_mul ℤ_ring
+              (neg_ℤ (entry f.row k)) (i.before f.lead (omega (arith, a, b))))))
 
       cleared_led : IsLed q e.width l → M (entry f.row l.lead) → IsLed q e.width c
       cleared_led i j = record {
@@ -333,15 +310,12 @@ module _ (q : ℤ) where
       cleared_back : (z : List ℤ) → M (dot z c.row) → M (dot z f.row) → M (dot z l.row)
       cleared_back z i j =
           in_ideal_same ℤ_ring (undone ℤ_ring (dot z l.row) (dot z f.row) at_lead)
-          (in_ideal_add ℤ_ring
-          (multiple_to q (pos 1 *ℤ dot z l.row +ℤ neg_ℤ at_lead *ℤ dot z f.row) (dot z c.row)
-          (congruent_sym ℤ_ring (q ∷ [])
-          (dot_blend q (pos 1) (neg_ℤ at_lead) l.row f.row c.row z h.row)) i)
-          (in_ideal_mul ℤ_ring at_lead j))
+          (in_ideal_add ℤ_ring (multiple_to q (congruent_sym ℤ_ring (q ∷ []) (dot_blend q (pos 1)
+          (neg_ℤ at_lead) l.row f.row c.row z h.row)) i) (in_ideal_mul ℤ_ring at_lead j))
 
       cleared_dot : (z : List ℤ) → M (dot z l.row) → M (dot z f.row) → M (dot z c.row)
       cleared_dot z i j =
-          blend_multiple (pos 1) (dot z l.row) (neg_ℤ at_lead) (dot z f.row) (dot z c.row)
+          blend_multiple (pos 1) (neg_ℤ at_lead)
           (dot_blend q (pos 1) (neg_ℤ at_lead) l.row f.row c.row z h.row) i j
 
     cleared_apart : (l c k d : Led) → IsClearedBy q f l c → IsClearedBy q f k d
@@ -412,21 +386,18 @@ module _ (q : ℤ) where
 
     to_fresh : (z : List ℤ) → M (dot z rest) → M (dot z f.row)
     to_fresh z i =
-        multiple_to q (dot z f.row) (fresh.inverse *ℤ dot z rest +ℤ pos 0 *ℤ dot z [])
-        (dot_blend q fresh.inverse (pos 0) rest [] f.row z fresh.scaled)
+        multiple_to q (dot_blend q fresh.inverse (pos 0) rest [] f.row z fresh.scaled)
         (in_ideal_same ℤ_ring (scaled_only ℤ_ring fresh.inverse (dot z rest) (dot z []))
         (in_ideal_mul ℤ_ring fresh.inverse i))
 
     from_fresh : (z : List ℤ) → M (dot z f.row) → M (dot z rest)
     from_fresh z i =
         let a = entry rest f.lead in
-        in_ideal_same ℤ_ring (by_inverse ℤ_ring a fresh.inverse (dot z rest))
-        (in_ideal_add ℤ_ring (in_ideal_mul ℤ_ring a
-        (in_ideal_same ℤ_ring (sym (scaled_only ℤ_ring fresh.inverse (dot z rest) (dot z [])))
-        (multiple_to q (fresh.inverse *ℤ dot z rest +ℤ pos 0 *ℤ dot z []) (dot z f.row)
-        (congruent_sym ℤ_ring (q ∷ [])
-        (dot_blend q fresh.inverse (pos 0) rest [] f.row z fresh.scaled)) i)))
-        (in_ideal_neg ℤ_ring (in_ideal_mul ℤ_ring (dot z rest) fresh.invertible.difference)))
+        in_ideal_same ℤ_ring (by_inverse ℤ_ring a fresh.inverse (dot z rest)) (in_ideal_add ℤ_ring
+        (in_ideal_mul ℤ_ring a (in_ideal_same ℤ_ring (sym (scaled_only ℤ_ring fresh.inverse
+        (dot z rest) (dot z []))) (multiple_to q (congruent_sym ℤ_ring (q ∷ []) (dot_blend q
+        fresh.inverse (pos 0) rest [] f.row z fresh.scaled)) i))) (in_ideal_neg ℤ_ring
+        (in_ideal_mul ℤ_ring (dot z rest) fresh.invertible.difference)))
 
     module _ (cs : List Led) (are : AllZip (IsClearedBy q f) e.rows cs)
         (given : List (List ℤ)) (g : IsEchelonOf q e.width given e.rows) where
@@ -436,9 +407,8 @@ module _ (q : ℤ) where
           let old = combined given (rows_in e.rows) g.within z
           (each-left (λ r. M (dot z r)) given (row ∷ []) h) in
           let here = each-right (λ r. M (dot z r)) given (row ∷ []) h in
-          rows_killed z (cs ++ f ∷ [])
-          (all_dots z e.rows cs are (killed_rows z e.rows old)
-          (to_fresh z (multiple_to q (dot z rest) (dot z row) (fresh.is.left z old) here.0)))
+          rows_killed z (cs ++ f ∷ []) (all_dots z e.rows cs are (killed_rows z e.rows old)
+          (to_fresh z (multiple_to q (fresh.is.left z old) here.0)))
 
       to_old : (z : List ℤ) → Kills z (rows_in (cs ++ f ∷ [])) → Kills z (given ++ row ∷ [])
       unfolding Each
@@ -448,7 +418,7 @@ module _ (q : ℤ) where
           let old = rows_killed z e.rows (back_dots z e.rows cs are all here) in
           each-append (λ r. M (dot z r)) given (row ∷ [])
           (combined (rows_in e.rows) given g.spans z old) (
-            multiple_to q (dot z row) (dot z rest)
+            multiple_to q
                 (congruent_sym ℤ_ring (q ∷ []) (fresh.is.left z old)) (from_fresh z here),
             tt,
           )
@@ -463,13 +433,13 @@ module _ (q : ℤ) where
         spans = combinations (rows_in (cs ++ f ∷ [])) (given ++ row ∷ []) to_old;
       }
 
-  pub added_more : (e : Form) (row : List ℤ) (fs : List Led) → IsAddedAs q e row fs
+  pub added_more : {e : Form} {row : List ℤ} {fs : List Led} → IsAddedAs q e row fs
       → length row ≡ e.width → (given : List (List ℤ)) → IsEchelonOf q e.width given e.rows
       → IsEchelonOf q e.width (given ++ row ∷ []) fs
-  added_more e row fs a w given g =
+  added_more {e = e} {row = row} a w given g =
       subst (λ ls. IsEchelonOf q e.width (given ++ row ∷ []) ls) (sym a.rows)
       (form_more e row a.fresh a.is a.cleared a.are given g w)
 
-  pub added_new : (e : Form) (row : List ℤ) (fs : List Led) → IsAddedAs q e row fs
+  pub added_new : {e : Form} {row : List ℤ} {fs : List Led} → IsAddedAs q e row fs
       → IsIndependent q e row
-  added_new e row fs a = fresh_new e row a.fresh a.is
+  added_new {e = e} {row = row} a = fresh_new e row a.fresh a.is

@@ -27,7 +27,7 @@ use Rattle.closing.specs.declared.sampling.Sampling.{Sampling}
 use Rattle.closing.proofs.Parts.{rows_are}
 use Rattle.closing.proofs.ZeroRows.{value_rows, zero_rows}
 
-module _ (program : Program (Expr ℕ)) (d : ℕ) (ps : List Part) (s : Sampling)
+module _ {program : Program (Expr ℕ)} {d : ℕ} {ps : List Part} {s : Sampling}
     (a : IsAt program d ps s) where
   abbrev es : List (List ℕ)
   es = s.monomials.items
@@ -52,7 +52,7 @@ module _ (program : Program (Expr ℕ)) (d : ℕ) (ps : List Part) (s : Sampling
       let k : length fs ≡ length (monomials program d) = ap length (same ∙ a.listed) in
       omega (arith, h, l, k)
 
-  module _ (n : ℕ) (arity : n ≡ length program.names) where
+  module _ {n : ℕ} (arity : n ≡ length program.names) where
     pub monomials_at : AreMonomialsUpTo n d es
     monomials_at = subst (λ k. AreMonomialsUpTo k d es) (sym arity) all_monomials
 
@@ -112,7 +112,7 @@ module _ (program : Program (Expr ℕ)) (d : ℕ) (ps : List Part) (s : Sampling
       }
 
     -- of the monomials as a slice
-    module _ (fs : List (List ℕ)) (same : fs ≡ es) where
+    module _ {fs : List (List ℕ)} (same : fs ≡ es) where
       pub told_left : (gs : List (Terms Fraction))
           → ((given : List (List ℤ)) → AreMonomialsUpTo n d fs
           → IsEchelonOf (pos modulus) s.echelon.width given ls
@@ -127,14 +127,14 @@ module _ (program : Program (Expr ℕ)) (d : ℕ) (ps : List Part) (s : Sampling
           (subst (λ ds. HasStandard n d gs (standard_in ds ls)) same (standard all))
           (subst (λ ds. Each (IsElementOf (pos modulus) ds ls (length ds)) gs) same told)
 
-      pub none_left : (column : ℕ) (e x : List ℕ) → column < length fs → e ≡ get_or es column x
-          → LeadsElement (pos modulus) fs ls column → ¬ (GoesOn (length (monomials program d)) ps)
-          → ((given : List (List ℤ)) (p : Terms Fraction)
-          → IsEchelonOf (pos modulus) s.echelon.width given ls → IsPolynomial ℚ grevlex n p
-          → IsCandidate (pos modulus) fs ls column p
-          → ¬ (Each (IsZeroRow (pos modulus) fs p) given))
+      pub none_left : (column : ℕ) {e : List ℕ} (x : List ℕ) → column < length fs
+          → e ≡ get_or es column x → LeadsElement (pos modulus) fs ls column
+          → ¬ (GoesOn (length (monomials program d)) ps)
+          → ((given : List (List ℤ)) (p : Terms Fraction) → IsEchelonOf (pos modulus)
+          s.echelon.width given ls → IsPolynomial ℚ grevlex n p → IsCandidate (pos modulus) fs ls
+          column p → ¬ (Each (IsZeroRow (pos modulus) fs p) given))
           → HasNoElement program d (entries_of ps) e
-      none_left column e x within is leads enough none =
+      none_left column {e = e} x within is leads enough none =
           let low = subst (λ (ds : List (List ℕ)). column < length ds) same within in
           no_element_at column low e (is ∙ get_or_default es column x [] low)
           (subst (λ ds. LeadsElement (pos modulus) ds ls column) same leads) enough

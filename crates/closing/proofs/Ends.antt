@@ -50,13 +50,12 @@ module _ {At : Type 0} (program : Program (Expr At)) where
     abbrev values_at : List ℤ → List (Terms ℤ) → List ℤ
     values_at xs rs = map (λ r. value_at (operations ℤ_ring) r xs) rs
 
-    pub sample_begins : IsWellFormed program → (ns : List ℕ) (ys : List ℤ) (rs : List (Terms ℤ))
-        → length ns ≡ length program.names
-        → AllZip (IsPolynomialModulo q) (start_map program) rs
+    pub sample_begins : IsWellFormed program → (ns : List ℕ) {ys : List ℤ} (rs : List (Terms ℤ))
+        → length ns ≡ length program.names → AllZip (IsPolynomialModulo q) (start_map program) rs
         → AllZip (AreCongruent q) ys (map (λ r. value_at (operations ℤ_ring) r (map pos ns)) rs)
         → IsSampleState program q ns [] ys
     unfolding run_end
-    sample_begins well ns ys rs count maps near =
+    sample_begins well ns {ys = ys} rs count maps near =
         let wholes : List Fraction = map (λ n. whole (pos n)) ns in
         let state : IsState program wholes = length-map ns (λ n. whole (pos n)) ∙ count in
         record {
@@ -116,7 +115,6 @@ module _ {At : Type 0} (program : Program (Expr At)) where
           run = r;
           from = sample.from;
           residues =
-              residues_near q (map (monomial_at ℚ r.end) es)
-              (map (monomial_at (operations ℤ_ring) xs) es) row
+              residues_near q (map (monomial_at ℚ r.end) es) _ row
               (residue_row q r.end xs sample.residues es) near;
         }

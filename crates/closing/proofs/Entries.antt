@@ -5,7 +5,7 @@
 --   first_step, first_found     the search for the first entry that isn't 0
 --   rows_apart, row_read   of the rows, one by one
 --   row_width              a row with a leading column has the width of the form
-use Rattle.std.proofs.Common.{◌≡◌, ◌≢◌, ◌⊎◌, inl, inr, ℕ, ◌+◌, ◌<◌, ◌≤◌, ℤ, pos, ◌+ℤ◌, ◌-ℤ◌, ◌*ℤ◌, neg_ℤ, List, [], ◌∷◌, ◌++◌, map, length, get_or, set, take, drop, refl, sym, ap, subst, ◌∙◌, arith}
+use Rattle.std.proofs.Common.{◌≡◌, ◌≢◌, ◌⊎◌, inl, inr, ℕ, ◌+◌, ◌<◌, ◌≤◌, ℤ, pos, ◌+ℤ◌, ◌-ℤ◌, ◌*ℤ◌, neg_ℤ, List, [], ◌∷◌, ◌++◌, length, get_or, set, take, drop, refl, sym, ap, subst, ◌∙◌, arith}
 use Rattle.std.specs.List.{AllZip}
 use Rattle.std.proofs.lemmas.Bool.{cases_lt}
 use Rattle.std.proofs.lemmas.List.{get_or-map, map-set, length-map, get_or_past, take_more, drop_more, map-append, take_all, take-append-drop}
@@ -74,11 +74,12 @@ module _ (q a : ℤ) (start : List Residue) (b : ℤ) (other : List ℤ) where
       blend_end q a (numbers_of start) b other i (numbers_of row) (omega (arith, s, e, l))
       (omega (arith, s, w)) h
 
-  pub row_length : (i : ℕ) (row : List Residue)
+  pub row_length : {i : ℕ} (row : List Residue)
       → IsBlendTo q a (numbers_of start) b other i (numbers_of row) → length row ≡ length start
-  row_length i row h = sym (length-map row number_of) ∙ h.width ∙ length-map start number_of
+  row_length row h = sym (length-map row number_of) ∙ h.width ∙ length-map start number_of
 
-pub taken_step : (q : ℤ) (start row other : List Residue) (i : ℕ) (f a o p x : Residue)
+pub taken_step : (q : ℤ) (start row other : List Residue) (i : ℕ) (f a : Residue) {o : Residue}
+    (p x : Residue)
     → i < length row → i < length other → a ≡ get_or row i a → o ≡ get_or other i o
     → AreCongruent q (number_of p) (number_of f *ℤ number_of o)
     → AreCongruent q (number_of x) (number_of a -ℤ number_of p)
@@ -86,7 +87,7 @@ pub taken_step : (q : ℤ) (start row other : List Residue) (i : ℕ) (f a o p x
     (numbers_of row)
     → IsBlendTo q (pos 1) (numbers_of start) (neg_ℤ (number_of f)) (numbers_of other) (i + 1)
     (numbers_of (set row i x))
-taken_step q start row other i f a o p x l m e g c d h =
+taken_step q start row other i f a {o = o} p x l m e g c d h =
     written q (pos 1) start (neg_ℤ (number_of f)) (numbers_of other) i row x l h
     (congruent_same ℤ_ring (q ∷ []) refl
     (ap (λ y. pos 1 *ℤ y +ℤ neg_ℤ (number_of f) *ℤ entry (numbers_of other) i)
@@ -107,11 +108,10 @@ scaled_step q start row i b a x l e c h =
     ∙ ap (λ y. y *ℤ number_of b) (sym (number_read row i a l e))) c)
 
 -- ---- the first entry that isn't 0
-pub first_step : (row : List Residue) (i : ℕ) (x : Residue) → i < length row
-    → x ≡ get_or row i x → number_of x ≡ pos 0
-    → ((k : ℕ) → k < i → entry (numbers_of row) k ≡ pos 0)
-    → (k : ℕ) → k < i + 1 → entry (numbers_of row) k ≡ pos 0
-first_step row i x l e z h k b = go (cases_lt k i)
+pub first_step : (row : List Residue) (i : ℕ) {x : Residue} → i < length row → x ≡ get_or row i x
+    → number_of x ≡ pos 0 → ((k : ℕ) → k < i → entry (numbers_of row) k ≡ pos 0) → (k : ℕ)
+    → k < i + 1 → entry (numbers_of row) k ≡ pos 0
+first_step row i {x = x} l e z h k b = go (cases_lt k i)
   where
     go : (k < i) ⊎ (i ≤ k) → entry (numbers_of row) k ≡ pos 0
     go (inl m) = h k m
@@ -140,9 +140,9 @@ none_found row i n l e h k = go (cases_lt k i)
         get_or_past (numbers_of row) k (pos 0) (omega (arith, s, l, e, m))
 
 -- ---- rows
-pub row_read : (rows : List LedRow) (i : ℕ) (r : LedRow) → i < length rows
-    → r ≡ get_or rows i r → In (led_of r) (leds_of rows)
-row_read rows i r l e =
+pub row_read : (rows : List LedRow) (i : ℕ) {r : LedRow} → i < length rows → r ≡ get_or rows i r
+    → In (led_of r) (leds_of rows)
+row_read rows i {r = r} l e =
     subst (λ x. In (led_of x) (leds_of rows)) (sym e)
     (map-in led_of rows (get_or rows i r) (in_get rows i r l))
 
@@ -186,8 +186,8 @@ rest_done q rows i start row l h =
     (subst (λ x. IsRestTo q (length start) (leds_of rows) (numbers_of start) (leds_of x)
     (numbers_of row)) (take_all i rows l) h)
 
-pub row_width : (q : ℤ) (n : ℕ) (r : LedRow) → IsLed q n (led_of r) → length r.entries.items ≡ n
-row_width q n r h = sym (length-map r.entries.items number_of) ∙ h.width
+pub row_width : {q : ℤ} {n : ℕ} (r : LedRow) → IsLed q n (led_of r) → length r.entries.items ≡ n
+row_width r h = sym (length-map r.entries.items number_of) ∙ h.width
 
 -- ---- the column of the fresh row
 pub led_wide : (q : ℤ) (f : LedRow) (start rows : List LedRow) (i : ℕ) (r : LedRow)

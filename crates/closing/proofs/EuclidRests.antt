@@ -168,9 +168,7 @@ module _ (q a limit : ℕ) where
         low_is =
             congruent_same ℤ_ring (pos q ∷ []) (low_next negative high low k rest split)
             (factors_next ℤ_ring (pos a) (pos high_factor) (pos k) (pos low_factor))
-            (congruent_add ℤ_ring (pos q ∷ []) (negate_if (not negative) (pos high))
-            (pos a *ℤ pos high_factor) (pos k *ℤ negate_if negative (pos low))
-            (pos k *ℤ (pos a *ℤ pos low_factor)) r.high_is
+            (congruent_add ℤ_ring (pos q ∷ []) _ (pos a *ℤ pos high_factor) _ _ r.high_is
             (congruent_mul ℤ_ring (pos q ∷ []) (pos k) (pos k) (negate_if negative (pos low))
             (pos a *ℤ pos low_factor) (congruent_refl ℤ_ring (pos q ∷ []) (pos k)) r.low_is));
         blends = λ n d m h.
@@ -257,20 +255,19 @@ signed_twice true x = neg-neg ℤ_ring x
 signed_twice false x = refl
 
 pub inverse_of_rests : (q a limit high low high_factor low_factor : ℕ) (negative : Bool)
-    (inverse : ℤ) → AreRests q a limit high low high_factor low_factor negative → high ≡ 1
+    {inverse : ℤ}
+    → AreRests q a limit high low high_factor low_factor negative → high ≡ 1
     → AreCongruent (pos q) inverse (negate_if (not negative) (pos high_factor))
     → AreCongruent (pos q) (pos a *ℤ inverse) (pos 1)
-inverse_of_rests q a limit high low high_factor low_factor negative inverse r one h =
+inverse_of_rests q a limit high low high_factor low_factor negative {inverse = inverse} r one h =
     let gs = pos q ∷ [] in
     let factor = pos high_factor in
     let b = not negative in
     congruent_trans (pos q) (pos a *ℤ inverse) (pos a *ℤ negate_if b factor) (pos 1)
     (congruent_mul ℤ_ring gs (pos a) (pos a) inverse (negate_if b factor)
-    (congruent_refl ℤ_ring gs (pos a)) h)
-    (congruent_same ℤ_ring gs (signed_product negative (pos a) factor)
-    (sym (signed_twice b (pos high) ∙ ap pos one))
-    (signed_congruent (pos q) b (pos a *ℤ factor) (negate_if b (pos high))
-    (congruent_sym ℤ_ring gs r.high_is)))
+    (congruent_refl ℤ_ring gs (pos a)) h) (congruent_same ℤ_ring gs
+    (signed_product negative (pos a) factor) (sym (signed_twice b (pos high) ∙ ap pos one))
+    (signed_congruent (pos q) b (congruent_sym ℤ_ring gs r.high_is)))
 
 no_inverse : (q a : ℕ) → gcd q a ≢ 1 → HasPivot (pos q) (pos a) → ⊥
 no_inverse q a n p =

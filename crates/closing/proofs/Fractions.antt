@@ -128,8 +128,6 @@ one_fraction f g a h k =
       unsigned_abs-mul g.num (pos f.den),
       N.mul-le-mul h.limited.num k.limited.den,
       N.mul-le-mul k.limited.num h.limited.den,
-    ))
-    (congruent_trans q (f.num *ℤ pos g.den) ((a *ℤ pos f.den) *ℤ pos g.den) (g.num *ℤ pos f.den)
-    left
-    (congruent_same ℤ_ring (q ∷ []) (mul_right_comm ℤ_ring a (pos f.den) (pos g.den)) refl
+    )) (congruent_trans q (f.num *ℤ pos g.den) _ (g.num *ℤ pos f.den) left (congruent_same ℤ_ring
+    (q ∷ []) (mul_right_comm ℤ_ring a (pos f.den) (pos g.den)) refl
     (congruent_sym ℤ_ring (q ∷ []) right))))

@@ -213,13 +213,10 @@ module _ (q : ℤ) (n : ℕ) (ls : List Led) (row : List ℤ) where
   rest_step xs l ys rest out e kept h w blend = record {
     width = w ∙ h.width;
     left = λ z k.
-        congruent_trans q (dot z out) (dot z rest) (dot z row)
-        (congruent_trans q (dot z out) (pos 1 *ℤ dot z rest +ℤ c *ℤ dot z l.row) (dot z rest)
-        (dot_blend q (pos 1) c rest l.row out z blend)
-        (congruent_sym ℤ_ring (q ∷ [])
-        (same_sum (dot z rest) (dot z l.row)
-        (each_in (λ r. IsMultiple q (dot z r)) (rows_in ls) l.row k
-        (map-in (λ (m : Led). m.row) ls l within))))) (h.left z k);
+        congruent_trans q (dot z out) (dot z rest) (dot z row) (congruent_trans q (dot z out) _
+        (dot z rest) (dot_blend q (pos 1) c rest l.row out z blend) (congruent_sym ℤ_ring (q ∷ [])
+        (same_sum (dot z rest) (dot z l.row) (each_in (λ r. IsMultiple q (dot z r)) (rows_in ls)
+        l.row k (map-in (λ (m : Led). m.row) ls l within))))) (h.left z k);
     cleared = each-append (λ k. IsMultiple q (entry out k.lead)) xs (l ∷ [])
         (both xs h.cleared
         (before_clear xs l ys (subst (λ k. AreApart q k) e kept.apart)))
@@ -243,8 +240,7 @@ module _ (q : ℤ) (n : ℕ) (ls : List Led) (row : List ℤ) where
           → Each (λ k. IsMultiple q (entry out k.lead)) ks
       both [] i j = tt
       both (k ∷ ks) i j = (
-        multiple_to q (entry out k.lead)
-            (pos 1 *ℤ entry rest k.lead +ℤ c *ℤ entry l.row k.lead) (blend k.lead)
+        multiple_to q (blend k.lead)
             (in_ideal_add ℤ_ring (in_ideal_mul ℤ_ring (pos 1) i.0) (in_ideal_mul ℤ_ring c j.0)),
         both ks i.1 j.1,
       )
@@ -252,14 +248,11 @@ module _ (q : ℤ) (n : ℕ) (ls : List Led) (row : List ℤ) where
       here : IsMultiple q (entry out l.lead)
       here =
           let x = entry rest l.lead in
-          multiple_of q (entry out l.lead)
-          (congruent_trans q (entry out l.lead) (pos 1 *ℤ x +ℤ c *ℤ entry l.row l.lead) (pos 0)
-          (blend l.lead)
-          (congruent_same ℤ_ring (q ∷ []) refl (all_less ℤ_ring x)
-          (congruent_add ℤ_ring (q ∷ []) (pos 1 *ℤ x) (pos 1 *ℤ x) (c *ℤ entry l.row l.lead)
-          (c *ℤ pos 1) (congruent_refl ℤ_ring (q ∷ []) (pos 1 *ℤ x))
-          (congruent_mul ℤ_ring (q ∷ []) c c (entry l.row l.lead) (pos 1)
-          (congruent_refl ℤ_ring (q ∷ []) c) one))))
+          multiple_of q (congruent_trans q (entry out l.lead) _ (pos 0) (blend l.lead)
+          (congruent_same ℤ_ring (q ∷ []) refl (all_less ℤ_ring x) (congruent_add ℤ_ring (q ∷ [])
+          (pos 1 *ℤ x) (pos 1 *ℤ x) (c *ℤ entry l.row l.lead) (c *ℤ pos 1)
+          (congruent_refl ℤ_ring (q ∷ []) (pos 1 *ℤ x)) (congruent_mul ℤ_ring (q ∷ []) c c
+          (entry l.row l.lead) (pos 1) (congruent_refl ℤ_ring (q ∷ []) c) one))))
         where
           one : AreCongruent q (entry l.row l.lead) (pos 1)
           one = let i = each_in (IsLed q n) ls l kept.led within in i.one

@@ -54,7 +54,7 @@ pub letter_of : (program : Program (Expr ℕ)) (i : ℕ) → i < length program.
     → IsLetter program (i + 1)
 letter_of program i inside = record { some = omega arith; within = omega (arith, inside) }
 
-module _ (m : LoopMaps) (letter : ℕ) (is : IsLetter (program_in m) letter) where
+module _ (m : LoopMaps) {letter : ℕ} (is : IsLetter (program_in m) letter) where
   pub place_inside : letter - 1 < length m.maps.now.branches.items
   place_inside =
       omega (

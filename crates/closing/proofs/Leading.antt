@@ -33,16 +33,15 @@ module _ (q : ℤ) (none : IsMultiple q (pos 1) → ⊥) (n : ℕ) (es : List (L
       let shared = none_shared q none ls kept.apart l m t.shares t.standard
       (each_weaker (λ s. s.column < x.column) (λ s. l.lead ≢ s.column)
       (λ s low same. omega (arith, low, same, is)) t.shares t.below) in
-      none (multiple_to q (pos 1) (entry l.row l.lead) (congruent_sym ℤ_ring (q ∷ []) led.one)
-      (subst (λ k. IsMultiple q (entry l.row k)) is
-      (first_part q (entry l.row x.column) (share_sum t.shares l.row) killed shared)))
+      none (multiple_to q (congruent_sym ℤ_ring (q ∷ []) led.one) (subst (λ k. IsMultiple q
+      (entry l.row k)) is (first_part q (entry l.row x.column) killed shared)))
 
-  module _ (m c : ℕ) (within : c < length es) (arities : Each (λ e. length e ≡ m) es)
-      (gs : List (Terms Fraction)) (found : IsFoundTo q es ls c gs)
-      (new : has_divisor (map lead_of gs) (get_or es c []) ≡ false) where
+  module _ (m : ℕ) {c : ℕ} (within : c < length es) (arities : Each (λ e. length e ≡ m) es)
+      {gs : List (Terms Fraction)} (found : IsFoundTo q es ls c gs) (new : has_divisor
+      (map lead_of gs) (get_or es c []) ≡ false) where
     lead_length : (g : Terms Fraction) → IsElementOf q es ls c g → length (lead_of g) ≡ m
     lead_length g x =
-        ap length (lead_is q es ls c g x)
+        ap length (lead_is q es ls g x)
         ∙ arity_at m es arities x.column (let low = x.low in omega (arith, low, within))
 
     undivided : (g : Terms Fraction) → IsElementOf q es ls c g
@@ -53,14 +52,12 @@ module _ (q : ℤ) (none : IsMultiple q (pos 1) → ⊥) (n : ℕ) (es : List (L
             → divides (lead_of g) (get_or es c []) ≡ false
         go (inl i) = absurd (element_free c g x i)
         go (inr d) =
-            not_true (divides (lead_of g) (get_or es c []))
-            (λ h. true≢false
-            (sym (divides-trans (lead_of d.by) (lead_of g) (get_or es c [])
-            (lead_length d.by (each_in (IsElementOf q es ls c) gs d.by found.elements d.within)
-            ∙ sym (lead_length g x)) (lead_length g x ∙ sym (arity_at m es arities c within))
-            (subst (λ e. divides (lead_of d.by) e ≡ true) (sym (lead_is q es ls c g x))
-            d.divides_it) h)
-            ∙ each_in (λ f. divides (lead_of f) (get_or es c []) ≡ false) gs d.by
+            not_true _ (λ h. true≢false (sym (divides-trans (lead_of d.by) (lead_of g)
+            (get_or es c []) (lead_length d.by (each_in (IsElementOf q es ls c) gs d.by
+            found.elements d.within) ∙ sym (lead_length g x))
+            (lead_length g x ∙ sym (arity_at m es arities c within)) (subst (λ e. divides
+            (lead_of d.by) e ≡ true) (sym (lead_is q es ls g x)) d.divides_it) h) ∙ each_in
+            (λ f. divides (lead_of f) (get_or es c []) ≡ false) gs d.by
             (none_divides gs (get_or es c []) new) d.within))
 
     pub leads_at : Each (λ l. l.lead ≢ c) ls → LeadsElement q es ls c

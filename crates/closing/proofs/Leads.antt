@@ -116,10 +116,10 @@ module _ (q : ℤ) (es : List (List ℕ)) (ls : List Led) where
     pub order : InOrder gs
     pub covers : (k : ℕ) → k < c → In k (leads_in ls) ⊎ IsDivided gs (get_or es k [])
 
-  pub lead_is : (c : ℕ) (g : Terms Fraction) (e : IsElementOf c g)
+  pub lead_is : {c : ℕ} (g : Terms Fraction) (e : IsElementOf c g)
       → lead_of g ≡ get_or es e.column []
   unfolding lead_of
-  lead_is c g e = let i = e.is in ap lead_of i.is
+  lead_is g e = let i = e.is in ap lead_of i.is
 
   pub element_some : (c : ℕ) (g : Terms Fraction) → IsElementOf c g → g ≢ []
   element_some c g e n = let i = e.is in empty (sym n ∙ i.is)
@@ -153,10 +153,10 @@ module _ (q : ℤ) (es : List (List ℕ)) (ls : List Led) where
       go (inr m) =
           subst (λ j. In j (leads_in ls) ⊎ IsDivided hs (get_or es j [])) (omega (arith, l, m)) n
 
-  pub found_no : (c : ℕ) (gs : List (Terms Fraction)) → IsFoundTo c gs
+  pub found_no : (c : ℕ) {gs : List (Terms Fraction)} → IsFoundTo c gs
       → In c (leads_in ls) ⊎ (has_divisor (map lead_of gs) (get_or es c []) ≡ true)
       → IsFoundTo (c + 1) gs
-  found_no c gs h n = record {
+  found_no c {gs = gs} h n = record {
     elements = further c gs h.elements;
     order = h.order;
     covers = covered c gs gs (λ g i. i) h.covers (go n);
@@ -167,10 +167,9 @@ module _ (q : ℤ) (es : List (List ℕ)) (ls : List Led) where
       go (inl i) = inl i
       go (inr d) = inr (find_divisor gs (get_or es c []) d)
 
-  module _ (ascend : AreAscending es) (c : ℕ) (low : c < length es)
-      (gs : List (Terms Fraction)) (h : IsFoundTo c gs) (g : Terms Fraction)
-      (new : has_divisor (map lead_of gs) (get_or es c []) ≡ false)
-      (is : IsElementTo q es ls c 0 g) where
+  module _ (ascend : AreAscending es) (c : ℕ) (low : c < length es) {gs : List (Terms Fraction)}
+      (h : IsFoundTo c gs) {g : Terms Fraction} (new : has_divisor (map lead_of gs) (get_or es c [])
+      ≡ false) (is : IsElementTo q es ls c 0 g) where
     lead_new : lead_of g ≡ get_or es c []
     unfolding lead_of
     lead_new = ap lead_of is.is
@@ -182,7 +181,7 @@ module _ (q : ℤ) (es : List (List ℕ)) (ls : List Led) where
     all_before [] i n = tt
     all_before (h ∷ hs) i n = (
       (
-        subst (λ e. compare grevlex e (lead_of g) ≡ Less) (sym (lead_is c h i.0))
+        subst (λ e. compare grevlex e (lead_of g) ≡ Less) (sym (lead_is h i.0))
             (subst (λ e. compare grevlex (get_or es (column_of i.0) []) e ≡ Less) (sym lead_new)
             (ascend_at es ascend (column_of i.0) c (low_of i.0) low)),
         subst (λ e. divides (lead_of h) e ≡ false) (sym lead_new) n.0,
@@ -241,10 +240,10 @@ find_share es (s ∷ ss) (u ∷ rest) h P p t (inl e) =
     let k = h.0 in (s, p.0, ap (λ (x : List ℕ × Fraction). x.0) e ∙ k.monomial)
 find_share es (s ∷ ss) (u ∷ rest) h P p t (inr i) = find_share es ss rest h.1 P p.1 t i
 
-module _ (m d : ℕ) (es : List (List ℕ)) (ls : List Led) (are : AreMonomialsUpTo m d es)
+module _ (m d : ℕ) {es : List (List ℕ)} {ls : List Led} (are : AreMonomialsUpTo m d es)
     (none : IsMultiple (pos modulus) (pos 1) → ⊥) (given : List (List ℤ))
     (e : IsEchelonOf (pos modulus) (length es) given ls)
-    (values : Each (IsValueRow (pos modulus) es) given) (gs : List (Terms Fraction))
+    (values : Each (IsValueRow (pos modulus) es) given) {gs : List (Terms Fraction)}
     (found : IsFoundTo (pos modulus) es ls (length es) gs) where
   element : (g : Terms Fraction) → In g gs → IsElementOf (pos modulus) es ls (length es) g
   element g i = each_in (IsElementOf (pos modulus) es ls (length es)) gs g found.elements i
@@ -252,7 +251,7 @@ module _ (m d : ℕ) (es : List (List ℕ)) (ls : List Led) (are : AreMonomialsU
   lead_at : (g : Terms Fraction) (i : In g gs)
       → (c : ℕ) × (c < length es) × (lead_of g ≡ get_or es c [])
   lead_at g i =
-      let x = element g i in (x.column, x.low, lead_is (pos modulus) es ls (length es) g x)
+      let x = element g i in (x.column, x.low, lead_is (pos modulus) es ls g x)
 
   lead_arity : (g : Terms Fraction) → In g gs → length (lead_of g) ≡ m
   lead_arity g i =
@@ -271,7 +270,7 @@ module _ (m d : ℕ) (es : List (List ℕ)) (ls : List Led) (are : AreMonomialsU
       go (inl s) = absurd (ne (ap lead_of s))
       go (inr (inl b)) = b.1
       go (inr (inr b)) =
-          not_true (divides (lead_of h) (lead_of g))
+          not_true _
           (λ t. let w = lead_arity h j ∙ sym (lead_arity g i) in
           compare_least grevlex grevlex_order (over (lead_of g) (lead_of h)) (lead_of h)
           (length-over (lead_of g) (lead_of h) (sym w) ∙ sym w)
@@ -281,24 +280,21 @@ module _ (m d : ℕ) (es : List (List ℕ)) (ls : List Led) (are : AreMonomialsU
   undivided_rest : (h : Terms Fraction) → In h gs → (k : ℕ) → In k (leads_in ls)
       → divides (lead_of h) (get_or es k []) ≡ false
   undivided_rest h j k s =
-      not_true (divides (lead_of h) (get_or es k []))
+      not_true _
       (λ t. let x = element h j in
       let y = x.is in
       let (l, i, is) = in_map (λ (l : Led). l.lead) ls k s in
       no_standard_multiple m d es are (pos modulus) none given ls e values x.column x.low y.shares
-      y.below
-      (element_end (pos modulus) none (length es) es ls
-      (form_own (pos modulus) (length es) given ls e) x.column h y) l i
-      (subst (λ z. divides (get_or es x.column []) (get_or es z []) ≡ true) is
-      (subst (λ z. divides z (get_or es k []) ≡ true)
-      (lead_is (pos modulus) es ls (length es) h x) t)))
+      y.below (element_end (pos modulus) none es ls (form_own (pos modulus) (length es) ls e)
+      x.column h y) l i (subst (λ z. divides (get_or es x.column []) (get_or es z []) ≡ true) is
+      (subst (λ z. divides z (get_or es k []) ≡ true) (lead_is (pos modulus) es ls h x) t)))
 
   undivided : (g h : Terms Fraction) → In g gs → In h gs → (lead_of h ≡ lead_of g → ⊥)
       → (t : List ℕ × Fraction) → In t g → divides (lead_of h) t.0 ≡ false
   undivided g h i j ne t k =
       let x = element g i in
       let y = x.is in
-      go y.shares y.rest y.terms y.standard x.column (lead_is (pos modulus) es ls (length es) g x)
+      go y.shares y.rest y.terms y.standard x.column (lead_is (pos modulus) es ls g x)
       (subst (In t) y.is k)
     where
       go : (ss : List Share) (rest : Terms Fraction) → AllZip (IsTermAt es) ss rest
@@ -314,7 +310,7 @@ module _ (m d : ℕ) (es : List (List ℕ)) (ls : List Led) (are : AreMonomialsU
   pub found_tidy : AreTidy m d gs
   found_tidy = record {
     polynomials = λ g i. let x = element g i in
-        element_polynomial m es are.arities are.ascend ls x.column 0 g x.low x.is;
+        element_polynomial m es are.arities are.ascend x.column x.low x.is;
     nonzero = λ g i. element_some (pos modulus) es ls (length es) g (element g i);
     degrees = λ g i. let (c, low, is) = lead_at g i in
         subst (λ x. sum x ≤ d) (sym is)

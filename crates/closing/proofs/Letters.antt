@@ -45,32 +45,29 @@ module _ (program : Program (Expr ℕ)) where
   letter_branch zero l = absurd (omega (arith, l.some))
   letter_branch (suc b) l = slice_get-get_or program.branches b [] (omega (arith, l.within))
 
-  letter_place : (b : ℕ) → IsLetter program b → b - 1 < length program.branches
-  letter_place b l = omega (arith, l.some, l.within)
+  letter_place : {b : ℕ} → IsLetter program b → b - 1 < length program.branches
+  letter_place l = omega (arith, l.some, l.within)
 
   letter_map : (b : ℕ) (maps : List (Vec ResiduePolynomial)) (image : Vec ResiduePolynomial)
       → IsLetter program b → AllZip (IsBranchModulo program) program.branches maps
       → image ≡ get_or maps (b - 1) image → IsBranchModulo program (branch_of program b) image
   letter_map b maps image l a is =
       let place : b - 1 ≡ pred b = omega arith in
-      subst (IsBranchModulo program (branch_of program b)) (sym is)
-      (subst (λ k. IsBranchModulo program (get_or program.branches k [])
-      (get_or maps (b - 1) image)) place
-      (at_both (IsBranchModulo program) program.branches maps (b - 1) [] image a
-      (letter_place b l)))
+      subst (IsBranchModulo program (branch_of program b)) (sym is) (subst (λ k. IsBranchModulo
+      program (get_or program.branches k []) (get_or maps (b - 1) image)) place
+      (at_both (IsBranchModulo program) program.branches maps (b - 1) [] image a (letter_place l)))
 
   pub letter_goes : (ns word : List ℕ) (i : ℕ) (maps : List (Vec ResiduePolynomial))
-      (image : Vec ResiduePolynomial) (polynomials : List ResiduePolynomial)
-      (state known next : List Residue) → i < length word → All (IsLetter program) word
+      (image : Vec ResiduePolynomial) (polynomials : List ResiduePolynomial) (state : List Residue)
+      {known : List Residue} (next : List Residue)
+      → i < length word → All (IsLetter program) word
       → AllZip (IsBranchModulo program) program.branches maps
-      → image ≡ get_or maps (get_or word i 0 - 1) image → polynomials ≡ image.items
-      → known ≡ state
+      → image ≡ get_or maps (get_or word i 0 - 1) image → polynomials ≡ image.items → known ≡ state
       → IsSampleState program (pos modulus) ns (take i word) (numbers_of state)
-      → AllZip (AreCongruent (pos modulus)) (numbers_of next)
-      (map (λ r. value_at (operations ℤ_ring) r (numbers_of known))
-      (modular_terms_each polynomials))
+      → AllZip (AreCongruent (pos modulus)) (numbers_of next) (map (λ r. value_at
+      (operations ℤ_ring) r (numbers_of known)) (modular_terms_each polynomials))
       → IsSampleState program (pos modulus) ns (take (i + 1) word) (numbers_of next)
-  letter_goes ns word i maps image polynomials state known next l by_letter branches at same
+  letter_goes ns word i maps image polynomials state next l by_letter branches at same
       known_is
       sample near =
       let b = get_or word i 0 in
@@ -93,7 +90,7 @@ module _ (program : Program (Expr ℕ)) where
   index_within word i maps l by_letter branches =
       omega (
         arith,
-        letter_place (get_or word i 0) (by_letter i 0 l),
+        letter_place (by_letter i 0 l),
         length_both (IsBranchModulo program) program.branches maps branches,
       )
 
@@ -108,10 +105,10 @@ module _ (program : Program (Expr ℕ)) where
       ∙ sym (map_push (λ y. suc (y % n)) (take i ns) (get_or ns i 0))
       ∙ ap (letters n) (sym (take_more ns i 0 l))
 
-  pub are_letters : (n : ℕ) (ns : List ℕ) → n ≡ length program.branches → 0 < n
+  pub are_letters : {n : ℕ} (ns : List ℕ) → n ≡ length program.branches → 0 < n
       → All (IsLetter program) (letters n ns)
-  are_letters n [] is some = All-nil (IsLetter program)
-  are_letters n (x ∷ ns) is some =
+  are_letters [] is some = All-nil (IsLetter program)
+  are_letters {n = n} (x ∷ ns) is some =
       All-cons (IsLetter program) (suc (x % n)) (letters n ns)
       (record { some = omega arith; within = omega (arith, mod_below x n some) })
-      (are_letters n ns is some)
+      (are_letters ns is some)

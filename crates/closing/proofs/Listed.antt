@@ -23,20 +23,21 @@ use Rattle.closures.proofs.Listed.{get_longer, last_at, others_known, others_new
 use Rattle.closing.specs.Proving.{FitsElements}
 use Rattle.closing.specs.declared.listing.Elements.{Elements}
 
-pub over_more : (m : ℕ) (list more : List FracPoly) (q : FracPoly) → AreOver m list
-    → q.arity ≡ m → more ≡ list ++ q ∷ [] → AreOver m more
-over_more m list more q a e is =
+pub over_more : (m : ℕ) (list : List FracPoly) {more : List FracPoly} (q : FracPoly)
+    → AreOver m list → q.arity ≡ m → more ≡ list ++ q ∷ [] → AreOver m more
+over_more m list q a e is =
     subst (AreOver m) (sym is) (All-push (λ (p : FracPoly). p.arity ≡ m) list q a e)
 
-module _ (list more : List FracPoly) (q : FracPoly) (is : more ≡ list ++ q ∷ []) where
-  pub terms_more : terms_each more ≡ terms_each list ++ terms_in q ∷ []
-  terms_more = ap terms_each is ∙ map-append terms_in list (q ∷ [])
+module _ (list : List FracPoly) {more : List FracPoly} (q : FracPoly) (is : more ≡ list ++ q ∷ [])
+  where
+    pub terms_more : terms_each more ≡ terms_each list ++ terms_in q ∷ []
+    terms_more = ap terms_each is ∙ map-append terms_in list (q ∷ [])
 
-  pub copies_more : (ps : List FracPoly) (i : ℕ) (p : FracPoly) → i < length ps
-      → p ≡ get_or ps i p → terms_in q ≡ terms_in p → terms_each list ≡ terms_each (take i ps)
-      → terms_each more ≡ terms_each (take (i + 1) ps)
-  copies_more ps i p l at e h =
-      terms_more ∙ ap₂ (λ xs y. xs ++ y ∷ []) h e ∙ sym (take_next terms_in ps i p l at)
+    pub copies_more : (ps : List FracPoly) (i : ℕ) {p : FracPoly} → i < length ps → p ≡ get_or ps i p
+        → terms_in q ≡ terms_in p → terms_each list ≡ terms_each (take i ps)
+        → terms_each more ≡ terms_each (take (i + 1) ps)
+    copies_more ps i {p = p} l at e h =
+        terms_more ∙ ap₂ (λ xs y. xs ++ y ∷ []) h e ∙ sym (take_next terms_in ps i p l at)
 
 pub copies_all : (ps list : List FracPoly) (i : ℕ) → length ps ≤ i
     → terms_each list ≡ terms_each (take i ps) → terms_each list ≡ terms_each ps
@@ -81,10 +82,10 @@ pub record ElementsTo (ps cs : List FracPoly) (i : ℕ) (list : List FracPoly) (
 
 module _ (ps cs : List FracPoly) where
   pub elements_begun : (list : List FracPoly) → terms_each list ≡ terms_each ps
-      → ((m : ℕ) → AreOver m ps → AreOver m list) → (ks : List ℕ) → ks ≡ []
+      → ((m : ℕ) → AreOver m ps → AreOver m list) → {ks : List ℕ} → ks ≡ []
       → ElementsTo ps cs 0 list ks
   unfolding AreOthers StandAt
-  elements_begun list h over ks none = record {
+  elements_begun list h over none = record {
     listed = record { others = []; are = refl; is = h ∙ sym (append-nil (terms_each ps)) };
     stand = tt;
     count = ap length none;
@@ -141,13 +142,13 @@ module _ (ps cs : List FracPoly) where
         }
 
     pub element_new : (In (terms_in e) (terms_each ps) → ⊥) → (q : FracPoly)
-        → terms_in q ≡ terms_in e → q.arity ≡ e.arity → (next : List FracPoly)
+        → terms_in q ≡ terms_in e → q.arity ≡ e.arity → {next : List FracPoly}
         → next ≡ list ++ q ∷ [] → (js : List ℕ) → js ≡ ks ++ length list ∷ []
         → ElementsTo ps cs (i + 1) next js
-    element_new n q same arity next nx js jk =
+    element_new n q same arity {next = next} nx js jk =
         let o = h.listed in
         let tail : terms_each next ≡ terms_each list ++ terms_in e ∷ [] =
-        terms_more list next q nx ∙ ap (λ y. terms_each list ++ y ∷ []) same in
+        terms_more list q nx ∙ ap (λ y. terms_each list ++ y ∷ []) same in
         record {
           listed =
               subst (λ gs. IsListOf (terms_each ps) gs (terms_each next)) (sym more)
@@ -180,7 +181,7 @@ module _ (ps cs : List FracPoly) where
               let b = length-append list (q ∷ []) in
               let c = h.few in
               omega (arith, a, b, c));
-          over = λ m a b. over_more m list next q (h.over m a b) (arity ∙ e_over m b) nx;
+          over = λ m a b. over_more m list q (h.over m a b) (arity ∙ e_over m b) nx;
         }
 
 -- ---- rows
@@ -192,7 +193,7 @@ pub zeros_more : (n : ℕ) (row more : List FracPoly) (q : FracPoly)
     → terms_each row ≡ replicate n [] → terms_in q ≡ [] → more ≡ row ++ q ∷ []
     → terms_each more ≡ replicate (n + 1) []
 zeros_more n row more q h z is =
-    terms_more row more q is ∙ ap₂ (λ xs y. xs ++ y ∷ []) h z ∙ replicate_more n []
+    terms_more row q is ∙ ap₂ (λ xs y. xs ++ y ∷ []) h z ∙ replicate_more n []
 
 module _ (ks : List ℕ) (qs : List FracPoly) (n : ℕ) where
   pub record FilledTo (i : ℕ) (row : List FracPoly) : Type 0 where
@@ -229,8 +230,6 @@ pub row_placed : (m : ℕ) (closure : List FracPoly) (e : Elements) → FitsElem
     → terms_each row ≡ filled e.places.items (terms_each qs) (replicate (length e.list.items) [])
     → terms_each row ≡ placed e.places.items (terms_each qs) (replicate (length e.list.items) [])
 row_placed m closure e f qs row h =
-    h
-    ∙ filled_placed e.places.items (terms_each qs) (replicate (length e.list.items) [])
-    (places_apart (terms_each e.list.items) (terms_each closure) e.places.items
-    (length-map closure terms_in ∙ sym f.count) f.stand f.ascends)
-    (λ k i. zeros_none (length e.list.items) k)
+    h ∙ filled_placed e.places.items (terms_each qs) _ (places_apart (terms_each e.list.items)
+    (terms_each closure) e.places.items (length-map closure terms_in ∙ sym f.count) f.stand
+    f.ascends) (λ k i. zeros_none (length e.list.items) k)

@@ -49,8 +49,7 @@ module _ (before after : Journal) (n : ℕ) where
   divided_units gs p G a (inr r) =
       let w = r.to.finished.work in
       let b = units-push before.entries (Begin (Image n)) in
-      let c = units_added (with_entry before (Begin (Image n))).entries after.entries w.events
-      w.entries in
+      let c = units_added _ after.entries w.events w.entries in
       omega (arith, b, c)
 
   module _ (gs : List (Terms Fraction)) (r : Terms Fraction) (ls : Vec FracPoly)
@@ -70,8 +69,7 @@ module _ (before after : Journal) (n : ℕ) where
     bound : (t : elimination.State Fraction) → Bound (λ hs. hs) t
     bound t =
         subst (λ part. Bound part t) (λ i hs. kept-nothing hs i)
-        (λ w. list_few rationals 0 grevlex grevlex (gs ++ r ∷ [])
-        (with_entry before (Begin (Extend n))).entries after.entries t w)
+        (λ w. list_few rationals 0 grevlex grevlex (gs ++ r ∷ []) _ after.entries t w)
 
     made_short : length (made rationals 0 (gs ++ r ∷ [])) ≤ length gs + 1
     made_short =
@@ -91,8 +89,7 @@ module _ (before after : Journal) (n : ℕ) where
         go (inr x) =
             let w = x.to.finished.work in
             let b = units-push before.entries (Begin (Extend n)) in
-            let c = units_added (with_entry before (Begin (Extend n))).entries after.entries
-            w.events w.entries in
+            let c = units_added _ after.entries w.events w.entries in
             omega (arith, b, c)
 
     pub extended_few : length ls.items + units_of before.entries
@@ -113,8 +110,8 @@ module _ (before after : Journal) (n : ℕ) where
             let e = made_short in
             omega (arith, a, b, c, d, e)
 
-pub fits_later : (m j k : ℕ) (p : Progress) → Fits m j p → j ≤ k → Fits m k p
-fits_later m j k p f l = record {
+pub fits_later : (m : ℕ) {j : ℕ} (k : ℕ) (p : Progress) → Fits m j p → j ≤ k → Fits m k p
+fits_later m k p f l = record {
   arity = f.arity;
   nonzero = f.nonzero;
   few = (let a = f.few in omega (arith, a, l));
@@ -122,7 +119,7 @@ fits_later m j k p f l = record {
   kept = f.kept;
 }
 
-module _ (m : ℕ) (p q : Progress) (units more : ℕ) (f : Fits m units p) where
+module _ (m : ℕ) {p : Progress} (q : Progress) (units more : ℕ) (f : Fits m units p) where
   pub fits_next : q.number ≡ p.number + 1 → q.list ≡ p.list → q.kept ≡ p.kept → units < more
       → Fits m more q
   fits_next number list kept l = record {

@@ -44,29 +44,30 @@ zip_push R [] (z ∷ ys) x y h r = absurd h
 zip_push R (z ∷ xs) [] x y h r = absurd h
 zip_push R (z ∷ xs) (w ∷ ys) x y h r = (h.0, zip_push R xs ys x y h.1 r)
 
-pub zip_more : {A B : Type 0} (R : A → B → Type 0) (xs : List A) (row more : List B) (i : ℕ)
-    (x : A) (y : B) → i < length xs → x ≡ get_or xs i x → AllZip R (take i xs) row → R x y
-    → more ≡ row ++ y ∷ [] → AllZip R (take (i + 1) xs) more
-zip_more R xs row more i x y l is before r e =
+pub zip_more : {A B : Type 0} (R : A → B → Type 0) (xs : List A) (row : List B) {more : List B}
+    (i : ℕ) (x : A) (y : B)
+    → i < length xs → x ≡ get_or xs i x → AllZip R (take i xs) row → R x y → more ≡ row ++ y ∷ []
+    → AllZip R (take (i + 1) xs) more
+zip_more R xs row i x y l is before r e =
     subst (AllZip R (take (i + 1) xs)) (sym e)
     (subst (λ zs. AllZip R zs (row ++ y ∷ []))
     (ap (λ z. take i xs ++ z ∷ []) is ∙ sym (take_more xs i x l))
     (zip_push R (take i xs) row x y before r))
 
 pub images_more : {X Y A B : Type 0} (R : A → B → Type 0) (f : X → A) (g : Y → B) (xs : List X)
-    (row more : List Y) (i : ℕ) (x : X) (y : Y) → i < length xs → x ≡ get_or xs i x
-    → AllZip R (map f (take i xs)) (map g row) → R (f x) (g y) → more ≡ row ++ y ∷ []
-    → AllZip R (map f (take (i + 1) xs)) (map g more)
-images_more R f g xs row more i x y l is before r e =
+    (row : List Y) {more : List Y} (i : ℕ) {x : X} (y : Y)
+    → i < length xs → x ≡ get_or xs i x → AllZip R (map f (take i xs)) (map g row) → R (f x) (g y)
+    → more ≡ row ++ y ∷ [] → AllZip R (map f (take (i + 1) xs)) (map g more)
+images_more R f g xs row i {x = x} y l is before r e =
     subst (λ zs. AllZip R (map f (take (i + 1) xs)) zs) (sym (ap (map g) e ∙ map_push g row y))
     (subst (λ zs. AllZip R zs (map g row ++ g y ∷ []))
     (ap (λ z. map f (take i xs) ++ f z ∷ []) is ∙ sym (map_push f (take i xs) (get_or xs i x))
     ∙ ap (map f) (sym (take_more xs i x l)))
     (zip_push R (map f (take i xs)) (map g row) (f x) (g y) before r))
 
-pub some_item : {X : Type 0} (P : X → Type 0) (xs : List X) (i : ℕ) (x : X) → i < length xs
+pub some_item : {X : Type 0} (P : X → Type 0) (xs : List X) (i : ℕ) {x : X} → i < length xs
     → x ≡ get_or xs i x → P x → Any P xs
-some_item P xs i x l is h = (i, x, l, sym is, h)
+some_item P xs i {x = x} l is h = (i, x, l, sym is, h)
 
 module _ (q : ℤ) where
   pub term_modulo : (x : Term Frac) (y : Term Residue) → y.mono ≡ x.mono

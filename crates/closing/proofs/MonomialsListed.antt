@@ -83,21 +83,20 @@ module _ (m d : ℕ) where
   unfolding join_below
   no_degrees items h = h
 
-  pub next_degree : (list items more : List (List ℕ)) (t : ℕ) → list ≡ monomials_up_to m d
-      → t ≤ d → items ≡ degrees_below t
-      → more ≡ items ++ of_degree t (filter (λ e. nat_le (sum e) t) list)
+  pub next_degree : {list items more : List (List ℕ)} (t : ℕ) → list ≡ monomials_up_to m d → t ≤ d
+      → items ≡ degrees_below t → more ≡ items ++ of_degree t (filter (λ e. nat_le (sum e) t) list)
       → more ≡ degrees_below (t + 1)
   unfolding join_below
-  next_degree list items more t is l before h =
+  next_degree {list = list} t is l before h =
       h ∙ ap (λ xs. xs ++ of_degree t (lower t list)) before
       ∙ ap (λ xs. degrees_below t ++ of_degree t (lower t xs)) is
       ∙ ap (λ xs. degrees_below t ++ of_degree t xs) (lower_monomials m t d l)
       ∙ ap degrees_below (let one_more : suc t ≡ t + 1 = omega arith in one_more)
 
-  pub too_many : (n most : ℕ) (items : List (List ℕ)) → n ≤ suc d → items ≡ degrees_below n
+  pub too_many : (n most : ℕ) {items : List (List ℕ)} → n ≤ suc d → items ≡ degrees_below n
       → most < length items → most < length (monomials_up_to (suc m) d)
   unfolding monomials_up_to
-  too_many n most items l is k =
+  too_many n most l is k =
       omega (
         arith,
         ap length is,
@@ -105,7 +104,7 @@ module _ (m d : ℕ) where
         k,
       )
 
-  pub all_degrees : (n : ℕ) (items : List (List ℕ)) → n ≤ suc d → suc d ≤ n
+  pub all_degrees : (n : ℕ) {items : List (List ℕ)} → n ≤ suc d → suc d ≤ n
       → items ≡ degrees_below n → items ≡ monomials_up_to (suc m) d
   unfolding monomials_up_to
-  all_degrees n items l k is = is ∙ ap degrees_below (omega arith)
+  all_degrees n l k is = is ∙ ap degrees_below (omega arith)

@@ -86,10 +86,9 @@ module _ (program : Program (Expr ℕ)) where
       along : (a b : seen.Step) → a ≡ b → ComesNext program P es a → ComesNext program P es b
       along a b e h = record { state = h.state; run = h.run; is = h.is ∙ e }
 
-      pub begins : (p : Progress) (x : seen.Candidate) (waiting : List seen.Candidate)
-          → Awaits program P es p (x ∷ waiting)
-          → Reaches program P es p x waiting
-      begins p x waiting h = record {
+      pub begins : (p : Progress) (x : seen.Candidate) {waiting : List seen.Candidate}
+          → Awaits program P es p (x ∷ waiting) → Reaches program P es p x waiting
+      begins p x {waiting = waiting} h = record {
         comes =
             along _ _
             (first_is p.number (terms_each p.list.items) (candidates_of P p.kept.items) x waiting)
@@ -97,9 +96,9 @@ module _ (program : Program (Expr ℕ)) where
         joined = h.joined;
       }
 
-      none_joined : (xs : List seen.Candidate) → xs ≡ [] → AreJoined program P es xs
+      none_joined : {xs : List seen.Candidate} → xs ≡ [] → AreJoined program P es xs
       unfolding Each
-      none_joined xs e = subst (AreJoined program P es) (sym e) tt
+      none_joined e = subst (AreJoined program P es) (sym e) tt
 
       pub level_begins : (p q : Progress) → q.number ≡ p.number → q.list ≡ p.list
           → q.kept.items ≡ [] → Awaits program P es p []
@@ -115,7 +114,7 @@ module _ (program : Program (Expr ℕ)) where
                 [] waits) (sym l)
                 ∙ ap (λ xs. from_waiting program q.number (terms_each q.list.items)
                 (candidates_of P xs) waits) (sym k)) h.comes;
-            joined = none_joined (candidates_of P q.kept.items) (ap (candidates_of P) k);
+            joined = none_joined (ap (candidates_of P) k);
           }
 
       pub ends : (p : Progress) → p.kept.items ≡ [] → Awaits program P es p []
@@ -147,7 +146,7 @@ module _ (program : Program (Expr ℕ)) where
                     list = terms_each p.list.items;
                     kept = candidates_of P p.kept.items;
                     waiting = waiting;
-                    comes = (begins p (turned program b (candidate_of P x)) waiting h).comes;
+                    comes = (begins p (turned program b (candidate_of P x)) h).comes;
                     letter = b;
                     from = candidate_of P x;
                     joined = j;
@@ -169,7 +168,7 @@ module _ (program : Program (Expr ℕ)) where
                     list = terms_each p.list.items;
                     kept = candidates_of P p.kept.items;
                     waiting = waiting;
-                    comes = (begins p (turned program b (candidate_of P x)) waiting h).comes;
+                    comes = (begins p (turned program b (candidate_of P x)) h).comes;
                     letter = b;
                     from = candidate_of P x;
                     joined = j;
@@ -209,19 +208,16 @@ module _ (program : Program (Expr ℕ)) (P : List (Terms Fraction)) (es : List E
           → Awaits program P es p
           (turned program b (candidate_of P x) ∷ iterations_from (i + 1))
       iterations_next h =
-          waits program P es p (iterations_from i)
-          (turned program b (candidate_of P x) ∷ iterations_from (i + 1))
-          (ap (λ xs. map (turned program b) xs ++ waiting)
-          (rest_read (candidate_of P) level i x l e)) h
+          waits program P es p (iterations_from i) _ (ap (λ xs. map (turned program b) xs
+          ++ waiting) (rest_read (candidate_of P) level i x l e)) h
 
-      pub iteration_begins : (y : Candidate) → IsTurned program b x y
+      pub iteration_begins : {y : Candidate} → IsTurned program b x y
           → Awaits program P es p (iterations_from i)
           → Reaches program P es p (candidate_of P y) (iterations_from (i + 1))
-      iteration_begins y h a =
+      iteration_begins {y = y} h a =
           subst (λ z. Reaches program P es p z (iterations_from (i + 1)))
-          (sym (iteration_seen program P b x y h))
-          (begins program P es p (turned program b (candidate_of P x)) (iterations_from (i + 1))
-          (iterations_next a))
+          (sym (iteration_seen program P b x y h)) (begins program P es p
+          (turned program b (candidate_of P x)) (iterations_next a))
 
     pub iterations_over : length level ≤ i → Awaits program P es p (iterations_from i)
         → Awaits program P es p waiting
@@ -284,8 +280,7 @@ module _ (program : Program (Expr ℕ)) (P : List (Terms Fraction)) (es : List E
         pub given_begins : Awaits program P es p (given_from i)
             → Reaches program P es p (candidate_of P y) (given_from (i + 1))
         given_begins h =
-            begins program P es p (candidate_of P y) (given_from (i + 1))
-            (waits program P es p (given_from i) (candidate_of P y ∷ given_from (i + 1))
+            begins program P es p (candidate_of P y) (waits program P es p (given_from i) _
             (rest_read first_candidate (terms_each ps) i (terms_in x) long (sym (at (terms_in x)))
             ∙ ap (λ z. z ∷ given_from (i + 1)) first) h)
 
@@ -296,11 +291,12 @@ module _ (program : Program (Expr ℕ)) (P : List (Terms Fraction)) (es : List E
         (rest_over first_candidate (terms_each ps) i
         (let a = length-map ps terms_in in omega (arith, a, l))) h
 
-pub fresh_awaits : (program : Program (Expr ℕ)) (P : List (Terms Fraction)) (es : List Entry)
-    (p : Progress) → es ≡ [] → p.number ≡ 0 → p.list.items ≡ [] → p.kept.items ≡ []
+pub fresh_awaits : (program : Program (Expr ℕ)) (P : List (Terms Fraction)) {es : List Entry}
+    (p : Progress)
+    → es ≡ [] → p.number ≡ 0 → p.list.items ≡ [] → p.kept.items ≡ []
     → Awaits program P es p (map first_candidate P)
 unfolding Each IsRun next
-fresh_awaits program P es p none n l k = record {
+fresh_awaits program P {es = es} p none n l k = record {
   comes =
       record {
         state = fresh;

@@ -152,9 +152,8 @@ module _ (q : ℤ) where
     pub other_lead : (l : Led) → AreCongruent q (entry l.row l.lead) (pos 1) → (k : ℕ)
         → IsMultiple q (entry l.row k) → k ≢ l.lead
     other_lead l one k i e =
-        none (multiple_to q (pos 1) (entry l.row k)
-        (congruent_sym ℤ_ring (q ∷ [])
-        (subst (λ m. AreCongruent q (entry l.row m) (pos 1)) (sym e) one)) i)
+        none (multiple_to q (congruent_sym ℤ_ring (q ∷ []) (subst (λ m. AreCongruent q
+        (entry l.row m) (pos 1)) (sym e) one)) i)
 
     pub distinct_picked : (es : List (List ℕ))
         → ((j k : ℕ) → j < length es → k < length es → j ≢ k → get_or es j [] ≢ get_or es k [])

@@ -20,8 +20,8 @@ use Rattle.closing.specs.Modulus.{modulus, half_limit}
 abbrev q : ℤ
 q = pos modulus
 
-pub same_rest : (r n : ℕ) → r ≡ n → AreCongruent q (pos r) (pos n)
-same_rest r n e = congruent_from q (pos r) (pos n) (pos 0) (omega (arith, ints))
+pub same_rest : (r : ℕ) {n : ℕ} → r ≡ n → AreCongruent q (pos r) (pos n)
+same_rest r {n = n} e = congruent_from q (pos r) (pos n) (pos 0) (omega (arith, ints))
 
 pub lower_rest : (r n : ℕ) → r + modulus ≡ n → AreCongruent q (pos r) (pos n)
 lower_rest r n e = congruent_from q (pos r) (pos n) (neg_ℤ (pos 1)) (omega (arith, ints))
@@ -30,10 +30,10 @@ lower_rest r n e = congruent_from q (pos r) (pos n) (neg_ℤ (pos 1)) (omega (ar
 by_minus_one : (x : ℤ) → neg_ℤ x ≡ neg_ℤ (pos 1) *ℤ x
 by_minus_one x = sym (neg-mul ℤ_ring (pos 1) x ∙ ap neg_ℤ (one-mul ℤ_ring x))
 
-pub signed_congruent : (q : ℤ) (negative : Bool) (x y : ℤ) → AreCongruent q x y
+pub signed_congruent : (q : ℤ) (negative : Bool) {x y : ℤ} → AreCongruent q x y
     → AreCongruent q (negate_if negative x) (negate_if negative y)
-signed_congruent q false x y h = h
-signed_congruent q true x y h =
+signed_congruent q false h = h
+signed_congruent q true {x = x} {y = y} h =
     congruent_same ℤ_ring (q ∷ []) (by_minus_one x) (by_minus_one y)
     (congruent_mul ℤ_ring (q ∷ []) (neg_ℤ (pos 1)) (neg_ℤ (pos 1)) x y
     (congruent_refl ℤ_ring (q ∷ []) (neg_ℤ (pos 1))) h)
@@ -50,10 +50,8 @@ pub whole_is : (r s n : ℕ) (z : ℤ) → AreCongruent q (pos r) (negate_if (lt
     → AreCongruent q (pos s) (pos n) → n ≡ unsigned_abs z → AreCongruent q (pos r) z
 whole_is r s n z h k e =
     let b = lt_z z (pos 0) in
-    congruent_trans q (pos r) (negate_if b (pos s)) z h
-    (congruent_same ℤ_ring (q ∷ []) refl
-    (sym (ap (λ m. negate_if b (pos m)) e ∙ signed_size z))
-    (signed_congruent q b (pos s) (pos n) k))
+    congruent_trans q (pos r) (negate_if b (pos s)) z h (congruent_same ℤ_ring (q ∷ []) refl
+    (sym (ap (λ m. negate_if b (pos m)) e ∙ signed_size z)) (signed_congruent q b k))
 
 -- what is congruent to what is left of the modulus
 pub opposite_is : (r a left : ℕ) → AreCongruent q (pos r) (pos left) → left + a ≡ modulus
@@ -103,7 +101,7 @@ product_is r sum top middle bottom h l k m a b ea eb et mid bot first second =
     let v = pos (l * m) in
     let begun : AreCongruent q (pos sum) (t +ℤ u) =
     congruent_trans q (pos sum) (pos top +ℤ pos middle) (t +ℤ u) first
-    (congruent_add ℤ_ring gs (pos top) t (pos middle) u (same_rest top (2 * (h * k)) et) mid) in
+    (congruent_add ℤ_ring gs (pos top) t (pos middle) u (same_rest top et) mid) in
     congruent_trans q (pos r) (pos sum +ℤ pos bottom) (pos a *ℤ pos b) second
     (congruent_trans q (pos sum +ℤ pos bottom) ((t +ℤ u) +ℤ v) (pos a *ℤ pos b)
     (congruent_add ℤ_ring gs (pos sum) (t +ℤ u) (pos bottom) v begun bot)

@@ -29,9 +29,9 @@ use Rattle.closing.specs.declared.proving.ClosureProof.{ClosureProof}
 use Rattle.closing.specs.declared.proving.ProvingError.{ProvingError}
 use Rattle.closing.specs.declared.proving.ProvingError.TheVariants as proving_error
 
-pub lists_alike : (m : ℕ) (ps cs : List FracPoly) → AreOver m ps → AreOver m cs
+pub lists_alike : {m : ℕ} (ps cs : List FracPoly) → AreOver m ps → AreOver m cs
     → All (λ (g : FracPoly). AreOver g.arity ps) cs
-lists_alike m ps cs a b i d l = subst (λ n. AreOver n ps) (sym (b i d l)) a
+lists_alike ps cs a b i d l = subst (λ n. AreOver n ps) (sym (b i d l)) a
 
 module _ (program : Program (Expr ℕ)) (ps cs : List FracPoly)
     (over : AreOver (length program.names) ps) (closure_over : AreOver (length program.names) cs)

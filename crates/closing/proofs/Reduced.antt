@@ -57,26 +57,22 @@ module _ (program : Program (Expr ℕ)) (d : ℕ) where
   abbrev es : List (List ℕ)
   es = monomials program d
 
-  pub reduced : (ps : List Part) (gs : List (Terms Fraction)) → IsSearch program d ps
+  pub reduced : (ps : List Part) {gs : List (Terms Fraction)} → IsSearch program d ps
       → HasLeft program d ps gs → (behind : List Entry) (hs : List (Terms Fraction))
       → ComesNext program gs behind (closed hs) → IsReducedUpTo m d gs (Inv program)
-  reduced ps gs s left behind hs c =
+  reduced ps {gs = gs} s left behind hs c =
       let form = left.form in
       let e = left.echelon in
       let leads = leads_in form in
       let within = lows (pos modulus) (length es) form e.led in
       searched_is program d gs left.tidy behind hs c (standard_in es form) left.standard
-      (distinct_picked (pos modulus) (one_is_none modulus big) es
-      (apart_places es (distinct_ascending es (are_monomials_up_to m d).ascend)) form within
-      (ones (pos modulus) (length es) form e.led) e.apart)
-      modulus big
-      (map (pick (pos 0) leads) (rows_of ps))
-      (map (pick (pos 0) leads) (rows_in form))
+      (distinct_picked (pos modulus) (one_is_none modulus big) es (apart_places es
+      (distinct_ascending es (are_monomials_up_to m d).ascend)) form within
+      (ones (pos modulus) (length es) form e.led) e.apart) modulus big _ _
       (picked_samples (pos modulus) program es leads within (rows_of ps) (rows_are program d ps s))
       (picked_triangular (pos modulus) (length es) (rows_of ps) form e)
       (picked_combinations (pos modulus) (length es) leads within (rows_of ps) (rows_in form)
-      e.within)
-      (same_length (pick (pos 0) leads) form)
+      e.within) (same_length (pick (pos 0) leads) form)
     where
       same_length : (f : List ℤ → List ℤ) (form : List Led)
           → length (map f (rows_in form)) ≡ length (standard_in es form)

@@ -16,15 +16,15 @@ use Rattle.loop_model.specs.FracPoly.{FracPoly}
 use Rattle.closing.specs.Proving.{test_at}
 
 module _ {X Y : Type 0} (f : X → Y) (R : ℕ → Y → Type 0) (d : Y) where
-  pub none_seen : (xs : List X) → xs ≡ [] → (i : ℕ) → i < length (map f xs)
+  pub none_seen : {xs : List X} → xs ≡ [] → (i : ℕ) → i < length (map f xs)
       → R i (get_or (map f xs) i d)
-  none_seen xs e i l =
+  none_seen {xs = xs} e i l =
       absurd (let a = length-map xs f in let b = ap length e in omega (arith, a, b, l))
 
-  pub pushed_seen : (xs next : List X) (x : X)
+  pub pushed_seen : (xs : List X) {next : List X} (x : X)
       → ((i : ℕ) → i < length (map f xs) → R i (get_or (map f xs) i d)) → R (length xs) (f x)
       → next ≡ xs ++ x ∷ [] → (i : ℕ) → i < length (map f next) → R i (get_or (map f next) i d)
-  pushed_seen xs next x h r nx i l =
+  pushed_seen xs {next = next} x h r nx i l =
       let e : map f next ≡ map f xs ++ f x ∷ [] = ap (map f) nx ∙ map-append f xs (x ∷ []) in
       subst (λ ys. R i (get_or ys i d)) (sym e)
       (pushed_each R (map f xs) (f x) d h (subst (λ k. R k (f x)) (sym (length-map xs f)) r) i

@@ -64,24 +64,23 @@ module _ (program : Program (Expr ℕ)) (d : ℕ) where
       let some = countered_units program gs es x q s.3 in
       let h = few_rows ps s.0 in omega (arith, e, l, some, h)
 
-  pub few_counted : (before : List Entry) (s : Sampling) → IsEnough program d before s → (n : ℕ)
+  pub few_counted : {before : List Entry} (s : Sampling) → IsEnough program d before s → (n : ℕ)
       → units_of before ≤ n → s.counted ≤ n
-  few_counted before s e n l =
+  few_counted s e n l =
       let h = few_rows e.parts e.at.search in
       let u = ap units_of e.entries in
       let k = e.at.counted in
       omega (arith, h, u, k, l)
 
-  module _ (j : Journal) (s : Sampling) (e : IsEnough program d j.entries s)
-      (es : List FracPoly) (left : HasLeft program d e.parts (terms_each es)) (fs : List FracPoly)
-      (same : fs ≡ es) where
+  module _ (j : Journal) (s : Sampling) (e : IsEnough program d j.entries s) {es : List FracPoly}
+      (left : HasLeft program d e.parts (terms_each es)) {fs : List FracPoly} (same : fs ≡ es) where
     pub found : (f : Finding) → f.elements.items ≡ es → AreOver m es → length es ≤ most_monomials
-        → (v : Verdict) → v ≡ verdict.Basis f.closure
+        → {v : Verdict} → v ≡ verdict.Basis f.closure
         → Closes program (terms_each fs) f.closing.entries v
         → FitsVerdict m (units_of f.closing.entries) v
         → units_of j.entries + f.closing.limit ≡ j.limit
         → IfClosed program d j (Ok (sequel.Found f))
-    found f items over few v is c fits rest =
+    found f items over few is c fits rest =
         let own = subst (λ (gs : List FracPoly). HasLeft program d e.parts (terms_each gs))
         (sym items) left in
         let closes : ComesNext program (terms_each f.elements.items) f.closing.entries
@@ -108,7 +107,7 @@ module _ (program : Program (Expr ℕ)) (d : ℕ) where
             few_closed = room.1;
             rest = rest;
           },
-          reduced program d e.parts (terms_each f.elements.items) e.at.search own
+          reduced program d e.parts e.at.search own
               f.closing.entries (terms_each f.closure.items) closes,
         )
 
@@ -148,11 +147,11 @@ module _ (program : Program (Expr ℕ)) (d : ℕ) where
       going : IsGoing program gs part
       going = record { state = comes.state; follows = record { run = comes.run } }
 
-      pub counter_begun : (after : List Entry) → IsPartOf before part after
+      pub counter_begun : {after : List Entry} → IsPartOf before part after
           → AreBegun program d after
-      counter_begun after p = begun_part program d before e.parts gs closing part after going p
+      counter_begun {after = after} p = begun_part program d gs closing part going p
 
-      module _ (w : List ℕ) (word : w ≡ counter.candidate.word.items) where
+      module _ {w : List ℕ} (word : w ≡ counter.candidate.word.items) where
         pub counter_letters : All (IsLetter program) w
         unfolding x
         counter_letters =
@@ -160,14 +159,14 @@ module _ (program : Program (Expr ℕ)) (d : ℕ) where
             let first = countered_is program gs polynomials part x (terms_in counter.image) comes in
             subst (All (IsLetter program)) (sym word) first.letters
 
-        module _ (after : List Entry) (all : after ≡ before ++ part) where
+        module _ {after : List Entry} (all : after ≡ before ++ part) where
           pub counter_units : units_of before < units_of after
           counter_units =
               let some = countered_units program gs part x (terms_in counter.image) comes in
               let sum = ap units_of all ∙ units-append before part in
               omega (arith, some, sum)
 
-          module _ (o : Option Sampling) (h : IfRefuted program d e.parts w o) where
+          module _ {o : Option Sampling} (h : IfRefuted program d e.parts w o) where
             pub counter_sampled : (t : Sampling) → o ≡ Some t → IsSampled program d after t
             unfolding x entries_of
             counter_sampled t some =
@@ -208,17 +207,14 @@ module _ (program : Program (Expr ℕ)) (d : ℕ) where
           subst (λ (hs : List FracPoly). IfStops program (terms_each hs) limit part error) same
           stops
 
-      pub stop_begun : (after : List Entry) → IsPartOf before part after
-          → AreBegun program d after
-      stop_begun after p =
-          begun_part program d before e.parts gs closing part after
-          (stops_going program d before e.parts gs closing limit part error own) p
+      pub stop_begun : {after : List Entry} → IsPartOf before part after → AreBegun program d after
+      stop_begun {after = after} p =
+          begun_part program d gs closing part
+          (stops_going program d gs closing limit part error own) p
 
-      pub stop_told : (j : Journal) → j.entries ≡ before ++ part
-          → units_of before + limit ≡ j.limit → (r : SearchError) → r ≡ refusal_of error
-          → IfClosed program d j (Err r)
-      stop_told j all rest r is =
-          subst (λ t. IfClosed program d j (Err t)) (sym is)
-          (subst (λ es. AreBegun program d es × IfSearchStops program d j.limit es
-          (refusal_of error)) (sym all)
-          (closing_stops program d before e.parts gs closing limit j.limit part rest error own))
+      pub stop_told : (j : Journal) → j.entries ≡ before ++ part → units_of before + limit ≡ j.limit
+          → {r : SearchError} → r ≡ refusal_of error → IfClosed program d j (Err r)
+      stop_told j all rest is =
+          subst (λ t. IfClosed program d j (Err t)) (sym is) (subst (λ es. AreBegun program d es
+          × IfSearchStops program d j.limit es (refusal_of error)) (sym all) (closing_stops program
+          d gs closing limit j.limit part rest error own))

@@ -124,180 +124,175 @@ module _ (q : ℤ) (none : IsMultiple q (pos 1) → ⊥) where
       (none_shared ls a l i ss h.1 d.1))
 
   -- ---- an element, column by column
-  module _ (n : ℕ) (es : List (List ℕ)) (ls : List Led) (kept : IsReducedEchelon q n ls)
-      (c : ℕ) where
-    pub row_ones : Each (λ l. AreCongruent q (entry l.row l.lead) (pos 1)) ls
-    row_ones = each_weaker (IsLed q n) IsOne (λ l i. i.one) ls kept.led
+  module _ {n : ℕ} (es : List (List ℕ)) (ls : List Led) (kept : IsReducedEchelon q n ls) (c : ℕ)
+    where
+      pub row_ones : Each (λ l. AreCongruent q (entry l.row l.lead) (pos 1)) ls
+      row_ones = each_weaker (IsLed q n) IsOne (λ l i. i.one) ls kept.led
 
-    pub element_first : Each (λ l. l.lead ≢ c) ls → (p : Terms Fraction)
-        → p ≡ (get_or es c [], ℚ.one) ∷ [] → IsElementTo q es ls c c p
-    unfolding Each Falls
-    element_first d p e = record {
-      shares = [];
-      rest = [];
-      is = e;
-      terms = tt;
-      below = tt;
-      behind = tt;
-      falls = tt;
-      standard = tt;
-      some = tt;
-      kills = each_from ls (λ l i b.
-          in_ideal_same ℤ_ring
-          (ap (λ y. entry l.row c +ℤ y) (sum_none l.row) ∙ ℤ_ring.add-zero (entry l.row c))
-          (let h = each_in (IsLed q n) ls l kept.led i in
-          let o = each_in (λ l. l.lead ≢ c) ls l d i in
-          h.before c (above l.lead b o)));
-    }
-      where
-        above : (k : ℕ) → c ≤ k → k ≢ c → c < k
-        above k b o = go (cases_lt c k)
-          where
-            go : (c < k) ⊎ (k ≤ c) → c < k
-            go (inl h) = h
-            go (inr h) = absurd (o (omega (arith, h, b)))
+      pub element_first : Each (λ l. l.lead ≢ c) ls → (p : Terms Fraction)
+          → p ≡ (get_or es c [], ℚ.one) ∷ [] → IsElementTo q es ls c c p
+      unfolding Each Falls
+      element_first d p e = record {
+        shares = [];
+        rest = [];
+        is = e;
+        terms = tt;
+        below = tt;
+        behind = tt;
+        falls = tt;
+        standard = tt;
+        some = tt;
+        kills = each_from ls (λ l i b.
+            in_ideal_same ℤ_ring
+            (ap (λ y. entry l.row c +ℤ y) (sum_none l.row) ∙ ℤ_ring.add-zero (entry l.row c))
+            (let h = each_in (IsLed q n) ls l kept.led i in
+            let o = each_in (λ l. l.lead ≢ c) ls l d i in
+            h.before c (above l.lead b o)));
+      }
+        where
+          above : (k : ℕ) → c ≤ k → k ≢ c → c < k
+          above k b o = go (cases_lt c k)
+            where
+              go : (c < k) ⊎ (k ≤ c) → c < k
+              go (inl h) = h
+              go (inr h) = absurd (o (omega (arith, h, b)))
 
-    -- the kills of a lower column, for rows that lead there or not
-    lower : (i : ℕ) (ss rs : List Share)
-        → ((l : Led) → In l ls → suc i ≤ l.lead → M (entry l.row c +ℤ share_sum ss l.row)
-        → M (entry l.row c +ℤ share_sum rs l.row))
-        → ((l : Led) → In l ls → l.lead ≡ i → M (entry l.row c +ℤ share_sum rs l.row))
-        → Each (λ l. suc i ≤ l.lead → M (entry l.row c +ℤ share_sum ss l.row)) ls
-        → Each (λ l. i ≤ l.lead → M (entry l.row c +ℤ share_sum rs l.row)) ls
-    lower i ss rs f g h = each_from ls (λ l j b. go l j b (cases_lt i l.lead))
-      where
-        go : (l : Led) → In l ls → i ≤ l.lead → (i < l.lead) ⊎ (l.lead ≤ i)
-            → M (entry l.row c +ℤ share_sum rs l.row)
-        go l j b (inl a) =
-            f l j a (each_in (λ l. suc i ≤ l.lead → M (entry l.row c +ℤ share_sum ss l.row)) ls l
-            h j a)
-        go l j b (inr a) = g l j (omega (arith, a, b))
+      -- the kills of a lower column, for rows that lead there or not
+      lower : (i : ℕ) (ss rs : List Share)
+          → ((l : Led) → In l ls → suc i ≤ l.lead → M (entry l.row c +ℤ share_sum ss l.row)
+          → M (entry l.row c +ℤ share_sum rs l.row))
+          → ((l : Led) → In l ls → l.lead ≡ i → M (entry l.row c +ℤ share_sum rs l.row))
+          → Each (λ l. suc i ≤ l.lead → M (entry l.row c +ℤ share_sum ss l.row)) ls
+          → Each (λ l. i ≤ l.lead → M (entry l.row c +ℤ share_sum rs l.row)) ls
+      lower i ss rs f g h = each_from ls (λ l j b. go l j b (cases_lt i l.lead))
+        where
+          go : (l : Led) → In l ls → i ≤ l.lead → (i < l.lead) ⊎ (l.lead ≤ i)
+              → M (entry l.row c +ℤ share_sum rs l.row)
+          go l j b (inl a) =
+              f l j a (each_in (λ l. suc i ≤ l.lead → M (entry l.row c +ℤ share_sum ss l.row)) ls l
+              h j a)
+          go l j b (inr a) = g l j (omega (arith, a, b))
 
-    fewer : (i : ℕ) (ss : List Share) → Each (λ s. suc i ≤ s.column) ss
-        → Each (λ s. i ≤ s.column) ss
-    fewer i ss h =
-        each_weaker (λ s. suc i ≤ s.column) (λ s. i ≤ s.column) (λ s l. omega (arith, l)) ss h
+      fewer : (i : ℕ) (ss : List Share) → Each (λ s. suc i ≤ s.column) ss
+          → Each (λ s. i ≤ s.column) ss
+      fewer i ss h =
+          each_weaker (λ s. suc i ≤ s.column) (λ s. i ≤ s.column) (λ s l. omega (arith, l)) ss h
 
-    -- the row that leads in the column has none of the shares so far
-    none_yet : (i : ℕ) (ss : List Share) → Each (λ s. suc i ≤ s.column) ss
-        → Each (λ s. In s.column (leads_in ls)) ss → (l : Led) → In l ls → l.lead ≡ i
-        → M (share_sum ss l.row)
-    none_yet i ss b h l j e =
-        none_shared ls kept.apart l j ss h
-        (each_weaker (λ s. suc i ≤ s.column) (λ s. l.lead ≢ s.column)
-        (λ s m d. absurd (omega (arith, m, d, e))) ss b)
+      -- the row that leads in the column has none of the shares so far
+      none_yet : (i : ℕ) (ss : List Share) → Each (λ s. suc i ≤ s.column) ss
+          → Each (λ s. In s.column (leads_in ls)) ss → (l : Led) → In l ls → l.lead ≡ i
+          → M (share_sum ss l.row)
+      none_yet i ss b h l j e =
+          none_shared ls kept.apart l j ss h
+          (each_weaker (λ s. suc i ≤ s.column) (λ s. l.lead ≢ s.column)
+          (λ s m d. absurd (omega (arith, m, d, e))) ss b)
 
-    -- no share where the entry is a multiple, or no row leads
-    pub element_same : (i : ℕ) (p : Terms Fraction)
-        → Each (λ l. l.lead ≡ i → M (entry l.row c)) ls → IsElementTo q es ls c (suc i) p
-        → IsElementTo q es ls c i p
-    element_same i p z h = record {
-      shares = h.shares;
-      rest = h.rest;
-      is = h.is;
-      terms = h.terms;
-      below = h.below;
-      behind = fewer i h.shares h.behind;
-      falls = h.falls;
-      standard = h.standard;
-      some = h.some;
-      kills = lower i h.shares h.shares (λ l j a k. k)
-          (λ l j e. in_ideal_add ℤ_ring
-          (each_in (λ l. l.lead ≡ i → M (entry l.row c)) ls l z j e)
-          (none_yet i h.shares h.behind h.standard l j e)) h.kills;
-    }
-
-    zip_push : (ss : List Share) (ts : Terms Fraction) (s : Share) (t : List ℕ × Fraction)
-        → AllZip (IsTermAt es) ss ts → IsTermAt es s t
-        → AllZip (IsTermAt es) (ss ++ s ∷ []) (ts ++ t ∷ [])
-    zip_push [] [] s t h k = (k, tt)
-    zip_push [] (u ∷ ts) s t h k = absurd h
-    zip_push (r ∷ ss) [] s t h k = absurd h
-    zip_push (r ∷ ss) (u ∷ ts) s t h k = (h.0, zip_push ss ts s t h.1 k)
-
-    below_push : (k : ℕ) (ss : List Share) (s : Share) → Each (λ j. j < k) (columns_in ss)
-        → s.column < k → Each (λ j. j < k) (columns_in (ss ++ s ∷ []))
-    unfolding Each
-    below_push k [] s h b = (b, tt)
-    below_push k (r ∷ ss) s h b = (h.0, below_push k ss s h.1 b)
-
-    falls_push : (ss : List Share) (s : Share) → Falls (columns_in ss)
-        → Each (λ r. suc s.column ≤ r.column) ss → Falls (columns_in (ss ++ s ∷ []))
-    unfolding Each Falls
-    falls_push [] s h b = (tt, tt)
-    falls_push (r ∷ ss) s h b = (below_push r.column ss s h.0 b.0, falls_push ss s h.1 b.1)
-
-    -- a share more, of the row that leads in the column
-    module _ (i : ℕ) (p : Terms Fraction) (h : IsElementTo q es ls c (suc i) p) (l : Led)
-        (within : In l ls) (leads : l.lead ≡ i) (a : ℤ)
-        (opposite : AreCongruent q a (neg_ℤ (entry l.row c))) where
-      share : Share
-      share = record { column = i; number = a }
-
-      is_standard : In i (leads_in ls)
-      is_standard = subst (λ k. In k (leads_in ls)) leads (map-in (λ (x : Led). x.lead) ls l within)
-
-      kills_later : (k : Led) → In k ls → suc i ≤ k.lead
-          → M (entry k.row c +ℤ share_sum h.shares k.row)
-          → M (entry k.row c +ℤ share_sum (h.shares ++ share ∷ []) k.row)
-      unfolding share
-      kills_later k j b m =
-          in_ideal_same ℤ_ring
-          (ap (λ y. entry k.row c +ℤ y) (sum_push h.shares share k.row)
-          ∙ moved ℤ_ring (entry k.row c) (share_sum h.shares k.row) (a *ℤ entry k.row i))
-          (in_ideal_add ℤ_ring
-          (in_ideal_mul ℤ_ring a
-          (off_column ls kept.apart k j i is_standard (λ e. absurd (omega (arith, e, b))))) m)
-
-      kills_own : M (entry l.row c +ℤ share_sum (h.shares ++ share ∷ []) l.row)
-      unfolding share
-      kills_own =
-          let x = entry l.row c in
-          let s = share_sum h.shares l.row in
-          in_ideal_same ℤ_ring
-          (ap (λ y. x +ℤ y) (sum_push h.shares share l.row)
-          ∙ moved ℤ_ring x s (a *ℤ entry l.row i))
-          (multiple_to q (a *ℤ entry l.row i +ℤ (x +ℤ s)) s
-          (congruent_same ℤ_ring (q ∷ []) refl (sym (taken ℤ_ring x s))
-          (congruent_add ℤ_ring (q ∷ []) (a *ℤ entry l.row i) (neg_ℤ x *ℤ pos 1) (x +ℤ s)
-          (x +ℤ s)
-          (congruent_mul ℤ_ring (q ∷ []) a (neg_ℤ x) (entry l.row i) (pos 1) opposite
-          (subst (λ k. AreCongruent q (entry l.row k) (pos 1)) leads
-          (each_in IsOne ls l row_ones within)))
-          (congruent_refl ℤ_ring (q ∷ []) (x +ℤ s))))
-          (none_yet i h.shares h.behind h.standard l within leads))
-
-      kills_here : (k : Led) → In k ls → k.lead ≡ i
-          → M (entry k.row c +ℤ share_sum (h.shares ++ share ∷ []) k.row)
-      kills_here k j e =
-          subst (λ (x : Led). M (entry x.row c +ℤ share_sum (h.shares ++ share ∷ []) x.row))
-          (sym (one_lead ls row_ones kept.apart k l j within (e ∙ sym leads))) kills_own
-
-      pub element_push : (f : Fraction) → IsFractionOf f a → ¬ (M a) → i < c
-          → (r : Terms Fraction) → r ≡ p ++ (get_or es i [], f) ∷ []
-          → IsElementTo q es ls c i r
-      unfolding Each share
-      element_push f t some b r e = record {
-        shares = h.shares ++ share ∷ [];
-        rest = h.rest ++ (get_or es i [], f) ∷ [];
-        is = e ∙ ap (λ x. x ++ (get_or es i [], f) ∷ []) h.is;
-        terms = zip_push h.shares h.rest share (get_or es i [], f) h.terms
-            (record { monomial = refl; fraction = t });
-        below = each-append (λ s. s.column < c) h.shares (share ∷ []) h.below (b, tt);
-        behind = each-append (λ s. i ≤ s.column) h.shares (share ∷ [])
-            (fewer i h.shares h.behind) (omega arith, tt);
-        falls = falls_push h.shares share h.falls h.behind;
-        standard = each-append (λ s. In s.column (leads_in ls)) h.shares (share ∷ []) h.standard
-            (is_standard, tt);
-        some = each-append (λ s. ¬ (M s.number)) h.shares (share ∷ []) h.some (some, tt);
-        kills = lower i h.shares (h.shares ++ share ∷ []) kills_later kills_here h.kills;
+      -- no share where the entry is a multiple, or no row leads
+      pub element_same : (i : ℕ) (p : Terms Fraction)
+          → Each (λ l. l.lead ≡ i → M (entry l.row c)) ls → IsElementTo q es ls c (suc i) p
+          → IsElementTo q es ls c i p
+      element_same i p z h = record {
+        shares = h.shares;
+        rest = h.rest;
+        is = h.is;
+        terms = h.terms;
+        below = h.below;
+        behind = fewer i h.shares h.behind;
+        falls = h.falls;
+        standard = h.standard;
+        some = h.some;
+        kills = lower i h.shares h.shares (λ l j a k. k)
+            (λ l j e. in_ideal_add ℤ_ring
+            (each_in (λ l. l.lead ≡ i → M (entry l.row c)) ls l z j e)
+            (none_yet i h.shares h.behind h.standard l j e)) h.kills;
       }
 
-    pub element_end : (p : Terms Fraction) (h : IsElementTo q es ls c 0 p)
-        → Each (λ l. M (entry l.row c +ℤ share_sum h.shares l.row)) ls
-    element_end p h =
-        each_weaker (λ l. 0 ≤ l.lead → M (entry l.row c +ℤ share_sum h.shares l.row))
-        (λ l. M (entry l.row c +ℤ share_sum h.shares l.row)) (λ l k. k (omega arith)) ls h.kills
+      zip_push : (ss : List Share) (ts : Terms Fraction) (s : Share) (t : List ℕ × Fraction)
+          → AllZip (IsTermAt es) ss ts → IsTermAt es s t
+          → AllZip (IsTermAt es) (ss ++ s ∷ []) (ts ++ t ∷ [])
+      zip_push [] [] s t h k = (k, tt)
+      zip_push [] (u ∷ ts) s t h k = absurd h
+      zip_push (r ∷ ss) [] s t h k = absurd h
+      zip_push (r ∷ ss) (u ∷ ts) s t h k = (h.0, zip_push ss ts s t h.1 k)
+
+      below_push : (k : ℕ) (ss : List Share) (s : Share) → Each (λ j. j < k) (columns_in ss)
+          → s.column < k → Each (λ j. j < k) (columns_in (ss ++ s ∷ []))
+      unfolding Each
+      below_push k [] s h b = (b, tt)
+      below_push k (r ∷ ss) s h b = (h.0, below_push k ss s h.1 b)
+
+      falls_push : (ss : List Share) (s : Share) → Falls (columns_in ss)
+          → Each (λ r. suc s.column ≤ r.column) ss → Falls (columns_in (ss ++ s ∷ []))
+      unfolding Each Falls
+      falls_push [] s h b = (tt, tt)
+      falls_push (r ∷ ss) s h b = (below_push r.column ss s h.0 b.0, falls_push ss s h.1 b.1)
+
+      -- a share more, of the row that leads in the column
+      module _ (i : ℕ) (p : Terms Fraction) (h : IsElementTo q es ls c (suc i) p) (l : Led)
+          (within : In l ls) (leads : l.lead ≡ i) (a : ℤ)
+          (opposite : AreCongruent q a (neg_ℤ (entry l.row c))) where
+        share : Share
+        share = record { column = i; number = a }
+
+        is_standard : In i (leads_in ls)
+        is_standard = subst (λ k. In k (leads_in ls)) leads (map-in (λ (x : Led). x.lead) ls l within)
+
+        kills_later : (k : Led) → In k ls → suc i ≤ k.lead
+            → M (entry k.row c +ℤ share_sum h.shares k.row)
+            → M (entry k.row c +ℤ share_sum (h.shares ++ share ∷ []) k.row)
+        unfolding share
+        kills_later k j b m =
+            in_ideal_same ℤ_ring
+            (ap (λ y. entry k.row c +ℤ y) (sum_push h.shares share k.row)
+            ∙ moved ℤ_ring (entry k.row c) (share_sum h.shares k.row) (a *ℤ entry k.row i))
+            (in_ideal_add ℤ_ring
+            (in_ideal_mul ℤ_ring a
+            (off_column ls kept.apart k j i is_standard (λ e. absurd (omega (arith, e, b))))) m)
+
+        kills_own : M (entry l.row c +ℤ share_sum (h.shares ++ share ∷ []) l.row)
+        unfolding share
+        kills_own =
+            let x = entry l.row c in
+            let s = share_sum h.shares l.row in
+            in_ideal_same ℤ_ring (ap (λ y. x +ℤ y) (sum_push h.shares share l.row) ∙ moved ℤ_ring x s
+            (a *ℤ entry l.row i)) (multiple_to q (congruent_same ℤ_ring (q ∷ []) refl
+            (sym (taken ℤ_ring x s)) (congruent_add ℤ_ring (q ∷ []) (a *ℤ entry l.row i)
+            (neg_ℤ x *ℤ pos 1) (x +ℤ s) (x +ℤ s) (congruent_mul ℤ_ring (q ∷ []) a (neg_ℤ x)
+            (entry l.row i) (pos 1) opposite (subst (λ k. AreCongruent q (entry l.row k) (pos 1))
+            leads (each_in IsOne ls l row_ones within))) (congruent_refl ℤ_ring (q ∷ []) (x +ℤ s))))
+            (none_yet i h.shares h.behind h.standard l within leads))
+
+        kills_here : (k : Led) → In k ls → k.lead ≡ i
+            → M (entry k.row c +ℤ share_sum (h.shares ++ share ∷ []) k.row)
+        kills_here k j e =
+            subst (λ (x : Led). M (entry x.row c +ℤ share_sum (h.shares ++ share ∷ []) x.row))
+            (sym (one_lead ls row_ones kept.apart k l j within (e ∙ sym leads))) kills_own
+
+        pub element_push : (f : Fraction) → IsFractionOf f a → ¬ (M a) → i < c
+            → (r : Terms Fraction) → r ≡ p ++ (get_or es i [], f) ∷ []
+            → IsElementTo q es ls c i r
+        unfolding Each share
+        element_push f t some b r e = record {
+          shares = h.shares ++ share ∷ [];
+          rest = h.rest ++ (get_or es i [], f) ∷ [];
+          is = e ∙ ap (λ x. x ++ (get_or es i [], f) ∷ []) h.is;
+          terms = zip_push h.shares h.rest share (get_or es i [], f) h.terms
+              (record { monomial = refl; fraction = t });
+          below = each-append (λ s. s.column < c) h.shares (share ∷ []) h.below (b, tt);
+          behind = each-append (λ s. i ≤ s.column) h.shares (share ∷ [])
+              (fewer i h.shares h.behind) (omega arith, tt);
+          falls = falls_push h.shares share h.falls h.behind;
+          standard = each-append (λ s. In s.column (leads_in ls)) h.shares (share ∷ []) h.standard
+              (is_standard, tt);
+          some = each-append (λ s. ¬ (M s.number)) h.shares (share ∷ []) h.some (some, tt);
+          kills = lower i h.shares (h.shares ++ share ∷ []) kills_later kills_here h.kills;
+        }
+
+      pub element_end : (p : Terms Fraction) (h : IsElementTo q es ls c 0 p)
+          → Each (λ l. M (entry l.row c +ℤ share_sum h.shares l.row)) ls
+      element_end p h =
+          each_weaker (λ l. 0 ≤ l.lead → M (entry l.row c +ℤ share_sum h.shares l.row))
+          (λ l. M (entry l.row c +ℤ share_sum h.shares l.row)) (λ l k. k (omega arith)) ls h.kills
 
 -- ---- monomials in ascending order
 pub ascend_at : (es : List (List ℕ)) → AreAscending es → (j k : ℕ) → j < k → k < length es
@@ -397,8 +392,8 @@ module _ (m : ℕ) (es : List (List ℕ)) (arities : Each (λ e. length e ≡ m)
     );
   }
 
-  pub element_polynomial : (ls : List Led) (c i : ℕ) (p : Terms Fraction) → c < length es
+  pub element_polynomial : {ls : List Led} (c : ℕ) {i : ℕ} {p : Terms Fraction} → c < length es
       → IsElementTo (pos modulus) es ls c i p → IsPolynomial ℚ grevlex m p
-  element_polynomial ls c i p l h =
+  element_polynomial c l h =
       subst (IsPolynomial ℚ grevlex m) (sym h.is)
       (whole_polynomial c l h.shares h.rest h.terms h.below h.falls h.some)

@@ -31,8 +31,8 @@ with_row n c ss l h row =
     dot_spread n c (columns_in ss) (numbers_in ss) row l
     (each-map (λ k. k < n) (λ (s : Share). s.column) ss h)
 
-module _ (q : ℤ) (n c : ℕ) (ss : List Share) (l : c < n) (h : Each (λ s. s.column < n) ss)
-    (given : List (List ℤ)) (ls : List Led) (e : IsEchelonOf q n given ls) where
+module _ (q : ℤ) {n : ℕ} (c : ℕ) (ss : List Share) (l : c < n) (h : Each (λ s. s.column < n) ss)
+    {given : List (List ℤ)} (ls : List Led) (e : IsEchelonOf q n given ls) where
   abbrev Kills : List ℤ → Type 0
   Kills row = IsMultiple q (entry row c +ℤ share_sum ss row)
 
@@ -78,8 +78,7 @@ module _ (q : ℤ) (es : List (List ℕ)) (x : List Fraction) (row : List ℤ)
   value_residue (s ∷ ss) (t ∷ p) h =
       subst (IsResidueOf q (ℚ.add (ℚ.mul t.1 (monomial_at ℚ x t.0)) (value_at ℚ p x)))
       (sym (sum_first s ss row))
-      (residue_add q (ℚ.mul t.1 (monomial_at ℚ x t.0)) (value_at ℚ p x)
-      (s.number *ℤ entry row s.column) (share_sum ss row) (one s t h.0) (value_residue ss p h.1))
+      (residue_add q _ (value_at ℚ p x) _ (share_sum ss row) (one s t h.0) (value_residue ss p h.1))
     where
       one : (s : Share) (t : List ℕ × Fraction) → IsShareOf s t
           → IsResidueOf q (ℚ.mul t.1 (monomial_at ℚ x t.0)) (s.number *ℤ entry row s.column)

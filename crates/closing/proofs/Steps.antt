@@ -42,38 +42,40 @@ use Rattle.closing.specs.declared.joining.Progress.{Progress}
 use Rattle.closing.proofs.Tied.{IsDivided, IsExtended, ran_limit, ran_grows, divided_on, divided_out, divided_past, divided_going, extended_on, extended_out, extended_past, extended_going}
 
 -- ---- tests whether a polynomial is 0
-pub is_none : (b : Bool) (p : Terms Fraction) → IsTrue b ↔ (p ≡ []) → b ≡ true → p ≡ []
-is_none b p is e = is.0 e
+pub is_none : {b : Bool} {p : Terms Fraction} → IsTrue b ↔ (p ≡ []) → b ≡ true → p ≡ []
+is_none is e = is.0 e
 
-pub is_some : (b : Bool) (p : Terms Fraction) → IsTrue b ↔ (p ≡ []) → b ≡ false → p ≢ []
-is_some b p is e z = let k : b ≡ true = is.1 z in let f : true ≡ false = sym k ∙ e in cc
+pub is_some : {b : Bool} {p : Terms Fraction} → IsTrue b ↔ (p ≡ []) → b ≡ false → p ≢ []
+is_some {b = b} is e z = let k : b ≡ true = is.1 z in let f : true ≡ false = sym k ∙ e in cc
 
 -- ---- a task by the same list
-pub divided_along : {A : Type 0} (n : ℕ) (p : FracPoly) (ls ms : List FracPoly) → ls ≡ ms
-    → (G : A → division.State Fraction → Type 0) (before after : Journal) (o : Outcome A)
+pub divided_along : {A : Type 0} (n : ℕ) (p : FracPoly) {ls ms : List FracPoly} → ls ≡ ms
+    → (G : A → division.State Fraction → Type 0) (before : Journal) {after : Journal}
+    (o : Outcome A)
     → RanTask (Image n) (division_of p ls) G before after o
     → RanTask (Image n) (division_of p ms) G before after o
-divided_along n p ls ms e G before after o r =
+divided_along n p e G before {after = after} o r =
     subst (λ l. RanTask (Image n) (division_of p l) G before after o) e r
 
 abbrev extension_of : List FracPoly → FracPoly → Machine (elimination.State Fraction)
 extension_of ls r =
     machines.elimination fractions grevlex grevlex (λ gs. gs) (terms_each ls ++ terms_in r ∷ [])
 
-pub extended_along : (n : ℕ) (r : FracPoly) (ls ms : List FracPoly) → ls ≡ ms
-    → (before after : Journal) (o : Outcome (Vec FracPoly))
+pub extended_along : (n : ℕ) (r : FracPoly) {ls ms : List FracPoly} → ls ≡ ms
+    → (before : Journal) {after : Journal} (o : Outcome (Vec FracPoly))
     → RanTask (Extend n) (extension_of ls r) IsExtendedList before after o
     → RanTask (Extend n) (extension_of ms r) IsExtendedList before after o
-extended_along n r ls ms e before after o h =
+extended_along n r e before {after = after} o h =
     subst (λ l. RanTask (Extend n) (extension_of l r) IsExtendedList before after o) e h
 
 pub grown : (es fs gs : List Entry) → Grows es fs → Grows fs gs → Grows es gs
 grown es fs gs g h = (g.0 ++ h.0, h.1 ∙ ap (λ s. s ++ h.0) g.1 ∙ append_assoc es g.0 h.0)
 
-pub joined_later : (program : Program (Expr ℕ)) (P : List (Terms Fraction)) (es fs : List Entry)
+pub joined_later : (program : Program (Expr ℕ)) (P : List (Terms Fraction)) (es : List Entry)
+    {fs : List Entry}
     → Grows es fs → (xs : List seen.Candidate) → AreJoined program P es xs
     → AreJoined program P fs xs
-joined_later program P es fs g xs j =
+joined_later program P es {fs = fs} g xs j =
     each_weaker (IsJoined program P es) (IsJoined program P fs)
     (λ x k. record {
       before = k.before;
@@ -166,9 +168,8 @@ module _ (program : Program (Expr ℕ)) (P : List (Terms Fraction)) (p : Progres
                 };
             joined =
                 subst (λ (xs : Vec Candidate). AreJoined program P after.entries
-                (candidates_of P xs.items)) (sym k)
-                (joined_later program P before.entries after.entries
-                (ran_grows (Image p.number) D G before after a r) kept h.joined);
+                (candidates_of P xs.items)) (sym k) (joined_later program P before.entries
+                (ran_grows (Image p.number) D G before a r) kept h.joined);
           }
 
       pub take_rest : rest ≢ []
@@ -254,17 +255,15 @@ module _ (program : Program (Expr ℕ)) (P : List (Terms Fraction)) (p : Progres
   start_stopped error.Budget s = absurd s
   start_stopped error.Memory s = going
 
-  module _ (q : FracPoly) (is : IsFromStart program y q) where
+  module _ {q : FracPoly} (is : IsFromStart program y q) where
     pub join_counters : terms_in q ≢ []
         → ComesNext program P before.entries (countered (candidate_of P y) (terms_in q))
     join_counters z = record {
       state = at;
       run = h.follows.run;
       is =
-          by
-          ∙ start_some program P p.number hs ks x waiting (candidate_of P y)
-          (from_start program (terms_in y.polynomial)) (λ e. z (is.terms ∙ e))
-          ∙ ap (countered (candidate_of P y)) (sym is.terms);
+          by ∙ start_some program P p.number hs ks x waiting (candidate_of P y) _
+          (λ e. z (is.terms ∙ e)) ∙ ap (countered (candidate_of P y)) (sym is.terms);
     }
 
     module _ (z : terms_in q ≡ []) where
@@ -273,9 +272,7 @@ module _ (program : Program (Expr ℕ)) (P : List (Terms Fraction)) (p : Progres
           (extending p.number hs ks (candidate_of P y) waiting
           (begin_extended hs (terms_in y.polynomial)))
       begins =
-          by
-          ∙ start_none program P p.number hs ks x waiting (candidate_of P y)
-          (from_start program (terms_in y.polynomial)) (sym is.terms ∙ z)
+          by ∙ start_none program P p.number hs ks x waiting (candidate_of P y) _ (sym is.terms ∙ z)
 
       abbrev E : Machine (elimination.State Fraction)
       E = machines.elimination fractions grevlex grevlex (λ gs. gs)
@@ -333,9 +330,8 @@ module _ (program : Program (Expr ℕ)) (P : List (Terms Fraction)) (p : Progres
         unfolding Each
         all_joined j =
             each-append (IsJoined program P after.entries) ks (candidate_of P y ∷ [])
-            (joined_later program P before.entries after.entries
-            (ran_grows (Extend p.number) E IsExtendedList before after ls r) ks j)
-            (seen_joined, tt)
+            (joined_later program P before.entries
+            (ran_grows (Extend p.number) E IsExtendedList before ls r) ks j) (seen_joined, tt)
 
         pub join_ends : AreJoined program P before.entries ks → (q : Progress)
             → q.number ≡ p.number + 1 → q.list ≡ ls

@@ -43,11 +43,11 @@ module _ (program : Program (Expr ℕ)) (d : ℕ) where
       order = append-nil (entries_of ps ++ Begin (Sample (samples_of ps)) ∷ []);
     }
 
-  module _ (before : List Entry) (ps : List Part) (gs : List (Terms Fraction))
+  module _ {before : List Entry} {ps : List Part} (gs : List (Terms Fraction))
       (c : IsClosing program d before ps gs) where
-    pub begun_part : (part after : List Entry) → IsGoing program gs part
+    pub begun_part : (part : List Entry) {after : List Entry} → IsGoing program gs part
         → IsPartOf before part after → AreBegun program d after
-    begun_part part after g p = record {
+    begun_part part g p = record {
       parts = ps;
       search = c.search;
       behind = part;
@@ -61,18 +61,18 @@ module _ (program : Program (Expr ℕ)) (d : ℕ) where
           ∙ ap (λ es. es ++ part) c.entries));
     }
 
-    composing_going : (part : List Entry) (x : Candidate) (os : List Operation)
+    composing_going : (part : List Entry) {x : Candidate} {os : List Operation}
         → IsComposing program gs part x os → IsGoing program gs part
-    composing_going part x os (inl h) =
+    composing_going part (inl h) =
         let n = h.comes in record { state = n.state; follows = record { run = n.run } }
-    composing_going part x os (inr h) = let r = h.has in record { state = _; follows = r.follows }
+    composing_going part (inr h) = let r = h.has in record { state = _; follows = r.follows }
 
     pub stops_going : (limit : ℕ) (part : List Entry) (e : ClosingError)
         → IfStops program gs limit part e → IsGoing program gs part
     stops_going limit part (closing_error.Limit w) s =
-        let l = s.cause in composing_going part s.candidate l.operations l.composing
+        let l = s.cause in composing_going part l.composing
     stops_going limit part (closing_error.Wide w) s = elim s.cause [
-      | inl l ↦ composing_going part s.candidate l.operations l.composing
+      | inl l ↦ composing_going part l.composing
       | inr p ↦ record { state = p.state; follows = p.follows }
     ]
     stops_going limit part closing_error.Budget s =
@@ -92,7 +92,7 @@ module _ (program : Program (Expr ℕ)) (d : ℕ) where
         → AreBegun program d (before ++ part)
         × IfSearchStops program d n (before ++ part) (refusal_of e)
     closing_stops limit n part rest e s =
-        let b = begun_part part (before ++ part) (stops_going limit part e s) (whole part) in
+        let b = begun_part part (stops_going limit part e s) (whole part) in
         (b, cause e s)
       where
         cause : (e : ClosingError) → IfStops program gs limit part e
@@ -125,4 +125,4 @@ module _ (program : Program (Expr ℕ)) (d : ℕ) where
           cause = (limit, s, rest);
         })
         cause closing_error.Memory s =
-            begun_part part (before ++ part) s (whole part)
+            begun_part part s (whole part)

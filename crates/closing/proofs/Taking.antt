@@ -51,10 +51,10 @@ module _ (program : Program (Expr ℕ)) (d : ℕ) (before after : List Entry) (s
     entries_are : after ≡ entries_of ps ++ Begin (Sample (samples_of ps)) ∷ []
     entries_are = e ∙ ap₂ (λ es k. es ++ Begin (Sample k) ∷ []) u.entries u.at.taken
 
-    module _ (ns ls w : List ℕ) (x y : ℕ) (ns_are : ns ≡ draws_from s.draws.number m)
+    module _ {ns ls w : List ℕ} {x y : ℕ} (ns_are : ns ≡ draws_from s.draws.number m)
         (x_is : x ≡ after_draws s.draws.number m) (ls_are : ls ≡ draws_from x s.taken)
         (y_is : y ≡ after_draws x s.taken) (w_is : w ≡ letters (length program.branches) ls)
-        (row : List ℤ) (r : IsRowOf program (pos modulus) s.monomials.items ns w row) where
+        {row : List ℤ} (r : IsRowOf program (pos modulus) s.monomials.items ns w row) where
       x_seen : x ≡ after_draws (state_of program ps) m
       x_seen = x_is ∙ ap (λ z. after_draws z m) u.at.draws
 
@@ -72,7 +72,7 @@ module _ (program : Program (Expr ℕ)) (d : ℕ) (before after : List Entry) (s
           subst (λ es. IsRowOf program (pos modulus) es (numbers_of program ps)
           (word_of program ps) row) u.at.listed at_numbers
 
-      module _ (t : Sampling) (b : IsBehind program d s t) (taken : t.taken ≡ suc s.taken)
+      module _ {t : Sampling} (b : IsBehind program d s t) (taken : t.taken ≡ suc s.taken)
           (draws : t.draws.number ≡ y) where
         drawn : t.draws.number ≡ after_draws (after_draws s.draws.number m) s.taken
         drawn = draws ∙ y_is ∙ ap (λ z. after_draws z s.taken) x_is
@@ -120,14 +120,14 @@ module _ (program : Program (Expr ℕ)) (d : ℕ) (before after : List Entry) (s
       )
 
 -- a row that is a combination doesn't count
-pub not_counted : (a : Addition) → ◌≡◌ {A = Result Addition AllocError} (Ok a) (Ok Counts)
+pub not_counted : {a : Addition} → ◌≡◌ {A = Result Addition AllocError} (Ok a) (Ok Counts)
     → a ≡ Combination → ⊥
-not_counted a counts is =
+not_counted {a = a} counts is =
     let same : a ≡ Counts = cc in
     let e : Combination ≡ Counts = sym is ∙ same in cc
 
 -- ---- whether another sample is taken
-module _ (program : Program (Expr ℕ)) (d : ℕ) (es : List Entry) (s : Sampling)
+module _ {program : Program (Expr ℕ)} (d : ℕ) {es : List Entry} {s : Sampling}
     (h : IsSampled program d es s) where
   pub unfinished : s.idle < most_idle → s.counted < length s.monomials.items
       → IsUnfinished program d es s
@@ -156,21 +156,21 @@ module _ (program : Program (Expr ℕ)) (d : ℕ) (es : List Entry) (s : Samplin
   }
 
 -- ---- the run with a word that counters
-module _ (program : Program (Expr ℕ)) (d : ℕ) (ps : List Part) (s : Sampling)
-    (a : IsAt program d ps s) (ns w : List ℕ)
-    (ns_are : ns ≡ draws_from s.draws.number (length program.names)) (row : List ℤ)
-    (r : IsRowOf program (pos modulus) s.monomials.items ns w row) where
+module _ {program : Program (Expr ℕ)} (d : ℕ) (ps : List Part) {s : Sampling}
+    (a : IsAt program d ps s) {ns w : List ℕ} (ns_are : ns ≡ draws_from s.draws.number
+    (length program.names)) {row : List ℤ} (r : IsRowOf program (pos modulus) s.monomials.items ns w
+    row) where
   is_drawn_so : IsRow program d ps w row
   is_drawn_so =
       subst (λ es. IsRowOf program (pos modulus) es (numbers_of program ps) w row) a.listed
       (subst (λ v. IsRowOf program (pos modulus) s.monomials.items v w row)
       (ns_are ∙ ap (λ z. draws_from z (length program.names)) a.draws) r)
 
-  pub refuted_counts : (t : Sampling) → IsBehind program d s t → t.taken ≡ s.taken
+  pub refuted_counts : {t : Sampling} → IsBehind program d s t → t.taken ≡ s.taken
       → t.draws.number ≡ after_draws s.draws.number (length program.names)
       → IsWithRow (pos modulus) s.echelon row t.echelon → IsIndependent (pos modulus) s.echelon row
       → t.counted ≡ suc s.counted → t.idle ≡ 0 → IsRefuted program d ps w t
-  refuted_counts t b taken draws more new c i = record {
+  refuted_counts {t = t} b taken draws more new c i = record {
     row = row;
     is_row = is_drawn_so;
     counts = new (rows_of ps) a.echelon;

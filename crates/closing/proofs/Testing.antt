@@ -67,9 +67,10 @@ Divided = Division Frac Grevlex ring.ghosts equal.ghosts graded.ghosts equal_gra
 
 -- ---- a task that has begun
 pub begun_runs : {S A : Type 0} (task : Task) (M : Machine S) (G : A → S → Type 0)
-    (before begun after : Journal) (o : Outcome A) → begun ≡ with_entry before (Begin task)
-    → Ran M G begun after o → RanTask task M G before after o
-begun_runs task M G before begun after o is r = inr (subst (λ j. Ran M G j after o) is r)
+    (before : Journal) {begun after : Journal} (o : Outcome A)
+    → begun ≡ with_entry before (Begin task) → Ran M G begun after o
+    → RanTask task M G before after o
+begun_runs task M G before {after = after} o is r = inr (subst (λ j. Ran M G j after o) is r)
 
 -- ---- the map of a branch
 images_collected : (m : ℕ) (ps : List FracPoly) (qs : List (Terms Fraction)) → AllArity m qs
@@ -109,11 +110,9 @@ module _ (program : Program (Expr ℕ)) (letter : ℕ) (images : Vec FracPoly)
         let many : AllArity m (terms_each images.items) = arities_over m images.items images_over in
         let some = arity-compose m ℚ (terms_in g) (terms_each images.items) many in
         ap (λ n. collect rationals grevlex (compose ℚ n (terms_in g) (terms_each images.items)))
-        over
-        ∙ collect-is ℚ_field grevlex grevlex_order m (after_iteration program letter (terms_in g))
-        (collect rationals grevlex made) (arity-compose m ℚ (terms_in g) maps maps_arity)
-        (collect-polynomial ℚ_field grevlex grevlex_order m made some)
-        (Same-trans ℚ (collect-same ℚ_field grevlex grevlex_order made)
+        over ∙ collect-is ℚ_field grevlex grevlex_order m _ _
+        (arity-compose m ℚ (terms_in g) maps maps_arity) (collect-polynomial ℚ_field grevlex
+        grevlex_order m made some) (Same-trans ℚ (collect-same ℚ_field grevlex grevlex_order made)
         (same_compose ℚ_ring m m (terms_in g) (terms_in g) (terms_each images.items) maps
         (arity_over m g over) (arity_over m g over) many maps_arity (Same-refl ℚ (terms_in g))
         (stands_same m images.items maps at)))
@@ -133,12 +132,10 @@ module _ (g : FracPoly) (images : List FracPoly) (some : 0 < g.arity)
   pub composed_is : terms_in t
       ≡ collect rationals grevlex (compose ℚ g.arity (terms_in g) (terms_each images))
   composed_is =
-      collect-is ℚ_field grevlex grevlex_order g.arity
-      (compose ℚ g.arity (terms_in g) (terms_each images)) (terms_in t)
-      (arity-compose g.arity ℚ (terms_in g) (terms_each images)
-      (arities_over g.arity images over)) (polynomial_over g.arity t composed_arity)
-      (subst (λ n. Same ℚ (terms_in t) (compose ℚ n (terms_in g) (terms_each images))) first
-      is.same)
+      collect-is ℚ_field grevlex grevlex_order g.arity _ (terms_in t) (arity-compose g.arity ℚ
+      (terms_in g) (terms_each images) (arities_over g.arity images over))
+      (polynomial_over g.arity t composed_arity) (subst (λ n. Same ℚ (terms_in t)
+      (compose ℚ n (terms_in g) (terms_each images))) first is.same)
 
   -- what divide has done, in the words of the test
   module _ (gs : List FracPoly) (before after : Journal) where
@@ -319,7 +316,7 @@ module _ (program : Program (Expr ℕ)) (closure : List FracPoly) (e : Elements)
         (subst (IsPastComposition fractions (terms_in g))
         (images_are program letter images there) h)
 
-    module _ (number : ℕ) (named : number ≡ suc place) (before after : Journal) where
+    module _ {number : ℕ} (named : number ≡ suc place) (before after : Journal) where
       abbrev Tested : Outcome Divided → Type 0
       Tested o = RanTask (Closed 0 letter number) (iteration_test g images.items closure)
           (HasCofactors g.order g.arity) before after o
@@ -346,13 +343,10 @@ module _ (program : Program (Expr ℕ)) (closure : List FracPoly) (e : Elements)
         cofactors_many =
             sym (length-map d.cofactors.items terms_in) ∙ ap length ends.gives.cofactors
             ∙ cofactors_count (length program.names) (terms_each closure) closure_elements
-            (iteration_of program t)
-            (collect-polynomial ℚ_field grevlex grevlex_order (length program.names)
-            (after_iteration program letter t.element)
-            (arity-compose (length program.names) ℚ t.element
-            (branch_map program (branch_of program letter))
-            (arity-branch_map program (branch_of program letter)))) ends.division
-            ∙ length-map closure terms_in ∙ sym f.count
+            (iteration_of program t) (collect-polynomial ℚ_field grevlex grevlex_order
+            (length program.names) _ (arity-compose (length program.names) ℚ t.element _
+            (arity-branch_map program (branch_of program letter)))) ends.division ∙ length-map
+            closure terms_in ∙ sym f.count
 
         pub test_row : (row : List FracPoly)
             → terms_each row ≡ placed e.places.items (terms_each d.cofactors.items)
@@ -378,10 +372,10 @@ module _ (program : Program (Expr ℕ)) (closure : List FracPoly) (e : Elements)
             → Tested (stopped (refusal_of y))
         told x y is r = subst (λ z. Tested (stopped (refusal_of z))) is r
 
-        pub row_past : (b n : ℕ) → b ≡ letter → n ≡ number → (x : engine.EngineError)
+        pub row_past : (b : ℕ) {n : ℕ} → b ≡ letter → n ≡ number → (x : engine.EngineError)
             → x ≡ engine_error.Wide → Tested (stopped (refusal_of x))
             → PastTest program P (terms_each closure) (terms_each e.list.items) after.entries b n
-        row_past b n bl nn x is r = record {
+        row_past b bl nn x is r = record {
           test = t;
           is_branch = sym bl;
           is_number = sym (nn ∙ named);

@@ -31,11 +31,11 @@ ran_limit task M G before after (stopped too_wide) (inl r) = absurd r
 ran_limit task M G before after (stopped out_of_units) (inl r) = ap (λ (j : Journal). j.limit) r.0
 ran_limit task M G before after (stopped out_of_memory) (inl r) = ap (λ (j : Journal). j.limit) r
 
-pub ran_grows : {S A : Type 0} (task : Task) (M : Machine S) (G : A → S → Type 0)
-    (before after : Journal) (a : A) → RanTask task M G before after (done a)
-    → Grows before.entries after.entries
-ran_grows task M G before after a (inl r) = absurd r
-ran_grows task M G before after a (inr r) =
+pub ran_grows : {S A : Type 0} (task : Task) (M : Machine S) (G : A → S → Type 0) (before : Journal)
+    {after : Journal} (a : A)
+    → RanTask task M G before after (done a) → Grows before.entries after.entries
+ran_grows task M G before a (inl r) = absurd r
+ran_grows task M G before a (inr r) =
     let w = r.to.finished.work in (
       Begin task ∷ map Did w.events,
       w.entries ∙ append_assoc before.entries (Begin task ∷ []) (map Did w.events),
@@ -72,8 +72,7 @@ module _ (program : Program (Expr ℕ)) (P : List (Terms Fraction)) (n : ℕ)
     divided_on a (inr r) = record {
       last = r.to.last;
       follows =
-          divided_follows program P n gs kept x waiting (before.entries ++ Begin (Image n)
-          ∷ [])
+          divided_follows program P n gs kept x waiting _
           after.entries (division.initial_state gs x.polynomial) r.to.last r.to.finished.work begun;
       ended = r.to.finished.ended;
       gives = r.to.gives;
@@ -85,18 +84,16 @@ module _ (program : Program (Expr ℕ)) (P : List (Terms Fraction)) (n : ℕ)
         subst (λ (j : Journal). IsOut program P before.limit j.entries) (sym r.0)
         (begin_out program P before.limit before.entries s _ (Begin (Image n)) f c r.1 r.2)
     divided_out (inr r) =
-        division_out program P n gs kept x waiting (before.entries ++ Begin (Image n) ∷ [])
-        after.entries before.limit (division.initial_state gs x.polynomial)
-        (subst (λ l. IsExhausted (division.next rationals grevlex gs)
-        (division.initial_state gs x.polynomial) l
+        division_out program P n gs kept x waiting _ after.entries before.limit
+        (division.initial_state gs x.polynomial) (subst (λ l. IsExhausted
+        (division.next rationals grevlex gs) (division.initial_state gs x.polynomial) l
         (before.entries ++ Begin (Image n) ∷ []) after.entries) r.limit r.to) begun
 
     pub divided_past : RanTask {A = A} (Image n) M G before after (stopped too_wide)
         → IsPastTask program P after.entries x
     divided_past (inl r) = absurd r
     divided_past (inr r) = elim r.to [
-      | inl p ↦ division_past program P n gs kept x waiting
-          (before.entries ++ Begin (Image n) ∷ []) after.entries
+      | inl p ↦ division_past program P n gs kept x waiting _ after.entries
           (division.initial_state gs x.polynomial) p begun
       | inr p ↦ absurd p.1
     ]
@@ -110,8 +107,7 @@ module _ (program : Program (Expr ℕ)) (P : List (Terms Fraction)) (n : ℕ)
     divided_going (inr r) = record {
       state = dividing n gs kept x waiting r.to.at;
       follows =
-          divided_follows program P n gs kept x waiting (before.entries ++ Begin (Image n)
-          ∷ [])
+          divided_follows program P n gs kept x waiting _
           after.entries (division.initial_state gs x.polynomial) r.to.at r.to.work begun;
     }
 
@@ -132,8 +128,7 @@ module _ (program : Program (Expr ℕ)) (P : List (Terms Fraction)) (n : ℕ)
     extended_on a (inr r) = record {
       last = r.to.last;
       follows =
-          extended_follows program P n gs kept x waiting
-          (before.entries ++ Begin (Extend n) ∷ []) after.entries
+          extended_follows program P n gs kept x waiting _ after.entries
           (begin_extended gs x.polynomial) r.to.last r.to.finished.work extending_begun;
       ended = r.to.finished.ended;
       gives = r.to.gives;
@@ -143,21 +138,17 @@ module _ (program : Program (Expr ℕ)) (P : List (Terms Fraction)) (n : ℕ)
         → IsOut program P before.limit after.entries
     extended_out (inl r) = absurd (let e = r.1 in cc)
     extended_out (inr r) =
-        extension_out program P n gs kept x waiting
-        (before.entries ++ Begin (Extend n) ∷ []) after.entries before.limit
-        (begin_extended gs x.polynomial)
-        (subst (λ l. IsExhausted next_extended (begin_extended gs x.polynomial) l
-        (before.entries ++ Begin (Extend n) ∷ []) after.entries) r.limit r.to)
-        extending_begun
+        extension_out program P n gs kept x waiting _ after.entries before.limit
+        (begin_extended gs x.polynomial) (subst (λ l. IsExhausted next_extended
+        (begin_extended gs x.polynomial) l (before.entries ++ Begin (Extend n) ∷ []) after.entries)
+        r.limit r.to) extending_begun
 
     pub extended_past : RanTask {A = A} (Extend n) E G before after (stopped too_wide)
         → IsPastTask program P after.entries x
     extended_past (inl r) = absurd r
     extended_past (inr r) = elim r.to [
-      | inl p ↦ extension_past program P n gs kept x waiting
-          (before.entries ++ Begin (Extend n) ∷ []) after.entries (inl p) extending_begun
-      | inr p ↦ extension_past program P n gs kept x waiting
-          (before.entries ++ Begin (Extend n) ∷ []) after.entries
+      | inl p ↦ extension_past program P n gs kept x waiting _ after.entries (inl p) extending_begun
+      | inr p ↦ extension_past program P n gs kept x waiting _ after.entries
           (inr (ap (λ (j : Journal). j.entries) p.0, p.1)) extending_begun
     ]
 
@@ -170,7 +161,6 @@ module _ (program : Program (Expr ℕ)) (P : List (Terms Fraction)) (n : ℕ)
     extended_going (inr r) = record {
       state = extending n gs kept x waiting r.to.at;
       follows =
-          extended_follows program P n gs kept x waiting
-          (before.entries ++ Begin (Extend n) ∷ []) after.entries
+          extended_follows program P n gs kept x waiting _ after.entries
           (begin_extended gs x.polynomial) r.to.at r.to.work extending_begun;
     }

@@ -102,12 +102,11 @@ module _ (q : ℤ) where
   killed : (y z x : ℤ) (row : List ℤ) → IsRowTo x row → M (dot (y ∷ z ∷ []) row)
       → M (y +ℤ z *ℤ x)
   killed y z x row h m =
-      multiple_to q (y +ℤ z *ℤ x) (dot (y ∷ z ∷ []) row)
-      (congruent_sym ℤ_ring (q ∷ []) (pair_with y z x row h)) m
+      multiple_to q (congruent_sym ℤ_ring (q ∷ []) (pair_with y z x row h)) m
 
   kills : (y z x : ℤ) (row : List ℤ) → IsRowTo x row → M (y +ℤ z *ℤ x)
       → M (dot (y ∷ z ∷ []) row)
-  kills y z x row h m = multiple_to q (dot (y ∷ z ∷ []) row) (y +ℤ z *ℤ x) (pair_with y z x row h) m
+  kills y z x row h m = multiple_to q (pair_with y z x row h) m
 
   kills_itself : (x : ℤ) (row : List ℤ) → IsRowTo x row → M (dot (neg_ℤ x ∷ pos 1 ∷ []) row)
   kills_itself x row h =
@@ -115,8 +114,8 @@ module _ (q : ℤ) where
       (in_ideal_same ℤ_ring (itself ℤ_ring x) (in_ideal_zero ℤ_ring))
 
   module _ (some : IsMultiple q (pos 1) → ⊥) where
-    no_unit : (x : ℤ) → AreCongruent q x (pos 1) → M x → ⊥
-    no_unit x h m = some (multiple_to q (pos 1) x (congruent_sym ℤ_ring (q ∷ []) h) m)
+    no_unit : {x : ℤ} → AreCongruent q x (pos 1) → M x → ⊥
+    no_unit {x = x} h m = some (multiple_to q (congruent_sym ℤ_ring (q ∷ []) h) m)
 
     pub combined_of_none : (x : ℤ) (row : List ℤ) → IsRowTo x row
         → IsCombinationModulo q [] row → ⊥
@@ -135,15 +134,11 @@ module _ (q : ℤ) where
         where
           one : AreCongruent q (entry s.rest 0) (pos 1)
           one =
-              congruent_trans q (entry s.rest 0) (dot (pos 1 ∷ pos 0 ∷ []) s.rest) (pos 1)
-              (congruent_same ℤ_ring (q ∷ [])
+              congruent_trans q (entry s.rest 0) _ (pos 1) (congruent_same ℤ_ring (q ∷ [])
               (sym (unit_first ℤ_ring (entry s.rest 0) (entry s.rest 1)))
-              (pair_dot (pos 1) (pos 0) s.rest s.is.width)
-              (congruent_refl ℤ_ring (q ∷ []) _))
-              (congruent_trans q (dot (pos 1 ∷ pos 0 ∷ []) s.rest)
-              (dot (pos 1 ∷ pos 0 ∷ []) row) (pos 1)
-              (s.is.left (pos 1 ∷ pos 0 ∷ [])
-              (combined q [] (rows_in form) e.within (pos 1 ∷ pos 0 ∷ []) tt))
+              (pair_dot (pos 1) (pos 0) s.rest s.is.width) (congruent_refl ℤ_ring (q ∷ []) _))
+              (congruent_trans q _ (dot (pos 1 ∷ pos 0 ∷ []) row) (pos 1) (s.is.left (pos 1 ∷ pos 0
+              ∷ []) (combined q [] (rows_in form) e.within (pos 1 ∷ pos 0 ∷ []) tt))
               (congruent_same ℤ_ring (q ∷ []) refl (first_alone ℤ_ring x)
               (pair_with (pos 1) (pos 0) x row h)))
 
@@ -154,7 +149,7 @@ module _ (q : ℤ) where
                 inverse = pos 1;
                 is = congruent_same ℤ_ring (q ∷ []) (ℤ_ring.mul-one (entry s.rest 0)) refl one;
               })
-          go (suc c) before more stuck = no_unit (entry s.rest 0) one (before 0 (omega arith))
+          go (suc c) before more stuck = no_unit one (before 0 (omega arith))
 
     positive : (n : ℕ) → n ≢ 0 → 0 < n
     positive zero h = absurd (h refl)
@@ -166,14 +161,12 @@ module _ (q : ℤ) where
     only_first (suc (suc n)) l h = absurd (omega (arith, l))
 
     -- ---- of two
-    module _ (x y : ℤ) (apart : HasPivot q (y +ℤ neg_ℤ x)) (one two : List ℤ)
-        (h : IsRowTo x one) (k : IsRowTo y two) where
+    module _ (x y : ℤ) (apart : HasPivot q (y +ℤ neg_ℤ x)) {one two : List ℤ} (h : IsRowTo x one)
+        (k : IsRowTo y two) where
       differ : M (y +ℤ neg_ℤ x) → ⊥
       differ m =
-          some (multiple_to q (pos 1) ((y +ℤ neg_ℤ x) *ℤ apart.inverse)
-          (congruent_sym ℤ_ring (q ∷ []) apart.is)
-          (in_ideal_same ℤ_ring (ℤ_ring.mul_comm (y +ℤ neg_ℤ x) apart.inverse)
-          (in_ideal_mul ℤ_ring apart.inverse m)))
+          some (multiple_to q (congruent_sym ℤ_ring (q ∷ []) apart.is) (in_ideal_same ℤ_ring
+          (ℤ_ring.mul_comm (y +ℤ neg_ℤ x) apart.inverse) (in_ideal_mul ℤ_ring apart.inverse m)))
 
       differ_with : (w : ℤ) → M (w +ℤ pos 1 *ℤ x) → M (w +ℤ pos 1 *ℤ y) → ⊥
       differ_with w m n =
@@ -182,8 +175,7 @@ module _ (q : ℤ) where
 
       entries_differ : M (entry two 1 +ℤ neg_ℤ (entry one 1)) → ⊥
       entries_differ m =
-          differ (multiple_to q (y +ℤ neg_ℤ x) (entry two 1 +ℤ neg_ℤ (entry one 1))
-          (record {
+          differ (multiple_to q (record {
             difference = in_ideal_same ℤ_ring (moved_apart ℤ_ring x y (entry one 1) (entry two 1))
                 (in_ideal_add ℤ_ring (in_ideal_neg ℤ_ring k.second.difference)
                 h.second.difference);
@@ -210,10 +202,9 @@ module _ (q : ℤ) where
               let sum = in_ideal_same ℤ_ring
               (sym (pair_dot (neg_ℤ x) (pos 1) l.row i.width))
               (c.gives (neg_ℤ x ∷ pos 1 ∷ []) (kills_itself x one h, tt)) in
-              absurd (no_unit (entry l.row 1) is
-              (in_ideal_same ℤ_ring (second_alone ℤ_ring x u (entry l.row 1))
-              (in_ideal_add ℤ_ring sum
-              (in_ideal_neg ℤ_ring (in_ideal_mul ℤ_ring (neg_ℤ x) (before 0 (omega arith)))))))
+              absurd (no_unit is (in_ideal_same ℤ_ring (second_alone ℤ_ring x u (entry l.row 1))
+              (in_ideal_add ℤ_ring sum (in_ideal_neg ℤ_ring
+              (in_ideal_mul ℤ_ring (neg_ℤ x) (before 0 (omega arith)))))))
           go (suc (suc n)) less is before = absurd (omega (arith, less))
 
       pub never_stuck_behind : (form : List Led) → IsEchelonOf q 2 (one ∷ []) form
@@ -227,17 +218,12 @@ module _ (q : ℤ) where
 
           near : AreCongruent q (entry s.rest 1) (y +ℤ neg_ℤ x)
           near =
-              let both = congruent_trans q (neg_ℤ x *ℤ entry s.rest 0 +ℤ pos 1 *ℤ entry s.rest 1)
-              (dot (neg_ℤ x ∷ pos 1 ∷ []) s.rest) (neg_ℤ x +ℤ pos 1 *ℤ y)
-              (congruent_same ℤ_ring (q ∷ [])
-              (sym (pair_dot (neg_ℤ x) (pos 1) s.rest s.is.width)) refl
+              let both = congruent_trans q _ _ (neg_ℤ x +ℤ pos 1 *ℤ y) (congruent_same ℤ_ring
+              (q ∷ []) (sym (pair_dot (neg_ℤ x) (pos 1) s.rest s.is.width)) refl
               (congruent_refl ℤ_ring (q ∷ []) (dot (neg_ℤ x ∷ pos 1 ∷ []) s.rest)))
-              (congruent_trans q (dot (neg_ℤ x ∷ pos 1 ∷ []) s.rest)
-              (dot (neg_ℤ x ∷ pos 1 ∷ []) two) (neg_ℤ x +ℤ pos 1 *ℤ y)
-              (s.is.left (neg_ℤ x ∷ pos 1 ∷ [])
+              (congruent_trans q _ _ (neg_ℤ x +ℤ pos 1 *ℤ y) (s.is.left (neg_ℤ x ∷ pos 1 ∷ [])
               (combined q (one ∷ []) (rows_in (l ∷ form)) e.within (neg_ℤ x ∷ pos 1 ∷ [])
-              (kills_itself x one h, tt)))
-              (pair_with (neg_ℤ x) (pos 1) y two k)) in
+              (kills_itself x one h, tt))) (pair_with (neg_ℤ x) (pos 1) y two k)) in
               record {
                 difference = in_ideal_same ℤ_ring (left_behind ℤ_ring x y (entry s.rest 0)
                     (entry s.rest 1))
@@ -252,9 +238,7 @@ module _ (q : ℤ) where
               stuck (pivot_same q (y +ℤ neg_ℤ x) (entry s.rest 1) (congruent_sym ℤ_ring (q ∷ [])
               near) apart)
           go (suc (suc c)) before more stuck =
-              differ (multiple_to q (y +ℤ neg_ℤ x) (entry s.rest 1) (congruent_sym ℤ_ring (q ∷ [])
-              near)
-              (before 1 (omega arith)))
+              differ (multiple_to q (congruent_sym ℤ_ring (q ∷ []) near) (before 1 (omega arith)))
 
       -- ---- an echelon form of both
       abbrev both : List (List ℤ)
@@ -279,15 +263,13 @@ module _ (q : ℤ) where
       killed_led : (l : Led) → IsLed q 2 l → l.lead ≡ 0 → M (dot (kills_led l) l.row)
       killed_led l i is =
           let w = entry l.row 1 in
-          multiple_to q (dot (kills_led l) l.row) (neg_ℤ w *ℤ pos 1 +ℤ pos 1 *ℤ w)
-          (congruent_same ℤ_ring (q ∷ []) (pair_dot (neg_ℤ w) (pos 1) l.row i.width) refl
-          (congruent_add ℤ_ring (q ∷ []) (neg_ℤ w *ℤ entry l.row 0) (neg_ℤ w *ℤ pos 1)
-          (pos 1 *ℤ w) (pos 1 *ℤ w)
-          (congruent_mul ℤ_ring (q ∷ []) (neg_ℤ w) (neg_ℤ w) (entry l.row 0) (pos 1)
-          (congruent_refl ℤ_ring (q ∷ []) (neg_ℤ w))
-          (subst (λ c. AreCongruent q (entry l.row c) (pos 1)) is i.one))
-          (congruent_refl ℤ_ring (q ∷ []) (pos 1 *ℤ w))))
-          (in_ideal_same ℤ_ring (less_times ℤ_ring w) (in_ideal_zero ℤ_ring))
+          multiple_to q (congruent_same ℤ_ring (q ∷ []) (pair_dot (neg_ℤ w) (pos 1) l.row i.width)
+          refl (congruent_add ℤ_ring (q ∷ []) (neg_ℤ w *ℤ entry l.row 0) (neg_ℤ w *ℤ pos 1)
+          (pos 1 *ℤ w) (pos 1 *ℤ w) (congruent_mul ℤ_ring (q ∷ []) (neg_ℤ w) (neg_ℤ w)
+          (entry l.row 0) (pos 1) (congruent_refl ℤ_ring (q ∷ []) (neg_ℤ w)) (subst (λ c.
+          AreCongruent q (entry l.row c) (pos 1)) is i.one))
+          (congruent_refl ℤ_ring (q ∷ []) (pos 1 *ℤ w)))) (in_ideal_same ℤ_ring
+          (less_times ℤ_ring w) (in_ideal_zero ℤ_ring))
 
       pub all_lead : (form : List Led) → IsEchelonOf q 2 (one ∷ two ∷ []) form → (c : ℕ) → c < 2
           → Each (λ l. l.lead ≢ c) form → ⊥
@@ -307,10 +289,8 @@ module _ (q : ℤ) where
       all_lead (l ∷ m ∷ form) e (suc zero) less n =
           let i : IsLed q 2 l = e.led.0 in
           let j : IsLed q 2 m = e.led.1.0 in
-          no_unit (entry l.row l.lead) i.one
-          (subst (λ c. M (entry l.row c))
-          (only_first m.lead j.within n.1.0 ∙ sym (only_first l.lead i.within n.0))
-          e.apart.0.0.0)
+          no_unit i.one (subst (λ c. M (entry l.row c)) (only_first m.lead j.within n.1.0
+          ∙ sym (only_first l.lead i.within n.0)) e.apart.0.0.0)
       all_lead form e (suc (suc c)) less n = omega (arith, less)
 
       one_share : (s : Share) → s.column ≡ 0 → (row : List ℤ)
@@ -329,9 +309,8 @@ module _ (q : ℤ) where
           → Each (λ r. M (entry r c +ℤ share_sum ss r)) (one ∷ two ∷ []) → ⊥
       unfolding Each Falls
       no_shares zero less [] b f kill =
-          no_unit (entry one 0) h.first
-          (in_ideal_same ℤ_ring
-          (sym (ap (λ t. entry one 0 +ℤ t) (sum_none one) ∙ ℤ_ring.add-zero (entry one 0))) kill.0)
+          no_unit h.first (in_ideal_same ℤ_ring (sym (ap (λ t. entry one 0 +ℤ t) (sum_none one)
+          ∙ ℤ_ring.add-zero (entry one 0))) kill.0)
       no_shares zero less (s ∷ ss) b f kill = omega (arith, b.0)
       no_shares (suc zero) less [] b f kill =
           entries_differ (in_ideal_same ℤ_ring
@@ -351,15 +330,14 @@ module _ (q : ℤ) where
       no_shares (suc zero) less (s ∷ t ∷ ss) b f kill = omega (arith, b.0, f.0.0)
       no_shares (suc (suc c)) less ss b f kill = omega (arith, less)
 
-      pub no_element : (es : List (List ℕ)) (form : List Led)
-          → IsEchelonOf q 2 (one ∷ two ∷ []) form → (g : Terms Fraction)
-          → IsElementOf q es form 2 g → ⊥
-      no_element es form e g i =
+      pub no_element : {es : List (List ℕ)} (form : List Led)
+          → IsEchelonOf q 2 (one ∷ two ∷ []) form → (g : Terms Fraction) → IsElementOf q es form 2 g
+          → ⊥
+      no_element form e g i =
           let t = i.is in
-          no_shares i.column i.low t.shares t.below t.falls
-          (given_killed q 2 i.column t.shares i.low
+          no_shares i.column i.low t.shares t.below t.falls (given_killed q i.column t.shares i.low
           (each_weaker (λ s. s.column < i.column) (λ s. s.column < 2)
-          (λ s l. let low = i.low in omega (arith, l, low)) t.shares t.below) both form e
+          (λ s l. let low = i.low in omega (arith, l, low)) t.shares t.below) form e
           (each_weaker (λ l. 0 ≤ l.lead → M (entry l.row i.column +ℤ share_sum t.shares l.row))
           (λ l. M (entry l.row i.column +ℤ share_sum t.shares l.row))
           (λ l f. f (omega arith)) form t.kills))

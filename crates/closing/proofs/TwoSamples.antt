@@ -86,8 +86,8 @@ module _ (program : Program (Expr ℕ)) (d : ℕ) (two : length (monomials progr
           → Each (IsElementOf q (monomials program d) h.form 2) gs → gs ≡ []
       go [] t = refl
       go (g ∷ gs) t =
-          absurd (no_element q no_one x y apart b.one b.other b.row b.other_row
-          (monomials program d) h.form (form_of ps b h.form h.echelon) g t.0)
+          absurd (no_element q no_one x y apart b.row b.other_row h.form
+          (form_of ps b h.form h.echelon) g t.0)
 
   never_countered : (es : List Entry) (gs : List (Terms Fraction)) (z : Candidate)
       (image : Terms Fraction) → gs ≡ [] → ComesNext program gs es (countered z image) → ⊥
@@ -127,10 +127,9 @@ module _ (program : Program (Expr ℕ)) (d : ℕ) (two : length (monomials progr
           (first row (subst (λ rs. IsRow program d rs (word_of program rs) row) e h.2))
           (subst (λ rs. IsCombinationModulo q (rows_of rs) row) e h.3)
       go (inr (inl f)) =
-          combined_of_first q no_one x y apart f.one row f.row
-          (second f.one row
-          (subst (λ rs. IsRow program d rs (word_of program rs) row) f.are h.2))
-          (subst (λ rs. IsCombinationModulo q (rows_of rs) row) f.are h.3)
+          combined_of_first q no_one x y apart f.row (second f.one row (subst (λ rs. IsRow program d
+          rs (word_of program rs) row) f.are h.2)) (subst (λ rs. IsCombinationModulo q (rows_of rs)
+          row) f.are h.3)
       go (inr (inr b)) = goes_no_further ps b h.1
   parts_are (refuted gs es z image row ∷ ps) h =
       absurd (never_countered es gs z image
@@ -170,10 +169,8 @@ module _ (program : Program (Expr ℕ)) (d : ℕ) (two : length (monomials progr
           i.form i.echelon i.stuck
       go (inr (inl f)) =
           let i = subst (λ rs. HasNoInverse 2 (rows_of rs) h.row) f.are none in
-          never_stuck_behind q no_one x y apart f.one h.row f.row
-          (second f.one h.row
-          (subst (λ rs. IsRow program d rs (word_of program rs) h.row) f.are h.is_row))
-          i.form i.echelon i.stuck
+          never_stuck_behind q no_one x y apart f.row (second f.one h.row (subst (λ rs. IsRow
+          program d rs (word_of program rs) h.row) f.are h.is_row)) i.form i.echelon i.stuck
       go (inr (inr b)) = goes_no_further h.parts b h.goes_on
 
   pub always_news : (es : List Entry) → HasNoNews program d es → ⊥
@@ -184,6 +181,5 @@ module _ (program : Program (Expr ℕ)) (d : ℕ) (two : length (monomials progr
   pub never_missing : (es : List Entry) (e : List ℕ) → HasNoElement program d es e → ⊥
   never_missing es e h =
       let b = both_where h.parts (parts_are h.parts h.search) h.enough in
-      all_lead q no_one x y apart b.one b.other b.row b.other_row h.form
-      (form_of h.parts b h.form h.echelon) h.column
-      (subst (λ k. h.column < k) two h.within) h.leads.free
+      all_lead q no_one x y apart b.row b.other_row h.form (form_of h.parts b h.form h.echelon)
+      h.column (subst (λ k. h.column < k) two h.within) h.leads.free

@@ -118,14 +118,12 @@ module _ (q : ℤ) (es : List (List ℕ)) (ls : List Led) where
     own_share s t h e x i = record {
       fraction = t.1;
       limited = h.limited;
-      residue = residue_congruent q t.1 s.number (s.number *ℤ entry l.row s.column +ℤ x) h.residue
-          (congruent_sym ℤ_ring (q ∷ [])
-          (congruent_same ℤ_ring (q ∷ []) refl (nothing_else ℤ_ring s.number)
-          (congruent_add ℤ_ring (q ∷ []) (s.number *ℤ entry l.row s.column) (s.number *ℤ pos 1) x
-          (pos 0)
-          (congruent_mul ℤ_ring (q ∷ []) s.number s.number (entry l.row s.column) (pos 1)
+      residue = residue_congruent q t.1 s.number _ h.residue
+          (congruent_sym ℤ_ring (q ∷ []) (congruent_same ℤ_ring (q ∷ []) refl
+          (nothing_else ℤ_ring s.number) (congruent_add ℤ_ring (q ∷ []) _ (s.number *ℤ pos 1) x
+          (pos 0) (congruent_mul ℤ_ring (q ∷ []) s.number s.number (entry l.row s.column) (pos 1)
           (congruent_refl ℤ_ring (q ∷ []) s.number)
-          (subst (λ k. AreCongruent q (entry l.row k) (pos 1)) e one)) (none_of q x i))));
+          (subst (λ k. AreCongruent q (entry l.row k) (pos 1)) e one)) (none_of q i))));
     }
 
     other_share : (s : Share) (t : List ℕ × Fraction) → IsStandardShare s t → l.lead ≢ s.column
@@ -133,14 +131,11 @@ module _ (q : ℤ) (es : List (List ℕ)) (ls : List Led) where
     other_share s t h d x f = record {
       fraction = f.fraction;
       limited = f.limited;
-      residue = residue_congruent q f.fraction x (s.number *ℤ entry l.row s.column +ℤ x) f.residue
-          (congruent_sym ℤ_ring (q ∷ [])
-          (congruent_same ℤ_ring (q ∷ []) refl (nothing_first ℤ_ring x)
-          (congruent_add ℤ_ring (q ∷ []) (s.number *ℤ entry l.row s.column) (pos 0) x x
-          (none_of q (s.number *ℤ entry l.row s.column)
+      residue = residue_congruent q f.fraction x _ f.residue
+          (congruent_sym ℤ_ring (q ∷ []) (congruent_same ℤ_ring (q ∷ []) refl
+          (nothing_first ℤ_ring x) (congruent_add ℤ_ring (q ∷ []) _ (pos 0) x x (none_of q
           (in_ideal_mul ℤ_ring s.number (off_column q none ls apart l within s.column h.standard
-          d)))
-          (congruent_refl ℤ_ring (q ∷ []) x))));
+          d))) (congruent_refl ℤ_ring (q ∷ []) x))));
     }
 
     pub find_fraction : (ss : List Share) (p : Terms Fraction) → AllZip IsStandardShare ss p
@@ -196,8 +191,7 @@ module _ (m : ℕ) (es : List (List ℕ)) (ls : List Led) (c : ℕ) (low : c < l
       let lead : Share = record { column = c; number = pos 1 } in
       let zs = shares_at q es ls z.state row z.residues
       (lows q (length es) ls e.led) ss rest h in
-      let all = value_residue q es z.state row z.residues (lead ∷ ss)
-      ((get_or es c [], ℚ.one) ∷ rest)
+      let all = value_residue q es z.state row z.residues (lead ∷ ss) _
       (record { monomial = refl; within = low; residue = residue_whole q (pos 1) }, zs) in
       in_ideal_same ℤ_ring
       (ap (λ y. y +ℤ share_sum ss row) (sym (one-mul ℤ_ring (entry row c)))
@@ -224,7 +218,7 @@ module _ (m : ℕ) (es : List (List ℕ)) (ls : List Led) (c : ℕ) (low : c < l
       let x = entry l.row c in
       let s = share_sum ss l.row in
       let killed = each_in (λ r. IsMultiple q (entry r c +ℤ share_sum ss r)) (rows_in ls) l.row
-      (rows_killed q (length es) c ss low (wide ss (all_standard q es ls ss rest h)) given ls e
+      (rows_killed q c ss low (wide ss (all_standard q es ls ss rest h)) ls e
       kills) (map-in (λ (k : Led). k.row) ls l u.within) in
       let near : AreCongruent q s (neg_ℤ x) =
       record { difference = in_ideal_same ℤ_ring (opposites ℤ_ring x s) killed } in

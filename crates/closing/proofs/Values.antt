@@ -49,10 +49,9 @@ module _ (q : ℤ) where
         → IsResidueOf q (ℚ.mul t.1 (monomial_at ℚ s t.0))
         (u.1 *ℤ monomial_at (operations ℤ_ring) xs u.0)
     residue_term t u h =
-        residue_mul q t.1 (monomial_at ℚ s t.0) u.1 (monomial_at (operations ℤ_ring) xs u.0)
-        h.number
-        (subst (λ e. IsResidueOf q (monomial_at ℚ s t.0) (monomial_at (operations ℤ_ring) xs e))
-        (sym h.monomial) (residue_monomial q s xs state t.0))
+        residue_mul q t.1 (monomial_at ℚ s t.0) u.1 _ h.number (subst (λ e. IsResidueOf q
+        (monomial_at ℚ s t.0) (monomial_at (operations ℤ_ring) xs e)) (sym h.monomial)
+        (residue_monomial q s xs state t.0))
 
     residue_terms : (ts : Terms Fraction) (us : Terms ℤ) → AllZip (IsTermModulo q) ts us
         → IsResidueOf q (value ts) (residue us)
@@ -61,9 +60,7 @@ module _ (q : ℤ) where
     residue_terms [] (u ∷ us) h = absurd h
     residue_terms (t ∷ ts) [] h = absurd h
     residue_terms (t ∷ ts) (u ∷ us) h =
-        residue_add q (ℚ.mul t.1 (monomial_at ℚ s t.0)) (value ts)
-        (u.1 *ℤ monomial_at (operations ℤ_ring) xs u.0) (residue us) (residue_term t u h.0)
-        (residue_terms ts us h.1)
+        residue_add q _ (value ts) _ (residue us) (residue_term t u h.0) (residue_terms ts us h.1)
 
     pub residue_polynomial : (p : Terms Fraction) (r : Terms ℤ) → IsPolynomialModulo q p r
         → IsResidueOf q (value_at ℚ p s) (value_at (operations ℤ_ring) r xs)

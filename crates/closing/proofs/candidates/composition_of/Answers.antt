@@ -4,15 +4,14 @@ use Rattle.closing.proofs.candidates.composition_of.Goals as goal
 
 pub returns-in-Ok-clause-composed : goal.returns-in-Ok-clause-composed
 returns-in-Ok-clause-composed c = λ m maps over all am.
-    composes m c.args.polynomial.now over c.args.images.now.items maps all am
-    c.compose_anew.result c.in-Ok.composition c.in-Ok.is c.compose_anew.ensures
+    composes c.args.polynomial.now over _ maps all am c.in-Ok.composition c.in-Ok.is
+    c.compose_anew.ensures
 
 pub returns-in_ok-clone-in-Err-Limit-clause-stopped
     : goal.returns-in_ok-clone-in-Err-Limit-clause-stopped
 returns-in_ok-clone-in-Err-Limit-clause-stopped c = λ m maps over all am. (
   same_from_all_zip _ _ _ c.in_ok-clone-in-Err-Limit.ensures.cases.0 (λ x y h. h),
-  limit_here m c.args.polynomial.now over c.args.images.now.items maps all am
-      c.compose_anew.result c.in-Err-Limit.field-0 c.in-Err-Limit.field-0-0 c.in-Err-Limit.is
+  limit_here c.args.polynomial.now over _ maps all am c.in-Err-Limit.is
       c.in-Err-Limit.field-0-is c.compose_anew.ensures,
 )
 
@@ -20,7 +19,6 @@ pub returns-in_ok-clone-in-Err-Wide-clause-stopped
     : goal.returns-in_ok-clone-in-Err-Wide-clause-stopped
 returns-in_ok-clone-in-Err-Wide-clause-stopped c = λ m maps over all am. (
   same_from_all_zip _ _ _ c.in_ok-clone-in-Err-Wide.ensures.cases.0 (λ x y h. h),
-  wide_here m c.args.polynomial.now over c.args.images.now.items maps all am
-      c.compose_anew.result c.in-Err-Wide.field-0 c.in-Err-Wide.field-0-0 c.in-Err-Wide.is
+  wide_here c.args.polynomial.now over _ maps all am c.in-Err-Wide.field-0-0 c.in-Err-Wide.is
       c.in-Err-Wide.field-0-is c.compose_anew.ensures,
 )

@@ -64,15 +64,12 @@ width c =
 pub clear_column-requires-clause-led : goal.clear_column-requires-clause-led
 clear_column-requires-clause-led c =
     let d = (goal.at.clear_column-requires-clause-led c).After-fresh-1 in
-    fresh_wide (record { width = length c.args.row.items; rows = leds_of c.args.rows.now.items })
-    (numbers_of c.args.row.items)
-    (record { lead = c.in-Some.lead; entries = c.scale.new.row }) (length c.scale.new.row.items)
-    (fresh d) refl
+    fresh_wide
+    (record { lead = c.in-Some.lead; entries = c.scale.new.row }) (fresh d) refl
 
 pub clear_column-requires-clause-widths : goal.clear_column-requires-clause-widths
 clear_column-requires-clause-widths c =
-    rows_wide (length c.args.row.items) (length c.scale.new.row.items) c.args.rows.now.items
-    c.reserve.new.self.items c.requires.led c.reserve.ensures.items
+    rows_wide c.args.rows.now.items c.reserve.new.self.items c.requires.led c.reserve.ensures.items
     (width (goal.at.clear_column-requires-clause-widths c).After-fresh-1)
 
 room : (c : After-push) → is_ok c.push.result ≡ true
@@ -93,11 +90,7 @@ pub returns-clause-counts : goal.returns-clause-counts
 returns-clause-counts c =
     let d = (goal.at.returns-clause-counts c).After-fresh-1 in
     let f : LedRow = record { lead = c.in-Some.lead; entries = c.scale.new.row } in
-    λ t.
-    added_as (record { width = length c.args.row.items; rows = leds_of c.args.rows.now.items })
-    (numbers_of c.args.row.items) f c.reserve.new.self.items
-    c.args.rows.now.items c.clear_column.new.rows.items c.push.new.self.items refl
-    c.reserve.ensures.items (fresh d) c.clear_column.ensures.rows
-    (c.push.ensures.items
-    ∙ ap (λ b. cond b (c.clear_column.new.rows.items ++ f ∷ []) c.clear_column.new.rows.items)
+    λ t. added_as f c.reserve.new.self.items _ refl c.reserve.ensures.items (fresh d)
+    c.clear_column.ensures.rows (c.push.ensures.items ∙ ap (λ b. cond b
+    (c.clear_column.new.rows.items ++ f ∷ []) c.clear_column.new.rows.items)
     (room (goal.at.returns-clause-counts c).After-push))

@@ -40,6 +40,5 @@ returns-clause-rows c =
 
 pub returns-clause-length : goal.returns-clause-length
 returns-clause-length c =
-    turned_length (λ x y. IsClearedBy (pos modulus) (led_of c.args.fresh.now) (led_of x)
-    (led_of y)) c.loop-place.place c.args.rows.now.items c.loop-place.rows.items
-    c.loop-place.invariant.cleared
+    turned_length (λ x y. IsClearedBy (pos modulus) (led_of c.args.fresh.now) (led_of x) (led_of y))
+    c.loop-place.place c.args.rows.now.items _ c.loop-place.invariant.cleared

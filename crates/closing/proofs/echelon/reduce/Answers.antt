@@ -3,8 +3,8 @@ use Rattle.std.proofs.lemmas.List.{length-map}
 use Rattle.algebra.proofs.In.{each_in}
 use Rattle.closing.specs.Modulus.{modulus}
 use Rattle.closing.specs.EchelonForm.{IsLed}
-use Rattle.closing.specs.LedRows.{led_of, leds_of}
-use Rattle.closing.specs.Numbers.{number_of, numbers_of}
+use Rattle.closing.specs.LedRows.{led_of}
+use Rattle.closing.specs.Numbers.{number_of}
 use Rattle.closing.proofs.Iterations.{rest_first}
 use Rattle.closing.proofs.Entries.{row_read, row_width, rest_more, rest_done}
 use Rattle.closing.proofs.echelon.reduce.Goals as goal
@@ -13,10 +13,8 @@ use Rattle.closing.proofs.echelon.reduce.Goals.{After-other-item}
 led : (c : After-other-item)
     → IsLed (pos modulus) (length c.args.row.now.items) (led_of c.other-item.result)
 led c =
-    each_in (IsLed (pos modulus) (length c.args.row.now.items)) (leds_of c.args.rows.now)
-    (led_of c.other-item.result) c.requires.led
-    (row_read c.args.rows.now c.loop-other.other-index c.other-item.result c.loop-other-test.true
-    c.other-item.is)
+    each_in (IsLed (pos modulus) (length c.args.row.now.items)) _ _ c.requires.led
+    (row_read _ _ c.loop-other-test.true c.other-item.is)
 
 width : (c : After-other-item) → length c.loop-other.row.items ≡ length c.args.row.now.items
 width c = sym (length-map c.loop-other.row.items number_of) ∙ c.loop-other.invariant.width
@@ -26,8 +24,7 @@ low c = let h = led c in subst (λ n. c.other-item.result.lead < n) (sym (width 
 
 pub loop-other-init : goal.loop-other-init
 loop-other-init c =
-    rest_first (pos modulus) (length c.args.row.now.items) (leds_of c.args.rows.now)
-    (numbers_of c.args.row.now.items) (length-map c.args.row.now.items number_of)
+    rest_first (pos modulus) _ _ _ (length-map c.args.row.now.items number_of)
 
 pub index-requires : goal.index-requires
 index-requires c =
@@ -37,8 +34,7 @@ index-requires c =
 pub take_away-requires-clause-width : goal.take_away-requires-clause-width
 take_away-requires-clause-width c =
     let d = (goal.at.take_away-requires-clause-width c).After-other-item in
-    row_width (pos modulus) (length c.args.row.now.items) c.other-item.result (led d)
-    ∙ sym (width d)
+    row_width c.other-item.result (led d) ∙ sym (width d)
 
 pub take_away-requires-clause-before : goal.take_away-requires-clause-before
 take_away-requires-clause-before c =
@@ -46,13 +42,12 @@ take_away-requires-clause-before c =
 
 pub loop-other-preserved : goal.loop-other-preserved
 loop-other-preserved c =
-    rest_more (pos modulus) c.args.rows.now c.loop-other.other-index c.other-item.result
-    c.args.row.now.items c.loop-other.row.items c.take_away.new.row.items c.index.result.now
-    c.loop-other-test.true c.other-item.is c.requires c.loop-other.invariant
-    (low (goal.at.loop-other-preserved c).After-other-item) c.index.ensures
+    rest_more (pos modulus) c.args.rows.now _ c.other-item.result c.args.row.now.items
+    c.loop-other.row.items _ c.index.result.now c.loop-other-test.true c.other-item.is c.requires
+    c.loop-other.invariant (low (goal.at.loop-other-preserved c).After-other-item) c.index.ensures
     c.take_away.ensures.width c.take_away.ensures.row
 
 pub returns : goal.returns
 returns c =
-    rest_done (pos modulus) c.args.rows.now c.loop-other.other-index c.args.row.now.items
+    rest_done (pos modulus) c.args.rows.now _ c.args.row.now.items
     c.loop-other.row.items c.loop-other-test.false c.loop-other.invariant

@@ -13,8 +13,7 @@ loop-row-preserved c =
 
 pub returns-then-row-column-clause-within : goal.returns-then-row-column-clause-within
 returns-then-row-column-clause-within c =
-    row_read c.args.rows.now c.loop-row.row-index c.row-item.result c.loop-row-test.true
-    c.row-item.is
+    row_read _ _ c.loop-row-test.true c.row-item.is
 
 pub returns-clause-none : goal.returns-clause-none
 returns-clause-none c = λ n.

@@ -6,8 +6,8 @@ use Rattle.closing.proofs.echelon.scale.Goals as goal
 
 pub loop-column-preserved : goal.loop-column-preserved
 loop-column-preserved c =
-    let w = row_length (pos modulus) (number_of c.args.by.now) c.args.row.now.items (pos 0) []
-    c.loop-column.column c.loop-column.row.items c.loop-column.invariant in
+    let w = row_length (pos modulus) (number_of c.args.by.now) c.args.row.now.items (pos 0) [] _
+    c.loop-column.invariant in
     scaled_step (pos modulus) c.args.row.now.items c.loop-column.row.items c.loop-column.column
     c.args.by.now c.index.result.now c.mul.result
     (omega (arith, c.loop-column-test.true, c.len-column-end.ensures, c.args.row.now.ok.0, w))

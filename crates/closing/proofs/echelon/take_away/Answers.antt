@@ -8,23 +8,19 @@ use Rattle.closing.proofs.echelon.take_away.Goals as goal
 
 pub returns-then-is_zero-clause-row : goal.returns-then-is_zero-clause-row
 returns-then-is_zero-clause-row c =
-    blend_none (pos modulus) (numbers_of c.args.row.now.items) (neg_ℤ (number_of c.args.factor.now))
-    (numbers_of c.args.other.now.entries.items) (ap neg_ℤ (c.if-is_zero.ensures.0 refl))
+    blend_none _ (numbers_of c.args.row.now.items) _ _ (ap neg_ℤ (c.if-is_zero.ensures.0 refl))
 
 pub loop-column-init : goal.loop-column-init
 loop-column-init c =
-    blend_behind (pos modulus) (numbers_of c.args.row.now.items)
-    (neg_ℤ (number_of c.args.factor.now)) (numbers_of c.args.other.now.entries.items)
-    c.args.other.now.lead c.requires.before
+    blend_behind _ (numbers_of c.args.row.now.items) _ _ _ c.requires.before
 
 pub loop-column-preserved : goal.loop-column-preserved
 loop-column-preserved c =
     let w = row_length (pos modulus) (pos 1) c.args.row.now.items
-    (neg_ℤ (number_of c.args.factor.now)) (numbers_of c.args.other.now.entries.items)
-    c.loop-column.column c.loop-column.row.items c.loop-column.invariant in
-    taken_step (pos modulus) c.args.row.now.items c.loop-column.row.items
-    c.args.other.now.entries.items c.loop-column.column c.args.factor.now c.index.result.now
-    c.index-in-loop-column.result.now c.mul.result c.sub.result
+    (neg_ℤ (number_of c.args.factor.now)) (numbers_of c.args.other.now.entries.items) _
+    c.loop-column.invariant in
+    taken_step (pos modulus) c.args.row.now.items c.loop-column.row.items _ c.loop-column.column
+    c.args.factor.now c.index.result.now c.mul.result c.sub.result
     (omega (arith, c.loop-column-test.true, c.len-column-end.ensures, c.args.row.now.ok.0, w))
     (omega (
       arith,

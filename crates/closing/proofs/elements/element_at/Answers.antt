@@ -11,14 +11,13 @@ use Rattle.closing.proofs.elements.element_at.Goals as goal
 pub loop-place-init : goal.loop-place-init
 loop-place-init c = record {
   within = omega arith;
-  element = first_made c.args.monomials.now c.args.echelon.now.rows c.requires.kept c.args.column
-      c.requires.free (terms_of fraction_of c.push.new.self.items) c.in_ok-mono.mono
+  element = first_made c.args.monomials.now c.requires.kept c.args.column c.requires.free
+      (terms_of fraction_of c.push.new.self.items) c.in_ok-mono.mono
       (first_term c.new-terms.result.items c.push.new.self.items
       (record { mono = c.in_ok-mono.mono; coef = c.one.result }) c.in_ok-mono.mono ℚ.one
       c.new-terms.ensures.items c.in_ok-push.ensures.items refl c.one.ensures)
-      (c.in_ok-mono.ensures.ok
-      ∙ mono_read c.args.monomials.now c.args.column c.index-monomials-column.result
-      c.requires.within c.index-monomials-column.is);
+      (c.in_ok-mono.ensures.ok ∙ mono_read c.args.monomials.now c.args.column c.requires.within
+      c.index-monomials-column.is);
 }
 
 pub push_share-requires : goal.push_share-requires
@@ -29,15 +28,12 @@ push_share-requires c =
 pub loop-place-preserved-in-Continue-branch-3 : goal.loop-place-preserved-in-Continue-branch-3
 loop-place-preserved-in-Continue-branch-3 c = record {
   within = omega (arith, c.loop-place.invariant.within);
-  element = some_row c.args.monomials.now c.args.echelon.now.rows c.requires.kept c.args.column
-      c.loop-place.place c.loop-place-test.true c.loop-place.invariant.within
-      (terms_of fraction_of c.loop-place.terms.items) c.loop-place.invariant.element
-      c.in-Some.row.now c.in-Some.ensures.within c.in-Some.ensures.some
-      c.index-monomials-place.result
-      (mono_read c.args.monomials.now (c.loop-place.place - 1) c.index-monomials-place.result
+  element =
+      some_row _ c.requires.kept _ c.loop-place-test.true c.loop-place.invariant.within
+      c.loop-place.invariant.element c.in-Some.row.now c.in-Some.ensures.within
+      c.in-Some.ensures.some (mono_read c.args.monomials.now (c.loop-place.place - 1)
       (omega (arith, c.loop-place.invariant.within, c.requires.within, c.loop-place-test.true))
-      c.index-monomials-place.is) (terms_of fraction_of c.push_share.new.terms.items)
-      c.in_ok-push_share.ensures.pushed;
+      c.index-monomials-place.is) c.in_ok-push_share.ensures.pushed;
 }
 
 pub returns-in_err-push_share-clause-wide : goal.returns-in_err-push_share-clause-wide
@@ -53,15 +49,12 @@ returns-in_err-push_share-clause-wide c =
 pub loop-place-preserved : goal.loop-place-preserved
 loop-place-preserved c = record {
   within = omega (arith, c.loop-place.invariant.within);
-  element = no_row c.args.monomials.now c.args.echelon.now.rows c.requires.kept c.args.column
-      c.loop-place.place c.loop-place-test.true c.loop-place.invariant.within
-      (terms_of fraction_of c.loop-place.terms.items) c.loop-place.invariant.element
-      (c.in_default.ensures.none refl);
+  element =
+      no_row _ c.requires.kept _ c.loop-place-test.true c.loop-place.invariant.within
+      c.loop-place.invariant.element (c.in_default.ensures.none refl);
 }
 
 pub from_descending-requires-clause-descending : goal.from_descending-requires-clause-descending
 from_descending-requires-clause-descending c =
     element_polynomial c.args.arity c.args.monomials.now c.requires.arities c.requires.ascend
-    c.args.echelon.now.rows c.args.column c.loop-place.place
-    (terms_of fraction_of c.loop-place.terms.items) c.requires.within
-    c.loop-place.invariant.element
+    c.args.column c.requires.within c.loop-place.invariant.element

@@ -22,23 +22,19 @@ loop-column-init c = record {
       (All-nil (λ p. p.arity ≡ c.args.arity));
   few = subst (λ l. length l ≤ 0) (sym c.new-elements.ensures.items) (omega arith);
   found = subst (λ l. IsFoundTo (pos modulus) c.args.monomials.now c.args.echelon.now.rows 0
-      (terms_each l)) (sym c.new-elements.ensures.items)
-      (found_first (pos modulus) c.args.monomials.now c.args.echelon.now.rows);
+      (terms_each l)) (sym c.new-elements.ensures.items) (found_first (pos modulus) _ _);
 }
 
 pub is_led-requires-clause-arities : goal.is_led-requires-clause-arities
 is_led-requires-clause-arities c =
     subst (λ l. Each (λ g. length (lead_of g) ≡ length c.index-monomials-column.result)
-    (terms_each l)) (sym c.deref.ensures.value)
-    (leads_wide c.args.arity c.args.monomials.now c.requires.arities c.args.echelon.now.rows
-    c.loop-column.column (terms_each c.loop-column.elements.items) c.loop-column.invariant.found
-    c.loop-column-test.true c.index-monomials-column.result c.index-monomials-column.is)
+    (terms_each l)) (sym c.deref.ensures.value) (leads_wide _ c.requires.arities
+    c.loop-column.invariant.found c.loop-column-test.true c.index-monomials-column.is)
 
 pub is_led-requires-clause-nonzero : goal.is_led-requires-clause-nonzero
 is_led-requires-clause-nonzero c =
     subst (λ l. Each (λ g. g ≢ []) (terms_each l)) (sym c.deref.ensures.value)
-    (leads_some c.args.arity c.args.monomials.now c.requires.arities c.args.echelon.now.rows
-    c.loop-column.column (terms_each c.loop-column.elements.items) c.loop-column.invariant.found)
+    (leads_some _ c.requires.arities c.loop-column.invariant.found)
 
 pub returns-in_err-element_at-clause-wide : goal.returns-in_err-element_at-clause-wide
 returns-in_err-element_at-clause-wide c =
@@ -58,17 +54,15 @@ returns-in_err-element_at-clause-leads c =
     let es = c.args.monomials.now in
     let ls = c.args.echelon.now.rows in
     let olds = c.loop-column.elements.items in
-    let mono = mono_read es c.loop-column.column c.index-monomials-column.result
+    let mono = mono_read es c.loop-column.column
     c.loop-column-test.true c.index-monomials-column.is in
     λ lead h.
     let w = c.in_err-element_at.ensures.wide lead (cc (p.1, p.2, h)) in
-    subst (LeadsElement (pos modulus) es ls) (sym w.0)
-    (leads_at (pos modulus) no_one (length es) es ls
-    (subst (λ n. IsReducedEchelon (pos modulus) n ls) c.requires.width c.row_at.ensures.kept)
-    c.args.arity c.loop-column.column c.loop-column-test.true c.requires.arities (terms_each olds)
-    c.loop-column.invariant.found
-    (subst (λ e. has_divisor (map lead_of (terms_each olds)) e ≡ false) mono
-    (subst (λ l. has_divisor (map lead_of (terms_each l)) c.index-monomials-column.result ≡ false)
+    subst (LeadsElement (pos modulus) es ls) (sym w.0) (leads_at (pos modulus) no_one (length es) es
+    ls (subst (λ n. IsReducedEchelon (pos modulus) n ls) c.requires.width c.row_at.ensures.kept)
+    c.args.arity c.loop-column-test.true c.requires.arities c.loop-column.invariant.found
+    (subst (λ e. has_divisor (map lead_of (terms_each olds)) e ≡ false) mono (subst (λ l.
+    has_divisor (map lead_of (terms_each l)) c.index-monomials-column.result ≡ false)
     c.deref.ensures.value (sym c.is_led.ensures ∙ c.if-not-is_led.true)))
     (c.row_at.ensures.none (c.is_none.ensures ∙ ap not c.if-is_none.true)))
 
@@ -78,31 +72,26 @@ loop-column-preserved c =
     let ls = c.args.echelon.now.rows in
     let k = c.loop-column.column in
     let olds = c.loop-column.elements.items in
-    let mono = mono_read es k c.index-monomials-column.result c.loop-column-test.true
-    c.index-monomials-column.is in
+    let mono = mono_read es k c.loop-column-test.true c.index-monomials-column.is in
     elim c.if-is_none.branch [
       | then-is_none+then-not-is_led+in_ok-element_at+in_ok-push w ↦ record {
         arities = subst (λ v. All (λ p. p.arity ≡ c.args.arity) v.items) (sym w.elements-is)
             (subst (All (λ p. p.arity ≡ c.args.arity)) (sym w.in_ok-push.ensures.items)
-            (All-push (λ p. p.arity ≡ c.args.arity) olds w.in_ok-element_at.field-0
+            (All-push (λ p. p.arity ≡ c.args.arity) olds _
             c.loop-column.invariant.arities w.in_ok-element_at.ensures.arity));
         few = subst (λ v. length v.items ≤ k + 1) (sym w.elements-is)
             (subst (λ l. length l ≤ k + 1) (sym w.in_ok-push.ensures.items)
             (let p = length_push olds w.in_ok-element_at.field-0 in
             omega (arith, p, c.loop-column.invariant.few)));
         found = subst (λ v. IsFoundTo (pos modulus) es ls (k + 1) (terms_each v.items))
-            (sym w.elements-is)
-            (subst (λ l. IsFoundTo (pos modulus) es ls (k + 1) (terms_each l))
-            (sym w.in_ok-push.ensures.items)
-            (subst (IsFoundTo (pos modulus) es ls (k + 1))
+            (sym w.elements-is) (subst (λ l. IsFoundTo (pos modulus) es ls (k + 1) (terms_each l))
+            (sym w.in_ok-push.ensures.items) (subst (IsFoundTo (pos modulus) es ls (k + 1))
             (sym (map-append terms_in olds (w.in_ok-element_at.field-0 ∷ [])))
             (found_push (pos modulus) es ls c.requires.ascend k c.loop-column-test.true
-            (terms_each olds) c.loop-column.invariant.found
-            (terms_in w.in_ok-element_at.field-0)
-            (subst (λ e. has_divisor (map lead_of (terms_each olds)) e ≡ false) mono
-            (subst (λ l. has_divisor (map lead_of (terms_each l)) c.index-monomials-column.result
-            ≡ false) w.deref.ensures.value (sym w.is_led.ensures ∙ w.if-not-is_led.true)))
-            w.in_ok-element_at.ensures.element)));
+            c.loop-column.invariant.found (subst (λ e. has_divisor (map lead_of (terms_each olds)) e
+            ≡ false) mono (subst (λ l. has_divisor (map lead_of (terms_each l))
+            c.index-monomials-column.result ≡ false) w.deref.ensures.value
+            (sym w.is_led.ensures ∙ w.if-not-is_led.true))) w.in_ok-element_at.ensures.element)));
       }
       | then-is_none+else-not-is_led w ↦ record {
         arities = subst (λ v. All (λ p. p.arity ≡ c.args.arity) v.items) (sym w.elements-is)
@@ -110,8 +99,7 @@ loop-column-preserved c =
         few = subst (λ v. length v.items ≤ k + 1) (sym w.elements-is)
             (omega (arith, c.loop-column.invariant.few));
         found = subst (λ v. IsFoundTo (pos modulus) es ls (k + 1) (terms_each v.items))
-            (sym w.elements-is)
-            (found_no (pos modulus) es ls k (terms_each olds) c.loop-column.invariant.found
+            (sym w.elements-is) (found_no (pos modulus) es ls k c.loop-column.invariant.found
             (inr (subst (λ e. has_divisor (map lead_of (terms_each olds)) e ≡ true) mono
             (subst (λ l. has_divisor (map lead_of (terms_each l)) c.index-monomials-column.result
             ≡ true) w.deref.ensures.value (sym w.is_led.ensures ∙ w.if-not-is_led.false)))));
@@ -122,8 +110,7 @@ loop-column-preserved c =
         few = subst (λ v. length v.items ≤ k + 1) (sym w.elements-is)
             (omega (arith, c.loop-column.invariant.few));
         found = subst (λ v. IsFoundTo (pos modulus) es ls (k + 1) (terms_each v.items))
-            (sym w.elements-is)
-            (found_no (pos modulus) es ls k (terms_each olds) c.loop-column.invariant.found
+            (sym w.elements-is) (found_no (pos modulus) es ls k c.loop-column.invariant.found
             (inl (row_leads c.row_at.result (λ r. r.now) k ls
             (c.is_none.ensures ∙ ap not w.if-is_none.false) c.row_at.ensures.some
             c.row_at.ensures.within)));
@@ -132,20 +119,15 @@ loop-column-preserved c =
 
 pub returns-clause-tidy : goal.returns-clause-tidy
 returns-clause-tidy c = λ d given are e values.
-    found_tidy c.args.arity d c.args.monomials.now c.args.echelon.now.rows are no_one given
-    (subst (λ n. IsEchelonOf (pos modulus) n given c.args.echelon.now.rows) c.requires.width e)
-    values (terms_each c.loop-column.elements.items)
-    (found_all c.args.arity c.args.monomials.now c.requires.arities c.args.echelon.now.rows
-    c.loop-column.column (terms_each c.loop-column.elements.items) c.loop-column.invariant.found
-    c.loop-column-test.false c.loop-column.auto.column-end)
+    found_tidy c.args.arity d are no_one given (subst (λ n. IsEchelonOf (pos modulus) n given
+    c.args.echelon.now.rows) c.requires.width e) values (found_all _ c.requires.arities
+    c.loop-column.invariant.found c.loop-column-test.false c.loop-column.auto.column-end)
 
 pub returns-clause-standard : goal.returns-clause-standard
 returns-clause-standard c = λ d are.
-    found_standard (pos modulus) c.args.monomials.now c.args.echelon.now.rows c.args.arity d are
-    (terms_each c.loop-column.elements.items)
-    (found_all c.args.arity c.args.monomials.now c.requires.arities c.args.echelon.now.rows
-    c.loop-column.column (terms_each c.loop-column.elements.items) c.loop-column.invariant.found
-    c.loop-column-test.false c.loop-column.auto.column-end)
+    found_standard (pos modulus) _ _ c.args.arity d are (terms_each c.loop-column.elements.items)
+    (found_all _ c.requires.arities c.loop-column.invariant.found c.loop-column-test.false
+    c.loop-column.auto.column-end)
 
 pub returns-clause-few : goal.returns-clause-few
 returns-clause-few c =
@@ -153,6 +135,5 @@ returns-clause-few c =
 
 pub returns-clause-told : goal.returns-clause-told
 returns-clause-told c =
-    (found_all c.args.arity c.args.monomials.now c.requires.arities c.args.echelon.now.rows
-    c.loop-column.column (terms_each c.loop-column.elements.items) c.loop-column.invariant.found
+    (found_all _ c.requires.arities c.loop-column.invariant.found
     c.loop-column-test.false c.loop-column.auto.column-end).elements

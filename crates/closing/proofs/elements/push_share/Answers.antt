@@ -19,12 +19,10 @@ returns-clause-pushed c =
     inr (record {
       fraction = fraction_of c.in-Some.coef;
       told = share_told c.args.row.now.entries.items c.args.column c.index-entry.result.now
-          c.neg.result c.requires
-          (c.index-entry.ensures ∙ ap (λ l. get_or l c.args.column c.index-entry.result.now)
-          (ap (λ v. v.items) c.entries.ensures)) c.neg.ensures
-          (λ e. apart (c.if-is_zero.ensures.1 e)) (fraction_of c.in-Some.coef)
-          c.in-Some.ensures.some;
-      pushed = terms_pushed c.args.terms.now.items c.push.new.self.items
+          c.neg.result c.requires (c.index-entry.ensures ∙ ap (λ l. get_or l c.args.column
+          c.index-entry.result.now) (ap (λ v. v.items) c.entries.ensures)) c.neg.ensures
+          (λ e. apart (c.if-is_zero.ensures.1 e)) c.in-Some.ensures.some;
+      pushed = terms_pushed c.args.terms.now.items
           (record { mono = c.in_ok-mono.mono; coef = c.in-Some.coef }) c.args.mono.now
-          (fraction_of c.in-Some.coef) c.in_ok-push.ensures.items c.in_ok-mono.ensures.ok refl;
+          c.in_ok-push.ensures.items c.in_ok-mono.ensures.ok refl;
     })

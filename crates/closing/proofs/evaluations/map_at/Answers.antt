@@ -14,22 +14,17 @@ use Rattle.closing.proofs.evaluations.map_at.Goals as goal
 
 pub loop-polynomial-preserved : goal.loop-polynomial-preserved
 loop-polynomial-preserved c =
-    row_more (pos modulus)
-    (λ p. value_at (operations ℤ_ring) (modular_terms p) (numbers_of c.args.state.now))
-    c.args.polynomials.now c.loop-polynomial.values.items c.push.new.self.items
-    c.loop-polynomial.polynomial-index c.polynomial-item.result c.terms_at.result
-    c.loop-polynomial-test.true c.polynomial-item.is c.loop-polynomial.invariant
-    (subst (λ ts. AreCongruent (pos modulus) (number_of c.terms_at.result)
-    (value_at (operations ℤ_ring) (terms_of number_of ts) (numbers_of c.args.state.now)))
-    c.deref.ensures.value c.terms_at.ensures) c.in_ok-push.ensures.items
+    row_more (pos modulus) (λ p. value_at (operations ℤ_ring) (modular_terms p)
+    (numbers_of c.args.state.now)) _ _ _ c.terms_at.result c.loop-polynomial-test.true
+    c.polynomial-item.is c.loop-polynomial.invariant (subst (λ ts. AreCongruent (pos modulus)
+    (number_of c.terms_at.result) (value_at (operations ℤ_ring) (terms_of number_of ts)
+    (numbers_of c.args.state.now))) c.deref.ensures.value c.terms_at.ensures)
+    c.in_ok-push.ensures.items
 
 pub returns : goal.returns
 returns c =
-    subst (λ xs. AllZip (AreCongruent (pos modulus))
-    (numbers_of c.loop-polynomial.values.items) xs)
-    (sym (map-map (λ r. value_at (operations ℤ_ring) r (numbers_of c.args.state.now))
-    modular_terms c.args.polynomials.now))
-    (row_all (pos modulus)
-    (λ p. value_at (operations ℤ_ring) (modular_terms p) (numbers_of c.args.state.now))
-    c.args.polynomials.now c.loop-polynomial.values.items c.loop-polynomial.polynomial-index
-    c.loop-polynomial-test.false c.loop-polynomial.invariant)
+    subst (λ xs. AllZip (AreCongruent (pos modulus)) (numbers_of c.loop-polynomial.values.items) xs)
+    (sym (map-map (λ r. value_at (operations ℤ_ring) r (numbers_of c.args.state.now)) modular_terms
+    c.args.polynomials.now)) (row_all (pos modulus) (λ p. value_at (operations ℤ_ring)
+    (modular_terms p) (numbers_of c.args.state.now)) _ _ _ c.loop-polynomial-test.false
+    c.loop-polynomial.invariant)

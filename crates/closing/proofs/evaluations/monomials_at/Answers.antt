@@ -3,16 +3,12 @@ use Rattle.algebra.specs.Ring.{operations}
 use Rattle.algebra.proofs.IntRing.{ℤ_ring}
 use Rattle.polynomials.specs.Terms.{monomial_at}
 use Rattle.closing.specs.Modulus.{modulus}
-use Rattle.closing.specs.Numbers.{number_of, numbers_of}
+use Rattle.closing.specs.Numbers.{numbers_of}
 use Rattle.closing.proofs.Powers.{one_times, row_more}
 use Rattle.closing.proofs.evaluations.monomials_at.Goals as goal
 
 pub loop-monomial-preserved : goal.loop-monomial-preserved
 loop-monomial-preserved c =
-    row_more (pos modulus) (monomial_at (operations ℤ_ring) (numbers_of c.args.state.now))
-    c.args.monomials.now c.loop-monomial.row.items c.push.new.self.items
-    c.loop-monomial.monomial-index c.monomial-item.result c.times_monomial.result
-    c.loop-monomial-test.true c.monomial-item.is c.loop-monomial.invariant
-    (one_times (pos modulus) (number_of c.times_monomial.result) (number_of c.one.result)
-    (monomial_at (operations ℤ_ring) (numbers_of c.args.state.now) c.monomial-item.result)
-    c.one.ensures c.times_monomial.ensures) c.in_ok-push.ensures.items
+    row_more (pos modulus) (monomial_at (operations ℤ_ring) (numbers_of c.args.state.now)) _ _ _
+    c.times_monomial.result c.loop-monomial-test.true c.monomial-item.is c.loop-monomial.invariant
+    (one_times (pos modulus) _ c.one.ensures c.times_monomial.ensures) c.in_ok-push.ensures.items

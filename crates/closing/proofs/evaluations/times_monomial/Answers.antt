@@ -1,10 +1,7 @@
-use Rattle.std.proofs.Common.{◌≡◌, inl, inr, pos, ◌*ℤ◌, ⊎_elim, rules, ap}
+use Rattle.std.proofs.Common.{◌≡◌, inl, inr, pos, ⊎_elim, rules, ap}
 use Rattle.std.proofs.lemmas.Slice.Zip.{Zip-more, either_empty_from_Zip}
 use Rattle.std.specs.Iterator.Adapters.{zip_first, zip_second}
 use Rattle.std.specs.Slice.Iter.{iter_rest}
-use Rattle.algebra.specs.Ring.{operations}
-use Rattle.algebra.proofs.IntRing.{ℤ_ring}
-use Rattle.polynomials.specs.Terms.{monomial_at}
 use Rattle.closing.specs.Modulus.{modulus}
 use Rattle.closing.specs.Numbers.{number_of, numbers_of}
 use Rattle.closing.proofs.Powers.{factor_begins, factor_goes, factor_ends}
@@ -16,28 +13,21 @@ loop-exponent-init c =
     search rules in
     let second : iter_rest (zip_second c.into_iter-exponent-iterator.result) ≡ c.args.state.now =
     search rules in
-    factor_begins (pos modulus) (number_of c.args.number) _ (numbers_of c.args.state.now) _
+    factor_begins (pos modulus) (number_of c.args.number) _ _
     c.args.monomial.now (ap numbers_of second) first
 
 pub loop-exponent-preserved : goal.loop-exponent-preserved
 loop-exponent-preserved c =
-    let m = Zip-more c.loop-exponent.exponent-iterator c.next.new.self c.next.result
+    let m = Zip-more c.loop-exponent.exponent-iterator c.next.new.self _
     (c.in-Some.exponent, c.in-Some.value) c.in-Some.is c.next.ensures.steps in
     let before = rw (m.0, m.1) at c.loop-exponent.invariant in
-    factor_goes (pos modulus) (number_of c.loop-exponent.product)
-    (number_of c.times_power-product.result) (number_of c.in-Some.value.now)
-    (number_of c.args.number
-    *ℤ monomial_at (operations ℤ_ring) (numbers_of c.args.state.now) c.args.monomial.now)
+    factor_goes (pos modulus) (number_of c.loop-exponent.product) (number_of c.in-Some.value.now)
     c.in-Some.exponent.now (numbers_of (iter_rest (zip_second c.next.new.self)))
     (iter_rest (zip_first c.next.new.self)) c.times_power-product.ensures before
 
 pub returns : goal.returns
 returns c =
-    let e = either_empty_from_Zip c.loop-exponent.exponent-iterator c.next.new.self c.next.result
+    let e = either_empty_from_Zip c.loop-exponent.exponent-iterator c.next.new.self _
     c.in-None.is c.next.ensures.steps in
-    factor_ends (pos modulus) (number_of c.loop-exponent.product)
-    (number_of c.args.number
-    *ℤ monomial_at (operations ℤ_ring) (numbers_of c.args.state.now) c.args.monomial.now)
-    (numbers_of (iter_rest (zip_second c.loop-exponent.exponent-iterator)))
-    (iter_rest (zip_first c.loop-exponent.exponent-iterator))
+    factor_ends (pos modulus) _ _ _
     (⊎_elim inl (λ r. inr (ap numbers_of r)) e) c.loop-exponent.invariant

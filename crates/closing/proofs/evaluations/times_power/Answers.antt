@@ -1,7 +1,4 @@
-use Rattle.std.proofs.Common.{pos, ◌*ℤ◌}
-use Rattle.algebra.specs.Arithmetic.{power}
-use Rattle.algebra.specs.Ring.{operations}
-use Rattle.algebra.proofs.IntRing.{ℤ_ring}
+use Rattle.std.proofs.Common.{pos}
 use Rattle.closing.specs.Modulus.{modulus}
 use Rattle.closing.specs.Numbers.{number_of}
 use Rattle.closing.proofs.Powers.{power_begins, power_goes, power_ends}
@@ -14,16 +11,11 @@ loop-time-init c =
 
 pub loop-time-preserved : goal.loop-time-preserved
 loop-time-preserved c =
-    power_goes (pos modulus) (number_of c.loop-time.product) (number_of c.mul-product.result)
-    (number_of c.args.base.now)
-    (number_of c.args.number
-    *ℤ power (operations ℤ_ring) (number_of c.args.base.now) c.args.exponent)
+    power_goes (pos modulus) (number_of c.loop-time.product) (number_of c.args.base.now)
     c.args.exponent c.loop-time._time c.loop-time-test.true c.mul-product.ensures
     c.loop-time.invariant
 
 pub returns : goal.returns
 returns c =
-    power_ends (pos modulus) (number_of c.loop-time.product) (number_of c.args.base.now)
-    (number_of c.args.number
-    *ℤ power (operations ℤ_ring) (number_of c.args.base.now) c.args.exponent)
+    power_ends (pos modulus) _ _
     c.args.exponent c.loop-time._time c.loop-time-test.false c.loop-time.invariant

@@ -17,22 +17,18 @@ loop-polynomial-preserved c =
     let inv = c.loop-polynomial.invariant in
     record {
       terms =
-          copies_more c.loop-polynomial.list.items c.push.new.self.items c.in_ok-copy.field-0
-          c.in_ok-push.ensures.items c.args.polynomials.now c.loop-polynomial.polynomial-index
-          c.polynomial-item.result c.loop-polynomial-test.true c.polynomial-item.is
-          c.in_ok-copy.ensures.terms inv.terms;
+          copies_more _ c.in_ok-copy.field-0 c.in_ok-push.ensures.items c.args.polynomials.now _
+          c.loop-polynomial-test.true c.polynomial-item.is c.in_ok-copy.ensures.terms inv.terms;
       over = λ m a.
-          over_more m c.loop-polynomial.list.items c.push.new.self.items c.in_ok-copy.field-0
-          (inv.over m a)
-          (c.in_ok-copy.ensures.arity ∙ ap (λ (p : FracPoly). p.arity) c.polynomial-item.is
-          ∙ a c.loop-polynomial.polynomial-index c.polynomial-item.result
-          c.loop-polynomial-test.true) c.in_ok-push.ensures.items;
+          over_more m _ c.in_ok-copy.field-0 (inv.over m a)
+          (c.in_ok-copy.ensures.arity ∙ ap (λ (p : FracPoly). p.arity) c.polynomial-item.is ∙ a
+          c.loop-polynomial.polynomial-index c.polynomial-item.result c.loop-polynomial-test.true)
+          c.in_ok-push.ensures.items;
     }
 
 pub returns-clause-terms : goal.returns-clause-terms
 returns-clause-terms c =
-    copies_all c.args.polynomials.now c.loop-polynomial.list.items
-    c.loop-polynomial.polynomial-index c.loop-polynomial-test.false
+    copies_all c.args.polynomials.now _ _ c.loop-polynomial-test.false
     c.loop-polynomial.invariant.terms
 
 pub returns-clause-over : goal.returns-clause-over

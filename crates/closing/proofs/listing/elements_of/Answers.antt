@@ -10,8 +10,7 @@ use Rattle.closing.proofs.listing.elements_of.Goals as goal
 pub loop-element-init : goal.loop-element-init
 loop-element-init c =
     elements_begun c.args.polynomials.now c.args.closure.now c.in_ok-list.list.items
-    c.in_ok-list.ensures.terms c.in_ok-list.ensures.over c.new-places.result.items
-    c.new-places.ensures.items
+    c.in_ok-list.ensures.terms c.in_ok-list.ensures.over c.new-places.ensures.items
 
 pub loop-element-preserved : goal.loop-element-preserved
 loop-element-preserved c =
@@ -33,11 +32,9 @@ loop-element-preserved c =
           ∙ w.in_ok-push-in-Some.ensures.items))
       | in-None+in_ok-push-in-None+in_ok-copy-in-None+in_ok-push-in-None-2 w ↦
           element_new ps cs i list ks c.loop-element.invariant e c.loop-element-test.true
-          c.element-item.is
-          (subst (λ o. IsNone o → In (terms_in e) (terms_each ps) → ⊥) w.in-None.is
-          c.place_in.ensures.none refl) w.in_ok-copy-in-None.field-0
+          c.element-item.is (subst (λ o. IsNone o → In (terms_in e) (terms_each ps) → ⊥)
+          w.in-None.is c.place_in.ensures.none refl) w.in_ok-copy-in-None.field-0
           w.in_ok-copy-in-None.ensures.terms w.in_ok-copy-in-None.ensures.arity
-          c.match-place_in.list.items
           (ap {A = Vec FracPoly} {B = List FracPoly} (λ v. v.items) w.list-is
           ∙ w.in_ok-push-in-None-2.ensures.items) js
           (ap {A = Vec ℕ} {B = List ℕ} (λ v. v.items) w.places-is

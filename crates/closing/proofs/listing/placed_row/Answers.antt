@@ -11,7 +11,7 @@ loop-index-preserved c =
     let l = c.loop-index-test.true in
     record {
       filled =
-          filled_more ks c.args.cofactors.now (length c.args.elements.now.list.items)
+          filled_more ks _ (length c.args.elements.now.list.items)
           c.loop-index.index c.index.result.now p q c.loop-index.row.items _
           (let n = c.requires.count in omega (arith, l, n)) l c.index.ensures
           c.index-cofactors-index.is c.in_ok-row-2.ensures.terms refl
@@ -26,8 +26,7 @@ loop-index-preserved c =
 
 pub returns-clause-placed : goal.returns-clause-placed
 returns-clause-placed c = λ m closure f.
-    row_placed m closure c.args.elements.now f c.args.cofactors.now c.loop-index.row.items
-    (filled_done c.args.elements.now.places.items c.args.cofactors.now
+    row_placed m closure c.args.elements.now f c.args.cofactors.now _ (filled_done _ _
     (length c.args.elements.now.list.items) c.loop-index.index c.loop-index.row.items
     (let n = c.requires.count in
     let l = c.loop-index-test.false in

@@ -9,6 +9,6 @@ loop-preserved c =
           zeros_more c.loop.counter c.loop.row.items c.push.new.self.items c.zero.result inv.terms
           c.zero.ensures.terms c.in_ok-push.ensures.items;
       over =
-          over_more c.args.arity c.loop.row.items c.push.new.self.items c.zero.result inv.over
+          over_more c.args.arity _ c.zero.result inv.over
           c.zero.ensures.arity c.in_ok-push.ensures.items;
     }

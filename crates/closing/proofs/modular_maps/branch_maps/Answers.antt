@@ -10,18 +10,15 @@ use Rattle.closing.proofs.modular_maps.branch_maps.Goals as goal
 
 pub returns-in_default-clause-none : goal.returns-in_default-clause-none
 returns-in_default-clause-none c = λ none.
-    some_item (λ map. Any (λ p. HasNoResidues (pos modulus) (terms_in p)) map.items)
-    c.args.maps.now c.loop-map.map-index c.map-item.result c.loop-map-test.true c.map-item.is
-    (subst (Any (λ p. HasNoResidues (pos modulus) (terms_in p))) c.deref.ensures.value
-    (c.in_ok-map.ensures.none (ap is_some c.in_default.is)))
+    some_item (λ map. Any (λ p. HasNoResidues (pos modulus) (terms_in p)) map.items) _ _
+    c.loop-map-test.true c.map-item.is (subst (Any (λ p. HasNoResidues (pos modulus) (terms_in p)))
+    c.deref.ensures.value (c.in_ok-map.ensures.none (ap is_some c.in_default.is)))
 
 pub loop-map-preserved : goal.loop-map-preserved
 loop-map-preserved c =
-    zip_more IsMapModulo c.args.maps.now c.loop-map.residues.items c.push.new.self.items
-    c.loop-map.map-index c.map-item.result c.in-Some.map c.loop-map-test.true c.map-item.is
-    c.loop-map.invariant
-    (subst (λ ps. AllZip (AreTermsModulo (pos modulus)) (terms_each ps)
-    (modular_terms_each c.in-Some.map.items)) c.deref.ensures.value
-    (subst (λ found. IfSome found (λ rs. AllZip (AreTermsModulo (pos modulus))
+    zip_more IsMapModulo c.args.maps.now _ c.loop-map.map-index c.map-item.result c.in-Some.map
+    c.loop-map-test.true c.map-item.is c.loop-map.invariant (subst (λ ps. AllZip
+    (AreTermsModulo (pos modulus)) (terms_each ps) (modular_terms_each c.in-Some.map.items))
+    c.deref.ensures.value (subst (λ found. IfSome found (λ rs. AllZip (AreTermsModulo (pos modulus))
     (terms_each c.deref.result.now) (modular_terms_each rs.items))) c.in-Some.is
     c.in_ok-map.ensures.map)) c.in_ok-push.ensures.items

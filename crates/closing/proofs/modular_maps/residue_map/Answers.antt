@@ -9,16 +9,12 @@ use Rattle.closing.proofs.modular_maps.residue_map.Goals as goal
 
 pub returns-in_default-clause-none : goal.returns-in_default-clause-none
 returns-in_default-clause-none c = λ none.
-    some_item (λ p. HasNoResidues (pos modulus) (terms_in p)) c.args.map.now
-    c.loop-image.image-index c.image-item.result c.loop-image-test.true c.image-item.is
-    (c.in_ok-image.ensures.none (ap is_some c.in_default.is))
+    some_item (λ p. HasNoResidues (pos modulus) (terms_in p)) _ _ c.loop-image-test.true
+    c.image-item.is (c.in_ok-image.ensures.none (ap is_some c.in_default.is))
 
 pub loop-image-preserved : goal.loop-image-preserved
 loop-image-preserved c =
-    images_more (AreTermsModulo (pos modulus)) terms_in modular_terms c.args.map.now
-    c.loop-image.residues.items c.push.new.self.items c.loop-image.image-index
-    c.image-item.result c.in-Some.image c.loop-image-test.true c.image-item.is
-    c.loop-image.invariant
-    (subst (λ found. IfSome found (λ r. AreTermsModulo (pos modulus)
-    (terms_in c.image-item.result) (modular_terms r))) c.in-Some.is c.in_ok-image.ensures.residues)
-    c.in_ok-push.ensures.items
+    images_more (AreTermsModulo (pos modulus)) terms_in modular_terms c.args.map.now _ _
+    c.in-Some.image c.loop-image-test.true c.image-item.is c.loop-image.invariant (subst (λ found.
+    IfSome found (λ r. AreTermsModulo (pos modulus) (terms_in c.image-item.result)
+    (modular_terms r))) c.in-Some.is c.in_ok-image.ensures.residues) c.in_ok-push.ensures.items

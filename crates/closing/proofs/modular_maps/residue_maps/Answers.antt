@@ -1,7 +1,6 @@
-use Rattle.std.proofs.Common.{pos, length, is_some, ap, subst}
+use Rattle.std.proofs.Common.{pos, is_some, ap, subst}
 use Rattle.std.specs.Prelude.{IfSome}
 use Rattle.std.specs.List.{AllZip, Any}
-use Rattle.loops.specs.Map.{start_map}
 use Rattle.poly.specs.Seen.{terms_in, terms_each}
 use Rattle.loop_model.specs.View.{program_of}
 use Rattle.closing.specs.Modulus.{modulus}
@@ -12,15 +11,13 @@ use Rattle.closing.proofs.modular_maps.residue_maps.Goals as goal
 
 pub returns-in_default-clause-none : goal.returns-in_default-clause-none
 returns-in_default-clause-none c = λ none.
-    start_undefined (pos modulus) (program_of c.args.lp.now) c.args.maps.now.start.items
-    c.requires.start
-    (subst (Any (λ p. HasNoResidues (pos modulus) (terms_in p))) c.deref.ensures.value
+    start_undefined (pos modulus) (program_of c.args.lp.now) _ c.requires.start (subst (Any (λ p.
+    HasNoResidues (pos modulus) (terms_in p))) c.deref.ensures.value
     (c.in_ok-start.ensures.none (ap is_some c.in_default.is)))
 
 pub returns-in_default-2-clause-none : goal.returns-in_default-2-clause-none
 returns-in_default-2-clause-none c = λ none.
-    branches_undefined (pos modulus) (program_of c.args.lp.now) c.args.maps.now.branches.items
-    c.requires.branches
+    branches_undefined (pos modulus) (program_of c.args.lp.now) _ c.requires.branches
     (subst (Any (λ map. Any (λ p. HasNoResidues (pos modulus) (terms_in p)) map.items))
     c.deref-2.ensures.value (c.in_ok-branches.ensures.none (ap is_some c.in_default-2.is)))
 
@@ -29,18 +26,14 @@ returns-clause-maps c =
     let program = program_of c.args.lp.now in
     record {
       start =
-          images_modulo (pos modulus) (length program.names) c.args.maps.now.start.items
-          (start_map program) (modular_terms_each c.in-Some.start.items) c.requires.start
-          (subst (λ ps. AllZip (AreTermsModulo (pos modulus)) (terms_each ps)
-          (modular_terms_each c.in-Some.start.items)) c.deref.ensures.value
-          (subst (λ found. IfSome found (λ rs. AllZip (AreTermsModulo (pos modulus))
-          (terms_each c.deref.result.now) (modular_terms_each rs.items))) c.in-Some.is
-          c.in_ok-start.ensures.map));
+          images_modulo (pos modulus) _ _ _ _ c.requires.start (subst (λ ps. AllZip
+          (AreTermsModulo (pos modulus)) (terms_each ps) (modular_terms_each c.in-Some.start.items))
+          c.deref.ensures.value (subst (λ found. IfSome found (λ rs. AllZip
+          (AreTermsModulo (pos modulus)) (terms_each c.deref.result.now)
+          (modular_terms_each rs.items))) c.in-Some.is c.in_ok-start.ensures.map));
       branches =
-          branches_modulo program c.args.maps.now.branches.items program.branches
-          c.in-Some-2.branches.items c.requires.branches
-          (subst (λ maps. AllZip IsMapModulo maps c.in-Some-2.branches.items)
-          c.deref-2.ensures.value
-          (subst (λ found. IfSome found (λ rs. AllZip IsMapModulo c.deref-2.result.now rs.items))
-          c.in-Some-2.is c.in_ok-branches.ensures.maps));
+          branches_modulo program _ program.branches _ c.requires.branches (subst (λ maps. AllZip
+          IsMapModulo maps c.in-Some-2.branches.items) c.deref-2.ensures.value (subst (λ found.
+          IfSome found (λ rs. AllZip IsMapModulo c.deref-2.result.now rs.items)) c.in-Some-2.is
+          c.in_ok-branches.ensures.maps));
     }

@@ -13,23 +13,16 @@ returns-in_default-clause-none c = λ none.
     let terms = c.args.polynomial.now.terms.items in
     let value = c.deref-term-items.ensures.value ∙ ap (λ v. v.items) c.terms.ensures in
     no_residues (pos modulus) c.args.polynomial.now c.loop-term.term-index c.term-item.result
-    (in_list terms c.deref-term-items.result.now value c.loop-term.term-index
-    c.loop-term-test.true)
-    (item_of terms c.deref-term-items.result.now value c.loop-term.term-index
-    c.term-item.result c.term-item.is)
+    (in_list terms _ value _ c.loop-term-test.true) (item_of terms _ value _ _ c.term-item.is)
     (c.in_default.ensures.none refl)
 
 pub loop-term-preserved : goal.loop-term-preserved
 loop-term-preserved c =
     let terms = c.args.polynomial.now.terms.items in
     let value = c.deref-term-items.ensures.value ∙ ap (λ v. v.items) c.terms.ensures in
-    images_more (IsTermModulo (pos modulus)) (term_of fraction_of) (term_of number_of) terms
-    c.loop-term.terms.items c.push.new.self.items c.loop-term.term-index c.term-item.result
+    images_more (IsTermModulo (pos modulus)) (term_of fraction_of) (term_of number_of) terms _ _
     (record { mono = c.in_ok-mono.mono; coef = c.in-Some.coef })
-    (in_list terms c.deref-term-items.result.now value c.loop-term.term-index
-    c.loop-term-test.true)
-    (item_of terms c.deref-term-items.result.now value c.loop-term.term-index
-    c.term-item.result c.term-item.is) c.loop-term.invariant
-    (term_modulo (pos modulus) c.term-item.result
+    (in_list terms _ value _ c.loop-term-test.true) (item_of terms _ value _ _ c.term-item.is)
+    c.loop-term.invariant (term_modulo (pos modulus) c.term-item.result
     (record { mono = c.in_ok-mono.mono; coef = c.in-Some.coef }) c.in_ok-mono.ensures.ok
     c.in-Some.ensures.some) c.in_ok-push.ensures.items

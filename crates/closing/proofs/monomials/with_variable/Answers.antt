@@ -1,4 +1,4 @@
-use Rattle.std.proofs.Common.{◌+◌, length, ap, arith}
+use Rattle.std.proofs.Common.{length, ap, arith}
 use Rattle.closing.specs.Limits.{most_monomials}
 use Rattle.closing.proofs.MonomialsListed.{arities_below, no_degrees, next_degree, all_degrees, too_many}
 use Rattle.closing.proofs.monomials.with_variable.Goals as goal
@@ -17,11 +17,11 @@ with_degree-requires c =
 pub returns-then-len-gt-MOST_MONOMIALS-clause-many :
     goal.returns-then-len-gt-MOST_MONOMIALS-clause-many
 returns-then-len-gt-MOST_MONOMIALS-clause-many c = λ m is none.
-    too_many m c.args.degree (c.loop-total.total + 1) most_monomials
-    c.in_ok-longer.longer.items
-    (omega (arith, c.loop-total-test.true, c.from-total-end.ensures))
-    (next_degree m c.args.degree c.args.list.now c.loop-total.longer.items
-    c.in_ok-longer.longer.items c.loop-total.total is
+    too_many m c.args.degree _ most_monomials (omega (
+      arith,
+      c.loop-total-test.true,
+      c.from-total-end.ensures,
+    )) (next_degree m c.args.degree _ is
     (omega (arith, c.loop-total-test.true, c.from-total-end.ensures))
     (c.loop-total.invariant.all m is) c.in_ok-longer.ensures)
     (omega (arith, c.if-len-gt-MOST_MONOMIALS.true, c.len.ensures))
@@ -30,16 +30,16 @@ pub loop-total-preserved : goal.loop-total-preserved
 loop-total-preserved c = record {
   within = omega (arith, c.loop-total-test.true, c.from-total-end.ensures);
   all = λ m is.
-      next_degree m c.args.degree c.args.list.now c.loop-total.longer.items
-      c.in_ok-longer.longer.items c.loop-total.total is
-      (omega (arith, c.loop-total-test.true, c.from-total-end.ensures))
-      (c.loop-total.invariant.all m is) c.in_ok-longer.ensures;
+      next_degree m c.args.degree _ is (omega (
+        arith,
+        c.loop-total-test.true,
+        c.from-total-end.ensures,
+      )) (c.loop-total.invariant.all m is) c.in_ok-longer.ensures;
   few = omega (arith, c.if-len-gt-MOST_MONOMIALS.false, c.len.ensures);
 }
 
 pub returns-clause-all : goal.returns-clause-all
 returns-clause-all c = λ m is.
-    all_degrees m c.args.degree c.loop-total.total c.loop-total.longer.items
-    (omega (arith, c.loop-total.invariant.within))
+    all_degrees m c.args.degree _ (omega (arith, c.loop-total.invariant.within))
     (omega (arith, c.loop-total-test.false, c.from-total-end.ensures))
     (c.loop-total.invariant.all m is)

@@ -11,9 +11,8 @@ returns-in_err-turned c =
     let M = iteration_test g c.args.images.now.items c.args.closure.now in
     record {
       ran =
-          begun_runs (task_of c.args.task) M (HasCofactors g.order g.arity) c.args.meter.now
-          c.begin.new.self c.begin.new.self _ c.in_ok-begin.ensures.ok
-          (unmade M c.from_residual-in_err-turned.result _ c.from_residual-in_err-turned.ensures.1
+          begun_runs (task_of c.args.task) M (HasCofactors g.order g.arity) c.args.meter.now _
+          c.in_ok-begin.ensures.ok (unmade M _ _ c.from_residual-in_err-turned.ensures.1
           c.in_err-turned.ensures.wide);
     }
 
@@ -22,11 +21,9 @@ returns c =
     let g = c.args.element.now in
     record {
       ran =
-          begun_runs (task_of c.args.task)
-          (iteration_test g c.args.images.now.items c.args.closure.now)
-          (HasCofactors g.order g.arity) c.args.meter.now c.begin.new.self c.divide.new.meter _
-          c.in_ok-begin.ensures.ok
-          (ran_turned g c.args.images.now.items c.requires.some c.requires.images c.requires.count
-          c.in_ok-turned.turned c.in_ok-turned.ensures.composition c.args.closure.now
-          c.begin.new.self c.divide.new.meter _ c.divide.ensures.ran);
+          begun_runs (task_of c.args.task) _ (HasCofactors g.order g.arity) c.args.meter.now _
+          c.in_ok-begin.ensures.ok (ran_turned g c.args.images.now.items c.requires.some
+          c.requires.images c.requires.count c.in_ok-turned.turned
+          c.in_ok-turned.ensures.composition c.args.closure.now c.begin.new.self c.divide.new.meter
+          _ c.divide.ensures.ran);
     }

@@ -7,7 +7,7 @@ use Rattle.closing.proofs.reconstruction.quotient.Goals as goal
 pub unwrap-requires : goal.unwrap-requires
 unwrap-requires c =
     fits c.new.result c.args.num _ _ c.args.den
-    (to_z-of_z w128 c.from.result (record { sfits = c.from.type_inv }) ∙ c.from.ensures
+    (to_z-of_z w128 _ (record { sfits = c.from.type_inv }) ∙ c.from.ensures
     ∙ to_z-of_z w64 c.args.num c.ranges.num)
-    (to_z-of_z w128 c.from-2.result (record { sfits = c.from-2.type_inv }) ∙ c.from-2.ensures)
+    (to_z-of_z w128 _ (record { sfits = c.from-2.type_inv }) ∙ c.from-2.ensures)
     c.requires.some c.requires.num c.requires.den c.new.ensures.zero c.new.ensures.wide

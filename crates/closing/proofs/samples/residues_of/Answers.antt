@@ -3,6 +3,5 @@ use Rattle.closing.proofs.samples.residues_of.Goals as goal
 
 pub loop-number-preserved : goal.loop-number-preserved
 loop-number-preserved c =
-    residues_more c.args.numbers.now c.loop-number.residues.items c.push.new.self.items
-    c.loop-number.number-index c.from_number.result c.loop-number-test.true
+    residues_more c.args.numbers.now _ _ c.from_number.result c.loop-number-test.true
     c.loop-number.invariant c.from_number.ensures c.in_ok-push.ensures.items

@@ -25,10 +25,6 @@ returns-clause-row c = λ ns begun.
 
 pub returns-clause-width : goal.returns-clause-width
 returns-clause-width c =
-    IfOk-weaker c.monomials_at.result _ _
-    (λ row near. sym (length-map row.items number_of)
-    ∙ length_both (AreCongruent (pos modulus)) (numbers_of row.items)
-    (map (monomial_at (operations ℤ_ring) (numbers_of c.deref.result.now))
-    c.args.monomials.now) near
-    ∙ length-map c.args.monomials.now
+    IfOk-weaker c.monomials_at.result _ _ (λ row near. sym (length-map row.items number_of)
+    ∙ length_both (AreCongruent (pos modulus)) _ _ near ∙ length-map c.args.monomials.now
     (monomial_at (operations ℤ_ring) (numbers_of c.deref.result.now))) c.monomials_at.ensures

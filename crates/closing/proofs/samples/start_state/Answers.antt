@@ -15,13 +15,10 @@ use Rattle.closing.proofs.samples.start_state.Goals as goal
 
 pub returns : goal.returns
 returns c =
-    IfOk-weaker c.map_at.result _ _
-    (λ state near. sample_begins (program_of c.args.lp.now) (pos modulus) (formed c.args.lp.now)
-    c.args.numbers.now (numbers_of state.items) (modular_terms_each c.args.maps.now.start.items)
-    c.requires.count c.requires.maps.start
-    (subst (λ rs. AllZip (AreCongruent (pos modulus)) (numbers_of state.items)
-    (map (λ r. value_at (operations ℤ_ring) r (map pos c.args.numbers.now))
-    (modular_terms_each rs))) c.deref.ensures.value
-    (subst (λ xs. AllZip (AreCongruent (pos modulus)) (numbers_of state.items)
+    IfOk-weaker c.map_at.result _ _ (λ state near. sample_begins (program_of c.args.lp.now)
+    (pos modulus) (formed c.args.lp.now) c.args.numbers.now _ c.requires.count c.requires.maps.start
+    (subst (λ rs. AllZip (AreCongruent (pos modulus)) (numbers_of state.items) (map (λ r. value_at
+    (operations ℤ_ring) r (map pos c.args.numbers.now)) (modular_terms_each rs)))
+    c.deref.ensures.value (subst (λ xs. AllZip (AreCongruent (pos modulus)) (numbers_of state.items)
     (map (λ r. value_at (operations ℤ_ring) r xs) (modular_terms_each c.deref.result.now)))
     (ap numbers_of c.deref-2.ensures.value ∙ c.in_ok-state.ensures) near))) c.map_at.ensures

@@ -12,7 +12,6 @@ returns-clause-letters c =
     let count =
     sym (length-map c.branches.result.now (λ b. map statement_of b.items))
     ∙ ap length c.branches.ensures.branches in
-    subst (All (IsLetter program)) (sym c.loop-number.invariant)
-    (are_letters program (length program.branches)
+    subst (All (IsLetter program)) (sym c.loop-number.invariant) (are_letters program
     (take c.loop-number.number-index c.args.numbers.now) refl
     (omega (arith, count, c.branches.ensures.some)))

@@ -12,19 +12,15 @@ loop-entry-init c = record {
 
 pub returns-then-is_err-clause-limit : goal.returns-then-is_err-clause-limit
 returns-then-is_err-clause-limit c =
-    let same = noted_err c.put.result (sym c.is_err.ensures.value ∙ c.if-is_err.true)
-    c.put.ensures.err in
+    let same = noted_err _ (sym c.is_err.ensures.value ∙ c.if-is_err.true) c.put.ensures.err in
     ap (λ (j : Journal). j.limit) same ∙ c.loop-entry.invariant.limit
 
 pub returns-then-is_err-clause-begun : goal.returns-then-is_err-clause-begun
 returns-then-is_err-clause-begun c =
-    let same = noted_err c.put.result (sym c.is_err.ensures.value ∙ c.if-is_err.true)
-    c.put.ensures.err in
-    appended_part c.args.meter.now.entries c.deref-entry-items.result.now
-    c.args.part.now.entries (ap (map entry_of) c.deref-entry-items.ensures.value
-    ∙ c.entries.ensures)
-    c.loop-entry.entry-index _
-    (ap (λ (j : Journal). j.entries) same ∙ c.loop-entry.invariant.entries)
+    let same = noted_err _ (sym c.is_err.ensures.value ∙ c.if-is_err.true) c.put.ensures.err in
+    appended_part c.args.meter.now.entries c.deref-entry-items.result.now (ap (map entry_of)
+    c.deref-entry-items.ensures.value ∙ c.entries.ensures) _ _ (ap (λ (j : Journal). j.entries) same
+    ∙ c.loop-entry.invariant.entries)
 
 pub loop-entry-preserved : goal.loop-entry-preserved
 loop-entry-preserved c =
@@ -33,9 +29,8 @@ loop-entry-preserved c =
     record {
       limit = ap (λ (j : Journal). j.limit) more ∙ c.loop-entry.invariant.limit;
       entries =
-          appended_next c.args.meter.now.entries c.deref-entry-items.result.now
-          c.loop-entry.entry-index _ c.loop-entry-test.true (search rules)
-          c.loop-entry.meter.entries _ c.loop-entry.invariant.entries
+          appended_next c.args.meter.now.entries c.deref-entry-items.result.now _ _
+          c.loop-entry-test.true (search rules) _ c.loop-entry.invariant.entries
           (ap (λ (j : Journal). j.entries) more);
     }
 
@@ -44,14 +39,11 @@ returns-clause-limit c = c.loop-entry.invariant.limit
 
 pub returns-clause-entries : goal.returns-clause-entries
 returns-clause-entries c =
-    appended_all c.args.meter.now.entries c.deref-entry-items.result.now
-    c.args.part.now.entries (ap (map entry_of) c.deref-entry-items.ensures.value
-    ∙ c.entries.ensures)
-    c.loop-entry.entry-index c.loop-entry-test.false _ c.loop-entry.invariant.entries
+    appended_all c.args.meter.now.entries c.deref-entry-items.result.now (ap (map entry_of)
+    c.deref-entry-items.ensures.value ∙ c.entries.ensures) _ c.loop-entry-test.false _
+    c.loop-entry.invariant.entries
 
 pub returns-clause-begun : goal.returns-clause-begun
 returns-clause-begun c =
-    appended_part c.args.meter.now.entries c.deref-entry-items.result.now
-    c.args.part.now.entries (ap (map entry_of) c.deref-entry-items.ensures.value
-    ∙ c.entries.ensures)
-    c.loop-entry.entry-index _ c.loop-entry.invariant.entries
+    appended_part c.args.meter.now.entries c.deref-entry-items.result.now (ap (map entry_of)
+    c.deref-entry-items.ensures.value ∙ c.entries.ensures) _ _ c.loop-entry.invariant.entries

@@ -22,30 +22,22 @@ same c =
 pub invariant_of-self : goal.invariant_of-self
 invariant_of-self c =
     let n = length c.args.row.items in
-    either c.add_to.result
-    (IsReducedEchelon (pos modulus) c.self.inside.width (leds_of c.add_to.new.rows.items))
-    (λ e. subst (λ m. IsReducedEchelon (pos modulus) m (leds_of c.add_to.new.rows.items)) (width c)
-    (kept_added n (leds_of c.self.inside.rows.items) (numbers_of c.args.row.items)
-    (leds_of c.add_to.new.rows.items) (length-map c.args.row.items number_of)
-    (subst (λ m. IsReducedEchelon (pos modulus) m (leds_of c.self.inside.rows.items))
-    (sym (width c))
-    c.self.invariant) (c.add_to.ensures.counts e)))
-    (λ e. subst (λ rows. IsReducedEchelon (pos modulus) c.self.inside.width (leds_of rows))
-    (sym (c.add_to.ensures.kept e)) c.self.invariant)
+    either c.add_to.result (IsReducedEchelon (pos modulus) c.self.inside.width
+    (leds_of c.add_to.new.rows.items)) (λ e. subst (λ m. IsReducedEchelon (pos modulus) m
+    (leds_of c.add_to.new.rows.items)) (width c) (kept_added n
+    (length-map c.args.row.items number_of) (subst (λ m. IsReducedEchelon (pos modulus) m
+    (leds_of c.self.inside.rows.items)) (sym (width c)) c.self.invariant)
+    (c.add_to.ensures.counts e))) (λ e. subst (λ rows. IsReducedEchelon (pos modulus)
+    c.self.inside.width (leds_of rows)) (sym (c.add_to.ensures.kept e)) c.self.invariant)
 
 pub returns-clause-more : goal.returns-clause-more
 returns-clause-more c = λ e.
     subst (λ (f : Form). (given : List (List ℤ)) → IsEchelonOf (pos modulus) f.width given f.rows
     → IsEchelonOf (pos modulus) f.width (given ++ numbers_of c.args.row.items ∷ [])
-    (leds_of c.add_to.new.rows.items)) (same c)
-    (added_more (pos modulus)
-    (record { width = length c.args.row.items; rows = leds_of c.self.inside.rows.items })
-    (numbers_of c.args.row.items) (leds_of c.add_to.new.rows.items) (c.add_to.ensures.counts e)
+    (leds_of c.add_to.new.rows.items)) (same c) (added_more _ (c.add_to.ensures.counts e)
     (length-map c.args.row.items number_of))
 
 pub returns-clause-new : goal.returns-clause-new
 returns-clause-new c = λ e.
     subst (λ (f : Form). IsIndependent (pos modulus) f (numbers_of c.args.row.items)) (same c)
-    (added_new (pos modulus)
-    (record { width = length c.args.row.items; rows = leds_of c.self.inside.rows.items })
-    (numbers_of c.args.row.items) (leds_of c.add_to.new.rows.items) (c.add_to.ensures.counts e))
+    (added_new _ (c.add_to.ensures.counts e))

@@ -8,5 +8,4 @@ use Rattle.closing.proofs.echelon.Echelon.new.Goals as goal
 pub invariant_of-result : goal.invariant_of-result
 invariant_of-result c =
     subst (λ rows. IsReducedEchelon (pos modulus) c.args.width (leds_of rows))
-    (sym c.new.ensures.items)
-    (form_none (pos modulus) c.args.width)
+    (sym c.new.ensures.items) (form_none _ c.args.width)

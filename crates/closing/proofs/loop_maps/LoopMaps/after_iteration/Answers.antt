@@ -15,8 +15,7 @@ composition_of-requires c =
     let map = branch_map program (branch_of program c.args.letter) in
     record {
       images =
-          all_over (length program.names) c.args.from.now.polynomial c.requires.arity
-          c.branch-images.result.now.items map c.branch-images.ensures
+          all_over c.args.from.now.polynomial c.requires.arity _ map c.branch-images.ensures
           (arity-branch_map program (branch_of program c.args.letter));
     }
 

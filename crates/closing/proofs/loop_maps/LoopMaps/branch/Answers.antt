@@ -6,9 +6,9 @@ pub index-requires : goal.index-requires
 index-requires c =
     omega (
       arith,
-      place_inside c.args.self.now c.args.letter c.requires,
+      place_inside c.args.self.now c.requires,
       c.args.self.now.maps.now.branches.ok.0,
     )
 
 pub returns : goal.returns
-returns c = branch_there c.args.self.now c.args.letter c.requires c.index.result.now c.index.ensures
+returns c = branch_there c.args.self.now c.requires c.index.result.now c.index.ensures

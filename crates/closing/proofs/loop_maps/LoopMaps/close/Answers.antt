@@ -40,6 +40,4 @@ pub returns-clause-closes : goal.returns-clause-closes
 returns-clause-closes c =
     let none : length c.loop-alloc.progress.kept.items ≡ 0 =
     grind (arith, nat_tests, c.loop-alloc-test.ensures) in
-    ends (program_in c.args.self.now) (terms_each c.args.polynomials.now)
-    c.loop-alloc.meter.entries c.loop-alloc.progress (nil_from_length _ none)
-    c.loop-alloc.invariant.awaits
+    ends _ _ _ c.loop-alloc.progress (nil_from_length _ none) c.loop-alloc.invariant.awaits

@@ -22,9 +22,8 @@ loop-of-init c =
       limit = refl;
       fits = nothing_fits _ _ first refl c.new-list.ensures.items c.new-kept.ensures.items;
       awaits =
-          fresh_awaits (program_in c.args.self.now) (terms_each c.args.polynomials.now)
-          c.args.meter.now.entries first c.requires.unbegun refl c.new-list.ensures.items
-          c.new-kept.ensures.items;
+          fresh_awaits (program_in c.args.self.now) (terms_each c.args.polynomials.now) first
+          c.requires.unbegun refl c.new-list.ensures.items c.new-kept.ensures.items;
     }
 
 pub returns-in_err-polynomial-clause-limit : goal.returns-in_err-polynomial-clause-limit
@@ -33,9 +32,7 @@ returns-in_err-polynomial-clause-limit c = c.loop-of.invariant.limit
 pub returns-in_err-polynomial-clause-takes : goal.returns-in_err-polynomial-clause-takes
 returns-in_err-polynomial-clause-takes c =
     let e = err_from_is_err_and c.from_residual.result c.from_residual.ensures.1 in
-    rw (e.1, e.2)
-    (going (program_in c.args.self.now) (terms_each c.args.polynomials.now)
-    c.loop-of.meter.entries _ c.loop-of.invariant.awaits.comes)
+    rw (e.1, e.2) (going _ _ _ _ c.loop-of.invariant.awaits.comes)
 
 pub take-requires-clause-arity : goal.take-requires-clause-arity
 take-requires-clause-arity c =
@@ -117,5 +114,5 @@ loop-of-preserved c =
 pub returns-clause-takes : goal.returns-clause-takes
 returns-clause-takes c =
     given_over (program_in c.args.self.now) (terms_each c.args.polynomials.now)
-    c.loop-of.meter.entries c.loop-of.progress c.args.polynomials.now refl c.loop-of.of
+    c.loop-of.meter.entries c.loop-of.progress _ refl c.loop-of.of
     (omega arith) c.loop-of.invariant.awaits

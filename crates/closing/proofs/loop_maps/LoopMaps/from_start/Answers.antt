@@ -12,8 +12,7 @@ composition_of-requires c =
     let program = program_in c.args.self.now in
     record {
       images =
-          all_over (length program.names) c.args.candidate.now.polynomial c.requires
-          c.args.self.now.maps.now.start.items (start_map program) (kept_maps c.args.self.now).start
+          all_over c.args.candidate.now.polynomial c.requires _ _ (kept_maps c.args.self.now).start
           (arity-start_map program);
     }
 

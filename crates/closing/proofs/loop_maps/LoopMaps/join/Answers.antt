@@ -1,6 +1,5 @@
 use Rattle.std.proofs.Common.{◌+◌, refl, sym, subst}
 use Rattle.std.proofs.lemmas.Result.{err_from_is_err_and}
-use Rattle.machines.specs.Journal.{Extend}
 use Rattle.poly.specs.Seen.{terms_in, terms_each}
 use Rattle.ideal_ops.specs.Calls.{AreOver}
 use Rattle.closing.specs.LoopMaps.{program_in}
@@ -13,42 +12,32 @@ use Rattle.closing.proofs.loop_maps.LoopMaps.join.Goals as goal
 pub returns-in_err-image-clause-takes : goal.returns-in_err-image-clause-takes
 returns-in_err-image-clause-takes c = λ P whole waiting h j.
     let p = err_from_is_err_and c.from_residual.result c.from_residual.ensures.1 in
-    rw (p.1, p.2)
-    (start_stopped (program_in c.args.self.now) P c.args.progress c.args.rest whole waiting
-    c.args.meter.now c.args.meter.now h c.in_err-image.field-0.0 c.in_err-image.ensures.stopped)
+    rw (p.1, p.2) (start_stopped (program_in c.args.self.now) P c.args.progress c.args.rest whole
+    waiting c.args.meter.now c.args.meter.now h _ c.in_err-image.ensures.stopped)
 
 pub returns-then-not-is_zero-clause-takes : goal.returns-then-not-is_zero-clause-takes
 returns-then-not-is_zero-clause-takes c = λ P whole waiting h j.
     join_counters (program_in c.args.self.now) P c.args.progress c.args.rest whole waiting
-    c.args.meter.now c.args.meter.now h c.in_ok-image.image c.in_ok-image.ensures.image
-    (is_some c.is_zero.result (terms_in c.in_ok-image.image) c.is_zero.ensures
-    c.if-not-is_zero.true)
+    c.args.meter.now c.args.meter.now h c.in_ok-image.ensures.image
+    (is_some c.is_zero.ensures c.if-not-is_zero.true)
 
 pub returns-in-Err-clause-takes : goal.returns-in-Err-clause-takes
 returns-in-Err-clause-takes c = λ P whole waiting h j.
     let program = program_in c.args.self.now in
     subst (IfStops program P c.extended_list.new.meter.limit c.extended_list.new.meter.entries)
-    (sym c.in_task.ensures)
-    (join_refused program P c.args.progress c.args.rest whole waiting c.args.meter.now
-    c.extended_list.new.meter h c.in_ok-image.image c.in_ok-image.ensures.image
-    (is_none c.is_zero.result (terms_in c.in_ok-image.image) c.is_zero.ensures
-    c.if-not-is_zero.false) c.in-Err.error
-    (extended_along c.args.progress.number c.args.rest.polynomial c.deref.result.now
-    c.args.progress.list.items c.deref.ensures.value c.args.meter.now c.extended_list.new.meter _
-    c.in-Err.ensures.ran))
+    (sym c.in_task.ensures) (join_refused program P c.args.progress c.args.rest whole waiting
+    c.args.meter.now c.extended_list.new.meter h c.in_ok-image.ensures.image
+    (is_none c.is_zero.ensures c.if-not-is_zero.false) c.in-Err.error (extended_along _
+    c.args.rest.polynomial c.deref.ensures.value _ _ c.in-Err.ensures.ran))
 
 pub returns-in_err-push-clause-takes : goal.returns-in_err-push-clause-takes
 returns-in_err-push-clause-takes c = λ P whole waiting h j.
     let p = err_from_is_err_and c.from_residual-in_err-push.result
     c.from_residual-in_err-push.ensures.1 in
-    rw (p.1, p.2)
-    (join_goes (program_in c.args.self.now) P c.args.progress c.args.rest whole waiting
-    c.args.meter.now c.extended_list.new.meter h c.in_ok-image.image c.in_ok-image.ensures.image
-    (is_none c.is_zero.result (terms_in c.in_ok-image.image) c.is_zero.ensures
-    c.if-not-is_zero.false) c.in-Ok.list
-    (extended_along c.args.progress.number c.args.rest.polynomial c.deref.result.now
-    c.args.progress.list.items c.deref.ensures.value c.args.meter.now c.extended_list.new.meter _
-    c.in-Ok.ensures.ran))
+    rw (p.1, p.2) (join_goes (program_in c.args.self.now) P c.args.progress c.args.rest whole
+    waiting c.args.meter.now c.extended_list.new.meter h c.in_ok-image.ensures.image
+    (is_none c.is_zero.ensures c.if-not-is_zero.false) _ (extended_along _ c.args.rest.polynomial
+    c.deref.ensures.value _ _ c.in-Ok.ensures.ran))
 
 pub returns-clause-units : goal.returns-clause-units
 returns-clause-units c =
@@ -58,16 +47,13 @@ returns-clause-units c =
 
 pub returns-clause-grows : goal.returns-clause-grows
 returns-clause-grows c =
-    ran_grows (Extend c.args.progress.number) _ _ c.args.meter.now c.extended_list.new.meter
-    c.in-Ok.list c.in-Ok.ensures.ran
+    ran_grows _ _ _ _ c.in-Ok.list c.in-Ok.ensures.ran
 
 pub returns-clause-fits : goal.returns-clause-fits
 returns-clause-fits c =
-    let ran = extended_along c.args.progress.number c.args.rest.polynomial c.deref.result.now
-    c.args.progress.list.items c.deref.ensures.value c.args.meter.now c.extended_list.new.meter _
+    let ran = extended_along _ c.args.rest.polynomial c.deref.ensures.value _ _
     c.in-Ok.ensures.ran in
-    fits_joined _ c.args.progress
-    (record {
+    fits_joined _ (record {
       number = c.args.progress.number + 1;
       list = c.in-Ok.list;
       kept = c.push.new.self;
@@ -84,13 +70,9 @@ returns-clause-fits c =
 pub returns-clause-takes : goal.returns-clause-takes
 returns-clause-takes c = λ P whole waiting h j.
     join_ends (program_in c.args.self.now) P c.args.progress c.args.rest whole waiting
-    c.args.meter.now c.extended_list.new.meter h c.in_ok-image.image c.in_ok-image.ensures.image
-    (is_none c.is_zero.result (terms_in c.in_ok-image.image) c.is_zero.ensures
-    c.if-not-is_zero.false) c.in-Ok.list
-    (extended_along c.args.progress.number c.args.rest.polynomial c.deref.result.now
-    c.args.progress.list.items c.deref.ensures.value c.args.meter.now c.extended_list.new.meter _
-    c.in-Ok.ensures.ran) j
-    (record {
+    c.args.meter.now c.extended_list.new.meter h c.in_ok-image.ensures.image
+    (is_none c.is_zero.ensures c.if-not-is_zero.false) _ (extended_along _ c.args.rest.polynomial
+    c.deref.ensures.value _ _ c.in-Ok.ensures.ran) j (record {
       number = c.args.progress.number + 1;
       list = c.in-Ok.list;
       kept = c.push.new.self;

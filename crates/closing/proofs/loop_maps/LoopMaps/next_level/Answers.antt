@@ -28,17 +28,14 @@ loop-index-init c =
       later = omega arith;
       units = λ n. omega arith;
       awaits = λ P h.
-          branches_all (program_in c.args.self.now) P c.args.meter.now.entries first
-          (candidates_of P c.args.last.kept.items)
-          (level_begins (program_in c.args.self.now) P c.args.meter.now.entries c.args.last first
-          refl refl c.new-kept.ensures.items h);
+          branches_all (program_in c.args.self.now) P c.args.meter.now.entries first _
+          (level_begins _ P _ c.args.last first refl refl c.new-kept.ensures.items h);
     }
 
 pub take_iterations-requires-clause-letter : goal.take_iterations-requires-clause-letter
 take_iterations-requires-clause-letter c =
-    letter_of (program_in c.args.self.now) c.loop-index.index
-    (inside_seen _ c.branches-index-end.result.now (program_in c.args.self.now).branches
-    c.loop-index.index c.branches-index-end.ensures.branches c.loop-index-test.true)
+    letter_of (program_in c.args.self.now) _
+    (inside_seen _ _ _ _ c.branches-index-end.ensures.branches c.loop-index-test.true)
 
 pub take_iterations-requires-clause-level : goal.take_iterations-requires-clause-level
 take_iterations-requires-clause-level c = c.requires.fits.kept
@@ -52,16 +49,11 @@ returns-in_err-next-clause-limit c = c.take_iterations.ensures.limit ∙ c.loop-
 pub returns-in_err-next-clause-takes : goal.returns-in_err-next-clause-takes
 returns-in_err-next-clause-takes c = λ P h.
     let program = program_in c.args.self.now in
-    let inside = inside_seen _ c.branches-index-end.result.now program.branches c.loop-index.index
-    c.branches-index-end.ensures.branches c.loop-index-test.true in
+    let inside = inside_seen _ _ _ _ c.branches-index-end.ensures.branches c.loop-index-test.true in
     let e = err_from_is_err_and c.from_residual.result c.from_residual.ensures.1 in
-    rw (e.1, e.2)
-    (c.in_err-next.ensures.takes P _
-    (joined_later program P c.args.meter.now.entries c.loop-index.meter.entries
-    c.loop-index.invariant.grows (candidates_of P c.args.last.kept.items) h.joined)
-    (branch_next program P c.loop-index.meter.entries c.loop-index.progress
-    (candidates_of P c.args.last.kept.items) (length program.branches) c.loop-index.index inside
-    (c.loop-index.invariant.awaits P h)))
+    rw (e.1, e.2) (c.in_err-next.ensures.takes P _ (joined_later program P _
+    c.loop-index.invariant.grows _ h.joined) (branch_next program P c.loop-index.meter.entries
+    c.loop-index.progress _ _ _ inside (c.loop-index.invariant.awaits P h)))
 
 pub returns-in-Counter-clause-limit : goal.returns-in-Counter-clause-limit
 returns-in-Counter-clause-limit c = c.take_iterations.ensures.limit ∙ c.loop-index.invariant.limit
@@ -77,26 +69,18 @@ returns-in-Counter-clause-fits c =
 pub returns-in-Counter-clause-takes : goal.returns-in-Counter-clause-takes
 returns-in-Counter-clause-takes c = λ P h.
     let program = program_in c.args.self.now in
-    let inside = inside_seen _ c.branches-index-end.result.now program.branches c.loop-index.index
-    c.branches-index-end.ensures.branches c.loop-index-test.true in
-    subst (λ s. Takes program P
-    (level_from program (suc (c.loop-index.index + 1))
-    (length program.branches - (c.loop-index.index + 1))
-    (candidates_of P c.args.last.kept.items))
-    c.take_iterations.new.meter.limit c.take_iterations.new.meter.entries
-    (Ok s)) c.in-Counter.is
-    (c.in_ok-next.ensures.takes P _
-    (joined_later program P c.args.meter.now.entries c.loop-index.meter.entries
-    c.loop-index.invariant.grows (candidates_of P c.args.last.kept.items) h.joined)
-    (branch_next program P c.loop-index.meter.entries c.loop-index.progress
-    (candidates_of P c.args.last.kept.items) (length program.branches) c.loop-index.index inside
+    let inside = inside_seen _ _ _ _ c.branches-index-end.ensures.branches c.loop-index-test.true in
+    subst (λ s. Takes program P (level_from program (suc (c.loop-index.index + 1))
+    (length program.branches - (c.loop-index.index + 1)) (candidates_of P c.args.last.kept.items))
+    c.take_iterations.new.meter.limit c.take_iterations.new.meter.entries (Ok s)) c.in-Counter.is
+    (c.in_ok-next.ensures.takes P _ (joined_later program P _ c.loop-index.invariant.grows _
+    h.joined) (branch_next program P c.loop-index.meter.entries c.loop-index.progress _ _ _ inside
     (c.loop-index.invariant.awaits P h)))
 
 pub loop-index-preserved : goal.loop-index-preserved
 loop-index-preserved c =
     let program = program_in c.args.self.now in
-    let inside = inside_seen _ c.branches-index-end.result.now program.branches c.loop-index.index
-    c.branches-index-end.ensures.branches c.loop-index-test.true in
+    let inside = inside_seen _ _ _ _ c.branches-index-end.ensures.branches c.loop-index-test.true in
     let more = subst (λ s. IsOn s → units_of c.loop-index.meter.entries
     + length c.args.last.kept.items ≤ units_of c.take_iterations.new.meter.entries) c.in-On.is
     c.in_ok-next.ensures.units tt in
@@ -108,27 +92,22 @@ loop-index-preserved c =
       later = (let a = c.loop-index.invariant.later in omega (arith, a, more));
       units = λ n.
           let a = c.loop-index.invariant.units n in
-          let b = some_longer c.args.last.kept.items n in
+          let b = some_longer _ n in
           omega (arith, a, b, more);
       awaits = λ P h.
-          subst (λ s. Takes program P
-          (level_from program (suc (c.loop-index.index + 1))
+          subst (λ s. Takes program P (level_from program (suc (c.loop-index.index + 1))
           (length program.branches - (c.loop-index.index + 1))
           (candidates_of P c.args.last.kept.items)) c.take_iterations.new.meter.limit
-          c.take_iterations.new.meter.entries (Ok s)) c.in-On.is
-          (c.in_ok-next.ensures.takes P _
-          (joined_later program P c.args.meter.now.entries c.loop-index.meter.entries
-          c.loop-index.invariant.grows (candidates_of P c.args.last.kept.items) h.joined)
-          (branch_next program P c.loop-index.meter.entries c.loop-index.progress
-          (candidates_of P c.args.last.kept.items) (length program.branches) c.loop-index.index
-          inside (c.loop-index.invariant.awaits P h)));
+          c.take_iterations.new.meter.entries (Ok s)) c.in-On.is (c.in_ok-next.ensures.takes P _
+          (joined_later program P _ c.loop-index.invariant.grows _ h.joined) (branch_next program P
+          c.loop-index.meter.entries c.loop-index.progress _ _ _ inside
+          (c.loop-index.invariant.awaits P h)));
     }
 
 pub returns-clause-units : goal.returns-clause-units
 returns-clause-units c = λ on n.
     let program = program_in c.args.self.now in
-    let past = past_seen _ c.branches-index-end.result.now program.branches c.loop-index.index
-    c.branches-index-end.ensures.branches c.loop-index-test.false in
+    let past = past_seen _ _ _ _ c.branches-index-end.ensures.branches c.loop-index-test.false in
     let some = (formed c.args.self.now.lp.now).some_branch in
     let a = c.loop-index.invariant.units n in
     omega (arith, a, past, some)
@@ -136,8 +115,6 @@ returns-clause-units c = λ on n.
 pub returns-clause-takes : goal.returns-clause-takes
 returns-clause-takes c = λ P h.
     let program = program_in c.args.self.now in
-    branches_over program P c.loop-index.meter.entries c.loop-index.progress
-    (candidates_of P c.args.last.kept.items) (length program.branches) c.loop-index.index
-    (past_seen _ c.branches-index-end.result.now program.branches c.loop-index.index
-    c.branches-index-end.ensures.branches c.loop-index-test.false)
+    branches_over program P c.loop-index.meter.entries c.loop-index.progress _ _ _ (past_seen _ _ _
+    _ c.branches-index-end.ensures.branches c.loop-index-test.false)
     (c.loop-index.invariant.awaits P h)

@@ -17,8 +17,7 @@ use Rattle.closing.proofs.loop_maps.LoopMaps.proof_of.Goals as goal
 pub elements_of-requires : goal.elements_of-requires
 elements_of-requires c = record {
   alike =
-      lists_alike (length (program_in c.args.self.now).names) c.args.polynomials.now
-      c.args.closure.now c.requires.over c.requires.closure_over;
+      lists_alike c.args.polynomials.now _ c.requires.over c.requires.closure_over;
 }
 
 pub returns-in_err-elements-clause-unproved : goal.returns-in_err-elements-clause-unproved
@@ -36,24 +35,20 @@ loop-place-init c =
       count = ap length none;
       each = none_seen (λ (rows : Vec (Vec FracPoly)). seen_rows rows.items)
           (λ b rows. AreRows program c.args.closure.now c.in_ok-elements.elements (suc b) rows) []
-          c.new-steps.result.items none;
+          none;
       squares =
           subst (All (λ (rows : Vec (Vec FracPoly)). IsSquare (length program.names)
           (length c.in_ok-elements.elements.list.items) rows.items)) (sym none) (All-nil _);
       awaits =
-          begun_branches program (terms_each c.args.polynomials.now)
-          (terms_each c.args.closure.now) c.in_ok-elements.elements.list.items
-          c.args.meter.now.entries (length program.branches)
-          (proof_begins program (terms_each c.args.polynomials.now)
-          (terms_each c.args.closure.now) (terms_each c.in_ok-elements.elements.list.items)
-          c.args.meter.now.entries c.requires.closes);
+          begun_branches program (terms_each c.args.polynomials.now) (terms_each c.args.closure.now)
+          _ c.args.meter.now.entries _ (proof_begins program _ _
+          (terms_each c.in_ok-elements.elements.list.items) _ c.requires.closes);
     }
 
 pub branch_rows-requires-clause-letter : goal.branch_rows-requires-clause-letter
 branch_rows-requires-clause-letter c =
-    letter_of (program_in c.args.self.now) c.loop-place.place
-    (inside_seen _ c.branches-place-end.result.now (program_in c.args.self.now).branches
-    c.loop-place.place c.branches-place-end.ensures.branches c.loop-place-test.true)
+    letter_of (program_in c.args.self.now) _
+    (inside_seen _ _ _ _ c.branches-place-end.ensures.branches c.loop-place-test.true)
 
 pub branch_rows-requires-clause-work : goal.branch_rows-requires-clause-work
 branch_rows-requires-clause-work c =
@@ -70,19 +65,14 @@ returns-in_err-branch_rows-clause-unproved c =
     let P = terms_each c.args.polynomials.now in
     let gs = terms_each c.args.closure.now in
     let r = c.in_ok-elements.ensures in
-    let inside = inside_seen _ c.branches-place-end.result.now program.branches c.loop-place.place
-    c.branches-place-end.ensures.branches c.loop-place-test.true in
+    let inside = inside_seen _ _ _ _ c.branches-place-end.ensures.branches c.loop-place-test.true in
     let e = err_from_is_err_and c.from_residual-in_err-branch_rows.result
     c.from_residual-in_err-branch_rows.ensures.1 in
-    rw (e.1, e.2)
-    (is_unproved program c.args.polynomials.now c.args.closure.now c.requires.over
+    rw (e.1, e.2) (is_unproved program c.args.polynomials.now c.args.closure.now c.requires.over
     c.requires.closure_over c.args.meter.now.entries c.requires.closes c.in_ok-elements.elements
-    r.list r.stand r.count
-    (r.over (length program.names) c.requires.over c.requires.closure_over)
-    c.branch_rows.new.meter.entries c.branch_rows.new.meter.limit c.in_err-branch_rows.field-0.0
-    (c.in_err-branch_rows.ensures.passes P _
-    (next_branch program P gs c.in_ok-elements.elements.list.items c.loop-place.meter.entries
-    (length program.branches) c.loop-place.place inside c.loop-place.invariant.awaits)))
+    r.list r.stand r.count (r.over (length program.names) c.requires.over c.requires.closure_over) _
+    _ _ (c.in_err-branch_rows.ensures.passes P _ (next_branch program P gs _
+    c.loop-place.meter.entries _ _ inside c.loop-place.invariant.awaits)))
 
 pub returns-in_err-push-clause-unproved : goal.returns-in_err-push-clause-unproved
 returns-in_err-push-clause-unproved c =
@@ -90,13 +80,11 @@ returns-in_err-push-clause-unproved c =
     let P = terms_each c.args.polynomials.now in
     let gs = terms_each c.args.closure.now in
     let r = c.in_ok-elements.ensures in
-    let inside = inside_seen _ c.branches-place-end.result.now program.branches c.loop-place.place
-    c.branches-place-end.ensures.branches c.loop-place-test.true in
+    let inside = inside_seen _ _ _ _ c.branches-place-end.ensures.branches c.loop-place-test.true in
     let e = err_from_is_err_and c.from_residual-in_err-push.result
     c.from_residual-in_err-push.ensures.1 in
-    let a = c.in_ok-branch_rows.ensures.passes P _
-    (next_branch program P gs c.in_ok-elements.elements.list.items c.loop-place.meter.entries
-    (length program.branches) c.loop-place.place inside c.loop-place.invariant.awaits) in
+    let a = c.in_ok-branch_rows.ensures.passes P _ (next_branch program P gs _
+    c.loop-place.meter.entries _ _ inside c.loop-place.invariant.awaits) in
     rw (e.1, e.2)
     (inr (record {
       list = terms_each c.in_ok-elements.elements.list.items;
@@ -112,8 +100,7 @@ loop-place-preserved c =
     let inv = c.loop-place.invariant in
     let more = c.in_ok-push.ensures.items in
     let rows = c.in_ok-branch_rows.field-0 in
-    let inside = inside_seen _ c.branches-place-end.result.now program.branches c.loop-place.place
-    c.branches-place-end.ensures.branches c.loop-place-test.true in
+    let inside = inside_seen _ _ _ _ c.branches-place-end.ensures.branches c.loop-place-test.true in
     record {
       limit = c.branch_rows.ensures.limit ∙ inv.limit;
       within = omega (arith, inside);
@@ -122,9 +109,8 @@ loop-place-preserved c =
           let d = inv.count in
           omega (arith, a, b, d));
       each = pushed_seen (λ (v : Vec (Vec FracPoly)). seen_rows v.items)
-          (λ b v. AreRows program c.args.closure.now c.in_ok-elements.elements (suc b) v) []
-          c.loop-place.steps.items c.push.new.self.items rows inv.each
-          (subst (λ k. AreRows program c.args.closure.now c.in_ok-elements.elements k
+          (λ b v. AreRows program c.args.closure.now c.in_ok-elements.elements (suc b) v) [] _ rows
+          inv.each (subst (λ k. AreRows program c.args.closure.now c.in_ok-elements.elements k
           (seen_rows rows.items))
           (let d = inv.count in
           let e : c.loop-place.place + 1 ≡ suc (length c.loop-place.steps.items) =
@@ -134,13 +120,11 @@ loop-place-preserved c =
           subst (All (λ (v : Vec (Vec FracPoly)). IsSquare (length program.names)
           (length c.in_ok-elements.elements.list.items) v.items)) (sym more)
           (All-push (λ (v : Vec (Vec FracPoly)). IsSquare (length program.names)
-          (length c.in_ok-elements.elements.list.items) v.items) c.loop-place.steps.items rows
+          (length c.in_ok-elements.elements.list.items) v.items) _ rows
           inv.squares c.in_ok-branch_rows.ensures.square);
       awaits =
-          c.in_ok-branch_rows.ensures.passes P _
-          (next_branch program P gs c.in_ok-elements.elements.list.items
-          c.loop-place.meter.entries (length program.branches) c.loop-place.place inside
-          inv.awaits);
+          c.in_ok-branch_rows.ensures.passes P _ (next_branch program P gs _
+          c.loop-place.meter.entries _ _ inside inv.awaits);
     }
 
 pub returns-clause-proof : goal.returns-clause-proof
@@ -150,16 +134,12 @@ returns-clause-proof c =
     let gs = terms_each c.args.closure.now in
     let r = c.in_ok-elements.ensures in
     let inv = c.loop-place.invariant in
-    let past = past_seen _ c.branches-place-end.result.now program.branches c.loop-place.place
-    c.branches-place-end.ensures.branches c.loop-place-test.false in
+    let past = past_seen _ _ _ _ c.branches-place-end.ensures.branches c.loop-place-test.false in
     is_proved program c.args.polynomials.now c.args.closure.now c.requires.over
     c.requires.closure_over c.args.meter.now.entries c.requires.closes c.in_ok-elements.elements
-    r.list r.stand r.count
-    (r.over (length program.names) c.requires.over c.requires.closure_over)
-    c.loop-place.meter.entries
+    r.list r.stand r.count (r.over (length program.names) c.requires.over c.requires.closure_over) _
     (record { list = c.in_ok-elements.elements.list; steps = c.loop-place.steps }) refl
-    (done_branches program P gs c.in_ok-elements.elements.list.items c.loop-place.meter.entries
-    (length program.branches) c.loop-place.place past inv.awaits)
+    (done_branches program P gs _ c.loop-place.meter.entries _ c.loop-place.place past inv.awaits)
     (let a = inv.count in
     let b = inv.within in
     omega (arith, a, b, past)) inv.each

@@ -21,8 +21,7 @@ loop-place-init c =
       each = none_seen (λ (v : Vec FracPoly). terms_each v.items)
           (λ i row. IsRowOf (program_by c.args.self.now) (closure_by c.args.self.now)
           c.args.self.now.elements.places.items (length (list_by c.args.self.now))
-          c.args.letter (get_or (list_by c.args.self.now) i []) row) []
-          c.new-rows.result.items none;
+          c.args.letter (get_or (list_by c.args.self.now) i []) row) [] none;
       widths =
           subst (All (λ (v : Vec FracPoly).
           length v.items ≡ length c.args.self.now.elements.list.items)) (sym none) (All-nil _);
@@ -38,11 +37,8 @@ returns-in_err-row-clause-limit c = c.row.ensures.limit ∙ c.loop-place.invaria
 pub returns-in_err-row-clause-passes : goal.returns-in_err-row-clause-passes
 returns-in_err-row-clause-passes c = λ P w a.
     let e = err_from_is_err_and c.from_residual.result c.from_residual.ensures.1 in
-    rw (e.1, e.2)
-    (c.in_err-row.ensures.passes P _
-    (next_test (program_by c.args.self.now) P (closure_by c.args.self.now)
-    c.args.self.now.elements.list.items c.loop-place.meter.entries c.args.letter c.loop-place.place
-    w
+    rw (e.1, e.2) (c.in_err-row.ensures.passes P _ (next_test (program_by c.args.self.now) P
+    (closure_by c.args.self.now) _ c.loop-place.meter.entries _ _ w
     (let t = c.loop-place-test.true in
     let n = c.len-place-end.ensures in
     omega (arith, t, n)) (c.loop-place.invariant.passes P w a)))
@@ -54,10 +50,8 @@ pub returns-in_err-push-clause-passes : goal.returns-in_err-push-clause-passes
 returns-in_err-push-clause-passes c = λ P w a.
     let e = err_from_is_err_and c.from_residual-in_err-push.result
     c.from_residual-in_err-push.ensures.1 in
-    let b = c.in_ok-row.ensures.passes P _
-    (next_test (program_by c.args.self.now) P (closure_by c.args.self.now)
-    c.args.self.now.elements.list.items c.loop-place.meter.entries c.args.letter c.loop-place.place
-    w
+    let b = c.in_ok-row.ensures.passes P _ (next_test (program_by c.args.self.now) P
+    (closure_by c.args.self.now) _ c.loop-place.meter.entries _ _ w
     (let t = c.loop-place-test.true in
     let n = c.len-place-end.ensures in
     omega (arith, t, n)) (c.loop-place.invariant.passes P w a)) in
@@ -80,28 +74,25 @@ loop-place-preserved c =
           omega (arith, a, b, d));
       each = pushed_seen (λ (v : Vec FracPoly). terms_each v.items)
           (λ i r. IsRowOf (program_by c.args.self.now) (closure_by c.args.self.now)
-          c.args.self.now.elements.places.items (length bs) c.args.letter (get_or bs i []) r) []
-          c.loop-place.rows.items c.push.new.self.items row inv.each
-          (subst (λ k. IsRowOf (program_by c.args.self.now) (closure_by c.args.self.now)
-          c.args.self.now.elements.places.items (length bs) c.args.letter (get_or bs k [])
-          (terms_each row.items)) (sym inv.count) c.in_ok-row.ensures.row) more;
+          c.args.self.now.elements.places.items (length bs) c.args.letter (get_or bs i []) r) [] _
+          row inv.each (subst (λ k. IsRowOf (program_by c.args.self.now)
+          (closure_by c.args.self.now) c.args.self.now.elements.places.items (length bs)
+          c.args.letter (get_or bs k []) (terms_each row.items)) (sym inv.count)
+          c.in_ok-row.ensures.row) more;
       widths =
-          subst (All (λ (v : Vec FracPoly).
-          length v.items ≡ length c.args.self.now.elements.list.items)) (sym more)
-          (All-push (λ (v : Vec FracPoly).
-          length v.items ≡ length c.args.self.now.elements.list.items) c.loop-place.rows.items row
-          inv.widths c.in_ok-row.ensures.width);
+          subst (All (λ (v : Vec FracPoly). length v.items ≡ length
+          c.args.self.now.elements.list.items)) (sym more) (All-push (λ (v : Vec FracPoly). length
+          v.items ≡ length c.args.self.now.elements.list.items) _ row inv.widths
+          c.in_ok-row.ensures.width);
       arities =
-          subst (All (λ (v : Vec FracPoly).
-          AreOver (length (program_by c.args.self.now).names) v.items)) (sym more)
-          (All-push (λ (v : Vec FracPoly).
-          AreOver (length (program_by c.args.self.now).names) v.items) c.loop-place.rows.items row
-          inv.arities c.in_ok-row.ensures.over);
+          subst (All (λ (v : Vec FracPoly). AreOver (length (program_by c.args.self.now).names)
+          v.items)) (sym more) (All-push (λ (v : Vec FracPoly). AreOver
+          (length (program_by c.args.self.now).names) v.items) _ row inv.arities
+          c.in_ok-row.ensures.over);
       passes = λ P w a.
           c.in_ok-row.ensures.passes P _
-          (next_test (program_by c.args.self.now) P (closure_by c.args.self.now)
-          c.args.self.now.elements.list.items c.loop-place.meter.entries c.args.letter
-          c.loop-place.place w (let t = c.loop-place-test.true in
+          (next_test (program_by c.args.self.now) P (closure_by c.args.self.now) _
+          c.loop-place.meter.entries _ _ w (let t = c.loop-place-test.true in
           let n = c.len-place-end.ensures in
           omega (arith, t, n)) (inv.passes P w a));
     }
@@ -135,9 +126,8 @@ returns-clause-square c =
 
 pub returns-clause-passes : goal.returns-clause-passes
 returns-clause-passes c = λ P w a.
-    done_tests (program_by c.args.self.now) P (closure_by c.args.self.now)
-    c.args.self.now.elements.list.items c.loop-place.meter.entries c.args.letter c.loop-place.place
-    w
+    done_tests (program_by c.args.self.now) P (closure_by c.args.self.now) _
+    c.loop-place.meter.entries c.args.letter c.loop-place.place w
     (let l = c.loop-place-test.false in
     let n = c.len-place-end.ensures in
     omega (arith, l, n)) (c.loop-place.invariant.passes P w a)

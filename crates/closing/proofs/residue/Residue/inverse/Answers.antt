@@ -1,5 +1,4 @@
 use Rattle.std.proofs.Common.{pos, not}
-use Rattle.frac128.specs.Sums.{negate_if}
 use Rattle.closing.specs.Modulus.{modulus}
 use Rattle.closures.proofs.Congruent.{congruent_trans}
 use Rattle.closing.proofs.Products.{signed_congruent}
@@ -18,10 +17,5 @@ returns-clause-some c =
     let r = c.rests_within-rests.result in
     let q = pos modulus in
     inverse_of_rests modulus c.args.self.now.value 0 r.high r.low r.high_factor r.low_factor
-    r.negative (pos c.with_sign.result.value) c.rests_within-rests.ensures.rests
-    c.if-rests-ne1.false
-    (congruent_trans q (pos c.with_sign.result.value)
-    (negate_if (not r.negative) (pos c.short_rest.result.value))
-    (negate_if (not r.negative) (pos r.high_factor)) c.with_sign.ensures
-    (signed_congruent q (not r.negative) (pos c.short_rest.result.value) (pos r.high_factor)
-    c.short_rest.ensures))
+    r.negative c.rests_within-rests.ensures.rests c.if-rests-ne1.false (congruent_trans q _ _ _
+    c.with_sign.ensures (signed_congruent q (not r.negative) c.short_rest.ensures))

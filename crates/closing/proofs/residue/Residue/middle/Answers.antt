@@ -2,4 +2,4 @@ use Rattle.closing.proofs.Products.{middle_is}
 use Rattle.closing.proofs.residue.Residue.middle.Goals as goal
 
 pub returns : goal.returns
-returns c = middle_is c.short_rest.result.value c.args.number c.short_rest.ensures
+returns c = middle_is _ c.args.number c.short_rest.ensures

@@ -6,14 +6,11 @@ use Rattle.closing.proofs.residue.Residue.mul.Goals as goal
 
 pub returns : goal.returns
 returns c =
-    product_is c.add-2.result.value c.add.result.value _ c.middle-middle.result.value
-    c.short_rest-bottom.result.value c.halves-high.result.0 c.halves-high.result.1
-    c.halves-other_high.result.0 c.halves-other_high.result.1 c.args.self.now.value
-    c.args.other.now.value c.halves-high.ensures.number c.halves-other_high.ensures.number
-    (ap (λ n. 2 * n) c.product.ensures)
-    (subst (λ n. AreCongruent (pos modulus) (pos c.middle-middle.result.value)
-    (pos (n * half_limit))) (ap₂ ◌+◌ c.product-2.ensures c.product-3.ensures)
-    c.middle-middle.ensures)
-    (subst (λ n. AreCongruent (pos modulus) (pos c.short_rest-bottom.result.value) (pos n))
-    c.product-4.ensures c.short_rest-bottom.ensures)
-    c.add.ensures c.add-2.ensures
+    product_is c.add-2.result.value c.add.result.value _ _ _ c.halves-high.result.0
+    c.halves-high.result.1 _ _ c.args.self.now.value c.args.other.now.value
+    c.halves-high.ensures.number c.halves-other_high.ensures.number
+    (ap (λ n. 2 * n) c.product.ensures) (subst (λ n. AreCongruent (pos modulus)
+    (pos c.middle-middle.result.value) (pos (n * half_limit)))
+    (ap₂ ◌+◌ c.product-2.ensures c.product-3.ensures) c.middle-middle.ensures) (subst (λ n.
+    AreCongruent (pos modulus) (pos c.short_rest-bottom.result.value) (pos n)) c.product-4.ensures
+    c.short_rest-bottom.ensures) c.add.ensures c.add-2.ensures

@@ -6,5 +6,4 @@ use Rattle.closing.proofs.residue.Residue.neg.Goals as goal
 pub returns : goal.returns
 returns c =
     let a = c.args.self.now in
-    opposite_is c.short_rest.result.value a.value (modulus - a.value) c.short_rest.ensures
-    (omega (arith, a.low))
+    opposite_is _ a.value (modulus - a.value) c.short_rest.ensures (omega (arith, a.low))

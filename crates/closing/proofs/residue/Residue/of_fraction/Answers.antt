@@ -16,11 +16,9 @@ returns-in_err-inverse-clause-none c _ p =
     let q = pos modulus in
     let d = number_of c.of_whole.result in
     let same : AreCongruent q d (pos (fraction_of c.args.fraction.now).den) =
-    subst (AreCongruent q d) (to_z-of_z w128 c.den.result (record { sfits = c.den.type_inv })
+    subst (AreCongruent q d) (to_z-of_z w128 _ (record { sfits = c.den.type_inv })
     ∙ c.den.ensures) c.of_whole.ensures in
-    c.in_err-inverse.ensures.none refl
-    (pivot_same q (pos (fraction_of c.args.fraction.now).den) d
-    (congruent_sym ℤ_ring (q ∷ []) same) p)
+    c.in_err-inverse.ensures.none refl (pivot_same q _ d (congruent_sym ℤ_ring (q ∷ []) same) p)
 
 pub returns-clause-some : goal.returns-clause-some
 returns-clause-some c =
@@ -29,8 +27,7 @@ returns-clause-some c =
     let d = number_of c.of_whole.result in
     let n = number_of c.of_whole-2.result in
     residue_quotient q f d n (number_of c.in_ok-inverse.inverse) (number_of c.mul.result)
-    (subst (AreCongruent q d) (to_z-of_z w128 c.den.result (record { sfits = c.den.type_inv })
+    (subst (AreCongruent q d) (to_z-of_z w128 _ (record { sfits = c.den.type_inv })
     ∙ c.den.ensures) c.of_whole.ensures)
-    (subst (AreCongruent q n) (to_z-of_z w128 c.num.result (record { sfits = c.num.type_inv })
-    ∙ c.num.ensures) c.of_whole-2.ensures)
-    c.in_ok-inverse.ensures.some c.mul.ensures
+    (subst (AreCongruent q n) (to_z-of_z w128 _ (record { sfits = c.num.type_inv }) ∙ c.num.ensures)
+    c.of_whole-2.ensures) c.in_ok-inverse.ensures.some c.mul.ensures

@@ -9,6 +9,5 @@ use Rattle.closing.proofs.residue.Residue.of_whole.Goals as goal
 pub returns : goal.returns
 returns c =
     let r = c.with_sign.result.value in
-    subst (AreCongruent (pos modulus) (pos r)) (to_z-of_z w128 c.args.number c.ranges.number)
-    (whole_is r c.short_rest.result.value c.unsigned_abs.result _ c.with_sign.ensures
-    c.short_rest.ensures c.unsigned_abs.ensures.value)
+    subst (AreCongruent (pos modulus) (pos r)) (to_z-of_z w128 _ c.ranges.number) (whole_is r _
+    c.unsigned_abs.result _ c.with_sign.ensures c.short_rest.ensures c.unsigned_abs.ensures.value)

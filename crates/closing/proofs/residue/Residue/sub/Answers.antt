@@ -6,5 +6,5 @@ use Rattle.closing.proofs.residue.Residue.sub.Goals as goal
 pub returns : goal.returns
 returns c =
     let b = c.args.other.now in
-    difference_is c.short_rest.result.value c.args.self.now.value b.value (modulus - b.value)
+    difference_is _ c.args.self.now.value b.value (modulus - b.value)
     c.short_rest.ensures (omega (arith, b.low))

@@ -3,18 +3,17 @@ use Rattle.closing.proofs.samples.Draws.take.Goals as goal
 
 pub loop-place-init : goal.loop-place-init
 loop-place-init c = record {
-  numbers = no_draws c.args.self.now.number c.new-numbers.result.items c.new-numbers.ensures.items;
+  numbers = no_draws c.args.self.now.number c.new-numbers.ensures.items;
   state = no_number c.args.self.now.number;
 }
 
 pub loop-place-preserved : goal.loop-place-preserved
 loop-place-preserved c = record {
   numbers =
-      draws_more c.args.self.now.number c.loop-place._place c.loop-place.self.number
-      c.draw.new.self.number c.draw.result c.loop-place.numbers.items c.push.new.self.items
+      draws_more c.args.self.now.number c.loop-place._place c.draw.result
       c.loop-place.invariant.state c.draw.ensures.moved c.draw.ensures.drawn
       c.loop-place.invariant.numbers c.in_ok-push.ensures.items;
   state =
-      after_more c.args.self.now.number c.loop-place._place c.loop-place.self.number
-      c.draw.new.self.number c.loop-place.invariant.state c.draw.ensures.moved;
+      after_more c.args.self.now.number c.loop-place._place c.loop-place.invariant.state
+      c.draw.ensures.moved;
 }

@@ -3,8 +3,6 @@ use Rattle.std.proofs.lemmas.Result.{err_from_is_err_and}
 use Rattle.algebra.specs.Each.{Each}
 use Rattle.closures.specs.Monomials.{AreAscending}
 use Rattle.ideal_ops.specs.Calls.{AreOver}
-use Rattle.loop_model.specs.View.{program_of}
-use Rattle.poly.specs.Seen.{terms_each}
 use Rattle.closing.proofs.ElementsLeft.{ascend_at, width_at, few_at, arities_at, told_left, none_left}
 use Rattle.closing.specs.declared.elements.ElementsError.TheVariants.{Wide}
 use Rattle.closing.proofs.Stopped.{begun_at}
@@ -14,21 +12,18 @@ pub elements_of-requires-clause-arities : goal.elements_of-requires-clause-ariti
 elements_of-requires-clause-arities c =
     let at = c.requires.at in
     subst (λ (es : List (List ℕ)). Each (λ e. length e ≡ c.len.result) es)
-    (sym c.deref.ensures.value)
-    (arities_at (program_of c.args.lp.now) at.0 at.1 c.args.self.now at.2 c.len.result
+    (sym c.deref.ensures.value) (arities_at at.2
     (c.len.ensures.len ∙ ap length c.names.ensures.names))
 
 pub elements_of-requires-clause-ascend : goal.elements_of-requires-clause-ascend
 elements_of-requires-clause-ascend c =
     let at = c.requires.at in
-    subst AreAscending (sym c.deref.ensures.value)
-    (ascend_at (program_of c.args.lp.now) at.0 at.1 c.args.self.now at.2)
+    subst AreAscending (sym c.deref.ensures.value) (ascend_at at.2)
 
 pub elements_of-requires-clause-width : goal.elements_of-requires-clause-width
 elements_of-requires-clause-width c =
     let at = c.requires.at in
-    width_at (program_of c.args.lp.now) at.0 at.1 c.args.self.now at.2
-    ∙ ap length (sym c.deref.ensures.value)
+    width_at at.2 ∙ ap length (sym c.deref.ensures.value)
 
 pub returns-in-Ok-clause-over : goal.returns-in-Ok-clause-over
 returns-in-Ok-clause-over c =
@@ -38,14 +33,11 @@ returns-in-Ok-clause-over c =
 pub returns-in-Ok-clause-few : goal.returns-in-Ok-clause-few
 returns-in-Ok-clause-few c =
     let at = c.requires.at in
-    few_at (program_of c.args.lp.now) at.0 at.1 c.args.self.now at.2 _ c.deref.result.now
-    c.deref.ensures.value c.in-Ok.ensures.few
+    few_at at.2 _ c.deref.result.now c.deref.ensures.value c.in-Ok.ensures.few
 
 pub returns-in-Ok-clause-left : goal.returns-in-Ok-clause-left
 returns-in-Ok-clause-left c = λ d ps a.
-    told_left (program_of c.args.lp.now) d ps c.args.self.now a c.len.result
-    (c.len.ensures.len ∙ ap length c.names.ensures.names) c.deref.result.now
-    c.deref.ensures.value (terms_each c.in-Ok.elements.items)
+    told_left a (c.len.ensures.len ∙ ap length c.names.ensures.names) c.deref.ensures.value _
     (λ given all form values. c.in-Ok.ensures.tidy d given all form values)
     (c.in-Ok.ensures.standard d) c.in-Ok.ensures.told
 
@@ -53,21 +45,19 @@ pub returns-in_err-copy-in-Err-Wide-clause-stopped :
     goal.returns-in_err-copy-in-Err-Wide-clause-stopped
 returns-in_err-copy-in-Err-Wide-clause-stopped c = λ d ps a enough limit.
     let e = err_from_is_err_and c.from_residual.result c.from_residual.ensures.1 in
-    rw (e.1, e.2) (begun_at (program_of c.args.lp.now) d ps a.search)
+    rw (e.1, e.2) (begun_at _ d ps a.search)
 
 pub returns-in_ok-copy-in-Err-Wide-clause-stopped :
     goal.returns-in_ok-copy-in-Err-Wide-clause-stopped
 returns-in_ok-copy-in-Err-Wide-clause-stopped c = λ d ps a enough limit.
     let is : c.in-Err-Wide.field-0 ≡ Wide c.in-Err-Wide.lead = search rules in
-    none_left (program_of c.args.lp.now) d ps c.args.self.now a c.len.result
-    (c.len.ensures.len ∙ ap length c.names.ensures.names) c.deref.result.now
-    c.deref.ensures.value c.in-Err-Wide.lead c.in_ok-copy-in-Err-Wide.field-0 _
-    (c.in-Err-Wide.ensures.place c.in-Err-Wide.lead (ap Err is))
+    none_left a (c.len.ensures.len ∙ ap length c.names.ensures.names) c.deref.ensures.value
+    c.in-Err-Wide.lead _ (c.in-Err-Wide.ensures.place c.in-Err-Wide.lead (ap Err is))
     (c.in_ok-copy-in-Err-Wide.ensures.ok ∙ c.index.ensures)
     (c.in-Err-Wide.ensures.leads c.in-Err-Wide.lead (ap Err is)) enough
-    (λ given p form poly candidate.
-    c.in-Err-Wide.ensures.wide c.in-Err-Wide.lead (ap Err is) given p form poly candidate)
+    (λ given p form poly candidate. c.in-Err-Wide.ensures.wide c.in-Err-Wide.lead (ap Err is) given
+    p form poly candidate)
 
 pub returns-in-Err-Memory-clause-stopped : goal.returns-in-Err-Memory-clause-stopped
 returns-in-Err-Memory-clause-stopped c = λ d ps a enough limit.
-    begun_at (program_of c.args.lp.now) d ps a.search
+    begun_at _ d ps a.search

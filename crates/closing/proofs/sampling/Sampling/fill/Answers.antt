@@ -1,6 +1,5 @@
 use Rattle.std.proofs.Common.{◌≡◌, true, false, arith, refl, sym, ◌∙◌}
 use Rattle.std.proofs.lemmas.Result.{err_from_is_err_and}
-use Rattle.loop_model.specs.View.{program_of}
 use Rattle.closing.proofs.Taking.{unfinished, enough}
 use Rattle.closing.proofs.sampling.Sampling.fill.Goals as goal
 
@@ -19,7 +18,7 @@ take-requires c =
     record {
       sampled = (
         i.0,
-        unfinished (program_of c.args.lp.now) i.0 c.loop-alloc.meter.entries c.loop-alloc.sampling
+        unfinished i.0
             i.1 g.0 g.1,
       );
     }
@@ -32,8 +31,7 @@ returns-in_err-sampling-clause-fills c = λ d h.
     let g = c.goes_on.ensures.0 c.loop-alloc-test.true in
     let e = err_from_is_err_and c.from_residual.result c.from_residual.ensures.1 in
     rw (e.1, e.2) (c.in_err-sampling.ensures.takes d
-    (unfinished (program_of c.args.lp.now) d c.loop-alloc.meter.entries c.loop-alloc.sampling
-    (c.loop-alloc.invariant.each d h) g.0 g.1))
+    (unfinished d (c.loop-alloc.invariant.each d h) g.0 g.1))
 
 pub loop-alloc-smaller : goal.loop-alloc-smaller
 loop-alloc-smaller c =
@@ -54,12 +52,10 @@ loop-alloc-preserved c =
       some = (
         i.some.0,
         c.in_ok-sampling.ensures.takes i.some.0
-            (unfinished (program_of c.args.lp.now) i.some.0 c.loop-alloc.meter.entries
-            c.loop-alloc.sampling i.some.1 g.0 g.1),
+            (unfinished i.some.0 i.some.1 g.0 g.1),
       );
       each = λ d h. c.in_ok-sampling.ensures.takes d
-          (unfinished (program_of c.args.lp.now) d c.loop-alloc.meter.entries
-          c.loop-alloc.sampling (i.each d h) g.0 g.1);
+          (unfinished d (i.each d h) g.0 g.1);
     }
 
 pub returns-clause-limit : goal.returns-clause-limit
@@ -70,6 +66,5 @@ returns-clause-units c = c.loop-alloc.invariant.units
 
 pub returns-clause-fills : goal.returns-clause-fills
 returns-clause-fills c = λ d h.
-    enough (program_of c.args.lp.now) d c.loop-alloc.meter.entries c.loop-alloc.sampling
-    (c.loop-alloc.invariant.each d h)
+    enough d (c.loop-alloc.invariant.each d h)
     (λ g. let e : true ≡ false = sym (c.goes_on.ensures.1 g) ∙ c.loop-alloc-test.false in cc)

@@ -1,6 +1,5 @@
-use Rattle.std.proofs.Common.{Ok, inl, inr, ◌+◌, length, arith, refl, ap, ◌∙◌}
+use Rattle.std.proofs.Common.{Ok, inl, inr, length, arith, refl, ap, ◌∙◌}
 use Rattle.loop_model.specs.View.{program_of}
-use Rattle.closing.specs.Numbers.{numbers_of}
 use Rattle.closing.specs.Draws.{draws_from, after_draws}
 use Rattle.closing.proofs.Taking.{draws_length, refuted_counts, refuted_old, refuted_stuck}
 use Rattle.closing.proofs.sampling.Sampling.refute.Goals as goal
@@ -19,18 +18,8 @@ returns-in-Counts c = λ d ps a.
     let program = program_of c.args.lp.now in
     let x = c.args.self.draws.number in
     let names = c.len.ensures.len ∙ ap length c.names.ensures.names in
-    refuted_counts program d ps c.args.self a c.deref.result.now c.args.word.now
-    (c.deref.ensures.value ∙ c.in_ok-numbers.ensures.numbers ∙ ap (draws_from x) names)
-    (numbers_of c.in_ok-row.row.items) c.in_ok-row.ensures.row
-    (record {
-      monomials = c.args.self.monomials;
-      maps = c.args.self.maps;
-      draws = c.take.new.self;
-      echelon = c.add_row.new.self;
-      counted = c.args.self.counted + 1;
-      taken = c.args.self.taken;
-      idle = 0;
-    })
+    refuted_counts d ps a (c.deref.ensures.value ∙ c.in_ok-numbers.ensures.numbers
+    ∙ ap (draws_from x) names) c.in_ok-row.ensures.row
     (record { monomials = refl; maps = refl; width = c.in_ok-add_row.ensures.width }) refl
     (c.in_ok-numbers.ensures.state ∙ ap (after_draws x) names)
     (c.in_ok-add_row.ensures.more (ap Ok c.in-Counts.is))
@@ -43,10 +32,8 @@ returns-in-Combination c = λ d ps a.
     let names = c.len.ensures.len ∙ ap length c.names.ensures.names in
     let drawn = c.deref.ensures.value ∙ c.in_ok-numbers.ensures.numbers ∙ ap (draws_from x) names in
     elim c.in-Combination.is [
-      | inl e ↦ refuted_old program d ps c.args.self a c.deref.result.now c.args.word.now drawn
-          (numbers_of c.in_ok-row.row.items) c.in_ok-row.ensures.row
+      | inl e ↦ refuted_old d ps a drawn c.in_ok-row.ensures.row
           (c.in_ok-add_row.ensures.old (ap Ok e))
-      | inr e ↦ refuted_stuck program d ps c.args.self a c.deref.result.now c.args.word.now
-          drawn (numbers_of c.in_ok-row.row.items) c.in_ok-row.ensures.row
-          (c.in_ok-add_row.ensures.stuck (ap Ok e))
+      | inr e ↦ refuted_stuck d ps a
+          drawn c.in_ok-row.ensures.row (c.in_ok-add_row.ensures.stuck (ap Ok e))
     ]

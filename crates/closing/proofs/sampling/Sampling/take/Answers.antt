@@ -1,8 +1,7 @@
-use Rattle.std.proofs.Common.{Ok, ◌+◌, [], length, arith, refl, ap, ◌∙◌}
+use Rattle.std.proofs.Common.{Ok, [], length, arith, refl, ap, ◌∙◌}
 use Rattle.machines.specs.Journal.{Journal}
 use Rattle.loop_model.specs.View.{program_of}
 use Rattle.closing.specs.Draws.{draws_from, after_draws}
-use Rattle.closing.specs.Numbers.{numbers_of}
 use Rattle.closing.proofs.Taking.{draws_length, few_taken, not_counted, taken_units, taken_counts, taken_idle, taken_stuck}
 use Rattle.closing.proofs.sampling.Sampling.take.Goals as goal
 
@@ -43,22 +42,10 @@ returns-in-Counts-clause-takes c = λ d u.
     let names = c.len.ensures.len ∙ ap length c.names.ensures.names in
     taken_counts program d c.args.meter.now.entries c.begin.new.self.entries c.args.self u
     (ap (λ (j : Journal). j.entries) c.in-Ok.ensures.ok)
-    c.deref-2.result.now c.deref.result.now c.deref-3.result.now c.take.new.self.number
-    c.take-2.new.self.number
     (c.deref-2.ensures.value ∙ c.in_ok-numbers.ensures.numbers ∙ ap (draws_from x) names)
     (c.in_ok-numbers.ensures.state ∙ ap (after_draws x) names)
     (c.deref.ensures.value ∙ c.in_ok-letters.ensures.numbers) c.in_ok-letters.ensures.state
-    (c.deref-3.ensures.value ∙ c.in_ok-word.ensures.word) (numbers_of c.in_ok-row.row.items)
-    c.in_ok-row.ensures.row
-    (record {
-      monomials = c.args.self.monomials;
-      maps = c.args.self.maps;
-      draws = c.take-2.new.self;
-      echelon = c.add_row.new.self;
-      counted = c.args.self.counted + 1;
-      taken = c.args.self.taken + 1;
-      idle = 0;
-    })
+    (c.deref-3.ensures.value ∙ c.in_ok-word.ensures.word) c.in_ok-row.ensures.row
     (record { monomials = refl; maps = refl; width = c.in_ok-add_row.ensures.width })
     (omega arith) refl
     (c.in_ok-add_row.ensures.more (ap Ok c.in-Counts.is))
@@ -71,28 +58,13 @@ returns-in-Combination-clause-takes c = λ d u.
     let names = c.len.ensures.len ∙ ap length c.names.ensures.names in
     taken_idle program d c.args.meter.now.entries c.begin.new.self.entries c.args.self u
     (ap (λ (j : Journal). j.entries) c.in-Ok.ensures.ok)
-    c.deref-2.result.now c.deref.result.now c.deref-3.result.now c.take.new.self.number
-    c.take-2.new.self.number
     (c.deref-2.ensures.value ∙ c.in_ok-numbers.ensures.numbers ∙ ap (draws_from x) names)
     (c.in_ok-numbers.ensures.state ∙ ap (after_draws x) names)
     (c.deref.ensures.value ∙ c.in_ok-letters.ensures.numbers) c.in_ok-letters.ensures.state
-    (c.deref-3.ensures.value ∙ c.in_ok-word.ensures.word) (numbers_of c.in_ok-row.row.items)
-    c.in_ok-row.ensures.row
-    (record {
-      monomials = c.args.self.monomials;
-      maps = c.args.self.maps;
-      draws = c.take-2.new.self;
-      echelon = c.add_row.new.self;
-      counted = c.args.self.counted;
-      taken = c.args.self.taken + 1;
-      idle = c.args.self.idle + 1;
-    })
-    (record { monomials = refl; maps = refl; width = c.in_ok-add_row.ensures.width })
-    (omega arith) refl
-    (c.in_ok-add_row.ensures.kept (λ counts. not_counted c.in_ok-add_row.field-0
-    counts (c.in-Combination.is)))
-    (c.in_ok-add_row.ensures.old (ap Ok c.in-Combination.is)) refl
-    (omega arith)
+    (c.deref-3.ensures.value ∙ c.in_ok-word.ensures.word) c.in_ok-row.ensures.row
+    (record { monomials = refl; maps = refl; width = c.in_ok-add_row.ensures.width }) (omega arith)
+    refl (c.in_ok-add_row.ensures.kept (λ counts. not_counted counts (c.in-Combination.is)))
+    (c.in_ok-add_row.ensures.old (ap Ok c.in-Combination.is)) refl (omega arith)
 
 pub returns-in-NoInverse-clause-takes : goal.returns-in-NoInverse-clause-takes
 returns-in-NoInverse-clause-takes c = λ d u.
@@ -101,11 +73,8 @@ returns-in-NoInverse-clause-takes c = λ d u.
     let names = c.len.ensures.len ∙ ap length c.names.ensures.names in
     taken_stuck program d c.args.meter.now.entries c.begin.new.self.entries c.args.self u
     (ap (λ (j : Journal). j.entries) c.in-Ok.ensures.ok)
-    c.deref-2.result.now c.deref.result.now c.deref-3.result.now c.take.new.self.number
-    c.take-2.new.self.number
     (c.deref-2.ensures.value ∙ c.in_ok-numbers.ensures.numbers ∙ ap (draws_from x) names)
     (c.in_ok-numbers.ensures.state ∙ ap (after_draws x) names)
     (c.deref.ensures.value ∙ c.in_ok-letters.ensures.numbers) c.in_ok-letters.ensures.state
-    (c.deref-3.ensures.value ∙ c.in_ok-word.ensures.word) (numbers_of c.in_ok-row.row.items)
-    c.in_ok-row.ensures.row
+    (c.deref-3.ensures.value ∙ c.in_ok-word.ensures.word) c.in_ok-row.ensures.row
     (c.in_ok-add_row.ensures.stuck (ap Ok c.in-NoInverse.is))
