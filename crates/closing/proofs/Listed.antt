@@ -33,7 +33,8 @@ module _ (list : List FracPoly) {more : List FracPoly} (q : FracPoly) (is : more
     pub terms_more : terms_each more ≡ terms_each list ++ terms_in q ∷ []
     terms_more = ap terms_each is ∙ map-append terms_in list (q ∷ [])
 
-    pub copies_more : (ps : List FracPoly) (i : ℕ) {p : FracPoly} → i < length ps → p ≡ get_or ps i p
+    pub copies_more : (ps : List FracPoly) (i : ℕ) {p : FracPoly} → i < length ps
+        → p ≡ get_or ps i p
         → terms_in q ≡ terms_in p → terms_each list ≡ terms_each (take i ps)
         → terms_each more ≡ terms_each (take (i + 1) ps)
     copies_more ps i {p = p} l at e h =

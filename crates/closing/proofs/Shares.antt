@@ -235,7 +235,8 @@ module _ (q : ℤ) (none : IsMultiple q (pos 1) → ⊥) where
         share = record { column = i; number = a }
 
         is_standard : In i (leads_in ls)
-        is_standard = subst (λ k. In k (leads_in ls)) leads (map-in (λ (x : Led). x.lead) ls l within)
+        is_standard = subst (λ k. In k (leads_in ls)) leads (map-in (λ (x : Led). x.lead) ls l
+            within)
 
         kills_later : (k : Led) → In k ls → suc i ≤ k.lead
             → M (entry k.row c +ℤ share_sum h.shares k.row)
@@ -254,7 +255,8 @@ module _ (q : ℤ) (none : IsMultiple q (pos 1) → ⊥) where
         kills_own =
             let x = entry l.row c in
             let s = share_sum h.shares l.row in
-            in_ideal_same ℤ_ring (ap (λ y. x +ℤ y) (sum_push h.shares share l.row) ∙ moved ℤ_ring x s
+            in_ideal_same ℤ_ring (ap (λ y. x +ℤ y) (sum_push h.shares share l.row)
+            ∙ moved ℤ_ring x s
             (a *ℤ entry l.row i)) (multiple_to q (congruent_same ℤ_ring (q ∷ []) refl
             (sym (taken ℤ_ring x s)) (congruent_add ℤ_ring (q ∷ []) (a *ℤ entry l.row i)
             (neg_ℤ x *ℤ pos 1) (x +ℤ s) (x +ℤ s) (congruent_mul ℤ_ring (q ∷ []) a (neg_ℤ x)
