@@ -2,13 +2,14 @@
 --   kept_over          what a certificate keeps shows that its polynomials are in its variables
 --   kept, cert_is      lists that were read may be kept, and are the certificate that was read
 --   seen_length        as many things are seen as stand in the list
+--   AreSquare n blocks     lists of n lists of n;  are_square: such as a certificate keeps
 --   raws_length        as many polynomials were read as stand in the list
-use Rattle.std.proofs.Common.{◌≡◌, ℕ, zero, suc, List, [], ◌∷◌, length, get_or, map, refl, sym, subst, ◌∙◌}
+use Rattle.std.proofs.Common.{◌≡◌, ℕ, List, [], length, get_or, map, refl, sym, subst, ◌∙◌}
 use Rattle.std.specs.Prelude.{All, vec_len, Vec}
 use Rattle.std.specs.declared.alloc.Global.{Global}
 use Rattle.std.proofs.lemmas.List.{length-map}
 use Rattle.std.proofs.lemmas.Slice.Zip.{AllZip-long}
-use Rattle.std.proofs.lemmas.List.Elements.{All-nil, All-head, All-tail, All-map, All-weaker}
+use Rattle.std.proofs.lemmas.List.Elements.{All-nil}
 use Rattle.algebra.specs.Each.{Each}
 use Rattle.algebra.specs.Fraction.{Fraction, ℚ}
 use Rattle.polynomials.specs.Terms.{Terms, AllSame}
@@ -19,34 +20,24 @@ use Rattle.poly.specs.Standing.{IsInVariables, StandsFor}
 use Rattle.poly.proofs.Standing.{polynomial_over, arities_over, stands_over, stands_same}
 use Rattle.loops.specs.Certificate.{AreOver}
 use Rattle.cert_form.specs.Cert.{Polys, certificate_of, polys_in, rows_in, blocks_in, ArePolysOf, IsRowOf, IsBlockOf, AreBlocksOf, AreStepsOf, HaveArity, IsSquare, IsWellSized, IsCertOf}
-use Rattle.cert_form.proofs.Zip.{all_from_left, zip_at}
-
--- what each of some has, at a place; and what stands past the end
-at_place : {A X : Type 0} (P : A → Type 0) (Q : X → Type 0) (view : A → X) (d : X)
-    → ((x : A) → P x → Q (view x)) → Q d → (xs : List A) → All P xs → (k : ℕ)
-    → Q (get_or (map view xs) k d)
-at_place P Q view d has past [] h k = past
-at_place P Q view d has past (x ∷ xs) h zero = has x (All-head P x xs h)
-at_place P Q view d has past (x ∷ xs) h (suc k) = at_place P Q view d has past xs
-    (All-tail P x xs h) k
+use Rattle.cert_form.proofs.Zip.{seen_all, at_or, all_from_left, zip_at}
 
 none_over : (m : ℕ) → AllArity {A = Fraction} m []
 unfolding Each
 none_over m = tt
 
-block_over : (m n : ℕ) (block : Vec Polys Global) → IsSquare m n block → (i : ℕ)
-    → AllArity m (get_or (rows_in block) i [])
-block_over m n block s = at_place (HaveArity m) (AllArity m) polys_in [] (λ row h.
-    arities_over m row.items h) (none_over m) block.items s.arities
-
 pub kept_over : (m : ℕ) (basis : Polys) (steps : Vec (Vec Polys Global) Global)
     → IsWellSized m basis steps → AreOver m (certificate_of basis steps)
 kept_over m basis steps kept = record {
   arities = arities_over m basis.items kept.arities;
-  cofactor_arities = at_place (IsSquare m (vec_len basis)) (λ rows. (i : ℕ)
-      → AllArity m (get_or rows i [])) rows_in [] (block_over m (vec_len basis))
-      (λ i. none_over m) steps.items kept.squares;
+  cofactor_arities = λ b. at_or (AllArity m) (none_over m) _ (at_or (All (AllArity m))
+      (All-nil (AllArity m)) _ blocks b);
 }
+  where
+    blocks : All (All (AllArity m)) (blocks_in steps)
+    blocks = seen_all (IsSquare m (vec_len basis)) (All (AllArity m)) rows_in (λ block s.
+        seen_all (HaveArity m) (AllArity m) polys_in (λ row. arities_over m row.items) block.items
+        s.arities) steps.items kept.squares
 
 -- polynomials with what each has
 record IsListOf (m : ℕ) (ps raws : List (Terms Fraction)) : Type 0 where
@@ -57,9 +48,8 @@ polys_are : (m : ℕ) (ps : Polys) (raws : List (Terms Fraction)) → ArePolysOf
     → IsListOf m (polys_in ps) raws
 polys_are m ps raws h = record {
   same = stands_same m ps.items raws h;
-  polynomials = All-map (IsPolynomial ℚ grevlex m) terms_in ps.items (All-weaker (IsInVariables m)
-      (λ p. IsPolynomial ℚ grevlex m (terms_in p)) (polynomial_over m) ps.items
-      (stands_over m ps.items raws h));
+  polynomials = seen_all (IsInVariables m) (IsPolynomial ℚ grevlex m) terms_in (polynomial_over m)
+      ps.items (stands_over m ps.items raws h);
 }
 
 none_are : (m : ℕ) → IsListOf m [] []
@@ -102,6 +92,20 @@ square m n block raws h = record {
 pub seen_length : {X Y : Type 0} (f : X → Y) (v : Vec X Global) → length (map f v.items) ≡ vec_len v
 seen_length f v = length-map v.items f ∙ sym v.ok.0
 
+pub record AreSquare (n : ℕ) (blocks : List (List (List (Terms Fraction)))) : Type 0 where
+  pub heights : All (λ rows. length rows ≡ n) blocks
+  pub widths : All (All (λ row. length row ≡ n)) blocks
+
+pub are_square : (m n : ℕ) (steps : Vec (Vec Polys Global) Global) → All (IsSquare m n) steps.items
+    → AreSquare n (blocks_in steps)
+are_square m n steps squares = record {
+  heights = seen_all (IsSquare m n) (λ rows. length rows ≡ n) rows_in (λ block s.
+      seen_length polys_in block ∙ s.height) steps.items squares;
+  widths = seen_all (IsSquare m n) (All (λ row. length row ≡ n)) rows_in (λ block s.
+      seen_all (λ row. vec_len row ≡ n) (λ row. length row ≡ n) polys_in (λ row w.
+      seen_length terms_in row ∙ w) block.items s.widths) steps.items squares;
+}
+
 pub resized : {m k n branches : ℕ} {steps : Vec (Vec Polys Global) Global}
     {raws : List (List (List (Terms Fraction)))} → k ≡ n → AreStepsOf m k branches steps raws
     → AreStepsOf m n branches steps raws
@@ -125,19 +129,9 @@ module _ (m branches : ℕ) (basis : Polys) (raws : List (Terms Fraction))
         (square m (vec_len basis)) steps.items raw_steps blocks.alike;
   }
 
-  row_width : (row : Polys) → vec_len row ≡ vec_len basis
-      → length (polys_in row) ≡ length (polys_in basis)
-  row_width row width = seen_length terms_in row ∙ width ∙ sym (seen_length terms_in basis)
-
-  block_height : (block : Vec Polys Global) → IsSquare m (vec_len basis) block
-      → length (rows_in block) ≡ length (polys_in basis)
-  block_height block s = seen_length polys_in block ∙ s.height ∙ sym (seen_length terms_in basis)
-
-  block_widths : (block : Vec Polys Global) → IsSquare m (vec_len basis) block
-      → All (λ row. length row ≡ length (polys_in basis)) (rows_in block)
-  block_widths block s = All-map (λ row. length row ≡ length (polys_in basis)) polys_in block.items
-      (All-weaker (λ row. vec_len row ≡ vec_len basis) (λ row. length (polys_in row)
-      ≡ length (polys_in basis)) row_width block.items s.widths)
+  square_steps : AreSquare (length (polys_in basis)) (blocks_in steps)
+  square_steps = subst (λ n. AreSquare n (blocks_in steps)) (sym (seen_length terms_in basis))
+      (are_square m (vec_len basis) steps kept.squares)
 
   pub cert_is : IsCertOf m branches (record { arity = m; certificate = certificate_of basis steps })
       (record { basis = raws; steps = raw_steps })
@@ -155,13 +149,8 @@ module _ (m branches : ℕ) (basis : Polys) (raws : List (Terms Fraction))
       elements = list.polynomials;
       cofactors = λ b i. ((table b).at i).polynomials;
       count = seen_length rows_in steps ∙ blocks.count;
-      heights = All-map (λ rows. length rows ≡ length (polys_in basis)) rows_in steps.items
-          (All-weaker (IsSquare m (vec_len basis)) (λ block. length (rows_in block)
-          ≡ length (polys_in basis)) block_height steps.items kept.squares);
-      widths = All-map (All (λ row. length row ≡ length (polys_in basis))) rows_in steps.items
-          (All-weaker (IsSquare m (vec_len basis)) (λ block.
-          All (λ row. length row ≡ length (polys_in basis)) (rows_in block)) block_widths
-          steps.items kept.squares);
+      heights = square_steps.heights;
+      widths = square_steps.widths;
     };
   }
 

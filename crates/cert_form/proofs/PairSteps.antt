@@ -1,28 +1,29 @@
 -- A row of cofactors, read from pairs one after another.
 --   PairsSoFar names n path vs i found   of the values vs, those before place i were read as found, with zeros at the other positions
 --   pairs_start, pairs_more              the steps of such a loop
+--   IsFilled m old found k     whatever old is read as, found is read as it and k zeros behind it
 --   zeros_start, zeros_more              more zeros behind others
 use Rattle.std.proofs.Common.{◌≡◌, ℕ, suc, ◌+◌, ◌-◌, ◌<◌, ◌≤◌, List, [], ◌∷◌, ◌++◌, length, get_or, drop, refl, sym, ap, ap₂, subst, ◌∙◌, append_assoc, add-one, arith}
-use Rattle.std.proofs.Math.Seq.{drop-cons}
 use Rattle.std.proofs.lemmas.List.{append-nil, replicate_more}
 use Rattle.std.specs.Prelude.{vec_len}
-use Rattle.std.specs.List.{AllZip}
 use Rattle.serde_json.specs.View.{view, items_view}
 use Rattle.serde_json.specs.declared.value.Value.{Value}
 use Rattle.algebra.specs.Fraction.{Fraction, ℚ}
 use Rattle.polynomials.specs.Terms.{Terms, Same}
 use Rattle.polynomials.proofs.Same.{Same-refl}
 use Rattle.poly.specs.Seen.{terms_in}
-use Rattle.poly.specs.Standing.{StandsFor}
+use Rattle.poly.specs.Standing.{StandsFor, AllStandFor}
+use Rattle.poly.proofs.Standing.{stands_push}
 use Rattle.loop_model.specs.FracPoly.{FracPoly}
 use Rattle.cert_form.specs.Form.{Reading, on, after, part, pair_at, zeros, filled_row}
 use Rattle.cert_form.specs.Faults.{IsRead}
 use Rattle.cert_form.specs.Cert.{Polys, ArePolysOf, IsPairOf}
-use Rattle.cert_form.proofs.Each.{after-after, after-nil}
-use Rattle.cert_form.proofs.Zip.{zip_push}
+use Rattle.cert_form.proofs.Each.{after-after, after-nil, drop_one}
 
-abbrev Zipped : ℕ → List FracPoly → List (Terms Fraction) → Type 0
-Zipped m ps raws = AllZip (StandsFor m) ps raws
+-- so many zeros behind what was found
+abbrev pub IsFilled : ℕ → Polys → Polys → ℕ → Type 0
+IsFilled m old found k = (raws : List (Terms Fraction)) → ArePolysOf m old raws
+    → ArePolysOf m found (raws ++ zeros k)
 
 pub record PairsSoFar (names : List (List ℕ)) (n : ℕ) (path : List ℕ) (vs : List Value) (i : ℕ)
     (found : Polys) : Type 0 where
@@ -37,7 +38,7 @@ module _ (names : List (List ℕ)) (n : ℕ) (path : List ℕ) (vs : List Value)
       → PairsSoFar names n path vs 0 found
   pairs_start found none nothing = record {
     raws = [];
-    alike = subst (λ ps. Zipped (length names) ps []) (sym none) tt;
+    alike = subst (λ ps. AllStandFor (length names) ps []) (sym none) tt;
     within = omega (arith, nothing);
     rest = after-nil (filled_row names n path 0 0 (items_view vs))
         ∙ ap (λ k. after [] (filled_row names n path k 0 (items_view vs))) (sym nothing);
@@ -46,9 +47,6 @@ module _ (names : List (List ℕ)) (n : ℕ) (path : List ℕ) (vs : List Value)
   module _ (i least : ℕ) (here : List ℕ) (v : Value) (found : Polys) (next_is : least
       ≡ vec_len found) (lt : i < length vs) (is : v ≡ get_or vs i v) (at : here ≡ part path i)
       (before : PairsSoFar names n path vs i found) where
-    one : drop i vs ≡ v ∷ drop (suc i) vs
-    one = drop-cons vs i v lt ∙ ap (λ x. x ∷ drop (suc i) vs) (sym is)
-
     abbrev goes_on : ℕ × Terms Fraction → Reading (List (Terms Fraction))
     goes_on pair = after (zeros (pair.0 - vec_len found) ++ pair.1 ∷ [])
         (filled_row names n path (suc pair.0) (suc i) (items_view (drop (suc i) vs)))
@@ -57,15 +55,14 @@ module _ (names : List (List ℕ)) (n : ℕ) (path : List ℕ) (vs : List Value)
         (on goes_on (pair_at names least n here (view v)))
     opened = before.rest
         ∙ ap (λ xs. after before.raws (filled_row names n path (vec_len found) i (items_view xs)))
-        one
+        (drop_one vs i lt is)
         ∙ ap₂ (λ k p. after before.raws (on goes_on (pair_at names k n p (view v)))) (sym next_is)
         (sym at)
 
     pub pairs_more : (m : ℕ) (pair : ℕ × FracPoly) (filled next : Polys) → m ≡ length names
         → IsRead (IsPairOf (length names)) pair (pair_at names least n here (view v)) → pair.0 < n
         → vec_len filled ≡ pair.0
-        → ((raws : List (Terms Fraction)) → ArePolysOf m found raws
-        → ArePolysOf m filled (raws ++ zeros (pair.0 - vec_len found)))
+        → IsFilled m found filled (pair.0 - vec_len found)
         → next.items ≡ filled.items ++ pair.1 ∷ [] → vec_len next ≡ vec_len filled + 1
         → PairsSoFar names n path vs (i + 1) next
     pairs_more m pair filled next over right below long zeroed more longer =
@@ -77,22 +74,19 @@ module _ (names : List (List ℕ)) (n : ℕ) (path : List ℕ) (vs : List Value)
         let joined : filled_row names n path 0 0 (items_view vs) ≡ after raws rest =
         opened ∙ ap (λ r. after before.raws (on goes_on r)) right.is
         ∙ after-after before.raws (zeros (raw.0 - vec_len found) ++ raw.1 ∷ []) rest in
-        let zeros_alike : Zipped (length names) filled.items
+        let zeros_alike : AllStandFor (length names) filled.items
         (before.raws ++ zeros (raw.0 - vec_len found)) =
-        subst (λ k. Zipped (length names) filled.items (before.raws ++ zeros (k - vec_len found)))
+        subst (λ k. AllStandFor (length names) filled.items
+        (before.raws ++ zeros (k - vec_len found)))
         right.alike.position
-        (subst (λ k. Zipped k filled.items (before.raws ++ zeros (pair.0 - vec_len found))) over
-        (zeroed before.raws (subst (λ k. Zipped k found.items before.raws) (sym over)
-        before.alike))) in
-        let pushed : Zipped (length names) (filled.items ++ pair.1 ∷ [])
-        ((before.raws ++ zeros (raw.0 - vec_len found)) ++ raw.1 ∷ []) =
-        zip_push (StandsFor (length names)) filled.items
-        (before.raws ++ zeros (raw.0 - vec_len found)) pair.1 raw.1 zeros_alike
+        (subst (λ k. IsFilled k found filled (pair.0 - vec_len found)) over zeroed before.raws
+        before.alike) in
+        let pushed = stands_push (length names) filled.items _ pair.1 raw.1 zeros_alike
         right.alike.alike in
         record {
           raws = raws;
-          alike = subst (λ ps. Zipped (length names) ps raws) (sym more)
-              (subst (Zipped (length names) (filled.items ++ pair.1 ∷ []))
+          alike = subst (λ ps. AllStandFor (length names) ps raws) (sym more)
+              (subst (AllStandFor (length names) (filled.items ++ pair.1 ∷ []))
               (append_assoc before.raws (zeros (raw.0 - vec_len found)) (raw.1 ∷ [])) pushed);
           within = omega (arith, longer, long, below);
           rest = joined
@@ -106,8 +100,7 @@ module _ (names : List (List ℕ)) (n : ℕ) (path : List ℕ) (vs : List Value)
 -- ---- zeros behind others
 
 abbrev pub Zeroed : ℕ → Polys → Polys → Type 0
-Zeroed m old found = (raws : List (Terms Fraction)) → ArePolysOf m old raws
-    → ArePolysOf m found (raws ++ zeros (vec_len found - vec_len old))
+Zeroed m old found = IsFilled m old found (vec_len found - vec_len old)
 
 pub zeros_start : (m : ℕ) (found : Polys) → Zeroed m found found
 zeros_start m found = λ raws h. subst (ArePolysOf m found) (sym (ap (λ k. raws ++ zeros k) none
@@ -133,6 +126,6 @@ zeros_more m old found next z before from zero more longer = λ raws h.
     ap (λ j. raws ++ zeros j) many
     ∙ ap (λ ps. raws ++ ps) (sym (replicate_more {X = Terms Fraction} k []))
     ∙ sym (append_assoc raws (zeros k) ([] ∷ [])) in
-    subst (λ ps. Zipped m ps (raws ++ zeros (vec_len next - vec_len old))) (sym more)
-    (subst (Zipped m (found.items ++ z ∷ [])) (sym last) (zip_push (StandsFor m) found.items
-    (raws ++ zeros k) z [] (before raws h) zero))
+    subst (λ ps. AllStandFor m ps (raws ++ zeros (vec_len next - vec_len old))) (sym more)
+    (subst (AllStandFor m (found.items ++ z ∷ [])) (sym last)
+    (stands_push m found.items (raws ++ zeros k) z [] (before raws h) zero))

@@ -1,21 +1,22 @@
 -- What is written is read as the certificate that was written.
 --   document_reads     of the value of a certificate;  text_reads: of a text that is read as this value
---   count_items        how many items a list has;  the_texts: texts are listed as themselves
+--   count_made, with_count, few_enough     how many items a list has, and that these are as many as they must
+--   the_texts          texts are listed as themselves
 --   told_so            the same bytes for as many branches are read as the same certificate
 --   without_blanks     what is read whatever blanks stand behind it is read without
---   same_again         two certificates that one text is read as are the same
+--   all_same_trans     lists of the same polynomials;  same_again: two certificates that one text is read as are the same
 --   memory_alone       the refusal of a text that is read
 use Rattle.std.proofs.Common.{◌≡◌, ℕ, zero, suc, ◌+◌, ◌-◌, ◌≤◌, ◌<◌, List, [], ◌∷◌, ◌++◌, map, length, get_or, codes, refl, sym, ap, ap₂, subst, ◌∙◌, append_assoc, arith}
-use Rattle.std.specs.Prelude.{All, true, ◌&&◌, if◌then◌else◌, Option, Some, None, Ok, Err, IsSomeAnd}
+use Rattle.std.specs.Prelude.{All, true, ◌&&◌, nat_le, if◌then◌else◌, Option, Some, None, Ok, Err, IsSomeAnd}
 use Rattle.std.specs.Option.{ok_or}
 use Rattle.std.specs.List.{AllZip}
 use Rattle.std.specs.Str.{IsUtf8}
 use Rattle.std.proofs.lemmas.Bool.{eq-eqb, le-leb, lt-ltb}
-use Rattle.std.proofs.lemmas.List.{append-nil, length-map}
+use Rattle.std.proofs.lemmas.List.{append-nil}
 use Rattle.std.proofs.lemmas.List.Elements.{All-nil, All-head, All-tail}
 use Rattle.std.proofs.lemmas.Slice.Zip.{AllZip-long}
 use Rattle.std.proofs.lemmas.Slice.Eq.{bytes_eq-Decides}
-use Rattle.serde_json.specs.Data.{Data, Items, array, number, unsigned, string}
+use Rattle.serde_json.specs.Data.{Data, Items, number, unsigned, string}
 use Rattle.serde_json.specs.View.{items_of}
 use Rattle.serde_json.specs.Read.{read}
 use Rattle.serde_json.proofs.OnLiterals.{serde_json_on_literals}
@@ -35,12 +36,12 @@ use Rattle.poly_text.specs.Flat.{flat_of}
 use Rattle.poly_text.specs.Printed.{polynomial_text}
 use Rattle.cert_form.specs.declared.error.CertError.{CertError}
 use Rattle.cert_form.specs.declared.error.CertError.TheVariants as error
-use Rattle.cert_form.specs.Form.{Fault, shape, polynomial, Reading, on, after, part, each, expect, count, list_with, most_elements, list_within, parts, poly_at, position_in, pair_at, zeros, filled_row, row_at, block_at, are_texts, basis_of, steps_of, parts_of, cert_of, cert_in, ReadsAs}
+use Rattle.cert_form.specs.Form.{Fault, shape, polynomial, Reading, after, part, each, expect, count, list_with, most_elements, parts, poly_at, position_in, zeros, filled_row, row_at, block_at, are_texts, basis_of, steps_of, parts_of, cert_of, cert_in, ReadsAs}
 use Rattle.cert_form.specs.Faults.{IfFault, IsRead}
-use Rattle.cert_form.specs.Written.{poly_data, pair_data, pairs, row_data, block_data, document_of, AreBlanks, IsReadBack, IsReadable}
+use Rattle.cert_form.specs.Written.{poly_data, list_data, pairs, row_data, block_data, document_of, AreBlanks, IsReadBack, IsReadable}
 use Rattle.cert_form.proofs.Zip.{zip_get}
-use Rattle.cert_form.proofs.Documents.{parts_is, cert_in-some}
-use Rattle.cert_form.proofs.Trailing.{gap_of, blanks_read, blanks_utf8}
+use Rattle.cert_form.proofs.Documents.{on_read, parts_as, cert_in-some}
+use Rattle.cert_form.proofs.Trailing.{blanks_read, blanks_utf8}
 
 abbrev Alike : Terms Fraction → Terms Fraction → Type 0
 Alike = Same ℚ
@@ -50,19 +51,22 @@ Rows = List (List (Terms Fraction))
 
 -- ---- lists
 
-pub count_items : (ds : List Data) → count (items_of ds) ≡ length ds
-count_items [] = refl
-count_items (d ∷ ds) = ap suc (count_items ds)
+pub count_made : {A : Type 0} (data_of : A → Data) (us : List A)
+    → count (items_of (map data_of us)) ≡ length us
+count_made data_of [] = refl
+count_made data_of (u ∷ us) = ap suc (count_made data_of us)
 
-has_count : (n : ℕ) (ds : List Data) → length ds ≡ n → list_with n (array (items_of ds))
-    ≡ Some (items_of ds)
-has_count n ds long = ap (λ b. if b then Some (items_of ds) else None) (eq-eqb (count (items_of ds))
-    n (count_items ds ∙ long))
+pub with_count : {A : Type 0} (data_of : A → Data) {n : ℕ} (us : List A) → length us ≡ n
+    → list_with n (list_data data_of us) ≡ Some (items_of (map data_of us))
+with_count data_of {n = n} us long = ap (λ b. if b then Some (items_of (map data_of us)) else None)
+    (eq-eqb (count (items_of (map data_of us))) n (count_made data_of us ∙ long))
 
-few_enough : (ds : List Data) → length ds ≤ most_elements → list_within (array (items_of ds))
-    ≡ Some (items_of ds)
-few_enough ds few = ap (λ b. if b then Some (items_of ds) else None) (le-leb (count (items_of ds))
-    most_elements (subst (λ k. k ≤ most_elements) (sym (count_items ds)) few))
+pub few_enough : {A : Type 0} (data_of : A → Data) (most : ℕ) (us : List A) → length us ≤ most
+    → (if nat_le (count (items_of (map data_of us))) most then Some (items_of (map data_of us))
+    else None) ≡ Some (items_of (map data_of us))
+few_enough data_of most us few = ap (λ b. if b then Some (items_of (map data_of us)) else None)
+    (le-leb (count (items_of (map data_of us))) most (subst (λ k. k ≤ most)
+    (sym (count_made data_of us)) few))
 
 module _ {A B : Type 0} (f : List ℕ → Data → Reading B) (data_of : A → Data) (like : A → B → Type 0)
     (P : A → Type 0) (one : (path : List ℕ) (a : A) → P a
@@ -71,26 +75,21 @@ module _ {A B : Type 0} (f : List ℕ → Data → Reading B) (data_of : A → D
       → IsRead (AllZip like) us (each f path n (items_of (map data_of us)))
   each_reads path n [] h = record { raw = []; is = refl; alike = tt }
   each_reads path n (a ∷ us) h =
-      let first : IsRead like a (f (part path n) (data_of a)) =
-      one (part path n) a (All-head P a us h) in
-      let rest : IsRead (AllZip like) us (each f path (suc n) (items_of (map data_of us))) =
-      each_reads path (suc n) us (All-tail P a us h) in
+      let first = one (part path n) a (All-head P a us h) in
+      let rest = each_reads path (suc n) us (All-tail P a us h) in
       record {
         raw = first.raw ∷ rest.raw;
-        is = ap (on (λ b. after (b ∷ []) (each f path (suc n) (items_of (map data_of us)))))
-            first.is ∙ ap (after (first.raw ∷ [])) rest.is;
+        is = on_read _ first.is ∙ ap (after (first.raw ∷ [])) rest.is;
         alike = (first.alike, rest.alike);
       }
 
   parts_read : (path : List ℕ) (o : Option Items) (us : List A)
       → o ≡ Some (items_of (map data_of us)) → All P us → IsRead (AllZip like) us (parts f path o)
   parts_read path o us some h =
-      let all : IsRead (AllZip like) us (each f path 0 (items_of (map data_of us))) =
-      each_reads path 0 us h in
+      let all = each_reads path 0 us h in
       record {
         raw = all.raw;
-        is = ap (λ x. on (each f path 0) (ok_or x (shape path))) some
-            ∙ all.is;
+        is = on_read _ (ap (λ x. ok_or x (shape path)) some) ∙ all.is;
         alike = all.alike;
       }
 
@@ -132,17 +131,14 @@ module _ (names : List (List ℕ)) where
   one_more_zero zero ps = refl
   one_more_zero (suc z) ps = ap (λ qs. [] ∷ qs) (one_more_zero z ps)
 
-  position_is : (least n k : ℕ) → least ≤ k → k < n → position_in least n (number (unsigned k))
-      ≡ Some k
-  position_is least n k from below = ap (λ b. if b then Some k else None)
+  position_read : (least n k : ℕ) (path : List ℕ) → least ≤ k → k < n
+      → ok_or (position_in least n (number (unsigned k))) (shape path) ≡ Ok k
+  position_read least n k path from below =
+      ap (λ b. ok_or (if b then Some k else None) (shape path))
       (ap₂ (λ x y. x && y) (le-leb least k from) (lt-ltb k n below))
 
-  pair_reads : (least n : ℕ) (path : List ℕ) (k : ℕ) (p q : Terms Fraction) → least ≤ k → k < n
-      → poly_at names path (poly_data names p) ≡ Ok q
-      → pair_at names least n path (pair_data names k p) ≡ Ok (k, q)
-  pair_reads least n path k p q from below is =
-      ap (λ o. on (λ j. on (λ x. Ok (j, x)) (poly_at names path (poly_data names p)))
-      (ok_or o (shape path))) (position_is least n k from below) ∙ ap (on (λ x. Ok (k, x))) is
+  one_further : (k l n : ℕ) → k + suc l ≡ n → suc k + l ≡ n
+  one_further k l n h = omega (arith, h)
 
   module _ (n : ℕ) (path : List ℕ) where
     -- with z zeros left out before position k
@@ -152,21 +148,16 @@ module _ (names : List (List ℕ)) where
         (filled_row names n path least i (items_of (pairs names k row)))
     paired_reads z least k i [] at long h =
         let end : k + 0 ≡ n = long in
-        let left : n - least ≡ z = omega (arith, at, end) in
         record {
           raw = zeros z;
-          is = ap (λ j. Ok (zeros j)) left;
+          is = ap (λ j. Ok (zeros j)) (let left : n - least ≡ z = omega (arith, at, end) in left);
           alike =
               subst (λ ps. AllZip Alike ps (zeros z)) (sym (append-nil (zeros z)))
               (same_rows (zeros z));
         }
     paired_reads z least k i ([] ∷ row) at long h =
-        let later : suc k + length row ≡ n = (let same : k + suc (length row) ≡ n = long in
-        omega (arith, same)) in
-        let rest : IsRead (AllZip Alike) (zeros (suc z) ++ row)
-        (filled_row names n path least i (items_of (pairs names (suc k) row))) =
-        paired_reads (suc z) least (suc k) i row (omega (arith, at)) later
-        (All-tail (IsReadBack names) [] row h) in
+        let rest = paired_reads (suc z) least (suc k) i row (omega (arith, at))
+        (one_further k (length row) n long) (All-tail (IsReadBack names) [] row h) in
         record {
           raw = rest.raw;
           is = rest.is;
@@ -174,25 +165,15 @@ module _ (names : List (List ℕ)) where
               (one_more_zero z row) rest.alike;
         }
     paired_reads z least k i ((t ∷ p) ∷ row) at long h =
-        let here : List ℕ = part path i in
-        let later : suc k + length row ≡ n = (let same : k + suc (length row) ≡ n = long in
-        omega (arith, same)) in
-        let first : IsRead Alike (t ∷ p) (poly_at names here (poly_data names (t ∷ p))) =
-        poly_reads here (t ∷ p) (All-head (IsReadBack names) (t ∷ p) row h) in
-        let more : Reading (List (Terms Fraction)) = filled_row names n path (suc k) (suc i)
-        (items_of (pairs names (suc k) row)) in
-        let rest : IsRead (AllZip Alike) row more =
-        paired_reads 0 (suc k) (suc k) (suc i) row (omega arith) later
+        let later = one_further k (length row) n long in
+        let first = poly_reads (part path i) (t ∷ p) (All-head (IsReadBack names) (t ∷ p) row h) in
+        let rest = paired_reads 0 (suc k) (suc k) (suc i) row (omega arith) later
         (All-tail (IsReadBack names) (t ∷ p) row h) in
-        let pair : pair_at names least n here (pair_data names k (t ∷ p)) ≡ Ok (k, first.raw) =
-        pair_reads least n here k (t ∷ p) first.raw (omega (arith, at)) (omega (arith, later))
-        first.is in
         let before : k - least ≡ z = omega (arith, at) in
         record {
           raw = (zeros z ++ first.raw ∷ []) ++ rest.raw;
-          is = ap (on (λ (x : ℕ × Terms Fraction). after (zeros (x.0 - least) ++ x.1 ∷ [])
-              (filled_row names n path (suc x.0) (suc i) (items_of (pairs names (suc k) row)))))
-              pair
+          is = on_read _ (on_read _ (position_read least n k (part path i) (omega (arith, at))
+              (omega (arith, later))) ∙ on_read _ first.is)
               ∙ ap₂ (λ j r. after (zeros j ++ first.raw ∷ []) r) before rest.is;
           alike = subst (AllZip Alike (zeros z ++ (t ∷ p) ∷ row))
               (sym (append_assoc (zeros z) (first.raw ∷ []) rest.raw))
@@ -211,17 +192,13 @@ module _ (names : List (List ℕ)) where
     row_reads : (path : List ℕ) (row : List (Terms Fraction)) → IsRow row
         → IsRead (AllZip Alike) row (row_at names true n path (row_data names row))
     row_reads path row h =
-        let width : length row ≡ n = h.width in
-        let whole : 0 + length row ≡ n = omega (arith, width) in
-        paired_reads n path 0 0 0 0 row refl whole h.read_back
+        let width = h.width in
+        paired_reads n path 0 0 0 0 row refl (omega (arith, width)) h.read_back
 
     block_reads : (path : List ℕ) (rows : Rows) → IsBlock rows
         → IsRead (AllZip (AllZip Alike)) rows (block_at names true n path (block_data names rows))
-    block_reads path rows h =
-        parts_read (row_at names true n) (row_data names) (AllZip Alike) IsRow row_reads path
-        (list_with n (block_data names rows)) rows
-        (has_count n (map (row_data names) rows) (length-map rows (row_data names) ∙ h.height))
-        h.rows_are
+    block_reads path rows h = parts_read (row_at names true n) (row_data names) (AllZip Alike) IsRow
+        row_reads path _ rows (with_count (row_data names) rows h.height) h.rows_are
 
 -- ---- the members of the object
 
@@ -255,11 +232,9 @@ module _ (names : List (List ℕ)) (c : Certificate) (readable : IsReadable name
 
   basis_reads : IsRead (AllZip Alike) c.basis (basis_of names true d)
   unfolding serde_json_on_literals
-  basis_reads =
-      parts_read (poly_at names) (poly_data names) Alike (IsReadBack names) (poly_reads names)
-      (codes "/basis") _ c.basis
-      (few_enough (map (poly_data names) c.basis) (subst (λ k. k ≤ most_elements)
-      (sym (length-map c.basis (poly_data names))) few)) readable.elements
+  basis_reads = parts_read (poly_at names) (poly_data names) Alike (IsReadBack names)
+      (poly_reads names) _ _ c.basis
+      (few_enough (poly_data names) most_elements c.basis few) readable.elements
 
   blocks : All (IsBlock names n) c.steps
   blocks = λ k e within. record {
@@ -272,29 +247,25 @@ module _ (names : List (List ℕ)) (c : Certificate) (readable : IsReadable name
 
   steps_reads : IsRead (AllZip (AllZip (AllZip Alike))) c.steps (steps_of names true branches n d)
   unfolding serde_json_on_literals
-  steps_reads =
-      parts_read (block_at names true n) (block_data names) (AllZip (AllZip Alike))
-      (IsBlock names n) (block_reads names n) (codes "/steps") _ c.steps
-      (has_count branches (map (block_data names) c.steps) (length-map c.steps (block_data names)))
-      blocks
+  steps_reads = parts_read (block_at names true n) (block_data names) (AllZip (AllZip Alike))
+      (IsBlock names n) (block_reads names n) _ _ c.steps
+      (with_count (block_data names) c.steps refl) blocks
 
   document_reads : ReadsAs (cert_of names branches d) c
   document_reads =
       let basis = basis_reads in
       let steps = steps_reads in
+      let block : (b : ℕ) → AllZip (AllZip Alike) (get_or c.steps b []) (get_or steps.raw b []) =
+      zip_get (AllZip (AllZip Alike)) [] [] tt c.steps steps.raw steps.alike in
       record {
         raw = record { basis = basis.raw; steps = steps.raw };
-        is = opened_by ∙ parts_is names true branches n d basis.raw basis.is
-            (AllZip-long Alike c.basis basis.raw basis.alike) steps.raw steps.is;
+        is = opened_by ∙ parts_as names true branches d basis.is
+            (AllZip-long Alike c.basis basis.raw basis.alike) steps.is;
         same = record {
           basis = zip_same c.basis basis.raw basis.alike;
           branches = sym (AllZip-long (AllZip (AllZip Alike)) c.steps steps.raw steps.alike);
-          elements =
-              λ b. sym (AllZip-long (AllZip Alike) (get_or c.steps b []) (get_or steps.raw b [])
-              (zip_get (AllZip (AllZip Alike)) [] [] tt c.steps steps.raw steps.alike b));
-          steps = λ b i. zip_same _ _ (zip_get (AllZip Alike) [] [] tt (get_or c.steps b [])
-              (get_or steps.raw b []) (zip_get (AllZip (AllZip Alike)) [] [] tt c.steps steps.raw
-              steps.alike b) i);
+          elements = λ b. sym (AllZip-long (AllZip Alike) _ _ (block b));
+          steps = λ b i. zip_same _ _ (zip_get (AllZip Alike) [] [] tt _ _ (block b) i);
         };
       }
 
@@ -304,13 +275,11 @@ module _ (names : List (List ℕ)) (c : Certificate) (readable : IsReadable name
       → (blanks : List ℕ) → AreBlanks blanks → ReadsAs (cert_in names branches (text ++ blanks)) c
   text_reads text e is utf8 printed there blanks are =
       let found = document_reads in
-      let gap = gap_of blanks are in
-      let whole : read (text ++ blanks) ≡ Some e = blanks_read blanks gap text printed ∙ there in
       record {
         raw = found.raw;
-        is =
-            sym (cert_in-some names branches (text ++ blanks) e (blanks_utf8 text blanks utf8 gap)
-            whole) ∙ ap (cert_of names branches) is ∙ found.is;
+        is = sym (cert_in-some names branches (text ++ blanks) e (blanks_utf8 text blanks utf8 are)
+            (blanks_read blanks are text printed ∙ there)) ∙ ap (cert_of names branches) is
+            ∙ found.is;
         same = found.same;
       }
 
@@ -322,7 +291,7 @@ without_blanks names branches c text h = subst (λ t. ReadsAs (cert_in names bra
 
 -- ---- read again
 
-all_same_trans : (ps qs rs : List (Terms Fraction)) → AllSame ℚ ps qs → AllSame ℚ qs rs
+pub all_same_trans : (ps qs rs : List (Terms Fraction)) → AllSame ℚ ps qs → AllSame ℚ qs rs
     → AllSame ℚ ps rs
 unfolding AllSame
 all_same_trans [] [] [] h k = tt

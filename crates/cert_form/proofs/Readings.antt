@@ -48,13 +48,13 @@ module _ {A : Type 0} (f : List ℕ → Data → Reading A) (P : A → Type 0) (
   pub each_ok : (path : List ℕ) (n : ℕ) (ds : Items) (xs : List A) → each f path n ds ≡ Ok xs → Q xs
   each_ok path n no_items xs h = let same : [] ≡ xs = cc in subst Q same none
   each_ok path n (item d ds) xs h =
-      let first = on_ok (λ a. after (a ∷ []) (each f path (suc n) ds)) (f (part path n) d) xs h in
+      let first = on_ok _ (f (part path n) d) xs h in
       let behind = after_ok (first.part ∷ []) (each f path (suc n) ds) xs first.gives in
-      subst Q (sym behind.joined) (more first.part behind.rest (sound (part path n) d first.part
-      first.is) (each_ok path (suc n) ds behind.rest behind.is))
+      subst Q (sym behind.joined) (more _ _ (sound _ d _ first.is)
+      (each_ok path (suc n) ds behind.rest behind.is))
 
   pub parts_ok : (path : List ℕ) (ds : Option Items) (xs : List A) → parts f path ds ≡ Ok xs → Q xs
-  parts_ok path ds xs h = let list = on_ok (each f path 0) (ok_or ds (shape path)) xs h in
+  parts_ok path ds xs h = let list = on_ok _ (ok_or ds (shape path)) xs h in
       each_ok path 0 list.part xs list.gives
 
 pub parts_all : {A : Type 0} (f : List ℕ → Data → Reading A) (P : A → Type 0)
@@ -67,7 +67,7 @@ pub each_count : {A : Type 0} (f : List ℕ → Data → Reading A) (path : List
 each_count f path n no_items xs h = let same : [] ≡ xs = cc in
     subst (λ ys. length ys ≡ 0) same refl
 each_count f path n (item d ds) xs h =
-    let first = on_ok (λ a. after (a ∷ []) (each f path (suc n) ds)) (f (part path n) d) xs h in
+    let first = on_ok _ (f (part path n) d) xs h in
     let behind = after_ok (first.part ∷ []) (each f path (suc n) ds) xs first.gives in
     ap length behind.joined ∙ ap suc (each_count f path (suc n) ds behind.rest behind.is)
 
@@ -90,6 +90,6 @@ pub parts_count : {A : Type 0} (f : List ℕ → Data → Reading A) (path : Lis
     (o : Option Items) (xs : List A) → ((ds : Items) → o ≡ Some ds → count ds ≡ n)
     → parts f path o ≡ Ok xs → length xs ≡ n
 parts_count f path n o xs counted h =
-    let list = on_ok (each f path 0) (ok_or o (shape path)) xs h in
+    let list = on_ok _ (ok_or o (shape path)) xs h in
     each_count f path 0 list.part xs list.gives
     ∙ counted list.part (ok_or_ok o (shape path) list.part list.is)

@@ -1,15 +1,15 @@
 -- Blanks behind a document change nothing.
 --   blanks_read      a text that is what its tokens print as is read as the same value with blanks behind it
---   gap_of, blanks_utf8      blanks are what a printer leaves between tokens, and they are characters
-use Rattle.std.proofs.Common.{◌≡◌, ℕ, zero, suc, Bool, true, false, cond, ◌&&◌, List, [], ◌∷◌, ◌++◌, refl, sym, ap, ap₂, ◌∙◌, append_assoc, append-nil, inl, inr, arith}
+--   blanks_utf8      blanks are characters
+use Rattle.std.proofs.Common.{◌≡◌, ℕ, Bool, true, false, cond, ◌&&◌, List, [], ◌∷◌, ◌++◌, refl, sym, ap, ap₂, ◌∙◌, append_assoc, append-nil, inl, inr, arith}
 use Rattle.std.specs.Prelude.{option_and_then}
 use Rattle.std.specs.Str.{IsAscii, IsUtf8}
 use Rattle.std.proofs.lemmas.Str.{IsUtf8-append, IsUtf8-from_ascii}
+use Rattle.std.proofs.lemmas.Str.Ascii.{IsAscii-cons}
 use Rattle.json.specs.Token.{Token, begin_object, end_object, begin_array, end_array, key, string, number, boolean, null, bad}
 use Rattle.json.specs.Word.{ends_word, word}
 use Rattle.json.specs.Lex.{Lexeme, token, comma, colon, string_token, lex, between, fresh, punctuate, tokens}
 use Rattle.json.specs.Print.{escape, quoted, token_text, begins, ends, separator, print_from, print, IsPrintableOrBad, ArePrintableOrBad}
-use Rattle.json.specs.Spaced.{IsGap}
 use Rattle.json.specs.Json as json
 use Rattle.json.proofs.Printed.Strings.{content-escape, lex-escape}
 use Rattle.json.proofs.Printed.Numbers.{lex-number, in_word-ended}
@@ -77,65 +77,55 @@ ends_before (boolean b ∷ ts) g h = refl
 ends_before (null ∷ ts) g h = refl
 ends_before (bad ∷ ts) g h = refl
 
-ends_at_last : (ts : List Token) → ends_word (print_from true ts) ≡ true
-ends_at_last ts = ap ends_word (sym (append-nil (print_from true ts))) ∙ ends_before ts [] refl
+-- the lexemes of tokens, the first behind a value or not
+abbrev lexemes : Bool → List Token → List Lexeme
+lexemes c [] = []
+lexemes c (t ∷ ts) =
+    cond (c && begins t) (comma ∷ []) [] ++ (token_lexemes t ++ lexemes (ends t) ts)
 
-gap_lexed : (g : List ℕ) → IsGap g → lex between g ≡ []
+blanks_lexed : (g : List ℕ) → AreBlanks g → lex between g ≡ []
 unfolding lex
-gap_lexed [] h = refl
-gap_lexed (x ∷ g) (inl e, h) = rw e (gap_lexed g h)
-gap_lexed (x ∷ g) (inr e, h) = rw e (gap_lexed g h)
+blanks_lexed [] h = refl
+blanks_lexed (x ∷ g) (inl e, h) = rw e (blanks_lexed g h)
+blanks_lexed (x ∷ g) (inr e, h) = rw e (blanks_lexed g h)
 
-gap_ends : (g : List ℕ) → IsGap g → ends_word g ≡ true
-gap_ends [] h = refl
-gap_ends (x ∷ g) (inl is, h) = rw is
-gap_ends (x ∷ g) (inr is, h) = rw is
+blanks_end : (g : List ℕ) → AreBlanks g → ends_word g ≡ true
+blanks_end [] h = refl
+blanks_end (x ∷ g) (inl is, h) = rw is
+blanks_end (x ∷ g) (inr is, h) = rw is
 
-module _ (g : List ℕ) (gap : IsGap g) where
-  lexed_behind : (c : Bool) (ts : List Token) → ArePrintableOrBad ts
-      → lex between (print_from c ts ++ g) ≡ lex between (print_from c ts)
+module _ (g : List ℕ) (blanks : AreBlanks g) where
+  lexed : (c : Bool) (ts : List Token) → ArePrintableOrBad ts
+      → lex between (print_from c ts ++ g) ≡ lexemes c ts
   unfolding print_from lex
-  lexed_behind c [] h = gap_lexed g gap
-  lexed_behind c (t ∷ ts) h =
+  lexed c [] h = blanks_lexed g blanks
+  lexed c (t ∷ ts) h =
       let rest : List ℕ = print_from (ends t) ts in
-      let regrouped : (separator c t ++ (token_text t ++ rest)) ++ g ≡ separator c t
-      ++ (token_text t ++ (rest ++ g)) =
-      append_assoc (separator c t) (token_text t ++ rest) g
-      ∙ ap (λ l. separator c t ++ l) (append_assoc (token_text t) rest g) in
-      let before : List Lexeme = cond (c && begins t) (comma ∷ []) [] in
-      let with_gap : lex between (separator c t ++ (token_text t ++ (rest ++ g))) ≡ before
-      ++ (token_lexemes t ++ lex between (rest ++ g)) =
-      lex_separator (c && begins t) (token_text t ++ (rest ++ g))
-      ∙ ap (λ l. before ++ l) (lex_token t (rest ++ g) h.0
-      (λ e. ap (λ b. ends_word (print_from b ts ++ g)) e
-      ∙ ends_before ts g (gap_ends g gap))) in
-      let without : lex between (separator c t ++ (token_text t ++ rest)) ≡ before
-      ++ (token_lexemes t ++ lex between rest) =
-      lex_separator (c && begins t) (token_text t ++ rest)
-      ∙ ap (λ l. before ++ l) (lex_token t rest h.0 (λ e. ap (λ b. ends_word (print_from b ts))
-      e ∙ ends_at_last ts)) in
-      ap (lex between) regrouped ∙ with_gap ∙ ap (λ l. before ++ (token_lexemes t ++ l))
-      (lexed_behind (ends t) ts h.1) ∙ sym without
+      ap (lex between) (append_assoc (separator c t) (token_text t ++ rest) g
+      ∙ ap (λ l. separator c t ++ l) (append_assoc (token_text t) rest g))
+      ∙ lex_separator (c && begins t) (token_text t ++ (rest ++ g))
+      ∙ ap (λ l. cond (c && begins t) (comma ∷ []) [] ++ l)
+      (lex_token t (rest ++ g) h.0 (λ e. ap (λ b. ends_word (print_from b ts ++ g)) e
+      ∙ ends_before ts g (blanks_end g blanks))
+      ∙ ap (λ l. token_lexemes t ++ l) (lexed (ends t) ts h.1))
 
-  pub blanks_read : (text : List ℕ) → text ≡ print (tokens text) → read (text ++ g) ≡ read text
-  blanks_read text printed =
-      let same : lex between (text ++ g) ≡ lex between text =
-      ap (λ s. lex between (s ++ g)) printed
-      ∙ lexed_behind false (tokens text) (ArePrintableOrBad-tokens text)
-      ∙ ap (lex between) (sym printed) in
-      ap (λ ls. option_and_then of_json (option_and_then (λ p. json.if_last p.0 p.1)
-      (json.value max_depth (punctuate fresh ls)))) same
+  text_lexed : (text : List ℕ) → text ≡ print (tokens text)
+      → lex between (text ++ g) ≡ lexemes false (tokens text)
+  text_lexed text printed = ap (λ s. lex between (s ++ g)) printed
+      ∙ lexed false (tokens text) (ArePrintableOrBad-tokens text)
 
-pub gap_of : (g : List ℕ) → AreBlanks g → IsGap g
-gap_of [] h = tt
-gap_of (x ∷ g) h = (h.0, gap_of g h.1)
+pub blanks_read : (g : List ℕ) → AreBlanks g → (text : List ℕ) → text ≡ print (tokens text)
+    → read (text ++ g) ≡ read text
+blanks_read g blanks text printed = ap (λ ls. option_and_then of_json (option_and_then (λ p.
+    json.if_last p.0 p.1) (json.value max_depth (punctuate fresh ls))))
+    (text_lexed g blanks text printed ∙ sym (text_lexed [] tt text printed)
+    ∙ ap (lex between) (append-nil text))
 
-ascii_gap : (g : List ℕ) → IsGap g → IsAscii g
-ascii_gap [] h i = omega arith
-ascii_gap (x ∷ g) (inl e, h) zero = omega (arith, e)
-ascii_gap (x ∷ g) (inr e, h) zero = omega (arith, e)
-ascii_gap (x ∷ g) (inl e, h) (suc i) = ascii_gap g h i
-ascii_gap (x ∷ g) (inr e, h) (suc i) = ascii_gap g h i
+blanks_ascii : (g : List ℕ) → AreBlanks g → IsAscii g
+blanks_ascii [] h = λ i. omega arith
+blanks_ascii (x ∷ g) (inl e, h) = IsAscii-cons x g (omega (arith, e)) (blanks_ascii g h)
+blanks_ascii (x ∷ g) (inr e, h) = IsAscii-cons x g (omega (arith, e)) (blanks_ascii g h)
 
-pub blanks_utf8 : (text g : List ℕ) → IsUtf8 text → IsGap g → IsUtf8 (text ++ g)
-blanks_utf8 text g utf8 gap = IsUtf8-append text g utf8 (IsUtf8-from_ascii g (ascii_gap g gap))
+pub blanks_utf8 : (text g : List ℕ) → IsUtf8 text → AreBlanks g → IsUtf8 (text ++ g)
+blanks_utf8 text g utf8 blanks = IsUtf8-append text g utf8 (IsUtf8-from_ascii g
+    (blanks_ascii g blanks))

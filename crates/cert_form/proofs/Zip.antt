@@ -1,12 +1,24 @@
 -- What lists have in common that are tied place by place.
 --   zip_push           such lists grow at the end
+--   seen_all           what is seen of each of some, from what each has
+--   at_or              what stands at a place, also past the end
 --   all_from_left      what each element on the left has
 --   zip_get            what two elements at one place are tied by, where those past the end are
 --   zip_at             what two elements at one place have, where those past the end have it
 use Rattle.std.proofs.Common.{ℕ, zero, suc, List, [], ◌∷◌, ◌++◌, get_or, map}
 use Rattle.std.specs.Prelude.{All}
 use Rattle.std.specs.List.{AllZip}
-use Rattle.std.proofs.lemmas.List.Elements.{All-nil, All-cons}
+use Rattle.std.proofs.lemmas.List.Elements.{All-nil, All-cons, All-head, All-tail, All-map, All-weaker}
+
+pub seen_all : {A B : Type 0} (P : A → Type 0) (Q : B → Type 0) (see : A → B)
+    → ((a : A) → P a → Q (see a)) → (xs : List A) → All P xs → All Q (map see xs)
+seen_all P Q see has xs h = All-map Q see xs (All-weaker P (λ a. Q (see a)) has xs h)
+
+pub at_or : {A : Type 0} (P : A → Type 0) {d : A} → P d → (xs : List A) → All P xs → (k : ℕ)
+    → P (get_or xs k d)
+at_or P past [] h k = past
+at_or P past (x ∷ xs) h zero = All-head P x xs h
+at_or P past (x ∷ xs) h (suc k) = at_or P past xs (All-tail P x xs h) k
 
 module _ {A B : Type 0} (like : A → B → Type 0) where
   pub zip_push : (xs : List A) (ys : List B) (x : A) (y : B) → AllZip like xs ys → like x y

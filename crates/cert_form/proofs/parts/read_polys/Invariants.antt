@@ -1,4 +1,4 @@
-use Rattle.std.proofs.Common.{◌≡◌, length, vec_len}
+use Rattle.std.proofs.Common.{length}
 use Rattle.cert_form.specs.Form.{poly_at}
 use Rattle.poly.specs.Standing.{StandsFor}
 use Rattle.cert_form.specs.Path.{path_bytes}
@@ -6,8 +6,5 @@ use Rattle.cert_form.proofs.Each.{ReadSoFar}
 use Rattle.cert_form.proofs.parts.read_polys.Given as goal
 
 abbrev pub invariant-loop-i : goal.invariant-loop-i
-invariant-loop-i l = record {
-  count : vec_len l.found ≡ l.i;
-  so_far : ReadSoFar (StandsFor (length l.names)) (poly_at l.names) (path_bytes l.path) l.list l.i
-      l.found.items;
-}
+invariant-loop-i l =
+    ReadSoFar (StandsFor (length l.names)) (poly_at l.names) (path_bytes l.path) l.list l.i l.found

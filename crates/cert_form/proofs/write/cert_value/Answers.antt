@@ -1,15 +1,21 @@
-use Rattle.std.proofs.Common.{length}
+use Rattle.std.proofs.Common.{All, sym, subst}
+use Rattle.std.proofs.lemmas.List.Elements.{All-weaker}
 use Rattle.std.proofs.lemmas.Result.{IfOk-weaker}
-use Rattle.cert_form.proofs.Writable.{rows_over, blocks_over, document_is}
+use Rattle.cert_form.specs.Cert.{HaveArity, IsSquare}
+use Rattle.cert_form.proofs.Writable.{document_is}
 use Rattle.cert_form.proofs.write.cert_value.Goals as goal
 
 pub basis_value-requires : goal.basis_value-requires
-basis_value-requires c = rows_over c.args.cert.now.arity (length c.args.names.now)
-    c.basis.result.now c.requires c.basis.ensures.arity
+basis_value-requires c =
+    subst (λ n. HaveArity n c.basis.result.now) (sym c.requires) c.basis.ensures.arity
 
 pub steps_value-requires : goal.steps_value-requires
-steps_value-requires c = blocks_over c.args.cert.now.arity (length c.args.names.now) _
-    c.steps.result.now c.requires c.steps.ensures.square
+steps_value-requires c =
+    let steps = c.steps.result.now.items in
+    subst (λ n. All (λ block. All (HaveArity n) block.items) steps) (sym c.requires)
+    (All-weaker (IsSquare c.args.cert.now.arity _) (λ block.
+    All (HaveArity c.args.cert.now.arity) block.items) (λ block s. s.arities) steps
+    c.steps.ensures.square)
 
 pub returns : goal.returns
 returns c =

@@ -1,8 +1,8 @@
 use Rattle.std.proofs.Common.{List, ℕ}
 use Rattle.serde_json.specs.Data.{string}
-use Rattle.cert_form.proofs.Listed.{ListedSoFar, each_one}
+use Rattle.cert_form.proofs.Listed.{WrittenSoFar}
 use Rattle.cert_form.proofs.write.names_value.Given as goal
 
 abbrev pub invariant-loop-index : goal.invariant-loop-index
-invariant-loop-index l = ListedSoFar (each_one string) (λ (t : List ℕ). Unit {0}) l.names l.index
+invariant-loop-index l = WrittenSoFar (λ (t : List ℕ). t) string (λ t. Unit {0}) l.names l.index
     l.texts.items
