@@ -2,23 +2,22 @@
 --   BranchesSoFar     the branches are read as those found, and behind them those from place i on
 --   branches_start, branches_more, branches_fault     the steps of such a loop
 --   branches_none, branches_in     none that were found, and those found and one more, have the variables that they should have
-use Rattle.std.proofs.Common.{◌≡◌, ℕ, suc, ◌+◌, ◌<◌, List, [], ◌∷◌, ◌++◌, Ok, Err, map, length, get_or, drop, sym, ap, subst, ◌∙◌, add-one}
+use Rattle.std.proofs.Common.{◌≡◌, ℕ, suc, ◌+◌, ◌<◌, List, [], ◌∷◌, ◌++◌, Ok, Err, map, length, get_or, drop, sym, ap, ap₂, subst, ◌∙◌, add-one}
 use Rattle.std.specs.Prelude.{Option, Some, None, take}
 use Rattle.std.specs.List.{AllZip}
-use Rattle.std.proofs.Math.Seq.{drop-cons}
-use Rattle.std.proofs.lemmas.List.{map-append}
 use Rattle.serde_json.specs.View.{view, items_view}
 use Rattle.serde_json.specs.declared.value.Value.{Value}
 use Rattle.cert_form.specs.declared.error.CertError.{CertError}
 use Rattle.cert_form.specs.Form.{Reading, on, after, part}
 use Rattle.cert_form.specs.Faults.{IfFault}
-use Rattle.cert_form.proofs.Each.{IfFault-map, after-after, after-nil}
+use Rattle.cert_form.proofs.Each.{after-nil, one_fault, drop_one}
 use Rattle.cert_form.proofs.Zip.{zip_push}
 use Rattle.corollaries.specs.Full.{WrittenForm, BranchStages}
 use Rattle.algebra.proofs.Lists.{take_one}
 use Rattle.task_lists.specs.declared.parts.FullForm.{FullForm}
 use Rattle.task_lists.specs.Images.{IsBranchIn}
 use Rattle.task_lists.specs.declared.parts.FullBranch.{FullBranch}
+use Rattle.full_cert.proofs.Each.{more_seen}
 use Rattle.full_cert.specs.Form.{branch_at, branches_at, given_by}
 
 module _ {A P : Type 0} (see : A → BranchStages) (form : P → WrittenForm) (m before : ℕ)
@@ -37,47 +36,30 @@ module _ {A P : Type 0} (see : A → BranchStages) (form : P → WrittenForm) (m
       ∙ ap (λ xs. after (map see xs) (branches_at m before None (map form fs) path 0
       (items_view vs))) (sym none)
 
-  module _ (so_far : Option ℕ) (i : ℕ) (found : List A) (prior : BranchesSoFar so_far i found) where
-    module _ {here : List ℕ} {v : Value} {p : P} (within : i < length vs) (inside : i < length fs)
-        (is : v ≡ get_or vs i v) (its : p ≡ get_or fs i p) (at : here ≡ part path i) where
-      abbrev behind : BranchStages → Reading (List BranchStages)
-      behind s = branches_at m before (Some (given_by s)) (map form (drop (suc i) fs)) path (suc i)
-          (items_view (drop (suc i) vs))
+  module _ (so_far : Option ℕ) (i : ℕ) (found : List A) (prior : BranchesSoFar so_far i found)
+      {here : List ℕ} {v : Value} {p : P} (within : i < length vs) (inside : i < length fs)
+      (is : v ≡ get_or vs i v) (its : p ≡ get_or fs i p) (at : here ≡ part path i) where
+    abbrev behind : BranchStages → Reading (List BranchStages)
+    behind s = branches_at m before (Some (given_by s)) (map form (drop (suc i) fs)) path (suc i)
+        (items_view (drop (suc i) vs))
 
-      one_value : drop i vs ≡ v ∷ drop (suc i) vs
-      one_value = drop-cons vs i v within ∙ ap (λ x. x ∷ drop (suc i) vs) (sym is)
+    first : left so_far i ≡ on (λ s. after (s ∷ []) (behind s))
+        (branch_at m before so_far (form p) here (view v))
+    first = ap₂ (λ ps xs. branches_at m before so_far (map form ps) path i (items_view xs))
+        (drop_one fs i inside its) (drop_one vs i within is)
+        ∙ ap (λ q. on (λ s. after (s ∷ []) (behind s))
+        (branch_at m before so_far (form p) q (view v))) (sym at)
 
-      one_form : drop i fs ≡ p ∷ drop (suc i) fs
-      one_form = drop-cons fs i p inside ∙ ap (λ x. x ∷ drop (suc i) fs) (sym its)
+    pub branches_more : {a : A} {next : List A} {count : ℕ}
+        → branch_at m before so_far (form p) here (view v) ≡ Ok (see a) → next ≡ found ++ a ∷ []
+        → count ≡ given_by (see a) → BranchesSoFar (Some count) (i + 1) next
+    branches_more same more given =
+        rw (given, add-one) (more_seen see found behind _ prior first same more)
 
-      read_as : (r : Reading BranchStages) → branch_at m before so_far (form p) here (view v) ≡ r
-          → branches_at m before None (map form fs) path 0 (items_view vs)
-          ≡ after (map see found) (on (λ s. after (s ∷ []) (behind s)) r)
-      read_as r same =
-          prior
-          ∙ ap (λ xs. after (map see found) (branches_at m before so_far (map form xs) path i
-          (items_view (drop i vs)))) one_form
-          ∙ ap (λ xs. after (map see found) (branches_at m before so_far
-          (form p ∷ map form (drop (suc i) fs)) path i (items_view xs))) one_value
-          ∙ ap (λ q. after (map see found) (on (λ s. after (s ∷ []) (behind s)) q))
-          (ap (λ q. branch_at m before so_far (form p) q (view v)) (sym at) ∙ same)
-
-      pub branches_more : {a : A} {next : List A} {count : ℕ}
-          → branch_at m before so_far (form p) here (view v) ≡ Ok (see a) → next ≡ found ++ a ∷ []
-          → count ≡ given_by (see a) → BranchesSoFar (Some count) (i + 1) next
-      branches_more {a = a} {next = next} {count = count} same more given =
-          read_as (Ok (see a)) same ∙ after-after (map see found) (see a ∷ []) (behind (see a))
-          ∙ ap (λ xs. after xs (behind (see a)))
-          (sym (ap (map see) more ∙ map-append see found (a ∷ [])))
-          ∙ ap (λ c. after (map see next) (branches_at m before (Some c)
-          (map form (drop (suc i) fs)) path (suc i) (items_view (drop (suc i) vs)))) (sym given)
-          ∙ ap (λ n. after (map see next) (branches_at m before (Some count) (map form (drop n fs))
-          path n (items_view (drop n vs)))) (sym (add-one i))
-
-      pub branches_fault : (e : CertError)
-          → IfFault e (λ g. branch_at m before so_far (form p) here (view v) ≡ Err g)
-          → IfFault e (λ g. branches_at m before None (map form fs) path 0 (items_view vs) ≡ Err g)
-      branches_fault e = IfFault-map e (λ g wrong. read_as (Err g) wrong)
+    pub branches_fault : (e : CertError)
+        → IfFault e (λ g. branch_at m before so_far (form p) here (view v) ≡ Err g)
+        → IfFault e (λ g. branches_at m before None (map form fs) path 0 (items_view vs) ≡ Err g)
+    branches_fault = one_fault _ behind _ prior first
 
 pub branches_none : (m : ℕ) (fs : List FullForm) {found : List FullBranch} → found ≡ []
     → AllZip (IsBranchIn m) (take 0 fs) found

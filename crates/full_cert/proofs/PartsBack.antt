@@ -1,13 +1,11 @@
 -- The parts of a full certificate that are written are read as themselves.
 --   IsReadable O m p         a polynomial in descending order that is narrow;  AreReadable, AreRowsReadable: lists of these
 --   IsTable rows n table     so many lists of so many
---   each_back, parts_back, with_count     lists whose elements are read as themselves
+--   each_back, parts_back     lists whose elements are read as themselves
 --   form_reads, start_reads, stage_reads     a form, a start, a stage
-use Rattle.std.proofs.Common.{◌≡◌, ℕ, suc, ◌+◌, ◌≤◌, List, [], ◌∷◌, length, map, refl, sym, ap, subst, ◌∙◌, Ok}
-use Rattle.std.specs.Prelude.{All, if◌then◌else◌, Option, Some, None}
+use Rattle.std.proofs.Common.{◌≡◌, ℕ, suc, ◌+◌, ◌≤◌, List, [], ◌∷◌, length, map, refl, ap, ◌∙◌, Ok}
+use Rattle.std.specs.Prelude.{All, Option, Some}
 use Rattle.std.specs.Option.{ok_or}
-use Rattle.std.proofs.lemmas.Bool.{eq-eqb, le-leb}
-use Rattle.std.proofs.lemmas.List.{length-map}
 use Rattle.std.proofs.lemmas.List.Elements.{All-head, All-tail}
 use Rattle.serde_json.specs.Data.{Data, Items}
 use Rattle.serde_json.specs.View.{items_of}
@@ -19,9 +17,9 @@ use Rattle.polynomials.specs.Terms.{Terms}
 use Rattle.polynomials.proofs.Orders.{grevlex_order}
 use Rattle.solvable_maps.specs.Iterations.{width}
 use Rattle.poly_text.specs.Narrow.{IsNarrow}
-use Rattle.cert_form.specs.Form.{Reading, on, after, part, each, count, list_with, parts, shape}
+use Rattle.cert_form.specs.Form.{Reading, after, part, each, parts, shape}
 use Rattle.cert_form.specs.Written.{list_data}
-use Rattle.cert_form.proofs.ReadingBack.{count_items}
+use Rattle.cert_form.proofs.ReadingBack.{with_count, few_enough}
 use Rattle.full_cert.specs.Raw.{raw_at}
 use Rattle.full_cert.specs.Tables.{raws_at, raws_with, table_at}
 use Rattle.full_cert.specs.RawWritten.{raw_data}
@@ -32,7 +30,7 @@ use Rattle.full_cert.specs.PartsForm.{base_number_at, base_at, form_at, stage_at
 use Rattle.task_lists.specs.Images.{most_bases}
 use Rattle.full_cert.specs.Narrow.{IsNarrowNumber}
 use Rattle.full_cert.specs.Written.{raws_data, rows_data, steps_data, base_number_data, base_data, form_data, start_data, stage_data}
-use Rattle.full_cert.proofs.Rest.{on_read}
+use Rattle.cert_form.proofs.Documents.{on_read}
 use Rattle.full_cert.proofs.NumberBack.{numeral_back}
 use Rattle.full_cert.proofs.TermBack.{raw_back}
 
@@ -47,30 +45,19 @@ abbrev pub AreRowsReadable : Rank → ℕ → List (List (Terms Fraction)) → T
 AreRowsReadable O m rows = All (AreReadable O m) rows
 
 -- ---- lists
-count_made : {A : Type 0} (data_of : A → Data) (us : List A)
-    → count (items_of (map data_of us)) ≡ length us
-count_made data_of us = count_items (map data_of us) ∙ length-map us data_of
-
-pub with_count : {A : Type 0} (data_of : A → Data) (n : ℕ) (us : List A) → length us ≡ n
-    → list_with n (list_data data_of us) ≡ Some (items_of (map data_of us))
-with_count data_of n us long =
-    ap (λ b. if b then Some (items_of (map data_of us)) else None)
-    (eq-eqb (count (items_of (map data_of us))) n (count_made data_of us ∙ long))
-
 module _ {A : Type 0} (f : List ℕ → Data → Reading A) (data_of : A → Data) (P : A → Type 0)
     (one : (path : List ℕ) (a : A) → P a → f path (data_of a) ≡ Ok a) where
   each_back : (path : List ℕ) (n : ℕ) (us : List A) → All P us
       → each f path n (items_of (map data_of us)) ≡ Ok us
   each_back path n [] h = refl
   each_back path n (a ∷ us) h =
-      ap (on (λ b. after (b ∷ []) (each f path (suc n) (items_of (map data_of us)))))
-      (one (part path n) a (All-head P a us h))
+      on_read _ (one (part path n) a (All-head P a us h))
       ∙ ap (after (a ∷ [])) (each_back path (suc n) us (All-tail P a us h))
 
   pub parts_back : (path : List ℕ) (o : Option Items) (us : List A)
       → o ≡ Some (items_of (map data_of us)) → All P us → parts f path o ≡ Ok us
   parts_back path o us some h =
-      ap (λ x. on (each f path 0) (ok_or x (shape path))) some ∙ each_back path 0 us h
+      on_read _ (ap (λ x. ok_or x (shape path)) some) ∙ each_back path 0 us h
 
 -- ---- polynomials
 record IsRow (O : Rank) (m n : ℕ) (row : List (Terms Fraction)) : Type 0 where
@@ -95,13 +82,13 @@ module _ {O : Rank} (m : ℕ) (o : IsMonomialOrder O) where
       → raws_with n O m path (raws_data row) ≡ Ok row
   row_with n path row h =
       parts_back (raw_at O m) raw_data (IsReadable O m) poly_back path _ row
-      (with_count raw_data n row h.width) h.are
+      (with_count raw_data row h.width) h.are
 
   pub table_back : {rows n : ℕ} (path : List ℕ) (table : List (List (Terms Fraction)))
       → IsTable O m rows n table → table_at rows n O m path (Some (rows_data table)) ≡ Ok table
   table_back {rows = rows} {n = n} path table h =
       parts_back (raws_with n O m) raws_data (IsRow O m n) (row_with n) path _ table
-      (with_count raws_data rows table h.height)
+      (with_count raws_data table h.height)
       (λ i d l. record { width = h.widths i d l; are = h.are i d l })
 
 -- ---- forms
@@ -109,9 +96,7 @@ base_reads : (path : List ℕ) (base : List ℕ) → length base ≤ most_bases 
     → base_at path (Some (base_data base)) ≡ Ok base
 base_reads path base short narrow = parts_back base_number_at base_number_data IsNarrowNumber
     (λ here n small. ap (λ x. ok_or x (shape here)) (numeral_back n small)) path _ base
-    (ap (λ b. if b then Some (items_of (map base_number_data base)) else None)
-    (le-leb (count (items_of (map base_number_data base))) most_bases
-    (subst (λ k. k ≤ most_bases) (sym (count_made base_number_data base)) short))) narrow
+    (few_enough base_number_data most_bases base short) narrow
 
 pub record IsFormReadable (m : ℕ) (f : WrittenForm) : Type 0 where
   pub few : length f.base ≤ most_bases
@@ -167,11 +152,11 @@ pub steps_read : (m n branches : ℕ) (path : List ℕ) (steps : List (List (Lis
 steps_read m n branches path steps many are =
     parts_back (block_at m n) rows_data (IsTable grevlex m n n)
     (table_back m grevlex_order) path _ steps
-    (with_count rows_data branches steps many) are
+    (with_count rows_data steps many) are
 
 pub forms_read : (m branches : ℕ) (path : List ℕ) (forms : List WrittenForm)
     → length forms ≡ branches → All (IsFormReadable m) forms
     → forms_at m branches path (Some (list_data form_data forms)) ≡ Ok forms
 forms_read m branches path forms many are =
     parts_back (form_at m) form_data (IsFormReadable m) (form_reads m) path _ forms
-    (with_count form_data branches forms many) are
+    (with_count form_data forms many) are

@@ -1,5 +1,4 @@
 -- Readings of members, one behind another.
---   on_read         what is left behind a part that was read
 --   member_as       a member is read as what stands at its path
 --   table_as        so is a list of lists, where there are as many of all
 --   BeginsWith      the first parts of a full certificate are read as these
@@ -12,14 +11,11 @@ use Rattle.algebra.specs.Fraction.{Fraction}
 use Rattle.polynomials.specs.Order.{Rank, grevlex}
 use Rattle.polynomials.specs.Terms.{Terms}
 use Rattle.loops.specs.Program.{Expr, Program}
-use Rattle.cert_form.specs.Form.{Reading, on, expect}
+use Rattle.cert_form.specs.Form.{Reading, expect}
 use Rattle.cert_form.specs.Path.{member_path}
 use Rattle.corollaries.specs.Full.{WrittenForm}
 use Rattle.full_cert.specs.Tables.{raws_at, table_at}
 use Rattle.full_cert.specs.PartsForm.{object_at, member_by, steps_at, forms_at}
-
-pub on_read : {A B : Type 0} (f : A → Reading B) {r : Reading A} {a : A} → r ≡ Ok a → on f r ≡ f a
-on_read f h = ap (on f) h
 
 pub member_as : {A : Type 0} (f : List ℕ → Option Data → Reading A) (path name : List ℕ) (d : Data)
     {p : List ℕ} {o : Option Data} {r : Reading A} → p ≡ member_path path name → o ≡ get name d

@@ -12,18 +12,19 @@ use Rattle.polynomials.specs.Order.{IsMonomialOrder, grevlex}
 use Rattle.polynomials.proofs.Orders.{grevlex_order, blocks_order}
 use Rattle.loops.specs.Program.{Expr, Program}
 use Rattle.rounds.specs.Form.{front}
-use Rattle.cert_form.specs.Form.{Reading, on, after, part, shape}
+use Rattle.cert_form.specs.Form.{Reading, after, part, shape}
 use Rattle.cert_form.specs.Path.{member_path}
 use Rattle.cert_form.specs.Written.{list_data}
 use Rattle.corollaries.specs.Stage.{Stage, block_order}
 use Rattle.corollaries.specs.Full.{FullCertificate, WrittenForm, BranchStages, orbit, meet, form_of, stage_of, front_of, of_option, so_far, before}
 use Rattle.corollaries.specs.Counts.{IsStageCounted, no_branch, IsCounted}
-use Rattle.full_cert.specs.PartsForm.{object_at, stage_at}
+use Rattle.full_cert.specs.PartsForm.{object_at}
 use Rattle.full_cert.specs.Form.{member_stage, meet_at, branch_at, given_by, branches_at, last_given, rounds_at, rounds_in}
 use Rattle.full_cert.proofs.Counted.{no_form, AreBranches, as_many, AreRounds, last_of, orbit_begins, meet_begins}
 use Rattle.full_cert.specs.Written.{stage_data, with_meet, branch_data, round_data}
-use Rattle.full_cert.proofs.Rest.{on_read}
-use Rattle.full_cert.proofs.PartsBack.{IsStageReadable, stage_reads, with_count}
+use Rattle.cert_form.proofs.Documents.{on_read}
+use Rattle.cert_form.proofs.ReadingBack.{with_count}
+use Rattle.full_cert.proofs.PartsBack.{IsStageReadable, stage_reads}
 
 block_is_order : (k : ℕ) → IsMonomialOrder (block_order k)
 block_is_order k = blocks_order k grevlex grevlex grevlex_order grevlex_order
@@ -54,8 +55,7 @@ member_reads : (k m n : ℕ) (path name : List ℕ) (d : Data) (s : Stage)
     → get name d ≡ Some (stage_data s) → IsStageReadable k m s → IsStageCounted k n s
     → member_stage k m n path name d ≡ Ok s
 member_reads k m n path name d s there h c =
-    ap (λ x. on (stage_at k m n (member_path path name)) (ok_or x (shape (member_path path name))))
-    there
+    on_read _ (ap (λ x. ok_or x (shape (member_path path name))) there)
     ∙ stage_reads k m n (member_path path name) s (block_is_order k) h c
 
 an_object : (o : Option Stage) (d : Data) (path : List ℕ) (r : Reading BranchStages)
@@ -98,8 +98,7 @@ branches_read m before so_far [] path b [] h = refl
 branches_read m before so_far [] path b (s ∷ ss) h = absurd h
 branches_read m before so_far (f ∷ fs) path b [] h = absurd h
 branches_read m before so_far (f ∷ fs) path b (s ∷ ss) h =
-    ap (on (λ x. after (x ∷ []) (branches_at m before (Some (given_by x)) fs path (suc b)
-    (items_of (map branch_data ss))))) (branch_reads m before so_far f (part path b) s h.0)
+    on_read _ (branch_reads m before so_far f (part path b) s h.0)
     ∙ ap (after (s ∷ []))
     (branches_read m before (Some (given_by s)) fs path (suc b) ss h.1)
 
@@ -108,10 +107,8 @@ each_round_reads : (m before : ℕ) (fs : List WrittenForm) (path : List ℕ) (r
     → rounds_at m before fs path r (items_of (map round_data rows)) ≡ Ok rows
 each_round_reads m before fs path r [] h = refl
 each_round_reads m before fs path r (row ∷ rows) h =
-    ap (on (λ x. after (x ∷ []) (rounds_at m (last_given before x) fs path (suc r)
-    (items_of (map round_data rows)))))
-    (ap (λ o. on (branches_at m before None fs (part path r) 0) (ok_or o (shape (part path r))))
-    (with_count branch_data (length fs) row (as_many (IsBranchReadable m before) None fs row h.0))
+    on_read _ (on_read _ (ap (λ o. ok_or o (shape (part path r)))
+    (with_count branch_data row (as_many (IsBranchReadable m before) None fs row h.0)))
     ∙ branches_read m before None fs (part path r) 0 row h.0)
     ∙ ap (after (row ∷ []))
     (each_round_reads m (last_given before row) fs path (suc r) rows h.1)

@@ -18,7 +18,7 @@ use Rattle.corollaries.specs.Counts.{IsCounted}
 use Rattle.full_cert.specs.Form.{parts_of, full_value}
 use Rattle.full_cert.specs.Narrow.{IsNarrowNumber}
 use Rattle.full_cert.specs.Written.{full_data}
-use Rattle.full_cert.proofs.Rest.{on_read}
+use Rattle.cert_form.proofs.Documents.{on_read}
 use Rattle.full_cert.proofs.PartsBack.{AreReadable, AreRowsReadable, raws_back, steps_read, forms_read, start_reads}
 use Rattle.full_cert.proofs.RoundsBack.{AreStagesReadable, rounds_read}
 

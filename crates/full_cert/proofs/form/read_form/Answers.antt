@@ -17,7 +17,8 @@ use Rattle.cert_form.proofs.Each.{IfFault-map, passed}
 use Rattle.cert_form.proofs.Paths.{member_is}
 use Rattle.full_cert.specs.Tables.{row_at}
 use Rattle.full_cert.specs.PartsForm.{member_by, base_at, polys_at, form_at}
-use Rattle.full_cert.proofs.Rest.{on_read, member_as, object_there}
+use Rattle.cert_form.proofs.Documents.{on_read}
+use Rattle.full_cert.proofs.Rest.{member_as, object_there}
 use Rattle.full_cert.proofs.form.read_form.Goals as goal
 use Rattle.full_cert.proofs.form.read_form.Goals.{In_ok-base}
 

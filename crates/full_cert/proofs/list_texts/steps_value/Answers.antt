@@ -1,20 +1,15 @@
-use Rattle.full_cert.specs.Seen.{block_of}
-use Rattle.full_cert.specs.Narrow.{AreRowsNarrow}
-use Rattle.full_cert.specs.Written.{rows_data}
 use Rattle.std.proofs.Common.{refl}
-use Rattle.cert_form.proofs.Listed.{listed_start, listed_more, listed_all, pushed, list_is}
+use Rattle.cert_form.proofs.Listed.{written_start, written_more, written_all}
 use Rattle.full_cert.proofs.list_texts.steps_value.Goals as goal
 
 pub loop-element-init : goal.loop-element-init
-loop-element-init c = listed_start c.new-values.ensures.items
+loop-element-init c = written_start c.new-values.ensures.items
 
 pub loop-element-preserved : goal.loop-element-preserved
 loop-element-preserved c =
-    let there = rw (c.deref.ensures.value) at c.in_ok-rows_value.ensures in
-    listed_more refl c.loop-element.invariant c.loop-element-test.true c.element-item.is
-    (pushed _ _ _ _ c.in_ok-push.ensures.items there.value) there.holds
+    let written = rw (c.deref.ensures.value) at c.in_ok-rows_value.ensures in
+    written_more refl c.loop-element.invariant c.loop-element-test.true c.element-item.is written
+    c.in_ok-push.ensures.items
 
 pub returns : goal.returns
-returns c =
-    list_is block_of rows_data AreRowsNarrow
-    (listed_all refl c.loop-element.invariant c.loop-element-test.false) c.from.ensures
+returns c = written_all refl c.loop-element.invariant c.loop-element-test.false c.from.ensures

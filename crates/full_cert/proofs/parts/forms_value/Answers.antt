@@ -1,20 +1,13 @@
-use Rattle.task_lists.specs.View.{form_in}
-use Rattle.full_cert.specs.Narrow.{IsFormNarrow}
-use Rattle.full_cert.specs.Written.{form_data}
 use Rattle.std.proofs.Common.{refl}
-use Rattle.cert_form.proofs.Listed.{listed_start, listed_more, listed_all, pushed, list_is}
+use Rattle.cert_form.proofs.Listed.{written_start, written_more, written_all}
 use Rattle.full_cert.proofs.parts.forms_value.Goals as goal
 
 pub loop-element-init : goal.loop-element-init
-loop-element-init c = listed_start c.new-values.ensures.items
+loop-element-init c = written_start c.new-values.ensures.items
 
 pub loop-element-preserved : goal.loop-element-preserved
-loop-element-preserved c =
-    listed_more refl c.loop-element.invariant c.loop-element-test.true c.element-item.is
-    (pushed _ _ _ _ c.in_ok-push.ensures.items c.in_ok-form_value.ensures.value)
-    c.in_ok-form_value.ensures.holds
+loop-element-preserved c = written_more refl c.loop-element.invariant c.loop-element-test.true
+    c.element-item.is c.in_ok-form_value.ensures c.in_ok-push.ensures.items
 
 pub returns : goal.returns
-returns c =
-    list_is form_in form_data IsFormNarrow
-    (listed_all refl c.loop-element.invariant c.loop-element-test.false) c.from.ensures
+returns c = written_all refl c.loop-element.invariant c.loop-element-test.false c.from.ensures

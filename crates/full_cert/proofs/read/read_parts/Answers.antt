@@ -15,7 +15,8 @@ use Rattle.full_cert.specs.Tables.{raws_at}
 use Rattle.full_cert.specs.PartsForm.{steps_at, forms_at, start_there}
 use Rattle.full_cert.specs.Form.{rounds_in}
 use Rattle.full_cert.proofs.Documents.{terms_count}
-use Rattle.full_cert.proofs.Rest.{on_read, BeginsWith}
+use Rattle.cert_form.proofs.Documents.{on_read}
+use Rattle.full_cert.proofs.Rest.{BeginsWith}
 use Rattle.full_cert.proofs.read.read_parts.Goals as goal
 use Rattle.full_cert.proofs.read.read_parts.Goals.{In_ok-basis, In_ok-forms, In_ok-start}
 

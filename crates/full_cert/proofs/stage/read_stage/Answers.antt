@@ -14,7 +14,8 @@ use Rattle.task_lists.specs.Rows.{rows_of}
 use Rattle.full_cert.specs.PartsForm.{member_by, stage_at}
 use Rattle.full_cert.specs.Tables.{raws_at, table_at}
 use Rattle.full_cert.proofs.Documents.{terms_count}
-use Rattle.full_cert.proofs.Rest.{on_read, member_as, table_as, object_there}
+use Rattle.cert_form.proofs.Documents.{on_read}
+use Rattle.full_cert.proofs.Rest.{member_as, table_as, object_there}
 use Rattle.full_cert.proofs.stage.read_stage.Goals as goal
 use Rattle.full_cert.proofs.stage.read_stage.Goals.{In_ok-pairs}
 

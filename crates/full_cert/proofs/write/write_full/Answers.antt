@@ -5,7 +5,7 @@ use Rattle.serde_json.specs.Data.{depth}
 use Rattle.serde_json.specs.Read.{max_depth}
 use Rattle.serde_json.specs.Written.{has_float, compact_text}
 use Rattle.cert_form.proofs.Documents.{document_some}
-use Rattle.cert_form.proofs.Trailing.{blanks_read, gap_of, blanks_utf8}
+use Rattle.cert_form.proofs.Trailing.{blanks_read, blanks_utf8}
 use Rattle.task_lists.specs.View.{full_of}
 use Rattle.full_cert.specs.Written.{full_text}
 use Rattle.full_cert.proofs.Plain.{plain}
@@ -22,10 +22,9 @@ pub returns-clause-read : goal.returns-clause-read
 returns-clause-read c = λ blanks are.
     let value = c.in_ok-value.ensures.value in
     let bytes = string_bytes c.in_ok-text.text in
-    let gap = gap_of blanks are in
     document_some (bytes ++ blanks)
-    (blanks_utf8 bytes blanks (IsUtf8-string_bytes c.in_ok-text.text) gap)
-    (blanks_read blanks gap bytes c.in_ok-text.ensures.compact
+    (blanks_utf8 bytes blanks (IsUtf8-string_bytes c.in_ok-text.text) are)
+    (blanks_read blanks are bytes c.in_ok-text.ensures.compact
     ∙ c.in_ok-text.ensures.reads_back (subst (λ d. depth d ≤ max_depth) (sym value)
     (plain c.args.names.now (full_of c.args.cert.now)).within)) ∙ ap Some value
 
