@@ -33,40 +33,43 @@ use Rattle.invariant_fix.specs.declared.refused.LoopError.{LoopError}
 use Rattle.invariant_fix.specs.declared.refused.LoopError.TheVariants as loop_error
 use Rattle.invariant_fix.specs.declared.refused.Refused.{Refused}
 
-abbrev seen_at : List (Vec FracPoly) → ℕ → Vec FracPoly → List (Terms Fraction)
-seen_at bases j d = terms_each (get_or bases j d).items
-
 zero_place : (j : ℕ) → j < 1 → j ≡ 0
 zero_place j k = omega (arith, k)
 
 module _ (c : Chain (Expr ℕ)) (budget : ℕ) where
+  -- the loop at this place is formed and analysed, with this list
+  abbrev Here : ℕ → Vec FracPoly → Type 0
+  Here j v = IsFormed c j × Analysed c budget j (terms_each v.items)
+      × AreOver (length c.first.names) v.items
+      × (length v.items ≤ length c.first.names + copies_to c j + suc j * budget)
+
   -- ---- the first
-  module _ (l : Program (Expr ℕ)) (is : l ≡ c.first) (m : Journal) (limit : m.limit ≡ budget) where
+  module _ {l : Program (Expr ℕ)} (is : l ≡ c.first) (m : Journal) (limit : m.limit ≡ budget) where
     first_here : (gs : List FracPoly) → HasList l None (length l.names) budget m gs
         → HasList c.first None (length c.first.names) budget m gs
     first_here gs h = subst (λ (p : Program (Expr ℕ)). HasList p None (length p.names) budget m gs)
         is h
 
-    module _ (b : Vec FracPoly) (bases : List (Vec FracPoly)) (e : bases ≡ b ∷ [])
+    module _ {b : Vec FracPoly} {bases : List (Vec FracPoly)} (e : bases ≡ b ∷ [])
         (h : HasList l None (length l.names) budget m b.items) where
       pub one_bases : AreFree l → AllHaveForms l → AreBases c budget 1 bases
       unfolding copies_to
       one_bases free forms =
           let here = first_here b.items h in
+          let at : (j : ℕ) (d : Vec FracPoly) → j < 1 → Here j (get_or (b ∷ []) j d) = λ j d k.
+          subst (λ j. Here j (get_or (b ∷ []) j d)) (sym (zero_place j k)) (
+            (subst AreFree is free, subst AllHaveForms is forms),
+            first m.entries here.rounds (terms_each b.items) here.finished here.units,
+            here.over,
+            (let f = here.few in let q : length c.first.names + budget
+                ≤ length c.first.names + 0 + 1 * budget = omega arith in omega (arith, f, q)),
+          ) in
           subst (AreBases c budget 1) (sym e) (record {
             count = refl;
-            formed = λ j k. subst (IsFormed c) (sym (zero_place j k))
-                (subst AreFree is free, subst AllHaveForms is forms);
-            analysed = λ j d k. subst (λ j. Analysed c budget j (seen_at (b ∷ []) j d))
-                (sym (zero_place j k))
-                (first m.entries here.rounds (terms_each b.items) here.finished here.units);
-            over = λ j d k. subst
-                (λ j. AreOver (length c.first.names) (get_or (b ∷ []) j d).items)
-                (sym (zero_place j k)) here.over;
-            few = λ j d k. subst (λ j. length (get_or (b ∷ []) j d).items
-                ≤ length c.first.names + copies_to c j + suc j * budget) (sym (zero_place j k))
-                (let f = here.few in let q : length c.first.names + budget
-                ≤ length c.first.names + 0 + 1 * budget = omega arith in omega (arith, f, q));
+            formed = λ j k. (at j b k).0;
+            analysed = λ j d k. (at j d k).1;
+            over = λ j d k. (at j d k).2;
+            few = λ j d k. (at j d k).3;
           })
 
       pub one_last : IsLast c budget 1 m bases
@@ -101,10 +104,10 @@ module _ (c : Chain (Expr ℕ)) (budget : ℕ) where
     )
     first_refusal error.Memory r = inl (at_start _ r)
 
-    pub refused_first : (r : Refused) (e : AnalyseError)
+    pub refused_first : {r : Refused} {e : AnalyseError}
         → r ≡ record { place = 0; error = loop_error.Analysis e }
         → IsRefused l (empty_journal budget) m e → IsRefusedIn c budget m r
-    refused_first r e same h =
+    refused_first {e = e} same h =
         subst (IsRefusedIn c budget m) (sym same) (record {
           within = omega arith;
           before = λ j k. absurd (omega (arith, k));
@@ -216,50 +219,21 @@ module _ (c : Chain (Expr ℕ)) (budget : ℕ) where
             let z : suc (suc n) * budget ≡ suc n * budget + budget = suc-mul (suc n) budget in
             omega (arith, a, q, z)
 
+        at : (j : ℕ) (x : Vec FracPoly) → (j < suc n) ⊎ (j ≡ suc n) → Here j (get_or more j x)
+        at j x (inl k) = subst (Here j) (sym (old j x k))
+            (known.formed j k, known.analysed j x k, known.over j x k, known.few j x k)
+        at j x (inr z) = subst (λ j. Here j (get_or more j x)) (sym z)
+            (subst (Here (suc n)) (sym (new x)) (h.formed, analysed_here, h.over, few_here))
+
         pub more_bases : AreBases c budget (suc (suc n)) more
         more_bases = record {
           count = ap length e ∙ length-append bases (b ∷ [])
               ∙ (let q = known.count in omega (arith, q));
-          formed = λ j k. go_formed j (split j k);
-          analysed = λ j x k. go_analysed j x (split j k);
-          over = λ j x k. go_over j x (split j k);
-          few = λ j x k. go_few j x (split j k);
+          formed = λ j k. (at j b (split j k)).0;
+          analysed = λ j x k. (at j x (split j k)).1;
+          over = λ j x k. (at j x (split j k)).2;
+          few = λ j x k. (at j x (split j k)).3;
         }
-          where
-            go_formed : (j : ℕ) → (j < suc n) ⊎ (j ≡ suc n) → IsFormed c j
-            go_formed j (inl k) = known.formed j k
-            go_formed j (inr z) = subst (IsFormed c) (sym z) h.formed
-
-            go_analysed : (j : ℕ) (x : Vec FracPoly) → (j < suc n) ⊎ (j ≡ suc n)
-                → Analysed c budget j (seen_at more j x)
-            go_analysed j x (inl k) = subst
-                (λ (v : Vec FracPoly). Analysed c budget j (terms_each v.items)) (sym (old j x k))
-                (known.analysed j x k)
-            go_analysed j x (inr z) = subst (λ j. Analysed c budget j (seen_at more j x)) (sym z)
-                (subst (λ (v : Vec FracPoly). Analysed c budget (suc n) (terms_each v.items))
-                (sym (new x)) analysed_here)
-
-            go_over : (j : ℕ) (x : Vec FracPoly) → (j < suc n) ⊎ (j ≡ suc n)
-                → AreOver (length c.first.names) (get_or more j x).items
-            go_over j x (inl k) = subst
-                (λ (v : Vec FracPoly). AreOver (length c.first.names) v.items) (sym (old j x k))
-                (known.over j x k)
-            go_over j x (inr z) = subst
-                (λ j. AreOver (length c.first.names) (get_or more j x).items) (sym z)
-                (subst (λ (v : Vec FracPoly). AreOver (length c.first.names) v.items) (sym (new x))
-                h.over)
-
-            go_few : (j : ℕ) (x : Vec FracPoly) → (j < suc n) ⊎ (j ≡ suc n)
-                → length (get_or more j x).items
-                ≤ length c.first.names + copies_to c j + suc j * budget
-            go_few j x (inl k) = subst (λ (v : Vec FracPoly). length v.items
-                ≤ length c.first.names + copies_to c j + suc j * budget) (sym (old j x k))
-                (known.few j x k)
-            go_few j x (inr z) = subst (λ j. length (get_or more j x).items
-                ≤ length c.first.names + copies_to c j + suc j * budget) (sym z)
-                (subst (λ (v : Vec FracPoly). length v.items
-                ≤ length c.first.names + copies_to c (suc n) + suc (suc n) * budget)
-                (sym (new x)) few_here)
 
         pub more_last : IsLast c budget (suc (suc n)) m more
         more_last = record {

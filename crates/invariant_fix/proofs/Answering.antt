@@ -1,5 +1,6 @@
 -- Membership by division, as the code answers it.
 --   elements_of            what division asks of the basis
+--   IsAsked p gs list old mid   the division of p by the list, which is the gs, has begun behind `old`
 --   asked_within, has_asked     what is done where it is asked
 --   asked_wide, asked_out       where it was refused
 --   division_done          the division has ended
@@ -60,53 +61,60 @@ reduced_over m gs a r = go (arity_there m gs a)
 never : {X : Type 0} → IsProp (X → ⊥)
 never = hlevel
 
-pub elements_of : (o : Grevlex) (m : ℕ) (gs : List FracPoly) → AreOver m gs
+pub elements_of : (o : Grevlex) {m : ℕ} (gs : List FracPoly) → AreOver m gs
     → ∥ IsReducedList (arity_of gs) (terms_each gs) ∥₁ → AreDivisors o m gs
-elements_of o m gs a t i d l =
+elements_of o gs a t i d l =
     let g = get_or gs i d in (
       refl,
       a i d l,
       ∥∥₁_elim t never (λ r. r.nonzero (terms_in g) (map-in terms_in gs g (in_get gs i d l))),
     )
 
--- the division begins behind the beginning of the task
-module _ (p : FracPoly) (gs list : List FracPoly) (is : list ≡ gs) (old mid new : Journal)
-    (begun : mid ≡ with_entry old (Begin journal.Member)) where
+-- the division of p by the list, which is the gs, begins behind the beginning of the task
+pub record IsAsked (p : FracPoly) (gs list : List FracPoly) (old mid : Journal) : Type 0 where
+  pub same : list ≡ gs
+  pub begun : mid ≡ with_entry old (Begin journal.Member)
+
+module _ {p : FracPoly} {gs list : List FracPoly} {old mid : Journal}
+    (u : IsAsked p gs list old mid) where
   asked_so : (P : List (Terms Fraction) → List Entry → Type 0) → P (terms_each list) mid.entries
       → P (terms_each gs) (asks old.entries)
-  asked_so P h = subst (P (terms_each gs)) (ap (λ (j : Journal). j.entries) begun)
-      (subst (λ (l : List FracPoly). P (terms_each l) mid.entries) is h)
+  asked_so P h = subst (P (terms_each gs)) (ap (λ (j : Journal). j.entries) u.begun)
+      (subst (λ (l : List FracPoly). P (terms_each l) mid.entries) u.same h)
 
-  pub asked_within : (o : Outcome Divided) → Ran (division_of p list) (HasCofactors p.order p.arity)
+  pub asked_within : {new : Journal} (o : Outcome Divided)
+      → Ran (division_of p list) (HasCofactors p.order p.arity)
       mid new o → new.limit ≡ old.limit
-  asked_within o r = r.limit ∙ ap (λ (j : Journal). j.limit) begun
+  asked_within o r = r.limit ∙ ap (λ (j : Journal). j.limit) u.begun
 
-  worked : WorkFrom (division.next rationals grevlex (terms_each list))
+  worked : (new : Journal) → WorkFrom (division.next rationals grevlex (terms_each list))
       (division.initial_state (terms_each list) (terms_in p)) mid.entries new.entries
       → HasAsked (terms_each gs) (terms_in p) old new
-  worked w =
+  worked new w =
       inr (asked_so (λ hs es. WorkFrom (division.next rationals grevlex hs)
       (division.initial_state hs (terms_in p)) es new.entries) w)
 
-  pub has_asked : (o : Outcome Divided) → Ran (division_of p list) (HasCofactors p.order p.arity)
+  pub has_asked : {new : Journal} (o : Outcome Divided)
+      → Ran (division_of p list) (HasCofactors p.order p.arity)
       mid new o → HasAsked (terms_each gs) (terms_in p) old new
-  has_asked (done d) r = worked (record { at = r.to.last; work = r.to.finished.work })
-  has_asked (stopped too_wide) r = past r.to
+  has_asked {new} (done d) r = worked new (record { at = r.to.last; work = r.to.finished.work })
+  has_asked {new} (stopped too_wide) r = past r.to
     where
       past : Stops (division_of p list) mid new too_wide → HasAsked (terms_each gs) (terms_in p) old
           new
-      past (inl h) = worked (record { at = h.at; work = h.work })
+      past (inl h) = worked new (record { at = h.at; work = h.work })
       past (inr h) = absurd h.1
-  has_asked (stopped out_of_units) r = worked (record { at = r.to.at; work = r.to.work })
-  has_asked (stopped out_of_memory) r = worked r.to
+  has_asked {new} (stopped out_of_units) r = worked new (record { at = r.to.at; work = r.to.work })
+  has_asked {new} (stopped out_of_memory) r = worked new r.to
 
-  module _ {R : Type 0} {G : R → division.State Fraction → Type 0} (e : EngineError)
+  module _ {new : Journal} {R : Type 0} {G : R → division.State Fraction → Type 0}
+      (e : EngineError)
       (r : Ran (division_of p list) G mid new (stopped (refusal_of e))) where
-    refused : (x : EngineError) → e ≡ x → Stops (division_of p list) mid new (refusal_of x)
-    refused x w = (subst (λ y. Ran (division_of p list) G mid new (stopped (refusal_of y))) w r).to
+    refused : {x : EngineError} → e ≡ x → Stops (division_of p list) mid new (refusal_of x)
+    refused w = (subst (λ y. Ran (division_of p list) G mid new (stopped (refusal_of y))) w r).to
 
     pub asked_wide : e ≡ engine_error.Wide → IsWideAsking (terms_each gs) (terms_in p) old new
-    asked_wide w = past (refused engine_error.Wide w)
+    asked_wide w = past (refused w)
       where
         past : Stops (division_of p list) mid new too_wide
             → IsWideAsking (terms_each gs) (terms_in p) old new
@@ -118,20 +126,19 @@ module _ (p : FracPoly) (gs list : List FracPoly) (is : list ≡ gs) (old mid ne
     pub asked_out : e ≡ engine_error.Budget → IsAskingOutOfUnits (terms_each gs) (terms_in p) old
         new
     asked_out w = asked_so (λ hs es. IsExhausted (division.next rationals grevlex hs)
-        (division.initial_state hs (terms_in p)) new.limit es new.entries)
-        (refused engine_error.Budget w)
+        (division.initial_state hs (terms_in p)) new.limit es new.entries) (refused w)
 
-module _ (p : FracPoly) (gs list : List FracPoly) (is : list ≡ gs) (old mid new : Journal)
-    (begun : mid ≡ with_entry old (Begin journal.Member)) (d : Divided)
+module _ {p : FracPoly} {gs list : List FracPoly} {old mid new : Journal}
+    (u : IsAsked p gs list old mid) {d : Divided}
     (i : RanToEnd (division_of p list) (HasCofactors p.order p.arity) mid new d) where
   pub division_done : WorkToEnd (division.next rationals grevlex (terms_each gs))
       (division.initial_state (terms_each gs) (terms_in p)) (asks old.entries) new.entries i.last
   division_done =
       subst (λ es. WorkToEnd (division.next rationals grevlex (terms_each gs))
       (division.initial_state (terms_each gs) (terms_in p)) es new.entries i.last)
-      (ap (λ (j : Journal). j.entries) begun)
+      (ap (λ (j : Journal). j.entries) u.begun)
       (subst (λ (l : List FracPoly). WorkToEnd (division.next rationals grevlex (terms_each l))
-      (division.initial_state (terms_each l) (terms_in p)) mid.entries new.entries i.last) is
+      (division.initial_state (terms_each l) (terms_in p)) mid.entries new.entries i.last) u.same
       i.finished)
 
   gone : terms_in d.remainder ≡ [] → i.last.current ≡ None
@@ -140,9 +147,9 @@ module _ (p : FracPoly) (gs list : List FracPoly) (is : list ≡ gs) (old mid ne
   left : terms_in d.remainder ≢ [] → (q : Terms Fraction) × (i.last.current ≡ Some q)
   left r = something_left i.last (λ z. r (i.gives.remainder ∙ z))
 
-  pub says_yes : terms_in d.remainder ≡ [] → (qs : Vec FracPoly Global) → qs ≡ d.cofactors
+  pub says_yes : terms_in d.remainder ≡ [] → {qs : Vec FracPoly Global} → qs ≡ d.cofactors
       → Answers (terms_each gs) (terms_in p) old new (Yes qs)
-  says_yes r qs e = record {
+  says_yes r e = record {
     last = i.last;
     finished = division_done;
     tells = (gone r, ap (λ (v : Vec FracPoly Global). terms_each v.items) e ∙ i.gives.cofactors);
@@ -155,20 +162,20 @@ module _ (p : FracPoly) (gs list : List FracPoly) (is : list ≡ gs) (old mid ne
     tells = ap is_some e;
   }
 
-  pub cofactors_over : (qs : Vec FracPoly Global) → qs ≡ d.cofactors → AreOver p.arity qs.items
-  cofactors_over qs e = subst (λ (v : Vec FracPoly Global). AreOver p.arity v.items) (sym e)
+  pub cofactors_over : {qs : Vec FracPoly Global} → qs ≡ d.cofactors → AreOver p.arity qs.items
+  cofactors_over e = subst (λ (v : Vec FracPoly Global). AreOver p.arity v.items) (sym e)
       (λ k l x. (i.gives.like k l x).1)
 
-  pub yes_member : terms_in d.remainder ≡ [] → (qs : Vec FracPoly Global) → qs ≡ d.cofactors
+  pub yes_member : terms_in d.remainder ≡ [] → {qs : Vec FracPoly Global} → qs ≡ d.cofactors
       → Same ℚ (terms_in p) (combination ℚ (terms_each d.cofactors.items) (terms_each list)
       ++ terms_in d.remainder)
       → (⊤ ↔ IsMember ℚ p.arity (terms_each gs) (terms_in p))
-  yes_member r qs e s = (
+  yes_member r e s = (
     (λ t. record {
       cofactors = terms_each d.cofactors.items;
       arity = arities_over p.arity d.cofactors.items (λ k x l. (i.gives.like k x l).1);
       is = subst (λ (l : List FracPoly).
-          Same ℚ (terms_in p) (combination ℚ (terms_each d.cofactors.items) (terms_each l))) is
+          Same ℚ (terms_in p) (combination ℚ (terms_each d.cofactors.items) (terms_each l))) u.same
           (subst (Same ℚ (terms_in p))
           (ap (λ x. combination ℚ (terms_each d.cofactors.items) (terms_each list) ++ x) r
           ∙ append-nil _) s);
@@ -189,15 +196,15 @@ module _ (p : FracPoly) (gs list : List FracPoly) (is : list ≡ gs) (old mid ne
         let z : ⊥ = cc (none, e) in z))),
   )
 
-  module _ (program : Program (Expr ℕ)) (k : ℕ) (done : IsFinished program old.entries k
-      (terms_each gs)) where
+  module _ {program : Program (Expr ℕ)} (k : ℕ)
+      (done : IsFinished program old.entries k (terms_each gs)) where
     answered : IsAnswered program (terms_in p) new.entries k (terms_each gs) i.last
     answered = asking_answered program (terms_in p) k (terms_each gs) old.entries new.entries done
         i.last division_done
 
-    pub yes_answered : terms_in d.remainder ≡ [] → (qs : Vec FracPoly Global) → qs ≡ d.cofactors
+    pub yes_answered : terms_in d.remainder ≡ [] → {qs : Vec FracPoly Global} → qs ≡ d.cofactors
         → HasAnswered program (terms_in p) k (terms_each gs) new.entries (Yes qs)
-    yes_answered r qs e = record {
+    yes_answered r e = record {
       last = i.last;
       answered = answered;
       tells = (gone r, ap (λ (v : Vec FracPoly Global). terms_each v.items) e ∙ i.gives.cofactors);

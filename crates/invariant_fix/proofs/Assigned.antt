@@ -3,9 +3,9 @@
 --   counted, uncounted      how many of those up to one are assigned
 --   place_copy, place_itself, place_within     where stands what a variable was
 --   more_assigned, same_assigned       the variables that are assigned, one more
-use Rattle.std.proofs.Common.{◌≡◌, ℕ, zero, suc, ◌+◌, ◌<◌, ◌≤◌, Bool, true, false, ◌||◌, cond, ◌==◌, List, [], ◌∷◌, ◌++◌, drop, get_or, length, refl, sym, ap, ◌∙◌, arith}
+use Rattle.std.proofs.Common.{◌≡◌, ℕ, suc, ◌+◌, ◌<◌, ◌≤◌, Bool, true, false, ◌||◌, cond, ◌==◌, List, [], ◌∷◌, ◌++◌, drop, get_or, length, refl, sym, ap, ◌∙◌, arith}
 use Rattle.std.specs.List.{list_any}
-use Rattle.std.proofs.lemmas.List.{append-nil, length-append}
+use Rattle.std.proofs.lemmas.List.{append-nil, length-append, at_drop_more, at_drop_all}
 use Rattle.loop_model.specs.declared.statement.Statement as code
 use Rattle.loop_runs.specs.Parts.{statements_in}
 use Rattle.corollaries.specs.CodeBetween.{assigned_variables, copy_of, copies}
@@ -16,27 +16,15 @@ module _ (v : ℕ) where
   abbrev pub has_target : code.Statement → Bool
   has_target s = list_any (λ j. j == v) s.targets.items
 
-  along : (b : List code.Statement) (m n : ℕ) → m ≡ n
-      → assigned_by (drop m b) v ≡ assigned_by (drop n b) v
-  along b m n e = ap (λ k. assigned_by (drop k b) v) e
-
   pub look : (b : List code.Statement) (k : ℕ) (s : code.Statement) → k < length b
       → s ≡ get_or b k s
       → assigned_by (drop k b) v ≡ has_target s || assigned_by (drop (k + 1) b) v
-  look [] k s l e = absurd (omega (arith, l))
-  look (x ∷ b) zero s l e =
-      ap (λ (z : code.Statement). has_target z || assigned_by b v) (sym e)
-      ∙ ap (λ r. has_target s || r) (along (x ∷ b) 1 (0 + 1) (omega arith))
-  look (x ∷ b) (suc k) s l e =
-      look b k s (omega (arith, l)) e
-      ∙ ap (λ r. has_target s || r) (along (x ∷ b) (suc (k + 1)) (suc k + 1) (omega arith))
+  look b k s l e = at_drop_more (λ c. assigned_by c v) b k s l
+      ∙ ap (λ (z : code.Statement). has_target z || assigned_by (drop (k + 1) b) v) (sym e)
 
   pub look_end : (b : List code.Statement) (k : ℕ) → length b ≤ k
       → assigned_by (drop k b) v ≡ false
-  look_end [] zero l = refl
-  look_end [] (suc k) l = refl
-  look_end (x ∷ b) zero l = absurd (omega (arith, l))
-  look_end (x ∷ b) (suc k) l = look_end b k (omega (arith, l))
+  look_end b k l = at_drop_all (λ c. assigned_by c v) b k l
 
 module _ (b : List code.Statement) (i : ℕ) where
   next_assigned : assigned_variables (i + 1) (statements_in b)
@@ -69,9 +57,9 @@ module _ (b : List code.Statement) (i : ℕ) where
   uncounted n e h = e ∙ sym (ap length (same_assigned h))
 
 module _ (m : ℕ) (b : List code.Statement) (v : ℕ) (l : v < m) where
-  pub place_copy : (n : ℕ) → n ≡ copies v (statements_in b) → assigned_by b v ≡ true
+  pub place_copy : {n : ℕ} → n ≡ copies v (statements_in b) → assigned_by b v ≡ true
       → n ≡ place_before m b v
-  place_copy n e h = e
+  place_copy e h = e
       ∙ ap (λ t. cond t (copy_of (statements_in b) v) (copies m (statements_in b) + v)) (sym h)
 
   pub place_itself : (n k : ℕ) → k ≡ copies m (statements_in b) → n ≡ k + v

@@ -2,7 +2,7 @@
 --   round_begun            the first branch
 --   iteration_due, orbit_due, meet_due, met_done, iterations_go_on     what follows in a branch
 --   branch_at, closing_at  what follows it, by the number of the next branch
-use Rattle.std.proofs.Common.{◌≡◌, ◌⊎◌, inl, inr, ℕ, zero, suc, pred, ◌+◌, ◌<◌, ◌≤◌, cond, List, length, refl, ap, subst, arith}
+use Rattle.std.proofs.Common.{◌≡◌, ◌⊎◌, inl, inr, ℕ, zero, suc, pred, ◌+◌, ◌-◌, ◌<◌, ◌≤◌, cond, List, length, refl, ap, subst, arith}
 use Rattle.std.proofs.lemmas.Bool.{lt-ltb, le-ltb}
 use Rattle.std.proofs.lemmas.List.{length-map}
 use Rattle.algebra.specs.Fraction.{Fraction}
@@ -12,7 +12,7 @@ use Rattle.machines.specs.Journal.{Entry, Begin, Journal, units_of}
 use Rattle.poly.specs.Seen.{terms_each}
 use Rattle.journal.specs.View.{with_entry}
 use Rattle.rounds.specs.Analysis as analysis
-use Rattle.rounds.specs.Analysis.{Setting, form_of, iterations_of, goes, next, start_of, begin_branch, begin_iteration, begin_orbit, begin_meet, after_iterations, after_branch, after_orbit, after, closing_from, iteration, iteration_meet, orbit, meet}
+use Rattle.rounds.specs.Analysis.{Setting, form_of, iterations_of, next, begin_branch, begin_iteration, begin_orbit, begin_meet, after_iterations, after_branch, after_orbit, after, closing_from, orbit}
 use Rattle.loop_model.specs.FracPoly.{FracPoly}
 use Rattle.invariant_fix.specs.Coming.{Comes}
 use Rattle.invariant_fix.specs.Setting.{setting_of}
@@ -26,21 +26,9 @@ use Rattle.invariant_fix.proofs.TaskLengths.{turning_short}
 use Rattle.invariant_fix.proofs.Tasks.{begun_task}
 
 -- ---- numbers of iterations
-some_iterations : (d : ℕ) → 2 ≤ d → 0 < pred d
-some_iterations zero l = absurd (omega (arith, l))
-some_iterations (suc d) l = omega (arith, l)
-
-no_iterations : (d : ℕ) → d < 2 → pred d ≤ 0
-no_iterations zero l = omega arith
-no_iterations (suc d) l = omega (arith, l)
-
-more_iterations : (n d : ℕ) → suc n < d → n < pred d
-more_iterations n zero l = absurd (omega (arith, l))
-more_iterations n (suc d) l = omega (arith, l)
-
-all_iterations : (n d : ℕ) → d ≤ suc n → pred d ≤ n
-all_iterations n zero l = omega arith
-all_iterations n (suc d) l = omega (arith, l)
+pred_is : (d : ℕ) → pred d ≡ d - 1
+pred_is zero = refl
+pred_is (suc d) = omega arith
 
 -- ---- of any setting
 module _ (A : Setting) (k b : ℕ) (gs : List (Terms Fraction)) where
@@ -58,18 +46,6 @@ module _ (A : Setting) (k b : ℕ) (gs : List (Terms Fraction)) where
       ap (λ o. cond o (begin_iteration A k b n gs ks hs) (begin_orbit A k b gs hs))
       (le-ltb n (iterations_of A b) l)
 
-  iteration_meet_comes : (n : ℕ) (ks hs ls : List (Terms Fraction))
-      → after A (iteration k b n gs ks hs) ls
-      ≡ goes (Begin (journal.IterationMeet k (suc b) (suc n)))
-      (start_of A (iteration_meet k b n gs hs ls))
-  unfolding after
-  iteration_meet_comes n ks hs ls = refl
-
-  iterations_come : (n : ℕ) (hs ks ls : List (Terms Fraction))
-      → after A (iteration_meet k b n gs hs ks) ls ≡ after_iterations A k b (suc n) gs ks ls
-  unfolding after
-  iterations_come n hs ks ls = refl
-
   branch_comes : (hs : List (Terms Fraction)) → suc b < length A.forms
       → after_branch A k b gs hs ≡ begin_branch A k (suc b) gs hs
   unfolding after_branch
@@ -81,11 +57,6 @@ module _ (A : Setting) (k b : ℕ) (gs : List (Terms Fraction)) where
   unfolding after_branch
   closing_comes hs l = ap (λ o. cond o (begin_branch A k (suc b) gs hs) (closing_from A k 0 0 hs))
       (le-ltb (suc b) (length A.forms) l)
-
-  met_comes : (hs ks ls : List (Terms Fraction))
-      → after A (meet k b gs hs ks) ls ≡ after_branch A k b gs ls
-  unfolding after
-  met_comes hs ks ls = refl
 
 meet_comes : (A : Setting) (k b : ℕ) (gs hs ls : List (Terms Fraction))
     → (0 < b) ⊎ (0 < (form_of A b).since)
@@ -144,18 +115,18 @@ module _ (w : BranchInWork) (j : Journal) where
   pub iteration_due : (hs : List FracPoly) → HasIterations w.setting.now w.place
       → Awaits w j (branching w hs) → Awaits w j (iteration_begins w 0 w.basis.now (terms_each hs))
   iteration_due hs l c = subst (Awaits w j) (iteration_comes A w.round w.place gs 0 gs
-      (terms_each hs) (some_iterations (form_of A w.place).since l)) c
+      (terms_each hs) (let p = pred_is (form_of A w.place).since in omega (arith, p, l))) c
 
   pub orbit_due : (hs : List FracPoly) → (form_of A w.place).since < 2
       → Awaits w j (branching w hs) → Awaits w j (orbiting w (terms_each hs))
   orbit_due hs l c = subst (Awaits w j) (orbit_comes A w.round w.place gs 0 gs (terms_each hs)
-      (no_iterations (form_of A w.place).since l)) c
+      (let p = pred_is (form_of A w.place).since in omega (arith, p, l))) c
 
   pub iteration_meet_due : (n : ℕ) (ks hs ls : List FracPoly)
       → Awaits w j (iteration_ends w n ks (terms_each hs) ls)
       → Awaits w j (iteration_meets w n hs ls)
-  iteration_meet_due n ks hs ls c = subst (Awaits w j) (iteration_meet_comes A w.round w.place gs n
-      (terms_each ks) (terms_each hs) (terms_each ls)) c
+  unfolding after
+  iteration_meet_due n ks hs ls c = c
 
   abbrev pub IsTaken : ℕ → List FracPoly → List FracPoly → Type 0
   IsTaken n ks hs = Awaits w j (after_iterations A w.round w.place n gs (terms_each ks)
@@ -163,18 +134,20 @@ module _ (w : BranchInWork) (j : Journal) where
 
   pub iterations_go_on : (n : ℕ) (hs ks ls : List FracPoly)
       → Awaits w j (iteration_met w n hs ks ls) → IsTaken (suc n) ks ls
-  iterations_go_on n hs ks ls c = subst (Awaits w j) (iterations_come A w.round w.place gs n
-      (terms_each hs) (terms_each ks) (terms_each ls)) c
+  unfolding after
+  iterations_go_on n hs ks ls c = c
 
   pub next_iteration : (n : ℕ) (ks hs : List FracPoly) → suc n < (form_of A w.place).since
       → IsTaken n ks hs → Awaits w j (iteration_begins w n ks (terms_each hs))
   next_iteration n ks hs l c = subst (Awaits w j) (iteration_comes A w.round w.place gs n
-      (terms_each ks) (terms_each hs) (more_iterations n (form_of A w.place).since l)) c
+      (terms_each ks) (terms_each hs) (let p = pred_is (form_of A w.place).since in
+      omega (arith, p, l))) c
 
   pub iterations_end : (n : ℕ) (ks hs : List FracPoly) → (form_of A w.place).since ≤ suc n
       → IsTaken n ks hs → Awaits w j (orbiting w (terms_each hs))
   iterations_end n ks hs l c = subst (Awaits w j) (orbit_comes A w.round w.place gs n
-      (terms_each ks) (terms_each hs) (all_iterations n (form_of A w.place).since l)) c
+      (terms_each ks) (terms_each hs) (let p = pred_is (form_of A w.place).since in
+      omega (arith, p, l))) c
 
   -- ---- its orbit
   pub meet_due : (hs ls : List FracPoly) → HasMeet w.setting.now w.place
@@ -184,18 +157,18 @@ module _ (w : BranchInWork) (j : Journal) where
 
   pub met_done : (hs ks ls : List FracPoly) → Awaits w j (met w hs ks ls)
       → Awaits w j (branched w ls)
-  met_done hs ks ls c = subst (Awaits w j) (met_comes A w.round w.place gs (terms_each hs)
-      (terms_each ks) (terms_each ls)) c
+  unfolding after
+  met_done hs ks ls c = c
 
   pub whole_done : (hs : List (Terms Fraction)) (ls : List FracPoly) → w.place ≡ 0
       → HasWhole w.setting.now w.place → Awaits w j (orbited w hs ls) → Awaits w j (branched w ls)
   whole_done hs ls first e c = subst (Awaits w j) (whole_comes A w.round w.place gs hs
       (terms_each ls) first e) c
 
-pub started_closing : (s : setting.Setting) (es : List Entry) (gs : List FracPoly)
+pub started_closing : (s : setting.Setting) {es : List Entry} (gs : List FracPoly)
     → Comes (setting_of s) es (started s gs) → Comes (setting_of s) es (closing s 0 0 0 gs)
 unfolding after
-started_closing s es gs c = c
+started_closing s gs c = c
 
 -- ---- by the number of the next branch
 module _ (s : setting.Setting) (k : ℕ) (gs : List FracPoly) where
@@ -207,21 +180,23 @@ module _ (s : setting.Setting) (k : ℕ) (gs : List FracPoly) where
   ComesAt es p hs = (b : ℕ) → suc b ≡ p
       → Comes (setting_of s) es (step.branched s k b gs (terms_each hs))
 
-  pub come_at : (es : List Entry) (p n : ℕ) (hs : List FracPoly) → n ≡ suc p
+  pub come_at : {es : List Entry} (p : ℕ) {n : ℕ} (hs : List FracPoly) → n ≡ suc p
       → Comes (setting_of s) es (step.branched s k p gs (terms_each hs)) → ComesAt es n hs
-  come_at es p n hs e c b is =
+  come_at {es = es} p hs e c b is =
       subst (λ x. Comes (setting_of s) es (step.branched s k x gs (terms_each hs)))
       (let z : p ≡ b = omega (arith, e, is) in z) c
 
-  pub branch_at : (es : List Entry) (p : ℕ) (hs : List FracPoly) → 1 ≤ p
+  pub branch_at : {es : List Entry} (p : ℕ) (hs : List FracPoly) → 1 ≤ p
       → p < length s.branches.items → ComesAt es p hs
       → Comes (setting_of s) es (step.branching s k p gs (terms_each hs))
-  branch_at es zero hs o l f = absurd (omega (arith, o))
-  branch_at es (suc b) hs o l f = subst (Comes (setting_of s) es) (branch_comes (setting_of s) k b
+  branch_at zero hs o l f = absurd (omega (arith, o))
+  branch_at {es = es} (suc b) hs o l f =
+      subst (Comes (setting_of s) es) (branch_comes (setting_of s) k b
       (terms_each gs) (terms_each hs) (let n = forms_count in omega (arith, n, l))) (f b refl)
 
-  pub closing_at : (es : List Entry) (p : ℕ) (hs : List FracPoly) → 1 ≤ p → length s.branches.items
-      ≤ p → ComesAt es p hs → Comes (setting_of s) es (closing s k 0 0 hs)
-  closing_at es zero hs o l f = absurd (omega (arith, o))
-  closing_at es (suc b) hs o l f = subst (Comes (setting_of s) es) (closing_comes (setting_of s) k b
+  pub closing_at : {es : List Entry} (p : ℕ) (hs : List FracPoly) → 1 ≤ p
+      → length s.branches.items ≤ p → ComesAt es p hs → Comes (setting_of s) es (closing s k 0 0 hs)
+  closing_at zero hs o l f = absurd (omega (arith, o))
+  closing_at {es = es} (suc b) hs o l f =
+      subst (Comes (setting_of s) es) (closing_comes (setting_of s) k b
       (terms_each gs) (terms_each hs) (let n = forms_count in omega (arith, n, l))) (f b refl)

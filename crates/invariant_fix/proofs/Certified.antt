@@ -47,9 +47,9 @@ module _ (program : Program (Expr ℕ)) (w : IsWellFormed program)
   -- ---- as many cofactors as elements
   module _ (gs : List (Terms Fraction)) (I : Terms Fraction → Type 0)
       (reduced : IsReducedFor rationals grevlex (length program.names) gs I) where
-    pub row_long : (qs : List (Terms Fraction)) (b i : ℕ) → b < length program.branches
+    pub row_long : {qs : List (Terms Fraction)} (b i : ℕ) → b < length program.branches
         → i < length gs → IsClosing A b i gs qs → length qs ≡ length gs
-    row_long qs b i lb li c =
+    row_long b i lb li c =
         let p = pullback A b (get_or gs i []) in
         let elements : (k : ℕ) (g : Terms Fraction) → slice_get gs k ≡ Some g
         → IsElement ℚ_field grevlex grevlex_order m g = λ k g at. (let i = in_slice gs k g at in
@@ -74,7 +74,7 @@ module _ (program : Program (Expr ℕ)) (w : IsWellFormed program)
         });
       }
 
-  module _ (gs : List (Terms Fraction)) (reduced : IsReducedFor rationals grevlex
+  module _ {gs : List (Terms Fraction)} (reduced : IsReducedFor rationals grevlex
       (length program.names) gs (Inv program)) where
     invariant_at : (i : ℕ) → i < length gs → Inv program (get_or gs i [])
     invariant_at i l = reduced.members (get_or gs i []) (in_get gs i [] l)
@@ -82,10 +82,10 @@ module _ (program : Program (Expr ℕ)) (w : IsWellFormed program)
     places : AtPlaces (λ g. IsPolynomial ℚ grevlex m g × (g ≢ [])) gs
     places k g e = let i = in_slice gs k g e in (reduced.polynomials g i, reduced.nonzero g i)
 
-    step_passes : (qs : List (Terms Fraction)) (b i : ℕ) → b < length program.branches
+    step_passes : {qs : List (Terms Fraction)} (b i : ℕ) → b < length program.branches
         → i < length gs → IsClosing A b i gs qs
         → Same ℚ (composition program (get_or gs i []) (the_map b)) (combination ℚ qs gs)
-    step_passes qs b i lb li c =
+    step_passes {qs = qs} b i lb li c =
         let g = get_or gs i [] in
         let a = (invariant_at i li).arity in
         let sum = division_sum ℚ_field grevlex grevlex_order m gs (pullback A b g) c.last
@@ -99,12 +99,12 @@ module _ (program : Program (Expr ℕ)) (w : IsWellFormed program)
         Same-trans ℚ (Same-sym ℚ (turned_same program given forms None b g a lb))
         (subst (Same ℚ (pullback A b g)) is sum)
 
-    pub closed_valid : (qs : List (List (List (Terms Fraction))))
+    pub closed_valid : {qs : List (List (List (Terms Fraction)))}
         → AreSteps (setting_from program given forms None) gs qs
         → IsValid program (record { basis = gs; steps = qs })
-    closed_valid qs s = record {
+    closed_valid {qs = qs} s = record {
       starts = λ i l. (let v = invariant_at i l in passes_start program w (get_or gs i []) v.arity
           (zero_at_starts (get_or gs i []) v));
-      steps = λ b i lb li. step_passes (get_or (get_or qs b []) i []) b i lb li
+      steps = λ b i lb li. step_passes b i lb li
           ((s.each b (omega (arith, lb, count))).each i li);
     }

@@ -1,29 +1,39 @@
 -- The elimination of what an orbit or an iteration begins with, as the code has the list.
 --   AreStarting n m list gens     the gens are that list, with n variables to be eliminated and m behind these
 --   block_first, block_arity      of the list, that isn't empty
---   way_is                        what is done
+--   way_is, ran_of                what is done
+--   not_empty                     a list that isn't empty has elements
 --   over_of, reduced_of           what it gives
 --   gens_count, orbit_list_few, iteration_list_length     how many there are
 use Rattle.std.proofs.Common.{◌≡◌, ℕ, zero, suc, ◌+◌, ◌-◌, ◌<◌, ◌≤◌, List, [], ◌∷◌, ◌++◌, map, drop, length, refl, ap, ap₂, subst, arith}
+use Rattle.std.specs.Global.{Vec}
 use Rattle.std.proofs.lemmas.List.{length-map, length-append, length-drop}
 use Rattle.std.proofs.lemmas.List.Elements.{All-head}
 use Rattle.algebra.specs.Fraction.{Fraction, ℚ, rationals, fractions}
 use Rattle.polynomials.specs.Order.{grevlex, blocks}
 use Rattle.polynomials.specs.Terms.{Terms, variables, compose}
 use Rattle.machines.specs.Collect.{collect}
+use Rattle.machines.specs.Elimination as elimination
 use Rattle.machines.specs.Elimination.{free_part}
+use Rattle.machines.specs.Journal.{Journal}
+use Rattle.machines.specs.Machine.{Outcome, Ran}
+use Rattle.machines.specs.Machines as machines
 use Rattle.loops.proofs.Maps.{length-variables}
 use Rattle.poly.specs.Seen.{arity_of, terms_in, terms_each}
 use Rattle.rounds.specs.Form.{Form, front, inverse_of_form, normal, relations, pulled_back_by, passes, passing, form_before, late_order, list_since, orbit_list, iteration_before, iteration_front, iteration_list}
 use Rattle.rounds.specs.Graph.{less, at_before}
 use Rattle.rounds.specs.Results.{IsReducedList}
 use Rattle.ideal_ops.specs.Calls as ideal
-use Rattle.ideal_ops.specs.Calls.{Way, AreOver, first_block, IsEliminationOf}
+use Rattle.ideal_ops.specs.Calls.{Way, AreOver, IsListOf, first_block, IsEliminationOf, elimination_of}
 use Rattle.ideal_ops.specs.Eliminating.{HaveBlock}
 use Rattle.loop_model.specs.FracPoly.{FracPoly}
 use Rattle.invariant_fix.specs.Blocked.{Blocked}
 use Rattle.task_lists.proofs.Elements.{orbit_count, relations_count}
 use Rattle.invariant_fix.proofs.Lists.{reduced_list}
+
+pub not_empty : {X : Type 0} (xs : List X) → (xs ≡ [] → ⊥) → 0 < length xs
+not_empty [] h = absurd (h refl)
+not_empty (x ∷ xs) h = omega arith
 
 pub record AreStarting (n m : ℕ) (ts : List (Terms Fraction)) (gens : List Blocked) : Type 0 where
   pub list : terms_each gens ≡ ts
@@ -55,7 +65,17 @@ module _ {n m : ℕ} {list : List (Terms Fraction)} {gens : List Blocked}
         record { order = blocks n grevlex grevlex; part = free_part n; gens = ts } in w) block_first
         u.list
 
-    module _ (hs : List FracPoly) (h : IsEliminationOf gens hs) where
+    -- what is done
+    pub ran_of : {before after : Journal} (o : Outcome (Vec FracPoly))
+        → Ran (elimination_of (ideal.elimination_way (first_block gens) gens))
+        (IsListOf (ideal.elimination_way (first_block gens) gens)) before after o
+        → Ran (machines.elimination fractions (blocks n grevlex grevlex) grevlex (free_part n) list)
+        (λ (hs : Vec FracPoly) s. terms_each hs.items ≡ elimination.list_of grevlex (free_part n) s)
+        before after o
+    ran_of {before} {after} o h =
+        subst (λ V. Ran (elimination_of V) (IsListOf V) before after o) way_is h
+
+    module _ {hs : List FracPoly} (h : IsEliminationOf gens hs) where
       rest : arity_of gens - first_block gens ≡ m
       rest = let a = block_first in let c = block_arity in omega (arith, a, c)
 
@@ -64,7 +84,7 @@ module _ {n m : ℕ} {list : List (Terms Fraction)} {gens : List Blocked}
 
       pub reduced_of : IsReducedList m (terms_each hs)
       reduced_of = subst (λ n. IsReducedList n (terms_each hs)) rest
-          (reduced_list (arity_of gens - first_block gens) (terms_each hs) _ h.reduced)
+          (reduced_list _ h.reduced)
 
 -- ---- how many there are
 less_length : (xs ys : List (Terms Fraction)) → length xs ≡ length ys
@@ -104,8 +124,7 @@ module _ (f : Form) (m : ℕ) (gs : List (Terms Fraction)) where
         let h = length-map ds (normal O r) in
         let i = length-map f.polys (at_before k t m before) in
         let l = last_length (k + t) m in
-        let j : length ds ≡ length ys = less_length (drop (k + t) (variables ℚ (k + t + m))) ys
-        (omega (arith, l, i, count)) in
+        let j : length ds ≡ length ys = less_length _ ys (omega (arith, l, i, count)) in
         let n = length-map (relations r (t + m)) (collect rationals O) in
         let o = relations_count r (t + m) in
         omega (arith, a, b, c, e, h, i, j, n, o, count)
@@ -136,6 +155,5 @@ module _ (f : Form) (m : ℕ) (gs : List (Terms Fraction)) where
       let d = length-map images (at_before 0 t m before) in
       let e = length-map gs (λ g. compose ℚ (0 + t + m) g before) in
       let l = last_length (0 + t) m in
-      let j : length ds ≡ length ys = less_length (drop (0 + t) (variables ℚ (0 + t + m))) ys
-      (omega (arith, l, d, count)) in
+      let j : length ds ≡ length ys = less_length _ ys (omega (arith, l, d, count)) in
       omega (arith, a, b, c, d, e, j, count)

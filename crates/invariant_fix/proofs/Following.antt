@@ -1,11 +1,12 @@
 -- The analysis by the code's own setting, as that of the program.
 --   forms_of s             the closed forms
 --   are_forms, all_have    one for each branch
---   follow_run, follow_next, follow_past, follow_long, follow_steps     runs, what comes next, what is past, what is too long, and closing divisions
+--   follow_run, follow_next, follow_past, same_length, follow_steps     runs, what comes next, what is past, what is too long, and closing divisions
 --   square_of              the steps are square lists in the loop's variables
 --   begun_here, begun_given      the analysis begins, at the starts or at what is given
+--   IsAnalysisOf program s given     the setting s is that of the program, which is well formed, with what is given
 --   basis_of, level_of, kept_of, closed_by, valid_of, is_stopped       what an analysis tells of the program
---   refused_stopped        its refusal is one of the loop, where no map and no branch is refused
+--   refused_stopped, refused_at        its refusal is one of the loop, where no map and no branch is refused
 use Rattle.std.proofs.Common.{◌≡◌, inr, ℕ, suc, ◌<◌, ◌≤◌, ◌+◌, List, [], ◌∷◌, map, length, get_or, Option, Some, None, refl, sym, ap, ap₂, subst, ◌∙◌, arith, All}
 use Rattle.std.specs.Global.{Vec}
 use Rattle.std.proofs.lemmas.List.{get_or-map, length-map}
@@ -32,7 +33,7 @@ use Rattle.rounds.specs.Analysis.{State, fresh, Step, finished, first_step, next
 use Rattle.rounds.specs.BranchMap.{map_of}
 use Rattle.rounds.specs.Form as form
 use Rattle.rounds.specs.Form.{IsClosedForm}
-use Rattle.rounds.specs.Journal.{AreForms, setting_from, FollowsFrom, IsFinishedBy, IsFinished}
+use Rattle.rounds.specs.Journal.{AreForms, setting_from, FollowsFrom, IsFinishedBy}
 use Rattle.rounds.specs.Kept.{IsKept}
 use Rattle.rounds.specs.Results.{IsReducedList}
 use Rattle.rounds.specs.Past.{IsPast}
@@ -46,7 +47,7 @@ use Rattle.invariant_fix.specs.Closing.{AreSteps, seen_branch_steps, seen_steps,
 use Rattle.invariant_fix.specs.Coming.{Comes, Refuses}
 use Rattle.invariant_fix.specs.Lists.{IsList}
 use Rattle.expansion.specs.Counts.{most_terms}
-use Rattle.invariant_fix.specs.Long.{IsLong, short_moves}
+use Rattle.invariant_fix.specs.Long.{task_length, IsLong, short_moves}
 use Rattle.invariant_fix.specs.Refusals.{AllHaveForms, HasFollowedFrom, IsStoppedFrom, IsRefusedFrom}
 use Rattle.invariant_fix.specs.Setting.{setting_of, given_of, most_first, form_of, FitsSetting, IsSettingOf}
 use Rattle.invariant_fix.specs.Steps.{starting, started, closed}
@@ -88,15 +89,15 @@ module _ (s : Setting) where
   }
 
   -- at the starts, or at what is given
-  pub begun_here : s.given ≡ None → (es : List Entry) → es ≡ []
+  pub begun_here : s.given ≡ None → {es : List Entry} → es ≡ []
       → Comes (setting_of s) es (starting s)
-  begun_here plain es e = subst (λ (o : Option (Vec FracPoly)).
+  begun_here plain {es = es} e = subst (λ (o : Option (Vec FracPoly)).
       Comes (setting_of s) es (first_step (setting_of s) (given_of o))) plain (first_here es e)
 
-  pub begun_given : (v : Vec FracPoly) → s.given ≡ Some v → (gs : List FracPoly)
-      → terms_each v.items ≡ terms_each gs → (es : List Entry) → es ≡ []
+  pub begun_given : {v : Vec FracPoly} → s.given ≡ Some v → (gs : List FracPoly)
+      → terms_each v.items ≡ terms_each gs → {es : List Entry} → es ≡ []
       → Comes (setting_of s) es (started s gs)
-  begun_given v at gs same es e =
+  begun_given at gs same {es = es} e =
       subst (λ ts. Comes (setting_of s) es (first_step (setting_of s) (Some ts))) same
       (subst (λ (o : Option (Vec FracPoly)).
       Comes (setting_of s) es (first_step (setting_of s) (given_of o)))
@@ -107,9 +108,6 @@ module _ (program : Program (Expr ℕ)) (w : IsWellFormed program) (s : Setting)
     (is : IsSettingOf program s) where
   abbrev pub forms_of : List form.Form
   forms_of = map (λ (c : Branch). form_of c.form) s.branches.items
-
-  abbrev A : analysis.Setting
-  A = setting_from program (given_of s.given) forms_of None
 
   forms_count : length forms_of ≡ length program.branches
   forms_count = length-map s.branches.items _ ∙ is.branches.count
@@ -127,7 +125,7 @@ module _ (program : Program (Expr ℕ)) (w : IsWellFormed program) (s : Setting)
   }
 
   pub all_have : AllHaveForms program
-  all_have = λ b l. all_forms program s.branches.items (length program.branches) is.branches b l
+  all_have = λ b l. all_forms program is.branches b l
 
   maps_are : map (λ (branch : List (Statement (Expr ℕ))). map (collect rationals grevlex)
       (branch_map program branch)) program.branches ≡ map (λ (c : Branch).
@@ -136,62 +134,65 @@ module _ (program : Program (Expr ℕ)) (w : IsWellFormed program) (s : Setting)
   maps_are = maps_same program program.branches s.branches.items is.branches.count (λ b d l.
       (is.branches.each b d l).images)
 
+-- the setting is that of the program, with what is given
+pub record IsAnalysisOf (program : Program (Expr ℕ)) (s : Setting)
+    (given : Option (List (Terms Fraction))) : Type 0 where
+  pub formed : IsWellFormed program
+  pub fits : FitsSetting s
+  pub is : IsSettingOf program s
+  pub given_is : given_of s.given ≡ given
+
+module _ {program : Program (Expr ℕ)} {s : Setting} {given : Option (List (Terms Fraction))}
+    (here : IsAnalysisOf program s given) where
+  abbrev forms : List form.Form
+  forms = forms_of program here.formed s here.fits here.is
+
+  abbrev A : analysis.Setting
+  A = setting_from program given forms None
+
   abbrev B : analysis.Setting
   B = with_starts (setting_of s) (start_list program)
 
   same : A ≡ B
   same = λ i. record {
-    arity = sym is.arity i;
+    arity = sym here.is.arity i;
     starts = start_list program;
-    maps = maps_are i;
-    forms = forms_of;
-    given = given_of s.given;
+    maps = maps_are program here.formed s here.fits here.is i;
+    forms = forms;
+    given = sym here.given_is i;
     asked = None;
   }
 
   alike : map (collect rationals grevlex) (start_list program) ≡ map (collect rationals grevlex)
       (setting_of s).starts
-  alike = sym (collected_starts s fits s.starts.items fits.starts ∙ is.starts)
+  alike = sym (collected_starts here.fits s.starts.items here.fits.starts ∙ here.is.starts)
 
   follow_run : (es : List Entry) (t : State) → IsRun (moves (setting_of s)) fresh es t
-      → IsRun (moves (setting_from program (given_of s.given) forms_of None)) fresh es t
+      → IsRun (moves A) fresh es t
   follow_run es t r = subst (λ C. IsRun (moves C) fresh es t) (sym same)
       (alike_run (setting_of s) (start_list program) alike es fresh t r)
 
-  follow_next : (t : State) (step : Step) → next (setting_of s) t ≡ step
-      → next (setting_from program (given_of s.given) forms_of None) t ≡ step
-  follow_next t step e = subst (λ C. next C t ≡ step) (sym same)
+  follow_next : (t : State) {step : Step} → next (setting_of s) t ≡ step → next A t ≡ step
+  follow_next t {step = step} e = subst (λ C. next C t ≡ step) (sym same)
       (alike_next (setting_of s) (start_list program) alike t ∙ e)
 
-  follow_past : (t : State) → IsPast (setting_of s) t
-      → IsPast (setting_from program (given_of s.given) forms_of None) t
+  follow_past : (t : State) → IsPast (setting_of s) t → IsPast A t
   follow_past t p = subst (λ C. IsPast C t) (sym same)
-      (alike_past (setting_of s) (start_list program)
-      alike t p)
+      (alike_past (setting_of s) (start_list program) alike t p)
 
-  follow_long : (t : State) → IsLong (setting_of s) t
-      → IsLong (setting_from program (given_of s.given) forms_of None) t
-  follow_long t l = subst (λ C. IsLong C t) (sym same) (subst (λ n. most_terms < n)
-      (sym (alike_length (setting_of s) (start_list program) t)) l)
+  same_length : (t : State) → task_length A t ≡ task_length (setting_of s) t
+  same_length t = ap (λ C. task_length C t) same
+      ∙ alike_length (setting_of s) (start_list program) t
 
-  -- and back
-  back_run : (es : List Entry) (t : State)
-      → IsRun (moves (setting_from program (given_of s.given) forms_of None)) fresh es t
+  back_run : (es : List Entry) (t : State) → IsRun (moves A) fresh es t
       → IsRun (moves (setting_of s)) fresh es t
   back_run es t r =
       alike_run B (setting_of s).starts (sym alike) es fresh t
       (subst (λ C. IsRun (moves C) fresh es t) same r)
 
-  back_long : (t : State) → IsLong (setting_from program (given_of s.given) forms_of None) t
-      → IsLong (setting_of s) t
-  back_long t l = subst (λ n. most_terms < n)
-      (alike_length (setting_of s) (start_list program) t) (subst (λ C. IsLong C t) same l)
-
-  follow_steps : (gs : List (Terms Fraction)) (qs : List (List (List (Terms Fraction))))
-      → AreSteps (setting_of s) gs qs
-      → AreSteps (setting_from program (given_of s.given) forms_of None)
-      gs qs
-  follow_steps gs qs h = subst (λ C. AreSteps C gs qs) (sym same) (record {
+  follow_steps : {gs : List (Terms Fraction)} {qs : List (List (List (Terms Fraction)))}
+      → AreSteps (setting_of s) gs qs → AreSteps A gs qs
+  follow_steps {gs = gs} {qs = qs} h = subst (λ C. AreSteps C gs qs) (sym same) (record {
     count = h.count;
     each = λ b l. record {
       count = (h.each b l).count;
@@ -207,141 +208,92 @@ module _ (program : Program (Expr ℕ)) (w : IsWellFormed program) (s : Setting)
 
   -- the es lead to t, and no task on the way is too long
   short_of : (es : List Entry) (t : State) → IsRun (short_moves (setting_of s)) fresh es t
-      → (IsLong (setting_of s) t → ⊥) → AreShortFrom program (given_of s.given) es
+      → (IsLong (setting_of s) t → ⊥) → AreShortFrom program given es
   short_of es t r short fs gs u parts f long =
-      let one = forms_are_one program f.forms forms_of f.are_forms are_forms in
+      let one = forms_are_one program f.forms forms f.are_forms
+      (are_forms program here.formed s here.fits here.is) in
       each_short (setting_of s) fs gs fresh t u
       (subst (λ xs. IsRun (short_moves (setting_of s)) fresh xs t) parts r) short
-      (back_run fs u (subst (λ xs. IsRun (moves (setting_from program (given_of s.given) xs None))
-      fresh fs u) one f.run))
-      (back_long u (subst (λ xs. IsLong (setting_from program (given_of s.given) xs None) u) one
-      long))
+      (back_run fs u (subst (λ xs. IsRun (moves (setting_from program given xs None)) fresh fs u)
+      one f.run))
+      (subst (λ n. most_terms < n) (same_length u)
+      (subst (λ xs. IsLong (setting_from program given xs None) u) one long))
 
   follows : (es : List Entry) (t : State) → IsRun (short_moves (setting_of s)) fresh es t
-      → FollowsFrom program (given_of s.given) None es t
+      → FollowsFrom program given None es t
   follows es t r = record {
-    forms = forms_of;
-    are_forms = are_forms;
+    forms = forms;
+    are_forms = are_forms program here.formed s here.fits here.is;
     run = follow_run es t (any_run (setting_of s) fresh t es r);
   }
 
   -- ---- a finished analysis
-  module _ (es : List Entry) (k : ℕ) (gs : List (Terms Fraction))
-      (c : Comes (setting_of s) es (finished k gs)) where
-    pub finished_of : IsFinishedBy program (given_of s.given) es k gs
-    unfolding follows
-    finished_of = record {
-      state = c.state;
-      follows = follows es c.state c.run;
-      is = follow_next c.state (finished k gs) c.is;
-    }
+  pub finished_of : {es : List Entry} {k : ℕ} {gs : List (Terms Fraction)}
+      → Comes (setting_of s) es (finished k gs) → IsFinishedBy program given es k gs
+  unfolding follows
+  finished_of {es} {k} {gs} c = record {
+    state = c.state;
+    follows = follows es c.state c.run;
+    is = follow_next c.state c.is;
+  }
 
-    -- from the starts
-    module _ (plain : s.given ≡ None) where
-      plain_finished : IsFinished program es k gs
-      plain_finished = subst (λ (o : Option (Vec FracPoly)). IsFinishedBy program (given_of o) es k
-          gs) plain finished_of
-
-      pub basis_of : IsReducedFor rationals grevlex (length program.names) gs (Inv program)
-      basis_of = (finished_is program w es k gs plain_finished).2
-
-      pub level_of : IsLeastLevel program k
-      level_of =
-          let f = finished_is program w es k gs plain_finished in
-          let here = level_of_round program w k gs f.0 in
-          let all = invariants_of_closed_round program w k gs f.0 f.1 in
-          record {
-            all = λ p. (
-              (λ i. all.only p i.arity (here.all p i.arity i)),
-              (λ i. here.only p i.arity (all.all p i.arity i)),
-            );
-            least = first_closed_round program w k gs f.0;
-          }
-
-    -- from the list that is given
-    module _ (v : Vec FracPoly) (at : s.given ≡ Some v) (firsts : List (Terms Fraction))
-        (same_list : terms_each v.items ≡ firsts) (reduced : IsReducedList (length program.names)
-        firsts) where
-      pub kept_of : IsReducedFor rationals grevlex (length program.names) gs (IsKept program firsts)
-      kept_of = (finished_from program w.some_branch firsts reduced es k gs
-          (subst (λ ts. IsFinishedBy program (Some ts) es k gs) same_list
-          (subst (λ (o : Option (Vec FracPoly)). IsFinishedBy program (given_of o) es k gs) at
-          finished_of))).2
-
-  pub closed_by : (a : Analysis) (es : List Entry)
+  pub closed_by : (a : Analysis) {es : List Entry}
       → Comes (setting_of s) es (closed a.rounds a.basis.items)
-      → HasSteps s a.basis.items a.steps.items
-      → IsClosedByFrom program (given_of s.given) a es
+      → HasSteps s a.basis.items a.steps.items → IsClosedByFrom program given a es
   unfolding finished_of
-  closed_by a es c h = record {
-    finished = finished_of es a.rounds (terms_each a.basis.items) c;
-    steps = follow_steps (terms_each a.basis.items) (seen_steps a.steps.items) h;
+  closed_by a {es = es} c h = record {
+    finished = finished_of c;
+    steps = follow_steps h;
     short = short_of es c.state c.run c.short;
   }
 
-  pub valid_of : s.given ≡ None → (a : Analysis) (es : List Entry)
-      → Comes (setting_of s) es (closed a.rounds a.basis.items)
-      → HasSteps s a.basis.items a.steps.items
-      → IsValid program (certificate_of a)
-  valid_of plain a es c h =
-      closed_valid program w (given_of s.given) forms_of forms_count (terms_each a.basis.items)
-      (basis_of es a.rounds (terms_each a.basis.items) c plain) (seen_steps a.steps.items)
-      (follow_steps (terms_each a.basis.items) (seen_steps a.steps.items) h)
-
-  pub square_of : (a : Analysis) (es : List Entry) → (I : Terms Fraction → Type 0)
+  pub square_of : (a : Analysis) (I : Terms Fraction → Type 0)
       → IsReducedFor rationals grevlex (length program.names) (terms_each a.basis.items) I
       → HasSteps s a.basis.items a.steps.items
       → All (λ (rows : Vec (Vec FracPoly)). All (λ (row : Vec FracPoly). AreOver s.arity row.items)
       rows.items) a.steps.items
       → All (λ (rows : Vec (Vec FracPoly)). IsSquare (length program.names) (length a.basis.items)
       rows.items) a.steps.items
-  square_of a es I reduced h over = λ b rows within. (
+  square_of a I reduced h over = λ b rows within. (
       let gs = terms_each a.basis.items in
-      let steps = follow_steps gs (seen_steps a.steps.items) h in
+      let steps = follow_steps h in
+      let counted = forms_count program here.formed s here.fits here.is in
       let size : length gs ≡ length a.basis.items = length-map a.basis.items terms_in in
       let count : length a.steps.items ≡ length program.branches =
       sym (length-map a.steps.items (λ (v : Vec (Vec FracPoly)). seen_branch_steps v.items))
-      ∙ steps.count ∙ forms_count in
+      ∙ steps.count ∙ counted in
       let inside : b < length program.branches = omega (arith, within, count) in
       let seen_is : get_or (seen_steps a.steps.items) b [] ≡ seen_branch_steps
       (get_or a.steps.items b rows).items = get_or-map (λ (v : Vec (Vec FracPoly)).
       seen_branch_steps v.items) a.steps.items b rows [] within in
-      let each = steps.each b (omega (arith, inside, forms_count)) in
-      square_is (length program.names) (length a.basis.items) (get_or a.steps.items b rows).items
-      (ap length (sym seen_is) ∙ each.count ∙ size)
-      (λ i l. ap (λ xs. length (get_or xs i [])) (sym seen_is)
-      ∙ row_long program w (given_of s.given) forms_of forms_count gs I reduced
-      (get_or (get_or (seen_steps a.steps.items) b []) i []) b i inside
-      (omega (arith, l, size)) (each.each i (omega (arith, l, size))) ∙ size)
-      (subst (λ n. All (λ (row : Vec FracPoly). AreOver n row.items)
-      (get_or a.steps.items b rows).items) is.arity (over b rows within)))
+      let each = steps.each b (omega (arith, inside, counted)) in
+      square_is (length program.names) (length a.basis.items) _
+      (ap length (sym seen_is) ∙ each.count ∙ size) (λ i l. ap (λ xs. length (get_or xs i []))
+      (sym seen_is) ∙ row_long program here.formed given forms counted gs I reduced b i inside
+      (omega (arith, l, size)) (each.each i (omega (arith, l, size))) ∙ size) (subst (λ n. All
+      (λ (row : Vec FracPoly). AreOver n row.items) (get_or a.steps.items b rows).items)
+      here.is.arity (over b rows within)))
 
-  pub comes_followed : (es : List Entry) (step : Step) → Comes (setting_of s) es step
-      → HasFollowedFrom program (given_of s.given) es
-  comes_followed es step c = inr (record {
-    state = c.state;
-    follows = follows es c.state c.run;
-  })
+  pub comes_followed : {es : List Entry} (step : Step) → Comes (setting_of s) es step
+      → HasFollowedFrom program given es
+  comes_followed {es = es} step c =
+      inr (record { state = c.state; follows = follows es c.state c.run })
 
   -- ---- a refusal
   pub refuses_followed : (after : Journal) (e : AnalyseError) → Refuses (setting_of s) after e
-      → HasFollowedFrom program (given_of s.given) after.entries
+      → HasFollowedFrom program given after.entries
   refuses_followed after (error.Map e) h = absurd h
   refuses_followed after (error.Branch b e) h = absurd h
   refuses_followed after (error.Limit task) h =
       inr (record { state = h.state; follows = follows after.entries h.state h.run })
   refuses_followed after (error.Wide task) h =
       inr (record { state = h.state; follows = follows after.entries h.state h.run })
-  refuses_followed after error.Budget h =
-      inr (record {
-        state = h.comes.state;
-        follows = follows after.entries h.comes.state h.comes.run;
-      })
+  refuses_followed after error.Budget h = comes_followed _ h.comes
   refuses_followed after error.Memory h =
       inr (record { state = h.state; follows = follows after.entries h.state h.run })
 
   pub is_stopped : (after : Journal) (e : AnalyseError) → Refuses (setting_of s) after e
-      → IsStoppedFrom program (given_of s.given) after e
+      → IsStoppedFrom program given after e
   unfolding follows
   is_stopped after (error.Map e) h = absurd h
   is_stopped after (error.Branch b e) h = absurd h
@@ -349,7 +301,7 @@ module _ (program : Program (Expr ℕ)) (w : IsWellFormed program) (s : Setting)
     state = h.state;
     follows = follows after.entries h.state h.run;
     is_task = h.is_task;
-    long = follow_long h.state h.long;
+    long = subst (λ n. most_terms < n) (sym (same_length h.state)) h.long;
   }
   is_stopped after (error.Wide task) h = record {
     state = h.state;
@@ -363,13 +315,49 @@ module _ (program : Program (Expr ℕ)) (w : IsWellFormed program) (s : Setting)
     comes = record {
       state = h.comes.state;
       follows = follows after.entries h.comes.state h.comes.run;
-      is = follow_next h.comes.state (analysis.goes h.entry h.following) h.comes.is;
+      is = follow_next h.comes.state h.comes.is;
     };
     unit = h.unit;
     exhausted = h.exhausted;
   }
   is_stopped after error.Memory h =
       inr (record { state = h.state; follows = follows after.entries h.state h.run })
+
+-- from the starts
+module _ {program : Program (Expr ℕ)} {s : Setting} (here : IsAnalysisOf program s None) where
+  module _ {es : List Entry} {k : ℕ} {gs : List (Terms Fraction)}
+      (c : Comes (setting_of s) es (finished k gs)) where
+    pub basis_of : IsReducedFor rationals grevlex (length program.names) gs (Inv program)
+    basis_of = (finished_is program here.formed es k gs (finished_of here c)).2
+
+    pub level_of : IsLeastLevel program k
+    level_of =
+        let f = finished_is program here.formed es k gs (finished_of here c) in
+        let level = level_of_round program here.formed k gs f.0 in
+        let all = invariants_of_closed_round program here.formed k gs f.0 f.1 in
+        record {
+          all = λ p. (
+            (λ i. all.only p i.arity (level.all p i.arity i)),
+            (λ i. level.only p i.arity (all.all p i.arity i)),
+          );
+          least = first_closed_round program here.formed k gs f.0;
+        }
+
+  pub valid_of : (a : Analysis) {es : List Entry}
+      → Comes (setting_of s) es (closed a.rounds a.basis.items)
+      → HasSteps s a.basis.items a.steps.items → IsValid program (certificate_of a)
+  valid_of a c h =
+      closed_valid program here.formed None (forms here)
+      (forms_count program here.formed s here.fits here.is) (basis_of c) (follow_steps here h)
+
+-- from the list that is given
+pub kept_of : {program : Program (Expr ℕ)} {s : Setting} {firsts : List (Terms Fraction)}
+    → IsAnalysisOf program s (Some firsts) → IsReducedList (length program.names) firsts
+    → {es : List Entry} {k : ℕ} {gs : List (Terms Fraction)}
+    → Comes (setting_of s) es (finished k gs)
+    → IsReducedFor rationals grevlex (length program.names) gs (IsKept program firsts)
+kept_of {program} {firsts = firsts} here reduced {es} {k} {gs} c =
+    (finished_from program here.formed.some_branch firsts reduced es k gs (finished_of here c)).2
 
 -- where no map and no branch is refused
 pub refused_stopped : (program : Program (Expr ℕ)) (given : Option (List (Terms Fraction)))
@@ -381,6 +369,13 @@ refused_stopped program given free forms before after (error.Limit task) h = (fr
 refused_stopped program given free forms before after (error.Wide task) h = (free, forms, h)
 refused_stopped program given free forms before after error.Budget h = (free, forms, h)
 refused_stopped program given free forms before after error.Memory h = h
+
+pub refused_at : {program : Program (Expr ℕ)} {s : Setting}
+    {given : Option (List (Terms Fraction))} → IsAnalysisOf program s given → AreFree program
+    → (before after : Journal) (e : AnalyseError) → Refuses (setting_of s) after e
+    → IsRefusedFrom program given before after e
+refused_at {program} {s} {given} here free before after e h = refused_stopped program given free
+    (all_have program here.formed s here.fits here.is) before after e (is_stopped here after e h)
 
 -- ---- how many elements the basis has at most
 pub few_at : (program : Program (Expr ℕ)) (s : Setting) → IsSettingOf program s → s.given ≡ None
@@ -428,35 +423,3 @@ given_list s v at firsts gs copied same arities over reduced units = record {
       ap length (copied ∙ sym same) in
       omega (arith, most, a, b, c));
 }
-
--- ---- in the words of what is given
-module _ (program : Program (Expr ℕ)) (w : IsWellFormed program) (s : Setting)
-    (fits : FitsSetting s)
-    (is : IsSettingOf program s) (given : Option (List (Terms Fraction))) (at : given_of s.given
-    ≡ given) where
-  pub closed_at : (a : Analysis) (es : List Entry)
-      → Comes (setting_of s) es (closed a.rounds a.basis.items)
-      → HasSteps s a.basis.items a.steps.items
-      → IsClosedByFrom program given a es
-  closed_at a es c h = subst (λ o. IsClosedByFrom program o a es) at (closed_by program w s fits is
-      a es c h)
-
-  pub followed_at : (es : List Entry) (step : Step) → Comes (setting_of s) es step
-      → HasFollowedFrom program given es
-  followed_at es step c = subst (λ o. HasFollowedFrom program o es) at
-      (comes_followed program w s fits is es step c)
-
-  pub refuses_at : (after : Journal) (e : AnalyseError) → Refuses (setting_of s) after e
-      → HasFollowedFrom program given after.entries
-  refuses_at after e h = subst (λ o. HasFollowedFrom program o after.entries) at
-      (refuses_followed program w s fits is after e h)
-
-  pub stopped_at : (after : Journal) (e : AnalyseError) → Refuses (setting_of s) after e
-      → IsStoppedFrom program given after e
-  stopped_at after e h = subst (λ o. IsStoppedFrom program o after e) at
-      (is_stopped program w s fits is after e h)
-
-  pub refused_at : AreFree program → (before after : Journal) (e : AnalyseError)
-      → Refuses (setting_of s) after e → IsRefusedFrom program given before after e
-  refused_at free before after e h = refused_stopped program given free
-      (all_have program w s fits is) before after e (stopped_at after e h)

@@ -83,9 +83,9 @@ module _ (program : Program (Expr ℕ)) where
       }
 
   -- the maps as the loop gives them
-  pub maps_formed : (maps : List (Vec Polynomial Global))
+  pub maps_formed : {maps : List (Vec Polynomial Global)}
       → AreBranchMaps program maps program.branches → AreMaps program maps
-  maps_formed maps h = record {
+  maps_formed {maps = maps} h = record {
     count = maps_count program maps h;
     each = λ b d l. let inside : b < length maps =
         (let c = maps_count program maps h in omega (arith, c, l)) in

@@ -8,11 +8,10 @@
 --   item_at             an element of a list, at a place within it
 use Rattle.std.proofs.Common.{◌≡◌, ◌⊎◌, inl, inr, ℕ, zero, suc, ◌<◌, ◌≤◌, ◌+◌, Bool, true, false, List, [], ◌∷◌, ◌++◌, map, length, get_or, refl, sym, ap, ap₂, subst, ◌∙◌, arith, Vec, Global}
 use Rattle.std.proofs.lemmas.Bool.{cases_lt}
-use Rattle.std.proofs.lemmas.List.{length-map, length-append}
+use Rattle.std.proofs.lemmas.List.{length-map, length-append, get_or_past, get_or_append_left, get_or_push}
 use Rattle.std.proofs.lemmas.List.Elements.{All-head, All-tail}
 use Rattle.algebra.specs.Each.{Each}
 use Rattle.algebra.specs.Sum.{sum_over}
-use Rattle.std.proofs.lemmas.List.{get_or_append_left, get_or_push}
 use Rattle.algebra.proofs.Basics.{below_or_last}
 use Rattle.algebra.proofs.Each.{each_weaker}
 use Rattle.algebra.specs.Fraction.{Fraction, ℚ, rationals}
@@ -45,7 +44,7 @@ use Rattle.rounds.specs.Word.{branch_of}
 use Rattle.ideal_ops.specs.Calls as ideal
 use Rattle.solvable.specs.Refusal.{IsSolvable}
 use Rattle.closed_forms.specs.Lengths.{IsShort}
-use Rattle.closed_forms.specs.Refusal.{AllPass, Refusal, not_solvable, eigenvalues, range, wide_split, limit_form, wide_form, IfFormRefused, IfRefusedBy}
+use Rattle.closed_forms.specs.Refusal.{AllPass, Refusal, IfFormRefused, IfRefusedBy}
 use Rattle.closed_forms.specs.View.{ArePassing, IsFormOf}
 use Rattle.closed_forms.specs.Values.{bodies_of, AreOver, IsExpoOver}
 use Rattle.closed_forms.specs.declared.Form.{Form}
@@ -126,17 +125,12 @@ same_tests false b h k = sym (h refl)
 same_tests true false h k = k refl
 same_tests true true h k = refl
 
-beyond : {X : Type 0} (xs : List X) (i : ℕ) (d : X) → length xs ≤ i → get_or xs i d ≡ d
-beyond [] i d l = refl
-beyond (x ∷ xs) zero d l = absurd (omega (arith, l))
-beyond (x ∷ xs) (suc i) d l = beyond xs i d (omega (arith, l))
-
 nobody : (m : ℕ) (zs : List (Terms Fraction))
     → has_terms (collect rationals grevlex (compose ℚ m [] zs ++ negate ℚ [])) ≡ false
 unfolding collect Algebra.negate evaluate sum_over
 nobody m zs = refl
 
-module _ (f : Form) (m : ℕ) (coprime : Coprime (sizes f.base.items))
+module _ (f : Form) {m : ℕ} (coprime : Coprime (sizes f.base.items))
     (polys : length (bodies_of f.polys.items) ≡ m) (count : length f.passing.items ≡ m)
     (told : ArePassing (sizes f.base.items) m (bodies_of f.polys.items) f.passing.items) where
   passes_beyond : (i : ℕ) → m ≤ i → passes (form_of f) m i ≡ false
@@ -144,8 +138,8 @@ module _ (f : Form) (m : ℕ) (coprime : Coprime (sizes f.base.items))
   passes_beyond i l =
       ap₂ (λ p v. has_terms (collect rationals grevlex
       (compose ℚ m p (zero_images (length (sizes f.base.items)) m) ++ negate ℚ v)))
-      (beyond (bodies_of f.polys.items) i [] (omega (arith, l, polys)))
-      (beyond (variables ℚ m) i [] (let v = length-variables m in omega (arith, l, v)))
+      (get_or_past (bodies_of f.polys.items) i [] (omega (arith, l, polys)))
+      (get_or_past (variables ℚ m) i [] (let v = length-variables m in omega (arith, l, v)))
       ∙ nobody m (zero_images (length (sizes f.base.items)) m)
 
   pub passing_is : (i : ℕ) → get_or f.passing.items i false ≡ passes (form_of f) m i
@@ -155,7 +149,7 @@ module _ (f : Form) (m : ℕ) (coprime : Coprime (sizes f.base.items))
       go (inl l) = same_tests _ _
           (λ e. passes_of (form_of f) coprime m i l (omega (arith, l, polys)) ((told i l).0 e))
           (λ e. (told i l).1 (stays_of (form_of f) coprime m i l (omega (arith, l, polys)) e))
-      go (inr l) = beyond f.passing.items i false (omega (arith, l, count))
+      go (inr l) = get_or_past f.passing.items i false (omega (arith, l, count))
           ∙ sym (passes_beyond i l)
 
 -- ---- its parts
@@ -225,7 +219,7 @@ fits_branch b s h terms widths =
       form_count = h.count ∙ size;
       early = h.early;
       passing_count = h.told ∙ size;
-      passing = passing_is b.form (length b.images.items) h.base.is.coarsest.base.coprime
+      passing = passing_is b.form h.base.is.coarsest.base.coprime
           (polys ∙ size) (h.told ∙ size)
           (subst (λ n. ArePassing base n (bodies_of b.form.polys.items) b.form.passing.items) size
           h.passes);
@@ -264,9 +258,9 @@ module _ (program : Program (Expr ℕ)) where
     short = i.short;
   }
 
-  pub all_forms : (cs : List Branch) (n : ℕ) → AreBranchesTo program n cs → (b : ℕ) → b < n
+  pub all_forms : {cs : List Branch} {n : ℕ} → AreBranchesTo program n cs → (b : ℕ) → b < n
       → HasForm program (suc b)
-  all_forms cs n h b l = let d = item_at cs b (let c = h.count in omega (arith, c, l)) in
+  all_forms {cs = cs} h b l = let d = item_at cs b (let c = h.count in omega (arith, c, l)) in
       has_form (suc b) (get_or cs b d) (h.each b d l)
 
   -- the branch of these images
@@ -285,28 +279,28 @@ module _ (program : Program (Expr ℕ)) where
     short = subst IsShort i.is few;
   }
 
-  pub refused_here : (n : ℕ) (images : Vec Polynomial Global) (cs : List Branch) (r : Refusal)
+  pub refused_here : (n : ℕ) {images : Vec Polynomial Global} (cs : List Branch) {r : Refusal}
       → n < length program.branches → IsMapIn program (suc n) images → AreBranchesTo program n cs
       → IfFormRefused (terms_each images.items) r → IsRefusedBranch program n r
-  refused_here n images cs r l i h cause = record {
+  refused_here n cs {r = r} l i h cause = record {
     within = l;
     is = subst (λ ms. IfFormRefused ms r) i.is cause;
-    before = λ c m. all_forms cs n h c m;
+    before = λ c m. all_forms h c m;
   }
 
   pub refused_at : (n : ℕ) (images : Vec Polynomial Global) (cs : List Branch) (e : FormsError)
       → n < length program.branches → IsMapIn program (suc n) images → AreBranchesTo program n cs
       → IfRefusedBy (terms_each images.items) e → IfRefusedBranch program (refused_branch n e)
   refused_at n images cs (forms_error.NotSolvable cycle) l i h r =
-      refused_here n images cs (not_solvable cycle.items) l i h r
+      refused_here n cs l i h r
   refused_at n images cs (forms_error.Eigen class) l i h r =
-      refused_here n images cs (eigenvalues class.items) l i h r
+      refused_here n cs l i h r
   refused_at n images cs (forms_error.Range class sum) l i h r =
-      refused_here n images cs (range class.items sum) l i h r
+      refused_here n cs l i h r
   refused_at n images cs (forms_error.WideSplit class candidate power row) l i h r =
-      refused_here n images cs (wide_split class.items candidate power row) l i h r
+      refused_here n cs l i h r
   refused_at n images cs (forms_error.LimitForm variable) l i h r =
-      refused_here n images cs (limit_form variable) l i h r
+      refused_here n cs l i h r
   refused_at n images cs (forms_error.WideForm variable) l i h r =
-      refused_here n images cs (wide_form variable) l i h r
+      refused_here n cs l i h r
   refused_at n images cs forms_error.Memory l i h r = tt

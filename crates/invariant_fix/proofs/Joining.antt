@@ -2,43 +2,25 @@
 --   ended_with_nothing     where the basis is empty
 --   followed               the journal of an analysis is a beginning
 --   ended_by, wide_by, exhausted_by, worked_by     what the elimination has done
---   moved_so, stopped_so     what it did, told with as many variables as the loop, and from the list that is borrowed; stopped_so: where it was refused
-use Rattle.std.proofs.Common.{◌≡◌, inl, inr, ℕ, List, [], length, refl, sym, ap, subst, Vec, Global}
-use Rattle.machines.specs.Completion as completion
-use Rattle.machines.specs.Elimination as elimination
-use Rattle.machines.specs.Elimination.{free_part}
+use Rattle.std.proofs.Common.{inl, inr, ℕ, List, [], length, sym, ap, subst, Vec, Global}
 use Rattle.machines.specs.Journal.{Journal, Entry}
 use Rattle.machines.specs.Machine.{Outcome, done, stopped, too_wide, out_of_units, out_of_memory, Ran}
-use Rattle.machines.specs.Pairs.{skip_covered}
-use Rattle.machines.specs.Run.{HasEnded}
-use Rattle.machines.specs.Tidying as tidying
 use Rattle.machines.proofs.Working.{work_begun}
 use Rattle.loops.specs.Program.{Expr, Program}
 use Rattle.rounds.specs.Journal.{IsFinished}
 use Rattle.poly.specs.Seen.{terms_each}
 use Rattle.loop_model.specs.FracPoly.{FracPoly}
-use Rattle.divide.specs.Outcomes.{refusal_of}
-use Rattle.divide.specs.declared.EngineError.{EngineError}
 use Rattle.invariant_fix.specs.Refusals as analysis
-use Rattle.corollaries.specs.Order.{starting}
-use Rattle.corollaries.specs.Journal.{elimination_from, list_of, IsEnded, IsOut, IsStopped, HasFollowed, HasWorkedBehind}
+use Rattle.corollaries.specs.Order.{starting, hidden}
+use Rattle.corollaries.specs.Journal.{elimination_from, IsEnded, IsOut, IsStopped, HasFollowed, HasWorkedBehind}
 use Rattle.invariant_fix.specs.Ordering.{IsListOf}
-
-nothing_comes : (m : ℕ) (is : List ℕ)
-    → HasEnded (elimination_from m is []).next (elimination_from m is []).start
-unfolding elimination.next completion.next completion.next_completion completion.next_pair
-    completion.with_elements skip_covered starting tidying.next tidying.next_drop tidying.drop_from
-    tidying.next_tail tidying.tail_from tidying.by_lead free_part
-nothing_comes m is = refl
-
-nothing_is : (m : ℕ) (is : List ℕ) → [] ≡ list_of m is (elimination_from m is []).start
-unfolding completion.with_elements starting free_part tidying.by_lead
-nothing_is m is = refl
+use Rattle.invariant_fix.proofs.Leading.{nothing_comes, nothing_is}
 
 module _ (program : Program (Expr ℕ)) (is : List ℕ) where
-  pub ended_with_nothing : (es : List Entry) (k : ℕ) → IsFinished program es k []
+  pub ended_with_nothing : (es : List Entry) {k : ℕ} → IsFinished program es k []
       → IsEnded program is es []
-  ended_with_nothing es k finished = record {
+  unfolding starting
+  ended_with_nothing es {k = k} finished = record {
     analysed = es;
     rounds = k;
     basis = [];
@@ -48,18 +30,18 @@ module _ (program : Program (Expr ℕ)) (is : List ℕ) where
       finished = record {
         work = work_begun (elimination_from (length program.names) is []).next
             (elimination_from (length program.names) is []).start es;
-        ended = nothing_comes (length program.names) is;
+        ended = nothing_comes (length (hidden (length program.names) is));
       };
-      list = nothing_is (length program.names) is;
+      list = nothing_is (length (hidden (length program.names) is));
     };
   }
 
-  pub followed : (es : List Entry) → analysis.HasFollowed program es → HasFollowed program is es
-  followed es (inl none) = inl none
-  followed es (inr h) = inr (inl (record { state = h.state; follows = h.follows }))
+  pub followed : {es : List Entry} → analysis.HasFollowed program es → HasFollowed program is es
+  followed (inl none) = inl none
+  followed (inr h) = inr (inl (record { state = h.state; follows = h.follows }))
 
-  module _ (before after : Journal) (k : ℕ) (gs : List FracPoly)
-      (finished : IsFinished program before.entries k (terms_each gs)) where
+  module _ (before after : Journal) {k : ℕ} (gs : List FracPoly) (finished : IsFinished program
+      before.entries k (terms_each gs)) where
     abbrev Did : Outcome (Vec FracPoly Global) → Type 0
     Did o = Ran (elimination_from (length program.names) is (terms_each gs))
         (IsListOf (length program.names) is) before after o
@@ -117,22 +99,3 @@ module _ (program : Program (Expr ℕ)) (is : List ℕ) where
     ]
     worked_by (stopped out_of_units) r = behind_so (record { at = r.to.at; work = r.to.work })
     worked_by (stopped out_of_memory) r = behind_so r.to
-
-pub moved_so : (is : List ℕ) (before after : Journal) (m n : ℕ) (gs hs : List FracPoly)
-    (o : Outcome (Vec FracPoly Global)) → m ≡ n → gs ≡ hs
-    → Ran (elimination_from m is (terms_each gs)) (IsListOf m is) before after o
-    → Ran (elimination_from n is (terms_each hs)) (IsListOf n is) before after o
-moved_so is before after m n gs hs o a b h =
-    subst (λ k. Ran (elimination_from k is (terms_each hs)) (IsListOf k is) before after o) a
-    (subst (λ l. Ran (elimination_from m is (terms_each l)) (IsListOf m is) before after o) b h)
-
-pub stopped_so : (is : List ℕ) (before after : Journal) (m n : ℕ) (gs hs : List FracPoly)
-    (e f : EngineError) → m ≡ n → gs ≡ hs → e ≡ f
-    → Ran (elimination_from m is (terms_each gs)) (IsListOf m is) before after
-    (stopped (refusal_of e))
-    → Ran (elimination_from n is (terms_each hs)) (IsListOf n is) before after
-    (stopped (refusal_of f))
-stopped_so is before after m n gs hs e f a b d h =
-    moved_so is before after m n gs hs (stopped (refusal_of f)) a b
-    (subst (λ x. Ran (elimination_from m is (terms_each gs)) (IsListOf m is) before after
-    (stopped (refusal_of x))) d h)

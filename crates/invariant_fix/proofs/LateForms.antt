@@ -16,7 +16,6 @@ use Rattle.poly.specs.Seen.{terms_each}
 use Rattle.coprime_base.specs.Sizes.{sizes}
 use Rattle.expo.specs.declared.exponential.Expo.{Expo}
 use Rattle.loop_model.specs.FracPoly.{FracPoly}
-use Rattle.closed_forms.specs.Values as values
 use Rattle.rounds.specs.Form.{Form, front, inverse_of_form, passes, passing, form_before, front_since, list_since, whole_orbit_list, late_orbit_list, iteration_before, iteration_graph}
 use Rattle.rounds.specs.Past.{IsPastComposed, IsPastGraph, IsPastOrbitSince, iteration_images}
 use Rattle.task_lists.specs.Late.{bodies_in, copies_in, front_in, orbit_of, iteration_of, IsPastOrbitOf, IsPastIterationOf, vars_in, which, form_in}
@@ -70,9 +69,9 @@ module _ (f : Form) (m : ℕ) (gs : List (Terms Fraction)) where
   later_past zero n p = absurd (n refl)
   later_past (suc d) n p = p
 
-module _ (b : Branch) (fits : FitsBranch (vars_of b) b) (some : 0 < vars_of b) (f : LateForm)
+module _ {b : Branch} (fits : FitsBranch (vars_of b) b) (f : LateForm)
     (base : f.base.now ≡ b.form.base) (polys : f.polys.now ≡ b.form.polys)
-    (back : f.back.now ≡ b.back) (told : f.passing.now ≡ b.form.passing) where
+    (told : f.passing.now ≡ b.form.passing) where
   pub vars_are : vars_in f ≡ vars_of b
   vars_are = ap (λ (v : Vec Bool). length v.items) told ∙ fits.passing_count
 
@@ -85,41 +84,21 @@ module _ (b : Branch) (fits : FitsBranch (vars_of b) b) (some : 0 < vars_of b) (
   polys_are : bodies_in f.polys.now.items ≡ (form_of b.form).polys
   polys_are = ap (λ (v : Vec Expo). bodies_in v.items) polys
 
-  form_is : form_in f ≡ record {
-    base = (form_of b.form).base;
-    polys = (form_of b.form).polys;
-    since
-        = 0;
-  }
+  -- the form, as its lists see it
+  abbrev seen : Form
+  seen = record { base = (form_of b.form).base; polys = (form_of b.form).polys; since = 0 }
+
+  form_is : form_in f ≡ seen
   form_is = λ i. record { base = base_is i; polys = polys_are i; since = 0 }
 
-  -- the form, as its lists see it
   seen_so : {T : Type 0} (of : Form → ℕ → (ℕ → Bool) → T) → of (form_in f) (vars_in f) (which f)
-      ≡ of (record { base = (form_of b.form).base; polys = (form_of b.form).polys; since = 0 })
-      (vars_of b) (passes (form_of b.form) (vars_of b))
+      ≡ of seen (vars_of b) (passes (form_of b.form) (vars_of b))
   seen_so of = ap (λ (g : Form). of g (vars_in f) (which f)) form_is
-      ∙ ap (λ n. of (record {
-        base = (form_of b.form).base;
-        polys = (form_of b.form).polys;
-        since = 0;
-      }) n (which f)) vars_are
-      ∙ ap (of (record { base = (form_of b.form).base; polys = (form_of b.form).polys; since = 0 })
-      (vars_of b)) which_is
+      ∙ ap (λ n. of seen n (which f)) vars_are ∙ ap (of seen (vars_of b)) which_is
 
   holds_so : (P : Form → ℕ → (ℕ → Bool) → Type 0) → P (form_in f) (vars_in f) (which f)
-      → P (record { base = (form_of b.form).base; polys = (form_of b.form).polys; since = 0 })
-      (vars_of b) (passes (form_of b.form) (vars_of b))
-  holds_so P p = subst (P (record {
-    base = (form_of b.form).base;
-    polys = (form_of b.form).polys;
-    since = 0;
-  }) (vars_of b)) which_is
-      (subst (λ n. P (record {
-        base = (form_of b.form).base;
-        polys = (form_of b.form).polys;
-        since
-            = 0;
-      }) n (which f)) vars_are
+      → P seen (vars_of b) (passes (form_of b.form) (vars_of b))
+  holds_so P p = subst (P seen (vars_of b)) which_is (subst (λ n. P seen n (which f)) vars_are
       (subst (λ (g : Form). P g (vars_in f) (which f)) form_is p))
 
   -- ---- an orbit

@@ -2,16 +2,14 @@
 --   values_count, values_over      the values behind the code, one for each variable
 --   list_is, past_is         the list that is made is that of the code, and where making it is past
 --   AreMade                  the list that an elimination begins with, as code has it, where it isn't empty;  made_first, made_arity, made_count
---   ran_so                   what is done with it;  over_of, few_mapped: over how many variables what comes of it is, and how much that is
+--   ran_so                   what is done with it;  over_made, few_mapped: over how many variables what comes of it is, and how much that is
 --   ran_nothing              where there is nothing to be eliminated from
---   nothing_there            a list of no elements
 --   empty_start, made_so     whether there is, as code sees it;  few_out: few_mapped, of a result
-use Rattle.std.proofs.Common.{◌≡◌, ◌≢◌, ◌⊎◌, inl, inr, Vec, Global, ℕ, ◌+◌, ◌-◌, ◌<◌, ◌≤◌, List, [], ◌∷◌, ◌++◌, map, get_or, length, vec_len, refl, sym, ap, ap₂, subst, ◌∙◌, arith}
+use Rattle.std.proofs.Common.{◌≡◌, ◌≢◌, ◌⊎◌, inl, inr, Vec, Global, ℕ, ◌+◌, ◌<◌, ◌≤◌, List, [], ◌∷◌, ◌++◌, map, get_or, length, vec_len, refl, sym, ap, ap₂, subst, ◌∙◌, arith}
 use Rattle.std.specs.List.{Any}
 use Rattle.std.specs.Prelude.{eqb, true, false, Result, Ok, Err, IfOk}
 use Rattle.std.proofs.lemmas.Bool.{eqb-true, eqb-false}
-use Rattle.std.proofs.lemmas.List.{append-nil, length-map, length-append, get_or-map, map-append}
-use Rattle.std.proofs.lemmas.List.Elements.{All-head}
+use Rattle.std.proofs.lemmas.List.{append-nil, nil_from_length, length-map, length-append, get_or-map, map-append}
 use Rattle.std.proofs.lemmas.Simd.{map-map}
 use Rattle.algebra.specs.Fraction.{Fraction, ℚ, rationals, fractions}
 use Rattle.algebra.proofs.Fractions.{ℚ_field, ℚ_ring}
@@ -28,8 +26,7 @@ use Rattle.machines.specs.Completion as completion
 use Rattle.machines.specs.Elimination as elimination
 use Rattle.machines.specs.Elimination.{free_part}
 use Rattle.machines.specs.Journal.{Journal, units_of}
-use Rattle.machines.specs.Machine.{Outcome, done, stopped, too_wide, out_of_units, out_of_memory, Ran}
-use Rattle.machines.specs.Machines as machines
+use Rattle.machines.specs.Machine.{Outcome, done, Ran}
 use Rattle.machines.specs.Pairs.{skip_covered}
 use Rattle.machines.specs.Run.{HasEnded}
 use Rattle.machines.specs.Tidying as tidying
@@ -49,6 +46,9 @@ use Rattle.ideal_ops.specs.Calls as ideal
 use Rattle.ideal_ops.specs.Calls.{AreOver, first_block, IsEliminationOf, elimination_way, elimination_of}
 use Rattle.invariant_fix.specs.Blocked.{Blocked}
 use Rattle.invariant_fix.proofs.Blocks.{graded_polynomial}
+use Rattle.invariant_fix.proofs.Forms.{item_at}
+use Rattle.invariant_fix.proofs.Eliminating.{AreStarting, not_empty, gens_count, block_first, block_arity, ran_of, over_of}
+use Rattle.invariant_fix.proofs.Started.{ran_started}
 use Rattle.loop_model.specs.declared.statement.Statement as code
 use Rattle.loop_runs.specs.Parts.{statements_in}
 use Rattle.corollaries.specs.Between.{code_order, starting, value_at_code, IsPastMaking, code_elimination, between}
@@ -84,22 +84,22 @@ module _ (program : Program (Expr ℕ)) (b : List code.Statement) (fs : List Fra
   bm y = get_or (branch_map program (statements_in b)) y []
 
   pub values_count : length fs ≡ length program.names
-  values_count = stands_length m fs (branch_map program (statements_in b)) stand
+  values_count = stands_length m fs _ stand
       ∙ length-branch_map program (statements_in b)
 
   pub values_over : AreOver (length program.names) fs
-  values_over = stands_over m fs (branch_map program (statements_in b)) stand
+  values_over = stands_over m fs _ stand
 
   value_arity : (y : ℕ) → Arity m (value y)
   value_arity y = arity_at m (terms_each fs) (arities_over m fs values_over) y
 
   bm_arity : (y : ℕ) → Arity m (bm y)
-  bm_arity y = arity_at m (branch_map program (statements_in b))
+  bm_arity y = arity_at m _
       (arity-branch_map program (statements_in b)) y
 
   same_at : (y : ℕ) → Same ℚ (value y) (bm y)
-  same_at y = AllSame-at ℚ (terms_each fs) (branch_map program (statements_in b))
-      (stands_same m fs (branch_map program (statements_in b)) stand) y
+  same_at y = AllSame-at ℚ (terms_each fs) _
+      (stands_same m fs _ stand) y
 
   before_arity : AllArity n (was m (statements_in b))
   before_arity = was_arity program (statements_in b)
@@ -145,14 +145,10 @@ module _ (program : Program (Expr ℕ)) (b : List code.Statement) (fs : List Fra
   value_is y l = collect-is ℚ_field grevlex grevlex_order m (bm y) (value y) (bm_arity y)
       (value_polynomial y l) (same_at y)
     where
-      element : (xs : List FracPoly) (i : ℕ) → i < length xs → FracPoly
-      element [] i l = absurd (omega (arith, l))
-      element (x ∷ xs) i l = x
-
       value_polynomial : (y : ℕ) → y < m → IsPolynomial ℚ grevlex m (value y)
       value_polynomial y l =
           let inside : y < length fs = (let e = values_count in omega (arith, e, l)) in
-          let p = element fs y inside in
+          let p = item_at fs y inside in
           subst (IsPolynomial ℚ grevlex m) (sym (get_or-map terms_in fs y p [] inside))
           (graded_polynomial m (get_or fs y p) (values_over y p inside))
 
@@ -184,7 +180,8 @@ module _ (program : Program (Expr ℕ)) (b : List code.Statement) (fs : List Fra
           )
 
 -- ---- nothing to be eliminated from
-nothing_comes : (k : ℕ) → HasEnded (elimination.next rationals (blocks k grevlex grevlex) grevlex
+pub nothing_comes : (k : ℕ)
+    → HasEnded (elimination.next rationals (blocks k grevlex grevlex) grevlex
     (free_part k)) (elimination.initial_state rationals (blocks k grevlex grevlex) [])
 unfolding elimination.next completion.next completion.next_completion completion.next_pair
     completion.with_elements skip_covered tidying.next tidying.next_drop tidying.drop_from
@@ -192,7 +189,7 @@ unfolding elimination.next completion.next completion.next_completion completion
     tidying.tail_from tidying.by_lead free_part
 nothing_comes k = refl
 
-nothing_is : (k : ℕ) → [] ≡ elimination.list_of grevlex (free_part k)
+pub nothing_is : (k : ℕ) → [] ≡ elimination.list_of grevlex (free_part k)
     (elimination.initial_state rationals (blocks k grevlex grevlex) [])
 unfolding completion.with_elements free_part tidying.by_lead
 nothing_is k = refl
@@ -257,71 +254,39 @@ module _ (program : Program (Expr ℕ)) (b : List code.Statement) (basis : List 
     pub block : HaveCopies (length program.names) b gens
     pub some : gens ≢ []
 
-  module _ (gens : List Blocked) (u : AreMade gens) where
-    not_empty : (gs : List Blocked) → gs ≢ [] → 0 < length gs
-    not_empty [] h = absurd (h refl)
-    not_empty (g ∷ gs) h = omega arith
+  module _ {gens : List Blocked} (u : AreMade gens) where
+    made_starting : AreStarting size (length program.names)
+        (starting program (statements_in b) (terms_each basis)) gens
+    made_starting = record { list = u.list; block = u.block }
 
-    here : (gs : List Blocked) → HaveCopies (length program.names) b gs → 0 < length gs
-        → (first_block gs ≡ size) × (arity_of gs ≡ all (length program.names) b)
-    here [] a l = absurd (omega (arith, l))
-    here (p ∷ gs) a l = All-head (λ (p : Blocked). (p.order.first ≡ size)
-        × (p.arity ≡ all (length program.names) b)) p gs a
+    filled : 0 < length (starting program (statements_in b) (terms_each basis))
+    filled =
+        let a = gens_count made_starting in let l = not_empty gens u.some in omega (arith, a, l)
 
     pub made_first : first_block gens ≡ size
-    made_first = (here gens u.block (not_empty gens u.some)).0
+    made_first = block_first made_starting filled
 
     pub made_arity : arity_of gens ≡ all (length program.names) b
-    made_arity = (here gens u.block (not_empty gens u.some)).1
+    made_arity = block_arity made_starting filled
 
     pub made_count : length gens ≡ length basis + size
-    made_count = sym (length-map gens terms_in) ∙ ap length u.list ∙ starting_count
+    made_count = gens_count made_starting ∙ starting_count
 
     -- the elimination from the gens is that of the code
-    pub ran_so : (before after : Journal) (o : Outcome (Vec FracPoly Global))
+    pub ran_so : {before after : Journal} (o : Outcome (Vec FracPoly Global))
         → Ran (elimination_of (elimination_way (first_block gens) gens))
         (ideal.IsListOf (elimination_way (first_block gens) gens)) before after o
         → Ran (between program (statements_in b) (terms_each basis))
         (IsListOf (length program.names) (statements_in b)) before after o
-    ran_so before after o h = go o (subst (λ ts. Said size ts o) u.list
-        (subst (λ k. Said k (terms_each gens) o) made_first h))
-      where
-        Said : ℕ → List (Terms Fraction) → Outcome (Vec FracPoly Global) → Type 0
-        Said k ts o = Ran (machines.elimination fractions (blocks k grevlex grevlex) grevlex
-            (free_part k)
-            ts)
-            (λ (hs : Vec FracPoly Global) s. terms_each hs.items ≡ elimination.list_of grevlex
-            (free_part k) s)
-            before after o
+    ran_so o h =
+        ran_started (code_elimination program (statements_in b) (terms_each basis)) inr o
+        (ran_of made_starting filled o h)
 
-        go : (o : Outcome (Vec FracPoly Global))
-            → Ran (code_elimination program (statements_in b) (terms_each basis))
-            (IsListOf (length program.names) (statements_in b)) before after o
-            → Ran (between program (statements_in b) (terms_each basis))
-            (IsListOf (length program.names) (statements_in b)) before after o
-        go (done hs) r = record {
-          limit = r.limit;
-          to = record { last = r.to.last; finished = r.to.finished; gives = r.to.gives };
-        }
-        go (stopped too_wide) r = record {
-          limit = r.limit;
-          to = elim r.to [ inl p ↦ inl p | inr p ↦ inr (p.0, inr p.1) ];
-        }
-        go (stopped out_of_units) r = record { limit = r.limit; to = r.to }
-        go (stopped out_of_memory) r = record { limit = r.limit; to = r.to }
-
-    pub over_of : (hs : List FracPoly) → IsEliminationOf gens hs
+    pub over_made : (hs : List FracPoly) → IsEliminationOf gens hs
         → AreOver (length program.names) hs
-    over_of hs h = subst (λ k. AreOver k hs) rest h.arity
-      where
-        rest : arity_of gens - first_block gens ≡ length program.names
-        rest = let a = made_first in let c = made_arity in omega (arith, a, c)
+    over_made hs h = over_of made_starting filled h
 
 -- ---- as code has them
-pub nothing_there : {X : Type 0} (xs : List X) → length xs ≡ 0 → xs ≡ []
-nothing_there [] l = refl
-nothing_there (x ∷ xs) l = absurd (omega (arith, l))
-
 module _ (program : Program (Expr ℕ)) (b : List code.Statement) (fs : List FracPoly)
     (stand : AllStandFor (length program.names) fs (branch_map program (statements_in b)))
     (basis : List FracPoly) (v : Vec Blocked Global) (list : IsCodeList b fs basis v.items) where
@@ -331,11 +296,11 @@ module _ (program : Program (Expr ℕ)) (b : List code.Statement) (fs : List Fra
       let e = eqb-true (vec_len v) 0 (sym t) in
       let ok = v.ok in
       sym (list_is program b fs stand basis v.items list)
-      ∙ ap terms_each (nothing_there v.items (omega (arith, e, ok)))
+      ∙ ap terms_each (nil_from_length v.items (omega (arith, e, ok)))
 
-  pub made_so : (gens : List Blocked) → gens ≡ v.items → HaveCopies (length fs) b v.items
+  pub made_so : {gens : List Blocked} → gens ≡ v.items → HaveCopies (length fs) b v.items
       → false ≡ eqb (vec_len v) 0 → AreMade program b basis gens
-  made_so gens same block t = record {
+  made_so same block t = record {
     list = ap terms_each same ∙ list_is program b fs stand basis v.items list;
     block = subst (HaveCopies (length program.names) b) (sym same)
         (subst (λ k. HaveCopies k b v.items) (values_count program b fs stand) block);

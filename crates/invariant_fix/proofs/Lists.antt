@@ -1,6 +1,6 @@
 -- The lists that tasks end with.
 --   units_begun            the units with the beginning of a task
---   list_bound             a list that a work has ended with is no more than what is kept at its beginning, and the units
+--   list_bound             a list that a work has ended with is no more than what is kept at its beginning, and the units;  units_follow: the units of before are among those after
 --   reduced_list           a reduced basis of a set is one of its own ideal
 --   none_of, empty_list    where the set has nothing but 0 there is no element; the empty list is reduced
 --   start_known, orbit_known, meet_known      what is known of the lists
@@ -34,6 +34,7 @@ use Rattle.poly.specs.Seen.{arity_of, terms_in, terms_each}
 use Rattle.divide.specs.Current.{AreDivisors}
 use Rattle.journal.specs.View.{with_entry}
 use Rattle.rounds.specs.Analysis.{Setting, Work, starting, order, block}
+use Rattle.rounds.specs.Past.{task_of_work}
 use Rattle.rounds.specs.Results.{IsReducedList}
 use Rattle.ideal_ops.specs.Calls as ideal
 use Rattle.ideal_ops.specs.Calls.{Way, elimination_of, IsListOf, AreOver, HaveOneArity, IsSum, IsIntersection}
@@ -47,7 +48,7 @@ use Rattle.invariant_fix.specs.Lists.{IsList}
 use Rattle.invariant_fix.specs.Steps.{Follow}
 use Rattle.invariant_fix.specs.declared.branch_in_work.BranchInWork.{BranchInWork}
 use Rattle.machines.proofs.Lengths.{made, list_few}
-use Rattle.invariant_fix.proofs.Tasks.{way_of}
+use Rattle.invariant_fix.proofs.Tasks.{way_of, IsUnderWay}
 
 -- ---- units
 pub units_begun : (old mid : Journal) (t : journal.Task) → mid ≡ with_entry old (Begin t)
@@ -56,14 +57,13 @@ units_begun old mid t e = ap (λ (j : Journal). units_of j.entries) e
     ∙ units-push old.entries (Begin t)
 
 -- ---- lengths
-module _ (A : Setting) (w : Work) (mid new : Journal) (W : Way fractions) (is : W ≡ way_of A w)
-    (P : Type 0) (ls : Vec FracPoly) (r : Ran (with_past_start (elimination_of W) P) (IsListOf W)
-    mid new
-    (done ls)) where
+module _ {A : Setting} {w : Work} {W : Way fractions} {P : Type 0} {old mid new : Journal}
+    (u : IsUnderWay A w W P old mid) (ls : Vec FracPoly)
+    (r : Ran (with_past_start (elimination_of W) P) (IsListOf W) mid new (done ls)) where
   ended : Ran (with_past_start (elimination_of (way_of A w)) P) (IsListOf (way_of A w)) mid new
       (done ls)
-  ended = subst (λ V. Ran (with_past_start (elimination_of V) P) (IsListOf V) mid new (done ls)) is
-      r
+  ended = subst (λ V. Ran (with_past_start (elimination_of V) P) (IsListOf V) mid new (done ls))
+      u.way r
 
   pub list_bound : length ls.items + units_of mid.entries
       ≤ length (free_part (block A w) (made rationals (block A w) (starting A w)))
@@ -76,14 +76,18 @@ module _ (A : Setting) (w : Work) (mid new : Journal) (W : Way fractions) (is : 
       let c = length-map ls.items terms_in in
       omega (arith, a, b, c)
 
-  pub units_follow : units_of mid.entries ≤ units_of new.entries
-  units_follow = let e = ended.to in let a = units_added mid.entries new.entries
-      e.finished.work.events e.finished.work.entries in omega (arith, a)
+  pub units_follow : Follow old new
+  units_follow =
+      let e = ended.to in
+      let a = units_added mid.entries new.entries e.finished.work.events e.finished.work.entries in
+      let b = units_begun old mid (task_of_work w) u.begun in
+      omega (arith, a, b)
 
 -- ---- reduced lists
-pub reduced_list : (m : ℕ) (ts : List (Terms Fraction)) (I : Terms Fraction → Type 0)
+pub reduced_list : {m : ℕ} {ts : List (Terms Fraction)} (I : Terms Fraction → Type 0)
     → IsReducedBasis rationals grevlex m ts I → IsReducedList m ts
-reduced_list m ts I b = reduced_along ℚ_field grevlex grevlex_order m ts I (IsMember ℚ m ts) (λ p h.
+reduced_list {m = m} {ts = ts} I b =
+    reduced_along ℚ_field grevlex grevlex_order m ts I (IsMember ℚ m ts) (λ p h.
     ((b.generates p h).1, (b.generates p h).0)) b.reduced
 
 none_polynomial : (m : ℕ) → IsPolynomial ℚ grevlex m []
@@ -134,9 +138,9 @@ pub arity_there : (m : ℕ) (ps : List FracPoly) → AreOver m ps → (ps ≡ []
 arity_there m [] a = inl refl
 arity_there m (p ∷ ps) a = inr (All-head (λ (q : FracPoly). q.arity ≡ m) p ps a)
 
-pub one_arity : (m : ℕ) (ps : List FracPoly) → AreOver m ps → HaveOneArity ps
-one_arity m [] a = All-nil _
-one_arity m (p ∷ ps) a = subst (λ n. AreOver n (p ∷ ps))
+pub one_arity : {m : ℕ} (ps : List FracPoly) → AreOver m ps → HaveOneArity ps
+one_arity [] a = All-nil _
+one_arity {m = m} (p ∷ ps) a = subst (λ n. AreOver n (p ∷ ps))
     (sym (All-head (λ (q : FracPoly). q.arity ≡ m) p ps a)) a
 
 pub over_append : (m : ℕ) (ps qs : List FracPoly) → AreOver m ps → AreOver m qs
@@ -150,9 +154,9 @@ few_arity m ps a l = go (arity_there m ps a)
     go (inl e) = subst (λ (q : List FracPoly). arity_of q ≤ 4095) (sym e) (omega arith)
     go (inr e) = omega (arith, e, l)
 
-pub reduced_at_own : (m most units : ℕ) (gs : List FracPoly) → IsList m most units gs
+pub reduced_at_own : {m : ℕ} (most units : ℕ) {gs : List FracPoly} → IsList m most units gs
     → IsReducedList (arity_of gs) (terms_each gs)
-reduced_at_own m most units gs k = go (arity_there m gs k.arity)
+reduced_at_own {m = m} most units {gs = gs} k = go (arity_there m gs k.arity)
   where
     go : (gs ≡ []) ⊎ (arity_of gs ≡ m) → IsReducedList (arity_of gs) (terms_each gs)
     go (inl e) = subst (λ (l : List FracPoly). IsReducedList (arity_of l) (terms_each l)) (sym e)
@@ -178,7 +182,7 @@ module _ (m : ℕ) (ps gs : List FracPoly) (over : AreOver m ps) where
           inr (
             subst (λ n. AreOver n gs) e h.arity,
             subst (λ n. IsReducedList n (terms_each gs)) e
-                (reduced_list p.arity (terms_each gs) _ h.reduced),
+                (reduced_list _ h.reduced),
           )
 
 module _ (m : ℕ) (hs ks gs : List FracPoly) (over : AreOver m hs) (too : AreOver m ks) where
@@ -190,7 +194,7 @@ module _ (m : ℕ) (hs ks gs : List FracPoly) (over : AreOver m hs) (too : AreOv
           → AreOver m gs × IsReducedList m (terms_each gs)
       at n e I h = (
         subst (λ k. AreOver k gs) e h.arity,
-        subst (λ k. IsReducedList k (terms_each gs)) e (reduced_list n (terms_each gs) I
+        subst (λ k. IsReducedList k (terms_each gs)) e (reduced_list I
             h.reduced),
       )
 
@@ -202,15 +206,15 @@ module _ (m : ℕ) (hs ks gs : List FracPoly) (over : AreOver m hs) (too : AreOv
       go [] (k ∷ ks) o q h = inr (at k.arity (All-head (λ (q : FracPoly). q.arity ≡ m) k ks q) _ h)
       go (p ∷ hs) ks o q h = inr (at p.arity (All-head (λ (q : FracPoly). q.arity ≡ m) p hs o) _ h)
 
-pub known : (m most units : ℕ) (gs : List FracPoly) → (gs ≡ [])
-    ⊎ (AreOver m gs × IsReducedList m (terms_each gs)) → length gs ≤ most + units
+pub known : {m : ℕ} (most units : ℕ) {gs : List FracPoly}
+    → (gs ≡ []) ⊎ (AreOver m gs × IsReducedList m (terms_each gs)) → length gs ≤ most + units
     → IsList m most units gs
-known m most units gs (inl e) l = nothing_known m most units gs e
-known m most units gs (inr h) l = record { arity = h.0; reduced = h.1; few = l }
+known {m = m} most units {gs = gs} (inl e) l = nothing_known m most units gs e
+known most units (inr h) l = record { arity = h.0; reduced = h.1; few = l }
 
-pub known_later : (m most k n : ℕ) (gs : List FracPoly) → IsList m most k gs → k ≤ n
-    → IsList m most n gs
-known_later m most k n gs h l = record {
+pub known_later : {m : ℕ} (most : ℕ) {k : ℕ} (n : ℕ) {gs : List FracPoly} → IsList m most k gs
+    → k ≤ n → IsList m most n gs
+known_later most n h l = record {
   arity = h.arity;
   reduced = h.reduced;
   few = (let f = h.few in omega (arith, f, l));
@@ -221,13 +225,13 @@ pub in_work_later : {w : BranchInWork} {old new : Journal} → IsInWork w old �
 in_work_later {w} {old} {new} h l = record {
   fits = h.fits;
   place = h.place;
-  basis = known_later w.setting.now.arity _ _ _ w.basis.now h.basis l;
+  basis = known_later _ _ h.basis l;
 }
 
 -- ---- in the words of division
-pub divisors_of : (o : Grevlex) (m most units : ℕ) (gs : List FracPoly) → IsList m most units gs
-    → AreDivisors o m gs
-divisors_of o m most units gs k i d l =
+pub divisors_of : (o : Grevlex) {m : ℕ} (most : ℕ) {units : ℕ} (gs : List FracPoly)
+    → IsList m most units gs → AreDivisors o m gs
+divisors_of o most gs k i d l =
     let g = get_or gs i d in (
       refl,
       k.arity i d l,
@@ -235,9 +239,9 @@ divisors_of o m most units gs k i d l =
     )
 
 -- ---- lists of more iterations
-pub known_more : (m most more k : ℕ) (gs : List FracPoly) → IsList m most k gs → most ≤ more
+pub known_more : (m most more k : ℕ) {gs : List FracPoly} → IsList m most k gs → most ≤ more
     → IsList m more k gs
-known_more m most more k gs h l = record {
+known_more m most more k h l = record {
   arity = h.arity;
   reduced = h.reduced;
   few = (let f = h.few in omega (arith, f, l));

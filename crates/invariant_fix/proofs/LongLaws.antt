@@ -38,22 +38,15 @@ some_is_few n None false h e t l = cc
 some_is_few n (Some k) b h e t l = let few = h.1 in omega (arith, few, l)
 
 pub copied : (b : Bool) (q : Terms Fraction) → b ≡ true → 1 ≡ cond b 1 (factor_terms q)
-copied true q e = refl
-copied false q e = absurd (cc)
+copied b q e = ap (λ t. cond t 1 (factor_terms q)) (sym e)
 
-pub uncopied : (b : Bool) (q : Terms Fraction) → b ≡ false
+pub uncopied : {b : Bool} (q : Terms Fraction) → b ≡ false
     → factor_terms q ≡ cond b 1 (factor_terms q)
-uncopied true q e = absurd (cc)
-uncopied false q e = refl
+uncopied q e = ap (λ t. cond t 1 (factor_terms q)) (sym e)
 
 pub some_terms : (b : Bool) (q : Terms Fraction) → 0 < cond b 1 (factor_terms q)
 some_terms true q = omega arith
 some_terms false q = at_least_one q
-
-told-cons : (b : Bool) (bs : List Bool) (q : Terms Fraction) (qs : List (Terms Fraction))
-    → lengths_told (b ∷ bs) (q ∷ qs) ≡ cond b 1 (factor_terms q) ∷ lengths_told bs qs
-unfolding lengths_told
-told-cons b bs q qs = refl
 
 told_each : (bs : List Bool) (qs : List (Terms Fraction)) → Each (λ n. 0 < n) (lengths_told bs qs)
 unfolding lengths_told Each
@@ -77,7 +70,8 @@ module _ (b : Bool) (bs whole : List Bool) (q : Terms Fraction) (qs all : List (
     (k : ℕ) (e exponents : List ℕ) (f : whole ≡ b ∷ bs) (g : all ≡ q ∷ qs) (h : exponents ≡ k ∷ e)
   where
     told_is : lengths_told whole all ≡ cond b 1 (factor_terms q) ∷ lengths_told bs qs
-    told_is = ap₂ lengths_told f g ∙ told-cons b bs q qs
+    unfolding lengths_told
+    told_is = ap₂ lengths_told f g
 
     pub told_more : (rest power : ℕ) (o : Option ℕ) → rest ≡ product_length (lengths_told bs qs) e
         → power ≡ power_length (cond b 1 (factor_terms q)) k → IsCount (power * rest) o
@@ -94,36 +88,21 @@ module _ (b : Bool) (bs whole : List Bool) (q : Terms Fraction) (qs all : List (
         exponents told_is h (told_each whole all) past
 
 -- ---- which variables pass
-told-nil : (bs : List Bool) → lengths_told bs [] ≡ []
-unfolding lengths_told
-told-nil [] = refl
-told-nil (b ∷ bs) = refl
-
-before-nil : (passes : ℕ → Bool) (i : ℕ) → lengths_before passes i [] ≡ []
-unfolding lengths_before
-before-nil passes i = refl
-
-before-cons : (passes : ℕ → Bool) (i : ℕ) (q : Terms Fraction) (qs : List (Terms Fraction))
-    → lengths_before passes i (q ∷ qs)
-    ≡ cond (passes i) 1 (factor_terms q) ∷ lengths_before passes (suc i) qs
-unfolding lengths_before
-before-cons passes i q qs = refl
-
 pub told_are : (passes : ℕ → Bool) (bs : List Bool) (qs : List (Terms Fraction)) (i : ℕ)
     → length bs ≡ length qs → ((j : ℕ) → get_or bs j false ≡ passes (i + j))
     → lengths_told bs qs ≡ lengths_before passes i qs
-told_are passes bs [] i e h = told-nil bs ∙ sym (before-nil passes i)
+unfolding lengths_told lengths_before
+told_are passes [] [] i e h = refl
+told_are passes (b ∷ bs) [] i e h = absurd (omega (arith, e))
 told_are passes [] (q ∷ qs) i e h = absurd (omega (arith, e))
 told_are passes (b ∷ bs) (q ∷ qs) i e h =
     let here : i + 0 ≡ i = omega arith in
     let first : b ≡ passes i = h 0 ∙ ap passes here in
-    told-cons b bs q qs
-    ∙ ap₂ ◌∷◌ (ap (λ x. cond x 1 (factor_terms q)) first)
+    ap₂ ◌∷◌ (ap (λ x. cond x 1 (factor_terms q)) first)
     (told_are passes bs qs (suc i) (omega (arith, e)) (λ j. h (suc j)
     ∙ (let later : i + suc j ≡ suc i + j = omega arith in ap passes later)))
-    ∙ sym (before-cons passes i q qs)
 
-module _ (b : Branch) (fits : FitsBranch (vars_of b) b) where
+module _ {b : Branch} (fits : FitsBranch (vars_of b) b) where
   counts : length b.form.passing.items ≡ length (terms_each b.back.items)
   counts =
       let e = fits.passing_count in
@@ -166,10 +145,9 @@ module _ (d : ℕ) (f : Form) (m : ℕ) (gs : List (Terms Fraction)) (late : d �
   pub form_long : most_terms < forms → most_terms < orbit_length_since d f m gs
   form_long h = let e = late_is d f m gs late in omega (arith, e, h)
 
-  pub late_length : (left right : ℕ) (o : Option ℕ)
-      → left ≡ lengths_behind 0 (form_lengths f m) gs → right ≡ forms
-      → IsCount (left + right) o → IsCount (orbit_length_since d f m gs) o
-  late_length left right o l r c = count_of _ _ o (ap₂ ◌+◌ l r ∙ late_is d f m gs late) c
+  pub late_length : {left right : ℕ} (o : Option ℕ) → left ≡ lengths_behind 0 (form_lengths f m) gs
+      → right ≡ forms → IsCount (left + right) o → IsCount (orbit_length_since d f m gs) o
+  late_length o l r c = count_of _ _ o (ap₂ ◌+◌ l r ∙ late_is d f m gs late) c
 
 -- ---- an iteration
 module _ (f : Form) (m : ℕ) (fs gs : List (Terms Fraction)) where
@@ -186,8 +164,8 @@ module _ (f : Form) (m : ℕ) (fs gs : List (Terms Fraction)) where
       → most_terms < iteration_length f m fs gs
   map_long h = let e = iteration_is in omega (arith, e, h)
 
-  pub iteration_sum : (left right : ℕ) (o : Option ℕ)
+  pub iteration_sum : {left right : ℕ} (o : Option ℕ)
       → left ≡ lengths_behind 0 (form_lengths f m) gs
-      → right ≡ lengths_behind 0 (form_lengths f m) fs
-      → IsCount (left + right) o → IsCount (iteration_length f m fs gs) o
-  iteration_sum left right o l r c = count_of _ _ o (ap₂ ◌+◌ l r ∙ iteration_is) c
+      → right ≡ lengths_behind 0 (form_lengths f m) fs → IsCount (left + right) o
+      → IsCount (iteration_length f m fs gs) o
+  iteration_sum o l r c = count_of _ _ o (ap₂ ◌+◌ l r ∙ iteration_is) c

@@ -20,6 +20,7 @@ use Rattle.loop_runs.specs.Limits.{most_loops}
 use Rattle.loop_runs.specs.Parts.{IsStageOf, AreStagesOf, statements_in, code_in, stage_of, stages_in}
 use Rattle.loop_runs.specs.declared.stage.Stage.{Stage}
 use Rattle.loop_runs.proofs.ChainParts.{loop_is_further}
+use Rattle.invariant_fix.proofs.Forms.{item_at}
 
 only_branch : {A : Type 0} (xs : List (List A)) → length xs ≡ 1 → xs ≡ get_or xs 0 [] ∷ []
 only_branch [] e = absurd (omega (arith, e))
@@ -47,15 +48,11 @@ module _ (c : Chain (Expr ℕ)) (gs : List Stage) (are : stages_in gs ≡ c.furt
   pub chain_formed : (l : Loop) → program_of l ≡ c.first → IsChain c
   chain_formed l is = record { formed = at }
     where
-      a_stage : (xs : List Stage) (j : ℕ) → j < length xs → Stage
-      a_stage [] j k = absurd (omega (arith, k))
-      a_stage (x ∷ xs) j k = x
-
       at : (j : ℕ) → j ≤ length c.further → IsWellFormed (loop_at c j)
       at zero k = subst IsWellFormed is (formed l)
       at (suc j) k =
           let inside : j < length gs = (let e = count_is in omega (arith, e, k)) in
-          let d = a_stage gs j inside in
+          let d = item_at gs j inside in
           let g = get_or gs j d in
           subst IsWellFormed (body_is c.first g (alike j d inside)
           ∙ ap (λ (s : spec.Stage (Expr ℕ)). loop_of c.first s.branches) (stage_at j d inside))
@@ -66,10 +63,10 @@ unfolding most_loops
 few_places n j few l = omega (arith, few, l)
 
 -- the code that a loop of one branch is, as code has it
-pub code_seen : (k : Loop) (bs : List (Vec code.Statement)) (b : Vec code.Statement)
+pub code_seen : (k : Loop) (bs : List (Vec code.Statement)) {b : Vec code.Statement}
     → map (λ (v : Vec code.Statement). map statement_of v.items) bs ≡ (program_of k).branches
     → 0 < length bs → b ≡ get_or bs 0 b → statements_in b.items ≡ code_in k
-code_seen k bs b seen some at =
+code_seen k bs {b = b} seen some at =
     ap (λ (v : Vec code.Statement). map statement_of v.items) at
     ∙ sym (get_or-map (λ (v : Vec code.Statement). map statement_of v.items) bs 0 b [] some)
     ∙ ap (λ (cs : List (List (Statement (Expr ℕ)))). get_or cs 0 []) seen

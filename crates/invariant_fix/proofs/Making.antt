@@ -1,29 +1,25 @@
 -- The list of code, as code makes it.
---   no_places, more_places, all_places     what the variables were, one after another
+--   more_places, all_places     what the variables were, one after another
 --   before_count, before_some, before_arity, before_over      how many these are, and over how many variables
 --   put_at, block_at, over_at, past_at     an element, as it is put;  difference_at, past_value_at: a difference
 --   value_at, value_arity     the value of a variable
---   in_blocks                 an element or a difference, in the order with the copies first;  differs: a difference
+--   differs                   a difference
 --   one_difference, no_difference    the differences, one after another;  past_difference: one of them is past
-use Rattle.std.proofs.Common.{◌≡◌, ◌⊎◌, inl, inr, ℕ, zero, suc, ◌+◌, ◌<◌, ◌≤◌, Bool, true, false, cond, List, [], ◌∷◌, ◌++◌, map, get_or, length, refl, sym, ap, ap₂, subst, ◌∙◌, arith}
+use Rattle.std.proofs.Common.{◌≡◌, ◌⊎◌, inl, inr, ℕ, zero, suc, ◌+◌, ◌<◌, ◌≤◌, Bool, true, false, cond, List, [], ◌∷◌, ◌++◌, map, get_or, length, refl, sym, ap, ap₂, subst, subst₂, ◌∙◌, arith}
 use Rattle.std.specs.List.{Any}
 use Rattle.std.proofs.lemmas.List.{length-map, get_or-map, map-append, append_assoc}
 use Rattle.algebra.specs.Fraction.{Fraction, ℚ, rationals, fractions}
-use Rattle.algebra.proofs.Fractions.{ℚ_field, ℚ_ring}
+use Rattle.algebra.proofs.Fractions.{ℚ_ring}
 use Rattle.polynomials.specs.Order.{grevlex, blocks}
 use Rattle.polynomials.specs.Terms.{Terms, Same, compose, negate}
-use Rattle.polynomials.specs.Polynomial.{Arity}
 use Rattle.polynomials.specs.Weight.{IsPastComposition, IsPastSum}
-use Rattle.polynomials.proofs.Orders.{grevlex_order, blocks_order}
 use Rattle.polynomials.proofs.Same.{Same-refl, Same-trans, same_append, same_negate}
 use Rattle.machines.specs.Collect.{collect}
-use Rattle.machines.proofs.Collecting.{collect-is}
 use Rattle.poly.specs.Seen.{arity_of, terms_in, terms_each}
 use Rattle.poly.proofs.Standing.{first_arity}
 use Rattle.loop_model.specs.FracPoly.{FracPoly}
 use Rattle.ideal_ops.specs.Calls.{AreOver}
 use Rattle.invariant_fix.specs.Blocked.{Blocked}
-use Rattle.task_lists.proofs.TwoTerms.{block_polynomial}
 use Rattle.loop_model.specs.declared.statement.Statement as code
 use Rattle.loop_runs.specs.Parts.{statements_in}
 use Rattle.corollaries.specs.CodeBetween.{variable_of, list_from, copy_of, copies, was_at, was, assigned_variables}
@@ -45,15 +41,11 @@ module _ (m : ℕ) (b : List code.Statement) where
       go true = refl
       go false = refl
 
-  pub no_places : (ps : List FracPoly) → ps ≡ []
-      → terms_each ps ≡ list_from 0 0 (was_at m (statements_in b))
-  no_places ps e = ap terms_each e
-
-  pub more_places : (v : ℕ) (ps news : List FracPoly) (p : FracPoly) → news ≡ ps ++ p ∷ []
-      → terms_in p ≡ variable_of (all m b) (place_before m b v)
+  pub more_places : (v : ℕ) (ps : List FracPoly) {news : List FracPoly} (p : FracPoly)
+      → news ≡ ps ++ p ∷ [] → terms_in p ≡ variable_of (all m b) (place_before m b v)
       → terms_each ps ≡ list_from 0 v (was_at m (statements_in b))
       → terms_each news ≡ list_from 0 (v + 1) (was_at m (statements_in b))
-  more_places v ps news p e is h =
+  more_places v ps p e is h =
       ap terms_each e ∙ map-append terms_in ps (p ∷ [])
       ∙ ap₂ (λ xs x. xs ++ x ∷ []) h (is ∙ before_at v)
       ∙ sym (ap (λ k. list_from 0 k (was_at m (statements_in b)))
@@ -85,41 +77,41 @@ before_some {w} h ps are =
     omega (arith, a, b)
 
 -- ---- over how many variables
-module _ (n : ℕ) (ps : List FracPoly) (over : AreOver n ps) (some : 0 < length ps) where
+module _ {n : ℕ} (ps : List FracPoly) (over : AreOver n ps) (some : 0 < length ps) where
   pub before_arity : arity_of ps ≡ n
   before_arity = first_arity n ps over some
 
   pub before_over : AreOver (arity_of ps) ps
   before_over = subst (λ k. AreOver k ps) (sym before_arity) over
 
--- ---- in the order with the copies first
-module _ (k n : ℕ) (h : Terms Fraction) (a : Arity n h) (p : Blocked) (first : p.order.first ≡ k)
-    (over : p.arity ≡ n) where
-  pub in_blocks : Same ℚ (terms_in p) h
-      → terms_in p ≡ collect rationals (blocks k grevlex grevlex) h
-  in_blocks s = collect-is ℚ_field (blocks k grevlex grevlex)
-      (blocks_order k grevlex grevlex grevlex_order grevlex_order) n h (terms_in p) a
-      (block_polynomial k n p first over) s
-
 -- an element as it is put
-module _ (m : ℕ) (b : List code.Statement) (ps : List FracPoly) (are : AreBefore m b ps) (k n : ℕ)
-    (copied : k ≡ copies m (statements_in b)) (size : n ≡ m) where
+module _ {w : CodeInWork} (u : IsCodeInWork w) (ps : List FracPoly) (are : AreThereBefore w ps)
+    (n : ℕ) (size : n ≡ length w.values.now) where
+  abbrev m : ℕ
+  m = length w.values.now
+
+  abbrev b : List code.Statement
+  b = w.code.now
+
+  abbrev k : ℕ
+  k = w.copies
+
   pub put_at : (g : Terms Fraction) (p : Blocked)
       → terms_in p ≡ collect rationals (blocks k grevlex grevlex)
       (compose ℚ (k + n) g (terms_each ps))
       → terms_in p ≡ in_code_order m b g
   put_at g p h = h
       ∙ ap₂ (λ (k n : ℕ). collect rationals (blocks k grevlex grevlex)
-      (compose ℚ (k + n) g (terms_each ps))) copied size
+      (compose ℚ (k + n) g (terms_each ps))) u.count size
       ∙ ap (λ qs. collect rationals (blocks (copies m (statements_in b)) grevlex grevlex)
       (compose ℚ (copies m (statements_in b) + m) g qs)) are.0
 
   pub block_at : (p : Blocked) → (p.order.first ≡ k) × (p.arity ≡ k + n)
       → (p.order.first ≡ copies m (statements_in b)) × (p.arity ≡ all m b)
-  block_at p h = (h.0 ∙ copied, h.1 ∙ ap₂ ◌+◌ copied size)
+  block_at p h = (h.0 ∙ u.count, h.1 ∙ ap₂ ◌+◌ u.count size)
 
   pub over_at : AreOver (k + n) ps
-  over_at = subst (λ j. AreOver j ps) (sym (ap₂ ◌+◌ copied size)) are.1
+  over_at = subst (λ j. AreOver j ps) (sym (ap₂ ◌+◌ u.count size)) are.1
 
   pub past_at : (g : Terms Fraction) → IsPastComposition fractions g (terms_each ps)
       → IsPastComposition fractions g (was m (statements_in b))
@@ -131,7 +123,7 @@ module _ (m : ℕ) (b : List code.Statement) (ps : List FracPoly) (are : AreBefo
       ++ negate ℚ (compose ℚ (k + n) f (terms_each ps))) → terms_in p ≡ put_value m b v f
   difference_at v f p h = h
       ∙ ap₂ (λ (k n : ℕ). collect rationals (blocks k grevlex grevlex) (variable_of (k + n) (k + v)
-      ++ negate ℚ (compose ℚ (k + n) f (terms_each ps)))) copied size
+      ++ negate ℚ (compose ℚ (k + n) f (terms_each ps)))) u.count size
       ∙ ap (λ qs. collect rationals (blocks (copies m (statements_in b)) grevlex grevlex)
       (variable_of (copies m (statements_in b) + m) (copies m (statements_in b) + v)
       ++ negate ℚ (compose ℚ (copies m (statements_in b) + m) f qs))) are.0
@@ -144,10 +136,8 @@ module _ (m : ℕ) (b : List code.Statement) (ps : List FracPoly) (are : AreBefo
   past_value_at v f (inr p) = inr (subst (λ qs. IsPastSum fractions
       (variable_of (copies m (statements_in b) + m) (copies m (statements_in b) + v))
       (collect rationals grevlex (compose ℚ (copies m (statements_in b) + m) f qs))) are.0
-      (subst (λ j. IsPastSum fractions (variable_of (j + m) (j + v))
-      (collect rationals grevlex (compose ℚ (j + m) f (terms_each ps)))) copied
-      (subst (λ j. IsPastSum fractions (variable_of (k + j) (k + v))
-      (collect rationals grevlex (compose ℚ (k + j) f (terms_each ps)))) size p)))
+      (subst₂ (λ (k n : ℕ). IsPastSum fractions (variable_of (k + n) (k + v))
+      (collect rationals grevlex (compose ℚ (k + n) f (terms_each ps)))) u.count size p))
 
 -- the value of a variable, by its place
 module _ (fs : List FracPoly) (v : ℕ) (q : FracPoly) (l : v < length fs) (is : q ≡ get_or fs v q)
@@ -172,21 +162,23 @@ module _ (b : List code.Statement) (fs : List FracPoly) (v : ℕ) where
   abbrev less_at : ℕ → Terms Fraction
   less_at y = put_value (length fs) b y (get_or (terms_each fs) y [])
 
-  pub one_difference : (first : List (Terms Fraction)) (gens news : List Blocked) (p : Blocked)
+  pub one_difference : (first : List (Terms Fraction)) (gens : List Blocked) {news : List Blocked}
+      (p : Blocked)
       → assigned_by b v ≡ true → news ≡ gens ++ p ∷ [] → terms_in p ≡ less_at v
       → terms_each gens ≡ first ++ map less_at (assigned_variables v (statements_in b))
       → terms_each news ≡ first ++ map less_at (assigned_variables (v + 1) (statements_in b))
-  one_difference first gens news p t e is h =
+  one_difference first gens p t e is h =
       ap terms_each e ∙ map-append terms_in gens (p ∷ [])
       ∙ ap₂ (λ xs x. xs ++ x ∷ []) h is
       ∙ append_assoc first (map less_at (assigned_variables v (statements_in b))) (less_at v ∷ [])
       ∙ ap (λ l. first ++ l) (sym (ap (map less_at) (more_assigned b v t)
       ∙ map-append less_at (assigned_variables v (statements_in b)) (v ∷ [])))
 
-  pub no_difference : (first now : List (Terms Fraction)) → assigned_by b v ≡ false
+  pub no_difference : (first : List (Terms Fraction)) {now : List (Terms Fraction)}
+      → assigned_by b v ≡ false
       → now ≡ first ++ map less_at (assigned_variables v (statements_in b))
       → now ≡ first ++ map less_at (assigned_variables (v + 1) (statements_in b))
-  no_difference first now t h = h ∙ ap (λ l. first ++ map less_at l) (sym (same_assigned b v t))
+  no_difference first t h = h ∙ ap (λ l. first ++ map less_at l) (sym (same_assigned b v t))
 
   pub past_difference : v < length fs → assigned_by b v ≡ true → IsPastValue b fs v
       → Any (IsPastValue b fs) (assigned_variables (length fs) (statements_in b))

@@ -6,9 +6,8 @@
 --   ComesNext A k gs n es      after n branches the tests of the next one come, or the end
 --   next_more, next_all
 --   test_now                   what comes is the test of an element
-use Rattle.std.proofs.Common.{◌≡◌, ◌⊎◌, inl, inr, ℕ, suc, ◌+◌, ◌<◌, ◌≤◌, List, [], ◌∷◌, ◌++◌, length, get_or, None, sym, ap, subst, ◌∙◌, arith, Vec, Global}
-use Rattle.std.proofs.lemmas.List.{length-map, length-append, map-append}
-use Rattle.std.proofs.lemmas.List.{get_or_append_left, get_or_push}
+use Rattle.std.proofs.Common.{◌≡◌, ◌⊎◌, inl, inr, ℕ, suc, ◌+◌, ◌<◌, ◌≤◌, List, [], ◌∷◌, ◌++◌, map, length, get_or, None, sym, ap, subst, ◌∙◌, arith, Vec, Global}
+use Rattle.std.proofs.lemmas.List.{length-map, length-append, map-append, get_or_append_left, get_or_push}
 use Rattle.algebra.proofs.Basics.{below_or_last}
 use Rattle.algebra.specs.Fraction.{Fraction}
 use Rattle.polynomials.specs.Terms.{Terms}
@@ -20,37 +19,44 @@ use Rattle.invariant_fix.specs.Closing.{seen_branch_steps, seen_steps, IsClosing
 use Rattle.invariant_fix.specs.Coming.{Comes}
 use Rattle.invariant_fix.proofs.Tests.{test_here, tests_go_on, tests_end}
 
+-- what is so of the first n, by what each is seen as, and of one more
+one_more : {X Y : Type 0} (f : X → Y) (d : Y) (P : ℕ → Y → Type 0) (n : ℕ) (qs news : List X)
+    (q : X)
+    → length qs ≡ n → ((i : ℕ) → i < n → P i (get_or (map f qs) i d)) → news ≡ qs ++ q ∷ []
+    → P n (f q)
+    → (length news ≡ n + 1) × ((i : ℕ) → i < n + 1 → P i (get_or (map f news) i d))
+one_more f d P n qs news q count each e is = (
+  (let x = ap length e in let y = length-append qs (q ∷ []) in omega (arith, x, y, count)),
+  (λ i l. at i (let k : (i < n) ⊎ (i ≡ n) = below_or_last i n l in k)),
+)
+  where
+    seen : map f news ≡ map f qs ++ f q ∷ []
+    seen = ap (map f) e ∙ map-append f qs (q ∷ [])
+
+    size : length (map f qs) ≡ n
+    size = length-map qs f ∙ count
+
+    at : (i : ℕ) → (i < n) ⊎ (i ≡ n) → P i (get_or (map f news) i d)
+    at i (inl k) = subst (P i) (sym (ap (λ xs. get_or xs i d) seen
+        ∙ get_or_append_left (map f qs) (f q ∷ []) d i (omega (arith, size, k)))) (each i k)
+    at i (inr k) = subst (P i) (sym (ap (λ xs. get_or xs i d) seen
+        ∙ get_or_push (map f qs) (f q) d i (omega (arith, size, k))))
+        (subst (λ j. P j (f q)) (sym k) is)
+
 module _ (A : Setting) where
   pub record StepsTo (b : ℕ) (gs : List (Terms Fraction)) (n : ℕ)
       (qs : List (Vec FracPoly Global)) : Type 0 where
     pub count : length qs ≡ n
     pub each : (i : ℕ) → i < n → IsClosing A b i gs (get_or (seen_branch_steps qs) i [])
 
-  pub steps_more : (b : ℕ) (gs : List (Terms Fraction)) (n : ℕ)
-      (qs news : List (Vec FracPoly Global)) (q : Vec FracPoly Global) → StepsTo b gs n qs
-      → news ≡ qs ++ q ∷ [] → IsClosing A b n gs (terms_each q.items) → StepsTo b gs (n + 1) news
-  steps_more b gs n qs news q h e is = record {
-    count = (let x = ap length e in let y = length-append qs (q ∷ []) in let z = h.count in
-        omega (arith, x, y, z));
-    each = λ i l. at i l (let k : (i < n) ⊎ (i ≡ n) = below_or_last i n l in k);
-  }
-    where
-      seen_more : seen_branch_steps news ≡ seen_branch_steps qs ++ terms_each q.items ∷ []
-      seen_more = ap seen_branch_steps e ∙ map-append (λ (v : Vec FracPoly Global).
-          terms_each v.items) qs (q ∷ [])
-
-      size : length (seen_branch_steps qs) ≡ n
-      size = length-map qs _ ∙ h.count
-
-      at : (i : ℕ) → i < n + 1 → (i < n) ⊎ (i ≡ n)
-          → IsClosing A b i gs (get_or (seen_branch_steps news) i [])
-      at i l (inl k) = subst (IsClosing A b i gs) (sym (ap (λ xs. get_or xs i []) seen_more
-          ∙ get_or_append_left (seen_branch_steps qs) (terms_each q.items ∷ []) [] i
-          (omega (arith, size, k)))) (h.each i k)
-      at i l (inr k) = subst (IsClosing A b i gs) (sym (ap (λ xs. get_or xs i []) seen_more
-          ∙ get_or_push (seen_branch_steps qs) (terms_each q.items) [] i
-          (omega (arith, size, k)))) (subst (λ j. IsClosing A b j gs (terms_each q.items))
-          (sym k) is)
+  pub steps_more : (b : ℕ) {gs : List (Terms Fraction)} (n : ℕ) {qs : List (Vec FracPoly Global)}
+      (news : List (Vec FracPoly Global)) (q : Vec FracPoly Global)
+      → StepsTo b gs n qs → news ≡ qs ++ q ∷ [] → IsClosing A b n gs (terms_each q.items)
+      → StepsTo b gs (n + 1) news
+  steps_more b {gs = gs} n {qs = qs} news q h e is =
+      let more = one_more (λ (v : Vec FracPoly Global). terms_each v.items) []
+      (λ i. IsClosing A b i gs) n qs news q h.count h.each e is in
+      record { count = more.0; each = more.1 }
 
   pub record RoundsTo (gs : List (Terms Fraction)) (n : ℕ)
       (qs : List (Vec (Vec FracPoly Global) Global)) : Type 0 where
@@ -58,31 +64,14 @@ module _ (A : Setting) where
     pub each : (b : ℕ) → b < n → AreBranchSteps A b gs (get_or (seen_steps qs) b [])
 
   pub rounds_more : (gs : List (Terms Fraction)) (n : ℕ)
-      (qs news : List (Vec (Vec FracPoly Global) Global)) (q : Vec (Vec FracPoly Global) Global)
+      {qs : List (Vec (Vec FracPoly Global) Global)}
+      (news : List (Vec (Vec FracPoly Global) Global)) (q : Vec (Vec FracPoly Global) Global)
       → RoundsTo gs n qs → news ≡ qs ++ q ∷ [] → AreBranchSteps A n gs (seen_branch_steps q.items)
       → RoundsTo gs (n + 1) news
-  rounds_more gs n qs news q h e is = record {
-    count = (let x = ap length e in let y = length-append qs (q ∷ []) in let z = h.count in
-        omega (arith, x, y, z));
-    each = λ i l. at i l (let k : (i < n) ⊎ (i ≡ n) = below_or_last i n l in k);
-  }
-    where
-      seen_more : seen_steps news ≡ seen_steps qs ++ seen_branch_steps q.items ∷ []
-      seen_more = ap seen_steps e ∙ map-append (λ (v : Vec (Vec FracPoly Global) Global).
-          seen_branch_steps v.items) qs (q ∷ [])
-
-      size : length (seen_steps qs) ≡ n
-      size = length-map qs _ ∙ h.count
-
-      at : (i : ℕ) → i < n + 1 → (i < n) ⊎ (i ≡ n)
-          → AreBranchSteps A i gs (get_or (seen_steps news) i [])
-      at i l (inl k) = subst (AreBranchSteps A i gs) (sym (ap (λ xs. get_or xs i []) seen_more
-          ∙ get_or_append_left (seen_steps qs) (seen_branch_steps q.items ∷ []) [] i
-          (omega (arith, size, k)))) (h.each i k)
-      at i l (inr k) = subst (AreBranchSteps A i gs) (sym (ap (λ xs. get_or xs i []) seen_more
-          ∙ get_or_push (seen_steps qs) (seen_branch_steps q.items) [] i
-          (omega (arith, size, k))))
-          (subst (λ j. AreBranchSteps A j gs (seen_branch_steps q.items)) (sym k) is)
+  rounds_more gs n {qs = qs} news q h e is =
+      let more = one_more (λ (v : Vec (Vec FracPoly Global) Global). seen_branch_steps v.items) []
+      (λ i. AreBranchSteps A i gs) n qs news q h.count h.each e is in
+      record { count = more.0; each = more.1 }
 
   -- ---- what comes
   pub record ComesNext (k : ℕ) (gs : List (Terms Fraction)) (n : ℕ) (es : List Entry) : Type 0 where
@@ -97,6 +86,6 @@ module _ (A : Setting) where
     done = λ m. subst (Comes A es) (tests_end A k n gs (omega (arith, m)) none) c;
   }
 
-  pub test_now : (k b i : ℕ) (gs : List (Terms Fraction)) (es : List Entry) → i < length gs
+  pub test_now : (k b i : ℕ) (gs : List (Terms Fraction)) {es : List Entry} → i < length gs
       → Comes A es (closing_from A k b i gs) → Comes A es (test A k b i gs)
-  test_now k b i gs es l c = subst (Comes A es) (test_here A k b gs i l) c
+  test_now k b i gs {es = es} l c = subst (Comes A es) (test_here A k b gs i l) c

@@ -2,17 +2,15 @@
 --   kept_more        what is kept of one place more
 --   looked_more      a look at one place more
 --   place_below      what is in the order has a place there
-use Rattle.std.proofs.Common.{◌≡◌, ◌≢◌, ◌⊎◌, inl, inr, ℕ, zero, suc, ◌+◌, ◌<◌, ◌≤◌, Bool, true, false, ◌||◌, cond, eqb, not, List, [], ◌∷◌, ◌++◌, length, get_or, filter, drop, arith, refl, sym, ap, ◌∙◌}
-use Rattle.std.proofs.lemmas.List.{append_assoc, append-nil}
+use Rattle.std.proofs.Common.{◌≡◌, ℕ, zero, suc, ◌+◌, ◌<◌, ◌≤◌, Bool, true, false, ◌||◌, cond, eqb, not, List, [], ◌∷◌, ◌++◌, length, get_or, filter, drop, arith, refl, sym, ap, ◌∙◌}
+use Rattle.std.proofs.lemmas.List.{append_assoc, append-nil, at_drop_more, at_drop_all, length-append}
 use Rattle.std.proofs.lemmas.List.Elements.{filter-append}
 use Rattle.std.proofs.lemmas.List.Filters.{length-filter_both}
-use Rattle.std.proofs.lemmas.Bool.Decides.{eqb_tells}
+use Rattle.std.proofs.lemmas.Bool.{eq-eqb, ne_eqb}
 use Rattle.loops.specs.Turning.{places}
-use Rattle.loops.proofs.Lists.{along}
+use Rattle.loops.proofs.Lists.{along, length-places}
 use Rattle.corollaries.specs.Order.{is_among, place_in, hidden, visible, order, arity}
 use Rattle.corollaries.proofs.Permuted.{order_has_all}
-use Rattle.std.proofs.lemmas.List.{length-append}
-use Rattle.loops.proofs.Lists.{length-places}
 
 pub places_more : (a r : ℕ) → places a (r + 1) ≡ places a r ++ (a + r) ∷ []
 unfolding places
@@ -24,7 +22,7 @@ pub none_yet : (p : ℕ → Bool) (olds : List ℕ) → olds ≡ olds ++ filter 
 unfolding places
 none_yet p olds = sym (append-nil olds)
 
-module _ (p : ℕ → Bool) (k : ℕ) (olds now : List ℕ)
+module _ (p : ℕ → Bool) (k : ℕ) (olds : List ℕ) {now : List ℕ}
     (so_far : now ≡ olds ++ filter p (places 0 k)) where
   filtered : filter p (places 0 (k + 1)) ≡ filter p (places 0 k) ++ cond (p k) (k ∷ []) []
   filtered = ap (filter p) (places_more 0 k) ∙ filter-append p (places 0 k) ((0 + k) ∷ [])
@@ -39,46 +37,24 @@ module _ (p : ℕ → Bool) (k : ℕ) (olds now : List ℕ)
   left_out h = so_far ∙ ap (λ l. olds ++ l) (sym (append-nil (filter p (places 0 k)))
       ∙ ap (λ b. filter p (places 0 k) ++ cond b (k ∷ []) []) (sym h) ∙ sym filtered)
 
-along_drop : (js : List ℕ) (m n i : ℕ) → m ≡ n → place_in (drop m js) i ≡ place_in (drop n js) i
-along_drop js m n i e = ap (λ k. place_in (drop k js) i) e
-
 pub look_here : (js : List ℕ) (k i : ℕ) → k < length js
     → place_in (drop k js) i ≡ cond (eqb (get_or js k 0) i) 0 (suc (place_in (drop (k + 1) js) i))
 unfolding place_in
-look_here [] k i h = absurd (omega (arith, h))
-look_here (j ∷ js) zero i h =
-    ap (λ v. cond (eqb j i) 0 (suc v)) (along_drop (j ∷ js) 1 (0 + 1) i (omega arith))
-look_here (j ∷ js) (suc k) i h = look_here js k i (omega (arith, h))
-    ∙ ap (λ v. cond (eqb (get_or js k 0) i) 0 (suc v))
-    (along_drop (j ∷ js) (suc (k + 1)) (suc k + 1) i (omega arith))
-
-is_so : {b : Bool} {x y : ℕ} → ((b ≡ true) × (x ≡ y)) ⊎ ((b ≡ false) × (x ≢ y)) → x ≡ y → b ≡ true
-is_so (inl (e, s)) h = e
-is_so (inr (e, s)) h = absurd (s h)
-
-is_not_so : {b : Bool} {x y : ℕ} → ((b ≡ true) × (x ≡ y)) ⊎ ((b ≡ false) × (x ≢ y)) → x ≢ y
-    → b ≡ false
-is_not_so (inl (e, s)) h = absurd (h s)
-is_not_so (inr (e, s)) h = e
+look_here js k i h = at_drop_more (λ l. place_in l i) js k 0 h
 
 module _ (js : List ℕ) (k i : ℕ) (h : k < length js) where
   pub found_here : get_or js k 0 ≡ i → place_in (drop k js) i ≡ 0
   found_here e = look_here js k i h
-      ∙ ap (λ b. cond b 0 (suc (place_in (drop (k + 1) js) i)))
-      (is_so (eqb_tells (get_or js k 0) i) e)
+      ∙ ap (λ b. cond b 0 (suc (place_in (drop (k + 1) js) i))) (eq-eqb (get_or js k 0) i e)
 
   pub found_later : ¬ (get_or js k 0 ≡ i)
       → place_in (drop k js) i ≡ suc (place_in (drop (k + 1) js) i)
   found_later e = look_here js k i h
-      ∙ ap (λ b. cond b 0 (suc (place_in (drop (k + 1) js) i)))
-      (is_not_so (eqb_tells (get_or js k 0) i) e)
+      ∙ ap (λ b. cond b 0 (suc (place_in (drop (k + 1) js) i))) (ne_eqb (get_or js k 0) i e)
 
 pub look_end : (js : List ℕ) (k i : ℕ) → length js ≤ k → place_in (drop k js) i ≡ 0
 unfolding place_in
-look_end [] zero i h = refl
-look_end [] (suc k) i h = refl
-look_end (j ∷ js) zero i h = absurd (omega (arith, h))
-look_end (j ∷ js) (suc k) i h = look_end js k i (omega (arith, h))
+look_end js k i h = at_drop_all (λ l. place_in l i) js k h
 
 pub place_below : (js : List ℕ) (i : ℕ) → is_among js i ≡ true → place_in js i < length js
 unfolding place_in

@@ -10,10 +10,10 @@ use Rattle.loop_model.specs.FracPoly.{FracPoly}
 use Rattle.ideal_ops.specs.Calls.{AreOver}
 use Rattle.invariant_fix.specs.Closing.{seen_branch_steps, IsSquare}
 
-pub quotients_over : (m n : ℕ) {o : Grevlex} (cofactors qs : Vec FracPoly)
+pub quotients_over : {m n : ℕ} {o : Grevlex} {cofactors : Vec FracPoly} (qs : Vec FracPoly)
     → All (λ (q : FracPoly). (q.order ≡ o) × (q.arity ≡ n)) cofactors.items → n ≡ m → qs ≡ cofactors
     → AreOver m qs.items
-quotients_over m n cofactors qs like over same = subst (λ (v : Vec FracPoly). AreOver m v.items)
+quotients_over {m = m} qs like over same = subst (λ (v : Vec FracPoly). AreOver m v.items)
     (sym same) (λ k d within. (like k d within).1 ∙ over)
 
 pub square_is : (m n : ℕ) (rows : List (Vec FracPoly)) → length (seen_branch_steps rows) ≡ n

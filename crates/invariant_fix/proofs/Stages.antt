@@ -2,15 +2,15 @@
 --   plain_has, plain_refused        where there is no code
 --   first_unformed, then_unformed   a refusal of the code's map, and one of the loop's maps and branches behind it;  no_memory: want of memory before there is an entry
 --   both_free                       where there is none
---   mapped_has, mapped_refused            where the elimination of the code has ended
---   mapped_wide, mapped_exhausted, mapped_wanting     where it hasn't
---   stage_has, stage_refused, stage_wide, stage_exhausted, stage_wanting     the same of code that has a statement
-use Rattle.std.proofs.Common.{◌≡◌, ◌≢◌, inl, inr, ℕ, zero, suc, ◌+◌, ◌≤◌, List, [], ◌∷◌, length, refl, sym, ap, subst, ◌∙◌, arith, Some, None, Vec, Global}
+--   stage_has, stage_refused        where the code has a statement, and its elimination has ended
+--   stage_wide, stage_exhausted, stage_wanting     where it hasn't
+use Rattle.std.proofs.Common.{◌≡◌, ◌≢◌, ◌⊎◌, inl, inr, ℕ, zero, suc, ◌+◌, ◌≤◌, List, [], ◌∷◌, length, refl, sym, ap, subst, ◌∙◌, arith, Some, None, Vec, Global}
 use Rattle.std.proofs.lemmas.List.Elements.{All-append}
 use Rattle.algebra.specs.Fraction.{Fraction}
 use Rattle.polynomials.specs.Terms.{Terms}
 use Rattle.machines.specs.Journal.{Journal, units_of}
-use Rattle.machines.specs.Machine.{Outcome, Ran, done, stopped, too_wide, out_of_units, out_of_memory}
+use Rattle.machines.specs.Elimination as elimination
+use Rattle.machines.specs.Machine.{Machine, Outcome, Ran, done, stopped, too_wide, out_of_units, out_of_memory}
 use Rattle.machines.specs.Work.{WorkFrom, WorkToEnd, IsExhausted, PastAfter}
 use Rattle.loops.specs.Program.{Expr, Program, Statement}
 use Rattle.poly.specs.Seen.{terms_each}
@@ -21,7 +21,7 @@ use Rattle.loop_model.specs.declared.map_error.MapError.{MapError}
 use Rattle.loop_model.specs.declared.map_error.MapError.TheVariants as map_error
 use Rattle.loop_model.proofs.OperationLaws.{stops_front, stops_behind}
 use Rattle.rounds.specs.Journal.{IsOutFrom}
-use Rattle.corollaries.specs.Between.{between, IsMapped}
+use Rattle.corollaries.specs.Between.{between, Leads, IsMapped, IsExhaustedLeading, IsPastLeading, HasMapped}
 use Rattle.loops.specs.Chain.{loop_of}
 use Rattle.corollaries.specs.CodeBetween.{assigned_from, copies}
 use Rattle.loop_model.specs.Maps.{maps_operations, AreFree}
@@ -35,7 +35,7 @@ use Rattle.invariant_fix.specs.declared.refused.LoopError.TheVariants as loop_er
 
 -- ---- where there is no code
 module _ (p : Program (Expr ℕ)) (bs : List (List (Statement (Expr ℕ)))) (xs : List FracPoly)
-    (budget : ℕ) (m : Journal) (limit : m.limit ≡ budget) where
+    {budget : ℕ} (m : Journal) (limit : m.limit ≡ budget) where
   no_code_mapped : (P : ℕ → List (Terms Fraction) → Type 0) → P budget (terms_each xs)
       → MappedFrom p [] bs xs budget m P
   unfolding units_of
@@ -81,7 +81,7 @@ module _ (p : Program (Expr ℕ)) (bs : List (List (Statement (Expr ℕ)))) (xs 
   )
   refused_without error.Memory r = inl (no_code_mapped _ r)
 
-  module _ (code : List (Statement (Expr ℕ))) (none : code ≡ []) where
+  module _ {code : List (Statement (Expr ℕ))} (none : code ≡ []) where
     pub plain_has : AreFree (loop_of p bs) → AllHaveForms (loop_of p bs) → (gs : List FracPoly)
         → HasList (loop_of p bs) (Some (terms_each xs)) (length xs) budget m gs
         → HasStage p code bs xs budget m gs
@@ -95,14 +95,8 @@ module _ (p : Program (Expr ℕ)) (bs : List (List (Statement (Expr ℕ)))) (xs 
         (sym none) (refused_without e r)
 
 -- ---- refusals of maps and branches
-limit_no_memory : (at : ℕ) → map_error.Limit at ≢ map_error.Memory
-limit_no_memory at q = cc
-
-wide_no_memory : (at : ℕ) → map_error.Wide at ≢ map_error.Memory
-wide_no_memory at q = cc
-
 module _ (p : Program (Expr ℕ)) (code : List (Statement (Expr ℕ)))
-    (bs : List (List (Statement (Expr ℕ)))) (xs : List FracPoly) (budget : ℕ) (m : Journal)
+    (bs : List (List (Statement (Expr ℕ)))) (xs : List FracPoly) (budget : ℕ) {m : Journal}
     (begun : m ≡ empty_journal budget) where
   abbrev size : ℕ
   size = length p.names
@@ -120,9 +114,9 @@ module _ (p : Program (Expr ℕ)) (code : List (Statement (Expr ℕ)))
   pub first_unformed : (e : MapError) → Stops size these e
       → IsRefusedStage p code bs xs budget m (loop_error.Analysis (analysis_error_of e))
   first_unformed (map_error.Limit at) h =
-      (begun, (λ q. limit_no_memory at q, stops_front size these those (map_error.Limit at) h))
+      (begun, ((λ q. (let z : ⊥ = cc in z)), stops_front size these those (map_error.Limit at) h))
   first_unformed (map_error.Wide at) h =
-      (begun, (λ q. wide_no_memory at q, stops_front size these those (map_error.Wide at) h))
+      (begun, ((λ q. (let z : ⊥ = cc in z)), stops_front size these those (map_error.Wide at) h))
   first_unformed map_error.Memory h = no_memory
 
   -- and, where the code passes no limit, of the loop
@@ -141,21 +135,27 @@ pub both_free : (p : Program (Expr ℕ)) (code : List (Statement (Expr ℕ)))
     → IsFree (length p.names) (code_operations p code) → AreFree (loop_of p bs)
     → AllHaveForms (loop_of p bs) → IsFormedStage p code bs xs budget m
 both_free p code bs xs budget m free more forms = (
-  All-append (λ o. ¬ (PassesLimit (length p.names) o)) (code_operations p code)
-      (maps_operations (loop_of p bs)) free more,
+  All-append (λ o. ¬ (PassesLimit (length p.names) o)) (code_operations p code) _ free more,
   forms,
 )
 
 -- ---- where there is code
-module _ (p : Program (Expr ℕ)) (a : Statement (Expr ℕ)) (cs : List (Statement (Expr ℕ)))
-    (bs : List (List (Statement (Expr ℕ)))) (xs : List FracPoly) (budget : ℕ) (start : Journal)
-    (begun : start ≡ empty_journal budget) where
-  abbrev Formed : Journal → Type 0
-  Formed m = IsFormedStage p (a ∷ cs) bs xs budget m
+some_code : {S : Type 0} (P : List S → Type 0) → ((a : S) (cs : List S) → P (a ∷ cs))
+    → (code : List S) → code ≢ [] → P code
+some_code P h [] some = absurd (some refl)
+some_code P h (a ∷ cs) some = h a cs
 
-  abbrev Leading : Journal → Outcome (Vec FracPoly Global) → Type 0
-  Leading m o = Ran (between p (a ∷ cs) (terms_each xs)) (IsListOf (length p.names) (a ∷ cs))
-      start m o
+module _ (p : Program (Expr ℕ)) (bs : List (List (Statement (Expr ℕ)))) (xs : List FracPoly)
+    (budget : ℕ) {start : Journal} (begun : start ≡ empty_journal budget)
+    (code : List (Statement (Expr ℕ))) (some : code ≢ []) where
+  abbrev Formed : Journal → Type 0
+  Formed m = IsFormedStage p code bs xs budget m
+
+  abbrev M : Machine (elimination.State Fraction)
+  M = between p code (terms_each xs)
+
+  abbrev pub CodeRuns : Journal → Outcome (Vec FracPoly Global) → Type 0
+  CodeRuns m o = Ran M (IsListOf (length p.names) code) start m o
 
   limit_is : start.limit ≡ budget
   limit_is = ap (λ (j : Journal). j.limit) begun
@@ -165,35 +165,34 @@ module _ (p : Program (Expr ℕ)) (a : Statement (Expr ℕ)) (cs : List (Stateme
 
   -- the elimination has ended with these, and so many units are left
   module _ (mid : Journal) (ks : List FracPoly) (v : Vec FracPoly Global) (vs : v.items ≡ ks)
-      (ran : Leading mid (done v)) (left : ℕ) (units : units_of mid.entries + left ≡ budget)
-      (m : Journal) (limit : m.limit ≡ left) where
-    leads : IsMapped p (a ∷ cs) (terms_each xs) mid.entries (terms_each ks)
+      (ran : CodeRuns mid (done v)) (left : ℕ) (units : units_of mid.entries + left ≡ budget)
+      (m : Journal) (limit : m.limit ≡ left) (formed : Formed m) where
+    leads : Leads p code (terms_each xs) mid.entries (terms_each ks)
     leads = record {
       last = ran.to.last;
-      finished = subst (λ es. WorkToEnd (between p (a ∷ cs) (terms_each xs)).next
-          (between p (a ∷ cs) (terms_each xs)).start es mid.entries ran.to.last) none_yet
+      finished = subst (λ es. WorkToEnd M.next M.start es mid.entries ran.to.last) none_yet
           ran.to.finished;
       list = ap terms_each (sym vs) ∙ ran.to.gives;
     }
 
     code_mapped : (P : ℕ → List (Terms Fraction) → Type 0) → P left (terms_each ks)
-        → MappedFrom p (a ∷ cs) bs xs budget m P
+        → MappedFrom p code bs xs budget m P
     code_mapped P so = record {
       entries = mid.entries;
       list = terms_each ks;
-      mapped = leads;
+      mapped = some_code (λ code. Leads p code (terms_each xs) mid.entries (terms_each ks)
+          → IsMapped p code (terms_each xs) mid.entries (terms_each ks)) (λ a cs h. h) code some
+          leads;
       left = left;
       units = units;
       limit = limit;
       so = so;
     }
 
-    pub mapped_has : Formed m
-        → length ks ≤ length xs + copies (length p.names) (a ∷ cs) + units_of mid.entries
-        → (gs : List FracPoly)
-        → HasList (loop_of p bs) (Some (terms_each ks)) (length ks) left m gs
-        → HasStage p (a ∷ cs) bs xs budget m gs
-    mapped_has formed few gs h = record {
+    pub stage_has : length ks ≤ length xs + copies (length p.names) code + units_of mid.entries
+        → {gs : List FracPoly} → HasList (loop_of p bs) (Some (terms_each ks)) (length ks) left m gs
+        → HasStage p code bs xs budget m gs
+    stage_has few h = record {
       formed = formed;
       rounds = h.rounds;
       done = code_mapped _ (h.finished, h.units);
@@ -201,117 +200,59 @@ module _ (p : Program (Expr ℕ)) (a : Statement (Expr ℕ)) (cs : List (Stateme
       few = let f = h.few in omega (arith, f, few, units);
     }
 
-    pub mapped_refused : Formed m → (e : AnalyseError)
+    pub stage_refused : (e : AnalyseError)
         → IsStoppedFrom (loop_of p bs) (Some (terms_each ks)) m e
-        → IsRefusedStage p (a ∷ cs) bs xs budget m (loop_error.Analysis e)
-    mapped_refused formed (error.Map e) r = absurd r
-    mapped_refused formed (error.Branch b e) r = absurd r
-    mapped_refused formed (error.Limit task) r = (formed, code_mapped _ r)
-    mapped_refused formed (error.Wide task) r = (formed, code_mapped _ r)
-    mapped_refused formed error.Budget r = (
+        → IsRefusedStage p code bs xs budget m (loop_error.Analysis e)
+    stage_refused (error.Map e) r = absurd r
+    stage_refused (error.Branch b e) r = absurd r
+    stage_refused (error.Limit task) r = (formed, code_mapped _ r)
+    stage_refused (error.Wide task) r = (formed, code_mapped _ r)
+    stage_refused error.Budget r = (
       formed,
       inl (code_mapped _ (subst (λ n. IsOutFrom (loop_of p bs) (Some (terms_each ks)) None n
           m.entries) limit r)),
     )
-    mapped_refused formed error.Memory r = inl (code_mapped _ r)
+    stage_refused error.Memory r = inl (code_mapped _ r)
 
   -- it hasn't
-  pub mapped_wide : (m : Journal) → Formed m → Leading m (stopped too_wide)
-      → IsRefusedStage p (a ∷ cs) bs xs budget m loop_error.Between
-  mapped_wide m formed r = (
+  pub stage_wide : (m : Journal) → Formed m → CodeRuns m (stopped too_wide)
+      → IsRefusedStage p code bs xs budget m loop_error.Between
+  stage_wide m formed r = (
     formed,
     (
       r.limit ∙ limit_is,
-      elim r.to [
-        | inl q ↦ inl (subst (λ es. PastAfter (between p (a ∷ cs) (terms_each xs)).next
-            (between p (a ∷ cs) (terms_each xs)).IsPastNext
-            (between p (a ∷ cs) (terms_each xs)).start es m.entries) none_yet q)
-        | inr q ↦ inr (ap (λ (j : Journal). j.entries) q.0 ∙ none_yet, q.1)
-      ],
+      some_code (λ code. let N = between p code (terms_each xs) in
+          PastAfter N.next N.IsPastNext N.start [] m.entries
+          ⊎ ((m.entries ≡ []) × N.IsPastStart)
+          → IsPastLeading p code (terms_each xs) m.entries) (λ a cs h. h) code some
+          (elim r.to [
+            | inl q ↦ inl (subst (λ es. PastAfter M.next M.IsPastNext M.start es m.entries)
+                none_yet q)
+            | inr q ↦ inr (ap (λ (j : Journal). j.entries) q.0 ∙ none_yet, q.1)
+          ]),
     ),
   )
 
-  pub mapped_exhausted : (m : Journal) → Formed m → Leading m (stopped out_of_units)
-      → IsRefusedStage p (a ∷ cs) bs xs budget m (loop_error.Analysis error.Budget)
-  mapped_exhausted m formed r =
-      let M = between p (a ∷ cs) (terms_each xs) in (
-        formed,
-        inr (
-          r.limit ∙ limit_is,
-          subst (λ n. IsExhausted M.next M.start n [] m.entries)
-              (r.limit ∙ limit_is) (subst (λ es. IsExhausted M.next M.start m.limit es m.entries)
-              none_yet r.to),
-        ),
-      )
-
-  pub mapped_wanting : (m : Journal) → Leading m (stopped out_of_memory)
-      → IsRefusedStage p (a ∷ cs) bs xs budget m (loop_error.Analysis error.Memory)
-  mapped_wanting m r =
-      let M = between p (a ∷ cs) (terms_each xs) in
-      inr (
-        r.limit ∙ limit_is,
-        inr (subst (λ es. WorkFrom M.next M.start es m.entries) none_yet
-            r.to),
-      )
-
--- ---- where the code has a statement
-some_code : {S : Type 0} (P : List S → Type 0) → ((a : S) (cs : List S) → P (a ∷ cs))
-    → (code : List S) → code ≢ [] → P code
-some_code P h [] some = absurd (some refl)
-some_code P h (a ∷ cs) some = h a cs
-
-module _ (p : Program (Expr ℕ)) (bs : List (List (Statement (Expr ℕ)))) (xs : List FracPoly)
-    (budget : ℕ) (start : Journal) (begun : start ≡ empty_journal budget) where
-  abbrev pub CodeRuns : List (Statement (Expr ℕ)) → Journal → Outcome (Vec FracPoly Global) → Type 0
-  CodeRuns code m o =
-      Ran (between p code (terms_each xs)) (IsListOf (length p.names) code) start m o
-
-  pub stage_wide : (m : Journal) (code : List (Statement (Expr ℕ))) → code ≢ []
-      → IsFormedStage p code bs xs budget m → CodeRuns code m (stopped too_wide)
-      → IsRefusedStage p code bs xs budget m loop_error.Between
-  stage_wide m = some_code (λ code. IsFormedStage p code bs xs budget m
-      → CodeRuns code m (stopped too_wide)
-      → IsRefusedStage p code bs xs budget m loop_error.Between)
-      (λ a cs f r. mapped_wide p a cs bs xs budget start begun m f r)
-
-  pub stage_exhausted : (m : Journal) (code : List (Statement (Expr ℕ))) → code ≢ []
-      → IsFormedStage p code bs xs budget m → CodeRuns code m (stopped out_of_units)
+  pub stage_exhausted : (m : Journal) → Formed m → CodeRuns m (stopped out_of_units)
       → IsRefusedStage p code bs xs budget m (loop_error.Analysis error.Budget)
-  stage_exhausted m = some_code (λ code. IsFormedStage p code bs xs budget m
-      → CodeRuns code m (stopped out_of_units)
-      → IsRefusedStage p code bs xs budget m (loop_error.Analysis error.Budget))
-      (λ a cs f r. mapped_exhausted p a cs bs xs budget start begun m f r)
+  stage_exhausted m formed r = (
+    formed,
+    inr (
+      r.limit ∙ limit_is,
+      some_code (λ code. let N = between p code (terms_each xs) in
+          IsExhausted N.next N.start budget [] m.entries
+          → IsExhaustedLeading p code (terms_each xs) budget m.entries) (λ a cs h. h) code some
+          (subst (λ n. IsExhausted M.next M.start n [] m.entries) (r.limit ∙ limit_is)
+          (subst (λ es. IsExhausted M.next M.start m.limit es m.entries) none_yet r.to)),
+    ),
+  )
 
-  pub stage_wanting : (m : Journal) (code : List (Statement (Expr ℕ))) → code ≢ []
-      → CodeRuns code m (stopped out_of_memory)
+  pub stage_wanting : (m : Journal) → CodeRuns m (stopped out_of_memory)
       → IsRefusedStage p code bs xs budget m (loop_error.Analysis error.Memory)
-  stage_wanting m = some_code (λ code. CodeRuns code m (stopped out_of_memory)
-      → IsRefusedStage p code bs xs budget m (loop_error.Analysis error.Memory))
-      (λ a cs r. mapped_wanting p a cs bs xs budget start begun m r)
-
-  module _ (mid : Journal) (ks : List FracPoly) (v : Vec FracPoly Global) (vs : v.items ≡ ks)
-      (left : ℕ) (units : units_of mid.entries + left ≡ budget) (m : Journal)
-      (limit : m.limit ≡ left) where
-    pub stage_has : (gs : List FracPoly)
-        → HasList (loop_of p bs) (Some (terms_each ks)) (length ks) left m gs
-        → (code : List (Statement (Expr ℕ))) → code ≢ [] → CodeRuns code mid (done v)
-        → IsFormedStage p code bs xs budget m
-        → length ks ≤ length xs + copies (length p.names) code + units_of mid.entries
-        → HasStage p code bs xs budget m gs
-    stage_has gs h = some_code (λ code. CodeRuns code mid (done v)
-        → IsFormedStage p code bs xs budget m
-        → length ks ≤ length xs + copies (length p.names) code + units_of mid.entries
-        → HasStage p code bs xs budget m gs)
-        (λ a cs r f few. mapped_has p a cs bs xs budget start begun mid ks v vs r left units m limit
-        f few gs h)
-
-    pub stage_refused : (e : AnalyseError)
-        → IsStoppedFrom (loop_of p bs) (Some (terms_each ks)) m e
-        → (code : List (Statement (Expr ℕ))) → code ≢ [] → CodeRuns code mid (done v)
-        → IsFormedStage p code bs xs budget m
-        → IsRefusedStage p code bs xs budget m (loop_error.Analysis e)
-    stage_refused e h = some_code (λ code. CodeRuns code mid (done v)
-        → IsFormedStage p code bs xs budget m
-        → IsRefusedStage p code bs xs budget m (loop_error.Analysis e))
-        (λ a cs r f. mapped_refused p a cs bs xs budget start begun mid ks v vs r left units m limit
-        f e h)
+  stage_wanting m r = inr (
+    r.limit ∙ limit_is,
+    inr (some_code (λ code. let N = between p code (terms_each xs) in
+        WorkFrom N.next N.start [] m.entries → HasMapped p code (terms_each xs) m.entries)
+        (λ a cs h. h) code some
+        (subst (λ es. WorkFrom M.next M.start es m.entries) none_yet r.to)),
+  )

@@ -6,6 +6,7 @@
 use Rattle.std.proofs.Common.{◌≡◌, ◌≢◌, ◌+◌, ◌-◌, ◌≤◌, ℕ, List, [], ◌∷◌, length, vec_len, refl, sym, ap, subst, ◌∙◌, arith}
 use Rattle.std.specs.Global.{Vec}
 use Rattle.std.proofs.lemmas.Bool.{eqb-true, eqb-false}
+use Rattle.std.proofs.lemmas.List.{nil_from_length, length-map}
 use Rattle.std.proofs.lemmas.List.Elements.{All-nil}
 use Rattle.std.specs.Prelude.{eqb, true, false}
 use Rattle.machines.specs.Journal.{Journal, units_of}
@@ -22,6 +23,7 @@ use Rattle.loop_model.specs.Operations.{PassesLimit, IsFree}
 use Rattle.loop_model.specs.Stops.{Stops}
 use Rattle.loop_model.specs.declared.map_error.MapError.{MapError}
 use Rattle.loop_model.specs.Maps.{branch_operations, AreFree}
+use Rattle.loop_model.specs.Parts.{statement_of}
 use Rattle.loop_model.specs.View.{program_of}
 use Rattle.loop_model.specs.declared.statement.Statement as code
 use Rattle.corollaries.specs.Between.{between}
@@ -32,28 +34,22 @@ use Rattle.loop_runs.specs.declared.stage.Stage.{Stage}
 use Rattle.invariant_fix.specs.Refusals.{AllHaveForms}
 use Rattle.invariant_fix.specs.Bases.{empty_journal, code_operations}
 use Rattle.invariant_fix.specs.Code.{IsListOf}
-use Rattle.invariant_fix.proofs.Leading.{nothing_there}
 use Rattle.invariant_fix.proofs.Loops.{body_is, once_is}
 
 -- whether a list of statements is empty
-pub no_code : (b : Vec code.Statement) (c : List (Statement (Expr ℕ))) → statements_in b.items ≡ c
+pub no_code : (b : Vec code.Statement) {c : List (Statement (Expr ℕ))} → statements_in b.items ≡ c
     → true ≡ eqb (vec_len b) 0 → c ≡ []
-no_code b c same t =
+no_code b same t =
     let e = eqb-true (vec_len b) 0 (sym t) in
     let ok = b.ok in
-    sym same ∙ ap statements_in (nothing_there b.items (omega (arith, e, ok)))
+    sym same ∙ ap statements_in (nil_from_length b.items (omega (arith, e, ok)))
 
-pub has_code : (b : Vec code.Statement) (c : List (Statement (Expr ℕ))) → statements_in b.items ≡ c
+pub has_code : (b : Vec code.Statement) {c : List (Statement (Expr ℕ))} → statements_in b.items ≡ c
     → false ≡ eqb (vec_len b) 0 → c ≢ []
-has_code b c same t none = go b.items refl
-  where
-    go : (xs : List code.Statement) → b.items ≡ xs → ⊥
-    go [] e = (
-        let ok = b.ok in
-        let n = ap length e in
-        eqb-false (vec_len b) 0 (sym t) (omega (arith, ok, n)))
-    go (x ∷ xs) e = (
-        let z = ap length (sym (ap statements_in e) ∙ same ∙ none) in omega (arith, z))
+has_code b same t none =
+    let n = sym (length-map b.items statement_of) ∙ ap length (same ∙ none) in
+    let ok = b.ok in
+    eqb-false (vec_len b) 0 (sym t) (omega (arith, n, ok))
 
 module _ (p : Program (Expr ℕ)) (g : Stage) (is : IsStageOf p g) where
   pub code_free : IsFree (length (program_of g.code).names)
@@ -111,8 +107,8 @@ mapped_list p c xs over budget start m begun v r =
     })
 
 -- how many units it has left
-pub units_left : (start m : Journal) (budget left : ℕ) → start ≡ empty_journal budget
-    → m.limit ≡ start.limit → units_of m.entries ≤ m.limit → left ≡ m.limit - units_of m.entries
-    → units_of m.entries + left ≡ budget
-units_left start m budget left begun same within rest =
+pub units_left : {start : Journal} (m : Journal) (budget : ℕ) {left : ℕ}
+    → start ≡ empty_journal budget → m.limit ≡ start.limit → units_of m.entries ≤ m.limit
+    → left ≡ m.limit - units_of m.entries → units_of m.entries + left ≡ budget
+units_left m budget begun same within rest =
     let e = ap (λ (j : Journal). j.limit) begun in omega (arith, e, same, within, rest)

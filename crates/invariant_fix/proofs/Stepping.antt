@@ -48,7 +48,7 @@ use Rattle.invariant_fix.specs.declared.errors.AnalyseError.TheVariants.{Limit}
 use Rattle.invariant_fix.proofs.Blocks.{graded_polynomial}
 use Rattle.invariant_fix.proofs.Lists.{units_begun}
 use Rattle.invariant_fix.proofs.Started.{ran_started}
-use Rattle.invariant_fix.proofs.Tests.{nothing_left, something_left, test_passed, test_failed, test_long, test_refused}
+use Rattle.invariant_fix.proofs.Tests.{IsTesting, nothing_left, something_left, test_passed, test_failed, test_long, test_refused}
 
 -- ---- a composition
 first_arity : (m : ℕ) (images : List FracPoly) → 0 < m → length images ≡ m → AreOver m images
@@ -72,13 +72,10 @@ module _ (b : Branch) (g : FracPoly) (some : 0 < g.arity) (over : AreOver g.arit
   pub composed_is : terms_in t ≡ collect rationals grevlex (compose ℚ g.arity (terms_in g)
       (terms_each b.images.items))
   composed_is =
-      collect-is ℚ_field grevlex grevlex_order m
-      (compose ℚ m (terms_in g) (terms_each b.images.items)) (terms_in t)
-      (arity-compose m ℚ (terms_in g) (terms_each b.images.items) (arities_over m b.images.items
-      over))
-      (graded_polynomial m t composed_arity)
-      (subst (λ n. Same ℚ (terms_in t) (compose ℚ n (terms_in g) (terms_each b.images.items)))
-      first is.same)
+      collect-is ℚ_field grevlex grevlex_order m _ (terms_in t) (arity-compose m ℚ (terms_in g)
+      (terms_each b.images.items) (arities_over m b.images.items over))
+      (graded_polynomial m t composed_arity) (subst (λ n. Same ℚ (terms_in t)
+      (compose ℚ n (terms_in g) (terms_each b.images.items))) first is.same)
 
   pub ran_test : (gs : List FracPoly) (mid new : Journal) (o : Outcome Divided)
       → Ran (division_of t gs) (HasCofactors t.order t.arity) mid new o
@@ -136,13 +133,15 @@ module _ {w : BranchInWork} {i : ℕ} {branch : Branch} {element : FracPoly} {ol
   task_is : journal.Closed w.round n j ≡ journal.Closed w.round (suc w.place) (suc i)
   task_is = ap₂ (journal.Closed w.round) h.named h.numbered
 
+  testing_here : IsTesting A w.round w.place i gs (pullback_by branch element) old mid
+  testing_here = record { dividend = element_at; comes = h.due; begun = begun_test }
+
   pub step_long : most_terms
       < composition_length (terms_in element) (terms_each branch.images.items)
       → Stops w mid (Limit (task.Closed w.round n j))
-  step_long l =
-      test_long A w.round w.place i gs (pullback_by branch element) element_at old mid mid h.due
-      begun_test (subst (λ n. most_terms < n) (ap₂ composition_length (sym terms_at) (sym map_at))
-      l) (task.Closed w.round n j) task_is
+  step_long l = test_long testing_here
+      (subst (λ n. most_terms < n) (ap₂ composition_length (sym terms_at) (sym map_at)) l)
+      (task.Closed w.round n j) task_is
 
   module _ (few : most_terms
       < composition_length (terms_in element) (terms_each branch.images.items) → ⊥)
@@ -154,8 +153,7 @@ module _ {w : BranchInWork} {i : ℕ} {branch : Branch} {element : FracPoly} {ol
         (e : engine.EngineError) → Ran (test_of branch element w.basis.now) G mid new
         (stopped (refusal_of e)) → Stops w new (in_task (task.Closed w.round n j) e)
     step_refused e r =
-        test_refused A w.round w.place i gs (pullback_by branch element) element_at old mid new
-        h.due begun_test few_test _ past (task.Closed w.round n j) task_is e r
+        test_refused testing_here few_test new _ past (task.Closed w.round n j) task_is e r
       where
         past : IsPastComposition fractions (terms_in element) (terms_each branch.images.items)
             → IsPastComposition fractions (get_or gs i []) (get_or A.maps w.place [])
@@ -178,15 +176,13 @@ module _ {w : BranchInWork} {i : ℕ} {branch : Branch} {element : FracPoly} {ol
       pub step_open : terms_in d.remainder ≢ [] → Awaits w new (opened w)
       step_open e =
           let (q, f) = something_left t.last (λ z. e (t.gives.remainder ∙ z)) in
-          test_failed A w.round w.place i gs (pullback_by branch element) element_at old
-          mid new h.due begun_test few_test t.last t.finished q f
+          test_failed testing_here few_test new t.last t.finished q f
 
       gone : terms_in d.remainder ≡ [] → t.last.current ≡ None
       gone e = nothing_left gs t.last t.finished.ended (sym t.gives.remainder ∙ e)
 
       pub step_next : terms_in d.remainder ≡ [] → Awaits w new (tested w (suc i))
-      step_next e = test_passed A w.round w.place i gs (pullback_by branch element)
-          element_at old mid new h.due begun_test few_test t.last t.finished (gone e)
+      step_next e = test_passed testing_here few_test new t.last t.finished (gone e)
 
       pub step_done : terms_in d.remainder ≡ [] → (qs : Vec FracPoly Global) → qs ≡ d.cofactors
           → HasStep w.setting.now w.place i w.basis.now qs.items

@@ -1,5 +1,5 @@
 -- Variables, and polynomials with others in their place.
---   moved_is        one composed, in an order by blocks
+--   in_blocks       one that is told up to order, in an order by blocks
 --   variable_is, variable_arity     a variable, as code makes it
 use Rattle.std.proofs.Common.{◌≡◌, ◌<◌, ℕ, List, [], ◌∷◌, length, get_or, replicate, set, slice_get, sym, ap, subst, ◌∙◌, Some, None, Option}
 use Rattle.std.specs.Option.{option_map, IsSomeAnd}
@@ -10,12 +10,11 @@ use Rattle.algebra.specs.Fraction.{Fraction, ℚ, rationals}
 use Rattle.algebra.proofs.Fractions.{ℚ_field}
 use Rattle.polynomials.specs.Exponent.{unit_exponents}
 use Rattle.polynomials.specs.Order.{grevlex, blocks}
-use Rattle.polynomials.specs.Polynomial.{Arity, AllArity, IsPolynomial, Falls}
-use Rattle.polynomials.specs.Terms.{Terms, Same, compose, variables}
-use Rattle.polynomials.proofs.Arity.{arity-compose}
+use Rattle.polynomials.specs.Polynomial.{Arity, IsPolynomial, Falls}
+use Rattle.polynomials.specs.Terms.{Terms, Same, variables}
 use Rattle.polynomials.proofs.Exponent.{unit_exponents-at}
 use Rattle.polynomials.proofs.Orders.{grevlex_order, blocks_order}
-use Rattle.polynomials.proofs.Same.{Same-trans, Same-refl}
+use Rattle.polynomials.proofs.Same.{Same-refl}
 use Rattle.machines.specs.Collect.{collect}
 use Rattle.machines.proofs.Collecting.{collect-is}
 use Rattle.monos.specs.declared.order.Grevlex.{Grevlex}
@@ -25,15 +24,13 @@ use Rattle.invariant_fix.specs.Blocked.{Blocked}
 use Rattle.invariant_fix.proofs.Blocks.{graded_polynomial}
 use Rattle.task_lists.proofs.TwoTerms.{block_polynomial}
 
-pub moved_is : (k m : ℕ) (g : Terms Fraction) (images : List (Terms Fraction)) → AllArity m images
-    → (composed : Terms Fraction) → Same ℚ composed (compose ℚ m g images)
-    → (p : Blocked) → Same ℚ (terms_in p) composed → p.order.first ≡ k → p.arity ≡ m
-    → terms_in p ≡ collect rationals (blocks k grevlex grevlex) (compose ℚ m g images)
-moved_is k m g images a composed s p t e f =
-    collect-is ℚ_field (blocks k grevlex grevlex)
-    (blocks_order k grevlex grevlex grevlex_order grevlex_order) m (compose ℚ m g images)
-    (terms_in p)
-    (arity-compose m ℚ g images a) (block_polynomial k m p e f) (Same-trans ℚ t s)
+module _ {k n : ℕ} (h : Terms Fraction) (a : Arity n h) (p : Blocked) (first : p.order.first ≡ k)
+    (over : p.arity ≡ n) where
+  pub in_blocks : Same ℚ (terms_in p) h
+      → terms_in p ≡ collect rationals (blocks k grevlex grevlex) h
+  in_blocks s = collect-is ℚ_field (blocks k grevlex grevlex)
+      (blocks_order k grevlex grevlex grevlex_order grevlex_order) n h (terms_in p) a
+      (block_polynomial k n p first over) s
 
 -- the terms of a variable are in order already
 single_in_order : (m : ℕ) (e : List ℕ) → length e ≡ m → IsPolynomial ℚ grevlex m ((e, ℚ.one) ∷ [])
@@ -51,32 +48,21 @@ single_is m e l p a s =
     ∙ sym (collect-is ℚ_field grevlex grevlex_order m ((e, ℚ.one) ∷ []) ((e, ℚ.one) ∷ []) arity
     (single_in_order m e l) (Same-refl ℚ ((e, ℚ.one) ∷ [])))
 
-variable_got : (m i : ℕ) → i < m
-    → get_or (variables ℚ m) i [] ≡ (set (replicate m 0) i 1, ℚ.one) ∷ []
+variable_there : (m i : ℕ) → i < m
+    → slice_get (variables ℚ m) i ≡ Some ((set (replicate m 0) i 1, ℚ.one) ∷ [])
 unfolding variables
-variable_got m i h =
-    get_or_from_slice_get (variables ℚ m) i ((set (replicate m 0) i 1, ℚ.one) ∷ []) []
-    (slice_get-map (λ e. (e, ℚ.one) ∷ []) (unit_exponents m) i
-    ∙ ap (option_map (λ e. (e, ℚ.one) ∷ [])) (unit_exponents-at m i h))
-
-some_and : {X : Type 0} (P : X → Type 0) (x : X) → IsSomeAnd (Some x) P → P x
-some_and P x h = h
+variable_there m i h = slice_get-map (λ e. (e, ℚ.one) ∷ []) (unit_exponents m) i
+    ∙ ap (option_map (λ e. (e, ℚ.one) ∷ [])) (unit_exponents-at m i h)
 
 pub variable_is : (o : Grevlex) (m i : ℕ) → i < m → (p : FracPoly)
     → IsSomeAnd (slice_get (variables ℚ m) i) (λ x. Is o m x p)
     → terms_in p ≡ get_or (variables ℚ m) i []
-unfolding variables
 variable_is o m i h p s =
-    single_is m (set (replicate m 0) i 1) (length-set (replicate m 0) i 1
-    ∙ length-replicate m 0) p is.arity is.same ∙ sym (variable_got m i h)
+    single_is m (set (replicate m 0) i 1) (length-set (replicate m 0) i 1 ∙ length-replicate m 0) p
+    is.arity is.same ∙ sym (get_or_from_slice_get (variables ℚ m) i _ [] (variable_there m i h))
   where
-    got : slice_get (variables ℚ m) i ≡ Some ((set (replicate m 0) i 1, ℚ.one) ∷ [])
-    got = slice_get-map (λ e. (e, ℚ.one) ∷ []) (unit_exponents m) i
-        ∙ ap (option_map (λ e. (e, ℚ.one) ∷ [])) (unit_exponents-at m i h)
-
     is : Is o m ((set (replicate m 0) i 1, ℚ.one) ∷ []) p
-    is = some_and (λ x. Is o m x p) ((set (replicate m 0) i 1, ℚ.one) ∷ [])
-        (subst (λ v. IsSomeAnd v (λ x. Is o m x p)) got s)
+    is = subst (λ v. IsSomeAnd v (λ x. Is o m x p)) (variable_there m i h) s
 
 pub variable_arity : (o : Grevlex) (m i : ℕ) (p : FracPoly)
     → IsSomeAnd (slice_get (variables ℚ m) i) (λ x. Is o m x p) → p.arity ≡ m

@@ -4,10 +4,10 @@
 --   IsBegun w t old mid n          for the branch w the task t has begun, which names it by its number n, counted from 1
 --   met_next, met_known, met_units, met_refused    a meet
 --   iteration_met_next, iteration_met_known, iteration_met_units, iteration_met_refused     that with an iteration
---   form_at, map_at                    the form and the map of a branch
+--   form_at, since_at, map_at          the form of a branch, from where on it is the state, and its map
 --   orbit_next, orbit_known, whole_known, orbit_units, orbit_long, orbit_refused    an orbit
 --   iteration_next, iteration_known, iteration_units, iteration_long, iteration_refused        an iteration
-use Rattle.std.proofs.Common.{◌≡◌, ◌⊎◌, inl, inr, ℕ, suc, ◌+◌, ◌*◌, ◌<◌, ◌≤◌, List, [], ◌∷◌, map, length, get_or, None, Option, refl, sym, ap, ap₂, subst, ◌∙◌, arith}
+use Rattle.std.proofs.Common.{◌≡◌, ◌⊎◌, inl, inr, ℕ, suc, ◌+◌, ◌*◌, ◌<◌, ◌≤◌, List, [], ◌∷◌, map, length, get_or, None, Option, refl, sym, ap, ap₂, subst, subst₂, ◌∙◌, arith}
 use Rattle.std.specs.Global.{Vec}
 use Rattle.std.proofs.lemmas.List.Elements.{All-tail}
 use Rattle.std.proofs.lemmas.List.{get_or-map, length-map, append-nil}
@@ -58,10 +58,10 @@ use Rattle.machines.proofs.Lengths.{made, NothingKept, kept_made}
 use Rattle.rounds.proofs.RelationTerms.{blend_not_kept}
 use Rattle.rounds.proofs.Few.{whole_few, orbit_few, iteration_few}
 use Rattle.invariant_fix.proofs.TaskLengths.{orbit_is, iteration_is, starts_few, meet_few, iteration_meet_few}
-use Rattle.invariant_fix.proofs.Tasks.{way_of, past_start, task_ended, task_long, task_refused}
+use Rattle.invariant_fix.proofs.Tasks.{way_of, past_start, IsUnderWay, task_ended, task_long, task_refused}
 
 -- ---- the first task
-module _ (s : Setting) (fits : FitsSetting s) where
+module _ {s : Setting} (fits : FitsSetting s) where
   pub collected_starts : (ps : List FracPoly) → AreOver s.arity ps
       → map (collect rationals grevlex) (terms_each ps) ≡ terms_each ps
   collected_starts [] a = refl
@@ -73,7 +73,7 @@ module _ (s : Setting) (fits : FitsSetting s) where
       itself p = collect-is ℚ_field grevlex grevlex_order p.arity (terms_in p) (terms_in p)
           p.polynomial.arity p.polynomial (Same-refl ℚ (terms_in p))
 
-  module _ (ps : List FracPoly) (given : ps ≡ s.starts.items) where
+  module _ {ps : List FracPoly} (given : ps ≡ s.starts.items) where
     own_way : ideal.sum_way s.starts.items [] ≡ way_of (setting_of s) starts
     unfolding starting block
     own_way = λ i. record {
@@ -86,24 +86,30 @@ module _ (s : Setting) (fits : FitsSetting s) where
     start_way : ideal.sum_way ps [] ≡ way_of (setting_of s) starts
     start_way = ap (λ (qs : List FracPoly). ideal.sum_way qs []) given ∙ own_way
 
-    module _ (old mid new : Journal) (begun : mid ≡ with_entry old (Begin journal.Start)) where
-      abbrev P : Type 0
-      P = (elimination_of (ideal.sum_way ps [])).IsPastStart
+    module _ (old : Journal) {mid : Journal} (new : Journal)
+        (begun : mid ≡ with_entry old (Begin journal.Start)) where
+      start_here : IsUnderWay (setting_of s) starts (ideal.sum_way ps [])
+          (elimination_of (ideal.sum_way ps [])).IsPastStart old mid
+      start_here = record {
+        begun = begun;
+        way = start_way;
+        past = λ p. past_start (setting_of s) starts (subst (λ (V : Way fractions).
+            IsPastStart fractions rationals V.gens) start_way p);
+      }
+
+      abbrev Started : Vec FracPoly → Type 0
+      Started gs = Ran (elimination_of (ideal.sum_way ps [])) (IsListOf (ideal.sum_way ps []))
+          mid new (done gs)
 
       pub start_next : Comes (setting_of s) old.entries (start_step s) → (gs : Vec FracPoly)
-          → Ran (elimination_of (ideal.sum_way ps [])) (IsListOf (ideal.sum_way ps [])) mid new
-          (done gs) → Comes (setting_of s) new.entries (started s gs.items)
-      start_next c gs h = task_ended (setting_of s) starts old mid new c begun
-          (starts_few (setting_of s)) (ideal.sum_way ps []) start_way P gs h
+          → Started gs → Comes (setting_of s) new.entries (started s gs.items)
+      start_next c gs h = task_ended start_here c (starts_few (setting_of s)) gs h
 
-      pub start_known : s.given ≡ None → (gs : Vec FracPoly)
-          → Ran (elimination_of (ideal.sum_way ps [])) (IsListOf (ideal.sum_way ps [])) mid new
-          (done gs) → IsSum ps [] gs.items → IsList s.arity (most_first s.arity s.given)
-          (units_of new.entries) gs.items
+      pub start_known : s.given ≡ None → (gs : Vec FracPoly) → Started gs → IsSum ps [] gs.items
+          → IsList s.arity (most_first s.arity s.given) (units_of new.entries) gs.items
       unfolding starting block NothingKept
       start_known plain gs h i =
-          let bound = list_bound (setting_of s) starts mid new (ideal.sum_way ps []) start_way P gs
-          h in
+          let bound = list_bound start_here gs h in
           let few =
           kept_made rationals 0 (map (collect rationals grevlex) (terms_each s.starts.items)) []
           tt in
@@ -113,20 +119,16 @@ module _ (s : Setting) (fits : FitsSetting s) where
           let b = length-map s.starts.items terms_in in
           let d = fits.few_starts in
           subst (λ (o : Option (Vec FracPoly)). IsList s.arity (most_first s.arity o)
-          (units_of new.entries) gs.items) (sym plain)
-          (known s.arity s.arity (units_of new.entries) gs.items
-          (start_reduced s.arity ps gs.items (subst (AreOver s.arity) (sym given) fits.starts)
-          i) (omega (arith, bound, few, none, a, b, d)))
+          (units_of new.entries) gs.items) (sym plain) (known s.arity (units_of new.entries)
+          (start_reduced s.arity ps gs.items (subst (AreOver s.arity) (sym given) fits.starts) i)
+          (omega (arith, bound, few, none, a, b, d)))
 
       pub start_refused : Comes (setting_of s) old.entries (start_step s)
           → {R : Type 0} {G : R → elimination.State Fraction → Type 0} (e : engine.EngineError)
           → Ran (elimination_of (ideal.sum_way ps [])) G mid new (stopped (refusal_of e))
           → Refuses (setting_of s) new (in_task task.Start e)
       start_refused c e r =
-          task_refused (setting_of s) starts old mid new c begun (starts_few (setting_of s))
-          (ideal.sum_way ps []) start_way P
-          (λ p. past_start (setting_of s) starts (subst (λ (V : Way fractions).
-          IsPastStart fractions rationals V.gens) start_way p)) task.Start refl e r
+          task_refused start_here c (starts_few (setting_of s)) task.Start refl e r
 
 -- ---- what a task begins with
 pub record IsBegun (w : BranchInWork) (t : ℕ → journal.Task) (old mid : Journal) (n : ℕ)
@@ -139,63 +141,59 @@ begun_here : {w : BranchInWork} {t : ℕ → journal.Task} {old mid : Journal} {
     → IsBegun w t old mid n → mid ≡ with_entry old (Begin (t (suc w.place)))
 begun_here {w} {t} {old} {mid} {n} h = h.begun ∙ ap (λ j. with_entry old (Begin (t j))) h.named
 
--- ---- a meet
+-- ---- a meet of two lists, as a work that begins with that of their intersection
+module _ (w : BranchInWork) (hs ks : List FracPoly) {here : Work} {old mid new : Journal}
+    (u : IsUnderWay (setting_of w.setting.now) here (ideal.intersection_way hs ks)
+    (elimination_of (ideal.intersection_way hs ks)).IsPastStart old mid) (kh : Knows w old hs)
+    {more : ℕ} (kk : IsList w.setting.now.arity more (units_of old.entries) ks) where
+  known_meet : block (setting_of w.setting.now) here ≡ 1 → starting (setting_of w.setting.now) here
+      ≡ blend rationals (blocks 1 grevlex grevlex) (terms_each hs) (terms_each ks)
+      → (ls : Vec FracPoly) → Ran (elimination_of (ideal.intersection_way hs ks))
+      (IsListOf (ideal.intersection_way hs ks)) mid new (done ls)
+      → IsIntersection hs ks ls.items → Knows w new ls.items
+  known_meet one gens ls r i =
+      let s = w.setting.now in
+      let bound = list_bound u ls r in
+      let same = ap₂ (λ k l. length (free_part k (made rationals k l))) one gens in
+      let few = kept_made rationals 1 [] _ (blend_not_kept s.arity (terms_each hs)
+      (terms_each ks) (each_from (terms_each ks) kk.reduced.polynomials)) in
+      known (most_first s.arity s.given) (units_of new.entries)
+      (meet_reduced s.arity hs ks ls.items kh.arity kk.arity i) (omega (arith, bound, same, few))
+
+-- ---- a meet with an orbit
 module _ {w : BranchInWork} {old mid : Journal} {n : ℕ}
     (h : IsBegun w (journal.Meet w.round) old mid n) (hs ks : List FracPoly) (new : Journal) where
-  abbrev A : analysis.Setting
-  A = setting_of w.setting.now
-
-  abbrev meet_here : Work
-  meet_here = meet w.round w.place (terms_each w.basis.now) (terms_each hs) (terms_each ks)
-
-  abbrev Q : Type 0
-  Q = (elimination_of (ideal.intersection_way hs ks)).IsPastStart
-
-  meet_way : ideal.intersection_way hs ks ≡ way_of A meet_here
+  meet_here : IsUnderWay (setting_of w.setting.now)
+      (meet w.round w.place (terms_each w.basis.now) (terms_each hs) (terms_each ks))
+      (ideal.intersection_way hs ks) (elimination_of (ideal.intersection_way hs ks)).IsPastStart
+      old mid
   unfolding starting block
-  meet_way = refl
+  meet_here = record { begun = begun_here h; way = refl; past = λ p. inr (inr p) }
 
-  meet_short : most_terms < work_length A meet_here → ⊥
-  meet_short = meet_few A w.round w.place (terms_each w.basis.now) (terms_each hs) (terms_each ks)
+  meet_short : most_terms < work_length (setting_of w.setting.now) (meet w.round w.place
+      (terms_each w.basis.now) (terms_each hs) (terms_each ks)) → ⊥
+  meet_short = meet_few (setting_of w.setting.now) w.round w.place (terms_each w.basis.now)
+      (terms_each hs) (terms_each ks)
 
-  pub met_next : Awaits w old (meeting w hs ks) → (ls : Vec FracPoly)
-      → Ran (elimination_of (ideal.intersection_way hs ks))
-      (IsListOf (ideal.intersection_way hs ks)) mid new (done ls)
-      → Awaits w new (met w hs ks ls.items)
-  met_next c ls r = task_ended A meet_here old mid new c (begun_here h) meet_short
-      (ideal.intersection_way hs ks) meet_way Q ls r
-
-  module _ {units more : ℕ}
-      (kh : IsList w.setting.now.arity (most_first w.setting.now.arity w.setting.now.given) units
-      hs) (kk : IsList w.setting.now.arity more units ks) (ls : Vec FracPoly)
-      (r : Ran (elimination_of (ideal.intersection_way hs ks))
+  module _ (ls : Vec FracPoly) (r : Ran (elimination_of (ideal.intersection_way hs ks))
       (IsListOf (ideal.intersection_way hs ks)) mid new (done ls)) where
-    pub met_known : IsIntersection hs ks ls.items → Knows w new ls.items
+    pub met_next : Awaits w old (meeting w hs ks) → Awaits w new (met w hs ks ls.items)
+    met_next c = task_ended meet_here c meet_short ls r
+
+    pub met_known : Knows w old hs → {more : ℕ}
+        → IsList w.setting.now.arity more (units_of old.entries) ks → IsIntersection hs ks ls.items
+        → Knows w new ls.items
     unfolding starting block
-    met_known i =
-        let s = w.setting.now in
-        let bound = list_bound A meet_here mid new (ideal.intersection_way hs ks) meet_way Q ls r in
-        let few = kept_made rationals 1 [] (blend rationals (blocks 1 grevlex grevlex)
-        (terms_each hs) (terms_each ks)) (blend_not_kept s.arity (terms_each hs)
-        (terms_each ks) (each_from (terms_each ks) kk.reduced.polynomials)) in
-        known s.arity (most_first s.arity s.given) (units_of new.entries) ls.items
-        (meet_reduced s.arity hs ks ls.items kh.arity kk.arity i) (omega (arith, bound, few))
+    met_known kh kk i = known_meet w hs ks meet_here kh kk refl refl ls r i
 
     pub met_units : Follow old new
-    met_units =
-        let a = units_follow A meet_here mid new (ideal.intersection_way hs ks) meet_way Q ls r in
-        let c = units_begun old mid (journal.Meet w.round n) h.begun in
-        omega (arith, a, c)
+    met_units = units_follow meet_here ls r
 
   pub met_refused : Awaits w old (meeting w hs ks)
       → {R : Type 0} {G : R → elimination.State Fraction → Type 0} (e : engine.EngineError)
       → Ran (elimination_of (ideal.intersection_way hs ks)) G mid new (stopped (refusal_of e))
       → Stops w new (in_task (task.Meet w.round n) e)
-  met_refused c e r =
-      task_refused A meet_here old mid new c (begun_here h) meet_short
-      (ideal.intersection_way hs ks) meet_way Q
-      (λ p. past_start A meet_here (subst (λ (V : Way fractions).
-      IsPastStart fractions rationals V.gens) meet_way p)) (task.Meet w.round n)
+  met_refused c e r = task_refused meet_here c meet_short (task.Meet w.round n)
       (ap (journal.Meet w.round) h.named) e r
 
 -- ---- a meet with an iteration
@@ -211,69 +209,44 @@ after_one i = omega arith
 module _ {w : BranchInWork} {old mid : Journal} {n : ℕ} (i : ℕ)
     (h : IsBegun w (iteration_meet_at w.round i) old mid n) (hs ks : List FracPoly)
     (new : Journal) where
-  abbrev B : analysis.Setting
-  B = setting_of w.setting.now
-
-  abbrev iteration_meet_here : Work
-  iteration_meet_here =
-      iteration_meet w.round w.place i (terms_each w.basis.now) (terms_each hs) (terms_each ks)
-
-  abbrev QT : Type 0
-  QT = (elimination_of (ideal.intersection_way hs ks)).IsPastStart
-
-  iteration_meet_way : ideal.intersection_way hs ks ≡ way_of B iteration_meet_here
+  iteration_meet_here : IsUnderWay (setting_of w.setting.now)
+      (iteration_meet w.round w.place i (terms_each w.basis.now) (terms_each hs) (terms_each ks))
+      (ideal.intersection_way hs ks) (elimination_of (ideal.intersection_way hs ks)).IsPastStart
+      old mid
   unfolding starting block
-  iteration_meet_way = refl
+  iteration_meet_here = record {
+    begun = begun_here h ∙ ap (λ j. with_entry old
+        (Begin (journal.IterationMeet w.round (suc w.place) j))) (after_one i);
+    way = refl;
+    past = λ p. inr (inr p);
+  }
 
-  iteration_meet_short : most_terms < work_length B iteration_meet_here → ⊥
-  iteration_meet_short = iteration_meet_few B w.round w.place i (terms_each w.basis.now)
-      (terms_each hs) (terms_each ks)
+  iteration_meet_short : most_terms < work_length (setting_of w.setting.now)
+      (iteration_meet w.round w.place i (terms_each w.basis.now) (terms_each hs) (terms_each ks))
+      → ⊥
+  iteration_meet_short = iteration_meet_few (setting_of w.setting.now) w.round w.place i
+      (terms_each w.basis.now) (terms_each hs) (terms_each ks)
 
-  begun_iteration_meet :
-      mid ≡ with_entry old (Begin (journal.IterationMeet w.round (suc w.place) (suc i)))
-  begun_iteration_meet = begun_here h ∙ ap (λ j. with_entry old
-      (Begin (journal.IterationMeet w.round (suc w.place) j))) (after_one i)
-
-  pub iteration_met_next : Awaits w old (iteration_meets w i hs ks) → (ls : Vec FracPoly)
-      → Ran (elimination_of (ideal.intersection_way hs ks))
-      (IsListOf (ideal.intersection_way hs ks)) mid new (done ls)
-      → Awaits w new (iteration_met w i hs ks ls.items)
-  iteration_met_next c ls r = task_ended B iteration_meet_here old mid new c begun_iteration_meet
-      iteration_meet_short (ideal.intersection_way hs ks) iteration_meet_way QT ls r
-
-  module _ {units more : ℕ}
-      (kh : IsList w.setting.now.arity (most_first w.setting.now.arity w.setting.now.given) units
-      hs) (kk : IsList w.setting.now.arity more units ks) (ls : Vec FracPoly)
-      (r : Ran (elimination_of (ideal.intersection_way hs ks))
+  module _ (ls : Vec FracPoly) (r : Ran (elimination_of (ideal.intersection_way hs ks))
       (IsListOf (ideal.intersection_way hs ks)) mid new (done ls)) where
-    pub iteration_met_known : IsIntersection hs ks ls.items → Knows w new ls.items
+    pub iteration_met_next : Awaits w old (iteration_meets w i hs ks)
+        → Awaits w new (iteration_met w i hs ks ls.items)
+    iteration_met_next c = task_ended iteration_meet_here c iteration_meet_short ls r
+
+    pub iteration_met_known : Knows w old hs → {more : ℕ}
+        → IsList w.setting.now.arity more (units_of old.entries) ks → IsIntersection hs ks ls.items
+        → Knows w new ls.items
     unfolding starting block
-    iteration_met_known met =
-        let s = w.setting.now in
-        let bound = list_bound B iteration_meet_here mid new (ideal.intersection_way hs ks)
-        iteration_meet_way QT ls r in
-        let few = kept_made rationals 1 [] (blend rationals (blocks 1 grevlex grevlex)
-        (terms_each hs) (terms_each ks)) (blend_not_kept s.arity (terms_each hs)
-        (terms_each ks) (each_from (terms_each ks) kk.reduced.polynomials)) in
-        known s.arity (most_first s.arity s.given) (units_of new.entries) ls.items
-        (meet_reduced s.arity hs ks ls.items kh.arity kk.arity met) (omega (arith, bound, few))
+    iteration_met_known kh kk met = known_meet w hs ks iteration_meet_here kh kk refl refl ls r met
 
     pub iteration_met_units : Follow old new
-    iteration_met_units =
-        let a = units_follow B iteration_meet_here mid new (ideal.intersection_way hs ks)
-        iteration_meet_way QT ls r in
-        let c = units_begun old mid (iteration_meet_at w.round i n) h.begun in
-        omega (arith, a, c)
+    iteration_met_units = units_follow iteration_meet_here ls r
 
   pub iteration_met_refused : Awaits w old (iteration_meets w i hs ks)
       → {R : Type 0} {G : R → elimination.State Fraction → Type 0} (e : engine.EngineError)
       → Ran (elimination_of (ideal.intersection_way hs ks)) G mid new (stopped (refusal_of e))
       → Stops w new (in_task (task.IterationMeet w.round n (i + 1)) e)
-  iteration_met_refused c e r =
-      task_refused B iteration_meet_here old mid new c begun_iteration_meet iteration_meet_short
-      (ideal.intersection_way hs ks) iteration_meet_way QT
-      (λ p. past_start B iteration_meet_here (subst (λ (V : Way fractions).
-      IsPastStart fractions rationals V.gens) iteration_meet_way p))
+  iteration_met_refused c e r = task_refused iteration_meet_here c iteration_meet_short
       (task.IterationMeet w.round n (i + 1))
       (ap₂ (journal.IterationMeet w.round) h.named (after_one i)) e r
 
@@ -289,9 +262,12 @@ module _ {w : BranchInWork} {old : Journal} (at : IsInWork w old) (branch : Bran
   abbrev k : ℕ
   k = w.round
 
-  pub form_at : analysis.form_of (setting_of s) place ≡ form_of branch.form
+  form_at : analysis.form_of (setting_of s) place ≡ form_of branch.form
   form_at = get_or-map (λ (c : Branch). form_of c.form) s.branches.items place branch _ at.place
       ∙ ap (λ (c : Branch). form_of c.form) (sym is)
+
+  pub since_at : (analysis.form_of (setting_of s) place).since ≡ branch.form.since
+  since_at = ap (λ (f : form.Form). f.since) form_at
 
   fits_at : FitsBranch s.arity branch
   fits_at = subst (FitsBranch s.arity) (sym is) (at.fits.branches place branch at.place)
@@ -323,9 +299,6 @@ module _ {w : BranchInWork} {old : Journal} (at : IsInWork w old) (branch : Bran
           gens = form.orbit_list f m (terms_each gs);
         } in w) (sym form_at) vars_at
 
-    abbrev U : Type 0
-    U = (orbit_of branch gs).IsPastStart
-
     abbrev pub IsShortOrbit : Type 0
     IsShortOrbit = most_terms
         < orbit_length (form_of branch.form) (length branch.images.items) (terms_each gs) → ⊥
@@ -341,38 +314,39 @@ module _ {w : BranchInWork} {old : Journal} (at : IsInWork w old) (branch : Bran
         → most_terms < work_length (setting_of s) (orbit k place (terms_each gs) hs) → ⊥
     few_orbit few hs l = few (subst (λ x. most_terms < x) (sym (orbit_size hs)) l)
 
+    past_here : (orbit_of branch gs).IsPastStart → (hs : List (Terms Fraction))
+        → IsPastStarting (setting_of s) (orbit k place (terms_each gs) hs)
+    past_here (inl p) hs =
+        inl (subst₂ (λ (f : form.Form) m. IsPastOrbit f m (terms_each gs)) (sym form_at) vars_at p)
+    past_here (inr p) hs =
+        inr (subst (λ (V : Way fractions). IsPastStart fractions rationals V.gens) (orbit_way hs) p)
+
+    orbit_here : (hs : List (Terms Fraction)) → IsUnderWay (setting_of s)
+        (orbit k place (terms_each gs) hs) (pulling_back branch gs)
+        (orbit_of branch gs).IsPastStart old mid
+    orbit_here hs = record { begun = begun_here h; way = orbit_way hs; past = λ p. past_here p hs }
+
     pub orbit_next : IsShortOrbit → (hs : List (Terms Fraction))
         → Awaits w old (orbiting w hs) → (ls : Vec FracPoly)
         → Ran (orbit_of branch gs) (IsListOf (pulling_back branch gs)) mid new (done ls)
         → Awaits w new (orbited w hs ls.items)
-    orbit_next few hs c ls r = task_ended (setting_of s) (orbit k place (terms_each gs) hs) old mid
-        new c (begun_here h) (few_orbit few hs) (pulling_back branch gs) (orbit_way hs) U ls r
+    orbit_next few hs c ls r = task_ended (orbit_here hs) c (few_orbit few hs) ls r
 
     module _ (ls : Vec FracPoly) (r : Ran (orbit_of branch gs) (IsListOf (pulling_back branch gs))
         mid new (done ls)) where
       pub orbit_units : Follow old new
-      orbit_units =
-          let a = units_follow (setting_of s) (orbit k place (terms_each gs) []) mid new
-          (pulling_back branch gs) (orbit_way []) U ls r in
-          let c = units_begun old mid (journal.Orbit k n) h.begun in
-          omega (arith, a, c)
+      orbit_units = units_follow (orbit_here []) ls r
 
       orbit_bound : length ls.items + units_of mid.entries
           ≤ length (free_part (orbit_front_of branch)
           (made rationals (orbit_front_of branch) (orbit_list_of branch gs))) + units_of new.entries
       unfolding starting block
       orbit_bound =
-          let bound = list_bound (setting_of s) (orbit k place (terms_each gs) []) mid new
-          (pulling_back branch gs) (orbit_way []) U ls r in
-          subst (λ m. length ls.items + units_of mid.entries
-          ≤ length (free_part (form.orbit_front (form_of branch.form) m)
-          (made rationals (form.orbit_front (form_of branch.form) m)
-          (form.orbit_list (form_of branch.form) m (terms_each gs)))) + units_of new.entries)
-          (sym vars_at)
-          (subst (λ f. length ls.items + units_of mid.entries
-          ≤ length (free_part (form.orbit_front f s.arity)
-          (made rationals (form.orbit_front f s.arity)
-          (form.orbit_list f s.arity (terms_each gs)))) + units_of new.entries) form_at bound)
+          let bound = list_bound (orbit_here []) ls r in
+          let same = ap₂ (λ (f : form.Form) m. length (free_part (form.orbit_front f m)
+          (made rationals (form.orbit_front f m) (form.orbit_list f m (terms_each gs)))))
+          (sym form_at) vars_at in
+          omega (arith, bound, same)
 
       module _ (over : AreOver (length branch.images.items) ls.items)
           (reduced : IsReducedList (length branch.images.items) (terms_each ls.items)) where
@@ -393,55 +367,41 @@ module _ {w : BranchInWork} {old : Journal} (at : IsInWork w old) (branch : Bran
             let e = at.basis.few in
             let v = vars_at in
             let one : s.arity * 1 ≡ s.arity = omega arith in
-            known s.arity (most_first s.arity s.given + s.arity * 1) (units_of new.entries) ls.items
-            parts (omega (arith, bound, few, b, d, e, v, one))
+            known _ (units_of new.entries) parts (omega (arith, bound, few, b, d, e, v, one))
 
         pub whole_known : HasWhole s place → Knows w new ls.items
         whole_known at_once =
             let few = whole_few (form_of branch.form) (length branch.images.items) (terms_each gs)
-            (sym (ap (λ (f : form.Form). f.since) form_at) ∙ at_once) in
+            (sym since_at ∙ at_once) in
             let bound = orbit_bound in
             let b = length-map gs terms_in in
             let d = units_begun old mid (journal.Orbit k n) h.begun in
             let e = at.basis.few in
-            known s.arity (most_first s.arity s.given) (units_of new.entries) ls.items parts
+            known (most_first s.arity s.given) (units_of new.entries) parts
             (omega (arith, bound, few, b, d, e))
 
     pub orbit_long : (hs : List (Terms Fraction)) → Awaits w old (orbiting w hs)
         → most_terms < orbit_length (form_of branch.form) (length branch.images.items)
         (terms_each gs) → Stops w mid (Limit (task.Orbit k n))
-    orbit_long hs c l =
-        task_long (setting_of s) (orbit k place (terms_each gs) hs) old mid mid c (begun_here h)
-        (subst (λ x. most_terms < x) (orbit_size hs) l) (task.Orbit k n) (ap (journal.Orbit k)
-        h.named)
-
-    past_here : U → (hs : List (Terms Fraction))
-        → IsPastStarting (setting_of s) (orbit k place (terms_each gs) hs)
-    past_here (inl p) hs =
-        inl (subst (λ m. IsPastOrbit (analysis.form_of (setting_of s) place) m (terms_each gs))
-        vars_at
-        (subst (λ (f : form.Form). IsPastOrbit f (length branch.images.items) (terms_each gs))
-        (sym form_at) p))
-    past_here (inr p) hs =
-        inr (subst (λ (V : Way fractions). IsPastStart fractions rationals V.gens) (orbit_way hs) p)
+    orbit_long hs c l = task_long (orbit_here hs) c
+        (subst (λ x. most_terms < x) (orbit_size hs) l) (task.Orbit k n)
+        (ap (journal.Orbit k) h.named)
 
     pub orbit_refused : IsShortOrbit → (hs : List (Terms Fraction)) → Awaits w old (orbiting w hs)
         → {R : Type 0} {G : R → elimination.State Fraction → Type 0} (e : engine.EngineError)
         → Ran (orbit_of branch gs) G mid new (stopped (refusal_of e))
         → Stops w new (in_task (task.Orbit k n) e)
-    orbit_refused few hs c e r =
-        task_refused (setting_of s) (orbit k place (terms_each gs) hs) old mid new c (begun_here h)
-        (few_orbit few hs) (pulling_back branch gs) (orbit_way hs) U (λ p. past_here p hs)
+    orbit_refused few hs c e r = task_refused (orbit_here hs) c (few_orbit few hs)
         (task.Orbit k n) (ap (journal.Orbit k) h.named) e r
 
   -- ---- an iteration
   module _ {mid : Journal} {n : ℕ} (i : ℕ) (h : IsBegun w (iteration_at w.round i) old mid n)
       (ks : List FracPoly) (new : Journal) where
-    abbrev iteration_here : List (Terms Fraction) → Work
-    iteration_here hs = iteration k place i (terms_each w.basis.now) (terms_each ks) hs
+    abbrev iterating : List (Terms Fraction) → Work
+    iterating hs = iteration k place i (terms_each w.basis.now) (terms_each ks) hs
 
     iteration_way : (hs : List (Terms Fraction))
-        → turning branch ks ≡ way_of (setting_of s) (iteration_here hs)
+        → turning branch ks ≡ way_of (setting_of s) (iterating hs)
     unfolding starting block
     iteration_way hs =
         let here : (f : form.Form) → (m : ℕ) → List (Terms Fraction) → ideal.Way fractions =
@@ -453,13 +413,6 @@ module _ {w : BranchInWork} {old : Journal} (at : IsInWork w old) (branch : Bran
         ap₂ (λ f m. here f m (terms_each branch.images.items)) (sym form_at) vars_at
         ∙ ap (here (analysis.form_of (setting_of s) place) s.arity) (sym map_at)
 
-    begun_iteration : mid ≡ with_entry old (Begin (journal.Iteration k (suc place) (suc i)))
-    begun_iteration = begun_here h ∙ ap (λ j. with_entry old
-        (Begin (journal.Iteration k (suc place) j))) (after_one i)
-
-    abbrev V : Type 0
-    V = (iteration_of branch ks).IsPastStart
-
     abbrev pub IsShortIteration : Type 0
     IsShortIteration = most_terms < iteration_length (form_of branch.form)
         (length branch.images.items) (terms_each branch.images.items) (terms_each ks) → ⊥
@@ -467,7 +420,7 @@ module _ {w : BranchInWork} {old : Journal} (at : IsInWork w old) (branch : Bran
     iteration_size : (hs : List (Terms Fraction))
         → iteration_length (form_of branch.form) (length branch.images.items)
         (terms_each branch.images.items) (terms_each ks)
-        ≡ work_length (setting_of s) (iteration_here hs)
+        ≡ work_length (setting_of s) (iterating hs)
     iteration_size hs =
         ap₂ (λ (f : form.Form) m. iteration_length f m (terms_each branch.images.items)
         (terms_each ks)) (sym form_at) vars_at
@@ -476,25 +429,39 @@ module _ {w : BranchInWork} {old : Journal} (at : IsInWork w old) (branch : Bran
         ∙ iteration_is (setting_of s) k place i (terms_each w.basis.now) (terms_each ks) hs
 
     few_iteration : IsShortIteration → (hs : List (Terms Fraction))
-        → most_terms < work_length (setting_of s) (iteration_here hs) → ⊥
+        → most_terms < work_length (setting_of s) (iterating hs) → ⊥
     few_iteration few hs l = few (subst (λ x. most_terms < x) (sym (iteration_size hs)) l)
+
+    past_iteration : (iteration_of branch ks).IsPastStart → (hs : List (Terms Fraction))
+        → IsPastStarting (setting_of s) (iterating hs)
+    past_iteration (inl p) hs =
+        inl (subst (λ fs. IsPastIteration (analysis.form_of (setting_of s) place) s.arity fs
+        (terms_each ks))
+        (sym map_at) (subst₂ (λ (f : form.Form) m. IsPastIteration f m
+        (terms_each branch.images.items) (terms_each ks)) (sym form_at) vars_at p))
+    past_iteration (inr p) hs =
+        inr (subst (λ (W : Way fractions). IsPastStart fractions rationals W.gens)
+        (iteration_way hs) p)
+
+    iteration_here : (hs : List (Terms Fraction)) → IsUnderWay (setting_of s) (iterating hs)
+        (turning branch ks) (iteration_of branch ks).IsPastStart old mid
+    iteration_here hs = record {
+      begun = begun_here h ∙ ap (λ j. with_entry old
+          (Begin (journal.Iteration k (suc place) j))) (after_one i);
+      way = iteration_way hs;
+      past = λ p. past_iteration p hs;
+    }
 
     pub iteration_next : IsShortIteration → (hs : List (Terms Fraction))
         → Awaits w old (iteration_begins w i ks hs) → (ls : Vec FracPoly)
         → Ran (iteration_of branch ks) (IsListOf (turning branch ks)) mid new (done ls)
         → Awaits w new (iteration_ends w i ks hs ls.items)
-    iteration_next few hs c ls r =
-        task_ended (setting_of s) (iteration_here hs) old mid new c begun_iteration
-        (few_iteration few hs) (turning branch ks) (iteration_way hs) V ls r
+    iteration_next few hs c ls r = task_ended (iteration_here hs) c (few_iteration few hs) ls r
 
     module _ (ls : Vec FracPoly)
         (r : Ran (iteration_of branch ks) (IsListOf (turning branch ks)) mid new (done ls)) where
       pub iteration_units : Follow old new
-      iteration_units =
-          let a = units_follow (setting_of s) (iteration_here []) mid new
-          (turning branch ks) (iteration_way []) V ls r in
-          let c = units_begun old mid (iteration_at k i n) h.begun in
-          omega (arith, a, c)
+      iteration_units = units_follow (iteration_here []) ls r
 
       pub iteration_known : KnowsIterations w i old ks
           → AreOver (length branch.images.items) ls.items
@@ -502,18 +469,15 @@ module _ {w : BranchInWork} {old : Journal} (at : IsInWork w old) (branch : Bran
           → KnowsIterations w (suc i) new ls.items
       unfolding starting block
       iteration_known kk over reduced =
-          let bound = list_bound (setting_of s) (iteration_here []) mid new
-          (turning branch ks) (iteration_way []) V ls r in
+          let bound = list_bound (iteration_here []) ls r in
           let f = analysis.form_of (setting_of s) place in
-          let few = iteration_few f s.arity (terms_each ks) (get_or (setting_of s).maps place [])
+          let few = iteration_few f s.arity (terms_each ks) _
           (ap length map_at ∙ length-map branch.images.items terms_in ∙ vars_at) in
           let b = length-map ks terms_in in
           let d = units_begun old mid (iteration_at k i n) h.begun in
           let e = kk.few in
           let more = turned_more s.arity i in
-          known s.arity (most_first s.arity s.given + s.arity * suc i) (units_of new.entries)
-          ls.items
-          (inr (
+          known _ (units_of new.entries) (inr (
             subst (λ m. AreOver m ls.items) vars_at over,
             subst (λ m. IsReducedList m (terms_each ls.items)) vars_at reduced,
           ))
@@ -523,32 +487,14 @@ module _ {w : BranchInWork} {old : Journal} (at : IsInWork w old) (branch : Bran
         → most_terms < iteration_length (form_of branch.form) (length branch.images.items)
         (terms_each branch.images.items) (terms_each ks)
         → Stops w mid (Limit (task.Iteration k n (i + 1)))
-    iteration_long hs c l =
-        task_long (setting_of s) (iteration_here hs) old mid mid c begun_iteration
-        (subst (λ x. most_terms < x) (iteration_size hs) l)
-        (task.Iteration k n (i + 1)) (ap₂ (journal.Iteration k) h.named (after_one i))
-
-    past_iteration : V → (hs : List (Terms Fraction))
-        → IsPastStarting (setting_of s) (iteration_here hs)
-    past_iteration (inl p) hs =
-        inl (subst (λ fs. IsPastIteration (analysis.form_of (setting_of s) place) s.arity fs
-        (terms_each ks))
-        (sym map_at)
-        (subst (λ m. IsPastIteration (analysis.form_of (setting_of s) place) m
-        (terms_each branch.images.items) (terms_each ks)) vars_at
-        (subst (λ (f : form.Form). IsPastIteration f (length branch.images.items)
-        (terms_each branch.images.items) (terms_each ks)) (sym form_at) p)))
-    past_iteration (inr p) hs =
-        inr (subst (λ (W : Way fractions). IsPastStart fractions rationals W.gens)
-        (iteration_way hs) p)
+    iteration_long hs c l = task_long (iteration_here hs) c
+        (subst (λ x. most_terms < x) (iteration_size hs) l) (task.Iteration k n (i + 1))
+        (ap₂ (journal.Iteration k) h.named (after_one i))
 
     pub iteration_refused : IsShortIteration → (hs : List (Terms Fraction))
         → Awaits w old (iteration_begins w i ks hs)
         → {R : Type 0} {G : R → elimination.State Fraction → Type 0} (e : engine.EngineError)
         → Ran (iteration_of branch ks) G mid new (stopped (refusal_of e))
         → Stops w new (in_task (task.Iteration k n (i + 1)) e)
-    iteration_refused few hs c e r =
-        task_refused (setting_of s) (iteration_here hs) old mid new c begun_iteration
-        (few_iteration few hs) (turning branch ks) (iteration_way hs) V
-        (λ p. past_iteration p hs) (task.Iteration k n (i + 1))
-        (ap₂ (journal.Iteration k) h.named (after_one i)) e r
+    iteration_refused few hs c e r = task_refused (iteration_here hs) c (few_iteration few hs)
+        (task.Iteration k n (i + 1)) (ap₂ (journal.Iteration k) h.named (after_one i)) e r

@@ -1,68 +1,63 @@
 use Rattle.std.proofs.Common.{None, ap, subst}
-use Rattle.std.proofs.lemmas.Result.{err_from_is_err_and}
+use Rattle.std.proofs.lemmas.Result.{err_from_is_err_and, IfErr-weaker}
 use Rattle.ideal_ops.specs.Calls.{AreOver}
 use Rattle.complete.proofs.Made.{if_ok}
 use Rattle.loop_model.specs.View.{program_of}
 use Rattle.loop_model.proofs.Formed.{formed}
 use Rattle.loops.specs.Inv.{Inv}
 use Rattle.invariant_fix.specs.Setting.{given_of}
-use Rattle.invariant_fix.proofs.Following.{begun_here, basis_of, level_of, closed_at, valid_of, square_of, few_at, followed_at, refuses_at, refused_at, all_have}
-use Rattle.std.proofs.lemmas.Result.{IfErr-weaker}
+use Rattle.invariant_fix.proofs.Following.{IsAnalysisOf, begun_here, basis_of, level_of, closed_by, valid_of, square_of, few_at, comes_followed, refuses_followed, refused_at, all_have}
 use Rattle.invariant_fix.proofs.Options.{if_both, if_ok_two, if_ok_three}
 use Rattle.invariant_fix.proofs.analysis.analyse.Goals as goal
+use Rattle.invariant_fix.proofs.analysis.analyse.Goals.{In_ok-setting}
+
+here : (c : In_ok-setting) → IsAnalysisOf (program_of c.args.lp.now) c.in_ok-setting.setting None
+here c = let e = c.in_ok-setting.ensures in record {
+  formed = formed c.args.lp.now;
+  fits = e.fits;
+  is = e.setting;
+  given_is = ap given_of e.given;
+}
 
 pub start_basis-requires-clause-next : goal.start_basis-requires-clause-next
 start_basis-requires-clause-next c =
     let e = c.in_ok-setting.ensures in
-    begun_here c.in_ok-setting.setting e.given c.args.meter.now.entries c.requires.unbegun
+    begun_here c.in_ok-setting.setting e.given c.requires.unbegun
 
 pub returns-in_err-basis-clause-follows : goal.returns-in_err-basis-clause-follows
 returns-in_err-basis-clause-follows c =
-    let e = c.in_ok-setting.ensures in
-    refuses_at (program_of c.args.lp.now) (formed c.args.lp.now) c.in_ok-setting.setting e.fits
-    e.setting None (ap given_of e.given) c.start_basis.new.meter c.in_err-basis.field-0.0
+    refuses_followed (here (goal.at.returns-in_err-basis-clause-follows c).In_ok-setting) _ _
     c.in_err-basis.ensures.err
 
 pub returns-in_err-basis-clause-refused : goal.returns-in_err-basis-clause-refused
 returns-in_err-basis-clause-refused c =
-    let e = c.in_ok-setting.ensures in
+    let h = here (goal.at.returns-in_err-basis-clause-refused c).In_ok-setting in
     let p = err_from_is_err_and c.from_residual-in_err-basis.result
     c.from_residual-in_err-basis.ensures.1 in
-    rw (p.1, p.2) (refused_at (program_of c.args.lp.now) (formed c.args.lp.now)
-    c.in_ok-setting.setting e.fits e.setting None (ap given_of e.given) e.free
-    c.args.meter.now c.start_basis.new.meter c.in_err-basis.field-0.0
-    c.in_err-basis.ensures.err)
+    rw (p.1, p.2) (refused_at h c.in_ok-setting.ensures.free c.args.meter.now
+    c.start_basis.new.meter c.in_err-basis.field-0.0 c.in_err-basis.ensures.err)
 
 pub returns-clause-follows : goal.returns-clause-follows
 returns-clause-follows c =
-    let e = c.in_ok-setting.ensures in
-    if_both c.rounds.result _ _ _
-    (λ a h. followed_at (program_of c.args.lp.now) (formed c.args.lp.now) c.in_ok-setting.setting
-    e.fits e.setting None (ap given_of e.given) c.rounds.new.meter.entries _ h)
-    (λ r h. refuses_at (program_of c.args.lp.now) (formed c.args.lp.now) c.in_ok-setting.setting
-    e.fits e.setting None (ap given_of e.given) c.rounds.new.meter r h)
-    c.rounds.ensures.closed c.rounds.ensures.err
+    let h = here (goal.at.returns-clause-follows c).In_ok-setting in
+    if_both _ _ _ _ (λ a s. comes_followed h _ s)
+    (λ r s. refuses_followed h _ r s) c.rounds.ensures.closed c.rounds.ensures.err
 
 pub returns-clause-closed : goal.returns-clause-closed
 returns-clause-closed c =
-    let e = c.in_ok-setting.ensures in
-    if_ok_two _ _ _ c.rounds.result (λ a h k. closed_at (program_of c.args.lp.now)
-    (formed c.args.lp.now) c.in_ok-setting.setting e.fits e.setting None (ap given_of e.given)
-    a c.rounds.new.meter.entries h k) c.rounds.ensures.closed c.rounds.ensures.steps
+    let h = here (goal.at.returns-clause-closed c).In_ok-setting in
+    if_ok_two _ _ _ c.rounds.result (λ a s k. closed_by h a s k)
+    c.rounds.ensures.closed c.rounds.ensures.steps
 
 pub returns-clause-basis : goal.returns-clause-basis
 returns-clause-basis c =
-    let e = c.in_ok-setting.ensures in
-    if_ok _ _ c.rounds.result (λ a h. basis_of (program_of c.args.lp.now) (formed c.args.lp.now)
-    c.in_ok-setting.setting e.fits e.setting c.rounds.new.meter.entries a.rounds _ h e.given)
-    c.rounds.ensures.closed
+    let h = here (goal.at.returns-clause-basis c).In_ok-setting in
+    if_ok _ _ c.rounds.result (λ a s. basis_of h s) c.rounds.ensures.closed
 
 pub returns-clause-rounds : goal.returns-clause-rounds
 returns-clause-rounds c =
-    let e = c.in_ok-setting.ensures in
-    if_ok _ _ c.rounds.result (λ a h. level_of (program_of c.args.lp.now) (formed c.args.lp.now)
-    c.in_ok-setting.setting e.fits e.setting c.rounds.new.meter.entries a.rounds _ h e.given)
-    c.rounds.ensures.closed
+    let h = here (goal.at.returns-clause-rounds c).In_ok-setting in
+    if_ok _ _ c.rounds.result (λ a s. level_of h s) c.rounds.ensures.closed
 
 pub returns-clause-over : goal.returns-clause-over
 returns-clause-over c =
@@ -72,20 +67,15 @@ returns-clause-over c =
 
 pub returns-clause-square : goal.returns-clause-square
 returns-clause-square c =
-    let e = c.in_ok-setting.ensures in
-    if_ok_three _ _ _ _ c.rounds.result (λ a h k over. square_of (program_of c.args.lp.now)
-    (formed c.args.lp.now) c.in_ok-setting.setting e.fits e.setting a
-    c.rounds.new.meter.entries (Inv (program_of c.args.lp.now))
-    (basis_of (program_of c.args.lp.now) (formed c.args.lp.now) c.in_ok-setting.setting e.fits
-    e.setting c.rounds.new.meter.entries a.rounds _ h e.given) k over)
-    c.rounds.ensures.closed c.rounds.ensures.steps c.rounds.ensures.over
+    let h = here (goal.at.returns-clause-square c).In_ok-setting in
+    if_ok_three _ _ _ _ _ (λ a s k over. square_of h a (Inv (program_of c.args.lp.now))
+    (basis_of h s) k over) c.rounds.ensures.closed c.rounds.ensures.steps c.rounds.ensures.over
 
 pub returns-clause-certificate : goal.returns-clause-certificate
 returns-clause-certificate c =
-    let e = c.in_ok-setting.ensures in
-    if_ok_two _ _ _ c.rounds.result (λ a h k. valid_of (program_of c.args.lp.now)
-    (formed c.args.lp.now) c.in_ok-setting.setting e.fits e.setting e.given a
-    c.rounds.new.meter.entries h k) c.rounds.ensures.closed c.rounds.ensures.steps
+    let h = here (goal.at.returns-clause-certificate c).In_ok-setting in
+    if_ok_two _ _ _ c.rounds.result (λ a s k. valid_of h a s k)
+    c.rounds.ensures.closed c.rounds.ensures.steps
 
 pub returns-clause-forms : goal.returns-clause-forms
 returns-clause-forms c =
@@ -95,10 +85,9 @@ returns-clause-forms c =
 
 pub returns-clause-refused : goal.returns-clause-refused
 returns-clause-refused c =
-    let e = c.in_ok-setting.ensures in
-    IfErr-weaker c.rounds.result _ _ (λ r h. refused_at (program_of c.args.lp.now)
-    (formed c.args.lp.now) c.in_ok-setting.setting e.fits e.setting None (ap given_of e.given)
-    e.free c.args.meter.now c.rounds.new.meter r h) c.rounds.ensures.err
+    let h = here (goal.at.returns-clause-refused c).In_ok-setting in
+    IfErr-weaker c.rounds.result _ _ (λ r s. refused_at h c.in_ok-setting.ensures.free
+    c.args.meter.now c.rounds.new.meter r s) c.rounds.ensures.err
 
 pub returns-clause-few : goal.returns-clause-few
 returns-clause-few c =

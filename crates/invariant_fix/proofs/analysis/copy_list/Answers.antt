@@ -15,20 +15,21 @@ loop-poly-preserved c =
     let x = c.poly-item.result in
     let e = c.in_ok-copy.ensures in
     record {
-      terms = grown terms_in terms_in c.args.list.now c.loop-poly.poly-index x c.loop-poly.out.items
-          c.push.new.self.items c.in_ok-copy.field-0
+      terms = grown terms_in terms_in _ _ x _ _ c.in_ok-copy.field-0
           c.loop-poly-test.true c.poly-item.is c.in_ok-push.ensures.items e.terms
           c.loop-poly.invariant.terms;
-      arity = grown (λ (p : FracPoly). p.arity) (λ (p : FracPoly). p.arity) c.args.list.now
-          c.loop-poly.poly-index x c.loop-poly.out.items c.push.new.self.items c.in_ok-copy.field-0
-          c.loop-poly-test.true c.poly-item.is c.in_ok-push.ensures.items e.arity
-          c.loop-poly.invariant.arity;
+      arity =
+          grown (λ (p : FracPoly). p.arity) (λ (p : FracPoly). p.arity) _ _ x _ _
+          c.in_ok-copy.field-0 c.loop-poly-test.true c.poly-item.is c.in_ok-push.ensures.items
+          e.arity c.loop-poly.invariant.arity;
     }
 
 pub returns-clause-same : goal.returns-clause-same
-returns-clause-same c = all_grown (λ (p : FracPoly). terms_in p) (λ (p : FracPoly). terms_in p)
-    c.args.list.now c.loop-poly.poly-index _ c.loop-poly-test.false c.loop-poly.invariant.terms
+returns-clause-same c =
+    all_grown (λ (p : FracPoly). terms_in p) (λ (p : FracPoly). terms_in p) _ _ _
+    c.loop-poly-test.false c.loop-poly.invariant.terms
 
 pub returns-clause-arities : goal.returns-clause-arities
-returns-clause-arities c = all_grown (λ (p : FracPoly). p.arity) (λ (p : FracPoly). p.arity)
-    c.args.list.now c.loop-poly.poly-index _ c.loop-poly-test.false c.loop-poly.invariant.arity
+returns-clause-arities c =
+    all_grown (λ (p : FracPoly). p.arity) (λ (p : FracPoly). p.arity) _ _ _ c.loop-poly-test.false
+    c.loop-poly.invariant.arity

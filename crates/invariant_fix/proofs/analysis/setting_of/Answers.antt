@@ -1,6 +1,5 @@
 use Rattle.std.proofs.lemmas.Result.{err_from_is_err_and}
 use Rattle.loop_model.specs.View.{program_of}
-use Rattle.std.proofs.Common.{length}
 use Rattle.invariant_fix.proofs.Forming.{loop_unformed}
 use Rattle.invariant_fix.proofs.Forms.{all_forms}
 use Rattle.invariant_fix.proofs.analysis.setting_of.Goals as goal
@@ -13,5 +12,4 @@ returns-in_err-branches-clause-refused c =
 
 pub returns-clause-forms : goal.returns-clause-forms
 returns-clause-forms c =
-    all_forms (program_of c.args.lp.now) c.in_ok-branches.branches.items
-    (length (program_of c.args.lp.now).branches) c.in_ok-branches.ensures.branches
+    all_forms (program_of c.args.lp.now) c.in_ok-branches.ensures.branches

@@ -10,10 +10,9 @@ use Rattle.invariant_fix.proofs.branches.branches.Goals as goal
 pub loop-images-preserved : goal.loop-images-preserved
 loop-images-preserved c =
     let gives = c.into_iter-images-iterator.ensures.into_iter_gives in
-    let t = YieldsList-turn (YieldsList-from_vec {s = c.into_iter-images-iterator.result}
-    c.args.maps.items gives.0 (gives.1 ∙ c.args.maps.ok.0)) c.loop-images.yielded
-    c.loop-images.images-iterator c.loop-images.yielded_by c.next.result c.next.new.self
-    c.in-Some.images c.in-Some.is c.next.ensures.steps in
+    let t = YieldsList-turn (YieldsList-from_vec {s = c.into_iter-images-iterator.result} _ gives.0
+    (gives.1 ∙ c.args.maps.ok.0)) _ _ c.loop-images.yielded_by _ c.next.new.self _ c.in-Some.is
+    c.next.ensures.steps in
     let n = length c.loop-images.yielded in
     let more : length (c.loop-images.yielded ++ c.in-Some.images ∷ []) ≡ n + 1 =
     length-append c.loop-images.yielded (c.in-Some.images ∷ []) in
@@ -34,10 +33,9 @@ loop-images-preserved c =
 pub returns-in-Err : goal.returns-in-Err
 returns-in-Err c =
     let gives = c.into_iter-images-iterator.ensures.into_iter_gives in
-    let t = YieldsList-turn (YieldsList-from_vec {s = c.into_iter-images-iterator.result}
-    c.args.maps.items gives.0 (gives.1 ∙ c.args.maps.ok.0)) c.loop-images.yielded
-    c.loop-images.images-iterator c.loop-images.yielded_by c.next.result c.next.new.self
-    c.in-Some.images c.in-Some.is c.next.ensures.steps in
+    let t = YieldsList-turn (YieldsList-from_vec {s = c.into_iter-images-iterator.result} _ gives.0
+    (gives.1 ∙ c.args.maps.ok.0)) _ _ c.loop-images.yielded_by _ c.next.new.self _ c.in-Some.is
+    c.next.ensures.steps in
     let n = length c.loop-images.yielded in
     let size = c.len.ensures ∙ c.loop-images.out.ok.0 ∙ c.loop-images.invariant.count in
     record {

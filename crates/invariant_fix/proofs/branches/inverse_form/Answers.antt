@@ -23,24 +23,21 @@ loop-poly-preserved c =
     let body = c.into_body.ensures in
     record {
       terms = grown terms_in (λ (e : Expo). inverse_form grevlex (length (base_of e))
-          (terms_in e.body))
-          c.args.polys.now c.loop-poly.poly-index x c.loop-poly.out.items c.push.new.self.items
-          c.into_body.result
-          c.loop-poly-test.true c.poly-item.is c.in_ok-push.ensures.items (ap terms_in body
-          ∙ is.terms) c.loop-poly.invariant.terms;
-      arity = grown (λ (p : FracPoly). p.arity) (λ (e : Expo). e.body.arity) c.args.polys.now
-          c.loop-poly.poly-index x c.loop-poly.out.items c.push.new.self.items c.into_body.result
-          c.loop-poly-test.true c.poly-item.is c.in_ok-push.ensures.items
-          (ap (λ (p : FracPoly). p.arity) body ∙ e.arity
-          ∙ ap₂ (λ bs n. width (length bs) n) is.over_base is.over_vars ∙ sym x.arity)
-          c.loop-poly.invariant.arity;
+          (terms_in e.body)) _ _ x _ _ c.into_body.result c.loop-poly-test.true c.poly-item.is
+          c.in_ok-push.ensures.items (ap terms_in body ∙ is.terms) c.loop-poly.invariant.terms;
+      arity =
+          grown (λ (p : FracPoly). p.arity) (λ (e : Expo). e.body.arity) _ _ x _ _
+          c.into_body.result c.loop-poly-test.true c.poly-item.is c.in_ok-push.ensures.items
+          (ap (λ (p : FracPoly). p.arity) body ∙ e.arity ∙ ap₂ (λ bs n. width (length bs) n)
+          is.over_base is.over_vars ∙ sym x.arity) c.loop-poly.invariant.arity;
     }
 
 pub returns-clause-terms : goal.returns-clause-terms
 returns-clause-terms c = all_grown (λ (p : FracPoly). terms_in p) (λ (e : Expo).
-    inverse_form grevlex (length (base_of e)) (terms_in e.body)) c.args.polys.now
-    c.loop-poly.poly-index _ c.loop-poly-test.false c.loop-poly.invariant.terms
+    inverse_form grevlex (length (base_of e)) (terms_in e.body)) _ _ _ c.loop-poly-test.false
+    c.loop-poly.invariant.terms
 
 pub returns-clause-arity : goal.returns-clause-arity
-returns-clause-arity c = all_grown (λ (p : FracPoly). p.arity) (λ (e : Expo). e.body.arity)
-    c.args.polys.now c.loop-poly.poly-index _ c.loop-poly-test.false c.loop-poly.invariant.arity
+returns-clause-arity c =
+    all_grown (λ (p : FracPoly). p.arity) (λ (e : Expo). e.body.arity) _ _ _ c.loop-poly-test.false
+    c.loop-poly.invariant.arity

@@ -26,6 +26,5 @@ loop-statement-preserved c =
 
 pub returns : goal.returns
 returns c =
-    sym (look_end c.args.var c.args.code.now c.loop-statement.statement-index
-    c.loop-statement-test.false)
+    sym (look_end c.args.var c.args.code.now _ c.loop-statement-test.false)
     ∙ c.loop-statement.invariant

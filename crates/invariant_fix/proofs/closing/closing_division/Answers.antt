@@ -6,8 +6,9 @@ use Rattle.invariant_fix.proofs.closing.closing_division.Goals as goal
 pub returns-in_err-turned : goal.returns-in_err-turned
 returns-in_err-turned c =
     record {
-      ran = unmade (test_of c.args.branch.now c.args.element.now c.args.basis.now)
-          c.from_residual.result _ c.from_residual.ensures.1 c.in_err-turned.ensures.wide;
+      ran =
+          unmade (test_of c.args.branch.now c.args.element.now c.args.basis.now) _ _
+          c.from_residual.ensures.1 c.in_err-turned.ensures.wide;
     }
 
 pub returns : goal.returns

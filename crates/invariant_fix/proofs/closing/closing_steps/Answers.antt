@@ -37,11 +37,8 @@ loop-place-preserved c =
           (ens.next (ap is_some c.in-Some.is)));
       units = (let a = ens.units in let b = inv.units in omega (arith, a, b));
       over = have_more (λ (rows : Vec (Vec FracPoly)).
-          All (λ (row : Vec FracPoly). AreOver c.args.setting.now.arity row.items) rows.items)
-          c.loop-place.steps.items c.push.new.self.items c.in-Some.cofactors
-          c.in_ok-push.ensures.items inv.over (known _ c.in_ok-cofactors.field-0 c.in-Some.cofactors
-          c.in-Some.is ens.over);
-      steps = rounds_more s gs p c.loop-place.steps.items c.push.new.self.items c.in-Some.cofactors
-          inv.steps c.in_ok-push.ensures.items (known _ c.in_ok-cofactors.field-0
-          c.in-Some.cofactors c.in-Some.is ens.steps);
+          All (λ (row : Vec FracPoly). AreOver c.args.setting.now.arity row.items) rows.items) _ _ _
+          c.in_ok-push.ensures.items inv.over (known _ _ _ c.in-Some.is ens.over);
+      steps = rounds_more s gs p c.push.new.self.items c.in-Some.cofactors
+          inv.steps c.in_ok-push.ensures.items (known _ _ _ c.in-Some.is ens.steps);
     }

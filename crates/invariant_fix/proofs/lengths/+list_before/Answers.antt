@@ -12,7 +12,7 @@ use Rattle.invariant_fix.proofs.lengths.+list_before.Goals as goal
 pub returns-in-empty : goal.returns-in-empty
 returns-in-empty t c =
     let ns = lengths_told c.args.passing.now (terms_each c.args.back.now) in
-    of_zero _ (sum_none (length_behind c.args.front ns) terms_in c.args.list.now
+    of_zero _ (sum_none (length_behind c.args.front ns) terms_in _
     (nil_from_length c.args.list.now c.in-empty.len_below))
 
 pub returns-in-len1 : goal.returns-in-len1
@@ -20,33 +20,28 @@ returns-in-len1 t c =
     let one = one_from_length _ _ c.in-len1.len_at_least c.in-len1.len_below c.element-item.is in
     let ns = lengths_told c.args.passing.now (terms_each c.args.back.now) in
     let read = c.deref.ensures.value ∙ ap (λ v. v.items) c.terms.ensures in
-    count_of _ _ c.sum_before.result
-    (sum_one (length_behind c.args.front ns) terms_in c.element-item.result c.args.list.now one)
-    (subst (λ ts. IsCount (length_behind c.args.front ns (terms_of fraction_of ts))
-    c.sum_before.result) read c.sum_before.ensures)
+    count_of _ _ _ (sum_one (length_behind c.args.front ns) terms_in _ _ one) (subst (λ ts. IsCount
+    (length_behind c.args.front ns (terms_of fraction_of ts)) c.sum_before.result) read
+    c.sum_before.ensures)
 
 pub returns-in_default-list_before : goal.returns-in_default-list_before
 returns-in_default-list_before t c =
     let ns = lengths_told c.args.passing.now (terms_each c.args.back.now) in
-    sum_past (length_behind c.args.front ns) terms_in c.args.list.now _ _
-    _ c.split_at.ensures.front c.split_at.ensures.back
-    (inl (none_above _ c.list_before.result c.list_before.ensures
+    sum_past (length_behind c.args.front ns) terms_in _ _ _ _ c.split_at.ensures.front
+    c.split_at.ensures.back (inl (none_above _ _ c.list_before.ensures
     c.in_default-list_before.not-Some))
 
 pub returns-in_default-list_before-2 : goal.returns-in_default-list_before-2
 returns-in_default-list_before-2 t c =
     let ns = lengths_told c.args.passing.now (terms_each c.args.back.now) in
-    sum_past (length_behind c.args.front ns) terms_in c.args.list.now _ _
-    _ c.split_at.ensures.front c.split_at.ensures.back
-    (inr (none_above _ c.list_before-in_default.result c.list_before-in_default.ensures
+    sum_past (length_behind c.args.front ns) terms_in _ _ _ _ c.split_at.ensures.front
+    c.split_at.ensures.back (inr (none_above _ _ c.list_before-in_default.ensures
     c.in_default-list_before-2.not-Some))
 
 pub returns-in-Some-list_before : goal.returns-in-Some-list_before
 returns-in-Some-list_before t c =
     let ns = lengths_told c.args.passing.now (terms_each c.args.back.now) in
-    let left = some_is _ c.in-Some.left c.list_before.result c.list_before.ensures c.in-Some.is in
-    let right = some_is _ c.in-Some-list_before.right c.list_before-in_default.result
-    c.list_before-in_default.ensures c.in-Some-list_before.is in
-    sum_parts (length_behind c.args.front ns) terms_in c.args.list.now _
-    _ _ c.split_at.ensures.front c.split_at.ensures.back
-    c.in-Some.left c.in-Some-list_before.right c.sum.result left.0 right.0 c.sum.ensures
+    let left = some_is _ _ _ c.list_before.ensures c.in-Some.is in
+    let right = some_is _ _ _ c.list_before-in_default.ensures c.in-Some-list_before.is in
+    sum_parts (length_behind c.args.front ns) terms_in _ _
+    _ _ c.split_at.ensures.front c.split_at.ensures.back _ _ _ left.0 right.0 c.sum.ensures

@@ -5,35 +5,30 @@ use Rattle.expansion.specs.Counts.{most_terms}
 use Rattle.expansion.specs.Lengths.{power_length}
 use Rattle.expansion.proofs.Counting.{of_first, none_above, some_is}
 use Rattle.expansion.proofs.LengthLaws.{lengths_none}
-use Rattle.invariant_fix.specs.Long.{lengths_told}
 use Rattle.invariant_fix.proofs.LongLaws.{some_terms, told_none, told_more, told_past}
 use Rattle.invariant_fix.proofs.lengths.+product_before.Goals as goal
 
 pub returns-in_default : goal.returns-in_default
 returns-in_default t c =
-    of_first _ (told_none c.args.passing.now (terms_each c.args.back.now) c.args.exponents.now
+    of_first _ (told_none _ _ c.args.exponents.now
     (inr (length-map c.args.back.now terms_in ∙ c.in_default.ensures''.cases)))
 
 pub returns-in_default-2 : goal.returns-in_default-2
 returns-in_default-2 t c =
-    of_first _ (told_none c.args.passing.now (terms_each c.args.back.now) c.args.exponents.now
-    (inl c.in_default.ensures'.cases))
+    of_first _ (told_none _ _ c.args.exponents.now (inl c.in_default.ensures'.cases))
 
 pub returns-in_default-3 : goal.returns-in_default-3
 returns-in_default-3 t c =
-    of_first _ (lengths_none (lengths_told c.args.passing.now (terms_each c.args.back.now))
-    c.args.exponents.now (inr c.in_default.ensures.cases))
+    of_first _ (lengths_none _ _ (inr c.in_default.ensures.cases))
 
 pub returns-in_default-product_before : goal.returns-in_default-product_before
 returns-in_default-product_before t c =
     told_past c.in-Some-Some-Some.passes.now c.in-Some-Some-Some.passing.now c.args.passing.now
     (terms_in c.in-Some-Some-Some.first.now) (terms_each c.in-Some-Some-Some.back.now)
-    (terms_each c.args.back.now) c.in-Some-Some-Some.exponent.now
-    c.in-Some-Some-Some.exponents.now c.args.exponents.now
-    c.in-Some-Some-Some.ensures'.cases.0 (ap terms_each c.in-Some-Some-Some.ensures''.cases.0)
-    c.in-Some-Some-Some.ensures.cases.0
-    (inl (none_above _ c.product_before.result c.product_before.ensures
-    c.in_default-product_before.not-Some))
+    (terms_each c.args.back.now) c.in-Some-Some-Some.exponent.now c.in-Some-Some-Some.exponents.now
+    c.args.exponents.now c.in-Some-Some-Some.ensures'.cases.0
+    (ap terms_each c.in-Some-Some-Some.ensures''.cases.0) c.in-Some-Some-Some.ensures.cases.0
+    (inl (none_above _ _ c.product_before.ensures c.in_default-product_before.not-Some))
 
 pub power_of-requires : goal.power_of-requires
 power_of-requires t c = subst (λ n. 0 < n) (sym c.terms_before.ensures)
@@ -43,20 +38,16 @@ pub returns-in_default-power_of : goal.returns-in_default-power_of
 returns-in_default-power_of t c =
     told_past c.in-Some-Some-Some.passes.now c.in-Some-Some-Some.passing.now c.args.passing.now
     (terms_in c.in-Some-Some-Some.first.now) (terms_each c.in-Some-Some-Some.back.now)
-    (terms_each c.args.back.now) c.in-Some-Some-Some.exponent.now
-    c.in-Some-Some-Some.exponents.now c.args.exponents.now
-    c.in-Some-Some-Some.ensures'.cases.0 (ap terms_each c.in-Some-Some-Some.ensures''.cases.0)
-    c.in-Some-Some-Some.ensures.cases.0
+    (terms_each c.args.back.now) c.in-Some-Some-Some.exponent.now c.in-Some-Some-Some.exponents.now
+    c.args.exponents.now c.in-Some-Some-Some.ensures'.cases.0
+    (ap terms_each c.in-Some-Some-Some.ensures''.cases.0) c.in-Some-Some-Some.ensures.cases.0
     (inr (subst (λ n. most_terms < power_length n c.in-Some-Some-Some.exponent.now)
-    c.terms_before.ensures (none_above _ c.power_of.result c.power_of.ensures
-    c.in_default-power_of.not-Some)))
+    c.terms_before.ensures (none_above _ _ c.power_of.ensures c.in_default-power_of.not-Some)))
 
 pub returns : goal.returns
 returns t c =
-    let rest = some_is _ c.in-Some.rest c.product_before.result c.product_before.ensures
-    c.in-Some.is in
-    let power = some_is _ c.in-Some-power_of.power c.power_of.result c.power_of.ensures
-    c.in-Some-power_of.is in
+    let rest = some_is _ _ _ c.product_before.ensures c.in-Some.is in
+    let power = some_is _ _ _ c.power_of.ensures c.in-Some-power_of.is in
     let powers = ap (λ n. power_length n c.in-Some-Some-Some.exponent.now) c.terms_before.ensures in
     told_more c.in-Some-Some-Some.passes.now c.in-Some-Some-Some.passing.now c.args.passing.now
     (terms_in c.in-Some-Some-Some.first.now) (terms_each c.in-Some-Some-Some.back.now)

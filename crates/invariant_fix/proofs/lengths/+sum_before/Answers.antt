@@ -13,41 +13,35 @@ use Rattle.invariant_fix.proofs.lengths.+sum_before.Goals as goal
 pub returns-in-empty : goal.returns-in-empty
 returns-in-empty t c =
     let ns = lengths_told c.args.passing.now (terms_each c.args.back.now) in
-    of_zero _ (sum_none (term_behind c.args.front ns) (term_of fraction_of) c.args.terms.now
+    of_zero _ (sum_none (term_behind c.args.front ns) (term_of fraction_of) _
     (nil_from_length c.args.terms.now c.in-empty.len_below))
 
 pub returns-in-len1 : goal.returns-in-len1
 returns-in-len1 t c =
     let one = one_from_length _ _ c.in-len1.len_at_least c.in-len1.len_below c.term-item.is in
     let ns = lengths_told c.args.passing.now (terms_each c.args.back.now) in
-    count_of _ _ c.product_behind.result
-    (sum_one (term_behind c.args.front ns) (term_of fraction_of) c.term-item.result
-    c.args.terms.now one)
+    count_of _ _ _ (sum_one (term_behind c.args.front ns) (term_of fraction_of) _ _ one)
     (subst (λ e. IsCount (product_length ns (drop c.args.front e)) c.product_behind.result)
     (c.as_slice.ensures ∙ c.exponents.ensures.exponents) c.product_behind.ensures)
 
 pub returns-in_default-sum_before : goal.returns-in_default-sum_before
 returns-in_default-sum_before t c =
     let ns = lengths_told c.args.passing.now (terms_each c.args.back.now) in
-    sum_past (term_behind c.args.front ns) (term_of fraction_of) c.args.terms.now _ _
-    _ c.split_at.ensures.front c.split_at.ensures.back
-    (inl (none_above _ c.sum_before.result c.sum_before.ensures
+    sum_past (term_behind c.args.front ns) (term_of fraction_of) _ _ _ _ c.split_at.ensures.front
+    c.split_at.ensures.back (inl (none_above _ _ c.sum_before.ensures
     c.in_default-sum_before.not-Some))
 
 pub returns-in_default-sum_before-2 : goal.returns-in_default-sum_before-2
 returns-in_default-sum_before-2 t c =
     let ns = lengths_told c.args.passing.now (terms_each c.args.back.now) in
-    sum_past (term_behind c.args.front ns) (term_of fraction_of) c.args.terms.now _ _
-    _ c.split_at.ensures.front c.split_at.ensures.back
-    (inr (none_above _ c.sum_before-in_default.result c.sum_before-in_default.ensures
+    sum_past (term_behind c.args.front ns) (term_of fraction_of) _ _ _ _ c.split_at.ensures.front
+    c.split_at.ensures.back (inr (none_above _ _ c.sum_before-in_default.ensures
     c.in_default-sum_before-2.not-Some))
 
 pub returns-in-Some-sum_before : goal.returns-in-Some-sum_before
 returns-in-Some-sum_before t c =
     let ns = lengths_told c.args.passing.now (terms_each c.args.back.now) in
-    let left = some_is _ c.in-Some.left c.sum_before.result c.sum_before.ensures c.in-Some.is in
-    let right = some_is _ c.in-Some-sum_before.right c.sum_before-in_default.result
-    c.sum_before-in_default.ensures c.in-Some-sum_before.is in
-    sum_parts (term_behind c.args.front ns) (term_of fraction_of) c.args.terms.now _
-    _ _ c.split_at.ensures.front c.split_at.ensures.back
-    c.in-Some.left c.in-Some-sum_before.right c.sum.result left.0 right.0 c.sum.ensures
+    let left = some_is _ _ _ c.sum_before.ensures c.in-Some.is in
+    let right = some_is _ _ _ c.sum_before-in_default.ensures c.in-Some-sum_before.is in
+    sum_parts (term_behind c.args.front ns) (term_of fraction_of) _ _
+    _ _ c.split_at.ensures.front c.split_at.ensures.back _ _ _ left.0 right.0 c.sum.ensures

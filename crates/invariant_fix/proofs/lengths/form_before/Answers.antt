@@ -10,4 +10,4 @@ returns c =
     subst (λ ns. IsCount (lengths_behind c.args.front ns (terms_each c.args.list.now))
     c.list_before.result)
     (ap₂ lengths_told c.as_slice.ensures.value (ap terms_each c.as_slice-2.ensures.value)
-    ∙ branch_lengths c.args.branch.now c.requires.branch) c.list_before.ensures
+    ∙ branch_lengths c.requires.branch) c.list_before.ensures

@@ -22,27 +22,19 @@ map_is c =
 pub returns-in_default : goal.returns-in_default
 returns-in_default c =
     let b = c.args.branch.now in
-    before_long (form_of b.form) (vars_of b) (terms_each b.images.items)
-    (terms_each c.args.before.now)
-    (none_above _ c.form_before.result c.form_before.ensures c.in_default.not-Some)
+    before_long (form_of b.form) _ _ _ (none_above _ _ c.form_before.ensures c.in_default.not-Some)
 
 pub returns-in_default-form_before : goal.returns-in_default-form_before
 returns-in_default-form_before c =
     let b = c.args.branch.now in
-    map_long (form_of b.form) (vars_of b) (terms_each b.images.items)
-    (terms_each c.args.before.now)
-    (subst (λ n. most_terms < n)
-    (map_is (goal.at.returns-in_default-form_before c).After-form_before-2)
-    (none_above _ c.form_before-2.result c.form_before-2.ensures
-    c.in_default-form_before.not-Some))
+    map_long (form_of b.form) _ _ _ (subst (λ n. most_terms < n)
+    (map_is (goal.at.returns-in_default-form_before c).After-form_before-2) (none_above _ _
+    c.form_before-2.ensures c.in_default-form_before.not-Some))
 
 pub returns : goal.returns
 returns c =
     let b = c.args.branch.now in
-    let left = some_is _ c.in-Some.elements c.form_before.result c.form_before.ensures
-    c.in-Some.is in
-    let right = some_is _ c.in-Some-form_before.map c.form_before-2.result
-    c.form_before-2.ensures c.in-Some-form_before.is in
-    iteration_sum (form_of b.form) (vars_of b) (terms_each b.images.items)
-    (terms_each c.args.before.now) c.in-Some.elements c.in-Some-form_before.map c.sum.result
+    let left = some_is _ _ _ c.form_before.ensures c.in-Some.is in
+    let right = some_is _ _ _ c.form_before-2.ensures c.in-Some-form_before.is in
+    iteration_sum (form_of b.form) _ _ _ c.sum.result
     left.0 (right.0 ∙ map_is (goal.at.returns c).After-form_before-2) c.sum.ensures

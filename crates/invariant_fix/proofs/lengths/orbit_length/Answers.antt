@@ -39,27 +39,22 @@ pub returns-in_default : goal.returns-in_default
 returns-in_default c =
     let b = c.args.branch.now in
     let late : ¬ (b.form.since ≡ 0) = search rules in
-    elements_long b.form.since (form_of b.form) (vars_of b) (terms_each c.args.basis.now) late
-    (none_above _ c.form_before.result c.form_before.ensures c.in_default.not-Some)
+    elements_long _ (form_of b.form) _ _ late
+    (none_above _ _ c.form_before.ensures c.in_default.not-Some)
 
 pub returns-in_default-form_before : goal.returns-in_default-form_before
 returns-in_default-form_before c =
     let b = c.args.branch.now in
     let late : ¬ (b.form.since ≡ 0) = search rules in
-    form_long b.form.since (form_of b.form) (vars_of b) (terms_each c.args.basis.now) late
-    (subst (λ n. most_terms < n)
-    (form_is (goal.at.returns-in_default-form_before c).After-form_before-2)
-    (none_above _ c.form_before-2.result c.form_before-2.ensures
-    c.in_default-form_before.not-Some))
+    form_long _ (form_of b.form) _ _ late (subst (λ n. most_terms < n)
+    (form_is (goal.at.returns-in_default-form_before c).After-form_before-2) (none_above _ _
+    c.form_before-2.ensures c.in_default-form_before.not-Some))
 
 pub returns : goal.returns
 returns c =
     let b = c.args.branch.now in
     let late : ¬ (b.form.since ≡ 0) = search rules in
-    let left = some_is _ c.in-Some.elements c.form_before.result c.form_before.ensures
-    c.in-Some.is in
-    let right = some_is _ c.in-Some-form_before.form c.form_before-2.result
-    c.form_before-2.ensures c.in-Some-form_before.is in
-    late_length b.form.since (form_of b.form) (vars_of b) (terms_each c.args.basis.now) late
-    c.in-Some.elements c.in-Some-form_before.form c.sum.result left.0
+    let left = some_is _ _ _ c.form_before.ensures c.in-Some.is in
+    let right = some_is _ _ _ c.form_before-2.ensures c.in-Some-form_before.is in
+    late_length _ (form_of b.form) _ _ late c.sum.result left.0
     (right.0 ∙ form_is (goal.at.returns c).After-form_before-2) c.sum.ensures

@@ -16,22 +16,21 @@ returns-then-exponent-eq0 c =
 pub returns-in_default : goal.returns-in_default
 returns-in_default c =
     let some : ¬ (c.args.exponent ≡ 0) = search rules in
-    power_above c.args.terms c.args.exponent c.requires some
-    (subst (λ k. most_terms < k) (from_zero c.args.terms)
-    (none_above _ c.sum.result c.sum.ensures c.in_default.not-Some))
+    power_above _ _ c.requires some (subst (λ k. most_terms < k) (from_zero c.args.terms)
+    (none_above _ _ c.sum.ensures c.in_default.not-Some))
 
 pub products-requires-clause-some : goal.products-requires-clause-some
 products-requires-clause-some c =
-    let told = some_is _ c.in-Some.terms c.sum.result c.sum.ensures c.in-Some.is in
+    let told = some_is _ _ _ c.sum.ensures c.in-Some.is in
     subst (λ k. 0 < k) (sym (told.0 ∙ from_zero c.args.terms)) c.requires
 
 pub products-requires-clause-few : goal.products-requires-clause-few
 products-requires-clause-few c =
-    let told = some_is _ c.in-Some.terms c.sum.result c.sum.ensures c.in-Some.is in
+    let told = some_is _ _ _ c.sum.ensures c.in-Some.is in
     subst (λ k. k ≤ most_terms) (sym told.0) told.1
 
 pub returns : goal.returns
 returns c =
-    let told = some_is _ c.in-Some.terms c.sum.result c.sum.ensures c.in-Some.is in
+    let told = some_is _ _ _ c.sum.ensures c.in-Some.is in
     subst (λ k. IsCount (power_length k c.args.exponent) c.products.result)
     (told.0 ∙ from_zero c.args.terms) c.products.ensures

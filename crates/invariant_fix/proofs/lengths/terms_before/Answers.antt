@@ -19,13 +19,11 @@ returns-then-passes c = copied c.args.passes (terms_in c.args.back.now) c.if-pas
 pub returns-then-count-eq0 : goal.returns-then-count-eq0
 returns-then-count-eq0 c =
     let none : c.len-count.result ≡ 0 = search rules in
-    terms_none (terms_in c.args.back.now)
-    (sym (count (goal.at.returns-then-count-eq0 c).After-len-count) ∙ none)
-    ∙ uncopied c.args.passes (terms_in c.args.back.now) c.if-passes.false
+    terms_none _ (sym (count (goal.at.returns-then-count-eq0 c).After-len-count) ∙ none) ∙ uncopied
+    (terms_in c.args.back.now) c.if-passes.false
 
 pub returns-else-count-eq0 : goal.returns-else-count-eq0
 returns-else-count-eq0 c =
     let some : ¬ (c.len-count.result ≡ 0) = search rules in
     let is = count (goal.at.returns-else-count-eq0 c).After-len-count in
-    is ∙ terms_some (terms_in c.args.back.now) (λ h. some (is ∙ h))
-    ∙ uncopied c.args.passes (terms_in c.args.back.now) c.if-passes.false
+    is ∙ terms_some _ (λ h. some (is ∙ h)) ∙ uncopied (terms_in c.args.back.now) c.if-passes.false

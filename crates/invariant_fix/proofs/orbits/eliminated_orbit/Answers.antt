@@ -1,22 +1,21 @@
 use Rattle.std.proofs.Common.{◌+◌, ◌<◌, ◌≤◌, suc, inl, inr, length, sym, ap, subst, ◌∙◌, arith}
 use Rattle.std.proofs.lemmas.List.{length-map}
-use Rattle.machines.specs.Machine.{Ran}
 use Rattle.complete.proofs.Made.{if_ok}
 use Rattle.poly.specs.Seen.{terms_in, terms_each}
-use Rattle.divide.specs.Outcomes.{outcome_of}
 use Rattle.divide.proofs.Refused.{unmade}
-use Rattle.ideal_ops.specs.Calls.{elimination_of, IsListOf}
+use Rattle.ideal_ops.specs.Calls.{elimination_of}
 use Rattle.ideal_ops.specs.Eliminating.{HaveBlock}
 use Rattle.invariant_fix.specs.Orbits.{vars_of, pulling_back, orbit_of, orbit_front_of, orbit_list_of}
 use Rattle.invariant_fix.specs.Setting.{form_of}
 use Rattle.invariant_fix.proofs.Started.{ran_started}
-use Rattle.invariant_fix.proofs.Eliminating.{AreStarting, gens_count, block_first, block_arity, way_is, over_of, reduced_of, orbit_list_few}
+use Rattle.invariant_fix.proofs.Eliminating.{AreStarting, gens_count, block_first, block_arity, ran_of, over_of, reduced_of, orbit_list_few}
 use Rattle.invariant_fix.proofs.orbits.eliminated_orbit.Goals.{After-deref}
 use Rattle.invariant_fix.proofs.orbits.eliminated_orbit.Goals as goal
 
 pub returns-in_err-gens-clause-ran : goal.returns-in_err-gens-clause-ran
-returns-in_err-gens-clause-ran c = unmade (orbit_of c.args.branch.now c.args.basis.now)
-    c.from_residual.result _ c.from_residual.ensures.1 (λ w. inl (c.in_err-gens.ensures.wide w))
+returns-in_err-gens-clause-ran c =
+    unmade (orbit_of c.args.branch.now c.args.basis.now) _ _ c.from_residual.ensures.1
+    (λ w. inl (c.in_err-gens.ensures.wide w))
 
 starting : (c : After-deref) → AreStarting (orbit_front_of c.args.branch.now)
     (vars_of c.args.branch.now) (orbit_list_of c.args.branch.now c.args.basis.now)
@@ -39,7 +38,7 @@ Length c =
 long : (c : After-deref) → Length c
 long c =
     let b = c.args.branch.now in
-    orbit_list_few (form_of b.form) (vars_of b) (terms_each c.args.basis.now)
+    orbit_list_few (form_of b.form) _ (terms_each c.args.basis.now)
     (length-map b.form.polys.items _ ∙ c.requires.branch.form_count)
 
 pub eliminate-requires-clause-block : goal.eliminate-requires-clause-block
@@ -65,19 +64,16 @@ returns-clause-ran c =
     let b = c.args.branch.now in
     let gs = c.args.basis.now in
     ran_started (elimination_of (pulling_back b gs)) inr _
-    (subst (λ w. Ran (elimination_of w) (IsListOf w) c.args.meter.now c.eliminate.new.meter
-    (outcome_of c.eliminate.result))
-    (way_is (starting at) (long at).0)
-    c.eliminate.ensures.ran)
+    (ran_of (starting at) (long at).0 _ c.eliminate.ensures.ran)
 
 pub returns-clause-arity : goal.returns-clause-arity
 returns-clause-arity c =
     let at = (goal.at.returns-clause-arity c).After-deref in
-    if_ok _ _ c.eliminate.result (λ hs e. over_of (starting at) (long at).0 hs.items e)
+    if_ok _ _ c.eliminate.result (λ hs e. over_of (starting at) (long at).0 e)
     c.eliminate.ensures.elimination
 
 pub returns-clause-reduced : goal.returns-clause-reduced
 returns-clause-reduced c =
     let at = (goal.at.returns-clause-reduced c).After-deref in
-    if_ok _ _ c.eliminate.result (λ hs e. reduced_of (starting at) (long at).0 hs.items e)
+    if_ok _ _ c.eliminate.result (λ hs e. reduced_of (starting at) (long at).0 e)
     c.eliminate.ensures.elimination

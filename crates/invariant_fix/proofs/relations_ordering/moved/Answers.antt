@@ -1,7 +1,10 @@
 use Rattle.std.proofs.Common.{ap, ◌∙◌}
-use Rattle.poly.specs.Seen.{arity_of, terms_in, terms_each}
+use Rattle.algebra.specs.Fraction.{ℚ}
+use Rattle.polynomials.proofs.Arity.{arity-compose}
+use Rattle.polynomials.proofs.Same.{Same-trans}
+use Rattle.poly.specs.Seen.{terms_in}
 use Rattle.poly.proofs.Standing.{arities_over}
-use Rattle.invariant_fix.proofs.Variables.{moved_is}
+use Rattle.invariant_fix.proofs.Variables.{in_blocks}
 use Rattle.invariant_fix.proofs.relations_ordering.moved.Goals as goal
 
 pub returns-clause-block : goal.returns-clause-block
@@ -13,7 +16,7 @@ pub returns-clause-moved : goal.returns-clause-moved
 returns-clause-moved c =
     let images = c.args.images.now.items in
     let block = returns-clause-block c in
-    moved_is c.args.first (arity_of images) (terms_in c.args.element.now)
-    (terms_each images) (arities_over (arity_of images) images c.requires.arities)
-    (terms_in c.in_ok-composed.composed) c.in_ok-composed.ensures.composition.same
-    c.in_ok-reorder.field-0 c.in_ok-reorder.ensures.same.same block.0 block.1
+    let g = terms_in c.args.element.now in
+    in_blocks _ (arity-compose _ ℚ g _ (arities_over _ images c.requires.arities))
+    c.in_ok-reorder.field-0 block.0 block.1 (Same-trans ℚ c.in_ok-reorder.ensures.same.same
+    c.in_ok-composed.ensures.composition.same)

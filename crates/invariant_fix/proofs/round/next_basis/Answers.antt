@@ -1,4 +1,4 @@
-use Rattle.std.proofs.Common.{◌+◌, inl, sym, ap, subst, ◌∙◌, arith}
+use Rattle.std.proofs.Common.{inl, sym, ap, subst, ◌∙◌, arith}
 use Rattle.machines.specs.Journal.{Journal}
 use Rattle.poly.specs.Seen.{terms_each}
 use Rattle.invariant_fix.specs.Steps.{Awaits, Knows, branching}
@@ -13,7 +13,7 @@ first_list-requires-clause-at c =
     record {
       fits = c.requires.fits;
       place = c.requires.fits.some_branch;
-      basis = known_later c.args.setting.now.arity _ _ _ c.args.basis.now c.requires.basis
+      basis = known_later _ _ c.requires.basis
           (omega (arith, u));
     }
 
@@ -32,9 +32,9 @@ loop-place-init c =
     record {
       limit = c.first_list.ensures.limit ∙ ap (λ (j : Journal). j.limit) ok;
       from = omega arith;
-      known = known_later s.arity _ _ _ gs c.requires.basis (omega (arith, u, v));
+      known = known_later _ _ c.requires.basis (omega (arith, u, v));
       so_far = c.in_ok-so_far.ensures.list;
-      next = come_at s k gs c.first_list.new.meter.entries 0 1 c.in_ok-so_far.so_far.items
+      next = come_at s k gs 0 _
           (omega arith) c.in_ok-so_far.ensures.next;
       units = omega (arith, u, v);
     }
@@ -61,8 +61,7 @@ list_behind-requires-clause-next c =
     subst (λ hs. Awaits s c.loop-place.meter
     (branching s c.args.round c.loop-place.place c.args.basis.now (terms_each hs)))
     (sym c.deref.ensures.value)
-    (branch_at s c.args.round c.args.basis.now c.loop-place.meter.entries c.loop-place.place
-    c.loop-place.so_far.items i.from (let x = c.loop-place-test.true in let y =
+    (branch_at s _ _ _ _ i.from (let x = c.loop-place-test.true in let y =
     c.len-place-end.ensures in let z = s.branches.ok.0 in omega (arith, x, y, z)) i.next)
 
 pub loop-place-preserved : goal.loop-place-preserved
@@ -74,10 +73,9 @@ loop-place-preserved c =
     record {
       limit = c.list_behind.ensures.limit ∙ i.limit;
       from = (let o = i.from in omega (arith, o));
-      known = known_later s.arity _ _ _ gs i.known c.in_ok-so_far-2.ensures.units;
+      known = known_later _ _ i.known c.in_ok-so_far-2.ensures.units;
       so_far = c.in_ok-so_far-2.ensures.list;
-      next = come_at s k gs c.list_behind.new.meter.entries c.loop-place.place
-          (c.loop-place.place + 1) c.in_ok-so_far-2.so_far.items (omega arith)
+      next = come_at s k gs c.loop-place.place _ (omega arith)
           c.in_ok-so_far-2.ensures.next;
       units = (let u = i.units in let v = c.in_ok-so_far-2.ensures.units in omega (arith, u, v));
     }
@@ -85,7 +83,6 @@ loop-place-preserved c =
 pub returns-clause-next : goal.returns-clause-next
 returns-clause-next c =
     let i = c.loop-place.invariant in
-    closing_at c.args.setting.now c.args.round c.args.basis.now c.loop-place.meter.entries
-    c.loop-place.place c.loop-place.so_far.items i.from (let x = c.loop-place-test.false in
+    closing_at c.args.setting.now _ _ _ _ i.from (let x = c.loop-place-test.false in
     let y = c.len-place-end.ensures in let z = c.args.setting.now.branches.ok.0 in
     omega (arith, x, y, z)) i.next

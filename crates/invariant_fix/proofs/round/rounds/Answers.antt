@@ -7,7 +7,7 @@ pub loop-basis-init : goal.loop-basis-init
 loop-basis-init c = record {
   limit = refl;
   known = c.requires.start;
-  next = started_closing c.args.setting.now c.args.meter.now.entries c.args.start.items
+  next = started_closing c.args.setting.now _
       c.requires.next;
   few = omega arith;
 }
@@ -21,8 +21,8 @@ invariant_of-result c =
     let l = c.within_limit.ensures.few in
     record {
       few = omega (arith, f, m, w, l);
-      arity = one_arity c.args.setting.now.arity c.loop-basis.basis.items k.arity;
-      reduced = ∣ reduced_at_own c.args.setting.now.arity _ _ c.loop-basis.basis.items k ∣₁;
+      arity = one_arity _ k.arity;
+      reduced = ∣ reduced_at_own _ _ k ∣₁;
     }
 
 pub loop-basis-smaller : goal.loop-basis-smaller

@@ -5,14 +5,14 @@ use Rattle.divide.proofs.Refused.{unmade}
 use Rattle.poly.specs.Seen.{terms_each}
 use Rattle.corollaries.specs.Journal.{elimination_from}
 use Rattle.invariant_fix.specs.Ordering.{HaveHidden}
-use Rattle.invariant_fix.proofs.Starting.{AreOrdered, few_ordered, some_ordered, block_first, block_arity, ran_so, over_of}
+use Rattle.invariant_fix.proofs.Starting.{AreOrdered, few_ordered, some_ordered, first_ordered, arity_ordered, ran_so, over_ordered}
 use Rattle.invariant_fix.proofs.shown_relations.eliminated.Goals.{After-deref}
 use Rattle.invariant_fix.proofs.shown_relations.eliminated.Goals as goal
 
 pub returns-in_err-gens-clause-ran : goal.returns-in_err-gens-clause-ran
 returns-in_err-gens-clause-ran c =
     unmade (elimination_from c.args.shown.vars c.args.shown.shown.now (terms_each c.args.basis.now))
-    c.from_residual.result _ c.from_residual.ensures.1 (λ w. inl (c.in_err-gens.ensures.wide w))
+    _ _ c.from_residual.ensures.1 (λ w. inl (c.in_err-gens.ensures.wide w))
 
 put : (c : After-deref)
     → AreOrdered c.args.shown.vars c.args.shown.shown.now c.args.basis.now c.deref.result.now
@@ -30,8 +30,8 @@ eliminate-requires-clause-some c =
 pub eliminate-requires-clause-block : goal.eliminate-requires-clause-block
 eliminate-requires-clause-block c =
     let u = put (goal.at.eliminate-requires-clause-block c).After-deref in
-    let x = block_first u in
-    let y = block_arity u in
+    let x = first_ordered u in
+    let y = arity_ordered u in
     omega (arith, x, y)
 
 pub eliminate-requires-clause-few : goal.eliminate-requires-clause-few
@@ -40,11 +40,11 @@ eliminate-requires-clause-few c =
 
 pub returns-clause-ran : goal.returns-clause-ran
 returns-clause-ran c =
-    ran_so (put (goal.at.returns-clause-ran c).After-deref) c.args.meter.now c.eliminate.new.meter
+    ran_so (put (goal.at.returns-clause-ran c).After-deref) c.args.meter.now
     (outcome_of c.eliminate.result) c.eliminate.ensures.ran
 
 pub returns-clause-arity : goal.returns-clause-arity
 returns-clause-arity c =
     if_ok _ _ c.eliminate.result
-    (λ hs e. over_of (put (goal.at.returns-clause-arity c).After-deref) hs.items e)
+    (λ hs e. over_ordered (put (goal.at.returns-clause-arity c).After-deref) hs.items e)
     c.eliminate.ensures.elimination

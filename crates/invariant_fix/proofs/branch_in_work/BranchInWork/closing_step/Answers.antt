@@ -1,5 +1,4 @@
 use Rattle.std.proofs.Common.{◌≡◌, ◌<◌, false, List, sym, ap, subst}
-use Rattle.machines.specs.Journal.{units_of}
 use Rattle.poly.specs.Seen.{terms_in, terms_each}
 use Rattle.loop_model.specs.FracPoly.{FracPoly}
 use Rattle.expansion.specs.Counts.{most_terms}
@@ -34,8 +33,7 @@ closing_division-requires-clause-divisors c =
     let at = goal.at.closing_division-requires-clause-divisors c in
     subst (λ n. AreDivisors _ n w.basis.now)
     (sym (element_over (test at.After-index-basis-element)))
-    (divisors_of _ w.setting.now.arity _ (units_of c.args.meter.now.entries) w.basis.now
-    c.requires.at.basis)
+    (divisors_of _ _ w.basis.now c.requires.at.basis)
 
 length_at : (c : After-is_none)
     → composition_length (terms_in c.index-basis-element.result) (terms_each c.as_slice.result.now)
@@ -48,16 +46,15 @@ few_of : (c : After-is_none) → c.is_none.result ≡ false
     → most_terms < composition_length (terms_in c.index-basis-element.result)
     (terms_each c.index-branch.result.now.images.items) → ⊥
 few_of c shown l =
-    some_is_few _ c.composition_length.result c.is_none.result c.composition_length.ensures
+    some_is_few _ _ _ c.composition_length.ensures
     c.is_none.ensures shown (subst (λ n. most_terms < n) (sym (length_at c)) l)
 
 pub returns-then-is_none-clause-err : goal.returns-then-is_none-clause-err
 returns-then-is_none-clause-err c =
     let at = goal.at.returns-then-is_none-clause-err c in
-    step_long (test at.After-index-basis-element)
-    (subst (λ n. most_terms < n) (length_at at.After-is_none)
-    (none_is_above _ c.composition_length.result c.is_none.result c.composition_length.ensures
-    c.is_none.ensures c.if-is_none.true))
+    step_long (test at.After-index-basis-element) (subst (λ n. most_terms < n)
+    (length_at at.After-is_none) (none_is_above _ _ _ c.composition_length.ensures c.is_none.ensures
+    c.if-is_none.true))
 
 pub returns-in-Ok-clause-open_ : goal.returns-in-Ok-clause-open_
 returns-in-Ok-clause-open_ c = λ n.
@@ -69,26 +66,22 @@ returns-in-Ok-clause-open_ c = λ n.
 pub returns-in-Ok-clause-next : goal.returns-in-Ok-clause-next
 returns-in-Ok-clause-next c = λ s.
     let at = goal.at.returns-in-Ok-clause-next c in
-    let some = some_given _ c.cofactors_of.result s c.cofactors_of.ensures.some in
+    let some = some_given _ _ s c.cofactors_of.ensures.some in
     step_next (test at.After-index-basis-element) (few_of at.After-is_none c.if-is_none.false)
     c.closing_division.new.meter c.in-Ok.division c.in-Ok.ensures.ran some.2.0
 
 pub returns-in-Ok-clause-step : goal.returns-in-Ok-clause-step
 returns-in-Ok-clause-step c =
     let at = goal.at.returns-in-Ok-clause-step c in
-    if_some _ _ c.cofactors_of.result
-    (λ qs h. step_done (test at.After-index-basis-element)
+    if_some _ _ _ (λ qs h. step_done (test at.After-index-basis-element)
     (few_of at.After-is_none c.if-is_none.false) c.closing_division.new.meter c.in-Ok.division
-    c.in-Ok.ensures.ran h.0 qs h.1)
-    c.cofactors_of.ensures.some
+    c.in-Ok.ensures.ran h.0 qs h.1) c.cofactors_of.ensures.some
 
 pub returns-in-Ok-clause-over : goal.returns-in-Ok-clause-over
 returns-in-Ok-clause-over c =
     let at = goal.at.returns-in-Ok-clause-over c in
-    if_some _ _ c.cofactors_of.result (λ qs h. quotients_over c.args.self.now.setting.now.arity
-    c.index-basis-element.result.arity c.in-Ok.division.cofactors qs
-    c.in-Ok.ensures.ran.to.gives.like (element_over (test at.After-index-basis-element)) h.1)
-    c.cofactors_of.ensures.some
+    if_some _ _ _ (λ qs h. quotients_over qs c.in-Ok.ensures.ran.to.gives.like
+    (element_over (test at.After-index-basis-element)) h.1) c.cofactors_of.ensures.some
 
 pub returns-in-Ok-clause-units : goal.returns-in-Ok-clause-units
 returns-in-Ok-clause-units c =
@@ -99,8 +92,7 @@ returns-in-Ok-clause-units c =
 pub returns-in-Ok-clause-list : goal.returns-in-Ok-clause-list
 returns-in-Ok-clause-list c =
     let at = goal.at.returns-in-Ok-clause-list c in
-    known_later c.args.self.now.setting.now.arity _ (units_of c.args.meter.now.entries) _
-    c.args.self.now.basis.now c.requires.at.basis
+    known_later _ _ c.requires.at.basis
     (step_units (test at.After-index-basis-element) (few_of at.After-is_none c.if-is_none.false)
     c.closing_division.new.meter c.in-Ok.division c.in-Ok.ensures.ran)
 

@@ -1,23 +1,21 @@
-use Rattle.std.proofs.Common.{◌≡◌, ap, ◌∙◌, arith}
+use Rattle.std.proofs.Common.{◌≡◌, ◌∙◌, arith}
 use Rattle.std.proofs.lemmas.Result.{IfOk-weaker}
 use Rattle.poly.specs.Seen.{terms_each}
-use Rattle.rounds.specs.Form.{Form}
 use Rattle.invariant_fix.specs.InWork.{Awaits, orbiting}
 use Rattle.invariant_fix.specs.Steps.{HasWhole}
-use Rattle.invariant_fix.proofs.Works.{form_at}
+use Rattle.invariant_fix.proofs.Works.{since_at}
 use Rattle.invariant_fix.proofs.Branching.{orbit_due, whole_done}
 use Rattle.invariant_fix.proofs.branch_in_work.BranchInWork.first_list.Goals.{After-index}
 use Rattle.invariant_fix.proofs.branch_in_work.BranchInWork.first_list.Goals as goal
 
 since_is : (c : After-index) → c.index.result.now.form.since ≡ 0
     → HasWhole c.args.self.now.setting.now c.args.self.now.place
-since_is c e =
-    ap (λ (f : Form). f.since) (form_at c.requires.at c.index.result.now c.index.ensures) ∙ e
+since_is c e = since_at c.requires.at c.index.result.now c.index.ensures ∙ e
 
 due : (c : After-index) → c.index.result.now.form.since ≡ 0
     → Awaits c.args.self.now c.args.meter.now
     (orbiting c.args.self.now (terms_each c.args.self.now.basis.now))
-due c e = orbit_due c.args.self.now c.args.meter.now c.args.self.now.basis.now
+due c e = orbit_due c.args.self.now c.args.meter.now _
     (let whole = since_is c e in omega (arith, whole)) c.requires.next
 
 pub returns-then-index-eq0-clause-next : goal.returns-then-index-eq0-clause-next

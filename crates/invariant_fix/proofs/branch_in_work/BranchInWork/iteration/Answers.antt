@@ -16,19 +16,17 @@ begun c = record {
 
 pub returns-then-is_none-clause-err : goal.returns-then-is_none-clause-err
 returns-then-is_none-clause-err c = λ hs a.
-    iteration_long c.requires.at c.index-branch.result.now c.index-branch.ensures
-    c.args.taken (begun (goal.at.returns-then-is_none-clause-err c).In_ok-begin) c.args.before.now
-    c.begin.new.self hs a
-    (none_is_above _ c.iteration_length.result c.is_none.result c.iteration_length.ensures
-    c.is_none.ensures c.if-is_none.true)
+    iteration_long c.requires.at c.index-branch.result.now c.index-branch.ensures c.args.taken
+    (begun (goal.at.returns-then-is_none-clause-err c).In_ok-begin) c.args.before.now
+    c.begin.new.self hs a (none_is_above _ _ _ c.iteration_length.ensures c.is_none.ensures
+    c.if-is_none.true)
 
 pub returns-in-Ok-clause-next : goal.returns-in-Ok-clause-next
 returns-in-Ok-clause-next c = λ hs a.
-    iteration_next c.requires.at c.index-branch.result.now c.index-branch.ensures
-    c.args.taken (begun (goal.at.returns-in-Ok-clause-next c).In_ok-begin) c.args.before.now
-    c.eliminated_iteration.new.meter
-    (some_is_few _ c.iteration_length.result c.is_none.result c.iteration_length.ensures
-    c.is_none.ensures c.if-is_none.false) hs a c.in-Ok.list c.in-Ok.ensures.ran
+    iteration_next c.requires.at c.index-branch.result.now c.index-branch.ensures c.args.taken
+    (begun (goal.at.returns-in-Ok-clause-next c).In_ok-begin) c.args.before.now
+    c.eliminated_iteration.new.meter (some_is_few _ _ _ c.iteration_length.ensures c.is_none.ensures
+    c.if-is_none.false) hs a c.in-Ok.list c.in-Ok.ensures.ran
 
 pub returns-in-Ok-clause-list : goal.returns-in-Ok-clause-list
 returns-in-Ok-clause-list c =
@@ -46,8 +44,7 @@ returns-in-Ok-clause-units c =
 pub returns-in-Err-clause-err : goal.returns-in-Err-clause-err
 returns-in-Err-clause-err c = λ hs a.
     subst (Stops c.args.self.now c.eliminated_iteration.new.meter) (sym c.in_task.ensures)
-    (iteration_refused c.requires.at c.index-branch.result.now c.index-branch.ensures
-    c.args.taken (begun (goal.at.returns-in-Err-clause-err c).In_ok-begin) c.args.before.now
-    c.eliminated_iteration.new.meter
-    (some_is_few _ c.iteration_length.result c.is_none.result c.iteration_length.ensures
-    c.is_none.ensures c.if-is_none.false) hs a c.in-Err.error c.in-Err.ensures.ran)
+    (iteration_refused c.requires.at c.index-branch.result.now c.index-branch.ensures c.args.taken
+    (begun (goal.at.returns-in-Err-clause-err c).In_ok-begin) c.args.before.now
+    c.eliminated_iteration.new.meter (some_is_few _ _ _ c.iteration_length.ensures c.is_none.ensures
+    c.if-is_none.false) hs a c.in-Err.error c.in-Err.ensures.ran)

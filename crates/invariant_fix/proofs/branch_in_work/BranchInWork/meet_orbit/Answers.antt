@@ -12,14 +12,14 @@ returns-in_err-next-clause-err c =
     rw (p.1, p.2) (c.in_err-next.ensures.err (terms_each c.args.so_far.now) c.requires.next)
 
 pub meet_with_orbit-requires-clause-so_far : goal.meet_with_orbit-requires-clause-so_far
-meet_with_orbit-requires-clause-so_far c = known_later c.args.self.now.setting.now.arity _ _ _
-    c.args.so_far.now c.requires.so_far c.in_ok-next.ensures.units
+meet_with_orbit-requires-clause-so_far c =
+    known_later _ _ c.requires.so_far c.in_ok-next.ensures.units
 
 pub meet_with_orbit-requires-clause-next : goal.meet_with_orbit-requires-clause-next
 meet_with_orbit-requires-clause-next c =
     let a = c.args.self.now.setting.now.arity in
     subst (KnowsIterations c.args.self.now 12 c.orbit.new.meter) (sym c.deref.ensures.value)
-    (known_more a _ _ _ c.in_ok-next.next.items c.in_ok-next.ensures.list
+    (known_more a _ _ _ c.in_ok-next.ensures.list
     (let z = iterations_few a 1 (omega arith) in omega (arith, z)))
 
 pub meet_with_orbit-requires-clause-due : goal.meet_with_orbit-requires-clause-due

@@ -18,14 +18,13 @@ pub returns-then-is_none-clause-err : goal.returns-then-is_none-clause-err
 returns-then-is_none-clause-err c = λ hs a.
     orbit_long c.requires.at c.index-branch.result.now c.index-branch.ensures
     (begun (goal.at.returns-then-is_none-clause-err c).In_ok-begin) c.begin.new.self hs a
-    (none_is_above _ c.orbit_length.result c.is_none.result c.orbit_length.ensures
-    c.is_none.ensures c.if-is_none.true)
+    (none_is_above _ _ _ c.orbit_length.ensures c.is_none.ensures c.if-is_none.true)
 
 pub returns-in-Ok-clause-next : goal.returns-in-Ok-clause-next
 returns-in-Ok-clause-next c = λ hs a.
     orbit_next c.requires.at c.index-branch.result.now c.index-branch.ensures
     (begun (goal.at.returns-in-Ok-clause-next c).In_ok-begin) c.eliminated_orbit.new.meter
-    (some_is_few _ c.orbit_length.result c.is_none.result c.orbit_length.ensures
+    (some_is_few _ _ _ c.orbit_length.ensures
     c.is_none.ensures c.if-is_none.false) hs a c.in-Ok.orbit c.in-Ok.ensures.ran
 
 pub returns-in-Ok-clause-list : goal.returns-in-Ok-clause-list
@@ -51,5 +50,5 @@ returns-in-Err-clause-err c = λ hs a.
     subst (Stops c.args.self.now c.eliminated_orbit.new.meter) (sym c.in_task.ensures)
     (orbit_refused c.requires.at c.index-branch.result.now c.index-branch.ensures
     (begun (goal.at.returns-in-Err-clause-err c).In_ok-begin) c.eliminated_orbit.new.meter
-    (some_is_few _ c.orbit_length.result c.is_none.result c.orbit_length.ensures
+    (some_is_few _ _ _ c.orbit_length.ensures
     c.is_none.ensures c.if-is_none.false) hs a c.in-Err.error c.in-Err.ensures.ran)

@@ -40,10 +40,8 @@ returns-clause-list c =
     let b = c.args.self.now in
     let f = c.late_form.result in
     let e = c.late_form.ensures in
-    IfOk-weaker c.orbit_list-2.result _ _
-    (λ g h. h ∙ late_list b c.requires.branch c.requires.some f e.base e.polys e.back e.passing
-    c.if-self-eq0.false c.args.basis.now)
-    c.orbit_list-2.ensures.list
+    IfOk-weaker c.orbit_list-2.result _ _ (λ g h. h ∙ late_list c.requires.branch f e.base e.polys
+    e.passing c.if-self-eq0.false c.args.basis.now) c.orbit_list-2.ensures.list
 
 pub returns-clause-block : goal.returns-clause-block
 returns-clause-block c =
@@ -51,12 +49,9 @@ returns-clause-block c =
     let f = c.late_form.result in
     let e = c.late_form.ensures in
     let fits = c.requires.branch in
-    let some = c.requires.some in
-    IfOk-weaker c.orbit_list-2.result _ _
-    (λ g h. subst (λ n. HaveBlock n (n + vars_of b) g.items)
-    (late_front b fits some f e.base e.polys e.back e.passing c.if-self-eq0.false)
-    (subst (λ m. HaveBlock (front_in f) (front_in f + m) g.items)
-    (vars_are b fits some f e.base e.polys e.back e.passing) h))
+    IfOk-weaker c.orbit_list-2.result _ _ (λ g h. subst (λ n. HaveBlock n (n + vars_of b) g.items)
+    (late_front fits f e.base e.polys e.passing c.if-self-eq0.false) (subst (λ m. HaveBlock
+    (front_in f) (front_in f + m) g.items) (vars_are fits f e.base e.polys e.passing) h))
     c.orbit_list-2.ensures.block
 
 pub returns-clause-wide : goal.returns-clause-wide
@@ -64,5 +59,5 @@ returns-clause-wide c = λ w.
     let b = c.args.self.now in
     let f = c.late_form.result in
     let e = c.late_form.ensures in
-    late_past b c.requires.branch c.requires.some f e.base e.polys e.back e.passing
+    late_past c.requires.branch f e.base e.polys e.passing
     c.if-self-eq0.false c.args.basis.now (c.orbit_list-2.ensures.wide w)

@@ -1,11 +1,12 @@
 use Rattle.std.proofs.Common.{◌≡◌, ◌+◌, ◌<◌, All, length, ap, sym, subst, ◌∙◌, arith}
 use Rattle.std.proofs.lemmas.List.Elements.{All-nil}
 use Rattle.algebra.proofs.Lists.{have_more}
+use Rattle.poly.specs.Seen.{terms_each}
 use Rattle.loop_model.specs.FracPoly.{FracPoly}
 use Rattle.corollaries.specs.CodeBetween.{variable_of}
 use Rattle.invariant_fix.specs.Code.{all}
 use Rattle.invariant_fix.proofs.Variables.{variable_is, variable_arity}
-use Rattle.invariant_fix.proofs.Making.{no_places, more_places, all_places}
+use Rattle.invariant_fix.proofs.Making.{more_places, all_places}
 use Rattle.invariant_fix.proofs.chain_code.CodeInWork.before.Goals as goal
 
 pub loop-var-init : goal.loop-var-init
@@ -13,7 +14,7 @@ loop-var-init c =
     let m = length c.args.self.now.values.now in
     let b = c.args.self.now.code.now in
     record {
-      list = no_places m b c.new-images.result.items c.new-images.ensures.items;
+      list = ap terms_each c.new-images.ensures.items;
       over = subst (λ ps. All (λ (p : FracPoly). p.arity ≡ all m b) ps)
           (sym c.new-images.ensures.items) (All-nil _);
     }
@@ -27,17 +28,17 @@ loop-var-preserved c =
     let size : n ≡ all m b = ap (λ k. k + m) c.requires.work.count in
     let here : c.place_before-place.result < n =
     subst (λ k. c.place_before-place.result < k) (sym size) c.place_before-place.ensures.within in
-    let is = variable_is _ n c.place_before-place.result here p c.in_ok-variable.ensures.variable in
+    let is = variable_is _ n _ here p c.in_ok-variable.ensures.variable in
     record {
-      list = more_places m b c.loop-var.var c.loop-var.images.items c.push.new.self.items p
+      list = more_places m b c.loop-var.var c.loop-var.images.items p
           c.in_ok-push.ensures.items
           (is ∙ ap (λ k. variable_of k c.place_before-place.result) size
           ∙ ap (variable_of (all m b)) c.place_before-place.ensures.place)
           c.loop-var.invariant.list;
-      over = have_more (λ (q : FracPoly). q.arity ≡ all m b) c.loop-var.images.items
-          c.push.new.self.items p c.in_ok-push.ensures.items c.loop-var.invariant.over
-          (variable_arity _ n c.place_before-place.result p c.in_ok-variable.ensures.variable
-          ∙ size);
+      over =
+          have_more (λ (q : FracPoly). q.arity ≡ all m b) _ _ p c.in_ok-push.ensures.items
+          c.loop-var.invariant.over (variable_arity _ n c.place_before-place.result p
+          c.in_ok-variable.ensures.variable ∙ size);
     }
 
 pub returns : goal.returns

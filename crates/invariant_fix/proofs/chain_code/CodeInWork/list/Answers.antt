@@ -20,12 +20,10 @@ loop-element-preserved c =
     let p = c.in_ok-put.field-0 in
     record {
       list = grown (λ (q : Blocked). terms_in q)
-          (λ (g : FracPoly). in_code_order (length w.values.now) w.code.now (terms_in g))
-          c.args.basis.now c.loop-element.element-index c.element-item.result
-          c.loop-element.gens.items c.push.new.self.items p c.loop-element-test.true
-          c.element-item.is c.in_ok-push.ensures.items c.in_ok-put.ensures.put
-          c.loop-element.invariant.list;
-      block = have_more (HasItsCopies w) c.loop-element.gens.items c.push.new.self.items p
+          (λ (g : FracPoly). in_code_order (length w.values.now) w.code.now (terms_in g)) _ _ _ _ _
+          p c.loop-element-test.true c.element-item.is c.in_ok-push.ensures.items
+          c.in_ok-put.ensures.put c.loop-element.invariant.list;
+      block = have_more (HasItsCopies w) _ _ p
           c.in_ok-push.ensures.items c.loop-element.invariant.block c.in_ok-put.ensures.block;
     }
 
@@ -33,19 +31,17 @@ pub returns-clause-list : goal.returns-clause-list
 returns-clause-list c =
     let w = c.args.self.now in
     let order = in_code_order (length w.values.now) w.code.now in
-    c.in_ok-push_differences.ensures.list
-    ∙ ap (λ l. l ++ map (value_put w) (variables_assigned w))
-    (all_grown (λ (q : Blocked). terms_in q) (λ (g : FracPoly). order (terms_in g)) c.args.basis.now
-    c.loop-element.element-index _ c.loop-element-test.false c.loop-element.invariant.list
-    ∙ sym (map-map order (λ (g : FracPoly). terms_in g) c.args.basis.now))
+    c.in_ok-push_differences.ensures.list ∙ ap (λ l. l ++ map (value_put w) (variables_assigned w))
+    (all_grown (λ (q : Blocked). terms_in q) (λ (g : FracPoly). order (terms_in g)) _ _ _
+    c.loop-element-test.false c.loop-element.invariant.list ∙ sym (map-map order
+    (λ (g : FracPoly). terms_in g) c.args.basis.now))
 
 pub returns-in_err-put-clause-wide : goal.returns-in_err-put-clause-wide
 returns-in_err-put-clause-wide c =
     let p = err_from_is_err_and c.from_residual-in_err-put.result
     c.from_residual-in_err-put.ensures.1 in
-    λ w. inl (any_mapped (λ (g : FracPoly). terms_in g) _ c.args.basis.now
-    c.loop-element.element-index c.element-item.result c.loop-element-test.true c.element-item.is
-    (c.in_err-put.ensures.wide (cc (p.1, p.2, w))))
+    λ w. inl (any_mapped (λ (g : FracPoly). terms_in g) _ _ _ _ c.loop-element-test.true
+    c.element-item.is (c.in_err-put.ensures.wide (cc (p.1, p.2, w))))
 
 pub returns-in_err-push_differences-clause-wide : goal.returns-in_err-push_differences-clause-wide
 returns-in_err-push_differences-clause-wide c =

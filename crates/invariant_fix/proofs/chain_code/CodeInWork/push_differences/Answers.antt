@@ -35,18 +35,17 @@ loop-var-preserved c =
           x.index-values-var.is in
           record {
             list = ap (λ (g : Vec Blocked Global). terms_each g.items) x.gens-is
-                ∙ one_difference b fs v first c.loop-var.gens.items x.push.new.self.items p
+                ∙ one_difference b fs v first c.loop-var.gens.items p
                 (sym c.is_assigned.ensures ∙ x.if-is_assigned.true) x.in_ok-push.ensures.items
                 (x.in_ok-difference.ensures.difference ∙ ap (put_value (length fs) b v) value)
                 c.loop-var.invariant.list;
             block = subst (λ (g : Vec Blocked Global). All (HasItsCopies w) g.items) (sym x.gens-is)
-                (have_more (HasItsCopies w) c.loop-var.gens.items x.push.new.self.items p
-                x.in_ok-push.ensures.items c.loop-var.invariant.block
-                x.in_ok-difference.ensures.block);
+                (have_more (HasItsCopies w) _ _ p x.in_ok-push.ensures.items
+                c.loop-var.invariant.block x.in_ok-difference.ensures.block);
           })
       | else-is_assigned x ↦ record {
         list = ap (λ (g : Vec Blocked Global). terms_each g.items) x.gens-is
-            ∙ no_difference b fs v first (terms_each c.loop-var.gens.items)
+            ∙ no_difference b fs v first
             (sym c.is_assigned.ensures ∙ x.if-is_assigned.false) c.loop-var.invariant.list;
         block = subst (λ (g : Vec Blocked Global). All (HasItsCopies w) g.items) (sym x.gens-is)
             c.loop-var.invariant.block;

@@ -9,7 +9,7 @@ use Rattle.invariant_fix.proofs.relations_ordering.ShownVariables.images.Goals a
 
 pub loop-var-init : goal.loop-var-init
 loop-var-init c = record {
-  list = no_images c.args.self.now.vars c.args.self.now.shown.now c.new-images.result.items
+  list = no_images _ _
       c.new-images.ensures.items;
   arity = subst
       (λ ps. All (λ (p : FracPoly). p.arity ≡ arity c.args.self.now.vars c.args.self.now.shown.now)
@@ -23,12 +23,13 @@ loop-var-preserved c =
     let is = c.args.self.now.shown.now in
     let p = c.in_ok-image.field-0 in
     record {
-      list = more_images m is c.loop-var.var c.args.places.now c.loop-var.images.items
-          c.push.new.self.items p c.requires.order c.in_ok-push.ensures.items
-          c.in_ok-image.ensures.image c.loop-var.invariant.list;
-      arity = have_more (λ (q : FracPoly). q.arity ≡ arity m is) c.loop-var.images.items
-          c.push.new.self.items p c.in_ok-push.ensures.items c.loop-var.invariant.arity
-          (c.in_ok-image.ensures.arity ∙ ap length c.requires.order ∙ order_all m is);
+      list =
+          more_images m is c.loop-var.var c.loop-var.images.items p c.requires.order
+          c.in_ok-push.ensures.items c.in_ok-image.ensures.image c.loop-var.invariant.list;
+      arity =
+          have_more (λ (q : FracPoly). q.arity ≡ arity m is) _ _ p c.in_ok-push.ensures.items
+          c.loop-var.invariant.arity (c.in_ok-image.ensures.arity ∙ ap length c.requires.order
+          ∙ order_all m is);
     }
 
 pub image-requires-clause-few : goal.image-requires-clause-few
@@ -44,4 +45,4 @@ image-requires-clause-few c =
 pub image-requires-clause-place : goal.image-requires-clause-place
 image-requires-clause-place c =
     subst (λ js. place_in js c.loop-var.var < length js) (sym c.requires.order)
-    (place_of c.args.self.now.vars c.args.self.now.shown.now c.loop-var.var c.loop-var-test.true)
+    (place_of _ c.args.self.now.shown.now c.loop-var.var c.loop-var-test.true)

@@ -32,26 +32,20 @@ loop-element-preserved c =
     let p = c.in_ok-moved.field-0 in
     record {
       list = grown (λ (q : Blocked). terms_in q)
-          (put m is) c.args.basis.now c.loop-element.element-index g c.loop-element.gens.items
-          c.push.new.self.items p
-          c.loop-element-test.true c.element-item.is c.in_ok-push.ensures.items
-          (put_at m is ps a c.requires.some k g p c.in_ok-places.ensures.hidden
-          c.in_ok-moved.ensures.moved) c.loop-element.invariant.list;
+          (put m is) _ _ g _ _ p c.loop-element-test.true c.element-item.is
+          c.in_ok-push.ensures.items (put_at m is ps a c.requires.some k g p
+          c.in_ok-places.ensures.hidden c.in_ok-moved.ensures.moved) c.loop-element.invariant.list;
       block = have_more (λ (q : Blocked). (q.order.first ≡ length
-          (hidden m is)) × (q.arity ≡ arity m is)) c.loop-element.gens.items c.push.new.self.items p
-          c.in_ok-push.ensures.items c.loop-element.invariant.block
-          (block_at m is ps a c.requires.some k p c.in_ok-places.ensures.hidden
-          c.in_ok-moved.ensures.block);
+          (hidden m is)) × (q.arity ≡ arity m is)) _ _ p c.in_ok-push.ensures.items
+          c.loop-element.invariant.block (block_at m is ps a c.requires.some k p
+          c.in_ok-places.ensures.hidden c.in_ok-moved.ensures.block);
     }
 
 pub returns-clause-starting : goal.returns-clause-starting
 returns-clause-starting c =
-    all_put c.args.self.now.vars c.args.self.now.shown.now c.args.basis.now
-    c.loop-element.gens.items
-    (all_grown (λ (q : Blocked). terms_in q)
-    (put c.args.self.now.vars c.args.self.now.shown.now) c.args.basis.now
-    c.loop-element.element-index _
-    c.loop-element-test.false c.loop-element.invariant.list)
+    all_put c.args.self.now.vars _ c.args.basis.now _ (all_grown (λ (q : Blocked). terms_in q)
+    (put c.args.self.now.vars c.args.self.now.shown.now) _ _ _ c.loop-element-test.false
+    c.loop-element.invariant.list)
 
 pub returns-in_err-moved-clause-wide : goal.returns-in_err-moved-clause-wide
 returns-in_err-moved-clause-wide c =
@@ -59,7 +53,6 @@ returns-in_err-moved-clause-wide c =
     let is = c.args.self.now.shown.now in
     let p = err_from_is_err_and c.from_residual-in_err-moved.result
     c.from_residual-in_err-moved.ensures.1 in
-    λ w. any_mapped (λ (g : FracPoly). terms_in g) _ c.args.basis.now c.loop-element.element-index
-    c.element-item.result c.loop-element-test.true c.element-item.is
-    (past_at m is c.in_ok-images.images.items c.in_ok-images.ensures.images c.requires.some
-    c.element-item.result (c.in_err-moved.ensures.wide (cc (p.1, p.2, w))))
+    λ w. any_mapped (λ (g : FracPoly). terms_in g) _ _ _ _ c.loop-element-test.true
+    c.element-item.is (past_at m is c.in_ok-images.images.items c.in_ok-images.ensures.images
+    c.requires.some c.element-item.result (c.in_err-moved.ensures.wide (cc (p.1, p.2, w))))

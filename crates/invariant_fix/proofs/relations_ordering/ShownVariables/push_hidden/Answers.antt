@@ -13,11 +13,9 @@ loop-place-preserved c =
     elim c.if-not-contains.branch [
       | then-not-contains+in_ok-push w ↦ ap (λ (v : Vec ℕ Global). v.items) w.places-is
           ∙ w.in_ok-push.ensures.items
-          ∙ kept_more (λ i. not (is_among c.args.self.now.shown.now i)) c.loop-place.place-counter
-          c.args.places.now.items c.loop-place.places.items c.loop-place.invariant
+          ∙ kept_more (λ i. not (is_among c.args.self.now.shown.now i)) _ _ c.loop-place.invariant
           (ap not (sym c.contains.ensures.value ∙ w.if-not-contains.true))
       | else-not-contains w ↦ ap (λ (v : Vec ℕ Global). v.items) w.places-is
-          ∙ left_out (λ i. not (is_among c.args.self.now.shown.now i)) c.loop-place.place-counter
-          c.args.places.now.items c.loop-place.places.items c.loop-place.invariant
+          ∙ left_out (λ i. not (is_among c.args.self.now.shown.now i)) _ _ c.loop-place.invariant
           (ap not (sym c.contains.ensures.value ∙ w.if-not-contains.false))
     ]

@@ -11,12 +11,9 @@ pub loop-place-preserved : goal.loop-place-preserved
 loop-place-preserved c =
     elim c.if-contains.branch [
       | then-contains+in_ok-push w ↦ ap (λ (v : Vec ℕ Global). v.items) w.places-is
-          ∙ w.in_ok-push.ensures.items
-          ∙ kept_more (is_among c.args.self.now.shown.now) c.loop-place.place-counter
-          c.args.places.now.items c.loop-place.places.items c.loop-place.invariant
-          (sym c.contains.ensures.value ∙ w.if-contains.true)
+          ∙ w.in_ok-push.ensures.items ∙ kept_more (is_among c.args.self.now.shown.now) _ _
+          c.loop-place.invariant (sym c.contains.ensures.value ∙ w.if-contains.true)
       | else-contains w ↦ ap (λ (v : Vec ℕ Global). v.items) w.places-is
-          ∙ left_out (is_among c.args.self.now.shown.now) c.loop-place.place-counter
-          c.args.places.now.items c.loop-place.places.items c.loop-place.invariant
+          ∙ left_out (is_among c.args.self.now.shown.now) _ _ c.loop-place.invariant
           (sym c.contains.ensures.value ∙ w.if-contains.false)
     ]
