@@ -44,9 +44,8 @@ since_at : (cs : List Branch) (b : ℕ) (c : Branch) → b < length cs
 since_at cs b c l = ap (λ (f : form.Form). f.since)
     (get_or-map (λ (c : Branch). form_of c.form) cs b c _ l)
 
-module _ (program : Program (Expr ℕ)) (w : IsWellFormed program) (s : Setting)
-    (fits : FitsSetting s)
-    (is : IsSettingOf program s) where
+module _ {program : Program (Expr ℕ)} (w : IsWellFormed program) {s : Setting}
+    (fits : FitsSetting s) (is : IsSettingOf program s) where
   pub all_at_zero : All BeginsAtZero s.branches.items → AllBeginAtZero program
   all_at_zero a = λ fs are b.
       ap (λ l. since_of l b) (forms_are_one program fs (forms_in s.branches.items) are

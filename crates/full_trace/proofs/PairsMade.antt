@@ -54,17 +54,16 @@ at_pair xs i x within is = sym (take-append-drop i xs)
     ∙ ap (λ ys. take i xs ++ ys) (drop-cons xs i x within
     ∙ ap (λ y. y ∷ drop (suc i) xs) (sym is))
 
-module _ {O : Type 0} {k : Order.Ghosts O} {l : PartialEq.Ghosts O} (R : Rank)
-    (gs : List (Terms Fraction)) (ab : List (ℕ × ℕ)) (i : ℕ) (a : ℕ × ℕ) (within : i < length ab)
-    (is : a ≡ get_or ab i a)
-    (rows : List (Vec (Polynomial O k l))) (first : List Entry)
-    (before : Journal)
-    (so_far : ArePairsDivided R gs (take i ab) (rows_of rows) first before.entries) where
-  pub pair_made : (row : Vec (Polynomial O k l)) (after : List Entry)
+module _ {O : Type 0} {k : Order.Ghosts O} {l : PartialEq.Ghosts O} {R : Rank}
+    {gs : List (Terms Fraction)} (ab : List (ℕ × ℕ)) (i : ℕ) (a : ℕ × ℕ) (within : i < length ab)
+    (is : a ≡ get_or ab i a) (rows : List (Vec (Polynomial O k l))) (first : List Entry)
+    (before : Journal) (so_far : ArePairsDivided R gs (take i ab) (rows_of rows) first
+    before.entries) where
+  pub pair_made : (row : Vec (Polynomial O k l)) {after : List Entry}
       → IsPairDivided R gs a (terms_each row.items) before.entries after
       → (news : List (Vec (Polynomial O k l))) → news ≡ rows ++ row ∷ []
       → ArePairsDivided R gs (take (i + 1) ab) (rows_of news) first after
-  pair_made row after d news new =
+  pair_made row {after = after} d news new =
       subst (λ z. ArePairsDivided R gs z (rows_of news) first after)
       (sym (take_one ab i a within is))
       (subst (λ z. ArePairsDivided R gs (take i ab ++ a ∷ []) z first after)
@@ -74,9 +73,9 @@ module _ {O : Type 0} {k : Order.Ghosts O} {l : PartialEq.Ghosts O} (R : Rank)
       (pair_divided_behind R gs (take i ab) (rows_of rows) a (terms_each row.items) first
       before.entries after so_far d))
 
-  pub pair_refused : (after : Journal) (r : Refusal) → IsPairRefused R gs a before after r
+  pub pair_refused : {after : Journal} (r : Refusal) → IsPairRefused R gs a before after r
       → IsRefusedInPairs R gs ab first after r
-  pair_refused after r stops = record {
+  pair_refused r stops = record {
     earlier = take i ab;
     here = a;
     later = drop (suc i) ab;
@@ -90,7 +89,7 @@ module _ {O : Type 0} {k : Order.Ghosts O} {l : PartialEq.Ghosts O} (R : Rank)
   pub pair_lost : (row : List (Terms Fraction)) (after : Journal)
       → IsPairDivided R gs a row before.entries after.entries
       → IsRefusedInPairs R gs ab first after out_of_memory
-  pair_lost row after d = pair_refused after out_of_memory (inr (
+  pair_lost row after d = pair_refused out_of_memory (inr (
     record { limit = before.limit; entries = with_pair R gs a before.entries },
     refl,
     record { at = d.last; work = d.finished.work },
@@ -98,10 +97,10 @@ module _ {O : Type 0} {k : Order.Ghosts O} {l : PartialEq.Ghosts O} (R : Rank)
 
 -- ---- one pair
 module _ {O : Type 0} {k : Order.Ghosts O} {l : PartialEq.Ghosts O} where
-  pub element : (o : O) (m : ℕ) (list : List (Polynomial O k l)) → AreDivisors o m list → (i : ℕ)
-      (p : Polynomial O k l) → i < length list → p ≡ get_or list i p
+  pub element : {o : O} {m : ℕ} (list : List (Polynomial O k l)) → AreDivisors o m list
+      → (i : ℕ) (p : Polynomial O k l) → i < length list → p ≡ get_or list i p
       → (p.order ≡ o) × (p.arity ≡ m) × (terms_in p ≢ [])
-  element o m list like i p within is =
+  element {o = o} {m = m} list like i p within is =
       subst (λ (q : Polynomial O k l). (q.order ≡ o) × (q.arity ≡ m) × (terms_in q ≢ [])) (sym is)
       (like i p within)
 
@@ -128,11 +127,10 @@ module _ {O : Type 0} {k : Order.Ghosts O} {l : PartialEq.Ghosts O} where
         ++ negate ℚ (raised_to fractions e (terms_in g)))
         → p ≡ s_polynomial rationals (k.order o) (terms_each list) a
     is_pair p h = s_polynomial_is fractions (k.order o) here a e (terms_in f)
-        (terms_in g) (got terms_in list a.0 f inside.0 f_is)
-        (got terms_in list a.1 g inside.1 g_is) multiple_is p
-        (h ∙ ap (λ q. collect rationals (k.order q) (raised_to fractions e (terms_in f)
-        ++ negate ℚ (raised_to fractions e (terms_in g))))
-        (element o m list like a.0 f inside.0 f_is).0)
+        (terms_in g) (got terms_in list a.0 f inside.0 f_is) (got terms_in list a.1 g inside.1 g_is)
+        multiple_is p (h ∙ ap (λ q. collect rationals (k.order q) (raised_to fractions e
+        (terms_in f) ++ negate ℚ (raised_to fractions e (terms_in g))))
+        (element list like a.0 f inside.0 f_is).0)
 
     pub past_pair : IsPastSum fractions (terms_in f) (terms_in g)
         ⊎ IsPastRaised e (terms_in f) ⊎ IsPastRaised e (terms_in g)
@@ -141,7 +139,7 @@ module _ {O : Type 0} {k : Order.Ghosts O} {l : PartialEq.Ghosts O} where
         (terms_in g) (got terms_in list a.0 f inside.0 f_is)
         (got terms_in list a.1 g inside.1 g_is) multiple_is h
 
-module _ (R : Rank) (gs : List (Terms Fraction)) (a : ℕ × ℕ) (before after : Journal)
+module _ (R : Rank) (gs : List (Terms Fraction)) (a : ℕ × ℕ) {before after : Journal}
     (same : after ≡ before) {X : Type 0} where
   pub unmade : (r : Result X EngineError) (e : ArithmeticError)
       → IsErrAnd r (λ y. y ≡ of_arithmetic e)
@@ -163,11 +161,11 @@ module _ (R : Rank) (gs : List (Terms Fraction)) (a : ℕ × ℕ) (before after 
   unnoted (Err y) meter_error.Memory h w =
       subst (λ z. IsPairRefused R gs a before after (refusal_of z)) (sym h) (inl (same, tt))
 
-module _ {O : Type 0} {k : Order.Ghosts O} {l : PartialEq.Ghosts O} (o : O)
+module _ {O : Type 0} {k : Order.Ghosts O} {l : PartialEq.Ghosts O} {o : O}
     (list : List (Polynomial O k l)) (a : ℕ × ℕ) (p : Polynomial O k l) (order_is : p.order ≡ o)
     (is : terms_in p ≡ s_polynomial rationals (k.order o) (terms_each list) a)
-    (before noted after : Journal)
-    (noted_is : noted.entries ≡ with_pair (k.order o) (terms_each list) a before.entries) where
+    (before noted after : Journal) (noted_is : noted.entries ≡ with_pair (k.order o)
+    (terms_each list) a before.entries) where
   pub pair_stops : {G : Divided O k l → division.State Fraction → Type 0} (r : Refusal)
       → Ran (division_of p list) G noted after (stopped r)
       → IsPairRefused (k.order o) (terms_each list) a before after r

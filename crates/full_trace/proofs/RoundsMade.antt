@@ -60,9 +60,9 @@ row_at gs (x ∷ []) b (suc j) l e = absurd (omega (arith, l))
 row_at gs (x ∷ y ∷ bs) b zero l e = absurd (omega (arith, l))
 row_at gs (x ∷ y ∷ bs) b (suc j) l e = row_at (given_in x) (y ∷ bs) b j (omega (arith, l)) e
 
-pub row_last : (gs : Vec FracPoly) (bs : List FullBranch) (b : FullBranch) (j : ℕ)
+pub row_last : (gs : Vec FracPoly) (bs : List FullBranch) {b : FullBranch} (j : ℕ)
     → j + 1 ≡ length bs → b ≡ get_or bs j b → after_row gs bs ≡ given_in b
-row_last gs bs b j l e = row_at gs bs b j (omega (arith, l)) e
+row_last gs bs {b = b} j l e = row_at gs bs b j (omega (arith, l)) e
 
 pub rows_pushed : (gs : Vec FracPoly) (rows : List (Vec FullBranch)) (row : Vec FullBranch)
     → after_rows gs (rows ++ row ∷ []) ≡ after_row (after_rows gs rows) row.items
@@ -82,7 +82,7 @@ rows_at : (gs : Vec FracPoly) (rows : List (Vec FullBranch)) (row : Vec FullBran
 unfolding after_rows
 rows_at gs [] row i l e b j k f = absurd (omega (arith, l))
 rows_at gs (x ∷ []) row zero l e b j k f =
-    ap (λ (r : Vec FullBranch). after_row gs r.items) (sym e) ∙ row_last gs row.items b j k f
+    ap (λ (r : Vec FullBranch). after_row gs r.items) (sym e) ∙ row_last gs row.items j k f
 rows_at gs (x ∷ []) row (suc i) l e b j k f = absurd (omega (arith, l))
 rows_at gs (x ∷ y ∷ rows) row zero l e b j k f = absurd (omega (arith, l))
 rows_at gs (x ∷ y ∷ rows) row (suc i) l e b j k f =
@@ -126,7 +126,7 @@ pub fronts_count : (s : Setting) → length (fronts_of s) ≡ length s.branches.
 fronts_count s = length-map s.branches.items
     (λ (c : Branch). front (length (sizes c.form.base.items)))
 
-module _ (s : Setting) (A : analysis.Setting) (i : IsSettingIn s A) where
+module _ {s : Setting} (A : analysis.Setting) (i : IsSettingIn s A) where
   pub forms_count : length A.forms ≡ length s.branches.items
   forms_count = ap length i.forms
       ∙ length-map s.branches.items (λ (c : Branch). as_form (written_of c.form))
@@ -137,9 +137,9 @@ module _ (s : Setting) (A : analysis.Setting) (i : IsSettingIn s A) where
   pub none_left : (p : ℕ) → length s.branches.items ≤ p → length A.forms ≤ p
   none_left p l = let n = forms_count in omega (arith, n, l)
 
-pub knows_later : (s : Setting) (before after : Journal) (gs : List FracPoly)
+pub knows_later : {s : Setting} {before : Journal} (after : Journal) {gs : List FracPoly}
     → units_of before.entries ≤ units_of after.entries → Knows s before gs → Knows s after gs
-knows_later s before after gs l k = record {
+knows_later after l k = record {
   over = k.over;
   few = (let f = k.few in omega (arith, f, l));
 }
@@ -148,7 +148,7 @@ pub in_work_later : {w : RoundInWork} {before after : Journal} → IsInWork w be
     → Follow before after → IsInWork w after
 in_work_later {w} {before} {after} h l = record {
   fits = h.fits;
-  basis = knows_later w.setting.now before after w.basis.now.items l h.basis;
+  basis = knows_later after l h.basis;
 }
 
 -- ---- refusals
@@ -157,13 +157,13 @@ pub passed_error : {X : Type 0} (P : AnalyseError → Type 0) (r : Result X Anal
 passed_error P (Ok x) e h p = absurd h
 passed_error P (Err y) e h p = subst P (sym h) p
 
-pub lost : (A : analysis.Setting) (R : ℕ) (es : List Entry) (step : Step) → Comes A R es step
+pub lost : (A : analysis.Setting) (R : ℕ) {es : List Entry} (step : Step) → Comes A R es step
     → IsGoing A R es
-lost A R es step c = record { state = c.state; run = c.run }
+lost A R step c = record { state = c.state; run = c.run }
 
 -- ---- from round to round
 module _ (A : analysis.Setting) (R : ℕ) (start : Vec FracPoly)
-    (links : List (List (Terms Fraction))) (found : List (Vec FullBranch)) (basis : Vec FracPoly)
+    (links : List (List (Terms Fraction))) (found : List (Vec FullBranch)) {basis : Vec FracPoly}
     (basis_is : basis ≡ after_rows start found) (k : ℕ) where
   abbrev pub Behind : List (Vec FullBranch) → ℕ → List Entry → Type 0
   Behind rows n es = Comes A R es (after_round A R
@@ -173,14 +173,13 @@ module _ (A : analysis.Setting) (R : ℕ) (start : Vec FracPoly)
   abbrev pub so_far : Results
   so_far = behind (terms_each start.items) links (map round_in found)
 
-  pub round_due : k < R → (es : List Entry) → Behind found k es
+  pub round_due : k < R → {es : List Entry} → Behind found k es
       → OrbitBegins A R so_far es (k + 1) 0 (terms_each basis.items) []
-  round_due l es c =
+  round_due l {es = es} c =
       let more : suc k ≡ k + 1 = omega arith in
       subst (λ n. OrbitBegins A R so_far es n 0 (terms_each basis.items) []) more
       (subst (λ (v : Vec FracPoly). OrbitBegins A R so_far es (suc k) 0 (terms_each v.items) [])
-      (sym basis_is) (round_begins A R so_far es k (terms_each (after_rows start found).items) l
-      c))
+      (sym basis_is) (round_begins A R so_far es k _ l c))
 
   module _ (row : Vec FullBranch) (news : List (Vec FullBranch)) (push : news ≡ found ++ row ∷ [])
     where
@@ -236,29 +235,30 @@ module _ (A : analysis.Setting) (R : ℕ) (d : Results) (k : ℕ) (basis : Vec F
       (map branch_in bs ++ branch_in b ∷ []) (terms_each v.items))
       (sym (row_pushed basis bs b)) c))
 
-pub known_row : (s : Setting) (j : Journal) (basis : Vec FracPoly) (bs : List FullBranch)
-    (b : FullBranch) (news : List FullBranch) → news ≡ bs ++ b ∷ []
-    → Knows s j (given_in b).items → Knows s j (after_row basis news).items
-known_row s j basis bs b news e h = subst (λ (v : Vec FracPoly). Knows s j v.items)
+pub known_row : (s : Setting) {j : Journal} (basis : Vec FracPoly) (bs : List FullBranch)
+    (b : FullBranch) (news : List FullBranch)
+    → news ≡ bs ++ b ∷ [] → Knows s j (given_in b).items → Knows s j (after_row basis news).items
+known_row s {j = j} basis bs b news e h = subst (λ (v : Vec FracPoly). Knows s j v.items)
     (sym (ap (after_row basis) e ∙ row_pushed basis bs b)) h
 
 -- ---- where a list is borrowed
-pub branch_due : (A : analysis.Setting) (R : ℕ) (d : Results) (k p : ℕ) (basis : Vec FracPoly)
-    (es : List Entry) (bs : List FullBranch) (qs : List FracPoly) → qs ≡ (after_row basis bs).items
-    → Branches A R d k basis es bs p → ComesBehind A R d es k p (terms_each basis.items)
-    (map branch_in bs) (terms_each qs)
-branch_due A R d k p basis es bs qs qs_is c =
+pub branch_due : (A : analysis.Setting) (R : ℕ) (d : Results) (k : ℕ) {p : ℕ} (basis : Vec FracPoly)
+    {es : List Entry} (bs : List FullBranch) {qs : List FracPoly}
+    → qs ≡ (after_row basis bs).items → Branches A R d k basis es bs p
+    → ComesBehind A R d es k p (terms_each basis.items) (map branch_in bs) (terms_each qs)
+branch_due A R d k {p = p} basis {es = es} bs qs_is c =
     subst (λ us. ComesBehind A R d es k p (terms_each basis.items) (map branch_in bs)
     (terms_each us)) (sym qs_is) c
 
 pub rounds_begun : (A : analysis.Setting) (R : ℕ) (start : Vec FracPoly)
-    (links : List (List (Terms Fraction))) (es : List Entry) (rows : List (Vec FullBranch))
-    → rows ≡ [] → Comes A R es (after_round A R (behind (terms_each start.items) links []) 0
-    (terms_each start.items)) → Comes A R es (after_round A R
-    (behind (terms_each start.items) links (map round_in rows)) 0
+    (links : List (List (Terms Fraction))) {es : List Entry} {rows : List (Vec FullBranch)}
+    → rows ≡ []
+    → Comes A R es (after_round A R (behind (terms_each start.items) links []) 0
+    (terms_each start.items))
+    → Comes A R es (after_round A R (behind (terms_each start.items) links (map round_in rows)) 0
     (terms_each (after_rows start rows).items))
 unfolding after_rows
-rounds_begun A R start links es rows none c =
+rounds_begun A R start links {es = es} none c =
     subst (λ rs. Comes A R es (after_round A R
     (behind (terms_each start.items) links (map round_in rs)) 0
     (terms_each (after_rows start rs).items))) (sym none) c

@@ -43,10 +43,9 @@ abbrev pub Divided : (O : Type 0) (k : Order.Ghosts O) (l : PartialEq.Ghosts O) 
 Divided O k l = Division Frac O ring.ghosts equal.ghosts k l
 
 module _ {O : Type 0} {k : Order.Ghosts O} {l : PartialEq.Ghosts O} where
-  module _ (o : O) (m : ℕ) (list ps : List (Polynomial O k l)) (like : AreLike o m ps) (i : ℕ)
-      (p : Polynomial O k l)
-      (within : i < length ps) (is : p ≡ get_or ps i p) (rows : List (Vec (Polynomial O k l)))
-      (first : List Entry) (before after : Journal)
+  module _ {o : O} {m : ℕ} (list ps : List (Polynomial O k l)) (like : AreLike o m ps) (i : ℕ)
+      (p : Polynomial O k l) (within : i < length ps) (is : p ≡ get_or ps i p)
+      (rows : List (Vec (Polynomial O k l))) (first : List Entry) (before after : Journal)
       (so_far : AreDivided (k.order o) (terms_each list) (terms_each (take i ps)) (rows_of rows)
       first before.entries) where
     abbrev R : Rank

@@ -21,7 +21,6 @@ use Rattle.machines.specs.Machine.{Refusal, done, Stops, Ran}
 use Rattle.machines.specs.Machines as machines
 use Rattle.machines.proofs.Front.{kept_few}
 use Rattle.machines.proofs.Places.{get_map}
-use Rattle.monos.specs.declared.order.Blocks.{Blocks}
 use Rattle.monos.specs.declared.order.Grevlex.{Grevlex}
 use Rattle.rounds.proofs.Lawful.{kept-nothing}
 use Rattle.corollaries.specs.Representation.{pairs_of}
@@ -40,9 +39,9 @@ use Rattle.corollaries.proofs.Sizes.{rows_units, pair_rows_units, out_within}
 use Rattle.corollaries.proofs.Staged.{kept_ones}
 
 -- ---- the completion
-module _ (k m : ℕ) (begin : List Blocked) (v : Vec Blocked) (old mid : Journal)
-    (r : Ran (completion_of (in_blocks k) begin) (HasElements (in_blocks k) (k + m)) old mid
-    (done v)) (b : IsBasis (in_blocks k) (k + m) begin v.items) where
+module _ (k m : ℕ) (begin : List Blocked) (v : Vec Blocked) {old mid : Journal} (r : Ran
+    (completion_of (in_blocks k) begin) (HasElements (in_blocks k) (k + m)) old mid (done v))
+    (b : IsBasis (in_blocks k) (k + m) begin v.items) where
   pub list_made : IsListMade (block_order k) (terms_each begin) (terms_each v.items) old.entries
       mid.entries
   list_made = record {
@@ -78,16 +77,16 @@ module _ (k m : ℕ) (begin : List Blocked) (v : Vec Blocked) (old mid : Journal
           omega (arith, a, c, d, e, h)
 
 -- ---- the pairs
-pub pairs_inside : (n : ℕ) (ab : List (ℕ × ℕ)) → ab ≡ pairs_of n
+pub pairs_inside : (n : ℕ) {ab : List (ℕ × ℕ)} → ab ≡ pairs_of n
     → All (λ (a : ℕ × ℕ). (a.0 < n) × (a.1 < n)) ab
-pairs_inside n ab is = subst (All (λ (a : ℕ × ℕ). (a.0 < n) × (a.1 < n))) (sym is)
+pairs_inside n is = subst (All (λ (a : ℕ × ℕ). (a.0 < n) × (a.1 < n))) (sym is)
     (λ i d l. subst (λ (a : ℕ × ℕ). (a.0 < n) × (a.1 < n))
     (get_or_default (pairs_of n) i (0, 0) d l) (pairs_within n i l))
 
 -- ---- the tidying
-module _ (m : ℕ) (o : Grevlex) (fs : List FracPoly) (v : Vec FracPoly) (old mid : Journal)
-    (r : Ran (tidying_of o fs) (HasTidied o m) old mid (done v)) (gs : List (Terms Fraction))
-    (is : terms_each fs ≡ gs) where
+module _ (m : ℕ) (o : Grevlex) (fs : List FracPoly) (v : Vec FracPoly) (old : Journal)
+    {mid : Journal} (r : Ran (tidying_of o fs) (HasTidied o m) old mid (done v))
+    {gs : List (Terms Fraction)} (is : terms_each fs ≡ gs) where
   pub out_made : IsOutMade gs (terms_each v.items) old.entries mid.entries
   out_made = subst (λ hs. IsOutMade hs (terms_each v.items) old.entries mid.entries) is (record {
     last = r.to.last;
@@ -120,7 +119,7 @@ module _ (k m : ℕ) (begin : List Blocked) (v : Vec Blocked) (old mid : Journal
   refused_pairs after r x = inr (record {
     list = list;
     listed = mid.entries;
-    made = list_made k m begin v old mid c b;
+    made = list_made k m begin v c b;
     refused = inr (inr (record {
       gens = gens;
       divided = between.entries;
@@ -147,7 +146,7 @@ module _ (k m : ℕ) (begin : List Blocked) (v : Vec Blocked) (old mid : Journal
     behind_pairs after r x = inr (record {
       list = list;
       listed = mid.entries;
-      made = list_made k m begin v old mid c b;
+      made = list_made k m begin v c b;
       refused = inr (inr (record {
         gens = gens;
         divided = between.entries;
@@ -162,32 +161,31 @@ module _ (k m : ℕ) (begin : List Blocked) (v : Vec Blocked) (old mid : Journal
       refused_out after r x = behind_pairs after r (inl (subst (λ gs.
           Stops (machines.tidying fractions grevlex gs) paired after r) fs_is x))
 
-      module _ (w : Vec FracPoly) (tidied : Journal)
-          (t : Ran (tidying_of o fs) (HasTidied o m) paired tidied (done w)) where
+      module _ (w : Vec FracPoly) {tidied : Journal} (t : Ran (tidying_of o fs) (HasTidied o m)
+          paired tidied (done w)) where
         pub out_few : length (terms_each begin) ≤ 2 ^ 30 → units_of tidied.entries ≤ 2 ^ 28
-            → (os : List FracPoly) → os ≡ w.items → length os ≤ 2 ^ 31
-        out_few short units os same =
+            → {os : List FracPoly} → os ≡ w.items → length os ≤ 2 ^ 31
+        out_few short units same =
             let a = rows_units (block_order k) (terms_each ds) (terms_each begin) gens mid.entries
             between.entries divided in
             let d = pair_rows_units (block_order k) (terms_each es) ab rows between.entries
             paired.entries pairs in
             let l : units_of mid.entries ≤ units_of paired.entries = omega (arith, a, d) in
             let f = out_within k (block_order k) (terms_each begin) list (terms_each w.items)
-            old.entries mid.entries paired.entries tidied.entries
-            (list_made k m begin v old mid c b) l (free_part k list) refl
-            (out_made m o fs w paired tidied t (free_part k list) fs_is) in
+            old.entries mid.entries paired.entries tidied.entries (list_made k m begin v c b) l
+            (free_part k list) refl (out_made m o fs w paired t fs_is) in
             let g = length-map w.items terms_in in
             let h = ap length same in
             omega (arith, short, units, f, g, h)
 
-        pub refused_links : (os : List FracPoly) → os ≡ w.items → (gs : List FracPoly)
+        pub refused_links : {os : List FracPoly} → os ≡ w.items → (gs : List FracPoly)
             → terms_each gs ≡ free_part k list → (after : Journal) (r : Refusal)
             → IsRefusedIn grevlex (terms_each os) (terms_each gs) tidied.entries after r
             → IsStageRefused k (terms_each begin) after r old
-        refused_links os same gs gs_is after r x = behind_pairs after r (inr (record {
+        refused_links same gs gs_is after r x = behind_pairs after r (inr (record {
           out = terms_each w.items;
           tidied = tidied.entries;
-          made = out_made m o fs w paired tidied t (free_part k list) fs_is;
+          made = out_made m o fs w paired t fs_is;
           refused = subst (λ ps. IsRefusedIn grevlex (terms_each w.items) ps tidied.entries after
               r) gs_is (subst (λ (qs : List FracPoly). IsRefusedIn grevlex (terms_each qs)
               (terms_each gs) tidied.entries after r) same x);
@@ -214,14 +212,14 @@ module _ (m : ℕ) (o : Grevlex) (starts : List FracPoly) (v : Vec FracPoly) (ol
     refused = inl (subst (λ (qs : List FracPoly). Stops (tidying_of o qs) mid after r) ds_is x);
   })
 
-  module _ (w : Vec FracPoly) (tidied : Journal)
-      (t : Ran (tidying_of o ds) (HasTidied o m) mid tidied (done w)) where
+  module _ (w : Vec FracPoly) {tidied : Journal} (t : Ran (tidying_of o ds) (HasTidied o m) mid
+      tidied (done w)) where
     start_out : IsOutMade (terms_each v.items) (terms_each w.items) mid.entries tidied.entries
-    start_out = out_made m o ds w mid tidied t (terms_each v.items) (ap terms_each ds_is)
+    start_out = out_made m o ds w mid t (ap terms_each ds_is)
 
     pub start_out_few : length (terms_each starts) ≤ 2 ^ 30 → units_of tidied.entries ≤ 2 ^ 28
-        → (os : List FracPoly) → os ≡ w.items → length os ≤ 2 ^ 31
-    start_out_few short units os same =
+        → {os : List FracPoly} → os ≡ w.items → length os ≤ 2 ^ 31
+    start_out_few short units same =
         let l : units_of mid.entries ≤ units_of mid.entries = omega arith in
         let f = out_within 0 grevlex (terms_each starts) (terms_each v.items) (terms_each w.items)
         old.entries mid.entries mid.entries tidied.entries start_made l (terms_each v.items)
@@ -230,10 +228,10 @@ module _ (m : ℕ) (o : Grevlex) (starts : List FracPoly) (v : Vec FracPoly) (ol
         let h = ap length same in
         omega (arith, short, units, f, g, h)
 
-    pub start_links_refused : (os : List FracPoly) → os ≡ w.items → (after : Journal)
-        (r : Refusal) → IsRefusedIn grevlex (terms_each os) (terms_each starts) tidied.entries
-        after r → IsStartRefused (terms_each starts) after r old
-    start_links_refused os same after r x = inr (record {
+    pub start_links_refused : {os : List FracPoly} → os ≡ w.items → (after : Journal) (r : Refusal)
+        → IsRefusedIn grevlex (terms_each os) (terms_each starts) tidied.entries after r
+        → IsStartRefused (terms_each starts) after r old
+    start_links_refused same after r x = inr (record {
       list = terms_each v.items;
       listed = mid;
       made = start_made;

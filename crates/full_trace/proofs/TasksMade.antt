@@ -9,10 +9,9 @@ use Rattle.std.proofs.lemmas.List.{get_or-map, length-map}
 use Rattle.std.proofs.lemmas.List.Elements.{All-head, All-tail}
 use Rattle.algebra.specs.Each.{Each}
 use Rattle.algebra.specs.Fraction.{Fraction, ℚ, rationals}
-use Rattle.polynomials.specs.Order.{grevlex, blocks}
+use Rattle.polynomials.specs.Order.{grevlex}
 use Rattle.polynomials.specs.Polynomial.{IsPolynomial}
 use Rattle.polynomials.specs.Terms.{Terms}
-use Rattle.machines.specs.Elimination.{blend}
 use Rattle.machines.specs.Journal as journal
 use Rattle.machines.specs.Journal.{Entry, Begin, Journal, units_of}
 use Rattle.machines.specs.Machine.{Refusal, too_wide, out_of_units, out_of_memory}
@@ -66,25 +65,26 @@ entries_with : (before after : Journal) (e : Entry) → after ≡ with_entry bef
     → after.entries ≡ before.entries ++ e ∷ []
 entries_with before after e h = ap (λ (j : Journal). j.entries) h
 
-module _ (A : analysis.Setting) (R : ℕ) (d : Results) (w : Work) (k : ℕ)
-    (hs : List (Terms Fraction)) (el : Eliminates A w k hs) (es : List Entry)
-    (c : Comes A R es (goes (Begin (task_of_work w)) (start_of A d w))) (P : Type 0)
-    (past : P → IsPastStarting A w) where
-  pub begun_refused : (mid new : Journal) → mid.entries ≡ es ++ Begin (task_of_work w) ∷ []
-      → (r : Refusal) → IsBegunRefused P k hs mid new r → Refuses A R (task_of_work w) new r
-  begun_refused mid new at r (inl (same, p)) = go r p
-    where
-      go : (r : Refusal) → IfBegun P r → Refuses A R (task_of_work w) new r
-      go too_wide p = subst (λ (j : Journal). IsStopped A R (task_of_work w) j.entries) (sym same)
-          (subst (IsStopped A R (task_of_work w)) (sym at) (task_stopped A R d w es c (past p)))
-      go out_of_units p = absurd p
-      go out_of_memory p = subst (λ (j : Journal). IsGoing A R j.entries) (sym same)
-          (subst (IsGoing A R) (sym at) (task_lost A R d w es c))
-  begun_refused mid new at r (inr s) = stage_refused A R d w k hs el es c mid new at r s
+module _ (A : analysis.Setting) (R : ℕ) (d : Results) {w : Work} {k : ℕ}
+    {hs : List (Terms Fraction)} (el : Eliminates A w k hs) {es : List Entry} (c : Comes A R es
+    (goes (Begin (task_of_work w)) (start_of A d w))) (P : Type 0) (past : P → IsPastStarting A w)
+  where
+    pub begun_refused : (mid new : Journal) → mid.entries ≡ es ++ Begin (task_of_work w) ∷ []
+        → (r : Refusal) → IsBegunRefused P k hs mid new r → Refuses A R (task_of_work w) new r
+    begun_refused mid new at r (inl (same, p)) = go r p
+      where
+        go : (r : Refusal) → IfBegun P r → Refuses A R (task_of_work w) new r
+        go too_wide p = subst (λ (j : Journal). IsStopped A R (task_of_work w) j.entries) (sym same)
+            (subst (IsStopped A R (task_of_work w)) (sym at) (task_stopped A R d w es c (past p)))
+        go out_of_units p = absurd p
+        go out_of_memory p = subst (λ (j : Journal). IsGoing A R j.entries) (sym same)
+            (subst (IsGoing A R) (sym at) (task_lost A R d w es c))
+    begun_refused mid new at r (inr s) = stage_refused A R d w k hs el es c mid new at r s
 
 -- ---- the start
-module _ (s : Setting) (fits : FitsSetting s) (ps : List FracPoly) (ps_is : ps ≡ s.starts.items)
-    (old mid new : Journal) (begin : mid ≡ with_entry old (Begin journal.Start)) where
+module _ {s : Setting} (fits : FitsSetting s) {ps : List FracPoly} (ps_is : ps ≡ s.starts.items)
+    (old : Journal) {mid : Journal} (new : Journal)
+    (begin : mid ≡ with_entry old (Begin journal.Start)) where
   abbrev firsts : List (Terms Fraction)
   firsts = terms_each ps
 
@@ -124,8 +124,8 @@ module _ (s : Setting) (fits : FitsSetting s) (ps : List FracPoly) (ps_is : ps �
   }
 
 -- ---- an orbit
-module _ (s : Setting) (fits : FitsSetting s) (place : ℕ) (within : place < length s.branches.items)
-    (branch : Branch) (is : branch ≡ get_or s.branches.items place branch) where
+module _ {s : Setting} (fits : FitsSetting s) (place : ℕ) (within : place < length s.branches.items)
+    {branch : Branch} (is : branch ≡ get_or s.branches.items place branch) where
   pub vars_at : vars_of branch ≡ s.arity
   vars_at = ap (λ (c : Branch). length c.images.items) is
       ∙ (fits.branches place branch within).count
@@ -178,7 +178,7 @@ module _ (s : Setting) (fits : FitsSetting s) (place : ℕ) (within : place < le
       past_here k hs p = inl (subst (λ (f : form.Form). IsPastOrbit f A.arity (terms_each gs))
           (sym form_at) (subst (λ ps. IsPastComposed ps (terms_each gs)) back_at p))
 
-    module _ (k : ℕ) (old mid new : Journal) (n : ℕ) (named : n ≡ suc place)
+    module _ (k : ℕ) (old : Journal) {mid : Journal} (new : Journal) {n : ℕ} (named : n ≡ suc place)
         (begin : mid ≡ with_entry old (Begin (journal.Orbit k n))) where
       entries_are : mid.entries ≡ old.entries ++ Begin (journal.Orbit k (suc place)) ∷ []
       entries_are = entries_with old mid (Begin (journal.Orbit k n)) begin
@@ -189,7 +189,7 @@ module _ (s : Setting) (fits : FitsSetting s) (place : ℕ) (within : place < le
         pub orbit_next : (x : Stage) → IsStageMade (front (numbers_of branch))
             (pulled_back_list branch gs) x mid.entries new.entries
             → OrbitEnds A R d new.entries k place (terms_each gs) hs x
-        orbit_next x m = stage_awaits A R d (orbit k place (terms_each gs) hs)
+        orbit_next x m = stage_awaits A R d _
             (front (numbers_of branch)) (pulled_back_list branch gs) (eliminates A i k hs)
             old.entries
             c x new.entries (subst (λ es. IsStageMade (front (numbers_of branch))
@@ -202,8 +202,7 @@ module _ (s : Setting) (fits : FitsSetting s) (place : ℕ) (within : place < le
         orbit_stops t is_task e h = told A R t new e
             (subst (λ z. Refuses A R z new (refusal_of e))
             (sym (is_task ∙ ap (journal.Orbit k) named))
-            (begun_refused A R d (orbit k place (terms_each gs) hs) (front (numbers_of branch))
-            (pulled_back_list branch gs) (eliminates A i k hs) old.entries c
+            (begun_refused A R d (eliminates A i k hs) c
             (IsPastPulledBack branch gs) (past_here A i k hs) mid new entries_are (refusal_of e) h))
 
       module _ (x : Stage) (m : IsStageMade (front (numbers_of branch)) (pulled_back_list branch gs)
@@ -249,8 +248,9 @@ polynomials m (p ∷ ps) a = (
   polynomials m ps (All-tail (λ (q : FracPoly). q.arity ≡ m) p ps a),
 )
 
-module _ (s : Setting) (place : ℕ) (us vs : List FracPoly) (k : ℕ) (old mid new : Journal) (n : ℕ)
-    (named : n ≡ suc place) (begin : mid ≡ with_entry old (Begin (journal.Meet k n))) where
+module _ (s : Setting) (place : ℕ) (us vs : List FracPoly) (k : ℕ) (old : Journal) {mid : Journal}
+    (new : Journal) {n : ℕ} (named : n ≡ suc place)
+    (begin : mid ≡ with_entry old (Begin (journal.Meet k n))) where
   meet_entries : mid.entries ≡ old.entries ++ Begin (journal.Meet k (suc place)) ∷ []
   meet_entries = entries_with old mid (Begin (journal.Meet k n)) begin
       ∙ ap (λ j. old.entries ++ Begin (journal.Meet k j) ∷ []) named
@@ -280,7 +280,7 @@ module _ (s : Setting) (place : ℕ) (us vs : List FracPoly) (k : ℕ) (old mid 
         → Stops A R new (in_task t e)
     meet_stops t is_task e h = told A R t new e
         (subst (λ z. Refuses A R z new (refusal_of e)) (sym (is_task ∙ ap (journal.Meet k) named))
-        (begun_refused A R d W 1 (blend_of us vs) meet_eliminated old.entries c ⊥
+        (begun_refused A R d meet_eliminated c ⊥
         (λ z. absurd z) mid new meet_entries (refusal_of e) h))
 
   module _ (x : Stage) (m : IsStageMade 1 (blend_of us vs) x mid.entries new.entries) where
@@ -290,13 +290,12 @@ module _ (s : Setting) (place : ℕ) (us vs : List FracPoly) (k : ℕ) (old mid 
         let b = units_begun old mid (journal.Meet k n) begin in
         omega (arith, a, b)
 
-    pub meet_known : (out : List FracPoly) → terms_each out ≡ x.out → AreOver s.arity out
+    pub meet_known : {out : List FracPoly} → terms_each out ≡ x.out → AreOver s.arity out
         → AreOver s.arity vs → Knows s new out
-    meet_known out same over behind_ = record {
+    meet_known {out = out} same over behind_ = record {
       over = over;
       few = (let a = stage_few 1 (blend_of us vs) x mid.entries new.entries m in
-          let few = kept_made rationals 1 [] (blend rationals (blocks 1 grevlex grevlex)
-          (terms_each us) (terms_each vs)) (blend_not_kept s.arity (terms_each us)
+          let few = kept_made rationals 1 [] _ (blend_not_kept s.arity (terms_each us)
           (terms_each vs) (polynomials s.arity vs behind_)) in
           let e = length-map out terms_in in
           let g = ap length same in

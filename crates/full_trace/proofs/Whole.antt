@@ -61,9 +61,9 @@ as_written [] a = refl
 as_written (c ∷ cs) a = ap₂ ◌∷◌ (form_is c (All-head BeginsAtZero c cs a))
     (as_written cs (All-tail BeginsAtZero c cs a))
 
-module _ (program : Program (Expr ℕ)) (w : IsWellFormed program) (s : Setting)
-    (fits : FitsSetting s)
-    (is : IsSettingOf program s) (at_zero : All BeginsAtZero s.branches.items) (R : ℕ) where
+module _ {program : Program (Expr ℕ)} (w : IsWellFormed program) (s : Setting)
+    (fits : FitsSetting s) (is : IsSettingOf program s)
+    (at_zero : All BeginsAtZero s.branches.items) (R : ℕ) where
   abbrev forms_of : List WrittenForm
   forms_of = map (λ (c : Branch). written_of c.form) s.branches.items
 
@@ -79,9 +79,9 @@ module _ (program : Program (Expr ℕ)) (w : IsWellFormed program) (s : Setting)
     forms = map-map as_form (λ (c : Branch). written_of c.form) s.branches.items;
   }
 
-  follows_here : (es : List Entry) (t : State) → IsRun (moves setting_here R) fresh es t
+  follows_here : {es : List Entry} {t : State} → IsRun (moves setting_here R) fresh es t
       → Follows program R es t
-  follows_here es t r = record {
+  follows_here r = record {
     forms = forms_of;
     are_forms = subst (AreForms program) (sym (as_written s.branches.items at_zero))
         (are_forms program w s fits is);
@@ -95,14 +95,14 @@ module _ (program : Program (Expr ℕ)) (w : IsWellFormed program) (s : Setting)
   unfolding follows_here
   finished_here es t same c = record {
     given = behind (start_in t.start).0 (start_in t.start).1 (map round_in t.rounds.items);
-    finished = record { state = c.state; follows = follows_here es c.state c.run; is = c.is };
+    finished = record { state = c.state; follows = follows_here c.run; is = c.is };
     forms = same;
     start = refl;
     rounds_are = refl;
   }
 
-  going_here : (es : List Entry) → IsGoing setting_here R es → HasFollowed program R es
-  going_here es g = inr (record { state = g.state; follows = follows_here es g.state g.run })
+  going_here : {es : List Entry} → IsGoing setting_here R es → HasFollowed program R es
+  going_here {es = es} g = inr (record { state = g.state; follows = follows_here g.run })
 
   followed_here : (after : Journal) (e : AnalyseError) → Stops setting_here R after e
       → HasFollowed program R after.entries
@@ -111,13 +111,13 @@ module _ (program : Program (Expr ℕ)) (w : IsWellFormed program) (s : Setting)
   followed_here after (error.Limit task) h = absurd h
   followed_here after (error.Wide task) h = inr (record {
     state = h.state;
-    follows = follows_here after.entries h.state h.run;
+    follows = follows_here h.run;
   })
   followed_here after error.Budget h = inr (record {
     state = h.comes.state;
-    follows = follows_here after.entries h.comes.state h.comes.run;
+    follows = follows_here h.comes.run;
   })
-  followed_here after error.Memory h = going_here after.entries h
+  followed_here after error.Memory h = going_here h
 
   stopped_here : (after : Journal) (e : AnalyseError) → Stops setting_here R after e
       → IsStopped program R after e
@@ -127,7 +127,7 @@ module _ (program : Program (Expr ℕ)) (w : IsWellFormed program) (s : Setting)
   stopped_here after (error.Limit task) h = absurd h
   stopped_here after (error.Wide task) h = record {
     state = h.state;
-    follows = follows_here after.entries h.state h.run;
+    follows = follows_here h.run;
     in_task = h.in_task;
     past = h.past;
   }
@@ -136,13 +136,13 @@ module _ (program : Program (Expr ℕ)) (w : IsWellFormed program) (s : Setting)
     state = h.following;
     comes = record {
       state = h.comes.state;
-      follows = follows_here after.entries h.comes.state h.comes.run;
+      follows = follows_here h.comes.run;
       is = h.comes.is;
     };
     unit = h.unit;
     exhausted = h.exhausted;
   }
-  stopped_here after error.Memory h = going_here after.entries h
+  stopped_here after error.Memory h = going_here h
 
 -- ---- from the start on, of each program of which the setting is
 module _ (s : Setting) (fits : FitsSetting s) (at_zero : All BeginsAtZero s.branches.items) (R : ℕ)
@@ -153,17 +153,16 @@ module _ (s : Setting) (fits : FitsSetting s) (at_zero : All BeginsAtZero s.bran
 
   from_start : (P : analysis.Setting → Type 0) → FromStart P → (program : Program (Expr ℕ))
       → (w : IsWellFormed program) (is : IsSettingOf program s)
-      → P (setting_here program w s fits is at_zero R)
-  from_start P h program w is = h (setting_here program w s fits is at_zero R)
-      (setting_in program w s fits is at_zero R)
-      (begins (setting_here program w s fits is at_zero R) R old none)
+      → P (setting_here w s fits is at_zero R)
+  from_start P h program w is = h (setting_here w s fits is at_zero R)
+      (setting_in w s fits is at_zero R) (begins (setting_here w s fits is at_zero R) R old none)
 
   pub finished : (es : List Entry) (t : Trace)
       → map form_in t.forms.items ≡ map (λ (c : Branch). written_of c.form) s.branches.items
       → FromStart (λ A. Comes A R es (trace.finished (behind (start_in t.start).0
       (start_in t.start).1 (map round_in t.rounds.items))))
       → HoldsOf s (λ program. IsTraceOf program R es t)
-  finished es t same h = λ program w is. finished_here program w s fits is at_zero R es t same
+  finished es t same h = λ program w is. finished_here w s fits is at_zero R es t same
       (from_start (λ A. Comes A R es (trace.finished (behind (start_in t.start).0
       (start_in t.start).1 (map round_in t.rounds.items)))) h program w is)
 
@@ -171,7 +170,7 @@ module _ (s : Setting) (fits : FitsSetting s) (at_zero : All BeginsAtZero s.bran
       → FromStart (λ A. Comes A R es (step A)) → HoldsOf s (λ program. HasFollowed program R es)
   going es step h = λ program w is.
       (let c = from_start (λ A. Comes A R es (step A)) h program w is in
-      going_here program w s fits is at_zero R es (record { state = c.state; run = c.run }))
+      going_here w s fits is at_zero R (record { state = c.state; run = c.run }))
 
   -- where memory is wanting behind it
   pub lost : (after : Journal) (step : analysis.Setting → Step)
@@ -184,11 +183,11 @@ module _ (s : Setting) (fits : FitsSetting s) (at_zero : All BeginsAtZero s.bran
 
   module _ (after : Journal) (e : AnalyseError) (h : FromStart (λ A. Stops A R after e)) where
     pub followed : HoldsOf s (λ program. HasFollowed program R after.entries)
-    followed = λ program w is. followed_here program w s fits is at_zero R after e
+    followed = λ program w is. followed_here w s fits is at_zero R after e
         (from_start (λ A. Stops A R after e) h program w is)
 
     pub refused : {X : Type 0} (r : Result X AnalyseError) → IsErrAnd r (λ y. y ≡ e)
         → HoldsOf s (λ program. IfErr r (IsStopped program R after))
     refused r same = λ program w is. passed_error (IsStopped program R after) r e same
-        (stopped_here program w s fits is at_zero R after e
+        (stopped_here w s fits is at_zero R after e
         (from_start (λ A. Stops A R after e) h program w is))

@@ -16,38 +16,29 @@ loop-round-init c =
       limit = refl;
       known = known_begun s c.args.meter.now c.args.start.now c.new-found.result.items none
           c.requires.start;
-      some = All-same (λ row. 0 < length row.items) c.new-found.result.items [] none
+      some = All-same (λ row. 0 < length row.items) _ [] none
           (All-nil (λ row. 0 < length row.items));
-      over = All-same (λ row. AreBranchesOver s.arity (fronts_of s) row.items)
-          c.new-found.result.items [] none
+      over = All-same (λ row. AreBranchesOver s.arity (fronts_of s) row.items) _ [] none
           (All-nil (λ row. AreBranchesOver s.arity (fronts_of s) row.items));
-      next = λ links A i a. rounds_begun A c.args.rounds c.args.start.now links
-          c.args.meter.now.entries c.new-found.result.items none a;
+      next = λ links A i a. rounds_begun A c.args.rounds c.args.start.now links none a;
     }
 
 pub returns-in_err-row-clause-refused : goal.returns-in_err-row-clause-refused
 returns-in_err-row-clause-refused c = λ links A i a.
-    passed_error (Stops A c.args.rounds c.stages.new.meter) c.from_residual.result _
-    c.from_residual.ensures.1 (c.in_err-row.ensures.refused c.args.rounds
-    (behind (terms_each c.args.start.now.items) links (map round_in c.loop-round.found.items)) A i
-    (round_due A c.args.rounds c.args.start.now links c.loop-round.found.items
-    c.list_behind-basis.result.now (c.list_behind-basis.ensures
-    ∙ ap (after_rows c.args.start.now) c.deref.ensures.value) c.loop-round.round
-    c.loop-round-test.true c.loop-round.meter.entries
-    (c.loop-round.invariant.next links A i a)))
+    passed_error (Stops A c.args.rounds c.stages.new.meter) _ _ c.from_residual.ensures.1
+    (c.in_err-row.ensures.refused c.args.rounds (behind (terms_each c.args.start.now.items) links
+    (map round_in c.loop-round.found.items)) A i (round_due A _ c.args.start.now links _
+    (c.list_behind-basis.ensures ∙ ap (after_rows c.args.start.now) c.deref.ensures.value) _
+    c.loop-round-test.true (c.loop-round.invariant.next links A i a)))
 
 pub returns-in_err-push-clause-refused : goal.returns-in_err-push-clause-refused
 returns-in_err-push-clause-refused c = λ links A i a.
-    passed_error (Stops A c.args.rounds c.stages.new.meter) c.from_residual-in_err-push.result
-    _ c.from_residual-in_err-push.ensures.1
-    (lost A c.args.rounds c.stages.new.meter.entries _
-    (c.in_ok-row.ensures.next c.args.rounds
-    (behind (terms_each c.args.start.now.items) links (map round_in c.loop-round.found.items)) A i
-    (round_due A c.args.rounds c.args.start.now links c.loop-round.found.items
-    c.list_behind-basis.result.now (c.list_behind-basis.ensures
-    ∙ ap (after_rows c.args.start.now) c.deref.ensures.value) c.loop-round.round
-    c.loop-round-test.true c.loop-round.meter.entries
-    (c.loop-round.invariant.next links A i a))))
+    passed_error (Stops A c.args.rounds c.stages.new.meter) _ _
+    c.from_residual-in_err-push.ensures.1 (lost A c.args.rounds _
+    (c.in_ok-row.ensures.next c.args.rounds (behind (terms_each c.args.start.now.items) links
+    (map round_in c.loop-round.found.items)) A i (round_due A _ c.args.start.now links _
+    (c.list_behind-basis.ensures ∙ ap (after_rows c.args.start.now) c.deref.ensures.value) _
+    c.loop-round-test.true (c.loop-round.invariant.next links A i a))))
 
 pub loop-round-preserved : goal.loop-round-preserved
 loop-round-preserved c =
@@ -68,10 +59,8 @@ loop-round-preserved c =
           c.in_ok-row.ensures.some;
       over = have_more (λ r. AreBranchesOver s.arity (fronts_of s) r.items) rows news row push
           v.over c.in_ok-row.ensures.over;
-      next = λ links A i a. round_over A c.args.rounds c.args.start.now links rows basis is k row
-          news push c.stages.new.meter.entries
-          (c.in_ok-row.ensures.next c.args.rounds
-          (behind (terms_each c.args.start.now.items) links (map round_in rows)) A i
-          (round_due A c.args.rounds c.args.start.now links rows basis is k
-          c.loop-round-test.true c.loop-round.meter.entries (v.next links A i a)));
+      next = λ links A i a. round_over A c.args.rounds c.args.start.now links rows is k row
+          news push c.stages.new.meter.entries (c.in_ok-row.ensures.next c.args.rounds
+          (behind (terms_each c.args.start.now.items) links (map round_in rows)) A i (round_due A _
+          c.args.start.now links rows is k c.loop-round-test.true (v.next links A i a)));
     }

@@ -7,7 +7,7 @@ use Rattle.full_trace.proofs.each_round.list_behind.Goals as goal
 pub returns-then-is_empty : goal.returns-then-is_empty
 returns-then-is_empty c =
     let z : length c.args.rounds.now ≡ 0 = grind (arith, c.is_empty.ensures, c.if-is_empty.true) in
-    rows_none c.args.start.now c.args.rounds.now z
+    rows_none c.args.start.now _ z
 
 pub returns : goal.returns
 returns c =

@@ -27,20 +27,18 @@ loop-branch-preserved c =
           ∙ map-append form_in c.loop-branch.forms.items (f ∷ [])
           ∙ ap₂ (λ (xs : List WrittenForm) (x : WrittenForm). xs ++ x ∷ []) i.forms same
           ∙ sym (map-append (λ (d : Branch). written_of d.form) c.loop-branch.yielded (b ∷ []));
-      over = λ m a. have_more (IsFormOver m) c.loop-branch.forms.items c.push.new.self.items f
-          c.in_ok-push.ensures.items
-          (i.over m (but_last (FitsBranch m) c.loop-branch.yielded b a))
-          (form_fits m b f (last_of (FitsBranch m) c.loop-branch.yielded b a) refl
+      over = λ m a. have_more (IsFormOver m) _ _ f
+          c.in_ok-push.ensures.items (i.over m (but_last (FitsBranch m) c.loop-branch.yielded b a))
+          (form_fits m b f (last_of (FitsBranch m) _ b a) refl
           (c.in_ok-polys.ensures.over (sizes b.form.base.items) m
-          (last_of (FitsBranch m) c.loop-branch.yielded b a).form_over));
+          (last_of (FitsBranch m) _ b a).form_over));
     }
 
 pub returns-clause-over : goal.returns-clause-over
 returns-clause-over c = λ m a.
     let gives = c.into_iter-branch-iterator.ensures.into_iter_gives in
-    let e = YieldsList-end (YieldsList-from_vec {s = c.into_iter-branch-iterator.result}
-    c.args.branches.items gives.0 (gives.1 ∙ c.args.branches.ok.0)) c.loop-branch.yielded
-    c.loop-branch.branch-iterator c.loop-branch.yielded_by c.next.result c.next.new.self
-    c.in-None.is c.next.ensures.steps in
+    let e = YieldsList-end (YieldsList-from_vec {s = c.into_iter-branch-iterator.result} _ gives.0
+    (gives.1 ∙ c.args.branches.ok.0)) _ _ c.loop-branch.yielded_by _ c.next.new.self c.in-None.is
+    c.next.ensures.steps in
     c.loop-branch.invariant.over m
     (subst (All (FitsBranch m)) (sym (sym (map-id c.loop-branch.yielded) ∙ e.0)) a)

@@ -9,9 +9,8 @@ use Rattle.full_trace.proofs.tasks.orbit_stage.Goals as goal
 
 pub orbit_list-requires : goal.orbit_list-requires
 orbit_list-requires c = record {
-  fits = whole_fits c.args.branch.now c.requires.branch c.len-vars.result
-      (c.len-vars.ensures ∙ c.args.branch.now.images.ok.0) c.requires.some c.args.basis.now
-      c.requires.basis;
+  fits = whole_fits _ c.requires.branch _
+      (c.len-vars.ensures ∙ c.args.branch.now.images.ok.0) c.requires.some _ c.requires.basis;
 }
 
 pub stage-requires-clause-few : goal.stage-requires-clause-few

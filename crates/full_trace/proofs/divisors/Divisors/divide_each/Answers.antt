@@ -17,8 +17,7 @@ loop-dividend-init g c = (
       (terms_each c.args.self.now.list.now) []
       (rows_of rows) c.args.meter.now.entries c.args.meter.now.entries)
       (sym c.new-rows.ensures.items) refl,
-  All-same (λ row. AreLike c.args.self.now.order c.args.self.now.arity row.items)
-      c.new-rows.result.items []
+  All-same (λ row. AreLike c.args.self.now.order c.args.self.now.arity row.items) _ []
       c.new-rows.ensures.items (All-nil (λ row. AreLike c.args.self.now.order c.args.self.now.arity
       row.items)),
 )
@@ -28,20 +27,16 @@ loop-dividend-preserved g c =
     let i = c.loop-dividend.invariant in
     let d = c.in_ok-division.division in (
       c.in_ok-division.ensures.ran.limit ∙ i.0,
-      row_made c.args.self.now.order c.args.self.now.arity c.args.self.now.list.now
-          c.args.dividends.now
+      row_made c.args.self.now.list.now _
           c.requires.dividends c.loop-dividend.dividend-index c.dividend-item.result
-          c.loop-dividend-test.true c.dividend-item.is c.loop-dividend.rows.items
-          c.args.meter.now.entries c.loop-dividend.meter c.divide.new.meter i.1 d
-          c.in_ok-division.ensures.ran c.push.new.self.items c.in_ok-push.ensures.items,
-      have_more (λ row. AreLike c.args.self.now.order c.args.self.now.arity row.items)
-          c.loop-dividend.rows.items
-          c.push.new.self.items d.cofactors c.in_ok-push.ensures.items i.2
-          (row_like c.args.self.now.order c.args.self.now.arity c.args.self.now.list.now
-          c.args.dividends.now
-          c.requires.dividends c.loop-dividend.dividend-index c.dividend-item.result
-          c.loop-dividend-test.true c.dividend-item.is c.loop-dividend.rows.items
-          c.args.meter.now.entries c.loop-dividend.meter c.divide.new.meter i.1 d
+          c.loop-dividend-test.true c.dividend-item.is c.loop-dividend.rows.items _
+          c.loop-dividend.meter c.divide.new.meter i.1 d c.in_ok-division.ensures.ran
+          c.push.new.self.items c.in_ok-push.ensures.items,
+      have_more (λ row. AreLike c.args.self.now.order c.args.self.now.arity row.items) _ _ _
+          c.in_ok-push.ensures.items i.2
+          (row_like c.args.self.now.list.now _ c.requires.dividends c.loop-dividend.dividend-index
+          c.dividend-item.result c.loop-dividend-test.true c.dividend-item.is
+          c.loop-dividend.rows.items _ c.loop-dividend.meter c.divide.new.meter i.1 d
           c.in_ok-division.ensures.ran),
     )
 
@@ -52,15 +47,11 @@ returns-in_err-division-clause-limit g c =
 pub returns-in_err-division-clause-refused : goal.returns-in_err-division-clause-refused
 returns-in_err-division-clause-refused g c =
     passed (IsRefusedIn (g.O.Order.order c.args.self.now.order)
-    (terms_each c.args.self.now.list.now)
-    (terms_each c.args.dividends.now) c.args.meter.now.entries c.divide.new.meter)
-    c.from_residual.result _ c.from_residual.ensures.1
-    (row_refused c.args.self.now.order c.args.self.now.arity c.args.self.now.list.now
-    c.args.dividends.now
+    (terms_each c.args.self.now.list.now) (terms_each c.args.dividends.now) c.args.meter.now.entries
+    c.divide.new.meter) _ _ c.from_residual.ensures.1 (row_refused c.args.self.now.list.now _
     c.requires.dividends c.loop-dividend.dividend-index c.dividend-item.result
-    c.loop-dividend-test.true c.dividend-item.is c.loop-dividend.rows.items
-    c.args.meter.now.entries c.loop-dividend.meter c.divide.new.meter
-    c.loop-dividend.invariant.1 _ c.in_err-division.ensures.ran)
+    c.loop-dividend-test.true c.dividend-item.is c.loop-dividend.rows.items _ c.loop-dividend.meter
+    c.divide.new.meter c.loop-dividend.invariant.1 _ c.in_err-division.ensures.ran)
 
 pub returns-in_err-push-clause-limit : goal.returns-in_err-push-clause-limit
 returns-in_err-push-clause-limit g c =
@@ -69,15 +60,12 @@ returns-in_err-push-clause-limit g c =
 pub returns-in_err-push-clause-refused : goal.returns-in_err-push-clause-refused
 returns-in_err-push-clause-refused g c =
     passed (IsRefusedIn (g.O.Order.order c.args.self.now.order)
-    (terms_each c.args.self.now.list.now)
-    (terms_each c.args.dividends.now) c.args.meter.now.entries c.divide.new.meter)
-    c.from_residual-in_err-push.result _ c.from_residual-in_err-push.ensures.1
-    (row_lost c.args.self.now.order c.args.self.now.arity c.args.self.now.list.now
-    c.args.dividends.now
-    c.requires.dividends c.loop-dividend.dividend-index c.dividend-item.result
-    c.loop-dividend-test.true c.dividend-item.is c.loop-dividend.rows.items
-    c.args.meter.now.entries c.loop-dividend.meter c.divide.new.meter
-    c.loop-dividend.invariant.1 c.in_ok-division.division c.in_ok-division.ensures.ran)
+    (terms_each c.args.self.now.list.now) (terms_each c.args.dividends.now) c.args.meter.now.entries
+    c.divide.new.meter) _ _ c.from_residual-in_err-push.ensures.1 (row_lost c.args.self.now.list.now
+    _ c.requires.dividends c.loop-dividend.dividend-index c.dividend-item.result
+    c.loop-dividend-test.true c.dividend-item.is c.loop-dividend.rows.items _ c.loop-dividend.meter
+    c.divide.new.meter c.loop-dividend.invariant.1 c.in_ok-division.division
+    c.in_ok-division.ensures.ran)
 
 pub returns-clause-limit : goal.returns-clause-limit
 returns-clause-limit g c = c.loop-dividend.invariant.0
@@ -85,10 +73,9 @@ returns-clause-limit g c = c.loop-dividend.invariant.0
 pub returns-clause-divided : goal.returns-clause-divided
 returns-clause-divided g c =
     subst (λ ps. AreDivided (g.O.Order.order c.args.self.now.order)
-    (terms_each c.args.self.now.list.now)
-    (terms_each ps) (rows_of c.loop-dividend.rows.items) c.args.meter.now.entries
-    c.loop-dividend.meter.entries)
-    (take_all _ c.args.dividends.now c.loop-dividend-test.false) c.loop-dividend.invariant.1
+    (terms_each c.args.self.now.list.now) (terms_each ps) (rows_of c.loop-dividend.rows.items)
+    c.args.meter.now.entries c.loop-dividend.meter.entries)
+    (take_all _ _ c.loop-dividend-test.false) c.loop-dividend.invariant.1
 
 pub returns-clause-like : goal.returns-clause-like
 returns-clause-like g c = c.loop-dividend.invariant.2

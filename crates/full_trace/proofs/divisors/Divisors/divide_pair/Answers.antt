@@ -9,33 +9,26 @@ use Rattle.full_trace.proofs.divisors.Divisors.divide_pair.Goals as goal
 pub returns-in_err-p-clause-refused : goal.returns-in_err-p-clause-refused
 returns-in_err-p-clause-refused g c =
     unmade (g.O.Order.order c.args.self.now.order) (terms_each c.args.self.now.list.now)
-    c.args.pair.now
-    c.args.meter.now c.args.meter.now refl c.from_residual.result c.in_err-p.field-0.0
+    c.args.pair.now refl c.from_residual.result c.in_err-p.field-0.0
     c.from_residual.ensures.1 (λ q. c.in_err-p.ensures.wide (cc q))
 
 pub returns-in_err-note-clause-refused : goal.returns-in_err-note-clause-refused
 returns-in_err-note-clause-refused g c =
     unnoted (g.O.Order.order c.args.self.now.order) (terms_each c.args.self.now.list.now)
-    c.args.pair.now
-    c.args.meter.now c.note.new.self c.in_err-note.ensures.err
+    c.args.pair.now c.in_err-note.ensures.err
     c.from_residual-in_err-note.result c.in_err-note.field-0.0
     c.from_residual-in_err-note.ensures.1 (λ q. (c.in_err-note.ensures.budget.0 (cc q)).1)
 
 pub returns-in_err-division-clause-refused : goal.returns-in_err-division-clause-refused
 returns-in_err-division-clause-refused g c =
     passed (IsPairRefused (g.O.Order.order c.args.self.now.order)
-    (terms_each c.args.self.now.list.now)
-    c.args.pair.now c.args.meter.now c.divide.new.meter)
-    c.from_residual-in_err-division.result _ c.from_residual-in_err-division.ensures.1
-    (pair_stops c.args.self.now.order c.args.self.now.list.now c.args.pair.now c.in_ok-p.p
-    c.in_ok-p.ensures.like.0
-    c.in_ok-p.ensures.terms c.args.meter.now c.note.new.self c.divide.new.meter
+    (terms_each c.args.self.now.list.now) c.args.pair.now c.args.meter.now c.divide.new.meter) _ _
+    c.from_residual-in_err-division.ensures.1 (pair_stops _ _ c.in_ok-p.p c.in_ok-p.ensures.like.0
+    c.in_ok-p.ensures.terms c.args.meter.now _ _
     (ap (λ (j : Journal). j.entries) c.in_ok-note.ensures.ok) _ c.in_err-division.ensures.ran)
 
 pub returns-clause-divided : goal.returns-clause-divided
 returns-clause-divided g c =
-    pair_ends c.args.self.now.order c.args.self.now.list.now c.args.pair.now c.in_ok-p.p
-    c.in_ok-p.ensures.like.0
-    c.in_ok-p.ensures.terms c.args.meter.now c.note.new.self c.divide.new.meter
+    pair_ends _ _ c.in_ok-p.p c.in_ok-p.ensures.like.0 c.in_ok-p.ensures.terms c.args.meter.now _ _
     (ap (λ (j : Journal). j.entries) c.in_ok-note.ensures.ok) c.in_ok-division.division
     c.in_ok-division.ensures.ran

@@ -10,16 +10,11 @@ pub lcm-requires : goal.lcm-requires
 lcm-requires g c =
     let f = c.index-list-left.result in
     let h = c.index-list-right.result in
-    let one = element c.args.self.now.order c.args.self.now.arity c.args.self.now.list.now
-    c.requires.divisors c.args.left f
-    c.requires.inside.0 c.index-list-left.is in
-    let other = element c.args.self.now.order c.args.self.now.arity c.args.self.now.list.now
-    c.requires.divisors c.args.right
-    h c.requires.inside.1 c.index-list-right.is in
-    ap length c.in_ok-first.ensures.lead
-    ∙ lead_long _ (terms_in f) one.2 f.polynomial.arity ∙ one.1
-    ∙ sym (ap length c.in_ok-second.ensures.lead
-    ∙ lead_long _ (terms_in h) other.2 h.polynomial.arity ∙ other.1)
+    let one = element _ c.requires.divisors _ f c.requires.inside.0 c.index-list-left.is in
+    let other = element _ c.requires.divisors _ h c.requires.inside.1 c.index-list-right.is in
+    ap length c.in_ok-first.ensures.lead ∙ lead_long _ _ one.2 f.polynomial.arity ∙ one.1
+    ∙ sym (ap length c.in_ok-second.ensures.lead ∙ lead_long _ _ other.2 h.polynomial.arity
+    ∙ other.1)
 
 pub returns-clause-terms : goal.returns-clause-terms
 returns-clause-terms g c =

@@ -9,17 +9,15 @@ use Rattle.full_trace.proofs.round_in_work.RoundInWork.branch_stages.Goals as go
 
 pub meet-requires-clause-so_far : goal.meet-requires-clause-so_far
 meet-requires-clause-so_far c =
-    knows_later c.args.self.now.setting.now c.args.meter.now c.orbit.new.meter c.args.so_far.now
-    c.in_ok-turned.ensures.units c.requires.so_far
+    knows_later c.orbit.new.meter c.in_ok-turned.ensures.units c.requires.so_far
 
 pub returns-in_err-turned-clause-refused : goal.returns-in_err-turned-clause-refused
 returns-in_err-turned-clause-refused c = λ R d bs A i a.
     let w = c.args.self.now in
     let hs = terms_each c.args.so_far.now in
     let p = err_from_is_err_and c.from_residual.result c.from_residual.ensures.1 in
-    rw (p.1, p.2) (c.in_err-turned.ensures.refused R (within d bs a.stage) hs A i
-    (orbit_at A R d c.args.meter.now.entries w.round (terms_each w.basis.now.items) c.args.place bs
-    hs a (place_inside w.setting.now A i c.args.place c.requires.place)))
+    rw (p.1, p.2) (c.in_err-turned.ensures.refused R (within d bs a.stage) hs A i (orbit_at A R d _
+    w.round _ _ bs hs a (place_inside A i _ c.requires.place)))
 
 pub returns-in_err-met-clause-refused : goal.returns-in_err-met-clause-refused
 returns-in_err-met-clause-refused c = λ R d bs A i a.
@@ -29,14 +27,11 @@ returns-in_err-met-clause-refused c = λ R d bs A i a.
     let gs = terms_each w.basis.now.items in
     let hs = terms_each c.args.so_far.now in
     let s = stage_in c.in_ok-turned.turned in
-    let o = c.in_ok-turned.ensures.next R (within d bs a.stage) hs A i (orbit_at A R d
-    c.args.meter.now.entries w.round gs c.args.place bs hs a
-    (place_inside w.setting.now A i c.args.place c.requires.place)) in
-    rw (p.1, p.2) (c.in_err-met.ensures.refused R (within d bs s) gs A i
-    (subst (λ vs. MeetBegins A R (within d bs s) c.orbit.new.meter.entries w.round c.args.place
-    gs hs (terms_each vs)) (sym c.deref.ensures.value)
-    (meet_at A R d c.orbit.new.meter.entries w.round gs c.args.place c.requires.behind bs hs
-    a.stage s o)))
+    let o = c.in_ok-turned.ensures.next R (within d bs a.stage) hs A i (orbit_at A R d _ w.round gs
+    _ bs hs a (place_inside A i _ c.requires.place)) in
+    rw (p.1, p.2) (c.in_err-met.ensures.refused R (within d bs s) gs A i (subst (λ vs. MeetBegins A
+    R (within d bs s) c.orbit.new.meter.entries w.round c.args.place gs hs (terms_each vs))
+    (sym c.deref.ensures.value) (meet_at A R d _ w.round gs _ c.requires.behind bs hs a.stage s o)))
 
 pub returns-clause-next : goal.returns-clause-next
 returns-clause-next c = λ R d bs A i a.
@@ -44,13 +39,9 @@ returns-clause-next c = λ R d bs A i a.
     let gs = terms_each w.basis.now.items in
     let hs = terms_each c.args.so_far.now in
     let s = stage_in c.in_ok-turned.turned in
-    let o = c.in_ok-turned.ensures.next R (within d bs a.stage) hs A i (orbit_at A R d
-    c.args.meter.now.entries w.round gs c.args.place bs hs a
-    (place_inside w.setting.now A i c.args.place c.requires.place)) in
-    met_at A R d c.meet.new.meter.entries w.round gs c.args.place bs hs
-    (terms_each c.deref.result.now) s (stage_in c.in_ok-met.met)
-    (c.in_ok-met.ensures.met R (within d bs s) gs A i
-    (subst (λ vs. MeetBegins A R (within d bs s) c.orbit.new.meter.entries w.round c.args.place
-    gs hs (terms_each vs)) (sym c.deref.ensures.value)
-    (meet_at A R d c.orbit.new.meter.entries w.round gs c.args.place c.requires.behind bs hs
-    a.stage s o)))
+    let o = c.in_ok-turned.ensures.next R (within d bs a.stage) hs A i (orbit_at A R d _ w.round gs
+    _ bs hs a (place_inside A i _ c.requires.place)) in
+    met_at A R d _ w.round gs _ bs hs _ s _ (c.in_ok-met.ensures.met R (within d bs s) gs A i
+    (subst (λ vs. MeetBegins A R (within d bs s) c.orbit.new.meter.entries w.round c.args.place gs
+    hs (terms_each vs)) (sym c.deref.ensures.value) (meet_at A R d _ w.round gs _ c.requires.behind
+    bs hs a.stage s o)))

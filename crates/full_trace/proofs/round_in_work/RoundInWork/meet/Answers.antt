@@ -12,50 +12,44 @@ use Rattle.full_trace.proofs.round_in_work.RoundInWork.meet.Goals as goal
 pub returns-in_default-clause-refused : goal.returns-in_default-clause-refused
 returns-in_default-clause-refused c = λ R d gs A i a.
     let w = c.args.self.now in
-    meet_stops w.setting.now c.args.place c.args.so_far.now c.args.next.now w.round
-    c.args.meter.now c.begin.new.self c.begin.new.self c.number_of_place.result
-    c.number_of_place.ensures c.in_ok-begin.ensures.ok A R d gs a
+    meet_stops w.setting.now c.args.place c.args.so_far.now c.args.next.now w.round c.args.meter.now
+    c.begin.new.self c.number_of_place.ensures c.in_ok-begin.ensures.ok A R d gs a
     (task.Meet w.round c.number_of_place.result) refl Memory (inl (refl, tt))
 
 pub returns-in-Ok-stage-clause-met : goal.returns-in-Ok-stage-clause-met
 returns-in-Ok-stage-clause-met c = λ R d gs A i a.
     let w = c.args.self.now in
     let x = stage_in c.in-Ok-stage.stage in
-    meet_next w.setting.now c.args.place c.args.so_far.now c.args.next.now w.round
-    c.args.meter.now c.begin.new.self c.stage.new.meter c.number_of_place.result
-    c.number_of_place.ensures c.in_ok-begin.ensures.ok A R d gs a x
-    (subst (λ hs. IsStageMade 1 hs x c.begin.new.self.entries c.stage.new.meter.entries)
-    (ap terms_each c.deref.ensures.value ∙ c.in-Ok.ensures.blend) c.in-Ok-stage.ensures.made)
+    meet_next w.setting.now c.args.place c.args.so_far.now c.args.next.now w.round c.args.meter.now
+    c.stage.new.meter c.number_of_place.ensures c.in_ok-begin.ensures.ok A R d gs a x (subst (λ hs.
+    IsStageMade 1 hs x c.begin.new.self.entries c.stage.new.meter.entries) (ap terms_each
+    c.deref.ensures.value ∙ c.in-Ok.ensures.blend) c.in-Ok-stage.ensures.made)
 
 pub returns-in-Ok-stage-clause-list : goal.returns-in-Ok-stage-clause-list
 returns-in-Ok-stage-clause-list c =
     let w = c.args.self.now in
     let x = stage_in c.in-Ok-stage.stage in
-    meet_known w.setting.now c.args.place c.args.so_far.now c.args.next.now w.round
-    c.args.meter.now c.begin.new.self c.stage.new.meter c.number_of_place.result
-    c.number_of_place.ensures c.in_ok-begin.ensures.ok x
-    (subst (λ hs. IsStageMade 1 hs x c.begin.new.self.entries c.stage.new.meter.entries)
-    (ap terms_each c.deref.ensures.value ∙ c.in-Ok.ensures.blend) c.in-Ok-stage.ensures.made)
-    c.in-Ok-stage.stage.out.items refl c.in-Ok-stage.ensures.over.out c.requires.next.over
+    meet_known w.setting.now c.args.place c.args.so_far.now c.args.next.now w.round c.args.meter.now
+    c.stage.new.meter c.number_of_place.ensures c.in_ok-begin.ensures.ok x (subst (λ hs. IsStageMade
+    1 hs x c.begin.new.self.entries c.stage.new.meter.entries) (ap terms_each c.deref.ensures.value
+    ∙ c.in-Ok.ensures.blend) c.in-Ok-stage.ensures.made) refl c.in-Ok-stage.ensures.over.out
+    c.requires.next.over
 
 pub returns-in-Ok-stage-clause-units : goal.returns-in-Ok-stage-clause-units
 returns-in-Ok-stage-clause-units c =
     let w = c.args.self.now in
     let x = stage_in c.in-Ok-stage.stage in
-    meet_units w.setting.now c.args.place c.args.so_far.now c.args.next.now w.round
-    c.args.meter.now c.begin.new.self c.stage.new.meter c.number_of_place.result
-    c.number_of_place.ensures c.in_ok-begin.ensures.ok x
-    (subst (λ hs. IsStageMade 1 hs x c.begin.new.self.entries c.stage.new.meter.entries)
-    (ap terms_each c.deref.ensures.value ∙ c.in-Ok.ensures.blend) c.in-Ok-stage.ensures.made)
+    meet_units w.setting.now c.args.place c.args.so_far.now c.args.next.now w.round c.args.meter.now
+    c.stage.new.meter c.number_of_place.ensures c.in_ok-begin.ensures.ok x (subst (λ hs. IsStageMade
+    1 hs x c.begin.new.self.entries c.stage.new.meter.entries) (ap terms_each c.deref.ensures.value
+    ∙ c.in-Ok.ensures.blend) c.in-Ok-stage.ensures.made)
 
 pub returns-clause-refused : goal.returns-clause-refused
 returns-clause-refused c = λ R d gs A i a.
     let w = c.args.self.now in
-    subst (Stops A R c.stage.new.meter) (sym c.in_task.ensures)
-    (meet_stops w.setting.now c.args.place c.args.so_far.now c.args.next.now w.round
-    c.args.meter.now c.begin.new.self c.stage.new.meter c.number_of_place.result
+    subst (Stops A R c.stage.new.meter) (sym c.in_task.ensures) (meet_stops w.setting.now
+    c.args.place c.args.so_far.now c.args.next.now w.round c.args.meter.now c.stage.new.meter
     c.number_of_place.ensures c.in_ok-begin.ensures.ok A R d gs a
-    (task.Meet w.round c.number_of_place.result) refl c.in-Err.error
-    (inr (subst (λ hs. IsStageRefused 1 hs c.stage.new.meter (refusal_of c.in-Err.error)
-    c.begin.new.self) (ap terms_each c.deref.ensures.value ∙ c.in-Ok.ensures.blend)
-    c.in-Err.ensures.refused)))
+    (task.Meet w.round c.number_of_place.result) refl c.in-Err.error (inr (subst (λ hs.
+    IsStageRefused 1 hs c.stage.new.meter (refusal_of c.in-Err.error) c.begin.new.self)
+    (ap terms_each c.deref.ensures.value ∙ c.in-Ok.ensures.blend) c.in-Err.ensures.refused)))

@@ -1,23 +1,21 @@
 use Rattle.std.proofs.Common.{◌≡◌, ◌+◌, ◌<◌, [], ◌∷◌, ◌++◌, map, take, length, refl, sym, ap, subst, ◌∙◌, arith, None}
 use Rattle.std.proofs.lemmas.List.{length-append}
-use Rattle.poly.specs.Seen.{terms_each}
-use Rattle.task_lists.specs.View.{stage_in, branch_in}
+use Rattle.task_lists.specs.View.{branch_in}
 use Rattle.task_lists.specs.declared.parts.FullBranch.{FullBranch}
 use Rattle.corollaries.proofs.Rounds.{first_at, round_at}
-use Rattle.full_trace.specs.Tasks.{Stops, Knows, after_row, fronts_of, AreBranchesOver}
+use Rattle.full_trace.specs.Tasks.{Stops, Knows, fronts_of, AreBranchesOver}
 use Rattle.full_trace.proofs.RoundsMade.{row_last, branch_pushed, fronts_count, none_left, in_work_later, passed_error, lost, first_done, branch_done, known_row, branch_due}
 use Rattle.full_trace.proofs.round_in_work.RoundInWork.stages.Goals as goal
 
 pub returns-in_err-first-clause-refused : goal.returns-in_err-first-clause-refused
 returns-in_err-first-clause-refused c = λ R d A i a.
-    passed_error (Stops A R c.orbit.new.meter) c.from_residual.result _ c.from_residual.ensures.1
+    passed_error (Stops A R c.orbit.new.meter) _ _ c.from_residual.ensures.1
     (c.in_err-first.ensures.refused R d [] A i a)
 
 pub returns-in_err-push-clause-refused : goal.returns-in_err-push-clause-refused
 returns-in_err-push-clause-refused c = λ R d A i a.
-    passed_error (Stops A R c.orbit.new.meter) c.from_residual-in_err-push.result _
-    c.from_residual-in_err-push.ensures.1 (lost A R c.orbit.new.meter.entries _
-    (c.in_ok-first.ensures.next R d [] A i a))
+    passed_error (Stops A R c.orbit.new.meter) _ _ c.from_residual-in_err-push.ensures.1
+    (lost A R _ (c.in_ok-first.ensures.next R d [] A i a))
 
 pub loop-place-init : goal.loop-place-init
 loop-place-init c =
@@ -35,13 +33,12 @@ loop-place-init c =
       from = omega arith;
       count = ap length e;
       round = in_work_later c.requires.round c.in_ok-first.ensures.units;
-      so_far = known_row s c.orbit.new.meter w.basis.now [] b news e c.in_ok-first.ensures.list;
+      so_far = known_row s w.basis.now [] b news e c.in_ok-first.ensures.list;
       over = subst (AreBranchesOver s.arity (take 1 (fronts_of s))) (sym e)
-          (branch_pushed s.arity (fronts_of s) [] b 0 refl some tt
+          (branch_pushed s.arity _ [] b 0 refl some tt
           (record { orbit = c.in_ok-first.ensures.over; meet = tt }));
-      next = λ R d A i a. first_done A R d w.round w.basis.now c.orbit.new.meter.entries b news e
-          (first_at A R d c.orbit.new.meter.entries w.round (terms_each w.basis.now.items)
-          (stage_in c.in_ok-first.first) (c.in_ok-first.ensures.next R d [] A i a));
+      next = λ R d A i a. first_done A R d w.round w.basis.now _ b news e
+          (first_at A R d _ w.round _ _ (c.in_ok-first.ensures.next R d [] A i a));
     }
 
 pub branch_stages-requires-clause-so_far : goal.branch_stages-requires-clause-so_far
@@ -50,10 +47,9 @@ branch_stages-requires-clause-so_far c =
     let i = c.loop-place.invariant in
     let n = i.count in
     let f = i.from in
-    subst (Knows w.setting.now c.loop-place.meter)
-    (sym (c.deref.ensures.value ∙ ap (λ v. v.items) (c.given-so_far.ensures
-    ∙ sym (row_last w.basis.now c.loop-place.done.items c.index.result.now _
-    (omega (arith, n, f)) c.index.ensures)))) i.so_far
+    subst (Knows w.setting.now c.loop-place.meter) (sym (c.deref.ensures.value ∙ ap (λ v. v.items)
+    (c.given-so_far.ensures ∙ sym (row_last w.basis.now _ _ (omega (arith, n, f))
+    c.index.ensures)))) i.so_far
 
 pub returns-in_err-branch-clause-refused : goal.returns-in_err-branch-clause-refused
 returns-in_err-branch-clause-refused c = λ R d A i a.
@@ -61,14 +57,11 @@ returns-in_err-branch-clause-refused c = λ R d A i a.
     let v = c.loop-place.invariant in
     let n = v.count in
     let f = v.from in
-    passed_error (Stops A R c.branch_stages.new.meter) c.from_residual-in_err-branch.result _
-    c.from_residual-in_err-branch.ensures.1 (c.in_err-branch.ensures.refused R d
-    (map branch_in c.loop-place.done.items) A i
-    (branch_due A R d w.round c.loop-place.place w.basis.now c.loop-place.meter.entries
-    c.loop-place.done.items c.deref.result.now
-    (c.deref.ensures.value ∙ ap (λ v. v.items) (c.given-so_far.ensures
-    ∙ sym (row_last w.basis.now c.loop-place.done.items c.index.result.now _
-    (omega (arith, n, f)) c.index.ensures))) (v.next R d A i a)))
+    passed_error (Stops A R c.branch_stages.new.meter) _ _ c.from_residual-in_err-branch.ensures.1
+    (c.in_err-branch.ensures.refused R d (map branch_in c.loop-place.done.items) A i (branch_due A R
+    d w.round _ _ (c.deref.ensures.value ∙ ap (λ v. v.items)
+    (c.given-so_far.ensures ∙ sym (row_last w.basis.now _ _ (omega (arith, n, f)) c.index.ensures)))
+    (v.next R d A i a)))
 
 pub returns-in_err-push-2-clause-refused : goal.returns-in_err-push-2-clause-refused
 returns-in_err-push-2-clause-refused c = λ R d A i a.
@@ -76,14 +69,11 @@ returns-in_err-push-2-clause-refused c = λ R d A i a.
     let v = c.loop-place.invariant in
     let n = v.count in
     let f = v.from in
-    passed_error (Stops A R c.branch_stages.new.meter) c.from_residual-in_err-push-2.result _
-    c.from_residual-in_err-push-2.ensures.1 (lost A R c.branch_stages.new.meter.entries _
-    (c.in_ok-branch.ensures.next R d (map branch_in c.loop-place.done.items) A i
-    (branch_due A R d w.round c.loop-place.place w.basis.now c.loop-place.meter.entries
-    c.loop-place.done.items c.deref.result.now
-    (c.deref.ensures.value ∙ ap (λ v. v.items) (c.given-so_far.ensures
-    ∙ sym (row_last w.basis.now c.loop-place.done.items c.index.result.now _
-    (omega (arith, n, f)) c.index.ensures))) (v.next R d A i a))).comes)
+    passed_error (Stops A R c.branch_stages.new.meter) _ _ c.from_residual-in_err-push-2.ensures.1
+    (lost A R _ (c.in_ok-branch.ensures.next R d (map branch_in c.loop-place.done.items) A i
+    (branch_due A R d w.round _ _ (c.deref.ensures.value ∙ ap (λ v. v.items)
+    (c.given-so_far.ensures ∙ sym (row_last w.basis.now _ _ (omega (arith, n, f)) c.index.ensures)))
+    (v.next R d A i a))).comes)
 
 pub loop-place-preserved : goal.loop-place-preserved
 loop-place-preserved c =
@@ -106,17 +96,14 @@ loop-place-preserved c =
       count = (let x = ap length push in let y = length-append bs (b ∷ []) in
           omega (arith, x, y, n));
       round = in_work_later v.round c.in_ok-branch.ensures.units;
-      so_far = known_row s c.branch_stages.new.meter w.basis.now bs b news push
+      so_far = known_row s w.basis.now bs b news push
           c.in_ok-branch.ensures.list;
       over = subst (AreBranchesOver s.arity (take (p + 1) (fronts_of s))) (sym push)
-          (branch_pushed s.arity (fronts_of s) bs b p n inside v.over
-          c.in_ok-branch.ensures.over);
-      next = λ R d A i a. branch_done A R d w.round w.basis.now
-          c.branch_stages.new.meter.entries bs (p + 1) b news push
-          (c.in_ok-branch.ensures.next R d (map branch_in bs) A i
-          (branch_due A R d w.round p w.basis.now c.loop-place.meter.entries bs c.deref.result.now
-          (c.deref.ensures.value ∙ ap (λ v. v.items) (c.given-so_far.ensures
-          ∙ sym (row_last w.basis.now bs c.index.result.now _ (omega (arith, n, f))
+          (branch_pushed s.arity _ bs b p n inside v.over c.in_ok-branch.ensures.over);
+      next = λ R d A i a. branch_done A R d w.round w.basis.now _ bs (p + 1) b news push
+          (c.in_ok-branch.ensures.next R d (map branch_in bs) A i (branch_due A R d w.round _ bs
+          (c.deref.ensures.value ∙ ap (λ v. v.items)
+          (c.given-so_far.ensures ∙ sym (row_last w.basis.now bs _ (omega (arith, n, f))
           c.index.ensures))) (v.next R d A i a)));
     }
 
@@ -124,9 +111,6 @@ pub returns-clause-next : goal.returns-clause-next
 returns-clause-next c = λ R d A i a.
     let w = c.args.self.now in
     let v = c.loop-place.invariant in
-    round_at A R d c.loop-place.meter.entries w.round (terms_each w.basis.now.items)
-    c.loop-place.place (map branch_in c.loop-place.done.items)
-    (terms_each (after_row w.basis.now c.loop-place.done.items).items) (v.next R d A i a)
-    (none_left w.setting.now A i c.loop-place.place
+    round_at A R d _ w.round _ _ _ _ (v.next R d A i a) (none_left A i _
     (let x = c.loop-place-test.false in let y = c.len-place-end.ensures in
     let z = w.setting.now.branches.ok.0 in omega (arith, x, y, z)))
