@@ -3,9 +3,9 @@
 --   ahead_value         the form of what is ahead is the form of the variables after so many iterations
 --   later_recurs, later_there     a form by its value after some iterations: it has the recurrence, and that value
 --   one_later_recurs    one that is its inhomogeneity one iteration later, where its value is zero
---   zero_here, zero_later, zero_room, zeros_all     the same as the code counts them
 --   zeros_none, zeros_one, zeros_next, zeros_part, zeros-append     how many values are zero, one after another, and in two lists
-use Rattle.std.proofs.Common.{◌≡◌, ◌≢◌, ℕ, zero, suc, ◌+◌, ◌^◌, ◌<◌, ◌≤◌, Option, Some, Bool, true, false, cond, List, [], ◌∷◌, ◌++◌, map, length, take, refl, sym, ap, ap₂, ◌∙◌, arith}
+--   zeros_counted       with those that aren't zero they are all
+use Rattle.std.proofs.Common.{◌≡◌, ◌≢◌, ℕ, zero, suc, ◌+◌, ◌<◌, ◌≤◌, Bool, true, false, cond, List, [], ◌∷◌, ◌++◌, map, length, take, refl, sym, ap, ap₂, ◌∙◌, arith}
 use Rattle.std.proofs.lemmas.Bool.{false_from_ne_true}
 use Rattle.std.proofs.lemmas.List.{length-map}
 use Rattle.algebra.specs.Arithmetic.{power}
@@ -21,17 +21,12 @@ use Rattle.polynomials.proofs.Arity.{length-units}
 use Rattle.polynomials.proofs.ValueAt.{value_at-compose, value_at-variables}
 use Rattle.solvable_maps.specs.Uses.{poly_at}
 use Rattle.vectors.specs.Lists.{entries}
-use Rattle.eigen_split.specs.declared.splitting.Split.{Split}
-use Rattle.frac128.specs.declared.fraction.Frac.{Frac}
-use Rattle.frac128.specs.FracMeaning.{fraction_of}
-use Rattle.linear.specs.Rows.{fractions_of}
 use Rattle.solvable_maps.specs.AfterIterations.{form_at, HasRecurrence}
 use Rattle.solvable_maps.specs.Iterations.{point, iterations, values_at}
 use Rattle.solvable_maps.proofs.ClassSteps.{values-entry}
 use Rattle.closed_forms.specs.Later.{IsLaterForm, IsOneLater}
 use Rattle.closed_forms.specs.Inhomogeneities.{collect_terms, part}
-use Rattle.closed_forms.specs.States.{zeros_in, next_of, after}
-use Rattle.closed_forms.specs.Values.{values_in}
+use Rattle.closed_forms.specs.States.{zeros_in, some_of, next_of, after}
 use Rattle.closed_forms.proofs.Recurring.{collected_value, part_value}
 
 abbrev R : CommRing Fraction
@@ -155,15 +150,11 @@ zeros_none c n = ap (λ b. cond b 1 0)
 
 zeros_more : (c : Fraction) (values : List Fraction)
     → zeros_in (c ∷ values) ≡ zeros_in (c ∷ []) + zeros_in values
-zeros_more c values = go (is_zero c) refl
+zeros_more c values = go (is_zero c) (zeros_in values)
   where
-    go : (b : Bool) → is_zero c ≡ b → zeros_in (c ∷ values) ≡ zeros_in (c ∷ []) + zeros_in values
-    go true e = ap (λ b. cond b (suc (zeros_in values)) (zeros_in values)) e
-        ∙ sym (ap (λ b. cond b 1 0 + zeros_in values) e
-        ∙ (let h : 1 + zeros_in values ≡ suc (zeros_in values) = omega arith in h))
-    go false e = ap (λ b. cond b (suc (zeros_in values)) (zeros_in values)) e
-        ∙ sym (ap (λ b. cond b 1 0 + zeros_in values) e
-        ∙ (let h : 0 + zeros_in values ≡ zeros_in values = omega arith in h))
+    go : (b : Bool) (n : ℕ) → cond b (suc n) n ≡ cond b 1 0 + n
+    go true n = omega arith
+    go false n = omega arith
 
 pub zeros-append : (xs ys : List Fraction) → zeros_in (xs ++ ys) ≡ zeros_in xs + zeros_in ys
 zeros-append [] ys = let h : zeros_in ys ≡ 0 + zeros_in ys = omega arith in h
@@ -194,55 +185,14 @@ zeros_part (c ∷ values) (suc k) =
     let d = zeros_more c values in
     omega (arith, a, b, d)
 
-pub zeros_low : (values : List Fraction) → zeros_in values ≤ length values
-zeros_low [] = omega arith
-zeros_low (c ∷ values) =
-    let a = zeros_more c values in
-    let b = zeros_low values in
-    let d = one_at_most c in
-    omega (arith, a, b, d)
+-- as the code counts them
+pub zeros_counted : (values : List Fraction) → zeros_in values + length (some_of values)
+    ≡ length values
+zeros_counted [] = omega arith
+zeros_counted (c ∷ values) = go (is_zero c) (zeros_counted values)
   where
-    one_at_most : (c : Fraction) → zeros_in (c ∷ []) ≤ 1
-    one_at_most c = go (is_zero c)
-      where
-        go : (b : Bool) → cond b 1 0 ≤ 1
-        go true = omega arith
-        go false = omega arith
-
--- ---- as the code counts them
-module _ {values rest : List Frac} {v : Frac} (e : values ≡ v ∷ rest) {n : ℕ}
-    (count : n ≡ zeros_in (fractions_of rest)) where
-  whole : zeros_in (fractions_of values) ≡ zeros_in (fraction_of v ∷ []) + n
-  whole = ap (λ l. zeros_in (fractions_of l)) e ∙ zeros_more (fraction_of v) (fractions_of rest)
-      ∙ ap (λ k. zeros_in (fraction_of v ∷ []) + k) (sym count)
-
-  pub zero_here : fraction_of v ≡ ℚ.zero → n + 1 ≡ zeros_in (fractions_of values)
-  zero_here z = (let a = whole in let b = zeros_one z in omega (arith, a, b))
-
-  pub zero_later : {b : Bool} → b ≡ false → (fraction_of v ≡ ℚ.zero → b ≡ true)
-      → n ≡ zeros_in (fractions_of values)
-  zero_later off test =
-      let a = whole in
-      let d = zeros_none (fraction_of v) (λ z. (let t = test z in let bad : ⊥ = cc in bad)) in
-      omega (arith, a, d)
-
-  pub zero_room : length values ≤ 12 → n + 1 < 2 ^ 32
-  zero_room few =
-      let a = ap length e in
-      let b = zeros_low (fractions_of rest) in
-      let d : length (fractions_of rest) ≡ length rest = length-map rest fraction_of in
-      omega (arith, a, b, d, few, count)
-
-module _ {splits rest : List (Option Split)} {split : Split} (e : splits ≡ Some split ∷ rest)
-    {m n : ℕ} (here : m ≡ zeros_in (fractions_of split.values.items))
-    (there : n ≡ zeros_in (values_in rest)) where
-  pub zeros_all : m + n ≡ zeros_in (values_in splits)
-  zeros_all = ap₂ (λ a b. a + b) here there
-      ∙ sym (zeros-append (fractions_of split.values.items) (values_in rest))
-      ∙ ap (λ l. zeros_in (values_in l)) (sym e)
-
-  pub zeros_fit : length (values_in splits) ≤ 12 → m + n < 2 ^ 32
-  zeros_fit few =
-      let a = zeros_all in
-      let b = zeros_low (values_in splits) in
-      omega (arith, a, b, few)
+    go : (b : Bool) → zeros_in values + length (some_of values) ≡ length values
+        → cond b (suc (zeros_in values)) (zeros_in values)
+        + length (cond b (some_of values) (c ∷ some_of values)) ≡ suc (length values)
+    go true h = omega (arith, h)
+    go false h = omega (arith, h)

@@ -1,6 +1,7 @@
 -- The number of a variable alone in a polynomial, and lists made place by place.
 use Rattle.std.proofs.Common.{◌≡◌, ◌≢◌, ◌⊎◌, inl, inr, ◌<◌, ℕ, zero, suc, ◌+◌, true, false, List, [], ◌∷◌, ◌++◌, map, take, sum, replicate, get_or, length, All, IsTrue, refl, sym, ap, ap₂, subst, ◌∙◌, arith}
 use Rattle.std.proofs.lemmas.List.{length-map, map_push, map_more}
+use Rattle.algebra.proofs.Lists.{sum_zeros}
 use Rattle.algebra.specs.Fraction.{Fraction, ℚ}
 use Rattle.algebra.proofs.Fractions.{ℚ_ring}
 use Rattle.polynomials.specs.Exponent.{same, exponents}
@@ -19,13 +20,10 @@ use Rattle.poly.specs.declared.Term.{Term}
 use Rattle.solvable.proofs.Using.{FracPoly, poly_at-is, arity_at}
 use Rattle.closed_forms.proofs.Mixing.{tell}
 
-degree-zeros : (m : ℕ) → degree (replicate m 0) ≡ 0
-degree-zeros zero = refl
-degree-zeros (suc m) = (let e = degree-zeros m in omega (arith, e))
-
 degree-unit : (m j : ℕ) → j < m → degree (unit m j) ≡ 1
 degree-unit zero j l = absurd (omega (arith, l))
-degree-unit (suc m) zero l = (let e = degree-zeros m in omega (arith, e))
+degree-unit (suc m) zero l =
+    (let e = degree-sum (replicate m 0) ∙ sum_zeros m in omega (arith, e))
 degree-unit (suc m) (suc j) l = (let e = degree-unit m j (omega (arith, l)) in omega (arith, e))
 
 exponent-unit : (m j : ℕ) → j < m → exponent (unit m j) j ≡ 1
@@ -33,7 +31,7 @@ exponent-unit zero j l = absurd (omega (arith, l))
 exponent-unit (suc m) zero l = refl
 exponent-unit (suc m) (suc j) l = exponent-unit m j (omega (arith, l))
 
-false_not_true : IsTrue false → ⊥
+pub false_not_true : IsTrue false → ⊥
 false_not_true e = cc
 
 pub other_degree : (e : List ℕ) (j : ℕ) {d : ℕ} → j < length e → d ≡ sum e → d ≢ 1

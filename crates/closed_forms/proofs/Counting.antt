@@ -14,8 +14,9 @@ use Rattle.algebra.proofs.In.{in_either, each_from}
 use Rattle.algebra.specs.Gcd.{gcd}
 use Rattle.algebra.proofs.Coprime.{coprime_from, coprime-mul}
 use Rattle.algebra.proofs.GcdLaws.{dvd_from_coprime}
-use Rattle.algebra.proofs.RatioLaws.{mul-pos}
 use Rattle.exponentials.specs.Base.{Coprime, Ascending, Divides, IsTheBase}
+use Rattle.exponentials.proofs.Refine.{all, all-pos, coprime-above}
+use Rattle.expansion.proofs.Counting.{power_some}
 use Rattle.polynomials.specs.Terms.{Terms}
 use Rattle.algebra.specs.Fraction.{Fraction}
 use Rattle.solvable_maps.specs.Class.{Above, Ascends}
@@ -32,25 +33,15 @@ use Rattle.closed_forms.specs.Values.{values_in}
 use Rattle.closed_forms.proofs.Splitting.{map_of}
 
 -- ---- the product of a list
-abbrev together : List ℕ → ℕ
-together [] = 1
-together (n ∷ ns) = n * together ns
-
-part_divides : (list : List ℕ) (n : ℕ) → In n list → n ∣ together list
+part_divides : (list : List ℕ) (n : ℕ) → In n list → n ∣ all list
 part_divides [] n h = absurd h
-part_divides (x ∷ list) n (inl e) = subst (λ y. n ∣ y * together list) e
-    (N.dvd-mul_right n (together list))
+part_divides (x ∷ list) n (inl e) = subst (λ y. n ∣ y * all list) e (N.dvd-mul_right n (all list))
 part_divides (x ∷ list) n (inr h) = N.dvd-mul_left_of_dvd n (part_divides list n h) x
 
-together_some : (list : List ℕ) → Each (λ n. 0 < n) list → 0 < together list
-unfolding Each
-together_some [] h = omega arith
-together_some (n ∷ list) h = mul-pos n (together list) h.0 (together_some list h.1)
-
-apart : (b : ℕ) (bs : List ℕ) → Each (λ c. gcd b c ≡ 1) bs → gcd b (together bs) ≡ 1
+apart : (b : ℕ) (bs : List ℕ) → Each (λ c. gcd b c ≡ 1) bs → gcd b (all bs) ≡ 1
 unfolding Each
 apart b [] h = coprime_from b 1 (λ d p q. N.eq-one_of_dvd-one q)
-apart b (c ∷ bs) h = coprime-mul b c (together bs) h.0 (apart b bs h.1)
+apart b (c ∷ bs) h = coprime-mul b c (all bs) h.0 (apart b bs h.1)
 
 both_divide : (x y n : ℕ) → gcd x y ≡ 1 → x ∣ n → y ∣ n → x * y ∣ n
 both_divide x y n g p q =
@@ -59,11 +50,10 @@ both_divide x y n g p q =
     ∙ N.mul_comm x (n / x)) q) in
     subst (λ z. x * y ∣ z) whole (N.mul-dvd-mul_left y x rest)
 
-all_divide : (bs : List ℕ) (n : ℕ) → Coprime bs → Each (λ b. b ∣ n) bs → together bs ∣ n
+all_divide : (bs : List ℕ) (n : ℕ) → Coprime bs → Each (λ b. b ∣ n) bs → all bs ∣ n
 unfolding Each
 all_divide [] n c h = N.one-dvd n
-all_divide (b ∷ bs) n c h = both_divide b (together bs) n (apart b bs c.1) h.0
-    (all_divide bs n c.2 h.1)
+all_divide (b ∷ bs) n c h = both_divide b (all bs) n (apart b bs c.1) h.0 (all_divide bs n c.2 h.1)
 
 -- ---- ascending numbers above k
 abbrev rising : ℕ → ℕ → ℕ
@@ -74,36 +64,23 @@ above_zero : (k : ℕ) (bs : List ℕ) → Each (λ b. k < b) bs → Each (λ b.
 above_zero k bs h = each_weaker (λ b. k < b) (λ b. 0 < b) (λ b l. omega (arith, l)) bs h
 
 rising_least : (m k : ℕ) (bs : List ℕ) → m ≤ length bs → Each (λ b. k < b) bs → Ascending bs
-    → rising k m ≤ together bs
+    → rising k m ≤ all bs
 unfolding Each
-rising_least zero k bs l h a = (let s = together_some bs (above_zero k bs h) in omega (arith, s))
+rising_least zero k bs l h a = (let s = all-pos bs (above_zero k bs h) in omega (arith, s))
 rising_least (suc m) k [] l h a = absurd (omega (arith, l))
 rising_least (suc m) k (b ∷ bs) l h a =
     let low : suc k ≤ b = (let f = h.0 in omega (arith, f)) in
     mul-le-mul low (rising_least m (suc k) bs (omega (arith, l)) (each_weaker (λ c. b < c)
     (λ c. suc k < c) (λ c i. omega (arith, i, low)) bs a.0) a.1)
 
-above_one : (bs : List ℕ) → Coprime bs → Each (λ b. 1 < b) bs
-unfolding Each
-above_one [] c = tt
-above_one (b ∷ bs) c = (c.0, above_one bs c.2)
-
 -- ---- numbers below a bound
-abbrev tower : ℕ → ℕ → ℕ
-tower w zero = 1
-tower w (suc k) = w * tower w k
-
-tower_some : (w k : ℕ) → 0 < w → 0 < tower w k
-tower_some w zero l = omega arith
-tower_some w (suc k) l = mul-pos w (tower w k) l (tower_some w k l)
-
-together_low : (w k : ℕ) (list : List ℕ) → 0 < w → length list ≤ k → Each (λ n. n < w) list
-    → together list ≤ tower w k
+all_low : (w k : ℕ) (list : List ℕ) → 0 < w → length list ≤ k → Each (λ n. n < w) list
+    → all list ≤ w ^ k
 unfolding Each
-together_low w k [] s l h = (let t = tower_some w k s in omega (arith, t))
-together_low w zero (n ∷ list) s l h = absurd (omega (arith, l))
-together_low w (suc k) (n ∷ list) s l h = mul-le-mul (let low = h.0 in omega (arith, low))
-    (together_low w k list s (omega (arith, l)) h.1)
+all_low w k [] s l h = (let t = power_some w k s in omega (arith, t))
+all_low w zero (n ∷ list) s l h = absurd (omega (arith, l))
+all_low w (suc k) (n ∷ list) s l h = subst (λ m. n * all list ≤ m) (sym (N.pow-succ' w k))
+    (mul-le-mul (let low = h.0 in omega (arith, low)) (all_low w k list s (omega (arith, l)) h.1))
 
 -- ---- a base
 between : (m limit n t r p : ℕ) → (limit ≤ m → r ≤ p) → p ≤ n → n ≤ t → t < r → m < limit
@@ -112,20 +89,20 @@ between m limit n t r p up down low big = elim (cases_lt m limit) [
   | inr g ↦ absurd (let u = up g in omega (arith, u, down, low, big))
 ]
 
-big : tower (2 ^ 127) 24 < rising 1 500
-big = ltb→lt (tower (2 ^ 127) 24) (rising 1 500) tt
+big : (2 ^ 127) ^ 24 < rising 1 500
+big = ltb→lt ((2 ^ 127) ^ 24) (rising 1 500) tt
 
-few_among : (w k limit : ℕ) (list bs : List ℕ) → 0 < w → tower w k < rising 1 limit
+few_among : (w k limit : ℕ) (list bs : List ℕ) → 0 < w → w ^ k < rising 1 limit
     → length list ≤ k → Each (λ n. 0 < n) list → Each (λ n. n < w) list → IsTheBase list bs
     → length bs < limit
 few_among w k limit list bs s b l some low is =
     let coprime = is.coarsest.base.coprime in
-    between (length bs) limit (together list) (tower w k) (rising 1 limit) (together bs)
-    (λ g. rising_least limit 1 bs g (above_one bs coprime) is.ascending)
-    (N.le_of_dvd (together_some list some) (all_divide bs (together list) coprime
-    (each_weaker (Divides list) (λ x. x ∣ together list) (λ x d.
+    between (length bs) limit (all list) (w ^ k) (rising 1 limit) (all bs)
+    (λ g. rising_least limit 1 bs g (coprime-above bs coprime) is.ascending)
+    (N.le_of_dvd (all-pos list some) (all_divide bs (all list) coprime
+    (each_weaker (Divides list) (λ x. x ∣ all list) (λ x d.
     N.dvd_trans x d.divides (part_divides list d.number d.within)) bs is.divides)))
-    (together_low w k list s l low) b
+    (all_low w k list s l low) b
 
 pub base_few : (list bs : List ℕ) → length list ≤ 24 → Each (λ n. 0 < n) list
     → Each (λ n. n < 2 ^ 127) list → IsTheBase list bs → length bs < 500

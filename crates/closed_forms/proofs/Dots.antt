@@ -1,5 +1,5 @@
 -- Sums of products of a row with a column, number by number.
-use Rattle.std.proofs.Common.{◌≡◌, ◌⊎◌, inl, inr, ℕ, suc, ◌<◌, List, [], ◌∷◌, get_or, length, All, Vec, Global, sym, ap, ap₂, subst, ◌∙◌, arith}
+use Rattle.std.proofs.Common.{◌≡◌, ◌⊎◌, inl, inr, ℕ, ◌<◌, List, [], ◌∷◌, get_or, length, Vec, Global, sym, ap, ap₂, subst, ◌∙◌, arith}
 use Rattle.algebra.specs.Fraction.{Fraction, ℚ, fraction_size}
 use Rattle.algebra.specs.Size.{IsPast}
 use Rattle.algebra.proofs.Fractions.{ℚ_field}
@@ -58,17 +58,3 @@ module _ {row xs : List Frac} {matrix rs : List (Vec Frac Global)} {x : Frac} {r
       SumIsPast (ℚ.mul (fraction_of x) (entries ℚ_field (fractions_of r.items) column)) b) k
       (subst (λ a. SumIsPast a (fraction_of d)) (h
       ∙ ap (ℚ.mul (fraction_of x)) (sym (entry_at r.items column y low is))) past))))
-
-pub rest_low : {matrix : List (Vec Frac Global)} {rs : List (Vec Frac Global)} {r : Vec Frac Global}
-    (column : ℕ)
-    → matrix ≡ r ∷ rs → All (λ (v : Vec Frac Global). column < length v.items) matrix
-    → All (λ (v : Vec Frac Global). column < length v.items) rs
-rest_low column e all = λ k d l.
-    subst (λ m. All (λ (v : Vec Frac Global). column < length v.items) m) e all (suc k) d
-    (omega (arith, l))
-
-pub head_low : {matrix rs : List (Vec Frac Global)} {r : Vec Frac Global} (column : ℕ)
-    → matrix ≡ r ∷ rs → All (λ (v : Vec Frac Global). column < length v.items) matrix
-    → column < length r.items
-head_low {r = r} column e all =
-    subst (λ m. All (λ (v : Vec Frac Global). column < length v.items) m) e all 0 r (omega arith)

@@ -45,27 +45,24 @@ record IsOfSplit (splits : List (Option Split)) (c : Fraction) : Type 0 where
   is : get_or splits place None ≡ Some split
   among : In c (fractions_of split.values.items)
 
+one_behind : {splits : List (Option Split)} {c : Fraction} (first : Option Split)
+    → IsOfSplit splits c → IsOfSplit (first ∷ splits) c
+one_behind first r = record {
+  place = suc r.place;
+  within = (let l = r.within in omega (arith, l));
+  split = r.split;
+  is = r.is;
+  among = r.among;
+}
+
 of_split : (splits : List (Option Split)) (c : Fraction) → In c (values_in splits)
     → IsOfSplit splits c
 of_split [] c i = absurd i
-of_split (None ∷ splits) c i = (let r = of_split splits c i in let l = r.within in
-    record {
-      place = suc r.place;
-      within = omega (arith, l);
-      split = r.split;
-      is = r.is;
-      among = r.among;
-    })
+of_split (None ∷ splits) c i = one_behind None (of_split splits c i)
 of_split (Some split ∷ splits) c i =
     elim (in_either c _ (values_in splits) i) [
       | inl e ↦ record { place = 0; within = omega arith; split = split; is = refl; among = e }
-      | inr e ↦ (let r = of_split splits c e in let l = r.within in record {
-        place = suc r.place;
-        within = omega (arith, l);
-        split = r.split;
-        is = r.is;
-        among = r.among;
-      })
+      | inr e ↦ one_behind (Some split) (of_split splits c e)
     ]
 
 values_from : (splits : List (Option Split)) (k : ℕ) (split : Split) → k < length splits

@@ -38,14 +38,11 @@ some_values [] c h n = absurd h
 some_values (x ∷ values) c h n = go (is_zero x) refl h (λ q. some_values values c q n)
   where
     go : (b : Bool) → is_zero x ≡ b → In c (x ∷ values) → (In c values → In c (some_of values))
-        → In c (cond (is_zero x) (some_of values) (x ∷ some_of values))
+        → In c (cond b (some_of values) (x ∷ some_of values))
     go true e (inl q) later = absurd (n (q ∙ (zero_is x).0 e))
-    go true e (inr q) later = subst (λ b. In c (cond b (some_of values) (x ∷ some_of values)))
-        (sym e) (later q)
-    go false e (inl q) later = subst (λ b. In c (cond b (some_of values) (x ∷ some_of values)))
-        (sym e) (inl q)
-    go false e (inr q) later = subst (λ b. In c (cond b (some_of values) (x ∷ some_of values)))
-        (sym e) (inr (later q))
+    go true e (inr q) later = later q
+    go false e (inl q) later = inl q
+    go false e (inr q) later = inr (later q)
 
 pub in_some : (values : List Fraction) (c : Fraction) → In c (some_of values)
     → In c values × (c ≢ ℚ.zero)
@@ -55,18 +52,11 @@ in_some (x ∷ values) c h = go (is_zero x) refl h (λ q. in_some values c q)
     more : In c values × (c ≢ ℚ.zero) → In c (x ∷ values) × (c ≢ ℚ.zero)
     more r = (inr r.0, r.1)
 
-    go : (b : Bool) → is_zero x ≡ b → In c (cond (is_zero x) (some_of values) (x ∷ some_of values))
+    go : (b : Bool) → is_zero x ≡ b → In c (cond b (some_of values) (x ∷ some_of values))
         → (In c (some_of values) → In c values × (c ≢ ℚ.zero)) → In c (x ∷ values) × (c ≢ ℚ.zero)
-    go true e h later = more (later (subst (λ b. In c (cond b (some_of values)
-        (x ∷ some_of values))) e h))
-    go false e h later = elim (subst (λ b. In c (cond b (some_of values) (x ∷ some_of values)))
-        e h) [
-          | inl q ↦ (
-            inl q,
-            λ z. not_both (is_zero x) (ap is_zero (sym q ∙ z) ∙ (zero_is ℚ.zero).1 refl) e,
-          )
-          | inr q ↦ more (later q)
-        ]
+    go true e h later = more (later h)
+    go false e (inl q) later = (inl q, λ z. not_both (is_zero x) ((zero_is x).1 (sym q ∙ z)) e)
+    go false e (inr q) later = more (later q)
 
 pub values_made : (values : List Fraction) (base : List ℕ)
     → IsTheBase (sizes_of (some_of values)) base

@@ -1,5 +1,5 @@
 -- A form from the inhomogeneity of its recurrence, as the code makes it.
---   one_later_over, one_later_is, one_later_past     one iteration later, where its value is zero
+--   one_later_over, one_later_is, one_later_wide     one iteration later, where its value is zero
 --   at_once_past     from its start, where no value is zero
 use Rattle.std.proofs.Common.{◌≡◌, ◌≢◌, ℕ, suc, List, length, sym, ap, subst, ◌∙◌}
 use Rattle.algebra.specs.Fraction.{Fraction, ℚ, fractions, rationals}
@@ -13,7 +13,7 @@ use Rattle.expo.specs.View.{base_of, value_of}
 use Rattle.expo.specs.declared.exponential.Expo.{Expo}
 use Rattle.solvable_maps.specs.Expo.{next_images, inverse_form_terms}
 use Rattle.solvable_maps.specs.Iterations.{point}
-use Rattle.closed_forms.specs.Later.{Ahead, IsOneLater, IsFormFrom, IsPastFrom, IsPastOneLater, one_later, at_once_past as once_past, one_later_past as zero_past}
+use Rattle.closed_forms.specs.Later.{Ahead, IsOneLater, IsPastFrom, IsPastOneLater, at_once_past as once_past}
 use Rattle.closed_forms.specs.Solved.{IsPastSolved}
 use Rattle.closed_forms.specs.Values.{IsExpoOver}
 
@@ -38,9 +38,9 @@ module _ {base : List ℕ} {m : ℕ} {inhomogeneity : Expo}
         ∙ ap (λ b. value_at ℚ (terms_in inhomogeneity.body) (point b n s)) over.over_base;
   }
 
-  pub one_later_past : IsPastBefore inhomogeneity
+  pub one_later_wide : IsPastBefore inhomogeneity
       → IsPastOneLater base m (terms_in inhomogeneity.body)
-  one_later_past h =
+  one_later_wide h =
       subst (λ b. IsPastComposition fractions
       (collect rationals grevlex (inverse_form_terms (length b) (terms_in inhomogeneity.body)))
       (next_images b m)) over.over_base
@@ -54,12 +54,3 @@ module _ (base : List ℕ) (m : ℕ) (w : List Fraction) (g : List ℕ) {l : Fra
   pub at_once_past : a.iterations ≡ 0 → IsPastSolved base m w g x q → IsPastFrom base m w g l a q
   at_once_past none h = once_past some none
       (subst (λ n. IsPastSolved base m w g n q) own h)
-
-module _ {base : List ℕ} {m : ℕ} {w : List Fraction} {g : List ℕ} {l : Fraction} {a : Ahead}
-    {q : Terms Fraction} (nothing : l ≡ ℚ.zero) where
-  pub one_later_form : {y : Terms Fraction} → IsOneLater base m q y
-      → IsFormFrom base m w g l a q y
-  one_later_form h = one_later nothing h
-
-  pub one_later_wide : IsPastOneLater base m q → IsPastFrom base m w g l a q
-  one_later_wide h = zero_past nothing h

@@ -33,15 +33,14 @@ use Rattle.closed_forms.specs.Splits.{groups_in, IsSplitOf}
 use Rattle.closed_forms.specs.States.{AreZeros}
 use Rattle.closed_forms.specs.Values.{values_in, bodies_of, AreOver}
 use Rattle.closed_forms.specs.View.{ArePassing, IsFormOf}
-use Rattle.closed_forms.proofs.Ahead.{zeros_low}
+use Rattle.closed_forms.proofs.Ahead.{zeros_counted}
 use Rattle.closed_forms.proofs.Counting.{twelve_values}
 use Rattle.closed_forms.proofs.Ending.{form_base_is, closed_is, closed_count, of_class, later_class, later_iteration}
 use Rattle.closed_forms.proofs.Filling.{values_made, values_at, first_here}
-use Rattle.closed_forms.proofs.Forming.{groups_inside}
 use Rattle.closed_forms.proofs.Least.{wide_here, passing_none, passing_marked}
 use Rattle.closed_forms.proofs.Placing.{bodies-count, known_begun, known_ready, known_next, next_whole, over_normals, put_all, put_over}
 use Rattle.closed_forms.proofs.Settling.{room}
-use Rattle.closed_forms.proofs.Splitting.{first_in, first_is, map_of}
+use Rattle.closed_forms.proofs.Splitting.{first_in, first_is, groups_inside, map_of}
 use Rattle.closed_forms.proofs.StateLists.{told, states_get, states_count, state_length}
 
 abbrev numbers : MapInWork → List ℕ
@@ -61,7 +60,7 @@ module _ {w : MapInWork} (is : IsInWork w) where
 
   pub early_in : w.iterations ≤ 12
   early_in =
-      let a = zeros_low (values_in w.splits.items) in
+      let a = zeros_counted (values_in w.splits.items) in
       let b = twelve_values (listed w) w.map.few w.map.square is.splits in
       let d = is.iterations in
       omega (arith, a, b, d)

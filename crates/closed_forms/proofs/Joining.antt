@@ -5,7 +5,7 @@
 --   sides_next, sides_front, sides_length      the exponents of a power on a side of the line, and those of the n-th power
 --   differences_next       differences of exponents
 --   cut_key, cut_count     the number whose n-th power the exponents of a monomial are, from these cut in parts
---   growing_none, growing_next   a form's growing terms
+--   growing_next                 a form's growing terms
 --   solved_none, solved_next, past_term_at    the solutions of terms;  normal_at: each of them is normal
 --   still_made             the exponents that do not change with n
 --   key_solution, term_past, product_past      the solution for the powers in a term
@@ -84,17 +84,12 @@ pub all_one : {A : Type 0} (P : A → Type 0) {xs : List A} (x : A) → xs ≡ x
 all_one P x e h = All-same P _ _ e (All-push P [] x (All-nil P) h)
 
 -- ---- exponents of powers
-pub sides_none : (below : Bool) (e : List ℤ) (old : List ℕ) → length e ≡ 0
-    → old ≡ old ++ map (side_of below) e
-sides_none below [] old h = sym (append-nil old)
-sides_none below (z ∷ e) old h = absurd (omega (arith, h))
-
 pub sides_next : (below : Bool) {e f : List ℤ} {z : ℤ} (n : ℕ) (old : List ℕ) {mid : List ℕ}
     (new : List ℕ)
     → e ≡ z ∷ f → n ≡ side_of below z → mid ≡ old ++ n ∷ [] → new ≡ mid ++ map (side_of below) f
     → new ≡ old ++ map (side_of below) e
 sides_next below {f = f} n old new h k a b =
-    b ∙ ap (λ l. l ++ map (side_of below) f) a ∙ append_assoc old (n ∷ []) (map (side_of below) f)
+    more_behind old new n (map (side_of below) f) a b
     ∙ ap (λ x. old ++ x ∷ map (side_of below) f) k ∙ ap (λ l. old ++ map (side_of below) l) (sym h)
 
 pub sides_front : (negative : Bool) (e : List ℤ) {start mid front : List ℕ} (u : List ℕ)
@@ -130,7 +125,7 @@ pub differences_next : {u u' v v' : List ℕ} {m n : ℕ} {z : ℤ} (old : List 
     → u ≡ m ∷ u' → v ≡ n ∷ v' → z ≡ pos m -ℤ pos n → mid ≡ old ++ z ∷ []
     → new ≡ mid ++ differences u' v' → new ≡ old ++ differences u v
 differences_next {u' = u'} {v' = v'} {z = z} old new e f h a b =
-    b ∙ ap (λ l. l ++ differences u' v') a ∙ append_assoc old (z ∷ []) (differences u' v')
+    more_behind old new z (differences u' v') a b
     ∙ ap (λ x. old ++ x ∷ differences u' v') h ∙ ap₂ (λ x y. old ++ differences x y) (sym e) (sym f)
 
 -- ---- the power of a monomial
@@ -171,27 +166,15 @@ module _ (bs : List ℕ) (e others up more down : List ℕ) (r : ℕ) (k : r ≡
 
 -- ---- growing terms
 module _ (m : ℕ) (x : Key) where
-  nothing_grows : (cs : List Frac) (g : List ℕ) → (cs ≡ []) ⊎ (g ≡ [])
-      → homogeneous_part m x (fractions_of cs) g ≡ []
-  nothing_grows [] g h = refl
-  nothing_grows (c ∷ cs) [] h = refl
-  nothing_grows (c ∷ cs) (j ∷ g) (inl h) = absurd (let f : ⊥ = cc in f)
-  nothing_grows (c ∷ cs) (j ∷ g) (inr h) = absurd (let f : ⊥ = cc in f)
-
-  pub growing_none : (cs : List Frac) (g : List ℕ) (old all : Terms Fraction)
-      → (cs ≡ []) ⊎ (g ≡ []) → old ++ homogeneous_part m x (fractions_of cs) g ≡ all → old ≡ all
-  growing_none cs g old all h e = sym (append-nil old)
-      ∙ ap (λ p. old ++ p) (sym (nothing_grows cs g h)) ∙ e
-
   pub growing_next : {cs cs' : List Frac} {c : Frac} {g g' : List ℕ} {j : ℕ}
-      (old : List (Term Frac)) {mid : List (Term Frac)} {u : Term Frac} {all : Terms Fraction}
+      (old : List (Term Frac)) {mid : List (Term Frac)} (new : Terms Fraction) {u : Term Frac}
       → cs ≡ c ∷ cs' → g ≡ j ∷ g' → mid ≡ old ++ u ∷ [] → u.mono ≡ with_key 0 x (unit m j)
-      → u.coef ≡ c → tell old ++ homogeneous_part m x (fractions_of cs) g ≡ all
-      → tell mid ++ homogeneous_part m x (fractions_of cs') g' ≡ all
-  growing_next {cs' = cs'} {g' = g'} old {mid = mid} {u} e f k n o h =
-      more_behind (tell old) _ (u.mono, fraction_of u.coef) _ (terms-push old u k) refl
+      → u.coef ≡ c → new ≡ tell mid ++ homogeneous_part m x (fractions_of cs') g'
+      → new ≡ tell old ++ homogeneous_part m x (fractions_of cs) g
+  growing_next {cs' = cs'} {g' = g'} old new {u} e f k n o h =
+      more_behind (tell old) new (u.mono, fraction_of u.coef) _ (terms-push old u k) h
       ∙ ap₂ (λ a b. tell old ++ (a, fraction_of b) ∷ homogeneous_part m x (fractions_of cs') g') n o
-      ∙ ap₂ (λ a b. tell old ++ homogeneous_part m x (fractions_of a) b) (sym e) (sym f) ∙ h
+      ∙ ap₂ (λ a b. tell old ++ homogeneous_part m x (fractions_of a) b) (sym e) (sym f)
 
 -- ---- solutions of terms
 module _ (base : List ℕ) (m : ℕ) (l : Fraction) where

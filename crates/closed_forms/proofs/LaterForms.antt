@@ -1,12 +1,10 @@
 -- Forms by their values after some iterations, as the code makes them.
---   ok_both                    two things that are said of a result
 --   at-arity                   how many exponents a polynomial at a number of iterations has
 --   solved_all, sum_is         the sum of what solves the terms of an inhomogeneity
 --   start_is, start_lists     its difference from what is there, times a power of the value
 --   grown_next             a polynomial of the variables times a power, term by term;  grown_value: its values
 --   together-arity, joined_is     the two together
-use Rattle.std.proofs.Common.{◌≡◌, ℕ, ℤ, pos, Bool, List, [], ◌∷◌, ◌++◌, length, Result, Ok, Err, refl, sym, ap, ap₂, subst, ◌∙◌}
-use Rattle.std.specs.Result.{IfOk}
+use Rattle.std.proofs.Common.{◌≡◌, ℕ, ℤ, pos, Bool, List, [], ◌∷◌, ◌++◌, length, refl, sym, ap, ap₂, subst, ◌∙◌}
 use Rattle.algebra.specs.Arithmetic.{power}
 use Rattle.algebra.specs.Each.{Each}
 use Rattle.algebra.specs.Ring.{CommRing}
@@ -45,12 +43,6 @@ use Rattle.closed_forms.proofs.Recurring.{collected_value, collected-arity, part
 
 abbrev R : CommRing Fraction
 R = ℚ_ring
-
--- ---- results
-pub ok_both : {A E : Type 0} (r : Result A E) (P Q S : A → Type 0) → ((a : A) → P a → Q a → S a)
-    → IfOk r P → IfOk r Q → IfOk r S
-ok_both (Ok x) P Q S f p q = f x p q
-ok_both (Err e) P Q S f p q = tt
 
 pub at-arity : (base : List ℕ) (m n : ℕ) (p : Terms Fraction) → Arity m (at_iteration base m n p)
 at-arity base m n p =

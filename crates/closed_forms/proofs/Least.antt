@@ -1,7 +1,7 @@
 -- The least number of iterations from which on polynomials are the state, and which variables pass.
 --   settled_here            at one iteration less some polynomial isn't the state
---   settling_before, settled_before     at one iteration less all are
---   wide_here, wide_before  what one of them is there is past
+--   settling_before         at one iteration less all are
+--   wide_here               what one of them is there is past
 --   itself_first, itself_of, passing_none, passing_marked     at n = 0
 use Rattle.std.proofs.Common.{◌≡◌, ◌⊎◌, inl, inr, ℕ, suc, ◌<◌, ◌≤◌, Bool, true, false, List, [], length, get_or, refl, sym, ap, subst, ◌∙◌, arith}
 use Rattle.std.proofs.lemmas.Bool.{cases_lt}
@@ -95,9 +95,6 @@ module _ (base : List ℕ) (images : List (Terms Fraction)) (es : List Expo)
 module _ {images : List (Terms Fraction)} {base : List ℕ} {groups : List (List ℕ)}
     {lists : List (List (Terms Fraction))} {es : List Expo} {since : ℕ}
     (h : IsSettling images base groups lists es since) where
-  abbrev M : List (Terms Fraction)
-  M = images
-
   abbrev IsThere : ℕ → Type 0
   IsThere n = (i : ℕ) → i < length images → IsAtPlace es n (after images n) i
 
@@ -123,16 +120,17 @@ module _ {images : List (Terms Fraction)} {base : List ℕ} {groups : List (List
     told_at i l = (let r = in_group i l in subst (λ q. IsMarked es n q marks i) is
         (told r.0 r.1 i r.2))
 
-    pub settled_here : (i : ℕ) × (i < length marks) × (get_or marks i false ≡ true)
-        → IsSettled images base es since since
-    settled_here (i, l, set) = record {
+    pub settled_here : {z : ℕ} → since ≤ z
+        → (i : ℕ) × (i < length marks) × (get_or marks i false ≡ true)
+        → IsSettled images base es z since
+    settled_here few (i, l, set) = record {
       closed = h.closed;
       least = λ d closed. elim (cases_lt d since) [
         | inl less ↦ absurd (not_both (get_or marks i false) set ((told_at i low).1
             (there_of n (later closed (omega (arith, less, one))) i low)))
         | inr more ↦ omega (arith, more)
       ];
-      low = omega arith;
+      low = few;
     }
       where
         low : i < length images
@@ -157,15 +155,8 @@ module _ {images : List (Terms Fraction)} {base : List ℕ} {groups : List (List
       closed = closed_of n (λ i l. (told_at i l).0 (none i));
     }
 
-    pub settled_before : (d : ℕ) → IsSettled images base es n d → IsSettled images base es since d
-    settled_before d s = record {
-      closed = s.closed;
-      least = s.least;
-      low = (let a = s.low in omega (arith, a, one));
-    }
-
-  pub wide_here : {n : ℕ} (v : ℕ) → n < since → (since ≤ suc n) ⊎ (n ≡ 0)
-      → IsPastOfClass groups es n v → IsWideIteration base images since v
+  pub wide_here : {n z : ℕ} (v : ℕ) → n < z → (since ≤ suc n) ⊎ (n ≡ 0)
+      → IsPastOfClass groups es n v → IsWideIteration base images z v
   wide_here {n = n} v less near w = record {
     iteration = n;
     before = less;
@@ -201,24 +192,6 @@ module _ {images : List (Terms Fraction)} {base : List ℕ} {groups : List (List
               (subst (λ b. IsPastAt b (length images) n (terms_in e.body)) o.over_base
               (subst (λ k. IsPastAt (base_of e) k n (terms_in e.body)) o.over_vars
               (w.past.past e own)))
-
-pub wide_before : {base : List ℕ} {images : List (Terms Fraction)} {n since v : ℕ}
-    → since ≡ suc n → IsWideIteration base images n v → IsWideIteration base images since v
-wide_before {base} {images} {n} {since} {v} one w = record {
-  iteration = w.iteration;
-  before = (let b = w.before in omega (arith, b, one));
-  since = w.since;
-  near = w.near;
-  polys = w.polys;
-  closed = w.closed;
-  normal = w.normal;
-  class = w.class;
-  is = w.is;
-  first = w.first;
-  variable = w.variable;
-  within = w.within;
-  past = w.past;
-}
 
 -- ---- at n = 0
 module _ {images : List (Terms Fraction)} {base : List ℕ} {groups : List (List ℕ)}

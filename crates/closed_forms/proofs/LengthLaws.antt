@@ -30,14 +30,11 @@ lengths_some ns are = each_from ns (λ n i.
 
 -- ---- classes
 module _ (images : List (Terms Fraction)) where
-  class_none : (g ns : List ℕ) → length g ≡ 0 → class_length images g ns ≡ 0
-  unfolding class_length
-  class_none [] ns e = refl
-  class_none (i ∷ g) ns e = absurd (omega (arith, e))
-
   pub none_of_class : (g ns : List ℕ) → length g ≡ 0 → (0 ≡ class_length images g ns)
       × (class_length images g ns ≤ most_terms)
-  none_of_class g ns e = of_zero (class_length images g ns) (class_none g ns e)
+  unfolding class_length
+  none_of_class [] ns e = of_zero 0 refl
+  none_of_class (i ∷ g) ns e = absurd (omega (arith, e))
 
   pub class-cons : (i : ℕ) (g ns : List ℕ) → class_length images (i ∷ g) ns
       ≡ sum_length (poly_at images i) ns + class_length images g ns

@@ -20,7 +20,6 @@ pub mod StateLists
 pub mod LaterForms
 pub mod Marks
 pub mod Least
-pub mod Forming
 pub mod FormsFrom
 pub mod InWork
 pub mod LengthLaws

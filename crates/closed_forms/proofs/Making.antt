@@ -71,7 +71,6 @@ moved_is base m cs rests images p r l h e a s =
     (a ∙ is) (subst (λ n. Same ℚ (terms_in r) (compose ℚ n (terms_in p) (terms_each images))) is s)
     ∙ ap (λ x. collect_terms (compose ℚ w x (terms_each images))) e
 
--- ---- the combination of earlier forms
 -- ---- what is made normal
 pub normal_over : {bs : List ℕ} {w : ℕ} (m : ℕ) (ts : Terms Fraction) (e : Expo)
     → w ≡ width (length bs) m → IsExpo bs (vars_of bs w) (normal_of bs ts) e → IsExpoOver bs m e

@@ -1,17 +1,16 @@
 -- Marks that tell of each variable whether its polynomial at a number of iterations isn't that of a state.
 --   off, not_is          a test that has failed, and its opposite
---   both                 two things that are said where a call has gone well
 --   at_same, at_told     one polynomial
---   mark_later           a mark behind the first one
+--   none_set, some_set     whether some mark is set
 --   place_to, place_from     the polynomial at a place
 --   marked_here, marked_kept     one mark set
 --   class_first, kept_both, classes_next     variable by variable, and class by class
 --   past_first, past_later, past_class     what is past
-use Rattle.std.proofs.Common.{◌≡◌, ◌≢◌, inl, inr, ℕ, suc, ◌<◌, Bool, true, false, List, ◌∷◌, length, take, get_or, set, ◌+◌, Vec, Global, Result, Ok, Err, refl, sym, ap, subst, ◌∙◌, arith}
-use mathlib.Core.Bool.{not}
+use Rattle.std.proofs.Common.{◌≡◌, ◌≢◌, inl, inr, ℕ, zero, suc, ◌<◌, Bool, true, false, List, [], ◌∷◌, length, take, get_or, set, ◌+◌, Vec, Global, refl, sym, ap, subst, ◌∙◌, arith}
+use mathlib.Core.Bool.{beq, not}
+use Rattle.std.specs.List.{list_any}
 use Rattle.std.proofs.lemmas.Bool.{cases_eq}
 use Rattle.std.proofs.lemmas.List.{get_or_default, get_or-set_same, get_or-set_other}
-use Rattle.std.specs.Result.{OnOk}
 use Rattle.algebra.specs.In.{In}
 use Rattle.algebra.proofs.In.{in_push, in_get, map-in}
 use Rattle.algebra.proofs.Lists.{take_next}
@@ -40,11 +39,6 @@ pub not_is : (b : Bool) → (not b ≡ false → b ≡ true) × (b ≡ true → 
 not_is true = ((λ e. refl), (λ e. refl))
 not_is false = ((λ e. (let bad : ⊥ = cc in absurd bad)), (λ e. (let bad : ⊥ = cc in absurd bad)))
 
-pub both : {A E : Type 0} (r : Result A E) (P Q S : Type 0) → (P → Q → S) → OnOk r P → OnOk r Q
-    → OnOk r S
-both (Ok x) P Q S f p q = f p q
-both (Err e) P Q S f p q = tt
-
 -- ---- one polynomial
 pub at_same : (e : Expo) (n : ℕ) (p : FracPoly) {q : Terms Fraction}
     → ((s : List Fraction) → length s ≡ e.vars → value_at ℚ (terms_in p) s ≡ value_of e n s)
@@ -65,14 +59,23 @@ at_told e n p q a b h k =
           (same_by_values m (terms_in p) (terms_in q) x.arity y.arity (λ s l. h s l ∙ k s l)),
     )
 
-pub mark_later : {marks rest : List Bool} {x : Bool} → marks ≡ x ∷ rest
-    → (i : ℕ) × (i < length rest) × (get_or rest i false ≡ true)
+-- ---- whether some mark is set
+pub none_set : (marks : List Bool) → list_any (λ m. beq m true) marks ≡ false → (i : ℕ)
+    → get_or marks i false ≡ false
+none_set [] e i = refl
+none_set (true ∷ marks) e i = absurd (let bad : ⊥ = cc in bad)
+none_set (false ∷ marks) e zero = refl
+none_set (false ∷ marks) e (suc i) = none_set marks e i
+
+pub some_set : (marks : List Bool) → list_any (λ m. beq m true) marks ≡ true
     → (i : ℕ) × (i < length marks) × (get_or marks i false ≡ true)
-mark_later e (i, l, h) = (
-  suc i,
-  (let n = ap length e in omega (arith, n, l)),
-  ap (λ m. get_or m (suc i) false) e ∙ h,
-)
+some_set [] e = absurd (let bad : ⊥ = cc in bad)
+some_set (true ∷ marks) e = (0, omega arith, refl)
+some_set (false ∷ marks) e = (let r = some_set marks e in let l = r.1 in (
+  suc r.0,
+  omega (arith, l),
+  r.2,
+))
 
 -- ---- the polynomial at a place
 same_item : (es : List Expo) (i : ℕ) → i < length es → (a b : Expo) → a ≡ get_or es i a

@@ -1,8 +1,9 @@
 -- Sums of polynomials, each times a number, term by term.
-use Rattle.std.proofs.Common.{◌≡◌, ◌≢◌, ◌<◌, ◌≤◌, ℕ, zero, suc, ◌+◌, Bool, true, false, cond, ◌||◌, T, List, [], ◌∷◌, ◌++◌, drop, get_or, length, All, append_assoc, Result, Err, lt→ltb, ltb→lt, refl, sym, ap, ap₂, subst, ◌∙◌, arith}
-use Rattle.std.specs.Result.{IsErrOf, IsErrAnd}
+use Rattle.std.proofs.Common.{◌≡◌, ◌≢◌, ◌<◌, ◌≤◌, ℕ, zero, suc, ◌+◌, Bool, true, false, cond, ◌||◌, T, List, [], ◌∷◌, ◌++◌, drop, get_or, length, All, append_assoc, Result, Ok, Err, lt→ltb, ltb→lt, refl, sym, ap, ap₂, subst, ◌∙◌, arith}
+use Rattle.std.specs.Result.{IfOk, IsErrOf, IsErrAnd}
 use Rattle.std.proofs.lemmas.List.{append-nil, drop_all, drop_more, map_push}
 use Rattle.algebra.specs.Each.{Each}
+use Rattle.algebra.proofs.Basics.{to_true}
 use Rattle.algebra.specs.In.{In}
 use Rattle.algebra.proofs.In.{in_get, map-in}
 use Rattle.algebra.proofs.Each.{each-append}
@@ -13,7 +14,7 @@ use Rattle.solvable_maps.specs.Uses.{exponent, has, poly_at}
 use Rattle.solvable_maps.proofs.Exponents.{exponent-get}
 use Rattle.solvable_maps.proofs.Reach.{or_left}
 use Rattle.polynomials.specs.Order.{Rank}
-use Rattle.polynomials.specs.Polynomial.{Arity, Below, Falls, IsPolynomial}
+use Rattle.polynomials.specs.Polynomial.{Arity, Falls, IsPolynomial}
 use Rattle.polynomials.specs.Terms.{Terms}
 use Rattle.machines.specs.Collect.{scale_terms}
 use Rattle.frac128.specs.FracMeaning.{fraction_of}
@@ -57,8 +58,7 @@ term_within ts i t l is = map-in (term_of fraction_of) ts t (subst (λ u. In u t
     (in_get ts i t l))
 
 -- one term more, and then the others
-pub more_behind : (old : Terms Fraction) {mid : Terms Fraction} (new : Terms Fraction)
-    (t : List ℕ × Fraction) (rest : Terms Fraction)
+pub more_behind : {A : Type 0} (old : List A) {mid : List A} (new : List A) (t : A) (rest : List A)
     → mid ≡ old ++ t ∷ [] → new ≡ mid ++ rest → new ≡ old ++ t ∷ rest
 more_behind old new t rest e h = h ∙ ap (λ r. r ++ rest) e ∙ append_assoc old (t ∷ []) rest
 
@@ -128,6 +128,11 @@ arity_all m (t ∷ ts) h =
     (h 0 t (omega arith), arity_all m ts (λ k d l. h (suc k) d (omega (arith, l))))
 
 -- ---- outcomes
+pub ok_both : {A E : Type 0} (r : Result A E) (P Q S : A → Type 0) → ((a : A) → P a → Q a → S a)
+    → IfOk r P → IfOk r Q → IfOk r S
+ok_both (Ok x) P Q S f p q = f x p q
+ok_both (Err e) P Q S f p q = tt
+
 pub wide_on : {T S P : Type 0} {e : ArithmeticError} {r : Result T ArithmeticError}
     → IsErrAnd r (λ x. x ≡ e) → (IsErrOf {T = S} (Err e) Wide → P) → IsErrOf r Wide → P
 wide_on {e = e} {r = r} = handed_on e r
@@ -135,6 +140,12 @@ wide_on {e = e} {r = r} = handed_on e r
 pub scaled_none : (c : Fraction) → scale_terms rationals c [] ≡ []
 unfolding scale_terms
 scaled_none c = refl
+
+-- nothing comes behind
+pub nothing_behind : {A B : Type 0} (f : List A → List B) → f [] ≡ [] → (xs : List A)
+    (old : List B) → length xs ≡ 0 → old ≡ old ++ f xs
+nothing_behind f none [] old h = sym (ap (λ l. old ++ l) none ∙ append-nil old)
+nothing_behind f none (x ∷ xs) old h = absurd (omega (arith, h))
 
 -- nothing is left
 pub none_left : (f : List (Term Frac) → Terms Fraction) → f [] ≡ [] → (ts : List (Term Frac))
@@ -151,15 +162,11 @@ pub tail_all : {A : Type 0} (P : A → Type 0) {ts rest : List A} {t : A} → ts
 tail_all P e all = λ k d l. subst (λ r. All P r) e all (suc k) d (omega (arith, l))
 
 -- ---- variables of a class
-is_true : (b : Bool) → T b → true ≡ b
-is_true true t = refl
-is_true false t = absurd t
-
 pub mine_here : {g rest : List ℕ} {j : ℕ} (e : List ℕ) {x : ℕ} → g ≡ j ∷ rest → x ≡ get_or e j 0
     → 0 < x → true ≡ mine g e
 mine_here {g = g} {rest = rest} {j = j} e is y l =
-    is_true (mine g e) (subst (λ h. T (mine h e)) (sym is) (or_left (has j e) (mine rest e)
-    (lt→ltb 0 (exponent e j) (let z = exponent-get e j in omega (arith, z, y, l)))))
+    sym (to_true (mine g e) (subst (λ h. T (mine h e)) (sym is) (or_left (has j e) (mine rest e)
+    (lt→ltb 0 (exponent e j) (let z = exponent-get e j in omega (arith, z, y, l))))))
 
 pub mine_later : {g rest : List ℕ} {j : ℕ} (e : List ℕ) {x : ℕ} {b : Bool} → g ≡ j ∷ rest
     → x ≡ get_or e j 0 → x ≤ 0 → b ≡ mine rest e → b ≡ mine g e
@@ -170,16 +177,6 @@ mine_later {rest = rest} {j = j} e is y l h =
     ∙ ap (λ h. mine h e) (sym is)
 
 -- ---- what is left of a polynomial in descending order is one
-rest-below : (g : List ℕ) (O : Rank) (e : List ℕ) (p : Terms Fraction) → Below O e p
-    → Below O e (rest_of g p)
-unfolding Each
-rest-below g O e [] h = tt
-rest-below g O e (t ∷ p) h = go (mine g t.0) (rest-below g O e p h.1)
-  where
-    go : (b : Bool) → Below O e (rest_of g p) → Below O e (cond b (rest_of g p) (t ∷ rest_of g p))
-    go true k = k
-    go false k = (h.0, k)
-
 rest-each : (g : List ℕ) (P : List ℕ × Fraction → Type 0) (p : Terms Fraction) → Each P p
     → Each P (rest_of g p)
 unfolding Each
@@ -197,7 +194,7 @@ rest-falls g O (t ∷ p) h = go (mine g t.0) (rest-falls g O p h.1)
   where
     go : (b : Bool) → Falls O (rest_of g p) → Falls O (cond b (rest_of g p) (t ∷ rest_of g p))
     go true k = k
-    go false k = (rest-below g O t.0 p h.0, k)
+    go false k = (rest-each g _ p h.0, k)
 
 pub rest_polynomial : (N : Arithmetic Fraction) (O : Rank) {m : ℕ} (g : List ℕ) {p : Terms Fraction}
     → IsPolynomial N O m p → IsPolynomial N O m (rest_of g p)

@@ -5,14 +5,14 @@
 --   next_whole, sum_left             the class that comes next is one;  its zeros, and those that are left without them
 --   bodies-count                     how many polynomials there are;  body_at, item_at: one of them
 --   over_normals, put_over           they stay over their base
-use Rattle.std.proofs.Common.{◌≡◌, ◌≢◌, ◌⊎◌, inl, inr, ◌<◌, ◌≤◌, ℕ, zero, suc, ◌+◌, List, [], ◌∷◌, ◌++◌, length, get_or, set, Option, Some, None, refl, sym, ap, subst, ◌∙◌, arith, append_assoc, below_more}
+use Rattle.std.proofs.Common.{◌≡◌, inl, inr, ◌<◌, ◌≤◌, ℕ, zero, suc, ◌+◌, List, [], ◌∷◌, ◌++◌, length, get_or, set, Option, Some, None, refl, sym, ap, subst, ◌∙◌, arith, append_assoc, below_more}
 use Rattle.std.specs.List.{concat}
 use Rattle.std.proofs.lemmas.List.Folds.{concat-append}
 use Rattle.std.proofs.lemmas.List.{append-nil, length-map, length-set, length_push, get_or-set_same, get_or-set_other, get_or_append_left, get_or_push, get_or-map, get_or_past}
-use Rattle.std.proofs.lemmas.Bool.{cases_eq, cases_lt}
+use Rattle.std.proofs.lemmas.Bool.{cases_lt}
 use Rattle.algebra.specs.Each.{Each}
 use Rattle.algebra.specs.In.{In}
-use Rattle.algebra.proofs.In.{in_get, in_place, in_left, in_right}
+use Rattle.algebra.proofs.In.{in_left, in_right}
 use Rattle.algebra.specs.Fraction.{Fraction}
 use Rattle.polynomials.specs.Order.{grevlex}
 use Rattle.polynomials.specs.Polynomial.{AllArity}
@@ -25,6 +25,9 @@ use Rattle.poly.specs.Seen.{terms_in}
 use Rattle.solvable_maps.specs.Classes.{IsClass, first_of}
 use Rattle.solvable_maps.specs.AfterIterations.{place, IsAfterIterations}
 use Rattle.solvable_maps.specs.Iterations.{width, IsNormalForm, IsClosedFormFrom}
+use Rattle.solvable_maps.proofs.Classes.{member_dec}
+use Rattle.solvable_maps.proofs.ClassSteps.{place_in}
+use Rattle.solvable_maps.proofs.Made.{in_place}
 use Rattle.solvable_maps.proofs.Classwise.{whole_more, next_apart, next_is_class, later_turned, turned_none, turned_more, turned_all}
 use Rattle.expo.specs.declared.exponential.Expo.{Expo}
 use Rattle.closed_forms.specs.Known.{AreKnown, IsReady}
@@ -54,12 +57,6 @@ place-get : (g : List ℕ) (a d : ℕ) → a < length g → get_or g a d ≡ pla
 place-get [] a d l = absurd (omega (arith, l))
 place-get (i ∷ g) zero d l = refl
 place-get (i ∷ g) (suc a) d l = place-get g a d (omega (arith, l))
-
-at_place : (g : List ℕ) (i : ℕ) → In i g → (a : ℕ) × (a < length g) × (i ≡ place g a)
-at_place g i h = (let r = in_place g 0 i h in (r.0, r.1, sym r.2 ∙ place-get g r.0 0 r.1))
-
-place_in : (g : List ℕ) (a : ℕ) → a < length g → In (place g a) g
-place_in g a l = subst (λ i. In i g) (place-get g a 0 l) (in_get g a 0 l)
 
 -- ---- one set at a place
 -- the last of news goes to its place first
@@ -242,10 +239,10 @@ module _ {base : List ℕ} {images : List (Terms Fraction)} {splits : List (Opti
 
       at_new : (i : ℕ) → In i g → IsAfterIterations base images d i (poly_at (bodies_of new) i)
       at_new i inside =
-          let r = at_place g i inside in
+          let r = in_place g i inside in
           let a = r.0 in
           let l = r.1 in
-          let is = r.2 in
+          let is = sym r.2 in
           let s = bodies-count new in
           let b = ((next_whole h).is.inside i inside).0 in
           subst (λ j. IsAfterIterations base images d j (poly_at (bodies_of new) j)) (sym is)
@@ -280,31 +277,14 @@ over_normals {base = base} {m = m} (e ∷ es) h = (
       (λ k d l. h (suc k) d (omega (arith, l))),
 )
 
-abbrev IsFound : ℕ → List ℕ → Type 0
-IsFound i g = ((a : ℕ) × (a < length g) × (i ≡ place g a))
-    ⊎ ((a : ℕ) → a < length g → i ≢ place g a)
-
-found : (i : ℕ) (g : List ℕ) → IsFound i g
-found i [] = inr (λ a l. absurd (omega (arith, l)))
-found i (j ∷ g) = elim (cases_eq i j) [
-  | inl e ↦ inl (0, omega arith, e)
-  | inr n ↦ later i j g n (found i g)
-]
-  where
-    later : (i j : ℕ) (g : List ℕ) → i ≢ j → IsFound i g → IsFound i (j ∷ g)
-    later i j g n (inl (a, l, e)) = inl (suc a, omega (arith, l), e)
-    later i j g n (inr f) = inr (λ a. go a)
-      where
-        go : (a : ℕ) → a < length (j ∷ g) → i ≢ place (j ∷ g) a
-        go zero l = n
-        go (suc a) l = f a (omega (arith, l))
-
 pub put_over : (base : List ℕ) {m : ℕ} (g : List ℕ) (news old new : List Expo)
     → IsPut g news old new → length news ≡ length g → AreOver base m news → AreOver base m old
     → AreOver base m new
-put_over base {m = m} g news old new put count h k = λ i d l. elim (found i g) [
-  | inl r ↦ (let b = r.1 in subst (IsExpoOver base m) (sym (ap (λ j. get_or new j d) r.2
-      ∙ put.each r.0 d b)) (h r.0 d (omega (arith, count, b))))
-  | inr n ↦ subst (IsExpoOver base m) (sym (put.others i d n))
+put_over base {m = m} g news old new put count h k = λ i d l. elim (member_dec i g) [
+  | yes inside ↦ (let r = in_place g i inside in let b = r.1 in subst (IsExpoOver base m)
+      (sym (ap (λ j. get_or new j d) (sym r.2) ∙ put.each r.0 d b))
+      (h r.0 d (omega (arith, count, b))))
+  | no outside ↦ subst (IsExpoOver base m) (sym (put.others i d (λ a b e.
+      outside (subst (λ j. In j g) (sym e) (place_in g a b)))))
       (k i d (let c = put.count in omega (arith, c, l)))
 ]

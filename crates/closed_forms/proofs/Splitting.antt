@@ -4,7 +4,7 @@
 --   map_of               the polynomials are a map
 --   this_class, later_classes     the first of some classes, and the later ones
 --   first_is, first_read, same_first     the first variable of a class; classes with the same first variable are the same
---   class_inside         the variables of a class
+--   class_inside, groups_inside     the variables of a class, and of all classes
 --   matrix_count, matrix_square, split_is, matrix_refused      a class's matrix as the code has it
 --   among_none, among_skip, among_here      the class that begins with a variable
 --   first_refused        the first class that is refused
@@ -25,7 +25,7 @@ use Rattle.linear.specs.Rows.{fractions_of, rows_of}
 use Rattle.vectors.specs.Matrices.{AreForms, SplitsAt}
 use Rattle.poly.specs.Seen.{terms_each}
 use Rattle.solvable.proofs.Using.{FracPoly, length_each, is_map}
-use Rattle.solvable.specs.Refusal.{IsSolvable}
+use Rattle.solvable.specs.Refusal.{AreClassesOf, IsSolvable}
 use Rattle.eigen_split.specs.Refusal as eigen
 use Rattle.eigen_split.specs.declared.EigenError.{EigenError}
 use Rattle.eigen_split.specs.declared.splitting.Split.{Split}
@@ -223,9 +223,14 @@ pub class_inside : (images : List FracPoly) {g : List ℕ} → IsClass (terms_ea
 class_inside images {g = g} class k d l = subst (λ n. get_or g k d < n) (length_each images)
     (class.is.inside (get_or g k d) (in_get g k d l)).0
 
-mapped_widths : (f : ℕ → List Fraction) (n : ℕ) → ((i : ℕ) → length (f i) ≡ n) → (g : List ℕ)
-    → Each (λ (row : List Fraction). length row ≡ n) (map f g)
-mapped_widths f n h g = each-map _ f g (each_of (λ i. length (f i) ≡ n) h g)
+pub groups_inside : (images : List FracPoly) (groups : List (Vec ℕ Global)) {n : ℕ}
+    → length images ≡ n → AreClassesOf (terms_each images) groups
+    → All (λ (g : Vec ℕ Global). All (λ i. i < n) g.items) groups
+groups_inside images groups {n} e h k d l =
+    let all = classes_are (terms_each images) [] (groups_in groups) h in
+    let inside = map-in (λ (g : Vec ℕ Global). g.items) groups _ (in_get groups k d l) in
+    subst (λ n. All (λ i. i < n) (get_or groups k d).items) e (class_inside images
+    (each_in (IsClass (terms_each images)) (groups_in groups) _ all inside))
 
 pub widths_all : (xs : List (Vec Frac Global)) {rows : List (List Fraction)} (n : ℕ)
     → rows_of xs ≡ rows → Each (λ (row : List Fraction). length row ≡ n) rows
@@ -244,9 +249,9 @@ module _ (images : List (Terms Fraction)) (g : List ℕ) (xs : List (Vec Frac Gl
 
   matrix-widths : Each (λ (row : List Fraction). length row ≡ length g) (class_matrix images g)
   matrix-widths =
-      mapped_widths (λ i. map (λ j. coefficient ℚ (poly_at images i) (unit (length images) j)) g)
-      (length g)
-      (λ i. length-map g (λ j. coefficient ℚ (poly_at images i) (unit (length images) j))) g
+      each-map _ (λ i. map (λ j. coefficient ℚ (poly_at images i) (unit (length images) j)) g) g
+      (each_of _ (λ i. length-map g (λ j. coefficient ℚ (poly_at images i)
+      (unit (length images) j))) g)
 
   pub matrix_wide : All (λ (row : Vec Frac Global). length row.items ≡ length g) xs
   matrix_wide = widths_all xs (length g) is matrix-widths

@@ -1,12 +1,13 @@
 -- The branch after each number of iterations, as the code makes it.
---   variable_next, variables_all      the variables, one after another
+--   variable_next                     the variables, one after another
 --   image_next, images_all            the images with a state for their variables
 --   states_count, state_at, states_next     the states
 --   past_image, state_length, state_over, next_is, past_state, listed     what the code asks of them, and what is past
-use Rattle.std.proofs.Common.{◌≡◌, ◌⊎◌, inl, inr, ℕ, zero, suc, ◌+◌, ◌<◌, ◌≤◌, List, [], ◌∷◌, ◌++◌, map, length, take, drop, get_or, slice_get, Option, Some, All, Vec, Global, refl, sym, ap, ap₂, subst, ◌∙◌, arith, append_assoc, append-nil}
+use Rattle.std.proofs.Common.{◌≡◌, ◌⊎◌, inl, inr, ℕ, zero, suc, ◌+◌, ◌<◌, ◌≤◌, List, [], ◌∷◌, ◌++◌, map, length, take, drop, get_or, slice_get, Option, All, Vec, Global, refl, sym, ap, ap₂, subst, ◌∙◌, arith}
 use Rattle.std.specs.Option.{IsSomeAnd, option_map}
-use Rattle.std.proofs.lemmas.List.{drop_all, length-map, length_push, map_push, get_or-map, get_or_append_left, get_or_push}
+use Rattle.std.proofs.lemmas.List.{length-map, length_push, map_push, get_or-map, get_or_append_left, get_or_push}
 use Rattle.std.proofs.lemmas.Option.{slice_get-map}
+use Rattle.std.proofs.lemmas.Simd.{map-map}
 use Rattle.algebra.specs.Each.{Each}
 use Rattle.algebra.proofs.Lists.{take_next}
 use Rattle.algebra.specs.Fraction.{Fraction, ℚ, fractions}
@@ -16,7 +17,7 @@ use Rattle.polynomials.specs.Exponent.{unit_exponents}
 use Rattle.polynomials.specs.Order.{grevlex}
 use Rattle.polynomials.specs.Polynomial.{IsPolynomial, Falls}
 use Rattle.polynomials.specs.Terms.{Terms, Same, variables, compose}
-use Rattle.polynomials.proofs.Arity.{arity-compose, length-units}
+use Rattle.polynomials.proofs.Arity.{arity-compose}
 use Rattle.polynomials.proofs.Canonical.{polynomial_unique}
 use Rattle.polynomials.proofs.Orders.{grevlex_order}
 use Rattle.solvable_maps.specs.Uses.{unit}
@@ -24,6 +25,7 @@ use Rattle.solvable_maps.proofs.Exponents.{length-unit, unit_get}
 use Rattle.monos.specs.declared.order.Grevlex.{Grevlex}
 use Rattle.poly.specs.Seen.{terms_in, terms_each, arity_of, Is}
 use Rattle.solvable.proofs.Using.{FracPoly, length_each, poly_at-is}
+use Rattle.expo.proofs.ImageLists.{variable_pushed}
 use Rattle.closed_forms.specs.Inhomogeneities.{collect_terms}
 use Rattle.closed_forms.specs.States.{next_of, after, states_to, IsPastNextState, IsPastState}
 use Rattle.closed_forms.proofs.Ahead.{after_count}
@@ -31,23 +33,13 @@ use Rattle.closed_forms.proofs.Making.{arity_of_is, poly_is}
 use Rattle.closed_forms.proofs.Mixing.{polys_arity}
 
 -- ---- the variables
-variables_get : (m i : ℕ) → i < m → slice_get (variables ℚ m) i ≡ Some ((unit m i, ℚ.one) ∷ [])
-unfolding variables
-variables_get m i l = slice_get-map (λ e. (e, ℚ.one) ∷ []) (unit_exponents m) i
-    ∙ ap (option_map (λ e. (e, ℚ.one) ∷ [])) (unit_get m i l)
-
-drop_some : (xs : List (Terms Fraction)) (i : ℕ) {x : Terms Fraction} → slice_get xs i ≡ Some x
-    → drop i xs ≡ x ∷ drop (i + 1) xs
-drop_some [] i e = absurd (let z : ⊥ = cc in z)
-drop_some (y ∷ xs) zero {x = x} e = (let own : y ≡ x = cc in ap (λ z. z ∷ xs) own)
-drop_some (y ∷ xs) (suc i) {x = x} e = drop_some xs i e
-    ∙ ap (λ k. x ∷ drop k (y ∷ xs)) (let h : suc (i + 1) ≡ suc i + 1 = omega arith in h)
-
 module _ (o : Grevlex) (m i : ℕ) (l : i < m) (p : FracPoly)
     (is : IsSomeAnd (slice_get (variables ℚ m) i) (λ x. Is o m x p)) where
   made : Is o m ((unit m i, ℚ.one) ∷ []) p
+  unfolding variables
   made = subst (λ (s : Option (Terms Fraction)). IsSomeAnd s (λ x. Is o m x p))
-      (variables_get m i l) is
+      (slice_get-map (λ e. (e, ℚ.one) ∷ []) (unit_exponents m) i
+      ∙ ap (option_map (λ e. (e, ℚ.one) ∷ [])) (unit_get m i l)) is
 
   one_polynomial : IsPolynomial ℚ grevlex m ((unit m i, ℚ.one) ∷ [])
   unfolding Each Falls
@@ -69,20 +61,9 @@ module _ (o : Grevlex) (m i : ℕ) (l : i < m) (p : FracPoly)
   pub variable_next : (out : List FracPoly) {more : List FracPoly} → more ≡ out ++ p ∷ []
       → terms_each out ++ drop i (variables ℚ m) ≡ variables ℚ m
       → terms_each more ++ drop (i + 1) (variables ℚ m) ≡ variables ℚ m
-  variable_next out e h =
-      let rest = drop (i + 1) (variables ℚ m) in
-      ap (λ l. l ++ rest) (ap terms_each e ∙ map_push terms_in out p) ∙ append_assoc
-      (terms_each out) (terms_in p ∷ []) rest ∙ ap (λ q. terms_each out ++ q ∷ rest) variable_terms
-      ∙ ap (λ l. terms_each out ++ l) (sym (drop_some (variables ℚ m) i (variables_get m i l))) ∙ h
-
-pub variables_all : (m i : ℕ) (out : List FracPoly) → m ≤ i
-    → terms_each out ++ drop i (variables ℚ m) ≡ variables ℚ m → terms_each out ≡ variables ℚ m
-unfolding variables
-variables_all m i out l h =
-    let count : length (variables ℚ m) ≡ m = length-map (unit_exponents m) _ ∙ length-units m in
-    sym (append-nil (terms_each out))
-    ∙ ap (λ x. terms_each out ++ x) (sym (drop_all i (variables ℚ m) (omega (arith, l, count))))
-    ∙ h
+  variable_next out {more} e h = variable_pushed (λ (q : FracPoly). terms_in q) out more p e m i
+      (i + 1) ℚ.one (variables ℚ m) (omega arith) refl
+      (record { exponents = unit m i; unit = unit_get m i l; terms = variable_terms }) h
 
 -- ---- a state after another one
 abbrev pub turned : ℕ → List (Terms Fraction) → FracPoly → Terms Fraction
@@ -103,17 +84,13 @@ image_next m state images out i {image = image} p some over l is e a s h =
     (terms_in p) (compose ℚ n (terms_in image) S)) at s))
     ∙ sym (take_next (turned m S) images i image l is)
 
-turned_each : (m : ℕ) (state : List (Terms Fraction)) (images : List FracPoly)
-    → map (turned m state) images ≡ next_of m (terms_each images) state
-turned_each m state [] = refl
-turned_each m state (p ∷ images) = ap (λ l. turned m state p ∷ l) (turned_each m state images)
-
 pub images_all : (m i : ℕ) (state : List (Terms Fraction)) {images : List FracPoly}
     (out : List FracPoly)
     → terms_each out ≡ map (turned m state) (take i images) → take i images ≡ images
     → terms_each out ≡ next_of m (terms_each images) state
 images_all m i state {images = images} out h e =
-    h ∙ ap (map (turned m state)) e ∙ turned_each m state images
+    h ∙ ap (map (turned m state)) e
+    ∙ sym (map-map (λ p. collect_terms (compose ℚ m p state)) terms_in images)
 
 -- ---- all states
 abbrev pub told : List (Vec FracPoly Global) → List (List (Terms Fraction))

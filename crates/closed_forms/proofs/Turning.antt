@@ -4,11 +4,11 @@
 --   next_done            all forms, one after another
 --   variable_turned      a variable, where all forms are known: from as many iterations more on as there are zeros
 --   past_next, past_row  what is past in making a form or a variable
-use Rattle.std.proofs.Common.{◌≡◌, ◌≢◌, ℕ, zero, suc, ◌+◌, ◌-◌, ◌<◌, ◌≤◌, List, [], ◌∷◌, ◌++◌, map, length, take, refl, sym, ap, ap₂, subst, ◌∙◌, arith, below_more}
+use Rattle.std.proofs.Common.{◌≡◌, ◌≢◌, ℕ, zero, suc, ◌+◌, ◌-◌, ◌<◌, ◌≤◌, List, [], ◌∷◌, ◌++◌, map, length, take, drop, refl, sym, ap, ap₂, subst, ◌∙◌, arith, below_more, take-append-drop}
 use Rattle.std.proofs.lemmas.List.{length-take-le, take_all, get_or-take}
 use Rattle.std.proofs.lemmas.Simd.{map-map}
 use Rattle.algebra.specs.Each.{Each}
-use Rattle.algebra.proofs.Each.{each-append, each_weaker}
+use Rattle.algebra.proofs.Each.{each-append, each-left, each_weaker}
 use Rattle.algebra.proofs.In.{each_from}
 use Rattle.algebra.specs.Fraction.{Fraction, ℚ}
 use Rattle.algebra.proofs.Fractions.{ℚ_ring, ℚ_field}
@@ -55,10 +55,8 @@ poly_taken : (ys : List (Terms Fraction)) (k i : ℕ) → i < k → poly_at (tak
 poly_taken ys k i l = poly_get (take k ys) i ∙ get_or-take k ys i [] l ∙ sym (poly_get ys i)
 
 each_taken : {X : Type 0} (P : X → Type 0) (k : ℕ) (xs : List X) → Each P xs → Each P (take k xs)
-unfolding Each
-each_taken P zero xs h = tt
-each_taken P (suc k) [] h = tt
-each_taken P (suc k) (x ∷ xs) h = (h.0, each_taken P k xs h.1)
+each_taken P k xs h =
+    each-left P (take k xs) (drop k xs) (subst (Each P) (sym (take-append-drop k xs)) h)
 
 pub normal-arities : (base : List ℕ) (m : ℕ) (ps : List (Terms Fraction))
     → Each (IsNormalForm base grevlex m) ps → Each (Arity (width (length base) m)) ps

@@ -9,7 +9,7 @@ ghost use Rattle.linear.specs.Rows.{fractions_of};
 ghost use Rattle.coprime_base.specs.Sizes.{sizes, ArePositive};
 ghost use Rattle.solvable_maps.specs.Classes.{sizes_of};
 ghost use Rattle.closed_forms.specs.Limits.{most_images, most_in_base};
-ghost use Rattle.closed_forms.specs.States.{some_of};
+ghost use Rattle.closed_forms.specs.States.{some_of, zeros_in};
 ghost use Rattle.closed_forms.specs.Values.{values_in, size_at};
 
 use coprime_base::base;
@@ -18,25 +18,44 @@ use frac128::{Frac, Whole};
 use ring_laws::Ring;
 use std::alloc::{AllocError, AllocFailed, Global};
 
-/// The base of the sizes of the numerators and denominators of all values but zero, which are at most 12.
-pub(crate) fn base_of(alloc: Global, splits: &[Option<Split>]) -> Result<Vec<Whole>, AllocError>
-    requires few { length (values_in splits.now) ≤ most_images }
+/// Of at most 12 values: the base of the sizes of the numerators and denominators of all but zero, and how many are zero.
+pub(crate) fn base_of(
+    alloc: Global,
+    splits: &[Option<Split>],
+) -> Result<(Vec<Whole>, u32), AllocError>
+    requires { length (values_in splits.now) ≤ most_images }
     ensures base { IfOk result
-        (λ found. IsTheBase (sizes_of (some_of (values_in splits.now))) (sizes found.items)) }
-    ensures few { IfOk result (λ found. length found.items ≤ most_in_base) }
+        (λ found. IsTheBase (sizes_of (some_of (values_in splits.now))) (sizes found.0.items)) }
+    ensures few { IfOk result (λ found. length found.0.items ≤ most_in_base) }
+    ensures zeros { IfOk result (λ found. found.1 ≡ zeros_in (values_in splits.now)) }
 {
     let mut values = Vec::new(alloc);
     push_values(&mut values, splits)?;
+    let mut some = Vec::new(alloc);
+    push_some(&mut some, values.as_slice())?;
+    let base = base_among(alloc, some.as_slice())?;
+    let zeros = (values.len() - some.len()) as u32;
+    Ok((base, zeros))
+}
+
+/// The base of the sizes of the numerators and denominators of at most 12 values that aren't zero.
+fn base_among(alloc: Global, values: &[Frac]) -> Result<Vec<Whole>, AllocError>
+    requires nonzero { Each (λ c. c ≢ ℚ.zero) (fractions_of values.now) }
+    requires few { length values.now ≤ most_images }
+    ensures base { IfOk result
+        (λ found. IsTheBase (sizes_of (fractions_of values.now)) (sizes found.items)) }
+    ensures few { IfOk result (λ found. length found.items ≤ most_in_base) }
+{
     let mut sizes = Vec::new(alloc);
-    push_sizes(&mut sizes, values.as_slice(), false)?;
-    push_sizes(&mut sizes, values.as_slice(), true)?;
+    push_sizes(&mut sizes, values, false)?;
+    push_sizes(&mut sizes, values, true)?;
     base(alloc, &sizes)
 }
 
-/// Puts the values of the splittings that there are, but zero, behind the others.
-fn push_values(out: &mut Vec<Frac>, splits: &[Option<Split>]) -> Result<(), AllocFailed<Frac>>
+/// Puts the values of the splittings that there are behind the others.
+fn push_values(out: &mut Vec<Frac>, splits: &[Option<Split>]) -> Result<(), AllocError>
     ensures { OnOk result (fractions_of out.new.items
-        ≡ fractions_of out.old.items ++ some_of (values_in splits.now)) }
+        ≡ fractions_of out.old.items ++ values_in splits.now) }
 {
     let Some((first, splits)) = splits.split_first() else {
         return Ok(());
@@ -44,7 +63,7 @@ fn push_values(out: &mut Vec<Frac>, splits: &[Option<Split>]) -> Result<(), Allo
     match first {
         None => push_values(out, splits),
         Some(split) => {
-            push_some(out, split.values.as_slice())?;
+            out.extend_from_slice(split.values.as_slice())?;
             push_values(out, splits)
         }
     }

@@ -28,7 +28,7 @@ pub(crate) struct Comparison<'a> {
 }
 
 impl Comparison<'_> {
-    ghost use Rattle.std.specs.Prelude.{◌≢◌, List, OnOk, IfErr};
+    ghost use Rattle.std.specs.Prelude.{◌≢◌, ◌≤◌, List, OnOk, IfErr};
     ghost use Rattle.algebra.specs.Fraction.{Fraction};
     ghost use Rattle.polynomials.specs.Terms.{Terms};
     ghost use Rattle.closed_forms.specs.Comparison.{list_at, AreMarkedBy, IsPastBy, IsSettlingBy};
@@ -39,19 +39,19 @@ impl Comparison<'_> {
     /// `WideForm` only with the first variable of a class of which what one is at a number of iterations below `since` is past.
     pub(crate) fn least(&self, alloc: Global, since: u32) -> Result<u32, FormsError>
         requires { since < length self.now.states.now.items }
-        ensures settled { (images : List (Terms Fraction)) (base : List ℕ)
+        ensures settled { (images : List (Terms Fraction)) (base : List ℕ) (z : ℕ) → since ≤ z
             → IsSettlingBy self.now images base since
-            → IfOk result (IsSettled images base self.now.polys.now.items since) }
-        ensures refused { (images : List (Terms Fraction)) (base : List ℕ)
+            → IfOk result (IsSettled images base self.now.polys.now.items z) }
+        ensures refused { (images : List (Terms Fraction)) (base : List ℕ) (z : ℕ) → since ≤ z
             → IsSettlingBy self.now images base since
-            → IfErr result (IfWideIteration base images since) }
+            → IfErr result (IfWideIteration base images z) }
     {
         if since == 0 {
             return Ok(0);
         }
         match self.apart(alloc, since - 1) {
             Ok(marks) => {
-                if has_any(&marks) {
+                if marks.contains(&true) {
                     return Ok(since);
                 }
                 self.least(alloc, since - 1)
@@ -127,21 +127,6 @@ impl Comparison<'_> {
         marks[*variable] = !same;
         self.mark_class(alloc, group, iterations, marks)
     }
-}
-
-/// Whether some mark is set.
-fn has_any(marks: &[bool]) -> bool
-    ensures none { result ≡ false → (i : ℕ) → get_or marks.now i false ≡ false }
-    ensures some { result ≡ true
-        → (i : ℕ) × (i < length marks.now) × (get_or marks.now i false ≡ true) }
-{
-    let Some((mark, marks)) = marks.split_first() else {
-        return false;
-    };
-    if *mark {
-        return true;
-    }
-    has_any(marks)
 }
 
 /// The first variable of a class.

@@ -21,7 +21,6 @@ use crate::begins::Comparison;
 use crate::class::SplitClass;
 use crate::lengths::long_class;
 use crate::square_map::SquareMap;
-use crate::states::zeros_of;
 use crate::{Form, FormsError};
 use eigen_split::Split;
 use expo::Expo;
@@ -68,8 +67,7 @@ impl<'a> MapInWork<'a> {
         if let Some(variable) = long_class(alloc, map.images, &classes)? {
             return Err(FormsError::LimitForm { variable });
         }
-        let base = base_of(alloc, &splits)?;
-        let iterations = zeros_of(&splits);
+        let (base, iterations) = base_of(alloc, &splits)?;
         let states = match map.states(alloc, iterations) {
             Ok(states) => states,
             Err(ArithmeticError::Wide) => return Err(FormsError::WideForm { variable: 0 }),

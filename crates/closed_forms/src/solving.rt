@@ -52,13 +52,17 @@ impl Recurrence<'_, '_> {
             OnOk result (terms_of fraction_of out.new.items ≡ terms_of fraction_of out.old.items
             ++ homogeneous_part self.now.vars x w group.now) }
     {
-        for (number, variable) in form.iter().zip(group) {
-            let mono = self.growing_monomial(alloc, *variable)?;
-            out.push(Term {
-                mono,
-                coef: *number,
-            })?;
-        }
-        Ok(())
+        let (Some((number, form)), Some((variable, group))) = (
+            form.split_first(),
+            group.split_first(),
+        ) else {
+            return Ok(());
+        };
+        let mono = self.growing_monomial(alloc, *variable)?;
+        out.push(Term {
+            mono,
+            coef: *number,
+        })?;
+        self.push_growing(alloc, out, form, group)
     }
 }

@@ -3,48 +3,16 @@ ghost use Rattle.std.specs.Prelude.{◌≡◌, ◌≤◌, All, length, map, IfOk
 ghost use Rattle.algebra.specs.Fraction.{ℚ};
 ghost use Rattle.polynomials.specs.Terms.{variables as variables_of};
 ghost use Rattle.poly.specs.Seen.{terms_each};
-ghost use Rattle.linear.specs.Rows.{fractions_of};
 ghost use Rattle.closed_forms.specs.Limits.{most_images};
 ghost use Rattle.closed_forms.specs.SquareMap.{polys_by, size_by};
-ghost use Rattle.closed_forms.specs.States.{zeros_in, next_of, states_to, IsPastNextState, IsPastState};
-ghost use Rattle.closed_forms.specs.Values.{values_in};
+ghost use Rattle.closed_forms.specs.States.{next_of, states_to, IsPastNextState, IsPastState};
 
 use crate::square_map::SquareMap;
-use eigen_split::Split;
 use frac128::Frac;
 use monos::Grevlex;
 use poly::Poly;
-use ring_laws::{ArithmeticError, Ring};
+use ring_laws::ArithmeticError;
 use std::alloc::{AllocError, Global};
-
-/// How many values of the splittings that there are are zero.
-pub(crate) fn zeros_of(splits: &[Option<Split>]) -> u32
-    requires { length (values_in splits.now) ≤ most_images }
-    ensures { result ≡ zeros_in (values_in splits.now) }
-{
-    let Some((first, splits)) = splits.split_first() else {
-        return 0;
-    };
-    match first {
-        None => zeros_of(splits),
-        Some(split) => zeros_among(split.values.as_slice()) + zeros_of(splits),
-    }
-}
-
-/// How many of some values are zero.
-fn zeros_among(values: &[Frac]) -> u32
-    requires { length values.now ≤ most_images }
-    ensures { result ≡ zeros_in (fractions_of values.now) }
-{
-    let Some((value, values)) = values.split_first() else {
-        return 0;
-    };
-    if value.is_zero() {
-        zeros_among(values) + 1
-    } else {
-        zeros_among(values)
-    }
-}
 
 impl SquareMap<'_> {
     /// The variables, and the branch after each number of iterations from one to this one. `Wide` only where the weight of a composition is past.

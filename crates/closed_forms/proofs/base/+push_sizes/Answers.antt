@@ -1,15 +1,18 @@
-use Rattle.std.proofs.Common.{pos, ◌<ℤ◌}
+use Rattle.std.proofs.Common.{pos, ◌<ℤ◌, map, refl}
 use Rattle.std.proofs.lemmas.Result.{on_ok_weaker}
 use Rattle.frac128.specs.declared.Whole.{Whole}
+use Rattle.linear.specs.Rows.{fractions_of}
 use Rattle.coprime_base.specs.Sizes.{sizes}
 use Rattle.algebra.proofs.Lists.{have_more}
 use Rattle.closed_forms.specs.Values.{size_at}
-use Rattle.closed_forms.proofs.Sizing.{behind_none, behind_next, head_nonzero}
+use Rattle.closed_forms.proofs.Mixing.{nothing_behind}
+use Rattle.closed_forms.proofs.Sizing.{behind_next, head_nonzero}
 use Rattle.closed_forms.proofs.base.+push_sizes.Goals as goal
 
 pub returns-in_default-clause-sizes : goal.returns-in_default-clause-sizes
-returns-in_default-clause-sizes t c = behind_none (size_at c.args.below)
-    (sizes c.args.out.now.items) _ c.in_default.ensures.cases
+returns-in_default-clause-sizes t c = nothing_behind
+    (λ values. map (size_at c.args.below) (fractions_of values)) refl _
+    (sizes c.args.out.now.items) c.in_default.ensures.cases
 
 pub returns-clause-sizes : goal.returns-clause-sizes
 returns-clause-sizes t c =

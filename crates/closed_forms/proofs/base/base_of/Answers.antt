@@ -1,56 +1,81 @@
-use Rattle.std.proofs.Common.{◌≡◌, ◌≢◌, true, false, List, ◌++◌, map, sym, ap, subst, ◌∙◌, length, ◌≤◌, arith}
-use Rattle.std.proofs.lemmas.Result.{IfOk-weaker}
+use Rattle.std.proofs.Common.{◌≡◌, ◌≢◌, ◌≤◌, ◌+◌, length, sym, ap, subst, ◌∙◌, arith}
 use Rattle.algebra.specs.Each.{Each}
-use Rattle.algebra.specs.Fraction.{Fraction, ℚ}
+use Rattle.algebra.proofs.In.{each_from}
+use Rattle.algebra.specs.Fraction.{ℚ}
 use Rattle.exponentials.specs.Base.{IsTheBase}
-use Rattle.frac128.specs.declared.fraction.Frac.{Frac}
 use Rattle.linear.specs.Rows.{fractions_of}
-use Rattle.coprime_base.specs.Sizes.{sizes, ArePositive}
+use Rattle.linear.proofs.Lists.{fractions-length}
+use Rattle.coprime_base.specs.Sizes.{sizes}
 use Rattle.solvable_maps.specs.Classes.{sizes_of}
-use Rattle.closed_forms.specs.States.{some_of}
-use Rattle.closed_forms.specs.Values.{values_in, size_at}
-use Rattle.closed_forms.proofs.Sizing.{values_are, positive_none, sizes_are, few_sizes, some_nonzero, some_few}
+use Rattle.closed_forms.specs.States.{some_of, zeros_in}
+use Rattle.closed_forms.specs.Values.{values_in}
+use Rattle.closed_forms.proofs.Ahead.{zeros_counted}
+use Rattle.closed_forms.proofs.Filling.{in_some}
+use Rattle.closed_forms.proofs.Sizing.{values_are}
 use Rattle.closed_forms.proofs.base.base_of.Goals as goal
-use Rattle.closed_forms.proofs.base.base_of.Goals.{In_ok-push_sizes-2}
+use Rattle.closed_forms.proofs.base.base_of.Goals.{In_ok-push_some}
 
--- the sizes of all values
-module _ (c : In_ok-push_sizes-2) where
-  abbrev vs : List Fraction
-  vs = some_of (values_in c.args.splits.now)
+-- all values, and those that aren't zero
+module _ (c : In_ok-push_some) where
+  seen : fractions_of c.push_values.new.out.items ≡ values_in c.args.splits.now
+  seen = values_are _ _ c.in_ok-push_values.ensures c.new-values.ensures.items
 
-  seen : fractions_of c.push_values.new.out.items ≡ vs
-  seen = values_are _ vs c.in_ok-push_values.ensures c.new-values.ensures.items
+  some : fractions_of c.push_some.new.out.items ≡ some_of (values_in c.args.splits.now)
+  some = values_are _ _ c.in_ok-push_some.ensures c.new-some.ensures.items
+      ∙ ap some_of (ap fractions_of c.as_slice.ensures.value ∙ seen)
 
-  some : (given : List Frac) → given ≡ c.push_values.new.out.items
-      → Each (λ c. c ≢ ℚ.zero) (fractions_of given)
-  some given e = subst (Each (λ c. c ≢ ℚ.zero)) (sym (ap fractions_of e ∙ seen))
-      (some_nonzero (values_in c.args.splits.now))
+  counted : zeros_in (values_in c.args.splits.now) + length c.push_some.new.out.items
+      ≡ length c.push_values.new.out.items
+  counted =
+      let n = zeros_counted (values_in c.args.splits.now) in
+      let a = sym (fractions-length c.push_some.new.out.items) ∙ ap length some in
+      let b = sym (fractions-length c.push_values.new.out.items) ∙ ap length seen in
+      omega (arith, n, a, b)
 
-  positive : ArePositive c.push_sizes-2.new.out.items
-  positive = c.in_ok-push_sizes-2.ensures.positive (c.in_ok-push_sizes.ensures.positive
-      (positive_none c.new-sizes.ensures.items) (some _ c.as_slice.ensures.value))
-      (some _ c.as_slice-2.ensures.value)
+  few : length c.push_values.new.out.items ≤ 12
+  few = (let n = sym (fractions-length c.push_values.new.out.items) ∙ ap length seen in
+      omega (arith, n, c.requires))
 
-  all : sizes c.push_sizes-2.new.out.items ≡ sizes_of vs
-  all = sizes_are _ _ _ vs c.new-sizes.ensures.items
-      (c.in_ok-push_sizes.ensures.sizes ∙ ap (λ (l : List Frac). sizes c.new-sizes.result.items
-      ++ map (size_at false) (fractions_of l)) c.as_slice.ensures.value)
-      (c.in_ok-push_sizes-2.ensures.sizes ∙ ap (λ (l : List Frac). sizes
-      c.push_sizes.new.out.items ++ map (size_at true) (fractions_of l))
-      c.as_slice-2.ensures.value) seen
+pub base_among-requires-clause-nonzero : goal.base_among-requires-clause-nonzero
+base_among-requires-clause-nonzero c =
+    let vs = values_in c.args.splits.now in
+    subst (Each (λ c. c ≢ ℚ.zero)) (sym (ap fractions_of c.as_slice-2.ensures.value
+    ∙ some (goal.at.base_among-requires-clause-nonzero c).In_ok-push_some))
+    (each_from (some_of vs) (λ x i. (in_some vs x i).1))
 
-pub base-requires : goal.base-requires
-base-requires c = positive (goal.at.base-requires c).In_ok-push_sizes-2
+pub base_among-requires-clause-few : goal.base_among-requires-clause-few
+base_among-requires-clause-few c =
+    let at = (goal.at.base_among-requires-clause-few c).In_ok-push_some in
+    let n = counted at in
+    let m = few at in
+    let s = ap length c.as_slice-2.ensures.value in
+    omega (arith, n, m, s)
+
+pub overflow_sub-zeros : goal.overflow_sub-zeros
+overflow_sub-zeros c =
+    let n = counted (goal.at.overflow_sub-zeros c).In_ok-push_some in
+    omega (
+      arith,
+      n,
+      c.len.ensures,
+      c.len-2.ensures,
+      c.push_values.new.out.ok.0,
+      c.push_some.new.out.ok.0,
+    )
 
 pub returns-clause-base : goal.returns-clause-base
-returns-clause-base c =
-    IfOk-weaker c.base.result _ _ (λ found. subst (λ list. IsTheBase list (sizes found.items))
-    (all (goal.at.returns-clause-base c).In_ok-push_sizes-2)) c.base.ensures.base
+returns-clause-base c = subst (λ vs. IsTheBase (sizes_of vs) (sizes c.in_ok-base.base.items))
+    (ap fractions_of c.as_slice-2.ensures.value
+    ∙ some (goal.at.returns-clause-base c).In_ok-push_some) c.in_ok-base.ensures.base
 
-pub returns-clause-few : goal.returns-clause-few
-returns-clause-few c =
-    let at = (goal.at.returns-clause-few c).In_ok-push_sizes-2 in
-    let few = some_few (values_in c.args.splits.now) in
-    let size : length (vs at) ≤ 12 = omega (arith, few, c.requires.few) in
-    IfOk-weaker c.base.result _ _ (λ found is. few_sizes _ found.items (vs at) size (all at)
-    (positive at) is) c.base.ensures.base
+pub returns-clause-zeros : goal.returns-clause-zeros
+returns-clause-zeros c =
+    let n = counted (goal.at.returns-clause-zeros c).In_ok-push_some in
+    omega (
+      arith,
+      n,
+      c.len.ensures,
+      c.len-2.ensures,
+      c.push_values.new.out.ok.0,
+      c.push_some.new.out.ok.0,
+    )

@@ -1,7 +1,7 @@
 use Rattle.std.proofs.Common.{length, sym, ap, subst}
 use Rattle.closed_forms.specs.Lengths.{AreLengths}
-use Rattle.closed_forms.proofs.Forming.{groups_inside}
 use Rattle.closed_forms.proofs.LengthLaws.{ones, classes_some}
+use Rattle.closed_forms.proofs.Splitting.{groups_inside}
 use Rattle.closed_forms.proofs.lengths.long_class.Goals as goal
 
 pub first_long-requires-clause-sums : goal.first_long-requires-clause-sums

@@ -1,15 +1,12 @@
-use Rattle.std.proofs.Common.{refl, length, ◌≡◌, IsTrue, false, ap}
+use Rattle.std.proofs.Common.{refl, length, ◌≡◌, ap}
 use Rattle.std.proofs.lemmas.List.{drop_all}
 use Rattle.std.proofs.lemmas.List.Elements.{All-drop}
 use Rattle.solvable_maps.specs.Uses.{unit}
 use Rattle.frac128.specs.declared.fraction.Frac.{Frac}
 use Rattle.poly.specs.declared.Term.{Term}
-use Rattle.closed_forms.proofs.Alone.{none_alone, alone_here, alone_later, distinct_rest}
+use Rattle.closed_forms.proofs.Alone.{none_alone, alone_here, alone_later, distinct_rest, false_not_true}
 use Rattle.closed_forms.proofs.Mixing.{left_at}
 use Rattle.closed_forms.proofs.linear_parts.number_of.Goals as goal
-
-apart : IsTrue false → ⊥
-apart e = cc
 
 pub loop-term-init : goal.loop-term-init
 loop-term-init c = record { distinct = c.requires.distinct; number = λ m all x h. h }
@@ -23,7 +20,7 @@ loop-term-preserved c =
       distinct = distinct_rest _ _ is c.loop-term.invariant.distinct;
       number =
           λ m all x h. c.loop-term.invariant.number m all x (alone_later _ _ _ m x is
-          (λ e. apart (c.if-is_alone.ensures.1 e))
+          (λ e. false_not_true (c.if-is_alone.ensures.1 e))
           (All-drop (λ (u : Term Frac). length u.mono ≡ m) i ts all) h);
     }
 

@@ -1,13 +1,14 @@
-use Rattle.std.proofs.Common.{◌<◌, unsigned_abs, rules, SFits}
+use Rattle.std.proofs.Common.{◌<◌, map, refl, unsigned_abs, rules, SFits}
 use Rattle.std.proofs.lemmas.Result.{on_ok_weaker}
 use Rattle.std.proofs.lemmas.Int.{to_z-of_z}
 use mir.Syntax.{w32}
-use Rattle.closed_forms.proofs.Joining.{sides_none, sides_next}
-use Rattle.closed_forms.proofs.Mixing.{head_all, tail_all}
+use Rattle.expo.specs.Powers.{side_of}
+use Rattle.closed_forms.proofs.Joining.{sides_next}
+use Rattle.closed_forms.proofs.Mixing.{head_all, nothing_behind, tail_all}
 use Rattle.closed_forms.proofs.powers.+push_sides.Goals as goal
 
 pub returns-in_default : goal.returns-in_default
-returns-in_default t c = sides_none c.args.below _ c.args.out.now.items
+returns-in_default t c = nothing_behind (map (side_of c.args.below)) refl _ c.args.out.now.items
     c.in_default.ensures.cases
 
 pub side-requires : goal.side-requires

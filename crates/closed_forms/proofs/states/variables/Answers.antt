@@ -1,7 +1,8 @@
-use Rattle.std.proofs.Common.{◌≡◌, ◌≤◌, arith}
+use Rattle.std.proofs.Common.{◌≡◌, arith}
 use Rattle.algebra.proofs.Lists.{have_more}
 use Rattle.solvable.proofs.Using.{FracPoly}
-use Rattle.closed_forms.proofs.StateLists.{variable_next, variable_arity, variables_all}
+use Rattle.expo.proofs.ImageLists.{variables_done}
+use Rattle.closed_forms.proofs.StateLists.{variable_next, variable_arity}
 use Rattle.closed_forms.proofs.states.variables.Goals as goal
 
 pub loop-variable-preserved : goal.loop-variable-preserved
@@ -18,8 +19,6 @@ loop-variable-preserved c =
     )
 
 pub returns-clause-terms : goal.returns-clause-terms
-returns-clause-terms c =
-    let m = c.args.count in
-    let i = c.loop-variable.variable in
-    let done : m ≤ i = omega (arith, c.loop-variable-test.false) in
-    variables_all m i _ done c.loop-variable.invariant.0
+returns-clause-terms c = variables_done c.args.count c.loop-variable.variable _ _
+    (let last = c.loop-variable.auto.variable-end in
+    omega (arith, last, c.loop-variable-test.false)) c.loop-variable.invariant.0

@@ -8,8 +8,8 @@ use Rattle.poly.specs.Seen.{terms_each}
 use Rattle.expo.specs.declared.exponential.Expo.{Expo}
 use Rattle.closed_forms.specs.Comparison.{list_at}
 use Rattle.closed_forms.specs.Settling.{IsMarked, KeptMarks}
-use Rattle.closed_forms.proofs.Marks.{not_is, marked_here, marked_kept, class_first, kept_both, past_first, past_later, both}
-use Rattle.closed_forms.proofs.Mixing.{head_all, tail_all, wide_on}
+use Rattle.closed_forms.proofs.Marks.{not_is, marked_here, marked_kept, class_first, kept_both, past_first, past_later}
+use Rattle.closed_forms.proofs.Mixing.{head_all, ok_both, tail_all, wide_on}
 use Rattle.closed_forms.proofs.StateLists.{listed}
 use Rattle.closed_forms.proofs.begins.Comparison.+mark_class.Goals as goal
 use Rattle.closed_forms.proofs.begins.Comparison.+mark_class.Goals.{After-mark_class}
@@ -87,8 +87,8 @@ returns-clause-kept t c = on_ok_weaker c.mark_class.result
     (kept t c) h) c.mark_class.ensures.kept
 
 pub returns-clause-marked : goal.returns-clause-marked
-returns-clause-marked t c = both _ _ _ _
-    (λ k h. class_first (es t c) c.args.iterations (state t c) (mid t c)
+returns-clause-marked t c = ok_both _ _ _ _
+    (λ _ k h. class_first (es t c) c.args.iterations (state t c) (mid t c)
     c.mark_class.new.marks.items c.in-Some.ensures.cases.0 (here t c) k h)
     c.mark_class.ensures.kept c.mark_class.ensures.marked
 

@@ -59,13 +59,14 @@ returns-in_err-since-clause-refused c =
     let e = c.in_err-since.field-0.0 in
     refused_on (IfLater (images_in w)) e _ c.from_residual-in_err-since.ensures.1
     (iteration_later c.requires.work e (c.in_err-since.ensures.refused (images_in w)
-    (sizes w.base.items) (settling_in c.requires.work c.in_ok-fill.ensures.forms)))
+    (sizes w.base.items) w.iterations (omega arith)
+    (settling_in c.requires.work c.in_ok-fill.ensures.forms)))
 
 settled : (c : In_ok-since) → IsSettled (images_in c.args.self) (sizes c.args.self.base.items)
     c.fill.new.polys.items c.args.self.iterations c.in_ok-since.since
 settled c =
     let w = c.args.self in
-    c.in_ok-since.ensures.settled (images_in w) (sizes w.base.items)
+    c.in_ok-since.ensures.settled (images_in w) (sizes w.base.items) w.iterations (omega arith)
     (settling_in c.requires.work c.in_ok-fill.ensures.forms)
 
 pub returns-in_err-passing-clause-refused : goal.returns-in_err-passing-clause-refused

@@ -11,7 +11,7 @@ use Rattle.closed_forms.proofs.Counting.{twelve_values}
 use Rattle.closed_forms.proofs.Ending.{form_base_is, all_pass, is_too_long, later_state, refused_first, refused_on}
 use Rattle.closed_forms.proofs.Splitting.{map_of}
 use Rattle.closed_forms.proofs.map_in_work.MapInWork.new.Goals as goal
-use Rattle.closed_forms.proofs.map_in_work.MapInWork.new.Goals.{After-zeros_of-iterations}
+use Rattle.closed_forms.proofs.map_in_work.MapInWork.new.Goals.{In_ok-base}
 
 pub splits_of-requires-clause-classes : goal.splits_of-requires-clause-classes
 splits_of-requires-clause-classes c = rw c.deref.ensures.value c.in-Ok.ensures.classes
@@ -35,29 +35,23 @@ returns-in-Some-clause-refused c =
     c.in_ok-variable.ensures
 
 pub base_of-requires : goal.base_of-requires
-base_of-requires c = record {
-  few = rw c.deref-3.ensures.value (twelve_values _ c.args.map.few
-      c.args.map.square c.in_ok-splits.ensures.splits);
-}
-
-pub zeros_of-iterations-requires : goal.zeros_of-iterations-requires
-zeros_of-iterations-requires c = rw c.deref-4.ensures.value (twelve_values _
-    c.args.map.few c.args.map.square c.in_ok-splits.ensures.splits)
+base_of-requires c = rw c.deref-3.ensures.value (twelve_values _ c.args.map.few c.args.map.square
+    c.in_ok-splits.ensures.splits)
 
 -- the base of the values but zero, and how many are zero
-module _ (c : After-zeros_of-iterations) where
+module _ (c : In_ok-base) where
   base_is : IsTheBase (sizes_of (some_of (values_in c.in_ok-splits.splits.items)))
       (sizes c.in_ok-base.base.items)
   base_is = subst (λ splits. IsTheBase (sizes_of (some_of (values_in splits)))
       (sizes c.in_ok-base.base.items)) c.deref-3.ensures.value c.in_ok-base.ensures.base
 
-  count_is : c.zeros_of-iterations.result ≡ zeros_in (values_in c.in_ok-splits.splits.items)
-  count_is = c.zeros_of-iterations.ensures
-      ∙ ap (λ splits. zeros_in (values_in splits)) c.deref-4.ensures.value
+  count_is : c.in_ok-base.iterations ≡ zeros_in (values_in c.in_ok-splits.splits.items)
+  count_is = c.in_ok-base.ensures.zeros
+      ∙ ap (λ splits. zeros_in (values_in splits)) c.deref-3.ensures.value
 
 pub returns-in-Err-Wide-clause-refused : goal.returns-in-Err-Wide-clause-refused
 returns-in-Err-Wide-clause-refused c =
-    let at = (goal.at.returns-in-Err-Wide-clause-refused c).After-zeros_of-iterations in
+    let at = (goal.at.returns-in-Err-Wide-clause-refused c).In_ok-base in
     let images = c.args.map.images.now.items in
     let M = terms_each images in
     let splits = c.in_ok-splits.splits.items in
@@ -74,7 +68,7 @@ returns-in-Err-Wide-clause-refused c =
 
 pub returns-clause-work : goal.returns-clause-work
 returns-clause-work c =
-    let at = (goal.at.returns-clause-work c).After-zeros_of-iterations in
+    let at = (goal.at.returns-clause-work c).In_ok-base in
     record {
       solvable = c.in-Ok.ensures.solvable (search rules);
       classes = c.in-Ok.ensures.classes;

@@ -1,19 +1,18 @@
 use Rattle.std.proofs.Common.{[], ◌∷◌, sym, ap, subst, ◌∙◌}
 use Rattle.algebra.specs.Arithmetic.{power}
 use Rattle.algebra.specs.Fraction.{ℚ, inverse}
-use Rattle.polynomials.specs.Terms.{Same}
+use Rattle.polynomials.specs.Terms.{Same, value_at}
 use Rattle.linear.specs.Rows.{fractions_of}
 use Rattle.poly.specs.Seen.{terms_in}
 use Rattle.expo.specs.View.{base_of}
 use Rattle.solvable_maps.specs.Expo.{at_iteration}
 use Rattle.solvable_maps.specs.Iterations.{point}
-use Rattle.polynomials.specs.Terms.{value_at}
 use Rattle.closed_forms.specs.Later.{IsPastAt, iteration_past, difference_past}
 use Rattle.closed_forms.specs.Recurrences.{base_by, number_by}
 use Rattle.closed_forms.specs.Sums.{IsPastMix}
-use Rattle.closed_forms.proofs.LaterForms.{ok_both, at-arity, start_is, start_lists}
+use Rattle.closed_forms.proofs.LaterForms.{at-arity, start_is, start_lists}
 use Rattle.closed_forms.proofs.Making.{poly_is}
-use Rattle.closed_forms.proofs.Mixing.{wide_on}
+use Rattle.closed_forms.proofs.Mixing.{ok_both, wide_on}
 use Rattle.closed_forms.proofs.recurrence.Recurrence.start.Goals as goal
 
 pub returns-in_err-at-clause-wide : goal.returns-in_err-at-clause-wide

@@ -1,4 +1,4 @@
-use Rattle.std.proofs.Common.{rules, inl, inr, sym, ap, ◌∙◌, subst, arith}
+use Rattle.std.proofs.Common.{◌≡◌, ℕ, rules, inl, inr, sym, ap, ◌∙◌, subst, arith}
 use Rattle.std.proofs.lemmas.List.{length-map}
 use Rattle.std.proofs.lemmas.Result.{IfErr-weaker, IfOk-weaker}
 use Rattle.algebra.specs.In.{In}
@@ -8,6 +8,7 @@ use Rattle.solvable_maps.proofs.Classwise.{class_some}
 use Rattle.closed_forms.specs.Splits.{groups_in}
 use Rattle.closed_forms.proofs.Splitting.{among_none, among_skip, among_here, first_read, map_of, refused_moved, later_classes, this_class}
 use Rattle.closed_forms.proofs.square_map.SquareMap.+split_from.Goals as goal
+use Rattle.closed_forms.proofs.square_map.SquareMap.+split_from.Goals.{After-index}
 
 pub returns-in_default-clause-split : goal.returns-in_default-clause-split
 returns-in_default-clause-split t c =
@@ -26,17 +27,18 @@ split_from-requires t c = (
       c.in-Some.ensures.cases.0 c.requires,
 )
 
+-- the first variable of the first class
+first : (t : ℕ) (c : After-index t) → c.index.result.now ≡ first_of c.in-Some.group.now.items
+first t c = first_read _ (class_some _ _ (this_class (polys_by c.args.self.now)
+    c.in-Some.ensures.cases.0 c.requires)) c.index.ensures
+
 pub returns-then-index-first-clause-split : goal.returns-then-index-first-clause-split
 returns-then-index-first-clause-split t c =
-    let images = polys_by c.args.self.now in
-    let g = c.in-Some.group.now in
-    let some = class_some images g.items (this_class images
-    c.in-Some.ensures.cases.0 c.requires) in
-    let first = first_read g.items some c.index.ensures in
-    IfOk-weaker c.split_from.result _ _ (λ found h.
-    among_skip images (map_of _ c.args.self.now.square)
-    g.items c.args.first found (ap groups_in c.in-Some.ensures.cases.0)
-    (λ e. c.if-index-first.true (first ∙ e)) h) c.split_from.ensures.split
+    let is = first t (goal.at.returns-then-index-first-clause-split t c).After-index in
+    IfOk-weaker c.split_from.result _ _ (λ found h. among_skip (polys_by c.args.self.now)
+    (map_of _ c.args.self.now.square) c.in-Some.group.now.items c.args.first found
+    (ap groups_in c.in-Some.ensures.cases.0) (λ e. c.if-index-first.true (is ∙ e)) h)
+    c.split_from.ensures.split
 
 pub returns-then-index-first-clause-refused : goal.returns-then-index-first-clause-refused
 returns-then-index-first-clause-refused t c =
@@ -53,25 +55,15 @@ split_of-requires t c = this_class _ c.in-Some.ensures.cases.0
 
 pub returns-in-Ok-clause-split : goal.returns-in-Ok-clause-split
 returns-in-Ok-clause-split t c =
-    let images = polys_by c.args.self.now in
-    let g = c.in-Some.group.now in
-    let some = class_some images g.items (this_class images
-    c.in-Some.ensures.cases.0 c.requires) in
-    let first = first_read g.items some c.index.ensures in
-    among_here images (map_of _ c.args.self.now.square) g.items
-    c.args.first c.in-Ok.found (ap groups_in c.in-Some.ensures.cases.0) c.requires
-    (sym first ∙ c.if-index-first.false) c.in-Ok.ensures.split
+    let is = first t (goal.at.returns-in-Ok-clause-split t c).After-index in
+    among_here (polys_by c.args.self.now) (map_of _ c.args.self.now.square)
+    c.in-Some.group.now.items c.args.first c.in-Ok.found (ap groups_in c.in-Some.ensures.cases.0)
+    c.requires (sym is ∙ c.if-index-first.false) c.in-Ok.ensures.split
 
 pub returns-in-Err-clause-refused : goal.returns-in-Err-clause-refused
 returns-in-Err-clause-refused t c =
-    let images = polys_by c.args.self.now in
-    let g = c.in-Some.group.now in
-    let some = class_some images g.items (this_class images
-    c.in-Some.ensures.cases.0 c.requires) in
-    let first = first_read g.items some c.index.ensures in
-    refused_moved images _ _
-    (λ h e. (
+    let is = first t (goal.at.returns-in-Err-clause-refused t c).After-index in
+    refused_moved (polys_by c.args.self.now) _ _ (λ h e. (
       subst (In h) (sym (ap groups_in c.in-Some.ensures.cases.0)) (inl e),
-      ap first_of e
-          ∙ sym first ∙ c.if-index-first.false,
+      ap first_of e ∙ sym is ∙ c.if-index-first.false,
     )) _ c.in-Err.ensures.refused
