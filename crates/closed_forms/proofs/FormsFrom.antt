@@ -1,6 +1,5 @@
 -- A form from the inhomogeneity of its recurrence, as the code makes it.
 --   one_later_over, one_later_is, one_later_wide     one iteration later, where its value is zero
---   at_once_past     from its start, where no value is zero
 use Rattle.std.proofs.Common.{◌≡◌, ◌≢◌, ℕ, suc, List, length, sym, ap, subst, ◌∙◌}
 use Rattle.algebra.specs.Fraction.{Fraction, ℚ, fractions, rationals}
 use Rattle.polynomials.specs.Order.{grevlex}
@@ -13,8 +12,7 @@ use Rattle.expo.specs.View.{base_of, value_of}
 use Rattle.expo.specs.declared.exponential.Expo.{Expo}
 use Rattle.solvable_maps.specs.Expo.{next_images, inverse_form_terms}
 use Rattle.solvable_maps.specs.Iterations.{point}
-use Rattle.closed_forms.specs.Later.{Ahead, IsOneLater, IsPastFrom, IsPastOneLater, at_once_past as once_past}
-use Rattle.closed_forms.specs.Solved.{IsPastSolved}
+use Rattle.closed_forms.specs.Later.{IsOneLater, IsPastOneLater}
 use Rattle.closed_forms.specs.Values.{IsExpoOver}
 
 module _ {base : List ℕ} {m : ℕ} {inhomogeneity : Expo}
@@ -48,9 +46,3 @@ module _ {base : List ℕ} {m : ℕ} {inhomogeneity : Expo}
       (collect rationals grevlex (inverse_form_terms (length (base_of inhomogeneity))
       (terms_in inhomogeneity.body)))
       (next_images (base_of inhomogeneity) k)) over.over_vars h)
-
-module _ (base : List ℕ) (m : ℕ) (w : List Fraction) (g : List ℕ) {l : Fraction} (x : Fraction)
-    (a : Ahead) (q : Terms Fraction) (some : l ≢ ℚ.zero) (own : x ≡ l) where
-  pub at_once_past : a.iterations ≡ 0 → IsPastSolved base m w g x q → IsPastFrom base m w g l a q
-  at_once_past none h = once_past some none
-      (subst (λ n. IsPastSolved base m w g n q) own h)

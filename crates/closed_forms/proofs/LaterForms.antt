@@ -1,7 +1,7 @@
 -- Forms by their values after some iterations, as the code makes them.
 --   at-arity                   how many exponents a polynomial at a number of iterations has
 --   solved_all, sum_is         the sum of what solves the terms of an inhomogeneity
---   start_is, start_lists     its difference from what is there, times a power of the value
+--   start_numbers, start_is     its difference from what is there, times a power of the value
 --   grown_next             a polynomial of the variables times a power, term by term;  grown_value: its values
 --   together-arity, joined_is     the two together
 use Rattle.std.proofs.Common.{◌≡◌, ℕ, ℤ, pos, Bool, List, [], ◌∷◌, ◌++◌, length, refl, sym, ap, ap₂, subst, ◌∙◌}
@@ -86,36 +86,29 @@ two_products : (k t u : Fraction) → R.add (R.mul k t) (R.add (R.mul (R.neg k) 
     ≡ R.mul k (R.add t (R.neg u))
 two_products k t u = ring R (k ∷ t ∷ u ∷ []) (search ring_rules depth 40) refl
 
-module _ (base : List ℕ) (m : ℕ) (l : Fraction) (z : ℕ) {there at : FracPoly} (p : FracPoly)
-    (sum : Terms Fraction) {numbers : List Fraction} {polys : List FracPoly} {k o : Fraction}
-    (factor : k ≡ power ℚ (inverse l) z) (opposite : o ≡ ℚ.neg k) (are : numbers ≡ k ∷ o ∷ [])
-    (both : polys ≡ there ∷ at ∷ []) where
-  numbers_are : numbers ≡ power ℚ (inverse l) z ∷ ℚ.neg (power ℚ (inverse l) z) ∷ []
-  numbers_are = are ∙ ap₂ (λ a b. a ∷ b ∷ []) factor (opposite ∙ ap ℚ.neg factor)
+module _ (l : Fraction) (z : ℕ) {k o : Fraction} (factor : k ≡ power ℚ (inverse l) z)
+    (opposite : o ≡ ℚ.neg k) where
+  pub start_numbers : ◌≡◌ {A = List Fraction} (k ∷ o ∷ [])
+      (power ℚ (inverse l) z ∷ ℚ.neg (power ℚ (inverse l) z) ∷ [])
+  start_numbers = ap₂ (λ a b. a ∷ b ∷ []) factor (opposite ∙ ap ℚ.neg factor)
 
-  pub start_is : p.arity ≡ m
+  pub start_is : (base : List ℕ) (m : ℕ) (there at p : FracPoly) (sum : Terms Fraction)
+      → p.arity ≡ m
       → ((s : List Fraction) → length s ≡ m
       → value_at ℚ (terms_in at) s ≡ value_at ℚ sum (point base z s))
-      → terms_in p ≡ part numbers (terms_each polys)
+      → terms_in p ≡ part (k ∷ o ∷ []) (terms_in there ∷ terms_in at ∷ [])
       → IsStart base m l z (terms_in there) sum (terms_in p)
   unfolding sum_of_products
-  start_is arity h e = record {
+  start_is base m there at p sum arity h e = record {
     polynomial = subst (λ n. IsPolynomial ℚ grevlex n (terms_in p)) arity p.polynomial;
     values = λ s size.
         let c = power ℚ (inverse l) z in
-        ap (λ q. value_at ℚ q s) (e ∙ ap₂ (λ ns (ps : List FracPoly). part ns (terms_each ps))
-        numbers_are both)
+        ap (λ q. value_at ℚ q s)
+        (e ∙ ap (λ ns. part ns (terms_in there ∷ terms_in at ∷ [])) start_numbers)
         ∙ part_value (c ∷ ℚ.neg c ∷ []) (terms_in there ∷ terms_in at ∷ []) s
         ∙ two_products c (value_at ℚ (terms_in there) s) (value_at ℚ (terms_in at) s)
         ∙ ap (λ u. R.mul c (R.add (value_at ℚ (terms_in there) s) (R.neg u))) (h s size);
   }
-
-  pub start_lists : (P : List Fraction → List (Terms Fraction) → Type 0)
-      → P numbers (terms_each polys)
-      → P (power ℚ (inverse l) z ∷ ℚ.neg (power ℚ (inverse l) z) ∷ [])
-      (terms_in there ∷ terms_in at ∷ [])
-  start_lists P h = subst (λ ns. P ns (terms_in there ∷ terms_in at ∷ [])) numbers_are
-      (subst (λ (ps : List FracPoly). P numbers (terms_each ps)) both h)
 
 -- ---- a polynomial of the variables times a power
 pub grown_next : (x : Key) (ts rest : List (Term Frac)) {t : Term Frac} (u : Term Frac)

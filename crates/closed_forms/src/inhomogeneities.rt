@@ -42,7 +42,7 @@ impl FormInWork<'_, '_> {
     {
         let setting = &self.class.setting;
         let part = weighted_sum(alloc, self.form, &setting.rests, setting.earlier.len())?;
-        Ok(part.compose(alloc, &setting.earlier)?)
+        part.compose(alloc, &setting.earlier)
     }
 
     /// The combination of the earlier forms.

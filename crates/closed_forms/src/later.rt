@@ -60,9 +60,7 @@ impl Recurrence<'_, '_> {
         let factor = power(&self.value.reciprocal(), iterations)?;
         let opposite = factor.neg();
         let at = sum.at_iteration(alloc, iterations)?;
-        let numbers = vec![in alloc; factor, opposite]?;
-        let polys = vec![in alloc; there, at]?;
-        weighted_sum(alloc, &numbers, &polys, self.vars)
+        weighted_sum(alloc, &[factor, opposite], &[there, at], self.vars)
     }
 
     /// The sum of what solves the recurrences of the inhomogeneity's terms, each from zero on.

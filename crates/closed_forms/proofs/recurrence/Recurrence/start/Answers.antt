@@ -2,7 +2,6 @@ use Rattle.std.proofs.Common.{[], ◌∷◌, sym, ap, subst, ◌∙◌}
 use Rattle.algebra.specs.Arithmetic.{power}
 use Rattle.algebra.specs.Fraction.{ℚ, inverse}
 use Rattle.polynomials.specs.Terms.{Same, value_at}
-use Rattle.linear.specs.Rows.{fractions_of}
 use Rattle.poly.specs.Seen.{terms_in}
 use Rattle.expo.specs.View.{base_of}
 use Rattle.solvable_maps.specs.Expo.{at_iteration}
@@ -10,7 +9,7 @@ use Rattle.solvable_maps.specs.Iterations.{point}
 use Rattle.closed_forms.specs.Later.{IsPastAt, iteration_past, difference_past}
 use Rattle.closed_forms.specs.Recurrences.{base_by, number_by}
 use Rattle.closed_forms.specs.Sums.{IsPastMix}
-use Rattle.closed_forms.proofs.LaterForms.{at-arity, start_is, start_lists}
+use Rattle.closed_forms.proofs.LaterForms.{at-arity, start_is, start_numbers}
 use Rattle.closed_forms.proofs.Making.{poly_is}
 use Rattle.closed_forms.proofs.Mixing.{ok_both, wide_on}
 use Rattle.closed_forms.proofs.recurrence.Recurrence.start.Goals as goal
@@ -27,12 +26,12 @@ pub returns-clause-start : goal.returns-clause-start
 returns-clause-start c =
     let r = c.args.self.now in
     let q = terms_in c.args.sum.now.body in
-    ok_both _ _ _ _ (λ p a e. start_is (base_by r) r.vars (number_by r) c.args.iterations p q
+    ok_both _ _ _ _ (λ p a e. start_is (number_by r) c.args.iterations
     (c.in_ok-factor.ensures.ok ∙ ap (λ x. power ℚ x c.args.iterations) c.reciprocal.ensures)
-    c.neg-opposite.ensures (ap fractions_of (c.deref.ensures.value ∙ c.in_ok-numbers.ensures.items))
-    (c.deref-2.ensures.value ∙ c.in_ok-polys.ensures.items) a (λ s l. c.in_ok-at.ensures.values s
-    (l ∙ sym c.requires.sum.over_vars) ∙ ap (λ b. value_at ℚ q (point b c.args.iterations s))
-    c.requires.sum.over_base) e) c.weighted_sum.ensures.arity c.weighted_sum.ensures.terms
+    c.neg-opposite.ensures (base_by r) r.vars c.args.there c.in_ok-at.at p q a
+    (λ s l. c.in_ok-at.ensures.values s (l ∙ sym c.requires.sum.over_vars)
+    ∙ ap (λ b. value_at ℚ q (point b c.args.iterations s)) c.requires.sum.over_base) e)
+    c.weighted_sum.ensures.arity c.weighted_sum.ensures.terms
 
 pub returns-clause-wide : goal.returns-clause-wide
 returns-clause-wide c =
@@ -48,8 +47,7 @@ returns-clause-wide c =
     (subst (λ k. Same ℚ (terms_in at) (at_iteration (base_of c.args.sum.now) k c.args.iterations q))
     c.requires.sum.over_vars iteration.same)) in
     λ w. difference_past (subst (λ p. IsPastMix (k ∷ ℚ.neg k ∷ []) (terms_in c.args.there ∷ p ∷ []))
-    at_is (start_lists (base_by r) r.vars (number_by r) c.args.iterations c.args.there q
+    at_is (subst (λ ns. IsPastMix ns (terms_in c.args.there ∷ terms_in at ∷ []))
+    (start_numbers (number_by r) c.args.iterations
     (c.in_ok-factor.ensures.ok ∙ ap (λ x. power ℚ x c.args.iterations) c.reciprocal.ensures)
-    c.neg-opposite.ensures (ap fractions_of (c.deref.ensures.value ∙ c.in_ok-numbers.ensures.items))
-    (c.deref-2.ensures.value ∙ c.in_ok-polys.ensures.items) IsPastMix
-    (c.weighted_sum.ensures.wide w)))
+    c.neg-opposite.ensures) (c.weighted_sum.ensures.wide w)))
