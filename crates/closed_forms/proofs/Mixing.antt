@@ -1,13 +1,12 @@
 -- Sums of polynomials, each times a number, term by term.
-use Rattle.std.proofs.Common.{◌≡◌, ◌≢◌, ◌<◌, ◌≤◌, ℕ, zero, suc, ◌+◌, Bool, true, false, cond, ◌||◌, T, List, [], ◌∷◌, ◌++◌, drop, take, get_or, length, All, append_assoc, Result, Ok, Err, lt→ltb, ltb→lt, refl, sym, ap, ap₂, subst, ◌∙◌, arith}
+use Rattle.std.proofs.Common.{◌≡◌, ◌≢◌, ◌<◌, ◌≤◌, ℕ, zero, suc, ◌+◌, Bool, true, false, cond, ◌||◌, T, List, [], ◌∷◌, ◌++◌, drop, get_or, length, All, Vec, Global, append_assoc, Result, Ok, Err, lt→ltb, ltb→lt, refl, sym, ap, ap₂, subst, ◌∙◌, arith}
 use Rattle.std.specs.Result.{IfOk, IsErrOf, IsErrAnd}
-use Rattle.std.proofs.lemmas.List.{append-nil, drop_all, drop_more, map_push}
+use Rattle.std.proofs.lemmas.List.{append-nil, drop_all, drop_more, map-append, map_push}
 use Rattle.algebra.specs.Each.{Each}
 use Rattle.algebra.proofs.Basics.{to_true}
 use Rattle.algebra.specs.In.{In}
 use Rattle.algebra.proofs.In.{in_get, map-in}
 use Rattle.algebra.proofs.Each.{each-append}
-use Rattle.algebra.proofs.Lists.{take_next}
 use Rattle.algebra.specs.Fraction.{Fraction, ℚ, rationals, fraction_size}
 use Rattle.algebra.specs.Size.{IsPast}
 use Rattle.algebra.specs.Arithmetic.{Arithmetic}
@@ -37,6 +36,12 @@ tell ts = terms_of fraction_of ts
 pub terms-push : (ts : List (Term Frac)) {more : List (Term Frac)} (t : Term Frac)
     → more ≡ ts ++ t ∷ [] → tell more ≡ tell ts ++ (t.mono, fraction_of t.coef) ∷ []
 terms-push ts t e = ap tell e ∙ map_push (term_of fraction_of) ts t
+
+pub terms-append : (out : List (Term Frac)) {more : List (Term Frac)} (v : Vec (Term Frac) Global)
+    {w : Vec (Term Frac) Global}
+    → more ≡ out ++ v.items → v ≡ w → tell more ≡ tell out ++ tell w.items
+terms-append out v e is = ap tell e ∙ map-append (term_of fraction_of) out v.items
+    ∙ ap (λ (u : Vec (Term Frac) Global). tell out ++ tell u.items) is
 
 pub poly_get : (ps : List (Terms Fraction)) (i : ℕ) → poly_at ps i ≡ get_or ps i []
 poly_get [] i = refl
@@ -91,16 +96,6 @@ module _ (ts rest : List (Term Frac)) {t : Term Frac} (is : ts ≡ t ∷ rest) w
       ∙ ap₂ (λ x y. tell old ++ (x, fraction_of y) ∷ rest_of g (tell rest)) m k
       ∙ ap (λ b. tell old ++ cond b (rest_of g (tell rest)) ((t.mono, fraction_of t.coef)
       ∷ rest_of g (tell rest))) none ∙ ap (λ l. tell old ++ rest_of g (tell l)) (sym is) ∙ h
-
-pub copied_next : (old : Terms Fraction) (ts : List (Term Frac)) (i : ℕ) {t : Term Frac}
-    (out : List (Term Frac)) {more : List (Term Frac)} (u : Term Frac)
-    → i < length ts → t ≡ get_or ts i t → u.mono ≡ t.mono → u.coef ≡ t.coef → more ≡ out ++ u ∷ []
-    → tell out ≡ old ++ tell (take i ts) → tell more ≡ old ++ tell (take (i + 1) ts)
-copied_next old ts i {t = t} out u l is m k e h =
-    terms-push out u e ∙ ap₂ (λ a b. tell out ++ (a, fraction_of b) ∷ []) m k
-    ∙ ap (λ l. l ++ (t.mono, fraction_of t.coef) ∷ []) h
-    ∙ append_assoc old (tell (take i ts)) ((t.mono, fraction_of t.coef) ∷ [])
-    ∙ ap (λ l. old ++ l) (sym (take_next (term_of fraction_of) ts i t l is))
 
 pub past_scaled_at : (ts : List (Term Frac)) (i : ℕ) {t : Term Frac} (c : Fraction) → i < length ts
     → t ≡ get_or ts i t → IsPast (fraction_size (ℚ.mul c (fraction_of t.coef)))

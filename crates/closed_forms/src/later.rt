@@ -9,7 +9,7 @@ ghost use Rattle.closed_forms.specs.Recurrences.{base_by, value_by, number_by, i
 ghost use Rattle.closed_forms.specs.Values.{IsExpoOver};
 
 use crate::recurrence::Recurrence;
-use crate::sums::{push_copies, weighted_sum};
+use crate::sums::weighted_sum;
 use expo::{Expo, power};
 use frac128::Frac;
 use monos::Grevlex;
@@ -37,7 +37,7 @@ impl Recurrence<'_, '_> {
     {
         let sum = self.solutions(alloc)?;
         let start = self.start(alloc, iterations, there, &sum)?;
-        self.joined(alloc, &start, &sum)
+        self.joined(alloc, &start, sum)
     }
 
     /// The difference of `there` and what the sum is after this number of iterations, times λ to the power of minus that number.
@@ -81,20 +81,19 @@ impl Recurrence<'_, '_> {
         &self,
         alloc: Global,
         start: &Poly<Frac, Grevlex>,
-        sum: &Expo,
+        sum: Expo,
     ) -> Result<Expo, ArithmeticError>
         requires start { start.now.arity ≡ self.now.vars }
-        requires sum { IsExpoOver (base_by self.now) self.now.vars sum.now }
+        requires sum { IsExpoOver (base_by self.now) self.now.vars sum }
         ensures over { IfOk result (IsExpoOver (base_by self.now) self.now.vars) }
         ensures joined { IfOk result (λ y. IsJoined (base_by self.now) self.now.vars
-            (value_by self.now) (terms_in start.now) (terms_in sum.now.body) (terms_in y.body)) }
+            (value_by self.now) (terms_in start.now) (terms_in sum.body) (terms_in y.body)) }
         ensures wide { IsErrOf result ArithmeticError.Wide
-            → IsPastJoined (key_of_power self.now.own) (terms_in start.now)
-            (terms_in sum.now.body) }
+            → IsPastJoined (key_of_power self.now.own) (terms_in start.now) (terms_in sum.body) }
     {
         let mut terms = Vec::new(alloc);
         self.push_grown(alloc, &mut terms, start.terms())?;
-        push_copies(alloc, &mut terms, sum.body().terms())?;
+        terms.append(&mut sum.into_body().into_terms())?;
         self.normal_sum(alloc, terms)
     }
 

@@ -12,7 +12,6 @@ ghost use Rattle.closed_forms.specs.Limits.{AreLow};
 ghost use Rattle.closed_forms.specs.Solved.{steady as steady_of, IsPower, power_prop};
 
 use crate::powers::power_of;
-use crate::sums::push_copies;
 use expo::{Expo, Power, solve_term, width};
 use frac128::{Frac, Whole};
 use monos::{Grevlex, Mono};
@@ -69,7 +68,7 @@ impl Recurrence<'_, '_> {
     {
         for term in self.inhomogeneity {
             let solution = self.term_solved(alloc, term)?;
-            push_copies(alloc, out, solution.terms())?;
+            out.append(&mut solution.into_terms())?;
         }
         Ok(())
     }

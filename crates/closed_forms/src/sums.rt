@@ -82,25 +82,6 @@ fn push_scaled(
     Ok(())
 }
 
-/// Puts copies of the terms behind the others.
-pub(crate) fn push_copies(
-    alloc: Global,
-    out: &mut Vec<Term<Frac>>,
-    terms: &[Term<Frac>],
-) -> Result<(), AllocError>
-    ensures terms { OnOk result (terms_of fraction_of out.new.items
-        ≡ terms_of fraction_of out.old.items ++ terms_of fraction_of terms.now) }
-{
-    for term in terms {
-        let mono = term.mono.copy(alloc)?;
-        out.push(Term {
-            mono,
-            coef: term.coef,
-        })?;
-    }
-    Ok(())
-}
-
 /// The terms of a polynomial that have no variable of a class.
 pub(crate) fn rest_of(
     alloc: Global,

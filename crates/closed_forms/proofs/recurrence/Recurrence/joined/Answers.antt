@@ -15,9 +15,9 @@ use Rattle.polynomials.specs.Weight.{weight}
 use Rattle.closed_forms.specs.Recurrences.{base_by}
 use Rattle.closed_forms.proofs.Joining.{expo_over, over_normal}
 use Rattle.closed_forms.proofs.LaterForms.{together-arity, joined_is}
-use Rattle.closed_forms.proofs.Mixing.{tell, all_arity}
+use Rattle.closed_forms.proofs.Mixing.{tell, all_arity, terms-append}
 use Rattle.closed_forms.proofs.recurrence.Recurrence.joined.Goals as goal
-use Rattle.closed_forms.proofs.recurrence.Recurrence.joined.Goals.{In_ok-push_copies}
+use Rattle.closed_forms.proofs.recurrence.Recurrence.joined.Goals.{In_ok-append}
 
 pub push_grown-requires : goal.push_grown-requires
 push_grown-requires c =
@@ -28,27 +28,25 @@ push_grown-requires c =
     (all_arity _ _ start.polynomial.arity))
 
 -- all terms, and how many exponents they have
-module _ (c : In_ok-push_copies) where
+module _ (c : In_ok-append) where
   abbrev start : Terms Fraction
   start = terms_in c.args.start.now
 
   abbrev sum : Terms Fraction
-  sum = terms_in c.args.sum.now.body
+  sum = terms_in c.args.sum.body
 
   abbrev all : Terms Fraction
-  all = tell c.push_copies.new.out.items
+  all = tell c.append.new.self.items
 
   all_is : all ≡ with_powers (key_of_power c.args.self.now.own) start ++ sum
   all_is =
       let x = key_of_power c.args.self.now.own in
-      c.in_ok-push_copies.ensures.terms
-      ∙ ap₂ (λ a (ts : List (Term Frac)). a ++ tell ts)
-      (c.in_ok-push_grown.ensures.terms
+      terms-append _ c.into_terms.result c.in_ok-append.ensures.items
+      (c.into_terms.ensures ∙ ap (λ p. p.terms) c.into_body.ensures)
+      ∙ ap (λ a. a ++ sum) (c.in_ok-push_grown.ensures.terms
       ∙ ap₂ (λ (none ts : List (Term Frac)). tell none ++ with_powers x (tell ts))
       c.new-terms.ensures.items
       (c.deref.ensures.value ∙ ap (λ v. v.items) c.terms.ensures))
-      (c.deref-2.ensures.value ∙ ap (λ v. v.items) c.terms-2.ensures
-      ∙ ap (λ p. p.terms.items) c.body.ensures)
 
   narrow : Arity c.args.self.now.vars start
   narrow = subst (λ m. Arity m start) c.requires.start c.args.start.now.polynomial.arity
@@ -58,7 +56,7 @@ module _ (c : In_ok-push_copies) where
 
 pub normal_sum-requires : goal.normal_sum-requires
 normal_sum-requires c =
-    let at = (goal.at.normal_sum-requires c).In_ok-push_copies in
+    let at = (goal.at.normal_sum-requires c).In_ok-append in
     let r = c.args.self.now in
     all_arity _ _ (together-arity (base_by r) r.coprime.0 r.vars r.own.negative
     r.own.exponents.items r.power.count (start at) (sum at) (all_is at) (narrow at) (wide at))
@@ -70,7 +68,7 @@ returns-clause-over c =
 
 pub returns-clause-joined : goal.returns-clause-joined
 returns-clause-joined c =
-    let at = (goal.at.returns-clause-joined c).In_ok-push_copies in
+    let at = (goal.at.returns-clause-joined c).In_ok-append in
     let r = c.args.self.now in
     IfOk-weaker c.normal_sum.result _ _ (λ y h. joined_is (base_by r) r.coprime.0 r.vars
     r.own.negative r.own.exponents.items r.power.count (start at) (sum at) (all_is at) (narrow at)
@@ -78,6 +76,6 @@ returns-clause-joined c =
 
 pub returns-clause-wide : goal.returns-clause-wide
 returns-clause-wide c =
-    let at = (goal.at.returns-clause-wide c).In_ok-push_copies in
+    let at = (goal.at.returns-clause-wide c).In_ok-append in
     λ x. subst (λ p. IsPast (weight fraction_size p)
     ⊎ IsPast (weight fraction_size (collect_terms p))) (all_is at) (c.normal_sum.ensures.wide x)

@@ -4,7 +4,7 @@ use Rattle.frac128.specs.declared.fraction.Frac.{Frac}
 use Rattle.poly.specs.declared.Term.{Term}
 use Rattle.closed_forms.specs.Recurrences.{base_by, value_by}
 use Rattle.closed_forms.proofs.Joining.{own_is_normal, solved_none, solved_next, past_term_at, normal_at}
-use Rattle.closed_forms.proofs.Mixing.{tell, arity_all, left_at, wide_on}
+use Rattle.closed_forms.proofs.Mixing.{tell, arity_all, left_at, terms-append, wide_on}
 use Rattle.closed_forms.proofs.recurrence.Recurrence.push_solved.Goals as goal
 
 pub loop-term-init : goal.loop-term-init
@@ -22,8 +22,8 @@ loop-term-preserved c = λ new h.
     let bs = base_by c.args.self.now in
     c.loop-term.invariant new (solved_next bs c.args.self.now.vars (value_by c.args.self.now) _ _ _
     new (left_at _ _ c.loop-term-test.true c.term-item.is) c.in_ok-solution.ensures.solved
-    (c.in_ok-push_copies.ensures.terms ∙ ap (λ (ts : List (Term Frac)). tell c.loop-term.out.items
-    ++ tell ts) (c.deref.ensures.value ∙ ap (λ v. v.items) c.terms.ensures)) h)
+    (terms-append c.loop-term.out.items c.into_terms.result c.in_ok-append.ensures.items
+    c.into_terms.ensures) h)
 
 pub returns-clause-terms : goal.returns-clause-terms
 returns-clause-terms c =
