@@ -1,9 +1,9 @@
 -- A form from the inhomogeneity of its recurrence, as the code makes it.
 --   one_later_over, one_later_is, one_later_wide     one iteration later, where its value is zero
-use Rattle.std.proofs.Common.{◌≡◌, ◌≢◌, ℕ, suc, List, length, sym, ap, subst, ◌∙◌}
+use Rattle.std.proofs.Common.{◌≡◌, ℕ, suc, List, length, sym, ap, subst, ◌∙◌}
 use Rattle.algebra.specs.Fraction.{Fraction, ℚ, fractions, rationals}
 use Rattle.polynomials.specs.Order.{grevlex}
-use Rattle.polynomials.specs.Terms.{Terms, value_at}
+use Rattle.polynomials.specs.Terms.{value_at}
 use Rattle.polynomials.specs.Weight.{IsPastComposition}
 use Rattle.machines.specs.Collect.{collect}
 use Rattle.poly.specs.Seen.{terms_in}

@@ -23,7 +23,7 @@ use Rattle.exponentials.specs.Keys.{Key}
 use Rattle.exponentials.specs.Powers.{number, negate_if}
 use Rattle.frac128.specs.FracMeaning.{fraction_of}
 use Rattle.frac128.specs.declared.fraction.Frac.{Frac}
-use Rattle.poly.specs.Seen.{terms_in, terms_each}
+use Rattle.poly.specs.Seen.{terms_in}
 use Rattle.poly.specs.declared.Term.{Term}
 use Rattle.solvable.proofs.Using.{FracPoly}
 use Rattle.solvable_maps.specs.Expo.{at_iteration, with_normal_keys, power_key, with_key, up_part, down_part}

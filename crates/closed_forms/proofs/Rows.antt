@@ -5,7 +5,7 @@
 --   beside-push                      one form more beside its row of the identity
 --   product_next                     one number more of a product of a row and a matrix
 --   product_at, past_row_at     of the same row and matrix, as calls give them
-use Rattle.std.proofs.Common.{◌≡◌, ◌⊎◌, inl, inr, ℕ, zero, suc, ◌+◌, ◌<◌, ◌≤◌, Bool, true, false, cond, eqb, List, [], ◌∷◌, ◌++◌, take, get_or, length, All, Vec, Global, refl, sym, ap, ap₂, subst, ◌∙◌, arith, append_assoc, T, eqb→eq}
+use Rattle.std.proofs.Common.{◌≡◌, ◌⊎◌, inl, inr, ℕ, zero, suc, ◌+◌, ◌<◌, ◌≤◌, Bool, true, false, cond, eqb, List, [], ◌∷◌, ◌++◌, map, drop, take, get_or, length, All, Vec, Global, refl, sym, ap, ap₂, subst, ◌∙◌, arith, append_assoc, T, eqb→eq}
 use lib.Dec.{eqb_refl}
 use Rattle.std.proofs.lemmas.List.{length-append, length-take-le, take_all, take_more, take-map, map_push, get_or_append_left, get_or_push, get_or-map}
 use Rattle.algebra.proofs.Basics.{below_or_last}
@@ -23,7 +23,7 @@ use Rattle.algebra.specs.Each.{Each}
 use Rattle.algebra.specs.In.{In}
 use Rattle.algebra.proofs.In.{each_in, map-in, in_get}
 use Rattle.vectors.specs.Adding.{IsEchelonOf, IsPastTarget}
-use Rattle.closed_forms.specs.Inverses.{IsPastInverse}
+use Rattle.closed_forms.specs.Inverses.{IsBehind, IsPastInverse}
 use Rattle.closed_forms.specs.Products.{IsPastRow}
 use Rattle.vectors.specs.Lists.{entries}
 use Rattle.solvable_maps.specs.Inverse.{unit_list, beside, numbers_at, IsProduct}
@@ -177,6 +177,17 @@ pub echelon_next : (n : ℕ) (forms : List (Vec Frac Global)) (place : ℕ) {for
     → IsEchelonOf (n + n) (beside n 0 (rows_of (take (place + 1) forms))) rows
 echelon_next n forms place {form = form} row {rows = rows} l f h is =
     subst (λ given. IsEchelonOf (n + n) given rows) (beside_next n forms place form row l f h) is
+
+pub behind_is : (forms : List (Vec Frac Global)) {rows back : List (List Fraction)}
+    → IsEchelonOf (length forms + length forms) (beside (length forms) 0 (rows_of forms)) rows
+    → back ≡ map (drop (length forms)) rows → IsBehind (rows_of forms) back
+behind_is forms {rows} is e =
+    let n = sym (rows-length forms) in
+    record {
+      echelon = rows;
+      is = subst (λ k. IsEchelonOf (k + k) (beside k 0 (rows_of forms)) rows) n is;
+      behind = e ∙ ap (λ k. map (drop k) rows) n;
+    }
 
 pub widths_low : (n : ℕ) (items : List (Vec Frac Global)) {rows : List (List Fraction)}
     → rows_of items ≡ rows → Each (λ row. length row ≡ n + n) rows

@@ -31,8 +31,12 @@ impl FormMatrix<'_> {
             → IsPastInverse (rows_of self.now.forms.now) }
     {
         let echelon = self.echelon_beside(alloc)?;
-        let halves = halves(alloc, echelon.rows().as_slice(), self.forms.len())?;
-        Ok(halves)
+        let mut back = Vec::new(alloc);
+        for row in echelon.rows() {
+            let (_, half) = row.as_slice().split_at(self.forms.len());
+            back.push(half.to_vec(alloc)?)?;
+        }
+        Ok(back)
     }
 
     /// The echelon list of the forms, each with a row of the identity behind it.
@@ -55,19 +59,6 @@ impl FormMatrix<'_> {
         }
         Ok(echelon)
     }
-}
-
-/// The second halves of rows.
-fn halves(alloc: Global, rows: &[Vec<Frac>], size: usize) -> Result<Vec<Vec<Frac>>, AllocError>
-    requires { All (λ row. size ≤ length row.items) rows.now }
-    ensures { IfOk result (λ back. rows_of back.items ≡ map (drop size) (rows_of rows.now)) }
-{
-    let mut back = Vec::new(alloc);
-    for row in rows {
-        let (_, half) = row.as_slice().split_at(size);
-        back.push(half.to_vec(alloc)?)?;
-    }
-    Ok(back)
 }
 
 /// A form with a row of the identity behind it.

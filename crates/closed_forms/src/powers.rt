@@ -95,20 +95,6 @@ fn difference(more: u16, less: u16) -> i32
 }
 
 impl Recurrence<'_, '_> {
-    /// The n-th power of λ times a variable.
-    pub(crate) fn growing_monomial(
-        &self,
-        alloc: Global,
-        variable: usize,
-    ) -> Result<Mono, AllocError>
-        requires { variable < self.now.vars }
-        ensures ok { IfOk result (λ mono. mono
-            ≡ with_key 0 (key_of_power self.now.own) (unit self.now.vars variable)) }
-    {
-        let unit = Mono::variable(alloc, self.vars, variable)?;
-        self.behind_power(alloc, &unit)
-    }
-
     /// The n-th power of λ times a monomial in the variables.
     pub(crate) fn behind_power(&self, alloc: Global, variables: &Mono) -> Result<Mono, AllocError>
         requires { length variables.now ≡ self.now.vars }

@@ -135,11 +135,13 @@ fn steady(
     ensures terms { let t = term_of fraction_of term.now in
         IfOk result (λ p. terms_in p ≡ steady_of (length (sizes base.now.items)) t) }
 {
-    let arity = term.mono.arity();
+    let list = term.mono.exponents();
     let first = width(base.len(), 0);
-    let variables = term.mono.without_first(alloc, first)?;
-    let mono = Mono::one(alloc, first)?.concat(alloc, &variables)?;
+    let (_, variables) = list.as_slice().split_at(first);
+    let mut exponents = vec![in alloc; 0; first]?;
+    exponents.extend_from_slice(variables)?;
+    let mono = Mono::new(alloc, &exponents)?;
     let coef = term.coef;
     let terms = vec![in alloc; Term { mono, coef }]?;
-    Poly::from_distinct(alloc, Grevlex, arity, terms)
+    Poly::from_distinct(alloc, Grevlex, list.as_slice().len(), terms)
 }

@@ -12,6 +12,7 @@ ghost use Rattle.closed_forms.specs.Values.{IsExpoOver};
 use crate::recurrence::Recurrence;
 use expo::Expo;
 use frac128::Frac;
+use monos::Mono;
 use poly::Term;
 use ring_laws::ArithmeticError;
 use std::alloc::{AllocError, Global};
@@ -58,7 +59,8 @@ impl Recurrence<'_, '_> {
         ) else {
             return Ok(());
         };
-        let mono = self.growing_monomial(alloc, *variable)?;
+        let unit = Mono::variable(alloc, self.vars, *variable)?;
+        let mono = self.behind_power(alloc, &unit)?;
         out.push(Term {
             mono,
             coef: *number,

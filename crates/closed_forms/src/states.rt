@@ -28,8 +28,7 @@ impl SquareMap<'_> {
         ensures wide { IsErrOf result ArithmeticError.Wide
             → IsPastState (polys_by self.now) iterations }
     {
-        let mut found = Vec::new(alloc);
-        found.push(variables(alloc, self.images.len())?)?;
+        let mut found = vec![in alloc; variables(alloc, self.images.len())?]?;
         for iteration in 0..iterations {
             let next = self.next_state(alloc, &found[iteration as usize])?;
             found.push(next)?;

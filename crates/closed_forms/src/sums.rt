@@ -92,34 +92,18 @@ pub(crate) fn rest_of(
     ensures arity { IfOk result (λ p. p.arity ≡ poly.now.arity) }
     ensures terms { IfOk result (λ p. terms_in p ≡ without group.now (terms_in poly.now)) }
 {
-    let mut terms = Vec::new(alloc);
-    push_rest(alloc, &mut terms, poly.terms(), group)?;
-    Ok(Poly::from_descending(Grevlex, poly.arity(), terms))
-}
-
-/// Puts copies of the terms that have no variable of a class behind the others.
-fn push_rest(
-    alloc: Global,
-    out: &mut Vec<Term<Frac>>,
-    terms: &[Term<Frac>],
-    group: &[usize],
-) -> Result<(), AllocError>
-    requires { All (λ t. All (λ j. j < length t.mono) group.now) terms.now }
-    ensures terms { OnOk result (terms_of fraction_of out.new.items
-        ≡ terms_of fraction_of out.old.items
-        ++ without group.now (terms_of fraction_of terms.now)) }
-{
-    for term in terms {
+    let mut rest = Vec::new(alloc);
+    for term in poly.terms() {
         if has_any(term, group) {
             continue;
         }
         let mono = term.mono.copy(alloc)?;
-        out.push(Term {
+        rest.push(Term {
             mono,
             coef: term.coef,
         })?;
     }
-    Ok(())
+    Ok(Poly::from_descending(Grevlex, poly.arity(), rest))
 }
 
 /// Whether a term has some variable of a class.

@@ -1,7 +1,5 @@
-use Rattle.std.proofs.Common.{◌++◌, List, length, ap, ◌∙◌}
+use Rattle.std.proofs.Common.{length, ap}
 use Rattle.std.proofs.lemmas.List.{drop_all}
-use Rattle.frac128.specs.declared.fraction.Frac.{Frac}
-use Rattle.poly.specs.declared.Term.{Term}
 use Rattle.closed_forms.specs.Recurrences.{base_by, value_by}
 use Rattle.closed_forms.proofs.Joining.{own_is_normal, solved_none, solved_next, past_term_at, normal_at}
 use Rattle.closed_forms.proofs.Mixing.{tell, arity_all, left_at, terms-append, wide_on}

@@ -40,11 +40,11 @@ loop-iteration-preserved c =
     let found = c.loop-iteration.found.items in
     let next = c.in_ok-next.next in (
       states_next (polys_by c.args.self.now) i found c.loop-iteration.invariant.0 next
-          c.in_ok-push-2.ensures.items
+          c.in_ok-push.ensures.items
           (next_is M i found c.loop-iteration.invariant.0 i c.index.result.now (omega arith)
           c.index.ensures c.in_ok-next.ensures.terms),
       have_more (λ (v : Vec FracPoly Global).
           All (λ (p : FracPoly). p.arity ≡ size_by c.args.self.now) v.items)
-          found _ next c.in_ok-push-2.ensures.items c.loop-iteration.invariant.1
+          found _ next c.in_ok-push.ensures.items c.loop-iteration.invariant.1
           c.in_ok-next.ensures.arities,
     )
