@@ -1,9 +1,6 @@
 //! From which number of iterations on polynomials are the state, and which aren't it at a number of iterations.
-ghost use Rattle.std.specs.Prelude.{◌≡◌, ◌<◌, ◌↔◌, ℕ, true, false, All, length, get_or, IfOk, IsErrOf};
-ghost use Rattle.poly.specs.Seen.{terms_in};
+ghost use Rattle.std.specs.Prelude.{◌≡◌, ◌<◌, ℕ, true, false, All, length, get_or, IfOk, IsErrOf};
 ghost use Rattle.solvable_maps.specs.Classes.{first_of};
-ghost use Rattle.expo.specs.Operations.{IsPastIteration};
-ghost use Rattle.closed_forms.specs.Settling.{IsAt};
 
 use crate::FormsError;
 use expo::Expo;
@@ -123,7 +120,7 @@ impl Comparison<'_> {
             return Ok(());
         };
         let state = self.states[iterations as usize].as_slice();
-        let same = is_at(alloc, &self.polys[*variable], &state[*variable], iterations)?;
+        let same = self.polys[*variable].at_iteration(alloc, iterations)? == state[*variable];
         marks[*variable] = !same;
         self.mark_class(alloc, group, iterations, marks)
     }
@@ -137,20 +134,4 @@ fn first_of(group: &[usize]) -> usize
         Some(first) => *first,
         None => 0,
     }
-}
-
-/// Whether a polynomial at this number of iterations is another one. `Wide` only where what it is there is past.
-fn is_at(
-    alloc: Global,
-    poly: &Expo,
-    state: &Poly<Frac, Grevlex>,
-    iterations: u32,
-) -> Result<bool, ArithmeticError>
-    requires { state.now.arity ≡ poly.now.vars }
-    ensures decides { IfOk result
-        (λ same. (same ≡ true) ↔ IsAt poly.now iterations (terms_in state.now)) }
-    ensures wide { IsErrOf result ArithmeticError.Wide → IsPastIteration poly.now iterations }
-{
-    let there = poly.at_iteration(alloc, iterations)?;
-    Ok(there == *state)
 }

@@ -1,5 +1,5 @@
 //! The inverse of a matrix of forms.
-ghost use Rattle.std.specs.Prelude.{◌≡◌, ◌≤◌, ◌+◌, ◌++◌, All, length, map, drop, eqb, cond, IfOk, IsErrOf};
+ghost use Rattle.std.specs.Prelude.{◌≡◌, ◌≤◌, ◌+◌, ◌++◌, All, length, eqb, cond, IfOk, IsErrOf};
 ghost use Rattle.algebra.specs.Fraction.{ℚ};
 ghost use Rattle.frac128.specs.FracMeaning.{fraction_of};
 ghost use Rattle.linear.specs.Rows.{fractions_of, rows_of};

@@ -1,7 +1,6 @@
 //! Numbers as signed products of powers of a base, and their n-th powers.
 ghost use Rattle.std.specs.Prelude.{◌≡◌, ◌≢◌, ◌≤◌, ◌<◌, ◌<ℤ◌, ◌-ℤ◌, ◌++◌, pos, length, map, IfOk, OnOk};
 ghost use Rattle.algebra.specs.Fraction.{ℚ};
-ghost use Rattle.solvable_maps.specs.Uses.{unit};
 ghost use Rattle.exponentials.specs.Keys.{key_of, IsNormalKey};
 ghost use Rattle.exponentials.specs.Powers.{negate_if};
 ghost use Rattle.frac128.specs.FracMeaning.{fraction_of};
