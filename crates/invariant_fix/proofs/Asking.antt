@@ -57,8 +57,8 @@ module _ (program : Program (Expr ℕ)) (p : Terms Fraction) (k : ℕ) (gs : Lis
       → IsRun (moves (setting_of program done.follows.forms (Some p))) fresh after (asking k gs t)
   asking_reaches t w =
       subst (λ es. IsRun (moves B) fresh es (asking k gs t)) (sym w.entries) (run_joined (moves B)
-      fresh _ (asking k gs t) (asks before) (map Did w.events) begun (asking_run B k gs
-      (division.initial_state gs p) t w.events w.run))
+      fresh _ (asking k gs t) (asks before) (map Did w.events) begun
+      (asking_run B k gs (division.initial_state gs p) t w.events w.run))
 
   pub asking_answered : (t : division.State Fraction)
       → WorkToEnd (division.next rationals grevlex gs) (division.initial_state gs p) (asks before)

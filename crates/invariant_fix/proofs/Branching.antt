@@ -140,14 +140,14 @@ module _ (w : BranchInWork) (j : Journal) where
   pub next_iteration : (n : ℕ) (ks hs : List FracPoly) → suc n < (form_of A w.place).since
       → IsTaken n ks hs → Awaits w j (iteration_begins w n ks (terms_each hs))
   next_iteration n ks hs l c = subst (Awaits w j) (iteration_comes A w.round w.place gs n
-      (terms_each ks) (terms_each hs) (let p = pred_is (form_of A w.place).since in
-      omega (arith, p, l))) c
+      (terms_each ks) (terms_each hs)
+      (let p = pred_is (form_of A w.place).since in omega (arith, p, l))) c
 
   pub iterations_end : (n : ℕ) (ks hs : List FracPoly) → (form_of A w.place).since ≤ suc n
       → IsTaken n ks hs → Awaits w j (orbiting w (terms_each hs))
   iterations_end n ks hs l c = subst (Awaits w j) (orbit_comes A w.round w.place gs n
-      (terms_each ks) (terms_each hs) (let p = pred_is (form_of A w.place).since in
-      omega (arith, p, l))) c
+      (terms_each ks) (terms_each hs)
+      (let p = pred_is (form_of A w.place).since in omega (arith, p, l))) c
 
   -- ---- its orbit
   pub meet_due : (hs ls : List FracPoly) → HasMeet w.setting.now w.place

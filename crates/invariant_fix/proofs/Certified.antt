@@ -74,8 +74,8 @@ module _ (program : Program (Expr ℕ)) (w : IsWellFormed program)
         });
       }
 
-  module _ {gs : List (Terms Fraction)} (reduced : IsReducedFor rationals grevlex
-      (length program.names) gs (Inv program)) where
+  module _ {gs : List (Terms Fraction)}
+      (reduced : IsReducedFor rationals grevlex (length program.names) gs (Inv program)) where
     invariant_at : (i : ℕ) → i < length gs → Inv program (get_or gs i [])
     invariant_at i l = reduced.members (get_or gs i []) (in_get gs i [] l)
 

@@ -214,8 +214,8 @@ module _ {program : Program (Expr ℕ)} {s : Setting} {given : Option (List (Ter
       (are_forms program here.formed s here.fits here.is) in
       each_short (setting_of s) fs gs fresh t u
       (subst (λ xs. IsRun (short_moves (setting_of s)) fresh xs t) parts r) short
-      (back_run fs u (subst (λ xs. IsRun (moves (setting_from program given xs None)) fresh fs u)
-      one f.run))
+      (back_run fs u
+      (subst (λ xs. IsRun (moves (setting_from program given xs None)) fresh fs u) one f.run))
       (subst (λ n. most_terms < n) (same_length u)
       (subst (λ xs. IsLong (setting_from program given xs None) u) one long))
 
@@ -270,8 +270,8 @@ module _ {program : Program (Expr ℕ)} {s : Setting} {given : Option (List (Ter
       square_is (length program.names) (length a.basis.items) _
       (ap length (sym seen_is) ∙ each.count ∙ size) (λ i l. ap (λ xs. length (get_or xs i []))
       (sym seen_is) ∙ row_long program here.formed given forms counted gs I reduced b i inside
-      (omega (arith, l, size)) (each.each i (omega (arith, l, size))) ∙ size) (subst (λ n. All
-      (λ (row : Vec FracPoly). AreOver n row.items) (get_or a.steps.items b rows).items)
+      (omega (arith, l, size)) (each.each i (omega (arith, l, size))) ∙ size) (subst
+      (λ n. All (λ (row : Vec FracPoly). AreOver n row.items) (get_or a.steps.items b rows).items)
       here.is.arity (over b rows within)))
 
   pub comes_followed : {es : List Entry} (step : Step) → Comes (setting_of s) es step

@@ -40,8 +40,8 @@ module _ (program : Program (Expr ℕ)) (is : List ℕ) where
   followed (inl none) = inl none
   followed (inr h) = inr (inl (record { state = h.state; follows = h.follows }))
 
-  module _ (before after : Journal) {k : ℕ} (gs : List FracPoly) (finished : IsFinished program
-      before.entries k (terms_each gs)) where
+  module _ (before after : Journal) {k : ℕ} (gs : List FracPoly)
+      (finished : IsFinished program before.entries k (terms_each gs)) where
     abbrev Did : Outcome (Vec FracPoly Global) → Type 0
     Did o = Ran (elimination_from (length program.names) is (terms_each gs))
         (IsListOf (length program.names) is) before after o

@@ -87,8 +87,8 @@ module _ {A : Setting} {w : Work} {W : Way fractions} {P : Type 0} {old mid new 
 pub reduced_list : {m : ℕ} {ts : List (Terms Fraction)} (I : Terms Fraction → Type 0)
     → IsReducedBasis rationals grevlex m ts I → IsReducedList m ts
 reduced_list {m = m} {ts = ts} I b =
-    reduced_along ℚ_field grevlex grevlex_order m ts I (IsMember ℚ m ts) (λ p h.
-    ((b.generates p h).1, (b.generates p h).0)) b.reduced
+    reduced_along ℚ_field grevlex grevlex_order m ts I (IsMember ℚ m ts)
+    (λ p h. ((b.generates p h).1, (b.generates p h).0)) b.reduced
 
 none_polynomial : (m : ℕ) → IsPolynomial ℚ grevlex m []
 unfolding Each Falls
@@ -194,8 +194,8 @@ module _ (m : ℕ) (hs ks gs : List FracPoly) (over : AreOver m hs) (too : AreOv
           → AreOver m gs × IsReducedList m (terms_each gs)
       at n e I h = (
         subst (λ k. AreOver k gs) e h.arity,
-        subst (λ k. IsReducedList k (terms_each gs)) e (reduced_list I
-            h.reduced),
+        subst (λ k. IsReducedList k (terms_each gs)) e
+            (reduced_list I h.reduced),
       )
 
       go : (hs ks : List FracPoly) → AreOver m hs → AreOver m ks → IsIntersection hs ks gs

@@ -122,8 +122,8 @@ module _ {w : CodeInWork} (u : IsCodeInWork w) (ps : List FracPoly) (are : AreTh
       → terms_in p ≡ collect rationals (blocks k grevlex grevlex) (variable_of (k + n) (k + v)
       ++ negate ℚ (compose ℚ (k + n) f (terms_each ps))) → terms_in p ≡ put_value m b v f
   difference_at v f p h = h
-      ∙ ap₂ (λ (k n : ℕ). collect rationals (blocks k grevlex grevlex) (variable_of (k + n) (k + v)
-      ++ negate ℚ (compose ℚ (k + n) f (terms_each ps)))) u.count size
+      ∙ ap₂ (λ (k n : ℕ). collect rationals (blocks k grevlex grevlex)
+      (variable_of (k + n) (k + v) ++ negate ℚ (compose ℚ (k + n) f (terms_each ps)))) u.count size
       ∙ ap (λ qs. collect rationals (blocks (copies m (statements_in b)) grevlex grevlex)
       (variable_of (copies m (statements_in b) + m) (copies m (statements_in b) + v)
       ++ negate ℚ (compose ℚ (copies m (statements_in b) + m) f qs))) are.0

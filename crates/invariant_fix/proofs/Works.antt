@@ -93,8 +93,8 @@ module _ {s : Setting} (fits : FitsSetting s) where
       start_here = record {
         begun = begun;
         way = start_way;
-        past = λ p. past_start (setting_of s) starts (subst (λ (V : Way fractions).
-            IsPastStart fractions rationals V.gens) start_way p);
+        past = λ p. past_start (setting_of s) starts
+            (subst (λ (V : Way fractions). IsPastStart fractions rationals V.gens) start_way p);
       }
 
       abbrev Started : Vec FracPoly → Type 0
@@ -170,8 +170,8 @@ module _ {w : BranchInWork} {old mid : Journal} {n : ℕ}
   unfolding starting block
   meet_here = record { begun = begun_here h; way = refl; past = λ p. inr (inr p) }
 
-  meet_short : most_terms < work_length (setting_of w.setting.now) (meet w.round w.place
-      (terms_each w.basis.now) (terms_each hs) (terms_each ks)) → ⊥
+  meet_short : most_terms < work_length (setting_of w.setting.now)
+      (meet w.round w.place (terms_each w.basis.now) (terms_each hs) (terms_each ks)) → ⊥
   meet_short = meet_few (setting_of w.setting.now) w.round w.place (terms_each w.basis.now)
       (terms_each hs) (terms_each ks)
 

@@ -18,9 +18,9 @@ pub rounds-requires-clause-start : goal.rounds-requires-clause-start
 rounds-requires-clause-start c =
     let e = c.with_list-setting.ensures in
     given_list c.with_list-setting.result c.in_ok-given.given e.given c.args.first.now _
-    c.in_ok-given.ensures.same c.in_ok-basis.ensures.same c.in_ok-basis.ensures.arities (subst (λ m.
-    AreOver m c.args.first.now) (sym e.arity) c.requires.over) (subst (λ m. IsReducedList m
-    (terms_each c.args.first.now)) (sym e.arity) c.requires.reduced)
+    c.in_ok-given.ensures.same c.in_ok-basis.ensures.same c.in_ok-basis.ensures.arities (subst
+    (λ m. AreOver m c.args.first.now) (sym e.arity) c.requires.over)
+    (subst (λ m. IsReducedList m (terms_each c.args.first.now)) (sym e.arity) c.requires.reduced)
     (units_of c.args.meter.now.entries)
 
 pub rounds-requires-clause-next : goal.rounds-requires-clause-next

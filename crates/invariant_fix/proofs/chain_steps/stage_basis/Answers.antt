@@ -110,8 +110,8 @@ returns-in-Err-Wide-clause-err c = λ p is.
     let at = (goal.at.returns-in-Err-Wide-clause-err c).After-mapped in
     let g = c.args.stage.now in
     stage_wide p (stage_of g).branches c.args.before.now c.args.budget c.open.ensures
-    (stage_of g).code some c.mapped.new.meter (formed_here at p is c.mapped.new.meter) (stops at p
-    is Wide c.in-Err-Wide.field-0-is c.in-Err-Wide.ensures.ran))
+    (stage_of g).code some c.mapped.new.meter (formed_here at p is c.mapped.new.meter)
+    (stops at p is Wide c.in-Err-Wide.field-0-is c.in-Err-Wide.ensures.ran))
 
 pub returns-in-Err-Budget-clause-err : goal.returns-in-Err-Budget-clause-err
 returns-in-Err-Budget-clause-err c = λ p is.
@@ -119,8 +119,8 @@ returns-in-Err-Budget-clause-err c = λ p is.
     let at = (goal.at.returns-in-Err-Budget-clause-err c).After-mapped in
     let g = c.args.stage.now in
     stage_exhausted p (stage_of g).branches c.args.before.now c.args.budget c.open.ensures
-    (stage_of g).code some c.mapped.new.meter (formed_here at p is c.mapped.new.meter) (stops at p
-    is Budget c.in-Err-Budget.field-0-is c.in-Err-Budget.ensures.ran))
+    (stage_of g).code some c.mapped.new.meter (formed_here at p is c.mapped.new.meter)
+    (stops at p is Budget c.in-Err-Budget.field-0-is c.in-Err-Budget.ensures.ran))
 
 pub returns-in-Err-Memory-clause-err : goal.returns-in-Err-Memory-clause-err
 returns-in-Err-Memory-clause-err c = λ p is.
@@ -128,8 +128,8 @@ returns-in-Err-Memory-clause-err c = λ p is.
     let at = (goal.at.returns-in-Err-Memory-clause-err c).After-mapped in
     let g = c.args.stage.now in
     stage_wanting p (stage_of g).branches c.args.before.now c.args.budget c.open.ensures
-    (stage_of g).code some c.mapped.new.meter (stops at p is Memory c.in-Err-Memory.field-0-is
-    c.in-Err-Memory.ensures.ran))
+    (stage_of g).code some c.mapped.new.meter
+    (stops at p is Memory c.in-Err-Memory.field-0-is c.in-Err-Memory.ensures.ran))
 
 -- it has
 pub basis_in-requires-clause-reduced : goal.basis_in-requires-clause-reduced

@@ -28,15 +28,15 @@ pub returns-in_default-list_before : goal.returns-in_default-list_before
 returns-in_default-list_before t c =
     let ns = lengths_told c.args.passing.now (terms_each c.args.back.now) in
     sum_past (length_behind c.args.front ns) terms_in _ _ _ _ c.split_at.ensures.front
-    c.split_at.ensures.back (inl (none_above _ _ c.list_before.ensures
-    c.in_default-list_before.not-Some))
+    c.split_at.ensures.back
+    (inl (none_above _ _ c.list_before.ensures c.in_default-list_before.not-Some))
 
 pub returns-in_default-list_before-2 : goal.returns-in_default-list_before-2
 returns-in_default-list_before-2 t c =
     let ns = lengths_told c.args.passing.now (terms_each c.args.back.now) in
     sum_past (length_behind c.args.front ns) terms_in _ _ _ _ c.split_at.ensures.front
-    c.split_at.ensures.back (inr (none_above _ _ c.list_before-in_default.ensures
-    c.in_default-list_before-2.not-Some))
+    c.split_at.ensures.back
+    (inr (none_above _ _ c.list_before-in_default.ensures c.in_default-list_before-2.not-Some))
 
 pub returns-in-Some-list_before : goal.returns-in-Some-list_before
 returns-in-Some-list_before t c =

@@ -28,15 +28,15 @@ pub returns-in_default-sum_before : goal.returns-in_default-sum_before
 returns-in_default-sum_before t c =
     let ns = lengths_told c.args.passing.now (terms_each c.args.back.now) in
     sum_past (term_behind c.args.front ns) (term_of fraction_of) _ _ _ _ c.split_at.ensures.front
-    c.split_at.ensures.back (inl (none_above _ _ c.sum_before.ensures
-    c.in_default-sum_before.not-Some))
+    c.split_at.ensures.back
+    (inl (none_above _ _ c.sum_before.ensures c.in_default-sum_before.not-Some))
 
 pub returns-in_default-sum_before-2 : goal.returns-in_default-sum_before-2
 returns-in_default-sum_before-2 t c =
     let ns = lengths_told c.args.passing.now (terms_each c.args.back.now) in
     sum_past (term_behind c.args.front ns) (term_of fraction_of) _ _ _ _ c.split_at.ensures.front
-    c.split_at.ensures.back (inr (none_above _ _ c.sum_before-in_default.ensures
-    c.in_default-sum_before-2.not-Some))
+    c.split_at.ensures.back
+    (inr (none_above _ _ c.sum_before-in_default.ensures c.in_default-sum_before-2.not-Some))
 
 pub returns-in-Some-sum_before : goal.returns-in-Some-sum_before
 returns-in-Some-sum_before t c =

@@ -28,8 +28,8 @@ pub returns-in_default-form_before : goal.returns-in_default-form_before
 returns-in_default-form_before c =
     let b = c.args.branch.now in
     map_long (form_of b.form) _ _ _ (subst (λ n. most_terms < n)
-    (map_is (goal.at.returns-in_default-form_before c).After-form_before-2) (none_above _ _
-    c.form_before-2.ensures c.in_default-form_before.not-Some))
+    (map_is (goal.at.returns-in_default-form_before c).After-form_before-2)
+    (none_above _ _ c.form_before-2.ensures c.in_default-form_before.not-Some))
 
 pub returns : goal.returns
 returns c =

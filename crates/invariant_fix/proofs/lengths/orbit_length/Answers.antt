@@ -47,8 +47,8 @@ returns-in_default-form_before c =
     let b = c.args.branch.now in
     let late : ¬ (b.form.since ≡ 0) = search rules in
     form_long _ (form_of b.form) _ _ late (subst (λ n. most_terms < n)
-    (form_is (goal.at.returns-in_default-form_before c).After-form_before-2) (none_above _ _
-    c.form_before-2.ensures c.in_default-form_before.not-Some))
+    (form_is (goal.at.returns-in_default-form_before c).After-form_before-2)
+    (none_above _ _ c.form_before-2.ensures c.in_default-form_before.not-Some))
 
 pub returns : goal.returns
 returns c =

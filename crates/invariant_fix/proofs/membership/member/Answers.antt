@@ -7,8 +7,8 @@ use Rattle.invariant_fix.proofs.membership.member.Goals as goal
 
 pub divide-requires-clause-divisors : goal.divide-requires-clause-divisors
 divide-requires-clause-divisors c =
-    subst (AreDivisors _ c.args.p.now.arity) (sym c.deref.ensures.value) (elements_of _ _
-    c.requires.arity c.args.analysis.now.reduced)
+    subst (AreDivisors _ c.args.p.now.arity) (sym c.deref.ensures.value)
+    (elements_of _ _ c.requires.arity c.args.analysis.now.reduced)
 
 asked : (c : After-deref) → IsAsked c.args.p.now c.args.analysis.now.basis.items c.deref.result.now
     c.args.meter.now c.begin.new.self

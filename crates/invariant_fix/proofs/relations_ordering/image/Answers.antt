@@ -11,8 +11,8 @@ pub returns-clause-image : goal.returns-clause-image
 returns-clause-image c =
     let js = c.args.places.now in
     let m = length js in
-    if_ok _ _ c.variable.result (λ p s. variable_is _ m _ c.requires.place p (subst (λ (i : ℕ).
-    IsSomeAnd (slice_get (variables ℚ m) i) (λ x. Is _ m x p)) c.place_in.ensures s))
+    if_ok _ _ c.variable.result (λ p s. variable_is _ m _ c.requires.place p (subst
+    (λ (i : ℕ). IsSomeAnd (slice_get (variables ℚ m) i) (λ x. Is _ m x p)) c.place_in.ensures s))
     c.variable.ensures.variable
 
 pub returns-clause-arity : goal.returns-clause-arity

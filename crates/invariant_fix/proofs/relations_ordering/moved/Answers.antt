@@ -18,5 +18,5 @@ returns-clause-moved c =
     let block = returns-clause-block c in
     let g = terms_in c.args.element.now in
     in_blocks _ (arity-compose _ ℚ g _ (arities_over _ images c.requires.arities))
-    c.in_ok-reorder.field-0 block.0 block.1 (Same-trans ℚ c.in_ok-reorder.ensures.same.same
-    c.in_ok-composed.ensures.composition.same)
+    c.in_ok-reorder.field-0 block.0 block.1
+    (Same-trans ℚ c.in_ok-reorder.ensures.same.same c.in_ok-composed.ensures.composition.same)

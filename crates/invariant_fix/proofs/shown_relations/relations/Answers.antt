@@ -118,8 +118,8 @@ returns-in-Err-Wide-clause-refused c =
       c.in-Ok.ensures.free,
       c.in-Ok.ensures.forms,
       wide_by _ _ c.analyse.new.meter
-          c.eliminated.new.meter (gs at) c.in-Ok.ensures.closed.finished (stops at Wide
-          c.in-Err-Wide.field-0-is c.in-Err-Wide.ensures.ran),
+          c.eliminated.new.meter (gs at) c.in-Ok.ensures.closed.finished
+          (stops at Wide c.in-Err-Wide.field-0-is c.in-Err-Wide.ensures.ran),
     )
 
 pub returns-in-Err-Budget-eliminated-clause-follows :

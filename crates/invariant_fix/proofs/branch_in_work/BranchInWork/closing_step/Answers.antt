@@ -53,8 +53,8 @@ pub returns-then-is_none-clause-err : goal.returns-then-is_none-clause-err
 returns-then-is_none-clause-err c =
     let at = goal.at.returns-then-is_none-clause-err c in
     step_long (test at.After-index-basis-element) (subst (λ n. most_terms < n)
-    (length_at at.After-is_none) (none_is_above _ _ _ c.composition_length.ensures c.is_none.ensures
-    c.if-is_none.true))
+    (length_at at.After-is_none)
+    (none_is_above _ _ _ c.composition_length.ensures c.is_none.ensures c.if-is_none.true))
 
 pub returns-in-Ok-clause-open_ : goal.returns-in-Ok-clause-open_
 returns-in-Ok-clause-open_ c = λ n.

@@ -18,8 +18,8 @@ pub returns-then-is_none-clause-err : goal.returns-then-is_none-clause-err
 returns-then-is_none-clause-err c = λ hs a.
     iteration_long c.requires.at c.index-branch.result.now c.index-branch.ensures c.args.taken
     (begun (goal.at.returns-then-is_none-clause-err c).In_ok-begin) c.args.before.now
-    c.begin.new.self hs a (none_is_above _ _ _ c.iteration_length.ensures c.is_none.ensures
-    c.if-is_none.true)
+    c.begin.new.self hs a
+    (none_is_above _ _ _ c.iteration_length.ensures c.is_none.ensures c.if-is_none.true)
 
 pub returns-in-Ok-clause-next : goal.returns-in-Ok-clause-next
 returns-in-Ok-clause-next c = λ hs a.

@@ -62,8 +62,8 @@ due_again c =
     let e = since_at c.requires.at c.index.result.now c.index.ensures in
     let l = c.loop-taken-test.true in
     subst (λ ks. Awaits w c.loop-taken.meter (iteration_begins w n ks (terms_each hs)))
-    (sym c.deref-in-loop-taken.ensures.value) (next_iteration w c.loop-taken.meter n _ hs
-    (omega (arith, e, l)) c.loop-taken.invariant.next)
+    (sym c.deref-in-loop-taken.ensures.value)
+    (next_iteration w c.loop-taken.meter n _ hs (omega (arith, e, l)) c.loop-taken.invariant.next)
 
 pub returns-in_err-before-2-clause-err : goal.returns-in_err-before-2-clause-err
 returns-in_err-before-2-clause-err c =
@@ -83,8 +83,8 @@ meet_with_iteration-requires-in-loop-taken-clause-next c =
     subst (λ xs. Awaits w mid (iteration_meets w n xs c.deref-in-loop-taken-3.result.now))
     (sym c.deref-in-loop-taken-2.ensures.value) (subst (λ ks. Awaits w mid
     (iteration_meets w n hs ks)) (sym c.deref-in-loop-taken-3.ensures.value) (iteration_meet_due w
-    mid n _ hs _ (c.in_ok-before-2.ensures.next (terms_each hs)
-    (due_again at.After-deref-in-loop-taken))))
+    mid n _ hs _
+    (c.in_ok-before-2.ensures.next (terms_each hs) (due_again at.After-deref-in-loop-taken))))
 
 pub loop-taken-preserved : goal.loop-taken-preserved
 loop-taken-preserved c =

@@ -22,8 +22,8 @@ meet-requires-clause-alike c =
 pub meet-requires-clause-arity : goal.meet-requires-clause-arity
 meet-requires-clause-arity c =
     let a = c.args.self.now.setting.now.arity in
-    few_arity a _ (over_append a _ _ c.requires.so_far.arity
-    c.requires.turned.arity) c.requires.at.fits.few
+    few_arity a _
+    (over_append a _ _ c.requires.so_far.arity c.requires.turned.arity) c.requires.at.fits.few
 
 pub returns-in-Ok-clause-met : goal.returns-in-Ok-clause-met
 returns-in-Ok-clause-met c =

@@ -119,8 +119,8 @@ pub returns-in_err-less-clause-wide : goal.returns-in_err-less-clause-wide
 returns-in_err-less-clause-wide c =
     let e = (goal.at.returns-in_err-less-clause-wide c).After-sub in
     let composed : terms_in c.in_ok-composed.composed ≡ collect rationals grevlex (put e) =
-    collect-is ℚ_field grevlex grevlex_order (n e) (put e) _ (put_arity e) (graded_polynomial (n e)
-    c.in_ok-composed.composed (put_is e).arity) (put_is e).same in
+    collect-is ℚ_field grevlex grevlex_order (n e) (put e) _ (put_arity e)
+    (graded_polynomial (n e) c.in_ok-composed.composed (put_is e).arity) (put_is e).same in
     let p = err_from_is_err_and c.from_residual-in_err-less.result
     c.from_residual-in_err-less.ensures.1 in
     λ h. past_value_at c.requires.work (ps e) c.requires.before c.args.value.now.arity

@@ -28,8 +28,8 @@ loop-var-preserved c =
           c.in_ok-push.ensures.items c.in_ok-image.ensures.image c.loop-var.invariant.list;
       arity =
           have_more (λ (q : FracPoly). q.arity ≡ arity m is) _ _ p c.in_ok-push.ensures.items
-          c.loop-var.invariant.arity (c.in_ok-image.ensures.arity ∙ ap length c.requires.order
-          ∙ order_all m is);
+          c.loop-var.invariant.arity
+          (c.in_ok-image.ensures.arity ∙ ap length c.requires.order ∙ order_all m is);
     }
 
 pub image-requires-clause-few : goal.image-requires-clause-few
