@@ -1,6 +1,5 @@
 // The question whether an equation holds at the end of every run, and what is answered to it.
 ghost use Rattle.std.specs.Prelude.{◌≡◌, length, Some, string_bytes, IfOk};
-ghost use Rattle.loops.specs.WellFormed.{IsWellFormed};
 ghost use Rattle.loop_model.specs.View.{program_of};
 ghost use Rattle.poly.specs.Seen.{terms_in, terms_each};
 ghost use Rattle.invariant_fix.specs.Membership.{HasCofactorsOver};
@@ -35,7 +34,6 @@ pub(crate) fn answer_to_equation(
     equation: &String,
     meter: &mut Meter,
 ) -> Result<Answer, AllocError>
-    requires { IsWellFormed (program_of lp.now) }
     // It reads no file.
     ensures { (files : Change FilesView) → files.after.reads ≡ files.before.reads →
         files.after.tries ≡ files.before.tries →
@@ -56,7 +54,6 @@ fn answer_to_question(
     p: &Poly<Frac, Grevlex>,
     meter: &mut Meter,
 ) -> Result<Answer, AllocError>
-    requires formed { IsWellFormed (program_of lp.now) }
     requires arity { p.now.arity ≡ length (program_of lp.now).names }
     ensures answer { IfOk result (λ a.
         Asks (program_of lp.now) (terms_in p.now) budget.units meter.new (answer_view a)) }
@@ -78,7 +75,6 @@ fn answer_by_division(
     p: &Poly<Frac, Grevlex>,
     meter: &mut Meter,
 ) -> Result<Answer, AllocError>
-    requires formed { IsWellFormed (program_of lp.now) }
     requires arity { p.now.arity ≡ length (program_of lp.now).names }
     requires limit { meter.old.limit ≡ budget }
     requires found { HasFound (program_of lp.now) meter.old (terms_each found.now.basis.items) }

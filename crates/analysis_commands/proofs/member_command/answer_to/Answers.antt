@@ -2,15 +2,9 @@ use Rattle.std.proofs.Common.{refl}
 use Rattle.loop_text.specs.LoopReader.{loop_of}
 use Rattle.io_edge.specs.Change.{◌⟶◌}
 use Rattle.loop_model.specs.View.{program_of}
-use Rattle.loop_text.proofs.WellFormed.{loop_well}
 use Rattle.io_edge.proofs.Readings.{refused_says, reading_ends}
 use Rattle.command_parts.specs.FaultTexts.{loop_refusal}
 use Rattle.analysis_commands.proofs.member_command.answer_to.Goals as goal
-
-pub answer_to_equation-requires : goal.answer_to_equation-requires
-answer_to_equation-requires g c =
-    let h = c.in-Ok.ensures.read in
-    (loop_well h.text (program_of c.in-Ok.lp) h.says).formed
 
 pub returns-in-Ok : goal.returns-in-Ok
 returns-in-Ok g c =

@@ -1,5 +1,6 @@
 use Rattle.std.proofs.Common.{rules}
 use Rattle.loop_model.specs.View.{program_of}
+use Rattle.loop_model.proofs.Formed.{formed}
 use Rattle.poly.specs.Seen.{terms_in}
 use Rattle.analysis_commands.proofs.MemberAnswers.{basis_arity, cofactors_arity, told_said, undivided_said, divided_asked}
 use Rattle.analysis_commands.proofs.questions.answer_by_division.Goals as goal
@@ -24,7 +25,7 @@ returns-in-Ok-clause-answer c =
     c.requires.limit c.member.ensures.limit c.args.found.now.basis.items f
     c.membership_answer.result c.names.result.now c.names.ensures.names c.in-Ok.answer
     (h.answered l f.rounds f.finished) h.ok h.sum
-    (h.invariant l f.rounds c.requires.formed c.requires.arity f.finished)
+    (h.invariant l f.rounds (formed c.args.lp.now) c.requires.arity f.finished)
     c.membership_answer.ensures
 
 pub returns-in-Ok-clause-asked : goal.returns-in-Ok-clause-asked
