@@ -45,27 +45,23 @@ module _ (program : Program (Expr ℕ)) (c : FullCertificate) where
   pub forms_stop : (e : Stop ℕ) → StopsAt (λ b. P (in_forms b)) (λ b. W (in_forms b))
       (length program.branches) e → IsStop part_of P W further (forms_stop_as e)
   unfolding Each
-  forms_stop e s = stop_in part_of P W further [] forms (starts ++ (rounds ++ at_end ∷ [])) refl tt
-      (forms_stop_as e)
-      (numbers_stop part_of P W in_forms (length program.branches) (λ b. part.Form b) (λ i. refl) e
-      s)
+  forms_stop e s = stop_in _ _ W _ [] forms (starts ++ (rounds ++ at_end ∷ [])) refl tt _
+      (numbers_stop _ P W in_forms _ (λ b. part.Form b) (λ i. refl) e s)
 
   pub starts_stop : Each P forms → (e : Stop ℕ) → StopsAt (λ i. P (in_start i))
       (λ i. W (in_start i)) (length (start_list program)) e
       → IsStop part_of P W further (starts_stop_as e)
-  starts_stop h e s = stop_in part_of P W further forms starts (rounds ++ at_end ∷ []) refl h
-      (starts_stop_as e)
-      (numbers_stop part_of P W in_start (length (start_list program)) (λ i. part.Start i)
-      (λ i. refl) e s)
+  starts_stop h e s = stop_in _ _ W _ forms starts (rounds ++ at_end ∷ []) refl h _
+      (numbers_stop _ P W in_start _ (λ i. part.Start i) (λ i. refl) e s)
 
   pub rounds_stop : Each P forms → Each P starts → (e : Stop Found) → IsStop part_of P W rounds e
       → IsStop part_of P W further e
-  rounds_stop h k e s = stop_in part_of P W further (forms ++ starts) rounds (at_end ∷ [])
+  rounds_stop h k e s = stop_in _ _ W _ (forms ++ starts) rounds (at_end ∷ [])
       (sym (append_assoc forms starts (rounds ++ at_end ∷ []))) (each-append P forms starts h k) e s
 
   pub end_stops : Each P forms → Each P starts → Each P rounds → (e : Stop Found)
       → IsStop part_of P W (at_end ∷ []) e → IsStop part_of P W further e
-  end_stops h k l e s = stop_in part_of P W further (forms ++ (starts ++ rounds)) (at_end ∷ []) []
+  end_stops h k l e s = stop_in _ _ W _ (forms ++ (starts ++ rounds)) (at_end ∷ []) []
       (ap (λ ps. forms ++ ps) (sym (append_assoc starts rounds (at_end ∷ [])))
       ∙ sym (append_assoc forms (starts ++ rounds) (at_end ∷ [])))
       (each-append P forms (starts ++ rounds) h (each-append P starts rounds k l)) e s

@@ -5,7 +5,8 @@
 --   stage_all, stage_stops         what is told of the places of a stage, of the parts
 --   orbit_alone, both_hold         the stages of a branch hold
 --   orbit_stops, meet_stops        where they stop
-use Rattle.std.proofs.Common.{◌≡◌, ℕ, zero, suc, ◌-◌, ◌<◌, List, [], ◌++◌, get_or, length, true, true≢false, refl, sym, ap, subst, ◌∙◌, inl, inr, arith}
+use Rattle.std.proofs.Math.Path.{subst₃}
+use Rattle.std.proofs.Common.{◌≡◌, ℕ, zero, suc, ◌-◌, ◌<◌, List, [], ◌++◌, get_or, length, true, true≢false, refl, sym, ap, ◌∙◌, inl, inr, arith}
 use Rattle.std.specs.Prelude.{pred, Option, Some, None, is_some, Vec, vec_len}
 use Rattle.std.specs.declared.alloc.Global.{Global}
 use Rattle.std.proofs.lemmas.List.{append-nil, get_or-map, length-map}
@@ -104,14 +105,8 @@ module _ (program : Program (Expr ℕ)) (c : FullCertificate) where
       (g : s ≡ stage_of c r b (kind_of found)) where
     pub stage_all : Each (HoldsAt k hs s) (places k hs s)
         → Each P (stage_parts program c r b (kind_of found))
-    stage_all h = each-map P (in_round r b (kind_of found)) (places (front_of c b (kind_of found))
-        (starting program c r b (kind_of found)) (stage_of c r b (kind_of found)))
-        (subst (λ x. Each (HoldsAt x (starting program c r b (kind_of found))
-        (stage_of c r b (kind_of found))) (places x (starting program c r b (kind_of found))
-        (stage_of c r b (kind_of found)))) e
-        (subst (λ y. Each (HoldsAt k y (stage_of c r b (kind_of found)))
-        (places k y (stage_of c r b (kind_of found)))) f
-        (subst (λ z. Each (HoldsAt k hs z) (places k hs z)) g h)))
+    stage_all h = each-map P (in_round r b (kind_of found)) _
+        (subst₃ (λ x y z. Each (HoldsAt x y z) (places x y z)) e f g h)
 
     pub stage_stops : (begun : ℕ → Type 0)
         → ((i : ℕ) → begun i → IsPastBegun program c r b (kind_of found) i) → (stop : Stop Found)
@@ -119,21 +114,11 @@ module _ (program : Program (Expr ℕ)) (c : FullCertificate) where
         → IsStop part_of P W (stage_parts program c r b (kind_of found))
         (stop_map (stage_part r b found) stop)
     stage_stops begun past stop h = stop_mapped place_of part_of P W (in_round r b (kind_of found))
-        (stage_part r b found) (λ q. refl) (places (front_of c b (kind_of found))
-        (starting program c r b (kind_of found)) (stage_of c r b (kind_of found))) stop
-        (subst (λ x. IsStop place_of (HoldsAt x (starting program c r b (kind_of found))
-        (stage_of c r b (kind_of found))) (IsPastPlace (IsPastBegun program c r b (kind_of found))
-        (stage_of c r b (kind_of found))) (places x (starting program c r b (kind_of found))
-        (stage_of c r b (kind_of found))) stop) e
-        (subst (λ y. IsStop place_of (HoldsAt k y (stage_of c r b (kind_of found)))
-        (IsPastPlace (IsPastBegun program c r b (kind_of found)) (stage_of c r b (kind_of found)))
-        (places k y (stage_of c r b (kind_of found))) stop) f
-        (subst (λ z. IsStop place_of (HoldsAt k hs z)
-        (IsPastPlace (IsPastBegun program c r b (kind_of found)) z) (places k hs z) stop) g
-        (stop_weaker place_of (HoldsAt k hs s) (IsPastPlace begun s)
-        (IsPastPlace (IsPastBegun program c r b (kind_of found)) s)
-        (place_weaker begun (IsPastBegun program c r b (kind_of found)) past s) (places k hs s) stop
-        h))))
+        (stage_part r b found) (λ q. refl) _ stop
+        (subst₃ (λ x y z. IsStop place_of (HoldsAt x y z)
+        (IsPastPlace (IsPastBegun program c r b (kind_of found)) z) (places x y z) stop) e f g
+        (stop_weaker place_of (HoldsAt k hs s) (IsPastPlace begun s) _ (place_weaker begun _ past s)
+        _ stop h))
 
   -- ---- the stages of a branch
   pub orbit_alone : (r b : ℕ) → b ≡ 0 → Each P (stage_parts program c r b orbit)
@@ -154,15 +139,15 @@ module _ (program : Program (Expr ℕ)) (c : FullCertificate) where
       → IsStop part_of P W (branch_parts program c r b) e
   unfolding branch_parts Each
   orbit_stops r zero e s = s
-  orbit_stops r (suc b) e s = stop_in part_of P W (branch_parts program c r (suc b)) []
-      (stage_parts program c r (suc b) orbit) (stage_parts program c r (suc b) meet) refl tt e s
+  orbit_stops r (suc b) e s = stop_in _ _ W _ [] (stage_parts program c r (suc b) orbit)
+      (stage_parts program c r (suc b) meet) refl tt e s
 
   pub meet_stops : (r b : ℕ) → 0 < b → Each P (stage_parts program c r b orbit)
       → (e : Stop FoundPart) → IsStop part_of P W (stage_parts program c r b meet) e
       → IsStop part_of P W (branch_parts program c r b) e
   unfolding branch_parts
   meet_stops r zero l h e s = absurd (omega arith)
-  meet_stops r (suc b) l h e s = stop_in part_of P W (branch_parts program c r (suc b))
+  meet_stops r (suc b) l h e s = stop_in _ _ W _
       (stage_parts program c r (suc b) orbit) (stage_parts program c r (suc b) meet) []
       (ap (λ ps. stage_parts program c r (suc b) orbit ++ ps)
       (sym (append-nil (stage_parts program c r (suc b) meet)))) h e s

@@ -24,7 +24,7 @@ use Rattle.loop_model.specs.FracPoly.{FracPoly}
 use Rattle.loop_model.specs.Maps.{IsBranchMap}
 use Rattle.corollaries.specs.Counts.{IsCounted, no_branch}
 use Rattle.corollaries.specs.Full.{FullCertificate}
-use Rattle.cert_checker.proofs.FormsAlong as along
+use Rattle.cert_checker.proofs.VerdictLaws.{map_of as map_of_branch}
 
 pub collected : (m : ℕ) (qs ps : List (Terms Fraction)) → All (IsPolynomial ℚ grevlex m) qs
     → AllArity m ps → AllSame ℚ qs ps → qs ≡ map (collect rationals grevlex) ps
@@ -44,7 +44,7 @@ unfolding map_of
 map_is program b images stands =
     let m = length program.names in
     let maps = branch_map program (get_or program.branches b []) in
-    let is = along.map_of m images.items maps stands in
+    let is = map_of_branch m images.items maps stands in
     collected m (terms_each images.items) maps is.polynomials
     (arity-branch_map program (get_or program.branches b [])) is.same
 

@@ -1,20 +1,17 @@
 -- Forms of maps that are the same.
 --   passes_along       a form that passes for the one passes for the other
---   map_of             the images of a branch are its map's polynomials
 --   fits, pass_on, pass_back, past_on, inverse_form_at     what is told of the form of a branch and of its map
 --   backs_more         what holds of each of a list, at its place, and of one more
 use Rattle.std.proofs.Common.{◌≡◌, ◌⊎◌, inl, inr, ◌<◌, ◌≤◌, ◌+◌, ℕ, List, [], ◌∷◌, ◌++◌, map, get_or, length, sym, ap, subst, subst₂, ◌∙◌, arith, Vec, Global}
 use Rattle.std.specs.Prelude.{All, vec_len}
 use Rattle.std.proofs.lemmas.List.{get_or-map, get_or_append_left, get_or_push, length-map}
-use Rattle.std.proofs.lemmas.List.Elements.{All-map, All-weaker}
 use Rattle.algebra.specs.Each.{Each}
 use Rattle.algebra.specs.Fraction.{Fraction, ℚ}
 use Rattle.algebra.proofs.Fractions.{ℚ_ring}
-use Rattle.polynomials.specs.Order.{grevlex}
-use Rattle.polynomials.specs.Polynomial.{AllArity, IsPolynomial}
+use Rattle.polynomials.specs.Polynomial.{AllArity}
 use Rattle.polynomials.specs.Terms.{Terms, AllSame, compose}
 use Rattle.polynomials.proofs.Composition.{same_compose}
-use Rattle.polynomials.proofs.Same.{Same-trans, AllSame-refl, AllSame-sym}
+use Rattle.polynomials.proofs.Same.{AllSame-refl, AllSame-sym}
 use Rattle.solvable_maps.specs.Expo.{with_normal_keys}
 use Rattle.solvable_maps.specs.Iterations.{width}
 use Rattle.solvable_maps.proofs.Retold.{same_normalized}
@@ -23,8 +20,8 @@ use Rattle.loops.proofs.Maps.{arity-branch_map}
 use Rattle.rounds.specs.Form.{Form, front, inverse_of_form}
 use Rattle.monos.specs.Variables.{most_variables}
 use Rattle.poly.specs.Seen.{terms_in, terms_each}
-use Rattle.poly.specs.Standing.{IsInVariables, AllStandFor}
-use Rattle.poly.proofs.Standing.{polynomial_over, arities_over, stands_over, stands_same}
+use Rattle.poly.specs.Standing.{IsInVariables}
+use Rattle.poly.proofs.Standing.{arities_over, stands_over, stands_same}
 use Rattle.loop_model.specs.FracPoly.{FracPoly}
 use Rattle.loop_model.specs.Maps.{IsBranchMap}
 use Rattle.coprime_base.specs.Sizes.{sizes}
@@ -37,22 +34,12 @@ use Rattle.task_lists.specs.Images.{IsFormOver}
 use Rattle.task_lists.specs.View.{form_in}
 use Rattle.task_lists.specs.declared.parts.FullForm.{FullForm}
 use Rattle.cert_checker.specs.FullJudge.{program_by, cert_by, IsFullJudge}
-use Rattle.cert_checker.specs.Wide.{IsMapOf}
 use Rattle.cert_checker.specs.InverseForm.{IsInverseForm}
 use Rattle.cert_checker.specs.FullWide.{IsPastPart}
 use Rattle.cert_checker.specs.declared.full_judge.FullJudge.{FullJudge}
 use Rattle.cert_checker.proofs.Begun.{formed}
-use Rattle.cert_checker.proofs.VerdictLaws.{branch_count}
-
-all_trans : (ps qs rs : List (Terms Fraction)) → AllSame ℚ ps qs → AllSame ℚ qs rs
-    → AllSame ℚ ps rs
-unfolding AllSame
-all_trans [] [] [] h k = tt
-all_trans [] [] (r ∷ rs) h k = absurd k
-all_trans [] (q ∷ qs) rs h k = absurd h
-all_trans (p ∷ ps) [] rs h k = absurd h
-all_trans (p ∷ ps) (q ∷ qs) [] h k = absurd k
-all_trans (p ∷ ps) (q ∷ qs) (r ∷ rs) h k = (Same-trans ℚ h.0 k.0, all_trans ps qs rs h.1 k.1)
+use Rattle.cert_form.proofs.ReadingBack.{all_same_trans}
+use Rattle.cert_checker.proofs.VerdictLaws.{branch_count, map_of}
 
 module _ (m : ℕ) (f : Form) (over : AllArity (width (length f.base) m) f.polys) where
   abbrev moved : Terms Fraction → Terms Fraction
@@ -77,18 +64,9 @@ module _ (m : ℕ) (f : Form) (over : AllArity (width (length f.base) m) f.polys
     coprime = h.coprime;
     normal = h.normal;
     at_zero = h.at_zero;
-    goes_on = all_trans (map moved qs) (map moved ps) _
+    goes_on = all_same_trans (map moved qs) (map moved ps) _
         (moved_same qs ps b a (AllSame-sym ℚ ps qs same)) h.goes_on;
   }
-
-pub map_of : (m : ℕ) (images : List FracPoly) (maps : List (Terms Fraction))
-    → AllStandFor m images maps → IsMapOf m (terms_each images) maps
-map_of m images maps h = record {
-  polynomials = All-map (IsPolynomial ℚ grevlex m) terms_in images
-      (All-weaker (IsInVariables m) (λ p. IsPolynomial ℚ grevlex m (terms_in p)) (polynomial_over m)
-      images (stands_over m images maps h));
-  same = stands_same m images maps h;
-}
 
 -- ---- the form of a branch
 module _ {j : FullJudge} (own : IsFullJudge j) {b : ℕ} {form : FullForm}

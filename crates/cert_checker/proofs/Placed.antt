@@ -61,32 +61,26 @@ module _ (k : ℕ) (hs : List (Terms Fraction)) (s : Stage) (begun : ℕ → Typ
         pub links_stop : (e : Stop ℕ) → StopsAt (λ i. P (in_links i)) (λ i. W (in_links i))
             (length (free_part k s.list)) e
             → IsStop place_of P W (places k hs s) (stop_map (place_at row.Links) e)
-        links_stop e h = stop_in place_of P W (places k hs s) (lists ++ (gens ++ pairs)) links []
+        links_stop e h = stop_in _ _ W _ (lists ++ (gens ++ pairs)) links []
             (ap (λ ps. lists ++ (gens ++ (pairs ++ ps))) (sym (append-nil links))
             ∙ ap (λ ps. lists ++ ps) (sym (append_assoc gens pairs (links ++ [])))
-            ∙ sym (append_assoc lists (gens ++ pairs) (links ++ []))) pairs_hold
-            (stop_map (place_at row.Links) e)
-            (numbers_stop place_of P W in_links (length (free_part k s.list)) (place_at row.Links)
-            (λ i. refl) e h)
+            ∙ sym (append_assoc lists (gens ++ pairs) (links ++ []))) pairs_hold _
+            (numbers_stop _ P W in_links _ (place_at row.Links) (λ i. refl) e h)
 
       pub pairs_stop : (e : Stop ℕ) → StopsAt (λ i. P (in_pairs i)) (λ i. W (in_pairs i))
           (length (pairs_of (length s.list))) e
           → IsStop place_of P W (places k hs s) (stop_map (place_at row.Pairs) e)
-      pairs_stop e h = stop_in place_of P W (places k hs s) (lists ++ gens) pairs links
-          (sym (append_assoc lists gens (pairs ++ links))) gens_hold
-          (stop_map (place_at row.Pairs) e)
-          (numbers_stop place_of P W in_pairs (length (pairs_of (length s.list)))
-          (place_at row.Pairs) (λ i. refl) e h)
+      pairs_stop e h = stop_in _ _ W _ (lists ++ gens) pairs links
+          (sym (append_assoc lists gens (pairs ++ links))) gens_hold _
+          (numbers_stop _ P W in_pairs _ (place_at row.Pairs) (λ i. refl) e h)
 
     pub gens_stop : (e : Stop ℕ) → StopsAt (λ i. P (in_gens i)) (λ i. W (in_gens i)) (length hs) e
         → IsStop place_of P W (places k hs s) (stop_map (place_at row.Gens) e)
-    gens_stop e h = stop_in place_of P W (places k hs s) lists gens (pairs ++ links) refl lists_hold
-        (stop_map (place_at row.Gens) e)
-        (numbers_stop place_of P W in_gens (length hs) (place_at row.Gens) (λ i. refl) e h)
+    gens_stop e h = stop_in _ _ W _ lists gens (pairs ++ links) refl lists_hold _
+        (numbers_stop _ P W in_gens _ (place_at row.Gens) (λ i. refl) e h)
 
   pub list_stops : (e : Stop ℕ) → StopsAt (λ i. P (in_list i)) (λ i. W (in_list i)) (length s.list)
       e → IsStop place_of P W (places k hs s) (stop_map (place_at row.List) e)
   unfolding Each
-  list_stops e h = stop_in place_of P W (places k hs s) [] lists (gens ++ (pairs ++ links)) refl tt
-      (stop_map (place_at row.List) e)
-      (numbers_stop place_of P W in_list (length s.list) (place_at row.List) (λ i. refl) e h)
+  list_stops e h = stop_in _ _ W _ [] lists (gens ++ (pairs ++ links)) refl tt _
+      (numbers_stop _ P W in_list _ (place_at row.List) (λ i. refl) e h)

@@ -2,7 +2,7 @@
 --   rows_at          the terms of the rows at a place among those of all branches
 --   inside           there are rows for each branch
 --   square_over      a square of rows, in the loop's variables
-use Rattle.std.proofs.Common.{◌≡◌, ℕ, ◌<◌, List, [], map, get_or, length, arith, sym, ap, subst, ◌∙◌}
+use Rattle.std.proofs.Common.{◌≡◌, ℕ, ◌<◌, List, [], map, get_or, length, arith, sym, ap, subst, subst₂, ◌∙◌}
 use Rattle.std.specs.Prelude.{All, Vec}
 use Rattle.std.specs.declared.alloc.Global.{Global}
 use Rattle.std.proofs.lemmas.List.{length-map, get_or-map}
@@ -28,5 +28,4 @@ square_at m n b blocks rows e l h = subst (IsSquare m n) (sym e) (h b rows l)
 
 pub square_over : (k m n p q : ℕ) (rows : Vec Polys Global) → k ≡ m → n ≡ m → p ≡ q
     → IsSquare k q rows → IsSquare n p rows
-square_over k m n p q rows e f g h = subst (λ n. IsSquare n p rows) (e
-    ∙ sym f) (subst (λ p. IsSquare k p rows) (sym g) h)
+square_over k m n p q rows e f g h = subst₂ (λ x y. IsSquare x y rows) (e ∙ sym f) (sym g) h

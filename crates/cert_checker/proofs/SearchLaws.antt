@@ -3,7 +3,7 @@
 --   start_counted, step_counted     how many terms it multiplies out to
 --   kept_more, failed_here     all before hold, and so does this one; or it is the first that doesn't
 use Rattle.std.specs.Prelude.{Option}
-use Rattle.std.proofs.Common.{◌≡◌, ◌↔◌, ◌⊎◌, inl, inr, ℕ, ◌<◌, ◌≤◌, ◌+◌, Bool, true, false, List, [], get_or, length, IsTrue, arith, sym, ap, subst, ◌∙◌, true≢false, Vec, Global, vec_len}
+use Rattle.std.proofs.Common.{◌≡◌, ◌↔◌, ◌⊎◌, inl, inr, ℕ, ◌<◌, ◌≤◌, ◌+◌, Bool, true, false, List, [], get_or, length, IsTrue, arith, sym, ap, subst, subst₂, ◌∙◌, true≢false, Vec, Global, vec_len}
 use Rattle.std.proofs.lemmas.List.{get_or-map}
 use borrow.Author.Count.{below_more}
 use Rattle.algebra.specs.Fraction.{ℚ, fractions}
@@ -53,11 +53,8 @@ module _ (m : ℕ) (basis images items : List FracPoly) (value : items ≡ basis
     pub step_at : (b : Bool) → IsTrue b ↔ Same ℚ (compose ℚ m (terms_in p) (terms_each images))
         (combination ℚ (polys_in row) (terms_each basis)) → IsTrue b
         ↔ StepHolds m (terms_each basis) (terms_each images) (rows_in rows) i
-    step_at b h =
-        subst (λ x. IsTrue b ↔ Same ℚ (compose ℚ m x (terms_each images))
-        (combination ℚ (get_or (rows_in rows) i []) (terms_each basis))) found
-        (subst (λ y. IsTrue b ↔ Same ℚ (compose ℚ m (terms_in p) (terms_each images))
-        (combination ℚ y (terms_each basis))) row_is h)
+    step_at b h = subst₂ (λ x y. IsTrue b ↔ Same ℚ (compose ℚ m x (terms_each images))
+        (combination ℚ y (terms_each basis))) found row_is h
 
     pub step_past : IsPastComposition fractions (terms_in p) (terms_each images)
         ⊎ IsPastCombination (polys_in row) (terms_each basis)
@@ -69,11 +66,8 @@ module _ (m : ℕ) (basis images items : List FracPoly) (value : items ≡ basis
         → IsCount (t + (composition_terms (terms_in p) (terms_each images)
         + combination_terms (polys_in row) (terms_each basis))) o
         → IsCount (t + step_terms (terms_each basis) (terms_each images) (rows_in rows) i) o
-    step_counted t o h =
-        subst (λ x. IsCount (t + (composition_terms x (terms_each images)
-        + combination_terms (get_or (rows_in rows) i []) (terms_each basis))) o) found
-        (subst (λ y. IsCount (t + (composition_terms (terms_in p) (terms_each images)
-        + combination_terms y (terms_each basis))) o) row_is h)
+    step_counted t o h = subst₂ (λ x y. IsCount (t + (composition_terms x (terms_each images)
+        + combination_terms y (terms_each basis))) o) found row_is h
 
 module _ (P : ℕ → Type 0) (n i : ℕ) (b : Bool) (before : (j : ℕ) → j < i → P j) (tells : IsTrue b
     ↔ P i) where

@@ -7,6 +7,7 @@
 --   widths          rows of so many polynomials, as lists of terms
 --   row_fits, row_has     one of them has as many as the list, and each of it has what all have
 --   ok_holds, unless_err     what is known of a result that is well
+use Rattle.std.proofs.Math.Path.{subst₃}
 use Rattle.std.proofs.Common.{◌≡◌, ◌≢◌, ◌↔◌, ℕ, ◌<◌, Bool, List, [], length, get_or, map, refl, sym, ap, subst, subst₂, ◌∙◌, arith, IsTrue, Result, Ok, Err, true≢false}
 use Rattle.std.specs.Prelude.{◌⊎◌, All, IfOk, OnOk, IsOk, IsErrOf, Vec, vec_len}
 use Rattle.std.specs.declared.alloc.Global.{Global}
@@ -75,9 +76,8 @@ pub pair_tells : (found : Result Bool ArithmeticError) (O : Rank) (gs ks : List 
     (a c : ℕ × ℕ) (qs rs : List (Terms Fraction)) → gs ≡ ks → a ≡ c → qs ≡ rs
     → IfOk found (λ t. IsTrue t ↔ IsLcmRepresentation rationals O gs a qs)
     → IfOk found (λ t. IsTrue t ↔ IsLcmRepresentation rationals O ks c rs)
-pair_tells found O gs ks a c qs rs e f k told =
-    subst (λ x. IfOk found (λ t. IsTrue t ↔ IsLcmRepresentation rationals O x c rs)) e
-    (subst₂ (λ y z. IfOk found (λ t. IsTrue t ↔ IsLcmRepresentation rationals O gs y z)) f k told)
+pair_tells found O gs ks a c qs rs e f k told = subst₃ (λ x y z. IfOk found (λ t. IsTrue t
+    ↔ IsLcmRepresentation rationals O x y z)) e f k told
 
 pub pair_past : (found : Result Bool ArithmeticError) (gs ks : List (Terms Fraction)) (a c : ℕ × ℕ)
     (qs rs : List (Terms Fraction)) → gs ≡ ks → a ≡ c → qs ≡ rs
@@ -85,9 +85,8 @@ pub pair_past : (found : Result Bool ArithmeticError) (gs ks : List (Terms Fract
     → IsPastPair fractions rationals gs a ⊎ IsPastCombination qs gs)
     → IsErrOf found arithmetic_error.Wide → IsPastPair fractions rationals ks c
     ⊎ IsPastCombination rs ks
-pair_past found gs ks a c qs rs e f k past wide =
-    subst (λ x. IsPastPair fractions rationals x c ⊎ IsPastCombination rs x) e
-    (subst₂ (λ y z. IsPastPair fractions rationals gs y ⊎ IsPastCombination z gs) f k (past wide))
+pair_past found gs ks a c qs rs e f k past wide = subst₃ (λ x y z.
+    IsPastPair fractions rationals x y ⊎ IsPastCombination z x) e f k (past wide)
 
 -- ---- rows
 module _ {K O : Type 0} {g : Ring.Ghosts K} {h : PartialEq.Ghosts K} {b : Order.Ghosts O}

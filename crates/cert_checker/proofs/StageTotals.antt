@@ -5,6 +5,7 @@
 --   orbit_only, both_total       that of the stages of a branch;  orbit_beyond, meet_beyond: where it goes beyond the limit
 --   forms_beyond, starts_beyond, rounds_beyond     where that of all does
 --   all_few                      it doesn't
+use Rattle.std.proofs.Math.Path.{subst₃}
 use Rattle.std.proofs.Common.{◌≡◌, ℕ, zero, suc, ◌<◌, ◌≤◌, List, [], ◌∷◌, ◌++◌, map, length, refl, sym, ap, subst, ◌∙◌, arith, append_assoc}
 use Rattle.std.specs.List.{sum_by}
 use Rattle.std.proofs.lemmas.List.{append-nil}
@@ -107,10 +108,8 @@ pub as_stage : (W : (Place → ℕ) → List Place → Type 0) (gs ks qs ls : Li
     → W (place_terms gs qs s) (places k hs s)) → (k : ℕ) (hs : List (Terms Fraction))
     → IsStageCounted k (length hs) z → W (place_terms ks ls z) (places k hs z)
 as_stage W gs ks qs ls s z e f g h k hs counts =
-    subst (λ x. W (place_terms x ls z) (places k hs z)) e
-    (subst (λ y. W (place_terms gs y z) (places k hs z)) f
-    (subst (λ x. W (place_terms gs qs x) (places k hs x)) g
-    (h k hs (subst (IsStageCounted k (length hs)) (sym g) counts))))
+    subst₃ (λ x y w. W (place_terms x y w) (places k hs w)) e f g
+    (h k hs (subst (IsStageCounted k (length hs)) (sym g) counts))
 
 -- ---- a branch
 module _ (program : Program (Expr ℕ)) (c : FullCertificate) where

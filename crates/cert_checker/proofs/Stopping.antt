@@ -5,7 +5,7 @@
 --   more_hold, here_stops        the number that comes next, by what is told of it
 --   several_hold, all_of_several, first_several, behind_several, several_stop   lists of parts that are numbered
 --   stop_mapped, stop_weaker     images of parts, and causes that give others
---   carried                      what is told of a stop that another one is made of
+--   carried                      what is told of a stop that another one is made of;  passed_on: of an error that is passed on
 use Rattle.std.proofs.Common.{◌≡◌, ◌↔◌, ◌⊎◌, inl, inr, ℕ, zero, suc, ◌+◌, ◌-◌, ◌<◌, ◌≤◌, Bool, true, List, [], ◌∷◌, ◌++◌, map, flat_map, Result, Ok, Err, IfOk, IfErr, IsErrAnd, IsTrue, IsErrOf, refl, sym, ap, ap₂, subst, ◌∙◌, arith, append_assoc, true≢false, add-one}
 use Rattle.std.proofs.lemmas.Grind.{flat_map-append}
 use Rattle.std.proofs.lemmas.List.{map-append, append-nil}
@@ -161,8 +161,11 @@ module _ (P W : ℕ → Type 0) (n i : ℕ) (within : i < n) (before : (j : ℕ)
   })
   here_stops Memory is = tt
 
-  pub more_hold : found ≡ Ok true → (j : ℕ) → j < i + 1 → P j
-  more_hold is = below_more P i before ((subst (λ r. IfOk r (λ b. IsTrue b ↔ P i)) is tells).0 refl)
+pub more_hold : (P : ℕ → Type 0) (i : ℕ) → ((j : ℕ) → j < i → P j)
+    → {found : Result Bool ArithmeticError} → found ≡ Ok true → IfOk found (λ b. IsTrue b ↔ P i)
+    → (j : ℕ) → j < i + 1 → P j
+more_hold P i before is tells =
+    below_more P i before ((subst (λ r. IfOk r (λ b. IsTrue b ↔ P i)) is tells).0 refl)
 
 -- ---- lists of parts that are numbered
 module _ {A : Type 0} (P : A → Type 0) (parts : ℕ → List A) where
@@ -214,7 +217,12 @@ module _ {Q A : Type 0} (see : Q → A) (P W : A → Type 0) (parts : ℕ → Li
       (ap (flat_map parts) (from_zero i n l)
       ∙ flat_map-append parts (numbers 0 i) (i ∷ numbers (suc i) (n - suc i))) h
 
--- ---- stops made of others
+-- ---- stops made of others, and errors that are passed on
+pub passed_on : {T E : Type 0} (r : Result T E) (P : E → Type 0) (e : E) → IsErrAnd r (λ y. y ≡ e)
+    → P e → IfErr r P
+passed_on (Ok x) P e is h = absurd is
+passed_on (Err y) P e is h = subst P (sym is) h
+
 pub carried : {T S E : Type 0} (r : Result T S) (f : S → E) (e : E) (A : S → Type 0)
     (B : E → Type 0) → IsErrAnd r (λ s. e ≡ f s) → IfErr r A → ((s : S) → A s → B (f s)) → B e
 carried (Ok t) f e A B is a g = absurd is

@@ -1,8 +1,9 @@
 use Rattle.std.proofs.Common.{sym, subst}
-use Rattle.std.proofs.lemmas.Result.{err_from_is_err_and, on_ok_weaker, IfErr-weaker}
+use Rattle.std.proofs.lemmas.Result.{on_ok_weaker, IfErr-weaker}
 use Rattle.cert_checker.specs.FullJudge.{program_by, cert_by, StopsAmong, further_by}
 use Rattle.cert_checker.proofs.Behind.{forms_hold, starts_hold, forms_stop, starts_stop, rounds_stop, end_stops, further_hold}
 use Rattle.cert_checker.proofs.StageSteps.{unless_err}
+use Rattle.cert_checker.proofs.Stopping.{passed_on}
 use Rattle.cert_checker.proofs.full_judge.FullJudge.judge_behind.Goals as goal
 
 pub returns-in-Err-clause-stops : goal.returns-in-Err-clause-stops
@@ -24,10 +25,10 @@ pub returns-in_err-judge_rounds-clause-stops : goal.returns-in_err-judge_rounds-
 returns-in_err-judge_rounds-clause-stops c =
     let program = program_by c.args.self.now in
     let cert = cert_by c.args.self.now in
-    let r = err_from_is_err_and c.from_residual.result c.from_residual.ensures.1 in
-    rw (r.1, r.2) (rounds_stop program cert (forms_hold program cert c.in-Ok.ensures.holds)
-    (starts_hold program cert (unless_err _ c.judge_starts.result c.in_default.not-Err
-    c.judge_starts.ensures.holds)) _ c.in_err-judge_rounds.ensures.stops)
+    passed_on _ _ _ c.from_residual.ensures.1 (rounds_stop program cert
+    (forms_hold program cert c.in-Ok.ensures.holds) (starts_hold program cert
+    (unless_err _ c.judge_starts.result c.in_default.not-Err c.judge_starts.ensures.holds)) _
+    c.in_err-judge_rounds.ensures.stops)
 
 pub returns-clause-holds : goal.returns-clause-holds
 returns-clause-holds c =

@@ -8,16 +8,13 @@ use Rattle.polynomials.specs.Order.{grevlex, blocks}
 use Rattle.machines.specs.Elimination.{blend}
 use Rattle.poly.specs.Seen.{terms_each}
 use Rattle.loop_model.specs.FracPoly.{FracPoly}
-use Rattle.corollaries.specs.Stage.{HoldsAt, places}
 use Rattle.corollaries.specs.Full.{orbit, meet, stage_of, so_far, starting}
 use Rattle.task_lists.specs.Starting.{meet_starting, FitsMeet}
 use Rattle.corollaries.specs.Counts.{IsStageCounted}
 use Rattle.task_lists.specs.Images.{IsStageIn}
 use Rattle.task_lists.specs.View.{stage_in}
 use Rattle.cert_checker.specs.FullJudge.{program_by, cert_by, StopsAmong, stage_by}
-use Rattle.cert_checker.specs.Parts.{place_of, stage_part}
-use Rattle.cert_checker.specs.StageParts.{NeverPast, IsPastPlace}
-use Rattle.cert_checker.specs.FullStops.{IsStop, stop_map}
+use Rattle.cert_checker.specs.StageParts.{NeverPast}
 use Rattle.cert_checker.specs.declared.full_judge.FullJudge.{FullJudge}
 use Rattle.cert_checker.specs.declared.full_part.Kind.TheVariants as kind
 use Rattle.cert_checker.proofs.Begun.{in_round, orbit_is, meet_is, some_meet, given_here, meet_over, given_over}
@@ -115,13 +112,8 @@ returns-clause-holds c =
 pub returns-clause-stops : goal.returns-clause-stops
 returns-clause-stops c =
     let e = (goal.at.returns-clause-stops c).After-len in
-    let hs = meet_starting (left e) (right e) in
-    let s = stage_in c.in-Some.stage in
-    IfErr-weaker c.in_stage.result _ _ (λ x is. carried c.judge.result
-    (stop_map (stage_part c.args.round c.args.branch kind.Meet)) x
-    (IsStop place_of (HoldsAt 1 hs s) (IsPastPlace NeverPast s) (places 1 hs s))
-    (StopsAmong (j e) (stage_by (j e) c.args.round c.args.branch meet)) is
-    c.judge.ensures.stops
-    (λ t g. stage_stops (program_by (j e)) (cert_by (j e)) c.args.round c.args.branch kind.Meet 1
-    hs s refl (starts e) (stage_is e) NeverPast (λ i past. past) t g))
-    c.in_stage.ensures.stops
+    IfErr-weaker c.in_stage.result _ _ (λ x is. carried c.judge.result _ x _
+    (StopsAmong (j e) (stage_by (j e) c.args.round c.args.branch meet)) is c.judge.ensures.stops
+    (stage_stops (program_by (j e)) (cert_by (j e)) c.args.round c.args.branch
+    kind.Meet 1 (meet_starting (left e) (right e)) (stage_in c.in-Some.stage) refl (starts e)
+    (stage_is e) NeverPast (λ i past. past))) c.in_stage.ensures.stops

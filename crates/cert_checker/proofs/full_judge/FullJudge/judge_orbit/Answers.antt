@@ -7,16 +7,12 @@ use Rattle.polynomials.specs.Terms.{Terms}
 use Rattle.rounds.specs.Form.{front}
 use Rattle.monos.specs.Variables.{most_variables}
 use Rattle.poly.specs.Seen.{terms_each}
-use Rattle.corollaries.specs.Stage.{HoldsAt, places}
 use Rattle.corollaries.specs.Full.{orbit, front_of, stage_of, starting}
 use Rattle.task_lists.specs.Starting.{orbit_starting, IsPastOrbit}
 use Rattle.corollaries.specs.Counts.{IsStageCounted}
 use Rattle.task_lists.specs.Images.{IsStageIn}
 use Rattle.task_lists.specs.View.{stage_in}
 use Rattle.cert_checker.specs.FullJudge.{program_by, cert_by, StopsAmong, stage_by}
-use Rattle.cert_checker.specs.Parts.{place_of, stage_part}
-use Rattle.cert_checker.specs.StageParts.{IsPastPlace}
-use Rattle.cert_checker.specs.FullStops.{IsStop, stop_map}
 use Rattle.cert_checker.specs.declared.full_judge.FullJudge.{FullJudge}
 use Rattle.cert_checker.specs.declared.full_part.Kind.TheVariants as kind
 use Rattle.cert_checker.proofs.Begun.{formed, in_round, orbit_is, branch_over, front_is, orbit_fits, orbit_starts, orbit_past}
@@ -101,15 +97,10 @@ returns-clause-holds c =
 pub returns-clause-stops : goal.returns-clause-stops
 returns-clause-stops c =
     let e = (goal.at.returns-clause-stops c).After-index-3 in
-    let k = c.front.result in
-    let s = stage_in c.index-3.result.now.orbit in
-    IfErr-weaker c.in_stage.result _ _ (λ x is. carried c.judge.result
-    (stop_map (stage_part c.args.round c.args.branch kind.Orbit)) x
-    (IsStop place_of (HoldsAt k (list e) s) (IsPastPlace (past e) s) (places k (list e) s))
-    (StopsAmong (j e) (stage_by (j e) c.args.round c.args.branch orbit)) is
-    c.judge.ensures.stops
-    (λ t g. stage_stops (program_by (j e)) (cert_by (j e)) c.args.round c.args.branch kind.Orbit k
-    (list e) s (fronts e) (starts e) (stage_is e) (past e)
-    (orbit_past c.requires.judge c.requires.branch c.index.ensures c.list_before-list.result.now
-    c.requires.back (variables e) c.args.round c.list_before-list.ensures.before) t g))
-    c.in_stage.ensures.stops
+    IfErr-weaker c.in_stage.result _ _ (λ x is. carried c.judge.result _ x _
+    (StopsAmong (j e) (stage_by (j e) c.args.round c.args.branch orbit)) is c.judge.ensures.stops
+    (stage_stops (program_by (j e)) (cert_by (j e)) c.args.round c.args.branch
+    kind.Orbit c.front.result (list e) (stage_in c.index-3.result.now.orbit) (fronts e) (starts e)
+    (stage_is e) (past e) (orbit_past c.requires.judge c.requires.branch c.index.ensures
+    c.list_before-list.result.now c.requires.back (variables e) c.args.round
+    c.list_before-list.ensures.before))) c.in_stage.ensures.stops

@@ -1,14 +1,11 @@
 use Rattle.std.proofs.Common.{◌<◌, length, sym, subst, arith}
-use Rattle.std.proofs.lemmas.Result.{err_from_is_err_and}
 use Rattle.algebra.specs.Each.{Each}
 use Rattle.loop_model.proofs.BranchMaps.{inside_seen, past_seen}
-use Rattle.corollaries.specs.Parts.{Holds}
-use Rattle.cert_checker.specs.FullJudge.{program_by, cert_by, branch_by}
+use Rattle.cert_checker.specs.FullJudge.{program_by, cert_by}
 use Rattle.cert_checker.specs.InverseForm.{IsInverseForm}
-use Rattle.cert_checker.specs.Parts.{part_of}
 use Rattle.cert_checker.specs.FullWide.{IsPastPart}
 use Rattle.cert_checker.proofs.Branches.{orbit_alone, both_hold, orbit_stops, meet_stops}
-use Rattle.cert_checker.proofs.Stopping.{several_hold, first_several, several_stop}
+use Rattle.cert_checker.proofs.Stopping.{several_hold, first_several, several_stop, passed_on}
 use Rattle.cert_checker.proofs.full_judge.FullJudge.judge_round.Goals as goal
 use Rattle.cert_checker.proofs.full_judge.FullJudge.judge_round.Goals.{After-index, then-branch-gt0+in_ok-judge_meet, else-branch-gt0}
 
@@ -45,8 +42,7 @@ judge_meet-requires-clause-branch c =
 pub loop-branch-preserved : goal.loop-branch-preserved
 loop-branch-preserved c =
     let j = c.args.self.now in
-    several_hold (Holds (program_by j) (cert_by j)) (branch_by j c.args.round)
-    c.loop-branch.branch c.loop-branch.invariant (elim c.if-branch-gt0.branch [
+    several_hold _ _ c.loop-branch.branch c.loop-branch.invariant (elim c.if-branch-gt0.branch [
       | then-branch-gt0+in_ok-judge_meet w ↦ both_hold (program_by j) (cert_by j) c.args.round
           c.loop-branch.branch w.if-branch-gt0.true c.in_ok-judge_orbit.ensures.holds
           w.in_ok-judge_meet.ensures.holds
@@ -59,29 +55,22 @@ pub returns-in_err-judge_orbit-clause-stops : goal.returns-in_err-judge_orbit-cl
 returns-in_err-judge_orbit-clause-stops c =
     let j = c.args.self.now in
     let l = inside (goal.at.returns-in_err-judge_orbit-clause-stops c).After-index in
-    let p = err_from_is_err_and c.from_residual.result c.from_residual.ensures.1 in
-    rw (p.1, p.2) (several_stop part_of (Holds (program_by j) (cert_by j))
-    (IsPastPart (program_by j) (cert_by j)) (branch_by j c.args.round)
-    (length (program_by j).branches) c.loop-branch.branch l c.loop-branch.invariant _
-    (orbit_stops (program_by j) (cert_by j) c.args.round c.loop-branch.branch _
-    c.in_err-judge_orbit.ensures.stops))
+    passed_on _ _ _ c.from_residual.ensures.1 (several_stop _ _
+    (IsPastPart (program_by j) (cert_by j)) _ _ c.loop-branch.branch l
+    c.loop-branch.invariant _ (orbit_stops (program_by j) (cert_by j) c.args.round
+    c.loop-branch.branch _ c.in_err-judge_orbit.ensures.stops))
 
 pub returns-in_err-judge_meet-clause-stops : goal.returns-in_err-judge_meet-clause-stops
 returns-in_err-judge_meet-clause-stops c =
     let j = c.args.self.now in
     let l = inside (goal.at.returns-in_err-judge_meet-clause-stops c).After-index in
-    let p = err_from_is_err_and c.from_residual-in_err-judge_meet.result
-    c.from_residual-in_err-judge_meet.ensures.1 in
-    rw (p.1, p.2) (several_stop part_of (Holds (program_by j) (cert_by j))
-    (IsPastPart (program_by j) (cert_by j)) (branch_by j c.args.round)
-    (length (program_by j).branches) c.loop-branch.branch l c.loop-branch.invariant _
+    passed_on _ _ _ c.from_residual-in_err-judge_meet.ensures.1 (several_stop _ _
+    (IsPastPart (program_by j) (cert_by j)) _ _ c.loop-branch.branch l c.loop-branch.invariant _
     (meet_stops (program_by j) (cert_by j) c.args.round c.loop-branch.branch c.if-branch-gt0.true
     c.in_ok-judge_orbit.ensures.holds _ c.in_err-judge_meet.ensures.stops))
 
 pub returns-clause-holds : goal.returns-clause-holds
-returns-clause-holds c =
-    let j = c.args.self.now in
-    first_several (Holds (program_by j) (cert_by j)) (branch_by j c.args.round)
-    (length (program_by j).branches) c.loop-branch.branch
-    (past_seen _ c.branches-branch-end.result.now (program_by j).branches c.loop-branch.branch
-    c.branches-branch-end.ensures.branches c.loop-branch-test.false) c.loop-branch.invariant
+returns-clause-holds c = first_several _ _ _ c.loop-branch.branch
+    (past_seen _ c.branches-branch-end.result.now (program_by c.args.self.now).branches
+    c.loop-branch.branch c.branches-branch-end.ensures.branches c.loop-branch-test.false)
+    c.loop-branch.invariant

@@ -1,7 +1,6 @@
 use Rattle.std.proofs.Common.{◌≡◌, ◌<◌, ◌↔◌, List, [], IsTrue, get_or, length, refl, sym, ap, subst, ◌∙◌, arith}
 use Rattle.std.specs.Prelude.{All, IfOk, IsErrOf}
 use Rattle.std.proofs.lemmas.List.{length-map}
-use Rattle.std.proofs.lemmas.Result.{err_from_is_err_and}
 use Rattle.algebra.specs.Fraction.{Fraction, ℚ}
 use Rattle.polynomials.specs.Terms.{Terms, Same}
 use Rattle.rounds.specs.Start.{start_list}
@@ -13,7 +12,7 @@ use Rattle.task_lists.specs.Rows.{rows_of}
 use Rattle.task_lists.proofs.Combining.{place_in}
 use Rattle.cert_checker.specs.FullJudge.{program_by}
 use Rattle.cert_checker.specs.StageParts.{IsMadeAt, IsPastMade}
-use Rattle.cert_checker.proofs.Stopping.{here_stops, more_hold}
+use Rattle.cert_checker.proofs.Stopping.{here_stops, more_hold, passed_on}
 use Rattle.cert_checker.proofs.IdentityLaws.{combined_tells}
 use Rattle.cert_checker.proofs.StageSteps.{row_is, past_at, over_images, row_fits, row_has}
 use Rattle.cert_checker.proofs.StartLists.{starts_few, start_count, start_same}
@@ -112,16 +111,11 @@ is_combination-requires-clause-cofactors c =
     c.loop-i.i row (in_rows e) c.index.ensures))
 
 pub loop-i-preserved : goal.loop-i-preserved
-loop-i-preserved c =
-    let e = (goal.at.loop-i-preserved c).After-is_combination in
-    more_hold (IsMadeAt (starting (item e)) (rows e) (out e)) (IsPastMade (rows e) (out e))
-    (length (starting (item e))) c.loop-i.i (within (item e)) c.loop-i.invariant
-    c.is_combination.result (tells e) (wide e) c.in_ok-told.ensures.holds
+loop-i-preserved c = more_hold _ c.loop-i.i c.loop-i.invariant c.in_ok-told.ensures.holds
+    (tells (goal.at.loop-i-preserved c).After-is_combination)
 
 pub returns-in_err-told-clause-stops : goal.returns-in_err-told-clause-stops
 returns-in_err-told-clause-stops c =
     let e = (goal.at.returns-in_err-told-clause-stops c).After-is_combination in
-    let r = err_from_is_err_and c.from_residual.result c.from_residual.ensures.1 in
-    rw (r.1, r.2) (here_stops (IsMadeAt (starting (item e)) (rows e) (out e))
-    (IsPastMade (rows e) (out e)) (length (starting (item e))) c.loop-i.i (within (item e))
+    passed_on _ _ _ c.from_residual.ensures.1 (here_stops _ _ _ c.loop-i.i (within (item e))
     c.loop-i.invariant c.is_combination.result (tells e) (wide e) _ c.in_err-told.ensures.stops)

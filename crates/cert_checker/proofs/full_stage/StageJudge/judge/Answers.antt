@@ -1,18 +1,22 @@
 use Rattle.std.proofs.Common.{◌<◌, ℕ, length}
-use Rattle.std.proofs.lemmas.Result.{err_from_is_err_and, on_ok_weaker, IfErr-weaker}
-use Rattle.machines.specs.Elimination.{free_part}
+use Rattle.std.proofs.lemmas.Result.{on_ok_weaker, IfErr-weaker}
 use Rattle.corollaries.specs.Representation.{pairs_of}
-use Rattle.corollaries.specs.Stage.{in_list, in_gens, in_pairs, in_links}
+use Rattle.corollaries.specs.Stage.{in_list, in_gens, in_pairs}
 use Rattle.task_lists.specs.Starting.{IsPastAt}
-use Rattle.cert_checker.specs.Parts.{place_of, place_at}
-use Rattle.cert_checker.specs.FullStops.{IsStop, StopsAt, stop_map}
+use Rattle.cert_checker.specs.FullStops.{IsStop}
+use Rattle.cert_checker.specs.Parts.{place_of}
+use Rattle.cert_checker.specs.declared.full_part.RowPlace.{RowPlace}
+use Rattle.cert_checker.specs.declared.full_stage.StageJudge.{StageJudge}
+use Rattle.cert_checker.specs.declared.full_stop.Stop.{Stop}
 use Rattle.cert_checker.specs.StageJudge.{starting_by, stage_seen, HoldsBy, IsPastBy, places_by}
-use Rattle.cert_checker.specs.declared.full_part.Row.TheVariants as row
-use Rattle.cert_checker.proofs.Stopping.{carried}
+use Rattle.cert_checker.proofs.Stopping.{carried, passed_on}
 use Rattle.cert_checker.proofs.Placed.{list_stops, gens_stop, pairs_stop, links_stop, stage_holds}
 use Rattle.cert_checker.proofs.StageSteps.{ok_holds}
 use Rattle.cert_checker.proofs.full_stage.StageJudge.judge.Goals as goal
 use Rattle.cert_checker.proofs.full_stage.StageJudge.judge.Goals.{In_ok-in_row, In_ok-in_row-2, In_ok-in_row-3}
+
+abbrev StopsBy : StageJudge → Stop RowPlace → Type 0
+StopsBy s = IsStop place_of (HoldsBy s) (IsPastBy s) (places_by s)
 
 -- the lists that hold
 listed : (c : In_ok-in_row) (i : ℕ) → i < length (stage_seen c.args.self.now).list
@@ -36,23 +40,16 @@ judge_pairs-requires-clause-monic c =
 pub returns-in_err-in_row-clause-stops : goal.returns-in_err-in_row-clause-stops
 returns-in_err-in_row-clause-stops c =
     let s = c.args.self.now in
-    let r = err_from_is_err_and c.from_residual.result c.from_residual.ensures.1 in
-    rw (r.1, r.2) (carried c.judge_list.result (stop_map (place_at row.List)) _
-    (StopsAt (λ i. HoldsBy s (in_list i)) (λ i. IsPastBy s (in_list i))
-    (length (stage_seen s).list)) (IsStop place_of (HoldsBy s) (IsPastBy s) (places_by s))
-    c.in_err-in_row.ensures.stops c.judge_list.ensures.stops
+    passed_on _ _ _ c.from_residual.ensures.1 (carried c.judge_list.result _ _ _
+    (StopsBy s) c.in_err-in_row.ensures.stops c.judge_list.ensures.stops
     (list_stops s.front (starting_by s) (stage_seen s) (IsPastAt s.begin)))
 
 pub returns-in_err-in_row-2-clause-stops : goal.returns-in_err-in_row-2-clause-stops
 returns-in_err-in_row-2-clause-stops c =
     let s = c.args.self.now in
     let at = (goal.at.returns-in_err-in_row-2-clause-stops c).In_ok-in_row in
-    let r = err_from_is_err_and c.from_residual-in_err-in_row-2.result
-    c.from_residual-in_err-in_row-2.ensures.1 in
-    rw (r.1, r.2) (carried c.judge_gens.result (stop_map (place_at row.Gens)) _
-    (StopsAt (λ i. HoldsBy s (in_gens i)) (λ i. IsPastBy s (in_gens i)) (length (starting_by s)))
-    (IsStop place_of (HoldsBy s) (IsPastBy s) (places_by s)) c.in_err-in_row-2.ensures.stops
-    c.judge_gens.ensures.stops
+    passed_on _ _ _ c.from_residual-in_err-in_row-2.ensures.1 (carried c.judge_gens.result _ _ _
+    (StopsBy s) c.in_err-in_row-2.ensures.stops c.judge_gens.ensures.stops
     (gens_stop s.front (starting_by s) (stage_seen s) (IsPastAt s.begin) (listed at)))
 
 pub returns-in_err-in_row-3-clause-stops : goal.returns-in_err-in_row-3-clause-stops
@@ -60,13 +57,8 @@ returns-in_err-in_row-3-clause-stops c =
     let s = c.args.self.now in
     let at = (goal.at.returns-in_err-in_row-3-clause-stops c).In_ok-in_row in
     let also = (goal.at.returns-in_err-in_row-3-clause-stops c).In_ok-in_row-2 in
-    let r = err_from_is_err_and c.from_residual-in_err-in_row-3.result
-    c.from_residual-in_err-in_row-3.ensures.1 in
-    rw (r.1, r.2) (carried c.judge_pairs.result (stop_map (place_at row.Pairs)) _
-    (StopsAt (λ i. HoldsBy s (in_pairs i)) (λ i. IsPastBy s (in_pairs i))
-    (length (pairs_of (length (stage_seen s).list))))
-    (IsStop place_of (HoldsBy s) (IsPastBy s) (places_by s)) c.in_err-in_row-3.ensures.stops
-    c.judge_pairs.ensures.stops
+    passed_on _ _ _ c.from_residual-in_err-in_row-3.ensures.1 (carried c.judge_pairs.result _ _ _
+    (StopsBy s) c.in_err-in_row-3.ensures.stops c.judge_pairs.ensures.stops
     (pairs_stop s.front (starting_by s) (stage_seen s) (IsPastAt s.begin) (listed at) (made also)))
 
 pub returns-clause-holds : goal.returns-clause-holds
@@ -85,10 +77,6 @@ returns-clause-stops c =
     let at = (goal.at.returns-clause-stops c).In_ok-in_row in
     let also = (goal.at.returns-clause-stops c).In_ok-in_row-2 in
     let last = (goal.at.returns-clause-stops c).In_ok-in_row-3 in
-    IfErr-weaker c.in_row-4.result _ _ (λ x is. carried c.judge_links.result
-    (stop_map (place_at row.Links)) x
-    (StopsAt (λ i. HoldsBy s (in_links i)) (λ i. IsPastBy s (in_links i))
-    (length (free_part s.front (stage_seen s).list)))
-    (IsStop place_of (HoldsBy s) (IsPastBy s) (places_by s)) is c.judge_links.ensures.stops
-    (links_stop s.front (starting_by s) (stage_seen s) (IsPastAt s.begin) (listed at) (made also)
-    (paired last))) c.in_row-4.ensures.stops
+    IfErr-weaker c.in_row-4.result _ _ (λ x is. carried c.judge_links.result _ x _ (StopsBy s) is
+    c.judge_links.ensures.stops (links_stop s.front (starting_by s) (stage_seen s)
+    (IsPastAt s.begin) (listed at) (made also) (paired last))) c.in_row-4.ensures.stops

@@ -1,10 +1,7 @@
-use Rattle.std.proofs.Common.{length, arith}
+use Rattle.std.proofs.Common.{arith}
 use Rattle.std.proofs.lemmas.List.{length-map}
-use Rattle.std.proofs.lemmas.Result.{err_from_is_err_and}
 use Rattle.poly.specs.Seen.{terms_each}
-use Rattle.corollaries.specs.Stage.{in_gens}
-use Rattle.cert_checker.specs.StageJudge.{starting_by, HoldsBy, IsPastBy}
-use Rattle.cert_checker.proofs.Stopping.{here_stops, more_hold}
+use Rattle.cert_checker.proofs.Stopping.{here_stops, more_hold, passed_on}
 use Rattle.cert_checker.proofs.full_stage.StageJudge.judge_gens.Goals as goal
 
 pub loop-i-init : goal.loop-i-init
@@ -17,20 +14,12 @@ is_made-requires-clause-place c =
 
 pub loop-i-preserved : goal.loop-i-preserved
 loop-i-preserved c =
-    let s = c.args.self.now in
-    let n = length-map s.stage.now.gens.items (λ row. terms_each row.items) in
-    more_hold (λ i. HoldsBy s (in_gens i)) (λ i. IsPastBy s (in_gens i)) (length (starting_by s))
-    c.loop-i.i (omega (arith, c.loop-i-test.true, n, c.requires.judge.counts.gens))
-    c.loop-i.invariant c.is_made.result c.is_made.ensures.holds c.is_made.ensures.wide
-    c.in_ok-told.ensures.holds
+    more_hold _ c.loop-i.i c.loop-i.invariant c.in_ok-told.ensures.holds c.is_made.ensures.holds
 
 pub returns-in_err-told-clause-stops : goal.returns-in_err-told-clause-stops
 returns-in_err-told-clause-stops c =
-    let s = c.args.self.now in
-    let n = length-map s.stage.now.gens.items (λ row. terms_each row.items) in
-    let p = err_from_is_err_and c.from_residual.result c.from_residual.ensures.1 in
-    rw (p.1, p.2) (here_stops (λ i. HoldsBy s (in_gens i)) (λ i. IsPastBy s (in_gens i))
-    (length (starting_by s)) c.loop-i.i
+    let n = length-map c.args.self.now.stage.now.gens.items (λ row. terms_each row.items) in
+    passed_on _ _ _ c.from_residual.ensures.1 (here_stops _ _ _ c.loop-i.i
     (omega (arith, c.loop-i-test.true, n, c.requires.judge.counts.gens)) c.loop-i.invariant
     c.is_made.result c.is_made.ensures.holds c.is_made.ensures.wide _ c.in_err-told.ensures.stops)
 

@@ -1,7 +1,6 @@
 use Rattle.std.proofs.Common.{◌≡◌, ◌<◌, ◌↔◌, List, [], IsTrue, get_or, length, refl, sym, ap, subst, ◌∙◌, arith}
 use Rattle.std.specs.Prelude.{All, IfOk, IsErrOf}
 use Rattle.std.proofs.lemmas.List.{length-map}
-use Rattle.std.proofs.lemmas.Result.{err_from_is_err_and}
 use Rattle.algebra.specs.Fraction.{Fraction, ℚ}
 use Rattle.polynomials.specs.Terms.{Terms}
 use Rattle.machines.specs.Elimination.{free_part}
@@ -14,7 +13,7 @@ use Rattle.loop_model.proofs.Items.{in_list, item_of}
 use Rattle.task_lists.proofs.Combining.{place_in}
 use Rattle.cert_checker.specs.StageJudge.{stage_seen, HoldsBy, IsPastBy}
 use Rattle.cert_checker.specs.declared.full_stage.StageJudge.{StageJudge}
-use Rattle.cert_checker.proofs.Stopping.{here_stops, more_hold}
+use Rattle.cert_checker.proofs.Stopping.{here_stops, more_hold, passed_on}
 use Rattle.cert_checker.proofs.IdentityLaws.{combined_tells}
 use Rattle.cert_checker.proofs.StageSteps.{row_is, past_at, over_images, row_fits, row_has}
 use Rattle.cert_checker.proofs.full_stage.StageJudge.judge_links.Goals as goal
@@ -118,21 +117,15 @@ module _ (c : After-is_combination) where
       (stage_seen (s at_row)).out row out_is c.is_combination.ensures.wide
 
 pub loop-i-preserved : goal.loop-i-preserved
-loop-i-preserved c =
-    let e = (goal.at.loop-i-preserved c).After-is_combination in
-    let s = c.args.self.now in
-    more_hold (λ i. HoldsBy s (in_links i)) (λ i. IsPastBy s (in_links i))
-    (length (free_part s.front (stage_seen s).list)) c.loop-i.i (within (at_row e))
-    c.loop-i.invariant c.is_combination.result (tells e) (wide e) c.in_ok-told.ensures.holds
+loop-i-preserved c = more_hold _ c.loop-i.i c.loop-i.invariant c.in_ok-told.ensures.holds
+    (tells (goal.at.loop-i-preserved c).After-is_combination)
 
 pub returns-in_err-told-clause-stops : goal.returns-in_err-told-clause-stops
 returns-in_err-told-clause-stops c =
     let e = (goal.at.returns-in_err-told-clause-stops c).After-is_combination in
-    let s = c.args.self.now in
-    let r = err_from_is_err_and c.from_residual.result c.from_residual.ensures.1 in
-    rw (r.1, r.2) (here_stops (λ i. HoldsBy s (in_links i)) (λ i. IsPastBy s (in_links i))
-    (length (free_part s.front (stage_seen s).list)) c.loop-i.i (within (at_row e))
-    c.loop-i.invariant c.is_combination.result (tells e) (wide e) _ c.in_err-told.ensures.stops)
+    passed_on _ _ _ c.from_residual.ensures.1 (here_stops _ _ _ c.loop-i.i (within (at_row e))
+    c.loop-i.invariant c.is_combination.result (tells e) (wide e) _
+    c.in_err-told.ensures.stops)
 
 pub returns-clause-holds : goal.returns-clause-holds
 returns-clause-holds c =

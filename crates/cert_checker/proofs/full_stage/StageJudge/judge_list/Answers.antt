@@ -1,14 +1,13 @@
 use Rattle.std.proofs.Common.{◌≡◌, ◌<◌, ◌↔◌, length, ap, subst, Ok, IsTrue, arith}
 use Rattle.std.proofs.lemmas.List.{length-map}
-use Rattle.std.proofs.lemmas.Result.{err_from_is_err_and}
 use Rattle.algebra.specs.Fraction.{ℚ, rationals}
 use Rattle.machines.specs.Cut.{lead_number}
 use Rattle.poly.specs.Seen.{terms_in}
 use Rattle.corollaries.specs.Stage.{in_list}
 use Rattle.loop_model.proofs.Items.{in_list as in_items, item_of}
 use Rattle.task_lists.proofs.Combining.{place_in}
-use Rattle.cert_checker.specs.StageJudge.{stage_seen, HoldsBy, IsPastBy}
-use Rattle.cert_checker.proofs.Stopping.{here_stops, more_hold}
+use Rattle.cert_checker.specs.StageJudge.{stage_seen, HoldsBy}
+use Rattle.cert_checker.proofs.Stopping.{here_stops, more_hold, passed_on}
 use Rattle.cert_checker.proofs.full_stage.StageJudge.judge_list.Goals as goal
 use Rattle.cert_checker.proofs.full_stage.StageJudge.judge_list.Goals.{After-is_monic}
 
@@ -29,21 +28,15 @@ pub loop-i-init : goal.loop-i-init
 loop-i-init c = λ j l. absurd (omega arith)
 
 pub loop-i-preserved : goal.loop-i-preserved
-loop-i-preserved c =
-    let at = (goal.at.loop-i-preserved c).After-is_monic in
-    let s = c.args.self.now in
-    more_hold (λ i. HoldsBy s (in_list i)) (λ i. IsPastBy s (in_list i))
-    (length (stage_seen s).list) c.loop-i.i (within at) c.loop-i.invariant (Ok c.is_monic.result)
-    (tells at) (λ w. absurd (cc)) c.in_ok-told.ensures.holds
+loop-i-preserved c = more_hold _ c.loop-i.i c.loop-i.invariant c.in_ok-told.ensures.holds
+    (tells (goal.at.loop-i-preserved c).After-is_monic)
 
 pub returns-in_err-told-clause-stops : goal.returns-in_err-told-clause-stops
 returns-in_err-told-clause-stops c =
     let at = (goal.at.returns-in_err-told-clause-stops c).After-is_monic in
-    let s = c.args.self.now in
-    let p = err_from_is_err_and c.from_residual.result c.from_residual.ensures.1 in
-    rw (p.1, p.2) (here_stops (λ i. HoldsBy s (in_list i)) (λ i. IsPastBy s (in_list i))
-    (length (stage_seen s).list) c.loop-i.i (within at) c.loop-i.invariant (Ok c.is_monic.result)
-    (tells at) (λ w. absurd (cc)) _ c.in_err-told.ensures.stops)
+    passed_on _ _ _ c.from_residual.ensures.1 (here_stops _ _ _ c.loop-i.i (within at)
+    c.loop-i.invariant (Ok c.is_monic.result) (tells at) (λ w. absurd (cc)) _
+    c.in_err-told.ensures.stops)
 
 pub returns-clause-holds : goal.returns-clause-holds
 returns-clause-holds c =

@@ -1,7 +1,6 @@
 use Rattle.std.proofs.Common.{◌≡◌, ◌≢◌, ◌<◌, ◌+◌, ◌↔◌, ℕ, List, [], IsTrue, get_or, length, sym, ap, subst, subst₂, ◌∙◌, arith}
 use Rattle.std.specs.Prelude.{All, IfOk, IsErrOf, vec_len}
 use Rattle.std.proofs.lemmas.List.{length-map}
-use Rattle.std.proofs.lemmas.Result.{err_from_is_err_and}
 use Rattle.algebra.specs.Fraction.{Fraction}
 use Rattle.polynomials.specs.Terms.{Terms}
 use Rattle.ring_laws.specs.declared.ArithmeticError.TheVariants as arithmetic_error
@@ -14,7 +13,7 @@ use Rattle.task_lists.proofs.Places.{pairs_within}
 use Rattle.cert_checker.specs.StageJudge.{stage_seen, HoldsBy, IsPastBy}
 use Rattle.cert_checker.specs.StageParts.{pair_of}
 use Rattle.cert_checker.specs.declared.full_stage.StageJudge.{StageJudge}
-use Rattle.cert_checker.proofs.Stopping.{here_stops, more_hold}
+use Rattle.cert_checker.proofs.Stopping.{here_stops, more_hold, passed_on}
 use Rattle.cert_checker.proofs.StageSteps.{row_is, monic_each, pair_is, pair_tells, pair_past, row_fits, row_has}
 use Rattle.cert_checker.proofs.full_stage.StageJudge.judge_pairs.Goals as goal
 use Rattle.cert_checker.proofs.full_stage.StageJudge.judge_pairs.Goals.{After-row-item, After-deref-in-loop-i, After-is_lcm_representation}
@@ -127,22 +126,15 @@ module _ (c : After-is_lcm_representation) where
       (ap terms_each c.deref.ensures.value) (pair at_pair) row c.is_lcm_representation.ensures.wide
 
 pub loop-i-preserved : goal.loop-i-preserved
-loop-i-preserved c =
-    let e = (goal.at.loop-i-preserved c).After-is_lcm_representation in
-    let s = c.args.self.now in
-    more_hold (λ i. HoldsBy s (in_pairs i)) (λ i. IsPastBy s (in_pairs i))
-    (length (pairs_of (length (stage_seen s).list))) c.loop-i.i (within (at_row (at_pair e)))
-    c.loop-i.invariant c.is_lcm_representation.result (tells e) (wide e) c.in_ok-told.ensures.holds
+loop-i-preserved c = more_hold _ c.loop-i.i c.loop-i.invariant c.in_ok-told.ensures.holds
+    (tells (goal.at.loop-i-preserved c).After-is_lcm_representation)
 
 pub returns-in_err-told-clause-stops : goal.returns-in_err-told-clause-stops
 returns-in_err-told-clause-stops c =
     let e = (goal.at.returns-in_err-told-clause-stops c).After-is_lcm_representation in
-    let s = c.args.self.now in
-    let r = err_from_is_err_and c.from_residual.result c.from_residual.ensures.1 in
-    rw (r.1, r.2) (here_stops (λ i. HoldsBy s (in_pairs i)) (λ i. IsPastBy s (in_pairs i))
-    (length (pairs_of (length (stage_seen s).list))) c.loop-i.i (within (at_row (at_pair e)))
-    c.loop-i.invariant c.is_lcm_representation.result (tells e) (wide e) _
-    c.in_err-told.ensures.stops)
+    passed_on _ _ _ c.from_residual.ensures.1 (here_stops _ _ _ c.loop-i.i
+    (within (at_row (at_pair e))) c.loop-i.invariant c.is_lcm_representation.result (tells e)
+    (wide e) _ c.in_err-told.ensures.stops)
 
 pub returns-clause-holds : goal.returns-clause-holds
 returns-clause-holds c =

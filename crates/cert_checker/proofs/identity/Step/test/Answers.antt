@@ -1,4 +1,5 @@
-use Rattle.std.proofs.Common.{ℕ, ◌+◌, length, refl, subst, arith}
+use Rattle.std.proofs.Common.{ℕ, ◌+◌, length, refl, arith}
+use Rattle.std.proofs.Math.Path.{subst₃}
 use Rattle.poly.specs.Seen.{terms_in, terms_each}
 use Rattle.loop_model.proofs.Items.{in_list, past_list}
 use Rattle.cert_form.specs.Cert.{polys_in, rows_in}
@@ -23,17 +24,10 @@ counted c =
     c.element-item.result c.loop-i-test.true c.element-item.is c.args.self.now.rows.now
     c.index.result.now c.args.self.now.square.height c.index.ensures c.loop-i.before
     c.with_step.result
-    (subst (λ b. IsCount (c.loop-i.before + (composition_terms (terms_in c.element-item.result)
-    (polys_in c.args.self.now.images.now) + combination_terms (polys_in c.index.result.now)
-    (terms_each b))) c.with_step.result) c.deref-in-loop-i-2.ensures.value
-    (subst (λ q. IsCount (c.loop-i.before + (composition_terms (terms_in c.element-item.result)
-    (polys_in c.args.self.now.images.now) + combination_terms (terms_each q)
-    (terms_each c.deref-in-loop-i-2.result.now))) c.with_step.result)
-    c.deref-in-loop-i.ensures.value
-    (subst (λ q. IsCount (c.loop-i.before + (composition_terms (terms_in c.element-item.result)
-    (terms_each q) + combination_terms (terms_each c.deref-in-loop-i.result.now)
-    (terms_each c.deref-in-loop-i-2.result.now))) c.with_step.result) c.deref.ensures.value
-    c.with_step.ensures)))
+    (subst₃ (λ xs ys zs. IsCount (c.loop-i.before + (composition_terms (terms_in
+    c.element-item.result) (terms_each xs) + combination_terms (terms_each ys) (terms_each zs)))
+    c.with_step.result) c.deref.ensures.value c.deref-in-loop-i.ensures.value
+    c.deref-in-loop-i-2.ensures.value c.with_step.ensures)
 
 pub loop-i-init : goal.loop-i-init
 loop-i-init c =
