@@ -1,4 +1,5 @@
 -- The sizes of checked whole numbers, and of the numbers of their base.
+--   positive_sizes    the sizes of positive numbers are above 0
 use Rattle.std.proofs.Common.{◌<◌, ◌≤◌, ◌^◌, ℕ, ℤ, pos, ◌<ℤ◌, List, [], ◌∷◌, unsigned_abs, All, arith}
 use Rattle.algebra.specs.Each.{Each}
 use Rattle.exponentials.specs.Base.{Divides, IsTheBase}

@@ -7,7 +7,7 @@
 --   terms_none, terms_some     a factor's terms by their number
 --   of_one                 a power of one
 --   raised_more, raised_past, raised_all       a power, one factor after another
---   power_one              a power of what isn't 0 isn't 0
+--   power_one, power_some  a power of what isn't 0 isn't 0
 --   parts                  the images of a list that is cut in two are those of the list
 use Rattle.std.proofs.Common.{◌≡◌, ◌⊎◌, inl, inr, ℕ, zero, suc, ◌+◌, ◌*◌, ◌^◌, ◌<◌, ◌≤◌, List, [], ◌∷◌, ◌++◌, map, take, drop, take-append-drop, length, refl, sym, ap, ap₂, subst, ◌∙◌, arith, Option, Some, None}
 use native.Mathlib.Nat as N

@@ -1,4 +1,5 @@
 -- A coprime base by gcd alone: two numbers that are not coprime are taken apart, until all are.
+--   all xs             the product of all; all-pos: above 0, where all are;  coprime-above: those of a coprime base are above 1
 --   Picked b bs cs     bs is cs with one b removed; picked-each: what holds of each of cs holds of b and of each of bs
 --   size ws bs         a measure of the waiting numbers ws and the base bs, which each step makes less
 use Rattle.std.proofs.Common.{◌≡◌, ◌≢◌, Bool, true, false, cond, ℕ, zero, suc, ◌+◌, ◌*◌, ◌/◌, ◌<◌, List, [], ◌∷◌, length, refl, sym, ap, ap₂, subst, ◌∙◌, arith}

@@ -5,6 +5,7 @@
 --   later_form_turned     so where the value isn't 0 and it is the form after some number of iterations
 --   zero_form_turned  where the value is 0, it is from one iteration later on, whatever it was
 --   variable_turned   the combination of the forms that is one variable is that variable
+--   place_in          what stands at a place of a list is in it
 --   values-entry      an entry of the values of polynomials is the value of the one at this place
 use Rattle.std.proofs.Common.{◌≡◌, ◌≢◌, ◌⊎◌, inl, inr, ℕ, zero, suc, ◌+◌, ◌-◌, ◌<◌, ◌≤◌, List, [], ◌∷◌, map, length, Bool, true, false, cond, T, refl, sym, ap, ap₂, subst, ◌∙◌, arith}
 use Rattle.std.proofs.lemmas.List.{length-map}

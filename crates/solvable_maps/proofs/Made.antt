@@ -1,6 +1,7 @@
 -- What is made class by class is known from as many iterations on as there are forms with the value 0.
 --   forms_made     the forms of a class
 --   all_made       the variables
+--   in_place       what is in a list stands at a place of it
 use Rattle.std.proofs.Common.{◌≡◌, ◌⊎◌, inl, inr, ℕ, suc, ◌+◌, ◌<◌, ◌≤◌, List, [], ◌∷◌, length, arith, sym, ap, subst, ◌∙◌}
 use Rattle.algebra.specs.Each.{Each}
 use Rattle.algebra.specs.In.{In}
