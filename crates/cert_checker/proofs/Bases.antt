@@ -43,9 +43,9 @@ no_base = (tt, tt)
 pub sizes_length : (ws : List Whole) → length (sizes ws) ≡ length ws
 sizes_length ws = length-map ws (λ (w : Whole). unsigned_abs w.value)
 
-pub size_at : (ws : List Whole) (i : ℕ) (w : Whole) → i < length ws → w ≡ get_or ws i w
+pub size_at : (ws : List Whole) (i : ℕ) {w : Whole} → i < length ws → w ≡ get_or ws i w
     → unsigned_abs w.value ≡ get_or (sizes ws) i 0
-size_at ws i w l is = ap (λ (x : Whole). unsigned_abs x.value) is
+size_at ws i {w = w} l is = ap (λ (x : Whole). unsigned_abs x.value) is
     ∙ sym (get_or-map (λ (x : Whole). unsigned_abs x.value) ws i w 0 l)
 
 pub rest_sizes : (ws : List Whole) (i : ℕ)

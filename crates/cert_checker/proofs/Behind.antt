@@ -45,7 +45,7 @@ module _ (program : Program (Expr ℕ)) (c : FullCertificate) where
   pub forms_stop : (e : Stop ℕ) → StopsAt (λ b. P (in_forms b)) (λ b. W (in_forms b))
       (length program.branches) e → IsStop part_of P W further (forms_stop_as e)
   unfolding Each
-  forms_stop e s = stop_in _ _ W _ [] forms (starts ++ (rounds ++ at_end ∷ [])) refl tt _
+  forms_stop e s = stop_in _ _ W _ [] forms _ refl tt _
       (numbers_stop _ P W in_forms _ (λ b. part.Form b) (λ i. refl) e s)
 
   pub starts_stop : Each P forms → (e : Stop ℕ) → StopsAt (λ i. P (in_start i))
@@ -68,5 +68,5 @@ module _ (program : Program (Expr ℕ)) (c : FullCertificate) where
 
   pub further_hold : Each P forms → Each P starts → Each P rounds → Each P (at_end ∷ [])
       → Each P further
-  further_hold h k l m = each-append P forms (starts ++ (rounds ++ at_end ∷ [])) h
+  further_hold h k l m = each-append P forms _ h
       (each-append P starts (rounds ++ at_end ∷ []) k (each-append P rounds (at_end ∷ []) l m))

@@ -43,8 +43,7 @@ module _ (program : Program (Expr ℕ)) (c : FullCertificate) (counted : IsCount
       → given_list (get_or (get_or c.rounds r []) b no_branch) ≡ so_far c r b
   unfolding so_far
   given_is r zero k l = ap (given_by (stage_of c r 0 orbit)) (counted.first r k l)
-  given_is r (suc b) k l = given_some (stage_of c r (suc b) orbit)
-      (get_or (get_or c.rounds r []) (suc b) no_branch).meet_stage
+  given_is r (suc b) k l = given_some (stage_of c r (suc b) orbit) _
       (counted.others r (suc b) k (omega arith) l)
 
   pub before_is : (r : ℕ) → 0 < r
@@ -100,7 +99,7 @@ module _ (program : Program (Expr ℕ)) (c : FullCertificate) where
   abbrev W : Part → Type 0
   W = IsPastPart program c
 
-  module _ (r b : ℕ) (found : Kind) (k : ℕ) (hs : List (Terms Fraction)) (s : Stage)
+  module _ (r b : ℕ) (found : Kind) {k : ℕ} {hs : List (Terms Fraction)} {s : Stage}
       (e : k ≡ front_of c b (kind_of found)) (f : hs ≡ starting program c r b (kind_of found))
       (g : s ≡ stage_of c r b (kind_of found)) where
     pub stage_all : Each (HoldsAt k hs s) (places k hs s)
@@ -131,23 +130,20 @@ module _ (program : Program (Expr ℕ)) (c : FullCertificate) where
       → Each P (stage_parts program c r b meet) → Each P (branch_parts program c r b)
   unfolding branch_parts
   both_hold r zero l h k = absurd (omega arith)
-  both_hold r (suc b) l h k = each-append P (stage_parts program c r (suc b) orbit)
-      (stage_parts program c r (suc b) meet) h k
+  both_hold r (suc b) l h k = each-append P _ _ h k
 
   pub orbit_stops : (r b : ℕ) (e : Stop FoundPart)
       → IsStop part_of P W (stage_parts program c r b orbit) e
       → IsStop part_of P W (branch_parts program c r b) e
   unfolding branch_parts Each
   orbit_stops r zero e s = s
-  orbit_stops r (suc b) e s = stop_in _ _ W _ [] (stage_parts program c r (suc b) orbit)
-      (stage_parts program c r (suc b) meet) refl tt e s
+  orbit_stops r (suc b) e s = stop_in _ _ W _ [] _ _ refl tt e s
 
   pub meet_stops : (r b : ℕ) → 0 < b → Each P (stage_parts program c r b orbit)
       → (e : Stop FoundPart) → IsStop part_of P W (stage_parts program c r b meet) e
       → IsStop part_of P W (branch_parts program c r b) e
   unfolding branch_parts
   meet_stops r zero l h e s = absurd (omega arith)
-  meet_stops r (suc b) l h e s = stop_in _ _ W _
-      (stage_parts program c r (suc b) orbit) (stage_parts program c r (suc b) meet) []
+  meet_stops r (suc b) l h e s = stop_in _ _ W _ _ _ []
       (ap (λ ps. stage_parts program c r (suc b) orbit ++ ps)
       (sym (append-nil (stage_parts program c r (suc b) meet)))) h e s

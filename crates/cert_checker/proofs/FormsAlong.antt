@@ -108,7 +108,7 @@ module _ {j : FullJudge} (own : IsFullJudge j) {b : ℕ} {form : FullForm}
 
   -- and so is its map
   count : length images.items ≡ length (program_by j).names
-  count = branch_count j.lp.now images.items (get_or (program_by j).branches b []) stands
+  count = branch_count j.lp.now images.items _ stands
 
   arity : AllArity m maps
   arity = arity-branch_map (program_by j) (get_or (program_by j).branches b [])

@@ -29,12 +29,12 @@ use Rattle.task_lists.specs.declared.parts.FullBranch.{FullBranch}
 use Rattle.task_lists.specs.declared.parts.FullCert.{FullCert}
 
 -- what the element at a place is seen as has P, where that past the end has it
-seen_at : {A B : Type 0} (see : A → B) (P : B → Type 0) (d : B) → P d → (xs : List A)
+seen_at : {A B : Type 0} (see : A → B) (P : B → Type 0) {d : B} → P d → (xs : List A)
     → All (λ x. P (see x)) xs → (i : ℕ) → P (get_or (map see xs) i d)
-seen_at see P d past [] a i = past
-seen_at see P d past (x ∷ xs) a zero = All-head (λ y. P (see y)) x xs a
-seen_at see P d past (x ∷ xs) a (suc i) =
-    seen_at see P d past xs (All-tail (λ y. P (see y)) x xs a) i
+seen_at see P past [] a i = past
+seen_at see P past (x ∷ xs) a zero = All-head (λ y. P (see y)) x xs a
+seen_at see P {d = d} past (x ∷ xs) a (suc i) =
+    seen_at see P past xs (All-tail (λ y. P (see y)) x xs a) i
 
 weaker : {A : Type 0} (P Q : A → Type 0) → ((x : A) → P x → Q x) → (xs : List A) → All P xs
     → All Q xs
@@ -58,7 +58,7 @@ module _ (m : ℕ) where
   RowAt rows = (i : ℕ) → AllArity m (get_or rows i [])
 
   block_rows : (rows : Vec Polys Global) → AreRows m rows → RowAt (rows_of rows.items)
-  block_rows rows a = seen_at (λ row. terms_each row.items) (AllArity m) [] no_arity rows.items
+  block_rows rows a = seen_at (λ row. terms_each row.items) (AllArity m) no_arity rows.items
       (weaker (ArePolys m) (λ row. AllArity m (terms_each row.items))
       (λ row h. arities_over m row.items h) rows.items a)
 
@@ -115,22 +115,18 @@ full_over program c h =
     record {
       basis = record {
         arities = arities_over m c.basis.items h.basis;
-        cofactor_arities = seen_at (λ s. rows_of s.items) (RowAt m) [] (λ i. no_arity m)
-            c.steps.items
+        cofactor_arities = seen_at (λ s. rows_of s.items) (RowAt m) (λ i. no_arity m) c.steps.items
             (weaker (AreRows m) (λ s. RowAt m (rows_of s.items)) (block_rows m) c.steps.items
             h.steps);
       };
-      forms = seen_at form_in (FormHas m) (record { base = []; polys = [] }) (no_form m)
-          c.forms.items
+      forms = seen_at form_in (FormHas m) (no_form m) c.forms.items
           (weaker (IsFormOver m) (λ f. FormHas m (form_in f)) (form_has m) c.forms.items h.forms);
       start_out = fall_over m c.start.out.items (record {}) (λ p. refl) h.out;
       start_links = rows_arity m c.start.links.items h.links;
       stages = λ r. seen_at round_in (λ row. (b : ℕ) (kind : Kind)
           → IsStageOver (front_of (full_of c) b kind) m (of_kind (get_or row b (no_branch m)) kind))
-          []
-          (none_over m c.forms.items) c.rounds.items
-          (weaker (AreBranchesIn m c.forms.items) (λ round. (b : ℕ) (kind : Kind)
-          → IsStageOver (front_of (full_of c) b kind) m
+          (none_over m c.forms.items) c.rounds.items (weaker (AreBranchesIn m c.forms.items)
+          (λ round. (b : ℕ) (kind : Kind) → IsStageOver (front_of (full_of c) b kind) m
           (of_kind (get_or (round_in round) b (no_branch m)) kind))
           (λ round a. branches_over m c.forms.items round.items a) c.rounds.items h.rounds) r;
     }

@@ -19,12 +19,11 @@ pub composed_arities : (images : List FracPoly) → 0 < length images
 composed_arities images some all = subst (λ m. All (IsInVariables m) images)
     (sym (first_arity (length images) images all some)) all
 
-pub composed_stands : (images : List FracPoly) (element p : FracPoly) (o : Grevlex)
+pub composed_stands : (images : List FracPoly) (element : FracPoly) {p : FracPoly} (o : Grevlex)
     → 0 < length images → All (IsInVariables (length images)) images
     → Is o (arity_of images) (compose ℚ (arity_of images) (terms_in element) (terms_each images)) p
-    → StandsFor (length images) p (compose ℚ (length images) (terms_in element)
-    (terms_each images))
-composed_stands images element p o some all h =
+    → StandsFor (length images) p (compose ℚ (length images) (terms_in element) (terms_each images))
+composed_stands images element {p = p} o some all h =
     let same : arity_of images ≡ length images = first_arity (length images) images all some in
     record {
       order = refl;
@@ -35,10 +34,11 @@ composed_stands images element p o some all h =
     }
 
 pub combined_tells : (found : Result Bool ArithmeticError) (p h : Terms Fraction)
-    (qs rs gs ks : List (Terms Fraction)) → Same ℚ p h → qs ≡ rs → gs ≡ ks
-    → IfOk found (λ b. IsTrue b ↔ Same ℚ p (combination ℚ qs gs))
+    (qs : List (Terms Fraction)) {rs : List (Terms Fraction)} (gs : List (Terms Fraction))
+    {ks : List (Terms Fraction)}
+    → Same ℚ p h → qs ≡ rs → gs ≡ ks → IfOk found (λ b. IsTrue b ↔ Same ℚ p (combination ℚ qs gs))
     → IfOk found (λ b. IsTrue b ↔ Same ℚ h (combination ℚ rs ks))
-combined_tells found p h qs rs gs ks same e f told = IfOk-weaker found _ _
+combined_tells found p h qs gs same e f told = IfOk-weaker found _ _
     (λ b t. subst₂ (λ xs ys. IsTrue b ↔ Same ℚ h (combination ℚ xs ys)) e f (
       (λ yes. Same-trans ℚ (Same-sym ℚ same) (t.0 yes)),
       (λ is. t.1 (Same-trans ℚ same is)),

@@ -14,13 +14,13 @@ use Rattle.task_lists.specs.View.{full_of}
 use Rattle.task_lists.specs.declared.parts.FullCert.{FullCert}
 use Rattle.cert_checker.proofs.StageSteps.{widths}
 
-pub kept_of : (program : Program (Expr ℕ)) (c : FullCert) → IsFullIn (length program.names) c
+pub kept_of : {program : Program (Expr ℕ)} (c : FullCert) → IsFullIn (length program.names) c
     → IsCounted program (full_of c) → IsWellSized (length program.names) c.basis c.steps
-kept_of program c over counted = record {
+kept_of c over counted = record {
   arities = over.basis;
   squares = λ b d l. record {
     height = height b d l;
-    widths = widths (get_or c.steps.items b d).items (length c.basis.items) (vec_len c.basis)
+    widths = widths _ (length c.basis.items) (vec_len c.basis)
         (subst (λ n. All (λ row. length row ≡ n) (rows_of (get_or c.steps.items b d).items)) size
         (table b d l).widths) (sym c.basis.ok.0);
     arities = over.steps b d l;

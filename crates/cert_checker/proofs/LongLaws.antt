@@ -31,10 +31,11 @@ module _ (f : ℕ → ℕ) where
       let e : (i - n) + n ≡ i = omega arith in
       subst (λ k. total f n ≤ total f k) e (grown n (i - n))
 
-  pub all_counted : (n i t : ℕ) → n ≤ i → t ≡ total f i → t ≤ most_terms → total f n ≤ most_terms
-  all_counted n i t l is few = let m = total_mono n i l in omega (arith, m, is, few)
+  pub all_counted : (n i : ℕ) {t : ℕ} → n ≤ i → t ≡ total f i → t ≤ most_terms
+      → total f n ≤ most_terms
+  all_counted n i l is few = let m = total_mono n i l in omega (arith, m, is, few)
 
-  module _ (n i t : ℕ) (o : Option ℕ) (is : t ≡ total f i) (few : t ≤ most_terms)
+  module _ (n i : ℕ) {t : ℕ} {o : Option ℕ} (is : t ≡ total f i) (few : t ≤ most_terms)
       (counted : IsCount (t + f i) o) where
     pub long_here : ((k : ℕ) → o ≡ Some k → ⊥) → i < n → IsFirstLong f n i
     long_here none l =
@@ -52,5 +53,5 @@ module _ (f : ℕ → ℕ) where
         let g : total f (i + 1) ≡ total f i + f i = ap (total f) (add-one i) ∙ total_suc i in
         (omega (arith, c.0, is, g), omega (arith, c.0, c.1))
 
-pub none_none : (o : Option ℕ) → o ≡ None → (k : ℕ) → o ≡ Some k → ⊥
-none_none o e k h = let x : None ≡ Some k = sym e ∙ h in absurd (cc)
+pub none_none : {o : Option ℕ} → o ≡ None → (k : ℕ) → o ≡ Some k → ⊥
+none_none e k h = let x : None ≡ Some k = sym e ∙ h in absurd (cc)

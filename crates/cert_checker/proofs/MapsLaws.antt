@@ -7,7 +7,7 @@ use Rattle.loop_model.specs.Maps.{IsBranchMap, AreBranchMaps}
 use Rattle.loop_model.proofs.BranchMaps.{maps_count, map_at}
 use Rattle.loop_model.proofs.Items.{in_list, item_of}
 
-module _ (program : Program (Expr ℕ)) (maps items : List (Vec FracPoly Global))
+module _ (program : Program (Expr ℕ)) {maps items : List (Vec FracPoly Global)}
     (h : AreBranchMaps program maps program.branches) (value : items ≡ maps) (i : ℕ)
     (l : i < length items) where
   pub branch_here : i < length program.branches
@@ -15,7 +15,7 @@ module _ (program : Program (Expr ℕ)) (maps items : List (Vec FracPoly Global)
       let k = in_list maps items value i l in
       omega (arith, k, maps_count program maps h)
 
-  pub map_here : (images : Vec FracPoly Global) → images ≡ get_or items i images
+  pub map_here : {images : Vec FracPoly Global} → images ≡ get_or items i images
       → IsBranchMap program images (get_or program.branches i [])
-  map_here images is =
+  map_here {images = images} is =
       map_at program maps images i h branch_here (item_of maps items value i images is)

@@ -16,7 +16,7 @@ use Rattle.algebra.proofs.SizeLaws.{fractions_bounded, past_under}
 use Rattle.polynomials.specs.Order.{grevlex}
 use Rattle.polynomials.specs.Polynomial.{Arity}
 use Rattle.polynomials.specs.Terms.{Terms, Same, compose}
-use Rattle.polynomials.specs.Weight.{weight, composition_weight, IsPastComposition}
+use Rattle.polynomials.specs.Weight.{weight, IsPastComposition}
 use Rattle.polynomials.proofs.Orders.{grevlex_order}
 use Rattle.polynomials.proofs.Past.{composition_under}
 use Rattle.polynomials.proofs.Same.{Same-refl, Same-sym, Same-trans}
@@ -143,9 +143,9 @@ module _ (bs : List ℕ) where
         (collect-same ℚ_field grevlex grevlex_order (at_next e))),
   )
 
-pub same_tells : (p q x y : Terms Fraction) (b : Bool) → (IsTrue b ↔ Same ℚ p q) → Same ℚ p x
-    → Same ℚ q y → IsTrue b ↔ Same ℚ x y
-same_tells p q x y b tells s t = (
+pub same_tells : {p q : Terms Fraction} (x y : Terms Fraction) (b : Bool) → (IsTrue b ↔ Same ℚ p q)
+    → Same ℚ p x → Same ℚ q y → IsTrue b ↔ Same ℚ x y
+same_tells x y b tells s t = (
   λ yes. Same-trans ℚ (Same-sym ℚ s) (Same-trans ℚ (tells.0 yes) t),
   λ h. tells.1 (Same-trans ℚ s (Same-trans ℚ h (Same-sym ℚ t))),
 )
@@ -154,8 +154,6 @@ pub moved_past : (w : ℕ) (g : Terms Fraction) (back : List (Terms Fraction)) (
     → Is moved.order w (compose ℚ w g back) moved → IsPast (weight fraction_size (terms_in moved))
     → IsPastComposition fractions g back
 moved_past w g back moved is p =
-    inl (past_under (weight fraction_size (terms_in moved))
-    (composition_weight fraction_size g back)
-    (composition-pos ℚ_ring fraction_size fractions_bounded w g back)
+    inl (past_under _ _ (composition-pos ℚ_ring fraction_size fractions_bounded w g back)
     (composition_under fractions fractions_ring fractions_bounded grevlex grevlex_order w
     (terms_in moved) g back (polynomial_over w moved is.arity) is.same) p)

@@ -30,9 +30,10 @@ module _ {A : Type 0} (f : A → ℕ) where
       let last = b.0 in
       (omega (arith, both, first, last), b.1)
 
-  pub beyond_in : (t s : ℕ) (ps done here rest : List A) (a : A) → ps ≡ done ++ (here ++ rest)
-      → IsTotal f t done s → IsFirstBeyond f s here a → IsFirstBeyond f t ps a
-  beyond_in t s ps done here rest a is d b =
+  pub beyond_in : (t s : ℕ) {ps : List A} (done : List A) {here : List A} (rest : List A) {a : A}
+      → ps ≡ done ++ (here ++ rest) → IsTotal f t done s → IsFirstBeyond f s here a
+      → IsFirstBeyond f t ps a
+  beyond_in t s done rest {a = a} is d b =
       let both = sum_by-append f done b.earlier in
       let so_far = d.0 in
       let few = b.few in
@@ -47,9 +48,9 @@ module _ {A : Type 0} (f : A → ℕ) where
         many = omega (arith, both, so_far, many);
       }
 
-  pub beyond_first : (t : ℕ) (here rest : List A) (a : A) → IsFirstBeyond f t here a
+  pub beyond_first : (t : ℕ) {here : List A} (rest : List A) (a : A) → IsFirstBeyond f t here a
       → IsFirstBeyond f t (here ++ rest) a
-  beyond_first t here rest a b = record {
+  beyond_first t rest a b = record {
     earlier = b.earlier;
     later = b.later ++ rest;
     is = ap (λ h. h ++ rest) b.is ∙ append_assoc b.earlier (a ∷ b.later) rest;
@@ -83,13 +84,13 @@ module _ {A B : Type 0} (f : B → ℕ) (g : A → B) where
   sum_map (p ∷ ps) = sum_by-cons f (g p) (map g ps) ∙ ap (λ n. f (g p) + n) (sum_map ps)
       ∙ sym (sum_by-cons (λ a. f (g a)) p ps)
 
-  pub total_map : (t s : ℕ) (ps : List A) → IsTotal (λ a. f (g a)) t ps s
+  pub total_map : (t : ℕ) {s : ℕ} (ps : List A) → IsTotal (λ a. f (g a)) t ps s
       → IsTotal f t (map g ps) s
-  total_map t s ps h = (h.0 ∙ ap (λ n. t + n) (sym (sum_map ps)), h.1)
+  total_map t ps h = (h.0 ∙ ap (λ n. t + n) (sym (sum_map ps)), h.1)
 
-  pub beyond_map : (t : ℕ) (ps : List A) (a : A) → IsFirstBeyond (λ a. f (g a)) t ps a
+  pub beyond_map : {t : ℕ} {ps : List A} (a : A) → IsFirstBeyond (λ a. f (g a)) t ps a
       → IsFirstBeyond f t (map g ps) (g a)
-  beyond_map t ps a h =
+  beyond_map a h =
       let same = sum_map h.earlier in
       let few = h.few in
       let many = h.many in
@@ -102,7 +103,7 @@ module _ {A B : Type 0} (f : B → ℕ) (g : A → B) where
       }
 
 -- ---- the next number
-module _ (f : ℕ → ℕ) (t s i : ℕ) (counted : IsTotal f t (numbers 0 i) s) (o : Option ℕ)
+module _ (f : ℕ → ℕ) (t : ℕ) {s : ℕ} (i : ℕ) (counted : IsTotal f t (numbers 0 i) s) {o : Option ℕ}
     (told : IsCount (s + f i) o) where
   pub number_next : (u : ℕ) → o ≡ Some u → IsTotal f t (numbers 0 (i + 1)) u
   number_next u is =
@@ -128,7 +129,7 @@ module _ (f : ℕ → ℕ) (t s i : ℕ) (counted : IsTotal f t (numbers 0 i) s)
       }
 
 -- ---- lists of parts that are numbered
-module _ {A : Type 0} (f : A → ℕ) (parts : ℕ → List A) (t s i : ℕ)
+module _ {A : Type 0} (f : A → ℕ) (parts : ℕ → List A) (t : ℕ) {s : ℕ} (i : ℕ)
     (counted : IsTotal f t (flat_map parts (numbers 0 i)) s) where
   pub several_next : (u : ℕ) → IsTotal f s (parts i) u
       → IsTotal f t (flat_map parts (numbers 0 (i + 1))) u
@@ -138,9 +139,8 @@ module _ {A : Type 0} (f : A → ℕ) (parts : ℕ → List A) (t s i : ℕ)
       ∙ ap (λ ps. flat_map parts (numbers 0 i) ++ ps) (append-nil (parts i))))
       (total_then f t s u (flat_map parts (numbers 0 i)) (parts i) counted h)
 
-  pub several_beyond : (n : ℕ) (a : A) → i < n → IsFirstBeyond f s (parts i) a
+  pub several_beyond : (n : ℕ) {a : A} → i < n → IsFirstBeyond f s (parts i) a
       → IsFirstBeyond f t (flat_map parts (numbers 0 n)) a
-  several_beyond n a l b = beyond_in f t s (flat_map parts (numbers 0 n))
-      (flat_map parts (numbers 0 i)) (parts i) (flat_map parts (numbers (suc i) (n - suc i))) a
-      (ap (flat_map parts) (from_zero i n l)
-      ∙ flat_map-append parts (numbers 0 i) (i ∷ numbers (suc i) (n - suc i))) counted b
+  several_beyond n {a = a} l b = beyond_in f t s
+      (flat_map parts (numbers 0 i)) _ (ap (flat_map parts) (from_zero i n l) ∙ flat_map-append
+      parts (numbers 0 i) (i ∷ numbers (suc i) (n - suc i))) counted b

@@ -62,14 +62,13 @@ module _ (bs : List ℕ) (images ps : List (Terms Fraction)) (count : length ps 
     ascending = base.1;
     coprime = base.0;
     normal = each_places (IsNormal bs) ps [] (λ i l. (h i l).normal);
-    at_zero = same_places ℚ (map (λ p. compose ℚ m p (zero_images r m)) ps) (variables ℚ m)
+    at_zero = same_places ℚ _ (variables ℚ m)
         (length-map ps (λ p. compose ℚ m p (zero_images r m)) ∙ count ∙ sym (length-variables m))
         (λ i l. let k : i < length ps = (let e = length-map ps (λ p. compose ℚ m p (zero_images r
         m)) in omega (arith, l, e)) in
         subst (λ p. Same ℚ p (get_or (variables ℚ m) i []))
         (sym (get_or-map (λ p. compose ℚ m p (zero_images r m)) ps i [] [] k)) (h i k).at_zero);
-    goes_on = same_places ℚ (map (λ q. with_normal_keys r (compose ℚ w q ps)) images)
-        (map (λ p. compose ℚ w p (next_images bs m)) ps)
+    goes_on = same_places ℚ _ _
         (length-map images (λ q. with_normal_keys r (compose ℚ w q ps)) ∙ sym count
         ∙ sym (length-map ps (λ p. compose ℚ w p (next_images bs m))))
         (λ i l. let k : i < length images = (let e = length-map images (λ q. with_normal_keys r
@@ -88,13 +87,11 @@ module _ (bs : List ℕ) (images ps : List (Terms Fraction)) (count : length ps 
         normal = each_here (IsNormal bs) ps [] h.normal i l;
         at_zero = subst (λ p. Same ℚ p (get_or (variables ℚ m) i []))
             (get_or-map (λ p. compose ℚ m p (zero_images r m)) ps i [] [] l)
-            (AllSame-at ℚ (map (λ p. compose ℚ m p (zero_images r m)) ps) (variables ℚ m) h.at_zero
-            i);
+            (AllSame-at ℚ _ (variables ℚ m) h.at_zero i);
         goes_on = subst₂ (Same ℚ)
             (get_or-map (λ q. with_normal_keys r (compose ℚ w q ps)) images i [] [] k)
             (get_or-map (λ p. compose ℚ w p (next_images bs m)) ps i [] [] l)
-            (AllSame-at ℚ (map (λ q. with_normal_keys r (compose ℚ w q ps)) images)
-            (map (λ p. compose ℚ w p (next_images bs m)) ps) h.goes_on i);
+            (AllSame-at ℚ _ _ h.goes_on i);
       }
 
   here : {X : Type 0} (P : X → Type 0) (xs : List X) (i : ℕ) (d : X) → i < length xs
@@ -114,25 +111,27 @@ module _ (bs : List ℕ) (images ps : List (Terms Fraction)) (count : length ps 
 
 -- ---- one polynomial
 module _ (bs : List ℕ) (m : ℕ) where
-  pub start_tells : (v : ℕ) (cs : List ℕ) (body q : Terms Fraction) (i : ℕ) (b : Bool) → v ≡ m
-      → cs ≡ bs → body ≡ q
+  pub start_tells : {v : ℕ} {cs : List ℕ} {body : Terms Fraction} (q : Terms Fraction) (i : ℕ)
+      {b : Bool}
+      → v ≡ m → cs ≡ bs → body ≡ q
       → (IsTrue b ↔ Same ℚ (compose ℚ v body (zero_images (length cs) v))
       (get_or (variables ℚ v) i []))
       → (IsTrue b ↔ Same ℚ (compose ℚ m q (zero_images (length bs) m))
       (get_or (variables ℚ m) i []))
-  start_tells v cs body q i b e f g tells =
+  start_tells {v = v} q i {b = b} e f g tells =
       subst (λ k. IsTrue b ↔ Same ℚ (compose ℚ k q (zero_images (length bs) k))
       (get_or (variables ℚ k) i [])) e
       (subst₂ (λ (ds : List ℕ) p. IsTrue b ↔ Same ℚ (compose ℚ v p (zero_images (length ds) v))
       (get_or (variables ℚ v) i [])) f g tells)
 
-  pub next_tells : (k : ℕ) (cs : List ℕ) (ps : List (Terms Fraction))
-      (image x body q : Terms Fraction) (b : Bool) → k ≡ m → cs ≡ bs → image ≡ x → body ≡ q
+  pub next_tells : {k : ℕ} {cs : List ℕ} (ps : List (Terms Fraction)) {image : Terms Fraction}
+      (x : Terms Fraction) {body : Terms Fraction} (q : Terms Fraction) {b : Bool}
+      → k ≡ m → cs ≡ bs → image ≡ x → body ≡ q
       → (IsTrue b ↔ Same ℚ (with_normal_keys (length cs) (compose ℚ (width (length cs) k) image ps))
       (compose ℚ (width (length cs) k) body (next_images cs k)))
       → (IsTrue b ↔ Same ℚ (with_normal_keys (length bs) (compose ℚ (width (length bs) m) x ps))
       (compose ℚ (width (length bs) m) q (next_images bs m)))
-  next_tells k cs ps image x body q b e d f g tells =
+  next_tells {k = k} ps {image = image} x {body = body} q {b = b} e d f g tells =
       subst (λ n. IsTrue b
       ↔ Same ℚ (with_normal_keys (length bs) (compose ℚ (width (length bs) n) x ps))
       (compose ℚ (width (length bs) n) q (next_images bs n))) e
@@ -143,17 +142,17 @@ module _ (bs : List ℕ) (m : ℕ) where
       ↔ Same ℚ (with_normal_keys (length ds) (compose ℚ (width (length ds) k) image ps))
       (compose ℚ (width (length ds) k) body (next_images ds k))) d tells))
 
-  pub next_past : (k : ℕ) (cs : List ℕ) (images ps : List (Terms Fraction)) (i : ℕ)
-      (image body : Terms Fraction) → k ≡ m → cs ≡ bs → m ≡ length images
-      → image ≡ get_or images i [] → body ≡ get_or ps i []
+  pub next_past : (k : ℕ) {cs : List ℕ} (images ps : List (Terms Fraction)) (i : ℕ)
+      {image : Terms Fraction} (body : Terms Fraction)
+      → k ≡ m → cs ≡ bs → m ≡ length images → image ≡ get_or images i [] → body ≡ get_or ps i []
       → (IsPastComposition fractions image ps ⊎ IsPastComposition fractions body (next_images cs k))
       → IsPastAt bs images ps i
-  next_past k cs images ps i image body e h d f g (inl p) =
+  next_past k images ps i body e h d f g (inl p) =
       inr (inr (inl (subst (λ x. IsPastComposition fractions x ps) f p)))
-  next_past k cs images ps i image body e h d f g (inr p) =
+  next_past k images ps i body e h d f g (inr p) =
       inr (inr (inr (subst₂ (λ x n. IsPastComposition fractions x (next_images bs n)) g (e ∙ d)
       (subst (λ (ds : List ℕ). IsPastComposition fractions body (next_images ds k)) h p))))
 
-pub seen_at : {X Y : Type 0} (f : X → List Y) (xs : List X) (i : ℕ) (x : X) → i < length xs
+pub seen_at : {X Y : Type 0} (f : X → List Y) (xs : List X) (i : ℕ) {x : X} → i < length xs
     → x ≡ get_or xs i x → f x ≡ get_or (map f xs) i []
-seen_at f xs i x l is = ap f is ∙ sym (get_or-map f xs i x [] l)
+seen_at f xs i {x = x} l is = ap f is ∙ sym (get_or-map f xs i x [] l)

@@ -48,15 +48,14 @@ module _ (k : ℕ) (hs : List (Terms Fraction)) (s : Stage) (begun : ℕ → Typ
         pairs_hold : Each P (lists ++ (gens ++ pairs))
         pairs_hold = each-append P lists (gens ++ pairs) lists_hold
             (each-append P gens pairs (numbers_hold P in_gens (length hs) made)
-            (numbers_hold P in_pairs (length (pairs_of (length s.list))) paired))
+            (numbers_hold P in_pairs _ paired))
 
         pub stage_holds : ((i : ℕ) → i < length (free_part k s.list) → P (in_links i))
             → Each P (places k hs s)
         stage_holds linked = each-append P lists (gens ++ (pairs ++ links)) lists_hold
             (each-append P gens (pairs ++ links) (numbers_hold P in_gens (length hs) made)
-            (each-append P pairs links
-            (numbers_hold P in_pairs (length (pairs_of (length s.list))) paired)
-            (numbers_hold P in_links (length (free_part k s.list)) linked)))
+            (each-append P pairs links (numbers_hold P in_pairs _ paired) (numbers_hold P in_links
+            (length (free_part k s.list)) linked)))
 
         pub links_stop : (e : Stop ℕ) → StopsAt (λ i. P (in_links i)) (λ i. W (in_links i))
             (length (free_part k s.list)) e

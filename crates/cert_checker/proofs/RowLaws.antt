@@ -10,7 +10,7 @@ use Rattle.algebra.specs.Fraction.{Fraction}
 use Rattle.polynomials.specs.Terms.{Terms}
 use Rattle.cert_form.specs.Cert.{Polys, rows_in, blocks_in, IsSquare}
 
-module _ (steps : Vec (Vec Polys Global) Global) (raws : List (List (List (Terms Fraction))))
+module _ (steps : Vec (Vec Polys Global) Global) {raws : List (List (List (Terms Fraction)))}
     (is : blocks_in steps ≡ raws) (b : ℕ) where
   pub inside : b < length raws → b < length steps.items
   inside l = let count : length (map rows_in steps.items) ≡ length raws = ap length is in

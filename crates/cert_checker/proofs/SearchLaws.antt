@@ -20,15 +20,15 @@ use Rattle.cert_checker.specs.Identities.{StartHolds, StepHolds, StartIsPast, St
 use Rattle.cert_checker.specs.Long.{start_terms, step_terms}
 
 -- ---- the identity of the element that a loop over the basis has
-module _ (m : ℕ) (basis images items : List FracPoly) (value : items ≡ basis) (i : ℕ) (p : FracPoly)
-    (l : i < length items) (is : p ≡ get_or items i p) where
+module _ (m : ℕ) {basis : List FracPoly} (images items : List FracPoly) (value : items ≡ basis)
+    (i : ℕ) {p : FracPoly} (l : i < length items) (is : p ≡ get_or items i p) where
   found : terms_in p ≡ get_or (terms_each basis) i []
   found = ap terms_in (item_of basis items value i p is)
       ∙ sym (get_or-map terms_in basis i p [] (in_list basis items value i l))
 
-  pub start_at : (b : Bool) → IsTrue b ↔ Same ℚ (compose ℚ m (terms_in p) (terms_each images)) []
+  pub start_at : {b : Bool} → IsTrue b ↔ Same ℚ (compose ℚ m (terms_in p) (terms_each images)) []
       → IsTrue b ↔ StartHolds m (terms_each basis) (terms_each images) i
-  start_at b h = subst (λ x. IsTrue b ↔ Same ℚ (compose ℚ m x (terms_each images)) []) found h
+  start_at {b = b} h = subst (λ x. IsTrue b ↔ Same ℚ (compose ℚ m x (terms_each images)) []) found h
 
   pub start_past : IsPastComposition fractions (terms_in p) (terms_each images)
       → StartIsPast (terms_each basis) (terms_each images) i
@@ -50,10 +50,11 @@ module _ (m : ℕ) (basis images items : List FracPoly) (value : items ≡ basis
           rows.ok.0,
         )))
 
-    pub step_at : (b : Bool) → IsTrue b ↔ Same ℚ (compose ℚ m (terms_in p) (terms_each images))
-        (combination ℚ (polys_in row) (terms_each basis)) → IsTrue b
-        ↔ StepHolds m (terms_each basis) (terms_each images) (rows_in rows) i
-    step_at b h = subst₂ (λ x y. IsTrue b ↔ Same ℚ (compose ℚ m x (terms_each images))
+    pub step_at : {b : Bool}
+        → IsTrue b ↔ Same ℚ (compose ℚ m (terms_in p) (terms_each images))
+        (combination ℚ (polys_in row) (terms_each basis))
+        → IsTrue b ↔ StepHolds m (terms_each basis) (terms_each images) (rows_in rows) i
+    step_at {b = b} h = subst₂ (λ x y. IsTrue b ↔ Same ℚ (compose ℚ m x (terms_each images))
         (combination ℚ y (terms_each basis))) found row_is h
 
     pub step_past : IsPastComposition fractions (terms_in p) (terms_each images)
@@ -69,8 +70,8 @@ module _ (m : ℕ) (basis images items : List FracPoly) (value : items ≡ basis
     step_counted t o h = subst₂ (λ x y. IsCount (t + (composition_terms x (terms_each images)
         + combination_terms y (terms_each basis))) o) found row_is h
 
-module _ (P : ℕ → Type 0) (n i : ℕ) (b : Bool) (before : (j : ℕ) → j < i → P j) (tells : IsTrue b
-    ↔ P i) where
+module _ (P : ℕ → Type 0) (n : ℕ) {i : ℕ} {b : Bool} (before : (j : ℕ) → j < i → P j)
+    (tells : IsTrue b ↔ P i) where
   pub kept_more : b ≡ true → (j : ℕ) → j < i + 1 → P j
   kept_more t = below_more P i before (tells.0 t)
 

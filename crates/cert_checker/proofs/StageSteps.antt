@@ -33,7 +33,7 @@ use Rattle.task_lists.proofs.Monic.{monic_some}
 use Rattle.cert_checker.specs.StageParts.{IsMonicAt}
 
 -- a row at its place among the rows, as lists of terms
-module _ {X : Type 0} (see : X → List (Terms Fraction)) (rows : List X) (i : ℕ) (row : X)
+module _ {X : Type 0} (see : X → List (Terms Fraction)) (rows : List X) (i : ℕ) {row : X}
     (within : i < length rows) (is : row ≡ get_or rows i row) where
   pub row_is : see row ≡ get_or (map see rows) i []
   row_is = (place_in see rows i within).1 row is
@@ -41,17 +41,17 @@ module _ {X : Type 0} (see : X → List (Terms Fraction)) (rows : List X) (i : �
 -- ---- polynomials of the code
 module _ {K O : Type 0} {g : Ring.Ghosts K} {h : PartialEq.Ghosts K} {b : Order.Ghosts O}
     {e : PartialEq.Ghosts O} where
-  pub like_images : (o : O) (m : ℕ) (p : Poly K O g h b e) (qs : List (Poly K O g h b e))
+  pub like_images : {o : O} {m : ℕ} (p : Poly K O g h b e) (qs : List (Poly K O g h b e))
       → IsImage o m p → All (IsImage o m) qs → All (IsImage p.order p.arity) qs
-  like_images o m p qs is all i d l = record {
+  like_images p qs is all i d l = record {
     order = (all i d l).order ∙ sym is.order;
     arity = (all i d l).arity ∙ sym is.arity;
   }
 
-  pub over_images : ((x y : O) → x ≡ y) → (m : ℕ) (p : Poly K O g h b e)
-      (qs : List (Poly K O g h b e)) → IsInVariables m p → All (IsInVariables m) qs
-      → All (IsImage p.order p.arity) qs
-  over_images same m p qs is all i d l = record { order = same _ _; arity = all i d l ∙ sym is }
+  pub over_images : ((x y : O) → x ≡ y)
+      → {m : ℕ} (p : Poly K O g h b e) (qs : List (Poly K O g h b e)) → IsInVariables m p
+      → All (IsInVariables m) qs → All (IsImage p.order p.arity) qs
+  over_images same p qs is all i d l = record { order = same _ _; arity = all i d l ∙ sym is }
 
 pub monic_each : {X : Type 0} (see : X → Terms Fraction) (xs : List X)
     → ((i : ℕ) → i < length xs → IsMonicAt (map see xs) i) → All (λ x. see x ≢ []) xs
@@ -59,10 +59,11 @@ monic_each see xs h i d l = monic_some (see (get_or xs i d))
     (subst (λ p. lead_number rationals p ≡ ℚ.one) (get_or-map see xs i d [] l) (h i l))
 
 -- ---- combinations
-pub past_at : (found : Result Bool ArithmeticError) (qs rs gs ks : List (Terms Fraction)) → qs ≡ rs
-    → gs ≡ ks → (IsErrOf found arithmetic_error.Wide → IsPastCombination qs gs)
+pub past_at : (found : Result Bool ArithmeticError) (qs : List (Terms Fraction))
+    {rs : List (Terms Fraction)} (gs : List (Terms Fraction)) {ks : List (Terms Fraction)}
+    → qs ≡ rs → gs ≡ ks → (IsErrOf found arithmetic_error.Wide → IsPastCombination qs gs)
     → IsErrOf found arithmetic_error.Wide → IsPastCombination rs ks
-past_at found qs rs gs ks e f h w = subst₂ IsPastCombination e f (h w)
+past_at found qs gs e f h w = subst₂ IsPastCombination e f (h w)
 
 -- ---- pairs
 pub pair_is : (all : List (ℕ × ℕ)) (m n i : ℕ) (a : ℕ × ℕ) → a ≡ get_or all i a → all ≡ pairs_of m
@@ -73,19 +74,21 @@ pair_is all m n i a is e f l =
     is ∙ get_or_default all i a (0, 0) within ∙ ap (λ ps. get_or ps i (0, 0)) same
 
 pub pair_tells : (found : Result Bool ArithmeticError) (O : Rank) (gs ks : List (Terms Fraction))
-    (a c : ℕ × ℕ) (qs rs : List (Terms Fraction)) → gs ≡ ks → a ≡ c → qs ≡ rs
+    (a : ℕ × ℕ) {c : ℕ × ℕ} (qs : List (Terms Fraction)) {rs : List (Terms Fraction)}
+    → gs ≡ ks → a ≡ c → qs ≡ rs
     → IfOk found (λ t. IsTrue t ↔ IsLcmRepresentation rationals O gs a qs)
     → IfOk found (λ t. IsTrue t ↔ IsLcmRepresentation rationals O ks c rs)
-pair_tells found O gs ks a c qs rs e f k told = subst₃ (λ x y z. IfOk found (λ t. IsTrue t
+pair_tells found O gs ks a qs e f k told = subst₃ (λ x y z. IfOk found (λ t. IsTrue t
     ↔ IsLcmRepresentation rationals O x y z)) e f k told
 
-pub pair_past : (found : Result Bool ArithmeticError) (gs ks : List (Terms Fraction)) (a c : ℕ × ℕ)
-    (qs rs : List (Terms Fraction)) → gs ≡ ks → a ≡ c → qs ≡ rs
-    → (IsErrOf found arithmetic_error.Wide
-    → IsPastPair fractions rationals gs a ⊎ IsPastCombination qs gs)
-    → IsErrOf found arithmetic_error.Wide → IsPastPair fractions rationals ks c
-    ⊎ IsPastCombination rs ks
-pair_past found gs ks a c qs rs e f k past wide = subst₃ (λ x y z.
+pub pair_past : (found : Result Bool ArithmeticError) (gs ks : List (Terms Fraction)) (a : ℕ × ℕ)
+    {c : ℕ × ℕ} (qs : List (Terms Fraction)) {rs : List (Terms Fraction)}
+    → gs ≡ ks → a ≡ c → qs ≡ rs
+    → (IsErrOf found arithmetic_error.Wide → IsPastPair fractions rationals gs a ⊎ IsPastCombination
+    qs gs)
+    → IsErrOf found arithmetic_error.Wide
+    → IsPastPair fractions rationals ks c ⊎ IsPastCombination rs ks
+pair_past found gs ks a qs e f k past wide = subst₃ (λ x y z.
     IsPastPair fractions rationals x y ⊎ IsPastCombination z x) e f k (past wide)
 
 -- ---- rows
@@ -107,22 +110,20 @@ module _ {K O : Type 0} {g : Ring.Ghosts K} {h : PartialEq.Ghosts K} {b : Order.
 
   module _ (rows : List (Vec (Poly K O g h b e) Global)) where
     pub row_fits : (list : Vec (Poly K O g h b e) Global)
-        → All (λ row. length row ≡ length (terms_each list.items)) (rows_of rows) → (i : ℕ)
-        (row : Vec (Poly K O g h b e) Global) → i < length rows → row ≡ get_or rows i row
+        → All (λ row. length row ≡ length (terms_each list.items)) (rows_of rows)
+        → (i : ℕ) {row : Vec (Poly K O g h b e) Global} → i < length rows → row ≡ get_or rows i row
         → {ps qs : List (Poly K O g h b e)} → ps ≡ row.items → qs ≡ list.items
         → length ps ≡ length qs
-    row_fits list all i row l at is are =
-        ap length is ∙ sym row.ok.0
-        ∙ subst (λ (r : Vec (Poly K O g h b e) Global). vec_len r ≡ vec_len list) (sym at)
-        (widths rows (length (terms_each list.items)) (vec_len list) all
-        (length-map list.items terms_in ∙ sym list.ok.0) i row l)
-        ∙ list.ok.0 ∙ sym (ap length are)
+    row_fits list all i {row = row} l at is are =
+        ap length is ∙ sym row.ok.0 ∙ subst (λ (r : Vec (Poly K O g h b e) Global). vec_len r
+        ≡ vec_len list) (sym at) (widths rows _ (vec_len list) all
+        (length-map list.items terms_in ∙ sym list.ok.0) i row l) ∙ list.ok.0 ∙ sym (ap length are)
 
     pub row_has : (P : Poly K O g h b e → Type 0)
-        → All (λ (r : Vec (Poly K O g h b e) Global). All P r.items) rows → (i : ℕ)
-        (row : Vec (Poly K O g h b e) Global) → i < length rows → row ≡ get_or rows i row
+        → All (λ (r : Vec (Poly K O g h b e) Global). All P r.items) rows
+        → (i : ℕ) {row : Vec (Poly K O g h b e) Global} → i < length rows → row ≡ get_or rows i row
         → All P row.items
-    row_has P all i row l at =
+    row_has P all i {row = row} l at =
         subst (λ (r : Vec (Poly K O g h b e) Global). All P r.items) (sym at) (all i row l)
 
 -- ---- results

@@ -25,7 +25,7 @@ use Rattle.cert_checker.specs.LongParts.{IsTotal, IsFirstBeyond, row_terms, plac
 use Rattle.cert_checker.proofs.PartTotals.{total_none, total_then, beyond_in, beyond_first, total_map, beyond_map, total_free}
 
 -- ---- a stage
-module _ (gs qs : List (Terms Fraction)) (s : Stage) (k : ℕ) (hs : List (Terms Fraction))
+module _ (gs qs : List (Terms Fraction)) {s : Stage} (k : ℕ) (hs : List (Terms Fraction))
     (counts : IsStageCounted k (length hs) s) (t : ℕ) (few : t ≤ most_terms) where
   abbrev terms : Place → ℕ
   terms = place_terms gs qs s
@@ -52,33 +52,31 @@ module _ (gs qs : List (Terms Fraction)) (s : Stage) (k : ℕ) (hs : List (Terms
   links = map in_links (below (length (free_part k s.list)))
 
   lists_total : IsTotal terms t lists t
-  lists_total = total_map terms in_list t t (below (length s.list))
+  lists_total = total_map terms in_list t (below (length s.list))
       (total_free (λ i. terms (in_list i)) t (below (length s.list)) few (λ i. refl))
 
   pub gens_beyond : (i : ℕ) → IsFirstBeyond of_gens t
       (below (length s.gens)) i → IsFirstBeyond terms t (places k hs s) (in_gens i)
-  gens_beyond i b = beyond_in terms t t (places k hs s) lists gens (pairs ++ links) (in_gens i) refl
-      lists_total
-      (beyond_map terms in_gens t (below (length hs)) i
-      (subst (λ n. IsFirstBeyond of_gens t (below n) i) counts.gens b))
+  gens_beyond i b = beyond_in terms t t lists (pairs ++ links) refl
+      lists_total (beyond_map terms in_gens i (subst (λ n. IsFirstBeyond of_gens t (below n) i)
+      counts.gens b))
 
-  module _ (u : ℕ) (made : IsTotal of_gens t (below (length s.gens)) u) where
+  module _ {u : ℕ} (made : IsTotal of_gens t (below (length s.gens)) u) where
     gens_total : IsTotal terms t (lists ++ gens) u
     gens_total = total_then terms t t u lists gens lists_total
-        (total_map terms in_gens t u (below (length hs))
+        (total_map terms in_gens t (below (length hs))
         (subst (λ n. IsTotal of_gens t (below n) u) counts.gens made))
 
     pub pairs_beyond : (i : ℕ) → IsFirstBeyond of_pairs u
         (below (length s.pairs)) i → IsFirstBeyond terms t (places k hs s) (in_pairs i)
-    pairs_beyond i b = beyond_in terms t u (places k hs s) (lists ++ gens) pairs links (in_pairs i)
-        (sym (append_assoc lists gens (pairs ++ links))) gens_total
-        (beyond_map terms in_pairs u (below (length (pairs_of (length s.list)))) i
+    pairs_beyond i b = beyond_in terms t u (lists ++ gens) links
+        (sym (append_assoc lists gens (pairs ++ links))) gens_total (beyond_map terms in_pairs i
         (subst (λ n. IsFirstBeyond of_pairs u (below n) i) counts.pairs b))
 
-    module _ (v : ℕ) (paired : IsTotal of_pairs u (below (length s.pairs)) v) where
+    module _ {v : ℕ} (paired : IsTotal of_pairs u (below (length s.pairs)) v) where
       pairs_total : IsTotal terms t ((lists ++ gens) ++ pairs) v
       pairs_total = total_then terms t u v (lists ++ gens) pairs gens_total
-          (total_map terms in_pairs u v (below (length (pairs_of (length s.list))))
+          (total_map terms in_pairs u (below (length (pairs_of (length s.list))))
           (subst (λ n. IsTotal of_pairs u (below n) v) counts.pairs paired))
 
       in_order : places k hs s ≡ ((lists ++ gens) ++ pairs) ++ links
@@ -87,27 +85,27 @@ module _ (gs qs : List (Terms Fraction)) (s : Stage) (k : ℕ) (hs : List (Terms
 
       pub links_beyond : (i : ℕ) → IsFirstBeyond of_links v
           (below (length s.links)) i → IsFirstBeyond terms t (places k hs s) (in_links i)
-      links_beyond i b = beyond_in terms t v (places k hs s) ((lists ++ gens) ++ pairs) links []
-          (in_links i)
+      links_beyond i b = beyond_in terms t v ((lists ++ gens) ++ pairs) []
           (in_order ∙ ap (λ ps. ((lists ++ gens) ++ pairs) ++ ps) (sym (append-nil links)))
-          pairs_total
-          (beyond_map terms in_links v (below (length (free_part k s.list))) i
-          (subst (λ n. IsFirstBeyond of_links v (below n) i) counts.links b))
+          pairs_total (beyond_map terms in_links i (subst (λ n. IsFirstBeyond of_links v (below n)
+          i) counts.links b))
 
       pub stage_total : (w : ℕ) → IsTotal of_links v
           (below (length s.links)) w → IsTotal terms t (places k hs s) w
       stage_total w linked = subst (λ ps. IsTotal terms t ps w) (sym in_order)
           (total_then terms t v w ((lists ++ gens) ++ pairs) links pairs_total
-          (total_map terms in_links v w (below (length (free_part k s.list)))
+          (total_map terms in_links v (below (length (free_part k s.list)))
           (subst (λ n. IsTotal of_links v (below n) w) counts.links linked)))
 
 -- in other words
 pub as_stage : (W : (Place → ℕ) → List Place → Type 0) (gs ks qs ls : List (Terms Fraction))
-    (s z : Stage) → gs ≡ ks → qs ≡ ls → s ≡ z
-    → ((k : ℕ) (hs : List (Terms Fraction)) → IsStageCounted k (length hs) s
-    → W (place_terms gs qs s) (places k hs s)) → (k : ℕ) (hs : List (Terms Fraction))
-    → IsStageCounted k (length hs) z → W (place_terms ks ls z) (places k hs z)
-as_stage W gs ks qs ls s z e f g h k hs counts =
+    (s z : Stage)
+    → gs ≡ ks → qs ≡ ls → s ≡ z
+    → ((k : ℕ) (hs : List (Terms Fraction)) → IsStageCounted k (length hs) s → W
+    (place_terms gs qs s) (places k hs s))
+    → {k : ℕ} (hs : List (Terms Fraction)) → IsStageCounted k (length hs) z
+    → W (place_terms ks ls z) (places k hs z)
+as_stage W gs ks qs ls s z e f g h {k = k} hs counts =
     subst₃ (λ x y w. W (place_terms x y w) (places k hs w)) e f g
     (h k hs (subst (IsStageCounted k (length hs)) (sym g) counts))
 
@@ -129,12 +127,11 @@ module _ (program : Program (Expr ℕ)) (c : FullCertificate) where
   both_total r (suc b) t u v l g h = total_then f t u v (stage_parts program c r (suc b) orbit)
       (stage_parts program c r (suc b) meet) g h
 
-  pub orbit_beyond : (r b t : ℕ) (a : Part) → IsFirstBeyond f t (stage_parts program c r b orbit) a
+  pub orbit_beyond : (r b t : ℕ) {a : Part} → IsFirstBeyond f t (stage_parts program c r b orbit) a
       → IsFirstBeyond f t (branch_parts program c r b) a
   unfolding branch_parts
-  orbit_beyond r zero t a h = h
-  orbit_beyond r (suc b) t a h = beyond_first f t (stage_parts program c r (suc b) orbit)
-      (stage_parts program c r (suc b) meet) a h
+  orbit_beyond r zero t h = h
+  orbit_beyond r (suc b) t {a = a} h = beyond_first f t (stage_parts program c r (suc b) meet) a h
 
   pub meet_beyond : (r b t u : ℕ) (a : Part) → 0 < b
       → IsTotal f t (stage_parts program c r b orbit) u
@@ -142,8 +139,7 @@ module _ (program : Program (Expr ℕ)) (c : FullCertificate) where
       → IsFirstBeyond f t (branch_parts program c r b) a
   unfolding branch_parts
   meet_beyond r zero t u a l g h = absurd (omega (arith, l))
-  meet_beyond r (suc b) t u a l g h = beyond_in f t u (branch_parts program c r (suc b))
-      (stage_parts program c r (suc b) orbit) (stage_parts program c r (suc b) meet) [] a
+  meet_beyond r (suc b) t u a l g h = beyond_in f t u _ []
       (ap (λ ps. stage_parts program c r (suc b) orbit ++ ps)
       (sym (append-nil (stage_parts program c r (suc b) meet)))) g h
 
@@ -162,31 +158,30 @@ module _ (program : Program (Expr ℕ)) (c : FullCertificate) where
 
   pub forms_beyond : (b : ℕ) → IsFirstBeyond (λ j. f (in_forms j)) 0
       (below (length program.branches)) b → IsFirstBeyond f 0 (further_parts program c) (in_forms b)
-  forms_beyond b h = beyond_first f 0 forms (starts ++ (rounds ++ at_end ∷ [])) (in_forms b)
-      (beyond_map f in_forms 0 (below (length program.branches)) b h)
+  forms_beyond b h = beyond_first f 0 (starts ++ (rounds ++ at_end ∷ [])) (in_forms b)
+      (beyond_map f in_forms b h)
 
-  module _ (t : ℕ) (formed : IsTotal (λ j. f (in_forms j)) 0 (below (length program.branches)) t)
+  module _ {t : ℕ} (formed : IsTotal (λ j. f (in_forms j)) 0 (below (length program.branches)) t)
       (count : length c.start_links ≡ length (start_list program)) where
     forms_total : IsTotal f 0 forms t
-    forms_total = total_map f in_forms 0 t (below (length program.branches)) formed
+    forms_total = total_map f in_forms 0 (below (length program.branches)) formed
 
     pub starts_beyond : (i : ℕ) → IsFirstBeyond row t (below (length c.start_links)) i
         → IsFirstBeyond f 0 (further_parts program c) (in_start i)
-    starts_beyond i h = beyond_in f 0 t (further_parts program c) forms starts
-        (rounds ++ at_end ∷ []) (in_start i) refl forms_total
-        (beyond_map f in_start t (below (length (start_list program))) i
+    starts_beyond i h = beyond_in f 0 t forms
+        (rounds ++ at_end ∷ []) refl forms_total (beyond_map f in_start i
         (subst (λ n. IsFirstBeyond row t (below n) i) count h))
 
-    module _ (u : ℕ) (started : IsTotal row t (below (length c.start_links)) u) where
+    module _ {u : ℕ} (started : IsTotal row t (below (length c.start_links)) u) where
       starts_total : IsTotal f 0 (forms ++ starts) u
       starts_total = total_then f 0 t u forms starts forms_total
-          (total_map f in_start t u (below (length (start_list program)))
+          (total_map f in_start t (below (length (start_list program)))
           (subst (λ n. IsTotal row t (below n) u) count started))
 
-      pub rounds_beyond : (a : Part) → IsFirstBeyond f u rounds a
+      pub rounds_beyond : {a : Part} → IsFirstBeyond f u rounds a
           → IsFirstBeyond f 0 (further_parts program c) a
-      rounds_beyond a h = beyond_in f 0 u (further_parts program c) (forms ++ starts) rounds
-          (at_end ∷ []) a (sym (append_assoc forms starts (rounds ++ at_end ∷ []))) starts_total h
+      rounds_beyond {a = a} h = beyond_in f 0 u (forms ++ starts)
+          (at_end ∷ []) (sym (append_assoc forms starts (rounds ++ at_end ∷ []))) starts_total h
 
       pub all_few : (v : ℕ) → IsTotal f u rounds v → AreFew program c
       all_few v h =

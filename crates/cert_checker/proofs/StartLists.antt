@@ -110,7 +110,8 @@ module _ {At : Type 0} (program : Program (Expr At)) where
       let l = order_few (length program.names) program.init in
       omega (arith, n, l)
 
-module _ (hs gs : List (Terms Fraction)) (is : gs ≡ map (collect rationals grevlex) hs) where
+module _ (hs : List (Terms Fraction)) {gs : List (Terms Fraction)}
+    (is : gs ≡ map (collect rationals grevlex) hs) where
   pub start_count : length gs ≡ length hs
   start_count = ap length is ∙ length-map hs (collect rationals grevlex)
 

@@ -50,9 +50,9 @@ one_more n = ap (numbers 0) (add-one n) ∙ zero-push n
 
 -- ---- within other parts
 module _ {A : Type 0} (P : A → Type 0) where
-  pub behind_in : (ps done here rest : List A) (a : A) (W : Type 0) → ps ≡ done ++ (here ++ rest)
-      → Each P done → Behind P here a W → Behind P ps a W
-  behind_in ps done here rest a W e d b = record {
+  pub behind_in : {ps : List A} (done : List A) {here : List A} (rest : List A) {a : A} (W : Type 0)
+      → ps ≡ done ++ (here ++ rest) → Each P done → Behind P here a W → Behind P ps a W
+  behind_in done rest {a = a} W e d b = record {
     earlier = done ++ b.earlier;
     later = b.later ++ rest;
     is = e ∙ ap (λ h. done ++ (h ++ rest)) b.is
@@ -66,9 +66,9 @@ module _ {Q A : Type 0} (see : Q → A) (P W : A → Type 0) where
   pub stop_in : (ps done here rest : List A) → ps ≡ done ++ (here ++ rest) → Each P done
       → (e : Stop Q) → IsStop see P W here e → IsStop see P W ps e
   stop_in ps done here rest is d (Fails q) s =
-      behind_in P ps done here rest (see q) (P (see q) → ⊥) is d s
+      behind_in P done rest (P (see q) → ⊥) is d s
   stop_in ps done here rest is d (Wide q) s =
-      behind_in P ps done here rest (see q) (W (see q)) is d s
+      behind_in P done rest (W (see q)) is d s
   stop_in ps done here rest is d Memory s = tt
 
 -- ---- images, and weaker causes
@@ -119,9 +119,9 @@ module _ {A : Type 0} (P : A → Type 0) (part : ℕ → A) where
   pub numbers_hold : (n : ℕ) → ((j : ℕ) → j < n → P (part j)) → Each P (map part (numbers 0 n))
   numbers_hold n h = each_numbered 0 n (λ j l. h j (omega arith))
 
-  pub numbered : (n i : ℕ) (W : Type 0) → AtNumber (λ j. P (part j)) n i W
+  pub numbered : {n : ℕ} (i : ℕ) (W : Type 0) → AtNumber (λ j. P (part j)) n i W
       → Behind P (map part (numbers 0 n)) (part i) W
-  numbered n i W a = record {
+  numbered {n = n} i W a = record {
     earlier = map part (numbers 0 i);
     later = map part (numbers (suc i) (n - suc i));
     is = ap (map part) (from_zero i n a.within)
@@ -137,10 +137,10 @@ module _ {Q A : Type 0} (see : Q → A) (P W : A → Type 0) (part : ℕ → A) 
       → IsStop see P W (map part (numbers 0 n)) (stop_map make e)
   numbers_stop n make is (Fails i) s =
       subst (λ a. Behind P (map part (numbers 0 n)) a (P a → ⊥)) (sym (is i))
-      (numbered P part n i (P (part i) → ⊥) s)
+      (numbered P part i (P (part i) → ⊥) s)
   numbers_stop n make is (Wide i) s =
       subst (λ a. Behind P (map part (numbers 0 n)) a (W a)) (sym (is i))
-      (numbered P part n i (W (part i)) s)
+      (numbered P part i (W (part i)) s)
   numbers_stop n make is Memory s = tt
 
 -- ---- the next number
@@ -193,8 +193,7 @@ module _ {A : Type 0} (P : A → Type 0) (parts : ℕ → List A) where
       cases x y = grind arith
 
       go : (n < i) ⊎ (i ≤ n) → Each P (flat_map parts (numbers 0 n))
-      go (inl k) = each-left P (flat_map parts (numbers 0 n))
-          (flat_map parts (n ∷ numbers (suc n) (i - suc n)))
+      go (inl k) = each-left P (flat_map parts (numbers 0 n)) _
           (subst (Each P) (ap (flat_map parts) (from_zero n i k)
           ∙ flat_map-append parts (numbers 0 n) (n ∷ numbers (suc n) (i - suc n))) h)
       go (inr k) =
@@ -203,18 +202,15 @@ module _ {A : Type 0} (P : A → Type 0) (parts : ℕ → List A) where
 
   pub behind_several : (n i : ℕ) → i < n → Each P (flat_map parts (numbers 0 i)) → (a : A)
       (W : Type 0) → Behind P (parts i) a W → Behind P (flat_map parts (numbers 0 n)) a W
-  behind_several n i l h a W b = behind_in P (flat_map parts (numbers 0 n))
-      (flat_map parts (numbers 0 i)) (parts i) (flat_map parts (numbers (suc i) (n - suc i))) a W
-      (ap (flat_map parts) (from_zero i n l)
-      ∙ flat_map-append parts (numbers 0 i) (i ∷ numbers (suc i) (n - suc i))) h b
+  behind_several n i l h a W b = behind_in P
+      (flat_map parts (numbers 0 i)) _ W (ap (flat_map parts) (from_zero i n l) ∙ flat_map-append
+      parts (numbers 0 i) (i ∷ numbers (suc i) (n - suc i))) h b
 
 module _ {Q A : Type 0} (see : Q → A) (P W : A → Type 0) (parts : ℕ → List A) where
   pub several_stop : (n i : ℕ) → i < n → Each P (flat_map parts (numbers 0 i)) → (e : Stop Q)
       → IsStop see P W (parts i) e → IsStop see P W (flat_map parts (numbers 0 n)) e
   several_stop n i l h = stop_in see P W (flat_map parts (numbers 0 n))
-      (flat_map parts (numbers 0 i))
-      (parts i) (flat_map parts (numbers (suc i) (n - suc i)))
-      (ap (flat_map parts) (from_zero i n l)
+      (flat_map parts (numbers 0 i)) (parts i) _ (ap (flat_map parts) (from_zero i n l)
       ∙ flat_map-append parts (numbers 0 i) (i ∷ numbers (suc i) (n - suc i))) h
 
 -- ---- stops made of others, and errors that are passed on

@@ -14,8 +14,8 @@ module _ {X : Type 0} (P : List X → Type 0) (Q : X → List X → Type 0)
   pub from_start : From 0
   from_start = (λ h. h, λ h. h)
 
-  pub from_end : P [] → (i : ℕ) → length xs ≤ i → From i → P xs
-  from_end none i l h = h.1 (subst P (sym (drop_all i xs l)) none)
+  pub from_end : P [] → {i : ℕ} → length xs ≤ i → From i → P xs
+  from_end none {i = i} l h = h.1 (subst P (sym (drop_all i xs l)) none)
 
   module _ (i : ℕ) (d : X) (l : i < length xs) (so_far : From i) where
     pub from_more : Q (get_or xs i d) (drop (suc i) xs) → From (i + 1)

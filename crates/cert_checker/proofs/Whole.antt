@@ -70,21 +70,18 @@ module _ (program : Program (Expr ℕ)) (c : FullCertificate) where
       → AllHold program c
   all_hold v h = record {
     each = subst (Each P) (sym in_order)
-        (each-append P (basis_parts program c ++ step_parts program c)
-        (further_parts program c ++ []) (valid_holds v)
+        (each-append P _ _ (valid_holds v)
         (subst (Each P) (sym (append-nil (further_parts program c))) h));
   }
 
   -- ---- behind it
   pub further_behind : IsValid program (certificate c) → (part : Part) (W : Type 0)
       → Behind P (further_parts program c) part W → Behind P (parts program c) part W
-  further_behind v part W b = behind_in P (parts program c)
-      (basis_parts program c ++ step_parts program c) (further_parts program c) [] part W in_order
-      (valid_holds v) b
+  further_behind v part W b = behind_in P _ [] W in_order (valid_holds v) b
 
-  pub first_of : (part : Part) → Behind P (parts program c) part (P part → ⊥)
+  pub first_of : {part : Part} → Behind P (parts program c) part (P part → ⊥)
       → IsFirst program c part
-  first_of part b = record {
+  first_of b = record {
     earlier = b.earlier;
     later = b.later;
     is = b.is;
@@ -100,9 +97,8 @@ module _ (program : Program (Expr ℕ)) (c : FullCertificate) where
   start_behind : (i : ℕ) (W : Type 0) → i < length c.basis → ((j : ℕ) → j < i
       → PassesStart program (certificate c) j) → W → Behind P (parts program c) (in_basis i) W
   unfolding parts Each
-  start_behind i W l h w = behind_in P (parts program c) [] (basis_parts program c)
-      (step_parts program c ++ further_parts program c) (in_basis i) W refl tt
-      (numbered P in_basis (length c.basis) i W (record { within = l; before = h; cause = w }))
+  start_behind i W l h w = behind_in P [] _ W refl tt
+      (numbered P in_basis i W (record { within = l; before = h; cause = w }))
 
   step_behind : (b i : ℕ) (W : Type 0) → b < length program.branches → i < length c.basis
       → ((j : ℕ) → j < length c.basis → PassesStart program (certificate c) j)
@@ -110,21 +106,19 @@ module _ (program : Program (Expr ℕ)) (c : FullCertificate) where
       → ((j : ℕ) → j < i → PassesStep program (certificate c) b j) → W
       → Behind P (parts program c) (in_steps b i) W
   unfolding parts
-  step_behind b i W k l starts earlier before w = behind_in P (parts program c)
-      (basis_parts program c) (step_parts program c) (further_parts program c) (in_steps b i) W refl
-      (basis_holds starts)
+  step_behind b i W k l starts earlier before w = behind_in P
+      (basis_parts program c) (further_parts program c) W refl (basis_holds starts)
       (behind_several P steps_of (length program.branches) b k (steps_hold b earlier) (in_steps b i)
-      W (numbered P (in_steps b) (length c.basis) i W
+      W (numbered P (in_steps b) i W
       (record { within = l; before = before; cause = w })))
 
   pub start_first : (i : ℕ) → IsFirstStart program (certificate c) i
       → IsFirst program c (in_basis i)
-  start_first i v = first_of (in_basis i) (start_behind i (P (in_basis i) → ⊥) v.within v.before
-      v.fails)
+  start_first i v = first_of (start_behind i (P (in_basis i) → ⊥) v.within v.before v.fails)
 
   pub step_first : (b i : ℕ) → IsFirstStep program (certificate c) b i
       → IsFirst program c (in_steps b i)
-  step_first b i v = first_of (in_steps b i) (step_behind b i (P (in_steps b i) → ⊥)
+  step_first b i v = first_of (step_behind b i (P (in_steps b i) → ⊥)
       v.branch_within v.within v.starts v.branches_before v.before v.fails)
 
   identity_wide : (place : Place) (i : ℕ) → WideIdentity program (certificate c) place i
@@ -137,19 +131,19 @@ module _ (program : Program (Expr ℕ)) (c : FullCertificate) where
       w.before (record { images = w.images; is = w.is; past = w.past }))
 
   -- ---- refusals
-  pub wide_refused : (path : List ℕ) (r : FullError) → AreFree program → IsWide program c path
+  pub wide_refused : {path : List ℕ} (r : FullError) → AreFree program → IsWide program c path
       → IsWideAt path r → IfFullCheckRefused program c r
-  wide_refused path (Map e) free w is = absurd is
-  wide_refused path (Limit at) free w is = absurd is
-  wide_refused path (Wide at) free w is = (free, subst (IsWide program c) (sym is) w)
-  wide_refused path Memory free w is = tt
+  wide_refused (Map e) free w is = absurd is
+  wide_refused (Limit at) free w is = absurd is
+  wide_refused (Wide at) free w is = (free, subst (IsWide program c) (sym is) w)
+  wide_refused Memory free w is = tt
 
-  pub limit_refused : (path : List ℕ) (r : FullError) → AreFree program → IsLong program c path
+  pub limit_refused : {path : List ℕ} (r : FullError) → AreFree program → IsLong program c path
       → IsLimitAt path r → IfFullCheckRefused program c r
-  limit_refused path (Map e) free w is = absurd is
-  limit_refused path (Limit at) free w is = (free, subst (IsLong program c) (sym is) w)
-  limit_refused path (Wide at) free w is = absurd is
-  limit_refused path Memory free w is = tt
+  limit_refused (Map e) free w is = absurd is
+  limit_refused (Limit at) free w is = (free, subst (IsLong program c) (sym is) w)
+  limit_refused (Wide at) free w is = absurd is
+  limit_refused Memory free w is = tt
 
   pub long_part : (part : Part) → IsValid program (certificate c)
       → IsFirstBeyond (part_terms program c) 0 (further_parts program c) part
@@ -173,11 +167,10 @@ module _ (program : Program (Expr ℕ)) (c : FullCertificate) where
       (sym is) h
   refusal (check_error.Map map_error.Memory) r h is = absurd h
   refusal (check_error.Limit place i) r h is =
-      limit_refused (path_of (identity_part (place_view place) i)) r h.0
+      limit_refused r h.0
       (inl (record { place = place_view place; element = i; at = refl; is = h.1 })) is
   refusal (check_error.Wide place i) r h is =
-      wide_refused (path_of (identity_part (place_view place) i)) r h.0
-      (identity_wide (place_view place) i h.1) is
+      wide_refused r h.0 (identity_wide (place_view place) i h.1) is
   refusal check_error.Memory r h is = subst (IfFullCheckRefused program c) (sym is) tt
 
 -- the verdict on a part

@@ -6,7 +6,7 @@ use Rattle.loops.specs.Program.{Expr, Program}
 use Rattle.loops.specs.Certificate.{Certificate, PassesStart, PassesStep}
 use Rattle.loops.proofs.Certificates.{certificate_lists_invariants}
 use Rattle.loop_model.specs.View.{program_of}
-use Rattle.loop_model.specs.Maps.{AreFree, branches_operations, IsBranchMap}
+use Rattle.loop_model.specs.Maps.{AreFree, IsBranchMap}
 use Rattle.loop_model.proofs.BranchMaps.{maps_count}
 use Rattle.loop_model.proofs.MapsFormed.{free_all}
 use Rattle.cert_form.specs.Cert.{certificate_of, rows_in}
@@ -29,11 +29,9 @@ all_free c =
 pub returns-in_err-maps-clause-refused : goal.returns-in_err-maps-clause-refused
 returns-in_err-maps-clause-refused c =
     let program = program_of c.args.lp.now in
-    passed_on _ _ _ c.from_residual-in_err-maps.ensures.1
-    (maps_unformed program (certificate_of c.args.basis.now c.args.steps.now) _
-    c.in_ok-start.ensures.free
-    (stops_unformed (length program.names) (branches_operations program) _
-    c.in_err-maps.ensures.stops))
+    passed_on _ _ _ c.from_residual-in_err-maps.ensures.1 (maps_unformed program
+    (certificate_of c.args.basis.now c.args.steps.now) _ c.in_ok-start.ensures.free
+    (stops_unformed (length program.names) _ _ c.in_err-maps.ensures.stops))
 
 pub first_failing_start-requires : goal.first_failing_start-requires
 first_failing_start-requires c =
@@ -44,16 +42,15 @@ first_failing_start-requires c =
 
 pub returns-in_err-element-clause-refused : goal.returns-in_err-element-clause-refused
 returns-in_err-element-clause-refused c = passed_on _ _ _ c.from_residual-in_err-element.ensures.1
-    (start_refused c.args.lp.now c.args.basis.now c.args.steps.now c.requires.kept
-    c.in_ok-start.start.items c.in_ok-start.ensures.maps
+    (start_refused c.args.lp.now c.args.basis.now c.args.steps.now c.requires.kept _
+    c.in_ok-start.ensures.maps
     (all_free (goal.at.returns-in_err-element-clause-refused c).In_ok-maps) _
     c.in_err-element.ensures.stops)
 
 pub returns-in_err-test_start-clause-refused : goal.returns-in_err-test_start-clause-refused
 returns-in_err-test_start-clause-refused c =
-    passed_on _ _ _ c.from_residual-in_err-test_start.ensures.1
-    (start_long c.args.lp.now c.args.basis.now c.args.steps.now c.requires.kept
-    c.in_ok-start.start.items c.in_ok-start.ensures.maps
+    passed_on _ _ _ c.from_residual-in_err-test_start.ensures.1 (start_long c.args.lp.now
+    c.args.basis.now c.args.steps.now c.requires.kept _ c.in_ok-start.ensures.maps
     (all_free (goal.at.returns-in_err-test_start-clause-refused c).In_ok-maps) _
     c.in_err-test_start.ensures.limit)
 
@@ -72,17 +69,18 @@ module _ (c : In_ok-element) where
   StartsAs o = FirstFailure (PassesStart program cert) (length cert.basis) o
 
   starts_found : StartsAs c.in_ok-element.field-0
-  starts_found = start_found c.args.lp.now c.args.basis.now c.args.steps.now c.requires.kept
-      c.in_ok-start.start.items c.in_ok-start.ensures.maps c.in_ok-element.field-0
-      c.in_ok-element.ensures.first
+  starts_found =
+      start_found c.args.lp.now c.args.basis.now c.args.steps.now c.requires.kept _
+      c.in_ok-start.ensures.maps c.in_ok-element.field-0 c.in_ok-element.ensures.first
 
   starts_hold : c.in_ok-element.field-0 ≡ None → StartsAs None
   starts_hold none = subst StartsAs none starts_found
 
   -- the identities of the start aren't too long
   start_is_short : ShortStart program cert
-  start_is_short = start_short c.args.lp.now c.args.basis.now c.args.steps.now c.requires.kept
-      c.in_ok-start.start.items c.in_ok-start.ensures.maps c.in_ok-test_start.ensures.few
+  start_is_short =
+      start_short c.args.lp.now c.args.basis.now c.args.steps.now c.requires.kept _
+      c.in_ok-start.ensures.maps c.in_ok-test_start.ensures.few
 
 pub returns-in-Some-clause-verdict : goal.returns-in-Some-clause-verdict
 returns-in-Some-clause-verdict c =
@@ -106,9 +104,8 @@ returns-in-Some-clause-free c = free (goal.at.returns-in-Some-clause-free c).In_
 
 pub index-rows-requires : goal.index-rows-requires
 index-rows-requires c =
-    let here = branch_here (program_of c.args.lp.now) c.in_ok-maps.maps.items
-    c.deref-images-items.result.now c.in_ok-maps.ensures.maps c.deref-images-items.ensures.value
-    c.loop-branch.branch c.loop-branch-test.true in
+    let here = branch_here _ c.in_ok-maps.ensures.maps c.deref-images-items.ensures.value _
+    c.loop-branch-test.true in
     omega (arith, here, c.requires.branches)
 
 -- a branch and its rows, as the second search takes them
@@ -118,24 +115,21 @@ module _ (c : After-index-rows) where
 
   stand : IsBranchMap (program entry) c.images-item.result
       (get_or (program entry).branches c.loop-branch.branch [])
-  stand = map_here (program entry) c.in_ok-maps.maps.items c.deref-images-items.result.now
-      c.in_ok-maps.ensures.maps c.deref-images-items.ensures.value c.loop-branch.branch
-      c.loop-branch-test.true c.images-item.result c.images-item.is
+  stand = map_here _ c.in_ok-maps.ensures.maps c.deref-images-items.ensures.value _
+      c.loop-branch-test.true c.images-item.is
 
   count : length c.images-item.result.items ≡ length (program entry).names
-  count = branch_count c.args.lp.now c.images-item.result.items _ stand
+  count = branch_count c.args.lp.now _ _ stand
 
   here : c.loop-branch.branch < length (program entry).branches
-  here = branch_here (program entry) c.in_ok-maps.maps.items c.deref-images-items.result.now
-      c.in_ok-maps.ensures.maps c.deref-images-items.ensures.value c.loop-branch.branch
-      c.loop-branch-test.true
+  here = branch_here _
+      c.in_ok-maps.ensures.maps c.deref-images-items.ensures.value _ c.loop-branch-test.true
 
   listed : c.loop-branch.branch < length (cert entry).steps
   listed = omega (arith, here, c.requires.branches, length-map c.args.steps.now.items rows_in)
 
   rows_are : rows_in c.index-rows.result.now ≡ get_or (cert entry).steps c.loop-branch.branch []
-  rows_are = rows_at c.args.steps.now (cert entry).steps refl c.loop-branch.branch
-      c.index-rows.result.now c.index-rows.ensures listed
+  rows_are = rows_at c.args.steps.now refl _ c.index-rows.result.now c.index-rows.ensures listed
 
 pub invariant_of-step : goal.invariant_of-step
 invariant_of-step c =
@@ -147,27 +141,24 @@ invariant_of-step c =
       over = fit.over;
       arity = fit.arity;
       square = square_over _ _ _ _ _ c.index-rows.result.now refl (count at)
-          (sym c.args.basis.now.ok.0)
-          (square_at _ _ c.loop-branch.branch c.args.steps.now.items c.index-rows.result.now
-          c.index-rows.ensures (inside c.args.steps.now (cert (entry at)).steps refl
-          c.loop-branch.branch (listed at)) c.requires.kept.squares);
+          (sym c.args.basis.now.ok.0) (square_at _ _ c.loop-branch.branch c.args.steps.now.items
+          c.index-rows.result.now c.index-rows.ensures (inside c.args.steps.now refl _ (listed at))
+          c.requires.kept.squares);
     }
 
 pub returns-in_err-test-clause-refused : goal.returns-in_err-test-clause-refused
 returns-in_err-test-clause-refused c =
     let at = (goal.at.returns-in_err-test-clause-refused c).After-index-rows in
-    passed_on _ _ _ c.from_residual-in_err-test.ensures.1
-    (step_long c.args.lp.now c.args.basis.now c.args.steps.now c.requires.kept
-    c.loop-branch.branch c.images-item.result.items (stand at) _ (rows_are at) (here at)
+    passed_on _ _ _ c.from_residual-in_err-test.ensures.1 (step_long c.args.lp.now c.args.basis.now
+    c.args.steps.now c.requires.kept _ _ (stand at) _ (rows_are at) (here at)
     (starts_hold (entry at) (search rules)) c.loop-branch.invariant.passed (free (entry at)) _
     c.in_err-test.ensures.limit)
 
 pub returns-in_err-element-2-clause-refused : goal.returns-in_err-element-2-clause-refused
 returns-in_err-element-2-clause-refused c =
     let at = (goal.at.returns-in_err-element-2-clause-refused c).After-index-rows in
-    passed_on _ _ _ c.from_residual-in_err-element-2.ensures.1
-    (step_refused c.args.lp.now c.args.basis.now c.args.steps.now c.requires.kept
-    c.loop-branch.branch c.images-item.result.items (stand at) _ (rows_are at) (here at)
+    passed_on _ _ _ c.from_residual-in_err-element-2.ensures.1 (step_refused c.args.lp.now
+    c.args.basis.now c.args.steps.now c.requires.kept _ _ (stand at) _ (rows_are at) (here at)
     (starts_hold (entry at) (search rules)) c.loop-branch.invariant.passed (free (entry at)) _
     c.in_err-element-2.ensures.stops)
 
@@ -182,17 +173,16 @@ module _ (c : In_ok-element-2) where
       (length (cert (entry behind)).basis) o
 
   steps_found : StepsAs c.in_ok-element-2.field-0
-  steps_found = step_found c.args.lp.now c.args.basis.now c.args.steps.now c.requires.kept
-      c.loop-branch.branch c.images-item.result.items (stand behind) _ (rows_are behind)
-      c.in_ok-element-2.field-0 c.in_ok-element-2.ensures.first
+  steps_found =
+      step_found c.args.lp.now c.args.basis.now c.args.steps.now c.requires.kept _ _ (stand behind)
+      _ (rows_are behind) c.in_ok-element-2.field-0 c.in_ok-element-2.ensures.first
 
   -- the identities of the branches so far aren't too long
   steps_are_short : (a : ℕ) → a < c.loop-branch.branch + 1
       → ShortStep (program (entry behind)) (cert (entry behind)) a
   steps_are_short = below_more (ShortStep (program (entry behind)) (cert (entry behind)))
-      c.loop-branch.branch c.loop-branch.invariant.short
-      (step_short c.args.lp.now c.args.basis.now c.args.steps.now c.requires.kept
-      c.loop-branch.branch c.images-item.result.items (stand behind) _ (rows_are behind)
+      c.loop-branch.branch c.loop-branch.invariant.short (step_short c.args.lp.now c.args.basis.now
+      c.args.steps.now c.requires.kept _ _ (stand behind) _ (rows_are behind)
       c.in_ok-test.ensures.few)
 
 pub returns-in-Some-2-clause-verdict : goal.returns-in-Some-2-clause-verdict
@@ -230,8 +220,7 @@ loop-branch-preserved c =
 
 pub returns-clause-verdict : goal.returns-clause-verdict
 returns-clause-verdict c =
-    let past = past_list c.in_ok-maps.maps.items c.deref-images-items.result.now
-    c.deref-images-items.ensures.value c.loop-branch.branch c.loop-branch-test.false in
+    let past = past_list _ _ c.deref-images-items.ensures.value _ c.loop-branch-test.false in
     let many = maps_count (program_of c.args.lp.now) c.in_ok-maps.maps.items
     c.in_ok-maps.ensures.maps in
     record {
@@ -241,8 +230,7 @@ returns-clause-verdict c =
 
 pub returns-clause-short : goal.returns-clause-short
 returns-clause-short c =
-    let past = past_list c.in_ok-maps.maps.items c.deref-images-items.result.now
-    c.deref-images-items.ensures.value c.loop-branch.branch c.loop-branch-test.false in
+    let past = past_list _ _ c.deref-images-items.ensures.value _ c.loop-branch-test.false in
     let many = maps_count (program_of c.args.lp.now) c.in_ok-maps.maps.items
     c.in_ok-maps.ensures.maps in (
       start_is_short (goal.at.returns-clause-short c).In_ok-element,
@@ -252,6 +240,5 @@ returns-clause-short c =
 pub returns-clause-valid : goal.returns-clause-valid
 returns-clause-valid c = λ same i l.
     let e = (goal.at.returns-clause-valid c).In_ok-element in
-    certificate_lists_invariants (program e) (cert e)
-    (kept_over (length (program e).names) c.args.basis.now c.args.steps.now c.requires.kept)
+    certificate_lists_invariants _ (cert e) (kept_over _ _ _ c.requires.kept)
     (returns-clause-verdict c) i l

@@ -10,7 +10,7 @@ returns-then-not-first c =
     let ns = c.args.numbers.now in
     let i = c.loop-i.i in
     let within : i < length (sizes ns) = omega (arith, c.loop-i-test.true, sizes_length ns) in
-    let at = size_at ns i c.index-numbers-i.result c.loop-i-test.true c.index-numbers-i.is in
+    let at = size_at ns i c.loop-i-test.true c.index-numbers-i.is in
     let tells = subst₂ (λ a bs. IsTrue c.is_first-first.result ↔ IsFirst a bs) at (rest_sizes ns i)
     c.is_first-first.ensures in (
       λ t. absurd (true≢false (sym t)),
@@ -23,7 +23,7 @@ loop-i-preserved c =
     let ns = c.args.numbers.now in
     let i = c.loop-i.i in
     let within : i < length (sizes ns) = omega (arith, c.loop-i-test.true, sizes_length ns) in
-    let at = size_at ns i c.index-numbers-i.result c.loop-i-test.true c.index-numbers-i.is in
+    let at = size_at ns i c.loop-i-test.true c.index-numbers-i.is in
     let tells = subst₂ (λ a bs. IsTrue c.is_first-first.result ↔ IsFirst a bs) at (rest_sizes ns i)
     c.is_first-first.ensures in
     from_more IsCoprimeBase IsFirst base_cons (sizes ns) i 0 within c.loop-i.invariant
@@ -32,6 +32,6 @@ loop-i-preserved c =
 pub returns : goal.returns
 returns c =
     let ns = c.args.numbers.now in
-    let all = from_end IsCoprimeBase IsFirst base_cons (sizes ns) no_base c.loop-i.i
+    let all = from_end IsCoprimeBase IsFirst base_cons (sizes ns) no_base
     (omega (arith, c.loop-i-test.false, sizes_length ns)) c.loop-i.invariant in
     (λ t. all, λ h. refl)

@@ -28,8 +28,7 @@ loop-place-init c =
       within = omega arith;
       passes = λ j l. absurd (omega (arith, l));
       backs = ap terms_each c.new-found.ensures.items;
-      over = All-same (IsInVariables w) c.new-found.result.items [] c.new-found.ensures.items
-          (All-nil (IsInVariables w));
+      over = All-same (IsInVariables w) _ [] c.new-found.ensures.items (All-nil (IsInVariables w));
     }
 
 pub returns-in_err-next-clause-wide : goal.returns-in_err-next-clause-wide
@@ -86,9 +85,8 @@ loop-place-preserved c =
       passes = below_more (PassesAt bs images ps) i c.loop-place.invariant.passes yes.0;
       backs = ap terms_each items ∙ map-append terms_in c.loop-place.found.items _
           ∙ ap₂ (λ xs x. xs ++ x ∷ []) c.loop-place.invariant.backs yes.1.0
-          ∙ sym (take_next b ps i (get_or ps i []) inside (get_or_default ps i [] _ inside));
-      over = have_more (IsInVariables w) c.loop-place.found.items c.push.new.self.items _ items
-          c.loop-place.invariant.over yes.1.1;
+          ∙ sym (take_next b ps i _ inside (get_or_default ps i [] _ inside));
+      over = have_more (IsInVariables w) _ _ _ items c.loop-place.invariant.over yes.1.1;
     }
 
 pub returns-clause-passes : goal.returns-clause-passes
@@ -110,7 +108,7 @@ returns-clause-passes c =
           (λ j l. c.loop-place.invariant.passes j (omega (arith, l, last)))),
       (
         c.loop-place.invariant.backs
-            ∙ ap (map (inverse_form grevlex (length bs))) (take_all c.loop-place.place ps last),
+            ∙ ap (map (inverse_form grevlex (length bs))) (take_all _ ps last),
         c.loop-place.invariant.over,
         base,
       ),

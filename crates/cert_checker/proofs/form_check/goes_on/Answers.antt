@@ -44,22 +44,17 @@ returns-clause-holds c =
     (omega (arith, c.requires.some, c.requires.count)) in
     let wide : moved.arity ≡ w = is.arity ∙ first in
     let room : width (length bs) 0 ≤ moved.arity = omega (arith, wide) in
-    let left = normal_same bs moved (compose ℚ w (terms_in c.args.image.now) (terms_each ps))
-    c.in_ok-normal.normal room
-    (subst (λ (v : Vec Whole Global). IsExpo (sizes v.items) (vars_of (sizes v.items) moved.arity)
+    let left = normal_same bs moved _ c.in_ok-normal.normal room (subst (λ (v : Vec Whole Global).
+    IsExpo (sizes v.items) (vars_of (sizes v.items) moved.arity)
     (normal_of (sizes v.items) (terms_in moved)) c.in_ok-normal.normal) c.base.ensures
-    c.in_ok-normal.ensures.normal)
-    (subst (λ n. Same ℚ (terms_in moved) (compose ℚ n (terms_in c.args.image.now) (terms_each ps)))
-    first is.same) in
+    c.in_ok-normal.ensures.normal) (subst (λ n. Same ℚ (terms_in moved)
+    (compose ℚ n (terms_in c.args.image.now) (terms_each ps))) first is.same) in
     let right = next_same bs c.args.image.now.arity c.args.e.now c.in_ok-next.next
     refl c.requires.vars c.in_ok-next.ensures.shifted in
     let one = c.body.ensures in
     let other = c.body-2.ensures in
-    same_tells (terms_in c.body.result.now) (terms_in c.body-2.result.now) _ _
-    c.eq.result
-    (c.eq.ensures.decides refl
-    (ap (λ p. p.arity) one ∙ left.0 ∙ wide ∙ sym right.0 ∙ sym (ap (λ p. p.arity) other)))
-    (subst (λ p. Same ℚ (terms_in p) (with_normal_keys (length bs)
-    (compose ℚ w (terms_in c.args.image.now) (terms_each ps)))) (sym one) left.1)
-    (subst (λ p. Same ℚ (terms_in p) (compose ℚ w (terms_in c.args.e.now.body)
+    same_tells _ _ c.eq.result (c.eq.ensures.decides refl (ap (λ p. p.arity) one ∙ left.0 ∙ wide
+    ∙ sym right.0 ∙ sym (ap (λ p. p.arity) other))) (subst (λ p. Same ℚ (terms_in p)
+    (with_normal_keys (length bs) (compose ℚ w (terms_in c.args.image.now) (terms_each ps))))
+    (sym one) left.1) (subst (λ p. Same ℚ (terms_in p) (compose ℚ w (terms_in c.args.e.now.body)
     (next_images bs c.args.image.now.arity))) (sym other) right.1)

@@ -21,22 +21,20 @@ kept c = subst (IsExpoWhereNormal (sizes c.args.base.now.items) c.index.result.n
     c.in_ok-e.ensures.normal
 
 vars : (c : In-Some) → c.in-Some.e.vars ≡ length (terms_each c.args.images.now.items)
-vars c = kept_vars (sizes c.args.base.now.items) (length c.args.images.now.items)
+vars c = kept_vars (sizes c.args.base.now.items) _
     c.args.polys.now.items c.args.place c.index.result.now c.in-Some.e
     (let n = c.requires.fits.count in omega (arith, c.requires.place, n)) c.index.ensures
     c.requires.fits.over_width (kept c) ∙ sym (length-map c.args.images.now.items terms_in)
 
 body : (c : In-Some) → terms_in c.in-Some.e.body
     ≡ get_or (terms_each c.args.polys.now.items) c.args.place []
-body c = (kept c).terms ∙ seen_at terms_in c.args.polys.now.items c.args.place c.index.result.now
+body c = (kept c).terms ∙ seen_at terms_in c.args.polys.now.items c.args.place
     (let n = c.requires.fits.count in omega (arith, c.requires.place, n)) c.index.ensures
 
 pub returns-then-not-begins-clause-passes : goal.returns-then-not-begins-clause-passes
 returns-then-not-begins-clause-passes c =
     let at = (goal.at.returns-then-not-begins-clause-passes c).In-Some in
-    let tells = start_tells (sizes c.args.base.now.items)
-    (length (terms_each c.args.images.now.items)) c.in-Some.e.vars
-    (sizes c.in-Some.e.base.items) (terms_in c.in-Some.e.body) _ c.args.place c.in_ok-begins.begins
+    let tells = start_tells _ _ _ c.args.place
     (vars at) (kept at).base (body at) c.in_ok-begins.ensures.holds in
     λ h. true≢false (sym (tells.1 h.at_zero) ∙ c.if-not-begins.true)
 
@@ -45,29 +43,21 @@ returns-in_err-follows-clause-wide c =
     let at = (goal.at.returns-in_err-follows-clause-wide c).In-Some in
     let p = err_from_is_err_and c.from_residual-in_err-follows.result
     c.from_residual-in_err-follows.ensures.1 in
-    λ w. next_past (sizes c.args.base.now.items) (length c.args.images.now.items)
-    c.index-2.result.now.arity (sizes c.in-Some.e.base.items) (terms_each c.args.images.now.items)
-    (terms_each c.args.polys.now.items) c.args.place (terms_in c.index-2.result.now)
-    (terms_in c.in-Some.e.body)
+    λ w. next_past _ _ c.index-2.result.now.arity _ _ c.args.place (terms_in c.in-Some.e.body)
     (subst (IsInVariables (length c.args.images.now.items)) (sym c.index-2.ensures)
     (c.requires.fits.over_variables c.args.place c.index-2.result.now c.requires.place))
-    (kept at).base (sym (length-map c.args.images.now.items terms_in))
-    (seen_at terms_in c.args.images.now.items c.args.place c.index-2.result.now c.requires.place
-    c.index-2.ensures) (body at) (c.in_err-follows.ensures.wide (cc (p.1, p.2, w)))
+    (kept at).base (sym (length-map c.args.images.now.items terms_in)) (seen_at terms_in
+    c.args.images.now.items c.args.place c.requires.place c.index-2.ensures) (body at)
+    (c.in_err-follows.ensures.wide (cc (p.1, p.2, w)))
 
 pub returns-then-not-follows-clause-passes : goal.returns-then-not-follows-clause-passes
 returns-then-not-follows-clause-passes c =
     let at = (goal.at.returns-then-not-follows-clause-passes c).In-Some in
-    let tells = next_tells (sizes c.args.base.now.items)
-    (length (terms_each c.args.images.now.items)) c.index-2.result.now.arity
-    (sizes c.in-Some.e.base.items) (terms_each c.args.polys.now.items)
-    (terms_in c.index-2.result.now) _
-    (terms_in c.in-Some.e.body) _ c.in_ok-follows.follows
-    (subst (IsInVariables (length c.args.images.now.items)) (sym c.index-2.ensures)
-    (c.requires.fits.over_variables c.args.place c.index-2.result.now c.requires.place)
-    ∙ sym (length-map c.args.images.now.items terms_in)) (kept at).base
-    (seen_at terms_in c.args.images.now.items c.args.place c.index-2.result.now c.requires.place
-    c.index-2.ensures) (body at) c.in_ok-follows.ensures.holds in
+    let tells = next_tells _ _ _ _ _ (subst (IsInVariables (length c.args.images.now.items))
+    (sym c.index-2.ensures) (c.requires.fits.over_variables c.args.place c.index-2.result.now
+    c.requires.place) ∙ sym (length-map c.args.images.now.items terms_in)) (kept at).base
+    (seen_at terms_in c.args.images.now.items c.args.place c.requires.place c.index-2.ensures)
+    (body at) c.in_ok-follows.ensures.holds in
     λ h. true≢false (sym (tells.1 h.goes_on) ∙ c.if-not-follows.true)
 
 pub returns-clause-passes : goal.returns-clause-passes
@@ -75,17 +65,13 @@ returns-clause-passes c =
     let at = (goal.at.returns-clause-passes c).In-Some in
     let bs = sizes c.args.base.now.items in
     let m = length (terms_each c.args.images.now.items) in
-    let starts = start_tells bs m c.in-Some.e.vars (sizes c.in-Some.e.base.items)
-    (terms_in c.in-Some.e.body) _ c.args.place c.in_ok-begins.begins (vars at) (kept at).base
+    let starts = start_tells bs m _ c.args.place (vars at) (kept at).base
     (body at) c.in_ok-begins.ensures.holds in
-    let follows = next_tells bs m c.index-2.result.now.arity (sizes c.in-Some.e.base.items)
-    (terms_each c.args.polys.now.items)
-    (terms_in c.index-2.result.now) _ (terms_in c.in-Some.e.body) _ c.in_ok-follows.follows
-    (subst (IsInVariables (length c.args.images.now.items)) (sym c.index-2.ensures)
-    (c.requires.fits.over_variables c.args.place c.index-2.result.now c.requires.place)
-    ∙ sym (length-map c.args.images.now.items terms_in)) (kept at).base
-    (seen_at terms_in c.args.images.now.items c.args.place c.index-2.result.now c.requires.place
-    c.index-2.ensures) (body at) c.in_ok-follows.ensures.holds in
+    let follows = next_tells bs m _ _ _ (subst (IsInVariables (length c.args.images.now.items))
+    (sym c.index-2.ensures) (c.requires.fits.over_variables c.args.place c.index-2.result.now
+    c.requires.place) ∙ sym (length-map c.args.images.now.items terms_in)) (kept at).base
+    (seen_at terms_in c.args.images.now.items c.args.place c.requires.place c.index-2.ensures)
+    (body at) c.in_ok-follows.ensures.holds in
     let is = c.in_ok-inverse_form.ensures.inverse_form in (
       record {
         normal = subst (IsNormal bs) (sym (kept at).terms ∙ body at) (kept at).normal;

@@ -12,7 +12,6 @@ use Rattle.task_lists.specs.View.{full_of}
 use Rattle.cert_checker.proofs.FullOver.{full_over}
 use Rattle.cert_checker.specs.Further.{further_parts}
 use Rattle.cert_checker.specs.Parts.{part_of}
-use Rattle.cert_checker.specs.Paths.{path_of}
 use Rattle.cert_checker.specs.FullStops.{IsStop}
 use Rattle.cert_checker.specs.FullWide.{IsPastPart}
 use Rattle.cert_checker.proofs.Kept.{kept_of}
@@ -27,8 +26,7 @@ valid c = subst (λ v. IsVerdict (program_of c.args.lp.now)
     c.in-Ok-Valid.ensures.verdict
 
 pub judge-requires-clause-kept : goal.judge-requires-clause-kept
-judge-requires-clause-kept c = kept_of (program_of c.args.lp.now) c.args.cert.now
-    c.requires.images c.requires.counted
+judge-requires-clause-kept c = kept_of c.args.cert.now c.requires.images c.requires.counted
 
 pub returns-in-Ok-StartFails-clause-verdict : goal.returns-in-Ok-StartFails-clause-verdict
 returns-in-Ok-StartFails-clause-verdict c =
@@ -71,7 +69,7 @@ returns-in-Ok-StepFails-clause-few c =
     c.fails-in-Ok-StepFails.ensures.fails
 
 pub returns-in-Err-clause-refused : goal.returns-in-Err-clause-refused
-returns-in-Err-clause-refused c = refusal (program_of c.args.lp.now) (full_of c.args.cert.now)
+returns-in-Err-clause-refused c = refusal _ _
     c.in-Err.error c.refused.result c.in-Err.ensures.refused c.refused.ensures
 
 pub first_long_part-requires : goal.first_long_part-requires
@@ -90,10 +88,9 @@ returns-in-Some-clause-refused c =
     let program = program_of c.args.lp.now in
     let cert = full_of c.args.cert.now in
     let part = part_of c.in-Some.part in
-    limit_refused program cert (path_of part) c.limit.result c.in-Ok-Valid.ensures.free
-    (long_part program cert part (valid (goal.at.returns-in-Some-clause-refused c).In-Ok-Valid)
-    (MatchOption-at_some _ _ c.in-Some.part c.in-Some.is c.first_long_part.ensures))
-    c.limit.ensures
+    limit_refused program cert c.limit.result c.in-Ok-Valid.ensures.free (long_part program cert
+    part (valid (goal.at.returns-in-Some-clause-refused c).In-Ok-Valid) (MatchOption-at_some _ _ _
+    c.in-Some.is c.first_long_part.ensures)) c.limit.ensures
 
 pub judge_behind-requires : goal.judge_behind-requires
 judge_behind-requires c =
@@ -107,8 +104,7 @@ judge_behind-requires c =
     }
 
 pub returns-in-Ok-judge_behind-clause-verdict : goal.returns-in-Ok-judge_behind-clause-verdict
-returns-in-Ok-judge_behind-clause-verdict c = all_hold (program_of c.args.lp.now)
-    (full_of c.args.cert.now)
+returns-in-Ok-judge_behind-clause-verdict c = all_hold _ _
     (valid (goal.at.returns-in-Ok-judge_behind-clause-verdict c).In-Ok-Valid)
     c.in-Ok-judge_behind.ensures.holds
 
@@ -128,12 +124,10 @@ returns-in-Err-Fails-clause-verdict c =
     let cert = full_of c.args.cert.now in
     let part = part_of c.in-Err-Fails.part in
     IfOk-weaker c.fails-in-Err-Fails.result _ _ (λ v is. failing_verdict program cert part
-    (first_of program cert part
-    (further_behind program cert
+    (first_of program cert (further_behind program cert
     (valid (goal.at.returns-in-Err-Fails-clause-verdict c).In-Ok-Valid) part
-    (Holds program cert part
-    → ⊥) (subst (IsStop part_of (Holds program cert) (IsPastPart program cert)
-    (further_parts program cert)) c.in-Err-Fails.field-0-is
+    (Holds program cert part → ⊥) (subst (IsStop part_of (Holds program cert)
+    (IsPastPart program cert) (further_parts program cert)) c.in-Err-Fails.field-0-is
     c.in-Err-Fails.ensures.stops))) v is) c.fails-in-Err-Fails.ensures.fails
 
 pub returns-in-Err-Wide-clause-refused : goal.returns-in-Err-Wide-clause-refused
@@ -141,11 +135,8 @@ returns-in-Err-Wide-clause-refused c =
     let program = program_of c.args.lp.now in
     let cert = full_of c.args.cert.now in
     let part = part_of c.in-Err-Wide.part in
-    wide_refused program cert (path_of part) c.wide.result c.in-Ok-Valid.ensures.free
-    (wide_of program cert part
-    (further_behind program cert
-    (valid (goal.at.returns-in-Err-Wide-clause-refused c).In-Ok-Valid) part
-    (IsPastPart program cert part)
-    (subst (IsStop part_of (Holds program cert) (IsPastPart program cert)
-    (further_parts program cert)) c.in-Err-Wide.field-0-is
+    wide_refused program cert c.wide.result c.in-Ok-Valid.ensures.free (wide_of program cert part
+    (further_behind program cert (valid (goal.at.returns-in-Err-Wide-clause-refused c).In-Ok-Valid)
+    part (IsPastPart program cert part) (subst (IsStop part_of (Holds program cert)
+    (IsPastPart program cert) (further_parts program cert)) c.in-Err-Wide.field-0-is
     c.in-Err-Wide.ensures.stops))) c.wide.ensures

@@ -5,12 +5,9 @@ use Rattle.cert_checker.proofs.IdentityLaws.{composed_stands, composed_arities}
 use Rattle.cert_checker.proofs.identity.start_holds.Goals as goal
 
 pub compose-requires-clause-arities : goal.compose-requires-clause-arities
-compose-requires-clause-arities c = composed_arities c.args.images.now.items c.requires.some
-    c.requires.images
+compose-requires-clause-arities c = composed_arities _ c.requires.some c.requires.images
 
 pub returns-clause-holds : goal.returns-clause-holds
-returns-clause-holds c = zero_tells fractions_ring _ c.in_ok-compose.field-0 grevlex_order _
-    c.is_zero.result
-    (composed_stands c.args.images.now.items c.args.element.now c.in_ok-compose.field-0 _
-    c.requires.some c.requires.images c.in_ok-compose.ensures.composition)
-    c.is_zero.ensures
+returns-clause-holds c = zero_tells fractions_ring _ c.in_ok-compose.field-0 grevlex_order _ _
+    (composed_stands _ c.args.element.now _ c.requires.some c.requires.images
+    c.in_ok-compose.ensures.composition) c.is_zero.ensures

@@ -22,9 +22,8 @@ same c =
     let count : length c.args.cert.now.certificate.steps ≡ length c.branches.result.now =
     c.requires.branches ∙ ap length (sym c.branches.ensures.branches)
     ∙ length-map c.branches.result.now _ in
-    same_in_file (program_of c.args.lp.now).names c.names.result.now c.names-2.result.now
-    (length c.branches.result.now) (string_bytes c.in-Ok.text) c.as_bytes.result.now
-    c.in-Ok-read_cert.kept.certificate c.args.cert.now.certificate
+    same_in_file c.names.result.now c.names-2.result.now (length c.branches.result.now)
+    (string_bytes c.in-Ok.text) c.as_bytes.result.now c.args.cert.now.certificate
     c.names.ensures.names c.names-2.ensures.names count c.as_bytes.ensures.value
     (c.in-Ok.ensures.read_back c.requires.few) c.in-Ok-read_cert.ensures.ok
 

@@ -16,12 +16,11 @@ terms_of_element c = start_terms (polys_in c.args.basis.now) (polys_in c.args.im
 counted : (c : After-with_start) → IsCount (c.loop-i.before + terms_of_element c c.loop-i.i)
     c.with_start.result
 counted c =
-    start_counted (length c.args.images.now.items) c.args.basis.now.items
-    c.args.images.now.items _ c.deref-element-items.ensures.value c.loop-i.i
-    c.element-item.result c.loop-i-test.true c.element-item.is c.loop-i.before
-    c.with_start.result
-    (subst (λ q. IsCount (c.loop-i.before + composition_terms (terms_in c.element-item.result)
-    (terms_each q)) c.with_start.result) c.deref.ensures.value c.with_start.ensures)
+    start_counted (length c.args.images.now.items) c.args.images.now.items _
+    c.deref-element-items.ensures.value c.loop-i.i c.loop-i-test.true c.element-item.is
+    c.loop-i.before c.with_start.result (subst (λ q. IsCount (c.loop-i.before + composition_terms
+    (terms_in c.element-item.result) (terms_each q)) c.with_start.result) c.deref.ensures.value
+    c.with_start.ensures)
 
 pub loop-i-init : goal.loop-i-init
 loop-i-init c = record {
@@ -35,24 +34,20 @@ returns-in-None-clause-limit c =
     let at = (goal.at.returns-in-None-clause-limit c).After-with_start in (
       refl,
       long_here (terms_of_element at) (length c.args.basis.now.items) c.loop-i.i
-          c.loop-i.before c.with_start.result c.loop-i.invariant.is c.loop-i.invariant.few
-          (counted at)
-          (none_none c.with_start.result c.in-None.is)
-          (in_list _ _ c.deref-element-items.ensures.value _ c.loop-i-test.true),
+          c.loop-i.invariant.is c.loop-i.invariant.few
+          (counted at) (none_none c.in-None.is) (in_list _ _ c.deref-element-items.ensures.value _
+          c.loop-i-test.true),
     )
 
 pub loop-i-preserved : goal.loop-i-preserved
 loop-i-preserved c =
     let at = (goal.at.loop-i-preserved c).After-with_start in
     let more = more_counted (terms_of_element at) (length c.args.basis.now.items) c.loop-i.i
-    c.loop-i.before c.with_start.result c.loop-i.invariant.is c.loop-i.invariant.few (counted at)
-    c.in-Some.terms c.in-Some.is in
+    c.loop-i.invariant.is c.loop-i.invariant.few (counted at) c.in-Some.terms c.in-Some.is in
     record { is = more.0; few = more.1 }
 
 pub returns-clause-few : goal.returns-clause-few
 returns-clause-few c =
-    all_counted (start_terms (polys_in c.args.basis.now) (polys_in c.args.images.now))
-    (length c.args.basis.now.items) c.loop-i.i c.loop-i.before
-    (past_list c.args.basis.now.items c.deref-element-items.result.now
-    c.deref-element-items.ensures.value c.loop-i.i c.loop-i-test.false) c.loop-i.invariant.is
-    c.loop-i.invariant.few
+    all_counted (start_terms (polys_in c.args.basis.now) (polys_in c.args.images.now)) _ c.loop-i.i
+    (past_list _ _ c.deref-element-items.ensures.value c.loop-i.i c.loop-i-test.false)
+    c.loop-i.invariant.is c.loop-i.invariant.few

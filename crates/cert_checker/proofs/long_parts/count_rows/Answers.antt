@@ -18,10 +18,8 @@ module _ (g : Over) (c : After-with_row g) where
 
   row : terms_each c.deref.result.now ≡ get_or (rows_of c.args.rows.now.items) c.loop-i.i []
   row = ap terms_each c.deref.ensures.value
-      ∙ ap (λ r. terms_each r.items)
-      (item_of _ _ c.deref-row-items.ensures.value _ c.row-item.result c.row-item.is)
-      ∙ sym (get_or-map (λ r. terms_each r.items) c.args.rows.now.items c.loop-i.i
-      c.row-item.result [] within)
+      ∙ ap (λ r. terms_each r.items) (item_of _ _ c.deref-row-items.ensures.value _ _ c.row-item.is)
+      ∙ sym (get_or-map (λ r. terms_each r.items) _ c.loop-i.i c.row-item.result [] within)
 
   -- the count of the row, of the certificate's lists
   counted : IsCount (c.loop-i.terms + row_terms (terms_each c.args.list.now)
@@ -35,14 +33,12 @@ module _ (g : Over) (c : After-with_row g) where
 pub returns-in-None-clause-beyond : goal.returns-in-None-clause-beyond
 returns-in-None-clause-beyond g c =
     let at = (goal.at.returns-in-None-clause-beyond g c).After-with_row in
-    number_beyond _ c.args.before c.loop-i.terms c.loop-i.i c.loop-i.invariant c.with_row.result
-    (counted g at) _
+    number_beyond _ c.args.before c.loop-i.i c.loop-i.invariant (counted g at) _
     (let n = length-map c.args.rows.now.items (λ r. terms_each r.items) in
-    let l = within g at in omega (arith, n, l))
-    (none_none c.with_row.result c.in-None.is)
+    let l = within g at in omega (arith, n, l)) (none_none c.in-None.is)
 
 pub loop-i-preserved : goal.loop-i-preserved
 loop-i-preserved g c =
     let at = (goal.at.loop-i-preserved g c).After-with_row in
-    number_next _ c.args.before c.loop-i.terms c.loop-i.i c.loop-i.invariant c.with_row.result
+    number_next _ c.args.before c.loop-i.i c.loop-i.invariant
     (counted g at) c.in-Some.more c.in-Some.is

@@ -8,19 +8,15 @@ loop-i-init c = below_none _
 
 pub returns-in-Ok-false-clause-first : goal.returns-in-Ok-false-clause-first
 returns-in-Ok-false-clause-first c =
-    failed_here _ (length c.args.basis.now.items) c.loop-i.i c.in-Ok-false.field-0
-    c.loop-i.invariant
-    (start_at _ c.args.basis.now.items c.args.images.now.items _ c.deref-element-items.ensures.value
-    c.loop-i.i c.element-item.result c.loop-i-test.true c.element-item.is
-    c.in-Ok-false.field-0 c.in-Ok-false.ensures.holds)
-    (in_list _ _ c.deref-element-items.ensures.value _ c.loop-i-test.true)
-    c.in-Ok-false.field-0-test
+    failed_here _ (length c.args.basis.now.items) c.loop-i.invariant (start_at _
+    c.args.images.now.items _ c.deref-element-items.ensures.value c.loop-i.i c.loop-i-test.true
+    c.element-item.is c.in-Ok-false.ensures.holds) (in_list _ _ c.deref-element-items.ensures.value
+    _ c.loop-i-test.true) c.in-Ok-false.field-0-test
 
 pub returns-in-Err-Wide-clause-stops : goal.returns-in-Err-Wide-clause-stops
 returns-in-Err-Wide-clause-stops c =
-    let cause = start_past (length c.args.images.now.items) c.args.basis.now.items
-    c.args.images.now.items _ c.deref-element-items.ensures.value c.loop-i.i
-    c.element-item.result c.loop-i-test.true c.element-item.is
+    let cause = start_past (length c.args.images.now.items) c.args.images.now.items _
+    c.deref-element-items.ensures.value c.loop-i.i c.loop-i-test.true c.element-item.is
     (c.in-Err-Wide.ensures.wide (ap Err c.in-Err-Wide.field-0-is)) in (
       refl,
       record {
@@ -32,12 +28,11 @@ returns-in-Err-Wide-clause-stops c =
 
 pub loop-i-preserved : goal.loop-i-preserved
 loop-i-preserved c =
-    kept_more _ (length c.args.basis.now.items) c.loop-i.i c.in-Ok-true.field-0 c.loop-i.invariant
-    (start_at _ c.args.basis.now.items c.args.images.now.items _ c.deref-element-items.ensures.value
-    c.loop-i.i c.element-item.result c.loop-i-test.true c.element-item.is c.in-Ok-true.field-0
-    c.in-Ok-true.ensures.holds) c.in-Ok-true.field-0-test
+    kept_more _ (length c.args.basis.now.items) c.loop-i.invariant (start_at _
+    c.args.images.now.items _ c.deref-element-items.ensures.value c.loop-i.i c.loop-i-test.true
+    c.element-item.is c.in-Ok-true.ensures.holds) c.in-Ok-true.field-0-test
 
 pub returns-clause-first : goal.returns-clause-first
 returns-clause-first c =
-    all_kept _ _ c.loop-i.i (past_list c.args.basis.now.items c.deref-element-items.result.now
+    all_kept _ _ c.loop-i.i (past_list _ _
     c.deref-element-items.ensures.value c.loop-i.i c.loop-i-test.false) c.loop-i.invariant

@@ -49,15 +49,11 @@ module _ (c : In-Ok) where
   orbit_total : IsTotal (terms_by (j then)) c.args.before
       (stage_by (j then) c.args.round c.args.branch orbit) c.in-Ok.terms
   orbit_total = total_map (terms_by (j then))
-      (in_round c.args.round c.args.branch orbit) c.args.before c.in-Ok.terms
-      (places (front_of (cert_by (j then)) c.args.branch orbit)
-      (starting (program_by (j then)) (cert_by (j then)) c.args.round c.args.branch orbit)
-      (stage_of (cert_by (j then)) c.args.round c.args.branch orbit))
+      (in_round c.args.round c.args.branch orbit) c.args.before (places (front_of (cert_by (j then))
+      c.args.branch orbit) (starting (program_by (j then)) (cert_by (j then)) c.args.round
+      c.args.branch orbit) (stage_of (cert_by (j then)) c.args.round c.args.branch orbit))
       (as_stage (λ terms ps. IsTotal terms c.args.before ps c.in-Ok.terms) _ _ _ _ _ _
-      (list_is then) (polys_is then) (stage_is then) c.in-Ok.ensures.total
-      (front_of (cert_by (j then)) c.args.branch orbit)
-      (starting (program_by (j then)) (cert_by (j then)) c.args.round c.args.branch orbit)
-      (orbit_counts then))
+      (list_is then) (polys_is then) (stage_is then) c.in-Ok.ensures.total _ (orbit_counts then))
 
 -- the intersection, of a later branch
 module _ (c : In-Some) where
@@ -94,13 +90,10 @@ returns-in-Err-clause-beyond c =
     let full = cert_by c.args.self.now in
     let r = c.args.round in
     let b = c.args.branch in
-    orbit_beyond program full r b c.args.before (in_round r b orbit (place_of c.in-Err.place))
-    (beyond_map (terms_by (j e)) (in_round r b orbit) c.args.before
-    (places (front_of full b orbit) (starting program full r b orbit) (stage_of full r b orbit))
-    (place_of c.in-Err.place)
-    (as_stage (λ terms ps. IsFirstBeyond terms c.args.before ps (place_of c.in-Err.place))
-    _ _ _ _ _ _ (list_is e) (polys_is e) (stage_is e) c.in-Err.ensures.beyond
-    (front_of full b orbit) (starting program full r b orbit) (orbit_counts e)))
+    orbit_beyond program full r b c.args.before (beyond_map (terms_by (j e)) (in_round r b orbit)
+    (place_of c.in-Err.place) (as_stage (λ terms ps. IsFirstBeyond terms c.args.before ps
+    (place_of c.in-Err.place)) _ _ _ _ _ _ (list_is e) (polys_is e) (stage_is e)
+    c.in-Err.ensures.beyond _ (orbit_counts e)))
 
 pub returns-in_default-clause-total : goal.returns-in_default-clause-total
 returns-in_default-clause-total c =
@@ -125,13 +118,11 @@ returns-in-Ok-count_stage-clause-total c =
     let full = cert_by c.args.self.now in
     let r = c.args.round in
     let b = c.args.branch in
-    both_total program full r b c.args.before c.in-Ok.terms c.in-Ok-count_stage.terms
-    (later s) (orbit_total (done s))
-    (total_map (terms_by (own s)) (in_round r b meet) c.in-Ok.terms c.in-Ok-count_stage.terms
-    (places 1 (starting program full r b meet) (stage_of full r b meet))
-    (as_stage (λ terms ps. IsTotal terms c.in-Ok.terms ps c.in-Ok-count_stage.terms) [] [] [] [] _ _
-    refl refl (met s) c.in-Ok-count_stage.ensures.total 1
-    (starting program full r b meet) (meet_counts s)))
+    both_total program full r b c.args.before c.in-Ok.terms c.in-Ok-count_stage.terms (later s)
+    (orbit_total (done s)) (total_map (terms_by (own s)) (in_round r b meet) c.in-Ok.terms (places 1
+    (starting program full r b meet) (stage_of full r b meet)) (as_stage (λ terms ps. IsTotal terms
+    c.in-Ok.terms ps c.in-Ok-count_stage.terms) [] [] [] [] _ _ refl refl (met s)
+    c.in-Ok-count_stage.ensures.total _ (meet_counts s)))
 
 pub returns-in-Err-count_stage-clause-beyond : goal.returns-in-Err-count_stage-clause-beyond
 returns-in-Err-count_stage-clause-beyond c =
@@ -141,10 +132,7 @@ returns-in-Err-count_stage-clause-beyond c =
     let r = c.args.round in
     let b = c.args.branch in
     let place = place_of c.in-Err-count_stage.place in
-    meet_beyond program full r b c.args.before c.in-Ok.terms (in_round r b meet place)
-    (later s) (orbit_total (done s))
-    (beyond_map (terms_by (own s)) (in_round r b meet) c.in-Ok.terms
-    (places 1 (starting program full r b meet) (stage_of full r b meet)) place
-    (as_stage (λ terms ps. IsFirstBeyond terms c.in-Ok.terms ps place) [] [] [] [] _ _
-    refl refl (met s) c.in-Err-count_stage.ensures.beyond 1
-    (starting program full r b meet) (meet_counts s)))
+    meet_beyond program full r b c.args.before c.in-Ok.terms (in_round r b meet place) (later s)
+    (orbit_total (done s)) (beyond_map (terms_by (own s)) (in_round r b meet) place
+    (as_stage (λ terms ps. IsFirstBeyond terms c.in-Ok.terms ps place) [] [] [] [] _ _ refl refl
+    (met s) c.in-Err-count_stage.ensures.beyond _ (meet_counts s)))

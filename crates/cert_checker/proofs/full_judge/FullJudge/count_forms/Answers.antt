@@ -21,9 +21,9 @@ use Rattle.cert_checker.proofs.full_judge.FullJudge.count_forms.Goals.{After-der
 -- the branch of this number has a form
 module _ (c : After-deref) where
   here : c.loop-branch.branch < length (program_by c.args.self.now).branches
-  here = branch_here (program_by c.args.self.now) c.args.self.now.maps.items
-      c.deref-images-items.result.now c.requires.judge.maps c.deref-images-items.ensures.value
-      c.loop-branch.branch c.loop-branch-test.true
+  here =
+      branch_here _ c.requires.judge.maps c.deref-images-items.ensures.value _
+      c.loop-branch-test.true
 
 -- what is counted of it
 module _ (c : After-with_form) where
@@ -35,11 +35,9 @@ module _ (c : After-with_form) where
 
   map_is : terms_each c.deref.result.now ≡ map_of program (suc c.loop-branch.branch)
   map_is = ap terms_each c.deref.ensures.value
-      ∙ counts.map_is program c.loop-branch.branch c.images-item.result
-      (map_here program c.args.self.now.maps.items c.deref-images-items.result.now
-      c.requires.judge.maps
-      c.deref-images-items.ensures.value c.loop-branch.branch c.loop-branch-test.true
-      c.images-item.result c.images-item.is)
+      ∙ counts.map_is program c.loop-branch.branch c.images-item.result (map_here program
+      c.requires.judge.maps c.deref-images-items.ensures.value _ c.loop-branch-test.true
+      c.images-item.is)
 
   polys_is : terms_each c.deref-in-loop-branch.result.now
       ≡ (form_of (cert_by c.args.self.now) c.loop-branch.branch).polys
@@ -60,20 +58,19 @@ index-requires c =
 pub returns-in-None-clause-beyond : goal.returns-in-None-clause-beyond
 returns-in-None-clause-beyond c =
     let e = (goal.at.returns-in-None-clause-beyond c).After-with_form in
-    number_beyond _ 0 c.loop-branch.terms c.loop-branch.branch c.loop-branch.invariant
-    c.with_form.result (counted e) _ (here (at_deref e))
-    (none_none c.with_form.result c.in-None.is)
+    number_beyond _ 0 c.loop-branch.branch c.loop-branch.invariant (counted e) _ (here (at_deref e))
+    (none_none c.in-None.is)
 
 pub loop-branch-preserved : goal.loop-branch-preserved
 loop-branch-preserved c =
     let e = (goal.at.loop-branch-preserved c).After-with_form in
-    number_next _ 0 c.loop-branch.terms c.loop-branch.branch c.loop-branch.invariant
-    c.with_form.result (counted e) c.in-Some.more c.in-Some.is
+    number_next _ 0 c.loop-branch.branch c.loop-branch.invariant (counted e) c.in-Some.more
+    c.in-Some.is
 
 pub returns-clause-total : goal.returns-clause-total
 returns-clause-total c =
     let program = program_by c.args.self.now in
-    let n = maps_count program c.args.self.now.maps.items c.requires.judge.maps in
+    let n = maps_count program _ c.requires.judge.maps in
     let size = ap length c.deref-images-items.ensures.value in
     let last = c.loop-branch.auto.branch-end in
     let same : c.loop-branch.branch ≡ length program.branches =

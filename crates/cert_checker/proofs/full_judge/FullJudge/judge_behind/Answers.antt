@@ -26,18 +26,16 @@ returns-in_err-judge_rounds-clause-stops c =
     let program = program_by c.args.self.now in
     let cert = cert_by c.args.self.now in
     passed_on _ _ _ c.from_residual.ensures.1 (rounds_stop program cert
-    (forms_hold program cert c.in-Ok.ensures.holds) (starts_hold program cert
-    (unless_err _ c.judge_starts.result c.in_default.not-Err c.judge_starts.ensures.holds)) _
-    c.in_err-judge_rounds.ensures.stops)
+    (forms_hold program cert c.in-Ok.ensures.holds) (starts_hold program cert (unless_err _ _
+    c.in_default.not-Err c.judge_starts.ensures.holds)) _ c.in_err-judge_rounds.ensures.stops)
 
 pub returns-clause-holds : goal.returns-clause-holds
 returns-clause-holds c =
     let program = program_by c.args.self.now in
     let cert = cert_by c.args.self.now in
-    on_ok_weaker c.judge_end.result (λ ends. further_hold program cert
-    (forms_hold program cert c.in-Ok.ensures.holds)
-    (starts_hold program cert (unless_err _ c.judge_starts.result c.in_default.not-Err
-    c.judge_starts.ensures.holds)) c.in_ok-judge_rounds.ensures.holds ends)
+    on_ok_weaker _ (λ ends. further_hold program cert
+    (forms_hold program cert c.in-Ok.ensures.holds) (starts_hold program cert (unless_err _ _
+    c.in_default.not-Err c.judge_starts.ensures.holds)) c.in_ok-judge_rounds.ensures.holds ends)
     c.judge_end.ensures.holds
 
 pub returns-clause-stops : goal.returns-clause-stops
@@ -45,7 +43,6 @@ returns-clause-stops c =
     let program = program_by c.args.self.now in
     let cert = cert_by c.args.self.now in
     IfErr-weaker c.judge_end.result _ _ (λ e s. end_stops program cert
-    (forms_hold program cert c.in-Ok.ensures.holds)
-    (starts_hold program cert (unless_err _ c.judge_starts.result c.in_default.not-Err
-    c.judge_starts.ensures.holds)) c.in_ok-judge_rounds.ensures.holds e s)
+    (forms_hold program cert c.in-Ok.ensures.holds) (starts_hold program cert (unless_err _ _
+    c.in_default.not-Err c.judge_starts.ensures.holds)) c.in_ok-judge_rounds.ensures.holds e s)
     c.judge_end.ensures.stops

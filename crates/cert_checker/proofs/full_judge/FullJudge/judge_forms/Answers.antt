@@ -20,15 +20,13 @@ use Rattle.cert_checker.proofs.full_judge.FullJudge.judge_forms.Goals.{After-ind
 -- the branch of this number, and its map
 module _ (c : After-index-form) where
   here : c.loop-b.b < length (program_by c.args.self.now).branches
-  here = branch_here (program_by c.args.self.now) c.args.self.now.maps.items
-      c.deref-images-items.result.now c.requires.judge.maps c.deref-images-items.ensures.value
+  here = branch_here _ c.requires.judge.maps c.deref-images-items.ensures.value
       c.loop-b.b c.loop-b-test.true
 
   stands : IsBranchMap (program_by c.args.self.now) c.images-item.result
       (get_or (program_by c.args.self.now).branches c.loop-b.b [])
-  stands = map_here (program_by c.args.self.now) c.args.self.now.maps.items
-      c.deref-images-items.result.now c.requires.judge.maps c.deref-images-items.ensures.value
-      c.loop-b.b c.loop-b-test.true c.images-item.result c.images-item.is
+  stands = map_here _ c.requires.judge.maps c.deref-images-items.ensures.value
+      c.loop-b.b c.loop-b-test.true c.images-item.is
 
 pub closed_form-requires : goal.closed_form-requires
 closed_form-requires c =

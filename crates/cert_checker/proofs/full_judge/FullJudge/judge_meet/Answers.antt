@@ -103,17 +103,13 @@ judge-requires c =
 pub returns-clause-holds : goal.returns-clause-holds
 returns-clause-holds c =
     let e = (goal.at.returns-clause-holds c).After-len in
-    on_ok_weaker c.in_stage.result (λ ok. stage_all (program_by (j e)) (cert_by (j e)) c.args.round
-    c.args.branch kind.Meet 1 (meet_starting (left e) (right e)) (stage_in c.in-Some.stage) refl
-    (starts e) (stage_is e)
-    (ok_holds _ c.judge.result ok c.judge.ensures.holds))
-    c.in_stage.ensures.holds
+    on_ok_weaker _ (λ ok. stage_all (program_by (j e)) (cert_by (j e)) _ _ kind.Meet refl (starts e)
+    (stage_is e) (ok_holds _ _ ok c.judge.ensures.holds)) c.in_stage.ensures.holds
 
 pub returns-clause-stops : goal.returns-clause-stops
 returns-clause-stops c =
     let e = (goal.at.returns-clause-stops c).After-len in
-    IfErr-weaker c.in_stage.result _ _ (λ x is. carried c.judge.result _ x _
-    (StopsAmong (j e) (stage_by (j e) c.args.round c.args.branch meet)) is c.judge.ensures.stops
-    (stage_stops (program_by (j e)) (cert_by (j e)) c.args.round c.args.branch
-    kind.Meet 1 (meet_starting (left e) (right e)) (stage_in c.in-Some.stage) refl (starts e)
-    (stage_is e) NeverPast (λ i past. past))) c.in_stage.ensures.stops
+    IfErr-weaker c.in_stage.result _ _ (λ x is. carried _ _ x _ (StopsAmong (j e)
+    (stage_by (j e) c.args.round c.args.branch meet)) is c.judge.ensures.stops
+    (stage_stops (program_by (j e)) (cert_by (j e)) _ _ kind.Meet refl (starts e) (stage_is e)
+    NeverPast (λ i past. past))) c.in_stage.ensures.stops

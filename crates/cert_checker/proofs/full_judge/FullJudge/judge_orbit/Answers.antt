@@ -89,18 +89,15 @@ judge-requires c =
 pub returns-clause-holds : goal.returns-clause-holds
 returns-clause-holds c =
     let e = (goal.at.returns-clause-holds c).After-index-3 in
-    on_ok_weaker c.in_stage.result (λ ok. stage_all (program_by (j e)) (cert_by (j e)) c.args.round
-    c.args.branch kind.Orbit c.front.result (list e) (stage_in c.index-3.result.now.orbit)
-    (fronts e) (starts e) (stage_is e) (ok_holds _ c.judge.result ok c.judge.ensures.holds))
-    c.in_stage.ensures.holds
+    on_ok_weaker _ (λ ok. stage_all (program_by (j e)) (cert_by (j e)) _ _ kind.Orbit (fronts e)
+    (starts e) (stage_is e) (ok_holds _ _ ok c.judge.ensures.holds)) c.in_stage.ensures.holds
 
 pub returns-clause-stops : goal.returns-clause-stops
 returns-clause-stops c =
     let e = (goal.at.returns-clause-stops c).After-index-3 in
-    IfErr-weaker c.in_stage.result _ _ (λ x is. carried c.judge.result _ x _
-    (StopsAmong (j e) (stage_by (j e) c.args.round c.args.branch orbit)) is c.judge.ensures.stops
-    (stage_stops (program_by (j e)) (cert_by (j e)) c.args.round c.args.branch
-    kind.Orbit c.front.result (list e) (stage_in c.index-3.result.now.orbit) (fronts e) (starts e)
+    IfErr-weaker c.in_stage.result _ _ (λ x is. carried _ _ x _ (StopsAmong (j e)
+    (stage_by (j e) c.args.round c.args.branch orbit)) is c.judge.ensures.stops
+    (stage_stops (program_by (j e)) (cert_by (j e)) _ _ kind.Orbit (fronts e) (starts e)
     (stage_is e) (past e) (orbit_past c.requires.judge c.requires.branch c.index.ensures
     c.list_before-list.result.now c.requires.back (variables e) c.args.round
     c.list_before-list.ensures.before))) c.in_stage.ensures.stops

@@ -11,8 +11,7 @@ use Rattle.cert_checker.proofs.full_judge.FullJudge.judge_round.Goals.{After-ind
 
 -- the branch is one of the loop's
 inside : (c : After-index) → c.loop-branch.branch < length (program_by c.args.self.now).branches
-inside c = inside_seen _ c.branches-branch-end.result.now (program_by c.args.self.now).branches
-    c.loop-branch.branch c.branches-branch-end.ensures.branches c.loop-branch-test.true
+inside c = inside_seen _ _ _ _ c.branches-branch-end.ensures.branches c.loop-branch-test.true
 
 pub loop-branch-init : goal.loop-branch-init
 unfolding Each
@@ -20,8 +19,7 @@ loop-branch-init c = tt
 
 pub index-requires : goal.index-requires
 index-requires c =
-    let l = inside_seen _ c.branches-branch-end.result.now (program_by c.args.self.now).branches
-    c.loop-branch.branch c.branches-branch-end.ensures.branches c.loop-branch-test.true in
+    let l = inside_seen _ _ _ _ c.branches-branch-end.ensures.branches c.loop-branch-test.true in
     let n = c.args.back.now.ok.0 in
     omega (arith, l, n, c.requires.back.count)
 
@@ -71,6 +69,5 @@ returns-in_err-judge_meet-clause-stops c =
 
 pub returns-clause-holds : goal.returns-clause-holds
 returns-clause-holds c = first_several _ _ _ c.loop-branch.branch
-    (past_seen _ c.branches-branch-end.result.now (program_by c.args.self.now).branches
-    c.loop-branch.branch c.branches-branch-end.ensures.branches c.loop-branch-test.false)
+    (past_seen _ _ _ _ c.branches-branch-end.ensures.branches c.loop-branch-test.false)
     c.loop-branch.invariant

@@ -34,7 +34,7 @@ module _ (c : After-p-item) where
   within : c.loop-i.i < length starting
   within =
       let seen = length-map c.in-Ok.list.items terms_in in
-      let count = start_count starting (terms_each c.in-Ok.list.items) c.in-Ok.ensures.list in
+      let count = start_count starting c.in-Ok.ensures.list in
       omega (arith, inside, seen, count)
 
   in_rows : c.loop-i.i < length c.args.self.now.cert.now.start.links.items
@@ -53,9 +53,9 @@ module _ (c : After-p-item) where
   same : Same ℚ (terms_in c.p-item.result) (get_or starting c.loop-i.i [])
   same =
       let at : terms_in c.p-item.result ≡ get_or (terms_each c.in-Ok.list.items) c.loop-i.i [] =
-      (place_in terms_in c.in-Ok.list.items c.loop-i.i inside).1 c.p-item.result item_is in
+      (place_in terms_in _ c.loop-i.i inside).1 c.p-item.result item_is in
       subst (λ q. Same ℚ q (get_or starting c.loop-i.i [])) (sym at)
-      (start_same starting (terms_each c.in-Ok.list.items) c.in-Ok.ensures.list c.loop-i.i within)
+      (start_same starting c.in-Ok.ensures.list c.loop-i.i within)
 
 -- what is told of its row
 module _ (c : After-is_combination) where
@@ -70,22 +70,17 @@ module _ (c : After-is_combination) where
 
   row : terms_each c.deref-in-loop-i.result.now ≡ get_or rows c.loop-i.i []
   row = ap terms_each c.deref-in-loop-i.ensures.value
-      ∙ row_is (λ r. terms_each r.items) c.args.self.now.cert.now.start.links.items c.loop-i.i
-      c.index.result.now
-      (in_rows item) c.index.ensures
+      ∙ row_is (λ r. terms_each r.items) _ c.loop-i.i (in_rows item) c.index.ensures
 
   out_is : terms_each c.deref-in-loop-i-2.result.now ≡ out
   out_is = ap terms_each c.deref-in-loop-i-2.ensures.value
 
   tells : IfOk c.is_combination.result
       (λ b. IsTrue b ↔ IsMadeAt (starting item) rows out c.loop-i.i)
-  tells = combined_tells c.is_combination.result (terms_in c.p-item.result)
-      (get_or (starting item) c.loop-i.i []) _ (get_or rows c.loop-i.i []) _ out (same item) row
-      out_is c.is_combination.ensures.holds
+  tells = combined_tells _ _ _ _ _ (same item) row out_is c.is_combination.ensures.holds
 
   wide : IsErrOf c.is_combination.result arithmetic_error.Wide → IsPastMade rows out c.loop-i.i
-  wide = past_at c.is_combination.result _ (get_or rows c.loop-i.i []) _ out row out_is
-      c.is_combination.ensures.wide
+  wide = past_at _ _ _ row out_is c.is_combination.ensures.wide
 
 pub index-requires : goal.index-requires
 index-requires c =
@@ -95,20 +90,19 @@ index-requires c =
 pub is_combination-requires-clause-count : goal.is_combination-requires-clause-count
 is_combination-requires-clause-count c =
     let start = c.args.self.now.cert.now.start in
-    row_fits start.links.items start.out c.requires.judge.counted.links_widths c.loop-i.i
-    c.index.result.now (in_rows ((goal.at.is_combination-requires-clause-count c).After-p-item))
-    c.index.ensures c.deref-in-loop-i.ensures.value c.deref-in-loop-i-2.ensures.value
+    row_fits _ start.out c.requires.judge.counted.links_widths c.loop-i.i
+    (in_rows ((goal.at.is_combination-requires-clause-count c).After-p-item)) c.index.ensures
+    c.deref-in-loop-i.ensures.value c.deref-in-loop-i-2.ensures.value
 
 pub is_combination-requires-clause-cofactors : goal.is_combination-requires-clause-cofactors
 is_combination-requires-clause-cofactors c =
     let e = (goal.at.is_combination-requires-clause-cofactors c).After-p-item in
     let p = c.p-item.result in
     let row = c.index.result.now in
-    subst (All (IsImage p.order p.arity)) (sym c.deref-in-loop-i.ensures.value)
-    (over_images (λ x y. refl) (length (program_by c.args.self.now).names) p row.items (over e)
-    (row_has c.args.self.now.cert.now.start.links.items
+    subst (All (IsImage p.order p.arity)) (sym c.deref-in-loop-i.ensures.value) (over_images (λ x y.
+    refl) p row.items (over e) (row_has _
     (IsInVariables (length (program_by c.args.self.now).names)) c.requires.judge.images.links
-    c.loop-i.i row (in_rows e) c.index.ensures))
+    c.loop-i.i (in_rows e) c.index.ensures))
 
 pub loop-i-preserved : goal.loop-i-preserved
 loop-i-preserved c = more_hold _ c.loop-i.i c.loop-i.invariant c.in_ok-told.ensures.holds
@@ -118,4 +112,4 @@ pub returns-in_err-told-clause-stops : goal.returns-in_err-told-clause-stops
 returns-in_err-told-clause-stops c =
     let e = (goal.at.returns-in_err-told-clause-stops c).After-is_combination in
     passed_on _ _ _ c.from_residual.ensures.1 (here_stops _ _ _ c.loop-i.i (within (item e))
-    c.loop-i.invariant c.is_combination.result (tells e) (wide e) _ c.in_err-told.ensures.stops)
+    c.loop-i.invariant _ (tells e) (wide e) _ c.in_err-told.ensures.stops)

@@ -16,8 +16,7 @@ module _ (c : After-branches) where
   earlier = omega (arith, some, c.requires.round)
 
   count : length c.branches.result.now ≡ length (program_by c.args.self.now).branches
-  count = count_seen _ c.branches.result.now (program_by c.args.self.now).branches
-      c.branches.ensures.branches
+  count = count_seen _ _ _ c.branches.ensures.branches
 
   last : length c.branches.result.now - 1 < length (program_by c.args.self.now).branches
   last = omega (arith, count, c.branches.ensures.some)

@@ -1,7 +1,7 @@
 use Rattle.std.proofs.Common.{◌≡◌, ◌<◌, ◌+◌, [], get_or, length, inr, ap, sym, subst, subst₂, ◌∙◌, arith}
 use Rattle.std.specs.Prelude.{All}
 use Rattle.std.proofs.lemmas.List.{length-map}
-use Rattle.poly.specs.Seen.{terms_in, terms_each, IsImage}
+use Rattle.poly.specs.Seen.{terms_each, IsImage}
 use Rattle.task_lists.specs.Images.{in_blocks}
 use Rattle.task_lists.specs.Past.{IsPastCombination}
 use Rattle.cert_checker.specs.StageJudge.{stage_seen}
@@ -29,8 +29,7 @@ module _ (c : After-index) where
       omega (arith, c.requires.place, c.requires.judge.counts.gens, n)
 
   row : terms_each c.index.result.now.items ≡ get_or (stage_seen s).gens c.args.place []
-  row = row_is (λ r. terms_each r.items) s.stage.now.gens.items c.args.place c.index.result.now
-      inside c.index.ensures
+  row = row_is (λ r. terms_each r.items) _ _ inside c.index.ensures
 
   image : IsImage (in_blocks s.front) (s.front + s.variables) c.in_ok-p.p
   image = subst (λ k. IsImage (in_blocks k) (k + s.variables) c.in_ok-p.p)
@@ -41,7 +40,7 @@ is_combination-requires-clause-count c =
     let at = (goal.at.is_combination-requires-clause-count c).After-index in
     let list = c.args.self.now.stage.now.list in
     let gens = c.args.self.now.stage.now.gens.items in
-    row_fits gens list c.requires.judge.counts.gens_widths c.args.place c.index.result.now
+    row_fits gens list c.requires.judge.counts.gens_widths _
     (inside at) c.index.ensures c.deref.ensures.value c.deref-2.ensures.value
 
 pub is_combination-requires-clause-cofactors : goal.is_combination-requires-clause-cofactors
@@ -49,10 +48,9 @@ is_combination-requires-clause-cofactors c =
     let at = (goal.at.is_combination-requires-clause-cofactors c).After-index in
     let j = c.args.self.now in
     let p = c.in_ok-p.p in
-    subst (All (IsImage p.order p.arity)) (sym c.deref.ensures.value)
-    (like_images (in_blocks j.front) (j.front + j.variables) p c.index.result.now.items (image at)
-    (row_has j.stage.now.gens.items (IsImage (in_blocks j.front) (j.front + j.variables))
-    c.requires.judge.images.gens c.args.place c.index.result.now (inside at) c.index.ensures))
+    subst (All (IsImage p.order p.arity)) (sym c.deref.ensures.value) (like_images p _ (image at)
+    (row_has _ (IsImage (in_blocks j.front) (j.front + j.variables)) c.requires.judge.images.gens _
+    (inside at) c.index.ensures))
 
 pub is_combination-requires-clause-list : goal.is_combination-requires-clause-list
 is_combination-requires-clause-list c =
@@ -60,15 +58,13 @@ is_combination-requires-clause-list c =
     let j = c.args.self.now in
     let p = c.in_ok-p.p in
     subst (All (IsImage p.order p.arity)) (sym c.deref-2.ensures.value)
-    (like_images (in_blocks j.front) (j.front + j.variables) p j.stage.now.list.items (image at)
-    c.requires.judge.images.list)
+    (like_images p _ (image at) c.requires.judge.images.list)
 
 pub returns-clause-holds : goal.returns-clause-holds
 returns-clause-holds c =
     let at = (goal.at.returns-clause-holds c).After-index in
-    combined_tells c.is_combination.result (terms_in c.in_ok-p.p) _ _ _ _ _ c.in_ok-p.ensures.same
-    (ap terms_each c.deref.ensures.value ∙ row at) (ap terms_each c.deref-2.ensures.value)
-    c.is_combination.ensures.holds
+    combined_tells _ _ _ _ _ c.in_ok-p.ensures.same (ap terms_each c.deref.ensures.value ∙ row at)
+    (ap terms_each c.deref-2.ensures.value) c.is_combination.ensures.holds
 
 pub returns-clause-wide : goal.returns-clause-wide
 returns-clause-wide c =

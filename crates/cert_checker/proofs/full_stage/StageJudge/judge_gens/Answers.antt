@@ -20,8 +20,8 @@ pub returns-in_err-told-clause-stops : goal.returns-in_err-told-clause-stops
 returns-in_err-told-clause-stops c =
     let n = length-map c.args.self.now.stage.now.gens.items (λ row. terms_each row.items) in
     passed_on _ _ _ c.from_residual.ensures.1 (here_stops _ _ _ c.loop-i.i
-    (omega (arith, c.loop-i-test.true, n, c.requires.judge.counts.gens)) c.loop-i.invariant
-    c.is_made.result c.is_made.ensures.holds c.is_made.ensures.wide _ c.in_err-told.ensures.stops)
+    (omega (arith, c.loop-i-test.true, n, c.requires.judge.counts.gens)) c.loop-i.invariant _
+    c.is_made.ensures.holds c.is_made.ensures.wide _ c.in_err-told.ensures.stops)
 
 pub returns-clause-holds : goal.returns-clause-holds
 returns-clause-holds c =

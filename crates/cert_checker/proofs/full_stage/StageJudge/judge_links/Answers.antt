@@ -31,7 +31,7 @@ module _ (c : After-row-item) where
   inside = in_list _ _ c.deref-row-items.ensures.value _ c.loop-i-test.true
 
   item : c.row-item.result ≡ get_or s.stage.now.links.items c.loop-i.i c.row-item.result
-  item = item_of _ _ c.deref-row-items.ensures.value _ c.row-item.result c.row-item.is
+  item = item_of _ _ c.deref-row-items.ensures.value _ _ c.row-item.is
 
   within : c.loop-i.i < length elements
   within =
@@ -60,7 +60,7 @@ is_combination-requires-clause-count c =
     let at = (goal.at.is_combination-requires-clause-count c).After-row-item in
     let out = c.args.self.now.stage.now.out in
     let links = c.args.self.now.stage.now.links.items in
-    row_fits links out c.requires.judge.counts.links_widths c.loop-i.i c.row-item.result
+    row_fits links out c.requires.judge.counts.links_widths c.loop-i.i
     (inside at) (item at) c.deref-in-loop-i.ensures.value c.deref-in-loop-i-2.ensures.value
 
 pub is_combination-requires-clause-cofactors : goal.is_combination-requires-clause-cofactors
@@ -68,21 +68,18 @@ is_combination-requires-clause-cofactors c =
     let at = (goal.at.is_combination-requires-clause-cofactors c).After-row-item in
     let p = c.index.result.now in
     let m = c.args.self.now.variables in
-    subst (All (IsImage p.order p.arity)) (sym c.deref-in-loop-i.ensures.value)
-    (over_images (λ x y. refl) m p c.row-item.result.items
-    (subst (IsInVariables c.args.self.now.variables) (sym c.index.ensures)
-    (c.in-Ok.ensures.arity c.loop-i.i p (in_free at)))
-    (row_has c.args.self.now.stage.now.links.items (IsInVariables m)
-    c.requires.judge.images.links c.loop-i.i c.row-item.result (inside at) (item at)))
+    subst (All (IsImage p.order p.arity)) (sym c.deref-in-loop-i.ensures.value) (over_images (λ x y.
+    refl) p _ (subst (IsInVariables c.args.self.now.variables) (sym c.index.ensures)
+    (c.in-Ok.ensures.arity c.loop-i.i p (in_free at))) (row_has _ (IsInVariables m)
+    c.requires.judge.images.links c.loop-i.i (inside at) (item at)))
 
 pub is_combination-requires-clause-list : goal.is_combination-requires-clause-list
 is_combination-requires-clause-list c =
     let at = (goal.at.is_combination-requires-clause-list c).After-row-item in
     let p = c.index.result.now in
     subst (All (IsImage p.order p.arity)) (sym c.deref-in-loop-i-2.ensures.value)
-    (over_images (λ x y. refl) c.args.self.now.variables p c.args.self.now.stage.now.out.items
-    (subst (IsInVariables c.args.self.now.variables) (sym c.index.ensures)
-    (c.in-Ok.ensures.arity c.loop-i.i p (in_free at)))
+    (over_images (λ x y. refl) p _ (subst (IsInVariables c.args.self.now.variables)
+    (sym c.index.ensures) (c.in-Ok.ensures.arity c.loop-i.i p (in_free at)))
     c.requires.judge.images.out)
 
 -- what is told of its row
@@ -91,30 +88,25 @@ module _ (c : After-is_combination) where
   at_row = (goal.at.After-is_combination c).After-row-item
 
   element : terms_in c.index.result.now ≡ get_or (elements at_row) c.loop-i.i []
-  element = (place_in terms_in c.in-Ok.free.items c.loop-i.i (in_free at_row)).1
+  element = (place_in terms_in _ c.loop-i.i (in_free at_row)).1
       c.index.result.now c.index.ensures ∙ ap (λ xs. get_or xs c.loop-i.i []) (kept at_row)
 
   row : terms_each c.deref-in-loop-i.result.now
       ≡ get_or (stage_seen (s at_row)).links c.loop-i.i []
   row = ap terms_each c.deref-in-loop-i.ensures.value
-      ∙ row_is (λ r. terms_each r.items) c.args.self.now.stage.now.links.items c.loop-i.i
-      c.row-item.result (inside at_row) (item at_row)
+      ∙ row_is (λ r. terms_each r.items) _ c.loop-i.i (inside at_row) (item at_row)
 
   out_is : terms_each c.deref-in-loop-i-2.result.now ≡ (stage_seen (s at_row)).out
   out_is = ap terms_each c.deref-in-loop-i-2.ensures.value
 
   tells : IfOk c.is_combination.result
       (λ b. IsTrue b ↔ HoldsBy (s at_row) (in_links c.loop-i.i))
-  tells = combined_tells c.is_combination.result (terms_in c.index.result.now)
-      (get_or (elements at_row) c.loop-i.i []) _
-      (get_or (stage_seen (s at_row)).links c.loop-i.i []) _ (stage_seen (s at_row)).out
-      (same_equal ℚ (terms_in c.index.result.now) (get_or (elements at_row) c.loop-i.i []) element)
-      row out_is c.is_combination.ensures.holds
+  tells = combined_tells _ _ _ _ _
+      (same_equal ℚ _ _ element) row out_is c.is_combination.ensures.holds
 
   wide : IsErrOf c.is_combination.result arithmetic_error.Wide
       → IsPastBy (s at_row) (in_links c.loop-i.i)
-  wide = past_at c.is_combination.result _ (get_or (stage_seen (s at_row)).links c.loop-i.i []) _
-      (stage_seen (s at_row)).out row out_is c.is_combination.ensures.wide
+  wide = past_at _ _ _ row out_is c.is_combination.ensures.wide
 
 pub loop-i-preserved : goal.loop-i-preserved
 loop-i-preserved c = more_hold _ c.loop-i.i c.loop-i.invariant c.in_ok-told.ensures.holds
@@ -124,8 +116,7 @@ pub returns-in_err-told-clause-stops : goal.returns-in_err-told-clause-stops
 returns-in_err-told-clause-stops c =
     let e = (goal.at.returns-in_err-told-clause-stops c).After-is_combination in
     passed_on _ _ _ c.from_residual.ensures.1 (here_stops _ _ _ c.loop-i.i (within (at_row e))
-    c.loop-i.invariant c.is_combination.result (tells e) (wide e) _
-    c.in_err-told.ensures.stops)
+    c.loop-i.invariant _ (tells e) (wide e) _ c.in_err-told.ensures.stops)
 
 pub returns-clause-holds : goal.returns-clause-holds
 returns-clause-holds c =

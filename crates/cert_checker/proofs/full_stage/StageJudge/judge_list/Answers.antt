@@ -1,4 +1,4 @@
-use Rattle.std.proofs.Common.{◌≡◌, ◌<◌, ◌↔◌, length, ap, subst, Ok, IsTrue, arith}
+use Rattle.std.proofs.Common.{◌≡◌, ◌<◌, ◌↔◌, length, ap, subst, IsTrue, arith}
 use Rattle.std.proofs.lemmas.List.{length-map}
 use Rattle.algebra.specs.Fraction.{ℚ, rationals}
 use Rattle.machines.specs.Cut.{lead_number}
@@ -14,15 +14,14 @@ use Rattle.cert_checker.proofs.full_stage.StageJudge.judge_list.Goals.{After-is_
 -- what is told of the element at this place
 module _ (c : After-is_monic) where
   within : c.loop-i.i < length (stage_seen c.args.self.now).list
-  within = (place_in terms_in c.args.self.now.stage.now.list.items c.loop-i.i
+  within = (place_in terms_in _ c.loop-i.i
       (in_items _ _ c.deref-p-items.ensures.value _ c.loop-i-test.true)).0
 
   tells : IsTrue c.is_monic.result ↔ HoldsBy c.args.self.now (in_list c.loop-i.i)
   tells = subst (λ p. IsTrue c.is_monic.result ↔ (lead_number rationals p ≡ ℚ.one))
-      ((place_in terms_in c.args.self.now.stage.now.list.items c.loop-i.i
-      (in_items _ _ c.deref-p-items.ensures.value _ c.loop-i-test.true)).1 c.p-item.result
-      (item_of _ _ c.deref-p-items.ensures.value _ c.p-item.result c.p-item.is))
-      c.is_monic.ensures
+      ((place_in terms_in _ c.loop-i.i (in_items _ _ c.deref-p-items.ensures.value _
+      c.loop-i-test.true)).1 c.p-item.result
+      (item_of _ _ c.deref-p-items.ensures.value _ _ c.p-item.is)) c.is_monic.ensures
 
 pub loop-i-init : goal.loop-i-init
 loop-i-init c = λ j l. absurd (omega arith)
@@ -35,8 +34,7 @@ pub returns-in_err-told-clause-stops : goal.returns-in_err-told-clause-stops
 returns-in_err-told-clause-stops c =
     let at = (goal.at.returns-in_err-told-clause-stops c).After-is_monic in
     passed_on _ _ _ c.from_residual.ensures.1 (here_stops _ _ _ c.loop-i.i (within at)
-    c.loop-i.invariant (Ok c.is_monic.result) (tells at) (λ w. absurd (cc)) _
-    c.in_err-told.ensures.stops)
+    c.loop-i.invariant _ (tells at) (λ w. absurd (cc)) _ c.in_err-told.ensures.stops)
 
 pub returns-clause-holds : goal.returns-clause-holds
 returns-clause-holds c =

@@ -27,7 +27,7 @@ module _ (c : After-row-item) where
   inside = in_list _ _ c.deref-row-items.ensures.value _ c.loop-i-test.true
 
   item : c.row-item.result ≡ get_or s.stage.now.pairs.items c.loop-i.i c.row-item.result
-  item = item_of _ _ c.deref-row-items.ensures.value _ c.row-item.result c.row-item.is
+  item = item_of _ _ c.deref-row-items.ensures.value _ _ c.row-item.is
 
   within : c.loop-i.i < length (pairs_of (length (stage_seen s).list))
   within =
@@ -62,8 +62,7 @@ module _ (c : After-deref-in-loop-i) where
       × (c.index.result.now.1 < length c.deref.result.now)
   places = subst₂ (λ (a : ℕ × ℕ) k. (a.0 < k) × (a.1 < k)) (sym pair)
       (length-map c.args.self.now.stage.now.list.items terms_in
-      ∙ sym (ap length c.deref.ensures.value)) (pairs_within (length seen) c.loop-i.i
-      (within at_row))
+      ∙ sym (ap length c.deref.ensures.value)) (pairs_within _ c.loop-i.i (within at_row))
 
 pub is_lcm_representation-requires-clause-left : goal.is_lcm_representation-requires-clause-left
 is_lcm_representation-requires-clause-left c =
@@ -78,7 +77,7 @@ is_lcm_representation-requires-clause-count c =
     let at = (goal.at.is_lcm_representation-requires-clause-count c).After-row-item in
     let list = c.args.self.now.stage.now.list in
     let pairs = c.args.self.now.stage.now.pairs.items in
-    row_fits pairs list c.requires.judge.counts.pairs_widths c.loop-i.i c.row-item.result
+    row_fits pairs list c.requires.judge.counts.pairs_widths c.loop-i.i
     (inside at) (item at) c.deref-in-loop-i.ensures.value c.deref.ensures.value
 
 pub is_lcm_representation-requires-clause-cofactors :
@@ -88,8 +87,8 @@ is_lcm_representation-requires-clause-cofactors c =
     let j = c.args.self.now in
     subst (All (IsImage (in_blocks j.front) (j.front + j.variables)))
     (sym c.deref-in-loop-i.ensures.value)
-    (row_has j.stage.now.pairs.items (IsImage (in_blocks j.front) (j.front + j.variables))
-    c.requires.judge.images.pairs c.loop-i.i c.row-item.result (inside at) (item at))
+    (row_has _ (IsImage (in_blocks j.front) (j.front + j.variables))
+    c.requires.judge.images.pairs c.loop-i.i (inside at) (item at))
 
 pub is_lcm_representation-requires-clause-nonzero :
     goal.is_lcm_representation-requires-clause-nonzero
@@ -109,20 +108,18 @@ module _ (c : After-is_lcm_representation) where
 
   row : terms_each c.deref-in-loop-i.result.now ≡ get_or (stage_seen judge).pairs c.loop-i.i []
   row = ap terms_each c.deref-in-loop-i.ensures.value
-      ∙ row_is (λ r. terms_each r.items) judge.stage.now.pairs.items c.loop-i.i
-      c.row-item.result (inside (at_row at_pair)) (item (at_row at_pair))
+      ∙ row_is (λ r. terms_each r.items) _ c.loop-i.i (inside (at_row at_pair))
+      (item (at_row at_pair))
 
   tells : IfOk c.is_lcm_representation.result
       (λ b. IsTrue b ↔ HoldsBy judge (in_pairs c.loop-i.i))
   tells = pair_tells c.is_lcm_representation.result (block_order judge.front) _
-      (stage_seen judge).list c.index.result.now (pair_of (stage_seen judge).list c.loop-i.i) _
-      (get_or (stage_seen judge).pairs c.loop-i.i []) (ap terms_each c.deref.ensures.value)
+      (stage_seen judge).list c.index.result.now _ (ap terms_each c.deref.ensures.value)
       (pair at_pair) row c.is_lcm_representation.ensures.holds
 
   wide : IsErrOf c.is_lcm_representation.result arithmetic_error.Wide
       → IsPastBy judge (in_pairs c.loop-i.i)
-  wide = pair_past c.is_lcm_representation.result _ (stage_seen judge).list c.index.result.now
-      (pair_of (stage_seen judge).list c.loop-i.i) _ (get_or (stage_seen judge).pairs c.loop-i.i [])
+  wide = pair_past _ _ (stage_seen judge).list c.index.result.now _
       (ap terms_each c.deref.ensures.value) (pair at_pair) row c.is_lcm_representation.ensures.wide
 
 pub loop-i-preserved : goal.loop-i-preserved
@@ -133,7 +130,7 @@ pub returns-in_err-told-clause-stops : goal.returns-in_err-told-clause-stops
 returns-in_err-told-clause-stops c =
     let e = (goal.at.returns-in_err-told-clause-stops c).After-is_lcm_representation in
     passed_on _ _ _ c.from_residual.ensures.1 (here_stops _ _ _ c.loop-i.i
-    (within (at_row (at_pair e))) c.loop-i.invariant c.is_lcm_representation.result (tells e)
+    (within (at_row (at_pair e))) c.loop-i.invariant _ (tells e)
     (wide e) _ c.in_err-told.ensures.stops)
 
 pub returns-clause-holds : goal.returns-clause-holds

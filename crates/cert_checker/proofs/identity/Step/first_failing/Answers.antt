@@ -8,22 +8,17 @@ loop-i-init c = below_none _
 
 pub returns-in-Ok-false-clause-first : goal.returns-in-Ok-false-clause-first
 returns-in-Ok-false-clause-first c =
-    failed_here _ (length c.args.self.now.basis.now.items) c.loop-i.i c.in-Ok-false.field-0
-    c.loop-i.invariant
-    (step_at _ c.args.self.now.basis.now.items c.args.self.now.images.now.items _
-    c.deref-element-items.ensures.value
-    c.loop-i.i c.element-item.result c.loop-i-test.true c.element-item.is c.args.self.now.rows.now
-    c.index.result.now c.args.self.now.square.height c.index.ensures c.in-Ok-false.field-0
-    c.in-Ok-false.ensures.holds)
-    (in_list _ _ c.deref-element-items.ensures.value _ c.loop-i-test.true)
-    c.in-Ok-false.field-0-test
+    failed_here _ (length c.args.self.now.basis.now.items) c.loop-i.invariant (step_at _
+    c.args.self.now.images.now.items _ c.deref-element-items.ensures.value c.loop-i.i
+    c.loop-i-test.true c.element-item.is c.args.self.now.rows.now c.index.result.now
+    c.args.self.now.square.height c.index.ensures c.in-Ok-false.ensures.holds) (in_list _ _
+    c.deref-element-items.ensures.value _ c.loop-i-test.true) c.in-Ok-false.field-0-test
 
 pub returns-in-Err-Wide-clause-stops : goal.returns-in-Err-Wide-clause-stops
 returns-in-Err-Wide-clause-stops c =
-    let cause = step_past (length c.args.self.now.images.now.items) c.args.self.now.basis.now.items
-    c.args.self.now.images.now.items _ c.deref-element-items.ensures.value c.loop-i.i
-    c.element-item.result c.loop-i-test.true c.element-item.is c.args.self.now.rows.now
-    c.index.result.now c.args.self.now.square.height c.index.ensures
+    let cause = step_past (length c.args.self.now.images.now.items) c.args.self.now.images.now.items
+    _ c.deref-element-items.ensures.value c.loop-i.i c.loop-i-test.true c.element-item.is
+    c.args.self.now.rows.now c.index.result.now c.args.self.now.square.height c.index.ensures
     (c.in-Err-Wide.ensures.wide (ap Err c.in-Err-Wide.field-0-is)) in (
       refl,
       record {
@@ -35,16 +30,13 @@ returns-in-Err-Wide-clause-stops c =
 
 pub loop-i-preserved : goal.loop-i-preserved
 loop-i-preserved c =
-    kept_more _ (length c.args.self.now.basis.now.items) c.loop-i.i c.in-Ok-true.field-0
-    c.loop-i.invariant
-    (step_at _ c.args.self.now.basis.now.items c.args.self.now.images.now.items _
-    c.deref-element-items.ensures.value
-    c.loop-i.i c.element-item.result c.loop-i-test.true c.element-item.is c.args.self.now.rows.now
-    c.index.result.now c.args.self.now.square.height c.index.ensures c.in-Ok-true.field-0
-    c.in-Ok-true.ensures.holds) c.in-Ok-true.field-0-test
+    kept_more _ (length c.args.self.now.basis.now.items) c.loop-i.invariant (step_at _
+    c.args.self.now.images.now.items _ c.deref-element-items.ensures.value c.loop-i.i
+    c.loop-i-test.true c.element-item.is c.args.self.now.rows.now c.index.result.now
+    c.args.self.now.square.height c.index.ensures c.in-Ok-true.ensures.holds)
+    c.in-Ok-true.field-0-test
 
 pub returns-clause-first : goal.returns-clause-first
 returns-clause-first c =
-    all_kept _ _ c.loop-i.i (past_list c.args.self.now.basis.now.items
-    c.deref-element-items.result.now
+    all_kept _ _ c.loop-i.i (past_list _ _
     c.deref-element-items.ensures.value c.loop-i.i c.loop-i-test.false) c.loop-i.invariant

@@ -19,15 +19,13 @@ terms_of_element c = step_terms (polys_in c.args.self.now.basis.now)
 counted : (c : After-with_step) → IsCount (c.loop-i.before + terms_of_element c c.loop-i.i)
     c.with_step.result
 counted c =
-    step_counted (length c.args.self.now.images.now.items) c.args.self.now.basis.now.items
-    c.args.self.now.images.now.items _ c.deref-element-items.ensures.value c.loop-i.i
-    c.element-item.result c.loop-i-test.true c.element-item.is c.args.self.now.rows.now
-    c.index.result.now c.args.self.now.square.height c.index.ensures c.loop-i.before
-    c.with_step.result
-    (subst₃ (λ xs ys zs. IsCount (c.loop-i.before + (composition_terms (terms_in
-    c.element-item.result) (terms_each xs) + combination_terms (terms_each ys) (terms_each zs)))
-    c.with_step.result) c.deref.ensures.value c.deref-in-loop-i.ensures.value
-    c.deref-in-loop-i-2.ensures.value c.with_step.ensures)
+    step_counted (length c.args.self.now.images.now.items) c.args.self.now.images.now.items _
+    c.deref-element-items.ensures.value c.loop-i.i c.loop-i-test.true c.element-item.is
+    c.args.self.now.rows.now c.index.result.now c.args.self.now.square.height c.index.ensures
+    c.loop-i.before c.with_step.result (subst₃ (λ xs ys zs. IsCount
+    (c.loop-i.before + (composition_terms (terms_in c.element-item.result) (terms_each xs)
+    + combination_terms (terms_each ys) (terms_each zs))) c.with_step.result) c.deref.ensures.value
+    c.deref-in-loop-i.ensures.value c.deref-in-loop-i-2.ensures.value c.with_step.ensures)
 
 pub loop-i-init : goal.loop-i-init
 loop-i-init c =
@@ -43,27 +41,22 @@ returns-in-None-clause-limit c =
     let at = (goal.at.returns-in-None-clause-limit c).After-with_step in (
       refl,
       long_here (terms_of_element at) (length c.args.self.now.basis.now.items) c.loop-i.i
-          c.loop-i.before c.with_step.result c.loop-i.invariant.is c.loop-i.invariant.few
-          (counted at)
-          (none_none c.with_step.result c.in-None.is)
-          (in_list _ _ c.deref-element-items.ensures.value _ c.loop-i-test.true),
+          c.loop-i.invariant.is c.loop-i.invariant.few
+          (counted at) (none_none c.in-None.is) (in_list _ _ c.deref-element-items.ensures.value _
+          c.loop-i-test.true),
     )
 
 pub loop-i-preserved : goal.loop-i-preserved
 loop-i-preserved c =
     let at = (goal.at.loop-i-preserved c).After-with_step in
     let more = more_counted (terms_of_element at) (length c.args.self.now.basis.now.items)
-    c.loop-i.i
-    c.loop-i.before c.with_step.result c.loop-i.invariant.is c.loop-i.invariant.few (counted at)
+    c.loop-i.i c.loop-i.invariant.is c.loop-i.invariant.few (counted at)
     c.in-Some.terms c.in-Some.is in
     record { is = more.0; few = more.1 }
 
 pub returns-clause-few : goal.returns-clause-few
 returns-clause-few c =
     all_counted (step_terms (polys_in c.args.self.now.basis.now)
-    (polys_in c.args.self.now.images.now)
-    (rows_in c.args.self.now.rows.now)) (length c.args.self.now.basis.now.items) c.loop-i.i
-    c.loop-i.before
-    (past_list c.args.self.now.basis.now.items c.deref-element-items.result.now
-    c.deref-element-items.ensures.value c.loop-i.i c.loop-i-test.false) c.loop-i.invariant.is
-    c.loop-i.invariant.few
+    (polys_in c.args.self.now.images.now) (rows_in c.args.self.now.rows.now)) _ c.loop-i.i
+    (past_list _ _ c.deref-element-items.ensures.value c.loop-i.i c.loop-i-test.false)
+    c.loop-i.invariant.is c.loop-i.invariant.few
