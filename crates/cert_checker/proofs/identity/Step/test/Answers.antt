@@ -28,22 +28,15 @@ counted c =
     c.deref-in-loop-i.ensures.value c.deref-in-loop-i-2.ensures.value c.with_step.ensures)
 
 pub loop-i-init : goal.loop-i-init
-loop-i-init c =
-    record {
-      is = total_none (step_terms (polys_in c.args.self.now.basis.now)
-          (polys_in c.args.self.now.images.now)
-          (rows_in c.args.self.now.rows.now));
-      few = omega arith;
-    }
+loop-i-init c = record { is = total_none _; few = omega arith }
 
 pub returns-in-None-clause-limit : goal.returns-in-None-clause-limit
 returns-in-None-clause-limit c =
     let at = (goal.at.returns-in-None-clause-limit c).After-with_step in (
       refl,
       long_here (terms_of_element at) (length c.args.self.now.basis.now.items) c.loop-i.i
-          c.loop-i.invariant.is c.loop-i.invariant.few
-          (counted at) (none_none c.in-None.is) (in_list _ _ c.deref-element-items.ensures.value _
-          c.loop-i-test.true),
+          c.loop-i.invariant.is c.loop-i.invariant.few (counted at) (none_none c.in-None.is)
+          (in_list _ _ c.deref-element-items.ensures.value _ c.loop-i-test.true),
     )
 
 pub loop-i-preserved : goal.loop-i-preserved
@@ -56,7 +49,6 @@ loop-i-preserved c =
 
 pub returns-clause-few : goal.returns-clause-few
 returns-clause-few c =
-    all_counted (step_terms (polys_in c.args.self.now.basis.now)
-    (polys_in c.args.self.now.images.now) (rows_in c.args.self.now.rows.now)) _ c.loop-i.i
+    all_counted _ _ c.loop-i.i
     (past_list _ _ c.deref-element-items.ensures.value c.loop-i.i c.loop-i-test.false)
     c.loop-i.invariant.is c.loop-i.invariant.few
