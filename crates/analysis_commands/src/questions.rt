@@ -54,7 +54,7 @@ fn answer_to_question(
     p: &Poly<Frac, Grevlex>,
     meter: &mut Meter,
 ) -> Result<Answer, AllocError>
-    requires arity { p.now.arity ≡ length (program_of lp.now).names }
+    requires { p.now.arity ≡ length (program_of lp.now).names }
     ensures answer { IfOk result (λ a.
         Asks (program_of lp.now) (terms_in p.now) budget.units meter.new (answer_view a)) }
     ensures asked { HasAsked (program_of lp.now) (terms_in p.now) budget.units meter.new }

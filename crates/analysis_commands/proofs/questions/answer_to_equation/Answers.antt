@@ -6,8 +6,8 @@ use Rattle.command_parts.specs.EquationReading.{IsUnread}
 use Rattle.analysis_commands.proofs.MemberAnswers.{formed_says, unformed_says}
 use Rattle.analysis_commands.proofs.questions.answer_to_equation.Goals as goal
 
-pub answer_to_question-requires-clause-arity : goal.answer_to_question-requires-clause-arity
-answer_to_question-requires-clause-arity c = c.in-Ok.ensures.polynomial.arity
+pub answer_to_question-requires : goal.answer_to_question-requires
+answer_to_question-requires c = c.in-Ok.ensures.polynomial.arity
 
 pub returns-in-Ok : goal.returns-in-Ok
 returns-in-Ok c = λ files idle untried.
