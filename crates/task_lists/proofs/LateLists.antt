@@ -269,22 +269,24 @@ heavy_graph k t m before fs (g ∷ gs) (p ∷ ps) a (suc i, q, l, e, h) =
     go (inr past) = inr past
 
 -- ---- the graphs of a form
+module _ (f : LateForm) (k : ℕ) where
+  abbrev pub wide : ℕ
+  wide = k + copies_in f + vars_in f
+
+  -- what the variables were, where there is room for these
+  abbrev pub were : List (Terms Fraction) → List (Terms Fraction)
+  were meant = before_by (k + copies_in f + vars_in f) k (which f) 0 0
+      (map (with_room_for k (copies_in f) (vars_in f)) meant)
+
 module _ (f : LateForm) (fits : FitsForm f) (k : ℕ) (s : Shape) (is : HasShape f k s) where
   shape_is : s ≡ record { front = k; copies = copies_in f; variables = vars_in f }
   shape_is = λ i. record { front = is.front i; copies = is.copies i; variables = is.variables i }
 
-  few_copies : copies_in f ≤ vars_in f
-  few_copies = let a = passers_few f.passing.now.items in let b = passers_are f.passing.now.items in
-      omega (arith, a, b)
-
   pub shape_few : k ≤ front (numbers_in f) → width_of s ≤ 4096
   shape_few l =
-      let a = few_copies in
-      let b = fits.few in
-      let c = is.front in
-      let d = is.copies in
-      let e = is.variables in
-      omega (arith, a, b, c, d, e, l)
+      let a = passers_few f.passing.now.items in
+      let b = passers_are f.passing.now.items in
+      omega (arith, a, b, fits.few, is.front, is.copies, is.variables, l)
 
   pub copies_are : s.copies ≡ passers f.passing.now.items
   copies_are = is.copies ∙ sym (passers_are f.passing.now.items)
@@ -295,37 +297,27 @@ module _ (f : LateForm) (fits : FitsForm f) (k : ℕ) (s : Shape) (is : HasShape
       before (before_in (width_of s) s.front f.passing.now.items 0
       (map (with_room_for s.front s.copies
       s.variables) told))) where
-    stands_here : AllStandFor (k + copies_in f + vars_in f) before (before_by
-        (k + copies_in f + vars_in f) k (which f) 0 0
-        (map (with_room_for k (copies_in f) (vars_in f))
-        meant))
+    stands_here : AllStandFor (wide f k) before (were f k meant)
     stands_here = stands_before k (copies_in f) (vars_in f) f.passing.now.items before told meant
         same count (subst (λ (x : Shape). AllStandFor (width_of x) before (before_in (width_of x)
         x.front f.passing.now.items 0 (map (with_room_for x.front x.copies x.variables) told)))
-        shape_is
-        stands)
+        shape_is stands)
 
-    arities : AllArity (k + copies_in f + vars_in f) (before_by (k + copies_in f + vars_in f) k
-        (which f) 0 0 (map (with_room_for k (copies_in f) (vars_in f)) meant))
+    arities : AllArity (wide f k) (were f k meant)
     arities = before_arity k (copies_in f) (vars_in f) (which f) meant 0 0
 
-    terms_are : terms_each before ≡ map (collect rationals grevlex) (before_by
-        (k + copies_in f + vars_in f) k (which f) 0 0
-        (map (with_room_for k (copies_in f) (vars_in f))
-        meant))
-    terms_are = collected_list (k + copies_in f + vars_in f) before _ arities stands_here
+    terms_are : terms_each before ≡ map (collect rationals grevlex) (were f k meant)
+    terms_are = collected_list (wide f k) before _ arities stands_here
 
     pub before_length : length before ≡ s.variables
     before_length =
         let a = ap length terms_are in
         let b = length-map before terms_in in
-        let c = length-map (before_by (k + copies_in f + vars_in f) k (which f) 0 0
-        (map (with_room_for k (copies_in f) (vars_in f)) meant)) (collect rationals grevlex) in
-        let d = before-length (k + copies_in f + vars_in f) k (which f) 0 0
+        let c = length-map (were f k meant) (collect rationals grevlex) in
+        let d = before-length (wide f k) k (which f) 0 0
         (map (with_room_for k (copies_in f) (vars_in f)) meant) in
         let e = length-map meant (with_room_for k (copies_in f) (vars_in f)) in
-        let g = is.variables in
-        omega (arith, a, b, c, d, e, g, count)
+        omega (arith, a, b, c, d, e, is.variables, count)
 
     pub before_over : All (IsInVariables (width_of s)) before
     before_over = stands_over (width_of s) before _ stands
@@ -333,28 +325,21 @@ module _ (f : LateForm) (fits : FitsForm f) (k : ℕ) (s : Shape) (is : HasShape
     module _ (fs gs : List (Terms Fraction)) where
       pub graph_stands : (out : List FracPoly) → AllStandFor (width_of s) out
           (graph_list s.front s.copies s.variables (terms_each before) fs [] gs)
-          → AllStandFor (width_of s) out (graph_list k (copies_in f) (vars_in f) (before_by
-          (k + copies_in f + vars_in f) k (which f) 0 0
-          (map (with_room_for k (copies_in f) (vars_in f)) meant)) fs [] gs)
+          → AllStandFor (width_of s) out
+          (graph_list k (copies_in f) (vars_in f) (were f k meant) fs [] gs)
       graph_stands out a =
-          let w = k + copies_in f + vars_in f in
           let here = subst (λ (x : Shape). AllStandFor (width_of x) out (graph_list x.front x.copies
           x.variables (terms_each before) fs [] gs)) shape_is a in
-          subst (λ (x : Shape). AllStandFor (width_of x) out (graph_list k (copies_in f) (vars_in f)
-          (before_by w k (which f) 0 0 (map (with_room_for k (copies_in f) (vars_in f)) meant)) fs
-          [] gs))
-          (sym shape_is)
-          (stands_all_along w out _ _
-          (graph_alike k (copies_in f) (vars_in f) (terms_each before)
-          (before_by w k (which f) 0 0 (map (with_room_for k (copies_in f) (vars_in f)) meant)) fs
-          gs
-          (arities_over w before (stands_over w before _ stands_here)) arities
-          (stands_same w before _ stands_here)) here)
+          subst (λ (x : Shape). AllStandFor (width_of x) out
+          (graph_list k (copies_in f) (vars_in f) (were f k meant) fs [] gs)) (sym shape_is)
+          (stands_all_along (wide f k) out _ _
+          (graph_alike k (copies_in f) (vars_in f) (terms_each before) (were f k meant) fs gs
+          (arities_over (wide f k) before (stands_over (wide f k) before _ stands_here)) arities
+          (stands_same (wide f k) before _ stands_here)) here)
 
       pub graph_past : IsPastGraph s.front s.copies s.variables (terms_each before) fs gs
-          → IsPastGraph k (copies_in f) (vars_in f) (map (collect rationals grevlex) (before_by
-          (k + copies_in f + vars_in f) k (which f) 0 0
-          (map (with_room_for k (copies_in f) (vars_in f)) meant))) fs gs
+          → IsPastGraph k (copies_in f) (vars_in f)
+          (map (collect rationals grevlex) (were f k meant)) fs gs
       graph_past p = subst (λ b. IsPastGraph k (copies_in f) (vars_in f) b fs gs) terms_are
           (subst (λ (x : Shape). IsPastGraph x.front x.copies x.variables (terms_each before) fs gs)
           shape_is p)
@@ -362,9 +347,8 @@ module _ (f : LateForm) (fits : FitsForm f) (k : ℕ) (s : Shape) (is : HasShape
       pub graph_heavy : (out : List FracPoly) → AllStandFor (width_of s) out
           (graph_list s.front s.copies s.variables (terms_each before) fs [] gs)
           → Any (λ p. IsPast (weight fraction_size p)) (terms_each out)
-          → IsPastGraph k (copies_in f) (vars_in f) (map (collect rationals grevlex) (before_by
-          (k + copies_in f + vars_in f) k (which f) 0 0
-          (map (with_room_for k (copies_in f) (vars_in f)) meant))) fs gs
+          → IsPastGraph k (copies_in f) (vars_in f)
+          (map (collect rationals grevlex) (were f k meant)) fs gs
       graph_heavy out a h = graph_past (heavy_graph s.front s.copies s.variables (terms_each before)
           fs gs out a h)
 

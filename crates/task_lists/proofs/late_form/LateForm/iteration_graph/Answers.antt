@@ -41,23 +41,21 @@ returns-in_err-push_told-clause-wide c =
     (c.in_err-push_told.ensures.wide bs m (subst (λ (es : List Expo). All (IsExpoOver bs m) es)
     (sym c.as_slice.ensures.value) c.requires.fits.over) (cc (p.1, p.2, w))))
 
-pub before-requires-clause-copies : goal.before-requires-clause-copies
-before-requires-clause-copies c = copies_are c.args.self.now c.requires.fits _ c.args.shape
-    c.requires.shape ∙ ap passers (sym c.as_slice-2.ensures.value)
-
-pub before-requires-clause-few : goal.before-requires-clause-few
-before-requires-clause-few c = shape_few c.args.self.now c.requires.fits _ c.args.shape
-    c.requires.shape (omega arith)
-
-pub before-requires-clause-over : goal.before-requires-clause-over
-before-requires-clause-over c =
+pub before-requires : goal.before-requires
+before-requires c =
+    let f = c.args.self.now in
     let s = c.args.shape in
-    let m = vars_in c.args.self.now in
     let a = c.requires.shape.front in
     let b = c.requires.shape.variables in
-    subst (λ ps. All (IsInVariables (s.front + s.variables)) ps) (sym c.deref.ensures.value)
-    (subst (λ n. All (IsInVariables n) c.push_told.new.out.items) (omega (arith, a, b))
-    (stands_over m _ _ (all_told (goal.at.before-requires-clause-over c).In_ok-push_told)))
+    record {
+      copies = copies_are f c.requires.fits _ s c.requires.shape
+          ∙ ap passers (sym c.as_slice-2.ensures.value);
+      few = shape_few f c.requires.fits _ s c.requires.shape (omega arith);
+      over = subst (λ ps. All (IsInVariables (s.front + s.variables)) ps)
+          (sym c.deref.ensures.value)
+          (subst (λ n. All (IsInVariables n) c.push_told.new.out.items) (omega (arith, a, b))
+          (stands_over (vars_in f) _ _ (all_told (goal.at.before-requires c).In_ok-push_told)));
+    }
 
 stands : (c : In_ok-before) → AllStandFor (width_of c.args.shape) c.in_ok-before.before.items
     (before_in (width_of c.args.shape) c.args.shape.front c.args.self.now.passing.now.items 0
