@@ -92,19 +92,16 @@ graph-requires-clause-before c =
     (iteration_told f c.requires.fits _ (all_told at.In_ok-push_told))
     (iteration_count f c.requires.fits) c.in_ok-before.before.items (stands at.In_ok-before)
 
-pub returns-clause-graph : goal.returns-clause-graph
-returns-clause-graph c =
+pub returns : goal.returns
+returns c =
     let f = c.args.self.now in
-    let at = goal.at.returns-clause-graph c in
-    IfOk-weaker c.graph.result _ _ (λ out a. graph_stands f c.requires.fits _ c.args.shape
-    c.requires.shape _ _ (iteration_told f c.requires.fits _ (all_told at.In_ok-push_told))
-    (iteration_count f c.requires.fits) c.in_ok-before.before.items (stands at.In_ok-before) _ _
-    out.items a) c.graph.ensures.graph
-
-pub returns-clause-wide : goal.returns-clause-wide
-returns-clause-wide c = λ w.
-    let f = c.args.self.now in
-    let at = goal.at.returns-clause-wide c in
-    inr (graph_past f c.requires.fits _ c.args.shape c.requires.shape _ _ (iteration_told f
-    c.requires.fits _ (all_told at.In_ok-push_told)) (iteration_count f c.requires.fits)
-    c.in_ok-before.before.items (stands at.In_ok-before) _ _ (c.graph.ensures.wide w))
+    let at = goal.at.returns c in
+    let told = iteration_told f c.requires.fits _ (all_told at.In_ok-push_told) in
+    let count = iteration_count f c.requires.fits in
+    record {
+      graph = IfOk-weaker c.graph.result _ _ (λ out. graph_stands f c.requires.fits _ c.args.shape
+          c.requires.shape _ _ told count _ (stands at.In_ok-before) _ _ out.items)
+          c.graph.ensures.graph;
+      wide = λ w. inr (graph_past f c.requires.fits _ c.args.shape c.requires.shape _ _ told count
+          _ (stands at.In_ok-before) _ _ (c.graph.ensures.wide w));
+    }
