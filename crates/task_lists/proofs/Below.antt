@@ -1,7 +1,7 @@
 -- Products below a monomial, place by place.
---   below_step          all from a place on are below exactly where the one at this place is, and all behind it
---   below_holds, below_fails     the one at a place is below, or isn't
---   below_end           behind the last there is none
+--   BelowFrom i         whether all are below depends on the places from i on alone
+--   below_start, below_more, below_end     from the first place, from the next, and behind the last
+--   below_fails         where the one at a place isn't below
 use Rattle.std.proofs.Common.{◌≡◌, ◌↔◌, ℕ, suc, ◌+◌, ◌<◌, ◌≤◌, Bool, true, false, List, [], ◌∷◌, get_or, drop, length, IsTrue, sym, ap, subst, ◌∙◌, add-one, true≢false}
 use Rattle.std.proofs.Math.Seq.{drop-cons}
 use Rattle.std.proofs.lemmas.List.{drop_all}
