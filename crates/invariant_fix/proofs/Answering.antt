@@ -168,8 +168,7 @@ module _ {p : FracPoly} {gs list : List FracPoly} {old mid new : Journal}
 
   pub yes_member : terms_in d.remainder ≡ [] → {qs : Vec FracPoly Global} → qs ≡ d.cofactors
       → Same ℚ (terms_in p) (combination ℚ (terms_each d.cofactors.items) (terms_each list)
-      ++ terms_in d.remainder)
-      → (⊤ ↔ IsMember ℚ p.arity (terms_each gs) (terms_in p))
+      ++ terms_in d.remainder) → (⊤ ↔ IsMember ℚ p.arity (terms_each gs) (terms_in p))
   yes_member r e s = (
     (λ t. record {
       cofactors = terms_each d.cofactors.items;

@@ -62,8 +62,7 @@ module _ (program : Program (Expr ℕ)) (p : Terms Fraction) (k : ℕ) (gs : Lis
 
   pub asking_answered : (t : division.State Fraction)
       → WorkToEnd (division.next rationals grevlex gs) (division.initial_state gs p) (asks before)
-      after t
-      → IsAnswered program p after k gs t
+      after t → IsAnswered program p after k gs t
   asking_answered t f = record {
     state = asking k gs t;
     follows = record {

@@ -17,21 +17,18 @@ module _ (v : ℕ) where
   has_target s = list_any (λ j. j == v) s.targets.items
 
   pub look : (b : List code.Statement) (k : ℕ) (s : code.Statement) → k < length b
-      → s ≡ get_or b k s
-      → assigned_by (drop k b) v ≡ has_target s || assigned_by (drop (k + 1) b) v
+      → s ≡ get_or b k s → assigned_by (drop k b) v ≡ has_target s || assigned_by (drop (k + 1) b) v
   look b k s l e = at_drop_more (λ c. assigned_by c v) b k s l
       ∙ ap (λ (z : code.Statement). has_target z || assigned_by (drop (k + 1) b) v) (sym e)
 
-  pub look_end : (b : List code.Statement) (k : ℕ) → length b ≤ k
-      → assigned_by (drop k b) v ≡ false
+  pub look_end : (b : List code.Statement) (k : ℕ) → length b ≤ k → assigned_by (drop k b) v ≡ false
   look_end b k l = at_drop_all (λ c. assigned_by c v) b k l
 
 module _ (b : List code.Statement) (i : ℕ) where
   next_assigned : assigned_variables (i + 1) (statements_in b)
       ≡ assigned_variables i (statements_in b) ++ cond (assigned_by b i) (i ∷ []) []
   next_assigned = ap (λ k. assigned_variables k (statements_in b)) (let q : i + 1 ≡ suc i =
-      omega arith in q)
-      ∙ assigned_next (statements_in b) i
+      omega arith in q) ∙ assigned_next (statements_in b) i
 
   pub more_assigned : assigned_by b i ≡ true
       → assigned_variables (i + 1) (statements_in b) ≡ assigned_variables i (statements_in b) ++ i

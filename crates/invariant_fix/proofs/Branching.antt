@@ -59,13 +59,11 @@ module _ (A : Setting) (k b : ℕ) (gs : List (Terms Fraction)) where
       (le-ltb (suc b) (length A.forms) l)
 
 meet_comes : (A : Setting) (k b : ℕ) (gs hs ls : List (Terms Fraction))
-    → (0 < b) ⊎ (0 < (form_of A b).since)
-    → after A (orbit k b gs hs) ls ≡ begin_meet A k b gs hs ls
+    → (0 < b) ⊎ (0 < (form_of A b).since) → after A (orbit k b gs hs) ls ≡ begin_meet A k b gs hs ls
 unfolding after
 meet_comes A k b gs hs ls h = go (form_of A b).since b h
   where
-    go : (d b : ℕ) → (0 < b) ⊎ (0 < d)
-        → after_orbit A d k b gs hs ls ≡ begin_meet A k b gs hs ls
+    go : (d b : ℕ) → (0 < b) ⊎ (0 < d) → after_orbit A d k b gs hs ls ≡ begin_meet A k b gs hs ls
     go zero zero (inl l) = absurd (omega (arith, l))
     go zero zero (inr l) = absurd (omega (arith, l))
     go zero (suc b) h = refl

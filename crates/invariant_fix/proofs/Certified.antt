@@ -105,6 +105,5 @@ module _ (program : Program (Expr ℕ)) (w : IsWellFormed program)
     closed_valid {qs = qs} s = record {
       starts = λ i l. (let v = invariant_at i l in passes_start program w (get_or gs i []) v.arity
           (zero_at_starts (get_or gs i []) v));
-      steps = λ b i lb li. step_passes b i lb li
-          ((s.each b (omega (arith, lb, count))).each i li);
+      steps = λ b i lb li. step_passes b i lb li ((s.each b (omega (arith, lb, count))).each i li);
     }

@@ -83,8 +83,7 @@ module _ {n m : ℕ} {list : List (Terms Fraction)} {gens : List Blocked}
       over_of = subst (λ n. AreOver n hs) rest h.arity
 
       pub reduced_of : IsReducedList m (terms_each hs)
-      reduced_of = subst (λ n. IsReducedList n (terms_each hs)) rest
-          (reduced_list _ h.reduced)
+      reduced_of = subst (λ n. IsReducedList n (terms_each hs)) rest (reduced_list _ h.reduced)
 
 -- ---- how many there are
 less_length : (xs ys : List (Terms Fraction)) → length xs ≡ length ys

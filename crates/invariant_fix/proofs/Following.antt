@@ -82,8 +82,7 @@ module _ (s : Setting) where
   unfolding next IsRun
   first_here es e = record {
     state = fresh;
-    run = subst (λ l. IsRun (short_moves (setting_of s)) fresh l fresh)
-        (sym e) refl;
+    run = subst (λ l. IsRun (short_moves (setting_of s)) fresh l fresh) (sym e) refl;
     is = refl;
     short = fresh_short (setting_of s);
   }

@@ -219,8 +219,7 @@ fits_branch b s h terms widths =
       form_count = h.count ∙ size;
       early = h.early;
       passing_count = h.told ∙ size;
-      passing = passing_is b.form h.base.is.coarsest.base.coprime
-          (polys ∙ size) (h.told ∙ size)
+      passing = passing_is b.form h.base.is.coarsest.base.coprime (polys ∙ size) (h.told ∙ size)
           (subst (λ n. ArePassing base n (bodies_of b.form.polys.items) b.form.passing.items) size
           h.passes);
     }
@@ -291,16 +290,11 @@ module _ (program : Program (Expr ℕ)) where
   pub refused_at : (n : ℕ) (images : Vec Polynomial Global) (cs : List Branch) (e : FormsError)
       → n < length program.branches → IsMapIn program (suc n) images → AreBranchesTo program n cs
       → IfRefusedBy (terms_each images.items) e → IfRefusedBranch program (refused_branch n e)
-  refused_at n images cs (forms_error.NotSolvable cycle) l i h r =
-      refused_here n cs l i h r
-  refused_at n images cs (forms_error.Eigen class) l i h r =
-      refused_here n cs l i h r
-  refused_at n images cs (forms_error.Range class sum) l i h r =
-      refused_here n cs l i h r
+  refused_at n images cs (forms_error.NotSolvable cycle) l i h r = refused_here n cs l i h r
+  refused_at n images cs (forms_error.Eigen class) l i h r = refused_here n cs l i h r
+  refused_at n images cs (forms_error.Range class sum) l i h r = refused_here n cs l i h r
   refused_at n images cs (forms_error.WideSplit class candidate power row) l i h r =
       refused_here n cs l i h r
-  refused_at n images cs (forms_error.LimitForm variable) l i h r =
-      refused_here n cs l i h r
-  refused_at n images cs (forms_error.WideForm variable) l i h r =
-      refused_here n cs l i h r
+  refused_at n images cs (forms_error.LimitForm variable) l i h r = refused_here n cs l i h r
+  refused_at n images cs (forms_error.WideForm variable) l i h r = refused_here n cs l i h r
   refused_at n images cs forms_error.Memory l i h r = tt

@@ -84,8 +84,7 @@ module _ (program : Program (Expr ℕ)) (b : List code.Statement) (fs : List Fra
   bm y = get_or (branch_map program (statements_in b)) y []
 
   pub values_count : length fs ≡ length program.names
-  values_count = stands_length m fs _ stand
-      ∙ length-branch_map program (statements_in b)
+  values_count = stands_length m fs _ stand ∙ length-branch_map program (statements_in b)
 
   pub values_over : AreOver (length program.names) fs
   values_over = stands_over m fs _ stand
@@ -94,12 +93,10 @@ module _ (program : Program (Expr ℕ)) (b : List code.Statement) (fs : List Fra
   value_arity y = arity_at m (terms_each fs) (arities_over m fs values_over) y
 
   bm_arity : (y : ℕ) → Arity m (bm y)
-  bm_arity y = arity_at m _
-      (arity-branch_map program (statements_in b)) y
+  bm_arity y = arity_at m _ (arity-branch_map program (statements_in b)) y
 
   same_at : (y : ℕ) → Same ℚ (value y) (bm y)
-  same_at y = AllSame-at ℚ (terms_each fs) _
-      (stands_same m fs _ stand) y
+  same_at y = AllSame-at ℚ (terms_each fs) _ (stands_same m fs _ stand) y
 
   before_arity : AllArity n (was m (statements_in b))
   before_arity = was_arity program (statements_in b)
@@ -134,8 +131,7 @@ module _ (program : Program (Expr ℕ)) (b : List code.Statement) (fs : List Fra
       subst (λ k. terms_each gens ≡ map (in_code_order k b) gs
       ++ map (λ v. put_value k b v (value v)) (assigned_variables k (statements_in b))) values_count
       h
-      ∙ ap₂ ◌++◌
-      (sym (map-map (collect rationals O) (of_what_was program (statements_in b)) gs))
+      ∙ ap₂ ◌++◌ (sym (map-map (collect rationals O) (of_what_was program (statements_in b)) gs))
       (differences_same ys ∙ sym (map-map (collect rationals O) less ys))
       ∙ sym (map-append (collect rationals O) (map (of_what_was program (statements_in b)) gs)
       (map less ys))
@@ -211,8 +207,7 @@ module _ (program : Program (Expr ℕ)) (b : List code.Statement) (basis : List 
             (between program (statements_in b) (terms_each basis)).start j.entries;
         ended = subst (λ l. HasEnded (elimination.next rationals (blocks size grevlex grevlex)
             grevlex (free_part size)) (elimination.initial_state rationals
-            (blocks size grevlex grevlex) l))
-            (sym e) (nothing_comes size);
+            (blocks size grevlex grevlex) l)) (sym e) (nothing_comes size);
       };
       gives = ap terms_each none
           ∙ subst (λ l. [] ≡ elimination.list_of grevlex (free_part size)

@@ -181,8 +181,7 @@ module _ (m : ℕ) (ps gs : List FracPoly) (over : AreOver m ps) where
           let e = All-head (λ (q : FracPoly). q.arity ≡ m) p ps o in
           inr (
             subst (λ n. AreOver n gs) e h.arity,
-            subst (λ n. IsReducedList n (terms_each gs)) e
-                (reduced_list _ h.reduced),
+            subst (λ n. IsReducedList n (terms_each gs)) e (reduced_list _ h.reduced),
           )
 
 module _ (m : ℕ) (hs ks gs : List FracPoly) (over : AreOver m hs) (too : AreOver m ks) where
@@ -194,8 +193,7 @@ module _ (m : ℕ) (hs ks gs : List FracPoly) (over : AreOver m hs) (too : AreOv
           → AreOver m gs × IsReducedList m (terms_each gs)
       at n e I h = (
         subst (λ k. AreOver k gs) e h.arity,
-        subst (λ k. IsReducedList k (terms_each gs)) e
-            (reduced_list I h.reduced),
+        subst (λ k. IsReducedList k (terms_each gs)) e (reduced_list I h.reduced),
       )
 
       go : (hs ks : List FracPoly) → AreOver m hs → AreOver m ks → IsIntersection hs ks gs

@@ -35,8 +35,7 @@ module _ (m : ℕ) (b : List code.Statement) where
     where
       go : (t : Bool)
           → variable_of (all m b) (cond t (copy_of (statements_in b) v) (copies m (statements_in b)
-          + v))
-          ≡ cond t (variable_of (all m b) (copy_of (statements_in b) v))
+          + v)) ≡ cond t (variable_of (all m b) (copy_of (statements_in b) v))
           (variable_of (all m b) (copies m (statements_in b) + v))
       go true = refl
       go false = refl
@@ -49,8 +48,7 @@ module _ (m : ℕ) (b : List code.Statement) where
       ap terms_each e ∙ map-append terms_in ps (p ∷ [])
       ∙ ap₂ (λ xs x. xs ++ x ∷ []) h (is ∙ before_at v)
       ∙ sym (ap (λ k. list_from 0 k (was_at m (statements_in b)))
-      (let q : v + 1 ≡ suc v = omega arith in q)
-      ∙ listed_next (was_at m (statements_in b)) 0 v
+      (let q : v + 1 ≡ suc v = omega arith in q) ∙ listed_next (was_at m (statements_in b)) 0 v
       ∙ ap (λ k. list_from 0 v (was_at m (statements_in b)) ++ was_at m (statements_in b) k ∷ [])
       (let q : 0 + v ≡ v = omega arith in q))
 
@@ -98,8 +96,7 @@ module _ {w : CodeInWork} (u : IsCodeInWork w) (ps : List FracPoly) (are : AreTh
 
   pub put_at : (g : Terms Fraction) (p : Blocked)
       → terms_in p ≡ collect rationals (blocks k grevlex grevlex)
-      (compose ℚ (k + n) g (terms_each ps))
-      → terms_in p ≡ in_code_order m b g
+      (compose ℚ (k + n) g (terms_each ps)) → terms_in p ≡ in_code_order m b g
   put_at g p h = h
       ∙ ap₂ (λ (k n : ℕ). collect rationals (blocks k grevlex grevlex)
       (compose ℚ (k + n) g (terms_each ps))) u.count size
@@ -128,8 +125,7 @@ module _ {w : CodeInWork} (u : IsCodeInWork w) (ps : List FracPoly) (are : AreTh
       (variable_of (copies m (statements_in b) + m) (copies m (statements_in b) + v)
       ++ negate ℚ (compose ℚ (copies m (statements_in b) + m) f qs))) are.0
 
-  pub past_value_at : (v : ℕ) (f : Terms Fraction)
-      → IsPastComposition fractions f (terms_each ps)
+  pub past_value_at : (v : ℕ) (f : Terms Fraction) → IsPastComposition fractions f (terms_each ps)
       ⊎ IsPastSum fractions (variable_of (k + n) (k + v))
       (collect rationals grevlex (compose ℚ (k + n) f (terms_each ps))) → IsPastValueOf m b f v
   past_value_at v f (inl p) = inl (past_at f p)
@@ -163,13 +159,11 @@ module _ (b : List code.Statement) (fs : List FracPoly) (v : ℕ) where
   less_at y = put_value (length fs) b y (get_or (terms_each fs) y [])
 
   pub one_difference : (first : List (Terms Fraction)) (gens : List Blocked) {news : List Blocked}
-      (p : Blocked)
-      → assigned_by b v ≡ true → news ≡ gens ++ p ∷ [] → terms_in p ≡ less_at v
+      (p : Blocked) → assigned_by b v ≡ true → news ≡ gens ++ p ∷ [] → terms_in p ≡ less_at v
       → terms_each gens ≡ first ++ map less_at (assigned_variables v (statements_in b))
       → terms_each news ≡ first ++ map less_at (assigned_variables (v + 1) (statements_in b))
   one_difference first gens p t e is h =
-      ap terms_each e ∙ map-append terms_in gens (p ∷ [])
-      ∙ ap₂ (λ xs x. xs ++ x ∷ []) h is
+      ap terms_each e ∙ map-append terms_in gens (p ∷ []) ∙ ap₂ (λ xs x. xs ++ x ∷ []) h is
       ∙ append_assoc first (map less_at (assigned_variables v (statements_in b))) (less_at v ∷ [])
       ∙ ap (λ l. first ++ l) (sym (ap (map less_at) (more_assigned b v t)
       ∙ map-append less_at (assigned_variables v (statements_in b)) (v ∷ [])))

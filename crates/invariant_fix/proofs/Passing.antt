@@ -21,10 +21,8 @@ use Rattle.invariant_fix.proofs.Tests.{test_here, tests_go_on, tests_end}
 
 -- what is so of the first n, by what each is seen as, and of one more
 one_more : {X Y : Type 0} (f : X → Y) (d : Y) (P : ℕ → Y → Type 0) (n : ℕ) (qs news : List X)
-    (q : X)
-    → length qs ≡ n → ((i : ℕ) → i < n → P i (get_or (map f qs) i d)) → news ≡ qs ++ q ∷ []
-    → P n (f q)
-    → (length news ≡ n + 1) × ((i : ℕ) → i < n + 1 → P i (get_or (map f news) i d))
+    (q : X) → length qs ≡ n → ((i : ℕ) → i < n → P i (get_or (map f qs) i d)) → news ≡ qs ++ q ∷ []
+    → P n (f q) → (length news ≡ n + 1) × ((i : ℕ) → i < n + 1 → P i (get_or (map f news) i d))
 one_more f d P n qs news q count each e is = (
   (let x = ap length e in let y = length-append qs (q ∷ []) in omega (arith, x, y, count)),
   (λ i l. at i (let k : (i < n) ⊎ (i ≡ n) = below_or_last i n l in k)),

@@ -16,8 +16,7 @@ module _ (A : Setting) where
   unfolding short_moves
   short_step s h = go (ltb most_terms (task_length A s)) refl
     where
-      go : (b : Bool) → ltb most_terms (task_length A s) ≡ b
-          → cond b None (moves A s) ≡ moves A s
+      go : (b : Bool) → ltb most_terms (task_length A s) ≡ b → cond b None (moves A s) ≡ moves A s
       go true e = absurd (h (ltb-true most_terms (task_length A s) e))
       go false e = refl
 

@@ -200,8 +200,7 @@ module _ (p : Program (Expr ℕ)) (bs : List (List (Statement (Expr ℕ)))) (xs 
       few = let f = h.few in omega (arith, f, few, units);
     }
 
-    pub stage_refused : (e : AnalyseError)
-        → IsStoppedFrom (loop_of p bs) (Some (terms_each ks)) m e
+    pub stage_refused : (e : AnalyseError) → IsStoppedFrom (loop_of p bs) (Some (terms_each ks)) m e
         → IsRefusedStage p code bs xs budget m (loop_error.Analysis e)
     stage_refused (error.Map e) r = absurd r
     stage_refused (error.Branch b e) r = absurd r
@@ -222,8 +221,7 @@ module _ (p : Program (Expr ℕ)) (bs : List (List (Statement (Expr ℕ)))) (xs 
     (
       r.limit ∙ limit_is,
       some_code (λ code. let N = between p code (terms_each xs) in
-          PastAfter N.next N.IsPastNext N.start [] m.entries
-          ⊎ ((m.entries ≡ []) × N.IsPastStart)
+          PastAfter N.next N.IsPastNext N.start [] m.entries ⊎ ((m.entries ≡ []) × N.IsPastStart)
           → IsPastLeading p code (terms_each xs) m.entries) (λ a cs h. h) code some
           (elim r.to [
             | inl q ↦ inl

@@ -72,8 +72,7 @@ module _ (A : Setting) where
   pub closing_short : (k b i : ℕ) (gs : List (Terms Fraction)) (s : division.State Fraction)
       → (most_terms < composition_length (get_or gs i []) (get_or A.maps b []) → ⊥)
       → IsLong A (closing k b i gs s) → ⊥
-  closing_short k b i gs s few l =
-      few (subst (λ n. most_terms < n) (sym (closing_is k b i gs s)) l)
+  closing_short k b i gs s few l = few (subst (λ n. most_terms < n) (sym (closing_is k b i gs s)) l)
 
 pub alike_length : (A : Setting) (ss : List (Terms Fraction)) (t : State)
     → task_length (with_starts A ss) t ≡ task_length A t

@@ -5,7 +5,7 @@
 --   test_refused                   what a refusal of it tells
 --   nothing_left, something_left   what a rest tells of the state that a division has ended with
 --   test_here, tests_go_on, tests_end     the tests one after another
-use Rattle.std.proofs.Common.{◌≡◌, ◌≢◌, ℕ, suc, ◌<◌, ◌≤◌, Bool, true, false, cond, ltb, ◌&&◌, List, [], ◌∷◌, length, get_or, Option, Some, None, refl, sym, ap, subst, ◌∙◌, arith}
+use Rattle.std.proofs.Common.{◌≡◌, ◌≢◌, ℕ, suc, ◌<◌, ◌≤◌, Bool, true, false, cond, ltb, ◌&&◌, List, [], ◌∷◌, length, get_or, Option, Some, None, refl, sym, ap, ap₂, subst, ◌∙◌, arith}
 use Rattle.std.proofs.lemmas.Bool.{lt-ltb, le-ltb}
 use Rattle.algebra.specs.Fraction.{Fraction, rationals, fractions}
 use Rattle.polynomials.specs.Terms.{Terms}
@@ -42,15 +42,13 @@ unfolding division.next division.next_division division.next_cut find_cut
 nothing_left gs s h e = go s.current h e
   where
     go : (o : Option (Terms Fraction)) → division.next_division rationals grevlex gs o s.cofactors
-        ≡ None
-        → division.remainder_of o ≡ [] → o ≡ None
+        ≡ None → division.remainder_of o ≡ [] → o ≡ None
     go None h e = refl
     go (Some []) h e = absurd (let z : ⊥ = cc in z)
     go (Some (t ∷ p)) h e = absurd (let z : ⊥ = cc in z)
 
 pub something_left : (s : division.State Fraction) → division.remainder s ≢ []
-    → (p : Terms Fraction)
-    × (s.current ≡ Some p)
+    → (p : Terms Fraction) × (s.current ≡ Some p)
 something_left s n = go s.current n
   where
     go : (o : Option (Terms Fraction)) → division.remainder_of o ≢ [] → (p : Terms Fraction)
@@ -110,8 +108,7 @@ module _ {A : Setting} {k b i : ℕ} {gs : List (Terms Fraction)} {p : Terms Fra
     test_ended t f =
         part_ended (test_part A k b i gs few) (division.initial_state gs p) mid here new t f
 
-    pub test_passed : (t : division.State Fraction)
-        → WorkToEnd (division.next rationals grevlex gs)
+    pub test_passed : (t : division.State Fraction) → WorkToEnd (division.next rationals grevlex gs)
         (division.initial_state gs p) mid.entries new.entries t → t.current ≡ None
         → Comes A new.entries (closing_from A k b (suc i) gs)
     test_passed t f e = subst (λ o. Comes A new.entries (after_test A k b i gs o)) e
@@ -142,35 +139,32 @@ module _ (A : Setting) (k b : ℕ) (gs : List (Terms Fraction)) where
       ap (λ o. cond o (test A k b i gs) (cond (ltb 0 (length gs) && ltb (suc b) (length A.forms))
       (test A k (suc b) 0 gs) (after_closing A A.asked k gs))) (lt-ltb i (length gs) l)
 
-  behind : closing_from A k b (length gs) gs
-      ≡ cond (ltb 0 (length gs) && ltb (suc b) (length A.forms)) (test A k (suc b) 0 gs)
-      (after_closing A A.asked k gs)
+  behind : {more : Bool} → ltb (suc b) (length A.forms) ≡ more → closing_from A k b (length gs) gs
+      ≡ cond (ltb 0 (length gs) && more) (test A k (suc b) 0 gs) (after_closing A A.asked k gs)
   unfolding closing_from
-  behind = ap (λ o. cond o (test A k b (length gs) gs)
-      (cond (ltb 0 (length gs) && ltb (suc b) (length A.forms)) (test A k (suc b) 0 gs)
-      (after_closing A A.asked k gs))) (le-ltb (length gs) (length gs) (omega arith))
+  behind e = ap₂ (λ o more. cond o (test A k b (length gs) gs)
+      (cond (ltb 0 (length gs) && more) (test A k (suc b) 0 gs) (after_closing A A.asked k gs)))
+      (le-ltb (length gs) (length gs) (omega arith)) e
 
   pub tests_go_on : suc b < length A.forms → closing_from A k b (length gs) gs ≡ closing_from A k
       (suc b) 0 gs
   unfolding closing_from
-  tests_go_on l = behind ∙ go (ltb 0 (length gs)) (ltb (suc b) (length A.forms))
-      (ltb (suc (suc b)) (length A.forms)) (lt-ltb (suc b) (length A.forms) l)
+  tests_go_on l = behind (lt-ltb (suc b) (length A.forms) l)
+      ∙ go (ltb 0 (length gs)) (ltb (suc (suc b)) (length A.forms))
     where
-      go : (some more still : Bool) → more ≡ true
-          → cond (some && more) (test A k (suc b) 0 gs) (after_closing A A.asked k gs)
+      go : (some still : Bool)
+          → cond (some && true) (test A k (suc b) 0 gs) (after_closing A A.asked k gs)
           ≡ cond some (test A k (suc b) 0 gs)
           (cond (some && still) (test A k (suc (suc b)) 0 gs) (after_closing A A.asked k gs))
-      go true true still e = refl
-      go true false still e = absurd (let z : ⊥ = cc in z)
-      go false more still e = refl
+      go true still = refl
+      go false still = refl
 
   pub tests_end : length A.forms ≤ suc b → A.asked ≡ None → closing_from A k b (length gs) gs
       ≡ finished k gs
-  tests_end l n = behind ∙ go (ltb 0 (length gs)) (ltb (suc b) (length A.forms))
-      (le-ltb (suc b) (length A.forms) l) ∙ ap (λ o. after_closing A o k gs) n
+  tests_end l n = behind (le-ltb (suc b) (length A.forms) l) ∙ go (ltb 0 (length gs))
+      ∙ ap (λ o. after_closing A o k gs) n
     where
-      go : (some more : Bool) → more ≡ false → cond (some && more) (test A k (suc b) 0 gs)
+      go : (some : Bool) → cond (some && false) (test A k (suc b) 0 gs)
           (after_closing A A.asked k gs) ≡ after_closing A A.asked k gs
-      go true true e = absurd (let z : ⊥ = cc in z)
-      go true false e = refl
-      go false more e = refl
+      go true = refl
+      go false = refl

@@ -419,8 +419,7 @@ module _ {w : BranchInWork} {old : Journal} (at : IsInWork w old) (branch : Bran
 
     iteration_size : (hs : List (Terms Fraction))
         → iteration_length (form_of branch.form) (length branch.images.items)
-        (terms_each branch.images.items) (terms_each ks)
-        ≡ work_length (setting_of s) (iterating hs)
+        (terms_each branch.images.items) (terms_each ks) ≡ work_length (setting_of s) (iterating hs)
     iteration_size hs =
         ap₂ (λ (f : form.Form) m. iteration_length f m (terms_each branch.images.items)
         (terms_each ks)) (sym form_at) vars_at
@@ -480,8 +479,7 @@ module _ {w : BranchInWork} {old : Journal} (at : IsInWork w old) (branch : Bran
           known _ (units_of new.entries) (inr (
             subst (λ m. AreOver m ls.items) vars_at over,
             subst (λ m. IsReducedList m (terms_each ls.items)) vars_at reduced,
-          ))
-          (omega (arith, bound, few, b, d, e, more))
+          )) (omega (arith, bound, few, b, d, e, more))
 
     pub iteration_long : (hs : List (Terms Fraction)) → Awaits w old (iteration_begins w i ks hs)
         → most_terms < iteration_length (form_of branch.form) (length branch.images.items)

@@ -55,5 +55,4 @@ returns-clause-refused c =
     let e = c.in_ok-setting.ensures in
     IfErr-weaker c.analyse_in.result _ _ (λ r h. refused_stopped (program_of c.args.lp.now)
     (Some (terms_each c.args.first.now)) e.free e.forms c.args.meter.now c.analyse_in.new.meter
-    r h)
-    (c.analyse_in.ensures.refused (program_of c.args.lp.now) (formed c.args.lp.now) e.setting)
+    r h) (c.analyse_in.ensures.refused (program_of c.args.lp.now) (formed c.args.lp.now) e.setting)

@@ -11,5 +11,4 @@ returns-in_err-branches-clause-refused c =
     c.in_err-branches.ensures.refused)
 
 pub returns-clause-forms : goal.returns-clause-forms
-returns-clause-forms c =
-    all_forms (program_of c.args.lp.now) c.in_ok-branches.ensures.branches
+returns-clause-forms c = all_forms (program_of c.args.lp.now) c.in_ok-branches.ensures.branches

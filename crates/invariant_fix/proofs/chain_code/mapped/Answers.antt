@@ -30,8 +30,7 @@ module _ (c : After-as_slice-code) where
   b = c.as_slice-code.result.now
 
   same : statements_in b ≡ code_in c.args.lp.now
-  same = ap statements_in c.as_slice-code.ensures.value
-      ∙ code_seen c.args.lp.now _
+  same = ap statements_in c.as_slice-code.ensures.value ∙ code_seen c.args.lp.now _
       c.branches.ensures.branches c.branches.ensures.some c.index-branches-0.is
 
   stand : AllStandFor (length program.names) c.args.values.now

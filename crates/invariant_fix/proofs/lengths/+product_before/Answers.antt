@@ -18,8 +18,7 @@ returns-in_default-2 t c =
     of_first _ (told_none _ _ c.args.exponents.now (inl c.in_default.ensures'.cases))
 
 pub returns-in_default-3 : goal.returns-in_default-3
-returns-in_default-3 t c =
-    of_first _ (lengths_none _ _ (inr c.in_default.ensures.cases))
+returns-in_default-3 t c = of_first _ (lengths_none _ _ (inr c.in_default.ensures.cases))
 
 pub returns-in_default-product_before : goal.returns-in_default-product_before
 returns-in_default-product_before t c =

@@ -89,8 +89,7 @@ returns-in-Some-clause-answered c = λ program k done.
 pub returns-in-None-clause-ok : goal.returns-in-None-clause-ok
 returns-in-None-clause-ok c =
     says_no (asked (goal.at.returns-in-None-clause-ok c).After-deref)
-    c.in_ok-division.ensures.ran.to
-    (c.in-None.ensures.none.0 refl)
+    c.in_ok-division.ensures.ran.to (c.in-None.ensures.none.0 refl)
 
 pub returns-in-None-clause-member : goal.returns-in-None-clause-member
 returns-in-None-clause-member c =

@@ -13,8 +13,7 @@ first_list-requires-clause-at c =
     record {
       fits = c.requires.fits;
       place = c.requires.fits.some_branch;
-      basis = known_later _ _ c.requires.basis
-          (omega (arith, u));
+      basis = known_later _ _ c.requires.basis (omega (arith, u));
     }
 
 pub first_list-requires-clause-next : goal.first_list-requires-clause-next
@@ -34,8 +33,7 @@ loop-place-init c =
       from = omega arith;
       known = known_later _ _ c.requires.basis (omega (arith, u, v));
       so_far = c.in_ok-so_far.ensures.list;
-      next = come_at s k gs 0 _
-          (omega arith) c.in_ok-so_far.ensures.next;
+      next = come_at s k gs 0 _ (omega arith) c.in_ok-so_far.ensures.next;
       units = omega (arith, u, v);
     }
 
@@ -75,8 +73,7 @@ loop-place-preserved c =
       from = (let o = i.from in omega (arith, o));
       known = known_later _ _ i.known c.in_ok-so_far-2.ensures.units;
       so_far = c.in_ok-so_far-2.ensures.list;
-      next = come_at s k gs c.loop-place.place _ (omega arith)
-          c.in_ok-so_far-2.ensures.next;
+      next = come_at s k gs c.loop-place.place _ (omega arith) c.in_ok-so_far-2.ensures.next;
       units = (let u = i.units in let v = c.in_ok-so_far-2.ensures.units in omega (arith, u, v));
     }
 

@@ -7,8 +7,7 @@ pub loop-basis-init : goal.loop-basis-init
 loop-basis-init c = record {
   limit = refl;
   known = c.requires.start;
-  next = started_closing c.args.setting.now _
-      c.requires.next;
+  next = started_closing c.args.setting.now _ c.requires.next;
   few = omega arith;
 }
 

@@ -44,12 +44,10 @@ pub returns-then-is_empty-clause-ended : goal.returns-then-is_empty-clause-ended
 returns-then-is_empty-clause-ended c = nothing_left c
 
 pub returns-then-is_empty-clause-basis : goal.returns-then-is_empty-clause-basis
-returns-then-is_empty-clause-basis c =
-    ended_basis _ _ _ _ (nothing_left c) (formed c.args.lp.now)
+returns-then-is_empty-clause-basis c = ended_basis _ _ _ _ (nothing_left c) (formed c.args.lp.now)
 
 pub returns-then-is_empty-clause-follows : goal.returns-then-is_empty-clause-follows
-returns-then-is_empty-clause-follows c =
-    followed _ _ c.in-Ok.ensures.follows
+returns-then-is_empty-clause-follows c = followed _ _ c.in-Ok.ensures.follows
 
 -- the elimination from the basis
 module _ (c : After-eliminated) where
@@ -109,8 +107,7 @@ returns-in-Ok-eliminated-clause-follows c =
 pub returns-in-Err-Wide-clause-follows : goal.returns-in-Err-Wide-clause-follows
 returns-in-Err-Wide-clause-follows c =
     let at = (goal.at.returns-in-Err-Wide-clause-follows c).After-eliminated in
-    worked at (stopped too_wide)
-    (stops at Wide c.in-Err-Wide.field-0-is c.in-Err-Wide.ensures.ran)
+    worked at (stopped too_wide) (stops at Wide c.in-Err-Wide.field-0-is c.in-Err-Wide.ensures.ran)
 
 pub returns-in-Err-Wide-clause-refused : goal.returns-in-Err-Wide-clause-refused
 returns-in-Err-Wide-clause-refused c =
@@ -142,17 +139,13 @@ returns-in-Err-Budget-eliminated-clause-refused c =
     )
 
 pub returns-in-Err-Budget-clause-follows : goal.returns-in-Err-Budget-clause-follows
-returns-in-Err-Budget-clause-follows c =
-    followed _ _ c.in-Err-Budget.ensures.follows
+returns-in-Err-Budget-clause-follows c = followed _ _ c.in-Err-Budget.ensures.follows
 
 pub returns-in-Err-Memory-clause-follows : goal.returns-in-Err-Memory-clause-follows
-returns-in-Err-Memory-clause-follows c =
-    followed _ _ c.in-Err-Memory.ensures.follows
+returns-in-Err-Memory-clause-follows c = followed _ _ c.in-Err-Memory.ensures.follows
 
 pub returns-in-Err-Memory-clause-refused : goal.returns-in-Err-Memory-clause-refused
-returns-in-Err-Memory-clause-refused c =
-    followed _ _ c.in-Err-Memory.ensures.follows
+returns-in-Err-Memory-clause-refused c = followed _ _ c.in-Err-Memory.ensures.follows
 
 pub returns-in-Err-clause-follows : goal.returns-in-Err-clause-follows
-returns-in-Err-clause-follows c =
-    followed _ _ c.in-Err.ensures.follows
+returns-in-Err-clause-follows c = followed _ _ c.in-Err.ensures.follows

@@ -25,8 +25,7 @@ returns-then-index-eq0-clause-next c =
     let e = c.if-index-eq0.true in
     IfOk-weaker c.orbit.result _ _
     (λ ls h. whole_done w c.orbit.new.meter (terms_each w.basis.now) ls.items c.requires.first
-    (since_is at e) h)
-    (c.orbit.ensures.next (terms_each w.basis.now) (due at e))
+    (since_is at e) h) (c.orbit.ensures.next (terms_each w.basis.now) (due at e))
 
 pub returns-then-index-eq0-clause-err : goal.returns-then-index-eq0-clause-err
 returns-then-index-eq0-clause-err c =

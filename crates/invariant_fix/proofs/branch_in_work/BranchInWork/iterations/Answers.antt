@@ -42,8 +42,7 @@ loop-taken-init c =
       limit = c.in_ok-so_far.ensures.limit ∙ c.in_ok-before.ensures.limit;
       from = omega arith;
       at = in_work_later c.requires.at (omega (arith, a, b));
-      before = known_later _ _
-          c.in_ok-before.ensures.list b;
+      before = known_later _ _ c.in_ok-before.ensures.list b;
       so_far = c.in_ok-so_far.ensures.list;
       next = iterations_go_on w new 0 _ _ _
           (subst (λ ks. Awaits w new (iteration_met w 0 c.args.so_far.now ks

@@ -52,8 +52,7 @@ module _ (c : After-sub) where
   ps = c.args.before.now.items
 
   over : AreOver n ps
-  over = over_at c.requires.work ps c.requires.before c.args.value.now.arity
-      c.requires.value
+  over = over_at c.requires.work ps c.requires.before c.args.value.now.arity c.requires.value
 
   abbrev put : Terms Fraction
   put = compose ℚ n (terms_in c.args.value.now) (terms_each ps)

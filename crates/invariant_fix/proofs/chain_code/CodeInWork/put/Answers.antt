@@ -22,8 +22,7 @@ module _ (c : Start) where
   ps = c.args.before.now.items
 
   over : AreOver n ps
-  over = over_at c.requires.work ps c.requires.before c.args.element.now.arity
-      c.requires.element
+  over = over_at c.requires.work ps c.requires.before c.args.element.now.arity c.requires.element
 
   size : arity_of ps ≡ n
   size = before_arity ps over (before_some c.requires.work ps c.requires.before)

@@ -9,12 +9,10 @@ use Rattle.invariant_fix.proofs.relations_ordering.ShownVariables.images.Goals a
 
 pub loop-var-init : goal.loop-var-init
 loop-var-init c = record {
-  list = no_images _ _
-      c.new-images.ensures.items;
+  list = no_images _ _ c.new-images.ensures.items;
   arity = subst
       (λ ps. All (λ (p : FracPoly). p.arity ≡ arity c.args.self.now.vars c.args.self.now.shown.now)
-      ps)
-      (sym c.new-images.ensures.items) (All-nil _);
+      ps) (sym c.new-images.ensures.items) (All-nil _);
 }
 
 pub loop-var-preserved : goal.loop-var-preserved

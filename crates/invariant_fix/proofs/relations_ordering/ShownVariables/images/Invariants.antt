@@ -11,7 +11,6 @@ abbrev pub invariant-loop-var : goal.invariant-loop-var
 invariant-loop-var l = record {
   list : terms_each l.images.items ≡ map
       (λ i. get_or (variables ℚ (arity l.self.vars l.self.shown.now))
-      (place_in (order l.self.vars l.self.shown.now) i) [])
-      (places 0 l.var);
+      (place_in (order l.self.vars l.self.shown.now) i) []) (places 0 l.var);
   arity : AreOver (arity l.self.vars l.self.shown.now) l.images.items;
 }
