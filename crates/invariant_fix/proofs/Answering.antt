@@ -211,11 +211,8 @@ module _ {p : FracPoly} {gs list : List FracPoly} {old mid new : Journal}
 
     pub no_answered : terms_in d.remainder ≢ [] → HasAnswered program (terms_in p) k (terms_each gs)
         new.entries No
-    no_answered r = let (q, e) = left r in record {
-      last = i.last;
-      answered = answered;
-      tells = ap is_some e;
-    }
+    no_answered r =
+        let (q, e) = left r in record { last = i.last; answered = answered; tells = ap is_some e }
 
     module _ (w : IsWellFormed program) (over : p.arity ≡ length program.names) where
       decides : (i.last.current ≡ None) ↔ Inv program (terms_in p)

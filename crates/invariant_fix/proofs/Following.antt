@@ -230,11 +230,8 @@ module _ {program : Program (Expr ℕ)} {s : Setting} {given : Option (List (Ter
   pub finished_of : {es : List Entry} {k : ℕ} {gs : List (Terms Fraction)}
       → Comes (setting_of s) es (finished k gs) → IsFinishedBy program given es k gs
   unfolding follows
-  finished_of {es} {k} {gs} c = record {
-    state = c.state;
-    follows = follows es c.state c.run;
-    is = follow_next c.state c.is;
-  }
+  finished_of {es} {k} {gs} c =
+      record { state = c.state; follows = follows es c.state c.run; is = follow_next c.state c.is }
 
   pub closed_by : (a : Analysis) {es : List Entry}
       → Comes (setting_of s) es (closed a.rounds a.basis.items)

@@ -212,19 +212,13 @@ known most units (inr h) l = record { arity = h.0; reduced = h.1; few = l }
 
 pub known_later : {m : ℕ} (most : ℕ) {k : ℕ} (n : ℕ) {gs : List FracPoly} → IsList m most k gs
     → k ≤ n → IsList m most n gs
-known_later most n h l = record {
-  arity = h.arity;
-  reduced = h.reduced;
-  few = (let f = h.few in omega (arith, f, l));
-}
+known_later most n h l =
+    record { arity = h.arity; reduced = h.reduced; few = (let f = h.few in omega (arith, f, l)) }
 
 pub in_work_later : {w : BranchInWork} {old new : Journal} → IsInWork w old → Follow old new
     → IsInWork w new
-in_work_later {w} {old} {new} h l = record {
-  fits = h.fits;
-  place = h.place;
-  basis = known_later _ _ h.basis l;
-}
+in_work_later {w} {old} {new} h l =
+    record { fits = h.fits; place = h.place; basis = known_later _ _ h.basis l }
 
 -- ---- in the words of division
 pub divisors_of : (o : Grevlex) {m : ℕ} (most : ℕ) {units : ℕ} (gs : List FracPoly)
@@ -239,11 +233,8 @@ divisors_of o most gs k i d l =
 -- ---- lists of more iterations
 pub known_more : (m most more k : ℕ) {gs : List FracPoly} → IsList m most k gs → most ≤ more
     → IsList m more k gs
-known_more m most more k h l = record {
-  arity = h.arity;
-  reduced = h.reduced;
-  few = (let f = h.few in omega (arith, f, l));
-}
+known_more m most more k h l =
+    record { arity = h.arity; reduced = h.reduced; few = (let f = h.few in omega (arith, f, l)) }
 
 pub iterations_few : (a n : ℕ) → n ≤ 12 → a * n ≤ a * 12
 iterations_few a n l = N.mul-le-mul_left a l

@@ -122,10 +122,8 @@ module _ {A : Setting} {S : Type 0} (M : Machine S) {into : S → State} {behind
     unit = h.unit;
     exhausted = h.exhausted;
   }
-  part_refused engine_error.Memory h = record {
-    state = into h.at;
-    run = part_at part M.start mid here new h.at h.work;
-  }
+  part_refused engine_error.Memory h =
+      record { state = into h.at; run = part_at part M.start mid here new h.at h.work }
 
 -- ---- a work
 module _ (A : Setting) (w : Work) where

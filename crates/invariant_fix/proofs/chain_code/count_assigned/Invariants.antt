@@ -4,7 +4,5 @@ use Rattle.corollaries.specs.CodeBetween.{copies}
 use Rattle.invariant_fix.proofs.chain_code.count_assigned.Given as goal
 
 abbrev pub invariant-loop-var : goal.invariant-loop-var
-invariant-loop-var l = record {
-  count : l.count ≡ copies l.var (statements_in l.code);
-  few : l.count ≤ l.var;
-}
+invariant-loop-var l =
+    record { count : l.count ≡ copies l.var (statements_in l.code); few : l.count ≤ l.var }

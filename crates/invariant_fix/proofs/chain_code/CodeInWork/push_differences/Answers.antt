@@ -10,10 +10,8 @@ use Rattle.invariant_fix.proofs.chain_code.CodeInWork.push_differences.Goals.{th
 use Rattle.invariant_fix.proofs.chain_code.CodeInWork.push_differences.Goals as goal
 
 pub loop-var-init : goal.loop-var-init
-loop-var-init c = record {
-  list = sym (append-nil (terms_each c.args.gens.now.items));
-  block = c.requires.block;
-}
+loop-var-init c =
+    record { list = sym (append-nil (terms_each c.args.gens.now.items)); block = c.requires.block }
 
 pub difference-requires-clause-value : goal.difference-requires-clause-value
 difference-requires-clause-value c =
