@@ -10,8 +10,7 @@
 use Rattle.std.proofs.Common.{◌≡◌, inr, ℕ, suc, ◌<◌, ◌≤◌, ◌+◌, List, [], ◌∷◌, map, length, get_or, Option, Some, None, refl, sym, ap, ap₂, subst, ◌∙◌, arith, All}
 use Rattle.std.specs.Global.{Vec}
 use Rattle.std.proofs.lemmas.List.{get_or-map, length-map}
-use Rattle.std.proofs.lemmas.List.Elements.{All-nil, All-cons, All-head, All-tail}
-use Rattle.algebra.proofs.Basics.{same_head, same_tail}
+use Rattle.std.proofs.lemmas.List.Elements.{All-map}
 use Rattle.algebra.specs.Fraction.{Fraction, rationals}
 use Rattle.polynomials.specs.Order.{grevlex}
 use Rattle.polynomials.specs.Terms.{Terms}
@@ -25,6 +24,7 @@ use Rattle.loops.specs.Map.{branch_map}
 use Rattle.loops.specs.Program.{Expr, Program, Statement}
 use Rattle.loops.specs.WellFormed.{IsWellFormed}
 use Rattle.loop_model.specs.Maps.{AreFree}
+use Rattle.loop_runs.proofs.Fits.{all_unmapped}
 use Rattle.poly.specs.Seen.{terms_in, terms_each}
 use Rattle.loop_model.specs.FracPoly.{FracPoly}
 use Rattle.ideal_ops.specs.Calls.{AreOver}
@@ -99,8 +99,7 @@ module _ (s : Setting) where
   begun_given at gs same {es = es} e =
       subst (λ ts. Comes (setting_of s) es (first_step (setting_of s) (Some ts))) same
       (subst (λ (o : Option (Vec FracPoly)).
-      Comes (setting_of s) es (first_step (setting_of s) (given_of o)))
-      at (first_here es e))
+      Comes (setting_of s) es (first_step (setting_of s) (given_of o))) at (first_here es e))
 
 module _ (program : Program (Expr ℕ)) (w : IsWellFormed program) (s : Setting)
     (fits : FitsSetting s)
@@ -396,12 +395,10 @@ few_given s v at firsts gs same units k =
 -- ---- the list that is given, copied
 over_same : (m : ℕ) (ps qs : List FracPoly) → map (λ (p : FracPoly). p.arity) ps
     ≡ map (λ (p : FracPoly). p.arity) qs → AreOver m qs → AreOver m ps
-over_same m [] qs e a = All-nil _
-over_same m (p ∷ ps) [] e a = absurd (let z : ⊥ = cc in z)
-over_same m (p ∷ ps) (q ∷ qs) e a =
-    All-cons (λ (p : FracPoly). p.arity ≡ m) p ps (same_head e
-    ∙ All-head (λ (p : FracPoly). p.arity ≡ m) q qs a) (over_same m ps qs (same_tail e)
-    (All-tail (λ (p : FracPoly). p.arity ≡ m) q qs a))
+over_same m ps qs e a =
+    let P : ℕ → Type 0 = λ k. k ≡ m in
+    all_unmapped P (λ (p : FracPoly). p.arity) ps
+    (subst (All P) (sym e) (All-map P (λ (p : FracPoly). p.arity) qs a))
 
 pub given_list : (s : Setting) (v : Vec FracPoly) → s.given ≡ Some v → (firsts gs : List FracPoly)
     → terms_each v.items ≡ terms_each firsts → terms_each gs ≡ terms_each firsts

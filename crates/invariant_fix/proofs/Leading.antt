@@ -130,8 +130,7 @@ module _ (program : Program (Expr ℕ)) (b : List code.Statement) (fs : List Fra
       ++ negate ℚ (of_what_was program (statements_in b) (bm y)) in
       subst (λ k. terms_each gens ≡ map (in_code_order k b) gs
       ++ map (λ v. put_value k b v (value v)) (assigned_variables k (statements_in b))) values_count
-      h
-      ∙ ap₂ ◌++◌ (sym (map-map (collect rationals O) (of_what_was program (statements_in b)) gs))
+      h ∙ ap₂ ◌++◌ (sym (map-map (collect rationals O) (of_what_was program (statements_in b)) gs))
       (differences_same ys ∙ sym (map-map (collect rationals O) less ys))
       ∙ sym (map-append (collect rationals O) (map (of_what_was program (statements_in b)) gs)
       (map less ys))
@@ -153,8 +152,7 @@ module _ (program : Program (Expr ℕ)) (b : List code.Statement) (fs : List Fra
   past_is basis h =
       go (subst (λ k. Any (λ g. IsPastComposition fractions g (was k (statements_in b)))
       (terms_each basis) ⊎ Any (λ v. IsPastValueOf k b (value v) v)
-      (assigned_variables k (statements_in b)))
-      values_count h)
+      (assigned_variables k (statements_in b))) values_count h)
     where
       go : Any (λ g. IsPastComposition fractions g (was m (statements_in b))) (terms_each basis)
           ⊎ Any (λ v. IsPastValueOf m b (value v) v) (assigned_variables m (statements_in b))
@@ -224,8 +222,7 @@ module _ (program : Program (Expr ℕ)) (b : List code.Statement) (basis : List 
       ∙ length-append _ _
       ∙ ap₂ ◌+◌ (length-map (terms_each basis) (of_what_was program (statements_in b))
       ∙ length-map basis terms_in)
-      (length-map (assigned_variables (length program.names) (statements_in b))
-      _)
+      (length-map (assigned_variables (length program.names) (statements_in b)) _)
 
   -- what comes of it is no more than the elements, the copies and the units
   pub few_mapped : (before after : Journal) (hs : Vec FracPoly Global)

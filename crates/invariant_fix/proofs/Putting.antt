@@ -58,6 +58,5 @@ pub all_put : (m : ℕ) (is : List ℕ) (basis : List FracPoly) (hs : List Block
 unfolding starting
 all_put m is basis hs h =
     h ∙ sym (map-map (λ (t : Terms Fraction). collect rationals (block_order m is)
-    (in_order m is t))
-    (λ (g : FracPoly). terms_in g) basis)
+    (in_order m is t)) (λ (g : FracPoly). terms_in g) basis)
     ∙ sym (map-map (collect rationals (block_order m is)) (in_order m is) (terms_each basis))

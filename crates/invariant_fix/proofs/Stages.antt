@@ -220,12 +220,11 @@ module _ (p : Program (Expr ℕ)) (bs : List (List (Statement (Expr ℕ)))) (xs 
     formed,
     (
       r.limit ∙ limit_is,
-      some_code (λ code. let N = between p code (terms_each xs) in
+      some_code (λ code.
+          let N = between p code (terms_each xs) in
           PastAfter N.next N.IsPastNext N.start [] m.entries ⊎ ((m.entries ≡ []) × N.IsPastStart)
-          → IsPastLeading p code (terms_each xs) m.entries) (λ a cs h. h) code some
-          (elim r.to [
-            | inl q ↦ inl
-                (subst (λ es. PastAfter M.next M.IsPastNext M.start es m.entries) none_yet q)
+          → IsPastLeading p code (terms_each xs) m.entries) (λ a cs h. h) code some (elim r.to [
+            | inl q ↦ inl (subst (λ es. PastAfter M.next M.IsPastNext M.start es m.entries) none_yet q)
             | inr q ↦ inr (ap (λ (j : Journal). j.entries) q.0 ∙ none_yet, q.1)
           ]),
     ),
@@ -251,6 +250,5 @@ module _ (p : Program (Expr ℕ)) (bs : List (List (Statement (Expr ℕ)))) (xs 
     r.limit ∙ limit_is,
     inr (some_code (λ code. let N = between p code (terms_each xs) in
         WorkFrom N.next N.start [] m.entries → HasMapped p code (terms_each xs) m.entries)
-        (λ a cs h. h) code some
-        (subst (λ es. WorkFrom M.next M.start es m.entries) none_yet r.to)),
+        (λ a cs h. h) code some (subst (λ es. WorkFrom M.next M.start es m.entries) none_yet r.to)),
   )

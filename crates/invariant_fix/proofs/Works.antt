@@ -137,6 +137,10 @@ pub record IsBegun (w : BranchInWork) (t : ℕ → journal.Task) (old mid : Jour
   pub named : n ≡ suc w.place
   pub begun : mid ≡ with_entry old (Begin (t n))
 
+pub begun_as : {w : BranchInWork} {t : ℕ → journal.Task} {old mid : Journal} {n : ℕ}
+    → IsInWork w old → n ≡ suc w.place → mid ≡ with_entry old (Begin (t n)) → IsBegun w t old mid n
+begun_as at named begun = record { at = at; named = named; begun = begun }
+
 begun_here : {w : BranchInWork} {t : ℕ → journal.Task} {old mid : Journal} {n : ℕ}
     → IsBegun w t old mid n → mid ≡ with_entry old (Begin (t (suc w.place)))
 begun_here {w} {t} {old} {mid} {n} h = h.begun ∙ ap (λ j. with_entry old (Begin (t j))) h.named

@@ -21,8 +21,7 @@ here c = let e = c.in_ok-setting.ensures in record {
 
 pub start_basis-requires-clause-next : goal.start_basis-requires-clause-next
 start_basis-requires-clause-next c =
-    let e = c.in_ok-setting.ensures in
-    begun_here c.in_ok-setting.setting e.given c.requires.unbegun
+    let e = c.in_ok-setting.ensures in begun_here c.in_ok-setting.setting e.given c.requires.unbegun
 
 pub returns-in_err-basis-clause-follows : goal.returns-in_err-basis-clause-follows
 returns-in_err-basis-clause-follows c =

@@ -144,8 +144,7 @@ stage_basis-requires-clause-one c =
 
 pub stage_basis-requires-clause-names : goal.stage_basis-requires-clause-names
 stage_basis-requires-clause-names c =
-    let is = alike (goal.at.stage_basis-requires-clause-names c).After-deref in
-    is.0.0 ∙ sym is.2.0
+    let is = alike (goal.at.stage_basis-requires-clause-names c).After-deref in is.0.0 ∙ sym is.2.0
 
 pub stage_basis-requires-clause-over : goal.stage_basis-requires-clause-over
 stage_basis-requires-clause-over c =

@@ -22,11 +22,10 @@ returns-in_default-3 t c = of_first _ (lengths_none _ _ (inr c.in_default.ensure
 
 pub returns-in_default-product_before : goal.returns-in_default-product_before
 returns-in_default-product_before t c =
-    told_past c.in-Some-Some-Some.passes.now c.in-Some-Some-Some.passing.now c.args.passing.now
-    (terms_in c.in-Some-Some-Some.first.now) (terms_each c.in-Some-Some-Some.back.now)
-    (terms_each c.args.back.now) c.in-Some-Some-Some.exponent.now c.in-Some-Some-Some.exponents.now
-    c.args.exponents.now c.in-Some-Some-Some.ensures'.cases.0
-    (ap terms_each c.in-Some-Some-Some.ensures''.cases.0) c.in-Some-Some-Some.ensures.cases.0
+    let s = c.in-Some-Some-Some in
+    told_past s.passes.now s.passing.now c.args.passing.now (terms_in s.first.now)
+    (terms_each s.back.now) (terms_each c.args.back.now) s.exponent.now s.exponents.now
+    c.args.exponents.now s.ensures'.cases.0 (ap terms_each s.ensures''.cases.0) s.ensures.cases.0
     (inl (none_above _ _ c.product_before.ensures c.in_default-product_before.not-Some))
 
 pub power_of-requires : goal.power_of-requires
@@ -35,24 +34,21 @@ power_of-requires t c = subst (λ n. 0 < n) (sym c.terms_before.ensures)
 
 pub returns-in_default-power_of : goal.returns-in_default-power_of
 returns-in_default-power_of t c =
-    told_past c.in-Some-Some-Some.passes.now c.in-Some-Some-Some.passing.now c.args.passing.now
-    (terms_in c.in-Some-Some-Some.first.now) (terms_each c.in-Some-Some-Some.back.now)
-    (terms_each c.args.back.now) c.in-Some-Some-Some.exponent.now c.in-Some-Some-Some.exponents.now
-    c.args.exponents.now c.in-Some-Some-Some.ensures'.cases.0
-    (ap terms_each c.in-Some-Some-Some.ensures''.cases.0) c.in-Some-Some-Some.ensures.cases.0
-    (inr (subst (λ n. most_terms < power_length n c.in-Some-Some-Some.exponent.now)
+    let s = c.in-Some-Some-Some in
+    told_past s.passes.now s.passing.now c.args.passing.now (terms_in s.first.now)
+    (terms_each s.back.now) (terms_each c.args.back.now) s.exponent.now s.exponents.now
+    c.args.exponents.now s.ensures'.cases.0 (ap terms_each s.ensures''.cases.0) s.ensures.cases.0
+    (inr (subst (λ n. most_terms < power_length n s.exponent.now)
     c.terms_before.ensures (none_above _ _ c.power_of.ensures c.in_default-power_of.not-Some)))
 
 pub returns : goal.returns
 returns t c =
+    let s = c.in-Some-Some-Some in
     let rest = some_is _ _ _ c.product_before.ensures c.in-Some.is in
     let power = some_is _ _ _ c.power_of.ensures c.in-Some-power_of.is in
-    let powers = ap (λ n. power_length n c.in-Some-Some-Some.exponent.now) c.terms_before.ensures in
-    told_more c.in-Some-Some-Some.passes.now c.in-Some-Some-Some.passing.now c.args.passing.now
-    (terms_in c.in-Some-Some-Some.first.now) (terms_each c.in-Some-Some-Some.back.now)
-    (terms_each c.args.back.now) c.in-Some-Some-Some.exponent.now
-    c.in-Some-Some-Some.exponents.now c.args.exponents.now
-    c.in-Some-Some-Some.ensures'.cases.0 (ap terms_each c.in-Some-Some-Some.ensures''.cases.0)
-    c.in-Some-Some-Some.ensures.cases.0
+    let powers = ap (λ n. power_length n s.exponent.now) c.terms_before.ensures in
+    told_more s.passes.now s.passing.now c.args.passing.now (terms_in s.first.now)
+    (terms_each s.back.now) (terms_each c.args.back.now) s.exponent.now s.exponents.now
+    c.args.exponents.now s.ensures'.cases.0 (ap terms_each s.ensures''.cases.0) s.ensures.cases.0
     c.in-Some.rest c.in-Some-power_of.power c.product.result rest.0 (power.0 ∙ powers)
     c.product.ensures

@@ -114,8 +114,7 @@ returns-in-Err-Wide-clause-refused c =
     let at = (goal.at.returns-in-Err-Wide-clause-refused c).After-eliminated in (
       c.in-Ok.ensures.free,
       c.in-Ok.ensures.forms,
-      wide_by _ _ c.analyse.new.meter
-          c.eliminated.new.meter (gs at) c.in-Ok.ensures.closed.finished
+      wide_by _ _ c.analyse.new.meter c.eliminated.new.meter (gs at) c.in-Ok.ensures.closed.finished
           (stops at Wide c.in-Err-Wide.field-0-is c.in-Err-Wide.ensures.ran),
     )
 
@@ -133,8 +132,7 @@ returns-in-Err-Budget-eliminated-clause-refused c =
     let e = c.in-Err-Budget-eliminated in (
       c.in-Ok.ensures.free,
       c.in-Ok.ensures.forms,
-      exhausted_by _ _ c.analyse.new.meter
-          c.eliminated.new.meter (gs at)
+      exhausted_by _ _ c.analyse.new.meter c.eliminated.new.meter (gs at)
           c.in-Ok.ensures.closed.finished (stops at Budget e.field-0-is e.ensures.ran),
     )
 

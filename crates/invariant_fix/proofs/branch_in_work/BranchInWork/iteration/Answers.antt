@@ -1,18 +1,14 @@
 use Rattle.std.proofs.Common.{sym, subst}
 use Rattle.invariant_fix.specs.InWork.{Stops}
 use Rattle.invariant_fix.proofs.LongLaws.{none_is_above, some_is_few}
-use Rattle.invariant_fix.proofs.Works.{IsBegun, iteration_at, iteration_long, iteration_next, iteration_known, iteration_units, iteration_refused}
+use Rattle.invariant_fix.proofs.Works.{IsBegun, begun_as, iteration_at, iteration_long, iteration_next, iteration_known, iteration_units, iteration_refused}
 use Rattle.invariant_fix.proofs.branch_in_work.BranchInWork.iteration.Goals.{In_ok-begin}
 use Rattle.invariant_fix.proofs.branch_in_work.BranchInWork.iteration.Goals as goal
 
 begun : (c : In_ok-begin) → IsBegun c.args.self.now
     (iteration_at c.args.self.now.round c.args.taken) c.args.meter.now c.begin.new.self
     c.number_of_place.result
-begun c = record {
-  at = c.requires.at;
-  named = c.number_of_place.ensures;
-  begun = c.in_ok-begin.ensures.ok;
-}
+begun c = begun_as c.requires.at c.number_of_place.ensures c.in_ok-begin.ensures.ok
 
 pub returns-then-is_none-clause-err : goal.returns-then-is_none-clause-err
 returns-then-is_none-clause-err c = λ hs a.

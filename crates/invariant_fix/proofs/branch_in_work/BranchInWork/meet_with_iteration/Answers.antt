@@ -1,18 +1,14 @@
 use Rattle.std.proofs.Common.{sym, subst}
 use Rattle.invariant_fix.specs.InWork.{Stops}
 use Rattle.invariant_fix.proofs.Lists.{one_arity, over_append, few_arity}
-use Rattle.invariant_fix.proofs.Works.{IsBegun, iteration_meet_at, iteration_met_next, iteration_met_known, iteration_met_units, iteration_met_refused}
+use Rattle.invariant_fix.proofs.Works.{IsBegun, begun_as, iteration_meet_at, iteration_met_next, iteration_met_known, iteration_met_units, iteration_met_refused}
 use Rattle.invariant_fix.proofs.branch_in_work.BranchInWork.meet_with_iteration.Goals.{In_ok-begin}
 use Rattle.invariant_fix.proofs.branch_in_work.BranchInWork.meet_with_iteration.Goals as goal
 
 begun : (c : In_ok-begin) → IsBegun c.args.self.now
     (iteration_meet_at c.args.self.now.round c.args.taken) c.args.meter.now c.begin.new.self
     c.number_of_place.result
-begun c = record {
-  at = c.requires.at;
-  named = c.number_of_place.ensures;
-  begun = c.in_ok-begin.ensures.ok;
-}
+begun c = begun_as c.requires.at c.number_of_place.ensures c.in_ok-begin.ensures.ok
 
 pub meet-requires-clause-alike : goal.meet-requires-clause-alike
 meet-requires-clause-alike c =

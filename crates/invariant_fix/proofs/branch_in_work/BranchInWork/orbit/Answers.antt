@@ -2,17 +2,13 @@ use Rattle.std.proofs.Common.{sym, subst}
 use Rattle.machines.specs.Journal.{Orbit}
 use Rattle.invariant_fix.specs.InWork.{Stops}
 use Rattle.invariant_fix.proofs.LongLaws.{none_is_above, some_is_few}
-use Rattle.invariant_fix.proofs.Works.{IsBegun, orbit_long, orbit_next, orbit_known, whole_known, orbit_units, orbit_refused}
+use Rattle.invariant_fix.proofs.Works.{IsBegun, begun_as, orbit_long, orbit_next, orbit_known, whole_known, orbit_units, orbit_refused}
 use Rattle.invariant_fix.proofs.branch_in_work.BranchInWork.orbit.Goals.{In_ok-begin}
 use Rattle.invariant_fix.proofs.branch_in_work.BranchInWork.orbit.Goals as goal
 
 begun : (c : In_ok-begin) → IsBegun c.args.self.now (Orbit c.args.self.now.round) c.args.meter.now
     c.begin.new.self c.number_of_place.result
-begun c = record {
-  at = c.requires.at;
-  named = c.number_of_place.ensures;
-  begun = c.in_ok-begin.ensures.ok;
-}
+begun c = begun_as c.requires.at c.number_of_place.ensures c.in_ok-begin.ensures.ok
 
 pub returns-then-is_none-clause-err : goal.returns-then-is_none-clause-err
 returns-then-is_none-clause-err c = λ hs a.

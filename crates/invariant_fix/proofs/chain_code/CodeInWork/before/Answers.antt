@@ -30,8 +30,7 @@ loop-var-preserved c =
     subst (λ k. c.place_before-place.result < k) (sym size) c.place_before-place.ensures.within in
     let is = variable_is _ n _ here p c.in_ok-variable.ensures.variable in
     record {
-      list = more_places m b c.loop-var.var c.loop-var.images.items p
-          c.in_ok-push.ensures.items
+      list = more_places m b c.loop-var.var c.loop-var.images.items p c.in_ok-push.ensures.items
           (is ∙ ap (λ k. variable_of k c.place_before-place.result) size
           ∙ ap (variable_of (all m b)) c.place_before-place.ensures.place)
           c.loop-var.invariant.list;
@@ -46,8 +45,7 @@ returns c = record {
   before = let a = c.loop-var-test.false in
       let b = c.loop-var.auto.var-end in (
         all_places (length c.args.self.now.values.now) c.args.self.now.code.now c.loop-var.var
-            c.loop-var.images.items (omega (arith, b)) (omega (arith, a))
-            c.loop-var.invariant.list,
+            c.loop-var.images.items (omega (arith, b)) (omega (arith, a)) c.loop-var.invariant.list,
         c.loop-var.invariant.over,
       );
 }
