@@ -224,7 +224,8 @@ module _ (p : Program (Expr ℕ)) (bs : List (List (Statement (Expr ℕ)))) (xs 
           let N = between p code (terms_each xs) in
           PastAfter N.next N.IsPastNext N.start [] m.entries ⊎ ((m.entries ≡ []) × N.IsPastStart)
           → IsPastLeading p code (terms_each xs) m.entries) (λ a cs h. h) code some (elim r.to [
-            | inl q ↦ inl (subst (λ es. PastAfter M.next M.IsPastNext M.start es m.entries) none_yet q)
+            | inl q ↦ inl (subst (λ es. PastAfter M.next M.IsPastNext M.start es m.entries)
+                none_yet q)
             | inr q ↦ inr (ap (λ (j : Journal). j.entries) q.0 ∙ none_yet, q.1)
           ]),
     ),
