@@ -6,14 +6,13 @@
 --   zip_forms                     so of all, where the forms of the branches are given
 --   fronts_count, place_inside, none_left       a setting has a form for each branch
 --   knows_later, in_work_later    what is known of a list, or of a round, stays
---   passed_error, lost            a refusal that is passed on; what is so where memory is wanting
+--   lost                          what is so where memory is wanting
 --   round_due, round_over, known_over     the next round, and behind it
 --   first_done, branch_done, known_row    behind the first branch, and behind another
 --   branch_due                    where a list is borrowed
 --   rounds_begun, known_begun     before the first round
 --   fronts_are                    how many variables are eliminated, by the forms
-use Rattle.std.proofs.Common.{◌≡◌, ℕ, zero, suc, ◌+◌, ◌<◌, ◌≤◌, List, [], ◌∷◌, ◌++◌, map, take, length, get_or, Result, Ok, Err, IfErr, refl, sym, ap, ap₂, subst, ◌∙◌, arith}
-use Rattle.std.specs.Result.{IsErrAnd}
+use Rattle.std.proofs.Common.{◌≡◌, ℕ, zero, suc, ◌+◌, ◌<◌, ◌≤◌, List, [], ◌∷◌, ◌++◌, map, take, length, get_or, refl, sym, ap, ap₂, subst, ◌∙◌, arith}
 use Rattle.std.specs.Global.{Vec}
 use Rattle.std.specs.List.{AllZip}
 use Rattle.std.proofs.lemmas.List.{length-map, map-append}
@@ -37,7 +36,6 @@ use Rattle.task_lists.specs.declared.parts.FullBranch.{FullBranch}
 use Rattle.task_lists.specs.declared.parts.FullForm.{FullForm}
 use Rattle.std.specs.Prelude.{vec_len}
 use Rattle.invariant_fix.specs.declared.branches.Branch.{Branch}
-use Rattle.invariant_fix.specs.declared.errors.AnalyseError.{AnalyseError}
 use Rattle.invariant_fix.specs.Steps.{Follow}
 use Rattle.invariant_fix.specs.declared.setting.Setting.{Setting}
 use Rattle.full_trace.specs.declared.round_in_work.RoundInWork.{RoundInWork}
@@ -152,11 +150,6 @@ in_work_later {w} {before} {after} h l = record {
 }
 
 -- ---- refusals
-pub passed_error : {X : Type 0} (P : AnalyseError → Type 0) (r : Result X AnalyseError)
-    (e : AnalyseError) → IsErrAnd r (λ y. y ≡ e) → P e → IfErr r P
-passed_error P (Ok x) e h p = absurd h
-passed_error P (Err y) e h p = subst P (sym h) p
-
 pub lost : (A : analysis.Setting) (R : ℕ) {es : List Entry} (step : Step) → Comes A R es step
     → IsGoing A R es
 lost A R step c = record { state = c.state; run = c.run }

@@ -22,18 +22,16 @@ use Rattle.monos.specs.declared.order.Order as Order
 use Rattle.poly.specs.declared.Poly.{Poly}
 use Rattle.poly.specs.Seen.{terms_in, terms_each}
 use Rattle.divide.specs.Division.{division_of, HasCofactors}
-use Rattle.divide.specs.Outcomes.{refusal_of}
-use Rattle.divide.specs.declared.EngineError.{EngineError}
 use Rattle.divide.specs.declared.dividing.Division.{Division}
 use Rattle.corollaries.specs.Rows.{AreDivided, IsRefusedIn}
 use Rattle.corollaries.proofs.AwaitingRows.{divided_behind}
 use Rattle.task_lists.specs.Rows.{rows_of}
 use Rattle.complete.specs.Completing.{AreLike}
 
-pub passed : {X : Type 0} (P : Refusal → Type 0) (r : Result X EngineError) (e : EngineError)
-    → IsErrAnd r (λ y. y ≡ e) → P (refusal_of e) → IfErr r (λ y. P (refusal_of y))
+pub passed : {X E : Type 0} (P : E → Type 0) (r : Result X E) (e : E) → IsErrAnd r (λ y. y ≡ e)
+    → P e → IfErr r P
 passed P (Ok x) e h p = absurd h
-passed P (Err y) e h p = subst (λ z. P (refusal_of z)) (sym h) p
+passed P (Err y) e h p = subst P (sym h) p
 
 -- polynomials over fractions, and divisions of them, in any order
 abbrev pub Polynomial : (O : Type 0) (k : Order.Ghosts O) (l : PartialEq.Ghosts O) → Type 0
@@ -54,6 +52,20 @@ module _ {O : Type 0} {k : Order.Ghosts O} {l : PartialEq.Ghosts O} where
     like_here : (p.order ≡ o) × (p.arity ≡ m)
     like_here = subst (λ (q : Polynomial O k l). (q.order ≡ o) × (q.arity ≡ m)) (sym is)
         (like i p within)
+
+    refused_here : (r : Refusal)
+        → Stops (machines.division fractions R (terms_each list) (terms_in p)) before after r
+        → IsRefusedIn R (terms_each list) (terms_each ps) first after r
+    refused_here r x = record {
+      earlier = terms_each (take i ps);
+      here = terms_in p;
+      later = terms_each (drop (suc i) ps);
+      is = at_index terms_in ps i p within is;
+      rows = rows_of rows;
+      between = before;
+      divided = so_far;
+      stops = x;
+    }
 
     module _ (d : Divided O k l) (ran : Ran (division_of p list) (HasCofactors p.order p.arity)
         before after
@@ -84,30 +96,14 @@ module _ {O : Type 0} {k : Order.Ghosts O} {l : PartialEq.Ghosts O} where
       row_like = subst (λ n. AreLike o n d.cofactors.items) like_here.1
           (subst (λ q. AreLike q p.arity d.cofactors.items) like_here.0 ended.gives.like)
 
-      pub row_lost : IsRefusedIn (k.order o) (terms_each list) (terms_each ps) first after
-          out_of_memory
-      row_lost = record {
-        earlier = terms_each (take i ps);
-        here = terms_in p;
-        later = terms_each (drop (suc i) ps);
-        is = at_index terms_in ps i p within is;
-        rows = rows_of rows;
-        between = before;
-        divided = so_far;
-        stops = record { at = ended.last; work = ended.finished.work };
-      }
+      pub row_lost : IsRefusedIn R (terms_each list) (terms_each ps) first after out_of_memory
+      row_lost = refused_here out_of_memory (record {
+        at = ended.last;
+        work = ended.finished.work;
+      })
 
     pub row_refused : {G : Divided O k l → division.State Fraction → Type 0} (r : Refusal)
         → Ran (division_of p list) G before after (stopped r)
         → IsRefusedIn (k.order o) (terms_each list) (terms_each ps) first after r
-    row_refused r ran = record {
-      earlier = terms_each (take i ps);
-      here = terms_in p;
-      later = terms_each (drop (suc i) ps);
-      is = at_index terms_in ps i p within is;
-      rows = rows_of rows;
-      between = before;
-      divided = so_far;
-      stops = subst (λ q. Stops (machines.division fractions (k.order q) (terms_each list)
-          (terms_in p)) before after r) like_here.0 ran.to;
-    }
+    row_refused r ran = refused_here r (subst (λ q. Stops (machines.division fractions
+        (k.order q) (terms_each list) (terms_in p)) before after r) like_here.0 ran.to)

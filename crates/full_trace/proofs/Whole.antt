@@ -35,7 +35,7 @@ use Rattle.full_trace.specs.Late.{BeginsAtZero}
 use Rattle.full_trace.specs.Tasks.{written_of, IsSettingIn, Along, Stops}
 use Rattle.full_trace.specs.Traced.{HasFollowed, IsTraceOf, IsStopped}
 use Rattle.full_trace.specs.declared.found.Trace.{Trace}
-use Rattle.full_trace.proofs.RoundsMade.{passed_error}
+use Rattle.full_trace.proofs.RowsMade.{passed}
 
 pub begins : (A : analysis.Setting) (R : ℕ) (es : List Entry) → es ≡ []
     → Comes A R es (goes (Begin journal.Start) (start_of A no_results starts))
@@ -178,7 +178,7 @@ module _ (s : Setting) (fits : FitsSetting s) (at_zero : All BeginsAtZero s.bran
       (r : Result X AnalyseError) → IsErrAnd r (λ y. y ≡ error.Memory)
       → HoldsOf s (λ program. IfErr r (IsStopped program R after))
   lost after step h r same = λ program w is.
-      passed_error (IsStopped program R after) r error.Memory same
+      passed (IsStopped program R after) r error.Memory same
       (going after.entries step h program w is)
 
   module _ (after : Journal) (e : AnalyseError) (h : FromStart (λ A. Stops A R after e)) where
@@ -188,6 +188,6 @@ module _ (s : Setting) (fits : FitsSetting s) (at_zero : All BeginsAtZero s.bran
 
     pub refused : {X : Type 0} (r : Result X AnalyseError) → IsErrAnd r (λ y. y ≡ e)
         → HoldsOf s (λ program. IfErr r (IsStopped program R after))
-    refused r same = λ program w is. passed_error (IsStopped program R after) r e same
+    refused r same = λ program w is. passed (IsStopped program R after) r e same
         (stopped_here w s fits is at_zero R after e
         (from_start (λ A. Stops A R after e) h program w is))

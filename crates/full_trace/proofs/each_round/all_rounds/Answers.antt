@@ -4,8 +4,9 @@ use Rattle.algebra.proofs.Lists.{have_more}
 use Rattle.poly.specs.Seen.{terms_each}
 use Rattle.task_lists.specs.View.{round_in}
 use Rattle.corollaries.specs.Rounds.{behind}
-use Rattle.full_trace.specs.Tasks.{Stops, after_rows, fronts_of, AreBranchesOver}
-use Rattle.full_trace.proofs.RoundsMade.{passed_error, lost, round_due, round_over, known_over, rounds_begun, known_begun}
+use Rattle.full_trace.specs.Tasks.{after_rows, fronts_of, AreBranchesOver}
+use Rattle.full_trace.proofs.RowsMade.{passed}
+use Rattle.full_trace.proofs.RoundsMade.{lost, round_due, round_over, known_over, rounds_begun, known_begun}
 use Rattle.full_trace.proofs.each_round.all_rounds.Goals as goal
 
 pub loop-round-init : goal.loop-round-init
@@ -25,7 +26,7 @@ loop-round-init c =
 
 pub returns-in_err-row-clause-refused : goal.returns-in_err-row-clause-refused
 returns-in_err-row-clause-refused c = λ links A i a.
-    passed_error (Stops A c.args.rounds c.stages.new.meter) _ _ c.from_residual.ensures.1
+    passed _ _ _ c.from_residual.ensures.1
     (c.in_err-row.ensures.refused c.args.rounds (behind (terms_each c.args.start.now.items) links
     (map round_in c.loop-round.found.items)) A i (round_due A _ c.args.start.now links _
     (c.list_behind-basis.ensures ∙ ap (after_rows c.args.start.now) c.deref.ensures.value) _
@@ -33,8 +34,7 @@ returns-in_err-row-clause-refused c = λ links A i a.
 
 pub returns-in_err-push-clause-refused : goal.returns-in_err-push-clause-refused
 returns-in_err-push-clause-refused c = λ links A i a.
-    passed_error (Stops A c.args.rounds c.stages.new.meter) _ _
-    c.from_residual-in_err-push.ensures.1 (lost A c.args.rounds _
+    passed _ _ _ c.from_residual-in_err-push.ensures.1 (lost A c.args.rounds _
     (c.in_ok-row.ensures.next c.args.rounds (behind (terms_each c.args.start.now.items) links
     (map round_in c.loop-round.found.items)) A i (round_due A _ c.args.start.now links _
     (c.list_behind-basis.ensures ∙ ap (after_rows c.args.start.now) c.deref.ensures.value) _

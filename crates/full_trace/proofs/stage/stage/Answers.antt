@@ -118,8 +118,7 @@ divide_pairs-requires-clause-inside c =
 pub returns-in_err-pairs-clause-refused : goal.returns-in_err-pairs-clause-refused
 returns-in_err-pairs-clause-refused c =
     let at = (goal.at.returns-in_err-pairs-clause-refused c).In_ok-gens in
-    passed (λ r. IsStageRefused c.args.front (terms_each c.args.begin.now) c.divide_pairs.new.meter
-    r c.args.meter.now) _ _ c.from_residual-in_err-pairs.ensures.1 (behind_gens at (inl
+    passed _ _ _ c.from_residual-in_err-pairs.ensures.1 (behind_gens at (inl
     (rw (c.deref-2.ensures.value, pairs_are at c.deref-3.ensures.value) at
     c.in_err-pairs.ensures.refused)))
 
@@ -136,8 +135,7 @@ tidy_in-requires-clause-few c = rw c.deref-4.ensures.value (free_short c.args.fr
 pub returns-in_err-out-clause-refused : goal.returns-in_err-out-clause-refused
 returns-in_err-out-clause-refused c =
     let at = goal.at.returns-in_err-out-clause-refused c in
-    passed (λ r. IsStageRefused c.args.front (terms_each c.args.begin.now) c.tidy_in.new.meter r
-    c.args.meter.now) _ _ c.from_residual-in_err-out.ensures.1 (behind_pairs at.In_ok-pairs (inl
+    passed _ _ _ c.from_residual-in_err-out.ensures.1 (behind_pairs at.In_ok-pairs (inl
     (rw (c.deref-4.ensures.value, free_here at.In-Ok-free_elements) at
     c.in_err-out.ensures.ran.to)))
 
@@ -166,8 +164,7 @@ divide_each-requires-2-clause-few c =
 pub returns-in_err-links-clause-refused : goal.returns-in_err-links-clause-refused
 returns-in_err-links-clause-refused c =
     let at = goal.at.returns-in_err-links-clause-refused c in
-    passed (λ r. IsStageRefused c.args.front (terms_each c.args.begin.now) c.divide_each-2.new.meter
-    r c.args.meter.now) _ _ c.from_residual-in_err-links.ensures.1 (behind_pairs at.In_ok-pairs (inr
+    passed _ _ _ c.from_residual-in_err-links.ensures.1 (behind_pairs at.In_ok-pairs (inr
     (record {
       out = terms_each c.in_ok-out.out.items;
       tidied = c.tidy_in.new.meter.entries;

@@ -36,8 +36,7 @@ behind_list c x = inr (record {
 
 pub returns-in_err-out-clause-refused : goal.returns-in_err-out-clause-refused
 returns-in_err-out-clause-refused c =
-    passed (λ r. IsStartRefused (terms_each c.args.starts.now) c.tidy_in.new.meter r
-    c.args.meter.now) _ _ c.from_residual-in_err-out.ensures.1
+    passed _ _ _ c.from_residual-in_err-out.ensures.1
     (behind_list (goal.at.returns-in_err-out-clause-refused c).In_ok-list
     (inl (rw c.deref.ensures.value at c.in_err-out.ensures.ran.to)))
 
@@ -63,8 +62,7 @@ divide_each-requires-clause-few c =
 pub returns-in_err-links-clause-refused : goal.returns-in_err-links-clause-refused
 returns-in_err-links-clause-refused c =
     let at = goal.at.returns-in_err-links-clause-refused c in
-    passed (λ r. IsStartRefused (terms_each c.args.starts.now) c.divide_each.new.meter r
-    c.args.meter.now) _ _ c.from_residual-in_err-links.ensures.1 (behind_list at.In_ok-list (inr
+    passed _ _ _ c.from_residual-in_err-links.ensures.1 (behind_list at.In_ok-list (inr
     (record {
       out = terms_each c.in_ok-out.out.items;
       tidied = c.tidy_in.new.meter.entries;

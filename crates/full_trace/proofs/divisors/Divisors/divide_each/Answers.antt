@@ -3,7 +3,7 @@ use Rattle.std.proofs.lemmas.List.{take_all}
 use Rattle.std.proofs.lemmas.List.Elements.{All-nil, All-same}
 use Rattle.poly.specs.Seen.{terms_each}
 use Rattle.algebra.proofs.Lists.{have_more}
-use Rattle.corollaries.specs.Rows.{AreDivided, IsRefusedIn}
+use Rattle.corollaries.specs.Rows.{AreDivided}
 use Rattle.task_lists.specs.Rows.{rows_of}
 use Rattle.complete.specs.Completing.{AreLike}
 use Rattle.full_trace.proofs.RowsMade.{passed, row_made, row_like, row_refused, row_lost}
@@ -46,9 +46,7 @@ returns-in_err-division-clause-limit g c =
 
 pub returns-in_err-division-clause-refused : goal.returns-in_err-division-clause-refused
 returns-in_err-division-clause-refused g c =
-    passed (IsRefusedIn (g.O.Order.order c.args.self.now.order)
-    (terms_each c.args.self.now.list.now) (terms_each c.args.dividends.now) c.args.meter.now.entries
-    c.divide.new.meter) _ _ c.from_residual.ensures.1 (row_refused c.args.self.now.list.now _
+    passed _ _ _ c.from_residual.ensures.1 (row_refused c.args.self.now.list.now _
     c.requires.dividends c.loop-dividend.dividend-index c.dividend-item.result
     c.loop-dividend-test.true c.dividend-item.is c.loop-dividend.rows.items _ c.loop-dividend.meter
     c.divide.new.meter c.loop-dividend.invariant.1 _ c.in_err-division.ensures.ran)
@@ -59,9 +57,7 @@ returns-in_err-push-clause-limit g c =
 
 pub returns-in_err-push-clause-refused : goal.returns-in_err-push-clause-refused
 returns-in_err-push-clause-refused g c =
-    passed (IsRefusedIn (g.O.Order.order c.args.self.now.order)
-    (terms_each c.args.self.now.list.now) (terms_each c.args.dividends.now) c.args.meter.now.entries
-    c.divide.new.meter) _ _ c.from_residual-in_err-push.ensures.1 (row_lost c.args.self.now.list.now
+    passed _ _ _ c.from_residual-in_err-push.ensures.1 (row_lost c.args.self.now.list.now
     _ c.requires.dividends c.loop-dividend.dividend-index c.dividend-item.result
     c.loop-dividend-test.true c.dividend-item.is c.loop-dividend.rows.items _ c.loop-dividend.meter
     c.divide.new.meter c.loop-dividend.invariant.1 c.in_ok-division.division

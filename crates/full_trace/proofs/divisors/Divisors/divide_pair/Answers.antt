@@ -1,7 +1,6 @@
 use Rattle.std.proofs.Common.{refl, ap}
 use Rattle.machines.specs.Journal.{Journal}
 use Rattle.poly.specs.Seen.{terms_each}
-use Rattle.full_trace.specs.Rows.{IsPairRefused}
 use Rattle.full_trace.proofs.RowsMade.{passed}
 use Rattle.full_trace.proofs.PairsMade.{unmade, unnoted, pair_stops, pair_ends}
 use Rattle.full_trace.proofs.divisors.Divisors.divide_pair.Goals as goal
@@ -21,9 +20,8 @@ returns-in_err-note-clause-refused g c =
 
 pub returns-in_err-division-clause-refused : goal.returns-in_err-division-clause-refused
 returns-in_err-division-clause-refused g c =
-    passed (IsPairRefused (g.O.Order.order c.args.self.now.order)
-    (terms_each c.args.self.now.list.now) c.args.pair.now c.args.meter.now c.divide.new.meter) _ _
-    c.from_residual-in_err-division.ensures.1 (pair_stops _ _ c.in_ok-p.p c.in_ok-p.ensures.like.0
+    passed _ _ _ c.from_residual-in_err-division.ensures.1
+    (pair_stops _ _ c.in_ok-p.p c.in_ok-p.ensures.like.0
     c.in_ok-p.ensures.terms c.args.meter.now _ _
     (ap (λ (j : Journal). j.entries) c.in_ok-note.ensures.ok) _ c.in_err-division.ensures.ran)
 

@@ -3,7 +3,7 @@ use Rattle.std.proofs.lemmas.List.{take_all, get_or_default}
 use Rattle.std.proofs.lemmas.List.Elements.{All-nil, All-same}
 use Rattle.poly.specs.Seen.{terms_each}
 use Rattle.algebra.proofs.Lists.{have_more}
-use Rattle.corollaries.specs.Rows.{ArePairsDivided, IsRefusedInPairs}
+use Rattle.corollaries.specs.Rows.{ArePairsDivided}
 use Rattle.task_lists.specs.Rows.{rows_of}
 use Rattle.complete.specs.Completing.{AreLike}
 use Rattle.full_trace.proofs.RowsMade.{passed}
@@ -41,9 +41,7 @@ returns-in_err-row-clause-limit g c = c.in_err-row.ensures.limit ∙ c.loop-pair
 
 pub returns-in_err-row-clause-refused : goal.returns-in_err-row-clause-refused
 returns-in_err-row-clause-refused g c =
-    passed (IsRefusedInPairs (g.O.Order.order c.args.self.now.order)
-    (terms_each c.args.self.now.list.now) c.args.pairs.now c.args.meter.now.entries
-    c.divide_pair.new.meter) _ _ c.from_residual.ensures.1 (pair_refused c.args.pairs.now
+    passed _ _ _ c.from_residual.ensures.1 (pair_refused c.args.pairs.now
     c.loop-pair.pair-index _ c.loop-pair-test.true (get_or_default _ _ _ _ c.loop-pair-test.true)
     c.loop-pair.rows.items _ c.loop-pair.meter c.loop-pair.invariant.1 _
     c.in_err-row.ensures.refused)
@@ -53,9 +51,7 @@ returns-in_err-push-clause-limit g c = c.in_ok-row.ensures.limit ∙ c.loop-pair
 
 pub returns-in_err-push-clause-refused : goal.returns-in_err-push-clause-refused
 returns-in_err-push-clause-refused g c =
-    passed (IsRefusedInPairs (g.O.Order.order c.args.self.now.order)
-    (terms_each c.args.self.now.list.now) c.args.pairs.now c.args.meter.now.entries
-    c.divide_pair.new.meter) _ _ c.from_residual-in_err-push.ensures.1 (pair_lost c.args.pairs.now
+    passed _ _ _ c.from_residual-in_err-push.ensures.1 (pair_lost c.args.pairs.now
     c.loop-pair.pair-index _ c.loop-pair-test.true (get_or_default _ _ _ _ c.loop-pair-test.true)
     c.loop-pair.rows.items _ c.loop-pair.meter c.loop-pair.invariant.1
     (terms_each c.in_ok-row.row.items) c.divide_pair.new.meter c.in_ok-row.ensures.divided)

@@ -3,18 +3,19 @@ use Rattle.std.proofs.lemmas.List.{length-append}
 use Rattle.task_lists.specs.View.{branch_in}
 use Rattle.task_lists.specs.declared.parts.FullBranch.{FullBranch}
 use Rattle.corollaries.proofs.Rounds.{first_at, round_at}
-use Rattle.full_trace.specs.Tasks.{Stops, Knows, fronts_of, AreBranchesOver}
-use Rattle.full_trace.proofs.RoundsMade.{row_last, branch_pushed, fronts_count, none_left, in_work_later, passed_error, lost, first_done, branch_done, known_row, branch_due}
+use Rattle.full_trace.specs.Tasks.{Knows, fronts_of, AreBranchesOver}
+use Rattle.full_trace.proofs.RowsMade.{passed}
+use Rattle.full_trace.proofs.RoundsMade.{row_last, branch_pushed, fronts_count, none_left, in_work_later, lost, first_done, branch_done, known_row, branch_due}
 use Rattle.full_trace.proofs.round_in_work.RoundInWork.stages.Goals as goal
 
 pub returns-in_err-first-clause-refused : goal.returns-in_err-first-clause-refused
 returns-in_err-first-clause-refused c = λ R d A i a.
-    passed_error (Stops A R c.orbit.new.meter) _ _ c.from_residual.ensures.1
+    passed _ _ _ c.from_residual.ensures.1
     (c.in_err-first.ensures.refused R d [] A i a)
 
 pub returns-in_err-push-clause-refused : goal.returns-in_err-push-clause-refused
 returns-in_err-push-clause-refused c = λ R d A i a.
-    passed_error (Stops A R c.orbit.new.meter) _ _ c.from_residual-in_err-push.ensures.1
+    passed _ _ _ c.from_residual-in_err-push.ensures.1
     (lost A R _ (c.in_ok-first.ensures.next R d [] A i a))
 
 pub loop-place-init : goal.loop-place-init
@@ -57,7 +58,7 @@ returns-in_err-branch-clause-refused c = λ R d A i a.
     let v = c.loop-place.invariant in
     let n = v.count in
     let f = v.from in
-    passed_error (Stops A R c.branch_stages.new.meter) _ _ c.from_residual-in_err-branch.ensures.1
+    passed _ _ _ c.from_residual-in_err-branch.ensures.1
     (c.in_err-branch.ensures.refused R d (map branch_in c.loop-place.done.items) A i (branch_due A R
     d w.round _ _ (c.deref.ensures.value ∙ ap (λ v. v.items)
     (c.given-so_far.ensures ∙ sym (row_last w.basis.now _ _ (omega (arith, n, f)) c.index.ensures)))
@@ -69,7 +70,7 @@ returns-in_err-push-2-clause-refused c = λ R d A i a.
     let v = c.loop-place.invariant in
     let n = v.count in
     let f = v.from in
-    passed_error (Stops A R c.branch_stages.new.meter) _ _ c.from_residual-in_err-push-2.ensures.1
+    passed _ _ _ c.from_residual-in_err-push-2.ensures.1
     (lost A R _ (c.in_ok-branch.ensures.next R d (map branch_in c.loop-place.done.items) A i
     (branch_due A R d w.round _ _ (c.deref.ensures.value ∙ ap (λ v. v.items)
     (c.given-so_far.ensures ∙ sym (row_last w.basis.now _ _ (omega (arith, n, f)) c.index.ensures)))
