@@ -1,4 +1,4 @@
-use Rattle.std.proofs.Common.{inl, inr, refl, sym, ap, subst, ◌∙◌}
+use Rattle.std.proofs.Common.{rules, inl, inr, refl, sym, ap, subst, ◌∙◌}
 use Rattle.journal.specs.declared.Task.TheVariants as task
 use Rattle.poly.specs.Seen.{terms_each}
 use Rattle.divide.specs.declared.EngineError.TheVariants.{Memory}
@@ -16,33 +16,26 @@ returns-in_default-clause-refused c = λ R d gs A i a.
     c.begin.new.self c.number_of_place.ensures c.in_ok-begin.ensures.ok A R d gs a
     (task.Meet w.round c.number_of_place.result) refl Memory (inl (refl, tt))
 
-pub returns-in-Ok-stage-clause-met : goal.returns-in-Ok-stage-clause-met
-returns-in-Ok-stage-clause-met c = λ R d gs A i a.
+pub returns-in-Ok-stage : goal.returns-in-Ok-stage
+returns-in-Ok-stage c =
     let w = c.args.self.now in
     let x = stage_in c.in-Ok-stage.stage in
-    meet_next w.setting.now c.args.place c.args.so_far.now c.args.next.now w.round c.args.meter.now
-    c.stage.new.meter c.number_of_place.ensures c.in_ok-begin.ensures.ok A R d gs a x (subst (λ hs.
-    IsStageMade 1 hs x c.begin.new.self.entries c.stage.new.meter.entries) (ap terms_each
-    c.deref.ensures.value ∙ c.in-Ok.ensures.blend) c.in-Ok-stage.ensures.made)
-
-pub returns-in-Ok-stage-clause-list : goal.returns-in-Ok-stage-clause-list
-returns-in-Ok-stage-clause-list c =
-    let w = c.args.self.now in
-    let x = stage_in c.in-Ok-stage.stage in
-    meet_known w.setting.now c.args.place c.args.so_far.now c.args.next.now w.round c.args.meter.now
-    c.stage.new.meter c.number_of_place.ensures c.in_ok-begin.ensures.ok x (subst (λ hs. IsStageMade
-    1 hs x c.begin.new.self.entries c.stage.new.meter.entries) (ap terms_each c.deref.ensures.value
-    ∙ c.in-Ok.ensures.blend) c.in-Ok-stage.ensures.made) refl c.in-Ok-stage.ensures.over.out
-    c.requires.next.over
-
-pub returns-in-Ok-stage-clause-units : goal.returns-in-Ok-stage-clause-units
-returns-in-Ok-stage-clause-units c =
-    let w = c.args.self.now in
-    let x = stage_in c.in-Ok-stage.stage in
-    meet_units w.setting.now c.args.place c.args.so_far.now c.args.next.now w.round c.args.meter.now
-    c.stage.new.meter c.number_of_place.ensures c.in_ok-begin.ensures.ok x (subst (λ hs. IsStageMade
-    1 hs x c.begin.new.self.entries c.stage.new.meter.entries) (ap terms_each c.deref.ensures.value
-    ∙ c.in-Ok.ensures.blend) c.in-Ok-stage.ensures.made)
+    let made = subst (λ hs. IsStageMade 1 hs x c.begin.new.self.entries c.stage.new.meter.entries)
+    (ap terms_each c.deref.ensures.value ∙ c.in-Ok.ensures.blend) c.in-Ok-stage.ensures.made in
+    record {
+      limit = search rules;
+      met = λ R d gs A i a. meet_next w.setting.now c.args.place c.args.so_far.now c.args.next.now
+          w.round c.args.meter.now c.stage.new.meter c.number_of_place.ensures
+          c.in_ok-begin.ensures.ok A R d gs a x made;
+      over = c.in-Ok-stage.ensures.over;
+      list = meet_known w.setting.now c.args.place c.args.so_far.now c.args.next.now w.round
+          c.args.meter.now c.stage.new.meter c.number_of_place.ensures c.in_ok-begin.ensures.ok x
+          made refl c.in-Ok-stage.ensures.over.out c.requires.next.over;
+      units = meet_units w.setting.now c.args.place c.args.so_far.now c.args.next.now w.round
+          c.args.meter.now c.stage.new.meter c.number_of_place.ensures c.in_ok-begin.ensures.ok x
+          made;
+      refused = λ R d gs A i a. tt;
+    }
 
 pub returns-clause-refused : goal.returns-clause-refused
 returns-clause-refused c = λ R d gs A i a.

@@ -3,9 +3,10 @@ use Rattle.std.proofs.lemmas.List.{length-append}
 use Rattle.task_lists.specs.View.{branch_in}
 use Rattle.task_lists.specs.declared.parts.FullBranch.{FullBranch}
 use Rattle.corollaries.proofs.Rounds.{first_at, round_at}
-use Rattle.full_trace.specs.Tasks.{Knows, fronts_of, AreBranchesOver}
+use Rattle.full_trace.specs.Tasks.{Knows, fronts_of, AreBranchesOver, after_row}
 use Rattle.full_trace.proofs.RowsMade.{passed}
 use Rattle.full_trace.proofs.RoundsMade.{row_last, branch_pushed, fronts_count, none_left, in_work_later, lost, first_done, branch_done, known_row, branch_due}
+use Rattle.full_trace.proofs.round_in_work.RoundInWork.stages.Goals.{After-deref}
 use Rattle.full_trace.proofs.round_in_work.RoundInWork.stages.Goals as goal
 
 pub returns-in_err-first-clause-refused : goal.returns-in_err-first-clause-refused
@@ -42,39 +43,34 @@ loop-place-init c =
           (first_at A R d _ w.round _ _ (c.in_ok-first.ensures.next R d [] A i a));
     }
 
+so_far_is : (c : After-deref)
+    → c.deref.result.now ≡ (after_row c.args.self.now.basis.now c.loop-place.done.items).items
+so_far_is c =
+    let n = c.loop-place.invariant.count in
+    let f = c.loop-place.invariant.from in
+    c.deref.ensures.value ∙ ap (λ v. v.items) (c.given-so_far.ensures
+    ∙ sym (row_last c.args.self.now.basis.now _ _ (omega (arith, n, f)) c.index.ensures))
+
 pub branch_stages-requires-clause-so_far : goal.branch_stages-requires-clause-so_far
 branch_stages-requires-clause-so_far c =
-    let w = c.args.self.now in
-    let i = c.loop-place.invariant in
-    let n = i.count in
-    let f = i.from in
-    subst (Knows w.setting.now c.loop-place.meter) (sym (c.deref.ensures.value ∙ ap (λ v. v.items)
-    (c.given-so_far.ensures ∙ sym (row_last w.basis.now _ _ (omega (arith, n, f))
-    c.index.ensures)))) i.so_far
+    subst (Knows c.args.self.now.setting.now c.loop-place.meter)
+    (sym (so_far_is (goal.at.branch_stages-requires-clause-so_far c).After-deref))
+    c.loop-place.invariant.so_far
 
 pub returns-in_err-branch-clause-refused : goal.returns-in_err-branch-clause-refused
 returns-in_err-branch-clause-refused c = λ R d A i a.
-    let w = c.args.self.now in
-    let v = c.loop-place.invariant in
-    let n = v.count in
-    let f = v.from in
+    let at = (goal.at.returns-in_err-branch-clause-refused c).After-deref in
     passed _ _ _ c.from_residual-in_err-branch.ensures.1
     (c.in_err-branch.ensures.refused R d (map branch_in c.loop-place.done.items) A i (branch_due A R
-    d w.round _ _ (c.deref.ensures.value ∙ ap (λ v. v.items)
-    (c.given-so_far.ensures ∙ sym (row_last w.basis.now _ _ (omega (arith, n, f)) c.index.ensures)))
-    (v.next R d A i a)))
+    d c.args.self.now.round _ _ (so_far_is at) (c.loop-place.invariant.next R d A i a)))
 
 pub returns-in_err-push-2-clause-refused : goal.returns-in_err-push-2-clause-refused
 returns-in_err-push-2-clause-refused c = λ R d A i a.
-    let w = c.args.self.now in
-    let v = c.loop-place.invariant in
-    let n = v.count in
-    let f = v.from in
+    let at = (goal.at.returns-in_err-push-2-clause-refused c).After-deref in
     passed _ _ _ c.from_residual-in_err-push-2.ensures.1
     (lost A R _ (c.in_ok-branch.ensures.next R d (map branch_in c.loop-place.done.items) A i
-    (branch_due A R d w.round _ _ (c.deref.ensures.value ∙ ap (λ v. v.items)
-    (c.given-so_far.ensures ∙ sym (row_last w.basis.now _ _ (omega (arith, n, f)) c.index.ensures)))
-    (v.next R d A i a))).comes)
+    (branch_due A R d c.args.self.now.round _ _ (so_far_is at)
+    (c.loop-place.invariant.next R d A i a))).comes)
 
 pub loop-place-preserved : goal.loop-place-preserved
 loop-place-preserved c =
@@ -103,9 +99,7 @@ loop-place-preserved c =
           (branch_pushed s.arity _ bs b p n inside v.over c.in_ok-branch.ensures.over);
       next = λ R d A i a. branch_done A R d w.round w.basis.now _ bs (p + 1) b news push
           (c.in_ok-branch.ensures.next R d (map branch_in bs) A i (branch_due A R d w.round _ bs
-          (c.deref.ensures.value ∙ ap (λ v. v.items)
-          (c.given-so_far.ensures ∙ sym (row_last w.basis.now bs _ (omega (arith, n, f))
-          c.index.ensures))) (v.next R d A i a)));
+          (so_far_is (goal.at.loop-place-preserved c).After-deref) (v.next R d A i a)));
     }
 
 pub returns-clause-next : goal.returns-clause-next
