@@ -105,7 +105,6 @@ loop-place-preserved c =
 pub returns-clause-next : goal.returns-clause-next
 returns-clause-next c = λ R d A i a.
     let w = c.args.self.now in
-    let v = c.loop-place.invariant in
-    round_at A R d _ w.round _ _ _ _ (v.next R d A i a) (none_left A i _
+    round_at A R d _ w.round _ _ _ _ (c.loop-place.invariant.next R d A i a) (none_left A i _
     (let x = c.loop-place-test.false in let y = c.len-place-end.ensures in
     let z = w.setting.now.branches.ok.0 in omega (arith, x, y, z)))
