@@ -29,15 +29,16 @@ pub(crate) fn answer(alloc: Global, question: &str, values: &[&str]) -> Result<S
     }
 }
 
+/// At most eight names, with commas between them.
 fn names_of(alloc: Global, list: &str) -> Result<Names, NamesError> {
-    let mut names = Names::empty(alloc);
+    let mut texts = Vec::new(alloc);
     for name in list.split(',') {
-        if names.len() >= 8 {
-            return Err(NamesError::Memory);
-        }
-        names.push(name.as_bytes())?;
+        texts.push(String::from_str(alloc, name)?)?;
     }
-    Ok(names)
+    if texts.len() > 8 {
+        return Err(NamesError::Memory);
+    }
+    Names::new(alloc, &texts)
 }
 
 fn position(alloc: Global, name: &str, names: &Names) -> Result<String, AllocError> {

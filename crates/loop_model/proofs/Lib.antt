@@ -1,4 +1,5 @@
 mod AsciiCodes
+pub mod Positions
 pub mod Places
 pub mod NameLaws
 pub mod OperationLaws

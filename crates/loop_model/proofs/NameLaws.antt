@@ -4,10 +4,11 @@ use Rattle.std.proofs.lemmas.Bool.Decides.{nat_tests}
 use Rattle.std.proofs.lemmas.Iterator.Adapters.{position_from-zero}
 use Rattle.std.proofs.lemmas.List.Elements.{All-push}
 use Rattle.std.proofs.lemmas.List.Quantifiers.{all_pairs_push}
-use Rattle.std.proofs.lemmas.Str.{IsUtf8-from_ascii}
-use Rattle.std.specs.Prelude.{Bool, ◌||◌, Option, Some, None, if◌then◌else◌, IsTrue, map, string_bytes, String, ◌==◌, is_none, is_some, not, Result, Ok, Err, MatchResult, IsOk, IfSome}
-use Rattle.std.specs.List.{position_from, list_all}
+use Rattle.std.proofs.lemmas.Str.{IsUtf8-from_ascii, IsUtf8-string_bytes}
+use Rattle.std.specs.Prelude.{Bool, ◌||◌, Option, Some, None, if◌then◌else◌, IsTrue, map, position, string_bytes, String, ◌==◌, is_none, is_some, not, Result, Ok, Err, MatchResult, IsOk}
+use Rattle.std.specs.List.{position_from, list_any, list_all}
 use Rattle.std.specs.Str.{bytes_eq, IsUtf8, IsAscii}
+use Rattle.std.specs.String.{string_eq}
 use Rattle.std.proofs.lemmas.List.{map-append, drop_all}
 use Rattle.std.specs.Char.{is_ascii_alphabetic}
 use Rattle.std.specs.Int.{is_in_range}
@@ -16,13 +17,43 @@ use Rattle.loops.specs.Limits.{most_bytes}
 use Rattle.loop_model.specs.Words.{is_word, is_word_text, is_plain_word, keyword_of}
 use Rattle.monos.specs.Variables.{most_variables}
 use Rattle.loop_model.specs.Names.{place_of, AreNames, NameFault, twice, bad, is_name, fault_behind}
-use Rattle.loop_model.proofs.Places.{bytes_eq-refl, place_within}
+use Rattle.loop_model.proofs.Places.{bytes_same, bytes_eq-refl, none-passes, place_within, place_stands}
+use Rattle.loop_model.proofs.Positions.{position-map}
 
--- a name's place is within the list
-pub place-within : (names : List (List ℕ)) (w : List ℕ) (o : Option ℕ) → o ≡ place_of names w
-    → IfSome o (λ i. i < length names)
-place-within names w None e = tt
-place-within names w (Some i) e = place_within names w i (sym e)
+-- the test of bytes goes both ways
+bytes_eq-turned : (x y : List ℕ) → bytes_eq x y ≡ bytes_eq y x
+bytes_eq-turned x y = go (bytes_eq x y) (bytes_eq y x) refl refl
+  where
+    go : (b c : Bool) → bytes_eq x y ≡ b → bytes_eq y x ≡ c → b ≡ c
+    go true true e f = refl
+    go true false e f = let same : bytes_eq y x ≡ true = subst (λ z. bytes_eq z x ≡ true)
+        (bytes_same x y e) (bytes_eq-refl x) in absurd (cc)
+    go false true e f = let same : bytes_eq x y ≡ true = subst (λ z. bytes_eq z y ≡ true)
+        (bytes_same y x f) (bytes_eq-refl y) in absurd (cc)
+    go false false e f = refl
+
+-- a look-up by text is one by bytes
+pub place-of_texts : (w : List ℕ) (texts : List (String Global))
+    → position (λ n. bytes_eq w (string_bytes n)) texts ≡ place_of (map string_bytes texts) w
+place-of_texts w texts = (λ j. position (λ n. bytes_eq-turned w (string_bytes n) j) texts)
+    ∙ position-map (λ n. bytes_eq n w) string_bytes texts
+
+text-here : (texts : List (String Global)) (i : ℕ) → i < length (map string_bytes texts)
+    → IsUtf8 (get_or (map string_bytes texts) i [])
+text-here [] i within = absurd (omega arith)
+text-here (t ∷ ts) zero within = IsUtf8-string_bytes t
+text-here (t ∷ ts) (suc i) within = text-here ts i (omega arith)
+
+-- bytes that are no text are the bytes of none
+pub no-text : (w : List ℕ) (texts : List (String Global)) → (IsUtf8 w → ⊥)
+    → None ≡ place_of (map string_bytes texts) w
+no-text w texts none = go (place_of (map string_bytes texts) w) refl
+  where
+    go : (o : Option ℕ) → place_of (map string_bytes texts) w ≡ o → None ≡ o
+    go None e = refl
+    go (Some i) e =
+        absurd (none (subst IsUtf8 (place_stands (map string_bytes texts) w i e)
+        (text-here texts i (place_within (map string_bytes texts) w i e))))
 
 none-here : {X : Type 0} (p : X → Bool) (i : ℕ) (xs : List X) → position_from p i xs ≡ None
     → (k : ℕ) (d : X) → k < length xs → p (get_or xs k d) ≡ false
@@ -114,11 +145,19 @@ pub match-ok : {A E : Type 0} (P : A → Type 0) (Q : E → Type 0) (r : Result 
     → MatchResult r P Q → r ≡ Ok a → P a
 match-ok P Q r a h e = subst (λ s. MatchResult s P Q) e h
 
--- one text more, at the end
+-- a name that isn't there goes last
 pub texts-push : (texts news : List (String Global)) (t : String Global) (w : List ℕ)
-    → string_bytes t ≡ w → news ≡ texts ++ t ∷ []
+    → string_bytes t ≡ w → place_of (map string_bytes texts) w ≡ None
+    → news ≡ (if list_any (string_eq t) texts then texts else texts ++ t ∷ [])
     → map string_bytes news ≡ map string_bytes texts ++ w ∷ []
-texts-push texts news t w is are = ap (map string_bytes) are
+texts-push texts news t w is other are =
+    let absent : list_any (λ n. bytes_eq w (string_bytes n)) texts ≡ false =
+    none-passes (λ n. bytes_eq w (string_bytes n)) 0 texts
+    (sym (position_from-zero (λ n. bytes_eq w (string_bytes n)) texts) ∙ place-of_texts w texts
+    ∙ other) in
+    let new : list_any (string_eq t) texts ≡ false =
+    subst (λ v. list_any (λ n. bytes_eq v (string_bytes n)) texts ≡ false) (sym is) absent in
+    ap (map string_bytes) (are ∙ ap (λ b. if b then texts else texts ++ t ∷ []) new)
     ∙ map-append string_bytes texts (t ∷ []) ∙ ap (λ v. map string_bytes texts ++ v ∷ []) is
 
 -- the first fault of a list, name by name

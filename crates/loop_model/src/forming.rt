@@ -193,7 +193,8 @@ pub fn sum(
     answer_at(at, left.add(alloc, right))
 }
 
-fn difference(
+/// Their difference, in the same way.
+pub fn difference(
     alloc: Global,
     at: usize,
     left: &Poly<Frac, Grevlex>,

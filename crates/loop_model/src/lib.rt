@@ -19,9 +19,10 @@ mod statement;
 pub mod words;
 
 pub use expr::{BinaryOperator, Expr, UnaryOperator};
-pub use forming::{expr_poly, product, sum};
+pub use forming::{difference, expr_poly, product, sum};
 pub use loop_::Loop;
 pub use map_error::MapError;
+pub use maps::after;
 pub use names::{MOST_BYTES, Names};
 pub use names_error::NamesError;
 pub use state::free_state;

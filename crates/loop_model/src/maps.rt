@@ -96,7 +96,7 @@ impl Loop {
 }
 
 /// The state after the statement: all values are computed before one is stored.
-fn after(
+pub fn after(
     alloc: Global,
     statement: &Statement,
     state: Vec<Poly<Frac, Grevlex>>,

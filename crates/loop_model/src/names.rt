@@ -1,8 +1,6 @@
 //! The names of variables.
 
-ghost use Rattle.std.specs.Prelude.{◌≡◌, ◌<◌, ◌≤◌, ◌+◌, ◌++◌, ◌↔◌, List, [], ◌∷◌, ℕ, length, vec_len, map, string_bytes, slice_get, Some, None, IsTrue, IfSome, IfOk, IfErr, OnOk, OnErr};
-ghost use Rattle.std.specs.List.{position_from};
-ghost use Rattle.std.specs.Str.{bytes_eq};
+ghost use Rattle.std.specs.Prelude.{◌≡◌, ◌<◌, ◌≤◌, ◌++◌, ◌↔◌, List, [], ◌∷◌, ℕ, length, vec_len, map, string_bytes, slice_get, Some, None, IsTrue, IfSome, IfOk, IfErr, OnOk, OnErr};
 ghost use Rattle.loops.specs.Limits.{most_bytes};
 ghost use Rattle.loop_model.specs.Words.{is_plain_word};
 ghost use Rattle.monos.specs.Variables.{most_variables};
@@ -11,6 +9,7 @@ ghost use Rattle.loop_model.specs.SeenNames.{error_fault, seen_fault};
 
 use crate::NamesError;
 use crate::words::is_plain;
+use indexmap::IndexSet;
 use std::alloc::{AllocError, Global};
 use std::marker::Model;
 use std::str;
@@ -22,15 +21,15 @@ pub const MOST_BYTES: usize = 32;
 /// and each is another. They are seen as the list of their bytes.
 #[derive(Drop)]
 pub struct Names {
-    list: Vec<String>,
+    set: IndexSet<String>,
 }
 
 impl Model for Names {
     ghost Value = { List (List ℕ) };
 
-    ghost view = { λ names. map string_bytes names.list.items };
+    ghost view = { λ names. map string_bytes names.set.keys };
 
-    ghost invariant = { λ names. AreNames (map string_bytes names.list.items) };
+    ghost invariant = { λ names. AreNames (map string_bytes names.set.keys) };
 }
 
 /// Whether these bytes can be the name of a variable.
@@ -41,27 +40,13 @@ fn is_name(name: &[u8]) -> bool
     is_plain(name) && name.len() <= MOST_BYTES
 }
 
-/// Where the first of some texts with these bytes stands, of which the first stands at `from`.
-fn place_from(list: &[String], name: &[u8], from: usize) -> Option<usize>
-    requires { from + length list.now ≤ most_variables }
-    ensures { result ≡ position_from (λ n. bytes_eq n name.now) from (map string_bytes list.now) }
-{
-    let Some((first, rest)) = list.split_first() else {
-        return None;
-    };
-    if first.as_bytes() == name {
-        return Some(from);
-    }
-    place_from(rest, name, from + 1)
-}
-
 impl Names {
     /// No names.
     pub fn empty(alloc: Global) -> Names
         ensures { result ≡ [] }
     {
         Names {
-            list: Vec::new(alloc),
+            set: IndexSet::new(alloc),
         }
     }
 
@@ -112,8 +97,8 @@ impl Names {
         ensures err { OnErr result (self.new ≡ self.old) }
     {
         let text = str::from_utf8(name).unwrap();
-        let name = String::from_str(*self.list.allocator(), text)?;
-        self.list.push(name)?;
+        let name = String::from_str(*self.set.allocator(), text)?;
+        self.set.insert(name)?;
         Ok(())
     }
 
@@ -123,14 +108,14 @@ impl Names {
         ensures few { result ≤ most_variables }
         ensures names { AreNames self.now }
     {
-        self.list.len()
+        self.set.len()
     }
 
     /// Whether there are none.
     pub fn is_empty(&self) -> bool
         ensures { IsTrue result ↔ (self.now ≡ []) }
     {
-        self.list.is_empty()
+        self.set.is_empty()
     }
 
     /// The position of the name with these bytes; None exactly where no name is equal to them.
@@ -138,7 +123,10 @@ impl Names {
         ensures place { result ≡ place_of self.now name.now }
         ensures within { IfSome result (λ i. i < length self.now) }
     {
-        place_from(self.list.as_slice(), name, 0)
+        match str::from_utf8(name) {
+            Ok(text) => self.set.get_index_of(text),
+            Err(_) => None,
+        }
     }
 
     /// The name at this position.
@@ -146,6 +134,6 @@ impl Names {
         requires { index < length self.now }
         ensures { slice_get self.now index ≡ Some (string_bytes result.now) }
     {
-        &self.list[index]
+        &self.set[index]
     }
 }
