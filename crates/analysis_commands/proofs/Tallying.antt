@@ -6,13 +6,18 @@
 --   kept_more          the meter behind the next loop
 --   stops_here         the answer where the next loop has no basis;  told_all: where all have one
 --   few_loops          they are as many as the program can count
---   loop_read          the text of a loop;  at_refusal: a refusal that is there
-use Rattle.std.proofs.Common.{◌≡◌, ℕ, suc, ◌<◌, List, sym, ap, subst, ◌∙◌, Result, Ok, Err, inl, inr, arith, w32, Fits}
-use Rattle.std.specs.Prelude.{◌⊎◌, Option, Some, None, IfOk, IfSome, IsNone}
+--   loop_read          the text of a loop;  without_fault: which has no fault;  at_refusal: a refusal that is there
+use Rattle.std.proofs.Common.{◌≡◌, ℕ, suc, ◌<◌, List, refl, sym, ap, subst, ◌∙◌, Result, Ok, Err, inl, inr, arith, w32, Fits}
+use Rattle.std.specs.Prelude.{◌⊎◌, ◌≤◌, Option, Some, None, option_map, IfOk, IfSome, IsNone}
 use Rattle.std.specs.declared.alloc.AllocError.{AllocError}
 use Rattle.machines.specs.Journal.{Journal}
 use Rattle.loops.specs.Program.{Expr, Program}
+use Rattle.poly_text.specs.Faults.{fault_of}
+use Rattle.poly_text.specs.Reasons.{Fault}
+use Rattle.poly_text.specs.declared.error.TextError.{TextError}
 use Rattle.loop_text.specs.LoopReader.{loop_of}
+use Rattle.loop_text.specs.Seen.{loop_or_fault}
+use Rattle.loop_text.proofs.FamilyTexts.{texts_read}
 use Rattle.loop_text.specs.Family.{Counts, loop_text, summary, most_loops}
 use Rattle.invariant_fix.specs.Refusals.{IsRefused}
 use Rattle.invariant_fix.specs.declared.errors.AnalyseError.{AnalyseError}
@@ -103,6 +108,19 @@ few_loops place n c same within fits = omega (arith, same, within, fits)
 pub loop_read : (l : Program (Expr ℕ)) (bytes text : List ℕ) → Ok l ≡ loop_of bytes → bytes ≡ text
     → Ok l ≡ loop_of text
 loop_read l bytes text is same = is ∙ ap loop_of same
+
+-- the text of a loop of the family has no fault
+pub without_fault : (e : TextError) (bytes : List ℕ) (number : ℕ) → number ≤ most_loops
+    → IfSome (loop_or_fault (Err e)) (λ r. r ≡ loop_of bytes) → bytes ≡ loop_text number
+    → IsNone (fault_of e)
+without_fault e bytes number few says same = go (fault_of e) says
+  where
+    go : (o : Option Fault) → IfSome (option_map Err o) (λ r. r ≡ loop_of bytes) → IsNone o
+    go None h = refl
+    go (Some f) h =
+        let read = texts_read number few in
+        let both : ◌≡◌ {A = Result (Program (Expr ℕ)) Fault} (Err f) (Ok read.0) =
+        h ∙ ap loop_of same ∙ read.1 in absurd (cc)
 
 pub at_refusal : (P : made.Answer → Type 0) (o : Option made.Answer) (a : made.Answer) → o ≡ Some a
     → IfSome o P → P a

@@ -1,6 +1,7 @@
 // `gen NUMBER`: what is counted over the bases of the first loops of a family.
 ghost use Rattle.std.specs.Prelude.{◌≡◌, ◌⊎◌, ◌<◌, IfOk, IfSome, IsNone, map, string_bytes};
 ghost use Rattle.loop_model.specs.View.{program_of};
+ghost use Rattle.poly_text.specs.Faults.{fault_of};
 ghost use Rattle.loop_text.specs.Family.{loop_text as text_of, most_loops};
 ghost use Rattle.command_parts.specs.Numerals.{usual_budget};
 ghost use Rattle.io_edge.specs.Outside.{FilesView};
@@ -21,6 +22,7 @@ use io_edge::{Answer, Status, reply};
 use journal::Meter;
 use loop_model::Loop;
 use loop_text::{Counts, loop_text, read_loop};
+use poly_text::TextError;
 use std::alloc::{AllocError, Global};
 
 /// What `gen` answers to the arguments behind it; none where they ask for no loops. It reads no file.
@@ -54,8 +56,6 @@ fn answer_to_family(alloc: Global, number: u32, meter: &mut Meter) -> Result<Ans
 }
 
 /// Counts the loop of this number. A refusal where it has no basis.
-///
-/// Each text of the family is a loop, so a text that can't be read tells want of memory.
 fn count_loop(
     alloc: Global,
     meter: &mut Meter,
@@ -73,7 +73,24 @@ fn count_loop(
     let text = loop_text(alloc, number)?;
     match read_loop(alloc, text.as_bytes()) {
         Ok(lp) => count_basis(alloc, &lp, meter, counts),
-        Err(_) => Err(AllocError),
+        Err(error) => Err(want_of_memory(error)),
+    }
+}
+
+/// Want of memory, which is all that stops the reading of a loop's text.
+fn want_of_memory(error: TextError) -> AllocError
+    requires { IsNone (fault_of error) }
+{
+    match error {
+        TextError::Memory => AllocError,
+        TextError::Syntax { .. }
+        | TextError::Limit { .. }
+        | TextError::Wide { .. }
+        | TextError::Twice { .. }
+        | TextError::Unknown { .. }
+        | TextError::InitUses { .. }
+        | TextError::Unset { .. }
+        | TextError::Divisor { .. } => unreachable!(),
     }
 }
 

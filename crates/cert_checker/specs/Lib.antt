@@ -4,6 +4,7 @@ pub mod Identities
 pub mod Stops
 pub mod Long
 pub mod Forming
+pub mod FormedMaps
 pub mod Wide
 pub mod Short
 pub mod Passing

@@ -21,6 +21,7 @@ use crate::full_error::FullError;
 use crate::full_judge::FullJudge;
 use crate::full_part::{Part, identity_part, text_of};
 use crate::full_stop::Stop;
+use crate::maps::maps_of;
 use crate::{CheckError, Verdict, judge};
 use loop_model::Loop;
 use std::alloc::Global;
@@ -55,7 +56,11 @@ pub fn check_full(alloc: Global, lp: &Loop, cert: &FullCert) -> Result<FullVerdi
         IfOk result (λ v. IsValid program (certificate c) → AreFew program c) }
     ensures refused { IfErr result (IfFullCheckRefused (program_of lp.now) (full_of cert.now)) }
 {
-    match judge(alloc, lp, &cert.basis, &cert.steps) {
+    let maps = match maps_of(alloc, lp) {
+        Ok(maps) => maps,
+        Err(error) => return Err(refused(alloc, error)),
+    };
+    match judge(alloc, lp, &maps, &cert.basis, &cert.steps) {
         Ok(Verdict::Valid) => {}
         Ok(Verdict::StartFails { element }) => return fails(alloc, Part::Basis(element)),
         Ok(Verdict::StepFails { branch, element }) => {
@@ -63,18 +68,11 @@ pub fn check_full(alloc: Global, lp: &Loop, cert: &FullCert) -> Result<FullVerdi
         }
         Err(error) => return Err(refused(alloc, error)),
     }
-    // the maps have been formed before, so that nothing but memory can be wanting for them
-    let Ok(values) = lp.start_map(alloc) else {
-        return Err(FullError::Memory);
-    };
-    let Ok(maps) = lp.branch_maps(alloc) else {
-        return Err(FullError::Memory);
-    };
     let full = FullJudge {
         lp,
         cert,
-        values,
-        maps,
+        values: maps.start,
+        maps: maps.branches,
     };
     if let Some(part) = full.first_long_part() {
         return Err(limit(alloc, part));

@@ -13,6 +13,7 @@ ghost use Rattle.loops.specs.Inv.{Inv};
 ghost use Rattle.loop_model.specs.Maps.{AreFree};
 ghost use Rattle.loop_model.specs.View.{program_of};
 ghost use Rattle.cert_form.specs.Cert.{IsWellSized, certificate_of};
+ghost use Rattle.cert_checker.specs.FormedMaps.{AreMapsOf};
 ghost use Rattle.cert_checker.specs.Views.{verdict_of};
 ghost use Rattle.cert_checker.specs.Short.{AreShort};
 ghost use Rattle.cert_checker.specs.Wide.{IfCheckRefused};
@@ -33,6 +34,7 @@ mod identity;
 pub mod laws;
 mod limits;
 mod long_parts;
+mod maps;
 mod search;
 
 use cert_form::Cert;
@@ -44,6 +46,7 @@ pub use full_verdict::{FullVerdict, check_full};
 use identity::Step;
 use limits::test_start;
 use loop_model::Loop;
+use maps::{Maps, maps_of};
 use monos::Grevlex;
 use poly::Poly;
 use search::first_failing_start;
@@ -75,17 +78,20 @@ pub fn check(alloc: Global, lp: &Loop, cert: &Cert) -> Result<Verdict, CheckErro
     ensures short { IfOk result (AreShort (program_of lp.now) cert.now.certificate) }
     ensures refused { IfErr result (IfCheckRefused (program_of lp.now) cert.now.certificate) }
 {
-    judge(alloc, lp, cert.basis(), cert.steps())
+    let maps = maps_of(alloc, lp)?;
+    judge(alloc, lp, &maps, cert.basis(), cert.steps())
 }
 
 /// Judges the certificate of these polynomials and cofactors, as `check` does: for each branch a list of as many entries as there
-/// are polynomials, and in it, for each polynomial, the list of its cofactors.
-pub fn judge(
+/// are polynomials, and in it, for each polynomial, the list of its cofactors. The maps are the loop's.
+pub(crate) fn judge(
     alloc: Global,
     lp: &Loop,
+    maps: &Maps,
     basis: &Vec<Poly<Frac, Grevlex>>,
     steps: &Vec<Vec<Vec<Poly<Frac, Grevlex>>>>,
 ) -> Result<Verdict, CheckError>
+    requires maps { AreMapsOf (program_of lp.now) maps.now }
     requires kept { IsWellSized (length (program_of lp.now).names) basis.now steps.now }
     requires branches { length steps.now.items ≡ length (program_of lp.now).branches }
     ensures verdict { IfOk result (λ v. IsVerdict (program_of lp.now)
@@ -93,19 +99,16 @@ pub fn judge(
     ensures valid { let c = certificate_of basis.now steps.now in IfOk result (λ v.
         v ≡ Verdict.Valid → (i : ℕ) → i < length c.basis
         → Inv (program_of lp.now) (element c i)) }
-    ensures free { IfOk result (λ v. AreFree (program_of lp.now)) }
     ensures short { IfOk result (AreShort (program_of lp.now)
         (certificate_of basis.now steps.now)) }
     ensures refused { IfErr result (IfCheckRefused (program_of lp.now)
         (certificate_of basis.now steps.now)) }
 {
-    let start = lp.start_map(alloc)?;
-    let maps = lp.branch_maps(alloc)?;
-    test_start(basis, &start)?;
-    if let Some(element) = first_failing_start(alloc, basis, &start)? {
+    test_start(basis, &maps.start)?;
+    if let Some(element) = first_failing_start(alloc, basis, &maps.start)? {
         return Ok(Verdict::StartFails { element });
     }
-    for (branch, images) in maps.iter().enumerate() {
+    for (branch, images) in maps.branches.iter().enumerate() {
         let rows = &steps[branch];
         let step = Step {
             branch,

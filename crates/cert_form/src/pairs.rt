@@ -17,6 +17,7 @@ use crate::cofactors::CofactorReader;
 use crate::fault::{Path, shape_at};
 use crate::parts::{list_with, read_poly};
 use frac128::Frac;
+use loop_model::Names;
 use monos::Grevlex;
 use poly::Poly;
 use serde_json::Value;
@@ -49,6 +50,30 @@ fn push_zeros(alloc: Global, found: &mut Polys, arity: usize, count: usize) -> R
     Ok(())
 }
 
+/// A pair: a position that is at least `least` and below `count`, and a polynomial over the names.
+#[tactic(auto, using(crate::proofs::Each::entry_is))]
+pub fn read_pair<'a>(
+    alloc: Global,
+    path: &'a Path<'a>,
+    value: &Value,
+    names: &Names,
+    least: usize,
+    count: usize,
+) -> Result<(usize, Poly<Frac, Grevlex>), CertError>
+    ensures reads { ReadsLike (IsPairOf (length names.now))
+        (pair_at names.now least count (path_bytes path.now) (view value.now)) result }
+    ensures within { IfOk result (λ pair. (least ≤ pair.0) × (pair.0 < count)) }
+{
+    let Some(pair) = list_with(value, 2) else {
+        return Err(shape_at(alloc, path));
+    };
+    let Some(position) = position_in(&pair[0], least, count) else {
+        return Err(shape_at(alloc, path));
+    };
+    let polynomial = read_poly(alloc, path, &pair[1], names)?;
+    Ok((position, polynomial))
+}
+
 impl CofactorReader<'_> {
     /// A list of pairs with ascending positions, as a row of cofactors: 0 at each other position.
     pub(crate) fn read_sparse_row<'a>(
@@ -76,34 +101,18 @@ impl CofactorReader<'_> {
         let mut found = Vec::new(self.alloc);
         for (i, value) in list.iter().enumerate() {
             let place = Path::Place(path, i);
-            let (position, cofactor) = self.read_pair(&place, value, found.len())?;
+            let (position, cofactor) = read_pair(
+                self.alloc,
+                &place,
+                value,
+                self.names,
+                found.len(),
+                self.elements,
+            )?;
             push_zeros(self.alloc, &mut found, self.names.len(), position)?;
             found.push(cofactor)?;
         }
         push_zeros(self.alloc, &mut found, self.names.len(), self.elements)?;
         Ok(found)
-    }
-
-    // A position that is at least `least`, and the cofactor behind it.
-    #[tactic(auto, using(crate::proofs::Each::entry_is))]
-    fn read_pair<'a>(
-        &self,
-        path: &'a Path<'a>,
-        value: &Value,
-        least: usize,
-    ) -> Result<(usize, Poly<Frac, Grevlex>), CertError>
-        ensures reads { ReadsLike (IsPairOf (length self.now.names.now))
-            (pair_at self.now.names.now least self.now.elements (path_bytes path.now)
-            (view value.now)) result }
-        ensures within { IfOk result (λ pair. (least ≤ pair.0) × (pair.0 < self.now.elements)) }
-    {
-        let Some(pair) = list_with(value, 2) else {
-            return Err(shape_at(self.alloc, path));
-        };
-        let Some(position) = position_in(&pair[0], least, self.elements) else {
-            return Err(shape_at(self.alloc, path));
-        };
-        let cofactor = read_poly(self.alloc, path, &pair[1], self.names)?;
-        Ok((position, cofactor))
     }
 }

@@ -69,8 +69,8 @@ pub(crate) fn read_poly<'a>(
     }
 }
 
-// The polynomials of a list, in order.
-pub(crate) fn read_polys<'a>(
+/// The polynomials over the names in a list, in order, or the fault of the first that is none.
+pub fn read_polys<'a>(
     alloc: Global,
     path: &'a Path<'a>,
     list: &[Value],

@@ -39,7 +39,8 @@ fn has_known_version(value: &Value) -> bool
     has_version(value, FULL_VERSION) || has_version(value, SPARSE_VERSION)
 }
 
-fn is_text(value: &Value, text: &String) -> bool
+/// Whether it is this text.
+pub fn is_text(value: &Value, text: &String) -> bool
     ensures { result ≡ form.is_text (string_bytes text.now) (view value.now) }
 {
     value.as_str() == Some(text.as_str())

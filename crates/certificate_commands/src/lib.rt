@@ -1,7 +1,7 @@
 //! The commands of certificates, a module each: `check` and `checkfull` judge one, and `full` writes a full certificate of a loop.
 //!
-//! Proved: `valid` or `complete` exactly where all identities or parts hold, but for numbers that don't fit; else the first that doesn't,
-//! or the first fault of a file. All parts of what `full` writes hold, its polynomials are the reduced basis of exactly the invariants, its
+//! Proved: `valid` or `complete` exactly where all identities or parts hold, but for what is too long and numbers that don't fit; else the
+//! first that doesn't, or the first fault of a file. All parts of what `full` writes hold, its polynomials are the reduced basis of exactly the invariants, its
 //! cofactors are those of the divisions that closed it, and its text is read as itself. Each refusal has its cause.
 #![tactic(auto)]
 

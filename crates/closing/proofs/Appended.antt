@@ -1,14 +1,14 @@
 -- The entries of a part, behind others.
 --   appended_none, appended_next     the first entries of the part, and one more
 --   appended_part, appended_all      they are a beginning of it, and all of it
---   noted_ok, noted_err              an entry was made, or none
-use Rattle.std.proofs.Common.{◌≡◌, ℕ, ◌+◌, ◌<◌, ◌≤◌, true, false, List, [], ◌∷◌, ◌++◌, map, take, drop, length, get_or, Ok, Err, Result, sym, ap, ◌∙◌, take-append-drop}
-use Rattle.std.specs.Prelude.{OnOk, OnErr}
-use Rattle.std.specs.Result.{is_err}
+--   never_exhausted                      the units of both don't pass the limit, so each entry of the part may be made
+use Rattle.std.proofs.Common.{◌≡◌, ℕ, ◌+◌, ◌<◌, ◌≤◌, List, [], ◌∷◌, ◌++◌, map, take, drop, length, get_or, cond, arith, sym, ap, ◌∙◌, take-append-drop}
 use Rattle.std.proofs.lemmas.List.{append-nil, append_assoc, map-append, take_all}
 use Rattle.algebra.proofs.Lists.{take_next}
+use Rattle.machines.specs.Journal.{units_of}
+use Rattle.rounds.proofs.Prefixes.{units-append}
 use Rattle.machines.specs.Journal as machines
-use Rattle.journal.specs.View.{entry_of}
+use Rattle.journal.specs.View.{entry_of, Exceeds}
 use Rattle.journal.specs.declared.Entry.{Entry}
 use Rattle.closing.specs.Found.{IsPartOf}
 
@@ -45,12 +45,28 @@ module _ (before : List machines.Entry) (ds : List Entry) where
         h ∙ ap (λ xs. before ++ map entry_of xs) (take_all i ds past)
         ∙ ap (λ xs. before ++ xs) all
 
-pub noted_ok : {E : Type 0} {P : Type 0} (r : Result (Unit {0}) E) → is_err r ≡ false → OnOk r P
-    → P
-noted_ok (Ok u) is h = h
-noted_ok (Err e) is h = absurd (let b : true ≡ false = is in cc)
+  module _ {part : List machines.Entry} (all : map entry_of ds ≡ part) (i : ℕ) (d : Entry)
+      (inside : i < length ds) (is : d ≡ get_or ds i d) where
+    more_units : units_of (first (i + 1))
+        ≡ units_of (first i) + units_of (entry_of d ∷ [])
+    more_units = ap units_of (take_next entry_of ds i d inside is)
+        ∙ units-append (first i) (entry_of d ∷ [])
 
-pub noted_err : {E : Type 0} {P : Type 0} (r : Result (Unit {0}) E) → is_err r ≡ true → OnErr r P
-    → P
-noted_err (Ok u) is h = absurd (let b : false ≡ true = is in cc)
-noted_err (Err e) is h = h
+    all_units : units_of part
+        ≡ units_of (first (i + 1)) + units_of (map entry_of (drop (i + 1) ds))
+    all_units =
+        ap units_of (sym all ∙ ap (map entry_of) (sym (take-append-drop (i + 1) ds))
+        ∙ map-append entry_of (take (i + 1) ds) (drop (i + 1) ds))
+        ∙ units-append (first (i + 1)) (map entry_of (drop (i + 1) ds))
+
+    pub never_exhausted : (limit : ℕ) → units_of before + units_of part ≤ limit
+        → (m : machines.Journal) → m.limit ≡ limit → m.entries ≡ before ++ first i
+        → Exceeds m (entry_of d) → ⊥
+    unfolding units_of
+    never_exhausted limit few m same has exceeds =
+        let one : units_of (entry_of d ∷ []) ≡ 1 =
+        ap (λ b. cond b 1 0 + 0) exceeds.0 in
+        let so_far : units_of m.entries ≡ units_of before + units_of (first i) =
+        ap units_of has ∙ units-append before (first i) in
+        let full : units_of m.entries ≡ limit = exceeds.1 ∙ same in
+        omega (arith, few, one, more_units, all_units, so_far, full)

@@ -1,7 +1,7 @@
 //! The search: what the samples leave is closed, and a word that counters it gives another row.
-ghost use Rattle.std.specs.Prelude.{◌≡◌, ◌<◌, ◌≤◌, ◌+◌, ◌++◌, ◌⊎◌, ℕ, List, [], length, IfOk, IfErr, IsErrOf, OnOk, OnErr};
+ghost use Rattle.std.specs.Prelude.{◌≡◌, ◌↔◌, ◌<◌, ◌≤◌, ◌+◌, ◌++◌, ◌⊎◌, ℕ, List, [], length, IfOk, IfErr, IsErrOf, OnOk, OnErr};
 ghost use Rattle.machines.specs.Journal.{units_of};
-ghost use Rattle.journal.specs.View.{entry_of, with_entry};
+ghost use Rattle.journal.specs.View.{Exceeds, entry_of, with_entry};
 ghost use Rattle.loops.specs.Inv.{Inv};
 ghost use Rattle.poly.specs.Seen.{terms_each};
 ghost use Rattle.loop_model.specs.View.{program_of};
@@ -193,8 +193,10 @@ pub fn append(meter: &mut Meter, part: &Meter) -> Result<(), AllocError>
     ensures begun { IsPartOf meter.old.entries part.now.entries meter.new.entries }
 {
     for entry in part.entries() {
-        if put(meter, entry).is_err() {
-            return Err(AllocError);
+        match put(meter, entry) {
+            Ok(()) => {}
+            Err(MeterError::Memory) => return Err(AllocError),
+            Err(MeterError::Budget) => unreachable!(),
         }
     }
     Ok(())
@@ -204,6 +206,7 @@ pub fn append(meter: &mut Meter, part: &Meter) -> Result<(), AllocError>
 fn put(meter: &mut Meter, entry: &Entry) -> Result<(), MeterError>
     ensures ok { OnOk result (meter.new ≡ with_entry meter.old (entry_of entry.now)) }
     ensures err { OnErr result (meter.new ≡ meter.old) }
+    ensures budget { IsErrOf result MeterError.Budget ↔ Exceeds meter.old (entry_of entry.now) }
 {
     match entry {
         Entry::Begin { task } => meter.begin(*task),

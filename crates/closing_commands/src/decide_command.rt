@@ -222,7 +222,10 @@ impl Question<'_> {
             Err(CounterError::Wide { word }) => {
                 word_answer(alloc, Status::Wide, "wide: word", &word)
             }
-            Ok(Found::NoneUpTo) | Err(_) => Err(AllocError),
+            Err(CounterError::Memory) => Err(AllocError),
+            Ok(Found::NoneUpTo)
+            | Err(CounterError::Map(_) | CounterError::Limit { .. } | CounterError::Cost { .. }) =>
+                unreachable!(),
         }
     }
 }

@@ -2,8 +2,9 @@
 //! commands the one shows a reduced basis, the other a certificate. They take every loop; none needs an analysis.
 //!
 //! Proved: `decide` and `prove` say yes exactly where the equation holds at the end of every run, whatever the branches, with the reduced basis
-//! of its closure or a valid certificate that lists it first; no with the first word after which it doesn't hold, and its run. Up to a degree
-//! what is printed is the part of the reduced basis of all invariants, or a valid certificate that lists it first. Each refusal has its cause.
+//! of its closure or a valid certificate that lists it first; no with the first word after which it doesn't hold, and its run; or neither, where
+//! a limit, a number that doesn't fit or the budget stops them. Up to a degree what is printed is the part of the reduced basis of all
+//! invariants, or a valid certificate that lists it first. Each refusal has its cause.
 #![tactic(auto)]
 
 mod certificates;

@@ -36,7 +36,7 @@ use Rattle.closures.specs.Closure.{IsIdeal}
 use Rattle.closures.specs.UpTo.{IsReducedUpTo}
 
 -- what is left of terms has its lead among them
-lead_among : (Q : List ℕ → Type 0) (p r : Terms Fraction) (v : List ℕ × Fraction) (m : ℕ)
+pub lead_among : (Q : List ℕ → Type 0) (p r : Terms Fraction) (v : List ℕ × Fraction) (m : ℕ)
     → Each (λ t. Q t.0) p → collect rationals grevlex p ≡ v ∷ r
     → IsPolynomial ℚ grevlex m (v ∷ r) → Q v.0
 unfolding Each Falls
@@ -51,7 +51,7 @@ lead_among Q p r v m b is h = elim (term_at v.0 p) [
 ]
 
 -- no term has a greater degree than the lead
-all_low : (m d : ℕ) (g : Terms Fraction) → IsPolynomial ℚ grevlex m g → sum (lead_of g) ≤ d
+pub all_low : (m d : ℕ) (g : Terms Fraction) → IsPolynomial ℚ grevlex m g → sum (lead_of g) ≤ d
     → Each (λ t. sum t.0 ≤ d) g
 unfolding Each Falls lead_of
 all_low m d [] h low = tt

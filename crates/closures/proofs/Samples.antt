@@ -1,6 +1,6 @@
 -- Rows of values at the ends of runs that are independent modulo a number leave no combination of the monomials that is an invariant.
---   value_by_coefficients    a polynomial's value is the sum of its coefficients times the monomials' values
---   no_combination           so one whose coefficients are 0 by such rows is 0
+--   sum_by_coefficients    a polynomial's terms add up as its coefficients do, with a number for each monomial
+--   none_by_rows, no_combination     so one whose coefficients are 0 by such rows is 0
 use Rattle.std.proofs.Common.{◌≡◌, ◌⊎◌, inl, inr, ℕ, ◌≤◌, ℤ, pos, Bool, true, false, cond, List, [], ◌∷◌, map, length, refl, sym, ap, ap₂, subst, ◌∙◌, true≢false}
 use Rattle.std.proofs.lemmas.List.{length-map}
 use Rattle.algebra.specs.Each.{Each}
@@ -12,7 +12,7 @@ use Rattle.algebra.specs.Fraction.{Fraction, ℚ}
 use Rattle.algebra.proofs.Fractions.{ℚ_ring}
 use Rattle.polynomials.specs.Algebra as Algebra
 use Rattle.polynomials.specs.Exponent.{same}
-use Rattle.polynomials.specs.Terms.{Terms, Same, coefficient, sum_of_products, monomial_at, evaluate, value_at}
+use Rattle.polynomials.specs.Terms.{Terms, Same, coefficient, sum_of_products, monomial_at, evaluate}
 use Rattle.polynomials.specs.Polynomial.{Apart}
 use Rattle.polynomials.proofs.Distinct.{coefficient_apart}
 use Rattle.polynomials.proofs.Exponent.{same_refl, same_true}
@@ -26,10 +26,8 @@ use Rattle.closures.proofs.Modulo.{fractions_zero}
 abbrev at_term : List ℕ × Fraction → List ℕ → Fraction
 at_term t e = cond (same e t.0) t.1 ℚ.zero
 
-module _ (x : List Fraction) where
-  abbrev mon : List ℕ → Fraction
-  mon e = monomial_at ℚ x e
-
+-- mon gives a number to each monomial
+module _ (mon : List ℕ → Fraction) where
   none_at : (t : List ℕ × Fraction) (es : List (List ℕ)) → Each (λ d. same d t.0 ≡ false) es
       → sum_of_products ℚ (map (at_term t) es) (map mon es) ≡ ℚ.zero
   unfolding Each sum_of_products
@@ -83,15 +81,16 @@ module _ (x : List Fraction) where
   unfolding Algebra.coefficient sum_over
   one_more t r es = refl
 
-  pub value_by_coefficients : (es : List (List ℕ)) → AreDistinct es → (r : Terms Fraction)
+  pub sum_by_coefficients : (es : List (List ℕ)) → AreDistinct es → (r : Terms Fraction)
       → Each (λ t. In t.0 es) r
-      → value_at ℚ r x ≡ sum_of_products ℚ (map (coefficient ℚ r) es) (map mon es)
-  unfolding Each evaluate sum_over
-  value_by_coefficients es a [] h = sym (no_terms es)
-  value_by_coefficients es a (t ∷ r) h =
+      → sum_over ℚ (λ t. ℚ.mul t.1 (mon t.0)) r
+      ≡ sum_of_products ℚ (map (coefficient ℚ r) es) (map mon es)
+  unfolding Each sum_over
+  sum_by_coefficients es a [] h = sym (no_terms es)
+  sum_by_coefficients es a (t ∷ r) h =
       sym (ap (λ cs. sum_of_products ℚ cs (map mon es)) (one_more t r es)
       ∙ sums_of_two (at_term t) (coefficient ℚ r) es
-      ∙ ap₂ ℚ.add (one_at t es a h.0) (sym (value_by_coefficients es a r h.1)))
+      ∙ ap₂ ℚ.add (one_at t es a h.0) (sym (sum_by_coefficients es a r h.1)))
 
 -- ---- where the coefficients are 0
 find_monomial : (e : List ℕ) (es : List (List ℕ)) → In e es ⊎ Each (λ d. same e d ≡ false) es
@@ -118,38 +117,46 @@ zero_at e [] f h i = absurd i
 zero_at e (d ∷ es) f h (inl s) = ap f s ∙ h.0
 zero_at e (d ∷ es) f h (inr i) = zero_at e es f h.1 i
 
-module _ {At : Type 0} (program : Program (Expr At)) (k : ℕ) (big : 2 ≤ k)
-    (es : List (List ℕ)) (distinct : AreDistinct es) (rows : List (List ℤ))
-    (samples : Each (IsSampleRow program (pos k) es) rows)
-    (independent : IsIndependentModulo (pos k) (length es) rows) where
-  abbrev m : ℕ
-  m = length program.names
-
-  sample : (row : List ℤ) → In row rows → IsSampleRow program (pos k) es row
-  sample row i = each_in (IsSampleRow program (pos k) es) rows row samples i
-
-  values : (row : List ℤ) → In row rows → List Fraction
-  values row i = let s = sample row i in map (monomial_at ℚ s.run.end) es
-
-  residues : (row : List ℤ) (i : In row rows) → AreResidues (pos k) (values row i) row
-  unfolding values
-  residues row i = let s = sample row i in s.residues
-
-  none_is : (r : Terms Fraction) → Each (λ t. In t.0 es) r → Inv program r → Same ℚ r []
-  unfolding values Algebra.coefficient sum_over
+-- by any rows of numbers for monomials, of any set of polynomials that are 0 on them
+module _ (k : ℕ) (big : 2 ≤ k) (es : List (List ℕ)) (distinct : AreDistinct es)
+    (rows : List (List ℤ)) (mon : (row : List ℤ) → In row rows → List ℕ → Fraction)
+    (residues : (row : List ℤ) (i : In row rows)
+    → AreResidues (pos k) (map (mon row i) es) row)
+    (independent : IsIndependentModulo (pos k) (length es) rows) (m : ℕ)
+    (I : Terms Fraction → Type 0)
+    (zero : (r : Terms Fraction) → Each (λ t. In t.0 es) r → I r → (row : List ℤ)
+    (i : In row rows) → sum_over ℚ (λ t. ℚ.mul t.1 (mon row i t.0)) r ≡ ℚ.zero) where
+  none_is : (r : Terms Fraction) → Each (λ t. In t.0 es) r → I r → Same ℚ r []
+  unfolding Algebra.coefficient sum_over
   none_is r h inv = record { at = λ e. go e (find_monomial e es) }
     where
       zeros : Each (λ c. c ≡ ℚ.zero) (map (coefficient ℚ r) es)
       zeros =
-          fractions_zero k big (length es) rows independent values residues
+          fractions_zero k big (length es) rows independent
+          (λ row i. map (mon row i) es) residues
           (map (coefficient ℚ r) es) (length-map es (coefficient ℚ r))
-          (λ row i. let s = sample row i in
-          sym (value_by_coefficients s.run.end es distinct r h) ∙ inv.zero s.run)
+          (λ row i. sym (sum_by_coefficients (mon row i) es distinct r h)
+          ∙ zero r h inv row i)
 
       go : (e : List ℕ) → In e es ⊎ Each (λ d. same e d ≡ false) es
           → coefficient ℚ r e ≡ ℚ.zero
       go e (inl i) = zero_at e es (coefficient ℚ r) zeros i
       go e (inr a) = coefficient_apart ℚ_ring e r (apart_of e es a r h)
 
+  pub none_by_rows : HasNoCombination m es I
+  none_by_rows = record { none = λ r a h i. none_is r h i }
+
+module _ {At : Type 0} (program : Program (Expr At)) (k : ℕ) (big : 2 ≤ k)
+    (es : List (List ℕ)) (distinct : AreDistinct es) (rows : List (List ℤ))
+    (samples : Each (IsSampleRow program (pos k) es) rows)
+    (independent : IsIndependentModulo (pos k) (length es) rows) where
+  sample : (row : List ℤ) → In row rows → IsSampleRow program (pos k) es row
+  sample row i = each_in (IsSampleRow program (pos k) es) rows row samples i
+
   pub no_combination : HasNoCombination (length program.names) es (Inv program)
-  no_combination = record { none = λ r a h i. none_is r h i }
+  unfolding evaluate
+  no_combination =
+      none_by_rows k big es distinct rows (λ row i. let s = sample row i in
+      monomial_at ℚ s.run.end)
+      (λ row i. let s = sample row i in s.residues) independent (length program.names)
+      (Inv program) (λ r h inv row i. let s = sample row i in inv.zero s.run)

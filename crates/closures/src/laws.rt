@@ -62,7 +62,7 @@ pub fn closures_decide_invariants<At>()
         → Each (Inv program) P ↔ Each (IsZeroFromStart program) gs }
 {}
 
-/// At each state of a closing the list is a reduced basis of members of the closure that are 0 at the starts. Its ideal has all that became of the polynomials in the words before the candidate's, and the candidate differs from what it comes from by a member.
+/// While a candidate of a closing is divided, the list is a reduced basis of members of the closure that are 0 at the starts; while it is completed, its elements are 0 at the starts. The ideal of the list that divides has all that became of the polynomials in the words before the candidate's, and the candidate differs from what it comes from by a member.
 pub fn closings_keep_what_becomes<At>()
     ensures { (program : Program (Expr At)) (P : List (Terms Fraction))
         → Each (IsPolynomial ℚ grevlex (length program.names)) P

@@ -10,6 +10,8 @@ use Rattle.cert_checker.specs.Short.{AreShort}
 use Rattle.cert_checker.specs.Views.{verdict_of}
 use Rattle.cert_checker.specs.Wide.{IfCheckRefused}
 use Rattle.cert_checker.specs.declared.Verdict.TheVariants.{Valid}
+use Rattle.cert_checker.proofs.FormingLaws.{unformed_refused}
+use Rattle.cert_checker.proofs.Stopping.{passed_on}
 use Rattle.cert_checker.proofs.check.Goals as goal
 
 -- the certificate of the polynomials and cofactors that it has
@@ -21,6 +23,10 @@ module _ (c : Certificate) (basis : Polys) (steps : Vec (Vec Polys Global) Globa
 
   count : length c.basis ≡ length basis.items
   count = ap length (sym e) ∙ length-map basis.items terms_in
+
+pub returns-in_err-maps-clause-refused : goal.returns-in_err-maps-clause-refused
+returns-in_err-maps-clause-refused c = passed_on _ _ _ c.from_residual.ensures.1
+    (unformed_refused _ _ _ c.in_err-maps.ensures.refused)
 
 pub judge-requires-clause-kept : goal.judge-requires-clause-kept
 judge-requires-clause-kept c = record {

@@ -8,50 +8,37 @@ use Rattle.loops.proofs.Certificates.{certificate_lists_invariants}
 use Rattle.loop_model.specs.View.{program_of}
 use Rattle.loop_model.specs.Maps.{AreFree, IsBranchMap}
 use Rattle.loop_model.proofs.BranchMaps.{maps_count}
-use Rattle.loop_model.proofs.MapsFormed.{free_all}
 use Rattle.cert_form.specs.Cert.{certificate_of, rows_in}
 use Rattle.cert_form.proofs.Kept.{kept_over}
 use Rattle.cert_checker.specs.Identities.{FirstFailure}
 use Rattle.cert_checker.specs.Short.{ShortStart, ShortStep}
-use Rattle.cert_checker.proofs.FormingLaws.{stops_unformed, maps_unformed}
 use Rattle.cert_checker.proofs.MapsLaws.{branch_here, map_here}
 use Rattle.cert_checker.proofs.RowLaws.{inside, rows_at, square_at, square_over}
 use Rattle.cert_checker.proofs.Stopping.{passed_on}
 use Rattle.loop_model.proofs.Items.{past_list}
 use Rattle.cert_checker.proofs.VerdictLaws.{start_count, branch_count, fit_map, start_found, start_refused, start_long, step_long, start_short, step_short, step_found, step_refused, passed_more}
 use Rattle.cert_checker.proofs.judge.Goals as goal
-use Rattle.cert_checker.proofs.judge.Goals.{In_ok-maps, In_ok-element, In_ok-element-2, After-index-rows}
-
-all_free : (c : In_ok-maps) → AreFree (program_of c.args.lp.now)
-all_free c =
-    free_all (program_of c.args.lp.now) c.in_ok-start.ensures.free c.in_ok-maps.ensures.free
-
-pub returns-in_err-maps-clause-refused : goal.returns-in_err-maps-clause-refused
-returns-in_err-maps-clause-refused c =
-    let program = program_of c.args.lp.now in
-    passed_on _ _ _ c.from_residual-in_err-maps.ensures.1 (maps_unformed program
-    (certificate_of c.args.basis.now c.args.steps.now) _ c.in_ok-start.ensures.free
-    (stops_unformed (length program.names) _ _ c.in_err-maps.ensures.stops))
+use Rattle.cert_checker.proofs.judge.Goals.{In_ok-element, In_ok-element-2, After-index-rows}
 
 pub first_failing_start-requires : goal.first_failing_start-requires
 first_failing_start-requires c =
-    let images = c.in_ok-start.start.items in
-    let fit = fit_map images _ c.args.basis.now c.args.lp.now.some_name c.in_ok-start.ensures.maps
-    (start_count c.args.lp.now images c.in_ok-start.ensures.maps) c.requires.kept.arities in
+    let images = c.args.maps.now.start.items in
+    let fit = fit_map images _ c.args.basis.now c.args.lp.now.some_name c.requires.maps.start
+    (start_count c.args.lp.now images c.requires.maps.start) c.requires.kept.arities in
     record { some = fit.some; images = fit.over; arity = fit.arity }
 
 pub returns-in_err-element-clause-refused : goal.returns-in_err-element-clause-refused
 returns-in_err-element-clause-refused c = passed_on _ _ _ c.from_residual-in_err-element.ensures.1
     (start_refused c.args.lp.now c.args.basis.now c.args.steps.now c.requires.kept _
-    c.in_ok-start.ensures.maps
-    (all_free (goal.at.returns-in_err-element-clause-refused c).In_ok-maps) _
+    c.requires.maps.start
+    c.requires.maps.free _
     c.in_err-element.ensures.stops)
 
 pub returns-in_err-test_start-clause-refused : goal.returns-in_err-test_start-clause-refused
 returns-in_err-test_start-clause-refused c =
-    passed_on _ _ _ c.from_residual-in_err-test_start.ensures.1 (start_long c.args.lp.now
-    c.args.basis.now c.args.steps.now c.requires.kept _ c.in_ok-start.ensures.maps
-    (all_free (goal.at.returns-in_err-test_start-clause-refused c).In_ok-maps) _
+    passed_on _ _ _ c.from_residual.ensures.1 (start_long c.args.lp.now
+    c.args.basis.now c.args.steps.now c.requires.kept _ c.requires.maps.start
+    c.requires.maps.free _
     c.in_err-test_start.ensures.limit)
 
 -- what the search among the starts has found, and that all hold where this is none
@@ -63,7 +50,7 @@ module _ (c : In_ok-element) where
   cert = certificate_of c.args.basis.now c.args.steps.now
 
   free : AreFree program
-  free = all_free (goal.at.In_ok-element c).In_ok-maps
+  free = c.requires.maps.free
 
   abbrev StartsAs : Option ℕ → Type 0
   StartsAs o = FirstFailure (PassesStart program cert) (length cert.basis) o
@@ -71,7 +58,7 @@ module _ (c : In_ok-element) where
   starts_found : StartsAs c.in_ok-element.field-0
   starts_found =
       start_found c.args.lp.now c.args.basis.now c.args.steps.now c.requires.kept _
-      c.in_ok-start.ensures.maps c.in_ok-element.field-0 c.in_ok-element.ensures.first
+      c.requires.maps.start c.in_ok-element.field-0 c.in_ok-element.ensures.first
 
   starts_hold : c.in_ok-element.field-0 ≡ None → StartsAs None
   starts_hold none = subst StartsAs none starts_found
@@ -80,7 +67,7 @@ module _ (c : In_ok-element) where
   start_is_short : ShortStart program cert
   start_is_short =
       start_short c.args.lp.now c.args.basis.now c.args.steps.now c.requires.kept _
-      c.in_ok-start.ensures.maps c.in_ok-test_start.ensures.few
+      c.requires.maps.start c.in_ok-test_start.ensures.few
 
 pub returns-in-Some-clause-verdict : goal.returns-in-Some-clause-verdict
 returns-in-Some-clause-verdict c =
@@ -99,12 +86,9 @@ loop-branch-init c = record {
   short = λ a l. absurd (omega arith);
 }
 
-pub returns-in-Some-clause-free : goal.returns-in-Some-clause-free
-returns-in-Some-clause-free c = free (goal.at.returns-in-Some-clause-free c).In_ok-element
-
 pub index-rows-requires : goal.index-rows-requires
 index-rows-requires c =
-    let here = branch_here _ c.in_ok-maps.ensures.maps c.deref-images-items.ensures.value _
+    let here = branch_here _ c.requires.maps.branches c.deref-images-items.ensures.value _
     c.loop-branch-test.true in
     omega (arith, here, c.requires.branches)
 
@@ -115,7 +99,7 @@ module _ (c : After-index-rows) where
 
   stand : IsBranchMap (program entry) c.images-item.result
       (get_or (program entry).branches c.loop-branch.branch [])
-  stand = map_here _ c.in_ok-maps.ensures.maps c.deref-images-items.ensures.value _
+  stand = map_here _ c.requires.maps.branches c.deref-images-items.ensures.value _
       c.loop-branch-test.true c.images-item.is
 
   count : length c.images-item.result.items ≡ length (program entry).names
@@ -123,7 +107,7 @@ module _ (c : After-index-rows) where
 
   here : c.loop-branch.branch < length (program entry).branches
   here = branch_here _
-      c.in_ok-maps.ensures.maps c.deref-images-items.ensures.value _ c.loop-branch-test.true
+      c.requires.maps.branches c.deref-images-items.ensures.value _ c.loop-branch-test.true
 
   listed : c.loop-branch.branch < length (cert entry).steps
   listed = omega (arith, here, c.requires.branches, length-map c.args.steps.now.items rows_in)
@@ -204,9 +188,6 @@ returns-in-Some-2-clause-short c =
     let e = (goal.at.returns-in-Some-2-clause-short c).In_ok-element-2 in
     (start_is_short (entry (behind e)), λ b l. steps_are_short e b (omega (arith, l)))
 
-pub returns-in-Some-2-clause-free : goal.returns-in-Some-2-clause-free
-returns-in-Some-2-clause-free c = free (goal.at.returns-in-Some-2-clause-free c).In_ok-element
-
 pub loop-branch-preserved : goal.loop-branch-preserved
 loop-branch-preserved c =
     let e = (goal.at.loop-branch-preserved c).In_ok-element-2 in
@@ -221,8 +202,8 @@ loop-branch-preserved c =
 pub returns-clause-verdict : goal.returns-clause-verdict
 returns-clause-verdict c =
     let past = past_list _ _ c.deref-images-items.ensures.value _ c.loop-branch-test.false in
-    let many = maps_count (program_of c.args.lp.now) c.in_ok-maps.maps.items
-    c.in_ok-maps.ensures.maps in
+    let many = maps_count (program_of c.args.lp.now) c.args.maps.now.branches.items
+    c.requires.maps.branches in
     record {
       starts = starts_hold (goal.at.returns-clause-verdict c).In_ok-element (search rules);
       steps = λ b i k l. c.loop-branch.invariant.passed b i (omega (arith, past, many)) l;
@@ -231,8 +212,8 @@ returns-clause-verdict c =
 pub returns-clause-short : goal.returns-clause-short
 returns-clause-short c =
     let past = past_list _ _ c.deref-images-items.ensures.value _ c.loop-branch-test.false in
-    let many = maps_count (program_of c.args.lp.now) c.in_ok-maps.maps.items
-    c.in_ok-maps.ensures.maps in (
+    let many = maps_count (program_of c.args.lp.now) c.args.maps.now.branches.items
+    c.requires.maps.branches in (
       start_is_short (goal.at.returns-clause-short c).In_ok-element,
       λ b k. c.loop-branch.invariant.short b (omega (arith, past, k, many)),
     )

@@ -14,6 +14,7 @@ use Rattle.cert_checker.specs.Further.{further_parts}
 use Rattle.cert_checker.specs.Parts.{part_of}
 use Rattle.cert_checker.specs.FullStops.{IsStop}
 use Rattle.cert_checker.specs.FullWide.{IsPastPart}
+use Rattle.cert_checker.proofs.FormingLaws.{unformed_refused}
 use Rattle.cert_checker.proofs.Kept.{kept_of}
 use Rattle.cert_checker.proofs.Whole.{all_hold, further_behind, first_of, wide_of, start_first, step_first, start_invalid, step_invalid, long_part, failing_verdict, wide_refused, limit_refused, refusal}
 use Rattle.cert_checker.proofs.full_verdict.check_full.Goals as goal
@@ -69,8 +70,17 @@ returns-in-Ok-StepFails-clause-few c =
     c.fails-in-Ok-StepFails.ensures.fails
 
 pub returns-in-Err-clause-refused : goal.returns-in-Err-clause-refused
-returns-in-Err-clause-refused c = refusal _ _
-    c.in-Err.error c.refused.result c.in-Err.ensures.refused c.refused.ensures
+returns-in-Err-clause-refused c =
+    let program = program_of c.args.lp.now in
+    let cert = full_of c.args.cert.now in
+    refusal program cert c.in-Err.error c.refused.result
+    (unformed_refused program (certificate cert) c.in-Err.error c.in-Err.ensures.refused)
+    c.refused.ensures
+
+pub returns-in-Err-judge-clause-refused : goal.returns-in-Err-judge-clause-refused
+returns-in-Err-judge-clause-refused c = refusal _ _
+    c.in-Err-judge.error c.refused-in-Err-judge.result c.in-Err-judge.ensures.refused
+    c.refused-in-Err-judge.ensures
 
 pub first_long_part-requires : goal.first_long_part-requires
 first_long_part-requires c =
@@ -78,8 +88,8 @@ first_long_part-requires c =
       judge = record {
         images = c.requires.images;
         counted = c.requires.counted;
-        values = c.in-Ok.ensures.maps;
-        maps = c.in-Ok-branch_maps.ensures.maps;
+        values = c.in-Ok.ensures.maps.start;
+        maps = c.in-Ok.ensures.maps.branches;
       };
     }
 
@@ -88,7 +98,7 @@ returns-in-Some-clause-refused c =
     let program = program_of c.args.lp.now in
     let cert = full_of c.args.cert.now in
     let part = part_of c.in-Some.part in
-    limit_refused program cert c.limit.result c.in-Ok-Valid.ensures.free (long_part program cert
+    limit_refused program cert c.limit.result c.in-Ok.ensures.maps.free (long_part program cert
     part (valid (goal.at.returns-in-Some-clause-refused c).In-Ok-Valid) (MatchOption-at_some _ _ _
     c.in-Some.is c.first_long_part.ensures)) c.limit.ensures
 
@@ -98,8 +108,8 @@ judge_behind-requires c =
       judge = record {
         images = c.requires.images;
         counted = c.requires.counted;
-        values = c.in-Ok.ensures.maps;
-        maps = c.in-Ok-branch_maps.ensures.maps;
+        values = c.in-Ok.ensures.maps.start;
+        maps = c.in-Ok.ensures.maps.branches;
       };
     }
 
@@ -135,7 +145,7 @@ returns-in-Err-Wide-clause-refused c =
     let program = program_of c.args.lp.now in
     let cert = full_of c.args.cert.now in
     let part = part_of c.in-Err-Wide.part in
-    wide_refused program cert c.wide.result c.in-Ok-Valid.ensures.free (wide_of program cert part
+    wide_refused program cert c.wide.result c.in-Ok.ensures.maps.free (wide_of program cert part
     (further_behind program cert (valid (goal.at.returns-in-Err-Wide-clause-refused c).In-Ok-Valid)
     part (IsPastPart program cert part) (subst (IsStop part_of (Holds program cert)
     (IsPastPart program cert) (further_parts program cert)) c.in-Err-Wide.field-0-is

@@ -1,7 +1,7 @@
-use Rattle.std.proofs.Common.{rules, refl, sym, ap, ◌∙◌, map}
+use Rattle.std.proofs.Common.{rules, refl, ap, ◌∙◌, map}
 use Rattle.machines.specs.Journal.{Journal}
 use Rattle.journal.specs.View.{entry_of}
-use Rattle.closing.proofs.Appended.{appended_none, appended_next, appended_part, appended_all, noted_ok, noted_err}
+use Rattle.closing.proofs.Appended.{appended_none, appended_next, appended_part, appended_all, never_exhausted}
 use Rattle.closing.proofs.whole_search.append.Goals as goal
 
 pub loop-entry-init : goal.loop-entry-init
@@ -10,29 +10,31 @@ loop-entry-init c = record {
   entries = appended_none c.args.meter.now.entries c.deref-entry-items.result.now;
 }
 
-pub returns-then-is_err-clause-limit : goal.returns-then-is_err-clause-limit
-returns-then-is_err-clause-limit c =
-    let same = noted_err _ (sym c.is_err.ensures.value ∙ c.if-is_err.true) c.put.ensures.err in
-    ap (λ (j : Journal). j.limit) same ∙ c.loop-entry.invariant.limit
+pub returns-in-Err-Memory-clause-limit : goal.returns-in-Err-Memory-clause-limit
+returns-in-Err-Memory-clause-limit c =
+    ap (λ (j : Journal). j.limit) c.in-Err-Memory.ensures.err ∙ c.loop-entry.invariant.limit
 
-pub returns-then-is_err-clause-begun : goal.returns-then-is_err-clause-begun
-returns-then-is_err-clause-begun c =
-    let same = noted_err _ (sym c.is_err.ensures.value ∙ c.if-is_err.true) c.put.ensures.err in
+pub returns-in-Err-Memory-clause-begun : goal.returns-in-Err-Memory-clause-begun
+returns-in-Err-Memory-clause-begun c =
     appended_part c.args.meter.now.entries c.deref-entry-items.result.now (ap (map entry_of)
-    c.deref-entry-items.ensures.value ∙ c.entries.ensures) _ _ (ap (λ (j : Journal). j.entries) same
-    ∙ c.loop-entry.invariant.entries)
+    c.deref-entry-items.ensures.value ∙ c.entries.ensures) _ _ (ap (λ (j : Journal). j.entries)
+    c.in-Err-Memory.ensures.err ∙ c.loop-entry.invariant.entries)
+
+pub unreachable-requires : goal.unreachable-requires
+unreachable-requires c =
+    never_exhausted c.args.meter.now.entries c.deref-entry-items.result.now (ap (map entry_of)
+    c.deref-entry-items.ensures.value ∙ c.entries.ensures) _ _ c.loop-entry-test.true
+    (search rules) _ c.requires.within c.loop-entry.meter c.loop-entry.invariant.limit
+    c.loop-entry.invariant.entries (c.put.ensures.budget.0 (search rules))
 
 pub loop-entry-preserved : goal.loop-entry-preserved
-loop-entry-preserved c =
-    let more = noted_ok c.put.result (sym c.is_err.ensures.value ∙ c.if-is_err.false)
-    c.put.ensures.ok in
-    record {
-      limit = ap (λ (j : Journal). j.limit) more ∙ c.loop-entry.invariant.limit;
-      entries =
-          appended_next c.args.meter.now.entries c.deref-entry-items.result.now _ _
-          c.loop-entry-test.true (search rules) _ c.loop-entry.invariant.entries
-          (ap (λ (j : Journal). j.entries) more);
-    }
+loop-entry-preserved c = record {
+  limit = ap (λ (j : Journal). j.limit) c.in-Ok.ensures.ok ∙ c.loop-entry.invariant.limit;
+  entries =
+      appended_next c.args.meter.now.entries c.deref-entry-items.result.now _ _
+      c.loop-entry-test.true (search rules) _ c.loop-entry.invariant.entries
+      (ap (λ (j : Journal). j.entries) c.in-Ok.ensures.ok);
+}
 
 pub returns-clause-limit : goal.returns-clause-limit
 returns-clause-limit c = c.loop-entry.invariant.limit
