@@ -1,0 +1,9 @@
+pub mod Rows
+pub mod View
+pub mod Fits
+pub mod Identities
+pub mod Stops
+pub mod Refusals
+pub mod Verdicts
+pub mod Form
+pub mod ReadAs
