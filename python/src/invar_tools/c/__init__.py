@@ -1,0 +1,1 @@
+"""Equations of loops in C programs, as loop invariants for Frama-C."""
