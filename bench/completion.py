@@ -48,7 +48,7 @@ class LeftOut(Exception):
 
 
 def flat(text, names):
-    """The polynomial of a text, as a sum of terms."""
+    """The polynomial of a text of bench/systems.py, as a sum of terms. sympy evaluates the text, so none that anyone else writes."""
     import sympy
 
     terms = sympy.Poly(text.replace("^", "**"), *sympy.symbols(names)).terms()
@@ -166,6 +166,7 @@ def of_sympy(numbers, names, system):
     from sympy.polys.rings import ring
 
     polynomials, *variables = ring(names, GF(PRIME) if numbers == "gf" else QQ, grevlex)
+    # formulas of bench/systems.py, and no text that anyone else writes
     elements = [eval(text.replace("^", "**"), {}, dict(zip(names, variables))) for text in system]
     start = time.process_time()
     found = groebner(elements, polynomials)

@@ -1,8 +1,9 @@
 #!/bin/sh
 # Runs the built program on worked rows, on those of crates/acceptance/data/loops.txt too, and compares its text and status with what they want.
-# Usage: bench/rows.sh            (after ./invar --prove has built the program; INVAR names another one)
+# Usage: bench/rows.sh            (the program that answers ./invar, which is built where it has to be; INVAR names another one)
 here=$(cd "$(dirname "$0")/.." && pwd)
-program=$(realpath "${INVAR:-$here/crates/invar/out/invar}")
+program=$(realpath "${INVAR:-$("$here/tools/program.py" build)}") || exit 1
+case $program in */unproved/*) unproved=' (built without its proofs)' ;; *) unproved= ;; esac
 folder=$(mktemp -d)
 trap 'rm -rf "$folder"' EXIT
 cd "$folder" || exit 1
@@ -105,7 +106,7 @@ row 0 'x*v*h - x^2 - v^2 + e = 0' basis --degree 3 leapfrog.loop
 row 0 '{"basis":["x*z - y*z - x + 1"],"steps":[[[[0,"z"]]]],"vars":["x","y","z"],"version":2}' cert --degree 2 geometric-sum.loop
 row 5 'budget: 10' basis --budget 10 --degree 2 squaring.loop
 row 3 'limit: degree 16' basis --degree 16 leapfrog.loop
-row 0 'invar 1.5.0' --version
+row 0 "invar 1.6.0$unproved" --version
 row 0 "$("$program" help)" --help
 row 0 'invar gen NUMBER
 Analyses the first so many loops of a family, 1 to 1000, and prints how many

@@ -1,8 +1,9 @@
 #!/bin/sh
 # Runs the built program in 512 KB of stack: the rows of bench/rows.sh, and texts whose polynomials, lists and nestings are as long and as deep as they may be.
-# Usage: bench/small-stack.sh            (after ./invar --prove has built the program)
+# Usage: bench/small-stack.sh            (the program that answers ./invar, which is built where it has to be; INVAR names another one)
 here=$(cd "$(dirname "$0")/.." && pwd)
-program=$here/crates/invar/out/invar
+INVAR=$(realpath "${INVAR:-$("$here/tools/program.py" build)}") && program=$INVAR || exit 1
+export INVAR
 folder=$(mktemp -d)
 trap 'rm -rf "$folder"' EXIT
 ulimit -s 512 || exit 1

@@ -7,10 +7,11 @@ The head of a root file, `src/lib.rt` or `src/main.rt`, is its lines that begin 
 the first says what the crate is; one that begins with `Proved:` says what its contracts promise to the crates above; one that begins with
 `Notion:` names the notion of the field, and where it is told. Any others, as on the rows that a program reads, are left out of the page.
 
-With --check nothing is written, and the status is 1 where the page differs. With --changed nothing is written either: the crates are told that the
+With --check nothing is written; where the page differs, the lines that do are told, and the status is 1. With --changed nothing is written either: the crates are told that the
 commit changed since it left the revision, in their folders or in bench/edits, and those that stand on one whose sources it changed.
 """
 import argparse
+import difflib
 import re
 import subprocess
 import sys
@@ -120,7 +121,11 @@ def main() -> int:
         print(*changed_since(arguments.changed), sep="\n")
         return 0
     if arguments.check:
-        return 0 if PAGE.exists() and PAGE.read_text(encoding="utf-8") == page() else 1
+        written = PAGE.read_text(encoding="utf-8") if PAGE.exists() else ""
+        differ = list(difflib.unified_diff(written.splitlines(), page().splitlines(), "docs/CRATES.md", "the heads of the crates", lineterm="", n=0))
+        for line in differ:
+            print(line)
+        return 1 if differ else 0
     PAGE.write_text(page(), encoding="utf-8")
     return 0
 

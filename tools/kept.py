@@ -18,6 +18,8 @@ TOP = os.path.dirname(os.path.dirname(os.path.abspath(__file__)))
 INSTANT = 0.05
 PROVED_PARTS = ("src", "specs", "proofs")
 UNPROVED_PARTS = ("src",)
+# what says how the program of which nothing is proved is built, and what it says of itself
+UNPROVED_BUILDER = "tools/unproved.py"
 
 
 def kit_folder():
@@ -61,8 +63,8 @@ def sum_of_file(path):
         return hashlib.sha256(content.read()).hexdigest()
 
 
-def sum_of_sources(program, parts):
-    """A sum over what a program is made of: its crates, what each stands on, and the names and contents of their files."""
+def sum_of_sources(program, parts, builder):
+    """A sum over what a program is made of: its crates, what each stands on, the names and contents of their files, and its builder's, if it has one."""
     total = hashlib.sha256()
     for name, below in crates_below(program).items():
         total.update(f"{name}: {' '.join(below)}\n".encode())
@@ -72,19 +74,21 @@ def sum_of_sources(program, parts):
                 for file in sorted(files):
                     path = os.path.join(at, file)
                     total.update(f"{os.path.relpath(path, TOP)} {sum_of_file(path)}\n".encode())
+    if builder:
+        total.update(f"{builder} {sum_of_file(f'{TOP}/{builder}')}\n".encode())
     return total.hexdigest()
 
 
 class Kept:
     """A program that is kept, with its stamp."""
 
-    def __init__(self, name, path, parts):
-        self.name, self.path, self.parts = name, path, parts
+    def __init__(self, name, path, parts, builder=None):
+        self.name, self.path, self.parts, self.builder = name, path, parts, builder
         self.stamp, self.outdated = f"{path}.sources", f"{path}.outdated"
 
     def made_of(self):
         """The kit, and the sum of the sources as they are."""
-        return kit_name(), sum_of_sources(self.name, self.parts)
+        return kit_name(), sum_of_sources(self.name, self.parts, self.builder)
 
     def stands(self):
         """Whether the program is one of the sources as they are, by the stamp's sums. The stamp's time is then now; else it is put aside.
@@ -128,7 +132,7 @@ def proved(program):
 
 
 def unproved(program):
-    return Kept(program, f"{TOP}/crates/{program}/out/unproved/{program}", UNPROVED_PARTS)
+    return Kept(program, f"{TOP}/crates/{program}/out/unproved/{program}", UNPROVED_PARTS, UNPROVED_BUILDER)
 
 
 @contextlib.contextmanager

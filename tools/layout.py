@@ -20,6 +20,7 @@ With --since, of each file only where it changed since that revision; with --rul
   pages      docs/CRATES.md isn't what tools/crates.py writes; a page names a file, a crate or a word of the sources that isn't there; or the picture
              in docs/ARCHITECTURE.md leaves a crate out, or draws it before one that it names
   words      a word that is out of use stands in a source or on a page, outside of texts in quotes
+  paths      a file is a symbolic link, which the gate takes nowhere
   links      more functions are links of chains than may be; tools/links.py says what these are, and lists them
   edges      a note, and no finding: a crate stands on another by at most three import lines, through which alone something is below it
 
@@ -56,6 +57,8 @@ HEAD_WORD = re.compile(r"[^\s,;:(){}`]+")
 CLAUSE = re.compile(r"^\s*(?:(?:requires|ensures|narrow)\b|(?:\w+\s*)?\{)")
 NUMBER = re.compile(r"(?<![\w.^-])(?<!digits_value )\d{2,}(?![\w.])")
 QUOTED = re.compile(r'"[^"]*"')
+# what stands before a part of a name; and behind one, but for the last of these
+WORD = re.compile(r"[\w-]")
 # a name of a library, in a path of definitions and proofs, in one of code, and in an import of either
 THEORY_PATH = re.compile(r"\bRattle\.([a-z]\w*)\.")
 CODE_PATH = re.compile(r"(?<![\w:.])([a-z]\w*)::")
@@ -88,7 +91,7 @@ TEXT_IN_QUOTES = re.compile(r"""b?'(?:\\.|[^'\\\n])'|"(?:[^"\\]|\\.)*\"""")
 
 # In pages: a text in backticks, a path anywhere, the crates in a heading, and parts of paths that stand for others.
 TICKED = re.compile(r"`([^`\n]+)`")
-PATH = re.compile(r"(?<![\w/.*-])((?:crates|bench|docs|tools|examples|[a-z]\w*/(?:src|specs|proofs|must-fail|data))/[\w./*-]*\w)")
+PATH = re.compile(r"(?<![\w/.*-])((?:crates|bench|docs|tools|examples|python|[a-z]\w*/(?:src|specs|proofs|must-fail|data))/[\w./*-]*\w)")
 FILE_NAME = re.compile(r"[\w.-]+\.(?:antt|rt|py|sh|md|edit)")
 SOURCE_WORD = re.compile(r"[a-z][a-z0-9]+(?:_[a-z0-9]{2,})+")
 HEADING_CRATES = re.compile(r"^#+ .*\(((?:`\w+`(?:, )?)+)\)$")
@@ -176,7 +179,10 @@ def is_used(name: str, rest: str) -> bool:
         return True  # a block behind `do` binds by it
     if "◌" in name:
         return all(part in rest for part in name.split("◌") if part)
-    return re.search(rf"(?<![\w\-]){re.escape(name)}(?!\w)", rest) is not None
+    at = rest.find(name)
+    while at >= 0 and (WORD.match(rest[at - 1 : at]) or WORD.match(rest[at + len(name) : at + len(name) + 1].replace("-", ""))):
+        at = rest.find(name, at + 1)
+    return at >= 0
 
 
 def imports(source: Source) -> Iterator[Finding]:
@@ -260,6 +266,7 @@ def retired_in(path: Path, text: str) -> Iterator[Finding]:
     words = [(word, instead) for word, instead, below in RETIRED if re.match(below, name)]
     text = TEXT_IN_QUOTES.sub(lambda quoted: "\n" * quoted[0].count("\n"), text) if path.suffix != ".md" else text
     text = without_library_names(text) if path.suffix == ".antt" else text
+    words = [(word, instead) for word, instead in words if word.search(text)]
     for number, line in enumerate(text.split("\n"), 1):
         yield from (Finding("words", path, number, f"`{found[0]}` is out of use: {instead}") for word, instead in words if (found := word.search(line)))
 
@@ -357,7 +364,7 @@ def edges() -> Iterator[Finding]:
 
 
 def page_files() -> list[Path]:
-    found = [*TOP.glob("*.md"), *(TOP / "docs").glob("*.md"), *(TOP / "bench").glob("*.md"), *(TOP / "examples").rglob("*.md")]
+    found = [*TOP.glob("*.md"), *(TOP / "docs").glob("*.md"), *(TOP / "bench").glob("*.md"), *(TOP / "examples").rglob("*.md"), *(TOP / "python").glob("*.md")]
     return sorted(found)
 
 
@@ -367,6 +374,12 @@ def files_there() -> frozenset[Path]:
     command = ["git", "-C", TOP, "ls-files", "--cached", "--others", "--exclude-standard"]
     names = subprocess.run(command, check=True, capture_output=True, text=True).stdout.split("\n")
     return frozenset(TOP / name for name in names if name and (TOP / name).exists())
+
+
+def paths() -> Iterator[Finding]:
+    for path in sorted(files_there()):
+        if path.is_symlink():
+            yield Finding("paths", path, 0, "is a symbolic link: put the file itself here")
 
 
 @cache
@@ -454,7 +467,7 @@ def pages() -> Iterator[Finding]:
 
 OF_TREE = {
     "edits": edits, "modules": modules, "order": order, "theory": theory, "below": below, "named": named, "pages": pages, "words": words,
-    "links": chain_links,
+    "paths": paths, "links": chain_links,
 }
 OF_FILE = {
     "imports": imports, "columns": columns, "lengths": lengths, "heads": heads, "digits": digits, "borrowed": borrowed,

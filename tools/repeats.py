@@ -28,7 +28,10 @@ DECLARED = re.compile(r"^\s*" + MODIFIERS + rf"([^\s:(){{}}|=]+)\s+:\s+(.{{{SHOR
 BEGINS = re.compile(r"^\s*" + MODIFIERS + r"(?:(?:record|data)\s+(?P<type>[^\s:(){}]+)|(?P<name>[^\s:(){}|=λ◌,;.\[\]]+)\s+:(?:\s|$))")
 IMPORT = re.compile(r"^\s*(?P<how>(?:pub\s+|ghost\s+)*)use\s+(?P<module>Rattle\.[^\s;{]*?)(?:\.\{[^}]*\}|\s+as\s+\S+)?;?\s*$")
 # files whose lemmas are there for themselves: worked examples, and inputs that meet the premises of others
-WORKED = re.compile(r"/(?:(?:Trace)?Examples|Squares\w*|(?:Recurrences)?Formed|Branches|Powers|Resets|\w*Witnesses|Idle\w*|Identity\w*|PassedLimits|ReadTexts|\w+Map|LateLoop|AsciiCodes)\.antt$")
+WORKED = re.compile(
+    r"/(?:(?:Trace)?Examples|Squares\w*|ShortCertificates|Fibonacci|WorkedLoops|ChangedCode|(?:Recurrences)?Formed|Branches|Powers|Resets|\w*Witnesses|Idle\w*|Identity\w*|PassedLimits|ReadTexts"
+    r"|\w+Map|LateLoop|AsciiCodes)\.antt$"
+)
 WORD = re.compile(r"[^\s(){}\[\],;.λ∷:=|⟨⟩]+")
 IS_IMPORT_OR_COMMENT = ("--", "//", "use ", "ghost use ", "pub use ")
 

@@ -37,8 +37,9 @@ page_alone it (argument ∷ rest) = None
 
 abbrev pub loop_commands : List ℕ
 loop_commands =
-    line (codes "invar finds all polynomial equations that always hold at the head of a loop. Its")
-    ++ line (codes "machine-checked proof says that each of them holds and that none is missing.")
+    line (codes "invar finds all polynomial equations that always hold at the head of a simple")
+    ++ line (codes "loop. Of a proved build a prover has checked that each of them holds and that")
+    ++ line (codes "none is missing. Any other build says `built without its proofs` by --version.")
     ++ line (codes "")
     ++ line (codes "About a loop:")
     ++ line (codes "  basis [--budget N] [--degree D] LOOP the reduced basis of all invariants")
@@ -79,7 +80,7 @@ other_commands =
 
 abbrev pub version : List ℕ
 version =
-    line (codes "invar 1.5.0")
+    line (codes "invar 1.6.0")
 
 abbrev pub head_of : Page → List ℕ
 head_of page.Overview = loop_commands

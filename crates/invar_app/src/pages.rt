@@ -148,8 +148,9 @@ impl Page {
 }
 
 const LOOP_COMMANDS: &str =
-    "invar finds all polynomial equations that always hold at the head of a loop. Its
-machine-checked proof says that each of them holds and that none is missing.
+    "invar finds all polynomial equations that always hold at the head of a simple
+loop. Of a proved build a prover has checked that each of them holds and that
+none is missing. Any other build says `built without its proofs` by --version.
 
 About a loop:
   basis [--budget N] [--degree D] LOOP the reduced basis of all invariants
@@ -188,7 +189,7 @@ Examples:
   invar member examples/squares.loop 's = (a+1)^2'
 ";
 
-const VERSION: &str = "invar 1.5.0\n";
+const VERSION: &str = "invar 1.6.0\n";
 
 const BASIS: &str = "Prints the reduced basis of all polynomial invariants of the loop in the file
 LOOP, an equation a line, or `none`. Each invariant is a combination of these.
