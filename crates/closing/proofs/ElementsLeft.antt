@@ -15,12 +15,12 @@ use Rattle.loops.specs.Program.{Expr, Program}
 use Rattle.closures.specs.Monomials.{AreAscending, AreMonomialsUpTo}
 use Rattle.closures.specs.UpTo.{AreTidy, HasStandard}
 use Rattle.closures.proofs.Monomials.{are_monomials_up_to}
-use Rattle.closing.specs.Modulus.{modulus}
-use Rattle.closing.specs.EchelonForm.{Led, IsEchelonOf}
+use Rattle.residue_rows.specs.Modulus.{modulus}
+use Rattle.residue_rows.specs.EchelonForm.{Led, IsEchelonOf}
 use Rattle.closing.specs.SearchCauses.{HasNoElement}
-use Rattle.closing.specs.ElementParts.{IsElementOf, LeadsElement}
-use Rattle.closing.specs.Elements.{IsValueRow, IsZeroRow, IsCandidate, standard_in}
-use Rattle.closing.specs.Limits.{most_monomials}
+use Rattle.residue_rows.specs.ElementParts.{IsElementOf, LeadsElement}
+use Rattle.residue_rows.specs.Elements.{IsValueRow, IsZeroRow, IsCandidate, standard_in}
+use Rattle.residue_rows.specs.Limits.{most_monomials}
 use Rattle.closing.specs.Sampling.{IsAt}
 use Rattle.closing.specs.Search.{Part, rows_of, entries_of, GoesOn, monomials, HasLeft}
 use Rattle.closing.specs.declared.sampling.Sampling.{Sampling}

@@ -25,11 +25,11 @@ use Rattle.closures.specs.Ends.{ComesNext}
 use Rattle.closures.specs.Follows as closing
 use Rattle.closures.specs.Modulo.{IsCombinationModulo}
 use Rattle.closing.specs.Progress as progress
-use Rattle.closing.specs.Modulus.{modulus}
-use Rattle.closing.specs.EchelonForm.{Led, IsEchelonOf, IsStuck}
+use Rattle.residue_rows.specs.Modulus.{modulus}
+use Rattle.residue_rows.specs.EchelonForm.{Led, IsEchelonOf, IsStuck}
 use Rattle.closing.specs.Modulo.{HasNoMapsModulo}
-use Rattle.closing.specs.ElementParts.{LeadsElement}
-use Rattle.closing.specs.Elements.{IsCandidate}
+use Rattle.residue_rows.specs.ElementParts.{LeadsElement}
+use Rattle.residue_rows.specs.Elements.{IsCandidate}
 use Rattle.closing.specs.Search.{Part, samples_of, rows_of, entries_of, GoesOn, monomials, word_of, IsRow, HasLeft, IsSearch}
 
 pub record HasNoInverse (n : ℕ) (rows : List (List ℤ)) (row : List ℤ) : Type 0 where

@@ -12,21 +12,14 @@
 #![tactic(auto)]
 
 mod candidates;
-pub mod echelon;
-mod elements;
 mod error;
-mod euclid;
 mod evaluations;
 mod joining;
 mod levels;
 mod listing;
 mod loop_maps;
 mod modular_maps;
-mod monomials;
 mod proving;
-pub mod reconstruction;
-pub mod residue;
-pub mod residue_laws;
 mod samples;
 mod sampling;
 mod search_error;

@@ -4,7 +4,7 @@ use Rattle.algebra.specs.Each.{Each}
 use Rattle.closures.specs.Monomials.{AreAscending}
 use Rattle.ideal_ops.specs.Calls.{AreOver}
 use Rattle.closing.proofs.ElementsLeft.{ascend_at, width_at, few_at, arities_at, told_left, none_left}
-use Rattle.closing.specs.declared.elements.ElementsError.TheVariants.{Wide}
+use Rattle.residue_rows.specs.declared.elements.ElementsError.TheVariants.{Wide}
 use Rattle.closing.proofs.Stopped.{begun_at}
 use Rattle.closing.proofs.sampling.Sampling.elements_left.Goals as goal
 
