@@ -1,10 +1,9 @@
 //! Values over residues.
-ghost use Rattle.std.specs.Prelude.{pos, map, ◌*ℤ◌, IfOk};
+ghost use Rattle.std.specs.Prelude.{pos, map, IfOk};
 ghost use Rattle.std.specs.List.{AllZip};
-ghost use Rattle.algebra.specs.Arithmetic.{power};
 ghost use Rattle.algebra.specs.Ring.{operations};
 ghost use Rattle.algebra.proofs.IntRing.{ℤ_ring};
-ghost use Rattle.polynomials.specs.Terms.{monomial_at, value_at};
+ghost use Rattle.polynomials.specs.Terms.{value_at};
 ghost use Rattle.closures.specs.Modulo.{AreCongruent};
 ghost use Rattle.poly.specs.View.{terms_of};
 ghost use Rattle.residue_rows.specs.Modulus.{modulus};
@@ -12,8 +11,8 @@ ghost use Rattle.residue_rows.specs.Numbers.{number_of, numbers_of};
 ghost use Rattle.closing.specs.Maps.{modular_terms_each};
 
 use crate::modular_maps::ResiduePolynomial;
-use monos::Mono;
 use poly::Term;
+use residue_rows::monomial_values::times_monomial;
 use residue_rows::residue::Residue;
 use std::alloc::{AllocError, Global};
 

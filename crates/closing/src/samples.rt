@@ -5,7 +5,6 @@ ghost use Rattle.rounds.specs.Word.{IsLetter};
 ghost use Rattle.loop_model.specs.View.{program_of};
 ghost use Rattle.residue_rows.specs.Modulus.{modulus};
 ghost use Rattle.residue_rows.specs.Numbers.{numbers_of};
-ghost use Rattle.residue_rows.specs.Draws.{number_behind, drawn, draws_from, after_draws};
 ghost use Rattle.closing.specs.Maps.{AreMapsModulo};
 ghost use Rattle.closing.specs.Samples.{IsSampleState, IsRowOf, letters};
 

@@ -3,6 +3,7 @@
 --   divisor_found, divisor_not, divisor_none     the search for a lead that divides
 --   first_pushed, share_pushed, share_past       the terms of an element
 --   leads_below, found_all                       the elements
+--   no_one          1 is no multiple of the modulus
 --   row_leads       a row leads in its column
 use Rattle.std.proofs.Common.{◌≡◌, ◌≢◌, inl, inr, ℕ, suc, ◌+◌, ◌-◌, ◌<◌, ◌≤◌, ℤ, pos, neg_ℤ, Bool, true, false, ◌||◌, List, [], ◌∷◌, ◌++◌, map, length, get_or, drop, refl, sym, ap, ap₂, subst, ◌∙◌, arith, Option, Some, None, is_some}
 use Rattle.std.specs.Prelude.{IfSome}

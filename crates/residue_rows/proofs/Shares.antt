@@ -1,5 +1,5 @@
 -- Sums of shares with rows, and the terms of an element, one after the other.
---   sum_push               with one share more
+--   sum_none, sum_first, sum_push       of no shares, with one in front, with one more
 --   one_lead               rows that lead in one column are the same;  off_lead: the entry where another leads
 --   none_shared            where a row leads in none of the columns the sum is a multiple
 --   element_first, element_same, element_push, element_end     of the rows that lead below a column, from it down to the first
