@@ -9,6 +9,7 @@
 --   LeadsElement q es ls c        the monomial of the column c leads an element: no row leads there, and no lead of an element of a column before divides it
 --   HasNoFraction q x        the opposite of x has no limited fraction modulo q;  IsTold q x f: it has f, and is no multiple of q
 --   IsUntold q ls c          an entry of the column c has none
+--   IsFirstUntold q es ls c  so, and each column before c that leads an element has one
 --   IsPushed q e x olds news     behind olds is the monomial e with the opposite of x, unless that is 0
 --   has_divisor ls e         some of the monomials ls divides e
 use Rattle.std.specs.Prelude.{◌≡◌, ◌≢◌, ◌<◌, ◌≤◌, ◌⊎◌, ◌++◌, ℕ, ℤ, pos, ◌+ℤ◌, neg_ℤ, Bool, false, ◌||◌, List, [], ◌∷◌, map, get_or}
@@ -77,6 +78,11 @@ pub record IsUntold (q : ℤ) (ls : List Led) (c : ℕ) : Type 0 where
   pub row : Led
   pub within : In row ls
   pub untold : HasNoFraction q (entry row.row c)
+
+pub record IsFirstUntold (q : ℤ) (es : List (List ℕ)) (ls : List Led) (c : ℕ) : Type 0 where
+  pub untold : IsUntold q ls c
+  pub before : (j : ℕ) → j < c → LeadsElement q es ls j
+      → (p : Terms Fraction) × IsElementTo q es ls j 0 p
 
 pub record IsTold (q x : ℤ) (f : Fraction) : Type 0 where
   pub number : ℤ

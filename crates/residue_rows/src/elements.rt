@@ -15,7 +15,7 @@ ghost use Rattle.poly.specs.View.{terms_of};
 ghost use Rattle.residue_rows.specs.Modulus.{modulus};
 ghost use Rattle.residue_rows.specs.EchelonForm.{entry, IsEchelonOf, IsReducedEchelon};
 ghost use Rattle.residue_rows.specs.Numbers.{numbers_of};
-ghost use Rattle.residue_rows.specs.ElementParts.{IsElementOf, IsElementTo, LeadsElement, IsUntold, IsPushed, HasNoFraction, has_divisor};
+ghost use Rattle.residue_rows.specs.ElementParts.{IsElementOf, IsElementTo, LeadsElement, IsUntold, IsFirstUntold, IsPushed, HasNoFraction, has_divisor};
 ghost use Rattle.residue_rows.specs.Elements.{IsValueRow, IsZeroRow, IsCandidate, standard_in};
 
 use crate::echelon::{Echelon, LedRow};
@@ -59,7 +59,7 @@ impl<T: Drop> From<AllocFailed<T>> for ElementsError {
 
 /// The elements that the form tells, each with another lead, in ascending order of these: of the monomials in which no row leads those that no lead before divides.
 /// `monomials` are those of the columns, in ascending order.
-/// `Wide { lead }` only where the monomial at that place leads an element, and no polynomial with this lead, of standard monomials besides and of limited numbers, is 0 wherever the rows were taken.
+/// `Wide { lead }` only where the monomial at that place is the first that leads an element of which a number has no limited fraction; no polynomial with this lead, of standard monomials besides and of limited numbers, is 0 wherever the rows were taken.
 pub fn elements_of(
     alloc: Global,
     arity: usize,
@@ -85,6 +85,8 @@ pub fn elements_of(
         → lead < length monomials.now }
     ensures leads { (lead : ℕ) → IsErrOf result (ElementsError.Wide lead)
         → LeadsElement (pos modulus) monomials.now echelon.now.rows lead }
+    ensures untold { (lead : ℕ) → IsErrOf result (ElementsError.Wide lead)
+        → IsFirstUntold (pos modulus) monomials.now echelon.now.rows lead }
     ensures wide { (lead : ℕ) → IsErrOf result (ElementsError.Wide lead)
         → (given : List (List ℤ)) (p : Terms Fraction)
         → IsEchelonOf (pos modulus) echelon.now.width given echelon.now.rows

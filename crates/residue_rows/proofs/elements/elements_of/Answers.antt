@@ -7,9 +7,9 @@ use Rattle.machines.specs.Cut.{lead_of}
 use Rattle.poly.specs.Seen.{terms_in, terms_each}
 use Rattle.residue_rows.specs.Modulus.{modulus}
 use Rattle.residue_rows.specs.EchelonForm.{IsEchelonOf, IsReducedEchelon}
-use Rattle.residue_rows.specs.ElementParts.{LeadsElement, has_divisor}
+use Rattle.residue_rows.specs.ElementParts.{LeadsElement, IsFirstUntold, has_divisor}
 use Rattle.residue_rows.specs.Elements.{IsCandidate}
-use Rattle.residue_rows.proofs.Leading.{leads_at}
+use Rattle.residue_rows.proofs.Leading.{told_before, leads_at}
 use Rattle.residue_rows.proofs.Leads.{IsFoundTo, found_first, found_no, found_push, found_tidy, found_standard}
 use Rattle.residue_rows.proofs.ElementSteps.{no_one, leads_wide, leads_some, found_all, mono_read, row_leads}
 use Rattle.residue_rows.proofs.Untold.{no_candidate}
@@ -65,6 +65,21 @@ returns-in_err-element_at-clause-leads c =
     has_divisor (map lead_of (terms_each l)) c.index-monomials-column.result ≡ false)
     c.deref.ensures.value (sym c.is_led.ensures ∙ c.if-not-is_led.true)))
     (c.row_at.ensures.none (c.is_none.ensures ∙ ap not c.if-is_none.true)))
+
+pub returns-in_err-element_at-clause-untold : goal.returns-in_err-element_at-clause-untold
+returns-in_err-element_at-clause-untold c =
+    let p = err_from_is_err_and c.from_residual.result c.from_residual.ensures.1 in
+    let es = c.args.monomials.now in
+    let ls = c.args.echelon.now.rows in
+    λ lead h.
+    let w = c.in_err-element_at.ensures.wide lead (cc (p.1, p.2, h)) in
+    subst (IsFirstUntold (pos modulus) es ls) (sym w.0) (record {
+      untold = w.1;
+      before = told_before (pos modulus) no_one (length es) es ls
+          (subst (λ n. IsReducedEchelon (pos modulus) n ls) c.requires.width c.row_at.ensures.kept)
+          c.args.arity c.loop-column.column c.loop-column-test.true c.requires.arities
+          c.requires.ascend c.loop-column.invariant.found;
+    })
 
 pub loop-column-preserved : goal.loop-column-preserved
 loop-column-preserved c =
