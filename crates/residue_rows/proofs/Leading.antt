@@ -62,7 +62,8 @@ module _ (q : ℤ) (none : IsMultiple q (pos 1) → ⊥) (n : ℕ) (es : List (L
           by : (x : IsElementOf q es ls c d.by) → (x.column < j) ⊎ (j ≤ x.column)
               → (j < x.column) ⊎ (x.column ≤ j) → (p : Terms Fraction) × IsElementTo q es ls j 0 p
           by x (inl low) n =
-              let y : IsElementOf q es ls j d.by = record { column = x.column; low = low; is = x.is } in
+              let y : IsElementOf q es ls j d.by =
+              record { column = x.column; low = low; is = x.is } in
               absurd (true≢false (sym d.divides_it ∙ leads.undivided d.by y))
           by x (inr m) (inr n) =
               (d.by, subst (λ k. IsElementTo q es ls k 0 d.by) (omega (arith, m, n)) x.is)
