@@ -204,7 +204,8 @@ class Annotator:
             text = loop_text(parts, start, self.title(sequence), out)
             bases = self.bases(text, self.name(sequence), len(parts))
         except (Refusal, Refused) as fault:
-            named = [key for key, name in text.names.variables.items() if name in fault.names] if isinstance(fault, Refused) else []
+            known = text.names.variables if text is not None else {}
+            named = [key for key, name in known.items() if name in fault.names] if isinstance(fault, Refused) else []
             loose = [key for edge in edges for key, value in edge.values.items() if any(map(is_any, value.names()))]
             fault.keys = named or loose
             raise

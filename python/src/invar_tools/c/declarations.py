@@ -133,7 +133,7 @@ def constant_term(node: c_ast.Node, constants: Mapping[str, int]) -> Term | None
     if not isinstance(node, c_ast.BinaryOp):
         return None
     left, right = constant_term(node.left, constants), constant_term(node.right, constants)
-    if left is None or right is None or left.value is None or right.value is None:
+    if left is None or right is None or left.value is None or right.value is None or left.type is None or right.type is None:
         return None
     if node.op in ("<<", ">>", "&", "|", "^"):
         return bits(node.op, left, right, 0)

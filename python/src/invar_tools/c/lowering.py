@@ -75,10 +75,12 @@ class Lowering:
         if variable.key is not None:
             taken = self.in_scope()
             keys = (name, *(f"{name}'{number}" for number in range(2, 1000)))
-            variable = replace(variable, key=next(key for key in keys if key not in taken))
-            self.types[variable.key] = variable.type
+            key = next(key for key in keys if key not in taken)
+            variable = replace(variable, key=key)
+            if variable.type is not None:
+                self.types[key] = variable.type
             if name in self.addressed and not variable.is_fixed():
-                self.hidden.append(variable.key)
+                self.hidden.append(key)
         self.scopes[-1][name] = variable
         return variable
 
@@ -158,8 +160,9 @@ class Lowering:
     def value_before(self, name: str) -> Polynomial | None:
         """The value of a parameter or of a global variable where the function begins."""
         variable = self.resolve(name)
-        known = variable is not None and variable.key in self.begins
-        return Polynomial.variable(variable.key + BEFORE) if known else self.value_here(name) if variable is None else None
+        if variable is None:
+            return self.value_here(name)
+        return Polynomial.variable(variable.key + BEFORE) if variable.key is not None and variable.key in self.begins else None
 
     def value_behind(self, name: str) -> Polynomial | None:
         """The value of a name where the function ends: a parameter keeps that of its beginning."""
@@ -320,10 +323,10 @@ class Lowering:
         value, divisor = self.term(node.left), self.term(node.right)
         modulus = divisor.value.value() if divisor.value is not None else None
         rest = right.value.value() if right.value is not None else None
-        if value.value is None or value.type is None or not modulus or rest is None:
+        if value.value is None or value.type is None or divisor.type is None or not modulus or rest is None:
             return Test(text)
         value = settled(converted(value, common(value.type, divisor.type), ""))
-        if value.value is None:
+        if value.value is None or value.type is None:
             return Test(text)
         size = abs(int(modulus))
         same = (Rest(value.value, size, int(rest), value.needs),)
@@ -410,7 +413,7 @@ class Lowering:
             return inside if inside.value is None and node.op in "+-" else unknown(f"the operator {node.op} in line {line_of(node)}")
         kind = inside.type.promoted()
         inside = converted(inside, kind, "")
-        if node.op == "+":
+        if node.op == "+" or inside.value is None:
             return inside
         return replace(inside, value=inside.value.scaled(-1), settled=kind.signed)
 
@@ -475,6 +478,8 @@ class Lowering:
         left, line, sign = self.name(node.lvalue), line_of(node), node.op.removesuffix("=")
         if right.value is None or right.type is None:
             return right
+        if left.type is None:
+            return left
         if sign in ("<<", ">>", "&", "|", "^"):
             return bits(sign, left, right, line)
         kind = common(left.type, right.type)
@@ -482,7 +487,9 @@ class Lowering:
         return quotient(sign, settled(left), settled(right), kind, line) if sign in "/%" else combined(sign, left, right)
 
     def store(self, variable: Variable, value: Term, line: int) -> None:
-        self.emit(Set(variable.key, for_variable(value, variable, f"{variable.key.partition(chr(39))[0]} in line {line}")))
+        if variable.key is not None:
+            where = f"{variable.key.partition(chr(39))[0]} in line {line}"
+            self.emit(Set(variable.key, for_variable(value, variable, where)))
 
     def stored_elsewhere(self, target: c_ast.Node) -> None:
         """A store in a part of an array or of a structure, or where a pointer points."""
@@ -538,10 +545,11 @@ class Lowering:
             return make
 
         self.branch(node.cond, arm(node.iftrue), arm(node.iffalse))
-        if not kinds or None in kinds:
+        known = [kind for kind in kinds if kind is not None]
+        if not known or len(known) < len(kinds):
             return unknown(f"a conditional expression in line {line_of(node)}")
-        kind = kinds[0] if len(kinds) == 1 else common(kinds[0], kinds[1])
-        if any(not kind.holds(one) for one in kinds):
+        kind = known[0] if len(known) == 1 else common(known[0], known[1])
+        if any(not kind.holds(one) for one in known):
             return unknown(f"a conditional expression in line {line_of(node)}")
         self.types[key] = kind
         return Term(Polynomial.variable(key), kind)
@@ -572,7 +580,7 @@ def flattened(items: list[c_ast.Node]) -> list[tuple[bool, c_ast.Node]]:
 
 def for_variable(term: Term, variable: Variable, where: str) -> Term:
     """A value as it is stored in a variable."""
-    reason = f"{variable.type.name} {where} may not hold it"
+    reason = f"{'its type' if variable.type is None else variable.type.name} {where} may not hold it"
     return settled(converted(term, variable.type, reason), reason)
 
 
@@ -590,7 +598,7 @@ class Function:
 def lowered(function: c_ast.FuncDef, declared: Declarations, promised: Iterable[c_ast.Node] = ()) -> Function:
     """The statements of a function, of which an author states predicates at its end."""
     lowering = Lowering(replace(declared, constants=dict(declared.constants)))
-    lowering.types = {variable.key: variable.type for variable in declared.globals.values() if variable.key is not None}
+    lowering.types = {variable.key: variable.type for variable in declared.globals.values() if variable.key is not None and variable.type is not None}
     pointed = [node.expr for node in nodes(function) if isinstance(node, c_ast.UnaryOp) and node.op == "&"]
     lowering.addressed = {node.name for node in pointed if isinstance(node, c_ast.ID)}
     lowering.scopes.append({})

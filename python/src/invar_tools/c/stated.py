@@ -45,6 +45,8 @@ class Reader:
     def in_c(self, comment: str, at: int) -> str:
         """What stands for a comment at a place of the text: as many lines, and the same where it states nothing that is read."""
         parts = COMMENT.fullmatch(comment)
+        if parts is None:
+            return comment
         marked, text = parts["mark"] or parts["mark_of_line"], parts["text"] or parts["text_of_line"] or ""
         asserted, asked = ASSERTED.fullmatch(text), ASKED.fullmatch(text)
         said = None
