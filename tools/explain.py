@@ -9,6 +9,7 @@ Usage: tools/explain.py PROGRAM WORD..     the fault that the program tells of t
 """
 import dataclasses
 import difflib
+import os
 import re
 import subprocess
 import sys
@@ -17,6 +18,7 @@ OPTIONS = {"--budget": range(1, 1_000_001), "--degree": range(1, 17), "--length"
 TOLD = re.compile(r"(?:loop \d+: )?(loop|equation|sequences|program): (\w+(?: \w+)*) at (\d+)\n", re.A)
 TOKEN = re.compile(r"[A-Za-z]\w*|\d+\.\d+|\d+|[-+*/]=|\+\+|--|\*\*|//|/\*|:=|[=<>!]=|&&|\|\||.", re.A | re.S)
 SECONDS, WIDTH = 5, 100
+CONTROL = re.compile(r"[\x00-\x08\x0a-\x1f\x7f-\x9f]")
 
 # what a fault means, where it is no slip of the table
 MEANINGS = {
@@ -133,9 +135,15 @@ def marked(name, before, after, width, meaning, said):
     column = len(line) + 1
     # a window of a long line
     start = max(0, len(line) - WIDTH // 2)
-    window = (line[start:] + rest)[:WIDTH].rstrip("\r")
-    mark = "".join("\t" if sign == "\t" else " " for sign in line[start:]) + "^" * max(1, min(width, len(rest), WIDTH - len(line) + start))
-    return f"{name}:{head}:{column}: {meaning}\n    {window}\n    {mark}\n    {said}\n"
+    window = visible((line[start:] + rest)[:WIDTH].rstrip("\r"))
+    shift = "".join("\t" if sign == "\t" else " " for sign in visible(line[start:]))
+    mark = "^" * max(1, len(visible(rest[: min(width, WIDTH - len(line) + start)])))
+    return f"{visible(name)}:{head}:{column}: {meaning}\n    {window}\n    {shift}{mark}\n    {said}\n"
+
+
+def visible(text):
+    """The text with what a terminal would obey, or a locale can't have, in its place: `\\x1b`."""
+    return CONTROL.sub(lambda found: f"\\x{ord(found[0]):02x}", text)
 
 
 def file_and_equation(words):
@@ -168,12 +176,15 @@ def of_words(words, usage):
                 return f"{word} takes a number, {numbers[0]} to {numbers[-1]}"
     if "-" in words[1:]:
         return "`-` is no file; standard input is /dev/stdin"
+    for word in words[1:]:
+        if word.startswith("-") and word not in OPTIONS and os.path.exists(word):
+            return f"{visible(word)} is read as an option; the file is ./{visible(word)}"
     return f"the words of this command: invar {commands[command]}"
 
 
 def answer(program, words):
     """What the program answers, with its status."""
-    made = subprocess.run([program, *words], stdin=subprocess.DEVNULL, capture_output=True, timeout=SECONDS, errors="surrogateescape")
+    made = subprocess.run([program, *words], capture_output=True, timeout=SECONDS, errors="surrogateescape")
     return made.returncode, made.stdout
 
 
@@ -194,6 +205,7 @@ def explanation(program, words):
 
 
 def main(words):
+    sys.stdout.reconfigure(errors="backslashreplace")
     if not words:
         print(table())
     else:

@@ -180,6 +180,7 @@ def main(words: list[str]) -> None:
     except OSError:
         # the program tells it
         return
+    sys.stdout.reconfigure(errors="backslashreplace")
     for note in notes(words[0], text):
         sys.stdout.write(note)
 
