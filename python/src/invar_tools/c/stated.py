@@ -54,7 +54,7 @@ class Reader:
             said = self.question(asked[1], at)
         elif marked and asserted and self.is_statement(at):
             said = call(ASSERTION, predicate(asserted[1]))
-        elif marked and PROMISED.search(text) and self.depth(at) == 0:
+        elif marked and PROMISED.search(text) and self.depth(at) == 0 and not self.is_behind_head(at):
             return promises(text)
         return comment if said is None else said + "\n" * comment.count("\n")
 
@@ -70,6 +70,10 @@ class Reader:
     def is_statement(self, at: int) -> bool:
         """Whether a statement may stand at a place without being the one that a test before it guards."""
         return self.shown[:at].rstrip()[-1:] in tuple(";{}:")
+
+    def is_behind_head(self, at: int) -> bool:
+        """Whether a place outside of functions stands between the head of one and its body."""
+        return self.shown[:at].rstrip().endswith(")")
 
     def depth(self, at: int) -> int:
         return self.shown.count("{", 0, at) - self.shown.count("}", 0, at)
