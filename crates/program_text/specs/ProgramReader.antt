@@ -1,0 +1,42 @@
+-- What a text says: it is read by the grammar of programs.
+--   program_in bytes s         the program that was read, and where the text ends
+--   program_or_fault bytes t   it, or the first fault
+--   text_of bytes              what the text says, or its first fault
+--   told_text result           what the answer of the reader says; nothing where memory failed
+use Rattle.std.specs.Prelude.{ℕ, List, length, Option, Some, Result, Ok, Err, option_map}
+use Rattle.loops.specs.Program.{Expr}
+use Rattle.grammars.specs.Reader.{read_whole}
+use Rattle.poly_text.specs.Reasons.{Fault}
+use Rattle.program_model.specs.Program.{Program}
+use Rattle.program_model.specs.StatementView.{block_of}
+use Rattle.program_text.specs.Faults.{fault_of}
+use Rattle.program_text.specs.Lexemes.{tokens}
+use Rattle.program_text.specs.Programs.{ProgramContext, ProgramValue, ProgramState, block_at, program_language, whole_program, nothing}
+use Rattle.program_text.specs.Told.{Told, told}
+use Rattle.program_text.specs.declared.error.ProgramTextError.{ProgramTextError}
+use Rattle.program_text.specs.declared.reading.ProgramText.{ProgramText}
+
+abbrev pub program_in : List ℕ → ProgramState → Program (Expr ℕ)
+program_in bytes s = record {
+  names = s.context.names;
+  statements = block_at 0 s.value;
+  end = length bytes;
+}
+
+abbrev pub program_or_fault : List ℕ → Told ProgramContext ProgramValue
+    → Result (Program (Expr ℕ)) Fault
+program_or_fault bytes (Ok r) = Ok (program_in bytes r.0)
+program_or_fault bytes (Err f) = Err f
+
+abbrev pub text_of : List ℕ → Result (Program (Expr ℕ)) Fault
+text_of bytes =
+    program_or_fault bytes (told (read_whole program_language whole_program nothing (tokens bytes)))
+
+abbrev pub told_text : Result ProgramText ProgramTextError
+    → Option (Result (Program (Expr ℕ)) Fault)
+told_text (Ok t) = Some (Ok (record {
+  names = t.names;
+  statements = block_of t.statements.items;
+  end = t.end;
+}))
+told_text (Err e) = option_map Err (fault_of e)
