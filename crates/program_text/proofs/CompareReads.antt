@@ -11,7 +11,7 @@ use Rattle.grammars.specs.Embedded.{with_part}
 use Rattle.poly_text.specs.Reasons.{syntax}
 use Rattle.program_text.specs.Doubles.{equal, differs, dots}
 use Rattle.program_text.specs.Lexemes as lexemes
-use Rattle.program_text.specs.Lexemes.{Lexeme, Placed, tokens_from}
+use Rattle.program_text.specs.Lexemes.{Lexeme, tokens_from}
 use Rattle.program_text.specs.Kinds.{a_sign, a_double, same, kind_of}
 use Rattle.program_text.specs.NextToken.{seen_lexeme, tokens_behind}
 use Rattle.program_text.specs.CursorView.{rest, behind}
@@ -119,7 +119,8 @@ module _ (names : List (List ℕ)) (b : Bool) (v : SumValue) (c : Cursor) (l : E
     behind_sign =
         let s = state_in (behind_expr (in_sum names false v) l) m in
         let kind = says_kind b (seen_lexeme k.token.lexeme) e says in
-        let token = taken sum_language (compares (signs b)) s (here k) (behind k) refl kind.0 refl in
+        let token = taken sum_language (compares (signs b)) s (here k) (behind k) refl kind.0
+        refl in
         on at_sign (ap (λ t. Ok (
           plain_state names (record (note k.token.at (push l v)) { signs = t ∷ v.signs }),
           rest next,
@@ -162,12 +163,14 @@ module _ (names : List (List ℕ)) (n d : ℕ) (w : ProgramValue) (c : Cursor) (
   before = at_statement names n d w
 
   abbrev at_left : ProgramState
-  at_left = with_part sums_in_programs (state_in (behind_expr (in_sum names false w.sum) l) m) before
+  at_left = with_part sums_in_programs (state_in (behind_expr (in_sum names false w.sum) l) m)
+      before
 
   at_dots : GoesOn program_language bounds before (rest c)
       (sequence bounds_sign (sequence sum (change end_sum no_divisors))) at_left (rest k)
   at_dots = on (start program_language bounds before (rest c))
-      (sum_read before (rest c) (state_in (behind_expr (in_sum names false w.sum) l) m) (rest k) left)
+      (sum_read before (rest c) (state_in (behind_expr (in_sum names false w.sum) l) m) (rest k)
+      left)
 
   pub dots_missing : is_dots (seen_lexeme k.token.lexeme) ≡ false
       → fault_at syntax k.token.at ≡ reading bounds before (rest c)

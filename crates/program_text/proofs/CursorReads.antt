@@ -191,7 +191,8 @@ module _ {N C V : Type 0} (L : TextLanguage N C V) where
   no_first g h s ts f e = ap (λ (r : Told C V). going_on r (λ t rest. reading L h t rest)) e
       ∙ sym (reading_sequence L g h s ts)
 
-  pub passed_on : {A : Type 0} {e : ProgramTextError} {result : Result (A × Cursor) ProgramTextError}
+  pub passed_on : {A : Type 0} {e : ProgramTextError} {result : Result (A × Cursor)
+      ProgramTextError}
       → GivesError result e
       → (g : TextRule N C V) (s : State C V) (state : A → State C V) (c : Cursor)
       → IsFault e (reading L g s (rest c)) → Reads L g s state c result

@@ -139,7 +139,8 @@ module _ (n : ℕ) (text : List ℕ) (p : ℕ × ℕ) (some : 0 < n) (ps : List 
       go (q ∷ qs) e = absurd (omega arith)
 
   module _ (f : ℕ × ℕ) (rest : List (ℕ × ℕ)) (e : ps ≡ f ∷ rest) where
-    pub parts_of_each : 0 < length rest → parts_within n text p ≡ in_each (parts_within (n - 1) text)
+    pub parts_of_each : 0 < length rest
+        → parts_within n text p ≡ in_each (parts_within (n - 1) text)
         ps
     parts_of_each l = by_one_less ∙ ap (by_pieces (parts_within (n - 1) text) (take p.1 text)) e
         ∙ go rest l ∙ ap (in_each (parts_within (n - 1) text)) (sym e)

@@ -6,7 +6,7 @@ use Rattle.std.proofs.Common.{◌≡◌, ℕ, List, [], ◌∷◌, ◌++◌, ◌
 use Rattle.grammars.specs.Kinds.{has}
 use Rattle.grammars.specs.Grammar.{sequence, many, some}
 use Rattle.program_text.specs.Lexemes as lexemes
-use Rattle.program_text.specs.Lexemes.{Lexeme, Placed, tokens_from, guard_from, is_sign_of, is_item, opens_guard}
+use Rattle.program_text.specs.Lexemes.{Lexeme, Placed, guard_from, is_sign_of, is_item, opens_guard}
 use Rattle.program_text.specs.NextToken.{seen_lexeme, tokens_behind, items_behind, is_genuine}
 use Rattle.program_text.specs.Kinds.{an_item, no_kind, same, kind_of}
 use Rattle.poly_text.specs.Reasons.{Fault, syntax}

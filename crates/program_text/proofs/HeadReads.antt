@@ -33,7 +33,8 @@ module _ (w : Keyword) (h : Rule) (names : List (List ℕ)) (n m d : ℕ) (v : P
       (on (start program_language _ _ _) (noted_read w statement_fault begin_statement
       (at_statement names n d v) k is free us e))
 
-  pub opened : GoesOn program_language (sequence (head_word w) h) (at_statement names n d v) (rest k)
+  pub opened : GoesOn program_language (sequence (head_word w) h) (at_statement names n d v)
+      (rest k)
       h (at_statement names m d (with_place k.token.at v)) (behind k)
   opened = by_tokens (behind k) (sym (ap (λ x. tokens_behind k.text.now x k.token.end)
       (keyword_is (seen_lexeme k.token.lexeme) w is)))
@@ -71,7 +72,8 @@ module _ (s : ProgramState) (c : Cursor) where
 
   as_if : reading else_if s (rest c) ≡ reading if_statement in_empty (rest c)
   as_if =
-      then_on program_language (change (λ c. c) with_empty) (rule an_if) s (rest c) in_empty (rest c)
+      then_on program_language (change (λ c. c) with_empty) (rule an_if) s (rest c) in_empty
+      (rest c)
       (sym (reading_change program_language (λ c. c) with_empty s (here c) (behind c)))
       ∙ reading_rule program_language programs_checked an_if in_empty (rest c)
 

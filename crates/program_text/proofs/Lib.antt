@@ -25,3 +25,9 @@ pub mod HeadReads
 pub mod NameReads
 pub mod WholeReads
 pub mod SumKept
+pub mod PlainNames
+pub mod LiftedPlaces
+pub mod SaidWell
+pub mod HeldAtPlaces
+pub mod PlaceSteps
+pub mod WellRead

@@ -27,7 +27,8 @@ module _ (g : Rule) where
   abbrev pub another : Rule
   another = sequence (sign 44) g
 
-module _ {f g h : Rule} {r s : ProgramState} {os ts : List Placed} (path : GoesOn program_language f r os
+module _ {f g h : Rule} {r s : ProgramState} {os ts : List Placed} (path : GoesOn program_language f
+    r os
     (sequence (comma_list g) h) s ts) where
   pub each : GoesOn program_language f r os (sequence g (sequence (many (another g)) h)) s ts
   each = over path (sequence g (sequence (many (another g)) h)) s ts
@@ -48,7 +49,8 @@ module _ {f g h : Rule} {r s : ProgramState} {os ts : List Placed} (path : GoesO
         → GoesOn program_language f r os (sequence (comma_list g) h) t (rest d)
     next_one comma d next =
         let kind = ap (λ x. has same (a_sign 44 ∷ []) (kind_of x)) (sign_here c 44 comma) in
-        over path (sequence (comma_list g) h) t (rest d) (in_first program_language (comma_list g) h s
+        over path (sequence (comma_list g) h) t (rest d) (in_first program_language (comma_list g) h
+        s
         ts (comma_list g) t (rest d)
         (read_one
         ∙ reading_more program_language programs_checked (another g) refl t (here c) (behind c) kind

@@ -237,7 +237,8 @@ module _ (k : Cursor) where
 module _ (a : Around) (n : Progress) (k : Cursor) where
   module _ (b : ℕ) (known : IsTrue (is_sign b)) (is : seen_lexeme k.token.lexeme ≡ lexemes.sign
       b) where
-    pub operator_read : n.operators < 1024 → (d : Cursor) → tokens_from k.text.now k.token.end ≡ rest d
+    pub operator_read : n.operators < 1024 → (d : Cursor) → tokens_from k.text.now k.token.end
+        ≡ rest d
         → Ok (state_in (with_operator a k.token.at) (counted n), rest d) ≡ reading sum_language
         (operator b)
         (state_in a n) (rest k)
@@ -248,7 +249,8 @@ module _ (a : Around) (n : Progress) (k : Cursor) where
         ∙ token_read sum_language (operator b) refl (state_in a n) k (lexemes.sign b) is
         (a_sign_kind b known) d next (ap (λ t. unless t limit) (le-leb (suc n.operators) 1024 few))
 
-    pub operator_past : 1024 ≤ n.operators → fault_at limit k.token.at ≡ reading sum_language (operator b)
+    pub operator_past : 1024 ≤ n.operators → fault_at limit k.token.at ≡ reading sum_language
+        (operator b)
         (state_in a n) (rest k)
     unfolding most_operators
     operator_past h = token_faulty sum_language (operator b) refl (state_in a n) k (lexemes.sign b)
@@ -286,9 +288,11 @@ module _ (a : Around) (n : Progress) (k : Cursor) where
       (no_sign 41 (seen_lexeme k.token.lexeme) e)
 
   module _ (is : seen_lexeme k.token.lexeme ≡ lexemes.sign 45) where
-    pub minus_read : a.depth < 64 → n.operators < 1024 → (d : Cursor) → tokens_from k.text.now k.token.end
+    pub minus_read : a.depth < 64 → n.operators < 1024 → (d : Cursor)
+        → tokens_from k.text.now k.token.end
         ≡ rest d
-        → Ok (state_in (inside (with_operator a k.token.at)) (counted n), rest d) ≡ reading sum_language
+        → Ok (state_in (inside (with_operator a k.token.at)) (counted n), rest d)
+        ≡ reading sum_language
         leading_minus (state_in a n) (rest k)
     unfolding most_depth most_operators
     minus_read room few d next =
@@ -309,7 +313,8 @@ module _ (a : Around) (n : Progress) (k : Cursor) where
         (rest k) _
         (token_faulty sum_language leading_minus refl (state_in a n) k (lexemes.sign 45) is refl
         limit (elim past [
-          | inl deep ↦ ap (λ t. or_else (unless t limit) (unless (nat_le (suc n.operators) 1024) limit))
+          | inl deep
+              ↦ ap (λ t. or_else (unless t limit) (unless (nat_le (suc n.operators) 1024) limit))
               (lt-leb (suc a.depth) 64 (omega arith))
           | inr high ↦ ap (λ t. or_else (unless (nat_le (suc a.depth) 64) limit) (unless t limit))
               (lt-leb (suc n.operators) 1024 (omega arith)) ∙ whichever (nat_le (suc a.depth) 64)
@@ -408,7 +413,8 @@ module _ (s : SumState) (k : Cursor) where
         → fault_of e ≡ option_map (λ why. record { reason = why; at = k.token.at })
         (name_fault s.context.names w.now)
         → IsFault e (reading sum_language divisor_token s (rest k))
-    divisor_refused e told = fault_told e k.token.at (name_fault s.context.names w.now) (reading sum_language divisor_token s (rest k)) told (λ why h.
+    divisor_refused e told = fault_told e k.token.at (name_fault s.context.names w.now)
+        (reading sum_language divisor_token s (rest k)) told (λ why h.
         name_at_fault why (ap (λ o. or_else o (Some divisor)) h))
 
   pub divisor_barred : ((w : _) → k.token.lexeme ≡ code_lexeme.Name w → ⊥)
@@ -437,7 +443,8 @@ module _ (s : SumState) (k : Cursor) where
     (λ e. true≢false (ap is_number (sym e) ∙ is), tt),
   )
 
-  all_kinds : starts sum_language number_divisor k ≡ true → starts sum_language divisor_token k ≡ true
+  all_kinds : starts sum_language number_divisor k ≡ true → starts sum_language divisor_token k
+      ≡ true
   all_kinds h =
       let kind = kind_of (seen_lexeme k.token.lexeme) in
       more (same a_number kind) (same a_large kind) (has same (a_name ∷ a_sign 45 ∷ a_sign 40 ∷ [])
@@ -502,7 +509,8 @@ module _ (s : SumState) (k : Cursor) where
               (no_number_kinds h)))
               ∙ sym (at_left sum_language (sequence atom raising) opposite s k f)
           by false e f =
-              at_right sum_language (sequence (either name_token parentheses) raising) opposite s k e
+              at_right sum_language (sequence (either name_token parentheses) raising) opposite s k
+              e
               ∙ sym (at_right sum_language (sequence atom raising) opposite s k f)
 
 -- ---- a sign in place of a divisor

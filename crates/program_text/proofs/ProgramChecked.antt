@@ -73,7 +73,8 @@ pub program_whole : IsWhole program_language whole_program
 unfolding words.keyword_of loop_words.keyword_of
 program_whole = record { fit = refl; ends = refl }
 
--- ---- each rule has a text: the number 1 is a factor and a sum, `a = any;` and `if ! { }` are statements
+-- ---- each rule has a text: the number 1 is a factor and a sum, `a = any;` and `if ! { }` are
+-- statements
 abbrev after_one : ProgramState → ProgramState
 after_one s = record s { value = record s.value { sum = push (number (pos 1)) s.value.sum } }
 
@@ -85,9 +86,7 @@ after_value s = after_change end_value with_value (after_one (in_value s))
 
 abbrev after_divisor : ProgramState → ProgramState
 after_divisor s =
-    record s {
-      value = record s.value { sum = with_one (λ at e. divide at e (pos 1)) s.value.sum };
-    }
+    record s { value = record s.value { sum = with_one (λ at e. divide at e (pos 1)) s.value.sum } }
 
 abbrev HasText : List Rule → ProgramState → Type 0
 HasText gs s = Text program_language gs s

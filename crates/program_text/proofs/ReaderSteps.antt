@@ -43,13 +43,15 @@ module _ (r : SumReader) (depth : ℕ) where
     abbrev d : Expr ℕ
     d = expr_of p.value.value
 
-    pub uncounted : (h : Rule) {error : ProgramTextError} {result : Result (Part × Cursor) ProgramTextError}
+    pub uncounted : (h : Rule) {error : ProgramTextError} {result : Result (Part × Cursor)
+        ProgramTextError}
         → Counts p.progress.operators k (Err error) → GivesError result error
         → ReadsBehind r depth (sequence (operator b) h) p k result
     uncounted h counts gives = λ v.
         let a = around r depth v in
         stops (start sum_language (sequence (operator b) h) (state_behind a p) (rest k))
-        (state_behind a) gives (counts (behind_expr a d) (progress_of p.progress).divisors b known is)
+        (state_behind a) gives (counts (behind_expr a d) (progress_of p.progress).divisors b known
+        is)
 
     module _ (h : Rule) (f : ℕ → Expr ℕ → Expr ℕ → Expr ℕ) (next : Cursor)
         (counts : Counts p.progress.operators k (Ok next)) where
@@ -62,7 +64,8 @@ module _ (r : SumReader) (depth : ℕ) where
       behind_operator a = on (start sum_language joins (state_behind a p) (rest k))
           (counts (behind_expr a d) (progress_of p.progress).divisors b known is)
 
-      pub operand_fails : {error : ProgramTextError} {result : Result (Part × Cursor) ProgramTextError}
+      pub operand_fails : {error : ProgramTextError} {result : Result (Part × Cursor)
+          ProgramTextError}
           → ReadsPart r depth h (counted (progress_of p.progress)) next (Err error)
           → GivesError result error → ReadsBehind r depth joins p k result
       operand_fails reads gives = λ v. let a = around r depth v in
@@ -78,7 +81,8 @@ module _ (r : SumReader) (depth : ℕ) where
           let a = around r depth v in
           let e = expr_of q.value.value in
           ap (λ e. Ok (state_in (behind_expr a e) (progress_of w.progress), rest end)) value
-          ∙ ap (λ n. Ok (state_in (behind_expr a (f k.token.at d e)) (progress_of n), rest end)) count
+          ∙ ap (λ n. Ok (state_in (behind_expr a (f k.token.at d e)) (progress_of n), rest end))
+          count
           ∙ ends (on (behind_operator a) (reads (note k.token.at (push d v))))
           (combine_done a (progress_of q.progress) k.token.at d f e end)
 

@@ -79,7 +79,8 @@ kind_exact j k e = absurd (cc)
 pub kinds_exact : IsExact same
 kinds_exact = record { reflexive = kind_same; exact = kind_exact }
 
-pub by_free : (P : Rule → Type 0) → P divisor_token → P (divisor_by true) → (b : Bool) → P (divisor_by b)
+pub by_free : (P : Rule → Type 0) → P divisor_token → P (divisor_by true) → (b : Bool)
+    → P (divisor_by b)
 by_free P number factor true = factor
 by_free P number factor false = number
 
@@ -87,7 +88,8 @@ fit : (n : SumRule) (c : SumContext) → is_fit sum_language (rule_says n c) (ma
 unfolding words.keyword_of loop_words.keyword_of
 fit a_sum c = refl
 fit a_factor c = refl
-fit a_divisor c = by_free (λ g. is_fit sum_language g (may_follow a_divisor) ≡ true) refl refl c.free
+fit a_divisor c = by_free (λ g. is_fit sum_language g (may_follow a_divisor) ≡ true) refl refl
+    c.free
 
 closed : (n : SumRule) (c : SumContext) → begins_closed sum_language (rule_says n c) ≡ true
 closed a_sum c = refl

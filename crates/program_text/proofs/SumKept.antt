@@ -1,13 +1,16 @@
--- What a sum that is read uses.
---   Fit names least s       each sum that waits in the state s uses the names and the inverses of the divisors, each divisor the names and the inverses before it; and at least
---                           so many divisors were read
---   sum_fits                so it is of one sum, behind these divisors
---   plain_divisors          where only numbers may stand behind a /, there is no other divisor
-use Rattle.std.proofs.Common.{◌≡◌, ◌≢◌, ℕ, suc, ◌+◌, ◌≤◌, ◌<◌, List, [], ◌∷◌, ◌++◌, refl, ap, sym, subst, ◌∙◌, ap₂, arith, Bool, true, false, pos, nat_le, ◌==◌, if◌then◌else◌, Option, Some, None, unwrap_or, Ok, length, get_or, All, ◌-◌}
+-- What a sum that is read uses, and how many sums and operators wait behind it.
+--   Stacked base P j xs     j of which P is true, and the base behind them
+--   all_stacked             where Q is true of the base and of all of which P is, it is true of all
+--   Fit a s                 in the state s as many sums as a says wait before the base, and at least as many offsets: each uses the names and the inverses of the divisors, each divisor the
+--                           names and the inverses before it; at least so many divisors were read, none where only numbers may stand behind a /; and what P says of signs is true
+--   place_named             the place of a name that isn't at fault is within the names
+--   SumCalled n a b         the rule n leads from the counts a to the counts b;  sum_rules: so it does
+--   first_leads, more_leads     the two parts of a sum
+use Rattle.std.proofs.Common.{◌≡◌, ◌≢◌, ℕ, zero, suc, ◌+◌, ◌≤◌, ◌<◌, List, [], ◌∷◌, ◌++◌, refl, ap, sym, subst, ◌∙◌, arith, Bool, true, false, pos, nat_le, ◌==◌, if◌then◌else◌, Option, Some, None, unwrap_or, length, get_or, All}
 use Rattle.std.specs.Option.{option_map_or}
 use Rattle.std.proofs.Math.ListN.{get_or-append}
 use Rattle.std.proofs.lemmas.List.{length_push, get_or_push}
-use Rattle.std.proofs.lemmas.List.Elements.{All-nil, All-cons, All-head, All-tail, All-weaker, All-push}
+use Rattle.std.proofs.lemmas.List.Elements.{All-cons}
 use Rattle.std.proofs.lemmas.Bool.{leb-true}
 use Rattle.std.proofs.lemmas.Bool.Decides.{nat_tests}
 use Rattle.algebra.proofs.Basics.{not_both}
@@ -18,25 +21,16 @@ use Rattle.loops.proofs.Starts.{uses_weaker}
 use Rattle.loop_model.specs.Names.{place_of}
 use Rattle.loop_model.proofs.Places.{place_within}
 use Rattle.grammars.specs.Kinds as kinds
-use Rattle.grammars.specs.Grammar.{rule, change, sequence}
-use Rattle.grammars.specs.Reader as answer
-use Rattle.grammars.specs.Reader.{ReadResult, parsed}
-use Rattle.grammars.proofs.Reading.{read_is_derived}
-use Rattle.grammars.proofs.Kept.{Keeps, read_kept, Leads, Opens, places_kept}
+use Rattle.grammars.proofs.Kept.{Leads}
 use Rattle.poly_text.specs.Reasons.{Reason, limit, unknown, divisor, unless, or_else}
 use Rattle.program_model.specs.Program.{Divisor}
 use Rattle.program_text.specs.Lexemes as lexemes
-use Rattle.program_text.specs.Lexemes.{Lexeme, Placed}
-use Rattle.program_text.specs.Kinds.{Kind, a_name, a_number, a_large, a_sign, same, kind_of, word_in, number_in}
-use Rattle.program_text.specs.NameFaults.{look, name_fault}
-use Rattle.program_text.specs.Sums.{SumContext, SumValue, SumState, SumRule, Rule, a_sum, a_factor, a_divisor, sum_language, rule_says, word_fault, divisor_fault, divisor_by, number_divisor, factor_divisor, no_number, place, minus_fault, depth_fault, push, note, one_of, two_of, divided_of, divided, number_of, joint, factor, product, sum, no_value, divisor_token, operator, raising, shallower, combine, negation, parentheses, opposite, atom, times, over, joins, sign_of}
-use Rattle.program_text.specs.Reads.{Progress, progress, state_in, behind_expr}
-use Rattle.program_text.specs.Told.{told}
-use Rattle.program_text.specs.Telling.{reading}
-use Rattle.program_text.specs.WellParts.{AreDivisors, AreSides}
+use Rattle.program_text.specs.Lexemes.{Lexeme}
+use Rattle.program_text.specs.Kinds.{Kind, a_name, a_number, a_large, a_sign, same, kind_of, word_in}
+use Rattle.program_text.specs.NameFaults.{name_fault}
+use Rattle.program_text.specs.Sums.{SumContext, SumValue, SumState, SumRule, Rule, a_sum, a_factor, a_divisor, sum_language, rule_says, word_fault, divisor_fault, divisor_by, number_divisor, factor_divisor, place, minus_fault, depth_fault, push, note, one_of, two_of, divided_of, number_of, joint, factor, product, next_product, sum, divisor_token, operator, raising, shallower, parentheses, opposite, name_token, atom, times, over, joins, sign_of}
+use Rattle.program_text.specs.WellParts.{AreDivisors}
 use Rattle.program_text.proofs.KindTests.{by_shape}
-use Rattle.program_text.proofs.SumChecked.{by_free}
-use Rattle.program_text.proofs.SumReads.{in_sum}
 
 abbrev divisor_kinds : List Kind
 divisor_kinds = a_number ∷ a_large ∷ a_name ∷ a_sign 45 ∷ a_sign 40 ∷ []
@@ -69,114 +63,180 @@ divisible c (lexemes.double j) ks k i w d b t e = absurd (not_both _ k (d j))
 divisible c lexemes.bad ks k i w d b t e = absurd (not_both _ k b)
 divisible c lexemes.the_end ks k i w d b t e = absurd (not_both _ k t)
 
-both : {A B : Type 0} → A → B → A × B
-both a b = (a, b)
+-- ---- what waits
+abbrev pub Stacked : {A : Type 0} → List A → (A → Type 0) → ℕ → List A → Type 0
+Stacked base P zero xs = xs ≡ base
+Stacked base P (suc j) [] = ⊥
+Stacked base P (suc j) (x ∷ xs) = P x × Stacked base P j xs
 
-module _ (names : List (List ℕ)) (least : ℕ) where
-  pub record Fit (s : SumState) : Type 0 where
+stacked_weaker : {A : Type 0} (base : List A) (P Q : A → Type 0) → ((x : A) → P x → Q x) → (j : ℕ)
+    → (xs : List A) → Stacked base P j xs → Stacked base Q j xs
+stacked_weaker base P Q h zero xs s = s
+stacked_weaker base P Q h (suc j) [] s = absurd s
+stacked_weaker base P Q h (suc j) (x ∷ xs) s = (h x s.0, stacked_weaker base P Q h j xs s.1)
+
+pub all_stacked : {A : Type 0} (base : List A) (P Q : A → Type 0) → ((x : A) → P x → Q x) → (j : ℕ)
+    → (xs : List A) → All Q base → Stacked base P j xs → All Q xs
+all_stacked base P Q h zero xs all s = subst (All Q) (sym s) all
+all_stacked base P Q h (suc j) [] all s = absurd s
+all_stacked base P Q h (suc j) (x ∷ xs) all s = All-cons Q x xs (h x s.0)
+    (all_stacked base P Q h j xs all s.1)
+
+abbrev pub Counts : Type 0
+Counts = ℕ × ℕ
+
+pub data SumCalled : SumRule → Counts → Counts → Type 0 where
+  sum_on : {j q : ℕ} → SumCalled a_sum (j, q) (suc j, q)
+  factor_on : {j q : ℕ} → SumCalled a_factor (j, q) (suc j, q)
+  divisor_on : {j q : ℕ} → SumCalled a_divisor (suc j, suc q) (suc j, q)
+
+-- a name that isn't at fault
+pub place_named : (names : List (List ℕ)) (c : SumContext) (w : List ℕ) → c.names ≡ names
+    → word_fault c w ≡ None → place c w < length names
+place_named names c w same e = subst (λ (ns : List (List ℕ)). unwrap_or (place_of ns w) 0
+    < length names)
+    (sym same) (go (place_of names w) refl (ap (λ (ns : List (List ℕ)). name_fault ns w) (sym same)
+    ∙ e))
+  where
+    looked : (b : Bool) (o : Option ℕ) → place_of names w ≡ o
+        → (if b then option_map_or (λ (i : ℕ). None) o (Some unknown) else Some limit) ≡ None
+        → unwrap_or o 0 < length names
+    looked true None h e = absurd (cc)
+    looked true (Some i) h e = place_within names w i h
+    looked false o h e = absurd (cc)
+
+    go : (o : Option ℕ) → place_of names w ≡ o → name_fault names w ≡ None
+        → unwrap_or o 0 < length names
+    go o h e = looked (nat_le (length w) most_bytes) o h
+        (ap (λ o. if nat_le (length w) most_bytes then option_map_or (λ (i : ℕ). None) o
+        (Some unknown) else Some limit) (sym h) ∙ e)
+
+module _ (names : List (List ℕ)) (free : Bool) (P : List Bool → Type 0) (base : List (Expr ℕ))
+    (least : ℕ) where
+  abbrev pub Over : ℕ → Expr ℕ → Type 0
+  Over k e = Uses (λ i. i < length names + k) e
+
+  pub record Fit (a : Counts) (s : SumState) : Type 0 where
     pub names_are : s.context.names ≡ names
-    pub each : All (Uses (λ i. i < length names + length s.value.divisors)) s.value.values
+    pub free_is : s.context.free ≡ free
+    pub signs_are : P s.value.signs
+    pub each : Stacked base (Over (length s.value.divisors)) a.0 s.value.values
+    pub places : a.1 ≤ length s.value.places
     pub divisors : AreDivisors (length names) s.value.divisors
+    pub bare : free ≡ false → s.value.divisors ≡ []
     pub most : least ≤ length s.value.divisors
 
-  -- a name that isn't at fault
-  named : (c : SumContext) (w : List ℕ) → c.names ≡ names → word_fault c w ≡ None
-      → place c w < length names
-  named c w same e = subst (λ (ns : List (List ℕ)). unwrap_or (place_of ns w) 0 < length names)
-      (sym same) (go (place_of names w) refl (ap (λ (ns : List (List ℕ)). name_fault ns w) (sym same)
-      ∙ e))
-    where
-      looked : (b : Bool) (o : Option ℕ) → place_of names w ≡ o
-          → (if b then option_map_or (λ (i : ℕ). None) o (Some unknown) else Some limit) ≡ None
-          → unwrap_or o 0 < length names
-      looked true None h e = absurd (cc)
-      looked true (Some i) h e = place_within names w i h
-      looked false o h e = absurd (cc)
+  abbrev Lead : Counts → Rule → Counts → Type 0
+  Lead a g b = Leads sum_language Fit SumCalled a g b
 
-      go : (o : Option ℕ) → place_of names w ≡ o → name_fault names w ≡ None
-          → unwrap_or o 0 < length names
-      go o h e = looked (nat_le (length w) most_bytes) o h
-          (ap (λ o. if nat_le (length w) most_bytes then option_map_or (λ (i : ℕ). None) o
-          (Some unknown) else Some limit) (sym h) ∙ e)
+  via : {X Z : Counts → Type 0} (b : Counts) → X b → Z b → (b : Counts) × (X b × Z b)
+  via b x z = (b, (x, z))
 
   module _ (s : SumState) where
-    abbrev Over : Expr ℕ → Type 0
-    Over e = Uses (λ i. i < length names + length s.value.divisors) e
+    abbrev Here : Expr ℕ → Type 0
+    Here e = Over (length s.value.divisors) e
 
-    push_fit : (e : Expr ℕ) → Over e → Fit s → Fit (record s { value = push e s.value })
-    push_fit e u p = record {
+    push_fit : (j q : ℕ) (e : Expr ℕ) → Here e → Fit (j, q) s
+        → Fit (suc j, q) (record s { value = push e s.value })
+    push_fit j q e u p = record {
       names_are = p.names_are;
-      each = All-cons Over e s.value.values u p.each;
+      free_is = p.free_is;
+      signs_are = p.signs_are;
+      each = (u, p.each);
+      places = p.places;
       divisors = p.divisors;
+      bare = p.bare;
+      most = p.most;
+    }
+
+    move_fit : (j q r : ℕ) (c : SumContext) (ps : List ℕ) → c.names ≡ s.context.names
+        → c.free ≡ s.context.free → r ≤ length ps → Fit (j, q) s
+        → Fit (j, r) (record { context = c; value = record s.value { places = ps } })
+    move_fit j q r c ps e f l p = record {
+      names_are = e ∙ p.names_are;
+      free_is = f ∙ p.free_is;
+      signs_are = p.signs_are;
+      each = p.each;
+      places = l;
+      divisors = p.divisors;
+      bare = p.bare;
       most = p.most;
     }
 
     abbrev with_values : List (Expr ℕ) → List ℕ → SumValue
     with_values es ps = record s.value { values = es; places = ps }
 
-    abbrev FitValue : SumValue → Type 0
-    FitValue v = Fit (record s { value = v })
+    abbrev FitValue : Counts → SumValue → Type 0
+    FitValue a v = Fit a (record s { value = v })
 
-    one_fit : (f : ℕ → Expr ℕ → Expr ℕ) → ((at : ℕ) (e : Expr ℕ) → Over e → Over (f at e))
-        → (es : List (Expr ℕ)) (ps : List ℕ) → FitValue (with_values es ps)
-        → FitValue (one_of f (with_values es ps) es ps)
-    one_fit f keeps [] ps p = p
-    one_fit f keeps (e ∷ es) [] p = p
-    one_fit f keeps (e ∷ es) (at ∷ ps) p = record {
+    one_fit : (j q : ℕ) (f : ℕ → Expr ℕ → Expr ℕ)
+        → ((at : ℕ) (e : Expr ℕ) → Here e → Here (f at e)) → (es : List (Expr ℕ)) (ps : List ℕ)
+        → FitValue (suc j, suc q) (with_values es ps)
+        → FitValue (suc j, q) (one_of f (with_values es ps) es ps)
+    one_fit j q f keeps [] ps p = absurd p.each
+    one_fit j q f keeps (e ∷ es) [] p = let l = p.places in absurd (omega (arith, l))
+    one_fit j q f keeps (e ∷ es) (at ∷ ps) p = record {
       names_are = p.names_are;
-      each = All-cons Over (f at e) es (keeps at e (All-head Over e es p.each))
-          (All-tail Over e es p.each);
+      free_is = p.free_is;
+      signs_are = p.signs_are;
+      each = (keeps at e p.each.0, p.each.1);
+      places = let l = p.places in omega (arith, l);
       divisors = p.divisors;
+      bare = p.bare;
       most = p.most;
     }
 
-    two_fit : (f : ℕ → Expr ℕ → Expr ℕ → Expr ℕ)
-        → ((at : ℕ) (d e : Expr ℕ) → Over d → Over e → Over (f at d e))
-        → (es : List (Expr ℕ)) (ps : List ℕ) → FitValue (with_values es ps)
-        → FitValue (two_of f (with_values es ps) es ps)
-    two_fit f keeps [] ps p = p
-    two_fit f keeps (e ∷ []) ps p = p
-    two_fit f keeps (e ∷ d ∷ es) [] p = p
-    two_fit f keeps (e ∷ d ∷ es) (at ∷ ps) p =
-        let tail = All-tail Over e (d ∷ es) p.each in
-        record {
-          names_are = p.names_are;
-          each = All-cons Over (f at d e) es (keeps at d e (All-head Over d es tail)
-              (All-head Over e (d ∷ es) p.each)) (All-tail Over d es tail);
-          divisors = p.divisors;
-          most = p.most;
-        }
+    two_fit : (j q : ℕ) (f : ℕ → Expr ℕ → Expr ℕ → Expr ℕ)
+        → ((at : ℕ) (d e : Expr ℕ) → Here d → Here e → Here (f at d e))
+        → (es : List (Expr ℕ)) (ps : List ℕ)
+        → FitValue (suc (suc j), suc q) (with_values es ps)
+        → FitValue (suc j, q) (two_of f (with_values es ps) es ps)
+    two_fit j q f keeps [] ps p = absurd p.each
+    two_fit j q f keeps (e ∷ []) ps p = absurd p.each.1
+    two_fit j q f keeps (e ∷ d ∷ es) [] p = let l = p.places in absurd (omega (arith, l))
+    two_fit j q f keeps (e ∷ d ∷ es) (at ∷ ps) p = record {
+      names_are = p.names_are;
+      free_is = p.free_is;
+      signs_are = p.signs_are;
+      each = (keeps at d e p.each.1.0 p.each.0, p.each.1.1);
+      places = let l = p.places in omega (arith, l);
+      divisors = p.divisors;
+      bare = p.bare;
+      most = p.most;
+    }
 
-    divided_fit : (es : List (Expr ℕ)) (ps : List ℕ) → FitValue (with_values es ps)
-        → FitValue (divided_of s.context.names (with_values es ps) es ps)
+    divided_fit : (j q : ℕ) → free ≡ true → (es : List (Expr ℕ)) (ps : List ℕ)
+        → FitValue (suc (suc j), suc q) (with_values es ps)
+        → FitValue (suc j, q) (divided_of s.context.names (with_values es ps) es ps)
     unfolding Uses
-    divided_fit [] ps p = p
-    divided_fit (e ∷ []) ps p = p
-    divided_fit (e ∷ d ∷ es) [] p = p
-    divided_fit (e ∷ d ∷ es) (at ∷ ps) p =
+    divided_fit j q any [] ps p = absurd p.each
+    divided_fit j q any (e ∷ []) ps p = absurd p.each.1
+    divided_fit j q any (e ∷ d ∷ es) [] p = let l = p.places in absurd (omega (arith, l))
+    divided_fit j q any (e ∷ d ∷ es) (at ∷ ps) p =
         let ds = s.value.divisors in
-        let tail = All-tail Over e (d ∷ es) p.each in
         let last : Divisor (Expr ℕ) = record { at = at; value = e } in
         let more : length (ds ++ last ∷ []) ≡ length ds + 1 = length_push ds last in
         let wider : (i : ℕ) → i < length names + length ds
         → i < length names + length (ds ++ last ∷ []) = λ i l. omega (arith, l, more) in
-        let Wider : Expr ℕ → Type 0 = λ x.
-        Uses (λ i. i < length names + length (ds ++ last ∷ [])) x in
-        let one_more : (x : Expr ℕ) → Over x
-        → Uses (λ i. i < length names + length (ds ++ last ∷ [])) x =
+        let one_more : (x : Expr ℕ) → Here x → Over (length (ds ++ last ∷ [])) x =
         λ x u. uses_weaker (λ i. i < length names + length ds)
         (λ i. i < length names + length (ds ++ last ∷ [])) wider x u in
         let same = ap length p.names_are in
         record {
           names_are = p.names_are;
-          each = All-cons Wider (mul at d (variable (length s.context.names + length ds))) es (both
-              (one_more d (All-head Over d es tail)) (omega (arith, more, same)))
-              (All-weaker Over Wider one_more es (All-tail Over d es tail));
-          divisors = λ i x l. by_place last (All-head Over e (d ∷ es) p.each) p.divisors i x l;
+          free_is = p.free_is;
+          signs_are = p.signs_are;
+          each = (
+            (one_more d p.each.1.0, omega (arith, more, same)),
+            stacked_weaker base Here (Over (length (ds ++ last ∷ []))) one_more j es p.each.1.1,
+          );
+          places = let l = p.places in omega (arith, l);
+          divisors = λ i x l. by_place last p.each.0 p.divisors i x l;
+          bare = λ e. absurd (cc);
           most = let m = p.most in omega (arith, m, more);
         }
       where
-        by_place : (last : Divisor (Expr ℕ)) → Over last.value
+        by_place : (last : Divisor (Expr ℕ)) → Here last.value
             → AreDivisors (length names) s.value.divisors
             → AreDivisors (length names) (s.value.divisors ++ last ∷ [])
         by_place last u all i x l = by_test (nat_le (suc i) (length s.value.divisors)) refl
@@ -201,334 +261,150 @@ module _ (names : List (List ℕ)) (least : ℕ) where
                     → length s.value.divisors ≤ i
                 not_less e = grind (arith, nat_tests)
 
-  abbrev pub Keep : Rule → Type 0
-  Keep g = Keeps sum_language Fit g
+    -- ---- each token and each change
+    number_fit : (j q k : ℕ) → Fit (j, q) s
+        → Fit (suc j, q) (record s { value = push (number (pos k)) s.value })
+    unfolding Uses
+    number_fit j q k p = push_fit j q (number (pos k)) tt p
 
-  joint_keeps : (negative : Bool) (s : SumState) (at : ℕ) (d e : Expr ℕ) → Over s d → Over s e
-      → Over s (joint negative at d e)
-  unfolding Uses
-  joint_keeps false s at d e u v = (u, v)
-  joint_keeps true s at d e u v = (u, v)
+    word_fit : (j q : ℕ) (w : List ℕ) → word_fault s.context w ≡ None → Fit (j, q) s
+        → Fit (suc j, q) (record s { value = push (variable (place s.context w)) s.value })
+    unfolding Uses
+    word_fit j q w e p =
+        let l = place_named names s.context w p.names_are e in
+        push_fit j q (variable (place s.context w)) (omega (arith, l)) p
 
-  number_keeps : (k : ℕ) (s : SumState) → Fit s
-      → Fit (record s { value = push (number (pos k)) s.value })
-  unfolding Uses
-  number_keeps k s p = push_fit s (number (pos k)) tt p
+    neg_fit : (j q : ℕ) → Fit (suc j, suc q) s
+        → Fit (suc j, q) (record s { value = one_of neg s.value s.value.values s.value.places })
+    unfolding Uses
+    neg_fit j q p = one_fit j q neg (λ at e u. u) s.value.values s.value.places p
 
-  variable_keeps : (j : ℕ) (s : SumState) → j < length names → Fit s
-      → Fit (record s { value = push (variable j) s.value })
-  unfolding Uses
-  variable_keeps j s l p = push_fit s (variable j) (omega arith) p
+    power_fit : (j q n : ℕ) → Fit (suc j, suc q) s
+        → Fit (suc j, q) (record s {
+          value = one_of (λ at e. power at e n) s.value s.value.values s.value.places;
+        })
+    unfolding Uses
+    power_fit j q n p = one_fit j q (λ at e. power at e n) (λ at e u. u) s.value.values
+        s.value.places p
 
-  neg_keeps : (s : SumState) → Fit s → Fit (record s {
-    value = one_of neg s.value s.value.values
-        s.value.places;
-  })
-  unfolding Uses
-  neg_keeps s p = one_fit s neg (λ at e u. u) s.value.values s.value.places p
+    divide_fit : (j q n : ℕ) → pos n ≢ pos 0 → Fit (suc j, suc q) s
+        → Fit (suc j, q) (record s {
+          value = one_of (λ at e. divide at e (pos n)) s.value s.value.values s.value.places;
+        })
+    unfolding Uses
+    divide_fit j q n some p = one_fit j q (λ at e. divide at e (pos n)) (λ at e u. (u, some))
+        s.value.values s.value.places p
 
-  power_keeps : (n : ℕ) (s : SumState) → Fit s
-      → Fit (record s {
-        value = one_of (λ at e. power at e n) s.value s.value.values
-            s.value.places;
-      })
-  unfolding Uses
-  power_keeps n s p = one_fit s (λ at e. power at e n) (λ at e u. u) s.value.values s.value.places p
+    mul_fit : (j q : ℕ) → Fit (suc (suc j), suc q) s
+        → Fit (suc j, q) (record s { value = two_of mul s.value s.value.values s.value.places })
+    unfolding Uses
+    mul_fit j q p = two_fit j q mul (λ at d e u v. (u, v)) s.value.values s.value.places p
 
-  mul_keeps : (s : SumState) → Fit s → Fit (record s {
-    value = two_of mul s.value s.value.values
-        s.value.places;
-  })
-  unfolding Uses
-  mul_keeps s p = two_fit s mul (λ at d e u v. (u, v)) s.value.values s.value.places p
+    joint_fit : (b : Bool) (j q : ℕ) → Fit (suc (suc j), suc q) s
+        → Fit (suc j, q) (record s {
+          value = two_of (joint b) s.value s.value.values s.value.places;
+        })
+    unfolding Uses
+    joint_fit false j q p = two_fit j q add (λ at d e u v. (u, v)) s.value.values s.value.places p
+    joint_fit true j q p = two_fit j q sub (λ at d e u v. (u, v)) s.value.values s.value.places p
 
-  divide_keeps : (n : ℕ) (s : SumState) → pos n ≢ pos 0 → Fit s
-      → Fit (record s {
-        value = one_of (λ at e. divide at e (pos n)) s.value s.value.values
-            s.value.places;
-      })
-  unfolding Uses
-  divide_keeps n s some p = one_fit s (λ at e. divide at e (pos n)) (λ at e u. (u, some))
-      s.value.values s.value.places p
+  -- ---- the grammar
+  stay : (j q : ℕ) (s : SumState) (c : SumContext) → c.names ≡ s.context.names
+      → c.free ≡ s.context.free → Fit (j, q) s → Fit (j, q) (record s { context = c })
+  stay j q s c e f p = move_fit s j q q c s.value.places e f p.places p
 
-  -- ---- each token and each change
-  word_keeps : (s : SumState) (x : Placed) → Fit s → word_fault s.context (word_in x.lexeme) ≡ None
-      → Fit (record s { value = push (variable (place s.context (word_in x.lexeme))) s.value })
-  word_keeps s x p e = variable_keeps (place s.context (word_in x.lexeme)) s
-      (named s.context (word_in x.lexeme) p.names_are e) p
+  noted : (j q : ℕ) (s : SumState) (c : SumContext) (at : ℕ) → c.names ≡ s.context.names
+      → c.free ≡ s.context.free → Fit (j, q) s
+      → Fit (j, suc q) (record { context = c; value = note at s.value })
+  noted j q s c at e f p =
+      move_fit s j q (suc q) c (at ∷ s.value.places) e f
+      (let l = p.places in omega (arith, l)) p
 
-  same_fit : (s : SumState) (c : SumContext) (ps : List ℕ) → c.names ≡ s.context.names → Fit s
-      → Fit (record { context = c; value = record s.value { places = ps } })
-  same_fit s c ps e p = record {
-    names_are = e ∙ p.names_are;
-    each = p.each;
-    divisors = p.divisors;
-    most = p.most;
-  }
+  operator_leads : (b j q : ℕ) → Lead (j, q) (operator b) (j, suc q)
+  operator_leads b j q = λ s x p k e. noted j q s _ x.at refl refl p
 
-  factor_keeps : Keep factor
-  factor_keeps =
-      both
-      (both
-      (both (λ s x p k e. number_keeps (number_of x.lexeme) s p)
-      (both (λ s x p k e. word_keeps s x p e)
-      (both (λ s x p k e. same_fit s _ s.value.places refl p)
-      (both tt (λ s x p k e. same_fit s _ s.value.places refl p)))))
-      (both
-      (both (λ s x p k e. same_fit s _ _ refl p)
-      (λ s x p k e. power_keeps (number_of x.lexeme) s p))
-      (λ s p. p)))
-      (both (λ s x p k e. same_fit s _ _ refl p)
-      (both tt (λ s p. neg_keeps (record s { context = shallower s.context }) (same_fit s _
-      s.value.places refl p))))
+  raising_leads : (j q : ℕ) → Lead (suc j, q) raising (suc j, q)
+  raising_leads j q = (
+    via (suc j, suc q) (operator_leads 94 (suc j) q)
+        (λ s x p k e. power_fit s j q (number_of x.lexeme) p),
+    (λ s p. p),
+  )
 
-  operator_keeps : (b : ℕ) → Keep (operator b)
-  operator_keeps b = λ s x p k e. same_fit s _ _ refl p
+  name_leads : (j q : ℕ) → Lead (j, q) name_token (suc j, q)
+  name_leads j q = λ s x p k e. word_fit s j q (word_in x.lexeme) e p
 
-  raising_keeps : Keep raising
-  raising_keeps =
-      both
-      (both (operator_keeps 94) (λ s x p k e. power_keeps (number_of x.lexeme) s p))
-      (λ s p. p)
+  parentheses_leads : (j q : ℕ) → Lead (j, q) parentheses (suc j, q)
+  parentheses_leads j q =
+      via (j, q) (λ s x p k e. stay j q s _ refl refl p)
+      (via (suc j, q) sum_on (λ s x p k e. stay (suc j) q s _ refl refl p))
 
-  number_divisor_keeps : Keep number_divisor
-  number_divisor_keeps = λ s x p k e. divide_keeps (number_of x.lexeme) s
+  opposite_leads : (j q : ℕ) → Lead (j, q) opposite (suc j, q)
+  opposite_leads j q =
+      via (j, suc q) (λ s x p k e. noted j q s _ x.at refl refl p)
+      (via (suc j, suc q) factor_on (λ s p. neg_fit (record s { context = shallower s.context }) j q
+      (stay (suc j) (suc q) s _ refl refl p)))
+
+  atom_leads : (j q : ℕ) → Lead (j, q) atom (suc j, q)
+  atom_leads j q = (
+    (λ s x p k e. number_fit s j q (number_of x.lexeme) p),
+    (name_leads j q, parentheses_leads j q),
+  )
+
+  factor_leads : (j q : ℕ) → Lead (j, q) factor (suc j, q)
+  factor_leads j q = (via (suc j, q) (atom_leads j q) (raising_leads j q), opposite_leads j q)
+
+  number_divisor_leads : (j q : ℕ) → Lead (suc j, suc q) number_divisor (suc j, q)
+  number_divisor_leads j q = λ s x p k e. divide_fit s j q (number_of x.lexeme)
       (divisible s.context x.lexeme (a_number ∷ a_large ∷ []) k
       (λ b. by_shape (a_number ∷ a_large ∷ []) (lexemes.item b) refl refl) (λ j. refl) (λ j. refl)
       refl refl e) p
 
-  divisor_token_keeps : Keep divisor_token
-  divisor_token_keeps = λ s x p k e. divide_keeps (number_of x.lexeme) s
+  divisor_token_leads : (j q : ℕ) → Lead (suc j, suc q) divisor_token (suc j, q)
+  divisor_token_leads j q = λ s x p k e. divide_fit s j q (number_of x.lexeme)
       (divisible s.context x.lexeme divisor_kinds k
-      (λ b. by_shape divisor_kinds (lexemes.item b) refl refl) (λ j. refl) (λ j. refl) refl refl e) p
+      (λ b. by_shape divisor_kinds (lexemes.item b) refl refl) (λ j. refl) (λ j. refl) refl refl e)
+      p
 
-  no_number_keeps : Keep no_number
-  no_number_keeps =
-      both
-      (both
-      (both (λ s x p k e. word_keeps s x p e)
-      (both (λ s x p k e. same_fit s _ s.value.places refl p)
-      (both tt (λ s x p k e. same_fit s _ s.value.places refl p))))
-      raising_keeps)
-      (both (λ s x p k e. same_fit s _ _ refl p)
-      (both tt (λ s p. neg_keeps (record s { context = shallower s.context }) (same_fit s _
-      s.value.places refl p))))
+  factor_divisor_leads : (j q : ℕ) → free ≡ true → Lead (suc j, suc q) factor_divisor (suc j, q)
+  factor_divisor_leads j q any =
+      via (suc (suc j), suc q) (
+        via (suc (suc j), suc q) (name_leads (suc j) (suc q), parentheses_leads (suc j) (suc q))
+            (raising_leads (suc j) (suc q)),
+        opposite_leads (suc j) (suc q),
+      )
+      (λ s p. divided_fit s j q any s.value.values s.value.places p)
 
-  divisor_keeps : (b : Bool) → Keep (divisor_by b)
-  divisor_keeps = by_free Keep divisor_token_keeps
-      (both number_divisor_keeps (both no_number_keeps (λ s p. divided_fit s s.value.values
-      s.value.places p)))
+  divisor_leads : (j q : ℕ) (b : Bool) → free ≡ b → Lead (suc j, suc q) (divisor_by b) (suc j, q)
+  divisor_leads j q false e = divisor_token_leads j q
+  divisor_leads j q true e = (number_divisor_leads j q, factor_divisor_leads j q e)
 
-  product_keeps : Keep product
-  product_keeps =
-      both factor_keeps
-      (both (both (operator_keeps 42) (both tt (λ s p. mul_keeps s p)))
-      (both (operator_keeps 47) tt))
+  times_leads : (j q : ℕ) → Lead (suc j, q) times (suc j, q)
+  times_leads j q =
+      via (suc j, suc q) (operator_leads 42 (suc j) q)
+      (via (suc (suc j), suc q) factor_on (λ s p. mul_fit s j q p))
 
-  sum_keeps : Keep sum
-  sum_keeps =
-      both product_keeps
-      (both (both (operator_keeps 43)
-      (both product_keeps (λ s p. two_fit s add (joint_keeps false s) s.value.values
-      s.value.places p)))
-      (both (operator_keeps 45)
-      (both product_keeps (λ s p. two_fit s sub (joint_keeps true s) s.value.values
-      s.value.places p))))
+  over_leads : (j q : ℕ) → Lead (suc j, q) over (suc j, q)
+  over_leads j q = via (suc j, suc q) (operator_leads 47 (suc j) q) divisor_on
 
-  rules_keep : (n : SumRule) (c : SumContext) → Keep (rule_says n c)
-  rules_keep a_sum c = sum_keeps
-  rules_keep a_factor c = factor_keeps
-  rules_keep a_divisor c = divisor_keeps c.free
+  pub product_leads : (j q : ℕ) → Lead (j, q) product (suc j, q)
+  product_leads j q =
+      via (suc j, q) (factor_leads j q) ((times_leads j q, over_leads j q), (λ s p. p))
 
--- ---- what is read
-told_reads : (a : ReadResult Lexeme SumContext SumValue Reason) (t : SumState) (rest : List Placed)
-    → Ok (t, rest) ≡ told a → a ≡ answer.reads t rest
-told_reads (answer.reads u us) t rest e = let same : ◌≡◌ {A = SumState × List Placed} (t, rest)
-    (u, us) = cc in ap₂ answer.reads (sym (ap (λ p. p.0) same)) (sym (ap (λ p. p.1) same))
-told_reads (answer.refused x why) t rest e = absurd (cc)
-told_reads answer.unended t rest e = absurd (cc)
+  joins_lead : (b : Bool) (j q : ℕ) → Lead (suc j, q) (joins b) (suc j, q)
+  joins_lead b j q =
+      via (suc j, suc q) (operator_leads (sign_of b) (suc j) q)
+      (via (suc (suc j), suc q) (product_leads (suc j) (suc q)) (λ s p. joint_fit s b j q p))
 
-module _ (names : List (List ℕ)) (least : ℕ) where
-  reading_fits : (s t : SumState) (ts rest : List Placed)
-      → Ok (t, rest) ≡ reading sum_language (rule a_sum) s ts → Fit names least s
-      → Fit names least t
-  unfolding reading
-  reading_fits s t ts rest e fit =
-      let p = read_is_derived sum_language ts (rule a_sum ∷ []) s t rest
-      (told_reads (parsed sum_language (rule a_sum) s ts) t rest e) in
-      read_kept sum_language (Fit names least) (rules_keep names least) (rule a_sum ∷ []) s t p.front
-      p.derivation (tt, tt) fit
+  pub more_leads : (j q : ℕ) → Lead (suc j, q) next_product (suc j, q)
+  more_leads j q = (joins_lead false j q, joins_lead true j q)
 
-module _ (names : List (List ℕ)) (free : Bool) (n m : Progress) (e : Expr ℕ) (ts rest : List Placed)
-    (read : Ok (state_in (behind_expr (in_sum names free no_value) e) m, rest)
-    ≡ reading sum_language (rule a_sum) (state_in (in_sum names free no_value) n) ts)
-    (divisors : AreDivisors (length names) n.divisors) where
-  fit_behind : Fit names (length n.divisors) (state_in (behind_expr (in_sum names free no_value) e)
-      m)
-  fit_behind = reading_fits names (length n.divisors) (state_in (in_sum names free no_value) n)
-      (state_in (behind_expr (in_sum names free no_value) e) m) ts rest read (record {
-        names_are = refl;
-        each = All-nil _;
-        divisors = divisors;
-        most = omega arith;
-      })
+  sum_leads : (j q : ℕ) → Lead (j, q) sum (suc j, q)
+  sum_leads j q = via (suc j, q) (product_leads j q) (more_leads j q, (λ s p. p))
 
-  -- behind other sides
-  pub sides_fit : (es : List (Expr ℕ)) → AreSides (length names) es n.divisors
-      → AreSides (length names) (es ++ e ∷ []) m.divisors
-  sides_fit es sides = record {
-    divisors = fit_behind.divisors;
-    sides = All-push (λ x. Uses (λ i. i < length names + length m.divisors) x) es e
-        (All-weaker (λ x. Uses (λ i. i < length names + length n.divisors) x)
-        (λ x. Uses (λ i. i < length names + length m.divisors) x) (λ x u. uses_weaker
-        (λ i. i < length names + length n.divisors) (λ i. i < length names + length m.divisors)
-        (λ i l. let most = fit_behind.most in omega (arith, l, most)) x u) es sides.sides)
-        (All-head (λ x. Uses (λ i. i < length names + length m.divisors) x) e [] fit_behind.each);
-  }
-
-  pub bare_fits : m.divisors ≡ [] → Uses (λ i. i < length names) e
-  bare_fits none =
-      let no_more : length m.divisors ≡ 0 = ap length none in
-      uses_weaker (λ i. i < length names + length m.divisors) (λ i. i < length names)
-      (λ i l. omega (arith, l, no_more)) e
-      (All-head (λ x. Uses (λ i. i < length names + length m.divisors) x) e [] fit_behind.each)
-
--- ---- where only numbers may stand behind a /
-pub record Bare (s : SumState) : Type 0 where
-  pub free : s.context.free ≡ false
-  pub none : s.value.divisors ≡ []
-
-one_bare : (f : ℕ → Expr ℕ → Expr ℕ) (v : SumValue) (es : List (Expr ℕ)) (ps : List ℕ)
-    → v.divisors ≡ [] → (one_of f v es ps).divisors ≡ []
-one_bare f v [] ps e = e
-one_bare f v (x ∷ es) [] e = e
-one_bare f v (x ∷ es) (p ∷ ps) e = e
-
-two_bare : (f : ℕ → Expr ℕ → Expr ℕ → Expr ℕ) (v : SumValue) (es : List (Expr ℕ)) (ps : List ℕ)
-    → v.divisors ≡ [] → (two_of f v es ps).divisors ≡ []
-two_bare f v [] ps e = e
-two_bare f v (x ∷ []) ps e = e
-two_bare f v (x ∷ y ∷ es) [] e = e
-two_bare f v (x ∷ y ∷ es) (p ∷ ps) e = e
-
-abbrev stays_there : SumRule → Unit {0} → Unit {0} → Type 0
-stays_there n a b = Unit {0}
-
-abbrev holds : Unit {0} → SumState → Type 0
-holds a s = Bare s
-
-abbrev Lead : Rule → Type 0
-Lead g = Leads sum_language holds stays_there tt g tt
-
-with_bare : (s : SumState) (c : SumContext) (v : SumValue) → c.free ≡ s.context.free
-    → v.divisors ≡ [] → Bare s → Bare (record { context = c; value = v })
-with_bare s c v e f b = record { free = e ∙ b.free; none = f }
-
-by_one : (f : Placed → ℕ → Expr ℕ → Expr ℕ) (s : SumState) (x : Placed) → Bare s
-    → Bare (record s { value = one_of (f x) s.value s.value.values s.value.places })
-by_one f s x b = with_bare s s.context _ refl (one_bare (f x) s.value s.value.values s.value.places
-    b.none) b
-
-operator_leads : (b : ℕ) → Lead (operator b)
-operator_leads b = λ s x p k e. with_bare s _ _ refl p.none p
-
-raising_leads : Lead raising
-raising_leads =
-    both (
-      tt,
-      (
-        operator_leads 94,
-        (λ s x p k e. with_bare s _ _ refl (one_bare (λ at e. power at e
-            (number_of x.lexeme)) s.value s.value.values s.value.places p.none) p),
-      ),
-    )
-    (λ s p. p)
-
-same_leads : (s : SumState) (c : SumContext) (v : SumValue) → c.free ≡ s.context.free
-    → v.divisors ≡ s.value.divisors → Bare s → Bare (record { context = c; value = v })
-same_leads s c v e f b = record { free = e ∙ b.free; none = f ∙ b.none }
-
-negation_leads : Lead negation
-negation_leads = λ s p. with_bare s _ _ refl (one_bare neg s.value s.value.values s.value.places
-    p.none) p
-
-parentheses_leads : Lead parentheses
-parentheses_leads = (
-  tt,
-  (
-    (λ s x p k e. same_leads s _ _ refl refl p),
-    (
-      tt,
-      (
-        tt,
-        (λ s x p k e. same_leads s _ _ refl refl
-            p),
-      ),
-    ),
-  ),
-)
-
-opposite_leads : Lead opposite
-opposite_leads = (tt, ((λ s x p k e. same_leads s _ _ refl refl p), (tt, (tt, negation_leads))))
-
-atom_leads : Lead atom
-atom_leads = (
-  (λ s x p k e. same_leads s _ _ refl refl p),
-  ((λ s x p k e. same_leads s _ _ refl refl p), parentheses_leads),
-)
-
-factor_leads : Lead factor
-factor_leads = ((tt, (atom_leads, raising_leads)), opposite_leads)
-
-combine_leads : (f : ℕ → Expr ℕ → Expr ℕ → Expr ℕ) → Lead (combine f)
-combine_leads f = λ s p. with_bare s _ _ refl (two_bare f s.value s.value.values s.value.places
-    p.none) p
-
-times_leads : Lead times
-times_leads = (tt, (operator_leads 42, (tt, (tt, combine_leads mul))))
-
-over_leads : Lead over
-over_leads = (tt, (operator_leads 47, tt))
-
-product_leads : Lead product
-product_leads = (tt, (factor_leads, ((times_leads, over_leads), (λ s p. p))))
-
-joins_leads : (b : Bool) → Lead (joins b)
-joins_leads b = (tt, (operator_leads (sign_of b), (tt, (product_leads, combine_leads (joint b)))))
-
-sum_leads : Lead sum
-sum_leads = (tt, (product_leads, ((joins_leads false, joins_leads true), (λ s p. p))))
-
-divisor_leads : Lead divisor_token
-divisor_leads = λ s x p k e. with_bare s _ _ refl (one_bare (λ at e. divide at e (pos (number_of
-    x.lexeme))) s.value s.value.values s.value.places p.none) p
-
-opens : (n : SumRule) (a b : Unit {0}) → stays_there n a b → (s : SumState) → holds a s
-    → Opens sum_language holds stays_there n s b
-opens a_sum a b h s p = record { place = tt; there = p; leads = sum_leads }
-opens a_factor a b h s p = record { place = tt; there = p; leads = factor_leads }
-opens a_divisor a b h s p = record {
-  place = tt;
-  there = p;
-  leads = subst (λ b. Lead (divisor_by b)) (sym p.free) divisor_leads;
-}
-
-pub plain_divisors : (s t : SumState) (ts rest : List Placed)
-    → Ok (t, rest) ≡ reading sum_language (rule a_sum) s ts → s.context.free ≡ false
-    → s.value.divisors ≡ [] → t.value.divisors ≡ []
-unfolding reading
-plain_divisors s t ts rest e bare none =
-    let p = read_is_derived sum_language ts (rule a_sum ∷ []) s t rest
-    (told_reads (parsed sum_language (rule a_sum) s ts) t rest e) in
-    (places_kept sum_language holds stays_there opens (rule a_sum ∷ []) s t p.front p.derivation tt tt
-    (tt, (tt, λ s h. h)) (record { free = bare; none = none })).none
-
--- the sum of a comparison or a bound
-pub plain_fits : (names : List (List ℕ)) (m : Progress) (e : Expr ℕ) (ts rest : List Placed)
-    → Ok (state_in (behind_expr (in_sum names false no_value) e) m, rest)
-    ≡ reading sum_language (rule a_sum) (state_in (in_sum names false no_value) (progress 0 [])) ts
-    → Uses (λ i. i < length names) e
-plain_fits names m e ts rest read =
-    bare_fits names false (progress 0 []) m e ts rest read (λ i d l. absurd (omega (arith, l)))
-    (plain_divisors (state_in (in_sum names false no_value) (progress 0 []))
-    (state_in (behind_expr (in_sum names false no_value) e) m) ts rest read refl refl)
+  pub sum_rules : {n : SumRule} {a b : Counts} → SumCalled n a b → (c : SumContext)
+      → c.free ≡ free → Lead a (rule_says n c) b
+  sum_rules (sum_on {j = j} {q = q}) c e = sum_leads j q
+  sum_rules (factor_on {j = j} {q = q}) c e = factor_leads j q
+  sum_rules (divisor_on {j = j} {q = q}) c e =
+      subst (λ b. Lead (suc j, suc q) (divisor_by b) (suc j, q)) (sym e)
+      (divisor_leads j q free refl)

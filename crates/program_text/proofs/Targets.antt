@@ -74,5 +74,6 @@ pub target_barred : (fault : ProgramContext → List ℕ → Option Reason)
     (build : ProgramContext → List ℕ → ProgramValue → ProgramValue) (s : ProgramState) (k : Cursor)
     → ((w : _) → k.token.lexeme ≡ code_lexeme.Name w → ⊥)
     → fault_at syntax k.token.at ≡ reading (word fault next build) s (rest k)
-target_barred fault next build s k other = token_barred program_language (word fault next build) refl
+target_barred fault next build s k other = token_barred program_language (word fault next build)
+    refl
     s k (no_name_here k other)

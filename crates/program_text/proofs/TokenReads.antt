@@ -66,7 +66,8 @@ pub no_keyword_kind : (k : Keyword) (x : Lexeme) → is_keyword_of x k ≡ false
 no_keyword_kind k x e = by_shape (a_keyword k ∷ []) x refl (no_keyword x k e)
 
 module _ (k : Keyword) (c : Cursor) (fault : ProgramContext → Option Reason) (next : ProgramContext
-    → ProgramContext) (build : ProgramContext → ProgramValue → ProgramValue) (s : ProgramState) where
+    → ProgramContext) (build : ProgramContext → ProgramValue → ProgramValue)
+    (s : ProgramState) where
   abbrev the_keyword : Rule
   the_keyword = token_of (a_keyword k) fault next build
 

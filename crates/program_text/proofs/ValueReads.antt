@@ -29,7 +29,8 @@ module _ {g : Rule} {r : ProgramState} {os : List Placed} (names : List (List �
       (sequence (sign 44) (sequence (sequence right_side (rule more_values)) (sign 41))) s (rest c)
   more_values_due few =
       let fits : nat_lt (length es) (length is) ≡ true = grind (arith, nat_tests) in
-      over path _ _ _ (in_first program_language (rule more_values) (sign 41) s (rest c) another_value
+      over path _ _ _ (in_first program_language (rule more_values) (sign 41) s (rest c)
+      another_value
       s (rest c) (reading_rule program_language programs_checked more_values s (rest c)
       ∙ ap (λ b. reading (more_if b) s (rest c)) fits)
       ∙ in_parts program_language (sign 44) (sequence right_side (rule more_values)) s (rest c)

@@ -15,12 +15,12 @@ use Rattle.program_text.specs.Kinds.{same, kind_of}
 use Rattle.program_text.specs.Lexemes.{Placed, tokens, is_end_of}
 use Rattle.program_text.specs.NextToken.{seen_lexeme}
 use Rattle.program_text.specs.CursorView.{rest, behind}
-use Rattle.program_text.specs.ProgramReader.{program_in, program_or_fault, text_of, told_text}
+use Rattle.program_text.specs.ProgramReader.{program_in, program_or_fault, text_of, told_program}
 use Rattle.program_text.specs.Programs.{ProgramState, Rule, names, a_statement, begins_statement, program, the_end, nothing, program_language}
 use Rattle.program_text.specs.States.{reading}
 use Rattle.program_text.specs.declared.cursor.Cursor.{Cursor}
 use Rattle.program_text.specs.declared.error.ProgramTextError.{ProgramTextError}
-use Rattle.program_text.specs.declared.reading.ProgramText.{ProgramText}
+use Rattle.program_model.specs.declared.program.Program as code
 use Rattle.program_text.proofs.Paths.{IsFault, fault_passes, stopped, GoesOn, GivesError, in_parts}
 use Rattle.program_text.proofs.CursorReads.{here}
 use Rattle.program_text.proofs.ListReads.{due, none_due}
@@ -41,12 +41,12 @@ module _ (bytes : List ℕ) where
       → Ok (program_in bytes t) ≡ text_of bytes
   whole_read t e = ap (λ r. program_or_fault bytes (whole_told r)) e ∙ sym whole_is
 
-  module _ {e : ProgramTextError} {result : Result ProgramText ProgramTextError} where
+  module _ {e : ProgramTextError} {result : Result code.Program ProgramTextError} where
     pub whole_fails_last : {h : Rule} {t : ProgramState} {us : List Placed}
         → GoesOn program_language whole nothing (tokens bytes) h t us → GivesError result e
-        → IsFault e (reading h t us) → IfSome (told_text result) (λ r. r ≡ text_of bytes)
+        → IsFault e (reading h t us) → IfSome (told_program result) (λ r. r ≡ text_of bytes)
     whole_fails_last {h} {t} {us} path is p =
-        subst (λ r. IfSome (told_text r) (λ (x : Result (Program (Expr ℕ)) Fault). x ≡ text_of
+        subst (λ r. IfSome (told_program r) (λ (x : Result (Program (Expr ℕ)) Fault). x ≡ text_of
         bytes)) (sym (is.1 ∙ ap Err is.2))
         (fault_passes (fault_of e) (reading whole nothing (tokens bytes)) (text_of bytes) (λ f h.
         ap (λ r. program_or_fault bytes (whole_told r)) h ∙ sym whole_is)
@@ -55,7 +55,7 @@ module _ (bytes : List ℕ) where
     pub whole_fails : {f h : Rule} {t : ProgramState} {us : List Placed}
         → GoesOn program_language whole nothing (tokens bytes) (sequence f h) t us
         → GivesError result e → IsFault e (reading f t us)
-        → IfSome (told_text result) (λ r. r ≡ text_of bytes)
+        → IfSome (told_program result) (λ r. r ≡ text_of bytes)
     whole_fails {f} {h} {t} {us} path is p =
         whole_fails_last path is (stopped program_language f h t us e p)
 
@@ -71,7 +71,8 @@ module _ (bytes : List ℕ) where
 module _ (s : ProgramState) (c : Cursor) where
   pub text_due : is_end_of (seen_lexeme c.token.lexeme) ≡ false
       → reading (sequence (many (rule a_statement)) the_end) s (rest c)
-      ≡ reading (sequence (rule a_statement) (sequence (many (rule a_statement)) the_end)) s (rest c)
+      ≡ reading (sequence (rule a_statement) (sequence (many (rule a_statement)) the_end)) s
+      (rest c)
   text_due other =
       due (rule a_statement) the_end refl s (here c) (behind c) (record {
         reason = syntax;

@@ -2,19 +2,19 @@
 --   program_in bytes s         the program that was read, and where the text ends
 --   program_or_fault bytes t   it, or the first fault
 --   text_of bytes              what the text says, or its first fault
---   told_text result           what the answer of the reader says; nothing where memory failed
+--   told_program result        what the answer of the reader says; nothing where memory failed
 use Rattle.std.specs.Prelude.{ℕ, List, length, Option, Some, Result, Ok, Err, option_map}
 use Rattle.loops.specs.Program.{Expr}
 use Rattle.grammars.specs.Reader.{read_whole}
 use Rattle.poly_text.specs.Reasons.{Fault}
 use Rattle.program_model.specs.Program.{Program}
-use Rattle.program_model.specs.StatementView.{block_of}
+use Rattle.program_model.specs.ProgramView.{program_of}
+use Rattle.program_model.specs.declared.program.Program as code
 use Rattle.program_text.specs.Faults.{fault_of}
 use Rattle.program_text.specs.Lexemes.{tokens}
 use Rattle.program_text.specs.Programs.{ProgramContext, ProgramValue, ProgramState, block_at, program_language, whole_program, nothing}
 use Rattle.program_text.specs.Told.{Told, told}
 use Rattle.program_text.specs.declared.error.ProgramTextError.{ProgramTextError}
-use Rattle.program_text.specs.declared.reading.ProgramText.{ProgramText}
 
 abbrev pub program_in : List ℕ → ProgramState → Program (Expr ℕ)
 program_in bytes s = record {
@@ -32,11 +32,7 @@ abbrev pub text_of : List ℕ → Result (Program (Expr ℕ)) Fault
 text_of bytes =
     program_or_fault bytes (told (read_whole program_language whole_program nothing (tokens bytes)))
 
-abbrev pub told_text : Result ProgramText ProgramTextError
+abbrev pub told_program : Result code.Program ProgramTextError
     → Option (Result (Program (Expr ℕ)) Fault)
-told_text (Ok t) = Some (Ok (record {
-  names = t.names;
-  statements = block_of t.statements.items;
-  end = t.end;
-}))
-told_text (Err e) = option_map Err (fault_of e)
+told_program (Ok p) = Some (Ok (program_of p))
+told_program (Err e) = option_map Err (fault_of e)

@@ -213,7 +213,8 @@ with_choice c v =
 
 abbrev pub with_loop : ProgramContext → ProgramValue → ProgramValue
 with_loop c v =
-    pop_guard (pop_sums 0 1 0 (with_statement 1 (loop (place_at 0 v) (guard_at v) (block_at 0 v)) v))
+    pop_guard (pop_sums 0 1 0 (with_statement 1 (loop (place_at 0 v) (guard_at v) (block_at 0 v))
+    v))
 
 -- ---- what `for` says
 abbrev pub until : ℕ → Expr ℕ → ℕ → Guard (Expr ℕ)
@@ -320,8 +321,7 @@ abbrev pub set_value : Rule
 set_value = sequence right_side set_end
 
 abbrev pub single : Rule
-single =
-    sequence only_target (sequence (sign equal_sign) (either any_value set_value))
+single = sequence only_target (sequence (sign equal_sign) (either any_value set_value))
 
 abbrev pub list_opening : Rule
 list_opening = token_of (a_sign left_parenthesis) statement_fault begin_statement keep
@@ -403,8 +403,7 @@ abbrev pub else_way : Rule
 else_way = sequence (keyword else_word) (either block else_if)
 
 abbrev pub other_way : Rule
-other_way =
-    either else_way (change (λ c. c) with_empty)
+other_way = either else_way (change (λ c. c) with_empty)
 
 abbrev pub if_statement : Rule
 if_statement =
@@ -491,8 +490,7 @@ behind_sum =
     ∷ a_double dots ∷ an_end ∷ all_signs
 
 abbrev pub behind_factor : List Kind
-behind_factor =
-    a_sign star ∷ a_sign slash ∷ a_sign plus_sign ∷ a_sign minus_sign ∷ behind_sum
+behind_factor = a_sign star ∷ a_sign slash ∷ a_sign plus_sign ∷ a_sign minus_sign ∷ behind_sum
 
 abbrev pub behind_statement : List Kind
 behind_statement = a_sign right_brace ∷ an_end ∷ begins_statement

@@ -35,10 +35,7 @@ abbrev pub progress : ℕ → List (Divisor (Expr ℕ)) → Progress
 progress n ds = record { operators = n; divisors = ds }
 
 abbrev pub progress_of : code.Progress → Progress
-progress_of p = record {
-  operators = p.operators;
-  divisors = map divisor_of p.divisors.items;
-}
+progress_of p = record { operators = p.operators; divisors = map divisor_of p.divisors.items }
 
 abbrev pub counted : Progress → Progress
 counted n = record n { operators = n.operators + 1 }
@@ -50,12 +47,7 @@ pub record Around : Type 0 where
   pub value : SumValue
 
 abbrev pub around : SumReader → ℕ → SumValue → Around
-around r depth value = record {
-  names = r.names.now;
-  free = r.free;
-  depth = depth;
-  value = value;
-}
+around r depth value = record { names = r.names.now; free = r.free; depth = depth; value = value }
 
 abbrev pub with_operator : Around → ℕ → Around
 with_operator a at = record a { value = note at a.value }
@@ -65,12 +57,7 @@ inside a = record a { depth = a.depth + 1 }
 
 abbrev pub state_in : Around → Progress → SumState
 state_in a n = record {
-  context = record {
-    names = a.names;
-    free = a.free;
-    operators = n.operators;
-    depth = a.depth;
-  };
+  context = record { names = a.names; free = a.free; operators = n.operators; depth = a.depth };
   value = record a.value { divisors = n.divisors };
 }
 

@@ -102,10 +102,7 @@ is_dots (lexemes.double dots) = true
 is_dots x = false
 
 abbrev pub plain_state : List (List ℕ) → SumValue → SumState
-plain_state names v = record {
-  context = no_sum names;
-  value = record v { divisors = [] };
-}
+plain_state names v = record { context = no_sum names; value = record v { divisors = [] } }
 
 abbrev pub with_sides : Comparison (Expr ℕ) → SumValue → SumValue
 with_sides k v =

@@ -262,8 +262,7 @@ behind_sum =
     a_sign right_parenthesis ∷ a_sign equal_sign ∷ a_double equal ∷ a_double differs ∷ an_end ∷ []
 
 abbrev pub behind_factor : List Kind
-behind_factor =
-    a_sign star ∷ a_sign slash ∷ a_sign plus_sign ∷ a_sign minus_sign ∷ behind_sum
+behind_factor = a_sign star ∷ a_sign slash ∷ a_sign plus_sign ∷ a_sign minus_sign ∷ behind_sum
 
 abbrev pub may_follow : SumRule → List Kind
 may_follow a_sum = behind_sum

@@ -23,5 +23,5 @@ pub use cursor::{Cursor, Read};
 pub use error::ProgramTextError;
 pub use lexemes::{Lexeme, Placed, next_item, next_lexeme};
 pub use places::place_of;
-pub use reading::{ProgramText, read_text};
+pub use reading::read_program;
 pub use sums::{Part, Progress, SumReader};

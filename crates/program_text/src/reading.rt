@@ -2,7 +2,7 @@
 
 ghost use Rattle.std.specs.Prelude.{◌≡◌, ◌<◌, IfOk, IfSome};
 ghost use Rattle.program_text.specs.CursorView.{bytes_left};
-ghost use Rattle.program_text.specs.ProgramReader.{text_of, told_text};
+ghost use Rattle.program_text.specs.ProgramReader.{text_of, told_program};
 ghost use Rattle.program_text.specs.Programs as grammar;
 ghost use Rattle.program_text.specs.States.{Goes, Reads, named_so};
 
@@ -12,7 +12,7 @@ use crate::cursor::{Cursor, Read};
 use crate::lexemes::Lexeme;
 use crate::words::Keyword;
 use loop_model::{MOST_BYTES, Names};
-use program_model::Statement;
+use program_model::Program;
 use std::alloc::Global;
 
 /// The most variables of a program.
@@ -62,17 +62,9 @@ fn read_names(alloc: Global, cursor: Cursor<'_>) -> Read<'_, Names>
     }
 }
 
-/// The names and the statements of a text, with the offset of its end.
-#[derive(Drop)]
-pub struct ProgramText {
-    pub names: Names,
-    pub statements: Vec<Statement>,
-    pub end: usize,
-}
-
-/// What the bytes are as a program, or their first fault.
-pub fn read_text(alloc: Global, bytes: &[u8]) -> Result<ProgramText, ProgramTextError>
-    ensures reads { IfSome (told_text result) (λ told. told ≡ text_of bytes.now) }
+/// What the bytes are as a program, or their first fault; offsets count bytes. Names, limits, reasons and what each statement means stand in docs/LANGUAGE.md.
+pub fn read_program(alloc: Global, bytes: &[u8]) -> Result<Program, ProgramTextError>
+    ensures reads { IfSome (told_program result) (λ told. told ≡ text_of bytes.now) }
 {
     let (names, first) = read_names(alloc, Cursor::new(bytes))?;
     let mut statements = Vec::new(alloc);
@@ -85,10 +77,5 @@ pub fn read_text(alloc: Global, bytes: &[u8]) -> Result<ProgramText, ProgramText
     while !at.token.lexeme.is_end() {
         at = reader.statement(at, 0, &mut begun, &mut statements)?;
     }
-    let end = bytes.len();
-    Ok(ProgramText {
-        names,
-        statements,
-        end,
-    })
+    Ok(Program::new(names, statements, bytes.len()))
 }

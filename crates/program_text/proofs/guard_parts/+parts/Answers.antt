@@ -19,7 +19,8 @@ push_parts-returns-in-None t c = record {
   parts = sym (ap (λ ps. c.args.found.now.items ++ ps)
       (parts_of_none c.args.most c.args.text.now c.args.part
       (let some = c.if-most-eq0.false in omega (arith, some)) c.in_ok-pieces.pieces.items
-      c.in_ok-pieces.ensures.pieces (ap length (sym c.as_slice.ensures.value) ∙ c.in-None.ensures.cases))
+      c.in_ok-pieces.ensures.pieces (ap length (sym c.as_slice.ensures.value)
+      ∙ c.in-None.ensures.cases))
       ∙ append-nil c.args.found.now.items);
   within = c.requires.found;
 }
@@ -58,7 +59,8 @@ push_parts-returns t c = record {
       ∙ ap (by_inside (parts_within (c.args.most - 1) c.args.text.now) c.in-Some.first.now)
       (sym c.inside.ensures.inside ∙ c.in-None-inside.is)));
   within = rw c.in_ok-push-in-None-inside.ensures.items (All-push
-      (IsWithin (length c.args.text.now)) c.args.found.now.items c.in-Some.first.now c.requires.found
+      (IsWithin (length c.args.text.now)) c.args.found.now.items c.in-Some.first.now
+      c.requires.found
       (first_within c.args.text.now c.args.part.1 c.in_ok-pieces.pieces.items c.in-Some.first.now
       c.in-Some.rest.now (sym c.as_slice.ensures.value ∙ c.in-Some.ensures.cases.0)
       c.in_ok-pieces.ensures.within));

@@ -33,11 +33,13 @@ loop-at-preserved c =
     record {
       same = ap (λ n. l.found.items ++ pieces_from (l.at + 1) l.start n c.counted-closed.result
           (drop (l.at + 1) text)) c.counted-opened.ensures
-          ∙ ap (λ n. l.found.items ++ pieces_from (l.at + 1) l.start (counted (get_or text l.at 0) 40 l.opened) n (drop (l.at + 1) text))
+          ∙ ap (λ n. l.found.items ++ pieces_from (l.at + 1) l.start (counted (get_or text l.at 0)
+          40 l.opened) n (drop (l.at + 1) text))
           c.counted-closed.ensures
           ∙ (ap (λ ys. l.found.items ++ ys)
           (sym (piece_more text l.at c.loop-at-test.true l.start l.opened l.closed
-          (ap (splits l.opened l.closed) (sym (whole text l.at)) ∙ sym c.if-splits.ensures))) ∙ seen.same);
+          (ap (splits l.opened l.closed) (sym (whole text l.at)) ∙ sym c.if-splits.ensures)))
+          ∙ seen.same);
       within = seen.within;
       start = let s = seen.start in omega (arith, s);
       end = let room = c.loop-at-test.true in omega (arith, room);

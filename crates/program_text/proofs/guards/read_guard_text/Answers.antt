@@ -12,7 +12,8 @@ item_no_end l b is e = let clash : code_lexeme.Item b ≡ code_lexeme.End = sym 
 
 pub returns-in_default : goal.returns-in_default
 returns-in_default c = record {
-  reads = λ s. rw c.syntax_fault.ensures (guard_barred (with_text c.loop-at.text.items s) c.loop-at.at
+  reads = λ s. rw c.syntax_fault.ensures (guard_barred (with_text c.loop-at.text.items s)
+      c.loop-at.at
       c.in_default.not-Item ∙ sym (c.loop-at.invariant.goes s).same);
   falls = tt;
 }

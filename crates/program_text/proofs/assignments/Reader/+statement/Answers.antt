@@ -42,7 +42,8 @@ block-returns-clause-reads t c = λ w.
     let d = c.args.depth in
     let s = at_statement names n d w in
     let next = c.next.result in
-    continued program_language block statements s (at_statement names n (d + 1) (with_block empty w))
+    continued program_language block statements s (at_statement names n (d + 1)
+    (with_block empty w))
     _ c.args.cursor next c.statements.result
     ((on (start program_language block s (rest c.args.cursor)) (sign_read 123 block_fault open_block
     with_empty s c.args.cursor refl (sym c.if-not-is_sign.ensures)
@@ -86,7 +87,8 @@ statements-returns-clause-reads t c = λ d w e.
     let at = c.loop-at.at in
     ap (λ k. Ok (at_statement names c.loop-at.begun k v, rest c.next.result))
     (omega (arith, e))
-    ∙ ends (over (c.loop-at.invariant.goes w) _ _ _ (statements_end s at (sym c.loop-at-test.ensures)))
+    ∙ ends (over (c.loop-at.invariant.goes w) _ _ _
+    (statements_end s at (sym c.loop-at-test.ensures)))
     (sign_read 125 (λ c. None) close_block keep s at refl (sym c.loop-at-test.ensures)
     refl c.next.result c.next.ensures.tokens)
 
@@ -109,7 +111,8 @@ while_loop-returns-in_err-guard-clause-goes t c = λ w.
     let v = with_block (block_of c.args.block.now.items) w in
     let m = c.begin_statement.new.begun in
     let begun = c.in_ok-begin_statement.ensures in
-    stops_going (opened while_word (sequence guard (sequence statements (change (λ c. c) with_loop))) names
+    stops_going
+    (opened while_word (sequence guard (sequence statements (change (λ c. c) with_loop))) names
     c.args.begun.now m c.args.depth v k c.requires begun.limit begun.count) _
     (err_from_is_err_and c.from_residual-in_err-guard.result
     c.from_residual-in_err-guard.ensures.1)
@@ -123,7 +126,9 @@ while_loop-returns-in_err-body-clause-goes t c = λ w.
     let u = with_place k.token.at v in
     let m = c.begin_statement.new.begun in
     let begun = c.in_ok-begin_statement.ensures in
-    stops_going (on (opened while_word (sequence guard (sequence statements (change (λ c. c) with_loop))) names
+    stops_going
+    (on (opened while_word (sequence guard (sequence statements (change (λ c. c) with_loop)))
+    names
     c.args.begun.now m c.args.depth v k c.requires begun.limit begun.count)
     (c.in_ok-guard.ensures.reads m u)) _
     (err_from_is_err_and c.from_residual-in_err-body.result
@@ -148,7 +153,9 @@ while_loop-returns-clause-goes t c = λ w.
     ap (λ b. Ok (at_statement names l d (with_block b w), rest end))
     (ap block_of c.in_ok-push.ensures.items ∙ block_push c.args.block.now.items _
     ∙ ap (behind_block b) (loop_statement k.token.at c.in_ok-guard.guard c.in_ok-body.body))
-    ∙ ends (on (on (opened while_word (sequence guard (sequence statements (change (λ c. c) with_loop))) names
+    ∙ ends (on
+    (on (opened while_word (sequence guard (sequence statements (change (λ c. c) with_loop)))
+    names
     c.args.begun.now m d v k c.requires begun.limit begun.count)
     (c.in_ok-guard.ensures.reads m u))
     (c.in_ok-body.ensures.reads d (with_guard g u) (add-one d)))
@@ -175,7 +182,10 @@ if_statement-returns-in_err-guard-clause-goes t c = λ w.
     let v = with_block (block_of c.args.block.now.items) w in
     let m = c.begin_statement.new.begun in
     let begun = c.in_ok-begin_statement.ensures in
-    stops_going (opened if_word (sequence guard (sequence statements (sequence other_way (change (λ c. c) with_choice)))) names
+    stops_going
+    (opened if_word
+    (sequence guard (sequence statements (sequence other_way (change (λ c. c) with_choice))))
+    names
     c.args.begun.now m c.args.depth v k c.requires begun.limit begun.count) _
     (err_from_is_err_and c.from_residual-in_err-guard.result
     c.from_residual-in_err-guard.ensures.1)
@@ -190,7 +200,10 @@ if_statement-returns-in_err-inner-clause-goes t c = λ w.
     let u = with_place k.token.at v in
     let m = c.begin_statement.new.begun in
     let begun = c.in_ok-begin_statement.ensures in
-    stops_going (on (opened if_word (sequence guard (sequence statements (sequence other_way (change (λ c. c) with_choice)))) names
+    stops_going
+    (on (opened if_word
+    (sequence guard
+    (sequence statements (sequence other_way (change (λ c. c) with_choice)))) names
     c.args.begun.now m c.args.depth v k c.requires begun.limit begun.count)
     (c.in_ok-guard.ensures.reads m u)) _
     (err_from_is_err_and c.from_residual-in_err-inner.result
@@ -209,7 +222,10 @@ if_statement-returns-in_err-other-clause-goes t c = λ w.
     let m = c.begin_statement.new.begun in
     let begun = c.in_ok-begin_statement.ensures in
     let g = guard_of c.in_ok-guard.guard in
-    stops_going (on (on (opened if_word (sequence guard (sequence statements (sequence other_way (change (λ c. c) with_choice)))) names
+    stops_going
+    (on (on (opened if_word
+    (sequence guard
+    (sequence statements (sequence other_way (change (λ c. c) with_choice)))) names
     c.args.begun.now m d v k c.requires begun.limit begun.count)
     (c.in_ok-guard.ensures.reads m u))
     (c.in_ok-inner.ensures.reads d (with_guard g u) (add-one d))) _
@@ -237,7 +253,10 @@ if_statement-returns-clause-goes t c = λ w.
     (ap block_of c.in_ok-push.ensures.items ∙ block_push c.args.block.now.items _
     ∙ ap (behind_block b) (branch_statement k.token.at c.in_ok-guard.guard c.in_ok-inner.inner
     c.in_ok-other.other))
-    ∙ ends (on (on (on (opened if_word (sequence guard (sequence statements (sequence other_way (change (λ c. c) with_choice)))) names
+    ∙ ends (on
+    (on (on (opened if_word
+    (sequence guard
+    (sequence statements (sequence other_way (change (λ c. c) with_choice)))) names
     c.args.begun.now m d v k c.requires begun.limit begun.count)
     (c.in_ok-guard.ensures.reads m u))
     (c.in_ok-inner.ensures.reads d (with_guard g u) (add-one d)))
@@ -310,7 +329,11 @@ for_loop-returns-in_err-counter-clause-goes t c = λ w.
     let u = with_place k.token.at v in
     let m = c.begin_statement.new.begun in
     let begun = c.in_ok-begin_statement.ensures in
-    let first = opened_bare for_word (sequence counter (sequence (sign 61) (sequence bounds (sequence block (change (λ c. c) with_count))))) names c.args.begun.now m d v k c.requires begun.limit
+    let first =
+    opened_bare for_word
+    (sequence counter
+    (sequence (sign 61) (sequence bounds (sequence block (change (λ c. c) with_count)))))
+    names c.args.begun.now m d v k c.requires begun.limit
     begun.count c.next.result c.next.ensures.tokens in
     stops_going first _
     (err_from_is_err_and c.from_residual-in_err-counter.result
@@ -331,9 +354,14 @@ for_loop-returns-in_err-first-clause-goes t c = λ w.
     let u = with_place k.token.at v in
     let m = c.begin_statement.new.begun in
     let begun = c.in_ok-begin_statement.ensures in
-    let first = opened_bare for_word (sequence counter (sequence (sign 61) (sequence bounds (sequence block (change (λ c. c) with_count))))) names c.args.begun.now m d v k c.requires begun.limit
+    let first =
+    opened_bare for_word
+    (sequence counter
+    (sequence (sign 61) (sequence bounds (sequence block (change (λ c. c) with_count)))))
+    names c.args.begun.now m d v k c.requires begun.limit
     begun.count c.next.result c.next.ensures.tokens in
-    stops_going (on first (c.in_ok-counter.ensures.reads counter_fault word_stays counted_by (at_statement names m d u)
+    stops_going (on first (c.in_ok-counter.ensures.reads counter_fault word_stays counted_by
+    (at_statement names m d u)
     (λ j. at_statement names m d (with_counter j u)) (record {
       faults = λ w. or_none (name_fault names w);
       goes = λ w. refl;
@@ -352,9 +380,15 @@ for_loop-returns-in_err-bounds-clause-goes t c = λ w.
     let u = with_place k.token.at v in
     let m = c.begin_statement.new.begun in
     let begun = c.in_ok-begin_statement.ensures in
-    let first = opened_bare for_word (sequence counter (sequence (sign 61) (sequence bounds (sequence block (change (λ c. c) with_count))))) names c.args.begun.now m d v k c.requires begun.limit
+    let first =
+    opened_bare for_word
+    (sequence counter
+    (sequence (sign 61) (sequence bounds (sequence block (change (λ c. c) with_count)))))
+    names c.args.begun.now m d v k c.requires begun.limit
     begun.count c.next.result c.next.ensures.tokens in
-    stops_going (on (on first (c.in_ok-counter.ensures.reads counter_fault word_stays counted_by (at_statement names m d u)
+    stops_going
+    (on (on first (c.in_ok-counter.ensures.reads counter_fault word_stays counted_by
+    (at_statement names m d u)
     (λ j. at_statement names m d (with_counter j u)) (record {
       faults = λ w. or_none (name_fault names w);
       goes = λ w. refl;
@@ -374,11 +408,17 @@ for_loop-returns-in_err-body-clause-goes t c = λ w.
     let u = with_place k.token.at v in
     let m = c.begin_statement.new.begun in
     let begun = c.in_ok-begin_statement.ensures in
-    let first = opened_bare for_word (sequence counter (sequence (sign 61) (sequence bounds (sequence block (change (λ c. c) with_count))))) names c.args.begun.now m d v k c.requires begun.limit
+    let first =
+    opened_bare for_word
+    (sequence counter
+    (sequence (sign 61) (sequence bounds (sequence block (change (λ c. c) with_count)))))
+    names c.args.begun.now m d v k c.requires begun.limit
     begun.count c.next.result c.next.ensures.tokens in
     let x = with_counter c.in_ok-counter.counter u in
     let bs = c.in_ok-bounds.bounds in
-    stops_going (on (on (on first (c.in_ok-counter.ensures.reads counter_fault word_stays counted_by (at_statement names m d u)
+    stops_going
+    (on (on (on first (c.in_ok-counter.ensures.reads counter_fault word_stays counted_by
+    (at_statement names m d u)
     (λ j. at_statement names m d (with_counter j u)) (record {
       faults = λ w. or_none (name_fault names w);
       goes = λ w. refl;
@@ -398,7 +438,11 @@ for_loop-returns-clause-goes t c = λ w.
     let u = with_place k.token.at v in
     let m = c.begin_statement.new.begun in
     let begun = c.in_ok-begin_statement.ensures in
-    let first = opened_bare for_word (sequence counter (sequence (sign 61) (sequence bounds (sequence block (change (λ c. c) with_count))))) names c.args.begun.now m d v k c.requires begun.limit
+    let first =
+    opened_bare for_word
+    (sequence counter
+    (sequence (sign 61) (sequence bounds (sequence block (change (λ c. c) with_count)))))
+    names c.args.begun.now m d v k c.requires begun.limit
     begun.count c.next.result c.next.ensures.tokens in
     let x = with_counter c.in_ok-counter.counter u in
     let bs = c.in_ok-bounds.bounds in
@@ -406,7 +450,9 @@ for_loop-returns-clause-goes t c = λ w.
     let end = c.in_ok-body.end in
     let l = c.block.new.begun in
     ap (λ b. Ok (at_statement names l d (with_block b w), rest end)) c.in_ok-push_count.ensures
-    ∙ ends (on (on (on (on first (c.in_ok-counter.ensures.reads counter_fault word_stays counted_by (at_statement names m d u)
+    ∙ ends (on
+    (on (on (on first (c.in_ok-counter.ensures.reads counter_fault word_stays counted_by
+    (at_statement names m d u)
     (λ j. at_statement names m d (with_counter j u)) (record {
       faults = λ w. or_none (name_fault names w);
       goes = λ w. refl;
@@ -424,7 +470,8 @@ statement-returns-then-is_named-clause-goes t c = λ w.
     let s = at_statement c.args.self.now.names.now c.args.begun.now c.args.depth
     (with_block (block_of c.args.block.now.items) w) in
     continued_going program_language (rule a_statement) single s s _ c.args.cursor c.args.cursor
-    c.single.result (way_single s c.args.cursor (sym c.if-is_named.ensures)) (c.single.ensures.goes c.args.depth w)
+    c.single.result (way_single s c.args.cursor (sym c.if-is_named.ensures))
+    (c.single.ensures.goes c.args.depth w)
 
 pub statement-returns-then-is_sign-clause-goes :
     goal.statement-returns-then-is_sign-clause-goes
@@ -432,15 +479,18 @@ statement-returns-then-is_sign-clause-goes t c = λ w.
     let s = at_statement c.args.self.now.names.now c.args.begun.now c.args.depth
     (with_block (block_of c.args.block.now.items) w) in
     continued_going program_language (rule a_statement) several s s _ c.args.cursor c.args.cursor
-    c.several.result (way_several s c.args.cursor (sym c.if-is_sign.ensures)) (c.several.ensures.goes c.args.depth w)
+    c.several.result (way_several s c.args.cursor (sym c.if-is_sign.ensures))
+    (c.several.ensures.goes c.args.depth w)
 
 pub statement-returns-then-is_keyword-clause-goes :
     goal.statement-returns-then-is_keyword-clause-goes
 statement-returns-then-is_keyword-clause-goes t c = λ w.
     let s = at_statement c.args.self.now.names.now c.args.begun.now c.args.depth
     (with_block (block_of c.args.block.now.items) w) in
-    continued_going program_language (rule a_statement) if_statement s s _ c.args.cursor c.args.cursor
-    c.if_statement.result (way_if s c.args.cursor (sym c.if-is_keyword.ensures)) (c.if_statement.ensures.goes w)
+    continued_going program_language (rule a_statement) if_statement s s _ c.args.cursor
+    c.args.cursor
+    c.if_statement.result (way_if s c.args.cursor (sym c.if-is_keyword.ensures))
+    (c.if_statement.ensures.goes w)
 
 pub statement-returns-then-is_keyword-2-clause-goes :
     goal.statement-returns-then-is_keyword-2-clause-goes
@@ -448,7 +498,8 @@ statement-returns-then-is_keyword-2-clause-goes t c = λ w.
     let s = at_statement c.args.self.now.names.now c.args.begun.now c.args.depth
     (with_block (block_of c.args.block.now.items) w) in
     continued_going program_language (rule a_statement) while_loop s s _ c.args.cursor c.args.cursor
-    c.while_loop.result (way_while s c.args.cursor (sym c.if-is_keyword-2.ensures)) (c.while_loop.ensures.goes w)
+    c.while_loop.result (way_while s c.args.cursor (sym c.if-is_keyword-2.ensures))
+    (c.while_loop.ensures.goes w)
 
 pub statement-returns-then-is_keyword-3-clause-goes :
     goal.statement-returns-then-is_keyword-3-clause-goes
@@ -456,15 +507,18 @@ statement-returns-then-is_keyword-3-clause-goes t c = λ w.
     let s = at_statement c.args.self.now.names.now c.args.begun.now c.args.depth
     (with_block (block_of c.args.block.now.items) w) in
     continued_going program_language (rule a_statement) for_loop s s _ c.args.cursor c.args.cursor
-    c.for_loop.result (way_for s c.args.cursor (sym c.if-is_keyword-3.ensures)) (c.for_loop.ensures.goes w)
+    c.for_loop.result (way_for s c.args.cursor (sym c.if-is_keyword-3.ensures))
+    (c.for_loop.ensures.goes w)
 
 pub statement-returns-then-is_keyword-4-clause-goes :
     goal.statement-returns-then-is_keyword-4-clause-goes
 statement-returns-then-is_keyword-4-clause-goes t c = λ w.
     let s = at_statement c.args.self.now.names.now c.args.begun.now c.args.depth
     (with_block (block_of c.args.block.now.items) w) in
-    continued_going program_language (rule a_statement) assumption_of s s _ c.args.cursor c.args.cursor
-    c.assumption.result (way_assume s c.args.cursor (sym c.if-is_keyword-4.ensures)) (c.assumption.ensures.goes c.args.depth w)
+    continued_going program_language (rule a_statement) assumption_of s s _ c.args.cursor
+    c.args.cursor
+    c.assumption.result (way_assume s c.args.cursor (sym c.if-is_keyword-4.ensures))
+    (c.assumption.ensures.goes c.args.depth w)
 
 pub statement-returns-then-is_keyword-5-clause-goes :
     goal.statement-returns-then-is_keyword-5-clause-goes
@@ -472,7 +526,8 @@ statement-returns-then-is_keyword-5-clause-goes t c = λ w.
     let s = at_statement c.args.self.now.names.now c.args.begun.now c.args.depth
     (with_block (block_of c.args.block.now.items) w) in
     continued_going program_language (rule a_statement) assertion s s _ c.args.cursor c.args.cursor
-    c.assertion.result (way_assert s c.args.cursor (sym c.if-is_keyword-5.ensures)) (c.assertion.ensures.goes c.args.depth w)
+    c.assertion.result (way_assert s c.args.cursor (sym c.if-is_keyword-5.ensures))
+    (c.assertion.ensures.goes c.args.depth w)
 
 pub statement-returns-clause-goes : goal.statement-returns-clause-goes
 statement-returns-clause-goes t c = λ w.

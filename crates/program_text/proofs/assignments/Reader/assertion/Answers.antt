@@ -14,12 +14,15 @@ opened : (names : List (List ℕ)) (n m d : ℕ) (v : ProgramValue) (k end : Cur
     → is_keyword_of (seen_lexeme k.token.lexeme) assert_word ≡ true → statement_limit n ≡ None
     → m ≡ suc n → tokens_from k.text.now k.token.end ≡ rest end
     → GoesOn program_language assertion (at_statement names n d v) (rest k)
-    (sequence (comparison equal_signs) claim_end) (at_statement names m d (with_place k.token.at v)) (rest end)
+    (sequence (comparison equal_signs) claim_end) (at_statement names m d (with_place k.token.at v))
+    (rest end)
 opened names n m d v k end is free more next =
     subst (λ m. GoesOn program_language assertion (at_statement names n d v) (rest k)
-    (sequence (comparison equal_signs) claim_end) (at_statement names m d (with_place k.token.at v)) (rest end))
+    (sequence (comparison equal_signs) claim_end) (at_statement names m d (with_place k.token.at v))
+    (rest end))
     (sym more)
-    (on (start program_language _ _ _) (noted_read assert_word statement_fault begin_statement (at_statement names n d v) k is free
+    (on (start program_language _ _ _) (noted_read assert_word statement_fault begin_statement
+    (at_statement names n d v) k is free
     (rest end) next))
 
 pub returns-in_err-begin_statement-clause-goes : goal.returns-in_err-begin_statement-clause-goes
@@ -28,7 +31,8 @@ returns-in_err-begin_statement-clause-goes c = λ d w.
     (with_block (block_of c.args.block.now.items) w) in
     stops_going (start program_language _ _ _) _ (err_from_is_err_and c.from_residual.result
     c.from_residual.ensures.1)
-    (rw c.in_err-begin_statement.ensures.limit.1 (noted_at_fault assert_word statement_fault begin_statement s c.args.cursor c.requires limit
+    (rw c.in_err-begin_statement.ensures.limit.1 (noted_at_fault assert_word statement_fault
+    begin_statement s c.args.cursor c.requires limit
     c.in_err-begin_statement.ensures.limit.0))
 
 pub returns-in_err-comparison-clause-goes : goal.returns-in_err-comparison-clause-goes
@@ -42,7 +46,8 @@ returns-in_err-comparison-clause-goes c = λ d w.
     begun.count c.next.ensures.tokens) _
     (err_from_is_err_and c.from_residual-in_err-comparison.result
     c.from_residual-in_err-comparison.ensures.1)
-    (lifted_fault (at_statement names m d (with_place k.token.at v)) (rest c.next.result) (sums.comparison equal_signs)
+    (lifted_fault (at_statement names m d (with_place k.token.at v)) (rest c.next.result)
+    (sums.comparison equal_signs)
     c.in_err-comparison.field-0.0 (c.in_err-comparison.ensures.reads (with_place k.token.at v).sum))
 
 pub returns-in_err-end-clause-goes : goal.returns-in_err-end-clause-goes

@@ -19,7 +19,8 @@ opened names n m d v k end is free more next =
     subst (λ m. GoesOn program_language assumption_of (at_statement names n d v) (rest k)
     (sequence (comparison all_signs) test_end) (at_statement names m d v) (rest end))
     (sym more)
-    (on (start program_language _ _ _) (keyword_read assume_word k statement_fault begin_statement keep (at_statement names n d v) is
+    (on (start program_language _ _ _) (keyword_read assume_word k statement_fault begin_statement
+    keep (at_statement names n d v) is
     free (rest end) next))
 
 pub returns-in_err-begin_statement-clause-goes : goal.returns-in_err-begin_statement-clause-goes
@@ -28,7 +29,8 @@ returns-in_err-begin_statement-clause-goes c = λ d w.
     (with_block (block_of c.args.block.now.items) w) in
     stops_going (start program_language _ _ _) _ (err_from_is_err_and c.from_residual.result
     c.from_residual.ensures.1)
-    (rw c.in_err-begin_statement.ensures.limit.1 (keyword_at_fault assume_word c.args.cursor statement_fault begin_statement keep s c.requires limit
+    (rw c.in_err-begin_statement.ensures.limit.1 (keyword_at_fault assume_word c.args.cursor
+    statement_fault begin_statement keep s c.requires limit
     c.in_err-begin_statement.ensures.limit.0))
 
 pub returns-in_err-comparison-clause-goes : goal.returns-in_err-comparison-clause-goes

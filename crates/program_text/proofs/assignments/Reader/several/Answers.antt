@@ -41,7 +41,8 @@ returns-in_err-targets-clause-goes c = λ d w.
 behind_targets : (c : In_ok-targets) (d : ℕ) (w : ProgramValue)
     → GoesOn program_language several (at_statement c.args.self.now.names.now c.args.begun.now d w)
     (rest c.args.cursor) (sequence values set_end)
-    (in_set c.args.self.now.names.now c.begin_statement.new.begun d w c.in_ok-targets.targets.items []
+    (in_set c.args.self.now.names.now c.begin_statement.new.begun d w c.in_ok-targets.targets.items
+    []
     []) (rest c.in_ok-targets.behind)
 behind_targets c d w =
     let names = c.args.self.now.names.now in

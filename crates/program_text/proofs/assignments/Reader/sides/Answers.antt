@@ -31,7 +31,8 @@ returns-in_err-more-clause-reads c = λ n d w is e. stops (c.loop-values.invaria
 pub returns-in_err-end-clause-reads : goal.returns-in_err-end-clause-reads
 returns-in_err-end-clause-reads c = λ n d w is e.
     let vs = c.right_side.new.values in
-    let value = on (c.loop-values.invariant.goes n d w is e) (c.in_ok-more.ensures.reads n d w is) in
+    let value = on (c.loop-values.invariant.goes n d w is e) (c.in_ok-more.ensures.reads n d w
+    is) in
     stops_last (no_values_due c.args.self.now.names.now n d w is (map expr_of vs.items)
     (map divisor_of c.in_ok-more.more.items) c.in_ok-more.end value (omega (
       arith,
@@ -47,7 +48,8 @@ returns-in_err-end-clause-reads c = λ n d w is e.
 pub returns-then-len-count-clause-reads : goal.returns-then-len-count-clause-reads
 returns-then-len-count-clause-reads c = λ n d w is e.
     let vs = c.right_side.new.values in
-    let value = on (c.loop-values.invariant.goes n d w is e) (c.in_ok-more.ensures.reads n d w is) in
+    let value = on (c.loop-values.invariant.goes n d w is e) (c.in_ok-more.ensures.reads n d w
+    is) in
     ends (no_values_due c.args.self.now.names.now n d w is (map expr_of vs.items)
     (map divisor_of c.in_ok-more.more.items) c.in_ok-more.end
     value (omega (
@@ -62,7 +64,8 @@ returns-then-len-count-clause-reads c = λ n d w is e.
 pub returns-in_err-at-2-clause-reads : goal.returns-in_err-at-2-clause-reads
 returns-in_err-at-2-clause-reads c = λ n d w is e.
     let vs = c.right_side.new.values in
-    let value = on (c.loop-values.invariant.goes n d w is e) (c.in_ok-more.ensures.reads n d w is) in
+    let value = on (c.loop-values.invariant.goes n d w is e) (c.in_ok-more.ensures.reads n d w
+    is) in
     stops (more_values_due c.args.self.now.names.now n d w is (map expr_of vs.items)
     (map divisor_of c.in_ok-more.more.items) c.in_ok-more.end value (omega (
       arith,
@@ -90,14 +93,7 @@ loop-values-preserved c = record {
       let value = on (c.loop-values.invariant.goes n d w is e) (c.in_ok-more.ensures.reads n d w
       is) in
       let due = more_values_due names n d w is (map expr_of vs.items) ds c.in_ok-more.end value
-      (omega (
-        arith,
-        length-map vs.items expr_of,
-        vs.ok,
-        e,
-        c.len.ensures,
-        c.if-len-count.false,
-      )) in
+      (omega (arith, length-map vs.items expr_of, vs.ok, e, c.len.ensures, c.if-len-count.false)) in
       over (on due (c.in_ok-at-2.ensures.goes (λ c. c) keep _)) _ _ _
       (in_parts program_language right_side (rule more_values) (in_set names n d w is
       (map expr_of vs.items) ds) (rest c.in_ok-at-2.at) (sign 41));

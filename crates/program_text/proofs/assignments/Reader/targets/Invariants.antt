@@ -7,7 +7,8 @@ invariant-loop-targets l = record {
   falls : bytes_left l.at ≤ bytes_left l.fn.cursor;
   goes : (n d : ℕ) (w : ProgramValue)
       → GoesOn program_language targets (at_statement l.fn.self.names.now n d w) (rest l.fn.cursor)
-      (sequence (comma_list target) (sign 41)) (in_set l.fn.self.names.now n d w l.targets.items [] [])
+      (sequence (comma_list target) (sign 41)) (in_set l.fn.self.names.now n d w l.targets.items []
+      [])
       (rest l.at);
 }
 

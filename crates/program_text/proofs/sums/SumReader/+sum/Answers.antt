@@ -26,14 +26,16 @@ known false = refl
 known true = refl
 
 -- ---- behind a first token, and by an atom
-opened : (a : Around) (n : Progress) (k : Cursor) → is_sign_of (seen_lexeme k.token.lexeme) 40 ≡ true
+opened : (a : Around) (n : Progress) (k : Cursor) → is_sign_of (seen_lexeme k.token.lexeme) 40
+    ≡ true
     → a.depth < 64 → (d : Cursor) → tokens_from k.text.now k.token.end ≡ rest d
     → GoesOn sum_language parentheses (state_in a n) (rest k) (sequence (rule a_sum) closing)
     (state_in (inside a) n) (rest d)
 opened a n k is room d next = on (start sum_language parentheses (state_in a n) (rest k))
     (opening_read a n k (sign_here k 40 is) room d next)
 
-behind_minus : (a : Around) (n : Progress) (k : Cursor) → is_sign_of (seen_lexeme k.token.lexeme) 45 ≡ true
+behind_minus : (a : Around) (n : Progress) (k : Cursor) → is_sign_of (seen_lexeme k.token.lexeme) 45
+    ≡ true
     → a.depth < 64 → n.operators < 1024 → (d : Cursor) → tokens_from k.text.now k.token.end ≡ rest d
     → GoesOn sum_language opposite (state_in a n) (rest k) (sequence (rule a_factor) negation)
     (state_in (inside (with_operator a k.token.at)) (counted n)) (rest d)
@@ -82,7 +84,8 @@ atom-returns-in-Sign-clause-reads t c = λ v.
 
 pub atom-returns-in_default-clause-reads : goal.atom-returns-in_default-clause-reads
 atom-returns-in_default-clause-reads t c = λ v.
-    no_atom (state_in (around c.args.self.now c.args.depth v) (progress_of c.args.progress)) c.args.cursor
+    no_atom (state_in (around c.args.self.now c.args.depth v) (progress_of c.args.progress))
+    c.args.cursor
     c.in_default.not-Number c.in_default.not-Large c.in_default.not-Name
     (c.in_default.not-Sign 40)
 
@@ -90,13 +93,15 @@ atom-returns-in_default-clause-reads t c = λ v.
 pub parentheses-returns-then-not-is_sign-clause-reads :
     goal.parentheses-returns-then-not-is_sign-clause-reads
 parentheses-returns-then-not-is_sign-clause-reads t c = λ v.
-    parentheses_barred (state_in (around c.args.self.now c.args.depth v) (progress_of c.args.progress))
+    parentheses_barred (state_in (around c.args.self.now c.args.depth v)
+    (progress_of c.args.progress))
     c.args.cursor (sym c.if-not-is_sign.ensures)
 
 pub parentheses-returns-then-depth-ge-MOST_DEPTH-clause-reads :
     goal.parentheses-returns-then-depth-ge-MOST_DEPTH-clause-reads
 parentheses-returns-then-depth-ge-MOST_DEPTH-clause-reads t c = λ v.
-    parentheses_past (around c.args.self.now c.args.depth v) (progress_of c.args.progress) c.args.cursor
+    parentheses_past (around c.args.self.now c.args.depth v) (progress_of c.args.progress)
+    c.args.cursor
     (sign_here c.args.cursor 40 (sym c.if-not-is_sign.ensures)) c.if-depth-ge-MOST_DEPTH.true
 
 pub parentheses-returns-in_err-sum-clause-reads : goal.parentheses-returns-in_err-sum-clause-reads
@@ -110,7 +115,8 @@ parentheses-returns-in_err-sum-clause-reads t c = λ v.
 pub parentheses-returns-in_err-end-clause-reads : goal.parentheses-returns-in_err-end-clause-reads
 parentheses-returns-in_err-end-clause-reads t c = λ v.
     let a = around c.args.self.now c.args.depth v in
-    stops_last (on (opened a (progress_of c.args.progress) c.args.cursor (sym c.if-not-is_sign.ensures)
+    stops_last
+    (on (opened a (progress_of c.args.progress) c.args.cursor (sym c.if-not-is_sign.ensures)
     c.if-depth-ge-MOST_DEPTH.false c.next.result c.next.ensures.tokens)
     (c.in_ok-sum.ensures.reads v)) (state_behind a)
     (err_from_is_err_and c.from_residual-in_err-end.result c.from_residual-in_err-end.ensures.1)
@@ -138,7 +144,8 @@ factor-returns-then-is_sign-clause-reads t c = λ v.
 pub factor-returns-in_err-atom-clause-reads : goal.factor-returns-in_err-atom-clause-reads
 factor-returns-in_err-atom-clause-reads t c = λ v.
     let a = around c.args.self.now c.args.depth v in
-    stops (by_atom (state_in a (progress_of c.args.progress)) c.args.cursor (sym c.if-is_sign.ensures))
+    stops (by_atom (state_in a (progress_of c.args.progress)) c.args.cursor
+    (sym c.if-is_sign.ensures))
     (state_behind a) (err_from_is_err_and c.from_residual.result c.from_residual.ensures.1)
     (c.in_err-atom.ensures.reads v)
 
@@ -148,13 +155,15 @@ factor-returns-clause-reads t c = λ v.
     continued sum_language factor raising (state_in a (progress_of c.args.progress))
     (state_behind a c.in_ok-atom.atom) (state_behind a) c.args.cursor c.in_ok-atom.end
     c.power.result
-    (on (by_atom (state_in a (progress_of c.args.progress)) c.args.cursor (sym c.if-is_sign.ensures))
+    (on (by_atom (state_in a (progress_of c.args.progress)) c.args.cursor
+    (sym c.if-is_sign.ensures))
     (c.in_ok-atom.ensures.reads v)).same (c.power.ensures.reads a)
 
 pub opposite-returns-then-depth-ge-MOST_DEPTH-clause-reads :
     goal.opposite-returns-then-depth-ge-MOST_DEPTH-clause-reads
 opposite-returns-then-depth-ge-MOST_DEPTH-clause-reads t c = λ v.
-    opposite_past (around c.args.self.now c.args.depth v) (progress_of c.args.progress) c.args.cursor
+    opposite_past (around c.args.self.now c.args.depth v) (progress_of c.args.progress)
+    c.args.cursor
     (sign_here c.args.cursor 45 c.requires) (elim c.then-depth-ge-MOST_DEPTH.either [
       | inl h
           ↦ inl h
@@ -165,11 +174,13 @@ pub opposite-returns-in_err-factor-clause-reads : goal.opposite-returns-in_err-f
 opposite-returns-in_err-factor-clause-reads t c = λ v.
     let a = around c.args.self.now c.args.depth v in
     let e = c.in_err-factor.field-0.0 in
-    stops (behind_minus a (progress_of c.args.progress) c.args.cursor c.requires c.if-depth-ge-MOST_DEPTH.false
+    stops (behind_minus a (progress_of c.args.progress) c.args.cursor c.requires
+    c.if-depth-ge-MOST_DEPTH.false
     c.if-progress-ge-MOST_OPERATORS.false c.next.result c.next.ensures.tokens)
     (state_behind a)
     (err_from_is_err_and c.from_residual.result c.from_residual.ensures.1)
-    (factor_rule c.args.self.now (c.args.depth + 1) (counted (progress_of c.args.progress)) c.next.result (Err e)
+    (factor_rule c.args.self.now (c.args.depth + 1) (counted (progress_of c.args.progress))
+    c.next.result (Err e)
     c.in_err-factor.ensures.reads (note c.args.cursor.token.at v))
 
 pub opposite-returns-clause-reads : goal.opposite-returns-clause-reads
@@ -182,9 +193,11 @@ opposite-returns-clause-reads t c = λ v.
     let value : expr_of c.in_ok-value.value.value ≡ neg k.token.at (expr_of q.value.value) =
     ap expr_of c.in_ok-value.ensures.ok in
     ap (λ e. Ok (state_in (behind_expr a e) (progress_of q.progress), rest end)) value
-    ∙ ends (on (behind_minus a (progress_of c.args.progress) k c.requires c.if-depth-ge-MOST_DEPTH.false
+    ∙ ends (on (behind_minus a (progress_of c.args.progress) k c.requires
+    c.if-depth-ge-MOST_DEPTH.false
     c.if-progress-ge-MOST_OPERATORS.false c.next.result c.next.ensures.tokens)
-    (factor_rule c.args.self.now (c.args.depth + 1) (counted (progress_of c.args.progress)) c.next.result
+    (factor_rule c.args.self.now (c.args.depth + 1) (counted (progress_of c.args.progress))
+    c.next.result
     (Ok (q, end)) c.in_ok-factor.ensures.reads (note k.token.at v)))
     (negation_done a (progress_of q.progress) k.token.at (expr_of q.value.value) end)
 
@@ -201,7 +214,8 @@ times-returns-in_err-factor-clause-reads t c =
     operand_fails c.args.self.now c.args.depth c.args.product c.args.cursor 42 refl
     (sign_here c.args.cursor 42 c.requires) (rule a_factor) mul c.in_ok-next.next
     c.in_ok-next.ensures.goes
-    (factor_rule c.args.self.now c.args.depth (counted (progress_of c.args.product.progress)) c.in_ok-next.next
+    (factor_rule c.args.self.now c.args.depth (counted (progress_of c.args.product.progress))
+    c.in_ok-next.next
     (Err c.in_err-factor.field-0.0) c.in_err-factor.ensures.reads)
     (err_from_is_err_and c.from_residual-in_err-factor.result
     c.from_residual-in_err-factor.ensures.1)
@@ -214,7 +228,8 @@ times-returns-clause-reads t c =
     (sign_here c.args.cursor 42 c.requires) (rule a_factor) mul c.in_ok-next.next
     c.in_ok-next.ensures.goes q
     (record { value = c.in_ok-value.value; progress = q.progress }) c.in_ok-factor.end
-    (factor_rule c.args.self.now c.args.depth (counted (progress_of c.args.product.progress)) c.in_ok-next.next
+    (factor_rule c.args.self.now c.args.depth (counted (progress_of c.args.product.progress))
+    c.in_ok-next.next
     (Ok (q, c.in_ok-factor.end)) c.in_ok-factor.ensures.reads)
     (ap expr_of c.in_ok-value.ensures.ok) refl
 
@@ -227,7 +242,8 @@ product-returns-in_err-product-clause-reads t c = chain_fails c.args.self.now c.
 pub product-loop-product-init : goal.product-loop-product-init
 product-loop-product-init t c = (
   c.in_ok-product.ensures.falls,
-  chain_begins c.args.self.now c.args.depth (progress_of c.args.progress) c.args.cursor product factor
+  chain_begins c.args.self.now c.args.depth (progress_of c.args.progress) c.args.cursor product
+      factor
       next_factor (λ s ts. refl) c.in_ok-product.product c.in_ok-product.at
       c.in_ok-product.ensures.reads,
 )
@@ -235,7 +251,8 @@ product-loop-product-init t c = (
 pub product-returns-in_err-next-clause-reads : goal.product-returns-in_err-next-clause-reads
 product-returns-in_err-next-clause-reads t c =
     let at = c.loop-product.at in
-    way_fails c.args.self.now c.args.depth (progress_of c.args.progress) c.args.cursor product factor next_factor
+    way_fails c.args.self.now c.args.depth (progress_of c.args.progress) c.args.cursor product
+    factor next_factor
     (λ s ts. refl) times c.loop-product.product at c.loop-product.invariant.1
     (more_times at (sign_here at 42 (sym c.if-is_sign.ensures)))
     c.in_err-next.ensures.reads (err_from_is_err_and c.from_residual-in_err-next.result
@@ -246,7 +263,8 @@ product-loop-product-preserved-then-is_sign t c = (
   let first = c.in_ok-next.ensures.falls in let second = c.loop-product.invariant.0 in
       omega (arith, first, second),
   let at = c.loop-product.at in
-      way_goes c.args.self.now c.args.depth (progress_of c.args.progress) c.args.cursor product factor
+      way_goes c.args.self.now c.args.depth (progress_of c.args.progress) c.args.cursor product
+      factor
       next_factor (λ s ts. refl) times c.loop-product.product at c.loop-product.invariant.1
       (more_times at (sign_here at 42 (sym c.if-is_sign.ensures)))
       c.in_ok-next.next c.in_ok-next.end c.in_ok-next.ensures.reads,
@@ -255,7 +273,8 @@ product-loop-product-preserved-then-is_sign t c = (
 pub product-returns-in_err-next-2-clause-reads : goal.product-returns-in_err-next-2-clause-reads
 product-returns-in_err-next-2-clause-reads t c =
     let at = c.loop-product.at in
-    way_fails c.args.self.now c.args.depth (progress_of c.args.progress) c.args.cursor product factor next_factor
+    way_fails c.args.self.now c.args.depth (progress_of c.args.progress) c.args.cursor product
+    factor next_factor
     (λ s ts. refl) over c.loop-product.product at c.loop-product.invariant.1
     (more_over at (sign_here at 47 (sym c.if-is_sign-2.ensures)))
     c.in_err-next-2.ensures.reads (err_from_is_err_and c.from_residual-in_err-next-2.result
@@ -266,7 +285,8 @@ product-loop-product-preserved t c = (
   let first = c.in_ok-next-2.ensures.falls in let second = c.loop-product.invariant.0 in
       omega (arith, first, second),
   let at = c.loop-product.at in
-      way_goes c.args.self.now c.args.depth (progress_of c.args.progress) c.args.cursor product factor
+      way_goes c.args.self.now c.args.depth (progress_of c.args.progress) c.args.cursor product
+      factor
       next_factor (λ s ts. refl) over c.loop-product.product at c.loop-product.invariant.1
       (more_over at (sign_here at 47 (sym c.if-is_sign-2.ensures)))
       c.in_ok-next-2.next c.in_ok-next-2.end c.in_ok-next-2.ensures.reads,
@@ -281,7 +301,8 @@ product-times-requires t c =
 
 pub product-returns-else-is_sign-2-clause-reads : goal.product-returns-else-is_sign-2-clause-reads
 product-returns-else-is_sign-2-clause-reads t c =
-    chain_ends c.args.self.now c.args.depth (progress_of c.args.progress) c.args.cursor product factor
+    chain_ends c.args.self.now c.args.depth (progress_of c.args.progress) c.args.cursor product
+    factor
     next_factor (λ s ts. refl) c.loop-product.product c.loop-product.at
     c.loop-product.invariant.1
     (no_more_factors c.loop-product.at (sym c.if-is_sign.ensures) (sym c.if-is_sign-2.ensures))
@@ -296,7 +317,8 @@ over-returns-in_err-next-clause-reads t c =
     (sign_here c.args.cursor 47 c.requires) (rule a_divisor) c.in_err-next.ensures.goes
     (err_from_is_err_and c.from_residual.result c.from_residual.ensures.1)
 
-behind_slash : (a : Around) (p : Part) (k next : Cursor) → is_sign_of (seen_lexeme k.token.lexeme) 47
+behind_slash : (a : Around) (p : Part) (k next : Cursor) → is_sign_of (seen_lexeme k.token.lexeme)
+    47
     ≡ true → Counts p.progress.operators k (Ok next) → GoesOn sum_language over (state_behind a p)
     (rest k) (rule a_divisor)
     (state_in (operand p k a) (counted (progress_of p.progress))) (rest next)
@@ -332,7 +354,8 @@ divides = sequence factor (change (λ c. c) (λ c v. divided c.names v))
 
 by_factor : (s : SumState) (k : Cursor) → s.context.free ≡ true → begins_by_number k ≡ false
     → GoesOn sum_language (rule a_divisor) s (rest k) divides s (rest k)
-by_factor s k free other = instead (start sum_language (rule a_divisor) s (rest k)) divides s (rest k)
+by_factor s k free other = instead (start sum_language (rule a_divisor) s (rest k)) divides s
+    (rest k)
     (over_factor s k free other)
 
 pub over_factor-returns-in_err-factor-clause-reads :
@@ -360,7 +383,8 @@ over_factor-returns-clause-reads t c = λ v.
     let divisors : map divisor_of c.push.new.self.items ≡ m.divisors
     ++ record { at = at; value = expr_of q.value.value } ∷ [] =
     ap (map divisor_of) c.in_ok-push.ensures.items ∙ map_push divisor_of q.progress.divisors.items _
-    ∙ ap (λ e. m.divisors ++ record { at = at; value = expr_of e } ∷ []) c.into_inner-value.ensures in
+    ∙ ap (λ e. m.divisors ++ record { at = at; value = expr_of e } ∷ [])
+    c.into_inner-value.ensures in
     let index : c.len.result + c.len-2.result ≡ length a.names + length m.divisors = omega (
       arith,
       c.len.ensures.len,
@@ -372,7 +396,11 @@ over_factor-returns-clause-reads t c = λ v.
     m.divisors)) =
     ap expr_of c.in_ok-value.ensures.ok ∙ ap (λ e. mul at p (expr_of e)) c.in_ok-right.ensures.ok
     ∙ ap (λ i. mul at p (variable i)) index in
-    ap (λ e. Ok (state_in (behind_expr a e) (record m { divisors = map divisor_of c.push.new.self.items }), rest end)) value
+    ap (λ e. Ok (
+      state_in (behind_expr a e)
+          (record m { divisors = map divisor_of c.push.new.self.items }),
+      rest end,
+    )) value
     ∙ ap (λ ds. Ok (
       state_in (behind_expr a (mul at p (variable (length a.names + length
           m.divisors)))) (record m { divisors = ds }),
@@ -413,14 +441,16 @@ addition-returns-clause-reads t c =
 
 pub sum-returns-in_err-sum-clause-reads : goal.sum-returns-in_err-sum-clause-reads
 sum-returns-in_err-sum-clause-reads t c =
-    chain_fails c.args.self.now c.args.depth (progress_of c.args.progress) c.args.cursor (rule a_sum) product
+    chain_fails c.args.self.now c.args.depth (progress_of c.args.progress) c.args.cursor
+    (rule a_sum) product
     next_product (reading_rule sum_language sums_checked a_sum) c.in_err-sum.ensures.reads
     (err_from_is_err_and c.from_residual.result c.from_residual.ensures.1)
 
 pub sum-loop-sum-init : goal.sum-loop-sum-init
 sum-loop-sum-init t c = (
   c.in_ok-sum.ensures.falls,
-  chain_begins c.args.self.now c.args.depth (progress_of c.args.progress) c.args.cursor (rule a_sum) product
+  chain_begins c.args.self.now c.args.depth (progress_of c.args.progress) c.args.cursor (rule a_sum)
+      product
       next_product (reading_rule sum_language sums_checked a_sum) c.in_ok-sum.sum c.in_ok-sum.at
       c.in_ok-sum.ensures.reads,
 )
@@ -428,7 +458,8 @@ sum-loop-sum-init t c = (
 pub sum-returns-in_err-next-clause-reads : goal.sum-returns-in_err-next-clause-reads
 sum-returns-in_err-next-clause-reads t c =
     let at = c.loop-sum.at in
-    way_fails c.args.self.now c.args.depth (progress_of c.args.progress) c.args.cursor (rule a_sum) product
+    way_fails c.args.self.now c.args.depth (progress_of c.args.progress) c.args.cursor (rule a_sum)
+    product
     next_product (reading_rule sum_language sums_checked a_sum) (joins false) c.loop-sum.sum at
     c.loop-sum.invariant.1
     (more_joins at false (sign_here at 43 (sym c.if-is_sign.ensures))) c.in_err-next.ensures.reads
@@ -440,7 +471,8 @@ sum-loop-sum-preserved-then-is_sign t c = (
   let first = c.in_ok-next.ensures.falls in let second = c.loop-sum.invariant.0 in
       omega (arith, first, second),
   let at = c.loop-sum.at in
-      way_goes c.args.self.now c.args.depth (progress_of c.args.progress) c.args.cursor (rule a_sum) product
+      way_goes c.args.self.now c.args.depth (progress_of c.args.progress) c.args.cursor (rule a_sum)
+      product
       next_product (reading_rule sum_language sums_checked a_sum) (joins false) c.loop-sum.sum
       at c.loop-sum.invariant.1
       (more_joins at false (sign_here at 43 (sym c.if-is_sign.ensures))) c.in_ok-next.next
@@ -450,7 +482,8 @@ sum-loop-sum-preserved-then-is_sign t c = (
 pub sum-returns-in_err-next-2-clause-reads : goal.sum-returns-in_err-next-2-clause-reads
 sum-returns-in_err-next-2-clause-reads t c =
     let at = c.loop-sum.at in
-    way_fails c.args.self.now c.args.depth (progress_of c.args.progress) c.args.cursor (rule a_sum) product
+    way_fails c.args.self.now c.args.depth (progress_of c.args.progress) c.args.cursor (rule a_sum)
+    product
     next_product (reading_rule sum_language sums_checked a_sum) (joins true) c.loop-sum.sum at
     c.loop-sum.invariant.1
     (more_joins at true (sign_here at 45 (sym c.if-is_sign-2.ensures)))
@@ -462,7 +495,8 @@ sum-loop-sum-preserved t c = (
   let first = c.in_ok-next-2.ensures.falls in let second = c.loop-sum.invariant.0 in
       omega (arith, first, second),
   let at = c.loop-sum.at in
-      way_goes c.args.self.now c.args.depth (progress_of c.args.progress) c.args.cursor (rule a_sum) product
+      way_goes c.args.self.now c.args.depth (progress_of c.args.progress) c.args.cursor (rule a_sum)
+      product
       next_product (reading_rule sum_language sums_checked a_sum) (joins true) c.loop-sum.sum at
       c.loop-sum.invariant.1
       (more_joins at true (sign_here at 45 (sym c.if-is_sign-2.ensures))) c.in_ok-next-2.next
@@ -471,7 +505,8 @@ sum-loop-sum-preserved t c = (
 
 pub sum-returns-else-is_sign-2-clause-reads : goal.sum-returns-else-is_sign-2-clause-reads
 sum-returns-else-is_sign-2-clause-reads t c =
-    chain_ends c.args.self.now c.args.depth (progress_of c.args.progress) c.args.cursor (rule a_sum) product
+    chain_ends c.args.self.now c.args.depth (progress_of c.args.progress) c.args.cursor (rule a_sum)
+    product
     next_product (reading_rule sum_language sums_checked a_sum) c.loop-sum.sum c.loop-sum.at
     c.loop-sum.invariant.1
     (no_more_products c.loop-sum.at (sym c.if-is_sign.ensures) (sym c.if-is_sign-2.ensures))

@@ -39,7 +39,8 @@ decreases-sum l = 8 * bytes_left l.cursor + 4
 -- the factors that follow are read behind the product
 abbrev pub invariant-product-loop-product : goal.invariant-product-loop-product
 invariant-product-loop-product l = (bytes_left l.at < bytes_left l.fn.cursor)
-    × Chains l.fn.self l.fn.depth (progress_of l.fn.progress) l.fn.cursor product next_factor l.product l.at
+    × Chains l.fn.self l.fn.depth (progress_of l.fn.progress) l.fn.cursor product next_factor
+    l.product l.at
 
 abbrev pub decreases-product-loop-product : goal.decreases-product-loop-product
 decreases-product-loop-product l = bytes_left l.at
@@ -47,7 +48,8 @@ decreases-product-loop-product l = bytes_left l.at
 -- the products that follow are read behind the sum
 abbrev pub invariant-sum-loop-sum : goal.invariant-sum-loop-sum
 invariant-sum-loop-sum l = (bytes_left l.at < bytes_left l.fn.cursor)
-    × Chains l.fn.self l.fn.depth (progress_of l.fn.progress) l.fn.cursor (rule a_sum) next_product l.sum l.at
+    × Chains l.fn.self l.fn.depth (progress_of l.fn.progress) l.fn.cursor (rule a_sum) next_product
+    l.sum l.at
 
 abbrev pub decreases-sum-loop-sum : goal.decreases-sum-loop-sum
 decreases-sum-loop-sum l = bytes_left l.at

@@ -31,7 +31,8 @@ returns-clause-reads c = λ v.
     let n = progress_of c.args.progress in
     let end = c.in_ok-divisor.end in
     let s = state_in (with_operator (behind_expr a p) c.args.at) n in
-    let value : expr_of c.in_ok-value.value.value ≡ divide c.args.at p (pos c.in_ok-divisor.divisor) =
+    let value : expr_of c.in_ok-value.value.value ≡ divide c.args.at p
+    (pos c.in_ok-divisor.divisor) =
     ap expr_of c.in_ok-value.ensures.ok ∙ ap (divide c.args.at p) c.whole-by.ensures in
     ap (λ e. Ok (state_in (behind_expr a e) n, rest end)) value
     ∙ ends (over (start sum_language (rule a_divisor) s (rest k)) divisor_token s (rest k)

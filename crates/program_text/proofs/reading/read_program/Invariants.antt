@@ -3,7 +3,7 @@ use Rattle.grammars.specs.Grammar.{many, rule}
 use Rattle.program_text.specs.Lexemes.{tokens}
 use Rattle.program_text.specs.Programs.{a_statement, program, the_end, nothing, nothing_built}
 use Rattle.program_text.proofs.Answering.{sequence, rest, bytes_left, GoesOn, program_language, at_statement, with_block, block_of}
-use Rattle.program_text.proofs.reading.read_text.Given as goal
+use Rattle.program_text.proofs.reading.read_program.Given as goal
 
 abbrev pub invariant-loop-reader : goal.invariant-loop-reader
 invariant-loop-reader l =
