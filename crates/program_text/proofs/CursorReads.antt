@@ -3,19 +3,18 @@
 --   fault_at why at, here k      the fault why at an offset; the token of the cursor k, as texts have it
 --   sign_here      a sign is itself
 --   genuine_name, genuine_number      a cursor's name is a plain word, and its number is below 2^127
---   named_here, no_name_here    whether a cursor stands at a name; word_here: which one; behind_name: what stands behind it
+--   named_here, no_name_here    whether a cursor stands at a name; behind_name: what stands behind it
 --   fault_in g c y      why the lexeme y is at fault by the token g in the context c; after g s x: the state behind the token x
 --   token_read          a token is taken; token_faulty: it is at fault; token_barred: it can't stand there
 --                       taken, faulty, amiss: the same of a list of tokens
 --   at_left, at_right, at_more, at_none     one of two ways, one more or no more, by the kind of the cursor's token
 --   no_first            a sequence whose first part is refused
---   passed_on           an error is passed on
 --   fault_told          an error that says what a token's fault is
-use Rattle.std.proofs.Common.{◌≡◌, ℕ, ◌<◌, ◌^◌, List, ◌∷◌, sym, subst, arith, refl, ap, ap₂, ◌∙◌, true, nat_lt, IsTrue, Bool, false, not, if◌then◌else◌, Option, Some, None, Result, Ok, Err, IfSome, option_map, []}
+use Rattle.std.proofs.Common.{◌≡◌, ℕ, ◌<◌, ◌^◌, List, ◌∷◌, sym, subst, arith, refl, ap, ap₂, ◌∙◌, true, nat_lt, IsTrue, Bool, false, not, if◌then◌else◌, Option, Some, None, Ok, Err, IfSome, option_map, []}
 use Rattle.std.proofs.lemmas.Bool.Decides.{nat_tests}
 use Rattle.program_text.specs.Words.{is_plain_word}
 use Rattle.program_text.specs.Lexemes.{Placed, is_sign_of, Lexeme, tokens_from}
-use Rattle.program_text.specs.Kinds.{a_name, no_kind, same, word_in, is_name}
+use Rattle.program_text.specs.Kinds.{a_name, no_kind, same, is_name}
 use Rattle.program_text.specs.NextToken.{seen_lexeme, tokens_behind, is_genuine}
 use Rattle.program_text.specs.declared.cursor.Cursor.{Cursor}
 use Rattle.program_text.specs.CursorView.{rest, behind}
@@ -29,9 +28,9 @@ use Rattle.program_text.specs.Faults.{fault_of}
 use Rattle.grammars.specs.Reader.{reads, refused}
 use Rattle.grammars.proofs.Steps.{judged, parsed_token}
 use Rattle.program_text.specs.Told.{Told, told}
-use Rattle.program_text.specs.Telling.{TextLanguage, TextRule, reading, Reads}
+use Rattle.program_text.specs.Telling.{TextLanguage, TextRule, reading}
 use Rattle.program_text.specs.declared.error.ProgramTextError.{ProgramTextError}
-use Rattle.program_text.proofs.Paths.{going_on, reading_sequence, reading_left, reading_right, reading_more, reading_none, start, stops_last, IsFault, in_first}
+use Rattle.program_text.proofs.Paths.{going_on, reading_sequence, reading_left, reading_right, reading_more, reading_none, IsFault, in_first}
 use Rattle.program_text.specs.Lexemes as lexemes
 use Rattle.program_text.specs.declared.lexemes.Lexeme as code
 use Rattle.program_text.specs.declared.lexemes.Lexeme.TheVariants as code_lexeme
@@ -61,10 +60,6 @@ module _ (c : Cursor) where
       → is_name (seen_lexeme c.token.lexeme) ≡ true
   named_here w e = ap (λ l. is_name (seen_lexeme l)) e
       ∙ ap (λ t. has same (a_name ∷ []) (if t then a_name else no_kind)) (genuine_name w e)
-
-  pub word_here : (w : _) → c.token.lexeme ≡ code_lexeme.Name w
-      → word_in (seen_lexeme c.token.lexeme) ≡ w.now
-  word_here w e = ap (λ l. word_in (seen_lexeme l)) e
 
   pub no_name_here : ((w : _) → c.token.lexeme ≡ code_lexeme.Name w → ⊥)
       → is_name (seen_lexeme c.token.lexeme) ≡ false
@@ -190,13 +185,6 @@ module _ {N C V : Type 0} (L : TextLanguage N C V) where
       → Err f ≡ reading L g s ts → Err f ≡ reading L (sequence g h) s ts
   no_first g h s ts f e = ap (λ (r : Told C V). going_on r (λ t rest. reading L h t rest)) e
       ∙ sym (reading_sequence L g h s ts)
-
-  pub passed_on : {A : Type 0} {e : ProgramTextError} {result : Result (A × Cursor)
-      ProgramTextError}
-      → GivesError result e
-      → (g : TextRule N C V) (s : State C V) (state : A → State C V) (c : Cursor)
-      → IsFault e (reading L g s (rest c)) → Reads L g s state c result
-  passed_on is g s state c h = stops_last (start L g s (rest c)) state is h
 
 -- an error that says what a token's fault is, if it has one
 pub fault_told : {C V : Type 0} (e : ProgramTextError) (at : ℕ) (o : Option Reason) (y : Told C V)

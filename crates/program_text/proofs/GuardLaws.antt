@@ -1,6 +1,7 @@
 -- The parts of a guard, step by step.
 --   piece_more, piece_split, piece_end     one byte more in a piece, a split, and the end
 --   closing_more, closing_here, inside_more, inside_here     a pair of parentheses
+use Rattle.std.proofs.Math.Bool.{and-false}
 use Rattle.std.proofs.Common.{◌≡◌, ◌<◌, ◌≤◌, ◌+◌, ◌-◌, ℕ, zero, suc, take, List, [], ◌∷◌, length, drop, get_or, refl, ap, sym, subst, ◌∙◌, Bool, true, false, ◌&&◌, ◌==◌, if◌then◌else◌, None, arith, add-one, ◌⊎◌, inl, inr}
 use Rattle.std.proofs.lemmas.List.{drop_more, drop-drop, length-drop, length-take, take_all}
 use Rattle.std.proofs.lemmas.Bool.{eqb-true, ne_eqb}
@@ -174,13 +175,9 @@ whole text at = take_all (length text - at) (drop at text) (omega (arith, length
 
 -- ---- the byte doesn't close the last parenthesis
 module _ (b n : ℕ) (other : ((b ≡ 41) × (n ≡ 1 → ⊥)) ⊎ (b ≡ 41 → ⊥)) where
-  and_false : (t : Bool) → (t && false) ≡ false
-  and_false true = refl
-  and_false false = refl
-
   pub no_closing : (b == 41 && n == 1) ≡ false
   no_closing = elim other [
-    | inl h ↦ ap (λ t. (b == 41) && t) (ne_eqb n 1 h.1) ∙ and_false (b == 41)
+    | inl h ↦ ap (λ t. (b == 41) && t) (ne_eqb n 1 h.1) ∙ and-false (b == 41)
     | inr h ↦ ap (λ t. t && (n == 1)) (ne_eqb b 41 h)
   ]
 

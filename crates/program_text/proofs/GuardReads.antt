@@ -1,18 +1,15 @@
 -- The text of a guard, byte by byte, and the { behind it.
---   guard_begins                   the keyword, and the bytes behind it
 --   guard_more, guard_goes_on      a byte of it, and what comes behind that; guard_barred: another token
 --   guard_ends                     the { behind it is due
 use Rattle.std.proofs.Common.{◌≡◌, ℕ, List, [], ◌∷◌, ◌++◌, ◌-◌, length, refl, ap, sym, subst, ◌∙◌, true, false, if◌then◌else◌, IsTrue, Ok}
 use Rattle.grammars.specs.Kinds.{has}
 use Rattle.grammars.specs.Grammar.{sequence, many, some}
-use Rattle.program_text.specs.Lexemes as lexemes
-use Rattle.program_text.specs.Lexemes.{Lexeme, Placed, guard_from, is_sign_of, is_item, opens_guard}
+use Rattle.program_text.specs.Lexemes.{Placed, guard_from, is_sign_of, is_item}
 use Rattle.program_text.specs.NextToken.{seen_lexeme, tokens_behind, items_behind, is_genuine}
 use Rattle.program_text.specs.Kinds.{an_item, no_kind, same, kind_of}
 use Rattle.poly_text.specs.Reasons.{Fault, syntax}
-use Rattle.program_text.specs.Words as words
 use Rattle.program_text.specs.Guards.{blanks, byte_in}
-use Rattle.program_text.specs.CursorView.{rest, items, behind}
+use Rattle.program_text.specs.CursorView.{rest, items}
 use Rattle.program_text.specs.declared.lexemes.Lexeme.TheVariants as code_lexeme
 use Rattle.program_text.specs.declared.cursor.Cursor.{Cursor}
 use Rattle.program_text.proofs.KindTests.{no_sign, unlike}
@@ -36,22 +33,6 @@ items_due = sequence (some the_item) guard_end
 
 abbrev pub items_read : Rule
 items_read = sequence (many the_item) guard_end
-
-opens_behind : (text : List ℕ) (x : Lexeme) (end : ℕ) → opens_guard x ≡ true
-    → tokens_behind text x end ≡ guard_from text end
-opens_behind text (lexemes.keyword k) end e = by_word k e
-  where
-    by_word : (k : _) → opens_guard (lexemes.keyword k) ≡ true
-        → tokens_behind text (lexemes.keyword k) end ≡ guard_from text end
-    by_word words.if_word e = refl
-    by_word words.while_word e = refl
-    by_word k e = absurd (cc)
-opens_behind text x end e = absurd (cc)
-
-pub guard_begins : (c : Cursor) → opens_guard (seen_lexeme c.token.lexeme) ≡ true → (d : Cursor)
-    → guard_from c.text.now c.token.end ≡ items d → behind c ≡ items d
-guard_begins c opens d e =
-    opens_behind c.text.now (seen_lexeme c.token.lexeme) c.token.end opens ∙ e
 
 module _ (s : ProgramState) (c : Cursor) where
   abbrev behind_item : List Placed

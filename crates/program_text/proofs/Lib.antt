@@ -31,3 +31,7 @@ pub mod SaidWell
 pub mod HeldAtPlaces
 pub mod PlaceSteps
 pub mod WellRead
+pub mod SpelledLexing
+pub mod LexemeRuns
+pub mod Outcomes
+pub mod ProgramLaws

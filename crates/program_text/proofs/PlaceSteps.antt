@@ -276,9 +276,6 @@ module _ (s : ProgramState) where
 
   -- ---- what a statement adds
   module _ (p : ℕ) (k : KeptIn p c) where
-    guards_kept : (m : ℕ) → All (IsGuard (length c.names)) (drop m c.guards)
-    guards_kept m = All-drop (IsGuard (length c.names)) m c.guards k.guards_are
-
     added : (t : Statement (Expr ℕ)) → depth_inside t ≡ 0 → IsGuarded (length c.names) t
         → Kept p c.names c.statements c.guards (put_behind 0 t c.blocks) c.counters
     added t flat is = record {

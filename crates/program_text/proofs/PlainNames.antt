@@ -2,6 +2,7 @@
 --   unknown_is_no_name     the name of an unknown is no plain word
 --   none_unknown           so no plain name is one
 use Rattle.std.proofs.Common.{◌≡◌, ℕ, zero, suc, ◌+◌, ◌<◌, List, [], ◌∷◌, refl, ap, ap₂, sym, ◌∙◌, arith, Bool, true, false, ◌==◌, ◌&&◌, ◌/◌, ◌%◌, nat_lt, if◌then◌else◌, Option, Some, None, All, codes, is_none, is_some}
+use Rattle.std.proofs.Math.Bool.{and-false}
 use Rattle.std.specs.Str.{bytes_eq, all_ascii_digits}
 use Rattle.std.specs.Fmt.{decimal, digits, digits_onto, digit_glyph}
 use Rattle.std.specs.Char.{is_ascii_digit}
@@ -78,11 +79,7 @@ some_keyword w e =
 unknown_is_no_name : (k : ℕ) → is_plain_word (unknown_name k) ≡ false
 unknown_is_no_name k =
     ap (λ b. is_word_text (unknown_name k) && b) (some_keyword (unknown_name k) (unknown_word_is k))
-    ∙ never (is_word_text (unknown_name k))
-  where
-    never : (b : Bool) → (b && false) ≡ false
-    never true = refl
-    never false = refl
+    ∙ and-false (is_word_text (unknown_name k))
 
 pub none_unknown : (names : List (List ℕ)) → All (λ w. is_plain_word w ≡ true) names
     → HasNoUnknown names

@@ -9,11 +9,10 @@ use Rattle.grammars.specs.Kinds.{IsExact, within}
 use Rattle.grammars.specs.Grammar.{Placed, rule}
 use Rattle.grammars.specs.Derivation.{derives_token, derives_change, derives_sequence, derives_left, derives_right, derives_none, derives_rule, Text}
 use Rattle.grammars.specs.First.{first, may_be_empty}
-use Rattle.grammars.specs.Checked.{is_fit, begins_closed, IsChecked, IsWhole}
+use Rattle.grammars.specs.Checked.{is_fit, begins_closed, IsChecked}
 use Rattle.program_text.specs.Lexemes.{Lexeme}
 use Rattle.program_text.specs.Kinds.{Kind, a_name, a_number, a_large, an_item, an_end, no_kind, a_sign, a_double, a_keyword, same_keyword, same_double, same, sample}
-use Rattle.program_text.specs.Sums.{SumContext, SumState, SumRule, Rule, a_sum, a_factor, a_divisor, divisor_token, divisor_by, sum_language, rule_says, may_follow, begins_sum, whole_sum, whole_comparison}
-use Rattle.grammars.specs.Parts.{BeginsExactly}
+use Rattle.program_text.specs.Sums.{SumContext, SumState, SumRule, Rule, a_sum, a_factor, a_divisor, divisor_token, divisor_by, sum_language, rule_says, may_follow, begins_sum}
 use Rattle.program_text.specs.Words as words
 use Rattle.loop_model.specs.Words as loop_words
 
@@ -169,14 +168,3 @@ exact a_sum c = refl
 exact a_factor c = refl
 exact a_divisor c = by_free (λ g. within same begins_sum (first sum_language g) ≡ true) refl refl
     c.free
-
-pub sums_begin_exactly : BeginsExactly sum_language
-sums_begin_exactly = record { begins = exact; empty = λ n c e. absurd (cc) }
-
-pub sum_whole : IsWhole sum_language whole_sum
-unfolding words.keyword_of loop_words.keyword_of
-sum_whole = record { fit = refl; ends = refl }
-
-pub comparison_whole : IsWhole sum_language whole_comparison
-unfolding words.keyword_of loop_words.keyword_of
-comparison_whole = record { fit = refl; ends = refl }

@@ -1,11 +1,12 @@
 -- What a guard says.
 --   with_item x text        the text of a guard with one token more: what isn't of the guard is blank, so each byte keeps its offset
 --   pieces text from        where what stands between the && outside of parentheses begins and ends, from an offset up to the end of the text
+--   most_parentheses        more than a text has
 --   inside_of from text     where what is inside of a pair of parentheses around it all begins and ends
 --   parts_of text           the parts: a pair around it all, or around a piece, is no part, and what is in it has parts again; at most so many pairs around one another are looked into
 --   said names text part    the comparison that a part reads as, with no fault
 --   guard_of names text     what its parts say, and whether it has one alone
-use Rattle.std.specs.Prelude.{ℕ, ◌≤◌, zero, suc, ◌-◌, Bool, true, false, ◌&&◌, ◌==◌, if◌then◌else◌, List, [], ◌∷◌, ◌++◌, length, take, drop, replicate, filter_map, Option, Some, None, option_map, Ok, Err}
+use Rattle.std.specs.Prelude.{ℕ, ◌≤◌, ◌^◌, zero, suc, ◌-◌, Bool, true, false, ◌&&◌, ◌==◌, if◌then◌else◌, List, [], ◌∷◌, ◌++◌, length, take, drop, replicate, filter_map, Option, Some, None, option_map, Ok, Err}
 use Rattle.std.specs.List.{list_all}
 use Rattle.loops.specs.Program.{Expr}
 use Rattle.loop_model.specs.Ascii.{blank, left_parenthesis, right_parenthesis}
@@ -29,6 +30,10 @@ with_item x text = text ++ blanks (x.at - length text) ++ byte_in x.lexeme ∷ [
 -- ---- pieces
 abbrev pub ampersand : ℕ
 ampersand = 38
+
+-- more than a text has
+abbrev pub most_parentheses : ℕ
+most_parentheses = 2 ^ 63
 
 abbrev pub counted : ℕ → ℕ → ℕ → ℕ
 counted c which n = if c == which then suc n else n

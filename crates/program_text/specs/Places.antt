@@ -1,9 +1,13 @@
 -- Lines and columns of a text, from 1.
---   line_of before       the line behind these bytes: one more than their line feeds
---   column_of before     the column: one more than the bytes behind the last line feed
---   place_of text at     both, of an offset
-use Rattle.std.specs.Prelude.{ℕ, suc, ◌==◌, if◌then◌else◌, List, [], ◌∷◌, take}
+--   step c p             the place behind the byte c at the place p: a line feed begins the next line
+--   place_behind p cs    behind these bytes
+--   place_of text at     the place of the byte at an offset
+--   most_text            more bytes than a text has of which places are told
+use Rattle.std.specs.Prelude.{ℕ, suc, ◌^◌, ◌==◌, if◌then◌else◌, List, [], ◌∷◌, take}
 use Rattle.loop_model.specs.Ascii.{line_feed}
+
+abbrev pub most_text : ℕ
+most_text = 2 ^ 32
 
 abbrev pub step : ℕ → ℕ × ℕ → ℕ × ℕ
 step c p = if c == line_feed then (suc p.0, 1) else (p.0, suc p.1)

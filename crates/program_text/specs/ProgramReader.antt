@@ -1,17 +1,19 @@
 -- What a text says: it is read by the grammar of programs.
 --   program_in bytes s         the program that was read, and where the text ends
+--   fault_at x why             the fault of a token: what can't stand where it does is one of syntax
 --   program_or_fault bytes t   it, or the first fault
 --   text_of bytes              what the text says, or its first fault
 --   told_program result        what the answer of the reader says; nothing where memory failed
-use Rattle.std.specs.Prelude.{ℕ, List, length, Option, Some, Result, Ok, Err, option_map}
+use Rattle.std.specs.Prelude.{ℕ, List, length, Option, Some, Result, Ok, Err, option_map, unwrap_or}
 use Rattle.loops.specs.Program.{Expr}
+use Rattle.grammars.specs.Grammar as grammar
 use Rattle.grammars.specs.Reader.{read_whole}
-use Rattle.poly_text.specs.Reasons.{Fault}
+use Rattle.poly_text.specs.Reasons.{Reason, syntax, Fault}
 use Rattle.program_model.specs.Program.{Program}
 use Rattle.program_model.specs.ProgramView.{program_of}
 use Rattle.program_model.specs.declared.program.Program as code
 use Rattle.program_text.specs.Faults.{fault_of}
-use Rattle.program_text.specs.Lexemes.{tokens}
+use Rattle.program_text.specs.Lexemes.{Lexeme, tokens}
 use Rattle.program_text.specs.Programs.{ProgramContext, ProgramValue, ProgramState, block_at, program_language, whole_program, nothing}
 use Rattle.program_text.specs.Told.{Told, told}
 use Rattle.program_text.specs.declared.error.ProgramTextError.{ProgramTextError}
@@ -22,6 +24,9 @@ program_in bytes s = record {
   statements = block_at 0 s.value;
   end = length bytes;
 }
+
+abbrev pub fault_at : grammar.Placed Lexeme → Option Reason → Fault
+fault_at x why = record { reason = unwrap_or why syntax; at = x.at }
 
 abbrev pub program_or_fault : List ℕ → Told ProgramContext ProgramValue
     → Result (Program (Expr ℕ)) Fault

@@ -4,7 +4,7 @@
 --   with_block b w, with_guard g w, with_place at w, with_counter j w     what waits, and a block, a guard, an offset or a variable that counts
 --   in_set names n d w is es ds    in an assignment, with these targets, right sides and divisors so far, where n statements began and d blocks are open
 --   at_statement names n d w       a statement may come
---   statement_limit n, block_limit d     why a statement behind n others, and a block in d others, is at fault, if it is
+--   statement_limit n              why a statement behind n others is at fault, if it is
 --   Limits o at result             where a limit o is passed, the token at the offset is at fault
 --   target_told names taken w      why the name w can't be a target behind these
 --   IsTarget names taken fault next build s after    so is a token: it is at fault so, and the variable's place makes the state behind it
@@ -27,7 +27,7 @@ use Rattle.program_text.specs.Telling as telling
 use Rattle.program_text.specs.Telling.{answer_by}
 use Rattle.program_text.specs.Sums as sums
 use Rattle.program_text.specs.Sums.{SumValue, SumState}
-use Rattle.program_text.specs.Programs.{ProgramContext, ProgramValue, ProgramState, Rule, no_sum, outside, nothing_built, most_statements, most_blocks, program_language}
+use Rattle.program_text.specs.Programs.{ProgramContext, ProgramValue, ProgramState, Rule, no_sum, outside, nothing_built, most_statements, program_language}
 use Rattle.program_text.specs.declared.error.ProgramTextError.{ProgramTextError}
 use Rattle.program_text.specs.declared.error.ProgramTextError.TheVariants as code_fault
 use Rattle.program_text.specs.declared.cursor.Cursor.{Cursor}
@@ -60,9 +60,6 @@ with_place at w = record w { sum = sums.note at w.sum }
 
 abbrev pub with_counter : ℕ → ProgramValue → ProgramValue
 with_counter j w = record w { counters = j ∷ w.counters }
-
-abbrev pub with_sum : Expr ℕ → ProgramValue → ProgramValue
-with_sum e w = record w { sum = sums.push e w.sum }
 
 abbrev pub in_set : List (List ℕ) → ℕ → ℕ → ProgramValue → List ℕ → List (Expr ℕ)
     → List (Divisor (Expr ℕ)) → ProgramState
@@ -119,9 +116,6 @@ with_bounds e at f w =
 -- ---- limits
 abbrev pub statement_limit : ℕ → Option Reason
 statement_limit n = unless (nat_le (suc n) most_statements) limit
-
-abbrev pub block_limit : ℕ → Option Reason
-block_limit d = unless (nat_le (suc d) most_blocks) limit
 
 abbrev pub Limits : Option Reason → ℕ → Result ⊤ ProgramTextError → Type 0
 Limits o at (Ok u) = o ≡ None

@@ -14,7 +14,7 @@
 --   divisor_by free      what may stand behind a /. Where only numbers may, what could begin a factor stands in these texts all the same, always at fault
 --   sum_language         what the rules say
 --   comparison ks        with one of these signs; comparison_in v: what was read
---   whole_sum, whole_comparison     up to the end of the text
+--   whole_comparison     one up to the end of the text
 --   start names          nothing was read
 use Rattle.std.specs.Prelude.{ℕ, suc, ◌-◌, pos, Bool, true, false, not, nat_le, if◌then◌else◌, ◌==◌, List, [], ◌∷◌, ◌+◌, ◌++◌, length, Option, Some, None, unwrap_or, drop}
 use Rattle.std.specs.Option.{option_map_or}
@@ -304,9 +304,6 @@ all_signs = a_sign equal_sign ∷ a_double equal ∷ a_double differs ∷ []
 
 abbrev pub comparison : List Kind → Rule
 comparison ks = sequence (rule a_sum) (sequence (compares ks) (sequence (rule a_sum) side_end))
-
-abbrev pub whole_sum : List Rule
-whole_sum = rule a_sum ∷ the_end ∷ []
 
 abbrev pub whole_comparison : List Rule
 whole_comparison = comparison all_signs ∷ the_end ∷ []

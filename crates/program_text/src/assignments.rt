@@ -1,6 +1,6 @@
 //! Reads names and assignments.
 
-ghost use Rattle.std.specs.Prelude.{◌≡◌, ◌≢◌, ◌<◌, ◌≤◌, ◌∷◌, [], ℕ, List, Option, None, suc, map, length, IfOk, OnOk, IsTrue};
+ghost use Rattle.std.specs.Prelude.{◌≡◌, ◌<◌, ◌∷◌, [], ℕ, List, Option, None, suc, map, length, IfOk, OnOk, IsTrue};
 ghost use Rattle.grammars.specs.Grammar.{after_change};
 ghost use Rattle.loop_model.specs.Ascii.{left_parenthesis};
 ghost use Rattle.loop_model.specs.ExpressionView.{expr_of};

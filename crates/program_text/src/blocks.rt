@@ -38,7 +38,8 @@ fn is_named(lexeme: &Lexeme<'_>) -> bool
 
 /// The value for the variable, with no divisor.
 fn set(alloc: Global, target: usize, value: Expr) -> Result<Statement, AllocError>
-    ensures { IfOk result (λ s. statement_of s ≡ grammar.set [] (target ∷ []) (expr_of value ∷ [])) }
+    ensures { IfOk result
+        (λ s. statement_of s ≡ grammar.set [] (target ∷ []) (expr_of value ∷ [])) }
 {
     let targets = vec![in alloc; target]?;
     let values = vec![in alloc; value]?;

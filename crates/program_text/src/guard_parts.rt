@@ -1,6 +1,6 @@
 //! The parts of a guard's text.
 
-ghost use Rattle.std.specs.Prelude.{◌≡◌, ◌<◌, ◌≤◌, ◌+◌, ◌^◌, ◌++◌, length, drop, OnOk, IfOk, IfSome};
+ghost use Rattle.std.specs.Prelude.{◌≡◌, ◌<◌, ◌≤◌, ◌+◌, ◌++◌, length, drop, OnOk, IfOk, IfSome};
 ghost use Rattle.std.specs.List.{list_all, All};
 ghost use Rattle.poly_text.specs.Tokens as tokens;
 ghost use Rattle.program_text.specs.Guards as spec;
@@ -37,7 +37,7 @@ fn splits(text: &[u8], opened: usize, closed: usize) -> bool
 
 /// One more, if the byte is this one.
 fn counted(byte: u8, which: u8, count: usize) -> usize
-    requires { count < 2 ^ 63 }
+    requires { count < spec.most_parentheses }
     ensures { result ≡ spec.counted byte which count }
 {
     if byte == which { count + 1 } else { count }
@@ -72,7 +72,7 @@ fn pieces(alloc: Global, text: &[u8], from: usize) -> Result<Vec<Part>, AllocErr
 /// How many parentheses are open behind the byte, which doesn't close the last one.
 fn open_behind(byte: u8, count: usize) -> usize
     requires some { 0 < count }
-    requires few { count < 2 ^ 63 }
+    requires few { count < spec.most_parentheses }
     ensures { result ≡ spec.open_behind byte count }
 {
     if byte == b'(' {

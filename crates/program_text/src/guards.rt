@@ -1,6 +1,6 @@
 //! Reads guards, and what their parts say.
 
-ghost use Rattle.std.specs.Prelude.{◌≡◌, ◌≢◌, ◌<◌, ◌≤◌, ◌+◌, ◌-◌, ◌++◌, ℕ, length, None, is_none, OnOk, IfOk, IfErr, IsTrue};
+ghost use Rattle.std.specs.Prelude.{◌≡◌, ◌<◌, ◌+◌, ◌-◌, ◌++◌, ℕ, length, None, is_none, OnOk, IfOk, IfErr, IsTrue};
 ghost use Rattle.std.specs.Option.{option_map};
 ghost use Rattle.program_model.specs.Program.{empty};
 ghost use Rattle.program_model.specs.SyntaxView.{comparison_of, guard_of};

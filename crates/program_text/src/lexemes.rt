@@ -5,7 +5,7 @@ ghost use Rattle.std.specs.Str.{all_ascii_digits};
 ghost use Rattle.std.specs.Str.Parse.{digits_value};
 ghost use Rattle.program_text.specs.Words.{is_word_text};
 ghost use Rattle.program_text.specs.Lexemes as spec;
-ghost use Rattle.program_text.specs.Lexemes.{tokens_from, guard_from, word_of, number_of, item_of, item_len, lexeme_at, len_at, sign_at, sign_len};
+ghost use Rattle.program_text.specs.Lexemes.{tokens_from, guard_from, word_of, number_of, item_of, item_len, lexeme_at, len_at};
 ghost use Rattle.program_text.specs.NextToken.{seen_lexeme, tokens_behind, items_behind, IsLexeme, IsShaped};
 
 use crate::doubles::{Double, double_at};

@@ -1,4 +1,7 @@
-//! Texts of programs: tokens, the language, and the reader.
+//! Texts of programs: tokens, the language, and the reader; and lines and columns of offsets.
+//!
+//! Proved: `read_program` gives the program that a text says, exactly where it is a text of the language without a fault, and else its first
+//! fault, over all texts that bytes spell; what it gives is well formed and within the limits.
 //!
 //! Notion: texts and their grammars.
 #![tactic(auto)]
@@ -11,6 +14,7 @@ pub mod doubles;
 mod error;
 mod guard_parts;
 mod guards;
+pub mod laws;
 pub mod lexemes;
 mod places;
 mod reading;

@@ -1,6 +1,6 @@
 //! Reads sums by recursive descent.
 
-ghost use Rattle.std.specs.Prelude.{◌≡◌, ◌≢◌, ◌≤◌, ◌<◌, ◌^◌, ℕ, List, pos, None, Err, IfSome, ◌∷◌, ◌&&◌, not, true, false, IfOk, IfErr, IsTrue, unwrap_or};
+ghost use Rattle.std.specs.Prelude.{◌≡◌, ◌≢◌, ◌≤◌, ◌<◌, ◌^◌, List, pos, None, Err, IfSome, ◌∷◌, ◌&&◌, not, true, false, IfOk, IfErr, IsTrue, unwrap_or};
 ghost use Rattle.std.specs.Option.{option_map};
 ghost use Rattle.loops.specs.Limits.{most_operators};
 ghost use Rattle.loop_model.specs.Ascii.{star, minus_sign, slash};
@@ -15,7 +15,7 @@ ghost use Rattle.program_text.specs.NameFaults.{name_fault};
 ghost use Rattle.program_text.specs.NextToken.{seen_lexeme};
 ghost use Rattle.program_text.specs.Sums as grammar;
 ghost use Rattle.program_text.specs.Sums.{SumState, SumValue, sum_language, a_sum};
-ghost use Rattle.program_text.specs.Reads.{Progress as Seen, Around, around, progress_of, inside, with_operator, state_in, state_behind, behind_expr, with_exponent, with_divisor, Counts, ReadsPart, ReadsBehind, ReadsDivisor};
+ghost use Rattle.program_text.specs.Reads.{Progress as Seen, Around, around, progress_of, inside, state_in, state_behind, with_exponent, with_divisor, Counts, ReadsPart, ReadsBehind, ReadsDivisor};
 ghost use Rattle.program_text.specs.Telling.{reading, Reads, Goes};
 ghost use Rattle.poly_text.specs.Tokens.{number_limit};
 
@@ -67,13 +67,21 @@ fn whole(value: u128) -> Whole
     Whole::new(value as i128).unwrap()
 }
 
+/// How many operators of the sum stand before a token, and how many parentheses and leading minus signs are open there.
+#[derive(Clone, Copy)]
+struct Surroundings {
+    operators: usize,
+    depth: usize,
+}
+
 /// The fault of a sign in place of a divisor: what begins a factor has the fault that it has there, or else is no divisor.
-fn no_divisor(byte: u8, at: usize, operators: usize, depth: usize) -> ProgramTextError
-    ensures { (a : Around) (n : Seen) (ts : List (Placed spec.Lexeme)) → a.depth ≡ depth
-        → n.operators ≡ operators → IfSome (option_map (λ f. Err f) (fault_of result))
+fn no_divisor(byte: u8, at: usize, around: Surroundings) -> ProgramTextError
+    ensures { (a : Around) (n : Seen) (ts : List (Placed spec.Lexeme)) → a.depth ≡ around.depth
+        → n.operators ≡ around.operators → IfSome (option_map (λ f. Err f) (fault_of result))
         (λ told. told ≡ reading sum_language grammar.divisor_token (state_in a n)
         (record { at = at; lexeme = sign byte } ∷ ts)) }
 {
+    let Surroundings { operators, depth } = around;
     if byte != b'(' && byte != b'-' {
         return ProgramTextError::Syntax { at };
     }
@@ -319,7 +327,7 @@ impl SumReader<'_> {
                 Ok((value, cursor.next()))
             }
             Lexeme::Large => Err(ProgramTextError::Wide { at }),
-            Lexeme::Sign(byte) => Err(no_divisor(byte, at, operators, depth)),
+            Lexeme::Sign(byte) => Err(no_divisor(byte, at, Surroundings { operators, depth })),
             _ => Err(ProgramTextError::Syntax { at }),
         }
     }
