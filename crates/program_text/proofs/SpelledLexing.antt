@@ -22,7 +22,8 @@ use Rattle.program_text.specs.Words.{Keyword, is_word, is_word_text, keyword_of,
 use Rattle.poly_text.specs.Tokens.{is_blank, is_sign, comment_len, word_at, digits_at}
 use Rattle.program_text.specs.Doubles.{Double, equal, differs, dots, double_at}
 use Rattle.program_text.specs.Lexemes.{Lexeme, Placed, name, keyword, number, large, sign, double, the_end, word_of, number_of, sign_len, len_at, lexeme_at, opens_guard, placed_behind}
-use Rattle.program_text.proofs.Lexing.{is_word-letter, placed_behind-nil, placed_behind-zero, placed_behind-suc, lexeme_in, goes_on, skipped, lexeme_cons}
+use Rattle.poly_text.proofs.Lexing.{is_word-letter}
+use Rattle.program_text.proofs.Lexing.{placed_behind-nil, placed_behind-zero, placed_behind-suc, lexeme_in, goes_on, skipped, lexeme_cons}
 
 -- ---- offsets have no part in it
 abbrev pub lexemes_in : List Placed → List Lexeme

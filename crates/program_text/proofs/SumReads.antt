@@ -22,7 +22,8 @@ use Rattle.program_text.specs.declared.error.ProgramTextError.{ProgramTextError}
 use Rattle.program_text.specs.declared.cursor.Cursor.{Cursor}
 use Rattle.program_text.specs.Programs.{ProgramContext, ProgramValue, ProgramState, sum, begin_value, keep, end_value, with_value, right_side, sums_in_programs, program_language}
 use Rattle.program_text.specs.States.{reading, in_set}
-use Rattle.program_text.proofs.Paths.{IsFault, fault_passes, reading_change, GoesOn, start, on, ends}
+use Rattle.poly_text.proofs.Paths.{fault_passes}
+use Rattle.program_text.proofs.Paths.{IsFault, reading_change, GoesOn, start, on, ends}
 use Rattle.program_text.proofs.CursorReads.{here}
 use Rattle.program_text.proofs.ProgramChecked.{sums_embedded}
 

@@ -21,7 +21,8 @@ use Rattle.program_text.specs.States.{reading}
 use Rattle.program_text.specs.declared.cursor.Cursor.{Cursor}
 use Rattle.program_text.specs.declared.error.ProgramTextError.{ProgramTextError}
 use Rattle.program_model.specs.declared.program.Program as code
-use Rattle.program_text.proofs.Paths.{IsFault, fault_passes, stopped, GoesOn, GivesError, in_parts}
+use Rattle.poly_text.proofs.Paths.{fault_passes}
+use Rattle.program_text.proofs.Paths.{IsFault, stopped, GoesOn, GivesError, in_parts}
 use Rattle.program_text.proofs.CursorReads.{here}
 use Rattle.program_text.proofs.ListReads.{due, none_due}
 use Rattle.program_text.proofs.TokenReads.{end_is, end_barred}

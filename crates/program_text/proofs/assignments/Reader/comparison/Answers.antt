@@ -33,13 +33,14 @@ returns-in_err-right-clause-reads c = λ v.
     let reads = rw c.new.ensures.items at c.in_ok-left.ensures.reads v in
     let b = c.args.may_differ in
     let m = progress_of left.progress in
-    stops (behind_sign names b v c.args.cursor l m sign reads c.in-Some.equal says c.next.result
+    let before = with_left names b v c.args.cursor l m sign reads c.in-Some.equal says
+    c.next.result c.next.ensures.tokens in
+    stops {t = plain_state names before} {us = rest c.next.result}
+    (behind_sign names b v c.args.cursor l m sign reads c.in-Some.equal says c.next.result
     c.next.ensures.tokens) _
     (err_from_is_err_and c.from_residual-in_err-right.result
     c.from_residual-in_err-right.ensures.1)
-    (rw c.new-2.ensures.items at c.in_err-right.ensures.reads
-    (with_left names b v c.args.cursor l m sign reads c.in-Some.equal says c.next.result
-    c.next.ensures.tokens))
+    (rw c.new-2.ensures.items at c.in_err-right.ensures.reads before)
 
 pub returns-clause-reads : goal.returns-clause-reads
 returns-clause-reads c = λ v.
