@@ -7,3 +7,4 @@ mod Completed
 mod Stopping
 mod Tasks
 mod Products
+mod Shown

@@ -5,3 +5,4 @@ pub mod Causes
 pub mod Refusals
 pub mod Ends
 pub mod Lesser
+pub mod Shown

@@ -1,11 +1,12 @@
 -- What the code's tasks are seen as.
 --   job_of j            the task of a transition
+--   target_in j         the list where the transition leads to, if there is one
 --   transition_in j     the transition;  arity_in j: how many unknowns and variables there are
 --   generators_in j     the source's list, with the unknowns in front, and the zeros
 --   pair_of r, rests_of rs     the rests of monomials, the latest first
 --   HaveArity m rs      the rests are over m variables
 --   IsJob j             its transition's polynomials are over the unknowns and the variables, with an image for each variable, and the lists and the monomials are over the variables; there are few polynomials
-use Rattle.std.specs.Prelude.{◌≡◌, ℕ, ◌+◌, ◌≤◌, List, [], ◌∷◌, length, option_map, All, IfSome}
+use Rattle.std.specs.Prelude.{◌≡◌, ℕ, ◌+◌, ◌≤◌, List, [], ◌∷◌, length, Option, option_map, All, IfSome}
 use Rattle.algebra.specs.Fraction.{Fraction}
 use Rattle.polynomials.specs.Terms.{Terms}
 use Rattle.flows.specs.Graph as graph
@@ -22,12 +23,15 @@ use Rattle.program_families.specs.declared.job.Rest.{Rest}
 abbrev pub transition_in : Job → graph.Transition
 transition_in j = transition_of j.transition.now
 
+abbrev pub target_in : Job → Option (List (Terms Fraction))
+target_in j = option_map (λ gs. terms_each gs.now.items) j.target
+
 abbrev pub job_of : Job → task.Job
 job_of j = record {
   place = j.place;
   transition = transition_of j.transition.now;
   source = terms_each j.source.now.items;
-  target = option_map (λ gs. terms_each gs.now.items) j.target;
+  target = target_in j;
   monomials = j.monomials.now.items;
 }
 

@@ -1,10 +1,6 @@
 //! The basis of a task.
 ghost use Rattle.std.specs.Prelude.{◌≡◌, ◌≤◌, List, length, IfOk};
 ghost use Rattle.machines.specs.Journal.{Entry};
-ghost use Rattle.machines.specs.Reduced.{IsReducedBasis};
-ghost use Rattle.algebra.specs.Fraction.{ℚ, rationals};
-ghost use Rattle.ideals.specs.Members.{IsMember};
-ghost use Rattle.polynomials.specs.Order.{grevlex};
 ghost use Rattle.poly.specs.Seen.{terms_each};
 ghost use Rattle.complete.specs.Limits.{generators_limit};
 ghost use Rattle.divide.specs.Limits.{list_limit};
@@ -15,6 +11,7 @@ ghost use Rattle.program_families.specs.Views.{job_of, arity_in, generators_in, 
 ghost use Rattle.program_families.specs.Following.{ComesNext};
 ghost use Rattle.program_families.specs.Causes.{Takes};
 ghost use Rattle.program_families.specs.Refusals.{in_ideal};
+ghost use Rattle.program_families.specs.Shown.{IsBasisIn};
 
 use crate::{Job, TaskError};
 use divide::EngineError;
@@ -54,8 +51,7 @@ impl Job<'_> {
         ensures limit { meter.new.limit ≡ meter.old.limit }
         ensures divisors { IfOk result (λ gs. AreKept (arity_in self.now) gs.items) }
         ensures few { IfOk result (λ gs. length gs.items ≤ list_limit) }
-        ensures basis { IfOk result (λ gs. IsReducedBasis rationals grevlex (arity_in self.now)
-            (terms_each gs.items) (IsMember ℚ (arity_in self.now) (generators_in self.now))) }
+        ensures basis { IfOk result (λ gs. IsBasisIn self.now (terms_each gs.items)) }
         ensures takes { let n = self.now.variables in let j = job_of self.now in
             (start : List Entry) → ComesNext n j start meter.old.entries (begin_ideal n j)
             → Takes n j (λ gs. by_target n j (terms_each gs.items) j.target) start meter.new.limit

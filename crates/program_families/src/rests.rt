@@ -1,6 +1,7 @@
 //! The rests of what a transition makes of monomials, each from that of a lesser one.
 ghost use Rattle.std.specs.Prelude.{◌≡◌, ◌≤◌, ◌∷◌, [], List, ℕ, length, option_map, IfOk};
 ghost use Rattle.machines.specs.Journal.{Entry};
+ghost use Rattle.closures.specs.Monomials.{monomials_up_to};
 ghost use Rattle.monos.specs.Variables.{most_variables};
 ghost use Rattle.poly.specs.Seen.{terms_in, terms_each};
 ghost use Rattle.divide.specs.Limits.{list_limit};
@@ -13,6 +14,7 @@ ghost use Rattle.program_families.specs.Operations.{times_operations, plain_prod
 ghost use Rattle.program_families.specs.Causes.{Takes};
 ghost use Rattle.program_families.specs.Refusals.{in_rest};
 ghost use Rattle.program_families.specs.Lesser.{pair_in};
+ghost use Rattle.program_families.specs.Shown.{AreRestsOf};
 
 use crate::dividing::rest_of;
 use crate::{Job, Rest, TaskError};
@@ -158,6 +160,11 @@ impl Job<'_> {
             → ComesNext n j start meter.old.entries (from_rests n j gs [] j.monomials)
             → Takes n j (λ rs. rested gs (rests_of rs.items)) start meter.new.limit
             meter.new.entries result }
+        ensures rests { let n = self.now.variables in let j = job_of self.now in
+            let gs = terms_each basis.now.items in
+            (d : ℕ) → j.monomials ≡ monomials_up_to n d → (start : List Entry)
+            → ComesNext n j start meter.old.entries (from_rests n j gs [] j.monomials)
+            → IfOk result (λ rs. AreRestsOf self.now d gs (rests_of rs.items)) }
     {
         let mut rests = Vec::new(alloc);
         for monomial in self.monomials {

@@ -1,8 +1,10 @@
 //! The task of a transition: whether it keeps the list where it leads to, and else the rests of the monomials.
-ghost use Rattle.std.specs.Prelude.{◌≡◌, IfOk};
+ghost use Rattle.std.specs.Prelude.{◌≡◌, ℕ, IfOk};
+ghost use Rattle.closures.specs.Monomials.{monomials_up_to};
 ghost use Rattle.program_families.specs.Views.{job_of, arity_in, IsJob};
 ghost use Rattle.program_families.specs.Causes.{Takes};
 ghost use Rattle.program_families.specs.Ends.{after_check, end_of, IsCheck};
+ghost use Rattle.program_families.specs.Shown.{ShowsCheck, ShowsEnd};
 
 use crate::{Job, Rest, TaskError};
 use frac128::Frac;
@@ -41,6 +43,8 @@ impl Job<'_> {
         ensures takes { let n = self.now.variables in let j = job_of self.now in
             Takes n j (after_check n j) meter.old.entries meter.new.limit meter.new.entries
             result }
+        ensures shows { (d : ℕ) → self.now.monomials.now.items ≡ monomials_up_to self.now.variables d
+            → IfOk result (ShowsCheck self.now) }
     {
         let Some(elements) = self.target else {
             return Ok(Check::Basis(self.ideal(alloc, meter)?));
@@ -61,6 +65,8 @@ impl Job<'_> {
         ensures limit { meter.new.limit ≡ meter.old.limit }
         ensures takes { let n = self.now.variables in let j = job_of self.now in
             Takes n j end_of meter.old.entries meter.new.limit meter.new.entries result }
+        ensures shows { (d : ℕ) → self.now.monomials.now.items ≡ monomials_up_to self.now.variables d
+            → IfOk result (ShowsEnd self.now d) }
     {
         let basis = match self.check(alloc, meter)? {
             Check::Kept => return Ok(TaskEnd::Kept),

@@ -8,6 +8,7 @@ use Rattle.std.proofs.lemmas.Result.{err_from_is_err_and}
 use Rattle.poly.specs.Seen.{terms_each}
 use Rattle.program_families.specs.Views.{job_of}
 use Rattle.program_families.proofs.Fronts.{some_terms}
+use Rattle.program_families.proofs.Shown.{shown_kept}
 use Rattle.program_families.proofs.Tasks.{target_none, target_some, begins_kept, begins_none, begins_some}
 use Rattle.program_families.proofs.job.Job.check.Goals as goal
 use Rattle.program_families.proofs.job.Job.check.Goals.{In_ok-basis}
@@ -93,3 +94,13 @@ returns-clause-takes c =
     c.if-branch.false
     (c.in_ok-keeps.ensures.takes c.args.meter.now.entries
     (comes (goal.at.returns-clause-takes c).In_ok-basis))
+
+pub returns-then-is_empty-clause-shows : goal.returns-then-is_empty-clause-shows
+returns-then-is_empty-clause-shows c = λ d are.
+    shown_kept c.args.self.now c.requires d are c.args.meter.now.entries c.args.meter.now.entries
+    (returns-then-is_empty-clause-takes c)
+
+pub returns-then-branch-clause-shows : goal.returns-then-branch-clause-shows
+returns-then-branch-clause-shows c = λ d are.
+    shown_kept c.args.self.now c.requires d are c.args.meter.now.entries
+    c.keeps.new.meter.entries (returns-then-branch-clause-takes c)

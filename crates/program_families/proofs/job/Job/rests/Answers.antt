@@ -8,6 +8,7 @@ use Rattle.program_families.specs.Views.{job_of, arity_in, rests_of, pair_of, Ha
 use Rattle.program_families.specs.declared.job.Rest.{Rest}
 use Rattle.program_families.proofs.LesserMonomials.{rests_more}
 use Rattle.program_families.proofs.Products.{rests_begin, rests_over_begin}
+use Rattle.program_families.proofs.Shown.{shown_rests}
 use Rattle.program_families.proofs.Tasks.{next_item, rests_along, rests_none}
 use Rattle.program_families.proofs.job.Job.rests.Goals as goal
 
@@ -75,3 +76,9 @@ returns-clause-takes c = λ start h.
     (rests_of c.loop-monomial.rests.items) (drop i ms)
     (drop_all i ms (past_list ms _ c.deref-monomial-items.ensures.value i
     c.loop-monomial-test.false)) (c.loop-monomial.invariant.comes start h)
+
+pub returns-clause-rests : goal.returns-clause-rests
+returns-clause-rests c = λ d are start h.
+    shown_rests c.args.self.now c.requires.job d are start c.loop-monomial.meter.entries
+    (terms_each c.args.basis.now.items) (rests_of c.loop-monomial.rests.items)
+    (returns-clause-takes c start h)
