@@ -19,6 +19,7 @@ ghost use Rattle.program_families.specs.Shown.{AreRestsOf};
 use crate::dividing::rest_of;
 use crate::{Job, Rest, TaskError};
 use divide::EngineError;
+use flows::laws::ended_tasks_keep_the_target;
 use frac128::Frac;
 use journal::Meter;
 use loop_model::{MapError, product};
@@ -172,6 +173,8 @@ impl Job<'_> {
             let rest = self.next_rest(alloc, &rests, basis, copy, meter)?;
             rests.push(rest)?;
         }
+        // it does nothing, and tells what the rests are
+        ended_tasks_keep_the_target();
         Ok(rests)
     }
 }

@@ -43,7 +43,8 @@ impl Job<'_> {
         ensures takes { let n = self.now.variables in let j = job_of self.now in
             Takes n j (after_check n j) meter.old.entries meter.new.limit meter.new.entries
             result }
-        ensures shows { (d : ℕ) → self.now.monomials.now.items ≡ monomials_up_to self.now.variables d
+        ensures shows { let n = self.now.variables in
+            (d : ℕ) → self.now.monomials.now.items ≡ monomials_up_to n d
             → IfOk result (ShowsCheck self.now) }
     {
         let Some(elements) = self.target else {
@@ -65,7 +66,8 @@ impl Job<'_> {
         ensures limit { meter.new.limit ≡ meter.old.limit }
         ensures takes { let n = self.now.variables in let j = job_of self.now in
             Takes n j end_of meter.old.entries meter.new.limit meter.new.entries result }
-        ensures shows { (d : ℕ) → self.now.monomials.now.items ≡ monomials_up_to self.now.variables d
+        ensures shows { let n = self.now.variables in
+            (d : ℕ) → self.now.monomials.now.items ≡ monomials_up_to n d
             → IfOk result (ShowsEnd self.now d) }
     {
         let basis = match self.check(alloc, meter)? {

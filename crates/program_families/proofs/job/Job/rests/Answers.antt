@@ -1,4 +1,4 @@
-use Rattle.std.proofs.Common.{◌≡◌, ◌+◌, ◌∷◌, drop, refl, sym, subst, ap, ◌∙◌}
+use Rattle.std.proofs.Common.{inl, ◌≡◌, ◌+◌, ◌∷◌, drop, refl, sym, subst, ap, ◌∙◌}
 use Rattle.std.proofs.lemmas.List.{drop_all}
 use Rattle.std.proofs.lemmas.List.Elements.{All-push}
 use Rattle.std.proofs.lemmas.Result.{err_from_is_err_and}
@@ -8,7 +8,7 @@ use Rattle.program_families.specs.Views.{job_of, arity_in, rests_of, pair_of, Ha
 use Rattle.program_families.specs.declared.job.Rest.{Rest}
 use Rattle.program_families.proofs.LesserMonomials.{rests_more}
 use Rattle.program_families.proofs.Products.{rests_begin, rests_over_begin}
-use Rattle.program_families.proofs.Shown.{shown_rests}
+use Rattle.program_families.proofs.Shown.{generators_are, graph_in, is_graph}
 use Rattle.program_families.proofs.Tasks.{next_item, rests_along, rests_none}
 use Rattle.program_families.proofs.job.Job.rests.Goals as goal
 
@@ -79,6 +79,10 @@ returns-clause-takes c = λ start h.
 
 pub returns-clause-rests : goal.returns-clause-rests
 returns-clause-rests c = λ d are start h.
-    shown_rests c.args.self.now c.requires.job d are start c.loop-monomial.meter.entries
-    (terms_each c.args.basis.now.items) (rests_of c.loop-monomial.rests.items)
-    (returns-clause-takes c start h)
+    let self = c.args.self.now in
+    let k = returns-clause-takes c start h in
+    let i = c.requires.job in
+    c.ended_tasks_keep_the_target.ensures.rests (graph_in self i) (is_graph self i) d (job_of self)
+    are (inl refl)
+    (generators_are self i) k.follows.entries k.state k.follows.run
+    (terms_each c.args.basis.now.items) (rests_of c.loop-monomial.rests.items) k.is
