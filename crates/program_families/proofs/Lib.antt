@@ -1,0 +1,10 @@
+mod Following
+mod Divided
+mod Fronts
+mod Composed
+mod LesserMonomials
+mod Completed
+mod Stopping
+mod Tasks
+mod Products
+mod Shown
