@@ -73,6 +73,7 @@ class Crate:
         self.bodies: dict[Function, str] = {}
         self.nested: set[str] = set()
         self.imports: dict[str, set[str]] = defaultdict(set)
+        self.foreign: dict[str, set[str]] = defaultdict(set)
         self.named: dict[str, list[Function]] = defaultdict(list)
         paths = sorted((folder / "src").rglob("*.rt"))
         self.modules = {path.stem for path in paths}
@@ -83,8 +84,11 @@ class Crate:
 
     def read(self, text: str, module: str) -> None:
         for found in re.finditer(r"^(?:pub )?use (\w+)[^;]*;", text, re.MULTILINE):
+            words = set(re.findall(r"\w+", found[0]))
             if found[1] in {"crate", "self", "super", *self.modules}:
-                self.imports[module] |= set(re.findall(r"\w+", found[0]))
+                self.imports[module] |= words
+            else:
+                self.foreign[module] |= words
         for found in TYPE.finditer(text):
             if re.search(rf"\b{found[1]}\b", text[found.end():end_of(text, found.end() - 1)]):
                 self.nested.add(found[1])
@@ -101,7 +105,7 @@ class Crate:
         if path and path[0].isupper():
             return other.owner == (caller.owner if path == "Self" else path)
         if path and path not in ("self", "super", "crate"):
-            return not other.owner and other.module == path
+            return not other.owner and other.module == path and path not in self.foreign[caller.module]
         return not other.owner and (other.module == caller.module or other.name in self.imports[caller.module])
 
     def calls(self, caller: Function) -> set[Function]:
