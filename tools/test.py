@@ -57,6 +57,8 @@ PARTS = (
     Part("python", "the Python package, and its commands that read and show loops", ("python/tests/test_tools.py", "-v")),
     Part("odd", "what the commands of the package tell of odd inputs", ("python/tests/test_odd.py", "-v"), quick=("--quick",)),
     Part("c", "loops of C programs", ("python/tests/test_c.py", "-v"), tuple(need for need in NEEDS if need.commands == "invar-c "), ("--quick",)),
+    Part("hostile", "C that is written to mislead gets no wrong equation", ("python/tests/test_hostile.py", "-v"),
+         (*(need for need in NEEDS if need.commands == "invar-c "), Need("", "gcc", "apt-get install gcc")), ("--quick",)),
     Part("kept", "what ./invar builds and keeps, by a stand-in for the kit", ("bench/kept.py",), is_long=True),
 )
 

@@ -13,7 +13,7 @@ ANNOTATION = re.compile(r"/\*@\s*loop.*?\*/", re.DOTALL)
 CLAUSE = re.compile(r"loop invariant invar:\s*(.*?)\s*==\s*0;", re.DOTALL)
 KEYWORD = re.compile(r"\s*(while|for|do)\b")
 ENTRY, BEGINNING = re.compile(r"\\at\((\w+),\s*LoopEntry\)"), re.compile(r"\\at\((\w+),\s*Pre\)")
-MOST_LOOPS, SECONDS = 2_000, 60
+MOST_LOOPS, SECONDS = 2_000, 120
 
 HEAD = f"""#include <setjmp.h>
 #include <signal.h>
@@ -37,7 +37,7 @@ int main(void)
     for (int k = 0; k < 5; k++) signal(numbers[k], trapped_);
     for (volatile int k = 0; k < (int)(sizeof functions / sizeof *functions); k++)
     for (volatile int a = 0; a < count; a++) for (volatile int b = 0; b < count; b++) {
-        struct itimerval few = { { 0, 0 }, { 0, 20000 } };
+        struct itimerval few = { { 0, 0 }, { 0, 5000 } };
         n_ = values[a]; m_ = values[b]; ticks_ = 0; function_ = names[k];
         if (sigsetjmp(trap_, 1)) continue;
         setitimer(ITIMER_VIRTUAL, &few, 0);

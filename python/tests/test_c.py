@@ -208,12 +208,13 @@ class Annotations(Calls):
         self.assertIn("no equation between i holds", self.annotate(inner).told)
         unknown = "#include <nowhere.h>\nvoid f(thing *t, int n)\n{\n    other_t o;\n    int i = 0, s = 0;\n    while (i < n) { use(t, (thing *) o); s += 2; i++; }\n}\n"
         result = self.annotate(unknown)
-        self.assertEqual((result.status, result.told), (0, "test.c: the header nowhere.h isn't found, and counts as empty\n"))
-        self.assertIn("invar: 2*i - s == 0;", result.text)
+        missing = "test.c: the header nowhere.h isn't found, and counts as empty\n"
+        # a macro of such a header may change any variable
+        self.assertEqual((result.status, result.told), (1, f"{missing}test.c:6: loop not taken: a call in line 6\n"))
+        there = unknown.replace("#include <nowhere.h>", "typedef int thing, other_t; void use(thing *, thing *);")
+        self.assertIn("invar: 2*i - s == 0;", self.annotate(there).text)
         macros = "#include <nowhere.h>\nint f(int n, char **p UNUSED)\n{\n    z_const unsigned char *next = 0;\n    int i = 0, s = 0;\n    while (i < n) { s += 2; i++; }\n    return s;\n}\n"
         self.assertIn("invar: 2*i - s == 0;", self.annotate(macros).text)
-        written = unknown.replace("use(t, (thing *) o)", "use(t, s)")
-        self.assertIn("any value: s (a call in line 6)", self.annotate(written).told)
 
     @lengthy
     def test_values_that_may_not_fit(self) -> None:

@@ -15,7 +15,7 @@ from .sources import LOOPS, Loop, Refusal, is_stated, line_of, nodes, statements
 from .stated import PROMISE, QUESTION, RESULT
 from .statements import (
     BEFORE, AtLeast, Block, Cases, Choice, Claim, Declared, Equation, Fact, Leave, Rest, Set, Statement, Target, Term, Test, Touch, Turns,
-    turns_in,
+    every,
 )
 from .terms import bits, combined, compared, constant, converted, literal, quotient, settled, unknown
 from .whole import Whole, common
@@ -315,7 +315,7 @@ class Lowering:
             self.has_sequence = outer
             effects, self.behind = tuple(self.behind), []
             arms = (*yes(),), (*no(),)
-            if known is None or turns_in(arms[known != 0]):
+            if known is None or any(isinstance(one, (Turns, Target)) for one in every(arms[known != 0])):
                 self.emit(Choice(test, effects + arms[0], effects + arms[1]))
             else:
                 self.out += [*effects, *arms[known == 0]]

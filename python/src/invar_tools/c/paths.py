@@ -9,6 +9,7 @@ from ..polynomials import Polynomial
 from .sources import Refusal
 from .statements import (
     AtLeast, Below, Block, Cases, Choice, Claim, Declared, Divides, Fact, Leave, Need, Rest, Set, Statement, Target, Term, Touch, Turns,
+    every,
 )
 from .whole import Whole
 
@@ -175,9 +176,10 @@ class Walk:
 
     def run(self, items: Iterable[Statement], states: list[State]) -> Outcome:
         """Takes states through statements."""
-        result = Outcome(states)
-        for item in items:
+        result, waiting = Outcome(states), [*items]
+        for place, item in enumerate(waiting):
             if not result.behind:
+                refuse_targets(waiting[place:])
                 break
             outcome = self.step(item, result.behind)
             result.behind = merged(outcome.behind)
@@ -248,6 +250,13 @@ class Walk:
                 self.edges[place] = replace(other, guard=())
                 return
         self.edges.append(edge)
+
+
+def refuse_targets(items: list[Statement]) -> None:
+    """Refuses statements that no path comes to from before, but that a jump may come to."""
+    for item in every(items):
+        if isinstance(item, Target):
+            raise Refusal(item.line, item.word)
 
 
 @dataclass(frozen=True)
