@@ -18,11 +18,10 @@ use Rattle.poly_text.specs.NameFaults.{has}
 use Rattle.program_model.specs.Program.{Divisor, Guard, Statement, Block, empty, behind}
 use Rattle.program_model.specs.WellFormed.{IsComparison, IsGuarded, IsBlock}
 use Rattle.program_model.specs.Limits.{depth, depth_inside}
-use Rattle.program_text.specs.WellParts.{AreDivisors, AreTargets}
 use Rattle.program_text.specs.Words.{is_plain_word}
 use Rattle.program_text.specs.Sums.{SumState, nth}
 use Rattle.program_text.specs.Programs.{ProgramState, outside, nothing_built, most_names, most_statements, sums_in_programs}
-use Rattle.program_text.proofs.SumKept.{Counts, Fit}
+use Rattle.program_text.proofs.SumKept.{AreDivisors, Counts, Fit}
 use Rattle.program_text.proofs.SaidWell.{all_nth}
 
 pub record Seen : Type 0 where
@@ -109,6 +108,11 @@ pub record Inside (p : ℕ) (sure : Bool) (c : Seen) : Type 0 where
   pub no_target : c.targets ≡ []
   pub numbers : c.free ≡ false
   pub equal : sure ≡ true → nth true 0 c.signs ≡ true
+
+-- none of them twice
+pub record AreTargets (n : ℕ) (is : List ℕ) : Type 0 where
+  pub within : All (λ i. i < n) is
+  pub distinct : AreDistinct is
 
 pub record Aims (n : ℕ) (is : List ℕ) : Type 0 where
   pub some : 0 < length is

@@ -17,7 +17,6 @@ use Rattle.poly_text.proofs.SumKept.{at_most, no_first, no_second}
 use Rattle.program_model.specs.Program.{Guard, Statement, Block, choose, assume, step, assert, branch, loop, empty, behind}
 use Rattle.program_model.specs.WellFormed.{IsComparison, IsAssignment, IsStep, IsGuarded, IsBlock}
 use Rattle.program_model.specs.Limits.{depth, depth_inside}
-use Rattle.program_text.specs.WellParts.{AreDivisors, AreTargets}
 use Rattle.program_text.specs.Words.{is_plain_word}
 use Rattle.program_text.specs.Lexemes as lexemes
 use Rattle.program_text.specs.Lexemes.{Lexeme, Placed}
@@ -27,9 +26,9 @@ use Rattle.program_text.specs.Sums as sums
 use Rattle.program_text.specs.Sums.{nth, place, comparison_in}
 use Rattle.program_text.specs.Programs.{ProgramContext, ProgramValue, ProgramState, outside, nothing_built, most_names, most_statements, declared_fault, target_fault, statement_fault, declare, aim, begin_value, end_value, end_statement, keep, expr_at, block_at, guard_at, with_value, with_set, with_unknown, with_test, with_claim, with_guard, with_empty, with_choice, with_loop, with_count, with_counter, set, until, one_more, counted}
 use Rattle.program_text.proofs.KindTests.{by_shape}
-use Rattle.program_text.proofs.SumKept.{place_named}
+use Rattle.program_text.proofs.SumKept.{AreDivisors, place_named}
 use Rattle.program_text.proofs.SaidWell.{all_nth, comparison_well, guard_well}
-use Rattle.program_text.proofs.HeldAtPlaces.{Seen, seen, total, IsGuard, OverNames, Kept, KeptIn, named, inside, listed, valuing, sided, valued, due, Begun, Inside, Aims, Room, Topped, Holds, put_behind, block_nth, blocks_behind, deep_step, deep_one, deep_two, counted_total, most, aims_push, no_targets}
+use Rattle.program_text.proofs.HeldAtPlaces.{Seen, seen, total, IsGuard, OverNames, Kept, KeptIn, named, inside, listed, valuing, sided, valued, due, Begun, Inside, AreTargets, Aims, Room, Topped, Holds, put_behind, block_nth, blocks_behind, deep_step, deep_one, deep_two, counted_total, most, aims_push, no_targets}
 
 -- ---- names
 plain_name : (x : Lexeme) → kinds.has same (a_name ∷ []) (kind_of x) ≡ true

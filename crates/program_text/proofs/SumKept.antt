@@ -1,4 +1,5 @@
 -- What a sum that is read uses, and how many sums and operators wait behind it.
+--   AreDivisors n ds        each divisor uses the n names and the inverses before it
 --   Stacked base P j xs     j of which P is true, and the base behind them
 --   all_stacked             where Q is true of the base and of all of which P is, it is true of all
 --   Fit a s                 in the state s as many sums as a says wait before the base, and at least as many offsets: each uses the names and the inverses of the divisors, each divisor the
@@ -29,7 +30,6 @@ use Rattle.program_text.specs.Lexemes.{Lexeme}
 use Rattle.program_text.specs.Kinds.{Kind, a_name, a_number, a_large, a_sign, same, kind_of, word_in}
 use Rattle.program_text.specs.NameFaults.{name_fault}
 use Rattle.program_text.specs.Sums.{SumContext, SumValue, SumState, SumRule, Rule, a_sum, a_factor, a_divisor, sum_language, rule_says, word_fault, divisor_fault, divisor_by, number_divisor, factor_divisor, place, minus_fault, depth_fault, push, note, one_of, two_of, divided_of, number_of, joint, factor, product, next_product, sum, divisor_token, operator, raising, shallower, parentheses, opposite, name_token, atom, times, over, joins, sign_of}
-use Rattle.program_text.specs.WellParts.{AreDivisors}
 use Rattle.program_text.proofs.KindTests.{by_shape}
 
 abbrev divisor_kinds : List Kind
@@ -64,6 +64,11 @@ divisible c lexemes.bad ks k i w d b t e = absurd (not_both _ k b)
 divisible c lexemes.the_end ks k i w d b t e = absurd (not_both _ k t)
 
 -- ---- what waits
+-- each divisor uses the names and the inverses before it
+abbrev pub AreDivisors : ℕ → List (Divisor (Expr ℕ)) → Type 0
+AreDivisors n ds = (i : ℕ) (d : Divisor (Expr ℕ)) → i < length ds
+    → Uses (λ k. k < n + i) (get_or ds i d).value
+
 abbrev pub Stacked : {A : Type 0} → List A → (A → Type 0) → ℕ → List A → Type 0
 Stacked base P zero xs = xs ≡ base
 Stacked base P (suc j) [] = ⊥

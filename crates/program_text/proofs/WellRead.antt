@@ -24,7 +24,6 @@ use Rattle.program_text.specs.Lexemes as lexemes
 use Rattle.program_text.specs.Lexemes.{Lexeme, tokens, is_end_of}
 use Rattle.program_text.specs.Doubles.{equal, differs, dots}
 use Rattle.program_text.specs.Kinds.{Kind, same, kind_of, word_in}
-use Rattle.program_text.specs.WellParts.{AreDivisors}
 use Rattle.program_text.specs.Words.{is_plain_word}
 use Rattle.program_text.specs.Sums as sums
 use Rattle.program_text.specs.Sums.{SumRule, SumState, a_sum, sum_language, product, next_product, is_differs, equal_signs, all_signs}
@@ -32,7 +31,7 @@ use Rattle.program_text.specs.Told.{told}
 use Rattle.program_text.specs.ProgramReader.{program_in, program_or_fault, text_of}
 use Rattle.program_text.specs.Programs.{ProgramContext, ProgramValue, ProgramState, ProgramRule, Rule, of_sums, more_values, a_statement, an_if, sums_in_programs, program_language, whole_program, program, the_end, nothing, no_sum, names, right_side, single, several, targets, values, comparison, assumption_of, assertion, block, statements, guard, while_loop, other_way, if_statement, bounds, for_loop, statement, another_value, more_if, only_target_fault, aim_only, begin_statement, statement_fault, begin_value, keep, most_names, most_statements}
 use Rattle.program_text.proofs.ProgramChecked.{programs_checked, program_whole}
-use Rattle.program_text.proofs.SumKept.{Stacked, all_stacked, Counts, SumCalled, Over, sum_rules, product_leads, more_leads}
+use Rattle.program_text.proofs.SumKept.{AreDivisors, Stacked, all_stacked, Counts, SumCalled, Over, sum_rules, product_leads, more_leads}
 use Rattle.program_text.specs.NextToken.{seen_lexeme}
 use Rattle.program_text.specs.CursorView.{rest}
 use Rattle.program_text.specs.declared.cursor.Cursor.{Cursor}

@@ -17,4 +17,3 @@ pub mod States
 pub mod Places
 pub mod GuardReads
 pub mod ProgramReader
-pub mod WellParts

@@ -141,7 +141,7 @@ fn inside(text: &[u8], from: usize) -> Option<Part>
 }
 
 /// Adds the parts of a part to those found, looking into so many pairs of parentheses at most.
-#[cycle(parts)]
+#[cycle(push_parts)]
 fn push_parts(
     alloc: Global,
     text: &[u8],
@@ -179,7 +179,7 @@ fn push_parts(
 }
 
 /// Adds the parts of each of these parts to those found.
-#[cycle(parts)]
+#[cycle(push_parts)]
 fn push_each(
     alloc: Global,
     text: &[u8],

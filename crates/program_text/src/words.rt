@@ -6,7 +6,7 @@ ghost use Rattle.std.specs.Str.{all_ascii_digits};
 ghost use Rattle.program_text.specs.Words as spec;
 ghost use Rattle.program_text.specs.WordsView.{seen_keyword};
 
-use loop_model::words;
+use loop_model::words as loop_words;
 
 /// A word that can't be a name.
 #[derive(Clone, Copy, PartialEq, Eq)]
@@ -62,7 +62,7 @@ pub fn keyword_of(word: &[u8]) -> Option<Keyword>
         Some(Keyword::Any)
     } else if is_unknown_word(word) {
         Some(Keyword::Unknown)
-    } else if words::keyword_of(word).is_some() {
+    } else if loop_words::keyword_of(word).is_some() {
         Some(Keyword::Loop)
     } else {
         None

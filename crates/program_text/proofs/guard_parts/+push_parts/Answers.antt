@@ -2,7 +2,7 @@ use Rattle.std.proofs.Common.{◌-◌, ◌++◌, ap, sym, ◌∙◌, append-nil,
 use Rattle.std.proofs.lemmas.List.Elements.{All-push}
 use Rattle.program_text.specs.Guards.{parts_within, by_inside, IsWithin}
 use Rattle.program_text.proofs.GuardLaws.{parts_none, parts_of_none, parts_of_each, parts_of_one, first_within}
-use Rattle.program_text.proofs.guard_parts.+parts.Goals as goal
+use Rattle.program_text.proofs.guard_parts.+push_parts.Goals as goal
 
 pub push_parts-returns-then-most-eq0 : goal.push_parts-returns-then-most-eq0
 push_parts-returns-then-most-eq0 t c = record {

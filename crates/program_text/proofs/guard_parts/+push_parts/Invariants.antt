@@ -1,7 +1,7 @@
 use Rattle.std.proofs.Common.{◌≡◌, ◌+◌, ◌*◌, ◌++◌, drop, length}
 use Rattle.std.specs.List.{All}
 use Rattle.program_text.specs.Guards.{in_each, parts_within, IsWithin}
-use Rattle.program_text.proofs.guard_parts.+parts.Given as goal
+use Rattle.program_text.proofs.guard_parts.+push_parts.Given as goal
 
 abbrev pub decreases-push_parts : goal.decreases-push_parts
 decreases-push_parts l = 2 * l.most
