@@ -11,20 +11,20 @@ loop-index-preserved c =
     let seen = c.loop-index.invariant in
     elim c.if-text-index-eq10.branch [
       | then-text-index-eq10 w ↦ record {
-        place = next_line c.args.text.now i l k (omega (
+        place = next_line c.args.text.now i l k (grind (
           arith,
           c.loop-index-test.true,
-          c.requires.within,
+          c.min-index-end.ensures,
         )) seen.place (w.if-text-index-eq10.true)
             ∙ sym (ap₂ (λ a b. (a, b)) w.line-is w.column-is);
         line = omega (arith, w.line-is, seen.line);
         column = omega (arith, w.column-is, seen.column);
       }
       | else-text-index-eq10 w ↦ record {
-        place = next_column c.args.text.now i l k (omega (
+        place = next_column c.args.text.now i l k (grind (
           arith,
           c.loop-index-test.true,
-          c.requires.within,
+          c.min-index-end.ensures,
         )) seen.place (w.if-text-index-eq10.false)
             ∙ sym (ap₂ (λ a b. (a, b)) w.line-is w.column-is);
         line = omega (arith, w.line-is, seen.line);
