@@ -5,3 +5,4 @@ pub mod SourceLaws
 pub mod Judgements
 pub mod Headlines
 pub mod Promises
+pub mod ProofWitnesses
