@@ -35,6 +35,13 @@ sides = {
 for name, side in sides.items():
     Path(f"{name}.loop").write_text(f"vars x, y; init x={side}; branch {{ y=-y; x={side}; }} branch {{ x=-x; y=-y; }}")
     Path(f"{name}.equation").write_text(f"x={side}")
+    Path(f"{name}.program").write_text(f"vars x, y; x = {side}; assert y = {side};")
+Path("nothing.json").write_text('{"kind":"program","lists":[[],[]],"steps":[[],[]],"vars":["x","y"],"version":1}')
+# blocks in one another, and 200 choices behind one another; the 255 that the language takes need up to 1 MB
+Path("blocks.program").write_text("vars x; " + "while * { " * 16 + "} " * 16)
+blocks = '"lists":[' + ",".join(["[]"] * 17) + '],"steps":[' + ",".join(["[]"] * 33) + "]"
+Path("blocks.json").write_text('{"kind":"program",' + blocks + ',"vars":["x"],"version":1}')
+Path("choices.program").write_text("vars x; " + "if x = 0 { } else " * 200 + "{ }")
 Path("same.loop").write_text("vars " + ", ".join(names) + "; branch { }")
 Path("deep.json").write_text('{"basis":' + "[" * 126 + "]" * 126 + "}")
 Path("too-deep.json").write_text("[" * 500_000)
@@ -68,7 +75,11 @@ for side in sum difference product quotient left right mixed; do
     mv answer "$side.json"
     row 0 check "$side.loop" "$side.json"
     row 0 run "$side.loop" 1,2,2 0,0
+    row 0 checkproof "$side.program" nothing.json
 done
+row 0 checkproof blocks.program blocks.json
+row 3 checkproof choices.program nothing.json
+row 3 checkproof blocks.program too-deep.json
 row 3 check same.loop deep.json
 row 3 check same.loop too-deep.json
 row 3 checkfull same.loop too-deep.json
