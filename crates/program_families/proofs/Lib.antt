@@ -8,3 +8,4 @@ mod Stopping
 mod Tasks
 mod Products
 mod Shown
+mod RestRows

@@ -6,3 +6,4 @@ pub mod Refusals
 pub mod Ends
 pub mod Lesser
 pub mod Shown
+pub mod RestRows
