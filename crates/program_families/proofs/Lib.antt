@@ -9,3 +9,4 @@ mod Tasks
 mod Products
 mod Shown
 mod RestRows
+mod Points

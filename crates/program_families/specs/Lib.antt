@@ -7,3 +7,4 @@ pub mod Ends
 pub mod Lesser
 pub mod Shown
 pub mod RestRows
+pub mod Moves
