@@ -8,3 +8,4 @@ pub mod Lesser
 pub mod Shown
 pub mod RestRows
 pub mod Moves
+pub mod Searches

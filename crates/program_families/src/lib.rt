@@ -4,9 +4,9 @@
 //! these rests the numbers that it has in them are a row. Also: transitions are followed from a state.
 //!
 //! Proved: the entries are those of the task, which ends as its machine does: with the images of all elements in the ideal of the list and
-//! the zeros, or with the reduced basis of this ideal and the rests of all monomials by it; a search goes on by such an end; `rows_of` gives a row for each monomial of the
-//! rests, in ascending order; `follow` gives the state to which the transition leads, or says that one of its zeros isn't 0 there; each
-//! refusal has its cause.
+//! the zeros, or with the reduced basis of this ideal and the rests of all monomials by it; a search goes on by such an end; `rows_of` gives
+//! a row for each monomial of the rests, in ascending order; `follow` gives the state to which the transition leads, or says that one of its
+//! zeros isn't 0 there; each refusal has its cause.
 //!
 //! Notion: inductive families.
 #![tactic(auto)]
