@@ -5,6 +5,7 @@ Usage: bench/faults.py        (after ./invar has built a program)
 
 Also compares the table of slips in docs/USING.md with that of tools/explain.py, and that what an answer is, goes through ./invar as it is.
 """
+import os
 import pathlib
 import subprocess
 import sys
@@ -121,6 +122,11 @@ LOOPS = [
      "vars x; branch { x = x +; }",
      "                        ^",
      GOES_ON),
+    # what a terminal would obey
+    ("vars x;\nbranch { x \x1b[31m= 1; }", "syntax at 19", "2:12", GOES_ON,
+     "branch { x \\x1b[31m= 1; }",
+     "           ^^^^",
+     GOES_ON),
     ("vars x;\nbranch {\n\tx = x^17;\n}", "limit at 24", "3:8", "this passes a limit",
      "\tx = x^17;",
      "\t      ^^",
@@ -136,6 +142,22 @@ EQUATIONS = [
     ("s = b^2", "unknown at 4", "1:5", "this name isn't declared", "s = b^2", "    ^", "an equation with another name: the loop's variables alone"),
 ]
 
+# of a program: its text, and of each part of a guard that is shown the line and column, the line, the mark below it and why it says nothing
+GUARDS = [
+    ("vars x, y;\nwhile x != y && x >= 1 {\n}\n", []),
+    ("vars x;\nif x == limit { x = 1; }\n",
+     [("2:4", "if x == limit { x = 1; }", "   ^^^^^^^^^^", "`limit` isn't declared")]),
+    ("vars x, y;\nif (x = 1 || y = 2) {\n}\n",
+     [("2:5", "if (x = 1 || y = 2) {", "    ^^^^^^^^^^^^^^", "a comparison inside of `||` says nothing: write an `if` for each case")]),
+    ("vars x, y;\nwhile (!(x = 1) && y != 2) { }\n",
+     [("2:8", "while (!(x = 1) && y != 2) { }", "       ^^^^^^^^", "a comparison inside of `!( )` says nothing: write `!=` for `=`")]),
+    ("vars x;\nif even(x) == 0 && x/x = 1 { }\n",
+     [("2:4", "if even(x) == 0 && x/x = 1 { }", "   ^^^^^^^^^^^^", "`even` isn't declared"),
+      ("2:20", "if even(x) == 0 && x/x = 1 { }", "                   ^^^^^^^", "a divisor is a number other than 0 here")]),
+    ("vars x; # if x = y {\nif x\n  = # a comment\n  z { }\n",
+     [("2:4", "if x", "   ^", "`z` isn't declared")]),
+]
+
 # words that are no command, and what is said of them; `usage` and `words` come from the program
 WORDS = [
     (["basis", "s.loop", "--budget", "5"], "an option stands before the file: invar basis --budget 5 s.loop"),
@@ -147,12 +169,19 @@ WORDS = [
     (["check", "s.loop"], "the words of this command: invar check LOOP CERT"),
     (["member"], "the words of this command: invar member [--budget N] LOOP EQUATION"),
     (["bassis", "s.loop"], "there is no command `bassis`; is it `basis`?"),
+    (["basis", "-dash.loop"], "-dash.loop is read as an option; the file is ./-dash.loop"),
 ]
 
 
 def call(*words, **how):
     made = subprocess.run([TOP / "invar", *words], capture_output=True, **how)
     return made.returncode, made.stdout.decode(), made.stderr.decode().replace(UNPROVED, "")
+
+
+def silent(folder, text):
+    """What is shown of the guards of a program."""
+    (folder / "row.prog").write_text(text)
+    return subprocess.run([TOP / "tools/guards.py", "row.prog"], capture_output=True, text=True, cwd=folder, check=True).stdout
 
 
 def shown(name, place, meaning, line, mark, advice):
@@ -170,6 +199,7 @@ def rows(room):
     for text, told, *rest in EQUATIONS:
         for words in (["member", "s.loop", text], ["counter", "--length", "2", "s.loop", text]):
             yield words, (3, f"equation: {told}\n", shown("EQUATION", *rest))
+    (room / "-dash.loop").touch()
     (room / "row.seqs").write_text("sequences f = (1);\nf = 2f;\n")
     meant = shown("row.seqs", "2:6", GOES_ON, "f = 2f;", "     ^", "for `2x`, `2(x+y)` write `2*x`, `2*(x+y)`")
     yield ["relations", "row.seqs"], (3, "sequences: syntax at 24\n", meant)
@@ -192,7 +222,21 @@ def main():
             if given != wanted:
                 differ += 1
                 print(f"{words}\n  gives {given}\n  not   {wanted}")
-        # standard input goes through: a pipe can be read once, so nothing is shown of it
+        for text, wanted in GUARDS:
+            count += 1
+            said = "".join(shown("row.prog", place, "this part of the guard says nothing", *rest) for place, *rest in wanted)
+            if (given := silent(room, text)) != said:
+                differ += 1
+                print(f"{text!r}\n  shows {given}\n  not   {said}")
+        # standard input goes through: a pipe can be read once, so nothing is shown of it; a file is shown
+        with open(room / "row.loop", "w") as row:
+            row.write("vars x; branch { x += 1; }")
+        with open(room / "row.loop") as row:
+            meant = shown("/dev/stdin", "1:20", GOES_ON, "vars x; branch { x += 1; }", "                   ^^", LOOPS[0][-1])
+            differ += call("basis", "/dev/stdin", stdin=row) != (3, "loop: syntax at 19\n", meant)
+        # nor has a locale of few signs a part in it
+        narrow = call("basis", "row.loop", cwd=room, env={**os.environ, "PYTHONIOENCODING": "ascii"})
+        differ += narrow[:2] != (3, "loop: syntax at 19\n") or "Traceback" in narrow[2]
         text = "vars x; branch { x += 1; }"
         given, wanted = call("basis", "/dev/stdin", input=text.encode()), (3, "loop: syntax at 19\n", "")
         differ += given != wanted

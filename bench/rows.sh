@@ -33,7 +33,7 @@ head -c 50 fractions.json >cut.json
 head -c 65537 /dev/zero | tr '\0' ' ' >long.loop
 head -c 1048577 /dev/zero | tr '\0' ' ' >long.json
 head -c 1048576 /dev/zero | tr '\0' ' ' >spaces.json
-usage='usage: invar basis [--budget N] [--degree D] LOOP | member [--budget N] LOOP EQUATION | cert [--budget N] [--degree D] LOOP | check LOOP CERT | run LOOP WORD VALUES | gen NUMBER | chain [--budget N] CHAIN | chainrun CHAIN WORDS VALUES | counter [--length N] LOOP EQUATION | full [--budget N] LOOP | checkfull LOOP CERT | relations [--budget N] FILE | decide [--budget N] LOOP EQUATION | prove [--budget N] LOOP EQUATION; invar --help says more'
+usage='usage: invar basis [--budget N] [--degree D] LOOP | member [--budget N] LOOP EQUATION | cert [--budget N] [--degree D] LOOP | check LOOP CERT | run LOOP WORD VALUES | gen NUMBER | chain [--budget N] CHAIN | chainrun CHAIN WORDS VALUES | counter [--length N] LOOP EQUATION | full [--budget N] LOOP | checkfull LOOP CERT | relations [--budget N] FILE | decide [--budget N] LOOP EQUATION | prove [--budget N] LOOP EQUATION | checkproof PROGRAM CERT; invar --help says more'
 failed=0
 row() {
     want_status=$1 want_text=$2

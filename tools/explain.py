@@ -9,14 +9,16 @@ Usage: tools/explain.py PROGRAM WORD..     the fault that the program tells of t
 """
 import dataclasses
 import difflib
+import os
 import re
 import subprocess
 import sys
 
 OPTIONS = {"--budget": range(1, 1_000_001), "--degree": range(1, 17), "--length": range(7)}
-TOLD = re.compile(r"(?:loop \d+: )?(loop|equation|sequences): (\w+(?: \w+)*) at (\d+)\n", re.A)
+TOLD = re.compile(r"(?:loop \d+: )?(loop|equation|sequences|program): (\w+(?: \w+)*) at (\d+)\n", re.A)
 TOKEN = re.compile(r"[A-Za-z]\w*|\d+\.\d+|\d+|[-+*/]=|\+\+|--|\*\*|//|/\*|:=|[=<>!]=|&&|\|\||.", re.A | re.S)
 SECONDS, WIDTH = 5, 100
+CONTROL = re.compile(r"[\x00-\x08\x0a-\x1f\x7f-\x9f]")
 
 # what a fault means, where it is no slip of the table
 MEANINGS = {
@@ -40,7 +42,7 @@ class Slip:
     at: str
     behind: str = ""
     reasons: tuple = ("syntax",)
-    kinds: tuple = ("loop", "equation", "sequences")
+    kinds: tuple = ("loop", "equation", "sequences", "program")
 
     def fits(self, kind, reason, before, after):
         return (
@@ -51,37 +53,51 @@ class Slip:
         )
 
 
-STATED = ("loop", "sequences")
+STATED = ("loop", "sequences", "program")
 LOOP = ("loop",)
+PROGRAM = ("program",)
+TEXTS = ("loop", "program")
 ASKED = ("equation",)
 SLIPS = [
     Slip("a byte order mark before the text", "save the file as UTF-8 without one", "\ufeff"),
     Slip("`x += 1`, `x -= y`", "`x = x + 1;`, `x = x - y;`", r"[-+*/]=", kinds=STATED),
     Slip("`x++`", "`x = x + 1;`", r"\+\+|--", r"\w\s*", kinds=STATED),
     Slip("`x := e`", "`x = e;`", ":="),
-    Slip("`s == e`", "`s = e`, with one `=`", "=", "="),
+    Slip("`s == e`", "`s = e`, with one `=`", "=", "=", kinds=("loop", "equation", "sequences")),
     Slip("`x**2`", "`x^2`", r"\*", r"\*"),
     Slip("`0.5`", "`1/2`: numbers are whole, and a fraction is a division by a number", r"\.", r"\d"),
     Slip("`2x`, `2(x+y)`", "`2*x`, `2*(x+y)`", r"[A-Za-z(]", r"(?<!\w)\d+\s*"),
     Slip("`x // 2`", "`x/2`, which is exact", "/", r"/"),
     Slip("`// text`, `/* text */`", "`# text`, up to the end of the line", r"//|/\*", kinds=STATED),
-    Slip("`x % 2`", "a branch for each remainder: there is no remainder in an expression, a guard may have it", "%"),
+    Slip("`x % 2`", "a branch for each remainder: there is no remainder in an expression, a guard may have it", "%", kinds=("loop", "equation", "sequences")),
+    Slip("`x == e;`", "`x = e;`", "==", kinds=PROGRAM),
+    Slip("`r = n % d`", "`r = any; q = (n - r)/d;`, with the quotient as a variable", "%", kinds=PROGRAM),
     Slip("`s >= 0`, `s != 0`", "an equation, with one `=`: nothing else can be asked", "[<>!≤≥≠]", kinds=ASKED),
     Slip("`s - a^2` as an equation", "`s - a^2 = 0`", r"\Z", r"\A[^=]*", kinds=ASKED),
-    Slip("`vars x y`", "`vars x, y;`", r"[A-Za-z]", r"(?:vars|locals)\b[^;{]*\w\s+", kinds=LOOP),
+    Slip("`vars x y`", "`vars x, y;`", r"[A-Za-z]", r"(?:vars|locals)\b[^;{]*\w\s+", kinds=TEXTS),
     Slip("a second `init`", "one `init` for all: `init x=0, y=1;`", r"init\b", r"\binit\b.*", kinds=LOOP),
     Slip("`locals` elsewhere", "`locals t;` directly behind the `;` of `vars`", r"locals\b", kinds=LOOP),
-    Slip("`x, y = y, x`", "`(x, y) = (y, x);`", ",", r"[{;]\s*[A-Za-z]\w*\s*", kinds=LOOP),
+    Slip("`x, y = y, x`", "`(x, y) = (y, x);`", ",", r"[{};]\s*[A-Za-z]\w*\s*", kinds=TEXTS),
     Slip("`if`, `while`, `for`", "a branch for each case, `branch when x > 0 { .. }`: guards are for people, and are ignored",
          r"(?:if|else|while|for|do)\b", reasons=("syntax", "unknown"), kinds=LOOP),
     Slip("`x = e` without `;`", "`x = e;`", r"[A-Za-z}]", r"=[^;{}]*[\w)]\s*", kinds=STATED),
+    Slip("`if g s;` without braces", "`if g { s; }`: what is between the word and the brace is the guard", ";", r"\b(?:if|while)\b[^{};]*", kinds=PROGRAM),
+    Slip("`break`, `continue`, `return`", "a variable that the guard tests: `while i < n && done = 0 { .. }`", r"(?:break|continue|return)\b",
+         reasons=("syntax", "unknown"), kinds=PROGRAM),
+    Slip("`do { .. } while g`", "its body once before the loop, or a loop that a variable ends", r"do\b", reasons=("syntax", "unknown"), kinds=PROGRAM),
+    Slip("`int x = 0;`", "`vars x;` first, and `x = 0;`", r"(?:int|long|unsigned|float|double|var|let)\b", reasons=("syntax", "unknown"), kinds=PROGRAM),
+    Slip("`init`, `branch`, `when`", "`x = 0;` behind `vars x;`, and `while`, `if` in place of branches", r"(?:init|branch|when)\b", kinds=PROGRAM),
     Slip("a text that doesn't begin with `vars`", "`vars x, y;` first, then `init ..;`, then the branches", r".", r"\A(?:\s|#[^\n]*\n)*", kinds=LOOP),
+    Slip("a program that doesn't begin with `vars`", "`vars x, y;` first, then the statements", r".", r"\A(?:\s|#[^\n]*\n)*", kinds=PROGRAM),
     Slip("a name that isn't declared", "its name behind `vars`; or, where each branch sets it before it uses it, behind `locals`", "", reasons=("unknown",),
          kinds=LOOP),
+    Slip("a name in a program that isn't declared", "its name behind `vars`", "", reasons=("unknown",), kinds=PROGRAM),
+    Slip("`assert x/y = z`", "`assert x = y*z;`, or `q = x/y;` before it: only an assignment divides by more than a number", r"[A-Za-z(-]",
+         reasons=("divisor",), kinds=PROGRAM),
     Slip("an equation with another name", "the loop's variables alone", "", reasons=("unknown",), kinds=ASKED),
     Slip("`init x=0, y=x`", "`init x=0, y=0`, what the name is set to", "", reasons=("init uses",), kinds=LOOP),
     Slip("`x = t;` before `t = e;`", "`t = e;` first in this branch; or t behind `vars`", "", reasons=("unset",), kinds=LOOP),
-    Slip("`1/x`, `x/y`", "a loop without it: a divisor is a number", r"[A-Za-z(-]", reasons=("divisor",)),
+    Slip("`1/x`, `x/y`", "a loop without it: a divisor is a number", r"[A-Za-z(-]", reasons=("divisor",), kinds=("loop", "equation", "sequences")),
 ]
 
 
@@ -108,15 +124,26 @@ def shown(name, text, offset, kind, reason):
     said = advice(kind, reason, before, after)
     if not after:
         before = before.rstrip() or before
-    head, line = before.count("\n") + 1, before.rpartition("\n")[2]
     token = TOKEN.match(after)[0] if after and after[0] != "\n" else " "
+    return marked(name, before, after, len(token), MEANINGS.get(reason, reason), said)
+
+
+def marked(name, before, after, width, meaning, said):
+    """The lines that show what stands between these two texts' border and so many signs behind it."""
+    head, line = before.count("\n") + 1, before.rpartition("\n")[2]
     rest = after.partition("\n")[0] if after else ""
     column = len(line) + 1
     # a window of a long line
     start = max(0, len(line) - WIDTH // 2)
-    window = (line[start:] + rest)[:WIDTH].rstrip("\r")
-    mark = "".join("\t" if sign == "\t" else " " for sign in line[start:]) + "^" * max(1, min(len(token), WIDTH - len(line) + start))
-    return f"{name}:{head}:{column}: {MEANINGS.get(reason, reason)}\n    {window}\n    {mark}\n    {said}\n"
+    window = visible((line[start:] + rest)[:WIDTH].rstrip("\r"))
+    shift = "".join("\t" if sign == "\t" else " " for sign in visible(line[start:]))
+    mark = "^" * max(1, len(visible(rest[: min(width, WIDTH - len(line) + start)])))
+    return f"{visible(name)}:{head}:{column}: {meaning}\n    {window}\n    {shift}{mark}\n    {said}\n"
+
+
+def visible(text):
+    """The text with what a terminal would obey, or a locale can't have, in its place: `\\x1b`."""
+    return CONTROL.sub(lambda found: f"\\x{ord(found[0]):02x}", text)
 
 
 def file_and_equation(words):
@@ -149,12 +176,15 @@ def of_words(words, usage):
                 return f"{word} takes a number, {numbers[0]} to {numbers[-1]}"
     if "-" in words[1:]:
         return "`-` is no file; standard input is /dev/stdin"
+    for word in words[1:]:
+        if word.startswith("-") and word not in OPTIONS and os.path.exists(word):
+            return f"{visible(word)} is read as an option; the file is ./{visible(word)}"
     return f"the words of this command: invar {commands[command]}"
 
 
 def answer(program, words):
     """What the program answers, with its status."""
-    made = subprocess.run([program, *words], stdin=subprocess.DEVNULL, capture_output=True, timeout=SECONDS, errors="surrogateescape")
+    made = subprocess.run([program, *words], capture_output=True, timeout=SECONDS, errors="surrogateescape")
     return made.returncode, made.stdout
 
 
@@ -175,6 +205,7 @@ def explanation(program, words):
 
 
 def main(words):
+    sys.stdout.reconfigure(errors="backslashreplace")
     if not words:
         print(table())
     else:

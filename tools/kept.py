@@ -136,11 +136,11 @@ def unproved(program):
 
 
 @contextlib.contextmanager
-def alone(program, wait):
-    """Holds the lock of a program's folder, so that one call at a time builds. Says so by `wait` where another one has it."""
+def alone(program, work, wait):
+    """Holds the lock of a program's folder for this work, so that one call at a time does it. Says so by `wait` where another one has it."""
     folder = f"{TOP}/crates/{program}/out"
     os.makedirs(folder, exist_ok=True)
-    with open(f"{folder}/building.lock", "w") as lock:
+    with open(f"{folder}/{work}.lock", "w") as lock:
         try:
             fcntl.flock(lock, fcntl.LOCK_EX | fcntl.LOCK_NB)
         except OSError:

@@ -47,7 +47,7 @@ TOP = Path(__file__).resolve().parent.parent
 CRATES = TOP / "crates.txt"
 COLUMNS, LINES, EDITS, FEW_IMPORTS = 100, 600, 60, 3
 # how many links the crates may have
-MOST_LINKS = 40
+MOST_LINKS = 44
 # an import in a file of definitions or proofs, and in one of code
 THEORY_IMPORT = re.compile(r"^\s*use (Rattle\.[^;\n{]*)\.\{([^}]*)\}", re.M)
 CODE_IMPORT = re.compile(r"^\s*ghost use (Rattle\.[^;\n{]*)\.\{([^}]*)\};", re.M)

@@ -6,7 +6,8 @@ Usage: tools/program.py build        builds one of which nothing is proved, if n
        tools/program.py prove        proves the program and builds it, if need be
        tools/program.py try WORD..   answers by `rt try`, which keeps nothing
 
-One call at a time builds; others wait for it. What is built is put at its place in one step, so nothing is half there after an interrupt.
+One call at a time builds, and one proves; others wait where no program stands, and none waits for a proof. What is built is put at its place in one
+step, so nothing is half there after an interrupt.
 """
 import os
 import re
@@ -31,15 +32,19 @@ def wait():
     say("another call is building; this one waits for it")
 
 
+def standing():
+    """The program that is to answer, where one stands for the sources as they are."""
+    return next((program for program in (kept.proved(PROGRAM), kept.unproved(PROGRAM)) if program.stands()), None)
+
+
 def build():
-    proved, plain = kept.proved(PROGRAM), kept.unproved(PROGRAM)
-    with kept.alone(PROGRAM, wait):
-        if proved.stands():
-            print(proved.path)
-        elif plain.stands():
-            print(plain.path)
-        else:
-            return make(plain)
+    stands = standing()
+    if not stands:
+        with kept.alone(PROGRAM, "building", wait):
+            stands = standing()
+            if not stands:
+                return make(kept.unproved(PROGRAM))
+    print(stands.path)
     return 0
 
 
@@ -84,7 +89,7 @@ def main(word, *words):
     kept.end_when_told()
     if word == "build":
         return build()
-    with kept.alone(PROGRAM, wait):
+    with kept.alone(PROGRAM, "proving", prove.wait):
         if kept.proved(PROGRAM).stands():
             say(f"{PROGRAM} is proved and built")
             return 0

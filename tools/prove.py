@@ -204,6 +204,10 @@ def libraries(program, order, copies, progress):
             raise
 
 
+def wait():
+    print("invar: another call proves; this one waits for it", file=sys.stderr)
+
+
 def prove(program):
     """Proves and builds a program, for whoever holds the lock: whether that failed."""
     order = crates_below(program)
@@ -231,7 +235,7 @@ def prove(program):
 
 def main(program):
     kept.end_when_told()
-    with kept.alone(program, lambda: print("invar: another call is building; this one waits for it", file=sys.stderr)):
+    with kept.alone(program, "proving", wait):
         return prove(program)
 
 

@@ -6,12 +6,10 @@ use Rattle.algebra.specs.Fraction.{Fraction}
 use Rattle.polynomials.specs.Terms.{Terms}
 use Rattle.loops.specs.Program.{Expr, Program}
 use Rattle.loops.specs.Map.{start_map, branch_map}
-use Rattle.loops.specs.Certificate.{Certificate}
+use Rattle.loops.specs.Certificate.{Certificate, Verdict, valid, start_fails, step_fails}
 use Rattle.expansion.specs.Counts.{most_terms}
 use Rattle.cert_checker.specs.Long.{start_terms, step_terms, total}
 use Rattle.cert_checker.specs.Wide.{IsMapOf}
-use Rattle.cert_checker.specs.declared.Verdict.{Verdict}
-use Rattle.cert_checker.specs.declared.Verdict.TheVariants.{Valid, StartFails, StepFails}
 
 module _ (program : Program (Expr ℕ)) (c : Certificate) where
   pub record ShortStart : Type 0 where
@@ -26,6 +24,6 @@ module _ (program : Program (Expr ℕ)) (c : Certificate) where
     pub few : total (step_terms c.basis images (get_or c.steps b [])) (length c.basis) ≤ most_terms
 
   abbrev pub AreShort : Verdict → Type 0
-  AreShort Valid = ShortStart × ((b : ℕ) → b < length program.branches → ShortStep b)
-  AreShort (StartFails i) = ShortStart
-  AreShort (StepFails branch i) = ShortStart × ((b : ℕ) → b ≤ branch → ShortStep b)
+  AreShort valid = ShortStart × ((b : ℕ) → b < length program.branches → ShortStep b)
+  AreShort (start_fails i) = ShortStart
+  AreShort (step_fails branch i) = ShortStart × ((b : ℕ) → b ≤ branch → ShortStep b)

@@ -75,7 +75,8 @@ pub fn check(alloc: Global, lp: &Loop, cert: &Cert) -> Result<Verdict, CheckErro
     ensures valid { let c = cert.now.certificate in IfOk result (λ v. v ≡ Verdict.Valid →
         (i : ℕ) → i < length c.basis → Inv (program_of lp.now) (element c i)) }
     ensures free { IfOk result (λ v. AreFree (program_of lp.now)) }
-    ensures short { IfOk result (AreShort (program_of lp.now) cert.now.certificate) }
+    ensures short { IfOk result (λ v. AreShort (program_of lp.now) cert.now.certificate
+        (verdict_of v)) }
     ensures refused { IfErr result (IfCheckRefused (program_of lp.now) cert.now.certificate) }
 {
     let maps = maps_of(alloc, lp)?;
@@ -99,8 +100,8 @@ pub(crate) fn judge(
     ensures valid { let c = certificate_of basis.now steps.now in IfOk result (λ v.
         v ≡ Verdict.Valid → (i : ℕ) → i < length c.basis
         → Inv (program_of lp.now) (element c i)) }
-    ensures short { IfOk result (AreShort (program_of lp.now)
-        (certificate_of basis.now steps.now)) }
+    ensures short { IfOk result (λ v. AreShort (program_of lp.now)
+        (certificate_of basis.now steps.now) (verdict_of v)) }
     ensures refused { IfErr result (IfCheckRefused (program_of lp.now)
         (certificate_of basis.now steps.now)) }
 {

@@ -3,7 +3,7 @@
 --   checks       the clauses
 use Rattle.std.proofs.Common.{◌≡◌, ◌≢◌, ℕ, List, length, refl, sym, ap, subst, ◌∙◌, Ok, inl, inr}
 use Rattle.std.specs.Prelude.{◌⊎◌, codes}
-use Rattle.loops.specs.Certificate.{Certificate, Verdict, valid, start_fails, step_fails, IsValid, IsVerdict, IsOver}
+use Rattle.loops.specs.Certificate.{Certificate, Verdict, valid, start_fails, step_fails, IsValid, IsVerdict, IsOver, SameCertificate}
 use Rattle.loops.proofs.Certificates.{certificate_lists_invariants}
 use Rattle.loops.proofs.SameVerdict.{same_verdict}
 use Rattle.loops.proofs.Verdicts.{verdict_unique}
@@ -12,6 +12,7 @@ use Rattle.poly_text.specs.Reasons.{limit, wide}
 use Rattle.loop_model.specs.Operations.{IsLimit}
 use Rattle.loop_model.specs.Maps.{maps_operations, AreFree}
 use Rattle.cert_form.specs.Form.{cert_in}
+use Rattle.cert_form.specs.Cert.{IsComplete}
 use Rattle.cert_form.proofs.Over.{certificate_over}
 use Rattle.io_edge.specs.declared.answer.Status.TheVariants as status
 use Rattle.io_edge.specs.Texts.{Answer}
@@ -25,12 +26,13 @@ use Rattle.command_parts.specs.FaultTexts.{loop_refusal}
 use Rattle.command_parts.proofs.LoopCourses.{loop_refuses}
 use Rattle.command_parts.proofs.MapLimits.{limit_same, not_free}
 use Rattle.cert_checker.specs.Places.{Place}
+use Rattle.cert_checker.specs.Short.{AreShort}
 use Rattle.cert_checker.specs.Wide.{LongIdentity}
 use Rattle.certificate_commands.specs.CheckTexts.{Judgement, verdict, map_limit, map_wide, limit_identity, wide_identity, judgement_answer}
 use Rattle.certificate_commands.specs.CertificateAsking.{IsQuestion}
 use Rattle.certificate_commands.proofs.Asked as asked
 use Rattle.certificate_commands.proofs.Asked.{Checker, FreelyDecides}
-use Rattle.certificate_commands.specs.CheckJudging.{IsJudgement, IsShort, Judges, certificate_in}
+use Rattle.certificate_commands.specs.CheckJudging.{IsJudgement, IsShort, FitsLimit, Judges, certificate_in}
 use Rattle.certificate_commands.specs.CertificateArguments.{Request}
 use Rattle.certificate_commands.specs.CheckArguments.{most_certificate_bytes}
 use Rattle.certificate_commands.specs.CheckCourse.{course}
@@ -54,9 +56,10 @@ judges_plain l listed a h = subst IsPlain (sym (status_of h.says)) (by_judgement
 -- ---- verdicts of a judgement
 record Verdicts (l : Program (Expr ℕ)) (listed : Certificate) (a : Answer) : Type 0 where
   yes_is : a.status ≡ status.Yes → IsValid l listed × (a.text ≡ codes "valid\n")
+      × FitsLimit l listed valid
   no_is : a.status ≡ status.No
       → (v : Verdict) × IsVerdict l listed
-      v × (v ≢ valid) × (a.text ≡ (judgement_answer (verdict v)).text)
+      v × (v ≢ valid) × (a.text ≡ (judgement_answer (verdict v)).text) × FitsLimit l listed v
 
 -- the judgement is none
 stopped : (l : Program (Expr ℕ)) (listed : Certificate) (a : Answer) → IsRefusing a.status
@@ -64,26 +67,31 @@ stopped : (l : Program (Expr ℕ)) (listed : Certificate) (a : Answer) → IsRef
 stopped l listed a r =
     record { yes_is = λ h. absurd (r.yes_not h); no_is = λ h. absurd (r.no_not h) }
 
-module _ (l : Program (Expr ℕ)) (kept listed : Certificate) (a : Answer) (same : (v : Verdict)
-    → IsVerdict l kept v → IsVerdict l listed v) where
-  failing : (v : Verdict) → v ≢ valid → IsVerdict l kept v → a ≡ judgement_answer (verdict v)
-      → a.status ≢ status.Yes → Verdicts l listed a
-  failing v fails is says not = record {
+module _ (l : Program (Expr ℕ)) (kept listed : Certificate) (a : Answer)
+    (complete : IsComplete (length l.names) (length l.branches) kept)
+    (equal : SameCertificate kept listed)
+    (same : (v : Verdict) → IsVerdict l kept v → IsVerdict l listed v) where
+  fits : (v : Verdict) → AreShort l kept v → FitsLimit l listed v
+  fits v short = record { kept = kept; complete = complete; same = equal; short = short }
+
+  failing : (v : Verdict) → v ≢ valid → IsVerdict l kept v → AreShort l kept v
+      → a ≡ judgement_answer (verdict v) → a.status ≢ status.Yes → Verdicts l listed a
+  failing v fails is short says not = record {
     yes_is = λ h. absurd (not h);
-    no_is = λ h. (v, same v is, fails, text_of says);
+    no_is = λ h. (v, same v is, fails, text_of says, fits v short);
   }
 
   by_judgement : (j : Judgement) → IsJudgement l kept j → a ≡ judgement_answer j
       → Verdicts l listed a
   by_judgement (verdict valid) is says = record {
-    yes_is = λ h. (same valid is.1, text_of says);
+    yes_is = λ h. (same valid is.1, text_of says, fits valid is.2);
     no_is = λ h. absurd (let x : status.Yes ≡ status.No = sym (status_of says) ∙ h in cc);
   }
   by_judgement (verdict (start_fails i)) is says =
-      failing (start_fails i) (λ h. (cc)) is.1 says
+      failing (start_fails i) (λ h. (cc)) is.1 is.2 says
       (λ h. (let x : status.No ≡ status.Yes = sym (status_of says) ∙ h in cc))
   by_judgement (verdict (step_fails b i)) is says =
-      failing (step_fails b i) (λ h. (cc)) is.1 says
+      failing (step_fails b i) (λ h. (cc)) is.1 is.2 says
       (λ h. (let x : status.No ≡ status.Yes = sym (status_of says) ∙ h in cc))
   by_judgement (map_limit at) is says =
       stopped l listed a (loop_refuses (record { reason = limit; at = at }) a says)
@@ -100,7 +108,7 @@ verdicts : (l : Program (Expr ℕ)) (certificate : List ℕ) (listed : Certifica
 verdicts l certificate listed a is judges =
     let over : IsOver l listed =
     certificate_over l.names (length l.branches) certificate listed is in
-    by_judgement l judges.kept listed a
+    by_judgement l judges.kept listed a judges.complete judges.same
     (λ v. same_verdict l judges.kept listed v judges.over over judges.same) judges.judgement
     judges.is judges.says
 
@@ -122,6 +130,7 @@ module _ (text certificate : List ℕ) (l : Program (Expr ℕ)) (listed : Certif
         listed = listed;
         question = question;
         identities = holds.0;
+        short = holds.2;
         invariants = certificate_lists_invariants l listed over holds.0;
       }
 
@@ -136,6 +145,7 @@ module _ (text certificate : List ℕ) (l : Program (Expr ℕ)) (listed : Certif
         is = fails.1;
         fails = fails.2;
         says = fails.3;
+        short = fails.4;
       }
 
 -- ---- limits of the maps

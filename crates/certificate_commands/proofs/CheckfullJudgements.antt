@@ -20,7 +20,7 @@ use Rattle.io_edge.specs.Texts.{Answer}
 use Rattle.certificate_commands.specs.CertificateAsking.{AnswersCertificate}
 use Rattle.certificate_commands.specs.CheckfullTexts.{Judgement, complete, fails, map_limit, map_wide, limit_part, wide_part, judgement_answer}
 use Rattle.certificate_commands.specs.CheckfullViews.{judgement_in, judgement_of}
-use Rattle.certificate_commands.specs.CheckfullJudging.{IsJudgement, Judges}
+use Rattle.certificate_commands.specs.CheckfullJudging.{FitsLimit, IsJudgement, Judges}
 
 -- the bytes of CERT were read as this full certificate of the loop
 module _ (l : Program (Expr ℕ)) (bytes : List ℕ) (c : FullCertificate) (a : Answer)
@@ -31,12 +31,12 @@ module _ (l : Program (Expr ℕ)) (bytes : List ℕ) (c : FullCertificate) (a : 
       (record { judgement = j; is = is; says = says })
 
   pub verdict_said : (v : FullVerdict) → AreFree l → IsVerdictOf l c v
-      → (v ≡ Complete → Generates (length l.names) c.basis (Inv l))
+      → (v ≡ Complete → Generates (length l.names) c.basis (Inv l)) → FitsLimit l c
       → a ≡ judgement_answer (judgement_in v) → AnswersCertificate Judges l (full_in l bytes) a
-  verdict_said Complete free is generates says =
-      judged_said complete (free, is, generates refl) says
-  verdict_said (Fails path) free is generates says =
-      judged_said (fails (string_bytes path)) (free, is) says
+  verdict_said Complete free is generates fits says =
+      judged_said complete (free, is, generates refl, fits) says
+  verdict_said (Fails path) free is generates fits says =
+      judged_said (fails (string_bytes path)) (free, is, fits) says
 
   pub refused_said : (e : FullError) → IfFullCheckRefused l c e
       → option_map judgement_answer (judgement_of e) ≡ Some a

@@ -30,7 +30,7 @@ use Rattle.certificate_commands.specs.CertificateAsking.{IsQuestion}
 use Rattle.certificate_commands.proofs.Asked as asked
 use Rattle.certificate_commands.proofs.Asked.{Checker, FreelyDecides}
 use Rattle.certificate_commands.specs.CheckfullTexts.{Judgement, complete, fails, map_limit, map_wide, limit_part, wide_part, judgement_answer}
-use Rattle.certificate_commands.specs.CheckfullJudging.{FailsFirst, IsJudgement, IsShort, Judges}
+use Rattle.certificate_commands.specs.CheckfullJudging.{FailsFirst, FitsLimit, IsJudgement, IsShort, Judges}
 use Rattle.certificate_commands.specs.CheckfullArguments.{most_certificate_bytes}
 use Rattle.certificate_commands.specs.CheckfullCourse.{course}
 use Rattle.certificate_commands.specs.CheckfullClauses.{IsRefuted, ChecksFull}
@@ -52,9 +52,9 @@ judges_plain l c a h = subst IsPlain (sym (status_of h.says)) (by_judgement_plai
 -- ---- verdicts of a judgement
 record Verdicts (l : Program (Expr ℕ)) (c : FullCertificate) (a : Answer) : Type 0 where
   yes_is : a.status ≡ status.Yes → AllHold l c × Generates (length l.names) c.basis (Inv l)
-      × (a.text ≡ codes "complete\n")
+      × (a.text ≡ codes "complete\n") × FitsLimit l c
   no_is : a.status ≡ status.No → (path : List ℕ) × FailsFirst l c path
-      × (a.text ≡ (judgement_answer (fails path)).text)
+      × (a.text ≡ (judgement_answer (fails path)).text) × FitsLimit l c
 
 -- the judgement is none
 stopped : (l : Program (Expr ℕ)) (c : FullCertificate) (a : Answer) → IsRefusing a.status
@@ -64,12 +64,12 @@ stopped l c a r = record { yes_is = λ h. absurd (r.yes_not h); no_is = λ h. ab
 by_judgement : (l : Program (Expr ℕ)) (c : FullCertificate) (a : Answer) (j : Judgement)
     → IsJudgement l c j → a ≡ judgement_answer j → Verdicts l c a
 by_judgement l c a complete is says = record {
-  yes_is = λ h. (is.1, is.2, text_of says);
+  yes_is = λ h. (is.1, is.2, text_of says, is.3);
   no_is = λ h. absurd (let x : status.Yes ≡ status.No = sym (status_of says) ∙ h in cc);
 }
 by_judgement l c a (fails path) is says = record {
   yes_is = λ h. absurd (let x : status.No ≡ status.Yes = sym (status_of says) ∙ h in cc);
-  no_is = λ h. (path, is.1, text_of says);
+  no_is = λ h. (path, is.1, text_of says, is.2);
 }
 by_judgement l c a (map_limit at) is says =
     stopped l c a (loop_refuses (record { reason = limit; at = at }) a says)
@@ -96,6 +96,7 @@ module _ (text certificate : List ℕ) (l : Program (Expr ℕ)) (c : FullCertifi
         question = question;
         holds = holds.0;
         generates = holds.1;
+        short = holds.3;
       }
 
   refuted_at : a.status ≡ status.No → IsRefuted text certificate a.text
@@ -108,6 +109,7 @@ module _ (text certificate : List ℕ) (l : Program (Expr ℕ)) (c : FullCertifi
         path = first.0;
         first = first.1;
         says = first.2;
+        short = first.3;
       }
 
 -- ---- limits of the maps

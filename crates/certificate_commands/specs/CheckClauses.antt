@@ -1,5 +1,5 @@
 -- What `check` promises.
---   IsRefuted text certificate said      they are a loop and a certificate of it, and what is said is the first identity that fails
+--   IsRefuted text certificate said      they are a loop and a certificate of it, and what is said is the first identity that fails; none up to it is too long
 --   Checks request call                    the clauses
 use Rattle.std.specs.Prelude.{◌≡◌, ◌≢◌, ℕ, List, length, Ok, Err}
 use Rattle.loops.specs.Certificate.{Certificate, Verdict, valid, IsValid, IsVerdict}
@@ -17,7 +17,7 @@ use Rattle.certificate_commands.specs.CertificateTexts.{certificate_refusal}
 use Rattle.certificate_commands.specs.CheckTexts.{verdict, judgement_answer}
 use Rattle.certificate_commands.specs.CertificateArguments.{Request}
 use Rattle.certificate_commands.specs.CertificateAsking.{IsQuestion, Refuses, ReadsCertificate, Decides}
-use Rattle.certificate_commands.specs.CheckJudging.{Judges, IsShort, certificate_in}
+use Rattle.certificate_commands.specs.CheckJudging.{Judges, FitsLimit, IsShort, certificate_in}
 use Rattle.certificate_commands.specs.CheckArguments.{certificate_at}
 use Rattle.certificate_commands.specs.CheckHeadline.{ShowsValid}
 
@@ -28,6 +28,7 @@ pub record IsRefuted (text certificate said : List ℕ) : Type 0 where
   pub first : Verdict
   pub is : IsVerdict loop listed first
   pub fails : first ≢ valid
+  pub short : FitsLimit loop listed first
   pub says : said ≡ (judgement_answer (verdict first)).text
 
 pub record Checks (request : Request) (call : Call) : Type 0 where

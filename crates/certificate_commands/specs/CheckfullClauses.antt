@@ -1,5 +1,5 @@
 -- What `checkfull` promises.
---   IsRefuted text certificate said      they are a loop and a full certificate of it, and what is said is the path of the first part that doesn't hold
+--   IsRefuted text certificate said      they are a loop and a full certificate of it, and what is said is the path of the first part that doesn't hold; the parts aren't too long
 --   ChecksFull request call              the clauses
 use Rattle.std.specs.Prelude.{◌≡◌, ◌≢◌, ℕ, List, length, Ok, Err}
 use Rattle.loops.specs.Program.{Expr, Program}
@@ -19,7 +19,7 @@ use Rattle.certificate_commands.specs.CertificateTexts.{certificate_refusal}
 use Rattle.certificate_commands.specs.CertificateArguments.{Request}
 use Rattle.certificate_commands.specs.CertificateAsking.{IsQuestion, Refuses, ReadsCertificate, Decides}
 use Rattle.certificate_commands.specs.CheckfullTexts.{fails, judgement_answer}
-use Rattle.certificate_commands.specs.CheckfullJudging.{FailsFirst, IsShort, Judges}
+use Rattle.certificate_commands.specs.CheckfullJudging.{FailsFirst, FitsLimit, IsShort, Judges}
 use Rattle.certificate_commands.specs.CheckfullArguments.{certificate_at}
 use Rattle.certificate_commands.specs.CheckfullHeadline.{ShowsComplete}
 
@@ -29,6 +29,7 @@ pub record IsRefuted (text certificate said : List ℕ) : Type 0 where
   pub question : IsQuestion full_in text certificate loop listed
   pub path : List ℕ
   pub first : FailsFirst loop listed path
+  pub short : FitsLimit loop listed
   pub says : said ≡ (judgement_answer (fails path)).text
 
 pub record ChecksFull (request : Request) (call : Call) : Type 0 where

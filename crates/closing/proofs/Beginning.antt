@@ -3,11 +3,11 @@
 --   sampled_none      and there a sampling begins
 use Rattle.std.proofs.Common.{◌≡◌, ℕ, ◌≤◌, List, [], pos, length, refl, sym, ap, subst, ◌∙◌}
 use Rattle.loops.specs.Program.{Expr, Program}
-use Rattle.closing.specs.Modulus.{modulus}
-use Rattle.closing.specs.EchelonForm.{Led, IsEchelonOf}
-use Rattle.closing.proofs.EchelonForms.{form_none}
+use Rattle.residue_rows.specs.Modulus.{modulus}
+use Rattle.residue_rows.specs.EchelonForm.{Led, IsEchelonOf}
+use Rattle.residue_rows.proofs.EchelonForms.{form_none}
 use Rattle.closing.specs.SearchCauses.{AreBegun}
-use Rattle.closing.specs.Limits.{most_monomials}
+use Rattle.residue_rows.specs.Limits.{most_monomials}
 use Rattle.closing.specs.Maps.{AreMapsModulo}
 use Rattle.closing.specs.Sampling.{IsAt, IsSampled}
 use Rattle.closing.specs.Search.{rows_of, samples_of, idle_of, entries_of, state_of, monomials, IsSearch}

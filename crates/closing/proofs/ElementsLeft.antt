@@ -15,12 +15,12 @@ use Rattle.loops.specs.Program.{Expr, Program}
 use Rattle.closures.specs.Monomials.{AreAscending, AreMonomialsUpTo}
 use Rattle.closures.specs.UpTo.{AreTidy, HasStandard}
 use Rattle.closures.proofs.Monomials.{are_monomials_up_to}
-use Rattle.closing.specs.Modulus.{modulus}
-use Rattle.closing.specs.EchelonForm.{Led, IsEchelonOf}
+use Rattle.residue_rows.specs.Modulus.{modulus}
+use Rattle.residue_rows.specs.EchelonForm.{Led, IsEchelonOf}
 use Rattle.closing.specs.SearchCauses.{HasNoElement}
-use Rattle.closing.specs.ElementParts.{IsElementOf, LeadsElement}
-use Rattle.closing.specs.Elements.{IsValueRow, IsZeroRow, IsCandidate, standard_in}
-use Rattle.closing.specs.Limits.{most_monomials}
+use Rattle.residue_rows.specs.ElementParts.{IsElementOf, LeadsElement, IsFirstUntold}
+use Rattle.residue_rows.specs.Elements.{IsValueRow, IsZeroRow, IsCandidate, standard_in}
+use Rattle.residue_rows.specs.Limits.{most_monomials}
 use Rattle.closing.specs.Sampling.{IsAt}
 use Rattle.closing.specs.Search.{Part, rows_of, entries_of, GoesOn, monomials, HasLeft}
 use Rattle.closing.specs.declared.sampling.Sampling.{Sampling}
@@ -83,6 +83,7 @@ module _ {program : Program (Expr ℕ)} {d : ℕ} {ps : List Part} {s : Sampling
 
     module _ (column : ℕ) (within : column < length es) (e : List ℕ)
         (is : e ≡ get_or es column []) (leads : LeadsElement (pos modulus) es ls column)
+        (untold : IsFirstUntold (pos modulus) es ls column)
         (enough : ¬ (GoesOn (length (monomials program d)) ps)) where
       pub no_element_at : ((p : Terms Fraction) → IsPolynomial ℚ grevlex n p
           → IsCandidate (pos modulus) es ls column p
@@ -99,6 +100,7 @@ module _ {program : Program (Expr ℕ)} {d : ℕ} {ps : List Part} {s : Sampling
         within = subst (λ (fs : List (List ℕ)). column < length fs) a.listed within;
         is = is ∙ ap (λ fs. get_or fs column []) a.listed;
         leads = subst (λ fs. LeadsElement (pos modulus) fs ls column) a.listed leads;
+        untold = subst (λ fs. IsFirstUntold (pos modulus) fs ls column) a.listed untold;
         arity =
             ap length is
             ∙ each_in (λ e. length e ≡ length program.names) es (get_or es column [])
@@ -129,15 +131,16 @@ module _ {program : Program (Expr ℕ)} {d : ℕ} {ps : List Part} {s : Sampling
 
       pub none_left : (column : ℕ) {e : List ℕ} (x : List ℕ) → column < length fs
           → e ≡ get_or es column x → LeadsElement (pos modulus) fs ls column
-          → ¬ (GoesOn (length (monomials program d)) ps)
+          → IsFirstUntold (pos modulus) fs ls column → ¬ (GoesOn (length (monomials program d)) ps)
           → ((given : List (List ℤ)) (p : Terms Fraction) → IsEchelonOf (pos modulus)
           s.echelon.width given ls → IsPolynomial ℚ grevlex n p → IsCandidate (pos modulus) fs ls
           column p → ¬ (Each (IsZeroRow (pos modulus) fs p) given))
           → HasNoElement program d (entries_of ps) e
-      none_left column {e = e} x within is leads enough none =
+      none_left column {e = e} x within is leads untold enough none =
           let low = subst (λ (ds : List (List ℕ)). column < length ds) same within in
           no_element_at column low e (is ∙ get_or_default es column x [] low)
-          (subst (λ ds. LeadsElement (pos modulus) ds ls column) same leads) enough
+          (subst (λ ds. LeadsElement (pos modulus) ds ls column) same leads)
+          (subst (λ ds. IsFirstUntold (pos modulus) ds ls column) same untold) enough
           (λ p poly candidate zeros.
           none (rows_of ps) p a.echelon poly
           (subst (λ ds. IsCandidate (pos modulus) ds ls column p) (sym same) candidate)

@@ -16,12 +16,11 @@ use Rattle.loops.specs.Program.{Expr, Program}
 use Rattle.loops.specs.Run.{branch_at}
 use Rattle.rounds.specs.Word.{IsLetter, branch_of}
 use Rattle.closures.specs.Modulo.{AreCongruent}
-use Rattle.closing.specs.Modulus.{modulus}
-use Rattle.closing.specs.Numbers.{numbers_of}
-use Rattle.closing.specs.declared.residue.Residue.{Residue}
-use Rattle.closing.specs.Draws.{letters}
+use Rattle.residue_rows.specs.Modulus.{modulus}
+use Rattle.residue_rows.specs.Numbers.{numbers_of}
+use Rattle.residue_rows.specs.declared.residue.Residue.{Residue}
 use Rattle.closing.specs.Maps.{modular_terms_each, IsBranchModulo}
-use Rattle.closing.specs.Samples.{IsSampleState}
+use Rattle.closing.specs.Samples.{IsSampleState, letters}
 use Rattle.closing.specs.declared.modular_maps.ResiduePolynomial.{ResiduePolynomial}
 use Rattle.closing.proofs.Ends.{sample_goes}
 

@@ -29,9 +29,9 @@ use Rattle.poly.specs.Standing.{AllStandFor}
 use Rattle.poly.proofs.Standing.{polynomial_over}
 use Rattle.loop_model.specs.FracPoly.{FracPoly}
 use Rattle.loop_model.specs.Maps.{AreBranchMaps}
-use Rattle.closing.specs.Modulus.{modulus}
-use Rattle.closing.specs.Numbers.{number_of}
-use Rattle.closing.specs.declared.residue.Residue.{Residue}
+use Rattle.residue_rows.specs.Modulus.{modulus}
+use Rattle.residue_rows.specs.Numbers.{number_of}
+use Rattle.residue_rows.specs.declared.residue.Residue.{Residue}
 use Rattle.closing.specs.Modulo.{IsTermModulo, AreTermsModulo, IsPolynomialModulo, HasNoResidues, HasNoMapsModulo}
 use Rattle.closing.specs.Maps.{modular_terms_each, IsMapModulo, IsBranchModulo}
 use Rattle.closing.specs.declared.modular_maps.ResiduePolynomial.{ResiduePolynomial}

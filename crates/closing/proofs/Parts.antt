@@ -10,7 +10,7 @@ use Rattle.machines.specs.Journal.{Entry, Begin, Sample, units_of}
 use Rattle.rounds.proofs.Prefixes.{units-append}
 use Rattle.loops.specs.Program.{Expr, Program}
 use Rattle.closures.specs.Modulo.{IsSampleRow}
-use Rattle.closing.specs.Modulus.{modulus}
+use Rattle.residue_rows.specs.Modulus.{modulus}
 use Rattle.closing.specs.Samples.{IsRowOf}
 use Rattle.closing.specs.Search.{Part, counted, idle, refuted, samples_of, rows_of, entries_of, monomials, IsSearch}
 

@@ -1,26 +1,29 @@
 -- What a search finds is the reduced list up to the degree.
+--   picked_samples   rows of values are values of the monomials of these columns
 --   apart_places     distinct monomials differ at different places
 --   reduced          elements that an echelon form of the rows of a search tells, and that are closed, are it
 use Rattle.std.proofs.Common.{◌≡◌, ◌≢◌, ℕ, zero, suc, ◌<◌, ◌≤◌, ℤ, pos, true, false, List, [], ◌∷◌, map, length, get_or, refl, sym, ap, subst, ◌∙◌, arith}
 use Rattle.std.proofs.lemmas.List.{length-map}
 use Rattle.algebra.specs.Each.{Each}
-use Rattle.algebra.specs.Fraction.{Fraction}
+use Rattle.algebra.specs.Fraction.{Fraction, ℚ}
+use Rattle.algebra.proofs.Each.{each_weaker, each-map}
 use Rattle.polynomials.specs.Exponent.{same}
-use Rattle.polynomials.specs.Terms.{Terms}
+use Rattle.polynomials.specs.Terms.{Terms, monomial_at}
 use Rattle.polynomials.proofs.Exponent.{same_refl}
 use Rattle.machines.specs.Journal.{Entry}
 use Rattle.loops.specs.Inv.{Inv}
 use Rattle.loops.specs.Program.{Expr, Program}
 use Rattle.closures.specs.Closing.{closed}
 use Rattle.closures.specs.Ends.{ComesNext}
+use Rattle.closures.specs.Modulo.{IsSampleRow}
 use Rattle.closures.specs.UpTo.{AreDistinct, IsReducedUpTo}
 use Rattle.closures.proofs.Searched.{searched_is}
 use Rattle.closures.proofs.Monomials.{are_monomials_up_to, distinct_ascending}
-use Rattle.closing.specs.Modulus.{modulus}
-use Rattle.closing.specs.EchelonForm.{Led, pick, leads_in, rows_in}
-use Rattle.closing.proofs.EchelonForms.{lows, ones}
-use Rattle.closing.proofs.Picked.{one_is_none, picked_triangular, picked_combinations, picked_samples, distinct_picked}
-use Rattle.closing.specs.Elements.{standard_in}
+use Rattle.residue_rows.specs.Modulus.{modulus}
+use Rattle.residue_rows.specs.EchelonForm.{Led, pick, leads_in, rows_in}
+use Rattle.residue_rows.proofs.EchelonForms.{lows, ones}
+use Rattle.residue_rows.proofs.Picked.{one_is_none, picked_triangular, picked_combinations, picked_residues, distinct_picked}
+use Rattle.residue_rows.specs.Elements.{standard_in}
 use Rattle.closing.specs.Search.{Part, rows_of, monomials, HasLeft, IsSearch}
 use Rattle.closing.proofs.Parts.{rows_are}
 
@@ -50,6 +53,20 @@ apart_places (e ∷ es) d (suc j) (suc k) l n apart =
 pub big : 2 ≤ modulus
 big = omega arith
 
+picked_samples : {At : Type 0} (program : Program (Expr At)) (q : ℤ) (es : List (List ℕ))
+    (ks : List ℕ) → Each (λ k. k < length es) ks → (rows : List (List ℤ))
+    → Each (IsSampleRow program q es) rows
+    → Each (IsSampleRow program q (pick [] ks es)) (map (pick (pos 0) ks) rows)
+picked_samples program q es ks l rows h =
+    each-map (IsSampleRow program q (pick [] ks es)) (pick (pos 0) ks) rows
+    (each_weaker (IsSampleRow program q es)
+    (λ r. IsSampleRow program q (pick [] ks es) (pick (pos 0) ks r))
+    (λ r s. record {
+      run = s.run;
+      residues =
+          picked_residues q (monomial_at ℚ s.run.end) es r s.residues ks l;
+    }) rows h)
+
 module _ (program : Program (Expr ℕ)) (d : ℕ) where
   abbrev m : ℕ
   m = length program.names
@@ -69,7 +86,7 @@ module _ (program : Program (Expr ℕ)) (d : ℕ) where
       (distinct_picked (pos modulus) (one_is_none modulus big) es (apart_places es
       (distinct_ascending es (are_monomials_up_to m d).ascend)) form within
       (ones (pos modulus) (length es) form e.led) e.apart) modulus big _ _
-      (picked_samples (pos modulus) program es leads within (rows_of ps) (rows_are program d ps s))
+      (picked_samples program (pos modulus) es leads within (rows_of ps) (rows_are program d ps s))
       (picked_triangular (pos modulus) (length es) (rows_of ps) form e)
       (picked_combinations (pos modulus) (length es) leads within (rows_of ps) (rows_in form)
       e.within) (same_length (pick (pos 0) leads) form)

@@ -9,9 +9,9 @@ use Rattle.machines.specs.Journal.{Entry}
 use Rattle.loops.specs.Program.{Expr, Program}
 use Rattle.closures.specs.Closing.{Candidate, countered}
 use Rattle.closures.specs.Ends.{ComesNext}
-use Rattle.closing.specs.Modulus.{modulus}
-use Rattle.closing.specs.EchelonForm.{Form, IsEchelonOf, IsWithRow, IsIndependent, IsDependent}
-use Rattle.closing.specs.Draws.{after_draws}
+use Rattle.residue_rows.specs.Modulus.{modulus}
+use Rattle.residue_rows.specs.EchelonForm.{Form, IsEchelonOf, IsWithRow, IsIndependent, IsDependent}
+use Rattle.residue_rows.specs.Draws.{after_draws}
 use Rattle.closing.specs.Maps.{AreMapsModulo}
 use Rattle.closing.specs.Sampling.{IsAt, IsRefuted}
 use Rattle.closing.specs.Search.{Part, counted, idle, refuted, samples_of, idle_of, rows_of, GoesOn, state_of, word_of, monomials, IsRow, HasLeft, IsSearch}

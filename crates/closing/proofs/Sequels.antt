@@ -30,7 +30,7 @@ use Rattle.closing.specs.declared.levels.Verdict.TheVariants as verdict
 use Rattle.closing.specs.SearchCauses.{IsClosing, AreBegun, HasNoNews}
 use Rattle.closing.specs.Closings.{IfClosed, refusal_of}
 use Rattle.closing.specs.Found.{IsPartOf, IfSearchStops}
-use Rattle.closing.specs.Limits.{most_monomials}
+use Rattle.residue_rows.specs.Limits.{most_monomials}
 use Rattle.closing.specs.Sampling.{IsEnough, IsRefuted, IsUnrefuted, IfRefuted, IsSampled}
 use Rattle.closing.specs.Search.{Part, counted, idle, refuted, samples_of, rows_of, entries_of, HasLeft, IsSearch}
 use Rattle.closing.specs.declared.search_error.SearchError.{SearchError}

@@ -26,9 +26,9 @@ use Rattle.closures.specs.Modulo.{IsResidueOf, AreResidues, HasPivot}
 use Rattle.closures.specs.Monomials.{join_below, monomials_up_to}
 use Rattle.closures.proofs.Congruent.{congruent_from}
 use Rattle.closures.proofs.Residues.{residue_whole, residues_agree}
-use Rattle.closing.specs.Modulus.{modulus}
+use Rattle.residue_rows.specs.Modulus.{modulus}
 use Rattle.closing.specs.SearchCauses.{IsClosing, IsOutOfSamples, IsNoSample, HasNoElement}
-use Rattle.closing.specs.Draws.{number_behind, draws_from, after_draws}
+use Rattle.residue_rows.specs.Draws.{number_behind, draws_from, after_draws}
 use Rattle.closing.specs.Modulo.{HasNoResidues, IsImage, HasNoMapsModulo}
 use Rattle.closing.specs.Samples.{start_at, IsRowOf}
 use Rattle.closing.specs.Search.{Part, counted, samples_of, state_of, numbers_of, word_of, monomials, IsRow}

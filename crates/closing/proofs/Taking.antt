@@ -9,15 +9,15 @@
 use Rattle.std.proofs.Common.{◌≡◌, inl, inr, ℕ, zero, suc, ◌<◌, ◌≤◌, ℤ, pos, List, [], ◌∷◌, ◌++◌, length, arith, refl, sym, ap, ap₂, subst, ◌∙◌, Result, Ok}
 use Rattle.machines.specs.Journal.{Entry, Begin, Sample, units_of}
 use Rattle.loops.specs.Program.{Expr, Program}
-use Rattle.closing.specs.Modulus.{modulus}
-use Rattle.closing.specs.EchelonForm.{IsEchelonOf, IsWithRow, IsIndependent, IsDependent, IsStuck}
-use Rattle.closing.specs.declared.echelon.Addition.{Addition}
-use Rattle.closing.specs.declared.echelon.Addition.TheVariants.{Counts, Combination}
+use Rattle.residue_rows.specs.Modulus.{modulus}
+use Rattle.residue_rows.specs.EchelonForm.{IsEchelonOf, IsWithRow, IsIndependent, IsDependent, IsStuck}
+use Rattle.residue_rows.specs.declared.echelon.Addition.{Addition}
+use Rattle.residue_rows.specs.declared.echelon.Addition.TheVariants.{Counts, Combination}
 use Rattle.std.specs.declared.alloc.AllocError.{AllocError}
 use Rattle.closing.specs.SearchCauses.{AreBegun, IsNoSample}
 use Rattle.closing.specs.Maps.{AreMapsModulo}
-use Rattle.closing.specs.Draws.{number_behind, draws_from, after_draws, letters}
-use Rattle.closing.specs.Samples.{IsRowOf}
+use Rattle.residue_rows.specs.Draws.{number_behind, draws_from, after_draws}
+use Rattle.closing.specs.Samples.{IsRowOf, letters}
 use Rattle.closing.specs.Sampling.{IsAt, IsSampled, IsEnough, IsUnfinished, IsRefuted, IsUnrefuted}
 use Rattle.closing.specs.Search.{Part, most_idle, counted, idle, samples_of, rows_of, entries_of, state_of, numbers_of, word_of, IsRow}
 use Rattle.closing.specs.declared.sampling.Sampling.{Sampling}

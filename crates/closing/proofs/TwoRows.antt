@@ -16,12 +16,12 @@ use Rattle.ideals.proofs.Congruence.{congruent_refl, congruent_same, congruent_s
 use Rattle.polynomials.specs.Terms.{Terms}
 use Rattle.closures.specs.Modulo.{IsMultiple, AreCongruent, HasPivot, IsCombinationModulo}
 use Rattle.closures.proofs.Congruent.{congruent_trans, pivot_same}
-use Rattle.closing.specs.EchelonForm.{dot, entry, Led, rows_in, IsLed, AreApart, IsEchelonOf, IsStuck}
-use Rattle.closing.proofs.Dots.{multiple_to, dot_first, dot_zero}
-use Rattle.closing.proofs.EchelonForms.{combined}
-use Rattle.closing.specs.ElementParts.{Share, columns_in, share_sum, Falls, IsElementOf}
-use Rattle.closing.proofs.Shares.{sum_first, sum_none}
-use Rattle.closing.proofs.Spans.{given_killed}
+use Rattle.residue_rows.specs.EchelonForm.{dot, entry, Led, rows_in, IsLed, AreApart, IsEchelonOf, IsStuck}
+use Rattle.residue_rows.proofs.Dots.{multiple_to, dot_first, dot_zero}
+use Rattle.residue_rows.proofs.EchelonForms.{combined}
+use Rattle.residue_rows.specs.ElementParts.{Share, columns_in, share_sum, Falls, IsElementOf}
+use Rattle.residue_rows.proofs.Shares.{sum_first, sum_none}
+use Rattle.residue_rows.proofs.Spans.{given_killed}
 
 module _ {A : Type 0} (R : CommRing A) where
   open R use {zero as 𝟘, one as 𝟙, add as ◌⊕◌, mul as ◌⊗◌, neg}

@@ -13,13 +13,13 @@ use Rattle.loops.specs.Program.{Expr, Program}
 use Rattle.closures.specs.Closing.{Candidate, closed, countered}
 use Rattle.closures.specs.Ends.{ComesNext}
 use Rattle.closures.specs.Modulo.{HasPivot, IsCombinationModulo}
-use Rattle.closing.specs.Modulus.{modulus}
-use Rattle.closing.specs.EchelonForm.{Led, IsEchelonOf}
+use Rattle.residue_rows.specs.Modulus.{modulus}
+use Rattle.residue_rows.specs.EchelonForm.{Led, IsEchelonOf}
 use Rattle.closing.specs.SearchCauses.{HasNoInverse, IsClosing, IsOutOfSamples, HasNoPivot, HasNoNews, HasNoElement}
-use Rattle.closing.specs.ElementParts.{IsElementOf}
+use Rattle.residue_rows.specs.ElementParts.{IsElementOf}
 use Rattle.closing.specs.Search.{Part, counted, idle, refuted, rows_of, idle_of, entries_of, GoesOn, word_of, monomials, IsRow, HasLeft, IsSearch}
 use Rattle.closing.proofs.Countered.{nothing_comes}
-use Rattle.closing.proofs.ElementSteps.{no_one}
+use Rattle.residue_rows.proofs.ElementSteps.{no_one}
 use Rattle.closing.proofs.TwoRows.{IsRowTo, combined_of_none, combined_of_first, never_stuck, never_stuck_behind, all_lead, no_element}
 
 abbrev q : ℤ

@@ -8,8 +8,8 @@ use Rattle.algebra.specs.Fraction.{Fraction}
 use Rattle.polynomials.specs.Terms.{Terms}
 use Rattle.loops.specs.Inv.{Inv}
 use Rattle.loops.specs.Program.{Expr, Program}
-use Rattle.closing.specs.Modulus.{modulus}
-use Rattle.closing.specs.Elements.{IsValueRow, IsZeroRow}
+use Rattle.residue_rows.specs.Modulus.{modulus}
+use Rattle.residue_rows.specs.Elements.{IsValueRow, IsZeroRow}
 use Rattle.closing.specs.Search.{monomials}
 use Rattle.closing.proofs.Parts.{IsSample}
 

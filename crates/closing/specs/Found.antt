@@ -11,7 +11,7 @@ use Rattle.ideal_ops.specs.Calls.{AreOver}
 use Rattle.closures.specs.Follows.{IsPastTask}
 use Rattle.closing.specs.Causes.{IsLimitAt, IsWideAt}
 use Rattle.closing.specs.SearchCauses.{Finds, AreBegun, IsOut, StopsAtWord, IsNoSample, HasNoElement}
-use Rattle.closing.specs.Limits.{most_monomials}
+use Rattle.residue_rows.specs.Limits.{most_monomials}
 use Rattle.closing.specs.Search.{monomials}
 use Rattle.closing.specs.declared.search_error.SearchError.{SearchError}
 use Rattle.closing.specs.declared.search_error.SearchError.TheVariants as error

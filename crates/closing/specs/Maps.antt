@@ -14,8 +14,8 @@ use Rattle.loops.specs.Map.{start_map, branch_map}
 use Rattle.poly.specs.View.{terms_of}
 use Rattle.poly.specs.Seen.{terms_each}
 use Rattle.loop_model.specs.FracPoly.{FracPoly}
-use Rattle.closing.specs.Modulus.{modulus}
-use Rattle.closing.specs.Numbers.{number_of}
+use Rattle.residue_rows.specs.Modulus.{modulus}
+use Rattle.residue_rows.specs.Numbers.{number_of}
 use Rattle.closing.specs.Modulo.{AreTermsModulo, IsPolynomialModulo}
 use Rattle.closing.specs.declared.modular_maps.ResiduePolynomial.{ResiduePolynomial}
 use Rattle.closing.specs.declared.modular_maps.ResidueMaps.{ResidueMaps}

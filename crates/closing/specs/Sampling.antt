@@ -9,11 +9,11 @@
 use Rattle.std.specs.Prelude.{◌≡◌, ◌⊎◌, ◌≤◌, ℕ, ℤ, pos, List, [], ◌∷◌, ◌++◌, length, Option, Some, None, Result, Ok, Err}
 use Rattle.machines.specs.Journal.{Entry}
 use Rattle.loops.specs.Program.{Expr, Program}
-use Rattle.closing.specs.Modulus.{modulus}
-use Rattle.closing.specs.EchelonForm.{IsEchelonOf}
+use Rattle.residue_rows.specs.Modulus.{modulus}
+use Rattle.residue_rows.specs.EchelonForm.{IsEchelonOf}
 use Rattle.closing.specs.Found.{IfSearchStops}
-use Rattle.closing.specs.Draws.{after_draws}
-use Rattle.closing.specs.Limits.{most_monomials}
+use Rattle.residue_rows.specs.Draws.{after_draws}
+use Rattle.residue_rows.specs.Limits.{most_monomials}
 use Rattle.closing.specs.Maps.{AreMapsModulo}
 use Rattle.closing.specs.Search.{Part, samples_of, idle_of, rows_of, entries_of, GoesOn, monomials, state_of, IsRow, Counts, IsSearch}
 use Rattle.closing.specs.declared.search_error.SearchError.{SearchError}

@@ -18,14 +18,14 @@ use Rattle.loops.specs.Program.{Expr, Program}
 use Rattle.closures.specs.Closing.{Candidate, countered}
 use Rattle.closures.specs.Ends.{ComesNext}
 use Rattle.closures.specs.Modulo.{IsCombinationModulo}
-use Rattle.closing.specs.Draws.{draws_from, after_draws, letters}
-use Rattle.closing.specs.Samples.{IsRowOf}
-use Rattle.closing.specs.Modulus.{modulus}
+use Rattle.residue_rows.specs.Draws.{draws_from, after_draws}
+use Rattle.closing.specs.Samples.{IsRowOf, letters}
+use Rattle.residue_rows.specs.Modulus.{modulus}
 use Rattle.closures.specs.Monomials.{monomials_up_to}
-use Rattle.closing.specs.EchelonForm.{Led, IsEchelonOf}
+use Rattle.residue_rows.specs.EchelonForm.{Led, IsEchelonOf}
 use Rattle.algebra.specs.Each.{Each}
-use Rattle.closing.specs.ElementParts.{IsElementOf}
-use Rattle.closing.specs.Elements.{standard_in}
+use Rattle.residue_rows.specs.ElementParts.{IsElementOf}
+use Rattle.residue_rows.specs.Elements.{standard_in}
 use Rattle.closures.specs.UpTo.{AreTidy, HasStandard}
 
 abbrev pub most_idle : ℕ

@@ -11,7 +11,7 @@
 --   HasNoPivot program d es        in the row of the sample that comes last what isn't a combination of the rows before has no inverse for its first number
 --   HasNoNews program d es         the row of the run with the word that counters the list, in a closing that has ended so, is a combination of the rows before, or has no such inverse
 --   IsNoSample program d es        one of these, or a coefficient of a map has no residue
---   HasNoElement program d es e    enough samples were taken, e leads an element by an echelon form of their rows, and no polynomial with the lead e, of standard monomials besides, is an invariant with numbers whose numerators and denominators are at most 2^62
+--   HasNoElement program d es e    enough samples were taken, e is the first that leads an element by an echelon form of their rows of which a number has no fraction with numerator and denominator of at most 2^62; and no polynomial with the lead e, of standard monomials besides, is an invariant with numbers whose numerators and denominators are at most 2^62
 use Rattle.std.specs.Prelude.{◌≡◌, ◌⊎◌, ℕ, ◌+◌, ◌<◌, ℤ, pos, List, [], ◌∷◌, ◌++◌, length, get_or}
 use Rattle.algebra.specs.Fraction.{Fraction, ℚ}
 use Rattle.polynomials.specs.Order.{grevlex}
@@ -25,11 +25,11 @@ use Rattle.closures.specs.Ends.{ComesNext}
 use Rattle.closures.specs.Follows as closing
 use Rattle.closures.specs.Modulo.{IsCombinationModulo}
 use Rattle.closing.specs.Progress as progress
-use Rattle.closing.specs.Modulus.{modulus}
-use Rattle.closing.specs.EchelonForm.{Led, IsEchelonOf, IsStuck}
+use Rattle.residue_rows.specs.Modulus.{modulus}
+use Rattle.residue_rows.specs.EchelonForm.{Led, IsEchelonOf, IsStuck}
 use Rattle.closing.specs.Modulo.{HasNoMapsModulo}
-use Rattle.closing.specs.ElementParts.{LeadsElement}
-use Rattle.closing.specs.Elements.{IsCandidate}
+use Rattle.residue_rows.specs.ElementParts.{LeadsElement, IsFirstUntold}
+use Rattle.residue_rows.specs.Elements.{IsCandidate}
 use Rattle.closing.specs.Search.{Part, samples_of, rows_of, entries_of, GoesOn, monomials, word_of, IsRow, HasLeft, IsSearch}
 
 pub record HasNoInverse (n : ℕ) (rows : List (List ℤ)) (row : List ℤ) : Type 0 where
@@ -134,6 +134,7 @@ module _ (program : Program (Expr ℕ)) (d : ℕ) where
       pub within : column < length (monomials program d)
       pub is : e ≡ get_or (monomials program d) column []
       pub leads : LeadsElement (pos modulus) (monomials program d) form column
+      pub untold : IsFirstUntold (pos modulus) (monomials program d) form column
       pub arity : length e ≡ length program.names
       pub none : (p : Terms Fraction) → IsPolynomial ℚ grevlex (length program.names) p
           → IsCandidate (pos modulus) (monomials program d) form column p → ¬ (Inv program p)

@@ -4,16 +4,16 @@ ghost use Rattle.std.specs.List.{AllZip, Any};
 ghost use Rattle.poly.specs.Seen.{terms_in, terms_each};
 ghost use Rattle.loop_model.specs.View.{program_of};
 ghost use Rattle.counter_run.specs.Maps.{AreMaps};
-ghost use Rattle.closing.specs.Modulus.{modulus};
+ghost use Rattle.residue_rows.specs.Modulus.{modulus};
 ghost use Rattle.closing.specs.Modulo.{AreTermsModulo, HasNoResidues, HasNoMapsModulo};
 ghost use Rattle.closing.specs.Maps.{modular_terms, modular_terms_each, IsMapModulo, AreMapsModulo};
 
-use crate::residue::Residue;
 use counter_run::Maps;
 use frac128::Frac;
 use loop_model::Loop;
 use monos::Grevlex;
 use poly::{Poly, Term};
+use residue_rows::residue::Residue;
 use std::alloc::{AllocError, Global};
 
 /// A polynomial over residues modulo 2^127 - 1.

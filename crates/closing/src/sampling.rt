@@ -4,21 +4,22 @@ ghost use Rattle.machines.specs.Journal.{units_of};
 ghost use Rattle.journal.specs.View.{most_units};
 ghost use Rattle.rounds.specs.Word.{IsLetter};
 ghost use Rattle.loop_model.specs.View.{program_of};
-ghost use Rattle.closing.specs.Modulus.{modulus};
-ghost use Rattle.closing.specs.Numbers.{numbers_of};
+ghost use Rattle.residue_rows.specs.Modulus.{modulus};
+ghost use Rattle.residue_rows.specs.Numbers.{numbers_of};
 ghost use Rattle.closing.specs.Maps.{AreMapsModulo};
 ghost use Rattle.closing.specs.Samples.{IsRowOf};
 ghost use Rattle.closing.specs.Search.{Part, most_idle};
 ghost use Rattle.closing.specs.Sampling.{IsAt, IsSampled, IsUnfinished, IfSampled, IfEnough, IfRefuted};
 
 use crate::SearchError;
-use crate::echelon::{Addition, Echelon};
 use crate::modular_maps::ResidueMaps;
-use crate::residue::Residue;
-use crate::samples::{Draws, sample_row, start_state, word_of};
+use crate::samples::{sample_row, start_state, word_of};
 use journal::{Meter, MeterError, Task};
 use loop_model::Loop;
 use monos::Mono;
+use residue_rows::Draws;
+use residue_rows::echelon::{Addition, Echelon};
+use residue_rows::residue::Residue;
 use std::alloc::{AllocError, Global};
 
 /// How many samples in a row that don't count are enough.

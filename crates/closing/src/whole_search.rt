@@ -10,16 +10,12 @@ ghost use Rattle.ideal_ops.specs.Calls.{AreOver};
 ghost use Rattle.closing.specs.SearchCauses.{AreBegun};
 ghost use Rattle.closing.specs.Closings.{IsOn, IfClosed, refusal_of as told_refusal};
 ghost use Rattle.closing.specs.Found.{FindsFirst, FitsFinding, IfSearchStops, IsPartOf};
-ghost use Rattle.closing.specs.Limits.{most_monomials};
+ghost use Rattle.residue_rows.specs.Limits.{most_monomials};
 ghost use Rattle.closing.specs.LoopMaps.{program_in, arity_in};
 ghost use Rattle.closing.specs.Sampling.{IsAt, IsEnough, IfSampled};
 ghost use Rattle.closing.specs.Search.{Part, entries_of, GoesOn, monomials, HasLeft};
 
-use crate::echelon::Echelon;
-use crate::elements::{ElementsError, elements_of};
 use crate::modular_maps::residue_maps;
-use crate::monomials::monomials_up_to;
-use crate::samples::Draws;
 use crate::sampling::Sampling;
 use crate::{ClosingError, Counter, LoopMaps, SearchError, Verdict};
 use frac128::Frac;
@@ -27,6 +23,10 @@ use journal::{Entry, Meter, MeterError};
 use loop_model::Loop;
 use monos::Grevlex;
 use poly::Poly;
+use residue_rows::Draws;
+use residue_rows::echelon::Echelon;
+use residue_rows::elements::{ElementsError, elements_of};
+use residue_rows::monomials::monomials_up_to;
 use std::alloc::{AllocError, Global};
 
 /// What a search has found.

@@ -28,7 +28,7 @@ use Rattle.closures.specs.UpTo.{IsReducedUpTo}
 use Rattle.closing.specs.Causes.{IsLimitAt, IsWideAt}
 use Rattle.closing.specs.SearchCauses as search
 use Rattle.closing.specs.SearchCauses.{IsClosing, Finds, IsInClosing, IsOut, StopsAtWord, IsNoSample, HasNoElement}
-use Rattle.closing.specs.Limits.{most_monomials}
+use Rattle.residue_rows.specs.Limits.{most_monomials}
 use Rattle.closing.specs.Search.{Part, monomials}
 use Rattle.io_edge.specs.declared.answer.Status.TheVariants as status
 use Rattle.io_edge.specs.Texts.{Answer}

@@ -1,5 +1,5 @@
 -- The limits of a program's text that the program shows.
---   most_names, most_depth     variables, and blocks in one another
+--   most_names, most_depth     variables, and blocks in one another: as many as a text may have statements, since what is behind `else` has the `if` of an `else if` inside of it
 --   depth b                    how many blocks stand in one another inside of the block b;  depth_inside s: inside of the statement s
 use Rattle.std.specs.Prelude.{ℕ, suc, max}
 use Rattle.program_model.specs.Program.{Statement, step, assert, branch, loop, Block, empty, behind}
@@ -8,7 +8,7 @@ abbrev pub most_names : ℕ
 most_names = 16
 
 abbrev pub most_depth : ℕ
-most_depth = 16
+most_depth = 256
 
 module _ {E : Type 0} where
   unfoldable mutual

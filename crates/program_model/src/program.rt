@@ -9,7 +9,7 @@ ghost use Rattle.program_model.specs.StatementView.{block_of};
 use crate::Statement;
 use loop_model::Names;
 
-/// A program over 1 to 16 variables, none of which has the name of an unknown, with at most 16 blocks in one another. Statements use names, and the inverses of the divisors before
+/// A program over 1 to 16 variables, none of which has the name of an unknown, with at most 256 blocks in one another (a text has no more statements than that). Statements use names, and the inverses of the divisors before
 /// them; an assignment has a value for each of its targets, none of which stands twice; no divisor is the number 0.
 #[derive(Drop)]
 pub struct Program {

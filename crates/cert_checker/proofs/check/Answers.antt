@@ -63,6 +63,6 @@ returns-clause-refused c =
 
 pub returns-clause-short : goal.returns-clause-short
 returns-clause-short c =
-    subst (λ d. IfOk c.judge.result (AreShort (program_of c.args.lp.now) d))
+    subst (λ d. IfOk c.judge.result (λ v. AreShort (program_of c.args.lp.now) d (verdict_of v)))
     (sym (made_of c.args.cert.now.certificate c.basis.result.now c.steps.result.now
     c.basis.ensures.terms c.steps.ensures.terms)) c.judge.ensures.short

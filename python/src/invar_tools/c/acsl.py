@@ -40,8 +40,8 @@ def written(note: Note, there: list[str]) -> str:
     """The annotation of a note with the clauses that are there, without blanks before its lines; nothing where there are none."""
     found = [f"{FOUND}{equation} == 0;" for equation in note.equations]
     end = next((place for place, line in enumerate(there) if LAST.match(line)), len(there))
-    given = note.assigns is None or any(line.startswith("loop assigns") for line in there)
-    assigns = [] if given else [f"loop assigns {listed(note.assigns)};"]
+    is_given = any(line.startswith("loop assigns") for line in there)
+    assigns = [] if is_given or note.assigns is None else [f"loop assigns {listed(note.assigns)};"]
     clauses = [*found, *there[:end], *assigns, *there[end:]]
     return "/*@ " + "\n    ".join(clauses) + " */" if clauses else ""
 
@@ -78,8 +78,8 @@ def has_found(source: Source, loop: Loop) -> bool:
 def annotated(source: Source, notes: Iterable[Note]) -> str:
     """The text of a source with notes at its loops."""
     text = source.text
-    for note in sorted(notes, key=lambda note: source.offset_of(note.loop), reverse=True):
-        at = source.offset_of(note.loop)
+    places = [(at, note) for note in notes if (at := source.offset_of(note.loop)) is not None]
+    for at, note in sorted(places, key=lambda place: place[0], reverse=True):
         found = annotation_before(source, at)
         begin, end = found.span() if found else (at, at)
         there = clauses_of(found[1] or found[2]) if found else []

@@ -12,6 +12,7 @@ certificates stay beside the file. docs/VERIFYING.md begins at the beginning.
 from __future__ import annotations
 
 import contextlib
+import hashlib
 import sys
 import tempfile
 from argparse import Namespace
@@ -41,6 +42,9 @@ from .texts import LoopText, idle, is_any, loop_text, spelled
 
 DEGREES = (2, 3, 4)
 """Up to which the equations of a loop are asked for that `invar basis` refuses."""
+
+MOST_NAME = 80
+"""Of the name of a file on loops, without its suffix."""
 
 
 @dataclass(frozen=True)
@@ -105,6 +109,10 @@ class Annotator:
         except Refusal as fault:
             for loop in loops_in(node):
                 self.refuse(line_of(loop), str(fault))
+            return
+        except RecursionError:
+            for loop in loops_in(node):
+                self.refuse(line_of(loop), "an expression or a statement of the function is nested too deep")
             return
         loops = turns_in(function.items)
         for lost in loops_in(node):
@@ -192,7 +200,8 @@ class Annotator:
 
     def name(self, sequence: Sequence) -> str:
         """The name of files on loops, without its suffix."""
-        return "-".join([self.source.path.stem, *(str(line_of(loop.node)) for loop in sequence.loops())])
+        name = "-".join([self.source.path.stem, *(str(line_of(loop.node)) for loop in sequence.loops())])
+        return name if len(name) <= MOST_NAME else f"{name[:MOST_NAME]}-{hashlib.sha256(name.encode()).hexdigest()[:16]}"
 
     def asked(self, sequence: Sequence, starts: Starts, out: frozenset[str] = frozenset(), refused: str = "") -> dict[Turns, Found]:
         """The basis at each loop of a sequence and at those inside."""
@@ -204,7 +213,8 @@ class Annotator:
             text = loop_text(parts, start, self.title(sequence), out)
             bases = self.bases(text, self.name(sequence), len(parts))
         except (Refusal, Refused) as fault:
-            named = [key for key, name in text.names.variables.items() if name in fault.names] if isinstance(fault, Refused) else []
+            known = text.names.variables if text is not None else {}
+            named = [key for key, name in known.items() if name in fault.names] if isinstance(fault, Refused) else []
             loose = [key for edge in edges for key, value in edge.values.items() if any(map(is_any, value.names()))]
             fault.keys = named or loose
             raise

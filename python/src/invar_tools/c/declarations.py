@@ -15,11 +15,13 @@ from .whole import INT, Whole, common, named
 
 @dataclass(frozen=True)
 class Variable:
-    """What a name is: the key of a variable that is followed, or None of another, and its type if it is one for whole numbers."""
+    """What a name is: the key of a variable that is followed, or None of another, and its type if it is one for whole numbers; or the number of a
+    constant of an enumeration."""
 
     key: str | None
     type: Whole | None
     declared: c_ast.Node | None = None
+    number: int | None = None
 
     def is_fixed(self) -> bool:
         """Whether it is declared as one that never changes."""
@@ -39,7 +41,8 @@ class Declarations:
 
     def take(self, tree: Iterable[c_ast.Node]) -> None:
         for node in tree:
-            self.constants.update(self.enumerated(node))
+            outside = node.decl.type.type if isinstance(node, c_ast.FuncDef) else node
+            self.constants.update((name, number) for name, number in enumerated(outside, self.constants).items() if number is not None)
             if isinstance(node, c_ast.Typedef):
                 self.types[node.name] = node.type
             elif isinstance(node, c_ast.FuncDef):
@@ -48,21 +51,6 @@ class Declarations:
                 self.functions.add(node.name)
             elif isinstance(node, c_ast.Decl) and node.name:
                 self.globals[node.name] = self.variable(node, node.name)
-
-    def enumerated(self, node: c_ast.Node) -> dict[str, int]:
-        """The constants of the enumerations in a declaration, as far as their values are numbers."""
-        found: dict[str, int] = {}
-        for part in nodes(node):
-            following: int | None = 0
-            for one in part.enumerators if isinstance(part, c_ast.EnumeratorList) else []:
-                if one.value is not None:
-                    following = number_of(one.value, {**self.constants, **found})
-                if following is not None and INT.has(following):
-                    found[one.name] = following
-                    following += 1
-                else:
-                    following = None
-        return found
 
     def variable(self, node: c_ast.Decl, key: str) -> Variable:
         """A declared variable; one that isn't for whole numbers, or is volatile, isn't followed."""
@@ -113,6 +101,24 @@ class Declarations:
         return None
 
 
+def enumerated(node: c_ast.Node, constants: Mapping[str, int]) -> dict[str, int | None]:
+    """The constants of the enumerations in a declaration, with their numbers as far as these are known; others are in scope there."""
+    known, found = dict(constants), dict[str, int | None]()
+    for part in nodes(node):
+        following: int | None = 0
+        for one in part.enumerators if isinstance(part, c_ast.EnumeratorList) else []:
+            if one.value is not None:
+                following = number_of(one.value, known)
+            if following is not None and not INT.has(following):
+                following = None
+            found[one.name] = following
+            known.pop(one.name, None)
+            if following is not None:
+                known[one.name] = following
+                following += 1
+    return found
+
+
 def number_of(node: c_ast.Node, constants: Mapping[str, int]) -> int | None:
     """The value of an expression that is a number for the compiler."""
     term = None if has_effects(node) else constant_term(node, constants)
@@ -133,7 +139,7 @@ def constant_term(node: c_ast.Node, constants: Mapping[str, int]) -> Term | None
     if not isinstance(node, c_ast.BinaryOp):
         return None
     left, right = constant_term(node.left, constants), constant_term(node.right, constants)
-    if left is None or right is None or left.value is None or right.value is None:
+    if left is None or right is None or left.value is None or right.value is None or left.type is None or right.type is None:
         return None
     if node.op in ("<<", ">>", "&", "|", "^"):
         return bits(node.op, left, right, 0)

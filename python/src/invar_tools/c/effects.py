@@ -14,6 +14,23 @@ def has_effects(node: c_ast.Node) -> bool:
     return any(isinstance(part, c_ast.FuncCall) or modified(part) is not None for part in nodes(node))
 
 
+def has_sequence(node: c_ast.Node) -> bool:
+    """Whether an expression has parts that are done before others: a call, a comma, a choice."""
+    kinds = (c_ast.FuncCall, c_ast.ExprList, c_ast.TernaryOp)
+    return any(isinstance(part, kinds) or isinstance(part, c_ast.BinaryOp) and part.op in ("&&", "||") for part in nodes(node))
+
+
+def sized_by_effects(node: c_ast.Node) -> list[int]:
+    """The lines of arrays whose size has effects, wherever their types stand."""
+    return [line_of(part) for part in nodes(node) if isinstance(part, c_ast.ArrayDecl) and part.dim is not None and has_effects(part.dim)]
+
+
+def enumerations_within(node: c_ast.Node) -> list[int]:
+    """The lines of enumerations in the types that casts and sizes name."""
+    types = [part for part in nodes(node) if isinstance(part, c_ast.Typename)]
+    return [line_of(part) for one in types for part in nodes(one) if isinstance(part, c_ast.EnumeratorList)]
+
+
 def modified(node: c_ast.Node) -> c_ast.Node | None:
     """What an expression changes by itself."""
     if isinstance(node, c_ast.Assignment):

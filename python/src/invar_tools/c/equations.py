@@ -77,7 +77,6 @@ def polynomial(node: c_ast.Node, here: Known, before: Known) -> Polynomial | Non
 def at_beginning(node: c_ast.FuncCall, before: Known) -> Polynomial | None:
     """The value of `\\old(x)` and of `\\at(x, Pre)`."""
     arguments = [getattr(one, "name", None) for one in node.args.exprs] if node.args is not None else []
-    name = getattr(node.name, "name", None)
-    if name == OLD and len(arguments) == 1 or name == AT and arguments[1:] == ["Pre"]:
-        return before(arguments[0])
-    return None
+    name, first = getattr(node.name, "name", None), arguments[0] if arguments else None
+    is_of_beginning = name == OLD and len(arguments) == 1 or name == AT and arguments[1:] == ["Pre"]
+    return before(first) if is_of_beginning and isinstance(first, str) else None

@@ -7,8 +7,8 @@ from dataclasses import dataclass, field, replace
 from pycparser import c_ast, c_generator
 
 from .acsl import RESERVED
-from .declarations import Declarations, Variable, number_of
-from .effects import STEPS, accesses, has_effects
+from .declarations import Declarations, Variable, enumerated, number_of
+from .effects import STEPS, accesses, enumerations_within, has_effects, has_sequence, sized_by_effects
 from .equations import conjuncts, equations_of, is_remainder
 from ..polynomials import Polynomial
 from .sources import LOOPS, Loop, Refusal, is_stated, line_of, nodes, statements
@@ -39,6 +39,8 @@ class Lowering:
     out: list[Statement] = field(default_factory=list)
     behind: list[Statement] = field(default_factory=list)
     """What is done once the value of an expression is known."""
+    has_sequence: bool = False
+    """Whether the expression at hand has parts that are done before others, so that what waits may be done in its midst."""
     temporaries: int = 0
     loops: int = 0
     begins: Mapping[str, str] = field(default_factory=dict)
@@ -58,6 +60,16 @@ class Lowering:
     def resolve(self, name: str) -> Variable | None:
         return next((scope[name] for scope in reversed(self.scopes) if name in scope), self.declared.globals.get(name))
 
+    def constants(self) -> dict[str, int]:
+        """The constants of enumerations in scope, with their numbers."""
+        known = dict(self.declared.constants)
+        for scope in self.scopes:
+            for name, variable in scope.items():
+                known.pop(name, None)
+                if variable.number is not None:
+                    known[name] = variable.number
+        return known
+
     def keys(self) -> dict[str, str]:
         """The variables in scope by their keys, with the names by which they are known here."""
         names = dict(self.declared.globals)
@@ -75,10 +87,12 @@ class Lowering:
         if variable.key is not None:
             taken = self.in_scope()
             keys = (name, *(f"{name}'{number}" for number in range(2, 1000)))
-            variable = replace(variable, key=next(key for key in keys if key not in taken))
-            self.types[variable.key] = variable.type
+            key = next(key for key in keys if key not in taken)
+            variable = replace(variable, key=key)
+            if variable.type is not None:
+                self.types[key] = variable.type
             if name in self.addressed and not variable.is_fixed():
-                self.hidden.append(variable.key)
+                self.hidden.append(key)
         self.scopes[-1][name] = variable
         return variable
 
@@ -143,6 +157,7 @@ class Lowering:
         elif isinstance(node, c_ast.Typedef):
             known = self.declared.types
             self.declared.types = {**known, node.name: None if node.name in known else node.type}
+            self.enumerate(node)
         elif not isinstance(node, (c_ast.EmptyStatement, c_ast.Pragma, c_ast.StaticAssert)):
             self.effects(node)
 
@@ -150,16 +165,17 @@ class Lowering:
 
     def value_here(self, name: str) -> Polynomial | None:
         """The value of a name where an annotation stands."""
-        variable = self.resolve(name)
-        if variable is None and name in self.declared.constants:
-            return Polynomial.constant(self.declared.constants[name])
+        variable, constants = self.resolve(name), self.constants()
+        if name in constants:
+            return Polynomial.constant(constants[name])
         return None if variable is None or variable.key is None else Polynomial.variable(variable.key)
 
     def value_before(self, name: str) -> Polynomial | None:
         """The value of a parameter or of a global variable where the function begins."""
         variable = self.resolve(name)
-        known = variable is not None and variable.key in self.begins
-        return Polynomial.variable(variable.key + BEFORE) if known else self.value_here(name) if variable is None else None
+        if variable is None:
+            return self.value_here(name)
+        return Polynomial.variable(variable.key + BEFORE) if variable.key is not None and variable.key in self.begins else None
 
     def value_behind(self, name: str) -> Polynomial | None:
         """The value of a name where the function ends: a parameter keeps that of its beginning."""
@@ -199,24 +215,32 @@ class Lowering:
     # statements that declare, and loops
 
     def declaration(self, node: c_ast.Decl) -> None:
-        self.declared.constants = {**self.declared.constants, **self.declared.enumerated(node)}
+        self.enumerate(node)
         if node.name is None or isinstance(node.type, c_ast.FuncDecl):
             return
         variable = self.declared.variable(node, node.name)
-        if "extern" in node.storage or "static" in node.storage and self.loops:
+        if "extern" in node.storage:
+            self.scopes[-1][node.name] = self.declared.globals.get(node.name, replace(variable, key=None))
+            return
+        if "static" in node.storage and self.loops:
             variable = replace(variable, key=None)
         variable = self.declare(node.name, variable)
         if "static" in node.storage and variable.key is not None:
             self.hidden.append(variable.key)
             self.emit(Set(variable.key, unknown(f"a static variable in line {line_of(node)}")))
         elif variable.key is None:
-            if node.init is not None and not node.storage:
+            if node.init is not None and "static" not in node.storage:
                 self.effects(node.init)
         elif node.init is None:
             self.emit(Declared(variable.key))
         else:
             self.careful(node.init)
             self.store(variable, self.term(node.init), line_of(node))
+
+    def enumerate(self, node: c_ast.Node) -> None:
+        """The constants of the enumerations that a declaration has are names of the innermost scope."""
+        for name, number in enumerated(node, self.constants()).items():
+            self.scopes[-1][name] = Variable(None, None, number=number)
 
     def loop(self, node: Loop) -> None:
         around = self.in_scope()
@@ -272,7 +296,7 @@ class Lowering:
         """A choice by a test, whose effects come before or behind it; the arms are made where they are wanted."""
         if isinstance(node, c_ast.UnaryOp) and node.op == "!":
             self.branch(node.expr, no, yes)
-        elif isinstance(node, c_ast.BinaryOp) and node.op in ("&&", "||") and has_effects(node.right):
+        elif isinstance(node, c_ast.BinaryOp) and node.op in ("&&", "||") and has_effects(node):
             once_yes, once_no = once(yes), once(no)
 
             def behind() -> tuple[Statement, ...]:
@@ -284,10 +308,11 @@ class Lowering:
                 self.effects(part)
             self.branch(node.exprs[-1], yes, no)
         else:
-            self.careful(node)
-            known = number_of(node, self.declared.constants)
+            outer = self.careful(node)
+            known = number_of(node, self.constants())
             waiting, self.behind = self.behind, []
             test = self.test(node)
+            self.has_sequence = outer
             effects, self.behind = tuple(self.behind), []
             arms = (*yes(),), (*no(),)
             if known is None or turns_in(arms[known != 0]):
@@ -320,10 +345,10 @@ class Lowering:
         value, divisor = self.term(node.left), self.term(node.right)
         modulus = divisor.value.value() if divisor.value is not None else None
         rest = right.value.value() if right.value is not None else None
-        if value.value is None or value.type is None or not modulus or rest is None:
+        if value.value is None or value.type is None or divisor.type is None or not modulus or rest is None:
             return Test(text)
         value = settled(converted(value, common(value.type, divisor.type), ""))
-        if value.value is None:
+        if value.value is None or value.type is None:
             return Test(text)
         size = abs(int(modulus))
         same = (Rest(value.value, size, int(rest), value.needs),)
@@ -346,13 +371,17 @@ class Lowering:
         if isinstance(node, c_ast.Cast) and isinstance(node.to_type, c_ast.Typename):
             self.effects(node.expr)
             return
-        self.careful(node)
+        outer = self.careful(node)
         self.term(node)
         self.flush()
+        self.has_sequence = outer
 
-    def careful(self, node: c_ast.Node) -> None:
-        """Refuses an expression that changes a variable and reads it elsewhere, with no order between the two."""
+    def careful(self, node: c_ast.Node) -> bool:
+        """Refuses an expression that changes a variable and reads it elsewhere, with no order between the two. Gives whether that around it has
+        parts that are done before others."""
         accesses(node, {*self.hidden, *self.declared.globals, *self.addressed})
+        outer, self.has_sequence = self.has_sequence, has_sequence(node)
+        return outer
 
     def term(self, node: c_ast.Node) -> Term:
         """The value of an expression; its effects are emitted."""
@@ -388,8 +417,9 @@ class Lowering:
 
     def name(self, node: c_ast.ID) -> Term:
         variable = self.resolve(node.name)
-        if variable is None and node.name in self.declared.constants:
-            return constant(self.declared.constants[node.name])
+        constants = self.constants()
+        if node.name in constants:
+            return constant(constants[node.name])
         if variable is None or variable.key is None:
             return unknown(f"{node.name}, which is no variable for whole numbers, in line {line_of(node)}")
         return Term(Polynomial.variable(variable.key), variable.type)
@@ -410,7 +440,7 @@ class Lowering:
             return inside if inside.value is None and node.op in "+-" else unknown(f"the operator {node.op} in line {line_of(node)}")
         kind = inside.type.promoted()
         inside = converted(inside, kind, "")
-        if node.op == "+":
+        if node.op == "+" or inside.value is None:
             return inside
         return replace(inside, value=inside.value.scaled(-1), settled=kind.signed)
 
@@ -426,11 +456,25 @@ class Lowering:
             return old
         new = combined("+", old, constant(STEPS[node.op]))
         kept = Set(variable.key, for_variable(new, variable, f"{node.expr.name} in line {line_of(node)}"))
-        if node.op.startswith("p"):
+        if node.op.startswith("p") and not self.has_sequence:
             self.behind.append(kept)
+            return old
+        if node.op.startswith("p"):
+            old = self.held(old)
+            self.emit(kept)
             return old
         self.emit(kept)
         return self.name(node.expr)
+
+    def held(self, term: Term) -> Term:
+        """A value as that of a temporary, which nothing changes."""
+        if term.value is None or term.type is None:
+            return term
+        self.temporaries += 1
+        key = f"?:{self.temporaries}"
+        self.types[key] = term.type
+        self.emit(Set(key, settled(term)))
+        return Term(Polynomial.variable(key), term.type)
 
     def binary(self, node: c_ast.BinaryOp) -> Term:
         line = line_of(node)
@@ -475,6 +519,8 @@ class Lowering:
         left, line, sign = self.name(node.lvalue), line_of(node), node.op.removesuffix("=")
         if right.value is None or right.type is None:
             return right
+        if left.type is None:
+            return left
         if sign in ("<<", ">>", "&", "|", "^"):
             return bits(sign, left, right, line)
         kind = common(left.type, right.type)
@@ -482,7 +528,9 @@ class Lowering:
         return quotient(sign, settled(left), settled(right), kind, line) if sign in "/%" else combined(sign, left, right)
 
     def store(self, variable: Variable, value: Term, line: int) -> None:
-        self.emit(Set(variable.key, for_variable(value, variable, f"{variable.key.partition(chr(39))[0]} in line {line}")))
+        if variable.key is not None:
+            where = f"{variable.key.partition(chr(39))[0]} in line {line}"
+            self.emit(Set(variable.key, for_variable(value, variable, where)))
 
     def stored_elsewhere(self, target: c_ast.Node) -> None:
         """A store in a part of an array or of a structure, or where a pointer points."""
@@ -513,9 +561,7 @@ class Lowering:
             self.term(argument)
         self.flush()
         known = name in self.declared.functions or isinstance(name, str) and self.resolve(name) is not None
-        maybe = [] if known or self.declared.whole else [part for one in arguments for part in nodes(one) if isinstance(part, c_ast.ID)]
-        written = [variable.key for part in maybe if (variable := self.resolve(part.name)) is not None and variable.key is not None]
-        self.touch(reason, written)
+        self.touch(reason, [] if known or self.declared.whole else sorted(self.in_scope()))
         return unknown(reason)
 
     def conditional(self, node: c_ast.TernaryOp) -> Term:
@@ -538,10 +584,11 @@ class Lowering:
             return make
 
         self.branch(node.cond, arm(node.iftrue), arm(node.iffalse))
-        if not kinds or None in kinds:
+        known = [kind for kind in kinds if kind is not None]
+        if not known or len(known) < len(kinds):
             return unknown(f"a conditional expression in line {line_of(node)}")
-        kind = kinds[0] if len(kinds) == 1 else common(kinds[0], kinds[1])
-        if any(not kind.holds(one) for one in kinds):
+        kind = known[0] if len(known) == 1 else common(known[0], known[1])
+        if any(not kind.holds(one) for one in known):
             return unknown(f"a conditional expression in line {line_of(node)}")
         self.types[key] = kind
         return Term(Polynomial.variable(key), kind)
@@ -572,7 +619,7 @@ def flattened(items: list[c_ast.Node]) -> list[tuple[bool, c_ast.Node]]:
 
 def for_variable(term: Term, variable: Variable, where: str) -> Term:
     """A value as it is stored in a variable."""
-    reason = f"{variable.type.name} {where} may not hold it"
+    reason = f"{'its type' if variable.type is None else variable.type.name} {where} may not hold it"
     return settled(converted(term, variable.type, reason), reason)
 
 
@@ -590,7 +637,7 @@ class Function:
 def lowered(function: c_ast.FuncDef, declared: Declarations, promised: Iterable[c_ast.Node] = ()) -> Function:
     """The statements of a function, of which an author states predicates at its end."""
     lowering = Lowering(replace(declared, constants=dict(declared.constants)))
-    lowering.types = {variable.key: variable.type for variable in declared.globals.values() if variable.key is not None}
+    lowering.types = {variable.key: variable.type for variable in declared.globals.values() if variable.key is not None and variable.type is not None}
     pointed = [node.expr for node in nodes(function) if isinstance(node, c_ast.UnaryOp) and node.op == "&"]
     lowering.addressed = {node.name for node in pointed if isinstance(node, c_ast.ID)}
     lowering.scopes.append({})
@@ -605,5 +652,9 @@ def lowered(function: c_ast.FuncDef, declared: Declarations, promised: Iterable[
         lowering.types[RESULT] = kind
     found = [equations_of(one, PROMISE, line_of(one), lowering.value_behind, lowering.value_before) for one in promised]
     lowering.promised = tuple(equation for part in found for equation in part)
+    for line in sized_by_effects(function):
+        raise Refusal(line, "an effect in the size of an array")
+    for line in enumerations_within(function):
+        raise Refusal(line, "an enumeration inside of an expression")
     block = lowering.block(function.body.block_items or [])
     return Function((block, Claim((), lowering.promised)), lowering.types, begins, lowering.questions(lowering.homeless))

@@ -9,7 +9,7 @@ from pathlib import Path
 
 HEADERS = Path(__file__).resolve().parent / "headers"
 
-EXTENSIONS = ["__attribute__(x)=", "__extension__=", "__restrict=restrict", "__inline=inline", "__inline__=inline", "__signed__=signed"]
+EXTENSIONS = ["__attribute=__attribute__", "__extension__=", "__restrict=restrict", "__inline=inline", "__inline__=inline", "__signed__=signed"]
 """Words of compilers, which say nothing of values."""
 
 STANDARD_INPUT = "<stdin>"
@@ -39,28 +39,28 @@ class Made:
 def preprocessed(text: str, path: Path, folders: list[Path], macros: list[str]) -> Made:
     """The lines that `cpp` makes of the text of a file. A header that isn't found counts as empty."""
     with tempfile.TemporaryDirectory() as name:
-        words = ["-nostdinc", "-D__FRAMAC__", *(f"-D{macro}" for macro in EXTENSIONS + macros), "-iquote", str(path.parent)]
+        words = ["-nostdinc", "-D__FRAMAC__", *(f"-D{macro}" for macro in EXTENSIONS + macros), "-iquote", str(path.parent.resolve())]
         empty = Path(name) / "1" / "2" / "3"
-        words += [f"-I{folder}" for folder in folders] + ["-isystem", str(HEADERS), "-isystem", str(empty)]
-        missing = stood_in(text, words, empty)
-        done = cpp(text, *words)
+        words += [f"-I{folder.resolve()}" for folder in folders] + ["-isystem", str(HEADERS), "-isystem", str(empty)]
+        missing = stood_in(text, words, empty, name)
+        done = cpp(text, name, *words)
     if done.returncode != 0:
         fault = re.search(rf"{STANDARD_INPUT}:(\d+):\d+: (?:fatal )?error: (.*)", done.stderr)
         return Made(fault=(int(fault[1]), fault[2]) if fault else (0, done.stderr.strip()))
     return Made(numbered(done.stdout), missing)
 
 
-def cpp(text: str, *words: str) -> subprocess.CompletedProcess[str]:
+def cpp(text: str, place: str, *words: str) -> subprocess.CompletedProcess[str]:
+    """What `cpp` makes of a text in a folder that has no headers, so that those that are found have absolute paths."""
     call = ["cpp", *words, "-"]
-    return subprocess.run(call, input=text, capture_output=True, check=False, encoding="utf-8", errors="surrogateescape")
+    return subprocess.run(call, input=text, cwd=place, capture_output=True, check=False, encoding="utf-8", errors="surrogateescape")
 
 
-def stood_in(text: str, words: list[str], folder: Path) -> list[str]:
+def stood_in(text: str, words: list[str], folder: Path, place: str) -> list[str]:
     """Makes empty files in a folder for the headers that a text wants and that aren't found, and gives their names."""
-    wanted = cpp(text, "-M", "-MG", *words).stdout.replace("\\\n", " ").partition(":")[2]
+    wanted = cpp(text, place, "-M", "-MG", *words).stdout.replace("\\\n", " ").partition(":")[2]
     names = [name.replace("\\ ", " ") for name in re.findall(r"(?:\\ |\S)+", wanted)]
-    near = [name for name in names if name != "-" and not Path(name).is_absolute() and Path(name).parts.count("..") <= 3]
-    missing = [name for name in near if not Path(name).exists()]
+    missing = [name for name in names if name != "-" and not Path(name).is_absolute() and Path(name).parts.count("..") <= 3]
     folder.mkdir(parents=True)
     for name in missing:
         (folder / name).parent.mkdir(parents=True, exist_ok=True)

@@ -112,9 +112,24 @@ def read_source(path: Path, folders: list[Path], macros: list[str]) -> Source:
     made = preprocessed(said, path, folders, macros)
     if made.fault is not None:
         raise Refusal(made.fault[0], f"the preprocessor says: {made.fault[1]}")
-    code = re.sub(r"[\r\f]", " ", "\n".join(line.text for line in made.lines))
+    code = without_attributes(re.sub(r"[\r\f]", " ", "\n".join(line.text for line in made.lines)))
     pieces = list(Reader(is_whole=not made.missing).pieces(code, made.lines))
     return Source(path, text, without_comments(text, blanks), pieces, places(text, bare(code), made.lines), made.missing, unread)
+
+
+ATTRIBUTE = re.compile(r"\b__attribute__\b\s*")
+CHANGING = re.compile(r"\b_*(mode|cleanup|vector_size|ext_vector_type|alias|weakref)_*\b")
+"""Attributes that change a type, run code or give a variable a second name: what has one isn't read."""
+
+
+def without_attributes(code: str) -> str:
+    """A C text with blanks for attributes, but for those that change what it means."""
+    shown = bare(code)
+    for found in ATTRIBUTE.finditer(shown):
+        end = closing(shown, found.end())
+        if not CHANGING.search(code, found.end(), end):
+            code = code[: found.start()] + blanks(code[found.start() : end]) + code[end:]
+    return code
 
 
 def places(text: str, code: str, lines: list[Line]) -> dict[tuple[int, int], int]:
@@ -172,6 +187,11 @@ class Reader:
     def read(self, piece: str, lines: list[Line], own: bool) -> Piece:
         """The piece of a text; of a header only what it declares counts."""
         loops = [lines[row].number for row in loop_rows(bare(piece))] if own else []
+        changing = ATTRIBUTE.search(bare(piece))
+        if changing:
+            word = CHANGING.search(piece, changing.end())
+            row = piece.count("\n", 0, changing.start())
+            return Piece([], Refusal(lines[row].number, f"the attribute {word[1] if word else ''}"), loops, own)
         guessed = {} if is_promise(piece) else guessed_types(bare(piece))
         known = [*self.types, *(name for name in guessed if name not in self.types)]
         prelude = f"typedef int {', '.join(known)};" if known else ""

@@ -119,7 +119,7 @@ class Starts:
             state = self.anything(loop.around)
         scope = frozenset(state.of)
         state = self.through(loop.init, state, loop) or state
-        self.at[loop] = self.joined(self.at.get(loop), state)
+        self.at[loop] = self.joined(self.at.get(loop), state) or state
         state = self.unknown(state, changed([*loop.body, *loop.next]))
         following = self.through(loop.body, state, loop)
         self.through(loop.next, following, loop)

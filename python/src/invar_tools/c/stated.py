@@ -45,6 +45,8 @@ class Reader:
     def in_c(self, comment: str, at: int) -> str:
         """What stands for a comment at a place of the text: as many lines, and the same where it states nothing that is read."""
         parts = COMMENT.fullmatch(comment)
+        if parts is None:
+            return comment
         marked, text = parts["mark"] or parts["mark_of_line"], parts["text"] or parts["text_of_line"] or ""
         asserted, asked = ASSERTED.fullmatch(text), ASKED.fullmatch(text)
         said = None
@@ -52,7 +54,7 @@ class Reader:
             said = self.question(asked[1], at)
         elif marked and asserted and self.is_statement(at):
             said = call(ASSERTION, predicate(asserted[1]))
-        elif marked and PROMISED.search(text) and self.depth(at) == 0:
+        elif marked and PROMISED.search(text) and self.depth(at) == 0 and not self.is_behind_head(at):
             return promises(text)
         return comment if said is None else said + "\n" * comment.count("\n")
 
@@ -68,6 +70,10 @@ class Reader:
     def is_statement(self, at: int) -> bool:
         """Whether a statement may stand at a place without being the one that a test before it guards."""
         return self.shown[:at].rstrip()[-1:] in tuple(";{}:")
+
+    def is_behind_head(self, at: int) -> bool:
+        """Whether a place outside of functions stands between the head of one and its body."""
+        return self.shown[:at].rstrip().endswith(")")
 
     def depth(self, at: int) -> int:
         return self.shown.count("{", 0, at) - self.shown.count("}", 0, at)

@@ -62,7 +62,7 @@ def character(text: str) -> int | None:
 
 def settled(term: Term, reason: str = "") -> Term:
     """A term whose polynomial is the value where its needs are met."""
-    if term.settled or term.value is None:
+    if term.settled or term.value is None or term.type is None:
         return term
     return replace(term, needs=(*term.needs, Within(term.value, term.type, reason)), settled=True)
 
@@ -80,18 +80,22 @@ def converted(term: Term, kind: Whole | None, reason: str) -> Term:
         return term
     if not kind.signed and not kind.either and (term.type.signed and term.settled or not term.settled and kind.most_bits <= term.type.bits):
         return replace(term, type=kind, settled=False)
-    term = settled(term, reason)
-    if kind.holds(term.type):
-        return replace(term, type=kind)
-    return replace(term, type=kind, needs=(*term.needs, Within(term.value, kind, reason)))
+    sure = settled(term, reason)
+    if sure.value is None or sure.type is None or kind.holds(sure.type):
+        return replace(sure, type=kind)
+    return replace(sure, type=kind, needs=(*sure.needs, Within(sure.value, kind, reason)))
 
 
 def combined(sign: str, left: Term, right: Term) -> Term:
     """A sum, a difference or a product of values that are promoted to one type here."""
-    if left.value is None or right.value is None:
-        return left if left.value is None else right
+    if left.value is None or left.type is None:
+        return left
+    if right.value is None or right.type is None:
+        return right
     kind = common(left.type, right.type)
     left, right = converted(left, kind, ""), converted(right, kind, "")
+    if left.value is None or right.value is None:
+        return left if left.value is None else right
     if sign == "*":
         value = left.value * right.value
     else:
@@ -136,7 +140,7 @@ def bits(sign: str, left: Term, right: Term, line: int) -> Term:
 
 def below(term: Term, kind: Whole) -> tuple[Fact, ...]:
     """What it says that a value is less than another one of its type: where that is unsigned, one more fits."""
-    return () if kind.signed else (Below(term.value, kind, term.needs),)
+    return () if kind.signed or term.value is None else (Below(term.value, kind, term.needs),)
 
 
 def compared(sign: str, left: Term, right: Term) -> tuple[tuple[Fact, ...], tuple[Fact, ...]]:

@@ -187,10 +187,9 @@ class Writer:
     def has_room(self) -> bool:
         """Whether a text can have the assignments of each path as they stand, with local names for temporaries."""
         paths = [self.steps(edge) for stage in self.stages for edge in [stage.code, *stage.walk.edges]]
-        if None in paths:
-            return False
-        steps = [step for path in paths for step in path]
-        return len(steps) <= MOST_STATEMENTS and len({step.name for step in steps} - {*self.kept}) <= MOST_LOCALS
+        known = [path for path in paths if path is not None]
+        steps = [step for path in known for step in path]
+        return len(known) == len(paths) and len(steps) <= MOST_STATEMENTS and len({step.name for step in steps} - {*self.kept}) <= MOST_LOCALS
 
     def steps(self, edge: Edge) -> list[Step] | None:
         return needed(edge, {*self.kept})
@@ -231,8 +230,8 @@ class Writer:
         value = self.start.of.get(name)
         if value is None:
             return Polynomial.constant(0) if name in self.moving else None
-        images = {symbol: self.symbol(symbol) for symbol in sorted(value.names())}
-        if all(image is not None for image in images.values()):
+        images = {symbol: image for symbol in sorted(value.names()) if (image := self.symbol(symbol)) is not None}
+        if images.keys() == {*value.names()}:
             written = value.substituted({symbol: Polynomial.variable(image) for symbol, image in images.items()})
             return None if written == Polynomial.variable(self.names.variable(name)) else written
         return Polynomial.variable(self.entry(name)) if name in self.moving else None
@@ -242,7 +241,7 @@ class Writer:
         if not self.in_steps:
             return self.statement(edge)
         order: list[str] = []
-        steps = self.steps(edge)
+        steps = self.steps(edge) or []
         for step in steps:
             if step.name not in self.kept:
                 self.names.local(step.name)

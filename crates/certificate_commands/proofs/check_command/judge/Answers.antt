@@ -21,7 +21,8 @@ returns-in-Ok-check c =
     IfOk-weaker c.verdict_answer.result _ _
     (λ a says. judged_said l c.args.bytes.now c.in-Ok.cert.certificate (answer_view a)
     (verdict (verdict_of c.in-Ok-check.verdict)) read
-    (c.in-Ok-check.ensures.free, c.in-Ok-check.ensures.verdict) says)
+    (c.in-Ok-check.ensures.free, c.in-Ok-check.ensures.verdict, c.in-Ok-check.ensures.short)
+    says)
     c.verdict_answer.ensures
 
 pub returns : goal.returns

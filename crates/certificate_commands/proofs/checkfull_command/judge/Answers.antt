@@ -11,7 +11,7 @@ returns-in-Ok-check_full c =
     IfOk-weaker c.verdict_answer.result _ _
     (λ a says. verdict_said (program_of c.args.lp.now) c.args.bytes.now (full_of c.in-Ok.cert)
     (answer_view a) c.in-Ok.ensures.ok c.in-Ok-check_full.verdict verdict.free verdict.verdict
-    verdict.complete says)
+    verdict.complete verdict.few says)
     c.verdict_answer.ensures
 
 pub returns : goal.returns

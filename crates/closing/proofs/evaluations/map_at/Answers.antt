@@ -6,10 +6,10 @@ use Rattle.algebra.proofs.IntRing.{ℤ_ring}
 use Rattle.polynomials.specs.Terms.{value_at}
 use Rattle.closures.specs.Modulo.{AreCongruent}
 use Rattle.poly.specs.View.{terms_of}
-use Rattle.closing.specs.Modulus.{modulus}
-use Rattle.closing.specs.Numbers.{number_of, numbers_of}
+use Rattle.residue_rows.specs.Modulus.{modulus}
+use Rattle.residue_rows.specs.Numbers.{number_of, numbers_of}
 use Rattle.closing.specs.Maps.{modular_terms}
-use Rattle.closing.proofs.Powers.{row_more, row_all}
+use Rattle.residue_rows.proofs.Powers.{row_more, row_all}
 use Rattle.closing.proofs.evaluations.map_at.Goals as goal
 
 pub loop-polynomial-preserved : goal.loop-polynomial-preserved

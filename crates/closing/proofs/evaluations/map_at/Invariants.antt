@@ -4,8 +4,8 @@ use Rattle.algebra.specs.Ring.{operations}
 use Rattle.algebra.proofs.IntRing.{ℤ_ring}
 use Rattle.polynomials.specs.Terms.{value_at}
 use Rattle.closures.specs.Modulo.{AreCongruent}
-use Rattle.closing.specs.Modulus.{modulus}
-use Rattle.closing.specs.Numbers.{numbers_of}
+use Rattle.residue_rows.specs.Modulus.{modulus}
+use Rattle.residue_rows.specs.Numbers.{numbers_of}
 use Rattle.closing.specs.Maps.{modular_terms}
 use Rattle.closing.proofs.evaluations.map_at.Given as goal
 

@@ -5,10 +5,10 @@ use Rattle.algebra.proofs.IntRing.{ℤ_ring}
 use Rattle.polynomials.specs.Terms.{value_at}
 use Rattle.poly.specs.View.{terms_of}
 use Rattle.loop_runs.proofs.Iterations.{drop_read}
-use Rattle.closing.specs.Modulus.{modulus}
-use Rattle.closing.specs.Numbers.{number_of, numbers_of}
-use Rattle.closing.proofs.Congruences.{sum_begins}
-use Rattle.closing.proofs.Powers.{term_goes, term_ends}
+use Rattle.residue_rows.specs.Modulus.{modulus}
+use Rattle.residue_rows.specs.Numbers.{number_of, numbers_of}
+use Rattle.residue_rows.proofs.Congruences.{sum_begins}
+use Rattle.residue_rows.proofs.Powers.{term_goes, term_ends}
 use Rattle.closing.proofs.evaluations.terms_at.Goals as goal
 
 pub loop-term-init : goal.loop-term-init

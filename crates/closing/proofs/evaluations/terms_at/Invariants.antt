@@ -4,8 +4,8 @@ use Rattle.algebra.proofs.IntRing.{ℤ_ring}
 use Rattle.polynomials.specs.Terms.{value_at}
 use Rattle.closures.specs.Modulo.{AreCongruent}
 use Rattle.poly.specs.View.{terms_of}
-use Rattle.closing.specs.Modulus.{modulus}
-use Rattle.closing.specs.Numbers.{number_of, numbers_of}
+use Rattle.residue_rows.specs.Modulus.{modulus}
+use Rattle.residue_rows.specs.Numbers.{number_of, numbers_of}
 use Rattle.closing.proofs.evaluations.terms_at.Given as goal
 
 abbrev pub invariant-loop-term : goal.invariant-loop-term

@@ -2,7 +2,7 @@ use Rattle.std.proofs.Common.{pos, is_some, ap, subst}
 use Rattle.std.specs.Prelude.{IfSome}
 use Rattle.std.specs.List.{AllZip, Any}
 use Rattle.poly.specs.Seen.{terms_in, terms_each}
-use Rattle.closing.specs.Modulus.{modulus}
+use Rattle.residue_rows.specs.Modulus.{modulus}
 use Rattle.closing.specs.Modulo.{AreTermsModulo, HasNoResidues}
 use Rattle.closing.specs.Maps.{modular_terms_each, IsMapModulo}
 use Rattle.closing.proofs.Modular.{zip_more, some_item}

@@ -1,7 +1,7 @@
 use Rattle.std.proofs.Common.{pos, is_some, ap, subst}
 use Rattle.std.specs.Prelude.{IfSome}
 use Rattle.poly.specs.Seen.{terms_in}
-use Rattle.closing.specs.Modulus.{modulus}
+use Rattle.residue_rows.specs.Modulus.{modulus}
 use Rattle.closing.specs.Modulo.{AreTermsModulo, HasNoResidues}
 use Rattle.closing.specs.Maps.{modular_terms}
 use Rattle.closing.proofs.Modular.{images_more, some_item}

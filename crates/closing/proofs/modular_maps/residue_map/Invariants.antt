@@ -1,7 +1,7 @@
 use Rattle.std.proofs.Common.{pos, take}
 use Rattle.std.specs.List.{AllZip}
 use Rattle.poly.specs.Seen.{terms_each}
-use Rattle.closing.specs.Modulus.{modulus}
+use Rattle.residue_rows.specs.Modulus.{modulus}
 use Rattle.closing.specs.Modulo.{AreTermsModulo}
 use Rattle.closing.specs.Maps.{modular_terms_each}
 use Rattle.closing.proofs.modular_maps.residue_map.Given as goal

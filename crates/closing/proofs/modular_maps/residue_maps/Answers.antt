@@ -3,7 +3,7 @@ use Rattle.std.specs.Prelude.{IfSome}
 use Rattle.std.specs.List.{AllZip, Any}
 use Rattle.poly.specs.Seen.{terms_in, terms_each}
 use Rattle.loop_model.specs.View.{program_of}
-use Rattle.closing.specs.Modulus.{modulus}
+use Rattle.residue_rows.specs.Modulus.{modulus}
 use Rattle.closing.specs.Modulo.{AreTermsModulo, HasNoResidues}
 use Rattle.closing.specs.Maps.{modular_terms_each, IsMapModulo}
 use Rattle.closing.proofs.Modular.{images_modulo, branches_modulo, start_undefined, branches_undefined}

@@ -2,8 +2,8 @@ use Rattle.std.proofs.Common.{pos, refl, ap, ◌∙◌}
 use Rattle.frac128.specs.FracMeaning.{fraction_of}
 use Rattle.poly.specs.View.{term_of}
 use Rattle.loop_model.proofs.Items.{in_list, item_of}
-use Rattle.closing.specs.Modulus.{modulus}
-use Rattle.closing.specs.Numbers.{number_of}
+use Rattle.residue_rows.specs.Modulus.{modulus}
+use Rattle.residue_rows.specs.Numbers.{number_of}
 use Rattle.closing.specs.Modulo.{IsTermModulo}
 use Rattle.closing.proofs.Modular.{images_more, term_modulo, no_residues}
 use Rattle.closing.proofs.modular_maps.residue_polynomial.Goals as goal

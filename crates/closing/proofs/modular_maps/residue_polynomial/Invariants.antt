@@ -1,8 +1,8 @@
 use Rattle.std.proofs.Common.{pos, take}
 use Rattle.frac128.specs.FracMeaning.{fraction_of}
 use Rattle.poly.specs.View.{terms_of}
-use Rattle.closing.specs.Modulus.{modulus}
-use Rattle.closing.specs.Numbers.{number_of}
+use Rattle.residue_rows.specs.Modulus.{modulus}
+use Rattle.residue_rows.specs.Numbers.{number_of}
 use Rattle.closing.specs.Modulo.{AreTermsModulo}
 use Rattle.closing.proofs.modular_maps.residue_polynomial.Given as goal
 

@@ -1,8 +1,8 @@
 use Rattle.std.proofs.Common.{pos, subst, arith}
 use Rattle.std.proofs.lemmas.List.{take_all}
 use Rattle.loop_model.specs.View.{program_of}
-use Rattle.closing.specs.Modulus.{modulus}
-use Rattle.closing.specs.Numbers.{numbers_of}
+use Rattle.residue_rows.specs.Modulus.{modulus}
+use Rattle.residue_rows.specs.Numbers.{numbers_of}
 use Rattle.closing.specs.Samples.{IsSampleState}
 use Rattle.closing.proofs.Letters.{letter_goes, index_within}
 use Rattle.closing.proofs.samples.end_state.Goals as goal

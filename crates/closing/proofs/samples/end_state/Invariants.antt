@@ -1,7 +1,7 @@
 use Rattle.std.proofs.Common.{ℕ, List, pos, [], take}
 use Rattle.loop_model.specs.View.{program_of}
-use Rattle.closing.specs.Modulus.{modulus}
-use Rattle.closing.specs.Numbers.{numbers_of}
+use Rattle.residue_rows.specs.Modulus.{modulus}
+use Rattle.residue_rows.specs.Numbers.{numbers_of}
 use Rattle.closing.specs.Samples.{IsSampleState}
 use Rattle.closing.proofs.samples.end_state.Given as goal
 

@@ -1,4 +1,4 @@
-use Rattle.closing.proofs.Drawn.{residues_more}
+use Rattle.residue_rows.proofs.Drawn.{residues_more}
 use Rattle.closing.proofs.samples.residues_of.Goals as goal
 
 pub loop-number-preserved : goal.loop-number-preserved

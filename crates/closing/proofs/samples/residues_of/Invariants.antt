@@ -1,5 +1,5 @@
 use Rattle.std.proofs.Common.{◌≡◌, pos, map, take}
-use Rattle.closing.specs.Numbers.{numbers_of}
+use Rattle.residue_rows.specs.Numbers.{numbers_of}
 use Rattle.closing.proofs.samples.residues_of.Given as goal
 
 abbrev pub invariant-loop-number : goal.invariant-loop-number

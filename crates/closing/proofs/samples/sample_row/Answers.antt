@@ -7,8 +7,8 @@ use Rattle.algebra.proofs.IntRing.{ℤ_ring}
 use Rattle.polynomials.specs.Terms.{monomial_at}
 use Rattle.closures.specs.Modulo.{AreCongruent}
 use Rattle.loop_model.specs.View.{program_of}
-use Rattle.closing.specs.Modulus.{modulus}
-use Rattle.closing.specs.Numbers.{number_of, numbers_of}
+use Rattle.residue_rows.specs.Modulus.{modulus}
+use Rattle.residue_rows.specs.Numbers.{number_of, numbers_of}
 use Rattle.closing.proofs.Ends.{sample_shows}
 use Rattle.closing.proofs.Letters.{length_both}
 use Rattle.closing.proofs.samples.sample_row.Goals as goal

@@ -7,8 +7,8 @@ use Rattle.polynomials.specs.Terms.{value_at}
 use Rattle.closures.specs.Modulo.{AreCongruent}
 use Rattle.loop_model.specs.View.{program_of}
 use Rattle.loop_model.proofs.Formed.{formed}
-use Rattle.closing.specs.Modulus.{modulus}
-use Rattle.closing.specs.Numbers.{numbers_of}
+use Rattle.residue_rows.specs.Modulus.{modulus}
+use Rattle.residue_rows.specs.Numbers.{numbers_of}
 use Rattle.closing.specs.Maps.{modular_terms_each}
 use Rattle.closing.proofs.Ends.{sample_begins}
 use Rattle.closing.proofs.samples.start_state.Goals as goal

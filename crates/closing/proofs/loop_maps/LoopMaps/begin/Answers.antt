@@ -3,7 +3,7 @@ use Rattle.std.specs.Prelude.{IfSome, IsNone}
 use Rattle.std.proofs.lemmas.Result.{err_from_is_err_and}
 use Rattle.closures.specs.Monomials.{monomials_up_to}
 use Rattle.closing.specs.LoopMaps.{program_in}
-use Rattle.closing.specs.Limits.{most_monomials}
+use Rattle.residue_rows.specs.Limits.{most_monomials}
 use Rattle.closing.specs.Maps.{AreMapsModulo}
 use Rattle.closing.proofs.Beginning.{begun_none, sampled_none}
 use Rattle.closing.proofs.KeptMaps.{kept_maps}

@@ -4,7 +4,7 @@ use Rattle.algebra.specs.Each.{Each}
 use Rattle.closures.specs.Monomials.{AreAscending}
 use Rattle.ideal_ops.specs.Calls.{AreOver}
 use Rattle.closing.proofs.ElementsLeft.{ascend_at, width_at, few_at, arities_at, told_left, none_left}
-use Rattle.closing.specs.declared.elements.ElementsError.TheVariants.{Wide}
+use Rattle.residue_rows.specs.declared.elements.ElementsError.TheVariants.{Wide}
 use Rattle.closing.proofs.Stopped.{begun_at}
 use Rattle.closing.proofs.sampling.Sampling.elements_left.Goals as goal
 
@@ -54,7 +54,8 @@ returns-in_ok-copy-in-Err-Wide-clause-stopped c = λ d ps a enough limit.
     none_left a (c.len.ensures.len ∙ ap length c.names.ensures.names) c.deref.ensures.value
     c.in-Err-Wide.lead _ (c.in-Err-Wide.ensures.place c.in-Err-Wide.lead (ap Err is))
     (c.in_ok-copy-in-Err-Wide.ensures.ok ∙ c.index.ensures)
-    (c.in-Err-Wide.ensures.leads c.in-Err-Wide.lead (ap Err is)) enough
+    (c.in-Err-Wide.ensures.leads c.in-Err-Wide.lead (ap Err is))
+    (c.in-Err-Wide.ensures.untold c.in-Err-Wide.lead (ap Err is)) enough
     (λ given p form poly candidate. c.in-Err-Wide.ensures.wide c.in-Err-Wide.lead (ap Err is) given
     p form poly candidate)
 

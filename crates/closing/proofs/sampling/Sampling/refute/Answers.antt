@@ -1,6 +1,6 @@
 use Rattle.std.proofs.Common.{Ok, inl, inr, length, arith, refl, ap, ◌∙◌}
 use Rattle.loop_model.specs.View.{program_of}
-use Rattle.closing.specs.Draws.{draws_from, after_draws}
+use Rattle.residue_rows.specs.Draws.{draws_from, after_draws}
 use Rattle.closing.proofs.Taking.{draws_length, refuted_counts, refuted_old, refuted_stuck}
 use Rattle.closing.proofs.sampling.Sampling.refute.Goals as goal
 

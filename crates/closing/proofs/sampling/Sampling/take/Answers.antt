@@ -1,7 +1,7 @@
 use Rattle.std.proofs.Common.{Ok, [], length, arith, refl, ap, ◌∙◌}
 use Rattle.machines.specs.Journal.{Journal}
 use Rattle.loop_model.specs.View.{program_of}
-use Rattle.closing.specs.Draws.{draws_from, after_draws}
+use Rattle.residue_rows.specs.Draws.{draws_from, after_draws}
 use Rattle.closing.proofs.Taking.{draws_length, few_taken, not_counted, taken_units, taken_counts, taken_idle, taken_stuck}
 use Rattle.closing.proofs.sampling.Sampling.take.Goals as goal
 

@@ -1,0 +1,9 @@
+pub mod Arguments
+pub mod Sources
+pub mod Texts
+pub mod Judging
+pub mod Course
+pub mod Headline
+pub mod Clauses
+pub mod Views
+pub mod Found

@@ -1,9 +1,0 @@
-use Rattle.std.proofs.Common.{pos, subst}
-use Rattle.closing.specs.Modulus.{modulus}
-use Rattle.closing.specs.EchelonForm.{Form, IsReducedEchelon}
-use Rattle.closing.proofs.echelon.Echelon.row_at.Goals as goal
-
-pub returns-clause-kept : goal.returns-clause-kept
-returns-clause-kept c =
-    subst (λ (e : Form). IsReducedEchelon (pos modulus) e.width e.rows) c.self.view_is
-    c.self.invariant

@@ -1,7 +1,0 @@
-use Rattle.std.proofs.Common.{◌≡◌, ◌<◌, ℕ, pos}
-use Rattle.closing.specs.EchelonForm.{entry}
-use Rattle.closing.specs.Numbers.{numbers_of}
-use Rattle.closing.proofs.echelon.first_nonzero.Given as goal
-
-abbrev pub invariant-loop-column : goal.invariant-loop-column
-invariant-loop-column l = (k : ℕ) → k < l.column → entry (numbers_of l.row) k ≡ pos 0

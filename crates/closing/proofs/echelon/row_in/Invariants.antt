@@ -1,7 +1,0 @@
-use Rattle.std.proofs.Common.{◌≢◌, take}
-use Rattle.algebra.specs.Each.{Each}
-use Rattle.closing.specs.LedRows.{leds_of}
-use Rattle.closing.proofs.echelon.row_in.Given as goal
-
-abbrev pub invariant-loop-row : goal.invariant-loop-row
-invariant-loop-row l = Each (λ r. r.lead ≢ l.column) (leds_of (take l.row-index l.rows))

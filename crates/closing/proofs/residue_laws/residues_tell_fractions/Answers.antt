@@ -1,5 +1,0 @@
-use Rattle.closing.proofs.Fractions.{one_fraction}
-use Rattle.closing.proofs.residue_laws.residues_tell_fractions.Goals as goal
-
-pub returns : goal.returns
-returns c = one_fraction

@@ -1,0 +1,11 @@
+pub mod Modulus
+pub mod Numbers
+pub mod Limited
+pub mod EuclidRests
+pub mod EchelonForm
+pub mod LedRows
+pub mod Additions
+pub mod Limits
+pub mod Draws
+pub mod Elements
+pub mod ElementParts

@@ -1,0 +1,6 @@
+int f(int n, int m)
+{
+    int i = 0, s = 0;
+    while (i < n) { s += 2; __asm__("addl $1, %0" : "+r" (s)); i++; }
+    return s;
+}
