@@ -1,7 +1,7 @@
 -- Moves of the code: a transition that is followed from a state.
 --   fractions_in xs       the numbers as fractions
 --   point_of vs s         values of the unknowns, and a state behind them
---   HasStateOver n t      the transition's polynomials are over its unknowns and n variables
+--   IsTransitionOver n t      the transition's polynomials are over its unknowns and n variables
 --   LeadsBy t vs s z      with the values vs of its unknowns the transition leads from s to z
 --   HasOther ps x         one of the polynomials ps isn't 0 at x;  HasPast ps x: the weight of its value is past
 use Rattle.std.specs.Prelude.{◌≡◌, ◌≢◌, ℕ, ◌+◌, List, ◌++◌, map, length, All}
@@ -24,7 +24,7 @@ fractions_in xs = map fraction_of xs
 abbrev pub point_of : List Frac → List Frac → List Fraction
 point_of vs s = fractions_in vs ++ fractions_in s
 
-pub record HasStateOver (n : ℕ) (t : Transition) : Type 0 where
+pub record IsTransitionOver (n : ℕ) (t : Transition) : Type 0 where
   pub zeros : All (IsInVariables (t.unknowns + n)) t.zeros.items
   pub images : All (IsInVariables (t.unknowns + n)) t.images.items
 

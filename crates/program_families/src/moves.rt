@@ -4,7 +4,7 @@ ghost use Rattle.algebra.specs.Fraction.{ℚ};
 ghost use Rattle.polynomials.specs.Terms.{value_at};
 ghost use Rattle.poly.specs.Seen.{terms_each};
 ghost use Rattle.poly.specs.Standing.{IsInVariables};
-ghost use Rattle.program_families.specs.Moves.{fractions_in, point_of, HasStateOver, LeadsBy, HasOther, HasPast};
+ghost use Rattle.program_families.specs.Moves.{fractions_in, point_of, IsTransitionOver, LeadsBy, HasOther, HasPast};
 
 use frac128::Frac;
 use monos::Grevlex;
@@ -40,7 +40,7 @@ pub fn follow(
     values: &Vec<Frac>,
     state: &Vec<Frac>,
 ) -> Result<Option<Vec<Frac>>, ArithmeticError>
-    requires over { HasStateOver (length state.now.items) transition.now }
+    requires over { IsTransitionOver (length state.now.items) transition.now }
     requires count { length values.now.items ≡ transition.now.unknowns }
     ensures leads { IfOk result (λ found. IfSome found (λ z.
         LeadsBy transition.now values.now.items state.now.items z.items)) }
