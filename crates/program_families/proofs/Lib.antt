@@ -8,3 +8,5 @@ mod Stopping
 mod Tasks
 mod Products
 mod Shown
+mod RestRows
+mod Points

@@ -6,3 +6,6 @@ pub mod Refusals
 pub mod Ends
 pub mod Lesser
 pub mod Shown
+pub mod RestRows
+pub mod Moves
+pub mod Searches
