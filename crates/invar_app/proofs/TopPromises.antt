@@ -25,6 +25,9 @@ use Rattle.analysis_commands.proofs.GenPromises as gen_promises
 use Rattle.analysis_commands.proofs.RelationsPromises as relations_promises
 use Rattle.certificate_commands.proofs.CheckPromises as check_promises
 use Rattle.certificate_commands.proofs.CheckfullPromises as checkfull_promises
+use Rattle.checkproof_command.specs.Arguments as proof_arguments
+use Rattle.checkproof_command.specs.Clauses as proof_clauses
+use Rattle.checkproof_command.proofs.Promises as proof_promises
 use Rattle.replay_commands.proofs.RunPromises as run_promises
 use Rattle.analysis_commands.proofs.ChainPromises as chain_promises
 use Rattle.replay_commands.proofs.ChainRunPromises as chainrun_promises
@@ -38,7 +41,7 @@ use Rattle.closing_commands.specs.DegreeArguments as degree_arguments
 use Rattle.closing_commands.proofs.DegreePromises as degree_promises
 use Rattle.certificate_commands.proofs.FullPromises as full_promises
 use Rattle.invar_app.proofs.HelpPromises as help_promises
-use Rattle.invar_app.specs.Arguments.{Command, basis, basis_up_to, member, check, checkfull, run, gen, chain, chainrun, counter, full, relations, decide, help, course_of, usage, usage_answer}
+use Rattle.invar_app.specs.Arguments.{Command, basis, basis_up_to, member, check, checkfull, checkproof, run, gen, chain, chainrun, counter, full, relations, decide, help, course_of, usage, usage_answer}
 use Rattle.invar_app.specs.Promises.{Promises}
 
 each_settled : (m : Journal) (command : Command)
@@ -48,6 +51,7 @@ each_settled m (basis_up_to request) = degree_promises.settled request
 each_settled m (member request) = member_promises.settled m request
 each_settled m (check request) = check_promises.settled request
 each_settled m (checkfull request) = checkfull_promises.settled request
+each_settled m (checkproof request) = proof_promises.settled request
 each_settled m (run request) = run_promises.settled request
 each_settled m (gen n) = gen_promises.settled n
 each_settled m (chain request) = chain_promises.settled request
@@ -107,6 +111,8 @@ module _ (call : Call) where
       absurd ((check_promises.checks request call f).exhausted is)
   exhausted_by (Some (checkfull request)) f is =
       absurd ((checkfull_promises.checks request call f).exhausted is)
+  exhausted_by (Some (checkproof request)) f is =
+      absurd ((proof_promises.checks_proof request call f).exhausted is)
   exhausted_by (Some (run request)) f is = absurd ((run_promises.runs request call f).exhausted is)
   exhausted_by (Some (gen n)) f is = inr (inr (inl (n, refl)))
   exhausted_by (Some (counter request)) f is =
@@ -129,7 +135,8 @@ module _ (call : Call) where
       ⊎ (((request : check_arguments.Request) × (command ≡ Some (checkfull request)))
       ⊎ (((request : member_arguments.Request) × (command ≡ Some (member request)))
       ⊎ (((request : counter_arguments.Request) × (command ≡ Some (counter request)))
-      ⊎ ((request : decide_arguments.Request) × (command ≡ Some (decide request))))))
+      ⊎ (((request : decide_arguments.Request) × (command ≡ Some (decide request)))
+      ⊎ ((request : proof_arguments.Request) × (command ≡ Some (checkproof request)))))))
 
   no_by : (command : Option Command) → Ended command → call.status ≡ status.No → SaysNo command
   no_by None f is = absurd (not_unasked status.No f is (λ h. (cc)) (λ h. (cc)))
@@ -145,7 +152,8 @@ module _ (call : Call) where
   no_by (Some (chainrun request)) f is =
       absurd ((chainrun_promises.replays_chain request call f).no is)
   no_by (Some (counter request)) f is = inr (inr (inr (inl (request, refl))))
-  no_by (Some (decide request)) f is = inr (inr (inr (inr (request, refl))))
+  no_by (Some (decide request)) f is = inr (inr (inr (inr (inl (request, refl)))))
+  no_by (Some (checkproof request)) f is = inr (inr (inr (inr (inr (request, refl)))))
   no_by (Some (full request)) f is = absurd ((full_promises.finds_full request call f).no is)
   no_by (Some (relations request)) f is =
       absurd ((relations_promises.finds_relations request call f).no is)
@@ -160,6 +168,7 @@ module _ (call : Call) where
     decides = λ request is. member_promises.decides request call (subst Ended is f);
     checks = λ request is. check_promises.checks request call (subst Ended is f);
     checks_full = λ request is. checkfull_promises.checks request call (subst Ended is f);
+    checks_proof = λ request is. proof_promises.checks_proof request call (subst Ended is f);
     runs = λ request is. run_promises.runs request call (subst Ended is f);
     tallies = λ n is. gen_promises.tallies n call (subst Ended is f);
     finds_each = λ request is. chain_promises.finds_each request call (subst Ended is f);
@@ -206,14 +215,23 @@ module _ (call : Call) (command : Option Command) (p : Promises command call) wh
       × IfTold call.files.before request.file (λ text.
       Wrote call.sink (ShowsCounter text request.equation))
 
+  abbrev IsRefutedProof : Type 0
+  IsRefutedProof = (request : proof_arguments.Request) × (command ≡ Some (checkproof request))
+      × IfTold call.files.before request.file (λ text.
+      IfTold call.files.before request.certificate (λ certificate.
+      Wrote call.sink (proof_clauses.IsRefuted text certificate)))
+
   pub refuted : call.status ≡ status.No
-      → IsRefutedCheck ⊎ (IsRefutedFull ⊎ (IsRefutedMember ⊎ (IsCountered ⊎ IsDenied)))
+      → IsRefutedCheck ⊎ (IsRefutedFull ⊎ (IsRefutedMember ⊎ (IsCountered ⊎ (IsDenied
+      ⊎ IsRefutedProof))))
   refuted is = elim (p.no is) [
     | inl by ↦ inl (by.0, by.1, (p.checks by.0 by.1).refuted is)
     | inr (inl by) ↦ inr (inl (by.0, by.1, (p.checks_full by.0 by.1).refuted is))
     | inr (inr (inl by)) ↦ inr (inr (inl (by.0, by.1, (p.decides by.0 by.1).refuted is)))
     | inr (inr (inr (inl by))) ↦
         inr (inr (inr (inl (by.0, by.1, (p.counters by.0 by.1).countered is))))
-    | inr (inr (inr (inr by))) ↦
-        inr (inr (inr (inr (by.0, by.1, (p.decides_any by.0 by.1).refuted is))))
+    | inr (inr (inr (inr (inl by)))) ↦
+        inr (inr (inr (inr (inl (by.0, by.1, (p.decides_any by.0 by.1).refuted is)))))
+    | inr (inr (inr (inr (inr by)))) ↦
+        inr (inr (inr (inr (inr (by.0, by.1, (p.checks_proof by.0 by.1).refuted is)))))
   ]

@@ -28,6 +28,8 @@ use Rattle.analysis_commands.specs.RelationsCourse as relations_course
 use Rattle.certificate_commands.specs.CertificateArguments as check_arguments
 use Rattle.certificate_commands.specs.CheckCourse as check_course
 use Rattle.certificate_commands.specs.CheckfullCourse as checkfull_course
+use Rattle.checkproof_command.specs.Arguments as proof_arguments
+use Rattle.checkproof_command.specs.Course as proof_course
 use Rattle.replay_commands.specs.RunArguments as run_arguments
 use Rattle.replay_commands.specs.RunCourse as run_course
 use Rattle.analysis_commands.specs.ChainCourse as chain_course
@@ -53,6 +55,7 @@ pub data Command : Type 0 where
   member : member_arguments.Request → Command
   check : check_arguments.Request → Command
   checkfull : check_arguments.Request → Command
+  checkproof : proof_arguments.Request → Command
   run : run_arguments.Request → Command
   gen : ℕ → Command
   chain : file_requests.FileRequest → Command
@@ -84,6 +87,8 @@ command_by name arguments =
     else (if bytes_eq name (codes "check") then option_map check (check_arguments.request_in arguments)
     else (if bytes_eq name (codes "checkfull")
     then option_map checkfull (check_arguments.request_in arguments)
+    else (if bytes_eq name (codes "checkproof")
+    then option_map checkproof (proof_arguments.request_in arguments)
     else (if bytes_eq name (codes "run") then option_map run (run_arguments.request_in arguments)
     else (if bytes_eq name (codes "gen") then option_map gen (gen_arguments.request_in arguments)
     else (if bytes_eq name (codes "chain") then option_map chain (file_requests.request_in arguments)
@@ -102,7 +107,7 @@ command_by name arguments =
     else (if bytes_eq name (codes "help") then option_map help (page_behind_help arguments)
     else (if bytes_eq name (codes "--help") then option_map help (page_alone Overview arguments)
     else (if bytes_eq name (codes "--version")
-    then option_map help (page_alone Version arguments) else None))))))))))))))))
+    then option_map help (page_alone Version arguments) else None)))))))))))))))))
 
 abbrev pub command_of : List (List ℕ) → Option Command
 command_of [] = None
@@ -117,6 +122,7 @@ course_of m (basis_up_to request) = degree_course.course request
 course_of m (member request) = member_course.course m request
 course_of m (check request) = check_course.course request
 course_of m (checkfull request) = checkfull_course.course request
+course_of m (checkproof request) = proof_course.course request
 course_of m (run request) = run_course.course request
 course_of m (gen n) = gen_course.course n
 course_of m (chain request) = chain_course.course request
@@ -129,7 +135,7 @@ course_of m (help page) = help_course.course page
 
 abbrev pub usage : List ℕ
 usage = line
-    (codes "usage: invar basis [--budget N] [--degree D] LOOP | member [--budget N] LOOP EQUATION | cert [--budget N] [--degree D] LOOP | check LOOP CERT | run LOOP WORD VALUES | gen NUMBER | chain [--budget N] CHAIN | chainrun CHAIN WORDS VALUES | counter [--length N] LOOP EQUATION | full [--budget N] LOOP | checkfull LOOP CERT | relations [--budget N] FILE | decide [--budget N] LOOP EQUATION | prove [--budget N] LOOP EQUATION; invar --help says more")
+    (codes "usage: invar basis [--budget N] [--degree D] LOOP | member [--budget N] LOOP EQUATION | cert [--budget N] [--degree D] LOOP | check LOOP CERT | run LOOP WORD VALUES | gen NUMBER | chain [--budget N] CHAIN | chainrun CHAIN WORDS VALUES | counter [--length N] LOOP EQUATION | full [--budget N] LOOP | checkfull LOOP CERT | relations [--budget N] FILE | decide [--budget N] LOOP EQUATION | prove [--budget N] LOOP EQUATION | checkproof PROGRAM CERT; invar --help says more")
 
 abbrev pub usage_answer : Answer
 usage_answer = with_text status.Usage usage

@@ -19,12 +19,13 @@ page_named name =
     else (if bytes_eq name (codes "check") then Some page.Check
     else (if bytes_eq name (codes "full") then Some page.Full
     else (if bytes_eq name (codes "checkfull") then Some page.CheckFull
+    else (if bytes_eq name (codes "checkproof") then Some page.CheckProof
     else (if bytes_eq name (codes "run") then Some page.Run
     else (if bytes_eq name (codes "chain") then Some page.Chain
     else (if bytes_eq name (codes "chainrun") then Some page.ChainRun
     else (if bytes_eq name (codes "relations") then Some page.Relations
     else (if bytes_eq name (codes "gen") then Some page.Gen
-    else None)))))))))))))
+    else None))))))))))))))
 
 abbrev pub page_behind_help : List (List ℕ) → Option Page
 page_behind_help [] = Some page.Overview
@@ -59,6 +60,8 @@ other_commands =
     ++ line (codes "  chain [--budget N] CHAIN             for each loop what holds at its head")
     ++ line (codes "  chainrun CHAIN WORDS VALUES          the states of a run of such loops")
     ++ line (codes "  relations [--budget N] FILE          the basis of all relations of sequences")
+    ++ line (codes "About programs:")
+    ++ line (codes "  checkproof PROGRAM CERT              does each polynomial listed hold there?")
     ++ line (codes "Other:")
     ++ line (codes "  gen NUMBER                           counts over a family of loops")
     ++ line (codes "  help [COMMAND], --help               this text, or more about one command")
@@ -94,6 +97,7 @@ head_of page.Cert = line (codes "invar cert [--budget N] [--degree D] LOOP")
 head_of page.Check = line (codes "invar check LOOP CERT")
 head_of page.Full = line (codes "invar full [--budget N] LOOP")
 head_of page.CheckFull = line (codes "invar checkfull LOOP CERT")
+head_of page.CheckProof = line (codes "invar checkproof PROGRAM CERT")
 head_of page.Run = line (codes "invar run LOOP WORD VALUES")
 head_of page.Chain = line (codes "invar chain [--budget N] CHAIN")
 head_of page.ChainRun = line (codes "invar chainrun CHAIN WORDS VALUES")
@@ -157,6 +161,13 @@ about_checkfull =
     ++ line (codes "shows that its polynomials generate all invariants of the loop; else the first")
     ++ line (codes "part that doesn't hold, with status 1.")
 
+abbrev pub about_checkproof : List ℕ
+about_checkproof =
+    line (codes "Prints `valid`, with status 0, where the certificate in the file CERT shows that")
+    ++ line (codes "each polynomial that it lists is 0 whenever a run comes to its point of the")
+    ++ line (codes "program, and of each assertion whether it is listed there, and so `holds`, or is")
+    ++ line (codes "`open`; else the first part that doesn't hold, with status 1.")
+
 abbrev pub about_run : List ℕ
 about_run =
     line (codes "Prints the states of a run, one a line. WORD has the numbers of the branches,")
@@ -194,6 +205,7 @@ body_of page.Cert = about_cert
 body_of page.Check = about_check
 body_of page.Full = about_full
 body_of page.CheckFull = about_checkfull
+body_of page.CheckProof = about_checkproof
 body_of page.Run = about_run
 body_of page.Chain = about_chain
 body_of page.ChainRun = about_chainrun

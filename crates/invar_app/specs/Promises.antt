@@ -14,6 +14,8 @@ use Rattle.analysis_commands.specs.RelationsClauses.{FindsRelations}
 use Rattle.certificate_commands.specs.CertificateArguments as check_arguments
 use Rattle.certificate_commands.specs.CheckClauses.{Checks}
 use Rattle.certificate_commands.specs.CheckfullClauses.{ChecksFull}
+use Rattle.checkproof_command.specs.Arguments as proof_arguments
+use Rattle.checkproof_command.specs.Clauses.{ChecksProof}
 use Rattle.replay_commands.specs.RunArguments as run_arguments
 use Rattle.replay_commands.specs.RunClauses.{Runs}
 use Rattle.analysis_commands.specs.ChainClauses.{FindsEach}
@@ -28,7 +30,7 @@ use Rattle.closing_commands.specs.DegreeClauses.{FindsUpTo}
 use Rattle.certificate_commands.specs.FullClauses.{FindsFull}
 use Rattle.invar_app.specs.declared.pages.Page.{Page}
 use Rattle.invar_app.specs.HelpClauses.{Helps}
-use Rattle.invar_app.specs.Arguments.{Command, basis, basis_up_to, member, check, checkfull, run, gen, chain, chainrun, counter, full, relations, decide, help, course_of, usage_answer}
+use Rattle.invar_app.specs.Arguments.{Command, basis, basis_up_to, member, check, checkfull, checkproof, run, gen, chain, chainrun, counter, full, relations, decide, help, course_of, usage_answer}
 
 pub record Promises (command : Option Command) (call : Call) : Type 0 where
   -- the reads, the answer by what they gave, and how it was delivered
@@ -44,6 +46,8 @@ pub record Promises (command : Option Command) (call : Call) : Type 0 where
       → Checks request call
   pub checks_full : (request : check_arguments.Request) → command ≡ Some (checkfull request)
       → ChecksFull request call
+  pub checks_proof : (request : proof_arguments.Request) → command ≡ Some (checkproof request)
+      → ChecksProof request call
   pub runs : (request : run_arguments.Request) → command ≡ Some (run request) → Runs request call
   pub tallies : (n : ℕ) → command ≡ Some (gen n) → Tallies n call
   pub finds_each : (request : file_requests.FileRequest) → command ≡ Some (chain request)
@@ -64,7 +68,8 @@ pub record Promises (command : Option Command) (call : Call) : Type 0 where
   pub no_command : command ≡ None → (call.status ≡ status.Usage) ⊎ (call.status ≡ status.WriteFault)
   pub untouched : command ≡ None → call.meter.after ≡ call.meter.before
   -- an exhausted budget, of `basis`, `cert`, `member`, `gen`, `chain`, `full`, `relations`, `decide` and
-  -- `prove` alone; no, of `check`, `checkfull`, `member`, `counter`, `decide` and `prove` alone
+  -- `prove` alone; no, of `check`, `checkfull`, `checkproof`, `member`, `counter`, `decide` and
+  -- `prove` alone
   pub exhausted : call.status ≡ status.Budget
       → ((request : basis_arguments.Request) × (command ≡ Some (basis request)))
       ⊎ (((request : member_arguments.Request) × (command ≡ Some (member request)))
@@ -79,6 +84,7 @@ pub record Promises (command : Option Command) (call : Call) : Type 0 where
       ⊎ (((request : check_arguments.Request) × (command ≡ Some (checkfull request)))
       ⊎ (((request : member_arguments.Request) × (command ≡ Some (member request)))
       ⊎ (((request : counter_arguments.Request) × (command ≡ Some (counter request)))
-      ⊎ ((request : decide_arguments.Request) × (command ≡ Some (decide request))))))
+      ⊎ (((request : decide_arguments.Request) × (command ≡ Some (decide request)))
+      ⊎ ((request : proof_arguments.Request) × (command ≡ Some (checkproof request)))))))
   -- files that can't be read or are too long, and a sink that fails
   pub outside : IsOutside call

@@ -23,6 +23,9 @@ ghost use Rattle.certificate_commands.specs.CheckClauses.{IsRefuted};
 ghost use Rattle.certificate_commands.specs.CheckHeadline.{ShowsValid};
 ghost use Rattle.certificate_commands.specs.CheckfullClauses as full_clauses;
 ghost use Rattle.certificate_commands.specs.CheckfullHeadline.{ShowsComplete};
+ghost use Rattle.checkproof_command.specs.Arguments as proof_arguments;
+ghost use Rattle.checkproof_command.specs.Clauses as proof_clauses;
+ghost use Rattle.checkproof_command.specs.Headline.{ShowsProof};
 ghost use Rattle.replay_commands.specs.CounterArguments as counter_arguments;
 ghost use Rattle.replay_commands.specs.CounterHeadline.{ShowsCounterRun, ShowsNoneUpTo};
 ghost use Rattle.loops.specs.Program.{Expr, Program};
@@ -42,6 +45,7 @@ ghost use Rattle.invar_app.specs.Promises.{Promises};
 
 use analysis_commands::{Kind, basis, chain, member, relate, tally};
 use certificate_commands::{check, checkfull, full};
+use checkproof_command::checkproof;
 use closing_commands::{Evidence, basis_up_to, decide, names_degree};
 pub use io_edge::Status;
 use io_edge::{Answer, Files, Sink, finish};
@@ -51,7 +55,7 @@ use replay_commands::{chainrun, counter, run};
 use std::alloc::{AllocError, Global};
 
 const USAGE: &[u8] =
-    b"usage: invar basis [--budget N] [--degree D] LOOP | member [--budget N] LOOP EQUATION | cert [--budget N] [--degree D] LOOP | check LOOP CERT | run LOOP WORD VALUES | gen NUMBER | chain [--budget N] CHAIN | chainrun CHAIN WORDS VALUES | counter [--length N] LOOP EQUATION | full [--budget N] LOOP | checkfull LOOP CERT | relations [--budget N] FILE | decide [--budget N] LOOP EQUATION | prove [--budget N] LOOP EQUATION; invar --help says more\n";
+    b"usage: invar basis [--budget N] [--degree D] LOOP | member [--budget N] LOOP EQUATION | cert [--budget N] [--degree D] LOOP | check LOOP CERT | run LOOP WORD VALUES | gen NUMBER | chain [--budget N] CHAIN | chainrun CHAIN WORDS VALUES | counter [--length N] LOOP EQUATION | full [--budget N] LOOP | checkfull LOOP CERT | relations [--budget N] FILE | decide [--budget N] LOOP EQUATION | prove [--budget N] LOOP EQUATION | checkproof PROGRAM CERT; invar --help says more\n";
 
 /// Does what the arguments say, and writes its answer to the sink.
 ///
@@ -67,7 +71,7 @@ pub fn invar<F: Files, S: Sink>(
 ) -> Status
     requires { (S.seen out.old).faults < most_counted }
     // All that the call promises: the outcome, the clauses of each command (`Finds` of `basis` and `cert`, `FindsUpTo` of them up to a degree, `Decides` of
-    // `member`, `Checks`, `ChecksFull`, `Runs`, `Tallies` of `gen`, `FindsEach` of `chain`, `ReplaysChain` of `chainrun`, `Counters`,
+    // `member`, `Checks`, `ChecksFull`, `ChecksProof`, `Runs`, `Tallies` of `gen`, `FindsEach` of `chain`, `ReplaysChain` of `chainrun`, `Counters`,
     // `FindsFull`, `FindsRelations`, `DecidesAny` of `decide` and `prove`, and `Helps` of `help`), and those of all. The clauses behind
     // it are its headline.
     ensures promises { Promises (command_in arguments.now)
@@ -126,7 +130,7 @@ pub fn invar<F: Files, S: Sink>(
         (S.seen out.old ⟶ S.seen out.new) (meter.old ⟶ meter.new) result) request l (Ok e) →
         FormsFreely l e → AreFree l → EndsAny l e request.evidence result }
 
-    // No, to `check`, `checkfull`, `member`, `counter`, `decide` and `prove` alone: what is written tells the first identity of the
+    // No, to `check`, `checkfull`, `checkproof`, `member`, `counter`, `decide` and `prove` alone: what is written tells the first identity of the
     // certificate that fails, or the first part of the full certificate that doesn't hold;
     // or the equation doesn't hold at the end of some run; or what is written shows such a run, of a first word.
     ensures refuted { result ≡ Status.No →
@@ -149,10 +153,15 @@ pub fn invar<F: Files, S: Sink>(
         IfTold (F.seen files.old) request.file (λ text.
         Wrote (S.seen out.old ⟶ S.seen out.new)
         (ShowsCounterRun text request.equation request.most)))
-        ⊎ ((request : decide_arguments.Request) ×
+        ⊎ (((request : decide_arguments.Request) ×
         (command_in arguments.now ≡ Some (command.decide request)) ×
         IfTold (F.seen files.old) request.file (λ text.
-        Wrote (S.seen out.old ⟶ S.seen out.new) (ShowsCounter text request.equation)))))) }
+        Wrote (S.seen out.old ⟶ S.seen out.new) (ShowsCounter text request.equation)))
+        ⊎ ((request : proof_arguments.Request) ×
+        (command_in arguments.now ≡ Some (command.checkproof request)) ×
+        IfTold (F.seen files.old) request.file (λ text.
+        IfTold (F.seen files.old) request.certificate (λ certificate.
+        Wrote (S.seen out.old ⟶ S.seen out.new) (proof_clauses.IsRefuted text certificate)))))))) }
 
     // Yes to `check`: the certificate's identities hold, and each of its polynomials is zero at the end of every run.
     ensures valid { (request : check_arguments.Request) →
@@ -168,6 +177,14 @@ pub fn invar<F: Files, S: Sink>(
         IfTold (F.seen files.old) request.file (λ text.
         IfTold (F.seen files.old) request.certificate (λ certificate.
         Wrote (S.seen out.old ⟶ S.seen out.new) (ShowsComplete text certificate))) }
+
+    // Yes to `checkproof`: the certificate's identities hold, each of its polynomials is zero at every state that is seen at its point
+    // of the program, and the assertions that are told to hold do.
+    ensures proved { (request : proof_arguments.Request) →
+        command_in arguments.now ≡ Some (command.checkproof request) → result ≡ Status.Yes →
+        IfTold (F.seen files.old) request.file (λ text.
+        IfTold (F.seen files.old) request.certificate (λ certificate.
+        Wrote (S.seen out.old ⟶ S.seen out.new) (ShowsProof text certificate))) }
 
     // Yes to `full`: what is written is a full certificate of the loop, all parts of which hold, and its polynomials are the reduced
     // basis of the loop's invariants.
@@ -232,6 +249,7 @@ fn answer_by<F: Files>(
         "cert" => basis_or_up_to(alloc, Kind::Certificate, arguments, files, meter),
         "check" => check(alloc, arguments, files),
         "checkfull" => checkfull(alloc, arguments, files),
+        "checkproof" => checkproof(alloc, arguments, files),
         "run" => run(alloc, arguments, files),
         "gen" => tally(alloc, arguments, meter),
         "chain" => chain(alloc, arguments, files, meter),

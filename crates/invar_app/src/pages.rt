@@ -36,6 +36,7 @@ pub enum Page {
     Check,
     Full,
     CheckFull,
+    CheckProof,
     Run,
     Chain,
     ChainRun,
@@ -79,6 +80,7 @@ impl Page {
             "check" => Some(Page::Check),
             "full" => Some(Page::Full),
             "checkfull" => Some(Page::CheckFull),
+            "checkproof" => Some(Page::CheckProof),
             "run" => Some(Page::Run),
             "chain" => Some(Page::Chain),
             "chainrun" => Some(Page::ChainRun),
@@ -104,6 +106,7 @@ impl Page {
             Page::Check => "invar check LOOP CERT\n",
             Page::Full => "invar full [--budget N] LOOP\n",
             Page::CheckFull => "invar checkfull LOOP CERT\n",
+            Page::CheckProof => "invar checkproof PROGRAM CERT\n",
             Page::Run => "invar run LOOP WORD VALUES\n",
             Page::Chain => "invar chain [--budget N] CHAIN\n",
             Page::ChainRun => "invar chainrun CHAIN WORDS VALUES\n",
@@ -128,6 +131,7 @@ impl Page {
             Page::Check => CHECK,
             Page::Full => FULL,
             Page::CheckFull => CHECKFULL,
+            Page::CheckProof => CHECKPROOF,
             Page::Run => RUN,
             Page::Chain => CHAIN,
             Page::ChainRun => CHAINRUN,
@@ -169,6 +173,8 @@ const OTHER_COMMANDS: &str = "About loops one after another, and about sequences
   chain [--budget N] CHAIN             for each loop what holds at its head
   chainrun CHAIN WORDS VALUES          the states of a run of such loops
   relations [--budget N] FILE          the basis of all relations of sequences
+About programs:
+  checkproof PROGRAM CERT              does each polynomial listed hold there?
 Other:
   gen NUMBER                           counts over a family of loops
   help [COMMAND], --help               this text, or more about one command
@@ -239,6 +245,13 @@ const CHECKFULL: &str =
     "Prints `complete`, with status 0, where the full certificate in the file CERT
 shows that its polynomials generate all invariants of the loop; else the first
 part that doesn't hold, with status 1.
+";
+
+const CHECKPROOF: &str =
+    "Prints `valid`, with status 0, where the certificate in the file CERT shows that
+each polynomial that it lists is 0 whenever a run comes to its point of the
+program, and of each assertion whether it is listed there, and so `holds`, or is
+`open`; else the first part that doesn't hold, with status 1.
 ";
 
 const RUN: &str = "Prints the states of a run, one a line. WORD has the numbers of the branches,

@@ -13,6 +13,8 @@ use Rattle.analysis_commands.specs.RelationsCourse as relations_course
 use Rattle.certificate_commands.specs.CertificateArguments as check_arguments
 use Rattle.certificate_commands.specs.CheckCourse as check_course
 use Rattle.certificate_commands.specs.CheckfullCourse as checkfull_course
+use Rattle.checkproof_command.specs.Arguments as proof_arguments
+use Rattle.checkproof_command.specs.Course as proof_course
 use Rattle.replay_commands.specs.RunArguments as run_arguments
 use Rattle.replay_commands.specs.RunCourse as run_course
 use Rattle.analysis_commands.specs.ChainCourse as chain_course
@@ -27,7 +29,7 @@ use Rattle.certificate_commands.specs.FullCourse as full_course
 use Rattle.invar_app.specs.declared.pages.Page.TheVariants.{Overview, Version}
 use Rattle.invar_app.specs.HelpPages.{page_behind_help, page_alone}
 use Rattle.invar_app.specs.HelpClauses as help_course
-use Rattle.invar_app.specs.Arguments.{member, check, checkfull, run, gen, chain, chainrun, counter, full, relations, decide, help, command_by, course_of}
+use Rattle.invar_app.specs.Arguments.{member, check, checkfull, checkproof, run, gen, chain, chainrun, counter, full, relations, decide, help, command_by, course_of}
 use Rattle.invar_app.proofs.answer_by.Goals as goal
 
 otherwise : {A : Type 0} (name argument : List ℕ) (x y : A) → (name ≡ argument → ⊥)
@@ -45,6 +47,7 @@ record IsNoName (name : List ℕ) : Type 0 where
   cert_not : name ≡ codes "cert" → ⊥
   check_not : name ≡ codes "check" → ⊥
   checkfull_not : name ≡ codes "checkfull" → ⊥
+  checkproof_not : name ≡ codes "checkproof" → ⊥
   run_not : name ≡ codes "run" → ⊥
   gen_not : name ≡ codes "gen" → ⊥
   chain_not : name ≡ codes "chain" → ⊥
@@ -66,6 +69,7 @@ no_name name arguments is = sym
     ∙ (otherwise name (codes "cert") _ _ is.cert_not
     ∙ (otherwise name (codes "check") _ _ is.check_not
     ∙ (otherwise name (codes "checkfull") _ _ is.checkfull_not
+    ∙ (otherwise name (codes "checkproof") _ _ is.checkproof_not
     ∙ (otherwise name (codes "run") _ _ is.run_not
     ∙ (otherwise name (codes "gen") _ _ is.gen_not
     ∙ (otherwise name (codes "chain") _ _ is.chain_not
@@ -77,7 +81,7 @@ no_name name arguments is = sym
     ∙ (otherwise name (codes "prove") _ _ is.prove_not
     ∙ (otherwise name (codes "help") _ _ is.help_not
     ∙ (otherwise name (codes "--help") _ _ is.help_option_not
-    ∙ otherwise name (codes "--version") _ _ is.version_not))))))))))))))))
+    ∙ otherwise name (codes "--version") _ _ is.version_not)))))))))))))))))
 
 pub returns-in-basis : goal.returns-in-basis
 returns-in-basis g c =
@@ -126,6 +130,16 @@ returns-in-checkfull g c =
     (ap (λ n. command_by n arguments) (sym c.in-checkfull.is ∙ c.as_str.ensures.value))
     (obeys_as checkfull_course.course (course_of m) checkfull (λ a. refl)
     (check_arguments.request_in arguments) _ (m ⟶ m) c.checkfull.result (c.checkfull.ensures m))
+
+pub returns-in-checkproof : goal.returns-in-checkproof
+returns-in-checkproof g c =
+    let arguments = map string_bytes c.args.arguments.now in
+    let m = c.args.meter.now in
+    obeys_same (course_of m) (command_by (codes "checkproof") arguments)
+    (command_by (string_bytes c.args.name.now) arguments) _ _ c.checkproof.result
+    (ap (λ n. command_by n arguments) (sym c.in-checkproof.is ∙ c.as_str.ensures.value))
+    (obeys_as proof_course.course (course_of m) checkproof (λ a. refl)
+    (proof_arguments.request_in arguments) _ (m ⟶ m) c.checkproof.result (c.checkproof.ensures m))
 
 pub returns-in-run : goal.returns-in-run
 returns-in-run g c =
@@ -265,6 +279,7 @@ returns-in_default g c =
       cert_not = λ e. c.in_default.not-cert (is ∙ e);
       check_not = λ e. c.in_default.not-check (is ∙ e);
       checkfull_not = λ e. c.in_default.not-checkfull (is ∙ e);
+      checkproof_not = λ e. c.in_default.not-checkproof (is ∙ e);
       run_not = λ e. c.in_default.not-run (is ∙ e);
       gen_not = λ e. c.in_default.not-gen (is ∙ e);
       chain_not = λ e. c.in_default.not-chain (is ∙ e);

@@ -56,6 +56,10 @@ pub returns-clause-complete : goal.returns-clause-complete
 returns-clause-complete g c =
     λ request is yes. ((returns-clause-promises g c).checks_full request is).complete yes
 
+pub returns-clause-proved : goal.returns-clause-proved
+returns-clause-proved g c =
+    λ request yes is. ((returns-clause-promises g c).checks_proof request yes).valid is
+
 pub returns-clause-none_up_to : goal.returns-clause-none_up_to
 returns-clause-none_up_to g c =
     λ request is yes. ((returns-clause-promises g c).counters request is).none_up_to yes
