@@ -14,7 +14,7 @@ TOP = pathlib.Path(__file__).resolve().parent.parent
 # the scripts find the interpreter that runs this one, whatever the folder at home is
 PATH = f"{pathlib.Path(sys.executable).parent}:{os.environ['PATH']}"
 SHARED = ("man/man1/invar.1", "bash-completion/completions/invar", "zsh/site-functions/_invar")
-COMMANDS = "basis member cert check run gen chain chainrun counter full checkfull relations decide prove".split()
+COMMANDS = "basis member cert check run gen chain chainrun counter full checkfull relations decide prove checkproof".split()
 COMPLETE = """
 source "$1"
 shift
@@ -27,7 +27,7 @@ COMPLETIONS = [
     ([""], [*COMMANDS, "help", "--help", "--version"]),
     (["ba"], ["basis"]),
     (["--"], ["--help", "--version"]),
-    (["help", "ch"], ["check", "chain", "chainrun", "checkfull"]),
+    (["help", "ch"], ["check", "chain", "chainrun", "checkfull", "checkproof"]),
     (["basis", "--"], ["--budget", "--degree"]),
     (["basis", "--budget", ""], [""]),
     (["basis", "--budget", "9", "--d"], ["--degree"]),
