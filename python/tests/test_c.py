@@ -302,7 +302,7 @@ class Annotations(Calls):
     def test_what_invar_refuses_in_part(self) -> None:
         text = "int f(int n)\n{\n    int i = 1, p = 1, s = 0;\n    while (i < n) { p = p * i; i++; s += 2; }\n    return p;\n}\n"
         result = self.annotate(text)
-        self.assertEqual(result.status, 1)
+        self.assertEqual(result.status, 0)
         self.assertIn("test.c:4: loop taken for the equations up to degree 2 alone: invar says branch 1: not solvable: p", result.told)
         self.assertIn("2*i - s - 2 == 0", result.text)
 
@@ -415,6 +415,26 @@ class Stated(Calls):
         self.assertIn("-p*q + r*r - p + q - r - s", clauses)
         self.assertIn("p - q + r + s", clauses)
 
+    def test_an_order_that_the_code_does_not_have(self) -> None:
+        asked = "/*@ invar: a == k * b + c */"
+        inner = "d = 1; v = b;\n    while (c >= 2 * v) { d = 2 * d; v = 2 * v; }\n    c = c - v; k = k + d;"
+        text = f"int f(int a, int b)\n{{\n    int k = 0, c = a, d, v;\n    {asked}\n    while (c >= b) {{ {inner} }}\n    return c;\n}}\n"
+        wanted = "test.c:4: not written: a == k * b + c: paths in another order than that of the statements don't keep a - b*k - c == 0\n"
+        result = self.annotate(text)
+        self.assertEqual((result.status, result.told), (1, wanted))
+
+    def test_an_order_that_the_code_has(self) -> None:
+        inner = "j = 0;\n    while (j < i) { j++; s++; }\n    i++;"
+        text = f"int f(int n)\n{{\n    int i = 0, j, s = 0;\n    /*@ invar: s == 0 */\n    while (i < n) {{ {inner} }}\n    return s;\n}}\n"
+        result = self.annotate(text)
+        self.assertEqual(result.status, 1)
+        self.assertIn("test.c:4: not written: s == 0: at the loop in line 5 a run ends without s == 0\n    word ", result.told)
+
+    def test_an_equation_that_no_turn_changes(self) -> None:
+        text = "int f(int n, int a)\n{\n    int i = 0, s = 0;\n    /*@ invar: a == n */\n    while (i < n) { i++; s += 2; }\n    return s;\n}\n"
+        result = self.annotate(text)
+        self.assertEqual((result.status, result.told), (1, "test.c:4: not asked: a == n: no turn changes it\n"))
+
     def test_one_that_holds_at_the_first_turn_alone(self) -> None:
         result = self.behind("int i = 0, s = 0;", "s += 2 * i + 1; i++;", "s == i")
         self.assertEqual(self.clauses(result.text), ["i*i - s"])
@@ -429,7 +449,7 @@ class Stated(Calls):
             ("int i = 0, x = 3, v = 2;", "v = v - h * x; x = x + h * v; i++;", "x * x + v * v - h * x * v == 13 - 6 * h", "-h*x*v + x*x + v*v + 6*h - 13"),
         ):
             result = self.behind(begin, body, equation)
-            self.assertEqual(result.status, 1)
+            self.assertEqual(result.status, 0)
             self.assertRegex(result.told, r"^test.c:4: loop taken (without|for the equations) .*: invar says branch 1: ")
             self.assertTrue({wanted, negative(wanted)} & {*self.clauses(result.text)}, self.clauses(result.text))
 

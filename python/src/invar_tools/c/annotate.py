@@ -6,8 +6,9 @@ Each loop whose variables are whole numbers, and whose paths change them by poly
 is written as a loop text for `invar`. The equations of its basis come into the file as clauses `loop invariant invar: ..`, without
 denominators, beside the clauses that were there. So does an equation that the author states behind a loop, by `assert` or `ensures`, or
 at it, by `/*@ invar: s == i*i */`, with those that it needs to be kept by each turn. A loop that isn't taken is told on standard error
-with its line, gets no equation, and makes the status 1; where no loop is taken nothing is written. With --keep the loop texts and their
-certificates stay beside the file. docs/VERIFYING.md begins at the beginning.
+with its line, gets no equation, and makes the status 1; one that is taken in part is told, and gets what was found. Where no loop is
+taken nothing is written. With --keep the loop texts and their certificates stay beside the file. docs/VERIFYING.md begins at the
+beginning.
 """
 from __future__ import annotations
 
@@ -37,7 +38,7 @@ from .sources import Refusal, Source, line_of, loops_in, read_source, write_sour
 from .stated import PROMISE
 from .starts import Sequence, Starts, starts_of
 from .statements import Equation, Set, Statement, Touch, Turns, Within, every, turns_in
-from .texts import LoopText, idle, is_any, loop_text, spelled
+from .texts import LoopText, Order, idle, is_any, loop_text, spelled
 
 
 DEGREES = (2, 3, 4)
@@ -287,9 +288,12 @@ class Annotator:
             except Refusal as fault:
                 told.append(f"not written: {equation.text}: {fault}")
             except Refused as fault:
-                told.append(denied(equation, text.renamed(value).whole(text.names.spelling), head, fault))
-        known = any(follows(question, found) for found in [*self.results[head].found, *self.results[head].proved])
-        return "" if known else max(told, key=lambda one: one.count("\n"), default="")
+                told.append(denied(equation, text.renamed(value).whole(text.names.spelling), head, fault, text.order))
+        if any(follows(question, found) for found in [*self.results[head].found, *self.results[head].proved]):
+            return ""
+        before = self.answers.get((equation, question.value.flat()), "")
+        unmoved = f"not asked: {equation.text}: no turn changes it" if equation.word == "invar" else ""
+        return max(told, key=lambda one: one.count("\n"), default=before or unmoved)
 
     def stated(self) -> None:
         """Tells what of the author's equations isn't written. What is asked by `invar:` and isn't makes the status 1."""
@@ -314,7 +318,7 @@ class Annotator:
         refused = next((found.refused for found in result.found if found.refused), "")
         some = f"up to degree {result.degree}" if result.has_some else "that are stated"
         if equations and not result.found and self.source.offset_of(loop.node) is not None:
-            self.refusals.append((line, f"loop taken for the equations {some} alone: {result.fault}"))
+            self.remarks.append((line, f"loop taken for the equations {some} alone: {result.fault}"))
         elif not equations and result.degree:
             holds = "can be written here" if result.has_some else ALWAYS
             self.refuse(line, f"no equation up to degree {result.degree} {holds}: {refused or result.fault}")
@@ -324,7 +328,7 @@ class Annotator:
             self.refuse(line, "a loop that a macro makes")
         elif refused:
             but = f", but for the equations {some}" if result.proved else ""
-            self.refusals.append((line, f"loop taken without {', '.join(left_out(result.found[-1]))}{but}: {refused}"))
+            self.remarks.append((line, f"loop taken without {', '.join(left_out(result.found[-1]))}{but}: {refused}"))
         elif not equations:
             self.remarks.append((line, nothing(result.found[-1])))
         else:
@@ -356,11 +360,14 @@ def cut_off(items: Iterable[Statement]) -> set[str]:
     return {item.key for item in every(items) if isinstance(item, Set) and any(isinstance(need, Within) for need in item.term.needs)}
 
 
-def denied(equation: Equation, asked: str, head: Turns, fault: Refused) -> str:
-    """What is told where an equation isn't proved: the run at whose end it fails, or why there is no answer."""
+def denied(equation: Equation, asked: str, head: Turns, fault: Refused, order: Order | None) -> str:
+    """What is told where an equation isn't proved: the run at whose end it fails, if the code has such a run, or why there is no answer."""
     if fault.status != NO:
         return f"not decided: {equation.text}: {fault}"
-    run = "\n    ".join(fault.told.splitlines()[1:])
+    lines = fault.told.splitlines()[1:]
+    if order is not None and not order.takes(map(int, lines[0].split()[1:]), head):
+        return f"not written: {equation.text}: paths in another order than that of the statements don't keep {asked} == 0"
+    run = "\n    ".join(lines)
     return f"not written: {equation.text}: at the loop in line {line_of(head.node)} a run ends without {asked} == 0\n    {run}"
 
 

@@ -4,6 +4,7 @@ from __future__ import annotations
 import itertools
 from collections.abc import Iterable, Iterator, Mapping
 from dataclasses import dataclass, field, replace
+from typing import TypeAlias
 
 from ..polynomials import Polynomial
 from .sources import Refusal
@@ -15,6 +16,9 @@ from .whole import Whole
 
 MOST_STATES = 256
 """As many paths side by side as are followed."""
+
+Move: TypeAlias = tuple[Turns, Turns]
+"""The loop at whose head a path begins, and that at whose head it ends."""
 
 
 @dataclass(frozen=True)
@@ -34,6 +38,8 @@ class Edge:
     guard: tuple[str, ...]
     reasons: dict[str, str] = field(default_factory=dict)
     """Why a variable has any value on the path, by the names of such values."""
+    moves: frozenset[Move] = frozenset()
+    """Between which heads a path leads that does this."""
 
 
 def is_unknown(name: str) -> bool:
@@ -53,6 +59,8 @@ class State:
     reasons: Mapping[str, str] = field(default_factory=dict)
     symbols: Iterator[int] | None = None
     """Where names of unknown values come from, if they aren't counted from 1 on."""
+    origins: frozenset[Turns] = frozenset()
+    """The loops at whose heads such a path begins."""
 
     def composed(self, value: Polynomial) -> Polynomial:
         return value.substituted(self.of)
@@ -150,7 +158,8 @@ def merged(states: Iterable[State]) -> list[State]:
         other = result.get(key)
         if other is not None:
             both = tuple(fact for fact in other.facts if fact in state.facts)
-            state = replace(other, facts=both, guard=tuple(one for one in other.guard if one in state.guard))
+            guard = tuple(one for one in other.guard if one in state.guard)
+            state = replace(other, facts=both, guard=guard, origins=other.origins | state.origins)
         result[key] = state
     return list(result.values())
 
@@ -173,6 +182,8 @@ class Walk:
     edges: list[Edge] = field(default_factory=list)
     scope: dict[str, None] = field(default_factory=dict)
     exits: dict[Turns, list[State]] = field(default_factory=dict)
+    silent: set[Move] = field(default_factory=set)
+    """Between which heads paths lead that change nothing."""
 
     def run(self, items: Iterable[Statement], states: list[State]) -> Outcome:
         """Takes states through statements."""
@@ -223,7 +234,7 @@ class Walk:
         """Ends paths at a head. Those behind the loop begin at it."""
         arriving = self.run(turns.init, states).behind
         for state in arriving:
-            self.end(state)
+            self.end(state, turns)
         if arriving and turns not in self.exits:
             self.head(turns, arriving[0].of)
         return self.exits.get(turns, [])
@@ -232,22 +243,23 @@ class Walk:
         """Takes the paths of a loop's turns."""
         self.exits[turns] = []
         self.heads.append(turns)
-        start = fresh(keys, self.types)
+        start = replace(fresh(keys, self.types), origins=frozenset({turns}))
         self.scope.update(dict.fromkeys(start.of))
         turn = self.run(turns.body, [start])
         following = self.run(turns.next, merged(turn.behind + turn.continued))
         for state in following.behind:
-            self.end(state)
+            self.end(state, turns)
         self.exits[turns] = merged(state.leaving(turns.own) for state in turn.broken + following.broken)
 
-    def end(self, state: State) -> None:
-        """Keeps a path that changes something. Of two with the same effect one stays, without its tests."""
-        edge = state.edge()
+    def end(self, state: State, turns: Turns) -> None:
+        """Keeps a path to a head that changes something. Of two with the same effect one stays, without its tests."""
+        edge = replace(state.edge(), moves=frozenset((origin, turns) for origin in state.origins))
         if not edge.values:
+            self.silent |= edge.moves
             return
         for place, other in enumerate(self.edges):
             if other.values == edge.values:
-                self.edges[place] = replace(other, guard=())
+                self.edges[place] = replace(other, guard=(), moves=other.moves | edge.moves)
                 return
         self.edges.append(edge)
 

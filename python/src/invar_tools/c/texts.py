@@ -5,10 +5,10 @@ import re
 from collections.abc import Iterable, Mapping
 from dataclasses import dataclass, field, replace
 
-from .paths import Edge, Stage, State, Step
+from .paths import Edge, Move, Stage, State, Step, Walk
 from ..polynomials import Polynomial
 from .sources import Refusal
-from .statements import BEFORE, Touch, every
+from .statements import BEFORE, Touch, Turns, every
 
 MOST_VARIABLES = 12
 MOST_BRANCHES = 6
@@ -86,6 +86,31 @@ class Names:
 
 
 @dataclass(frozen=True)
+class Order:
+    """In what order C code takes the branches of a loop text, its tests aside."""
+
+    first: Turns
+    moves: tuple[frozenset[Move], ...]
+    """Of each branch that is a path: between which heads such a path leads. Branches behind these make an unknown value another."""
+    silent: frozenset[Move]
+    """Between which heads a path leads that changes nothing in the text."""
+
+    def takes(self, word: Iterable[int], head: Turns) -> bool:
+        """Whether the paths of a word lead from the first head to this one."""
+        at = self.reached({self.first})
+        for letter in word:
+            if letter <= len(self.moves):
+                at = self.reached({target for origin, target in self.moves[letter - 1] if origin in at})
+        return head in at
+
+    def reached(self, heads: set[Turns]) -> set[Turns]:
+        """The heads that paths lead to that change nothing."""
+        while more := {target for origin, target in self.silent if origin in heads} - heads:
+            heads = heads | more
+        return heads
+
+
+@dataclass(frozen=True)
 class LoopText:
     """A loop in the language of `invar`, with the names that it has, and the variables that have no part in it."""
 
@@ -95,6 +120,8 @@ class LoopText:
     """Why a variable that the loop changes isn't in the text."""
     symbols: Mapping[str, str | None] = field(default_factory=dict)
     """The name in the text of each value before the loop, if it has one."""
+    order: Order | None = None
+    """Of the first loop."""
 
     def renamed(self, value: Polynomial) -> Polynomial:
         """A polynomial in variables and in values at the beginning of the function, in the names of the text."""
@@ -182,6 +209,7 @@ class Writer:
         self.constants = [name for name in declared if name not in changed]
         self.moving = [name for name in self.kept if name in changed]
         self.symbols: dict[str, str | None] = {}
+        self.order: Order | None = None
         self.in_steps = self.has_room()
 
     def has_room(self) -> bool:
@@ -275,14 +303,29 @@ class Writer:
             own = {name: Polynomial.variable(f"?{place}") for place, name in enumerate(order, 1)}
             values = {name: edge.values[name].substituted(own) for name in self.kept if name in edge.values}
             key = tuple((name, frozenset(value.terms.items())) for name, value in values.items())
-            result[key] = replace(edge, guard=()) if key in result else edge
+            other = result.get(key)
+            result[key] = edge if other is None else replace(edge, guard=(), moves=edge.moves | other.moves)
         return [edge for key, edge in result.items() if key]
+
+    def branches(self, stage: Stage) -> dict[str, frozenset[Move]]:
+        """The branches of a loop, with the heads that their paths lead between."""
+        result: dict[str, frozenset[Move]] = {}
+        for edge in self.different(stage.walk.edges):
+            text = self.branch(edge)
+            result[text] = edge.moves | result.get(text, frozenset())
+        return result or {"branch { }": frozenset()}
+
+    def ordered(self, walk: Walk, branches: dict[str, frozenset[Move]]) -> Order:
+        """In what order the code takes the branches of a loop."""
+        silent = (edge.moves for edge in walk.edges if not edge.values.keys() & {*self.kept})
+        return Order(walk.heads[0], tuple(branches.values()), frozenset(walk.silent).union(*silent))
 
     def loop(self, stage: Stage) -> list[str]:
         """The branches of a loop; behind the first loop what comes between."""
-        branches = list(dict.fromkeys(map(self.branch, self.different(stage.walk.edges)))) or ["branch { }"]
+        branches = self.branches(stage)
         if stage is self.stages[0]:
-            return branches
+            self.order = self.ordered(stage.walk, branches)
+            return list(branches)
         code = self.statements(stage.code)
         return ["then" if code == "{ }" else f"then do {code}", *branches]
 
@@ -319,7 +362,7 @@ class Writer:
         lines = [f"# {title}", f"vars {', '.join(order)};", *known, *init, *loops]
         if len(order) > MOST_VARIABLES:
             raise Refusal(0, f"a loop of more than {MOST_VARIABLES} variables")
-        return LoopText("\n".join(lines) + "\n", self.names, self.without, self.symbols)
+        return LoopText("\n".join(lines) + "\n", self.names, self.without, self.symbols, self.order)
 
 
 def loop_text(
