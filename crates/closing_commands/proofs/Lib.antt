@@ -7,6 +7,11 @@ pub mod DecideDecided
 pub mod DecidePromises
 pub mod DecideZero
 pub mod ProveZero
+pub mod SmallOperations
+pub mod SmallClosings
+pub mod SmallTests
+pub mod NegatingLoop
+pub mod DecideWorked
 pub mod DegreeTold
 pub mod DegreeShown
 pub mod DegreeDecided
