@@ -1,6 +1,8 @@
 -- Where `limit: PLACE` is told.
+--   first_byte          by which other texts are told from it
 --   limit_alone         no other refusal of an analysis has such a text;  loop_fault_other: nor has a fault of LOOP
 --   told_long           a refused analysis with this text has come to the task at this place, which is too long
+--   unanalysed_long     the same, over the bytes of LOOP;  loop_fault_long: no fault of LOOP is told so;  analysis_limit: the two together
 --   limit_written, told_limit      what holds of an answer with such a text holds of what was written
 --   never_long          on the way of a finished analysis no task that it comes to is too long
 --   or_long             a call ends so, by what the outcome is
