@@ -5,7 +5,7 @@
 --   unanalysed_long     the same, over the bytes of LOOP;  loop_fault_long: no fault of LOOP is told so;  analysis_limit: the two together
 --   limit_written, told_limit      what holds of an answer with such a text holds of what was written
 --   never_long          on the way of a finished analysis no task that it comes to is too long
---   or_long             a call ends so, by what the outcome is
+--   IsLongOr l m a      such an answer tells it, or that a number doesn't fit, or that the budget is exhausted;  or_long: a call ends so, by what the outcome is
 use Rattle.std.proofs.Common.{◌≡◌, ℕ, List, refl, sym, ap, subst, ◌∙◌, get_or, inl, inr, arith, Option, Some, None}
 use Rattle.std.specs.Prelude.{◌⊎◌, ◌++◌, codes}
 use Rattle.std.proofs.lemmas.List.{append_cancel_left, append_cancel_right}
