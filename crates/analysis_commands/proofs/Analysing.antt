@@ -7,6 +7,7 @@
 --   limit_analysed     the answer where an operation of the maps passes a limit
 --   formed_analysed    where none does, each branch splits and no task is too long: a yes, or a number that doesn't fit, or an exhausted budget
 --   formed             the same, by how the analysis ended
+--   long_analysed      where a task is too long: this, of one that is, or a number that doesn't fit, or an exhausted budget
 --   unformed_analysed  where not each branch has one: a fault, or a number that doesn't fit
 --   all_analysed       where nothing refuses and a finished journal is within the budget: a yes
 --   branch_analysed    where the first that has none is refused for a cause of its own: this refusal, or a number that doesn't fit
@@ -41,7 +42,9 @@ use Rattle.io_edge.specs.declared.answer.Status.TheVariants as status
 use Rattle.analysis_commands.specs.Statuses.{cause_status, refusal_status}
 use Rattle.io_edge.specs.Texts.{Answer, line, with_text}
 use Rattle.analysis_commands.specs.Texts.{found_answer}
-use Rattle.analysis_commands.specs.RefusalTexts.{cause_or_memory, refusal_answer, branch_answer}
+use Rattle.analysis_commands.specs.RefusalTexts.{place_text, cause_or_memory, refusal_answer, branch_answer}
+use Rattle.analysis_commands.specs.LongTasks.{ComesToLong}
+use Rattle.analysis_commands.proofs.LongTasks.{IsLongOr, never_long}
 use Rattle.command_parts.specs.FaultTexts.{loop_refusal}
 use Rattle.analysis_commands.specs.Headline.{ShowsAnalysis}
 use Rattle.analysis_commands.specs.Analyses.{empty_journal, Ending, found, refused, EndsWith, answer_of, Analyses}
@@ -233,6 +236,39 @@ module _ (kind : Kind) (l : Program (Expr ℕ)) (budget : ℕ) (m : Journal) (a 
       inr (inr (status_told error.Budget status.Budget refl says))
   formed free forms (refused error.Memory) short ends says = absurd (no_answer a says)
 
+  -- where a task is too long, this is told of one that is, but for numbers that don't fit and an
+  -- exhausted budget
+  long_ended : AreFree l → AllHaveForms l → ComesToLong l → (e : Ending)
+      → EndsWith l budget m kind e → answer_of kind l.names budget e ≡ Some a → IsLongOr l m a
+  long_ended free forms long (found c) ends says =
+      let h = ends.1.ended in
+      absurd (never_long l None m.entries h.rounds c.basis h.finished h.short long.entries
+      long.state long.follows long.long)
+  long_ended free forms long (refused (error.Map (map_error.Limit at))) ends says =
+      absurd (not_free (length l.names) (maps_operations l) at ends.1.1.1 free)
+  long_ended free forms long (refused (error.Map (map_error.Wide at))) ends says =
+      inr (inl (status_told (error.Map (map_error.Wide at)) status.Wide refl says))
+  long_ended free forms long (refused (error.Map map_error.Memory)) ends says =
+      absurd (no_answer a says)
+  long_ended free forms long (refused (error.Branch b e)) ends says =
+      let t = told_branch b e ends.1.1.1 says in
+      let h = forms b t.1.within in
+      inr (inl (status_of t.2 ∙ branch_wide b t.0 (h.solvable, h.pass, h.short) t.1.is))
+  long_ended free forms long (refused (error.Limit task)) ends says =
+      inl (
+        status_told (error.Limit task) status.Fault refl says,
+        record {
+          place = place_text task;
+          says = (refusal_parts l.names budget (error.Limit task) a says).1;
+          long = record { task = task; at = refl; long = ends.1.2 };
+        },
+      )
+  long_ended free forms long (refused (error.Wide task)) ends says =
+      inr (inl (status_told (error.Wide task) status.Wide refl says))
+  long_ended free forms long (refused error.Budget) ends says =
+      inr (inr (status_told error.Budget status.Budget refl says))
+  long_ended free forms long (refused error.Memory) ends says = absurd (no_answer a says)
+
   unformed : AreFree l → ¬ (AllHaveForms l) → (e : Ending) → EndsWith l budget m kind e
       → answer_of kind l.names budget e ≡ Some a → (a.status ≡ status.Fault)
       ⊎ (a.status ≡ status.Wide)
@@ -362,3 +398,8 @@ pub all_analysed : (kind : Kind) (l : Program (Expr ℕ)) (budget : ℕ) (m : Jo
     → a.status ≡ status.Yes
 all_analysed kind l budget m a never within h =
     completed kind l budget m a never within h.ending h.ends h.says
+
+pub long_analysed : (kind : Kind) (l : Program (Expr ℕ)) (budget : ℕ) (m : Journal) (a : Answer)
+    → AreFree l → AllHaveForms l → ComesToLong l → Analyses kind l budget m a → IsLongOr l m a
+long_analysed kind l budget m a free forms long h =
+    long_ended kind l budget m a free forms long h.ending h.ends h.says

@@ -1,10 +1,12 @@
 -- What `basis` and `cert` promise, from the outcome of their course.
 --   settled      their answers are settled
 --   finds        the clauses
-use Rattle.std.proofs.Common.{ℕ, refl}
+use Rattle.std.proofs.Common.{ℕ, refl, inl}
+use Rattle.std.specs.Prelude.{◌⊎◌}
 use Rattle.machines.specs.Journal.{Journal}
 use Rattle.poly_text.specs.Reasons.{Fault, limit}
 use Rattle.loops.specs.Program.{Expr, Program}
+use Rattle.io_edge.specs.declared.answer.Status.TheVariants as status
 use Rattle.io_edge.specs.Settled.{IsSettled}
 use Rattle.io_edge.specs.Course.{EachAnswer}
 use Rattle.io_edge.specs.Outcome.{Call, IsCarriedOut}
@@ -12,13 +14,16 @@ use Rattle.io_edge.proofs.Outcomes.{or_wide, or_fault, or_yes}
 use Rattle.io_edge.proofs.OneFile as one_file
 use Rattle.io_edge.proofs.OneFile.{OneFile, concludes_yes, concludes_no, concludes_exhausted, answered, ends_at_fault, tells, writes, refused, never_ends, not_ended, left, long}
 use Rattle.command_parts.specs.FaultTexts.{loop_refusal}
+use Rattle.command_parts.specs.LoopReading.{IsLoopFault}
 use Rattle.command_parts.proofs.LoopCourses.{reading_loop}
 use Rattle.analysis_commands.specs.Analyses.{Analyses, HasAnalysed}
 use Rattle.analysis_commands.specs.RefusalTexts.{branch_answer}
 use Rattle.analysis_commands.specs.Headline.{ShowsAnalysis}
 use Rattle.analysis_commands.specs.Causes.{HasFinished, IsClosed, IsExhausted, IsAnalysed, IsUnanalysed}
 use Rattle.analysis_commands.proofs.Settling.{analyses_settled, analyses_not_no}
-use Rattle.analysis_commands.proofs.Analysing.{found_shown, closed_shown, out_shown, unanalysed, limit_analysed, formed_analysed, unformed_analysed, all_analysed, branch_analysed}
+use Rattle.analysis_commands.proofs.Analysing.{found_shown, closed_shown, out_shown, unanalysed, limit_analysed, formed_analysed, unformed_analysed, long_analysed, all_analysed, branch_analysed}
+use Rattle.analysis_commands.specs.LongTasks.{IsToldLong}
+use Rattle.analysis_commands.proofs.LongTasks.{told_limit, analysis_limit, or_long}
 use Rattle.analysis_commands.proofs.Endings.{or_found, not_exhausted}
 use Rattle.analysis_commands.specs.BasisArguments.{Request}
 use Rattle.analysis_commands.specs.BasisCourse.{course}
@@ -66,6 +71,16 @@ module _ (request : Request) where
           (answered path call f l r s));
       unformed = λ l r free not. or_fault (course request) call f
           (λ s. unformed_analysed request.kind l request.budget m s.answer free not
+          (answered path call f l r s));
+      limit_told = λ is. told_limit call request.file
+          (λ text a. IsLoopFault text a ⊎ IsUnanalysed text request.budget m a)
+          (λ text place. IsToldLong text m place) (analysis_limit request.budget m)
+          (refused path call f status.Fault (inl refl)
+          (λ text a. IsUnanalysed text request.budget m a)
+          (λ text l a e h same refusing.
+          unanalysed request.kind text l request.budget m a e h refusing.yes_not) is);
+      task_limit = λ l r free forms long. or_long (course request) call l f
+          (λ s. long_analysed request.kind l request.budget m s.answer free forms long
           (answered path call f l r s));
       found = λ l r free forms never. or_found (course request) call f
           (λ s. formed_analysed request.kind l request.budget m s.answer free forms never

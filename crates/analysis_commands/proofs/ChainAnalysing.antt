@@ -9,7 +9,7 @@
 --   formed_analysed    where none is and each branch splits: a yes, or a number that doesn't fit, or an exhausted budget
 --   not_exhausted          no budget is exhausted where each loop has a finished journal within it
 --   all_analysed       where nothing refuses and that is so: a yes
---   all_second         what holds of all of two lists holds of the second
+--   told_of            the answer that was said of a loop;  all_second: what holds of all of two lists holds of the second
 use Rattle.std.proofs.lemmas.List.{length-append, get_or-append-add}
 use Rattle.std.proofs.Common.{◌≡◌, ◌≢◌, ℕ, zero, suc, ◌<◌, ◌≤◌, All, List, [], get_or, length, refl, sym, ap, subst, ◌∙◌, Ok, inl, inr, arith}
 use Rattle.std.specs.Prelude.{◌⊎◌, ◌+◌, ◌++◌, Option, Some, None, option_map, codes, decimal}
@@ -60,7 +60,7 @@ use Rattle.analysis_commands.specs.ChainCauses.{HasFinished, IsExhausted, IsUnan
 
 -- ---- one loop
 -- the answer behind that of its loop
-told_of : (place : ℕ) (o : Option Answer) (a : Answer) → option_map (in_loop place) o ≡ Some a
+pub told_of : (place : ℕ) (o : Option Answer) (a : Answer) → option_map (in_loop place) o ≡ Some a
     → (x : Answer) × (o ≡ Some x) × (a ≡ in_loop place x)
 told_of place None a e = absurd (no_answer a e)
 told_of place (Some x) a e = (x, refl, some_answer (in_loop place x) a e)

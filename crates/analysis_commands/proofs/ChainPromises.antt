@@ -1,11 +1,13 @@
 -- What `chain` promises, from the outcome of its course.
 --   settled      its answers are settled
 --   finds_each   the clauses
-use Rattle.std.proofs.Common.{ℕ, refl}
+use Rattle.std.proofs.Common.{ℕ, refl, inl}
+use Rattle.std.specs.Prelude.{◌⊎◌}
 use Rattle.machines.specs.Journal.{Journal}
 use Rattle.poly_text.specs.Reasons.{Fault, limit}
 use Rattle.loops.specs.Program.{Expr}
 use Rattle.loops.specs.Chain.{Chain}
+use Rattle.io_edge.specs.declared.answer.Status.TheVariants as status
 use Rattle.io_edge.specs.Settled.{IsSettled}
 use Rattle.io_edge.specs.Course.{EachAnswer}
 use Rattle.io_edge.specs.Outcome.{Call, IsCarriedOut}
@@ -18,8 +20,10 @@ use Rattle.analysis_commands.specs.ChainAnalyses.{Analyses, HasAnalysed}
 use Rattle.analysis_commands.specs.RefusalTexts.{branch_answer}
 use Rattle.analysis_commands.specs.ChainTexts.{in_loop}
 use Rattle.analysis_commands.specs.ChainHeadline.{ShowsChain}
-use Rattle.analysis_commands.specs.ChainCauses.{HasFinished, IsExhausted, IsAnalysed, IsUnanalysed}
+use Rattle.analysis_commands.specs.ChainCauses.{HasFinished, IsExhausted, IsAnalysed, IsUnanalysed, IsToldLong}
+use Rattle.command_parts.specs.ChainReading.{IsChainFault}
 use Rattle.analysis_commands.proofs.Endings.{or_found}
+use Rattle.analysis_commands.proofs.LongChains.{limit_written_in, chain_limit}
 use Rattle.analysis_commands.proofs.ChainAnalysing.{analyses_settled, analyses_not_no, found_shown, out_shown, unanalysed, limit_analysed, branch_analysed, unformed_analysed, formed_analysed, not_exhausted, all_analysed}
 use Rattle.command_parts.specs.FileRequests.{FileRequest}
 use Rattle.analysis_commands.specs.ChainCourse.{course}
@@ -65,6 +69,14 @@ module _ (request : FileRequest) where
       unformed = λ c j r within known before not. or_fault (course request) call f
           (λ s. unformed_analysed r.text c request.budget m s.answer r.reads j within known before
           not (answered path call f c r s));
+      limit_told = λ is. limit_written_in call request.file
+          (λ text a. IsChainFault text a ⊎ IsUnanalysed text request.budget m a)
+          (λ text j place. IsToldLong text request.budget m j place)
+          (chain_limit request.budget m)
+          (refused path call f status.Fault (inl refl)
+          (λ text a. IsUnanalysed text request.budget m a)
+          (λ text c a e h same refusing.
+          unanalysed text c request.budget m a e h refusing.yes_not) is);
       found = λ c r each. or_found (course request) call f
           (λ s. formed_analysed r.text c request.budget m s.answer r.reads each
           (answered path call f c r s));

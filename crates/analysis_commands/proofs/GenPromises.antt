@@ -20,13 +20,14 @@ use Rattle.analysis_commands.specs.declared.kind.Kind.TheVariants.{Basis}
 use Rattle.analysis_commands.specs.Analyses.{refused, Analyses}
 use Rattle.analysis_commands.specs.Completeness.{AllSplit}
 use Rattle.analysis_commands.specs.Causes.{IsExhausted, IsNeverLong, IsNeverRefused, IsWithinBudget}
-use Rattle.analysis_commands.specs.Counting.{ShowsCounts, StopsAt, IsExhaustedAt, AnswersFamily, IsFamily}
+use Rattle.analysis_commands.specs.Counting.{ShowsCounts, StopsAt, IsLongAt, IsExhaustedAt, AnswersFamily, IsFamily}
 use Rattle.analysis_commands.specs.GenCourse.{course}
 use Rattle.analysis_commands.specs.GenClauses.{Tallies}
 use Rattle.analysis_commands.proofs.Refused.{refusal_parts, refusal_kind}
 use Rattle.analysis_commands.proofs.Settling.{analyses_settled, analyses_not_no}
 use Rattle.analysis_commands.proofs.Analysing.{refused_not_yes, out_shown, formed_analysed, all_analysed}
 use Rattle.analysis_commands.proofs.Endings.{or_found, not_exhausted}
+use Rattle.analysis_commands.proofs.LongTasks.{limit_written, unanalysed_long}
 
 -- ---- the first loop that has no basis
 module _ (n : ℕ) (m : Journal) (a : Answer) (stop : StopsAt n m a) where
@@ -143,6 +144,15 @@ module _ (n : ℕ) where
       exhausted = exhausted_shown;
       no = never (course n) call f status.No (λ h. cc) (λ h. cc) (λ h. cc) each_not_no;
       journal = meter_left (course n) call f;
+      limit_told = λ is. limit_written call (StopsAt n left) (IsLongAt n left)
+          (λ a place stop said. record {
+            number = stop.place;
+            within = stop.within;
+            told = unanalysed_long (loop_text (suc stop.place)) usual_budget left a place
+                stop.refused said;
+          })
+          (refusal_told (course n) call f status.Fault (inl refl) (StopsAt n left)
+          (λ s same refusing. stopped left s.answer s.is refusing.yes_not) is);
       found = λ each. or_found (course n) call f (λ s. found left s.answer each s.is);
       enough = λ each is. let s = budget_said is in
           enough left s.answer each s.is (sym s.same ∙ is);

@@ -3,6 +3,7 @@ pub mod Pushing
 pub mod LineFeeds
 pub mod BasisTexts
 pub mod Refused
+pub mod LongTasks
 pub mod BranchRefusals
 pub mod Analysing
 pub mod BasisAnswers
@@ -14,12 +15,14 @@ pub mod MemberStatuses
 pub mod MemberJournals
 pub mod MemberAnswers
 pub mod MemberAsking
+pub mod LongQuestions
 pub mod MemberPromises
 pub mod Tallying
 pub mod GenPromises
 pub mod SequenceCourses
 pub mod RelationsAnswered
 pub mod RelationsEndings
+pub mod LongRelations
 pub mod RelationsPromises
 pub mod EqualBases
 pub mod EqualRelations
@@ -58,6 +61,7 @@ pub mod SquaresWitnesses
 pub mod FewUnits
 pub mod BasesPushing
 pub mod ChainAnalysing
+pub mod LongChains
 pub mod ChainPromises
 pub mod IdleCode
 pub mod CodeFitting

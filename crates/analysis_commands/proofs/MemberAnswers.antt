@@ -75,6 +75,9 @@ module _ (l : Program (Expr ℕ)) (p : Terms Fraction) (budget : ℕ) (before af
       rounds = f.rounds;
       least = f.least;
       basis = f.basis;
+      analysis = before.entries;
+      finished = f.finished;
+      short = f.short;
       last = h.last;
       answered = h.answered;
     }

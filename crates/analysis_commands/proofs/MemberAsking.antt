@@ -12,6 +12,8 @@
 --                       fit
 --   branch_asking       where the first that has none is refused for a cause of its own: this
 --                       refusal, or a number that doesn't fit
+--   long_asking         where a task of the analysis is too long: this, of one that is, or a number
+--                       that doesn't fit, or an exhausted budget
 --   completed_asking    where nothing is refused, and an answered journal keeps within the budget:
 --                       yes or no
 use Rattle.std.proofs.Common.{◌≡◌, ◌≢◌, ℕ, suc, ◌≤◌, List, length, sym, subst, ◌∙◌, Ok, inl, inr}
@@ -47,9 +49,11 @@ use Rattle.command_parts.specs.Equations.{equation_in, operations_of, polynomial
 use Rattle.analysis_commands.specs.MemberCauses.{IsAsking, HasAffirmed, HasDenied, IsExhaustedAsking, NeverStops, NeverPast}
 use Rattle.analysis_commands.specs.MemberClauses.{EndsDecided, limit_of_loop}
 use Rattle.analysis_commands.specs.MemberHeadline.{ShowsYes, ShowsNo}
-use Rattle.analysis_commands.specs.Questions.{Decision, unanalysed, undivided, yes, no, IsUndivided, DecidesWith, decision_answer, positive_answer, negative_answer, Asks}
+use Rattle.analysis_commands.specs.Questions.{Decision, unanalysed, undivided, yes, no, Divides, IsUndivided, DecidesWith, decision_answer, positive_answer, negative_answer, Asks}
 use Rattle.analysis_commands.specs.RefusalTexts.{refusal_answer, branch_answer}
-use Rattle.analysis_commands.proofs.Analysing.{refused_not_yes, exhausted_is, limit_analysed, formed_analysed, unformed_analysed, branch_analysed}
+use Rattle.analysis_commands.proofs.Analysing.{refused_not_yes, exhausted_is, limit_analysed, formed_analysed, unformed_analysed, long_analysed, branch_analysed}
+use Rattle.analysis_commands.specs.LongTasks.{ComesToLong}
+use Rattle.analysis_commands.proofs.LongTasks.{IsLongOr, never_long}
 use Rattle.analysis_commands.proofs.BranchRefusals.{no_form, some_told}
 use Rattle.command_parts.proofs.Polynomials.{holds_invariant}
 use Rattle.analysis_commands.proofs.MemberJournals.{out_asked, enough_asked}
@@ -334,6 +338,26 @@ module _ (l : Program (Expr ℕ)) (e : Expr ℕ) (budget : ℕ) (m : Journal) (a
   pub decided_asking : AreFree l → AllSplit l → IsNeverLong l
       → IsDecided ⊎ ((a.status ≡ status.Wide) ⊎ (a.status ≡ status.Budget))
   decided_asking free split never = decided free split never asks.decision asks.ends asks.says
+
+  -- ---- where a task of the analysis is too long
+  not_answered : ComesToLong l → (gs : List (Terms Fraction)) → Divides l p m gs → ⊥
+  not_answered long gs d =
+      never_long l None d.analysis d.rounds gs d.finished d.short long.entries long.state
+      long.follows long.long
+
+  long_ended : AreFree l → AllHaveForms l → ComesToLong l → (d : Decision) → Ends d → Says d
+      → IsLongOr l m a
+  long_ended free forms long (unanalysed x) ends says =
+      long_analysed kinds.Basis l budget m a free forms long
+      (record { ending = refused x; ends = ends; says = says })
+  long_ended free forms long (undivided x) ends says = inr (undecided x says)
+  long_ended free forms long (yes qs) ends says =
+      absurd (not_answered long ends.1.list ends.1.divides)
+  long_ended free forms long no ends says =
+      absurd (not_answered long ends.1.list ends.1.divides)
+
+  pub long_asking : AreFree l → AllHaveForms l → ComesToLong l → IsLongOr l m a
+  long_asking free forms long = long_ended free forms long asks.decision asks.ends asks.says
 
   -- ---- where nothing is refused
   module _ (never : IsNeverRefused l) (narrow : NeverPast l p) (es : List Entry) (k : ℕ)

@@ -17,11 +17,11 @@ use Rattle.closed_forms.specs.Refusal.{Refusal}
 use Rattle.invariant_fix.specs.Refusals.{AllHaveForms, IsRefusedBranch}
 use Rattle.io_edge.specs.declared.answer.Status.{Status}
 use Rattle.io_edge.specs.declared.answer.Status.TheVariants as status
-use Rattle.io_edge.specs.Texts.{Answer}
+use Rattle.io_edge.specs.Texts.{Answer, with_text}
 use Rattle.io_edge.specs.Settled.{IsSettled, IsRefusing}
 use Rattle.io_edge.specs.Course.{Course, ends, Outcome, LeftBy, EachAnswer}
 use Rattle.io_edge.specs.Outcome.{Call, IsCarriedOut}
-use Rattle.io_edge.specs.Clauses.{Wrote, IsExcused, EndsOrWide, EndsAtFault}
+use Rattle.io_edge.specs.Clauses.{Wrote, IsExcused, IsFaultOrWide, EndsOrWide, EndsAtFault}
 use Rattle.io_edge.proofs.Outcomes.{Said, at_some, if_told, yes_said, said_with, refusal_told, written, or_excused, or_wide, or_fault, ends_so, meter_left}
 use Rattle.io_edge.proofs.Outside.{too_long_told}
 use Rattle.io_edge.proofs.Readings.{each_answer, at_something, at_fault}
@@ -32,14 +32,17 @@ use Rattle.command_parts.proofs.MapLimits.{not_free}
 use Rattle.analysis_commands.specs.Causes.{IsNeverLong, IsNeverRefused, IsExact}
 use Rattle.analysis_commands.specs.Completeness.{AllSplit}
 use Rattle.command_parts.specs.Equations.{equation_in, operations_of, polynomial_of}
-use Rattle.analysis_commands.specs.MemberCauses.{IsAsking, IsEquationFault, HasAffirmed, HasDenied, IsExhaustedAsking, IsAsked, NeverStops, NeverPast}
+use Rattle.analysis_commands.specs.MemberCauses.{IsAsking, IsEquationFault, IsUndecided, HasAffirmed, HasDenied, IsExhaustedAsking, IsAsked, NeverStops, NeverPast}
 use Rattle.analysis_commands.specs.MemberClauses.{AsksNothing, ReadsEquation, AsksOf, Refuses, EndsDecided, EndsAsked, limit_of_loop, limit_of_equation, Decides}
 use Rattle.analysis_commands.specs.MemberCourse.{HasAskedFor, AnswersEquation, by_equation, with_question, course}
 use Rattle.analysis_commands.specs.MemberHeadline.{ShowsYes, ShowsNo}
 use Rattle.analysis_commands.specs.MemberArguments.{Request}
 use Rattle.analysis_commands.specs.Questions.{Asks}
 use Rattle.analysis_commands.specs.RefusalTexts.{branch_answer}
-use Rattle.analysis_commands.proofs.MemberAsking.{never_stopped, yes_asking, no_asking, exhausted_asking, exhausted_out, limit_asking, decided_asking, unformed_asking, branch_asking, completed_asking}
+use Rattle.analysis_commands.proofs.MemberAsking.{never_stopped, yes_asking, no_asking, exhausted_asking, exhausted_out, limit_asking, decided_asking, unformed_asking, branch_asking, long_asking, completed_asking}
+use Rattle.analysis_commands.specs.LongTasks.{IsToldLong, ComesToLong, EndsLong}
+use Rattle.analysis_commands.proofs.LongTasks.{IsLongOr, told_limit, or_long}
+use Rattle.analysis_commands.proofs.LongQuestions.{member_limit}
 use Rattle.analysis_commands.proofs.MemberJournals.{enough_asked}
 use Rattle.analysis_commands.proofs.MemberStatuses.{equation_settled}
 use Rattle.command_parts.specs.EquationReading.{equation_refusal}
@@ -300,6 +303,13 @@ module _ (request : Request) (call : Call)
         (λ a asks. unformed_asking l e request.budget m a asks free not)
         (λ a is. inr is))
 
+    task_limit : AreFree l → AllHaveForms l → ComesToLong l → EndsLong call l
+    task_limit free forms long =
+        or_long path call l f
+        (by_question (λ a. IsLongOr l m a)
+        (λ a asks. long_asking l e request.budget m a asks free forms long)
+        (λ a is. inr (inl is)))
+
     decided : AreFree l → AllSplit l → IsNeverLong l → EndsAsked call.status l e
     decided free split never =
         elim (or_excused path call f (λ s. asked_here l e s (by_question
@@ -338,6 +348,16 @@ module _ (request : Request) (call : Call)
       go a (inr asks) =
           completed_asking l e request.budget m a asks.1 refuses narrow es k gs last done few
 
+  -- a fault, or a number that doesn't fit
+  why : (t : Status) → IsFaultOrWide t → call.status ≡ t
+      → Wrote call.sink (λ said. Refuses call request (with_text t said))
+  why t is same = refusal_told path call f t is (Refuses call request)
+      (λ s told refusing. told_question _ s (λ text h k. inl (h, k))
+      (λ text l e i j asks. inr (record {
+        asking = record { loop = l; is_loop = i; difference = e; is_equation = j };
+        asks = asks;
+      }))) same
+
   pub decides : Decides request call
   decides = record {
     holds = λ is. if_told content _ _
@@ -348,12 +368,7 @@ module _ (request : Request) (call : Call)
         (λ text h. written path call f (ShowsNo text request.equation) (no_here is) h.0)
         (no_shown is);
     denied = λ is. if_told content _ _ (λ text h. h.1) (no_shown is);
-    why = λ is. refusal_told path call f call.status is (Refuses call request)
-        (λ s same refusing. told_question _ s (λ text h k. inl (h, k))
-        (λ text l e i j asks. inr (record {
-          asking = record { loop = l; is_loop = i; difference = e; is_equation = j };
-          asks = asks;
-        }))) refl;
+    why = λ is. why call.status is refl;
     exhausted = exhausted_shown;
     journal = elim (meter_left path call f) [
       | inl kept ↦ inl kept
@@ -369,6 +384,13 @@ module _ (request : Request) (call : Call)
     limit_passed = λ l e at r first. limit_passed l e r at first;
     branch_refused = λ l e b x r free exact first. branch_refused l e r free b x exact first;
     unformed = λ l e r free not. unformed l e r free not;
+    limit_told = λ is. told_limit call request.file
+        (λ text a. (AsksNothing text request.equation a × Kept)
+        ⊎ IsUndecided text request.equation request.budget m a)
+        (λ text place. IsToldLong text m place)
+        (member_limit request.equation request.budget call.meter.before m) (why status.Fault
+        (inl refl) is);
+    task_limit = λ l e r free forms long. task_limit l e r free forms long;
     decided = λ l e r free split never. decided l e r free split never;
     enough = λ l e es k gs last r done few. enough l e r es k gs last done few;
     completes = λ l e es k gs last r never refuses narrow done few.

@@ -1,12 +1,14 @@
 -- What `relations` promises, from the outcome of its course.
 --   settled            its answers are settled
 --   finds_relations    the clauses
-use Rattle.std.proofs.Common.{ℕ, List, refl}
+use Rattle.std.proofs.Common.{ℕ, List, refl, inl}
+use Rattle.std.specs.Prelude.{◌⊎◌}
 use Rattle.machines.specs.Journal.{Journal}
 use Rattle.poly_text.specs.Reasons.{Fault, limit}
 use Rattle.loops.specs.Program.{Expr}
 use Rattle.loops.specs.Sequences.{Sequence}
 use Rattle.loops.specs.Turning.{names}
+use Rattle.io_edge.specs.declared.answer.Status.TheVariants as status
 use Rattle.io_edge.specs.Settled.{IsSettled}
 use Rattle.io_edge.specs.Course.{EachAnswer}
 use Rattle.io_edge.specs.Outcome.{Call, IsCarriedOut}
@@ -18,9 +20,12 @@ use Rattle.analysis_commands.specs.RelationsTexts.{sequences_refusal}
 use Rattle.analysis_commands.specs.RelationsAnswers.{Relates, HasRelated}
 use Rattle.command_parts.specs.FileRequests.{FileRequest}
 use Rattle.analysis_commands.specs.RelationsCourse.{course}
-use Rattle.analysis_commands.specs.RelationsClauses.{HasEnded, IsExhaustedRelating, IsUnrelated, IsRelating, FindsRelations}
+use Rattle.analysis_commands.specs.RelationsClauses.{HasEnded, IsExhaustedRelating, IsUnrelated, IsToldLongRelating, IsRelating, FindsRelations}
+use Rattle.analysis_commands.specs.RelationsReading.{IsSequencesFault}
 use Rattle.analysis_commands.specs.RelationsHeadline.{ShowsRelations}
 use Rattle.analysis_commands.proofs.Endings.{or_found}
+use Rattle.analysis_commands.proofs.LongTasks.{told_limit}
+use Rattle.analysis_commands.proofs.LongRelations.{relations_limit}
 use Rattle.analysis_commands.proofs.SequenceCourses.{reading_sequences}
 use Rattle.analysis_commands.proofs.RelationsEndings.{relates_settled, relates_not_no, related_shown, exhausted_shown, unrelated, limit_related, formed_related, unformed_related, branch_related, all_related, related_within}
 
@@ -63,6 +68,13 @@ module _ (request : FileRequest) where
           exact first);
       unformed = λ qs r free not. or_fault (course request) call f
           (λ s. unformed_related qs request.budget m s.answer (answered path call f qs r s) not);
+      limit_told = λ is. told_limit call request.file
+          (λ text a. IsSequencesFault text a ⊎ IsUnrelated text request.budget m a)
+          (λ text place. IsToldLongRelating text m place) (relations_limit request.budget m)
+          (refused path call f status.Fault (inl refl)
+          (λ text a. IsUnrelated text request.budget m a)
+          (λ text qs a e h same refusing.
+          unrelated qs request.budget m a h text e refusing.yes_not) is);
       found = λ qs r free split never. or_found (course request) call f
           (λ s. formed_related qs request.budget m s.answer (answered path call f qs r s) free
           split never);

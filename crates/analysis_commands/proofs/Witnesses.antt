@@ -11,6 +11,7 @@
 --                               loops, of equations, and with a fault
 --   AsksOf                      yes_asks, no_asks there: of any of the loops
 --   IsNeverRefused              one_never_refused, two_never_refused
+--   not ComesToLong             one_never_long
 --   IsWithinBudget              one_within, two_within, with any budget: there is no unit
 --   AreFree, AllSplit           one_free, two_free, reset_free; one_splits, two_splits, reset_splits
 --   NeverStops                  yes_never_stops, no_never_stops
@@ -40,6 +41,7 @@ use Rattle.closed_forms.specs.Refusal.{not_solvable}
 use Rattle.invariant_fix.specs.Refusals.{AllHaveForms, IsRefusedBranch}
 use Rattle.command_parts.specs.Equations.{operations_of, polynomial_of}
 use Rattle.analysis_commands.specs.Causes.{IsNeverRefused, IsWithinBudget, IsExact}
+use Rattle.analysis_commands.specs.LongTasks.{ComesToLong}
 use Rattle.analysis_commands.specs.Completeness.{AllSplit}
 use Rattle.analysis_commands.specs.MemberCauses.{NeverStops, NeverPast}
 use Rattle.analysis_commands.proofs.ScaledMap.{one}
@@ -62,6 +64,10 @@ one_never_refused = record {
   states = λ es s f. never_past ([] ∷ []) f.forms es s f.run;
   short = λ es s f. never_long ([] ∷ []) f.forms es s f.run;
 }
+
+-- and so it comes to no task that is too long
+pub one_never_long : ComesToLong one_loop → ⊥
+one_never_long c = one_never_refused.short c.entries c.state c.follows c.long
 
 pub two_never_refused : IsNeverRefused two_loop
 two_never_refused = record {

@@ -17,6 +17,7 @@ use Rattle.command_parts.specs.LoopReading.{loop_at, IsLoopFault, ReadsLoop}
 use Rattle.analysis_commands.specs.RefusalTexts.{branch_answer}
 use Rattle.analysis_commands.specs.Headline.{ShowsAnalysis}
 use Rattle.analysis_commands.specs.Completeness.{AllSplit, EndsFound}
+use Rattle.analysis_commands.specs.LongTasks.{IfLimit, IsToldLong, ComesToLong, EndsLong}
 use Rattle.analysis_commands.specs.Causes.{HasFinished, IsClosed, IsExhausted, IsAnalysed, IsUnanalysed, IsNeverLong, IsNeverRefused, IsWithinBudget, IsExact}
 use Rattle.analysis_commands.specs.BasisArguments.{Request}
 
@@ -59,6 +60,13 @@ pub record Finds (request : Request) (call : Call) : Type 0 where
       → EndsOrWide call (branch_answer l.names b r)
   pub unformed : (l : Program (Expr ℕ)) → ReadsLoop call request.file (Ok l) → AreFree l
       → ¬ (AllHaveForms l) → EndsAtFault call.status
+  -- a fault that says `limit: PLACE`: the maps are free, each branch has a closed form, and the
+  -- entries lead to the task at this place, which is too long; and where the analysis comes to such
+  -- a task, so it is, or a number doesn't fit, or the budget is exhausted
+  pub limit_told : call.status ≡ status.Fault → Wrote call.sink (λ said. IfLimit said (λ place.
+      IfTold call.files.before request.file (λ text. IsToldLong text call.meter.after place)))
+  pub task_limit : (l : Program (Expr ℕ)) → ReadsLoop call request.file (Ok l) → AreFree l
+      → AllHaveForms l → ComesToLong l → EndsLong call l
   -- where none comes, a basis, but for numbers that don't fit and an exhausted budget
   pub found : (l : Program (Expr ℕ)) → ReadsLoop call request.file (Ok l) → AreFree l → AllSplit l
       → IsNeverLong l → EndsFound call.status

@@ -3,6 +3,9 @@
 --   IsExhausted text budget m said       they are a chain; of one of its loops no operation of the maps, nor of the code before it, passes a limit and each branch has a closed form; the entries of m follow it from what is given to it, or the elimination of its code, as many of them are units as are left or allowed, what comes next is a unit, and the budget is said of this loop
 --   IsAnalysed text budget m         they are a chain, and the meter was opened for the analysis of one of its loops, or for the code before one
 --   IsUnanalysed text budget m a     they are a chain, and a tells why the analysis of one of its loops, which left m, has no basis
+--   limit_text_in j place            the text that tells this place, said of the loop at j
+--   IfLimitIn said T                 where this is what is said, T of the two
+--   IsToldLong text budget m j place the bytes are a chain, and a loop of it, whose number is told as that of j, is formed; the entries of m follow it from what is given to it up to the task at this place, which is too long
 --   IsNeverLongAt c budget j         no task that the analysis of loop j comes to, from what is given, is too long
 --   AreFormedBefore c budget j       the loops before the place j are formed, and none of their tasks is too long
 --   IsWithinBudget c budget          each loop has a finished journal of at most as many units as the budget, with that of the code before it
@@ -24,9 +27,14 @@ use Rattle.loops.specs.Chain.{Chain, code_at, loop_at}
 use Rattle.corollaries.specs.Analysed.{Analysed, GivenTo}
 use Rattle.loop_text.specs.ChainReader.{chain_of}
 use Rattle.invariant_fix.specs.Bases.{IsFormed, InLoop, InCode, operations_at, IsRefusedIn}
+use Rattle.journal.specs.View as view
+use Rattle.journal.specs.declared.Task.{Task}
 use Rattle.invariant_fix.specs.Long.{IsLong}
+use Rattle.invariant_fix.specs.Refusals.{HasLongFrom}
 use Rattle.invariant_fix.specs.declared.refused.Refused.{Refused}
 use Rattle.io_edge.specs.Texts.{Answer, line}
+use Rattle.analysis_commands.specs.RefusalTexts.{place_text}
+use Rattle.analysis_commands.specs.LongTasks.{limit_text}
 use Rattle.analysis_commands.specs.ChainAnalyses.{HasAnalysed, refused_answer}
 
 pub record HasFinished (text : List ℕ) (budget : ℕ) (m : Journal) : Type 0 where
@@ -61,6 +69,25 @@ pub record IsUnanalysed (text : List ℕ) (budget : ℕ) (m : Journal) (a : Answ
   pub refused : Refused
   pub ends : IsRefusedIn chain budget m refused
   pub says : refused_answer chain.first.names budget refused ≡ Some a
+
+abbrev pub limit_text_in : ℕ → List ℕ → List ℕ
+limit_text_in j place = codes "loop " ++ decimal (j + 1) ++ codes ": " ++ limit_text place
+
+abbrev pub IfLimitIn : List ℕ → (ℕ → List ℕ → Type 0) → Type 0
+IfLimitIn said T = (j : ℕ) (place : List ℕ) → said ≡ limit_text_in j place → T j place
+
+pub record IsToldLong (text : List ℕ) (budget : ℕ) (m : Journal) (j : ℕ) (place : List ℕ)
+    : Type 0 where
+  pub chain : Chain (Expr ℕ)
+  pub is_chain : chain_of text ≡ Ok chain
+  pub loop : ℕ
+  pub within : loop ≤ length chain.further
+  pub number : decimal (loop + 1) ≡ decimal (j + 1)
+  pub formed : IsFormed chain loop
+  pub task : Task
+  pub at : place ≡ place_text task
+  pub long : InLoop chain budget m loop (λ left given.
+      HasLongFrom (loop_at chain loop) given (view.task_of task) m.entries)
 
 abbrev pub IsNeverLongAt : Chain (Expr ℕ) → (budget j : ℕ) → Type 0
 IsNeverLongAt c budget j = (left : ℕ) (given : Option (List (Terms Fraction)))

@@ -21,7 +21,7 @@ use Rattle.analysis_commands.specs.Causes.{IsExact}
 use Rattle.analysis_commands.specs.ChainTexts.{in_loop}
 use Rattle.command_parts.specs.ChainReading.{IsChainFault, ReadsChain}
 use Rattle.analysis_commands.specs.ChainHeadline.{ShowsChain}
-use Rattle.analysis_commands.specs.ChainCauses.{HasFinished, IsExhausted, IsAnalysed, IsUnanalysed, AreFormedBefore, IsNeverLongAt, IsWithinBudget, IsNeverRefused}
+use Rattle.analysis_commands.specs.ChainCauses.{HasFinished, IsExhausted, IsAnalysed, IsUnanalysed, IfLimitIn, IsToldLong, AreFormedBefore, IsNeverLongAt, IsWithinBudget, IsNeverRefused}
 use Rattle.command_parts.specs.FileRequests.{FileRequest}
 
 abbrev pub Refuses : Call → FileRequest → Answer → Type 0
@@ -70,6 +70,12 @@ pub record FindsEach (request : FileRequest) (call : Call) : Type 0 where
   pub unformed : (c : Chain (Expr ℕ)) (j : ℕ) → ReadsChain call request.file (Ok c)
       → j ≤ length c.further → Reaches c request.budget j → AreFormedBefore c request.budget j
       → ¬ (AllHaveForms (loop_at c j)) → EndsAtFault call.status
+  -- a fault that says `limit: PLACE` of a loop: no operation of its code or maps passes a limit,
+  -- each branch has a closed form, and the entries lead from what is given to it to the task at this
+  -- place, which is too long
+  pub limit_told : call.status ≡ status.Fault → Wrote call.sink (λ said.
+      IfLimitIn said (λ j place. IfTold call.files.before request.file
+      (λ text. IsToldLong text request.budget call.meter.after j place)))
   -- where no loop is refused so, the bases, but for numbers that don't fit and an exhausted budget
   pub found : (c : Chain (Expr ℕ)) → ReadsChain call request.file (Ok c)
       → ((j : ℕ) → j ≤ length c.further

@@ -4,6 +4,7 @@
 --   AreCounted n m c             the first n loops have bases so, the last of them with the journal m, and c are the counts over these bases
 --   ShowsCounts n m said         the counts over the first n loops are said
 --   StopsAt n m a                a tells why the analysis of one of the first n loops, which left m, has no basis; those before it are counted
+--   IsLongAt n m place           the analysis of one of the first n loops, with the entries of m, comes to the task at this place, which is too long
 --   IsExhaustedAt n m said           so, and its analysis with the usual budget is exhausted
 --   AnswersFamily n m a          a answers `gen` of n loops, one way or the other
 --   HasOpenedFor j m             the meter was opened with the usual budget for loop j, and its entries are none or follow its analysis
@@ -21,6 +22,7 @@ use Rattle.io_edge.specs.declared.answer.Status.TheVariants.{Yes}
 use Rattle.io_edge.specs.Texts.{Answer}
 use Rattle.analysis_commands.specs.Analyses.{HasFound, HasAnalysed}
 use Rattle.analysis_commands.specs.Causes.{IsExhausted, IsUnanalysed}
+use Rattle.analysis_commands.specs.LongTasks.{IsToldLong}
 
 pub record IsCounted (l : Program (Expr ℕ)) (m : Journal) (before after : Counts) : Type 0 where
   pub list : List (Terms Fraction)
@@ -59,6 +61,11 @@ pub record IsExhaustedAt (n : ℕ) (m : Journal) (said : List ℕ) : Type 0 wher
   pub last : Journal
   pub counted : AreCounted place last counts
   pub exhausted : IsExhausted (loop_text (suc place)) usual_budget m said
+
+pub record IsLongAt (n : ℕ) (m : Journal) (place : List ℕ) : Type 0 where
+  pub number : ℕ
+  pub within : number < n
+  pub told : IsToldLong (loop_text (suc number)) m place
 
 abbrev pub AnswersFamily : ℕ → Journal → Answer → Type 0
 AnswersFamily n m a = ((a.status ≡ Yes) × ShowsCounts n m a.text) ⊎ StopsAt n m a

@@ -8,7 +8,8 @@ use Rattle.io_edge.specs.Outcome.{Call}
 use Rattle.io_edge.specs.Clauses.{Wrote, TellsWhy, IsExcused}
 use Rattle.analysis_commands.specs.Completeness.{AllSplit, EndsFound}
 use Rattle.analysis_commands.specs.Causes.{IsNeverLong, IsNeverRefused, IsWithinBudget}
-use Rattle.analysis_commands.specs.Counting.{ShowsCounts, StopsAt, IsExhaustedAt, HasCounted, IsFamily}
+use Rattle.analysis_commands.specs.Counting.{ShowsCounts, StopsAt, IsLongAt, IsExhaustedAt, HasCounted, IsFamily}
+use Rattle.analysis_commands.specs.LongTasks.{IfLimit}
 
 pub record Tallies (n : ℕ) (call : Call) : Type 0 where
   -- yes: the text has the counts over the bases of the first n loops of the family; each has a
@@ -24,6 +25,10 @@ pub record Tallies (n : ℕ) (call : Call) : Type 0 where
   -- the meter is opened with the usual budget for a loop of the family, and the entries follow its
   -- analysis
   pub journal : (call.meter.after ≡ call.meter.before) ⊎ HasCounted n call.meter.after
+  -- a fault that says `limit: PLACE`: the maps of one of these loops are free, each branch has a
+  -- closed form, and the entries lead to the task at this place, which is too long
+  pub limit_told : call.status ≡ status.Fault
+      → Wrote call.sink (λ said. IfLimit said (IsLongAt n call.meter.after))
   -- the counts, but for numbers that don't fit and exhausted budgets, where the maps are free and
   -- each
   -- branch splits

@@ -8,6 +8,7 @@ pub mod Headline
 pub mod Analyses
 pub mod Completeness
 pub mod Causes
+pub mod LongTasks
 pub mod BasisArguments
 pub mod BasisViews
 pub mod BasisCourse

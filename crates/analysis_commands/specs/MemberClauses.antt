@@ -37,6 +37,7 @@ use Rattle.command_parts.specs.LoopReading.{loop_at, IsLoopFault, ReadsLoop}
 use Rattle.analysis_commands.specs.RefusalTexts.{branch_answer}
 use Rattle.analysis_commands.specs.Completeness.{AllSplit}
 use Rattle.analysis_commands.specs.Causes.{IsNeverLong, IsNeverRefused, IsExact}
+use Rattle.analysis_commands.specs.LongTasks.{IfLimit, IsToldLong, ComesToLong, EndsLong}
 use Rattle.command_parts.specs.Equations.{equation_in, operations_of, polynomial_of, Holds, FormsFreely}
 use Rattle.analysis_commands.specs.MemberHeadline.{ShowsYes, ShowsNo}
 use Rattle.analysis_commands.specs.MemberCauses.{IsEquationFault, IsEquationStop, IsUndecided, HasAffirmed, HasDenied, IsExhaustedAsking, IsAsked, NeverStops, NeverPast}
@@ -120,6 +121,13 @@ pub record Decides (request : Request) (call : Call) : Type 0 where
       → EndsOrWide call (branch_answer l.names b r)
   pub unformed : (l : Program (Expr ℕ)) (e : Expr ℕ) → AsksOf call request l e → AreFree l
       → ¬ (AllHaveForms l) → EndsAtFault call.status
+  -- a fault that says `limit: PLACE`: the maps of LOOP are free, each branch has a closed form, and
+  -- the entries lead to the task of the analysis at this place, which is too long; and where the
+  -- analysis comes to such a task, so it is, or a number doesn't fit, or the budget is exhausted
+  pub limit_told : call.status ≡ status.Fault → Wrote call.sink (λ said. IfLimit said (λ place.
+      IfTold call.files.before request.file (λ text. IsToldLong text call.meter.after place)))
+  pub task_limit : (l : Program (Expr ℕ)) (e : Expr ℕ) → AsksOf call request l e → AreFree l
+      → AllHaveForms l → ComesToLong l → EndsLong call l
   -- where none comes: yes exactly where the equation holds at the end of every run, no exactly
   -- where it doesn't, but for numbers that don't fit and an exhausted budget; which isn't exhausted
   -- where

@@ -4,7 +4,7 @@
 --   Divides l p m gs                the journal m is that of the finished analysis of l, which
 --                                   ended with the list gs, the reduced basis of the invariants of
 --                                   l, after as few rounds as have them all, and of the division
---                                   of p by it
+--                                   of p by it; no task of the analysis is too long
 --   AnswersYes l p m qs             so, nothing is left, and p is an invariant: the combination of
 --                                   the qs, the division's cofactors, with the list
 --   AnswersNo l p m                 so, something is left, and p is none
@@ -29,12 +29,12 @@ use Rattle.loops.specs.Inv.{Inv}
 use Rattle.loops.specs.Program.{Expr, Program}
 use Rattle.loop_model.specs.Maps.{AreFree}
 use Rattle.rounds.specs.Analysis.{State}
-use Rattle.rounds.specs.Journal.{setting_of, Follows, IsOut, IsAnswered}
+use Rattle.rounds.specs.Journal.{setting_of, Follows, IsFinished, IsOut, IsAnswered}
 use Rattle.rounds.specs.Past.{IsPast, task_of}
 use Rattle.poly.specs.Seen.{terms_each}
 use Rattle.divide.specs.declared.EngineError.{EngineError}
 use Rattle.divide.specs.declared.EngineError.TheVariants as engine_error
-use Rattle.invariant_fix.specs.Answers.{IsLeastLevel}
+use Rattle.invariant_fix.specs.Answers.{AreShortFrom, IsLeastLevel}
 use Rattle.invariant_fix.specs.Refusals.{AllHaveForms, IsRefused}
 use Rattle.invariant_fix.specs.declared.errors.AnalyseError.{AnalyseError}
 use Rattle.invariant_fix.specs.declared.membership.Membership as declared
@@ -61,6 +61,9 @@ module _ (l : Program (Expr ℕ)) (p : Terms Fraction) where
     pub rounds : ℕ
     pub least : IsLeastLevel l rounds
     pub basis : IsBasisOf l gs
+    pub analysis : List journal.Entry
+    pub finished : IsFinished l analysis rounds gs
+    pub short : AreShortFrom l None analysis
     pub last : division.State Fraction
     pub answered : IsAnswered l p m.entries rounds gs last
 

@@ -2,6 +2,7 @@
 --   HasEnded text budget m        they are sequences, and the journal m, with this budget, is that of their relations, which has ended
 --   IsExhaustedRelating text budget m said    they are sequences whose maps are free and whose loop has closed forms, the entries of m are a beginning of this journal, as many of them are units as the budget, what comes next is a unit, and the budget is said
 --   IsUnrelated text budget m a   they are sequences, and a tells why there are no relations
+--   IsToldLongRelating text m place   they are sequences, and the entries of m follow the analysis of their loop up to the task at this place, which is too long
 --   IsRelating text budget m      they are sequences, and the meter was opened for the journal of their relations
 --   IsRelatedWithin qs budget            some journal of relations that has ended has at most as many units as the budget
 --   IsNeverStopped qs             nothing refuses the analysis of their loop, and no state of the elimination behind it is past
@@ -24,6 +25,7 @@ use Rattle.loop_text.specs.SeqReader.{sequences_of}
 use Rattle.analysis_commands.specs.RefusalTexts.{branch_answer}
 use Rattle.analysis_commands.specs.Completeness.{AllSplit, EndsFound}
 use Rattle.analysis_commands.specs.Causes.{IsNeverLong, IsNeverRefused, IsExact}
+use Rattle.analysis_commands.specs.LongTasks.{IfLimit, IsLongLoop}
 use Rattle.analysis_commands.specs.RelationsAnswers.{HasRelated, AnswersUnrelated}
 use Rattle.analysis_commands.specs.RelationsTexts.{sequences_refusal}
 use Rattle.analysis_commands.specs.RelationsReading.{IsSequencesFault, ReadsSequences}
@@ -57,6 +59,11 @@ pub record IsUnrelated (text : List ℕ) (budget : ℕ) (m : Journal) (a : Answe
   pub sequences : List (Sequence (Expr ℕ))
   pub are_sequences : sequences_of text ≡ Ok sequences
   pub unfound : AnswersUnrelated sequences budget m a
+
+pub record IsToldLongRelating (text : List ℕ) (m : Journal) (place : List ℕ) : Type 0 where
+  pub sequences : List (Sequence (Expr ℕ))
+  pub are_sequences : sequences_of text ≡ Ok sequences
+  pub is : IsLongLoop (program_of sequences) m place
 
 pub record IsRelating (text : List ℕ) (budget : ℕ) (m : Journal) : Type 0 where
   pub sequences : List (Sequence (Expr ℕ))
@@ -112,6 +119,11 @@ pub record FindsRelations (request : FileRequest) (call : Call) : Type 0 where
       → EndsOrWide call (branch_answer (names qs) b r)
   pub unformed : (qs : List (Sequence (Expr ℕ))) → ReadsSequences call request.file (Ok qs)
       → AreFree (program_of qs) → ¬ (AllHaveForms (program_of qs)) → EndsAtFault call.status
+  -- a fault that says `limit: PLACE`: the maps are free, the branch has a closed form, and the
+  -- entries lead to the task of the analysis at this place, which is too long
+  pub limit_told : call.status ≡ status.Fault → Wrote call.sink (λ said. IfLimit said (λ place.
+      IfTold call.files.before request.file
+      (λ text. IsToldLongRelating text call.meter.after place)))
   -- where it has one, the relations, but for numbers that don't fit and an exhausted budget
   pub found : (qs : List (Sequence (Expr ℕ))) → ReadsSequences call request.file (Ok qs)
       → AreFree (program_of qs) → AllSplit (program_of qs) → IsNeverLong (program_of qs)

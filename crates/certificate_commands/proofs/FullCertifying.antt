@@ -6,10 +6,12 @@
 --   limit_told, branch_told, unformed_told     the answer where the maps pass a limit, or a branch has no closed form
 --   late_told              where a branch begins late: the first that does, or a number that doesn't fit
 --   formed_told            where none does and each branch splits: a yes, or a number that doesn't fit, or an exhausted budget
+--   long_told              where none does and a task of the analysis is too long: this, of one that is, or a number that doesn't fit, or an exhausted budget
+--   full_limit             a fault with the text `limit: PLACE`: the analysis has come to the task at this place, which is too long
 --   within_told            where a finished journal and its trace are within the budget: no exhausted budget
 --   all_told               and where nothing refuses: a yes
 --   settled, not_no        which statuses the answers have
-use Rattle.std.proofs.Common.{◌≡◌, ◌≢◌, ℕ, List, length, sym, ap, subst, ◌∙◌, Ok, inl, inr}
+use Rattle.std.proofs.Common.{◌≡◌, ◌≢◌, ℕ, List, length, sym, ap, subst, ◌∙◌, Ok, inl, inr, arith}
 use Rattle.std.specs.Prelude.{◌⊎◌, Some, None}
 use Rattle.algebra.specs.Fraction.{Fraction}
 use Rattle.polynomials.specs.Terms.{Terms}
@@ -43,12 +45,15 @@ use Rattle.io_edge.specs.Settled.{IsSettled}
 use Rattle.io_edge.specs.Texts.{Answer}
 use Rattle.io_edge.proofs.OfStatuses.{status_of, text_of, some_answer, settled_yes, settled_fault, no_answer}
 use Rattle.command_parts.specs.FaultTexts.{loop_refusal}
+use Rattle.command_parts.specs.LoopReading.{IsLoopFault}
 use Rattle.command_parts.proofs.MapLimits.{not_free}
 use Rattle.analysis_commands.specs.declared.kind.Kind.TheVariants as kinds
 use Rattle.analysis_commands.specs.Analyses.{IsUnfound, Analyses}
 use Rattle.analysis_commands.specs.Causes.{IsUnanalysed, IsNeverLong, IsExact}
 use Rattle.analysis_commands.specs.Completeness.{AllSplit}
 use Rattle.analysis_commands.specs.RefusalTexts.{refusal_answer, branch_answer}
+use Rattle.analysis_commands.specs.LongTasks.{limit_text, IsToldLong, ComesToLong}
+use Rattle.analysis_commands.proofs.LongTasks.{first_byte, loop_fault_long, unanalysed_long, never_long, IsLongOr}
 use Rattle.analysis_commands.proofs.Analysing as analysing
 use Rattle.analysis_commands.proofs.BranchRefusals.{no_form}
 use Rattle.analysis_commands.proofs.Refused.{refusal_parts, refusal_kind, refused_settled, refused_not_no}
@@ -314,6 +319,23 @@ module _ (l : Program (Expr ℕ)) (budget : ℕ) (m : Journal) (a : Answer) wher
         | inr exhausted ↦ inr (inr exhausted.0)
       ]
 
+  -- where all begin at 0 and a task of the analysis is too long
+  not_analysed : ComesToLong l → IsAnalysed l budget → ⊥
+  not_analysed long x =
+      never_long l None x.entries x.rounds x.list x.finished x.short long.entries long.state
+      long.follows long.long
+
+  long_ended : AreFree l → AllHaveForms l → AllBeginAtZero l → ComesToLong l → (e : Ending)
+      → EndsWith l budget m e → answer_of l.names budget e ≡ Some a → IsLongOr l m a
+  long_ended free forms at_zero long (certified c) ends is =
+      absurd (not_analysed long ends.1.analysed)
+  long_ended free forms at_zero long (first_late b) ends is =
+      absurd (never_late l at_zero b ends.first)
+  long_ended free forms at_zero long (unanalysed e) ends is =
+      analysing.long_analysed kinds.Basis l budget m a free forms long (refusal e ends.unfound is)
+  long_ended free forms at_zero long (untraced e) ends is =
+      absurd (not_analysed long ends.analysed)
+
   completed : (within : IsWithinBudget l budget) → IsNeverRefused l within.analysis.rounds
       → (e : Ending) → EndsWith l budget m e → answer_of l.names budget e ≡ Some a
       → a.status ≡ status.Yes
@@ -402,6 +424,22 @@ pub formed_told : (l : Program (Expr ℕ)) (budget : ℕ) (m : Journal) (a : Ans
     → (a.status ≡ status.Yes) ⊎ ((a.status ≡ status.Wide) ⊎ (a.status ≡ status.Budget))
 formed_told l budget m a free split at_zero never h =
     formed l budget m a free split at_zero never h.ending h.ends h.says
+
+pub long_told : (l : Program (Expr ℕ)) (budget : ℕ) (m : Journal) (a : Answer) → AreFree l
+    → AllHaveForms l → AllBeginAtZero l → ComesToLong l → Certifies l budget m a → IsLongOr l m a
+long_told l budget m a free forms at_zero long h =
+    long_ended l budget m a free forms at_zero long h.ending h.ends h.says
+
+-- no fault of LOOP, and no branch that begins late, is told so
+pub full_limit : (budget : ℕ) (m : Journal) (text : List ℕ) (a : Answer) (place : List ℕ)
+    → IsLoopFault text a ⊎ (IsUnanalysed text budget m a ⊎ IsToldLate text budget m a)
+    → a.text ≡ limit_text place → IsToldLong text m place
+unfolding first_byte
+full_limit budget m text a place (inl fault) said =
+    absurd (loop_fault_long text a place fault said)
+full_limit budget m text a place (inr (inl h)) said = unanalysed_long text budget m a place h said
+full_limit budget m text a place (inr (inr late)) said =
+    let x : 98 ≡ 108 = ap first_byte (sym (text_of late.says) ∙ said) in absurd (omega (arith, x))
 
 pub all_told : (l : Program (Expr ℕ)) (budget : ℕ) (m : Journal) (a : Answer)
     → (within : IsWithinBudget l budget) → IsNeverRefused l within.analysis.rounds

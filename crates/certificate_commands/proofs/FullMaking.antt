@@ -76,6 +76,7 @@ module _ (l : Program (Expr ℕ)) (budget : ℕ) (a : Analysis) (found : IsFound
     finished = found.closed.finished;
     few = found.few;
     least = found.least;
+    short = found.closed.short;
   }
 
   steps_count : length (seen_steps a.steps.items) ≡ length l.branches

@@ -26,7 +26,10 @@ use Rattle.certificate_commands.specs.FullCauses.{HasFinished, IsCertificateOf, 
 use Rattle.certificate_commands.specs.FullCourse.{course}
 use Rattle.certificate_commands.specs.FullClauses.{FindsFull}
 use Rattle.certificate_commands.proofs.FullCertifying as certifying
-use Rattle.certificate_commands.proofs.FullCertifying.{not_no, certificate_shown, fault_told, wide_told, out_shown, limit_told, branch_told, unformed_told, late_told, formed_told, within_told, all_told}
+use Rattle.certificate_commands.proofs.FullCertifying.{not_no, certificate_shown, fault_told, wide_told, out_shown, limit_told, branch_told, unformed_told, late_told, formed_told, long_told, full_limit, within_told, all_told}
+use Rattle.command_parts.specs.LoopReading.{IsLoopFault}
+use Rattle.analysis_commands.specs.LongTasks.{IsToldLong}
+use Rattle.analysis_commands.proofs.LongTasks.{told_limit, or_long}
 
 module _ (request : FileRequest) where
   abbrev path : OneFile (Program (Expr ℕ)) Fault
@@ -71,6 +74,16 @@ module _ (request : FileRequest) where
           (λ s. unformed_told l request.budget m s.answer free not (answered path call f l r s));
       begins_late = λ l b r free forms first. or_wide (course request) call f (late_answer b)
           (λ s. late_told l request.budget m s.answer free forms b first
+          (answered path call f l r s));
+      limit_told = λ is. told_limit call request.file
+          (λ text a. IsLoopFault text a ⊎ (IsUnanalysed text request.budget m a
+          ⊎ IsToldLate text request.budget m a))
+          (λ text place. IsToldLong text m place) (full_limit request.budget m)
+          (refused path call f status.Fault (inl refl)
+          (λ text a. IsUnanalysed text request.budget m a ⊎ IsToldLate text request.budget m a)
+          (λ text l a e h same refusing. fault_told text l request.budget m a e h same) is);
+      task_limit = λ l r free forms at_zero long. or_long (course request) call l f
+          (λ s. long_told l request.budget m s.answer free forms at_zero long
           (answered path call f l r s));
       found = λ l r free split at_zero never. or_found (course request) call f
           (λ s. formed_told l request.budget m s.answer free split at_zero never

@@ -1,5 +1,5 @@
 -- How the analysis of a loop and the trace behind it end, and what `full` answers then.
---   IsAnalysed l budget         l is formed, and its analysis has ended within the budget, after as few rounds as have all its invariants
+--   IsAnalysed l budget         l is formed, and its analysis has ended within the budget, after as few rounds as have all its invariants, with no task that is too long
 --   IsCertified l budget m c    and the trace of as many rounds has ended, with the journal m; c is the full certificate of both, with the cofactors of the divisions that closed the list; all parts
 --                               of it hold, and it is read back from its text
 --   IsLate l budget m b         the maps of l are free and its branches have closed forms, that of the branch b, which counts from 0, is the first that begins later than at 0,
@@ -20,7 +20,7 @@ use Rattle.loops.specs.Program.{Expr, Program}
 use Rattle.loop_model.specs.Maps.{AreFree}
 use Rattle.rounds.specs.Journal as analysis
 use Rattle.rounds.specs.Journal.{setting_of}
-use Rattle.invariant_fix.specs.Answers.{IsLeastLevel}
+use Rattle.invariant_fix.specs.Answers.{AreShortFrom, IsLeastLevel}
 use Rattle.invariant_fix.specs.Closing.{AreSteps}
 use Rattle.invariant_fix.specs.Refusals.{AllHaveForms, HasFollowed, IfUnformedLoop}
 use Rattle.invariant_fix.specs.declared.errors.AnalyseError.{AnalyseError}
@@ -47,6 +47,7 @@ pub record IsAnalysed (l : Program (Expr ℕ)) (budget : ℕ) : Type 0 where
   pub finished : analysis.IsFinished l entries rounds list
   pub few : units_of entries ≤ budget
   pub least : IsLeastLevel l rounds
+  pub short : AreShortFrom l None entries
 
 pub record IsCertified (l : Program (Expr ℕ)) (budget : ℕ) (m : Journal) (c : FullCertificate)
     : Type 0 where

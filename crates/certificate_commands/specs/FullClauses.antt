@@ -18,6 +18,7 @@ use Rattle.command_parts.specs.LoopReading.{loop_at, IsLoopFault, ReadsLoop}
 use Rattle.analysis_commands.specs.RefusalTexts.{branch_answer}
 use Rattle.analysis_commands.specs.Completeness.{AllSplit, EndsFound}
 use Rattle.analysis_commands.specs.Causes.{IsUnanalysed, IsNeverLong, IsExact}
+use Rattle.analysis_commands.specs.LongTasks.{IfLimit, IsToldLong, ComesToLong, EndsLong}
 use Rattle.command_parts.specs.FileRequests.{FileRequest}
 use Rattle.full_trace.specs.Late.{AllBeginAtZero, IsFirstLate}
 use Rattle.certificate_commands.specs.FullTexts.{late_answer}
@@ -76,6 +77,14 @@ pub record FindsFull (request : FileRequest) (call : Call) : Type 0 where
   -- where all have one, the first that begins late
   pub begins_late : (l : Program (Expr ℕ)) (b : ℕ) → ReadsLoop call request.file (Ok l)
       → AreFree l → AllHaveForms l → IsFirstLate l b → EndsOrWide call (late_answer b)
+  -- a fault that says `limit: PLACE`: the maps are free, each branch has a closed form, and the
+  -- entries lead to the task of the analysis at this place, which is too long; and where all begin
+  -- at 0 and the analysis comes to such a task, so it is, or a number doesn't fit, or the budget is
+  -- exhausted
+  pub limit_told : call.status ≡ status.Fault → Wrote call.sink (λ said. IfLimit said (λ place.
+      IfTold call.files.before request.file (λ text. IsToldLong text call.meter.after place)))
+  pub task_limit : (l : Program (Expr ℕ)) → ReadsLoop call request.file (Ok l) → AreFree l
+      → AllHaveForms l → AllBeginAtZero l → ComesToLong l → EndsLong call l
   -- where none comes, a certificate, but for numbers that don't fit and an exhausted budget
   pub found : (l : Program (Expr ℕ)) → ReadsLoop call request.file (Ok l) → AreFree l → AllSplit l
       → AllBeginAtZero l → IsNeverLong l → EndsFound call.status
