@@ -47,6 +47,7 @@ LINTERS = tuple(Need("", name, f"apt-get install {name}") for name in ("mypy", "
 PARTS = (
     Part("layout", "the sources keep to the layout", ("tools/layout.py",)),
     Part("crates", "docs/CRATES.md is what the heads of the crates say", ("tools/crates.py", "--check")),
+    Part("believed", "docs/THEOREM.md counts the definitions behind each clause", ("tools/believed.py", "--check")),
     Part("recursions", "functions that call themselves are those of the table", ("tools/recursions.py",)),
     Part("pages", "the commands of README.md and all other pages print what stands there", ("tools/pages.py",)),
     Part("rows", "worked rows of each command", ("bench/rows.sh",)),
