@@ -13,7 +13,7 @@ ANNOTATION = re.compile(r"/\*@\s*loop.*?\*/", re.DOTALL)
 CLAUSE = re.compile(r"loop invariant invar:\s*(.*?)\s*==\s*0;", re.DOTALL)
 KEYWORD = re.compile(r"\s*(while|for|do)\b")
 ENTRY, BEGINNING = re.compile(r"\\at\((\w+),\s*LoopEntry\)"), re.compile(r"\\at\((\w+),\s*Pre\)")
-MOST_LOOPS, SECONDS = 2_000, 120
+MOST_LOOPS, SECONDS = 2_000, 600
 
 HEAD = f"""#include <setjmp.h>
 #include <signal.h>
