@@ -17,9 +17,10 @@ import tempfile
 import unittest
 from fractions import Fraction
 from pathlib import Path
+from unittest import mock
 
 import invar_tools
-from invar_tools import Fault, Invar, Polynomial, Refused, read_certificate, read_equation, read_loop
+from invar_tools import Fault, Invar, Polynomial, Refused, algebra, read_certificate, read_equation, read_loop
 from invar_tools.coq import coq_text
 from invar_tools.explain import Story, certified, divided, sum_of
 from invar_tools.lean import lean
@@ -268,6 +269,15 @@ class Explanations(unittest.TestCase):
         self.assertEqual((rest, sum_of(cofactors, claims) - value), (Polynomial(), Polynomial()))
         rest, cofactors = divided(value + Polynomial.variable("x"), claims, names)
         self.assertEqual(rest + sum_of(cofactors, claims) - value, Polynomial.variable("x"))
+
+    @unittest.skipUnless(importlib.util.find_spec("sympy"), NEEDS_SYMPY)
+    def test_that_sympy_finds_the_same_combinations(self) -> None:
+        for name, equation in (("lesson/cubes.loop", "x = n^3"), ("gcd.loop", "a*p + b*r = x"), ("power-sums.loop", "s^2 = c"), ("product.loop", "a*b = x*y")):
+            told = []
+            for many in (0, 10_000):
+                with mock.patch.object(algebra, "MANY", many):
+                    told.append(self.told(name, equation))
+            self.assertEqual(*told)
 
     def test_certificates(self) -> None:
         loop = read_loop((EXAMPLES / "squares.loop").read_text())

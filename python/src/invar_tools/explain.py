@@ -13,11 +13,12 @@ from __future__ import annotations
 import math
 import sys
 from collections.abc import Iterable, Iterator
-from dataclasses import dataclass, field
+from dataclasses import dataclass
 from fractions import Fraction
 from itertools import combinations_with_replacement
 from pathlib import Path
 
+from .algebra import combination
 from .certificates import Certificate, read_certificate
 from .commands import Parser, command
 from .faults import NO, NO_ANSWER, Fault
@@ -50,45 +51,20 @@ def monomials(names: list[str], most: int) -> Iterator[Monomial]:
             yield monomial
 
 
-@dataclass
-class Span:
-    """Products of claims with monomials, in a form in which others are divided by them."""
-
-    rows: dict[Monomial, tuple[Polynomial, dict[int, Polynomial]]] = field(default_factory=dict)
-
-    def reduced(self, value: Polynomial) -> tuple[Polynomial, dict[int, Polynomial]]:
-        """What is left of a polynomial, and the cofactors of the claims in what was taken off."""
-        cofactors: dict[int, Polynomial] = {}
-        for lead, (row, parts) in self.rows.items():
-            size = value.terms.get(lead)
-            if size:
-                value = value - row.scaled(size)
-                for place, part in parts.items():
-                    cofactors[place] = cofactors.get(place, Polynomial()) + part.scaled(size)
-        return value, {place: cofactor for place, cofactor in cofactors.items() if cofactor.terms}
-
-    def add(self, value: Polynomial, place: int, factor: Polynomial) -> None:
-        rest, cofactors = self.reduced(value)
-        if not rest.terms:
-            return
-        parts = {other: cofactor.scaled(-1) for other, cofactor in cofactors.items()}
-        parts[place] = parts.get(place, Polynomial()) + factor
-        lead, size = next(iter(rest.terms.items()))
-        self.rows[lead] = rest.scaled(1 / size), {other: part.scaled(1 / size) for other, part in parts.items()}
-
-
 def divided(value: Polynomial, claims: list[Polynomial], names: list[str]) -> tuple[Polynomial, dict[int, Polynomial]]:
     """What claims leave of a polynomial, and their cofactors: first numbers, then polynomials of the degrees that may be needed."""
     highest = value.degree()
     for most in (0, 1, highest):
-        span, count = Span(), 0
-        for place, claim in enumerate(claims):
-            for monomial in monomials(names, min(most, max(0, highest - claim.degree()))):
-                count += 1
-                if count <= MOST_PRODUCTS:
-                    factor = Polynomial({monomial: Fraction(1)})
-                    span.add(claim * factor, place, factor)
-        rest, cofactors = span.reduced(value)
+        factors = [
+            (place, Polynomial({monomial: Fraction(1)}))
+            for place, claim in enumerate(claims)
+            for monomial in monomials(names, min(most, max(0, highest - claim.degree())))
+        ][:MOST_PRODUCTS]
+        cofactors: dict[int, Polynomial] = {}
+        for number, size in combination([claims[place] * factor for place, factor in factors], value).items():
+            place, factor = factors[number]
+            cofactors[place] = cofactors.get(place, Polynomial()) + factor.scaled(size)
+        rest = value - sum_of(cofactors, claims)
         if not rest.terms:
             break
     return rest, cofactors
