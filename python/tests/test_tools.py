@@ -21,8 +21,9 @@ from unittest import mock
 
 import invar_tools
 from invar_tools import Fault, Invar, Polynomial, Refused, algebra, read_certificate, read_equation, read_loop
+from invar_tools.algebra import divided, sum_of
 from invar_tools.coq import coq_text
-from invar_tools.explain import Story, certified, divided, sum_of
+from invar_tools.explain import Story, certified
 from invar_tools.lean import lean
 from invar_tools.loops import with_entries
 from invar_tools.picture import Axis, axes_of, run, segments, value_at
@@ -44,6 +45,27 @@ def done(name: str, *words: str | Path, folder: Path = EXAMPLES) -> subprocess.C
 
 def printed(*words: str | Path) -> str:
     return subprocess.run([TOP / "invar", *words], capture_output=True, text=True, check=False, cwd=EXAMPLES).stdout
+
+
+class Help(unittest.TestCase):
+    """Each command has a page of help, whose example is run."""
+
+    NEEDS = {"invar-c": ("pycparser", "cpp"), "invar-certify": ("sympy", ""), "invar-lift": ("", "Singular")}
+
+    def test_examples(self) -> None:
+        commands = sorted((TOP / "python/bin").iterdir())
+        self.assertEqual(len(commands), 6)
+        for command in commands:
+            with self.subTest(command.name), tempfile.TemporaryDirectory() as folder:
+                page = subprocess.run([command, "--help"], env=ENVIRONMENT, capture_output=True, text=True, check=True).stdout
+                example = page.splitlines()[-1].strip()
+                self.assertTrue("Example:" in page and example.startswith(f"{command.name} "), page)
+                library, program = self.NEEDS.get(command.name, ("", ""))
+                if (not library or importlib.util.find_spec(library)) and (not program or shutil.which(program)):
+                    (Path(folder) / "examples").symlink_to(EXAMPLES)
+                    environment = {**ENVIRONMENT, "PATH": f"{TOP / 'python/bin'}:{ENVIRONMENT['PATH']}"}
+                    made = subprocess.run(example, shell=True, cwd=folder, env=environment, capture_output=True, text=True, check=False)
+                    self.assertEqual((made.returncode, made.stderr.count("Traceback")), (0, 0), made)
 
 
 class Reading(unittest.TestCase):

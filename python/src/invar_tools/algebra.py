@@ -1,15 +1,19 @@
 """Division by polynomials, and combinations of them, by sympy where it is installed; it takes python-flint, where that is."""
 from __future__ import annotations
 
-from collections.abc import Iterable
+from collections.abc import Iterable, Iterator
 from fractions import Fraction
 from importlib.util import find_spec
+from itertools import combinations_with_replacement, islice
 from typing import Any
 
 from .faults import Fault
-from .polynomials import Monomial, Polynomial, collected
+from .polynomials import ONE, Monomial, Polynomial, collected, product
 
 NEEDS_SYMPY = "sympy isn't installed (apt-get install python3-sympy, or pip install sympy)"
+MOST_PRODUCTS = 600
+"""As many products of claims with monomials as are tried for a polynomial that may follow from the claims."""
+
 MANY = 100
 """As many polynomials as are combined before sympy, which takes a moment to start, is worth it."""
 
@@ -55,6 +59,43 @@ class Division:
             return [Polynomial() for _ in self.elements], value
         quotients, rest = self.given(value).div(self.elements)
         return [self.taken(quotient) for quotient in quotients], self.taken(rest)
+
+
+def monomials(names: list[str], most: int) -> Iterator[Monomial]:
+    """The monomials of a degree of at most this, the lower degrees first."""
+    for size in range(most + 1):
+        for choice in combinations_with_replacement(names, size):
+            monomial = ONE
+            for name in choice:
+                monomial = product(monomial, ((name, 1),))
+            yield monomial
+
+
+def divided(value: Polynomial, claims: list[Polynomial], names: list[str]) -> tuple[Polynomial, dict[int, Polynomial]]:
+    """What claims leave of a polynomial, and their cofactors: first numbers, then polynomials of the degrees that may be needed."""
+    highest = value.degree()
+    for most in (0, 1, highest):
+        tried = (
+            (place, Polynomial({monomial: Fraction(1)}))
+            for place, claim in enumerate(claims)
+            for monomial in monomials(names, min(most, max(0, highest - claim.degree())))
+        )
+        factors = list(islice(tried, MOST_PRODUCTS))
+        cofactors: dict[int, Polynomial] = {}
+        for number, size in combination([claims[place] * factor for place, factor in factors], value).items():
+            place, factor = factors[number]
+            cofactors[place] = cofactors.get(place, Polynomial()) + factor.scaled(size)
+        rest = value - sum_of(cofactors, claims)
+        if not rest.terms:
+            break
+    return rest, cofactors
+
+
+def sum_of(cofactors: dict[int, Polynomial], claims: list[Polynomial]) -> Polynomial:
+    total = Polynomial()
+    for place, cofactor in cofactors.items():
+        total = total + cofactor * claims[place]
+    return total
 
 
 def size_of(monomial: Monomial) -> int:
