@@ -90,6 +90,9 @@ class Reading(unittest.TestCase):
         text, copies = with_entries("vars x, y, c, x_0; # a comment\ninit y=c; branch { x=x+c; y=y-x; }")
         self.assertEqual(copies, {"x_1": "x"})
         self.assertEqual(" ".join(text.split()), "vars x_1, x, y, c, x_0; init y=c, x=x_1; branch { x=x+c; y=y-x; }")
+        text, _ = with_entries("vars branches, y; locals t, branches_0; init y=2*branches; # vars\nbranch { t=y; y=branches; branches=t; }")
+        wanted = "vars branches_1, branches, y; locals t, branches_0; init y=2*branches_1, branches=branches_1; branch { t=y; y=branches; branches=t; }"
+        self.assertEqual(" ".join(text.split()), wanted)
         self.assertEqual(" ".join(with_entries("vars x; branch { x=x+1; }")[0].split()), "vars x_0, x; init x=x_0; branch { x=x+1; }")
 
 

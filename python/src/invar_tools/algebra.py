@@ -98,7 +98,7 @@ def sum_of(cofactors: dict[int, Polynomial], claims: list[Polynomial]) -> Polyno
     return total
 
 
-def size_of(monomial: Monomial) -> int:
+def degree_of(monomial: Monomial) -> int:
     return sum(exponent for _, exponent in monomial)
 
 
@@ -109,7 +109,7 @@ def combination(parts: list[Polynomial], value: Polynomial) -> Coefficients:
     a combination of those before it isn't taken.
     """
     known = dict.fromkeys(monomial for part in parts for monomial in part.terms)
-    order = {monomial: place for place, monomial in enumerate(sorted(known, key=size_of, reverse=True))}
+    order = {monomial: place for place, monomial in enumerate(sorted(known, key=degree_of, reverse=True))}
     by = by_sympy if len(parts) >= MANY and find_spec("sympy") else by_rows
     return by(parts, value, order)
 

@@ -1,8 +1,8 @@
 """Loops, chains of loops, and equations of docs/LANGUAGE.md as polynomials in names."""
 from __future__ import annotations
 
-import re
 from dataclasses import dataclass
+from itertools import count
 
 from .polynomials import Polynomial
 from .reader import Reader, State
@@ -45,13 +45,13 @@ class Chain:
 
 
 class LoopReader(Reader):
-    """Reads a loop or a chain; the head of a loop is its text up to the branches."""
+    """Reads a loop or a chain; its body begins at the first branch."""
 
     def __init__(self, text: str) -> None:
         super().__init__(text)
         self.variables: list[str] = []
         self.local_names: list[str] = []
-        self.head = ""
+        self.body = 0
 
     def init(self) -> State:
         """What is set, each by what isn't."""
@@ -97,7 +97,7 @@ class LoopReader(Reader):
         self.local_names = self.names() if self.is_taken("locals") else []
         self.must(len({*self.variables, *self.local_names}) == len(self.variables) + len(self.local_names))
         init = self.init() if self.is_taken("init") else {}
-        self.head = self.text[: self.next().at]
+        self.body = self.next().at
         return Loop(self.variables, init, self.branches())
 
     def further_loop(self) -> FurtherLoop:
@@ -152,11 +152,10 @@ def with_entries(text: str) -> tuple[str, dict[str, str]]:
     """A loop text with a copy of each value at the start that `init` doesn't give and that changes, and whose copies these are."""
     reader, loop = read_whole(text)
     moving = [name for name in loop.moving() if name not in loop.init]
-    copies = {next(f"{name}_{number}" for number in range(1000) if f"{name}_{number}" not in loop.names): name for name in moving}
-    head = re.sub(r"\bvars\b", f"vars {''.join(copy + ', ' for copy in copies)}", reader.head, count=1)
-    equations = ", ".join(f"{name}={copy}" for copy, name in copies.items())
-    if equations and loop.init:
-        head = head.rstrip().removesuffix(";") + f", {equations};\n"
-    elif equations:
-        head += f"init {equations};\n"
-    return head + reader.text[len(reader.head) :], copies
+    used = {*loop.names, *reader.local_names}
+    copies = {next(f"{name}_{number}" for number in count() if f"{name}_{number}" not in used): name for name in moving}
+    values = {name: Polynomial.variable(copy) for copy, name in copies.items()}
+    init = {name: value.substituted(values) for name, value in loop.init.items()} | values
+    lists = {"vars": [*copies, *loop.names], "locals": reader.local_names, "init": [f"{name}={value.flat()}" for name, value in init.items()]}
+    head = "".join(f"{word} {', '.join(items)};\n" for word, items in lists.items() if items)
+    return head + reader.text[reader.body :], copies
