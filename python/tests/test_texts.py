@@ -17,8 +17,8 @@ from fractions import Fraction
 from pathlib import Path
 
 from invar_tools import Fault, Invar, Polynomial, Refused, read_chain, read_loop, read_program, read_sequences
-from invar_tools.loops import State
 from invar_tools.programs import Assertion, Assignment, Assumption, Block, Choice, Comparison, For, Program, Statement, Unknown, While
+from invar_tools.reader import State
 from invar_tools.sequences import loop_of
 
 TOP = Path(__file__).resolve().parents[2]
@@ -235,7 +235,7 @@ class Meaning(unittest.TestCase):
             state = {name: Fraction(place + 2) for place, name in enumerate(chain.first.free())}
             state = {name: value_at(value, state) for name, value in chain.first.start().items()}
             loops = [chain.first.branches, *(further.branches for further in chain.others)]
-            steps = [{}, *(further.code for further in chain.others)]
+            steps: list[State] = [{}, *(further.code for further in chain.others)]
             bases = invar.chain(text)
             self.assertEqual(len(bases), len(loops))
             for code, branches, basis in zip(steps, loops, bases):
