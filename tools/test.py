@@ -56,6 +56,7 @@ PARTS = (
     Part("install", "what ./invar --install puts where", ("bench/installation.py",)),
     Part("types", "types and style of the Python package", ("sh", "-c", "cd python && mypy && flake8"), LINTERS),
     Part("python", "the Python package, and its commands that read and show loops", ("python/tests/test_tools.py", "-v")),
+    Part("texts", "the Python package reads texts as the program does", ("python/tests/test_texts.py", "-v"), quick=("--quick",)),
     Part("odd", "what the commands of the package tell of odd inputs", ("python/tests/test_odd.py", "-v"), quick=("--quick",)),
     Part("c", "loops of C programs", ("python/tests/test_c.py", "-v"), tuple(need for need in NEEDS if need.commands == "invar-c "), ("--quick",)),
     Part("hostile", "C that is written to mislead gets no wrong equation", ("python/tests/test_hostile.py", "-v"),

@@ -17,11 +17,13 @@ import tempfile
 import unittest
 from fractions import Fraction
 from pathlib import Path
+from unittest import mock
 
 import invar_tools
-from invar_tools import Fault, Invar, Polynomial, Refused, read_certificate, read_equation, read_loop
+from invar_tools import Fault, Invar, Polynomial, Refused, algebra, read_certificate, read_equation, read_loop
+from invar_tools.algebra import divided, sum_of
 from invar_tools.coq import coq_text
-from invar_tools.explain import Story, certified, divided, sum_of
+from invar_tools.explain import Story, certified
 from invar_tools.lean import lean
 from invar_tools.loops import with_entries
 from invar_tools.picture import Axis, axes_of, run, segments, value_at
@@ -43,6 +45,27 @@ def done(name: str, *words: str | Path, folder: Path = EXAMPLES) -> subprocess.C
 
 def printed(*words: str | Path) -> str:
     return subprocess.run([TOP / "invar", *words], capture_output=True, text=True, check=False, cwd=EXAMPLES).stdout
+
+
+class Help(unittest.TestCase):
+    """Each command has a page of help, whose example is run."""
+
+    NEEDS = {"invar-c": ("pycparser", "cpp"), "invar-certify": ("sympy", ""), "invar-lift": ("", "Singular")}
+
+    def test_examples(self) -> None:
+        commands = sorted((TOP / "python/bin").iterdir())
+        self.assertEqual(len(commands), 6)
+        for command in commands:
+            with self.subTest(command.name), tempfile.TemporaryDirectory() as folder:
+                page = subprocess.run([command, "--help"], env=ENVIRONMENT, capture_output=True, text=True, check=True).stdout
+                example = page.splitlines()[-1].strip()
+                self.assertTrue("Example:" in page and example.startswith(f"{command.name} "), page)
+                library, program = self.NEEDS.get(command.name, ("", ""))
+                if (not library or importlib.util.find_spec(library)) and (not program or shutil.which(program)):
+                    (Path(folder) / "examples").symlink_to(EXAMPLES)
+                    environment = {**ENVIRONMENT, "PATH": f"{TOP / 'python/bin'}:{ENVIRONMENT['PATH']}"}
+                    made = subprocess.run(example, shell=True, cwd=folder, env=environment, capture_output=True, text=True, check=False)
+                    self.assertEqual((made.returncode, made.stderr.count("Traceback")), (0, 0), made)
 
 
 class Reading(unittest.TestCase):
@@ -67,6 +90,9 @@ class Reading(unittest.TestCase):
         text, copies = with_entries("vars x, y, c, x_0; # a comment\ninit y=c; branch { x=x+c; y=y-x; }")
         self.assertEqual(copies, {"x_1": "x"})
         self.assertEqual(" ".join(text.split()), "vars x_1, x, y, c, x_0; init y=c, x=x_1; branch { x=x+c; y=y-x; }")
+        text, _ = with_entries("vars branches, y; locals t, branches_0; init y=2*branches; # vars\nbranch { t=y; y=branches; branches=t; }")
+        wanted = "vars branches_1, branches, y; locals t, branches_0; init y=2*branches_1, branches=branches_1; branch { t=y; y=branches; branches=t; }"
+        self.assertEqual(" ".join(text.split()), wanted)
         self.assertEqual(" ".join(with_entries("vars x; branch { x=x+1; }")[0].split()), "vars x_0, x; init x=x_0; branch { x=x+1; }")
 
 
@@ -268,6 +294,15 @@ class Explanations(unittest.TestCase):
         self.assertEqual((rest, sum_of(cofactors, claims) - value), (Polynomial(), Polynomial()))
         rest, cofactors = divided(value + Polynomial.variable("x"), claims, names)
         self.assertEqual(rest + sum_of(cofactors, claims) - value, Polynomial.variable("x"))
+
+    @unittest.skipUnless(importlib.util.find_spec("sympy"), NEEDS_SYMPY)
+    def test_that_sympy_finds_the_same_combinations(self) -> None:
+        for name, equation in (("lesson/cubes.loop", "x = n^3"), ("gcd.loop", "a*p + b*r = x"), ("power-sums.loop", "s^2 = c"), ("product.loop", "a*b = x*y")):
+            told = []
+            for many in (0, 10_000):
+                with mock.patch.object(algebra, "MANY", many):
+                    told.append(self.told(name, equation))
+            self.assertEqual(*told)
 
     def test_certificates(self) -> None:
         loop = read_loop((EXAMPLES / "squares.loop").read_text())

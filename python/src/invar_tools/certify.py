@@ -11,17 +11,14 @@ from __future__ import annotations
 import sys
 from collections.abc import Iterable, Iterator
 from dataclasses import dataclass
-from fractions import Fraction
 from pathlib import Path
-from typing import Any
 
+from .algebra import Division
 from .certificates import certificate_text
 from .commands import Parser, command
 from .faults import NO, Fault
 from .loops import Loop, read_equation, read_loop
-from .polynomials import Monomial, Polynomial, collected
-
-NEEDS_SYMPY = "sympy isn't installed (apt-get install python3-sympy, or pip install sympy)"
+from .polynomials import Monomial, Polynomial
 
 
 class Unclaimed(Fault):
@@ -70,49 +67,9 @@ def printed(polynomial: Polynomial, names: list[str]) -> str:
     return Polynomial({monomial: polynomial.terms[monomial] for monomial in ordered}).flat()
 
 
-class Division:
-    """sympy's division by the claims, in the graded reverse lexicographic order."""
-
-    def __init__(self, claims: Claims) -> None:
-        try:
-            import sympy
-            from sympy.polys.rings import ring
-        except ImportError as fault:
-            raise Fault(NEEDS_SYMPY) from fault
-
-        self.names = claims.loop.names
-        self.ring = ring(sympy.symbols(f"v:{len(self.names)}"), sympy.QQ, sympy.grevlex)[0]
-        self.elements = [self.given(element) for element in claims.elements]
-
-    def given(self, polynomial: Polynomial) -> Any:
-        """A polynomial as sympy has it: by exponents and numbers."""
-        terms = {}
-        for monomial, size in polynomial.terms.items():
-            exponents = dict(monomial)
-            terms[tuple(exponents.get(name, 0) for name in self.names)] = self.ring.domain(size.numerator, size.denominator)
-        return self.ring.from_dict(terms)
-
-    def taken(self, element: Any) -> Polynomial:
-        """A polynomial of sympy as one with names."""
-
-        def monomial(exponents: Iterable[int]) -> Monomial:
-            return tuple(sorted((name, int(exponent)) for name, exponent in zip(self.names, exponents) if exponent))
-
-        return collected(
-            (monomial(exponents), Fraction(int(size.numerator), int(size.denominator))) for exponents, size in element.terms()
-        )
-
-    def cofactors(self, value: Polynomial) -> tuple[list[Polynomial], Polynomial]:
-        """The cofactors of the claims in a value, and the rest that they leave."""
-        if not value.terms:
-            return [Polynomial() for _ in self.elements], value
-        quotients, rest = self.given(value).div(self.elements)
-        return [self.taken(quotient) for quotient in quotients], self.taken(rest)
-
-
 def steps_of(claims: Claims) -> Iterator[list[list[Polynomial]]]:
     """For each branch, for each claim, the cofactors that combine to the claim after the branch."""
-    division = Division(claims)
+    division = Division(claims.elements, claims.loop.names)
     for branch, values in enumerate(claims.loop.branches, 1):
         rows = []
         for number, (claim, value) in enumerate(zip(claims.elements, claims.after(values)), 1):

@@ -110,18 +110,32 @@ class Invar:
         """The bases of loops in sequence."""
         return read_chain(self.of_text("chain", text))
 
+    def relations(self, text: str) -> list[Polynomial]:
+        """The basis of all relations of sequences."""
+        return read_basis(self.of_text("relations", text))
+
     def is_valid(self, text: str, certificate: str) -> bool:
         """Whether a certificate, which is given as its text, is one of this loop."""
+        return self.judged("check", text, certificate) is not None
+
+    def assertions(self, text: str, certificate: str) -> dict[str, bool] | None:
+        """Whether a certificate shows each assertion of a program, by their places LINE:COLUMN; none where it isn't valid."""
+        printed = self.judged("checkproof", text, certificate)
+        if printed is None:
+            return None
+        return {place: told == "holds" for place, _, told in (line.rpartition(": ") for line in printed.splitlines()[1:])}
+
+    def judged(self, command: str, text: str, certificate: str) -> str | None:
+        """What a command prints of a text and a certificate that is valid; none where it isn't."""
         with tempfile.TemporaryDirectory() as folder:
             file = Path(folder) / "certificate"
             file.write_text(certificate)
             try:
-                self.of_text("check", text, str(file))
+                return self.of_text(command, text, str(file))
             except Refused as refusal:
                 if refusal.answer_status != NO:
                     raise
-                return False
-        return True
+                return None
 
 
 def read_chain(printed: str) -> list[list[Polynomial]]:

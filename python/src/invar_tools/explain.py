@@ -13,20 +13,19 @@ from __future__ import annotations
 import math
 import sys
 from collections.abc import Iterable, Iterator
-from dataclasses import dataclass, field
+from dataclasses import dataclass
 from fractions import Fraction
-from itertools import combinations_with_replacement
 from pathlib import Path
 
+from .algebra import divided, sum_of
 from .certificates import Certificate, read_certificate
 from .commands import Parser, command
 from .faults import NO, NO_ANSWER, Fault
 from .loops import Loop, read_equation, read_loop
-from .polynomials import ONE, Monomial, Polynomial, product
+from .polynomials import Polynomial
 
 MOST_CLAIMS = 24
-MOST_PRODUCTS = 600
-"""As many claims as are told, and products of claims with monomials as are tried for what a branch adds."""
+"""As many claims as are told."""
 
 
 class Unfinished(Exception):
@@ -38,60 +37,6 @@ def whole(value: Polynomial) -> Polynomial:
     scaled = value.scaled(value.denominator())
     common = math.gcd(*(int(size) for size in scaled.terms.values()))
     return scaled.scaled(Fraction(1, common)) if common else scaled
-
-
-def monomials(names: list[str], most: int) -> Iterator[Monomial]:
-    """The monomials of a degree of at most this, the lower degrees first."""
-    for size in range(most + 1):
-        for choice in combinations_with_replacement(names, size):
-            monomial = ONE
-            for name in choice:
-                monomial = product(monomial, ((name, 1),))
-            yield monomial
-
-
-@dataclass
-class Span:
-    """Products of claims with monomials, in a form in which others are divided by them."""
-
-    rows: dict[Monomial, tuple[Polynomial, dict[int, Polynomial]]] = field(default_factory=dict)
-
-    def reduced(self, value: Polynomial) -> tuple[Polynomial, dict[int, Polynomial]]:
-        """What is left of a polynomial, and the cofactors of the claims in what was taken off."""
-        cofactors: dict[int, Polynomial] = {}
-        for lead, (row, parts) in self.rows.items():
-            size = value.terms.get(lead)
-            if size:
-                value = value - row.scaled(size)
-                for place, part in parts.items():
-                    cofactors[place] = cofactors.get(place, Polynomial()) + part.scaled(size)
-        return value, {place: cofactor for place, cofactor in cofactors.items() if cofactor.terms}
-
-    def add(self, value: Polynomial, place: int, factor: Polynomial) -> None:
-        rest, cofactors = self.reduced(value)
-        if not rest.terms:
-            return
-        parts = {other: cofactor.scaled(-1) for other, cofactor in cofactors.items()}
-        parts[place] = parts.get(place, Polynomial()) + factor
-        lead, size = next(iter(rest.terms.items()))
-        self.rows[lead] = rest.scaled(1 / size), {other: part.scaled(1 / size) for other, part in parts.items()}
-
-
-def divided(value: Polynomial, claims: list[Polynomial], names: list[str]) -> tuple[Polynomial, dict[int, Polynomial]]:
-    """What claims leave of a polynomial, and their cofactors: first numbers, then polynomials of the degrees that may be needed."""
-    highest = value.degree()
-    for most in (0, 1, highest):
-        span, count = Span(), 0
-        for place, claim in enumerate(claims):
-            for monomial in monomials(names, min(most, max(0, highest - claim.degree()))):
-                count += 1
-                if count <= MOST_PRODUCTS:
-                    factor = Polynomial({monomial: Fraction(1)})
-                    span.add(claim * factor, place, factor)
-        rest, cofactors = span.reduced(value)
-        if not rest.terms:
-            break
-    return rest, cofactors
 
 
 def sum_of_claims(cofactors: dict[int, Polynomial]) -> str:
@@ -160,13 +105,6 @@ def certified(loop: Loop, certificate: Certificate) -> Iterator[str]:
                 return
             yield f"     Branch {number} makes {behind.flat()} of it, which is {sum_of_claims(cofactors) or '0'}."
     yield "Each claim holds at the start, and behind each branch it is 0 where the claims hold before.  YES"
-
-
-def sum_of(cofactors: dict[int, Polynomial], claims: list[Polynomial]) -> Polynomial:
-    total = Polynomial()
-    for place, cofactor in cofactors.items():
-        total = total + cofactor * claims[place]
-    return total
 
 
 def told(lines: Iterable[str]) -> int:

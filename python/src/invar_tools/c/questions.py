@@ -6,15 +6,14 @@ from collections import Counter
 from collections.abc import Iterable, Iterator
 from dataclasses import dataclass, field, replace
 
-from ..explain import divided
+from ..algebra import divided
+from ..polynomials import Polynomial
 from .lowering import Function
 from .paths import Outcome, Stage, State, Walk, is_unknown
-from ..polynomials import Polynomial
 from .results import Found
 from .sources import Refusal
 from .stated import RESULT
 from .statements import BEFORE, AtLeast, Claim, Equation, Statement, Turns, inner
-
 
 MOST_FORMS = 8
 """As many forms of an equation as are asked of a head: as it stands on several paths, and with tests at their bounds."""
