@@ -6,36 +6,27 @@ from dataclasses import dataclass, field, replace
 
 from pycparser import c_ast, c_generator
 
-from .acsl import RESERVED
 from .declarations import Declarations, Variable, enumerated, number_of
 from .effects import STEPS, accesses, enumerations_within, has_effects, has_sequence, sized_by_effects
 from .equations import conjuncts, equations_of, is_remainder
 from ..polynomials import Polynomial
-from .sources import LOOPS, Loop, Refusal, is_stated, line_of, nodes, statements
+from .scopes import Scopes
+from .sources import LOOPS, Loop, Refusal, flattened, is_stated, line_of, nodes, statements
 from .stated import PROMISE, QUESTION, RESULT
 from .statements import (
-    BEFORE, AtLeast, Block, Cases, Choice, Claim, Declared, Equation, Fact, Leave, Rest, Set, Statement, Target, Term, Test, Touch, Turns,
-    every,
+    BEFORE, Arm, AtLeast, Block, Cases, Choice, Claim, Declared, Equation, Fact, Leave, Rest, Set, Statement, Target, Term, Test, Touch, Turns,
+    every, once,
 )
 from .terms import bits, combined, compared, constant, converted, literal, quotient, settled, unknown
 from .whole import Whole, common
-
-Arm = Callable[[], tuple[Statement, ...]]
-"""Makes the statements of an arm of a choice."""
 
 ORDERS = {"<", ">", "<=", ">=", "==", "!="}
 
 
 @dataclass
-class Lowering:
+class Lowering(Scopes):
     """Makes statements of a function's code."""
 
-    declared: Declarations
-    scopes: list[dict[str, Variable]] = field(default_factory=list)
-    types: dict[str, Whole] = field(default_factory=dict)
-    hidden: list[str] = field(default_factory=list)
-    """The variables that a call or a pointer may reach."""
-    addressed: set[str] = field(default_factory=set)
     out: list[Statement] = field(default_factory=list)
     behind: list[Statement] = field(default_factory=list)
     """What is done once the value of an expression is known."""
@@ -54,49 +45,6 @@ class Lowering:
     """For each loop around the statement the equations that are asked of it."""
     homeless: list[c_ast.FuncCall] = field(default_factory=list)
     """The equations that are asked where no loop is."""
-
-    # names
-
-    def resolve(self, name: str) -> Variable | None:
-        return next((scope[name] for scope in reversed(self.scopes) if name in scope), self.declared.globals.get(name))
-
-    def constants(self) -> dict[str, int]:
-        """The constants of enumerations in scope, with their numbers."""
-        known = dict(self.declared.constants)
-        for scope in self.scopes:
-            for name, variable in scope.items():
-                known.pop(name, None)
-                if variable.number is not None:
-                    known[name] = variable.number
-        return known
-
-    def keys(self) -> dict[str, str]:
-        """The variables in scope by their keys, with the names by which they are known here."""
-        names = dict(self.declared.globals)
-        for scope in self.scopes:
-            names.update(scope)
-        return {variable.key: name for name, variable in names.items() if variable.key is not None and name not in RESERVED}
-
-    def in_scope(self) -> frozenset[str]:
-        """The keys of all variables that have a value here, also of those whose name means another one here."""
-        every = [*self.declared.globals.values(), *(variable for scope in self.scopes for variable in scope.values())]
-        return frozenset(variable.key for variable in every if variable.key is not None)
-
-    def declare(self, name: str, variable: Variable) -> Variable:
-        """A variable in the innermost scope, with a key that no other in scope has."""
-        if variable.key is not None:
-            taken = self.in_scope()
-            keys = (name, *(f"{name}'{number}" for number in range(2, 1000)))
-            key = next(key for key in keys if key not in taken)
-            variable = replace(variable, key=key)
-            if variable.type is not None:
-                self.types[key] = variable.type
-            if name in self.addressed and not variable.is_fixed():
-                self.hidden.append(key)
-        self.scopes[-1][name] = variable
-        return variable
-
-    # statements
 
     def emit(self, item: Statement) -> None:
         self.out.append(item)
@@ -592,29 +540,6 @@ class Lowering:
             return unknown(f"a conditional expression in line {line_of(node)}")
         self.types[key] = kind
         return Term(Polynomial.variable(key), kind)
-
-
-def once(make: Arm) -> Arm:
-    """An arm that is made at most once."""
-    made: list[tuple[Statement, ...]] = []
-
-    def arm() -> tuple[Statement, ...]:
-        if not made:
-            made.append(make())
-        return made[0]
-
-    return arm
-
-
-def flattened(items: list[c_ast.Node]) -> list[tuple[bool, c_ast.Node]]:
-    """The statements of a switch in their order, and its cases, which are marked, before theirs."""
-    result: list[tuple[bool, c_ast.Node]] = []
-    for item in items:
-        if isinstance(item, (c_ast.Case, c_ast.Default)):
-            result += [(True, item), *flattened(item.stmts or [])]
-        else:
-            result.append((False, item))
-    return result
 
 
 def for_variable(term: Term, variable: Variable, where: str) -> Term:

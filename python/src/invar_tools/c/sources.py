@@ -326,6 +326,17 @@ def loops_in(node: c_ast.Node) -> list[Loop]:
     return [part for part in nodes(node) if isinstance(part, LOOPS)]
 
 
+def flattened(items: list[c_ast.Node]) -> list[tuple[bool, c_ast.Node]]:
+    """The statements of a switch in their order, and its cases, which are marked, before theirs."""
+    result: list[tuple[bool, c_ast.Node]] = []
+    for item in items:
+        if isinstance(item, (c_ast.Case, c_ast.Default)):
+            result += [(True, item), *flattened(item.stmts or [])]
+        else:
+            result.append((False, item))
+    return result
+
+
 def statements(node: c_ast.Node | None) -> list[c_ast.Node]:
     """The parts of a block, or a statement alone, or the declarations of a list."""
     if node is None:

@@ -1,8 +1,9 @@
 """Statements of C in a form without effects inside of expressions: what lowering.py makes, and the paths and starts are made of."""
 from __future__ import annotations
 
-from collections.abc import Iterable, Iterator, Mapping
+from collections.abc import Callable, Iterable, Iterator, Mapping
 from dataclasses import dataclass, field
+from typing import TypeAlias
 
 from ..polynomials import Polynomial
 from .sources import Loop
@@ -185,6 +186,22 @@ class Turns:
 
 
 Statement = Set | Declared | Touch | Claim | Choice | Block | Cases | Leave | Target | Turns
+
+
+Arm: TypeAlias = Callable[[], tuple[Statement, ...]]
+"""Makes the statements of an arm of a choice."""
+
+
+def once(make: Arm) -> Arm:
+    """An arm that is made at most once."""
+    made: list[tuple[Statement, ...]] = []
+
+    def arm() -> tuple[Statement, ...]:
+        if not made:
+            made.append(make())
+        return made[0]
+
+    return arm
 
 
 def inner(item: Statement) -> list[tuple[Statement, ...]]:
